@@ -1,0 +1,10 @@
+-- `lines::texts::is_name` meets its contract: a name is a text of at most 64 bytes.
+-- Assumes nothing.
+use borrow.Author.Needs.{needs}
+use Rattle.lines.specs.Texts.{isName}
+use Rattle.lines.proofs.texts.is_name.Statement.{statement}
+use Rattle.lines.proofs.texts.is_name.Tie as tie
+
+pub is-name-spec : {M : Type 1} → statement M
+unfolding isName
+is-name-spec = tie.close (tie.spec (λ c κs. search needs) (λ c. cc))

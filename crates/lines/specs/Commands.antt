@@ -1,0 +1,99 @@
+-- The commands that our writer can write, and their lines (000, 2.1 and 4.1 to 4.14; 01, "Commands").
+--   bodyText b           the four letters of a body
+--   bodyOf c             the body of a command
+--   parameterOf c        its parameter: `?` asks, anything else sets
+--   isCommand c          a command whose line can be written: its input is one
+--   commandText c        `%1`, the body, a space, the parameter
+--   commandLine c        that and CR
+-- Assumes nothing.
+use mathlib.Core.Bool.{Bool, true, false}
+use mathlib.Core.List.{List, [], _∷_, _++_}
+use Prim.Native.Nat.{ℕ}
+use Prim.Native.Char.{code}
+use Rattle.text.specs.Words.{ascii, if_then_else_}
+use Rattle.lines.specs.Inputs.{isInput, inputText}
+use Rattle.lines.specs.declared.input.Input.{Input}
+use Rattle.lines.specs.declared.command.Body.{Body}
+use Rattle.lines.specs.declared.command.Body.the-variants.{Powr, Inpt, Avmt, Erst, Lamp, Inst, Name, Inf1, Inf2, Info, Clss}
+use Rattle.lines.specs.declared.command.Half.{Half}
+use Rattle.lines.specs.declared.command.Half.the-variants.{VideoHalf, AudioHalf, BothHalves}
+use Rattle.lines.specs.declared.command.Command.{Command}
+use Rattle.lines.specs.declared.command.Command.the-variants.{PowerSet, PowerQuery, InputSet, InputQuery, MuteSet, MuteQuery, ErrorQuery, LampQuery, InputsQuery, NameQuery, MakerQuery, ModelQuery, OtherQuery, ClassQuery}
+
+abbrev pub bodyText : Body → List ℕ
+bodyText Powr = ascii "POWR"
+bodyText Inpt = ascii "INPT"
+bodyText Avmt = ascii "AVMT"
+bodyText Erst = ascii "ERST"
+bodyText Lamp = ascii "LAMP"
+bodyText Inst = ascii "INST"
+bodyText Name = ascii "NAME"
+bodyText Inf1 = ascii "INF1"
+bodyText Inf2 = ascii "INF2"
+bodyText Info = ascii "INFO"
+bodyText Clss = ascii "CLSS"
+
+abbrev pub bodyOf : Command → Body
+bodyOf (PowerSet on) = Powr
+bodyOf PowerQuery = Powr
+bodyOf (InputSet i) = Inpt
+bodyOf InputQuery = Inpt
+bodyOf (MuteSet h on) = Avmt
+bodyOf MuteQuery = Avmt
+bodyOf ErrorQuery = Erst
+bodyOf LampQuery = Lamp
+bodyOf InputsQuery = Inst
+bodyOf NameQuery = Name
+bodyOf MakerQuery = Inf1
+bodyOf ModelQuery = Inf2
+bodyOf OtherQuery = Info
+bodyOf ClassQuery = Clss
+
+-- 1 is on, 0 is off
+abbrev pub switchDigit : Bool → ℕ
+switchDigit true = code "1"
+switchDigit false = code "0"
+
+-- 1 video, 2 audio, 3 both
+abbrev pub halfDigit : Half → ℕ
+halfDigit VideoHalf = code "1"
+halfDigit AudioHalf = code "2"
+halfDigit BothHalves = code "3"
+
+abbrev pub parameterOf : Command → List ℕ
+parameterOf (PowerSet on) = switchDigit on ∷ []
+parameterOf (InputSet i) = inputText i
+parameterOf (MuteSet h on) = halfDigit h ∷ switchDigit on ∷ []
+parameterOf PowerQuery = ascii "?"
+parameterOf InputQuery = ascii "?"
+parameterOf MuteQuery = ascii "?"
+parameterOf ErrorQuery = ascii "?"
+parameterOf LampQuery = ascii "?"
+parameterOf InputsQuery = ascii "?"
+parameterOf NameQuery = ascii "?"
+parameterOf MakerQuery = ascii "?"
+parameterOf ModelQuery = ascii "?"
+parameterOf OtherQuery = ascii "?"
+parameterOf ClassQuery = ascii "?"
+
+abbrev pub isCommand : Command → Bool
+isCommand (InputSet i) = isInput i
+isCommand (PowerSet on) = true
+isCommand (MuteSet h on) = true
+isCommand PowerQuery = true
+isCommand InputQuery = true
+isCommand MuteQuery = true
+isCommand ErrorQuery = true
+isCommand LampQuery = true
+isCommand InputsQuery = true
+isCommand NameQuery = true
+isCommand MakerQuery = true
+isCommand ModelQuery = true
+isCommand OtherQuery = true
+isCommand ClassQuery = true
+
+abbrev pub commandText : Command → List ℕ
+commandText c = ascii "%1" ++ bodyText (bodyOf c) ++ ascii " " ++ parameterOf c
+
+abbrev pub commandLine : Command → List ℕ
+commandLine c = commandText c ++ ascii "\r"

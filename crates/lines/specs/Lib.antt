@@ -1,0 +1,6 @@
+pub mod Bytes
+pub mod Inputs
+pub mod Texts
+pub mod Commands
+pub mod Requests
+pub mod Forms

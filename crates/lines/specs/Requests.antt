@@ -1,0 +1,102 @@
+-- What a received body and parameter ask for (01, "Commands": bodies without regard to case, parameters exactly).
+--   isBody s b           the bytes s name the body b, in any case of letters
+--   bodyNamed s          the body that they name, or none
+--   requestOf s p        what the body s with the parameter p asks for:
+--                          Asks c         the command c
+--                          Unlisted b     the body b, with a parameter that is neither `?` nor one it knows
+--                          UnknownBody    no body of Class 1
+-- Assumes nothing.
+use Prim.Native.Nat.{ℕ, _-_}
+use mathlib.Core.Bool.{Bool, true, false, _&&_}
+use mathlib.Core.List.{List, [], _∷_}
+use lib.ListN.{length}
+use lib.Dec.{eqb}
+use Rattle.text.specs.Words.{ascii, if_then_else_, _is_, _from_to_}
+use Rattle.text.specs.Scans.{sameBy, itself}
+use Rattle.lines.specs.Bytes.{_at_, upperOf}
+use Rattle.lines.specs.Inputs.{readInput}
+use Rattle.lines.specs.Commands.{bodyText}
+use Rattle.lines.specs.declared.input.MaybeInput.{MaybeInput}
+use Rattle.lines.specs.declared.input.MaybeInput.the-variants.{InputIs, NoInput}
+use Rattle.lines.specs.declared.command.Body.{Body}
+use Rattle.lines.specs.declared.command.Body.the-variants.{Powr, Inpt, Avmt, Erst, Lamp, Inst, Name, Inf1, Inf2, Info, Clss}
+use Rattle.lines.specs.declared.command.Half.{Half}
+use Rattle.lines.specs.declared.command.Half.the-variants.{VideoHalf, AudioHalf, BothHalves}
+use Rattle.lines.specs.declared.command.Command.{Command}
+use Rattle.lines.specs.declared.command.Command.the-variants.{PowerSet, PowerQuery, InputSet, InputQuery, MuteSet, MuteQuery, ErrorQuery, LampQuery, InputsQuery, NameQuery, MakerQuery, ModelQuery, OtherQuery, ClassQuery}
+use Rattle.lines.specs.declared.request.MaybeBody.{MaybeBody}
+use Rattle.lines.specs.declared.request.MaybeBody.the-variants.{BodyIs, NoBody}
+use Rattle.lines.specs.declared.request.Request.{Request}
+use Rattle.lines.specs.declared.request.Request.the-variants.{Asks, Unlisted, UnknownBody}
+
+abbrev pub isBody : List ℕ → Body → Bool
+isBody s b = sameBy upperOf s (bodyText b)
+
+abbrev pub bodies : List Body
+bodies = Powr ∷ Inpt ∷ Avmt ∷ Erst ∷ Lamp ∷ Inst ∷ Name ∷ Inf1 ∷ Inf2 ∷ Info ∷ Clss ∷ []
+
+abbrev pub firstNamed : List Body → List ℕ → MaybeBody
+firstNamed [] s = NoBody
+firstNamed (b ∷ bs) s = if isBody s b then BodyIs b else firstNamed bs s
+
+unfoldable pub bodyNamed : List ℕ → MaybeBody
+bodyNamed s = firstNamed bodies s
+
+abbrev pub queryOf : Body → Command
+queryOf Powr = PowerQuery
+queryOf Inpt = InputQuery
+queryOf Avmt = MuteQuery
+queryOf Erst = ErrorQuery
+queryOf Lamp = LampQuery
+queryOf Inst = InputsQuery
+queryOf Name = NameQuery
+queryOf Inf1 = MakerQuery
+queryOf Inf2 = ModelQuery
+queryOf Info = OtherQuery
+queryOf Clss = ClassQuery
+
+-- POWR: 0 or 1
+unfoldable pub powerAsked : List ℕ → Request
+powerAsked p =
+    if eqb (length p) 1 && p at 0 from "0" to "1" then Asks (PowerSet (p at 0 is "1")) else Unlisted Powr
+
+-- INPT: two characters that name an input
+abbrev pub inputGiven : MaybeInput → Request
+inputGiven (InputIs i) = Asks (InputSet i)
+inputGiven NoInput = Unlisted Inpt
+
+unfoldable pub inputAsked : List ℕ → Request
+inputAsked p = if eqb (length p) 2 then inputGiven (readInput (p at 0) (p at 1)) else Unlisted Inpt
+
+-- AVMT: 10 11 20 21 30 31
+unfoldable pub halfNamed : ℕ → Half
+halfNamed a = if a is "1" then VideoHalf else if a is "2" then AudioHalf else BothHalves
+
+unfoldable pub muteAsked : List ℕ → Request
+muteAsked p =
+    if eqb (length p) 2 && p at 0 from "1" to "3" && p at 1 from "0" to "1"
+    then Asks (MuteSet (halfNamed (p at 0)) (p at 1 is "1"))
+    else Unlisted Avmt
+
+abbrev pub setAsked : Body → List ℕ → Request
+setAsked Powr p = powerAsked p
+setAsked Inpt p = inputAsked p
+setAsked Avmt p = muteAsked p
+setAsked Erst p = Unlisted Erst
+setAsked Lamp p = Unlisted Lamp
+setAsked Inst p = Unlisted Inst
+setAsked Name p = Unlisted Name
+setAsked Inf1 p = Unlisted Inf1
+setAsked Inf2 p = Unlisted Inf2
+setAsked Info p = Unlisted Info
+setAsked Clss p = Unlisted Clss
+
+abbrev pub isQuestion : List ℕ → Bool
+isQuestion p = eqb (length p) 1 && p at 0 is "?"
+
+abbrev pub asked : MaybeBody → List ℕ → Request
+asked NoBody p = UnknownBody
+asked (BodyIs b) p = if isQuestion p then Asks (queryOf b) else setAsked b p
+
+unfoldable pub requestOf : List ℕ → List ℕ → Request
+requestOf s p = asked (bodyNamed s) p

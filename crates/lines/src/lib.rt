@@ -1,0 +1,7 @@
+// What both sides of the wire share: the rules of bytes, inputs, texts, commands and lines of PJLink Class 1.
+pub mod byte;
+pub mod command;
+pub mod form;
+pub mod input;
+pub mod request;
+pub mod texts;
