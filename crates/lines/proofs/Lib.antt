@@ -1,1 +1,9 @@
 pub mod Refusals
+pub mod Characters
+pub mod InputsReadBack
+pub mod Bodies
+mod Keyed
+pub mod CommandLines
+pub mod CommandsAskedBack
+pub mod RepliesReadBack
+mod Examples

@@ -2,6 +2,7 @@
 --   bodyText b           the four letters of a body
 --   bodyOf c             the body of a command
 --   parameterOf c        its parameter: `?` asks, anything else sets
+--   parameterBytes p     the bytes of a parameter
 --   isCommand c          a command whose line can be written: its input is one
 --   commandText c        `%1`, the body, a space, the parameter
 --   commandLine c        that and CR
@@ -17,8 +18,10 @@ use Rattle.lines.specs.declared.command.Body.{Body}
 use Rattle.lines.specs.declared.command.Body.the-variants.{Powr, Inpt, Avmt, Erst, Lamp, Inst, Name, Inf1, Inf2, Info, Clss}
 use Rattle.lines.specs.declared.command.Half.{Half}
 use Rattle.lines.specs.declared.command.Half.the-variants.{VideoHalf, AudioHalf, BothHalves}
+use Rattle.lines.specs.declared.command.Parameter.{Parameter}
+use Rattle.lines.specs.declared.command.Parameter.the-variants.{One, Two}
 use Rattle.lines.specs.declared.command.Command.{Command}
-use Rattle.lines.specs.declared.command.Command.the-variants.{PowerSet, PowerQuery, InputSet, InputQuery, MuteSet, MuteQuery, ErrorQuery, LampQuery, InputsQuery, NameQuery, MakerQuery, ModelQuery, OtherQuery, ClassQuery}
+use Rattle.lines.specs.declared.command.Command.the-variants.{PowerSet, InputSet, MuteSet, Query}
 
 abbrev pub bodyText : Body → List ℕ
 bodyText Powr = ascii "POWR"
@@ -35,19 +38,9 @@ bodyText Clss = ascii "CLSS"
 
 abbrev pub bodyOf : Command → Body
 bodyOf (PowerSet on) = Powr
-bodyOf PowerQuery = Powr
 bodyOf (InputSet i) = Inpt
-bodyOf InputQuery = Inpt
 bodyOf (MuteSet h on) = Avmt
-bodyOf MuteQuery = Avmt
-bodyOf ErrorQuery = Erst
-bodyOf LampQuery = Lamp
-bodyOf InputsQuery = Inst
-bodyOf NameQuery = Name
-bodyOf MakerQuery = Inf1
-bodyOf ModelQuery = Inf2
-bodyOf OtherQuery = Info
-bodyOf ClassQuery = Clss
+bodyOf (Query b) = b
 
 -- 1 is on, 0 is off
 abbrev pub switchDigit : Bool → ℕ
@@ -64,33 +57,17 @@ abbrev pub parameterOf : Command → List ℕ
 parameterOf (PowerSet on) = switchDigit on ∷ []
 parameterOf (InputSet i) = inputText i
 parameterOf (MuteSet h on) = halfDigit h ∷ switchDigit on ∷ []
-parameterOf PowerQuery = ascii "?"
-parameterOf InputQuery = ascii "?"
-parameterOf MuteQuery = ascii "?"
-parameterOf ErrorQuery = ascii "?"
-parameterOf LampQuery = ascii "?"
-parameterOf InputsQuery = ascii "?"
-parameterOf NameQuery = ascii "?"
-parameterOf MakerQuery = ascii "?"
-parameterOf ModelQuery = ascii "?"
-parameterOf OtherQuery = ascii "?"
-parameterOf ClassQuery = ascii "?"
+parameterOf (Query b) = ascii "?"
+
+abbrev pub parameterBytes : Parameter → List ℕ
+parameterBytes (One a) = a ∷ []
+parameterBytes (Two a b) = a ∷ b ∷ []
 
 abbrev pub isCommand : Command → Bool
 isCommand (InputSet i) = isInput i
 isCommand (PowerSet on) = true
 isCommand (MuteSet h on) = true
-isCommand PowerQuery = true
-isCommand InputQuery = true
-isCommand MuteQuery = true
-isCommand ErrorQuery = true
-isCommand LampQuery = true
-isCommand InputsQuery = true
-isCommand NameQuery = true
-isCommand MakerQuery = true
-isCommand ModelQuery = true
-isCommand OtherQuery = true
-isCommand ClassQuery = true
+isCommand (Query b) = true
 
 abbrev pub commandText : Command → List ℕ
 commandText c = ascii "%1" ++ bodyText (bodyOf c) ++ ascii " " ++ parameterOf c

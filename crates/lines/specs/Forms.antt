@@ -10,19 +10,19 @@
 --   erraLine                 the refusal of a first line without the matching digest
 -- Assumes nothing.
 use Prim.Native.Nat.{ℕ, _-_}
-use Prim.Native.Char.{Char}
+use Prim.Native.Char.{code}
 use mathlib.Core.Bool.{Bool, _&&_}
 use mathlib.Core.List.{List, [], _∷_, _++_}
 use lib.ListN.{length, take, drop}
-use lib.Dec.{leb}
+use lib.Dec.{leb, eqb}
 use Rattle.text.specs.Words.{ascii, _is_}
 use Rattle.lines.specs.Bytes.{_at_, isAlnum, noCr}
 
-abbrev pub isHeaded : Char → List ℕ → Bool
+abbrev pub isHeaded : ℕ → List ℕ → Bool
 isHeaded m l =
     l at 0 is "%" && l at 1 is "1"
     && isAlnum (l at 2) && isAlnum (l at 3) && isAlnum (l at 4) && isAlnum (l at 5)
-    && l at 6 is m
+    && eqb (l at 6) m
 
 abbrev pub headBody : List ℕ → List ℕ
 headBody l = (l at 2) ∷ (l at 3) ∷ (l at 4) ∷ (l at 5) ∷ []
@@ -31,7 +31,7 @@ abbrev pub commandMost : ℕ
 commandMost = 135
 
 unfoldable pub isCommandForm : List ℕ → Bool
-isCommandForm l = leb 7 (length l) && leb (length l) commandMost && isHeaded " " l
+isCommandForm l = leb 7 (length l) && leb (length l) commandMost && isHeaded (code " ") l
 
 abbrev pub commandParameter : List ℕ → List ℕ
 commandParameter l = drop 7 l
@@ -44,7 +44,7 @@ replyParameter l = take (length l - 8) (drop 7 l)
 
 unfoldable pub isReplyForm : List ℕ → Bool
 isReplyForm l =
-    leb 8 (length l) && leb (length l) replyMost && isHeaded "=" l
+    leb 8 (length l) && leb (length l) replyMost && isHeaded (code "=") l
     && l at (length l - 1) is "\r" && noCr (replyParameter l)
 
 abbrev pub replyLine : ℕ → ℕ → ℕ → ℕ → List ℕ → List ℕ

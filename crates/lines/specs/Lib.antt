@@ -2,5 +2,6 @@ pub mod Bytes
 pub mod Inputs
 pub mod Texts
 pub mod Commands
+pub mod Keys
 pub mod Requests
 pub mod Forms

@@ -23,7 +23,7 @@ use Rattle.lines.specs.declared.command.Body.the-variants.{Powr, Inpt, A
 use Rattle.lines.specs.declared.command.Half.{Half}
 use Rattle.lines.specs.declared.command.Half.the-variants.{VideoHalf, AudioHalf, BothHalves}
 use Rattle.lines.specs.declared.command.Command.{Command}
-use Rattle.lines.specs.declared.command.Command.the-variants.{PowerSet, PowerQuery, InputSet, InputQuery, MuteSet, MuteQuery, ErrorQuery, LampQuery, InputsQuery, NameQuery, MakerQuery, ModelQuery, OtherQuery, ClassQuery}
+use Rattle.lines.specs.declared.command.Command.the-variants.{PowerSet, InputSet, MuteSet, Query}
 use Rattle.lines.specs.declared.request.MaybeBody.{MaybeBody}
 use Rattle.lines.specs.declared.request.MaybeBody.the-variants.{BodyIs, NoBody}
 use Rattle.lines.specs.declared.request.Request.{Request}
@@ -41,19 +41,6 @@ firstNamed (b ∷ bs) s = if isBody s b then BodyIs b else firstNamed bs s
 
 unfoldable pub bodyNamed : List ℕ → MaybeBody
 bodyNamed s = firstNamed bodies s
-
-abbrev pub queryOf : Body → Command
-queryOf Powr = PowerQuery
-queryOf Inpt = InputQuery
-queryOf Avmt = MuteQuery
-queryOf Erst = ErrorQuery
-queryOf Lamp = LampQuery
-queryOf Inst = InputsQuery
-queryOf Name = NameQuery
-queryOf Inf1 = MakerQuery
-queryOf Inf2 = ModelQuery
-queryOf Info = OtherQuery
-queryOf Clss = ClassQuery
 
 -- POWR: 0 or 1
 unfoldable pub powerAsked : List ℕ → Request
@@ -74,7 +61,7 @@ halfNamed a = if a is "1" then VideoHalf else if a is "2" then AudioHalf else Bo
 
 unfoldable pub muteAsked : List ℕ → Request
 muteAsked p =
-    if eqb (length p) 2 && p at 0 from "1" to "3" && p at 1 from "0" to "1"
+    if eqb (length p) 2 && (p at 0 from "1" to "3" && p at 1 from "0" to "1")
     then Asks (MuteSet (halfNamed (p at 0)) (p at 1 is "1"))
     else Unlisted Avmt
 
@@ -94,9 +81,12 @@ setAsked Clss p = Unlisted Clss
 abbrev pub isQuestion : List ℕ → Bool
 isQuestion p = eqb (length p) 1 && p at 0 is "?"
 
+unfoldable pub askedOf : Body → List ℕ → Request
+askedOf b p = if isQuestion p then Asks (Query b) else setAsked b p
+
 abbrev pub asked : MaybeBody → List ℕ → Request
+asked (BodyIs b) p = askedOf b p
 asked NoBody p = UnknownBody
-asked (BodyIs b) p = if isQuestion p then Asks (queryOf b) else setAsked b p
 
 unfoldable pub requestOf : List ℕ → List ℕ → Request
 requestOf s p = asked (bodyNamed s) p

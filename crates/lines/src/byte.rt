@@ -1,6 +1,6 @@
 // Single bytes of a line (000, 2.1).
 ghost use mathlib.Core.Path.{_≡_};
-ghost use Rattle.lines.specs.Bytes.{isAlnum, upperOf};
+ghost use Rattle.lines.specs.Bytes.{isAlnum, upperOf, noCr};
 
 // An ASCII letter or digit.
 pub fn is_alnum(b: u8) -> bool
@@ -20,4 +20,18 @@ pub fn upper(b: u8) -> u8
         return b;
     }
     b - (b'a' - b'A')
+}
+
+// Whether no byte of s is CR.
+pub fn no_cr(s: &[u8]) -> bool
+    ensures { λ r. ⌜ r ≡ noCr (now (s .entry)) ⌝ }
+{
+    let mut i = 0;
+    while i < s.len() {
+        if s[i] == b'\r' {
+            return false;
+        }
+        i += 1;
+    }
+    true
 }

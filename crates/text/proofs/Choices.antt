@@ -1,6 +1,6 @@
 -- What holds of a choice: by its test, or of both its sides.
 -- Assumes nothing.
-use mathlib.Core.Path.{_≡_, refl, ap}
+use mathlib.Core.Path.{_≡_, refl, sym, ap}
 use mathlib.Core.Bool.{Bool, true, false, _&&_}
 use Rattle.text.specs.Words.{if_then_else_}
 
@@ -30,3 +30,9 @@ both-right false b e = cc
 
 pub both : {a b : Bool} → a ≡ true → b ≡ true → (a && b) ≡ true
 both {a} {b} p q = (λ i. p i && q i)
+
+-- two tests that hold together are one
+pub alike : (a b : Bool) → (a ≡ true → b ≡ true) → (b ≡ true → a ≡ true) → a ≡ b
+alike true b p q = sym (p refl)
+alike false true p q = q refl
+alike false false p q = refl

@@ -1,0 +1,82 @@
+-- An input's two characters name that input and no other; two characters that name an input are its characters.
+-- Assumes nothing.
+use Prim.Native.Nat.{ℕ, _+_, _-_, _%_, _≤_}
+use mathlib.Core.Path.{_≡_, refl, sym, ap, _∙_}
+use mathlib.Core.Bool.{Bool, true, false, _&&_}
+use mathlib.Core.List.{List, [], _∷_}
+use native.Mathlib.Omega.{arith}
+use lib.Dec.{leb, eqb}
+use borrow.Author.Tests.{eqb-true, eqb-false, leb-true, le-leb}
+use Rattle.text.specs.Words.{if_then_else_, _is_, _from_to_}
+use Rattle.text.proofs.Choices.{if-yes, if-by, both, both-left, both-right}
+use Rattle.lines.specs.Inputs.{isInputText, sourceNamed, inputNamed, readInput, isInput, sourceDigit, numberDigit, inputText}
+use Rattle.lines.specs.declared.input.Source.{Source}
+use Rattle.lines.specs.declared.input.Source.the-variants.{Rgb, Video, Digital, Storage, Network}
+use Rattle.lines.specs.declared.input.Input.{Input}
+use Rattle.lines.specs.declared.input.MaybeInput.the-variants.{InputIs, NoInput}
+
+-- a source's character is one of the five, and names it
+record Told (s : Source) : Type 0 where
+  listed : (sourceDigit s from "1" to "5") ≡ true
+  back : sourceNamed (sourceDigit s) ≡ s
+
+source-told : (s : Source) → Told s
+unfolding sourceNamed
+source-told Rgb = record { listed = refl; back = refl }
+source-told Video = record { listed = refl; back = refl }
+source-told Digital = record { listed = refl; back = refl }
+source-told Storage = record { listed = refl; back = refl }
+source-told Network = record { listed = refl; back = refl }
+
+module _ (i : Input) (legal : isInput i ≡ true) where
+  low : 1 ≤ i .number
+  low = leb-true 1 (i .number) (both-left (leb 1 (i .number)) _ legal)
+
+  high : i .number ≤ 9
+  high = leb-true (i .number) 9 (both-right (leb 1 (i .number)) _ legal)
+
+  pub input-is-text : isInputText (sourceDigit (i .source)) (numberDigit (i .number)) ≡ true
+  input-is-text =
+      let l = low in
+      let h = high in
+      both (source-told (i .source) .listed) (both (le-leb 49 (numberDigit (i .number)) (omega arith)) (le-leb (numberDigit (i .number)) 57 (omega arith)))
+
+  pub input-read-back : readInput (sourceDigit (i .source)) (numberDigit (i .number)) ≡ InputIs i
+  unfolding readInput
+  input-read-back =
+      let l = low in
+      let h = high in
+      let same : numberDigit (i .number) - 48 ≡ i .number = omega arith in
+      if-yes _ NoInput input-is-text ∙ (λ j. InputIs (record { source = source-told (i .source) .back j; number = same j }))
+
+module _ (a b : ℕ) (named : isInputText a b ≡ true) where
+  source-is : a from "1" to "5" ≡ true
+  source-is = both-left (a from "1" to "5") _ named
+
+  number-is : b from "1" to "9" ≡ true
+  number-is = both-right (a from "1" to "5") _ named
+
+  source-back : sourceDigit (sourceNamed a) ≡ a
+  unfolding sourceNamed
+  source-back =
+      let low = leb-true 49 a (both-left (leb 49 a) _ source-is) in
+      let high = leb-true a 53 (both-right (leb 49 a) _ source-is) in
+      let P : Source → Type 0 = λ s. sourceDigit s ≡ a in
+      if-by P (a is "1") (λ e. sym (eqb-true a 49 e)) (λ n₁.
+      if-by P (a is "2") (λ e. sym (eqb-true a 50 e)) (λ n₂.
+      if-by P (a is "3") (λ e. sym (eqb-true a 51 e)) (λ n₃.
+      if-by P (a is "4") (λ e. sym (eqb-true a 52 e)) (λ n₄.
+      let last : 53 ≡ a = omega (arith, eqb-false a 49 n₁, eqb-false a 50 n₂, eqb-false a 51 n₃, eqb-false a 52 n₄) in last))))
+
+  pub named-is-input : isInput (inputNamed a b) ≡ true
+  named-is-input =
+      let low = leb-true 49 b (both-left (leb 49 b) _ number-is) in
+      let high = leb-true b 57 (both-right (leb 49 b) _ number-is) in
+      both (le-leb 1 (b - 48) (omega arith)) (le-leb (b - 48) 9 (omega arith))
+
+  pub named-text : inputText (inputNamed a b) ≡ a ∷ b ∷ []
+  named-text =
+      let low = leb-true 49 b (both-left (leb 49 b) _ number-is) in
+      let high = leb-true b 57 (both-right (leb 49 b) _ number-is) in
+      let same : numberDigit (b - 48) ≡ b = omega arith in
+      (λ j. source-back j ∷ same j ∷ [])

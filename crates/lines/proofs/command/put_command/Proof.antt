@@ -1,0 +1,66 @@
+-- `lines::command::put_command` meets its contract: the nine or ten bytes that are put are the command's line.
+-- Assumes nothing.
+use Prim.Native.Nat.{ℕ, _+_}
+use mathlib.Core.Path.{_≡_, refl, ap, sym, _∙_}
+use mathlib.Core.List.{List, _++_}
+use lib.ListN.{length}
+use lib.Seq.{sets}
+use borrow.Author.Needs.{needs}
+use Rattle.text.specs.Words.{ascii}
+use Rattle.lines.specs.Commands.{bodyText, parameterBytes, commandLine}
+use Rattle.lines.proofs.Bodies.{four}
+use Rattle.lines.proofs.CommandLines.{spelt}
+use Rattle.lines.proofs.command.put_command.Statement.{statement}
+use Rattle.lines.proofs.command.put_command.Tie as tie
+
+-- where body and parameter are known
+module _ (known : tie.After-parameter-of) where
+  abbrev named : tie.After-body-of
+  named = known .before .before
+
+  abbrev start : tie.Start
+  start = named .before .before
+
+  line : {p : List ℕ} → p ≡ parameterBytes (known .parameter-of .result)
+      → ascii "%1" ++ four (known .before .body-text .result) ++ ascii " " ++ p ++ ascii "\r" ≡ commandLine (start .args .c)
+  line e = spelt (start .args .c) (known .before .body-text .ensures ∙ ap bodyText (named .body-of .ensures)) (e ∙ known .parameter-of .ensures)
+
+  put-it : {p m : List ℕ} {r : ℕ} → p ≡ parameterBytes (known .parameter-of .result)
+      → m ≡ sets (start .args .out .now) (start .args .at) (ascii "%1" ++ four (known .before .body-text .result) ++ ascii " " ++ p ++ ascii "\r")
+      → r ≡ start .args .at + length (ascii "%1" ++ four (known .before .body-text .result) ++ ascii " " ++ p ++ ascii "\r")
+      → (r ≡ start .args .at + length (commandLine (start .args .c))) × (m ≡ sets (start .args .out .now) (start .args .at) (commandLine (start .args .c)))
+  put-it e m r = (r ∙ ap (λ (l : List ℕ). start .args .at + length l) (line e), m ∙ ap (sets (start .args .out .now) (start .args .at)) (line e))
+
+one : tie.Need-returns
+one c =
+    let put = c .before .before in
+    let given = put .before .before .before .before in
+    put-it (given .before .before) (ap parameterBytes (sym (given .p .given .1))) (put .put .ensures) refl
+
+two : tie.Need-returns-2
+two c =
+    let put = c .before .before in
+    let given = put .before .before .before .before in
+    put-it (given .before .before) (ap parameterBytes (sym (given .p2 .given .1))) (put .put2 .ensures) refl
+
+pub put-command-spec : {M : Type 1} → statement M
+put-command-spec =
+    tie.close
+    (tie.spec
+    (λ c κs. search needs)
+    (λ c κs. search needs)
+    (λ c κs. search needs)
+    (λ c. search needs)
+    (λ c. search needs) (λ c. search needs) (λ c. search needs) (λ c. search needs)
+    (λ c. search needs)
+    (λ c κs. search needs)
+    (λ c. search needs)
+    (λ c. search needs)
+    (λ c. search needs) (λ c. search needs) (λ c. search needs) (λ c. search needs)
+    (λ c. search needs)
+    (λ c κs. search needs)
+    (λ c. search needs)
+    (λ c. search needs)
+    one
+    (λ c. search needs)
+    two)

@@ -1,0 +1,29 @@
+-- `lines::request::power_asked` meets its contract: the tests that led to each `return` are the definition's.
+-- Assumes nothing.
+use Prim.Native.Nat.{ℕ}
+use mathlib.Core.Bool.{Bool}
+use mathlib.Core.List.{List}
+use borrow.Author.Tests.{eq-eqb, ne-eqb, not-true, not-false}
+use borrow.Author.Needs.{needs}
+use Rattle.text.specs.Words.{_from_to_}
+use Rattle.lines.specs.Bytes.{_at_}
+use Rattle.lines.specs.Requests.{powerAsked}
+use Rattle.lines.proofs.request.power_asked.Statement.{statement}
+use Rattle.lines.proofs.request.power_asked.Tie as tie
+
+abbrev listed : List ℕ → Bool
+listed p = p at 0 from "0" to "1"
+
+pub power-asked-spec : {M : Type 1} → statement M
+unfolding powerAsked
+power-asked-spec =
+    tie.close
+    (tie.spec
+    (λ c. simp (ne-eqb _ _ (c .if1 .taken)))
+    (λ c. search needs)
+    (λ c.
+    let long = c .before .before in
+    simp (eq-eqb _ _ (long .if1 .left), not-true (listed (long .before .args .p .now)) (c .if2 .taken)))
+    (λ c.
+    let long = c .before .before in
+    simp (eq-eqb _ _ (long .if1 .left), not-false (listed (long .before .args .p .now)) (c .if2 .left))))

@@ -1,0 +1,147 @@
+-- The digits of a number: by the quotient and the last digit, how many there are, and that each is a digit.
+-- Assumes nothing.
+use Prim.Native.Nat.{ℕ, zero, suc, _+_, _/_, _^_, _<_, _≤_}
+use Prim.Native.Char.{Char, code}
+use mathlib.Core.Path.{_≡_, refl, sym, ap, _∙_}
+use mathlib.Core.Bool.{Bool, true, false, not}
+use mathlib.Core.List.{List, [], _∷_, _++_}
+use native.Mathlib.Nat.{pow-suc}
+use native.Mathlib.Omega.{arith}
+use lib.ListN.{length, getD, length-append}
+use lib.Dec.{ltb, leb}
+use borrow.Author.Tests.{lt-ltb, le-ltb, le-leb, ltb-true, ltb-false, leb-true, ne-eqb}
+use Rattle.text.specs.Words.{if_then_else_, _is_}
+use Rattle.text.specs.Scans.{every}
+use Rattle.text.proofs.Choices.{if-by, both, both-left, both-right}
+use Rattle.text.proofs.Scanning.{every-append, every-at}
+use Rattle.numbers.specs.Decimal.{digitOf, digitsIn, digits, isDigit}
+
+-- one quotient more to take changes nothing
+room : (k n : ℕ) → n < 10 ^ suc k → digitsIn (suc k) n ≡ digitsIn k n
+room zero n h = simp (lt-ltb n 10 (omega (arith, pow-suc 10 0)))
+room (suc k) n h =
+    ap (λ (l : List ℕ). if ltb n 10 then digitOf n ∷ [] else l ++ (digitOf n ∷ []))
+    (room k (n / 10) (omega (arith, pow-suc 10 (suc k))))
+
+pub digits-low : (n : ℕ) → n < 10 → digits n ≡ digitOf n ∷ []
+unfolding digits
+digits-low n h = simp (lt-ltb n 10 h)
+
+pub digits-high : (n : ℕ) → 10 ≤ n → n < 2 ^ 32 → digits n ≡ digits (n / 10) ++ (digitOf n ∷ [])
+unfolding digits
+digits-high n h f =
+    simp (le-ltb n 10 h) (ap (λ (l : List ℕ). l ++ (digitOf n ∷ [])) (sym (room 8 (n / 10) (omega arith))))
+
+pub length-low : (n : ℕ) → n < 10 → length (digits n) ≡ 1
+length-low n h = ap length (digits-low n h)
+
+pub length-high : (n : ℕ) → 10 ≤ n → n < 2 ^ 32 → length (digits n) ≡ length (digits (n / 10)) + 1
+length-high n h f = ap length (digits-high n h f) ∙ length-append (digits (n / 10)) (digitOf n ∷ [])
+
+-- the one induction: P of how many quotients may be taken, a number, and its digits
+module _
+    (P : ℕ → ℕ → List ℕ → Type 0)
+    (end : (n : ℕ) → P 0 n (digitOf n ∷ []))
+    (low : (k n : ℕ) → n < 10 → P (suc k) n (digitOf n ∷ []))
+    (high : (k n : ℕ) (l : List ℕ) → 10 ≤ n → P k (n / 10) l → P (suc k) n (l ++ (digitOf n ∷ [])))
+  where
+    digitsIn-all : (k n : ℕ) → P k n (digitsIn k n)
+    digitsIn-all zero n = end n
+    digitsIn-all (suc k) n =
+        if-by
+        (P (suc k) n)
+        (ltb n 10)
+        (λ e. low k n (ltb-true n 10 e))
+        (λ e. high k n (digitsIn k (n / 10)) (ltb-false n 10 e) (digitsIn-all k (n / 10)))
+
+-- what holds of each number below ten, and of a number where it holds of its quotient, holds of every u32
+pub digits-all :
+    (P : ℕ → List ℕ → Type 0)
+    → ((n : ℕ) → n < 10 → P n (digitOf n ∷ []))
+    → ((n : ℕ) (l : List ℕ) → 10 ≤ n → P (n / 10) l → P n (l ++ (digitOf n ∷ [])))
+    → (n : ℕ)
+    → n < 2 ^ 32
+    → P n (digits n)
+unfolding digits
+digits-all P low high n f =
+    digitsIn-all
+    (λ (k n : ℕ) (l : List ℕ). n < 10 ^ suc k → P n l)
+    (λ n h. low n (omega (arith, pow-suc 10 0)))
+    (λ k n h g. low n h)
+    (λ k n l h p g. high n l h (p (omega (arith, pow-suc 10 (suc k)))))
+    9
+    n
+    (omega arith)
+
+lengths-in : (k n : ℕ) → (1 ≤ length (digitsIn k n)) × (length (digitsIn k n) ≤ suc k)
+lengths-in =
+    digitsIn-all
+    (λ (k n : ℕ) (l : List ℕ). (1 ≤ length l) × (length l ≤ suc k))
+    (λ n. (omega arith, omega arith))
+    (λ k n h. (omega arith, omega arith))
+    (λ k n l h p. rw length-append (omega arith, omega arith))
+
+pub digits-at-least-1 : (n : ℕ) → 1 ≤ length (digits n)
+unfolding digits
+digits-at-least-1 n = lengths-in 9 n .0
+
+pub digits-at-most-10 : (n : ℕ) → length (digits n) ≤ 10
+unfolding digits
+digits-at-most-10 n = lengths-in 9 n .1
+
+-- as many digits as the power of ten above the number
+pub digits-at-most : (k n : ℕ) → n < 2 ^ 32 → n < 10 ^ suc k → length (digits n) ≤ suc k
+digits-at-most k n f = digits-all (λ (n : ℕ) (l : List ℕ). (k : ℕ) → n < 10 ^ suc k → length l ≤ suc k) low high n f k
+  where
+    low : (n : ℕ) → n < 10 → (k : ℕ) → n < 10 ^ suc k → 1 ≤ suc k
+    low n h k g = omega arith
+
+    high : (n : ℕ) (l : List ℕ) → 10 ≤ n → ((k : ℕ) → n / 10 < 10 ^ suc k → length l ≤ suc k) → (k : ℕ) → n < 10 ^ suc k
+        → length (l ++ (digitOf n ∷ [])) ≤ suc k
+    high n l h p zero g = absurd (omega (arith, pow-suc 10 0))
+    high n l h p (suc k) g = rw length-append (omega (arith, p k (omega (arith, pow-suc 10 (suc k)))))
+
+pub digits-at-most-5 : (n : ℕ) → n < 100000 → length (digits n) ≤ 5
+digits-at-most-5 n h = digits-at-most 4 n (omega arith) h
+
+pub digit-is-digit : (b : ℕ) → code "0" ≤ b → b ≤ code "9" → isDigit b ≡ true
+digit-is-digit b l h = simp (le-leb (code "0") b l, le-leb b (code "9") h)
+
+pub digit-from : (b : ℕ) → isDigit b ≡ true → code "0" ≤ b
+digit-from b e = leb-true (code "0") b (both-left (leb (code "0") b) (leb b (code "9")) e)
+
+pub digit-to : (b : ℕ) → isDigit b ≡ true → b ≤ code "9"
+digit-to b e = leb-true b (code "9") (both-right (leb (code "0") b) (leb b (code "9")) e)
+
+last-is-digit : (n : ℕ) → every isDigit (digitOf n ∷ []) ≡ true
+last-is-digit n = both (digit-is-digit (digitOf n) (omega arith) (omega arith)) refl
+
+pub digits-are-digits : (n : ℕ) → every isDigit (digits n) ≡ true
+unfolding digits
+digits-are-digits =
+    digitsIn-all
+    (λ (k n : ℕ) (l : List ℕ). every isDigit l ≡ true)
+    last-is-digit
+    (λ k n h. last-is-digit n)
+    (λ k n l h p. every-append isDigit l (digitOf n ∷ []) p (last-is-digit n))
+    9
+
+pub digits-each-digit : (n i : ℕ) → i < length (digits n) → isDigit (getD (digits n) i 0) ≡ true
+digits-each-digit n = every-at isDigit (digits n) 0 (digits-are-digits n)
+
+-- a test that each digit passes is passed by all digits of a number
+pub digits-pass : (f : ℕ → Bool) → ((b : ℕ) → isDigit b ≡ true → f b ≡ true) → (n : ℕ) → every f (digits n) ≡ true
+digits-pass f g n = go (digits n) (digits-are-digits n)
+  where
+    go : (s : List ℕ) → every isDigit s ≡ true → every f s ≡ true
+    go [] e = refl
+    go (b ∷ s) e =
+        let rest = go s (both-right (isDigit b) (every isDigit s) e) in
+        both (g b (both-left (isDigit b) (every isDigit s) e)) rest
+
+-- no CR, no space, and none of the other characters below the digits
+pub digit-isnt : (c : Char) → code c < code "0" → (b : ℕ) → isDigit b ≡ true → (b is c) ≡ false
+digit-isnt c l b e = ne-eqb b (code c) (λ f. omega (arith, digit-from b e))
+
+pub digits-without : (c : Char) → code c < code "0" → (n : ℕ) → every (λ (b : ℕ). not (b is c)) (digits n) ≡ true
+digits-without c l = digits-pass (λ (b : ℕ). not (b is c)) (λ b e. ap not (digit-isnt c l b e))
