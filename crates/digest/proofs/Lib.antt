@@ -1,0 +1,10 @@
+mod Tables
+mod Rotation
+mod Stored
+mod Blocks
+mod Padded
+mod Parts
+mod Written
+pub mod Laws
+mod OneResult
+mod Vectors

@@ -1,0 +1,52 @@
+// Numbers and bytes as lowercase hexadecimal digits.
+use crate::word;
+ghost use mathlib.Core.Path.{_≡_};
+ghost use Prim.Native.Nat.{_/_, _%_, _<_};
+ghost use lib.ListN.{length};
+ghost use Rattle.digest.specs.Hex.{digitOf, hexOf, hexDigits};
+
+// The digit of x at a place p, a power of 16.
+fn digit(x: u32, p: u32) -> u8
+    requires { ⌜ 0 < p ⌝ }
+    ensures { λ r. ⌜ r ≡ digitOf (x / p % 16) ⌝ }
+{
+    let digits = b"0123456789abcdef";
+    digits[(x / p % 16) as usize]
+}
+
+fn two(x: u8) -> [u8; 2]
+    ensures { λ r. ⌜ r ≡ hexDigits 2 x ⌝ }
+{
+    let w = word::wide(x);
+    [digit(w, 0x10), digit(w, 1)]
+}
+
+pub fn eight(x: u32) -> [u8; 8]
+    ensures { λ r. ⌜ r ≡ hexDigits 8 x ⌝ }
+{
+    [
+        digit(x, 0x10000000),
+        digit(x, 0x1000000),
+        digit(x, 0x100000),
+        digit(x, 0x10000),
+        digit(x, 0x1000),
+        digit(x, 0x100),
+        digit(x, 0x10),
+        digit(x, 1),
+    ]
+}
+
+// The digits of 16 bytes.
+pub fn all(b: &[u8]) -> [u8; 32]
+    requires { ⌜ length (now b) ≡ 16 ⌝ }
+    ensures { λ r. ⌜ r ≡ hexOf (now (b .entry)) ⌝ }
+{
+    let mut out = [0u8; 32];
+    let mut i = 0;
+    while i < 16 {
+        let d = two(b[i]);
+        text::put(&mut out, 2 * i, &d);
+        i += 1;
+    }
+    out
+}
