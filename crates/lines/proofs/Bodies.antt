@@ -55,7 +55,8 @@ in-upper-case (b ∷ bs) s =
 -- bytes that a body's text is, in any case of letters, name that body
 pub body-is-named : (s : List ℕ) (b : Body) → isBody s b ≡ true → bodyNamed s ≡ BodyIs b
 unfolding bodyNamed
-body-is-named s b e = in-upper-case bodies s ∙ ap (exactly bodies) (same-turned upperOf s (bodyText b) e) ∙ body-spelt b .alone
+body-is-named s b e = in-upper-case bodies s ∙ ap (exactly bodies) (same-turned upperOf s (bodyText b) e)
+    ∙ body-spelt b .alone
 
 -- bytes that no body's text is name none
 none-first : (bs : List Body) (s : List ℕ) → ((b : Body) → isBody s b ≡ false) → firstNamed bs s ≡ NoBody

@@ -56,7 +56,8 @@ source-not-cr Network = refl
 
 parameter-no-cr : (c : Command) → every notCr (parameterOf c) ≡ true
 parameter-no-cr (PowerSet on) = both (switch-not-cr on) refl
-parameter-no-cr (InputSet i) = both (source-not-cr (i .source)) (both (ap not (ne-eqb (numberDigit (i .number)) 13 (omega arith))) refl)
+parameter-no-cr (InputSet i) = both (source-not-cr (i .source))
+    (both (ap not (ne-eqb (numberDigit (i .number)) 13 (omega arith))) refl)
 parameter-no-cr (MuteSet h on) = both (half-not-cr h) (both (switch-not-cr on) refl)
 parameter-no-cr (Query b) = refl
 

@@ -39,7 +39,8 @@ module _ (i : Input) (legal : isInput i ≡ true) where
   input-is-text =
       let l = low in
       let h = high in
-      both (source-told (i .source) .listed) (both (le-leb 49 (numberDigit (i .number)) (omega arith)) (le-leb (numberDigit (i .number)) 57 (omega arith)))
+      both (source-told (i .source) .listed)
+      (both (le-leb 49 (numberDigit (i .number)) (omega arith)) (le-leb (numberDigit (i .number)) 57 (omega arith)))
 
   pub input-read-back : readInput (sourceDigit (i .source)) (numberDigit (i .number)) ≡ InputIs i
   unfolding readInput
@@ -47,7 +48,8 @@ module _ (i : Input) (legal : isInput i ≡ true) where
       let l = low in
       let h = high in
       let same : numberDigit (i .number) - 48 ≡ i .number = omega arith in
-      if-yes _ NoInput input-is-text ∙ (λ j. InputIs (record { source = source-told (i .source) .back j; number = same j }))
+      if-yes _ NoInput input-is-text
+      ∙ (λ j. InputIs (record { source = source-told (i .source) .back j; number = same j }))
 
 module _ (a b : ℕ) (named : isInputText a b ≡ true) where
   source-is : a from "1" to "5" ≡ true
@@ -66,7 +68,8 @@ module _ (a b : ℕ) (named : isInputText a b ≡ true) where
       if-by P (a is "2") (λ e. sym (eqb-true a 50 e)) (λ n₂.
       if-by P (a is "3") (λ e. sym (eqb-true a 51 e)) (λ n₃.
       if-by P (a is "4") (λ e. sym (eqb-true a 52 e)) (λ n₄.
-      let last : 53 ≡ a = omega (arith, eqb-false a 49 n₁, eqb-false a 50 n₂, eqb-false a 51 n₃, eqb-false a 52 n₄) in last))))
+      let last : 53 ≡ a = omega
+      (arith, eqb-false a 49 n₁, eqb-false a 50 n₂, eqb-false a 51 n₃, eqb-false a 52 n₄) in last))))
 
   pub named-is-input : isInput (inputNamed a b) ≡ true
   named-is-input =

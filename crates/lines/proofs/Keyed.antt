@@ -33,7 +33,8 @@ abbrev same4 : (x y z w p q r t : ℕ) → Bool
 same4 x y z w p q r t = eqb x p && (eqb y q && (eqb z r && (eqb w t && true)))
 
 -- the four tests together are the one test on the numbers
-told-by-key : (x y z w p q r t : ℕ) → Small x y z w → Small p q r t → same4 x y z w p q r t ≡ eqb (keyOf x y z w) (keyOf p q r t)
+told-by-key : (x y z w p q r t : ℕ) → Small x y z w → Small p q r t
+    → same4 x y z w p q r t ≡ eqb (keyOf x y z w) (keyOf p q r t)
 told-by-key x y z w p q r t small small′ =
     alike (same4 x y z w p q r t) (eqb (keyOf x y z w) (keyOf p q r t)) bytes-then-key key-then-bytes
   where
@@ -51,12 +52,14 @@ told-by-key x y z w p q r t small small′ =
     key-then-bytes : eqb (keyOf x y z w) (keyOf p q r t) ≡ true → same4 x y z w p q r t ≡ true
     key-then-bytes e =
         let k : keyOf x y z w ≡ keyOf p q r t = eqb-true (keyOf x y z w) (keyOf p q r t) e in
-        both (eq-eqb x p (omega arith)) (both (eq-eqb y q (omega arith)) (both (eq-eqb z r (omega arith)) (both (eq-eqb w t (omega arith)) refl)))
+        both (eq-eqb x p (omega arith))
+        (both (eq-eqb y q (omega arith)) (both (eq-eqb z r (omega arith)) (both (eq-eqb w t (omega arith)) refl)))
 
 letter : (body : Body) (i : ℕ) → i < 4 → bodyText body at i < 256
 letter body i h =
     let long : length (bodyText body) ≡ 4 = sym (ap length (body-spelt body .long)) in
-    ltb-true (bodyText body at i) 256 (every-at (λ (x : ℕ). ltb x 256) (bodyText body) 0 (body-spelt body .bytes) i (omega arith))
+    ltb-true (bodyText body at i) 256
+    (every-at (λ (x : ℕ). ltb x 256) (bodyText body) 0 (body-spelt body .bytes) i (omega arith))
 
 module _ (a b c d : ℕ) (ha : a < 256) (hb : b < 256) (hc : c < 256) (hd : d < 256) where
   abbrev bytes : List ℕ
@@ -65,12 +68,25 @@ module _ (a b c d : ℕ) (ha : a < 256) (hb : b < 256) (hc : c < 256) (hd : d < 
   pub body-by-key : (body : Body) → isBody bytes body ≡ eqb (upperKey a b c d) (textKey (bodyText body))
   body-by-key body =
       ap (sameBy upperOf bytes) (sym (body-spelt body .long))
-      ∙ told-by-key (upperOf a) (upperOf b) (upperOf c) (upperOf d) (bodyText body at 0) (bodyText body at 1) (bodyText body at 2) (bodyText body at 3)
-      (record { first = upper-below a 256 ha; second = upper-below b 256 hb; third = upper-below c 256 hc; fourth = upper-below d 256 hd })
-      (record { first = letter body 0 (omega arith); second = letter body 1 (omega arith); third = letter body 2 (omega arith); fourth = letter body 3 (omega arith) })
+      ∙ told-by-key (upperOf a) (upperOf b) (upperOf c) (upperOf d) (bodyText body at 0) (bodyText body at 1)
+      (bodyText body at 2) (bodyText body at 3)
+      (record {
+        first = upper-below a 256 ha;
+        second = upper-below b 256 hb;
+        third = upper-below c 256 hc;
+        fourth = upper-below d 256 hd;
+      })
+      (record {
+        first = letter body 0 (omega arith);
+        second = letter body 1 (omega arith);
+        third = letter body 2 (omega arith);
+        fourth = letter body 3 (omega arith);
+      })
 
   pub named-by-key : (body : Body) → upperKey a b c d ≡ textKey (bodyText body) → bodyNamed bytes ≡ BodyIs body
-  named-by-key body e = body-is-named bytes body (body-by-key body ∙ eq-eqb (upperKey a b c d) (textKey (bodyText body)) e)
+  named-by-key body e = body-is-named bytes body
+      (body-by-key body ∙ eq-eqb (upperKey a b c d) (textKey (bodyText body)) e)
 
   pub unnamed-by-key : ((body : Body) → upperKey a b c d ≡ textKey (bodyText body) → ⊥) → bodyNamed bytes ≡ NoBody
-  unnamed-by-key n = no-body-is-named bytes (λ body. body-by-key body ∙ ne-eqb (upperKey a b c d) (textKey (bodyText body)) (n body))
+  unnamed-by-key n = no-body-is-named bytes
+      (λ body. body-by-key body ∙ ne-eqb (upperKey a b c d) (textKey (bodyText body)) (n body))

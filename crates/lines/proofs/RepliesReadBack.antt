@@ -22,7 +22,14 @@ module _ (a b c d : ℕ) (letters : every isAlnum (a ∷ b ∷ c ∷ d ∷ []) �
       let after-a = both-right (isAlnum a) _ letters in
       let after-b = both-right (isAlnum b) _ after-a in
       let after-c = both-right (isAlnum c) _ after-b in
-      simp (both-left (isAlnum a) _ letters, both-left (isAlnum b) _ after-a, both-left (isAlnum c) _ after-b, both-left (isAlnum d) _ after-c, eq-eqb m m refl)
+      simp (
+        both-left (isAlnum a) _ letters,
+        both-left (isAlnum b) _ after-a,
+        both-left
+            (isAlnum c) _ after-b,
+        both-left (isAlnum d) _ after-c,
+        eq-eqb m m refl,
+      )
 
   module _ (p : List ℕ) where
     pub reply-body : headBody (replyLine a b c d p) ≡ a ∷ b ∷ c ∷ d ∷ []
@@ -46,7 +53,9 @@ module _ (a b c d : ℕ) (letters : every isAlnum (a ∷ b ∷ c ∷ d ∷ []) �
     unfolding isReplyForm
     reply-form short plain =
         let long = reply-length in
-        both (both (both (both (le-leb 8 (length (replyLine a b c d p)) (omega arith)) (le-leb (length (replyLine a b c d p)) 136 (omega arith)))
+        both (both (both
+        (both (le-leb 8 (length (replyLine a b c d p)) (omega arith))
+        (le-leb (length (replyLine a b c d p)) 136 (omega arith)))
         (headed 61 (p ++ (13 ∷ [])))) (eq-eqb _ 13 ends)) (ap noCr reply-parameter ∙ plain)
 
     pub reply-not-erra : sameBy itself (replyLine a b c d p) erraLine ≡ false

@@ -75,18 +75,21 @@ module _ (f : ℕ → ℕ) (s t : List ℕ) where
           go true e = e
           go false e = refl
 
--- what passes in two lists passes in both together; what passes in a list passes at each place, and passes a weaker test
+-- what passes in two lists passes in both together; what passes in a list passes at each place, and passes a weaker
+-- test
 module _ {A : Type 0} (f : A → Bool) where
   pub every-append : (xs ys : List A) → every f xs ≡ true → every f ys ≡ true → every f (xs ++ ys) ≡ true
   every-append [] ys p q = q
-  every-append (x ∷ xs) ys p q = both (both-left (f x) (every f xs) p) (every-append xs ys (both-right (f x) (every f xs) p) q)
+  every-append (x ∷ xs) ys p q = both (both-left (f x) (every f xs) p)
+      (every-append xs ys (both-right (f x) (every f xs) p) q)
 
   pub every-at : (s : List A) (d : A) → every f s ≡ true → (i : ℕ) → i < length s → f (getD s i d) ≡ true
   every-at [] d e i h = absurd (omega arith)
   every-at (x ∷ s) d e zero h = both-left (f x) (every f s) e
   every-at (x ∷ s) d e (suc i) h = every-at s d (both-right (f x) (every f s) e) i (omega arith)
 
-  pub every-implies : (g : A → Bool) → ((a : A) → f a ≡ true → g a ≡ true) → (s : List A) → every f s ≡ true → every g s ≡ true
+  pub every-implies : (g : A → Bool) → ((a : A) → f a ≡ true → g a ≡ true) → (s : List A) → every f s ≡ true
+      → every g s ≡ true
   every-implies g w [] e = refl
   every-implies g w (x ∷ s) e =
       both (w x (both-left (f x) (every f s) e)) (every-implies g w s (both-right (f x) (every f s) e))

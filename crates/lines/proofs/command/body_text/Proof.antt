@@ -10,7 +10,8 @@ pub body-text-spec : {M : Type 1} → statement M
 body-text-spec =
     tie.close
     (tie.spec
-    (λ c. search needs) (λ c. search needs) (λ c. search needs) (λ c. search needs) (λ c. search needs) (λ c. search needs)
+    (λ c. search needs) (λ c. search needs) (λ c. search needs) (λ c. search needs) (λ c. search needs)
+    (λ c. search needs)
     (λ c. search needs) (λ c. search needs) (λ c. search needs) (λ c. search needs) (λ c. search needs)
     (λ c. ap bodyText (sym (c .before .before .enum-told .given .1)))
     (λ c. ap bodyText (sym (c .before .before .enum-told2 .given .1)))

@@ -23,8 +23,10 @@ parameter-of-spec =
     (λ c. ap (λ x. x ∷ []) (c .switch-digit .ensures) ∙ ap parameterOf (sym (c .before .before .c .given .1)))
     (λ c.
     let first = c .before in
-    (λ i. first .source-digit .ensures i ∷ c .number-digit .ensures i ∷ []) ∙ ap parameterOf (sym (first .before .before .c2 .given .1)))
+    (λ i. first .source-digit .ensures i ∷ c .number-digit .ensures i ∷ [])
+    ∙ ap parameterOf (sym (first .before .before .c2 .given .1)))
     (λ c.
     let first = c .before in
-    (λ i. first .half-digit .ensures i ∷ c .switch-digit2 .ensures i ∷ []) ∙ ap parameterOf (sym (first .before .before .c3 .given .1)))
+    (λ i. first .half-digit .ensures i ∷ c .switch-digit2 .ensures i ∷ [])
+    ∙ ap parameterOf (sym (first .before .before .c3 .given .1)))
     (λ c. ap parameterOf (sym (c .enum-told .given .1))))

@@ -1,7 +1,7 @@
 -- `lines::command::put_command` meets its contract: the nine or ten bytes that are put are the command's line.
 -- Assumes nothing.
 use Prim.Native.Nat.{ℕ, _+_}
-use mathlib.Core.Path.{_≡_, refl, ap, sym, _∙_}
+use mathlib.Core.Path.{_≡_, ap, sym, _∙_}
 use mathlib.Core.List.{List, _++_}
 use lib.ListN.{length}
 use lib.Seq.{sets}
@@ -21,27 +21,38 @@ module _ (known : tie.After-parameter-of) where
   abbrev start : tie.Start
   start = named .before .before
 
-  line : {p : List ℕ} → p ≡ parameterBytes (known .parameter-of .result)
-      → ascii "%1" ++ four (known .before .body-text .result) ++ ascii " " ++ p ++ ascii "\r" ≡ commandLine (start .args .c)
-  line e = spelt (start .args .c) (known .before .body-text .ensures ∙ ap bodyText (named .body-of .ensures)) (e ∙ known .parameter-of .ensures)
+  abbrev bytes : List ℕ → List ℕ
+  bytes p = ascii "%1" ++ four (known .before .body-text .result) ++ ascii " " ++ p ++ ascii "\r"
 
-  put-it : {p m : List ℕ} {r : ℕ} → p ≡ parameterBytes (known .parameter-of .result)
-      → m ≡ sets (start .args .out .now) (start .args .at) (ascii "%1" ++ four (known .before .body-text .result) ++ ascii " " ++ p ++ ascii "\r")
-      → r ≡ start .args .at + length (ascii "%1" ++ four (known .before .body-text .result) ++ ascii " " ++ p ++ ascii "\r")
-      → (r ≡ start .args .at + length (commandLine (start .args .c))) × (m ≡ sets (start .args .out .now) (start .args .at) (commandLine (start .args .c)))
-  put-it e m r = (r ∙ ap (λ (l : List ℕ). start .args .at + length l) (line e), m ∙ ap (sets (start .args .out .now) (start .args .at)) (line e))
+  abbrev line : List ℕ
+  line = commandLine (start .args .c)
+
+  bytes-are-line : {p : List ℕ} → p ≡ parameterBytes (known .parameter-of .result) → bytes p ≡ line
+  bytes-are-line e =
+      spelt (start .args .c) (known .before .body-text .ensures ∙ ap bodyText (named .body-of .ensures))
+      (e ∙ known .parameter-of .ensures)
+
+  line-is-put : {p m : List ℕ} → p ≡ parameterBytes (known .parameter-of .result)
+      → m ≡ sets (start .args .out .now) (start .args .at) (bytes p)
+      → (start .args .at + length (bytes p) ≡ start .args .at + length line)
+      × (m ≡ sets (start .args .out .now) (start .args .at) line)
+  line-is-put e m =
+      let same = bytes-are-line e in (
+        ap (λ (l : List ℕ). start .args .at + length l) same,
+        m ∙ ap (sets (start .args .out .now) (start .args .at)) same,
+      )
 
 one : tie.Need-returns
 one c =
     let put = c .before .before in
     let given = put .before .before .before .before in
-    put-it (given .before .before) (ap parameterBytes (sym (given .p .given .1))) (put .put .ensures) refl
+    line-is-put (given .before .before) (ap parameterBytes (sym (given .p .given .1))) (put .put .ensures)
 
 two : tie.Need-returns-2
 two c =
     let put = c .before .before in
     let given = put .before .before .before .before in
-    put-it (given .before .before) (ap parameterBytes (sym (given .p2 .given .1))) (put .put2 .ensures) refl
+    line-is-put (given .before .before) (ap parameterBytes (sym (given .p2 .given .1))) (put .put2 .ensures)
 
 pub put-command-spec : {M : Type 1} → statement M
 put-command-spec =

@@ -1,4 +1,5 @@
--- `lines::input::source_named` meets its contract: each arm's character is the one that `sourceNamed` tests in that place.
+-- `lines::input::source_named` meets its contract: each arm's character is the one that `sourceNamed` tests in that
+-- place.
 -- Assumes nothing.
 use mathlib.Core.Path.{ap, sym}
 use borrow.Author.Tests.{ne-eqb}
@@ -15,4 +16,5 @@ source-named-spec =
     (λ c. ap sourceNamed (sym (c .match .keys2)))
     (λ c. ap sourceNamed (sym (c .match .keys3)))
     (λ c. ap sourceNamed (sym (c .match .keys4)))
-    (λ c. let f = c .match .rest in simp (ne-eqb _ _ (f .1), ne-eqb _ _ (f .0 .1), ne-eqb _ _ (f .0 .0 .1), ne-eqb _ _ (f .0 .0 .0 .1))))
+    (λ c. let f = c .match .rest in simp
+    (ne-eqb _ _ (f .1), ne-eqb _ _ (f .0 .1), ne-eqb _ _ (f .0 .0 .1), ne-eqb _ _ (f .0 .0 .0 .1))))

@@ -15,4 +15,5 @@ asked-of-spec =
     (λ c κs. search needs)
     (λ c. sym (if-yes _ _ (sym (c .before .is-question .ensures) ∙ c .if1 .taken)))
     (λ c κs. search needs)
-    (λ c. c .set-asked .ensures ∙ sym (if-no _ _ (sym (c .before .before .is-question .ensures) ∙ c .before .if1 .left))))
+    (λ c. c .set-asked .ensures
+    ∙ sym (if-no _ _ (sym (c .before .before .is-question .ensures) ∙ c .before .if1 .left))))

@@ -1,4 +1,5 @@
--- `lines::request::body_named` meets its contract: an arm's number is the number of its body's letters, and equal numbers are equal bytes.
+-- `lines::request::body_named` meets its contract: an arm's number is the number of its body's letters, and equal
+-- numbers are equal bytes.
 -- Assumes nothing.
 use mathlib.Core.Path.{_≡_, sym, _∙_}
 use mathlib.Core.List.{[], _∷_}

@@ -1,4 +1,5 @@
--- `lines::request::half_named` meets its contract: each arm's character is the one that `halfNamed` tests in that place.
+-- `lines::request::half_named` meets its contract: each arm's character is the one that `halfNamed` tests in that
+-- place.
 -- Assumes nothing.
 use mathlib.Core.Path.{ap, sym}
 use borrow.Author.Tests.{ne-eqb}

@@ -15,7 +15,8 @@ told c =
     let keyed = text .before in
     let args = keyed .before .args in
     (λ i. eqb (keyed .upper-key .ensures i) ((c .text-key .ensures ∙ ap textKey (text .body-text .ensures)) i))
-    ∙ sym (body-by-key (args .a) (args .b) (args .c) (args .d) (omega arith) (omega arith) (omega arith) (omega arith) (args .body))
+    ∙ sym (body-by-key (args .a) (args .b) (args .c) (args .d) (omega arith) (omega arith) (omega arith)
+    (omega arith) (args .body))
 
 pub is-body-spec : {M : Type 1} → statement M
 is-body-spec = tie.close (tie.spec (λ c κs. search needs) (λ c κs. search needs) (λ c κs. search needs) told)

@@ -27,4 +27,9 @@ mute-asked-spec =
     (λ c κs. search needs)
     (λ c.
     let long = c .before .before .before .before in
-    simp (eq-eqb _ _ (long .if1 .left), not-false (listed (long .before .before .args .p .now)) (c .before .if2 .left), c .half-named .ensures)))
+    simp (
+      eq-eqb _ _ (long .if1 .left),
+      not-false (listed (long .before .before .args .p .now))
+          (c .before .if2 .left),
+      c .half-named .ensures,
+    )))

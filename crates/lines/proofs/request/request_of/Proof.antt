@@ -24,4 +24,5 @@ request-of-spec =
     c .asked-of .ensures ∙ ap (with-parameter _) (sym (c .before .before .named .given .1) ∙ read .body-named .ensures))
     (λ c.
     let read = c .before .before in
-    ap (with-parameter (read .before .before .args .p .now)) (sym (c .enum-told .given .1) ∙ read .body-named .ensures)))
+    ap (with-parameter (read .before .before .args .p .now))
+    (sym (c .enum-told .given .1) ∙ read .body-named .ensures)))

@@ -19,12 +19,14 @@ abbrev μ : tie.MeasureT-loop
 fails : tie.Need-returns Inv μ
 fails c =
     let turn = c .before .before .before .before in
-    sym (one-fails isAlnum _ 0 (turn .loop .inv) (search needs) (sym (c .before .is-alnum .ensures) ∙ not-true _ (c .if1 .taken)))
+    sym (one-fails isAlnum _ 0 (turn .loop .inv) (search needs)
+    (sym (c .before .is-alnum .ensures) ∙ not-true _ (c .if1 .taken)))
 
 again : tie.Need-loop-again Inv μ
 again c =
     let turn = c .before .before .before .before in
-    one-passed isAlnum _ 0 (turn .loop .inv) (search needs) (sym (c .before .is-alnum .ensures) ∙ not-false _ (c .if1 .left))
+    one-passed isAlnum _ 0 (turn .loop .inv) (search needs)
+    (sym (c .before .is-alnum .ensures) ∙ not-false _ (c .if1 .left))
 
 pub all-alnum-spec : {M : Type 1} → statement M
 all-alnum-spec =

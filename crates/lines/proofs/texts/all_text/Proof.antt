@@ -29,7 +29,8 @@ again c =
     let turn = read .before .before in
     let byte = getD (turn .before .args .s .now) (turn .loop .i) 0 in
     let small : byte ≤ 255 = omega (arith, read .shared-slice-known .given (turn .loop .i)) in
-    one-passed isTextByte _ 0 (turn .loop .inv) (search needs) (both (le-leb _ _ (c .if1 .left)) (le-leb byte 255 small))
+    one-passed isTextByte _ 0 (turn .loop .inv) (search needs)
+    (both (le-leb _ _ (c .if1 .left)) (le-leb byte 255 small))
 
 pub all-text-spec : {M : Type 1} → statement M
 all-text-spec =

@@ -26,4 +26,5 @@ refusal-of-spec =
     (λ c. sym (if-no _ 0 (sym (c .before .is-refusal .ensures) ∙ not-true _ (c .if1 .taken))))
     (λ c. omega (arith, refusal-long _ (refused (c .before))))
     (λ c. omega (arith, refusal-low _ (refused (c .before))))
-    (λ c. let s = c .before .before .before .before .args .s .now in sym (if-yes (getD s 3 0 - 48) 0 (refused (c .before)))))
+    (λ c. let s = c .before .before .before .before .args .s .now in sym
+    (if-yes (getD s 3 0 - 48) 0 (refused (c .before)))))
