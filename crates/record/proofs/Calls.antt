@@ -1,0 +1,86 @@
+-- The calls by their cases: what each gives by the tests that decide it, and what holds of a result because it holds in
+-- every case.
+-- Assumes nothing.
+use Prim.Native.Nat.{ℕ}
+use mathlib.Core.Path.{_≡_, sym, _∙_}
+use mathlib.Core.Bool.{Bool, true, false, not}
+use mathlib.Core.List.{List}
+use lib.ListN.{length}
+use borrow.Author.Tests.{not-false}
+use Rattle.text.proofs.Choices.{if-by}
+use Rattle.record.specs.Rules.{isErrors}
+use Rattle.record.specs.Record.{closed, settingsOf, startOwn, started, blank, accepted, refused}
+use Rattle.record.specs.Legal.{isLegal}
+use Rattle.record.specs.SetUp.{isSetUp, setUp}
+use Rattle.record.specs.HostCalls.{withOwn, withFault, withErrors, faultSet, errorsSet}
+use Rattle.record.specs.declared.types.Settings.{Settings}
+use Rattle.record.specs.declared.types.Own.{Own}
+use Rattle.record.specs.declared.types.Connection.{Connection}
+use Rattle.record.specs.declared.types.Device.{Device}
+use Rattle.record.specs.declared.types.Changed.{Changed}
+
+module _ (name maker model other password inputs lamps : List ℕ) (warm cool : ℕ) where
+  pub set-up-refused : isSetUp name maker model other password inputs lamps warm cool ≡ false
+      → setUp name maker model other password inputs lamps warm cool ≡ refused 3 blank
+  unfolding setUp
+  set-up-refused h = rw h
+
+  pub set-up-accepted : isSetUp name maker model other password inputs lamps warm cool ≡ true
+      → setUp name maker model other password inputs lamps warm cool
+      ≡ accepted (started name maker model other password inputs lamps warm cool)
+  unfolding setUp
+  set-up-accepted h = rw h
+
+  -- the started device, from its parts
+  pub set-up-made : {s : Settings} {o : Own} {c : Connection}
+      → isSetUp name maker model other password inputs lamps warm cool ≡ true
+      → s ≡ settingsOf name maker model other password inputs (length lamps) warm cool → o ≡ startOwn lamps → c ≡ closed
+      → accepted (record { settings = s; own = o; connection = c })
+      ≡ setUp name maker model other password inputs lamps warm cool
+  unfolding started
+  set-up-made h e f g =
+      (λ j. accepted (record { settings = e j; own = f j; connection = g j })) ∙ sym (set-up-accepted h)
+
+  pub set-up-by : (P : Changed → Type 0) → P (refused 3 blank)
+      → (isSetUp name maker model other password inputs lamps warm cool ≡ true
+      → P (accepted (started name maker model other password inputs lamps warm cool)))
+      → P (setUp name maker model other password inputs lamps warm cool)
+  unfolding setUp
+  set-up-by P refuse accept =
+      if-by P (isSetUp name maker model other password inputs lamps warm cool) accept (λ h. refuse)
+
+module _ (d : Device) where
+  pub fault-illegal : (m : Bool) → isLegal d ≡ false → faultSet d m ≡ refused 1 d
+  unfolding faultSet
+  fault-illegal m h = rw h
+
+  pub fault-accepted : (m : Bool) → isLegal d ≡ true → faultSet d m ≡ accepted (withOwn d (withFault (d .own) m))
+  unfolding faultSet
+  fault-accepted m h = rw h
+
+  pub fault-set-by : (P : Changed → Type 0) (m : Bool) → P (refused 1 d)
+      → (isLegal d ≡ true → P (accepted (withOwn d (withFault (d .own) m)))) → P (faultSet d m)
+  unfolding faultSet
+  fault-set-by P m refuse accept = if-by P (not (isLegal d)) (λ h. refuse) (λ h. accept (not-false (isLegal d) h))
+
+  pub errors-illegal : (ds : List ℕ) → isLegal d ≡ false → errorsSet d ds ≡ refused 1 d
+  unfolding errorsSet
+  errors-illegal ds h = rw h
+
+  pub errors-wrong : (ds : List ℕ) → isLegal d ≡ true → isErrors ds ≡ false → errorsSet d ds ≡ refused 3 d
+  unfolding errorsSet
+  errors-wrong ds h k = rw (h, k)
+
+  pub errors-accepted : (ds : List ℕ) → isLegal d ≡ true → isErrors ds ≡ true
+      → errorsSet d ds ≡ accepted (withOwn d (withErrors (d .own) ds))
+  unfolding errorsSet
+  errors-accepted ds h k = rw (h, k)
+
+  pub errors-set-by : (P : Changed → Type 0) (ds : List ℕ) → P (refused 1 d) → P (refused 3 d)
+      → (isLegal d ≡ true → isErrors ds ≡ true → P (accepted (withOwn d (withErrors (d .own) ds))))
+      → P (errorsSet d ds)
+  unfolding errorsSet
+  errors-set-by P ds illegal wrong accept =
+      if-by P (not (isLegal d)) (λ h. illegal)
+      (λ h. if-by P (not (isErrors ds)) (λ k. wrong)
+      (λ k. accept (not-false (isLegal d) h) (not-false (isErrors ds) k)))

@@ -1,0 +1,33 @@
+-- The host's two calls keep a record legal.
+-- Assumes nothing.
+use mathlib.Core.Path.{_≡_}
+use mathlib.Core.Bool.{Bool, true}
+use mathlib.Core.List.{List}
+use Prim.Native.Nat.{ℕ}
+use Rattle.record.specs.Legal.{isLegal}
+use Rattle.record.specs.HostCalls.{withOwn, withFault, withErrors, faultSet, errorsSet}
+use Rattle.record.specs.declared.types.Own.{Own}
+use Rattle.record.specs.declared.types.Device.{Device}
+use Rattle.record.proofs.OwnTold.{OwnTold, own-shown}
+use Rattle.record.proofs.LegalTold.{legal-settings, legal-connection, own-of-legal, legal-by-parts}
+use Rattle.record.proofs.Calls.{fault-set-by, errors-set-by}
+
+module _ (d : Device) (h : isLegal d ≡ true) where
+  -- another own part that is legal under the same settings
+  pub with-own-legal : (o : Own) → OwnTold (d .settings) o → isLegal (withOwn d o) ≡ true
+  with-own-legal o t =
+      legal-by-parts (withOwn d o) (legal-settings d h) (own-shown (d .settings) o t) (legal-connection d h)
+
+  pub fault-legal : (m : Bool) → isLegal (faultSet d m .device) ≡ true
+  fault-legal m =
+      let t = own-of-legal d h in
+      fault-set-by d (λ r. isLegal (r .device) ≡ true) m h
+      (λ l. with-own-legal (withFault (d .own) m)
+      (record { errors = t .errors; lamps = t .lamps; left = t .left; chosen = t .chosen }))
+
+  pub errors-legal : (ds : List ℕ) → isLegal (errorsSet d ds .device) ≡ true
+  errors-legal ds =
+      let t = own-of-legal d h in
+      errors-set-by d (λ r. isLegal (r .device) ≡ true) ds h h
+      (λ l e. with-own-legal (withErrors (d .own) ds)
+      (record { errors = e; lamps = t .lamps; left = t .left; chosen = t .chosen }))

@@ -1,0 +1,15 @@
+-- `record::own::own_ok` meets its contract: the tests are the definition's, in its order.
+-- Assumes nothing.
+use borrow.Author.Needs.{needs}
+use Rattle.record.specs.Legal.{isOwn}
+use Rattle.record.proofs.own.own_ok.Statement.{statement}
+use Rattle.record.proofs.own.own_ok.Tie as tie
+
+decided : tie.Need-returns
+unfolding isOwn
+decided c =
+    let left = c .before .before in
+    rw (left .left-ok .ensures, left .before .lamp-list-ok .ensures, left .before .before .error-list-ok .ensures)
+
+pub own-ok-spec : {M : Type 1} → statement M
+own-ok-spec = tie.close (tie.spec (λ c κs. search needs) (λ c κs. search needs) (λ c κs. search needs) decided)

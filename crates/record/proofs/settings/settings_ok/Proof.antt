@@ -1,0 +1,27 @@
+-- `record::settings::settings_ok` meets its contract: the tests are the definition's, in its order.
+-- Assumes nothing.
+use mathlib.Core.Bool.{_&&_}
+use lib.Dec.{leb}
+use borrow.Author.Needs.{needs}
+use Rattle.record.specs.Limits.{lampsMost}
+use Rattle.record.specs.Legal.{isSettings}
+use Rattle.record.proofs.settings.settings_ok.Statement.{statement}
+use Rattle.record.proofs.settings.settings_ok.Tie as tie
+
+decided : tie.Need-returns
+unfolding isSettings
+decided c =
+    let inputs = c .before .before .before in
+    let other = inputs .before .before in
+    let maker = other .before .before in
+    let start = maker .before .before .before in
+    (λ j.
+    maker .before .name-ok .ensures j && maker .info-ok .ensures j && other .before .info-ok2 .ensures j
+    && other .info-ok3 .ensures j && inputs .before .password-ok .ensures j && inputs .input-list-ok .ensures j
+    && leb (start .args .s .«lamp_count») lampsMost && c .before .stretch-ok .ensures j && c .stretch-ok2 .ensures j)
+
+pub settings-ok-spec : {M : Type 1} → statement M
+settings-ok-spec =
+    tie.close
+    (tie.spec (λ c κs. search needs) (λ c κs. search needs) (λ c κs. search needs) (λ c κs. search needs)
+    (λ c κs. search needs) (λ c κs. search needs) (λ c κs. search needs) (λ c κs. search needs) decided)

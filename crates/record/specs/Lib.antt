@@ -1,0 +1,7 @@
+pub mod Limits
+pub mod Record
+pub mod Rules
+pub mod Legal
+pub mod SetUp
+pub mod HostCalls
+pub mod Computing

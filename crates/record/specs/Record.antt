@@ -1,0 +1,110 @@
+-- The records that 01 spells out (01, "Set-up" and "The numbers a call gives").
+--   zeros n              n zeros
+--   inRoom n s           s at the start of a room of n, and zeros after it
+--   textOf s             the text s in its room
+--   closed               the closed connection: age 0, random number 0, no collected bytes, no overlong mark
+--   blank                the blank record, all zero
+--   settingsOf ..        the settings that set-up keeps
+--   startOwn lamps       off, both mutes off, the first input, no fault, error status 000000
+--   started ..           the device that an accepted set-up gives
+--   accepted d           the number 0 and the record d
+--   refused n d          the number n and the record that was given
+-- Assumes nothing.
+use Prim.Native.Nat.{ℕ, _/_}
+use mathlib.Core.Bool.{false}
+use mathlib.Core.List.{List}
+use lib.ListN.{length, replicate}
+use Rattle.text.specs.Words.{over}
+use Rattle.record.specs.Limits.{textRoom, inputRoom, lampsMost, lineRoom, errorsCount, off, shut}
+use Rattle.record.specs.declared.types.Text.{Text}
+use Rattle.record.specs.declared.types.Settings.{Settings}
+use Rattle.record.specs.declared.types.Own.{Own}
+use Rattle.record.specs.declared.types.Connection.{Connection}
+use Rattle.record.specs.declared.types.Device.{Device}
+use Rattle.record.specs.declared.types.Changed.{Changed}
+
+abbrev pub zeros : ℕ → List ℕ
+zeros n = replicate n 0
+
+unfoldable pub inRoom : ℕ → List ℕ → List ℕ
+inRoom n s = over s (zeros n)
+
+abbrev pub textOf : List ℕ → Text
+textOf s = record { len = length s; bytes = inRoom textRoom s }
+
+unfoldable pub closed : Connection
+closed = record {
+  phase = shut;
+  age = 0;
+  random = 0;
+  line = record { overlong = false; held = 0; bytes = zeros lineRoom };
+}
+
+abbrev pub settingsOf : (name maker model other password inputs : List ℕ) (lampCount warm cool : ℕ) → Settings
+settingsOf name maker model other password inputs lampCount warm cool = record {
+  name = textOf name;
+  maker = textOf maker;
+  model = textOf model;
+  other = textOf other;
+  password = textOf password;
+  «input_count» = length inputs / 2;
+  inputs = inRoom inputRoom inputs;
+  «lamp_count» = lampCount;
+  warm = warm;
+  cool = cool;
+}
+
+abbrev pub startOwn : List ℕ → Own
+startOwn lamps = record {
+  power = off;
+  left = 0;
+  chosen = 0;
+  «video_muted» = false;
+  «audio_muted» = false;
+  fault = false;
+  errors = zeros errorsCount;
+  lamps = inRoom lampsMost lamps;
+}
+
+unfoldable pub started : (name maker model other password inputs lamps : List ℕ) (warm cool : ℕ) → Device
+started name maker model other password inputs lamps warm cool = record {
+  settings = settingsOf name maker model other password inputs (length lamps) warm cool;
+  own = startOwn lamps;
+  connection = closed;
+}
+
+abbrev pub blankText : Text
+blankText = record { len = 0; bytes = zeros textRoom }
+
+unfoldable pub blank : Device
+blank = record {
+  settings = record {
+    name = blankText;
+    maker = blankText;
+    model = blankText;
+    other = blankText;
+    password = blankText;
+    «input_count» = 0;
+    inputs = zeros inputRoom;
+    «lamp_count» = 0;
+    warm = 0;
+    cool = 0;
+  };
+  own = record {
+    power = 0;
+    left = 0;
+    chosen = 0;
+    «video_muted» = false;
+    «audio_muted» = false;
+    fault = false;
+    errors = zeros errorsCount;
+    lamps = zeros lampsMost;
+  };
+  connection = closed;
+}
+
+abbrev pub accepted : Device → Changed
+accepted d = record { number = 0; device = d }
+
+abbrev pub refused : ℕ → Device → Changed
+refused n d = record { number = n; device = d }

@@ -1,0 +1,50 @@
+-- What the settings have to be (01, "Set-up"). The rules of texts and passwords are those of `lines`.
+--   eachPair f s         s is pairs, and each pair passes the test f, which also sees what follows it
+--   isNone a b s         the input a b is none of the inputs s: each of them is another (isOther)
+--   isNewInput a b s     the characters a b name an input, which none of the later ones s repeats
+--   isInputs s           1 to 16 inputs, two characters each, all different
+--   isLamp x             a lamp's seconds are at most the limit
+--   isLamps xs           0 to 8 lamps
+--   isStretch n          1 to 600 seconds, of warm-up or of cooling
+--   isErrors ds          six error digits, each 0 to 2
+-- Assumes nothing.
+use Prim.Native.Nat.{ℕ}
+use mathlib.Core.Bool.{Bool, true, false, not, _&&_}
+use mathlib.Core.List.{List, [], _∷_}
+use lib.ListN.{length}
+use lib.Dec.{leb, eqb}
+use Rattle.text.specs.Scans.{every}
+use Rattle.lines.specs.Inputs.{isInputText}
+use Rattle.record.specs.Limits.{inputRoom, lampsMost, lampLimit, stretchMost, errorsCount, errorMost}
+
+abbrev pub atMost : ℕ → ℕ → Bool
+atMost n x = leb x n
+
+unfoldable pub eachPair : (ℕ → ℕ → List ℕ → Bool) → List ℕ → Bool
+eachPair f [] = true
+eachPair f (a ∷ []) = false
+eachPair f (a ∷ b ∷ s) = f a b s && eachPair f s
+
+abbrev pub isOther : ℕ → ℕ → ℕ → ℕ → List ℕ → Bool
+isOther a b x y later = not (eqb x a && eqb y b)
+
+unfoldable pub isNone : ℕ → ℕ → List ℕ → Bool
+isNone a b s = eachPair (isOther a b) s
+
+abbrev pub isNewInput : ℕ → ℕ → List ℕ → Bool
+isNewInput a b later = isInputText a b && isNone a b later
+
+unfoldable pub isInputs : List ℕ → Bool
+isInputs s = leb 2 (length s) && leb (length s) inputRoom && eachPair isNewInput s
+
+abbrev pub isLamp : ℕ → Bool
+isLamp x = atMost lampLimit x
+
+unfoldable pub isLamps : List ℕ → Bool
+isLamps xs = leb (length xs) lampsMost && every isLamp xs
+
+abbrev pub isStretch : ℕ → Bool
+isStretch n = leb 1 n && leb n stretchMost
+
+unfoldable pub isErrors : List ℕ → Bool
+isErrors ds = eqb (length ds) errorsCount && every (atMost errorMost) ds

@@ -1,0 +1,65 @@
+// What set-up keeps of the lent slices: each at the start of a cleared room (01, "Set-up").
+use crate::own;
+use crate::types::ERRORS;
+use crate::types::INPUT_ROOM;
+use crate::types::LAMPS_MOST;
+use crate::types::Own;
+use crate::types::TEXT_ROOM;
+use crate::types::Text;
+ghost use mathlib.Core.Path.{_≡_};
+ghost use Prim.Native.Nat.{_≤_};
+ghost use lib.ListN.{length};
+ghost use Rattle.record.specs.Limits.{textRoom, inputRoom, lampsMost};
+ghost use Rattle.record.specs.Record.{inRoom, textOf, startOwn};
+
+pub fn text_of(s: &[u8]) -> Text
+    requires { ⌜ length (now s) ≤ textRoom ⌝ }
+    ensures { λ r. ⌜ r ≡ textOf (now (s .entry)) ⌝ }
+{
+    let mut bytes = [0u8; TEXT_ROOM];
+    text::put(&mut bytes, 0, s);
+    Text {
+        len: s.len(),
+        bytes,
+    }
+}
+
+pub fn input_room(s: &[u8]) -> [u8; INPUT_ROOM]
+    requires { ⌜ length (now s) ≤ inputRoom ⌝ }
+    ensures { λ r. ⌜ r ≡ inRoom inputRoom (now (s .entry)) ⌝ }
+{
+    let mut list = [0u8; INPUT_ROOM];
+    text::put(&mut list, 0, s);
+    list
+}
+
+pub fn lamp_room(s: &[u32]) -> [u32; LAMPS_MOST]
+    requires { ⌜ length (now s) ≤ lampsMost ⌝ }
+    ensures { λ r. ⌜ r ≡ inRoom lampsMost (now (s .entry)) ⌝ }
+{
+    let mut list = [0u32; LAMPS_MOST];
+    let mut i = 0;
+    while i < s.len() {
+        list[i] = s[i];
+        i += 1;
+    }
+    list
+}
+
+// Off, both mutes off, the first input, no fault, error status 000000, and the lamps' starting seconds.
+pub fn start_own(lamps: &[u32]) -> Own
+    requires { ⌜ length (now lamps) ≤ lampsMost ⌝ }
+    ensures { λ r. ⌜ r ≡ startOwn (now (lamps .entry)) ⌝ }
+{
+    let seconds = lamp_room(lamps);
+    Own {
+        power: own::OFF,
+        left: 0,
+        chosen: 0,
+        video_muted: false,
+        audio_muted: false,
+        fault: false,
+        errors: [0; ERRORS],
+        lamps: seconds,
+    }
+}

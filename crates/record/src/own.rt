@@ -1,0 +1,77 @@
+// The legality of the projector's own part (01, "Set-up").
+use crate::scan;
+use crate::types::ERRORS;
+use crate::types::LAMPS_MOST;
+use crate::types::Own;
+use crate::types::Settings;
+ghost use mathlib.Core.Path.{_≡_};
+ghost use Rattle.record.specs.Limits.{lampsMost};
+ghost use Rattle.record.specs.Rules.{isLamps, isErrors};
+ghost use Rattle.record.specs.Legal.{isKept, isLeft, isOwn};
+
+// 99,999 hours and 3,599 seconds.
+pub const LAMP_LIMIT: u32 = 359_999_999;
+
+pub const ERROR_MOST: u8 = 2;
+
+// The power, as POWR answers it.
+pub const OFF: u8 = 0;
+
+pub const ON: u8 = 1;
+
+pub const COOLING: u8 = 2;
+
+pub const WARMING: u8 = 3;
+
+// 0 to 8 lamps, each within the limit.
+pub fn lamps_ok(s: &[u32]) -> bool
+    ensures { λ r. ⌜ r ≡ isLamps (now (s .entry)) ⌝ }
+{
+    (s.len() <= LAMPS_MOST) & scan::numbers_within(s, LAMP_LIMIT)
+}
+
+fn lamp_list_ok(list: [u32; LAMPS_MOST], count: usize) -> bool
+    ensures { λ r. ⌜ r ≡ isKept lampsMost isLamps list count ⌝ }
+{
+    if LAMPS_MOST < count {
+        return false;
+    }
+    scan::numbers_within(&list[count..], 0) & lamps_ok(&list[0..count])
+}
+
+// Six error digits, each 0 to 2.
+pub fn errors_ok(s: &[u8]) -> bool
+    ensures { λ r. ⌜ r ≡ isErrors (now (s .entry)) ⌝ }
+{
+    (s.len() == ERRORS) & scan::bytes_within(s, ERROR_MOST)
+}
+
+fn error_list_ok(list: [u8; ERRORS]) -> bool
+    ensures { λ r. ⌜ r ≡ isErrors list ⌝ }
+{
+    errors_ok(&list)
+}
+
+// Seconds left: 1 to `warm` in warm-up, 1 to `cool` in cooling, else 0.
+fn left_ok(power: u8, left: u32, warm: u32, cool: u32) -> bool
+    ensures { λ r. ⌜ r ≡ isLeft power left warm cool ⌝ }
+{
+    if power == WARMING {
+        return (1 <= left) & (left <= warm);
+    }
+    if power == COOLING {
+        return (1 <= left) & (left <= cool);
+    }
+    (power <= ON) & (left == 0)
+}
+
+pub fn own_ok(s: Settings, o: Own) -> bool
+    ensures { λ r. ⌜ r ≡ isOwn s o ⌝ }
+{
+    let errors = o.errors;
+    let lamps = o.lamps;
+    error_list_ok(errors)
+        & lamp_list_ok(lamps, s.lamp_count)
+        & left_ok(o.power, o.left, s.warm, s.cool)
+        & (o.chosen < s.input_count)
+}

@@ -1,0 +1,126 @@
+// The device record (01, "Set-up"): numbers, bools, arrays and structs of these, so that it can cross to C.
+pub const TEXT_ROOM: usize = 64;
+
+pub const INPUTS_MOST: usize = 16;
+
+pub const INPUT_ROOM: usize = 2 * INPUTS_MOST;
+
+pub const LAMPS_MOST: usize = 8;
+
+pub const LINE_ROOM: usize = 167;
+
+pub const ERRORS: usize = 6;
+
+// A text in its room. Here and in every array: what is not used is zero.
+#[repr(C)]
+pub struct Text {
+    pub len: usize,
+    pub bytes: [u8; TEXT_ROOM],
+}
+
+// What set-up was given, but for the lamps' starting seconds. An input is two ASCII characters.
+#[repr(C)]
+pub struct Settings {
+    pub name: Text,
+    pub maker: Text,
+    pub model: Text,
+    pub other: Text,
+    pub password: Text,
+    pub input_count: usize,
+    pub inputs: [u8; INPUT_ROOM],
+    pub lamp_count: usize,
+    pub warm: u32,
+    pub cool: u32,
+}
+
+// The projector's own part, which no connection touches but by a command.
+#[repr(C)]
+pub struct Own {
+    pub power: u8,
+    pub left: u32,
+    pub chosen: usize,
+    pub video_muted: bool,
+    pub audio_muted: bool,
+    pub fault: bool,
+    pub errors: [u8; ERRORS],
+    pub lamps: [u32; LAMPS_MOST],
+}
+
+// What is collected of a line.
+#[repr(C)]
+pub struct Line {
+    pub overlong: bool,
+    pub held: usize,
+    pub bytes: [u8; LINE_ROOM],
+}
+
+#[repr(C)]
+pub struct Connection {
+    pub phase: u8,
+    pub age: u32,
+    pub random: u32,
+    pub line: Line,
+}
+
+#[repr(C)]
+pub struct Device {
+    pub settings: Settings,
+    pub own: Own,
+    pub connection: Connection,
+}
+
+// What set-up, the host's two calls, closing and passing time give.
+#[repr(C)]
+pub struct Changed {
+    pub number: u32,
+    pub device: Device,
+}
+
+impl Text {
+    pub const EMPTY: Text = Text {
+        len: 0,
+        bytes: [0; TEXT_ROOM],
+    };
+}
+
+impl Connection {
+    pub const CLOSED: Connection = Connection {
+        phase: 0,
+        age: 0,
+        random: 0,
+        line: Line {
+            overlong: false,
+            held: 0,
+            bytes: [0; LINE_ROOM],
+        },
+    };
+}
+
+// All zero: what a refused set-up returns. It has no input, so it is not legal.
+impl Device {
+    pub const BLANK: Device = Device {
+        settings: Settings {
+            name: Text::EMPTY,
+            maker: Text::EMPTY,
+            model: Text::EMPTY,
+            other: Text::EMPTY,
+            password: Text::EMPTY,
+            input_count: 0,
+            inputs: [0; INPUT_ROOM],
+            lamp_count: 0,
+            warm: 0,
+            cool: 0,
+        },
+        own: Own {
+            power: 0,
+            left: 0,
+            chosen: 0,
+            video_muted: false,
+            audio_muted: false,
+            fault: false,
+            errors: [0; ERRORS],
+            lamps: [0; LAMPS_MOST],
+        },
+        connection: Connection::CLOSED,
+    };
+}
