@@ -1,0 +1,64 @@
+-- n seconds in one go: the closed forms are n times one second, for the own part and so for the device.
+-- Assumes nothing.
+use Prim.Native.Nat.{ℕ, zero, suc}
+use mathlib.Core.Path.{_≡_, refl, sym, ap, _∙_}
+use mathlib.Core.Bool.{Bool, true, false}
+use mathlib.Core.List.{List}
+use Rattle.text.specs.Words.{if_then_else_}
+use Rattle.text.proofs.Choices.{if-all}
+use Rattle.record.specs.declared.types.Settings.{Settings}
+use Rattle.record.specs.declared.types.Own.{Own}
+use Rattle.record.specs.declared.types.Device.{Device}
+use Rattle.clock.specs.Second.{times, firstChanged, isLit, oneMore, lampsSecond, withPowerLeftLamps, ownSecond}
+use Rattle.clock.specs.Second.{second}
+use Rattle.clock.specs.After.{powerAfter, lampsAfter, ownAfter, partsAfter}
+use Rattle.clock.proofs.FirstChanged.{none-changed, twice-changed}
+use Rattle.clock.proofs.PowerTurns.{power-none, left-none, power-more, left-more, lit-throughout}
+
+lamps-none : (power count : ℕ) (l : List ℕ) → lampsAfter 0 power count l ≡ l
+unfolding lampsAfter times
+lamps-none power count l =
+    if-all (λ (x : List ℕ). x ≡ l) (isLit power) (none-changed count (λ k. times oneMore 0) l (λ k x. refl)) refl
+
+-- one second of the lamps, and n of them, where they burn or not
+abbrev burns-on : ℕ → Bool → List ℕ → List ℕ
+burns-on count lit l = if lit then firstChanged count (λ place. oneMore) l else l
+
+module _ (count : ℕ) (l : List ℕ) where
+  abbrev burnt : ℕ → Bool → List ℕ
+  burnt n lit = if lit then firstChanged count (λ place. times oneMore n) l else l
+
+  burnt-more : (n : ℕ) (lit : Bool) → burns-on count lit (burnt n lit) ≡ burnt (suc n) lit
+  unfolding times
+  burnt-more n true = twice-changed count (λ place. oneMore) (λ place. times oneMore n) l
+  burnt-more n false = refl
+
+  lamps-more : (n power left : ℕ)
+      → lampsSecond (powerAfter n power left) count (lampsAfter n power count l) ≡ lampsAfter (suc n) power count l
+  unfolding lampsAfter lampsSecond
+  lamps-more n power left =
+      ap (λ (lit : Bool). burns-on count lit (burnt n (isLit power))) (lit-throughout n power left)
+      ∙ burnt-more n (isLit power)
+
+module _ (s : Settings) (o : Own) where
+  pub own-in-one-go : (n : ℕ) → times (ownSecond s) n o ≡ ownAfter s o n
+  unfolding times ownSecond
+  own-in-one-go zero =
+      sym (λ i.
+      withPowerLeftLamps o
+      (power-none (o .power) (o .left) i)
+      (left-none (o .power) (o .left) i)
+      (lamps-none (o .power) (s .«lamp_count») (o .lamps) i))
+  own-in-one-go (suc n) =
+      ap (ownSecond s) (own-in-one-go n)
+      ∙ (λ i.
+      withPowerLeftLamps o
+      (power-more n (o .power) (o .left) i)
+      (left-more n (o .power) (o .left) i)
+      (lamps-more (s .«lamp_count») (o .lamps) n (o .power) (o .left) i))
+
+-- the parts pass their seconds each for itself
+pub parts-pass : (n : ℕ) (d : Device) → times second n d ≡ partsAfter n d
+unfolding times second
+parts-pass zero d = refl
+parts-pass (suc n) d = ap second (parts-pass n d)

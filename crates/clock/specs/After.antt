@@ -1,0 +1,45 @@
+-- What n seconds leave, in closed form, for the contracts of the helpers that compute it. No rule of 01: that this is
+-- n times one second is proved (proofs/InOneGo.antt, proofs/LampsByPlace.antt).
+--   powerAfter n power left, leftAfter n power left      the power and the seconds left
+--   lampAfter n lit x                                    the seconds of a lamp within the limit that had x
+--   lampsAfter n power count lamps                       the lamps
+--   ownAfter s o n                                       the own part
+--   partsAfter n d                                       the device, a part at a time
+-- Assumes nothing.
+use Prim.Native.Nat.{ℕ, _+_, _-_, min}
+use mathlib.Core.Bool.{Bool, _&&_}
+use mathlib.Core.List.{List}
+use lib.Dec.{leb}
+use Rattle.text.specs.Words.{if_then_else_}
+use Rattle.record.specs.Limits.{lampLimit}
+use Rattle.record.specs.declared.types.Settings.{Settings}
+use Rattle.record.specs.declared.types.Own.{Own}
+use Rattle.record.specs.declared.types.Device.{Device}
+use Rattle.clock.specs.Second.{times, firstChanged, isLit, isBetween, settledPower, oneMore, withPowerLeftLamps}
+use Rattle.clock.specs.Second.{ownSecond, connectionSecond}
+
+unfoldable pub powerAfter : ℕ → ℕ → ℕ → ℕ
+powerAfter n power left = if isBetween power && (leb 1 n && leb left n) then settledPower power else power
+
+unfoldable pub leftAfter : ℕ → ℕ → ℕ → ℕ
+leftAfter n power left = if isBetween power then left - n else left
+
+abbrev pub lampAfter : ℕ → Bool → ℕ → ℕ
+lampAfter n lit x = if lit then min lampLimit (x + n) else x
+
+unfoldable pub lampsAfter : ℕ → ℕ → ℕ → List ℕ → List ℕ
+lampsAfter n power count lamps = if isLit power then firstChanged count (λ place. times oneMore n) lamps else lamps
+
+abbrev pub ownAfter : Settings → Own → ℕ → Own
+ownAfter s o n =
+    withPowerLeftLamps o
+    (powerAfter n (o .power) (o .left))
+    (leftAfter n (o .power) (o .left))
+    (lampsAfter n (o .power) (s .«lamp_count») (o .lamps))
+
+abbrev pub partsAfter : ℕ → Device → Device
+partsAfter n d = record {
+  settings = d .settings;
+  own = times (ownSecond (d .settings)) n (d .own);
+  connection = times connectionSecond n (d .connection);
+}

@@ -1,0 +1,4 @@
+pub mod Second
+pub mod After
+pub mod Passing
+pub mod Computing

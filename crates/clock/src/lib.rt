@@ -1,0 +1,4 @@
+// Time (01, "Time"): n seconds at once, by value and in place. The meaning is one second, applied n times.
+pub mod connection;
+pub mod own;
+pub mod pass;

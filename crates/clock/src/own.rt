@@ -1,0 +1,103 @@
+// The projector's own part after n seconds, in closed form: the cost does not grow with n.
+use record::own::COOLING;
+use record::own::LAMP_LIMIT;
+use record::own::OFF;
+use record::own::ON;
+use record::own::WARMING;
+use record::types::LAMPS_MOST;
+use record::types::Own;
+use record::types::Settings;
+ghost use mathlib.Core.Path.{_≡_};
+ghost use Rattle.clock.specs.Second.{isLit, isBetween, settledPower, oneMore, firstChanged, ownSecond, times};
+ghost use Rattle.clock.specs.After.{powerAfter, leftAfter, lampsAfter};
+
+// A lamp burns in warm-up and power-on.
+fn is_lit(power: u8) -> bool
+    ensures { λ r. ⌜ r ≡ isLit power ⌝ }
+{
+    (power == WARMING) | (power == ON)
+}
+
+fn is_between(power: u8) -> bool
+    ensures { λ r. ⌜ r ≡ isBetween power ⌝ }
+{
+    (power == WARMING) | (power == COOLING)
+}
+
+fn settled_power(power: u8) -> u8
+    ensures { λ r. ⌜ r ≡ settledPower power ⌝ }
+{
+    if power == WARMING { ON } else { OFF }
+}
+
+fn power_after(power: u8, left: u32, n: u32) -> u8
+    ensures { λ r. ⌜ r ≡ powerAfter n power left ⌝ }
+{
+    if is_between(power) & ((1 <= n) & (left <= n)) {
+        return settled_power(power);
+    }
+    power
+}
+
+fn left_after(power: u8, left: u32, n: u32) -> u32
+    ensures { λ r. ⌜ r ≡ leftAfter n power left ⌝ }
+{
+    if !is_between(power) {
+        return left;
+    }
+    if left <= n {
+        return 0;
+    }
+    left - n
+}
+
+// A lamp that burns for n seconds, stopped at the limit.
+fn lamp_after(seconds: u32, n: u32) -> u32
+    ensures { λ r. ⌜ r ≡ times oneMore n seconds ⌝ }
+{
+    if LAMP_LIMIT <= seconds {
+        return seconds;
+    }
+    if LAMP_LIMIT - seconds <= n {
+        return LAMP_LIMIT;
+    }
+    seconds + n
+}
+
+fn burnt(lamps: [u32; LAMPS_MOST], count: usize, n: u32) -> [u32; LAMPS_MOST]
+    ensures { λ r. ⌜ r ≡ firstChanged count (λ place. times oneMore n) lamps ⌝ }
+{
+    let mut after = lamps;
+    let mut k = 0;
+    while k < LAMPS_MOST {
+        if count <= k {
+            return after;
+        }
+        after[k] = lamp_after(lamps[k], n);
+        k += 1;
+    }
+    after
+}
+
+fn lamps_after(power: u8, lamps: [u32; LAMPS_MOST], count: usize, n: u32) -> [u32; LAMPS_MOST]
+    ensures { λ r. ⌜ r ≡ lampsAfter n power count lamps ⌝ }
+{
+    if is_lit(power) {
+        return burnt(lamps, count, n);
+    }
+    lamps
+}
+
+pub fn own_after(s: Settings, o: Own, n: u32) -> Own
+    ensures { λ r. ⌜ r ≡ times (ownSecond s) n o ⌝ }
+{
+    let lamps = o.lamps;
+    let lamps = lamps_after(o.power, lamps, s.lamp_count, n);
+    let power = power_after(o.power, o.left, n);
+    let left = left_after(o.power, o.left, n);
+    let mut after = o;
+    after.lamps = lamps;
+    after.power = power;
+    after.left = left;
+    after
+}

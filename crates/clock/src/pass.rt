@@ -1,0 +1,44 @@
+// The two calls that let time pass.
+use crate::connection;
+use crate::own;
+use record::legality;
+use record::types::Changed;
+use record::types::Device;
+ghost use mathlib.Core.Path.{_≡_};
+ghost use Rattle.clock.specs.Second.{second, times};
+ghost use Rattle.clock.specs.Passing.{passed};
+
+fn later(d: Device, n: u32) -> Device
+    ensures { λ r. ⌜ r ≡ times second n d ⌝ }
+{
+    let own = own::own_after(d.settings, d.own, n);
+    let connection = connection::connection_after(d.connection, n);
+    let mut after = d;
+    after.own = own;
+    after.connection = connection;
+    after
+}
+
+// The record after n seconds; 1 and the record as it was where it is not legal.
+pub fn pass(d: Device, n: u32) -> Changed
+    ensures { λ r. ⌜ r ≡ passed d n ⌝ }
+{
+    if !legality::legal(d) {
+        return Changed {
+            number: 1,
+            device: d,
+        };
+    }
+    let device = later(d, n);
+    Changed { number: 0, device }
+}
+
+// The same on a record that is lent (01, "lends it to be changed in place as time passes"): its number, and its record
+// in the place of the lent one.
+pub fn pass_in_place(d: &mut Device, n: u32) -> u32
+    ensures { λ r. ⌜ (r ≡ passed (now (d .entry)) n .number) × (now (d .exit) ≡ passed (now (d .entry)) n .device) ⌝ }
+{
+    let changed = pass(*d, n);
+    *d = changed.device;
+    changed.number
+}
