@@ -1,12 +1,13 @@
 -- An input's two characters name that input and no other; two characters that name an input are its characters.
 -- Assumes nothing.
-use Prim.Native.Nat.{ℕ, _+_, _-_, _%_, _≤_}
+use Prim.Native.Nat.{ℕ, _+_, _-_, _%_, _≤_, _<_}
+use Prim.Native.Char.{code}
 use mathlib.Core.Path.{_≡_, refl, sym, ap, _∙_}
-use mathlib.Core.Bool.{Bool, true, false, _&&_}
+use mathlib.Core.Bool.{Bool, true, false, _&&_, and-false}
 use mathlib.Core.List.{List, [], _∷_}
 use native.Mathlib.Omega.{arith}
 use lib.Dec.{leb, eqb}
-use borrow.Author.Tests.{eqb-true, eqb-false, leb-true, le-leb}
+use borrow.Author.Tests.{eqb-true, eqb-false, leb-true, le-leb, lt-leb}
 use Rattle.text.specs.Words.{if_then_else_, _is_, _from_to_}
 use Rattle.text.proofs.Choices.{if-yes, if-by, both, both-left, both-right}
 use Rattle.lines.specs.Inputs.{isInputText, sourceNamed, inputNamed, readInput, isInput, sourceDigit, numberDigit, inputText}
@@ -83,3 +84,17 @@ module _ (a b : ℕ) (named : isInputText a b ≡ true) where
       let high = leb-true b 57 (both-right (leb 49 b) _ number-is) in
       let same : numberDigit (b - 48) ≡ b = omega arith in
       (λ j. source-back j ∷ same j ∷ [])
+
+-- two characters of which the second is 0 or none name no input
+pub no-number-no-input : (a b : ℕ) → b < code "1" → readInput a b ≡ NoInput
+unfolding readInput
+no-number-no-input a b h = rw (lt-leb (code "1") b h, and-false (a from "1" to "5"))
+
+-- an input's characters name it
+pub input-named-back : (i : Input) → isInput i ≡ true
+    → inputNamed (sourceDigit (i .source)) (numberDigit (i .number)) ≡ i
+unfolding readInput
+input-named-back i e =
+    let named : InputIs (inputNamed (sourceDigit (i .source)) (numberDigit (i .number))) ≡ InputIs i =
+    sym (if-yes _ NoInput (input-is-text i e)) ∙ input-read-back i e in
+    cc

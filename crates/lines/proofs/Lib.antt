@@ -1,5 +1,5 @@
 pub mod Refusals
-pub mod TextLengths
+pub mod TextsTold
 pub mod Characters
 pub mod InputsReadBack
 pub mod Bodies

@@ -19,7 +19,7 @@ use Rattle.record.specs.Rules.{isInputs, isStretch}
 use Rattle.record.specs.Legal.{isTextKept, isKept, isSettings}
 use Rattle.record.specs.declared.types.Text.{Text}
 use Rattle.record.specs.declared.types.Settings.{Settings}
-use Rattle.lines.proofs.TextLengths.{password-long}
+use Rattle.lines.proofs.TextsTold.{password-long}
 use Rattle.record.proofs.Kept.{Kept, kept-told, kept-length}
 use Rattle.record.proofs.Rules.{inputs-some}
 use Rattle.record.proofs.InputsTold.{input-named, inputs-differ}

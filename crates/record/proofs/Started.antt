@@ -15,7 +15,7 @@ use Rattle.record.specs.Record.{zeros, inRoom, settingsOf, startOwn, sta
 use Rattle.record.specs.Legal.{isKept, isSettings, isOwn, isLegal}
 use Rattle.record.specs.SetUp.{isSetUp, setUp}
 use Rattle.record.specs.declared.types.Changed.{Changed}
-use Rattle.lines.proofs.TextLengths.{name-long, info-long, password-long}
+use Rattle.lines.proofs.TextsTold.{name-long, info-long, password-long}
 use Rattle.record.proofs.Rules.{TextsTold, texts-told, SetUpTold, set-up-told, inputs-some, inputs-few, inputs-new, lamps-few}
 use Rattle.record.proofs.Places.{pairs-even}
 use Rattle.record.proofs.Kept.{filled-kept, kept-shown}

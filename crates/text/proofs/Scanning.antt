@@ -5,7 +5,7 @@
 use Prim.Native.Nat.{ℕ, zero, suc, _+_, _<_, _≤_}
 use mathlib.Core.Path.{_≡_, refl, sym, ap, _∙_}
 use mathlib.Core.Bool.{Bool, true, false, _&&_}
-use mathlib.Core.List.{List, [], _∷_, _++_}
+use mathlib.Core.List.{List, [], _∷_, _++_, map}
 use native.Mathlib.Numerals.{add-one}
 use native.Mathlib.Omega.{arith}
 use lib.ListN.{length, getD, drop, drop-of-length-le}
@@ -93,3 +93,10 @@ module _ {A : Type 0} (f : A → Bool) where
   every-implies g w [] e = refl
   every-implies g w (x ∷ s) e =
       both (w x (both-left (f x) (every f s) e)) (every-implies g w s (both-right (f x) (every f s) e))
+
+-- what passes a test passes another one when turned
+pub every-map : {A B : Type 0} (f : A → Bool) (g : B → Bool) (t : A → B) → ((a : A) → f a ≡ true → g (t a) ≡ true)
+    → (s : List A) → every f s ≡ true → every g (map t s) ≡ true
+every-map f g t w [] e = refl
+every-map f g t w (x ∷ s) e =
+    both (w x (both-left (f x) (every f s) e)) (every-map f g t w s (both-right (f x) (every f s) e))

@@ -5,7 +5,7 @@ use native.Mathlib.Omega.{arith}
 use lib.ListN.{length}
 use borrow.Author.Needs.{needs}
 use Rattle.record.specs.Limits.{textRoom}
-use Rattle.lines.proofs.TextLengths.{name-long, info-long, password-long}
+use Rattle.lines.proofs.TextsTold.{name-long, info-long, password-long}
 use Rattle.record.proofs.Rules.{TextsTold, texts-told}
 use Rattle.record.proofs.setup.settings_of.Statement.{statement}
 use Rattle.record.proofs.setup.settings_of.Tie as tie

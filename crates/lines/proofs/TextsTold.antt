@@ -1,4 +1,4 @@
--- What the rules of texts tell of their lengths.
+-- What the rules of texts tell: their lengths, their bytes, and that they are no refusal.
 -- Assumes nothing.
 use Prim.Native.Nat.{ℕ, _≤_}
 use mathlib.Core.Path.{_≡_}
@@ -6,11 +6,11 @@ use mathlib.Core.Bool.{true, not, _&&_}
 use mathlib.Core.List.{List}
 use lib.ListN.{length}
 use lib.Dec.{leb}
-use borrow.Author.Tests.{leb-true}
+use borrow.Author.Tests.{leb-true, not-true}
 use Rattle.text.specs.Scans.{every}
-use Rattle.text.proofs.Choices.{both-left}
+use Rattle.text.proofs.Choices.{both-left, both-right}
 use Rattle.lines.specs.Bytes.{isAlnum}
-use Rattle.lines.specs.Texts.{isRefusal, isTextByte, isText, isName, isInfo, isPassword, nameMost, infoMost, passwordMost}
+use Rattle.lines.specs.Texts.{isRefusal, refusalOf, isTextByte, isText, isName, isInfo, isPassword, nameMost, infoMost, passwordMost}
 
 module _ (s : List ℕ) where
   text-long : (n : ℕ) → isText n s ≡ true → length s ≤ n
@@ -30,3 +30,18 @@ module _ (s : List ℕ) where
   pub password-long : isPassword s ≡ true → length s ≤ passwordMost
   unfolding isPassword
   password-long h = leb-true (length s) passwordMost (both-left (leb (length s) passwordMost) (every isAlnum s) h)
+
+pub text-bytes : (n : ℕ) (s : List ℕ) → isText n s ≡ true → every isTextByte s ≡ true
+unfolding isText
+text-bytes n s e =
+    let sized = both-left (leb (length s) n && every isTextByte s) (not (isRefusal s)) e in
+    both-right (leb (length s) n) (every isTextByte s) sized
+
+pub text-no-refusal : (n : ℕ) (s : List ℕ) → isText n s ≡ true → refusalOf s ≡ 0
+unfolding isText refusalOf
+text-no-refusal n s e =
+    rw (not-true (isRefusal s) (both-right (leb (length s) n && every isTextByte s) (not (isRefusal s)) e))
+
+pub name-is-text : (s : List ℕ) → isName s ≡ true → isText nameMost s ≡ true
+unfolding isName
+name-is-text s e = e

@@ -1,0 +1,33 @@
+-- What an answer says, by its kind: a count past the end of an array counts the whole array.
+-- Assumes nothing.
+use Prim.Native.Nat.{ℕ, _+_, _≤_}
+use mathlib.Core.Path.{_≡_, sym, ap, _∙_}
+use mathlib.Core.List.{List}
+use native.Mathlib.Omega.{arith}
+use lib.ListN.{length}
+use lib.Seq.{sets}
+use lib.Dec.{leb}
+use borrow.Author.Tests.{le-leb, leb-true}
+use Rattle.text.proofs.Choices.{if-by}
+use Rattle.answers.specs.Said.{saidBytes}
+use Rattle.answers.specs.Carried.{least, saidAs, saidBy}
+use Rattle.answers.specs.declared.answer.Kind.{Kind}
+use Rattle.answers.specs.declared.answer.Answer.{Answer}
+
+pub least-within : (n m : ℕ) → least n m ≤ m
+unfolding least
+least-within n m = if-by (λ (k : ℕ). k ≤ m) (leb n m) (λ e. leb-true n m e) (λ e. omega arith)
+
+pub least-of : (n m : ℕ) → n ≤ m → least n m ≡ n
+unfolding least
+least-of n m h = rw (le-leb n m h)
+
+-- bytes that say what an answer of its kind says, put
+pub put-as : (a : Answer) (out : List ℕ) (at : ℕ) {k : Kind} → a .kind ≡ k → {r : ℕ} {m b : List ℕ}
+    → b ≡ saidBytes (saidAs k a)
+    → (r ≡ at + length b) × (m ≡ sets out at b)
+    → (r ≡ at + length (saidBytes (saidBy a))) × (m ≡ sets out at (saidBytes (saidBy a)))
+unfolding saidBy
+put-as a out at e says put =
+    let whole = says ∙ ap (λ (k : Kind). saidBytes (saidAs k a)) (sym e) in
+    (put .0 ∙ ap (λ (l : List ℕ). at + length l) whole, put .1 ∙ ap (sets out at) whole)

@@ -1,0 +1,18 @@
+mod InputDigits
+pub mod Inputs
+pub mod Lamps
+pub mod Mapped
+pub mod Errors
+pub mod Words
+pub mod ReadLists
+pub mod PutLists
+pub mod Parameters
+pub mod Counts
+pub mod LampsBack
+pub mod ErrorsBack
+pub mod JoinedBack
+pub mod ReadsBack
+pub mod SaidBack
+pub mod SaidPlain
+pub mod OneResult
+pub mod ReadSound

@@ -1,0 +1,113 @@
+-- THE LAW: for every command and every answer that it can have, reading the answer's bytes gives the answer back.
+-- Assumes nothing.
+use Prim.Native.Nat.{ℕ, _≤_}
+use Prim.Native.Char.{code}
+use mathlib.Core.Path.{_≡_, refl, sym, ap, _∙_}
+use mathlib.Core.Bool.{Bool, true, false}
+use mathlib.Core.List.{List, [], _∷_, _++_, map, append-assoc, append-nil}
+use native.Mathlib.Omega.{arith}
+use lib.ListN.{length, length-map}
+use Rattle.text.specs.Words.{ascii}
+use Rattle.text.specs.Scans.{every}
+use Rattle.text.proofs.Choices.{if-yes, both-left}
+use Rattle.numbers.specs.Decimal.{digits, isDigit}
+use Rattle.numbers.proofs.Digits.{digits-are-digits, digits-at-least-1, digit-to}
+use Rattle.lines.specs.Inputs.{isInput, inputText, numberDigit}
+use Rattle.lines.specs.Commands.{switchDigit}
+use Rattle.lines.specs.Texts.{isRefusal, refusalOf, nameMost, infoMost}
+use Rattle.lines.specs.declared.input.Input.{Input}
+use Rattle.lines.specs.declared.command.Command.{Command}
+use Rattle.lines.specs.declared.command.Command.the-variants.{PowerSet, InputSet, MuteSet, Query}
+use Rattle.answers.specs.Lists.{spaced, joined}
+use Rattle.answers.specs.Said.{Said, okay, powerIs, mutesAre, lampText, powerText, mutesText, saidBytes}
+use Rattle.answers.specs.Carried.{lampsMost, inputsMost}
+use Rattle.answers.specs.Reading.{isSet, lampHead, lampsGot, inputHead, inputsGot, powerNamed, readPower}
+use Rattle.answers.specs.Reading.{mutesNamed, readMutes, readLamps, readInputs, readValue, readParameter}
+use Rattle.answers.specs.CanSay.{CanSay, done, refuses, power, input, mutes, errors, lamps, inputs, name, maker}
+use Rattle.answers.specs.CanSay.{model, other, class-1, isLampHours}
+use Rattle.answers.specs.declared.answer.Power.{Power}
+use Rattle.answers.specs.declared.answer.Power.the-variants.{Off, On, Cooling, WarmUp}
+use Rattle.answers.specs.declared.answer.LampHours.{LampHours}
+use Rattle.lines.proofs.TextsTold.{text-no-refusal, name-is-text}
+use Rattle.lines.proofs.Refusals.{first-not-E, refusal-back}
+use Rattle.answers.proofs.InputDigits.{input-digits}
+use Rattle.answers.proofs.Inputs.{input-heads, chosen-back}
+use Rattle.answers.proofs.LampsBack.{lamp-heads}
+use Rattle.answers.proofs.ErrorsBack.{numbers-are-digits, errors-back}
+use Rattle.answers.proofs.JoinedBack.{read-joined}
+use Rattle.answers.proofs.Parameters.{no-refusal, allowed}
+
+-- a parameter that begins with a digit is no refusal
+digit-first : (p rest : List ℕ) → 1 ≤ length p → every isDigit p ≡ true → refusalOf (p ++ rest) ≡ 0
+digit-first [] rest h e = absurd (omega arith)
+digit-first (d ∷ p) rest h e =
+    first-not-E (d ∷ (p ++ rest)) (λ q. omega (arith, digit-to d (both-left (isDigit d) (every isDigit p) e)))
+
+digits-no-refusal : (p : List ℕ) → 1 ≤ length p → every isDigit p ≡ true → refusalOf p ≡ 0
+digits-no-refusal p h e = sym (ap refusalOf (append-nil p)) ∙ digit-first p [] h e
+
+-- the value is read once no refusal is found
+value : (c : Command) (p : List ℕ) {m : Said} → refusalOf p ≡ 0 → readValue c p ≡ m → readParameter c p ≡ m
+value c p z e = no-refusal c p (sym z) refl ∙ e
+
+plain-back : (refusalOf (ascii "OK") ≡ 0) × (refusalOf (ascii "1") ≡ 0)
+unfolding refusalOf isRefusal
+plain-back = (refl, refl)
+
+ok-back : (c : Command) → isSet c ≡ true → readValue c (ascii "OK") ≡ okay
+ok-back (PowerSet on) e = refl
+ok-back (InputSet i) e = refl
+ok-back (MuteSet half on) e = refl
+ok-back (Query b) e = cc
+
+power-back : (p : Power) → (refusalOf (powerText p) ≡ 0) × (readPower (powerText p) ≡ powerIs p)
+unfolding refusalOf isRefusal readPower powerNamed
+power-back Off = (refl, refl)
+power-back On = (refl, refl)
+power-back Cooling = (refl, refl)
+power-back WarmUp = (refl, refl)
+
+mutes-back : (v a : Bool) → (refusalOf (mutesText v a) ≡ 0) × (readMutes (mutesText v a) ≡ mutesAre v a)
+unfolding refusalOf isRefusal readMutes mutesNamed
+mutes-back true true = (refl, refl)
+mutes-back true false = (refl, refl)
+mutes-back false true = (refl, refl)
+mutes-back false false = (refl, refl)
+
+lamps-no-refusal : (ls : List LampHours) → 1 ≤ length ls → refusalOf (joined lampText ls) ≡ 0
+lamps-no-refusal [] h = absurd (omega arith)
+lamps-no-refusal (x ∷ xs) h =
+    let flag : List ℕ = code " " ∷ switchDigit (x .lit) ∷ [] in
+    ap refusalOf (append-assoc (digits (x .hours)) flag (spaced lampText xs))
+    ∙ digit-first (digits (x .hours)) (flag ++ spaced lampText xs) (digits-at-least-1 (x .hours))
+    (digits-are-digits (x .hours))
+
+inputs-no-refusal : (is : List Input) → 1 ≤ length is → every isInput is ≡ true → refusalOf (joined inputText is) ≡ 0
+inputs-no-refusal [] h e = absurd (omega arith)
+inputs-no-refusal (x ∷ xs) h e =
+    digit-first (inputText x) (spaced inputText xs) (omega arith)
+    (input-digits x (both-left (isInput x) (every isInput xs) e))
+
+pub reads-back : {c : Command} {m : Said} → CanSay c m → readParameter c (saidBytes m) ≡ m
+unfolding saidBytes readLamps readInputs
+reads-back {c} (done s) = value c (ascii "OK") (plain-back .0) (ok-back c s)
+reads-back {c} (refuses n l h t) = allowed c _ (sym (refusal-back n l h)) (omega arith) t
+reads-back (power p) = value _ (powerText p) (power-back p .0) (power-back p .1)
+reads-back (input i e) =
+    value _ (inputText i) (digits-no-refusal (inputText i) (omega arith) (input-digits i e)) (chosen-back i e)
+reads-back (mutes v a) = value _ (mutesText v a) (mutes-back v a .0) (mutes-back v a .1)
+reads-back (errors ds h e) =
+    value _ (map numberDigit ds)
+    (digits-no-refusal (map numberDigit ds) (omega (arith, length-map ds numberDigit)) (numbers-are-digits ds))
+    (errors-back ds h e)
+reads-back (lamps ls l h e) =
+    value _ (joined lampText ls) (lamps-no-refusal ls l)
+    (ap lampsGot (read-joined lampText isLampHours lampHead lamp-heads lampsMost ls l h e))
+reads-back (inputs is l h e) =
+    value _ (joined inputText is) (inputs-no-refusal is l e)
+    (ap inputsGot (read-joined inputText isInput inputHead input-heads inputsMost is l h e))
+reads-back (name s e) = value _ s (text-no-refusal nameMost s (name-is-text s e)) (if-yes _ _ e)
+reads-back (maker s e) = value _ s (text-no-refusal infoMost s e) (if-yes _ _ e)
+reads-back (model s e) = value _ s (text-no-refusal infoMost s e) (if-yes _ _ e)
+reads-back (other s e) = value _ s (text-no-refusal infoMost s e) (if-yes _ _ e)
+reads-back class-1 = value _ (ascii "1") (plain-back .1) refl

@@ -1,0 +1,150 @@
+-- An answer's parameter fits a reply: it is short, and no byte of it is CR.
+-- Assumes nothing.
+use Prim.Native.Nat.{ℕ, _-_, _≤_}
+use Prim.Native.Char.{code}
+use mathlib.Core.Path.{_≡_, refl, ap, subst}
+use mathlib.Core.Bool.{Bool, true, false, not}
+use mathlib.Core.List.{List, [], _∷_, map}
+use native.Mathlib.Omega.{arith}
+use lib.ListN.{length, length-append, length-map}
+use lib.Dec.{leb}
+use borrow.Author.Tests.{le-leb, eq-eqb, ne-eqb, leb-true}
+use Rattle.text.specs.Scans.{every}
+use Rattle.text.proofs.Choices.{both-left}
+use Rattle.text.proofs.Scanning.{every-append, every-implies}
+use Rattle.numbers.specs.Decimal.{digits, isDigit}
+use Rattle.numbers.proofs.Digits.{digits-at-most-5, digits-without, digit-isnt}
+use Rattle.lines.specs.Bytes.{notCr, noCr}
+use Rattle.lines.specs.Inputs.{isInput, inputText, numberDigit}
+use Rattle.lines.specs.Texts.{isTextByte, isText, nameMost, infoMost}
+use Rattle.lines.specs.Commands.{switchDigit}
+use Rattle.lines.specs.declared.command.Command.{Command}
+use Rattle.lines.proofs.TextsTold.{name-long, info-long}
+use Rattle.answers.specs.Said.{Said, okay, refused, powerIs, chosenIs, mutesAre, errorsAre, lampsAre, inputsAre}
+use Rattle.answers.specs.Said.{textIs, classIs1, nothing, lampText, powerText, mutesText, saidBytes}
+use Rattle.answers.specs.Said.{parameterMost, bytesMost, inputCount}
+use Rattle.answers.specs.Carried.{lampsMost, inputsMost, errorsCount, answerOf, saidBy, isSayable}
+use Rattle.answers.specs.CanSay.{CanSay, done, refuses, power, input, mutes, errors, lamps, inputs, name, maker}
+use Rattle.answers.specs.CanSay.{model, other, class-1, hoursMost, isLampHours}
+use Rattle.answers.specs.declared.answer.Power.{Power}
+use Rattle.answers.specs.declared.answer.Power.the-variants.{Off, On, Cooling, WarmUp}
+use Rattle.answers.specs.declared.answer.LampHours.{LampHours}
+use Rattle.lines.proofs.TextsTold.{text-bytes, name-is-text}
+use Rattle.answers.proofs.InputDigits.{input-digits}
+use Rattle.answers.proofs.ErrorsBack.{numbers-are-digits}
+use Rattle.answers.proofs.PutLists.{joined-long}
+use Rattle.answers.proofs.JoinedBack.{joined-every}
+use Rattle.answers.proofs.SaidBack.{power-within, mutes-within, said-back, said-within}
+
+-- every answer has room in the arrays, and so comes back out of them
+pub can-sayable : {c : Command} {m : Said} → CanSay c m → isSayable m ≡ true
+can-sayable (done s) = refl
+can-sayable (refuses n l h t) = refl
+can-sayable (power p) = refl
+can-sayable (input i e) = refl
+can-sayable (mutes v a) = refl
+can-sayable (errors ds h e) = eq-eqb (length ds) errorsCount h
+can-sayable (lamps ls l h e) = le-leb (length ls) lampsMost h
+can-sayable (inputs is l h e) = le-leb (length is) inputsMost h
+can-sayable (name s e) = le-leb (length s) nameMost (name-long s e)
+can-sayable (maker s e) = le-leb (length s) nameMost (omega (arith, info-long s e))
+can-sayable (model s e) = le-leb (length s) nameMost (omega (arith, info-long s e))
+can-sayable (other s e) = le-leb (length s) nameMost (omega (arith, info-long s e))
+can-sayable class-1 = refl
+
+pub can-said-back : {c : Command} {m : Said} → CanSay c m → saidBy (answerOf m) ≡ m
+can-said-back {c} {m} w = said-back m (can-sayable w)
+
+-- hours of five digits make a lamp of at most seven bytes
+lamp-of-seven : (x : LampHours) → isLampHours x ≡ true → length (lampText x) ≤ 7
+lamp-of-seven x e =
+    omega (
+      arith,
+      length-append (digits (x .hours)) (code " " ∷ switchDigit (x .lit) ∷ []),
+      digits-at-most-5 (x .hours) (omega (arith, leb-true (x .hours) hoursMost e)),
+    )
+
+pub said-long : {c : Command} {m : Said} → CanSay c m → length (saidBytes m) ≤ bytesMost m
+unfolding saidBytes
+said-long (done s) = omega arith
+said-long (refuses n l h t) = omega arith
+said-long (power p) = power-within p
+said-long (input i e) = omega arith
+said-long (mutes v a) = mutes-within v a
+said-long (errors ds h e) = omega (arith, length-map ds numberDigit)
+said-long (lamps ls l h e) = omega (arith, joined-long lampText isLampHours 7 lamp-of-seven ls e l)
+said-long (inputs is l h e) = omega (arith, joined-long inputText isInput 2 (λ x f. omega arith) is e l)
+said-long (name s e) = omega arith
+said-long (maker s e) = omega arith
+said-long (model s e) = omega arith
+said-long (other s e) = omega arith
+said-long class-1 = omega arith
+
+most-64 : (m : Said) → isSayable m ≡ true → inputCount m ≤ 16 → bytesMost m ≤ 64
+most-64 okay e h = omega arith
+most-64 (refused n) e h = omega arith
+most-64 (powerIs p) e h = omega arith
+most-64 (chosenIs i) e h = omega arith
+most-64 (mutesAre v a) e h = omega arith
+most-64 (errorsAre ds) e h = omega arith
+most-64 (lampsAre ls) e h = omega arith
+most-64 (inputsAre is) e h = omega arith
+most-64 (textIs s) e h = leb-true (length s) nameMost e
+most-64 classIs1 e h = omega arith
+most-64 nothing e h = omega arith
+
+-- what a projector says, whose set-up has at most 16 inputs
+pub said-64 : {c : Command} {m : Said} → CanSay c m → inputCount m ≤ 16 → length (saidBytes m) ≤ 64
+said-64 {c} {m} w h = omega (arith, said-long w, most-64 m (can-sayable w) h)
+
+digits-no-cr : (s : List ℕ) → every isDigit s ≡ true → every notCr s ≡ true
+digits-no-cr s e = every-implies isDigit notCr (λ b d. ap not (digit-isnt "\r" (omega arith) b d)) s e
+
+text-no-cr : (n : ℕ) (s : List ℕ) → isText n s ≡ true → every notCr s ≡ true
+text-no-cr n s e =
+    every-implies isTextByte notCr
+    (λ b t. ap not (ne-eqb b (code "\r") (λ q. omega (arith, leb-true 0x20 b (both-left (leb 0x20 b) (leb b 0xFF) t)))))
+    s (text-bytes n s e)
+
+lamp-no-cr : (x : LampHours) → every notCr (lampText x) ≡ true
+lamp-no-cr x =
+    every-append notCr (digits (x .hours)) (code " " ∷ switchDigit (x .lit) ∷ [])
+    (digits-without "\r" (omega arith) (x .hours)) (flag (x .lit))
+  where
+    flag : (on : Bool) → every notCr (code " " ∷ switchDigit on ∷ []) ≡ true
+    flag true = refl
+    flag false = refl
+
+power-no-cr : (p : Power) → every notCr (powerText p) ≡ true
+power-no-cr Off = refl
+power-no-cr On = refl
+power-no-cr Cooling = refl
+power-no-cr WarmUp = refl
+
+mutes-no-cr : (v a : Bool) → every notCr (mutesText v a) ≡ true
+mutes-no-cr true true = refl
+mutes-no-cr true false = refl
+mutes-no-cr false true = refl
+mutes-no-cr false false = refl
+
+no-cr : {c : Command} {m : Said} → CanSay c m → noCr (saidBytes m) ≡ true
+unfolding saidBytes noCr
+no-cr (done s) = refl
+no-cr (refuses n l h t) = rw (ne-eqb (numberDigit n) (code "\r") (omega arith))
+no-cr (power p) = power-no-cr p
+no-cr (input i e) = digits-no-cr (inputText i) (input-digits i e)
+no-cr (mutes v a) = mutes-no-cr v a
+no-cr (errors ds h e) = digits-no-cr (map numberDigit ds) (numbers-are-digits ds)
+no-cr (lamps ls l h e) = joined-every lampText isLampHours notCr (λ x t. lamp-no-cr x) refl ls e
+no-cr (inputs is l h e) =
+    joined-every inputText isInput notCr (λ x t. digits-no-cr (inputText x) (input-digits x t)) refl is e
+no-cr (name s e) = text-no-cr nameMost s (name-is-text s e)
+no-cr (maker s e) = text-no-cr infoMost s e
+no-cr (model s e) = text-no-cr infoMost s e
+no-cr (other s e) = text-no-cr infoMost s e
+no-cr class-1 = refl
+
+pub said-plain : {c : Command} {m : Said} → CanSay c m
+    → (length (saidBytes m) ≤ parameterMost) × (noCr (saidBytes m) ≡ true)
+said-plain {c} {m} w =
+    (subst (λ (q : Said). length (saidBytes q) ≤ parameterMost) (can-said-back w) (said-within (answerOf m)), no-cr w)

@@ -1,0 +1,16 @@
+-- `answers::read::read_exactly` meets its contract: the comparison is the test.
+-- Assumes nothing.
+use mathlib.Core.Path.{sym, _∙_}
+use borrow.Author.Needs.{needs}
+use Rattle.answers.proofs.read.read_exactly.Statement.{statement}
+use Rattle.answers.proofs.read.read_exactly.Tie as tie
+
+pub read-exactly-spec : {M : Type 1} → statement M
+read-exactly-spec =
+    tie.close
+    (tie.spec
+    (λ c κs. search needs)
+    (λ c κs. search needs)
+    (λ c. let test = c .before in simp (sym (test .before .same .ensures) ∙ test .if1 .taken) (c .plain .ensures))
+    (λ c κs. search needs)
+    (λ c. let test = c .before in simp (sym (test .before .same .ensures) ∙ test .if1 .left) (c .plain2 .ensures)))

@@ -1,0 +1,51 @@
+-- Every answer that a command can have (01, "Commands" and "Controller").
+--   isLampHours l      hours that five digits can tell
+--   isErrorDigit d     0, 1 or 2
+--   CanSay c m         m is an answer to c
+-- Assumes nothing.
+use Prim.Native.Nat.{ℕ, _≤_}
+use mathlib.Core.Path.{_≡_}
+use mathlib.Core.Bool.{Bool, true}
+use mathlib.Core.List.{List}
+use lib.ListN.{length}
+use lib.Dec.{leb}
+use Rattle.text.specs.Scans.{every}
+use Rattle.lines.specs.Inputs.{isInput}
+use Rattle.lines.specs.Texts.{isName, isInfo}
+use Rattle.lines.specs.declared.input.Input.{Input}
+use Rattle.lines.specs.declared.command.Command.{Command}
+use Rattle.lines.specs.declared.command.Command.the-variants.{Query}
+use Rattle.lines.specs.declared.command.Body.the-variants.{Powr, Inpt, Avmt, Erst, Lamp, Inst, Name, Inf1, Inf2, Info}
+use Rattle.lines.specs.declared.command.Body.the-variants.{Clss}
+use Rattle.answers.specs.Said.{Said, okay, refused, powerIs, chosenIs, mutesAre, errorsAre, lampsAre, inputsAre}
+use Rattle.answers.specs.Said.{textIs, classIs1}
+use Rattle.answers.specs.Carried.{lampsMost, inputsMost, errorsCount}
+use Rattle.answers.specs.Reading.{isSet, isRefusalTo}
+use Rattle.answers.specs.declared.answer.Power.{Power}
+use Rattle.answers.specs.declared.answer.LampHours.{LampHours}
+
+abbrev pub hoursMost : ℕ
+hoursMost = 99999
+
+abbrev pub isLampHours : LampHours → Bool
+isLampHours l = leb (l .hours) hoursMost
+
+abbrev pub isErrorDigit : ℕ → Bool
+isErrorDigit d = leb d 2
+
+pub data CanSay : Command → Said → Type 0 where
+  done : {c : Command} → isSet c ≡ true → CanSay c okay
+  refuses : {c : Command} (n : ℕ) → 1 ≤ n → n ≤ 4 → isRefusalTo c n ≡ true → CanSay c (refused n)
+  power : (p : Power) → CanSay (Query Powr) (powerIs p)
+  input : (i : Input) → isInput i ≡ true → CanSay (Query Inpt) (chosenIs i)
+  mutes : (video audio : Bool) → CanSay (Query Avmt) (mutesAre video audio)
+  errors : (ds : List ℕ) → length ds ≡ errorsCount → every isErrorDigit ds ≡ true → CanSay (Query Erst) (errorsAre ds)
+  lamps : (ls : List LampHours) → 1 ≤ length ls → length ls ≤ lampsMost → every isLampHours ls ≡ true
+      → CanSay (Query Lamp) (lampsAre ls)
+  inputs : (is : List Input) → 1 ≤ length is → length is ≤ inputsMost → every isInput is ≡ true
+      → CanSay (Query Inst) (inputsAre is)
+  name : (s : List ℕ) → isName s ≡ true → CanSay (Query Name) (textIs s)
+  maker : (s : List ℕ) → isInfo s ≡ true → CanSay (Query Inf1) (textIs s)
+  model : (s : List ℕ) → isInfo s ≡ true → CanSay (Query Inf2) (textIs s)
+  other : (s : List ℕ) → isInfo s ≡ true → CanSay (Query Info) (textIs s)
+  class-1 : CanSay (Query Clss) classIs1

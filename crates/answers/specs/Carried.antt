@@ -1,0 +1,99 @@
+-- How an answer is carried: arrays beside an enum (01, "Forms by place in the code").
+--   plainOf k       the answer of the kind k with nothing in its arrays
+--   answerOf m      what is said, in arrays from their start on; the rest of each is blank
+--   saidBy a        what an answer says: as many of its elements as it counts, and no more than an array has
+--   isSayable m     what is said has room in the arrays
+-- Assumes nothing.
+use Prim.Native.Nat.{ℕ}
+use mathlib.Core.Bool.{Bool, true, false}
+use mathlib.Core.List.{List}
+use lib.ListN.{length, take, replicate}
+use lib.Seq.{sets}
+use lib.Dec.{leb, eqb}
+use Rattle.text.specs.Words.{if_then_else_}
+use Rattle.lines.specs.Texts.{nameMost}
+use Rattle.lines.specs.declared.input.Source.the-variants.{Rgb}
+use Rattle.lines.specs.declared.input.Input.{Input}
+use Rattle.answers.specs.Said.{Said, okay, refused, powerIs, chosenIs, mutesAre, errorsAre, lampsAre, inputsAre}
+use Rattle.answers.specs.Said.{textIs, classIs1, nothing}
+use Rattle.answers.specs.declared.answer.LampHours.{LampHours}
+use Rattle.answers.specs.declared.answer.Kind.{Kind}
+use Rattle.answers.specs.declared.answer.Kind.the-variants.{Ok, Refused, Powered, Chosen, Muted, Errors, Lamps}
+use Rattle.answers.specs.declared.answer.Kind.the-variants.{Inputs, Text, Class, Nothing}
+use Rattle.answers.specs.declared.answer.Answer.{Answer}
+
+abbrev pub lampsMost : ℕ
+lampsMost = 8
+
+abbrev pub inputsMost : ℕ
+inputsMost = 32
+
+abbrev pub errorsCount : ℕ
+errorsCount = 6
+
+abbrev pub noLamps : List LampHours
+noLamps = replicate lampsMost (record { hours = 0; lit = false })
+
+abbrev pub noInputs : List Input
+noInputs = replicate inputsMost (record { source = Rgb; number = 0 })
+
+abbrev pub noText : List ℕ
+noText = replicate nameMost 0
+
+abbrev pub plainOf : Kind → Answer
+plainOf k = record { kind = k; lamps = noLamps; inputs = noInputs; text = noText }
+
+abbrev pub ofLamps : ℕ → List LampHours → Answer
+ofLamps n ls = record { kind = Lamps n; lamps = ls; inputs = noInputs; text = noText }
+
+abbrev pub ofInputs : ℕ → List Input → Answer
+ofInputs n is = record { kind = Inputs n; lamps = noLamps; inputs = is; text = noText }
+
+abbrev pub ofText : Kind → List ℕ → Answer
+ofText k s = record { kind = k; lamps = noLamps; inputs = noInputs; text = s }
+
+abbrev pub answerOf : Said → Answer
+answerOf okay = plainOf Ok
+answerOf (refused n) = plainOf (Refused n)
+answerOf (powerIs p) = plainOf (Powered p)
+answerOf (chosenIs i) = plainOf (Chosen i)
+answerOf (mutesAre video audio) = plainOf (Muted video audio)
+answerOf (errorsAre ds) = ofText Errors (sets noText 0 ds)
+answerOf (lampsAre ls) = ofLamps (length ls) (sets noLamps 0 ls)
+answerOf (inputsAre is) = ofInputs (length is) (sets noInputs 0 is)
+answerOf (textIs s) = ofText (Text (length s)) (sets noText 0 s)
+answerOf classIs1 = plainOf Class
+answerOf nothing = plainOf Nothing
+
+-- the smaller of two
+unfoldable pub least : ℕ → ℕ → ℕ
+least n m = if leb n m then n else m
+
+abbrev pub saidAs : Kind → Answer → Said
+saidAs Ok a = okay
+saidAs (Refused n) a = refused n
+saidAs (Powered p) a = powerIs p
+saidAs (Chosen i) a = chosenIs i
+saidAs (Muted video audio) a = mutesAre video audio
+saidAs Errors a = errorsAre (take errorsCount (a .text))
+saidAs (Lamps n) a = lampsAre (take (least n lampsMost) (a .lamps))
+saidAs (Inputs n) a = inputsAre (take (least n inputsMost) (a .inputs))
+saidAs (Text n) a = textIs (take (least n nameMost) (a .text))
+saidAs Class a = classIs1
+saidAs Nothing a = nothing
+
+unfoldable pub saidBy : Answer → Said
+saidBy a = saidAs (a .kind) a
+
+abbrev pub isSayable : Said → Bool
+isSayable okay = true
+isSayable (refused n) = true
+isSayable (powerIs p) = true
+isSayable (chosenIs i) = true
+isSayable (mutesAre video audio) = true
+isSayable (errorsAre ds) = eqb (length ds) errorsCount
+isSayable (lampsAre ls) = leb (length ls) lampsMost
+isSayable (inputsAre is) = leb (length is) inputsMost
+isSayable (textIs s) = leb (length s) nameMost
+isSayable classIs1 = true
+isSayable nothing = true

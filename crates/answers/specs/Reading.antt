@@ -1,0 +1,172 @@
+-- The parameter of a reply, read for the command that it answers (01, "Controller").
+-- ERR1 to ERR4 are tested first, alike for every command: a set may have any of them, a query all but ERR2.
+--   p says t               the bytes p are the text t
+--   isRefusalTo c n        ERRn is allowed in reply to c
+--   readPower p, ..        the value in p of one query; nothing where it has none
+--   readQueried b p        the same for the query of the body b
+--   readValue c p          what p says to c, where it is no refusal: OK to a set, the value to a query
+--   readParameter c p      what p says to c
+-- Assumes nothing.
+use Prim.Native.Nat.{ℕ, _+_, _-_}
+use Prim.Native.Char.{code}
+use mathlib.Core.Bool.{Bool, true, false, not, _&&_, _||_}
+use mathlib.Core.List.{List, [], _∷_, map}
+use lib.ListN.{length, take}
+use lib.Dec.{leb, eqb}
+use Rattle.text.specs.Words.{ascii, if_then_else_, _is_, _from_to_}
+use Rattle.text.specs.Scans.{every, sameBy, itself}
+use Rattle.numbers.specs.Decimal.{readNumber}
+use Rattle.numbers.specs.declared.Number.{Number}
+use Rattle.numbers.specs.declared.Number.the-variants.{Value, NotANumber}
+use Rattle.lines.specs.Bytes.{_at_}
+use Rattle.lines.specs.Inputs.{readInput}
+use Rattle.lines.specs.Texts.{refusalOf, isName, isInfo}
+use Rattle.lines.specs.declared.input.Input.{Input}
+use Rattle.lines.specs.declared.input.MaybeInput.{MaybeInput}
+use Rattle.lines.specs.declared.input.MaybeInput.the-variants.{InputIs, NoInput}
+use Rattle.lines.specs.declared.command.Command.{Command}
+use Rattle.lines.specs.declared.command.Command.the-variants.{PowerSet, InputSet, MuteSet, Query}
+use Rattle.lines.specs.declared.command.Body.{Body}
+use Rattle.lines.specs.declared.command.Body.the-variants.{Powr, Inpt, Avmt, Erst, Lamp, Inst, Name, Inf1, Inf2, Info}
+use Rattle.lines.specs.declared.command.Body.the-variants.{Clss}
+use Rattle.answers.specs.Lists.{Head, noHead, head, Got, none, all, listOf}
+use Rattle.answers.specs.Said.{Said, okay, refused, powerIs, chosenIs, mutesAre, errorsAre, lampsAre, inputsAre}
+use Rattle.answers.specs.Said.{textIs, classIs1, nothing}
+use Rattle.answers.specs.Carried.{lampsMost, inputsMost, errorsCount}
+use Rattle.answers.specs.declared.answer.Power.the-variants.{Off, On, Cooling, WarmUp}
+use Rattle.answers.specs.declared.answer.LampHours.{LampHours}
+use Rattle.answers.specs.declared.list.MaybeLamp.{MaybeLamp}
+use Rattle.answers.specs.declared.list.MaybeLamp.the-variants.{LampIs, NoLamp}
+
+infix 40 _says_
+abbrev pub _says_ : List ℕ → List ℕ → Bool
+p says t = sameBy itself p t
+
+abbrev pub readOk : List ℕ → Said
+readOk p = if p says ascii "OK" then okay else nothing
+
+unfoldable pub powerNamed : ℕ → Said
+powerNamed b =
+    if b is "0" then powerIs Off
+    else if b is "1" then powerIs On
+    else if b is "2" then powerIs Cooling
+    else if b is "3" then powerIs WarmUp
+    else nothing
+
+unfoldable pub readPower : List ℕ → Said
+readPower p = if eqb (length p) 1 then powerNamed (p at 0) else nothing
+
+abbrev pub chosenOr : MaybeInput → Said
+chosenOr (InputIs i) = chosenIs i
+chosenOr NoInput = nothing
+
+unfoldable pub readChosen : List ℕ → Said
+readChosen p = if eqb (length p) 2 then chosenOr (readInput (p at 0) (p at 1)) else nothing
+
+unfoldable pub mutesNamed : ℕ → ℕ → Said
+mutesNamed a b =
+    if a is "1" && b is "1" then mutesAre true false
+    else if a is "2" && b is "1" then mutesAre false true
+    else if a is "3" && b is "1" then mutesAre true true
+    else if a is "3" && b is "0" then mutesAre false false
+    else nothing
+
+unfoldable pub readMutes : List ℕ → Said
+readMutes p = if eqb (length p) 2 then mutesNamed (p at 0) (p at 1) else nothing
+
+-- 0 no error or not known, 1 warning, 2 error
+abbrev pub isErrorText : ℕ → Bool
+isErrorText b = b from "0" to "2"
+
+abbrev pub errorOf : ℕ → ℕ
+errorOf b = b - code "0"
+
+unfoldable pub readErrors : List ℕ → Said
+readErrors p = if eqb (length p) errorsCount && every isErrorText p then errorsAre (map errorOf p) else nothing
+
+-- the bytes before the first space
+abbrev pub wordLong : List ℕ → ℕ
+wordLong [] = 0
+wordLong (b ∷ bs) = if b is " " then 0 else 1 + wordLong bs
+
+-- the lamp with its hours in the first n bytes, and one byte between these and its 1 or 0
+abbrev pub lampWith : Bool → Number → MaybeLamp
+lampWith lit (Value n) = LampIs (record { hours = n; lit = lit })
+lampWith lit NotANumber = NoLamp
+
+unfoldable pub lampAt : List ℕ → ℕ → MaybeLamp
+lampAt s n =
+    if leb (n + 2) (length s) && s at (n + 1) from "0" to "1"
+    then lampWith (s at (n + 1) is "1") (readNumber (take n s))
+    else NoLamp
+
+abbrev pub lampIn : ℕ → MaybeLamp → Head LampHours
+lampIn n (LampIs l) = head l n
+lampIn n NoLamp = noHead
+
+abbrev pub lampHead : List ℕ → Head LampHours
+lampHead s = lampIn (wordLong s + 2) (lampAt s (wordLong s))
+
+abbrev pub inputIn : MaybeInput → Head Input
+inputIn (InputIs i) = head i 2
+inputIn NoInput = noHead
+
+abbrev pub inputHead : List ℕ → Head Input
+inputHead s = inputIn (readInput (s at 0) (s at 1))
+
+abbrev pub lampsGot : Got LampHours → Said
+lampsGot none = nothing
+lampsGot (all xs) = lampsAre xs
+
+abbrev pub inputsGot : Got Input → Said
+inputsGot none = nothing
+inputsGot (all xs) = inputsAre xs
+
+unfoldable pub readLamps : List ℕ → Said
+readLamps p = lampsGot (listOf lampHead lampsMost p)
+
+unfoldable pub readInputs : List ℕ → Said
+readInputs p = inputsGot (listOf inputHead inputsMost p)
+
+abbrev pub readName : List ℕ → Said
+readName p = if isName p then textIs p else nothing
+
+abbrev pub readInfo : List ℕ → Said
+readInfo p = if isInfo p then textIs p else nothing
+
+abbrev pub readClass : List ℕ → Said
+readClass p = if p says ascii "1" then classIs1 else nothing
+
+abbrev pub isSet : Command → Bool
+isSet (PowerSet on) = true
+isSet (InputSet i) = true
+isSet (MuteSet half on) = true
+isSet (Query b) = false
+
+abbrev pub readQueried : Body → List ℕ → Said
+readQueried Powr p = readPower p
+readQueried Inpt p = readChosen p
+readQueried Avmt p = readMutes p
+readQueried Erst p = readErrors p
+readQueried Lamp p = readLamps p
+readQueried Inst p = readInputs p
+readQueried Name p = readName p
+readQueried Inf1 p = readInfo p
+readQueried Inf2 p = readInfo p
+readQueried Info p = readInfo p
+readQueried Clss p = readClass p
+
+abbrev pub readValue : Command → List ℕ → Said
+readValue (PowerSet on) p = readOk p
+readValue (InputSet i) p = readOk p
+readValue (MuteSet half on) p = readOk p
+readValue (Query b) p = readQueried b p
+
+abbrev pub isRefusalTo : Command → ℕ → Bool
+isRefusalTo c n = isSet c || not (eqb n 2)
+
+unfoldable pub readParameter : Command → List ℕ → Said
+readParameter c p =
+    if eqb (refusalOf p) 0 then readValue c p
+    else if isRefusalTo c (refusalOf p) then refused (refusalOf p)
+    else nothing

@@ -1,0 +1,193 @@
+// The parameter that an answer is said by (01, "Commands").
+use crate::answer::Answer;
+use crate::answer::ERRORS_COUNT;
+use crate::answer::INPUTS_MOST;
+use crate::answer::Kind;
+use crate::answer::LAMPS_MOST;
+use crate::answer::LampHours;
+use crate::answer::Power;
+use crate::answer::TEXT_MOST;
+use lines::input;
+use lines::input::Input;
+ghost use mathlib.Core.Path.{_≡_};
+ghost use mathlib.Core.List.{map};
+ghost use Prim.Native.Nat.{_+_, _≤_};
+ghost use lib.ListN.{length, take};
+ghost use lib.Seq.{sets};
+ghost use Rattle.lines.specs.Inputs.{inputText, numberDigit};
+ghost use Rattle.lines.specs.Commands.{switchDigit};
+ghost use Rattle.lines.specs.Texts.{nameMost};
+ghost use Rattle.answers.specs.Lists.{gap, joined};
+ghost use Rattle.answers.specs.Said.{powerText, mutesText, refusalText, lampText, saidBytes, parameterMost};
+ghost use Rattle.answers.specs.Carried.{lampsMost, inputsMost, errorsCount, least, saidBy};
+
+fn least(n: usize, m: usize) -> usize
+    ensures { λ r. ⌜ r ≡ least n m ⌝ }
+{
+    if n <= m {
+        return n;
+    }
+    m
+}
+
+fn refusal_text(n: u8) -> [u8; 4]
+    ensures { λ r. ⌜ r ≡ refusalText n ⌝ }
+{
+    [b'E', b'R', b'R', input::number_digit(n)]
+}
+
+fn power_text(p: Power) -> [u8; 1]
+    ensures { λ r. ⌜ r ≡ powerText p ⌝ }
+{
+    match p {
+        Power::Off => *b"0",
+        Power::On => *b"1",
+        Power::Cooling => *b"2",
+        Power::WarmUp => *b"3",
+    }
+}
+
+fn input_text(i: Input) -> [u8; 2]
+    ensures { λ r. ⌜ r ≡ inputText i ⌝ }
+{
+    let source = i.source;
+    [input::source_digit(source), input::number_digit(i.number)]
+}
+
+fn mutes_text(video: bool, audio: bool) -> [u8; 2]
+    ensures { λ r. ⌜ r ≡ mutesText video audio ⌝ }
+{
+    if video {
+        if audio {
+            return *b"31";
+        }
+        return *b"11";
+    }
+    if audio {
+        return *b"21";
+    }
+    *b"30"
+}
+
+// Each function below puts bytes into out, from the place `at` on, and gives the place after them.
+fn put_all(out: &mut [u8], at: usize, src: &[u8]) -> usize
+    requires { ⌜ at + length (now src) ≤ length (now out) ⌝ }
+    ensures { λ r. ⌜ r ≡ at + length (now (src .entry)) ⌝ }
+    ensures { λ _. ⌜ now (out .exit) ≡ sets (now (out .entry)) at (now (src .entry)) ⌝ }
+{
+    text::put(out, at, src);
+    at + src.len()
+}
+
+// The first six numbers of `errors`, a digit each.
+fn put_errors(out: &mut [u8], at: usize, errors: [u8; TEXT_MOST]) -> usize
+    requires { ⌜ at + errorsCount ≤ length (now out) ⌝ }
+    ensures { λ r. ⌜ r ≡ at + length (map numberDigit (take errorsCount errors)) ⌝ }
+    ensures { λ _. ⌜ now (out .exit) ≡ sets (now (out .entry)) at (map numberDigit (take errorsCount errors)) ⌝ }
+{
+    let mut i = 0;
+    while i < ERRORS_COUNT {
+        out[at + i] = input::number_digit(errors[i]);
+        i += 1;
+    }
+    at + ERRORS_COUNT
+}
+
+fn lit_digit(lit: bool) -> u8
+    ensures { λ r. ⌜ r ≡ switchDigit lit ⌝ }
+{
+    if lit {
+        return b'1';
+    }
+    b'0'
+}
+
+fn put_lamp(out: &mut [u8], at: usize, l: LampHours) -> usize
+    requires { ⌜ at + 12 ≤ length (now out) ⌝ }
+    ensures { λ r. ⌜ r ≡ at + length (lampText l) ⌝ }
+    ensures { λ _. ⌜ now (out .exit) ≡ sets (now (out .entry)) at (lampText l) ⌝ }
+{
+    let p = numbers::put_number(out, at, l.hours);
+    put_all(out, p, &[b' ', lit_digit(l.lit)])
+}
+
+// The space before the thing at the place i of a list; before the first there is none.
+fn put_gap(out: &mut [u8], at: usize, i: usize) -> usize
+    requires { ⌜ at + 1 ≤ length (now out) ⌝ }
+    ensures { λ r. ⌜ r ≡ at + length (gap i) ⌝ }
+    ensures { λ _. ⌜ now (out .exit) ≡ sets (now (out .entry)) at (gap i) ⌝ }
+{
+    if i == 0 {
+        return at;
+    }
+    out[at] = b' ';
+    at + 1
+}
+
+// The first `count` of the lamps, joined by spaces.
+fn put_lamps(out: &mut [u8], at: usize, lamps: [LampHours; LAMPS_MOST], count: usize) -> usize
+    requires { ⌜ count ≤ lampsMost ⌝ }
+    requires { ⌜ at + parameterMost ≤ length (now out) ⌝ }
+    ensures { λ r. ⌜ r ≡ at + length (joined lampText (take count lamps)) ⌝ }
+    ensures { λ _. ⌜ now (out .exit) ≡ sets (now (out .entry)) at (joined lampText (take count lamps)) ⌝ }
+{
+    let mut p = at;
+    let mut i = 0;
+    while i < count {
+        p = put_gap(out, p, i);
+        p = put_lamp(out, p, lamps[i]);
+        i += 1;
+    }
+    p
+}
+
+// The first `count` of the inputs, joined by spaces.
+fn put_inputs(out: &mut [u8], at: usize, inputs: [Input; INPUTS_MOST], count: usize) -> usize
+    requires { ⌜ count ≤ inputsMost ⌝ }
+    requires { ⌜ at + parameterMost ≤ length (now out) ⌝ }
+    ensures { λ r. ⌜ r ≡ at + length (joined inputText (take count inputs)) ⌝ }
+    ensures { λ _. ⌜ now (out .exit) ≡ sets (now (out .entry)) at (joined inputText (take count inputs)) ⌝ }
+{
+    let mut p = at;
+    let mut i = 0;
+    while i < count {
+        p = put_gap(out, p, i);
+        p = put_all(out, p, &input_text(inputs[i]));
+        i += 1;
+    }
+    p
+}
+
+fn put_text(out: &mut [u8], at: usize, kept: [u8; TEXT_MOST], count: usize) -> usize
+    requires { ⌜ count ≤ nameMost ⌝ }
+    requires { ⌜ at + nameMost ≤ length (now out) ⌝ }
+    ensures { λ r. ⌜ r ≡ at + length (take count kept) ⌝ }
+    ensures { λ _. ⌜ now (out .exit) ≡ sets (now (out .entry)) at (take count kept) ⌝ }
+{
+    put_all(out, at, &kept[..count])
+}
+
+// What the answer a says.
+pub fn put_answer(out: &mut [u8], at: usize, a: Answer) -> usize
+    requires { ⌜ at + parameterMost ≤ length (now out) ⌝ }
+    ensures { λ r. ⌜ r ≡ at + length (saidBytes (saidBy a)) ⌝ }
+    ensures { λ _. ⌜ now (out .exit) ≡ sets (now (out .entry)) at (saidBytes (saidBy a)) ⌝ }
+{
+    let k = a.kind;
+    let lamps = a.lamps;
+    let inputs = a.inputs;
+    let kept = a.text;
+    match k {
+        Kind::Ok => put_all(out, at, b"OK"),
+        Kind::Refused(n) => put_all(out, at, &refusal_text(n)),
+        Kind::Powered(p) => put_all(out, at, &power_text(p)),
+        Kind::Chosen(i) => put_all(out, at, &input_text(i)),
+        Kind::Muted(video, audio) => put_all(out, at, &mutes_text(video, audio)),
+        Kind::Errors => put_errors(out, at, kept),
+        Kind::Lamps(n) => put_lamps(out, at, lamps, least(n, LAMPS_MOST)),
+        Kind::Inputs(n) => put_inputs(out, at, inputs, least(n, INPUTS_MOST)),
+        Kind::Text(n) => put_text(out, at, kept, least(n, TEXT_MOST)),
+        Kind::Class => put_all(out, at, b"1"),
+        Kind::Nothing => at,
+    }
+}
