@@ -12,13 +12,14 @@ ghost use Rattle.clock.specs.Second.{isLit, isBetween, settledPower, one
 ghost use Rattle.clock.specs.After.{powerAfter, leftAfter, lampsAfter};
 
 // A lamp burns in warm-up and power-on.
-fn is_lit(power: u8) -> bool
+pub fn is_lit(power: u8) -> bool
     ensures { λ r. ⌜ r ≡ isLit power ⌝ }
 {
     (power == WARMING) | (power == ON)
 }
 
-fn is_between(power: u8) -> bool
+// Seconds are left in warm-up and cooling.
+pub fn is_between(power: u8) -> bool
     ensures { λ r. ⌜ r ≡ isBetween power ⌝ }
 {
     (power == WARMING) | (power == COOLING)

@@ -1,0 +1,179 @@
+-- Every answer of a legal projector is one that its command can have (`CanSay`), and so it fits a reply.
+--   Fits m      m has room in the arrays and comes back out of them; its parameter has at most 64 bytes and no CR
+-- Assumes nothing.
+use Prim.Native.Nat.{ℕ, _+_, _*_, _/_, _<_, _≤_}
+use mathlib.Core.Path.{_≡_, refl, sym, ap, _∙_}
+use mathlib.Core.Bool.{Bool, true, false, _||_, false≢true}
+use native.Mathlib.Omega.{arith}
+use lib.ListN.{length, getD, take, length-map}
+use borrow.Author.Tests.{leb-true, le-leb, eqb-false, not-false}
+use Rattle.text.specs.Scans.{every}
+use Rattle.text.proofs.Scanning.{every-map}
+use Rattle.lines.specs.Bytes.{noCr}
+use Rattle.lines.specs.Inputs.{isInputText, isInput}
+use Rattle.lines.specs.declared.command.Body.the-variants.{Powr, Inpt, Avmt, Erst, Lamp, Inst, Name, Inf1, Inf2, Info, Clss}
+use Rattle.lines.specs.declared.command.Command.{Command}
+use Rattle.lines.specs.declared.command.Command.the-variants.{PowerSet, InputSet, MuteSet, Query}
+use Rattle.lines.specs.declared.request.Request.{Request}
+use Rattle.lines.specs.declared.request.Request.the-variants.{Asks, Unlisted, UnknownBody}
+use Rattle.lines.proofs.InputsReadBack.{named-is-input}
+use Rattle.answers.specs.Said.{Said, refused, saidBytes, inputCount}
+use Rattle.answers.specs.Carried.{answerOf, saidBy, isSayable}
+use Rattle.answers.specs.Reading.{isSet, isRefusalTo}
+use Rattle.answers.specs.CanSay.{CanSay, done, refuses, power, input, mutes, errors, lamps, inputs, name, maker, model, other, class-1, isLampHours}
+use Rattle.answers.proofs.SaidPlain.{can-sayable, can-said-back, said-64, said-plain}
+use Rattle.record.specs.Limits.{inputRoom, lampsMost, lampLimit}
+use Rattle.record.specs.Rules.{isLamp, isLamps, isInputs}
+use Rattle.record.specs.Legal.{isSettings, isOwn}
+use Rattle.record.specs.declared.types.Settings.{Settings}
+use Rattle.record.specs.declared.types.Own.{Own}
+use Rattle.record.proofs.Kept.{kept-length}
+use Rattle.record.proofs.Places.{every-by-place}
+use Rattle.record.proofs.Rules.{errors-long, errors-within, lamps-within}
+use Rattle.record.proofs.SettingsTold.{SettingsTold, settings-told, input-count-low, input-count-high, input-at}
+use Rattle.record.proofs.OwnTold.{OwnTold, own-told}
+use Rattle.clock.specs.Second.{isLit}
+use Rattle.meaning.specs.SetUpInputs.{pairsOf, inputsOf}
+use Rattle.meaning.specs.Rules.{hasSet, isUndefined, isUnlisted}
+use Rattle.meaning.specs.Meaning.{noInput, chosenOf, lampSaid, lampsOf, told, answered, meant}
+use Rattle.meaning.proofs.InputsByPlace.{input-at-place, inputs-counted, in-use, first-in-use, second-in-use}
+use Rattle.meaning.proofs.Cases.{Passes, meant-by}
+
+-- the inputs of a legal set-up
+module _ (s : Settings) (t : SettingsTold s) where
+  pub inputs-number : length (inputsOf s) ≡ s .«input_count»
+  inputs-number = inputs-counted (pairsOf s) (s .«input_count») (kept-length inputRoom isInputs _ _ (t .inputs))
+
+  pub listed-input : (k : ℕ) → k < s .«input_count» → isInput (getD (inputsOf s) k noInput) ≡ true
+  listed-input k h =
+      let room : 2 * k + 1 < length (s .inputs) = omega (arith, t .inputs .long, t .inputs .inside) in
+      let first = first-in-use (s .inputs) (s .«input_count») k h room in
+      let second = second-in-use (s .inputs) (s .«input_count») k h room in
+      ap isInput (input-at-place (pairsOf s) k noInput (in-use (s .inputs) (s .«input_count») k h room))
+      ∙ named-is-input (getD (pairsOf s) (2 * k) 0) (getD (pairsOf s) (2 * k + 1) 0)
+      ((λ j. isInputText (first j) (second j)) ∙ input-at s t k h)
+
+  pub listed-inputs : every isInput (inputsOf s) ≡ true
+  listed-inputs =
+      every-by-place isInput noInput (inputsOf s) (λ k h. listed-input k (omega (arith, inputs-number)))
+
+-- a lamp within the limit has hours of five digits
+lamp-hours : (lit : Bool) (x : ℕ) → isLamp x ≡ true → isLampHours (lampSaid lit x) ≡ true
+lamp-hours lit x e = le-leb (x / 3600) 99999 (omega (arith, leb-true x lampLimit e))
+
+-- ERRn but ERR2 may refuse any command, ERR2 a set
+any-refused : (c : Command) → (isSet c || true) ≡ true
+any-refused (PowerSet wanted) = refl
+any-refused (InputSet i) = refl
+any-refused (MuteSet half wanted) = refl
+any-refused (Query b) = refl
+
+set-refused : (s : Settings) (c : Command) → isUnlisted s c ≡ true → isRefusalTo c 2 ≡ true
+set-refused s (PowerSet wanted) e = refl
+set-refused s (InputSet i) e = refl
+set-refused s (MuteSet half wanted) e = refl
+set-refused s (Query b) e = e
+
+module _ (s : Settings) (o : Own) (settings : isSettings s ≡ true) (own : isOwn s o ≡ true) where
+  abbrev set-up : SettingsTold s
+  set-up = settings-told s settings
+
+  abbrev kept : OwnTold s o
+  kept = own-told s o own
+
+  lamps-many : length (lampsOf s o) ≡ s .«lamp_count»
+  lamps-many =
+      length-map (take (s .«lamp_count») (o .lamps)) (lampSaid (isLit (o .power)))
+      ∙ kept-length lampsMost isLamps _ _ (kept .lamps)
+
+  told-can-be-said : (c : Command) → isUndefined s (Asks c) ≡ false → CanSay c (told s o c)
+  told-can-be-said (PowerSet wanted) e = done refl
+  told-can-be-said (InputSet i) e = done refl
+  told-can-be-said (MuteSet half wanted) e = done refl
+  told-can-be-said (Query Powr) e = power _
+  told-can-be-said (Query Inpt) e = input (chosenOf s o) (listed-input s set-up (o .chosen) (kept .chosen))
+  told-can-be-said (Query Avmt) e = mutes _ _
+  told-can-be-said (Query Erst) e = errors (o .errors) (errors-long _ (kept .errors)) (errors-within _ (kept .errors))
+  told-can-be-said (Query Lamp) e =
+      let some = eqb-false (s .«lamp_count») 0 e in
+      lamps (lampsOf s o) (omega (arith, lamps-many, some)) (omega (arith, lamps-many, set-up .lamps))
+      (every-map isLamp isLampHours (lampSaid (isLit (o .power))) (lamp-hours (isLit (o .power)))
+      (take (s .«lamp_count») (o .lamps)) (lamps-within _ (kept .lamps .follows)))
+  told-can-be-said (Query Inst) e =
+      inputs (inputsOf s) (omega (arith, inputs-number s set-up, input-count-low s set-up))
+      (omega (arith, inputs-number s set-up, input-count-high s set-up)) (listed-inputs s set-up)
+  told-can-be-said (Query Name) e = name _ (set-up .name .follows)
+  told-can-be-said (Query Inf1) e = maker _ (set-up .maker .follows)
+  told-can-be-said (Query Inf2) e = model _ (set-up .model .follows)
+  told-can-be-said (Query Info) e = other _ (set-up .other .follows)
+  told-can-be-said (Query Clss) e = class-1
+
+  pub meant-can-be-said : (c : Command) → CanSay c (meant s o (Asks c))
+  meant-can-be-said c =
+      meant-by s o (Asks c) (CanSay c)
+      (λ a. refuses 1 (omega arith) (omega arith) (any-refused c))
+      (λ a b. refuses 2 (omega arith) (omega arith) (set-refused s c b))
+      (λ a b f. refuses 4 (omega arith) (omega arith) (any-refused c))
+      (λ a b f u. refuses 3 (omega arith) (omega arith) (any-refused c))
+      (λ p. told-can-be-said c (p .defined))
+
+  -- a request that is no command is refused, and a set may be refused by any number
+  always-refused : (r : Request) → (Passes s o r → ⊥) → CanSay (PowerSet true) (meant s o r)
+  always-refused r n =
+      meant-by s o r (CanSay (PowerSet true))
+      (λ a. refuses 1 (omega arith) (omega arith) refl) (λ a b. refuses 2 (omega arith) (omega arith) refl)
+      (λ a b c. refuses 4 (omega arith) (omega arith) refl) (λ a b c d. refuses 3 (omega arith) (omega arith) refl)
+      (λ p. absurd (n p))
+
+  abbrev commandOf : Request → Command
+  commandOf (Asks c) = c
+  commandOf (Unlisted b) = PowerSet true
+  commandOf UnknownBody = PowerSet true
+
+  answer-can-be-said : (r : Request) → CanSay (commandOf r) (meant s o r)
+  answer-can-be-said (Asks c) = meant-can-be-said c
+  answer-can-be-said (Unlisted b) =
+      always-refused (Unlisted b) (λ p. false≢true (sym (p .listed) ∙ not-false (hasSet b) (p .defined)))
+  answer-can-be-said UnknownBody = always-refused UnknownBody (λ p. false≢true (sym (p .defined)))
+
+  told-few : (c : Command) → inputCount (told s o c) ≤ 16
+  told-few (PowerSet wanted) = omega arith
+  told-few (InputSet i) = omega arith
+  told-few (MuteSet half wanted) = omega arith
+  told-few (Query Powr) = omega arith
+  told-few (Query Inpt) = omega arith
+  told-few (Query Avmt) = omega arith
+  told-few (Query Erst) = omega arith
+  told-few (Query Lamp) = omega arith
+  told-few (Query Inst) = omega (arith, inputs-number s set-up, input-count-high s set-up)
+  told-few (Query Name) = omega arith
+  told-few (Query Inf1) = omega arith
+  told-few (Query Inf2) = omega arith
+  told-few (Query Info) = omega arith
+  told-few (Query Clss) = omega arith
+
+  answered-few : (r : Request) → inputCount (answered s o r) ≤ 16
+  answered-few (Asks c) = told-few c
+  answered-few (Unlisted b) = omega arith
+  answered-few UnknownBody = omega arith
+
+  meant-few : (r : Request) → inputCount (meant s o r) ≤ 16
+  meant-few r =
+      meant-by s o r (λ m. inputCount m ≤ 16) (λ a. omega arith) (λ a b. omega arith) (λ a b c. omega arith)
+      (λ a b c d. omega arith) (λ p. answered-few r)
+
+pub record Fits (m : Said) : Type 0 where
+  pub sayable : isSayable m ≡ true
+  pub back : saidBy (answerOf m) ≡ m
+  pub short : length (saidBytes m) ≤ 64
+  pub no-cr : noCr (saidBytes m) ≡ true
+
+pub meant-fits : (s : Settings) (o : Own) → isSettings s ≡ true → isOwn s o ≡ true → (r : Request) → Fits (meant s o r)
+meant-fits s o settings own r =
+    let w = answer-can-be-said s o settings own r in
+    record {
+      sayable = can-sayable w;
+      back = can-said-back w;
+      short = said-64 w (meant-few s o settings own r);
+      no-cr = said-plain w .1;
+    }

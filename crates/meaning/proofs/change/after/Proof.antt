@@ -1,0 +1,29 @@
+-- `meaning::change::after` meets its contract: each arm is its command's clause.
+-- Assumes nothing.
+use mathlib.Core.Path.{_≡_, sym, ap, _∙_}
+use borrow.Author.Needs.{needs}
+use Rattle.lines.specs.declared.command.Command.{Command}
+use Rattle.meaning.specs.Meaning.{after}
+use Rattle.meaning.proofs.change.after.Statement.{statement}
+use Rattle.meaning.proofs.change.after.Tie as tie
+
+module _ (start : tie.Start) where
+  asked : {d : Command} → start .args .c ≡ d
+      → after (start .args .s) (start .args .o) d ≡ after (start .args .s) (start .args .o) (start .args .c)
+  asked e = ap (after (start .args .s) (start .args .o)) (sym e)
+
+pub after-spec : {M : Type 1} → statement M
+after-spec =
+    tie.close
+    (tie.spec
+    (λ c. search needs)
+    (λ c κs. search needs)
+    (λ c. search needs)
+    (λ c κs. search needs)
+    (λ c. search needs)
+    (λ c κs. search needs)
+    (λ c. search needs)
+    (λ c. let arm = c .before .before in c .after-power .ensures ∙ asked (arm .before .before) (arm .c .given .1))
+    (λ c. let arm = c .before .before in c .after-input .ensures ∙ asked (arm .before .before) (arm .c2 .given .1))
+    (λ c. let arm = c .before .before in c .after-mute .ensures ∙ asked (arm .before .before) (arm .c3 .given .1))
+    (λ c. asked (c .before .before) (c .enum-told .given .1)))

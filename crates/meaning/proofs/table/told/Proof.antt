@@ -1,0 +1,28 @@
+-- `meaning::table::told` meets its contract: a set is answered OK, a query by its body.
+-- Assumes nothing.
+use mathlib.Core.Path.{_≡_, sym, ap, _∙_}
+use borrow.Author.Needs.{needs}
+use Rattle.lines.specs.declared.command.Command.{Command}
+use Rattle.answers.specs.Carried.{answerOf}
+use Rattle.meaning.specs.Meaning.{told}
+use Rattle.meaning.proofs.table.told.Statement.{statement}
+use Rattle.meaning.proofs.table.told.Tie as tie
+
+module _ (start : tie.Start) where
+  asked : {d : Command} → start .args .c ≡ d
+      → answerOf (told (start .args .s) (start .args .o) d)
+      ≡ answerOf (told (start .args .s) (start .args .o) (start .args .c))
+  asked e = ap (λ (d : Command). answerOf (told (start .args .s) (start .args .o) d)) (sym e)
+
+pub told-spec : {M : Type 1} → statement M
+told-spec =
+    tie.close
+    (tie.spec
+    (λ c. search needs) (λ c κs. search needs)
+    (λ c. search needs) (λ c κs. search needs)
+    (λ c. search needs) (λ c κs. search needs)
+    (λ c. search needs) (λ c κs. search needs)
+    (λ c. let arm = c .before in c .plain .ensures ∙ asked (arm .before .before) (arm .enum-told .given .1))
+    (λ c. let arm = c .before in c .plain2 .ensures ∙ asked (arm .before .before) (arm .enum-told2 .given .1))
+    (λ c. let arm = c .before in c .plain3 .ensures ∙ asked (arm .before .before) (arm .enum-told3 .given .1))
+    (λ c. let arm = c .before .before in c .queried .ensures ∙ asked (arm .before .before) (arm .c .given .1)))

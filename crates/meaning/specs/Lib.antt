@@ -1,0 +1,4 @@
+pub mod SetUpInputs
+pub mod Rules
+pub mod Meaning
+pub mod Computing

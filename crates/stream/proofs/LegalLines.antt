@@ -1,0 +1,52 @@
+-- Collecting keeps a line legal: no CR, at most as many bytes as the phase allows, none under the mark, unused room
+-- zero.
+-- Assumes nothing.
+use Prim.Native.Nat.{ℕ, _+_, _≤_, _<_}
+use mathlib.Core.Path.{_≡_, refl, sym, ap, _∙_}
+use mathlib.Core.Bool.{Bool, true, false, not}
+use mathlib.Core.List.{List, [], _∷_, _++_}
+use native.Mathlib.Omega.{arith}
+use lib.ListN.{take}
+use lib.Dec.{leb}
+use borrow.Author.Tests.{leb-false, ne-eqb}
+use Rattle.text.specs.Scans.{every}
+use Rattle.text.proofs.Choices.{if-by, both}
+use Rattle.text.proofs.Scanning.{every-append}
+use Rattle.lines.specs.Bytes.{notCr, noCr}
+use Rattle.record.specs.Limits.{lineRoom}
+use Rattle.record.specs.Legal.{isCollecting, heldMost, isHeld}
+use Rattle.record.specs.declared.types.Line.{Line}
+use Rattle.record.proofs.Kept.{Kept, nothing-kept, one-more-kept}
+use Rattle.record.proofs.ConnectionTold.{held-most-room, unmarked-held, marked-held}
+use Rattle.stream.specs.Collecting.{emptyLine, overlongLine, collected}
+
+-- the line's part of a legal connection
+pub record LegalLine (phase : ℕ) (l : Line) : Type 0 where
+  pub kept : Kept lineRoom noCr (l .bytes) (l .held)
+  pub held : isHeld phase (l .overlong) (l .held) ≡ true
+
+pub empty-legal : (phase : ℕ) → LegalLine phase emptyLine
+unfolding emptyLine noCr
+empty-legal phase = record { kept = nothing-kept lineRoom noCr refl; held = unmarked-held phase 0 (omega arith) }
+
+overlong-legal : (phase : ℕ) → isCollecting phase ≡ true → LegalLine phase overlongLine
+unfolding overlongLine noCr
+overlong-legal phase e = record { kept = nothing-kept lineRoom noCr refl; held = marked-held phase e }
+
+no-cr-more : (s : List ℕ) (b : ℕ) → noCr s ≡ true → (b ≡ 13 → ⊥) → noCr (s ++ (b ∷ [])) ≡ true
+unfolding noCr
+no-cr-more s b e n = every-append notCr s (b ∷ []) e (both (ap not (ne-eqb b 13 n)) refl)
+
+pub collected-legal : (phase : ℕ) (l : Line) (b : ℕ) → isCollecting phase ≡ true → (b ≡ 13 → ⊥) → LegalLine phase l
+    → LegalLine phase (collected (heldMost phase) l b)
+unfolding collected
+collected-legal phase l b e n p =
+    if-by (LegalLine phase) (l .overlong) (λ marked. p) (λ unmarked.
+    if-by (LegalLine phase) (leb (heldMost phase) (l .held)) (λ full. overlong-legal phase e) (λ room.
+    let inside = leb-false (heldMost phase) (l .held) room in
+    let most = held-most-room phase in
+    record {
+      kept = one-more-kept lineRoom noCr (l .bytes) (l .held) b (p .kept) (omega arith)
+          (no-cr-more (take (l .held) (l .bytes)) b (p .kept .follows) n);
+      held = ap (λ (m : Bool). isHeld phase m (l .held + 1)) unmarked ∙ unmarked-held phase (l .held + 1) (omega arith);
+    }))

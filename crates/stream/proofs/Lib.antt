@@ -1,0 +1,5 @@
+pub mod GatheredOn
+pub mod SameHoweverCut
+pub mod OneCallGathers
+pub mod LinesCollected
+pub mod LegalLines
