@@ -15,7 +15,7 @@ use Rattle.record.specs.Legal.{isTimed}
 use Rattle.record.specs.Record.{closed}
 use Rattle.record.specs.declared.types.Connection.{Connection}
 use Rattle.clock.specs.Second.{times, aged, connectionSecond}
-use Rattle.clock.proofs.Orders.{le-or-lt}
+use Rattle.text.proofs.Orders.{le-or-lt}
 
 module _ (c : Connection) where
   second-untimed : isTimed (c .phase) ≡ false → connectionSecond c ≡ c

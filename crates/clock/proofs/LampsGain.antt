@@ -8,7 +8,7 @@ use native.Mathlib.Omega.{arith}
 use borrow.Author.Tests.{lt-ltb, le-ltb}
 use Rattle.record.specs.Limits.{lampLimit}
 use Rattle.clock.specs.Second.{times, oneMore}
-use Rattle.clock.proofs.Orders.{le-or-lt}
+use Rattle.text.proofs.Orders.{le-or-lt}
 
 pub gains : (n x : ℕ) → x + n ≤ lampLimit → times oneMore n x ≡ x + n
 unfolding times oneMore

@@ -1,4 +1,3 @@
-mod Orders
 pub mod Repeated
 pub mod FirstChanged
 pub mod LampsGain

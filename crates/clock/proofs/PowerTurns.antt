@@ -14,7 +14,7 @@ use Rattle.text.proofs.Choices.{if-yes, if-no, if-all, if-by, both, both-right,
 use Rattle.record.specs.Limits.{cooling, warming}
 use Rattle.clock.specs.Second.{isLit, isBetween, settledPower, leftSecond, powerSecond}
 use Rattle.clock.specs.After.{powerAfter, leftAfter}
-use Rattle.clock.proofs.Orders.{le-or-lt}
+use Rattle.text.proofs.Orders.{le-or-lt}
 
 -- where n seconds of a state with l seconds left have come to
 data Stage (n power l : ℕ) : Type 0 where

@@ -3,19 +3,20 @@
 -- Assumes nothing.
 use Prim.Native.Nat.{ℕ, _+_, _≤_}
 use mathlib.Core.Path.{_≡_, refl, sym, ap, _∙_}
-use mathlib.Core.Bool.{Bool, true, false, not}
+use mathlib.Core.Bool.{Bool, true, false, not, _&&_}
 use mathlib.Core.List.{List, [], _∷_, _++_}
 use native.Mathlib.Omega.{arith}
 use lib.ListN.{length}
-use borrow.Author.Tests.{le-leb, ne-eqb}
+use lib.Dec.{leb}
+use borrow.Author.Tests.{leb-true, le-leb, ne-eqb}
 use Rattle.text.specs.Words.{ascii}
 use Rattle.text.specs.Scans.{every}
-use Rattle.text.proofs.Choices.{both}
+use Rattle.text.proofs.Choices.{both, both-left}
 use Rattle.text.proofs.Scanning.{every-append, every-implies}
 use Rattle.lines.specs.Bytes.{_at_, isAlnum, notCr, noCr}
 use Rattle.lines.specs.Inputs.{sourceDigit, numberDigit}
 use Rattle.lines.specs.Commands.{bodyText, bodyOf, switchDigit, halfDigit, parameterOf, commandText, commandLine}
-use Rattle.lines.specs.Forms.{headBody, isCommandForm, commandParameter}
+use Rattle.lines.specs.Forms.{headBody, commandMost, isCommandForm, commandParameter}
 use Rattle.lines.specs.declared.input.Source.{Source}
 use Rattle.lines.specs.declared.input.Source.the-variants.{Rgb, Video, Digital, Storage, Network}
 use Rattle.lines.specs.declared.command.Half.{Half}
@@ -101,3 +102,10 @@ module _ (c : Command) where
       ∙ every-append notCr (ascii "%1" ++ four body ++ ascii " ") (parameterOf c)
       (every-append notCr (four body) (ascii " ") (every-implies isAlnum notCr alnum-not-cr (four body) letters) refl)
       (parameter-no-cr c)
+
+-- a line of the form has its head
+pub form-long : (l : List ℕ) → isCommandForm l ≡ true → 7 ≤ length l
+unfolding isCommandForm
+form-long l e =
+    leb-true 7 (length l)
+    (both-left (leb 7 (length l)) _ (both-left (leb 7 (length l) && leb (length l) commandMost) _ e))

@@ -1,4 +1,5 @@
 pub mod GatheredOn
+mod AllAtOnce
 pub mod SameHoweverCut
 pub mod OneCallGathers
 pub mod LinesCollected

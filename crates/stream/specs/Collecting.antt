@@ -2,6 +2,7 @@
 --   lineOf xs                the line with the bytes xs collected, and its unused room zero
 --   emptyLine, overlongLine  the line with nothing collected; with the mark alone
 --   collected most l b       the line after one byte more that is no CR; past `most` bytes it only keeps the mark
+--   collectedAll most l bs   the line after these bytes, one after the other
 --   gathered most l bs       the line after the bytes of bs before the first CR, how many these are, and whether CR
 -- came
 -- Assumes nothing.
@@ -30,6 +31,10 @@ collected most l b =
     if l .overlong then l
     else if leb most (l .held) then overlongLine
     else record { overlong = l .overlong; held = l .held + 1; bytes = set (l .bytes) (l .held) b }
+
+unfoldable pub collectedAll : ℕ → Line → List ℕ → Line
+collectedAll most l [] = l
+collectedAll most l (b ∷ bs) = collectedAll most (collected most l b) bs
 
 abbrev pub later : ℕ → Gathered → Gathered
 later n g = record { line = g .line; before = n + g .before; ended = g .ended }

@@ -1,4 +1,4 @@
-// Bytes taken up to the end of a line (01, "Connection"): collected one by one, at most as many as the phase allows.
+// Bytes taken up to the end of a line (01, "Connection"): collected, at most as many as the phase allows.
 use record::connection;
 use record::types::LINE_ROOM;
 use record::types::Line;
@@ -6,7 +6,7 @@ ghost use mathlib.Core.Path.{_≡_};
 ghost use Prim.Native.Nat.{_≤_};
 ghost use Rattle.record.specs.Limits.{lineRoom};
 ghost use Rattle.record.specs.Legal.{heldMost};
-ghost use Rattle.stream.specs.Collecting.{collected, gathered};
+ghost use Rattle.stream.specs.Collecting.{collectedAll, gathered};
 
 // What one call makes of the bytes it is handed: the line so far, the bytes before CR, and whether there was one.
 pub struct Gathered {
@@ -23,21 +23,29 @@ impl Gathered {
     };
 }
 
-// One byte more, or the overlong mark where there is no room for it.
-fn collect(most: usize, l: Line, b: u8) -> Line
+// The bytes `more`, none of them CR, after those collected; or the overlong mark where there is no room for all of them.
+fn collect(most: usize, l: Line, more: &[u8]) -> Line
     requires { ⌜ most ≤ lineRoom ⌝ }
-    ensures { λ r. ⌜ r ≡ collected most l b ⌝ }
+    ensures { λ r. ⌜ r ≡ collectedAll most l (now (more .entry)) ⌝ }
 {
     if l.overlong {
+        return l;
+    }
+    if more.len() == 0 {
         return l;
     }
     let held = l.held;
     if most <= held {
         return Gathered::OVERLONG;
     }
+    if most - held < more.len() {
+        return Gathered::OVERLONG;
+    }
+    let mut bytes = l.bytes;
+    text::put(&mut bytes, held, more);
     let mut next = l;
-    next.bytes[held] = b;
-    next.held = held + 1;
+    next.bytes = bytes;
+    next.held = held + more.len();
     next
 }
 
@@ -45,24 +53,11 @@ fn collect(most: usize, l: Line, b: u8) -> Line
 pub fn gather(phase: u8, l: Line, bytes: &[u8]) -> Gathered
     ensures { λ r. ⌜ r ≡ gathered (heldMost phase) l (now (bytes .entry)) ⌝ }
 {
-    let most = connection::held_most(phase);
-    let mut line = l;
-    let mut i = 0;
-    while i < bytes.len() {
-        let b = bytes[i];
-        if b == b'\r' {
-            return Gathered {
-                line,
-                before: i,
-                ended: true,
-            };
-        }
-        line = collect(most, line, b);
-        i += 1;
-    }
+    let before = bytes::scan::find(bytes, 0, bytes.len(), b'\r');
+    let line = collect(connection::held_most(phase), l, &bytes[0..before]);
     Gathered {
         line,
-        before: i,
-        ended: false,
+        before,
+        ended: before < bytes.len(),
     }
 }

@@ -1,61 +1,53 @@
--- `stream::gather` meets its contract: at i, what is gathered of the whole is what is gathered of the rest, i bytes
--- later.
+-- `stream::gather` meets its contract: the bytes before the first CR, collected all at once.
 -- Assumes nothing.
-use Prim.Native.Nat.{ℕ, _-_, _≤_}
-use mathlib.Core.Path.{_≡_, ap, _∙_, subst, sym}
-use lib.ListN.{length}
+use Prim.Native.Nat.{ℕ, _+_, _-_, _≤_}
+use mathlib.Core.Path.{_≡_, sym, ap, _∙_, subst}
+use native.Mathlib.Nat.{sub-zero, zero-add}
+use lib.ListN.{length, take}
+use lib.Seq.{take-length}
+use lib.Dec.{ltb}
 use borrow.Author.Needs.{needs}
+use Rattle.bytes.specs.Bytes.{slice, indexOf}
 use Rattle.record.specs.Limits.{lineRoom}
 use Rattle.record.specs.Legal.{heldMost}
 use Rattle.record.proofs.ConnectionTold.{held-most-room}
-use Rattle.stream.specs.Collecting.{gathered}
-use Rattle.stream.proofs.GatheredOn.{Gathering, none-gathered, one-gathered, cr-gathered, all-gathered}
+use Rattle.stream.specs.declared.Gathered.{Gathered}
+use Rattle.stream.specs.Collecting.{collectedAll}
+use Rattle.stream.proofs.AllAtOnce.{before, all-at-once}
 use Rattle.stream.proofs.gather.Statement.{statement}
 use Rattle.stream.proofs.gather.Tie as tie
 
-abbrev Inv : tie.InvT-loop
-Inv phase bytes most line₀ i₀ line i = Gathering most line₀ bytes line i
-
-abbrev μ : tie.MeasureT-loop
-μ phase bytes most line₀ i₀ line i = length bytes - i
-
--- the most that the phase allows
-module _ (c : tie.After-held-most Inv μ) where
-  abbrev start : tie.Start Inv μ
-  start = c .before .before
+module _ (c : tie.After-held-most) where
+  abbrev start : tie.Start
+  start = c .before .before .before
 
   room : c .held-most .result ≤ lineRoom
   room = subst (λ (n : ℕ). n ≤ lineRoom) (sym (c .held-most .ensures)) (held-most-room (start .args .phase))
 
-  by-phase : gathered (c .held-most .result) (start .args .l) (start .args .bytes .now)
-      ≡ gathered (heldMost (start .args .phase)) (start .args .l) (start .args .bytes .now)
-  by-phase = ap (λ (n : ℕ). gathered n (start .args .l) (start .args .bytes .now)) (c .held-most .ensures)
+  found : c .before .find .result ≡ before (start .args .bytes .now)
+  unfolding slice
+  found =
+      c .before .find .ensures .0 ∙ zero-add (indexOf 13 (take (length (start .args .bytes .now)) (start .args .bytes .now)))
+      ∙ ap (indexOf 13) (take-length (start .args .bytes .now))
 
-ended : tie.Need-returns Inv μ
-ended c =
-    let turn = c .before .before .before in
-    cr-gathered _ _ _ (turn .loop .inv) (search needs) (c .if1 .taken) ∙ by-phase (turn .before)
-
-again : tie.Need-loop-again Inv μ
-again c =
-    let turn = c .before .before .before .before in
-    one-gathered _ _ _ (turn .loop .inv) (c .collect .ensures) (search needs) (c .before .if1 .left)
-
-unended : tie.Need-returns-2 Inv μ
-unended c = all-gathered _ _ _ (c .before .loop .inv) (c .loop-test .left) ∙ by-phase (c .before .before)
+gathers : tie.Need-returns
+gathers c =
+    let known = c .before .before in
+    let args = start known .args in
+    let bs = args .bytes .now in
+    let e = found known in
+    let line = c .collect .ensures ∙ (λ i. collectedAll (known .held-most .ensures i) (args .l) (take ((ap (λ (n : ℕ). n - 0) e ∙ sub-zero (before bs)) i) bs)) in
+    let made : _≡_ {A = Gathered} _ _ = λ i. record { line = line i; before = e i; ended = ltb (e i) (length bs) } in
+    made ∙ sym (all-at-once (heldMost (args .phase)) (args .l) bs)
 
 pub gather-spec : {M : Type 1} → statement M
 gather-spec =
     tie.close
     (tie.spec
-    Inv
-    μ
     (λ c κs. search needs)
-    (λ c. none-gathered _ _ _)
-    (λ c. search needs)
-    ended
-    (λ c κs. room (c .before .before .before .before))
+    (λ c κs. search needs)
     (λ c. search needs)
     (λ c. search needs)
-    again
-    unended)
+    (λ c. search needs)
+    (λ c κs. room (c .before))
+    gathers)

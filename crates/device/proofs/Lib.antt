@@ -1,0 +1,22 @@
+pub mod Cases
+pub mod Refusals
+pub mod Numbers
+pub mod Counts
+pub mod Results
+pub mod Untouched
+pub mod Legal
+pub mod Short
+pub mod Outsiders
+pub mod ReceivingAsMachine
+pub mod HandedThrough
+pub mod SameCuts
+pub mod OutsiderStreams
+pub mod WholeLines
+pub mod CommandsReceived
+pub mod LastBytes
+pub mod PowerRequests
+pub mod PowerLines
+pub mod Histories
+mod Used
+mod Written
+mod Carried

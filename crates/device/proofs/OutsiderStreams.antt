@@ -1,0 +1,116 @@
+-- Who does not know the password changes nothing of the projector's own part, however long he goes on and however his
+-- bytes are cut: until the connection closes he gets the refusal line once his first line ends, and nothing else
+-- (demand 2: "a first line without the matching digest yields the refusal line only").
+-- Assumes nothing.
+use Prim.Native.Nat.{ℕ, _≤_}
+use mathlib.Core.Path.{_≡_, refl, ap, _∙_}
+use mathlib.Core.Bool.{Bool, true, false}
+use mathlib.Core.List.{List, [], _∷_, _++_}
+use native.Mathlib.Omega.{arith}
+use lib.Dec.{eqb}
+use Rattle.text.specs.Words.{if_then_else_, _is_}
+use Rattle.lines.specs.Forms.{erraLine}
+use Rattle.record.specs.Limits.{shut, awaiting, failed}
+use Rattle.record.specs.Legal.{heldMost, isLegal}
+use Rattle.record.specs.declared.types.Settings.{Settings}
+use Rattle.record.specs.declared.types.Own.{Own}
+use Rattle.record.specs.declared.types.Connection.{Connection}
+use Rattle.record.specs.declared.types.Device.{Device}
+use Rattle.stream.specs.declared.Gathered.{Gathered}
+use Rattle.stream.specs.Collecting.{collected, gathered, later}
+use Rattle.stream.specs.Machine.{Out, silent, after, run, handedParts, joined}
+use Rattle.device.specs.Receiving.{isMatch, withLine, keeping}
+use Rattle.device.specs.Calls.{replyRoom}
+use Rattle.device.proofs.Cases.{keeping-none, keeping-line}
+use Rattle.device.proofs.Outsiders.{Unmatched, mismatch-refused, failed-ignores-line}
+use Rattle.device.proofs.ReceivingAsMachine.{State, stateOf, leaves, collects, ends}
+use Rattle.device.proofs.SameCuts.{deviceOf, partsOf, receives, received-as-run}
+use Rattle.device.proofs.HandedThrough.{outThrough}
+
+-- an outsider's first line, as far as it came
+abbrev pub firstLine : Connection → List ℕ → Gathered
+firstLine c bs = gathered (heldMost (c .phase)) (c .line) bs
+
+abbrev pub refusalOf : Gathered → List ℕ
+refusalOf g = if g .ended then erraLine else []
+
+record Fruitless (o : Own) (g : Gathered) (out : Out State) : Type 0 where
+  own : out .state .own ≡ o
+  reply : out .reply ≡ refusalOf g
+
+module _ (s : Settings) where
+  abbrev ran : State → List ℕ → Out State
+  ran = run State collects (ends s)
+
+  abbrev stepped : State → ℕ → Bool → Out State
+  stepped m b cr = if cr then ends s m else silent (collects m b)
+
+  -- a failed connection ignores whatever comes
+  failed-step : (m : State) (b : ℕ) (cr : Bool) → m .connection .phase ≡ failed → stepped m b cr ≡ silent m
+  failed-step m b true f = ap leaves (failed-ignores-line s (m .own) (m .connection) f _)
+  failed-step m b false f =
+      ap {B = Out State} (λ (k : Connection). silent (stateOf (m .own) k)) (keeping-none (m .connection) _ f)
+
+  pub failed-run : (m : State) (bs : List ℕ) → m .connection .phase ≡ failed → ran m bs ≡ silent m
+  unfolding run
+  failed-run m [] f = refl
+  failed-run m (b ∷ bs) f =
+      ap {B = Out State} (λ (o : Out State). after (o .reply) (ran (o .state) bs)) (failed-step m b (b is "\r") f)
+      ∙ failed-run m bs f
+
+  first-step : (m : State) (b : ℕ) (bs : List ℕ) (cr : Bool) → m .connection .phase ≡ awaiting
+      → let c = m .connection in
+      let l = collected (heldMost (c .phase)) (c .line) b in
+      let later-on = firstLine (withLine c l) bs in
+      let g : Gathered = if cr then record { line = c .line; before = 0; ended = true } else later 1 later-on in
+      (g .ended ≡ true → isMatch s c (g .line) ≡ false)
+      → ((later-on .ended ≡ true → isMatch s c (later-on .line) ≡ false)
+      → Fruitless (m .own) later-on (ran (stateOf (m .own) (withLine c l)) bs))
+      → Fruitless (m .own) g (after (stepped m b cr .reply) (ran (stepped m b cr .state) bs))
+  first-step m b bs true p n on =
+      let out = mismatch-refused s (m .own) (m .connection) p (m .connection .line) (n refl) in
+      let still = failed-run (ends s m .state) bs (out .phase) in
+      record {
+        own = ap (λ (k : Out State). k .state .own) still ∙ out .own;
+        reply = (λ i. out .reply i ++ still i .reply);
+      }
+  first-step m b bs false p n on =
+      let c = m .connection in
+      let l = collected (heldMost (c .phase)) (c .line) b in
+      let kept : stateOf (m .own) (keeping c l) ≡ stateOf (m .own) (withLine c l)
+      = ap {B = State} (stateOf (m .own)) (keeping-line c l (λ f. omega arith)) in
+      let ends-so = on n in
+      record {
+        own = ap (λ (k : State). ran k bs .state .own) kept ∙ ends-so .own;
+        reply = ap (λ (k : State). ran k bs .reply) kept ∙ ends-so .reply;
+      }
+
+  outsider-run : (m : State) (bs : List ℕ) → m .connection .phase ≡ awaiting → Unmatched s (m .connection) bs
+      → Fruitless (m .own) (firstLine (m .connection) bs) (ran m bs)
+  unfolding run gathered isMatch
+  outsider-run m [] p n = record { own = refl; reply = refl }
+  outsider-run m (b ∷ bs) p n =
+      let c = m .connection in
+      let l = collected (heldMost (c .phase)) (c .line) b in
+      first-step m b bs (b is "\r") p n (λ k. outsider-run (stateOf (m .own) (withLine c l)) bs p k)
+
+-- the calls, however the stream is cut
+module _ (room : ℕ) (enough : replyRoom ≤ room) (d : Device) (legal : isLegal d ≡ true)
+    (waits : d .connection .phase ≡ awaiting) (ps : List (List ℕ))
+    (unmatched : Unmatched (d .settings) (d .connection) (joined ps)) where
+  abbrev all : Out Device
+  all = handedParts (receives room) d ps
+
+  as-run : all ≡ outThrough (deviceOf (d .settings)) (ran (d .settings) (partsOf d) (joined ps))
+  as-run = received-as-run room enough d legal (ap (λ (p : ℕ). eqb p shut) waits) ps
+
+  pub outsider-stream-keeps-own : handedParts (receives room) d ps .state .own ≡ d .own
+  outsider-stream-keeps-own =
+      ap (λ (o : Out Device). o .state .own) as-run
+      ∙ outsider-run (d .settings) (partsOf d) (joined ps) waits unmatched .own
+
+  pub outsider-stream-refused : handedParts (receives room) d ps .reply
+      ≡ refusalOf (firstLine (d .connection) (joined ps))
+  outsider-stream-refused =
+      ap (λ (o : Out Device). o .reply) as-run
+      ∙ outsider-run (d .settings) (partsOf d) (joined ps) waits unmatched .reply

@@ -1,0 +1,152 @@
+-- A line that is handed on whole, with its CR, on a connection between lines (01, "Connection": no collected bytes
+-- and no
+-- overlong mark): it is taken with its CR and answered, on an open connection as it is, on an awaiting one behind the
+-- matching digest; and a command's line is answered what the command means.
+-- Assumes nothing.
+use Prim.Native.Nat.{ℕ, _+_, _≤_}
+use mathlib.Core.Path.{_≡_, refl, sym, ap, _∙_}
+use mathlib.Core.Bool.{true, false}
+use mathlib.Core.List.{List, [], _∷_, _++_, map, append-assoc}
+use native.Mathlib.Omega.{arith}
+use lib.ListN.{length, take, drop, length-append}
+use lib.Seq.{take-at, drop-at}
+use borrow.Author.Tests.{eqb-true, le-leb}
+use Rattle.text.specs.Words.{ascii}
+use Rattle.text.specs.Scans.{every, itself}
+use Rattle.text.proofs.Choices.{both, both-left, both-right, if-yes}
+use Rattle.text.proofs.Scanning.{every-append}
+use Rattle.text.proofs.Sameness.{turned-same}
+use Rattle.digest.specs.Hex.{leadingDigest}
+use Rattle.digest.proofs.Laws.{leading-digest-length, hex-are-digits, digits-have-no-cr}
+use Rattle.lines.specs.Bytes.{notCr, noCr}
+use Rattle.lines.specs.Forms.{commandMost, headBody}
+use Rattle.lines.specs.Commands.{bodyText, bodyOf, isCommand, commandText}
+use Rattle.lines.specs.Requests.{isBody, requestOf}
+use Rattle.lines.specs.declared.command.Command.{Command}
+use Rattle.lines.specs.declared.request.Request.the-variants.{Asks}
+use Rattle.lines.proofs.Bodies.{body-spelt}
+use Rattle.lines.proofs.CommandLines.{command-body, command-parameter, command-form}
+use Rattle.lines.proofs.CommandsAskedBack.{command-asked-back}
+use Rattle.answers.specs.Said.{saidBytes}
+use Rattle.record.specs.Limits.{lineRoom, awaiting, opened}
+use Rattle.record.specs.Record.{zeros, inRoom}
+use Rattle.record.specs.Legal.{isZero, heldMost}
+use Rattle.record.specs.declared.types.Settings.{Settings}
+use Rattle.record.specs.declared.types.Own.{Own}
+use Rattle.record.specs.declared.types.Line.{Line}
+use Rattle.record.specs.declared.types.Connection.{Connection}
+use Rattle.record.proofs.Kept.{filled-take}
+use Rattle.record.proofs.ConnectionTold.{held-most-opened, held-most-awaiting}
+use Rattle.stream.specs.Collecting.{lineOf, emptyLine, gathered}
+use Rattle.stream.proofs.LegalLines.{LegalLine}
+use Rattle.stream.proofs.LinesCollected.{empty-is-none, line-gathered}
+use Rattle.meaning.specs.Meaning.{meant, done}
+use Rattle.device.specs.Answering.{asked, replied, swallowed, answered}
+use Rattle.device.specs.Receiving.{Ended, Taken, lineText, spoken, isMatch, digestLong, passwordOf, lineEnded, finished, takenIn}
+use Rattle.device.proofs.Cases.{ended-open, ended-match}
+
+-- between lines, a legal line is the empty one
+zeros-by : (s : List ℕ) → every isZero s ≡ true → s ≡ zeros (length s)
+zeros-by [] e = refl
+zeros-by (x ∷ s) e =
+    let first = eqb-true x 0 (both-left (isZero x) (every isZero s) e) in
+    let rest = zeros-by s (both-right (isZero x) (every isZero s) e) in
+    (λ i. first i ∷ rest i)
+
+pub between-lines : (phase : ℕ) (l : Line) → LegalLine phase l → l .overlong ≡ false → l .held ≡ 0 → l ≡ emptyLine
+unfolding emptyLine
+between-lines phase l p unmarked none =
+    let clear : every isZero (l .bytes) ≡ true = ap (λ (n : ℕ). every isZero (drop n (l .bytes))) (sym none)
+    ∙ p .kept .clear in
+    let cleared : l .bytes ≡ zeros lineRoom = zeros-by (l .bytes) clear ∙ ap zeros (p .kept .long) in
+    (λ i. record { overlong = unmarked i; held = none i; bytes = cleared i })
+
+map-itself : (xs : List ℕ) → map itself xs ≡ xs
+map-itself [] = refl
+map-itself (x ∷ xs) = ap (λ (l : List ℕ). x ∷ l) (map-itself xs)
+
+-- the text of a line is what was collected
+text-of-line : (xs : List ℕ) → length xs ≤ lineRoom → lineText (lineOf xs) ≡ xs
+text-of-line xs h = filled-take lineRoom noCr xs h
+
+module _ (s : Settings) (o : Own) (c : Connection) (empty : c .line ≡ emptyLine) (rest : List ℕ) where
+  whole-line : (xs : List ℕ) → length xs ≤ heldMost (c .phase) → heldMost (c .phase) ≤ lineRoom
+      → every notCr xs ≡ true
+      → takenIn s o c (xs ++ (13 ∷ rest)) ≡ record { ended = lineEnded s o c (lineOf xs); taken = length xs + 1 }
+  unfolding takenIn
+  whole-line xs h room plain =
+      let most = heldMost (c .phase) in
+      ap (λ (l : Line). finished s o c (gathered most l (xs ++ (13 ∷ rest)))) (empty ∙ empty-is-none)
+      ∙ ap (finished s o c) (line-gathered most [] xs rest room (omega arith) plain)
+
+  pub open-line-taken : (xs : List ℕ) → c .phase ≡ opened → length xs ≤ commandMost → every notCr xs ≡ true
+      → takenIn s o c (xs ++ (13 ∷ rest)) ≡ record { ended = spoken c (answered s o xs); taken = length xs + 1 }
+  open-line-taken xs phase short plain =
+      let most : heldMost (c .phase) ≡ commandMost = ap heldMost phase ∙ held-most-opened in
+      let ended : lineEnded s o c (lineOf xs) ≡ spoken c (answered s o xs)
+      = ended-open s o c (lineOf xs) phase refl
+      ∙ ap (λ (l : List ℕ). spoken c (answered s o l)) (text-of-line xs (omega arith)) in
+      whole-line xs (omega arith) (omega arith) plain
+      ∙ ap {B = Taken} (λ (e : Ended). record { ended = e; taken = length xs + 1 }) ended
+
+  -- awaiting: the digest of the random number and the password stands before the line
+  module _ (xs : List ℕ) where
+    abbrev digest : List ℕ
+    digest = leadingDigest (c .random) (passwordOf s)
+
+    abbrev led : List ℕ
+    led = digest ++ xs
+
+    digest-long : length digest ≡ digestLong
+    digest-long = leading-digest-length (c .random) (passwordOf s)
+
+    led-long : length led ≡ digestLong + length xs
+    led-long = length-append digest xs ∙ ap (λ (n : ℕ). n + length xs) digest-long
+
+    led-matches : length xs ≤ commandMost → isMatch s c (lineOf led) ≡ true
+    unfolding isMatch inRoom
+    led-matches short =
+        let front : take digestLong (inRoom lineRoom led) ≡ digest
+        = ap (take digestLong) (append-assoc digest xs (drop (length led) (zeros lineRoom)))
+        ∙ take-at digest (xs ++ drop (length led) (zeros lineRoom)) digestLong digest-long in
+        both (le-leb digestLong (length led) (omega (arith, led-long)))
+        (turned-same itself (take digestLong (inRoom lineRoom led)) digest (map-itself _ ∙ front))
+
+    led-rest : length xs ≤ commandMost → drop digestLong (lineText (lineOf led)) ≡ xs
+    led-rest short =
+        ap (drop digestLong) (text-of-line led (omega (arith, led-long))) ∙ drop-at digest xs digestLong digest-long
+
+    pub matching-line-taken : c .phase ≡ awaiting → length xs ≤ commandMost → every notCr xs ≡ true
+        → takenIn s o c (led ++ (13 ∷ rest))
+        ≡ record { ended = spoken c (answered s o xs); taken = digestLong + length xs + 1 }
+    matching-line-taken phase short plain =
+        let most : heldMost (c .phase) ≡ lineRoom = ap heldMost phase ∙ held-most-awaiting in
+        let long = led-long in
+        let ended : lineEnded s o c (lineOf led) ≡ spoken c (answered s o xs)
+        = ended-match s o c (lineOf led) phase (led-matches short)
+        ∙ ap (λ (l : List ℕ). spoken c (answered s o l)) (led-rest short) in
+        whole-line led (omega arith) (omega arith)
+        (every-append notCr digest xs (digits-have-no-cr digest (hex-are-digits _)) plain)
+        ∙ (λ i. record { ended = ended i; taken = long i + 1 })
+
+-- a command's line
+module _ (s : Settings) (o : Own) (k : Command) (writable : isCommand k ≡ true) where
+  command-asked : asked (commandText k) ≡ Asks k
+  command-asked =
+      ap (requestOf (headBody (commandText k))) (command-parameter k)
+      ∙ command-asked-back k (headBody (commandText k)) writable
+      (ap (λ (h : List ℕ). isBody h (bodyOf k)) (command-body k) ∙ body-spelt (bodyOf k) .own)
+
+  -- the body as sent, what the command means, and what it does
+  pub command-answered : answered s o (commandText k) ≡ record {
+    own = done s o (Asks k);
+    reply = ascii "%1" ++ bodyText (bodyOf k) ++ ascii "=" ++ saidBytes (meant s o (Asks k)) ++ ascii "\r";
+  }
+  unfolding answered
+  command-answered =
+      if-yes (replied s o (commandText k)) (swallowed o) (command-form k)
+      ∙ (λ i. record {
+        own = done s o (command-asked i);
+        reply =
+            ascii "%1" ++ command-body k i ++ ascii "=" ++ saidBytes (meant s o (command-asked i)) ++ ascii "\r";
+      })

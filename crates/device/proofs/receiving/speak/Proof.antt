@@ -1,0 +1,29 @@
+-- `device::receiving::speak` meets its contract: the answer, on the connection now open.
+-- Assumes nothing.
+use mathlib.Core.Path.{_≡_}
+use lib.ListN.{drop}
+use borrow.Author.Needs.{needs}
+use Rattle.record.specs.Limits.{opened}
+use Rattle.device.specs.Answering.{answered}
+use Rattle.device.specs.Receiving.{lineText, spoken}
+use Rattle.device.specs.Told.{doneOf}
+use Rattle.device.specs.declared.receiving.Done.{Done}
+use Rattle.device.proofs.receiving.speak.Statement.{statement}
+use Rattle.device.proofs.receiving.speak.Tie as tie
+
+speaks : tie.Need-returns
+speaks c =
+    let said = c .before .before .before .before in
+    let args = said .before .before .before .before .args in
+    let done : _≡_ {A = Done} _
+    (doneOf (spoken (args .c) (answered (args .s) (args .o) (drop (args .from) (lineText (args .l)))))) =
+    λ i. record {
+      own = said .answer-held .ensures .0 i .own;
+      connection = c .turn .ensures i;
+      length = said .answer-held .ensures .0 i .length;
+    } in
+    (done, said .answer-held .ensures .1)
+
+pub speak-spec : {M : Type 1} → statement M
+speak-spec = tie.close
+    (tie.spec (λ c κs. c .before .before .before .pre) (λ c κs. search needs) (λ c. search needs) speaks)

@@ -1,0 +1,5 @@
+pub mod Ready
+pub mod Answering
+pub mod Receiving
+pub mod Told
+pub mod Calls
