@@ -1,0 +1,90 @@
+// The lines that settle it (01): each line as a controller sends it, and the reply of the projector that 01 sets up,
+// with W = 20, C = 60, one lamp at 0 s, input 11, texts empty and no password.
+use device::calls;
+use libc::STDOUT_FILENO;
+use record::setup;
+use record::types::Device;
+
+fn write(s: &[u8]) {
+    io::write_all(STDOUT_FILENO, s);
+}
+
+// A line or a reply without its CR, after a mark.
+fn write_line(mark: &[u8], line: &[u8]) {
+    write(mark);
+    if 1 <= line.len() {
+        let end = line.len() - 1;
+        write(&line[0..end]);
+    }
+    write(b"\n");
+}
+
+// The projector as 01 sets it up, its connection open.
+fn fresh() -> Device {
+    let lamps = [0u32; 1];
+    let started = setup::set_up(b"", b"", b"", b"", b"", b"11", &lamps, 20, 60);
+    let mut memory = [0u8; 136];
+    let opened = calls::open(started.device, 0, &mut memory);
+    opened.device
+}
+
+fn send(d: Device, line: &[u8]) -> Device {
+    let mut memory = [0u8; 136];
+    let received = calls::receive(d, line, &mut memory);
+    write_line(b"> ", line);
+    let length = received.length;
+    if length <= 136 {
+        write_line(b"< ", &memory[0..length]);
+    }
+    received.device
+}
+
+fn wait(d: Device, seconds: u32) -> Device {
+    let passed = clock::pass::pass(d, seconds);
+    passed.device
+}
+
+// One line to a projector that was never on.
+fn ask_off(line: &[u8]) {
+    let d = fresh();
+    let _after = send(d, line);
+}
+
+// One line after power-on and so many seconds.
+fn ask_after(seconds: u32, title: &[u8], line: &[u8]) {
+    write(title);
+    let on = send(fresh(), b"%1POWR 1\r");
+    let _after = send(wait(on, seconds), line);
+}
+
+// Power-on, 2,400 s, power-off, 60 s.
+fn one_round(d: Device) -> Device {
+    let on = wait(send(d, b"%1POWR 1\r"), 2400);
+    wait(send(on, b"%1POWR 0\r"), 60)
+}
+
+fn nine_rounds() -> Device {
+    let mut d = fresh();
+    let mut round: u32 = 0;
+    while round < 9 {
+        d = one_round(d);
+        round += 1;
+    }
+    d
+}
+
+fn main() {
+    ask_off(b"%1powr 1\r");
+    ask_off(b"%1POWR 2\r");
+    ask_off(b"%1ABCD x\r");
+    ask_off(b"%1NAME x\r");
+    ask_off(b"%1CLSS ?\r");
+    ask_off(b"%1INPT ?\r");
+    ask_off(b"%1INPT 12\r");
+    ask_after(19, b"-- 19 s after power-on\n", b"%1POWR ?\r");
+    ask_after(20, b"-- 20 s after power-on\n", b"%1POWR ?\r");
+    ask_after(3599, b"-- 3599 s after power-on\n", b"%1LAMP ?\r");
+    ask_after(3600, b"-- 3600 s after power-on\n", b"%1LAMP ?\r");
+    write(b"-- nine rounds of power-on, 2400 s, power-off, 60 s\n");
+    let _after = send(nine_rounds(), b"%1LAMP ?\r");
+}
