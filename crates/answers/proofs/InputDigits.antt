@@ -1,6 +1,5 @@
 -- The two characters of an input are digits.
 -- Assumes nothing.
-use Prim.Native.Nat.{ℕ}
 use Prim.Native.Char.{code}
 use mathlib.Core.Path.{_≡_, refl}
 use mathlib.Core.Bool.{true}

@@ -3,7 +3,7 @@
 use Prim.Native.Nat.{ℕ, zero, suc, _≤_}
 use mathlib.Core.Path.{_≡_, refl, sym, _∙_}
 use mathlib.Core.Bool.{true, false≢true}
-use mathlib.Core.List.{List, [], _∷_}
+use mathlib.Core.List.{List}
 use native.Mathlib.Omega.{arith}
 use borrow.Author.Tests.{eqb-false}
 use lib.Dec.{eqb}
@@ -11,7 +11,7 @@ use Rattle.text.specs.Words.{_is_}
 use Rattle.text.proofs.Choices.{if-all, if-by}
 use Rattle.lines.specs.Forms.{isCommandForm}
 use Rattle.record.specs.Limits.{shut, awaiting, opened, failed}
-use Rattle.record.specs.Legal.{isCollecting, heldMost, isSettings, isOwn, isConnection, isLegal}
+use Rattle.record.specs.Legal.{isCollecting, isSettings, isOwn, isConnection, isLegal}
 use Rattle.record.specs.declared.types.Settings.{Settings}
 use Rattle.record.specs.declared.types.Own.{Own}
 use Rattle.record.specs.declared.types.Line.{Line}
@@ -19,9 +19,8 @@ use Rattle.record.specs.declared.types.Connection.{Connection}
 use Rattle.record.specs.declared.types.Device.{Device}
 use Rattle.record.proofs.LegalTold.{legal-settings, legal-own, legal-connection, legal-by-parts}
 use Rattle.record.proofs.ConnectionTold.{ConnectionTold, connection-told, connection-shown, zero-age, closed-legal}
-use Rattle.stream.specs.declared.Gathered.{Gathered}
-use Rattle.stream.specs.Collecting.{collected, gathered}
-use Rattle.stream.proofs.LegalLines.{LegalLine, empty-legal, collected-legal}
+use Rattle.stream.specs.Collecting.{collected}
+use Rattle.stream.proofs.LegalLines.{LegalLine, empty-legal, gathered-legal}
 use Rattle.meaning.proofs.Done.{done-legal}
 use Rattle.device.specs.Answering.{Answered, asked, answered}
 use Rattle.device.specs.Receiving.{turned, withLine, lineEnded, keeping, takenIn}
@@ -34,16 +33,6 @@ collecting zero h n m = absurd (n refl)
 collecting (suc zero) h n m = refl
 collecting (suc (suc zero)) h n m = refl
 collecting (suc (suc (suc p))) h n m = absurd (m (omega arith))
-
--- lines
-pub gathered-legal : (phase : ℕ) (l : Line) (bs : List ℕ) → isCollecting phase ≡ true → LegalLine phase l
-    → LegalLine phase (gathered (heldMost phase) l bs .line)
-unfolding gathered
-gathered-legal phase l [] e p = p
-gathered-legal phase l (b ∷ bs) e p =
-    if-by (λ (g : Gathered). LegalLine phase (g .line)) (b is "\r") (λ cr. p)
-    (λ n. gathered-legal phase (collected (heldMost phase) l b) bs e
-    (collected-legal phase l b e (eqb-false b 13 n) p))
 
 -- connections
 module _ (c : Connection) where

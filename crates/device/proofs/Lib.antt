@@ -8,7 +8,6 @@ pub mod Legal
 pub mod Short
 pub mod Outsiders
 pub mod ReceivingAsMachine
-pub mod HandedThrough
 pub mod SameCuts
 pub mod OutsiderStreams
 pub mod WholeLines

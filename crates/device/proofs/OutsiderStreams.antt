@@ -25,7 +25,7 @@ use Rattle.device.proofs.Cases.{keeping-none, keeping-line}
 use Rattle.device.proofs.Outsiders.{Unmatched, mismatch-refused, failed-ignores-line}
 use Rattle.device.proofs.ReceivingAsMachine.{State, stateOf, leaves, collects, ends}
 use Rattle.device.proofs.SameCuts.{deviceOf, partsOf, receives, received-as-run}
-use Rattle.device.proofs.HandedThrough.{outThrough}
+use Rattle.stream.proofs.HandedThrough.{outThrough}
 
 -- an outsider's first line, as far as it came
 abbrev pub firstLine : Connection → List ℕ → Gathered

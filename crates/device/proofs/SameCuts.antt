@@ -27,7 +27,7 @@ use Rattle.device.specs.Receiving.{lineEnded, keeping, takenIn}
 use Rattle.device.specs.Calls.{Result, replyRoom, isShut, received}
 use Rattle.device.proofs.Cases.{received-taken, ended-by, taken-by}
 use Rattle.device.proofs.Legal.{line-legal, keeping-legal, ended-own-legal, ended-connection-legal, taken-own-legal, taken-connection-legal}
-use Rattle.device.proofs.HandedThrough.{outThrough, tookThrough, parts-through}
+use Rattle.stream.proofs.HandedThrough.{outThrough, tookThrough, parts-through}
 use Rattle.device.proofs.ReceivingAsMachine.{State, stateOf, takesIn, collects, ends, taking-is-call}
 
 -- the states in which bytes are taken

@@ -24,7 +24,7 @@ use Rattle.record.specs.declared.types.Changed.{Changed}
 use Rattle.stream.specs.Collecting.{emptyLine}
 use Rattle.device.specs.declared.calls.Opened.{Opened}
 use Rattle.device.specs.declared.calls.Received.{Received}
-use Rattle.device.specs.Receiving.{Ended, Taken, takenIn}
+use Rattle.device.specs.Receiving.{Taken, takenIn}
 
 pub record Result (D : Type 0) : Type 0 where
   pub number : ℕ

@@ -1,10 +1,9 @@
 -- The examples that 01 gives of its rules.
 -- Assumes nothing.
 use mathlib.Core.Path.{_≡_, refl}
-use mathlib.Core.Bool.{Bool, true, false}
+use mathlib.Core.Bool.{true, false}
 use mathlib.Core.List.{List, [], _∷_, map}
 use Prim.Native.Nat.{ℕ}
-use Prim.Native.String.{String}
 use Rattle.text.specs.Words.{ascii}
 use Rattle.lines.specs.Bytes.{_at_}
 use Rattle.lines.specs.Inputs.{isInputText}

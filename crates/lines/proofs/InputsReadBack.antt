@@ -1,14 +1,14 @@
 -- An input's two characters name that input and no other; two characters that name an input are its characters.
 -- Assumes nothing.
-use Prim.Native.Nat.{ℕ, _+_, _-_, _%_, _≤_, _<_}
+use Prim.Native.Nat.{ℕ, _-_, _≤_, _<_}
 use Prim.Native.Char.{code}
-use mathlib.Core.Path.{_≡_, refl, sym, ap, _∙_}
-use mathlib.Core.Bool.{Bool, true, false, _&&_, and-false}
-use mathlib.Core.List.{List, [], _∷_}
+use mathlib.Core.Path.{_≡_, refl, sym, _∙_}
+use mathlib.Core.Bool.{true, and-false}
+use mathlib.Core.List.{[], _∷_}
 use native.Mathlib.Omega.{arith}
-use lib.Dec.{leb, eqb}
+use lib.Dec.{leb}
 use borrow.Author.Tests.{eqb-true, eqb-false, leb-true, le-leb, lt-leb}
-use Rattle.text.specs.Words.{if_then_else_, _is_, _from_to_}
+use Rattle.text.specs.Words.{_is_, _from_to_}
 use Rattle.text.proofs.Choices.{if-yes, if-by, both, both-left, both-right}
 use Rattle.lines.specs.Inputs.{isInputText, sourceNamed, inputNamed, readInput, isInput, sourceDigit, numberDigit, inputText}
 use Rattle.lines.specs.declared.input.Source.{Source}

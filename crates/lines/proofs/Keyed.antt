@@ -1,12 +1,12 @@
 -- Four bytes and the number made of them: equal numbers are equal bytes, so a body can be told by its number.
 -- Assumes nothing.
-use Prim.Native.Nat.{ℕ, _+_, _*_, _-_, _≤_, _<_}
+use Prim.Native.Nat.{ℕ, _-_, _<_}
 use mathlib.Core.Path.{_≡_, refl, sym, ap, _∙_}
-use mathlib.Core.Bool.{Bool, true, false, _&&_}
+use mathlib.Core.Bool.{Bool, true, _&&_}
 use mathlib.Core.List.{List, [], _∷_}
 use native.Mathlib.Omega.{arith}
-use lib.ListN.{length, getD}
-use lib.Dec.{eqb, leb, ltb}
+use lib.ListN.{length}
+use lib.Dec.{eqb, ltb}
 use borrow.Author.Tests.{eqb-true, eq-eqb, ne-eqb, ltb-true}
 use Rattle.text.specs.Words.{_from_to_}
 use Rattle.text.specs.Scans.{sameBy}
@@ -18,7 +18,7 @@ use Rattle.lines.specs.Commands.{bodyText}
 use Rattle.lines.specs.Requests.{isBody, bodyNamed}
 use Rattle.lines.specs.declared.command.Body.{Body}
 use Rattle.lines.specs.declared.request.MaybeBody.the-variants.{BodyIs, NoBody}
-use Rattle.lines.proofs.Bodies.{four, body-spelt, body-is-named, no-body-is-named}
+use Rattle.lines.proofs.Bodies.{body-spelt, body-is-named, no-body-is-named}
 
 pub upper-below : (b n : ℕ) → b < n → upperOf b < n
 upper-below b n h = if-by (λ (x : ℕ). x < n) (b from "a" to "z") (λ e. omega arith) (λ e. h)

@@ -1,13 +1,12 @@
 -- A reply built from a body and a parameter has the form, and gives both back; it is not the ERRA line.
 -- Assumes nothing.
 use Prim.Native.Nat.{ℕ, _+_, _-_, _≤_}
-use mathlib.Core.Path.{_≡_, refl, sym, ap, _∙_}
-use mathlib.Core.Bool.{Bool, true, false, _&&_}
+use mathlib.Core.Path.{_≡_, refl, ap, _∙_}
+use mathlib.Core.Bool.{true, false}
 use mathlib.Core.List.{List, [], _∷_, _++_}
 use native.Mathlib.Omega.{arith}
-use lib.ListN.{length, getD, take, drop, length-append}
+use lib.ListN.{length, take, length-append}
 use lib.Seq.{take-append-seam, getD-append-seam}
-use lib.Dec.{leb, eqb}
 use borrow.Author.Tests.{le-leb, eq-eqb}
 use Rattle.text.specs.Words.{ascii}
 use Rattle.text.specs.Scans.{every, sameBy, itself}

@@ -5,7 +5,7 @@
 --   noCr s           no byte of s is CR, which ends a line
 -- Assumes nothing.
 use Prim.Native.Nat.{ℕ, _-_}
-use mathlib.Core.Bool.{Bool, not, _&&_, _||_}
+use mathlib.Core.Bool.{Bool, not, _||_}
 use mathlib.Core.List.{List}
 use lib.ListN.{getD}
 use Rattle.text.specs.Words.{if_then_else_, _is_, _from_to_}

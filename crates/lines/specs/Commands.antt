@@ -11,9 +11,8 @@ use mathlib.Core.Bool.{Bool, true, false}
 use mathlib.Core.List.{List, [], _∷_, _++_}
 use Prim.Native.Nat.{ℕ}
 use Prim.Native.Char.{code}
-use Rattle.text.specs.Words.{ascii, if_then_else_}
+use Rattle.text.specs.Words.{ascii}
 use Rattle.lines.specs.Inputs.{isInput, inputText}
-use Rattle.lines.specs.declared.input.Input.{Input}
 use Rattle.lines.specs.declared.command.Body.{Body}
 use Rattle.lines.specs.declared.command.Body.the-variants.{Powr, Inpt, Avmt, Erst, Lamp, Inst, Name, Inf1, Inf2, Info, Clss}
 use Rattle.lines.specs.declared.command.Half.{Half}

@@ -6,13 +6,13 @@
 --                          Unlisted b     the body b, with a parameter that is neither `?` nor one it knows
 --                          UnknownBody    no body of Class 1
 -- Assumes nothing.
-use Prim.Native.Nat.{ℕ, _-_}
-use mathlib.Core.Bool.{Bool, true, false, _&&_}
+use Prim.Native.Nat.{ℕ}
+use mathlib.Core.Bool.{Bool, _&&_}
 use mathlib.Core.List.{List, [], _∷_}
 use lib.ListN.{length}
 use lib.Dec.{eqb}
-use Rattle.text.specs.Words.{ascii, if_then_else_, _is_, _from_to_}
-use Rattle.text.specs.Scans.{sameBy, itself}
+use Rattle.text.specs.Words.{if_then_else_, _is_, _from_to_}
+use Rattle.text.specs.Scans.{sameBy}
 use Rattle.lines.specs.Bytes.{_at_, upperOf}
 use Rattle.lines.specs.Inputs.{readInput}
 use Rattle.lines.specs.Commands.{bodyText}
@@ -22,7 +22,6 @@ use Rattle.lines.specs.declared.command.Body.{Body}
 use Rattle.lines.specs.declared.command.Body.the-variants.{Powr, Inpt, Avmt, Erst, Lamp, Inst, Name, Inf1, Inf2, Info, Clss}
 use Rattle.lines.specs.declared.command.Half.{Half}
 use Rattle.lines.specs.declared.command.Half.the-variants.{VideoHalf, AudioHalf, BothHalves}
-use Rattle.lines.specs.declared.command.Command.{Command}
 use Rattle.lines.specs.declared.command.Command.the-variants.{PowerSet, InputSet, MuteSet, Query}
 use Rattle.lines.specs.declared.request.MaybeBody.{MaybeBody}
 use Rattle.lines.specs.declared.request.MaybeBody.the-variants.{BodyIs, NoBody}

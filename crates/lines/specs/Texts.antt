@@ -10,7 +10,7 @@ use Prim.Native.Nat.{ℕ, _-_}
 use Prim.Native.Char.{code}
 use mathlib.Core.Bool.{Bool, not, _&&_}
 use mathlib.Core.List.{List}
-use lib.ListN.{length, getD}
+use lib.ListN.{length}
 use lib.Dec.{leb, eqb}
 use Rattle.text.specs.Words.{if_then_else_, _is_, _from_to_}
 use Rattle.text.specs.Scans.{every}

@@ -1,15 +1,15 @@
 -- Collecting keeps a line legal: no CR, at most as many bytes as the phase allows, none under the mark, unused room
 -- zero.
 -- Assumes nothing.
-use Prim.Native.Nat.{ℕ, _+_, _≤_, _<_}
-use mathlib.Core.Path.{_≡_, refl, sym, ap, _∙_}
-use mathlib.Core.Bool.{Bool, true, false, not}
+use Prim.Native.Nat.{ℕ, _+_}
+use mathlib.Core.Path.{_≡_, refl, ap, _∙_}
+use mathlib.Core.Bool.{Bool, true, not}
 use mathlib.Core.List.{List, [], _∷_, _++_}
 use native.Mathlib.Omega.{arith}
 use lib.ListN.{take}
 use lib.Dec.{leb}
-use borrow.Author.Tests.{leb-false, ne-eqb}
-use Rattle.text.specs.Scans.{every}
+use borrow.Author.Tests.{leb-false, eqb-false, ne-eqb}
+use Rattle.text.specs.Words.{_is_}
 use Rattle.text.proofs.Choices.{if-by, both}
 use Rattle.text.proofs.Scanning.{every-append}
 use Rattle.lines.specs.Bytes.{notCr, noCr}
@@ -18,7 +18,8 @@ use Rattle.record.specs.Legal.{isCollecting, heldMost, isHeld}
 use Rattle.record.specs.declared.types.Line.{Line}
 use Rattle.record.proofs.Kept.{Kept, nothing-kept, one-more-kept}
 use Rattle.record.proofs.ConnectionTold.{held-most-room, unmarked-held, marked-held}
-use Rattle.stream.specs.Collecting.{emptyLine, overlongLine, collected}
+use Rattle.stream.specs.declared.Gathered.{Gathered}
+use Rattle.stream.specs.Collecting.{emptyLine, overlongLine, collected, gathered}
 
 -- the line's part of a legal connection
 pub record LegalLine (phase : ℕ) (l : Line) : Type 0 where
@@ -50,3 +51,13 @@ collected-legal phase l b e n p =
           (no-cr-more (take (l .held) (l .bytes)) b (p .kept .follows) n);
       held = ap (λ (m : Bool). isHeld phase m (l .held + 1)) unmarked ∙ unmarked-held phase (l .held + 1) (omega arith);
     }))
+
+-- and so does gathering
+pub gathered-legal : (phase : ℕ) (l : Line) (bs : List ℕ) → isCollecting phase ≡ true → LegalLine phase l
+    → LegalLine phase (gathered (heldMost phase) l bs .line)
+unfolding gathered
+gathered-legal phase l [] e p = p
+gathered-legal phase l (b ∷ bs) e p =
+    if-by (λ (g : Gathered). LegalLine phase (g .line)) (b is "\r") (λ cr. p)
+    (λ n. gathered-legal phase (collected (heldMost phase) l b) bs e
+    (collected-legal phase l b e (eqb-false b 13 n) p))

@@ -1,6 +1,7 @@
 pub mod GatheredOn
 mod AllAtOnce
 pub mod SameHoweverCut
+pub mod HandedThrough
 pub mod OneCallGathers
 pub mod LinesCollected
 pub mod LegalLines

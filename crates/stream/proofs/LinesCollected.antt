@@ -1,24 +1,20 @@
 -- What is collected, byte by byte, is the list of these bytes in its room; a whole line is gathered as it was sent.
 -- Assumes nothing.
 use mathlib.Core.Path.{_≡_, refl, sym, ap, _∙_}
-use mathlib.Core.Bool.{Bool, true, false, not}
+use mathlib.Core.Bool.{true, false}
 use mathlib.Core.List.{List, [], _∷_, _++_, append-assoc, append-nil}
 use Prim.Native.Nat.{ℕ, suc, _+_, _-_, _≤_, _<_}
 use native.Mathlib.Omega.{arith}
-use native.Mathlib.Numerals.{add-one}
-use lib.ListN.{length, set, drop, replicate, length-append, length-replicate}
-use lib.Seq.{sets, sets-eq}
-use lib.Dec.{leb}
+use lib.ListN.{length, set, length-append, length-replicate}
 use borrow.Author.Tests.{lt-leb, not-true}
-use Rattle.text.specs.Words.{ascii, over, _is_}
+use Rattle.text.specs.Words.{_is_}
 use Rattle.text.specs.Scans.{every}
-use Rattle.text.proofs.Choices.{if-yes, if-no, both-left, both-right}
+use Rattle.text.proofs.Choices.{if-no, both-left, both-right}
 use Rattle.text.proofs.Stores.{sets-snoc, sets-over}
-use Rattle.lines.specs.Bytes.{notCr, noCr}
+use Rattle.lines.specs.Bytes.{notCr}
 use Rattle.record.specs.Limits.{lineRoom}
 use Rattle.record.specs.Record.{zeros, inRoom}
 use Rattle.record.specs.declared.types.Line.{Line}
-use Rattle.stream.specs.declared.Gathered.{Gathered}
 use Rattle.stream.specs.Collecting.{lineOf, emptyLine, collected, gathered, later}
 
 pub empty-is-none : emptyLine ≡ lineOf []

@@ -6,7 +6,7 @@
 --   gathered most l bs       the line after the bytes of bs before the first CR, how many these are, and whether CR
 -- came
 -- Assumes nothing.
-use Prim.Native.Nat.{ℕ, suc, _+_}
+use Prim.Native.Nat.{ℕ, _+_}
 use mathlib.Core.Bool.{true, false}
 use mathlib.Core.List.{List, [], _∷_}
 use lib.ListN.{length, set}

@@ -1,7 +1,7 @@
 -- Runs of stores, `sets l i vs`: one after the other, one byte more, at the start of lent memory, and as a copied part.
 -- None but the last two asks for room.
 -- Assumes nothing.
-use mathlib.Core.Path.{_≡_, refl, sym, ap, _∙_, _≡⟨_⟩_, _∎}
+use mathlib.Core.Path.{_≡_, sym, ap, _∙_, _≡⟨_⟩_, _∎}
 use mathlib.Core.List.{List, [], _∷_, _++_, append-nil, append-assoc}
 use Prim.Native.Nat.{ℕ, suc, _+_, _-_, _≤_, _<_}
 use native.Mathlib.Nat.{add-zero, add-suc, suc-add, zero-add}

@@ -1,6 +1,6 @@
 -- `stream::collect` meets its contract: each `return` is one way in which bytes are collected all at once.
 -- Assumes nothing.
-use Prim.Native.Nat.{_+_, _≤_, _<_}
+use Prim.Native.Nat.{_+_, _≤_}
 use mathlib.Core.Path.{_≡_, sym, _∙_}
 use native.Mathlib.Omega.{arith}
 use lib.ListN.{length}

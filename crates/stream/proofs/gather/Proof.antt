@@ -1,6 +1,6 @@
 -- `stream::gather` meets its contract: the bytes before the first CR, collected all at once.
 -- Assumes nothing.
-use Prim.Native.Nat.{ℕ, _+_, _-_, _≤_}
+use Prim.Native.Nat.{ℕ, _-_, _≤_}
 use mathlib.Core.Path.{_≡_, sym, ap, _∙_, subst}
 use native.Mathlib.Nat.{sub-zero, zero-add}
 use lib.ListN.{length, take}

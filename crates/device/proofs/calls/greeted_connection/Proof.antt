@@ -1,7 +1,5 @@
 -- `device::calls::greeted_connection` meets its contract: a password of length 0 means no security.
 -- Assumes nothing.
-use mathlib.Core.Path.{_≡_, sym, ap}
-use mathlib.Core.Bool.{Bool, not}
 use borrow.Author.Tests.{eq-eqb, ne-eqb}
 use Rattle.stream.specs.Collecting.{emptyLine}
 use Rattle.device.specs.Calls.{greeted}

@@ -1,8 +1,8 @@
 -- `device::calls::put_greeting` meets its contract: each greeting is put piece by piece.
 -- Assumes nothing.
 use Prim.Native.Nat.{ℕ}
-use mathlib.Core.Path.{_≡_, refl, sym, ap, _∙_}
-use mathlib.Core.Bool.{Bool, not, true, false}
+use mathlib.Core.Path.{_≡_, sym, ap, _∙_}
+use mathlib.Core.Bool.{not}
 use mathlib.Core.List.{List}
 use native.Mathlib.Omega.{arith}
 use lib.ListN.{length}
@@ -15,7 +15,7 @@ use Rattle.text.proofs.Stores.{sets-over}
 use Rattle.digest.specs.Hex.{hexDigits}
 use Rattle.digest.proofs.Laws.{hex-digits-length}
 use Rattle.lines.specs.Forms.{greetingOpen, greetingSecured}
-use Rattle.device.specs.Calls.{isSecured, greeting}
+use Rattle.device.specs.Calls.{greeting}
 use Rattle.device.proofs.Written.{greeting-written}
 use Rattle.device.proofs.calls.put_greeting.Statement.{statement}
 use Rattle.device.proofs.calls.put_greeting.Tie as tie

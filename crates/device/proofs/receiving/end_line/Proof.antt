@@ -1,7 +1,7 @@
 -- `device::receiving::end_line` meets its contract: each `return` is one way in which a line ends.
 -- Assumes nothing.
 use Prim.Native.Nat.{ℕ}
-use mathlib.Core.Path.{_≡_, refl, sym, ap, _∙_}
+use mathlib.Core.Path.{_≡_, refl, sym, _∙_}
 use mathlib.Core.List.{List}
 use native.Mathlib.Omega.{arith}
 use lib.ListN.{length}
@@ -10,7 +10,7 @@ use Rattle.text.proofs.Stores.{sets-over}
 use Rattle.lines.specs.Forms.{erraLine}
 use Rattle.record.specs.declared.types.Own.{Own}
 use Rattle.record.specs.declared.types.Connection.{Connection}
-use Rattle.device.specs.Receiving.{Ended, turned}
+use Rattle.device.specs.Receiving.{Ended}
 use Rattle.device.specs.Told.{doneOf}
 use Rattle.device.specs.declared.receiving.Done.{Done}
 use Rattle.device.proofs.Cases.{ended-overlong, ended-open, ended-match, ended-erra, ended-other}

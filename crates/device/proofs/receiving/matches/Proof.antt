@@ -1,6 +1,6 @@
 -- `device::receiving::matches` meets its contract: the tests are the definition's, in its order.
 -- Assumes nothing.
-use mathlib.Core.Path.{_≡_, ap, _∙_}
+use mathlib.Core.Path.{ap, _∙_}
 use mathlib.Core.Bool.{Bool, not, _&&_}
 use lib.Dec.{leb}
 use lib.ListN.{take}

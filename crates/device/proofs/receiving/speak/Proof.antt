@@ -3,7 +3,6 @@
 use mathlib.Core.Path.{_≡_}
 use lib.ListN.{drop}
 use borrow.Author.Needs.{needs}
-use Rattle.record.specs.Limits.{opened}
 use Rattle.device.specs.Answering.{answered}
 use Rattle.device.specs.Receiving.{lineText, spoken}
 use Rattle.device.specs.Told.{doneOf}

@@ -2,7 +2,7 @@
 -- Assumes nothing.
 use Prim.Native.Nat.{ℕ, _+_, _^_, _≤_, _<_}
 use mathlib.Core.Path.{_≡_, refl, sym, ap, _∙_}
-use mathlib.Core.Bool.{true, false}
+use mathlib.Core.Bool.{true}
 use mathlib.Core.List.{List}
 use native.Mathlib.Omega.{arith}
 use lib.ListN.{length}
@@ -10,13 +10,11 @@ use borrow.Author.Tests.{not-true, not-false}
 use borrow.Author.Needs.{needs}
 use Rattle.text.specs.Words.{over}
 use Rattle.record.specs.Legal.{heldMost}
-use Rattle.record.specs.declared.types.Line.{Line}
 use Rattle.stream.specs.declared.Gathered.{Gathered}
 use Rattle.stream.specs.Collecting.{gathered}
 use Rattle.stream.proofs.GatheredOn.{gathered-ended}
-use Rattle.device.specs.Receiving.{Taken, keeping, lineEnded, takenIn}
+use Rattle.device.specs.Receiving.{Taken, keeping, lineEnded}
 use Rattle.device.specs.Told.{doneOf, tookOf}
-use Rattle.device.specs.declared.receiving.Done.{Done}
 use Rattle.device.specs.declared.receiving.Took.{Took}
 use Rattle.device.proofs.Cases.{taken-part, taken-line}
 use Rattle.device.proofs.Carried.{carried}

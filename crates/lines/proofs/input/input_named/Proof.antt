@@ -1,6 +1,6 @@
 -- `lines::input::input_named` meets its contract: below the character 0 the difference is 0, as on naturals.
 -- Assumes nothing.
-use Prim.Native.Nat.{ℕ, _-_}
+use Prim.Native.Nat.{_-_}
 use mathlib.Core.Path.{_≡_}
 use native.Mathlib.Omega.{arith}
 use borrow.Author.Needs.{needs}

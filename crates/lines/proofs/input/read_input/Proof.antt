@@ -1,6 +1,6 @@
 -- `lines::input::read_input` meets its contract: the test picks the case.
 -- Assumes nothing.
-use mathlib.Core.Path.{_≡_, sym, ap, _∙_}
+use mathlib.Core.Path.{sym, ap, _∙_}
 use borrow.Author.Tests.{not-true, not-false}
 use borrow.Author.Needs.{needs}
 use Rattle.text.proofs.Choices.{if-yes, if-no}

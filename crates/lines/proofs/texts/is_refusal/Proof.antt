@@ -1,6 +1,5 @@
 -- `lines::texts::is_refusal` meets its contract: the code's tests are the definition's, in its order.
 -- Assumes nothing.
-use mathlib.Core.Path.{sym}
 use borrow.Author.Tests.{eq-eqb, ne-eqb}
 use borrow.Author.Needs.{needs}
 use Rattle.lines.specs.Texts.{isRefusal}
