@@ -1,4 +1,4 @@
 // The projector's face: opening, closing and receiving (01, "Connection" and "Commands").
-pub mod answering;
+mod answering;
 pub mod calls;
 pub mod receiving;

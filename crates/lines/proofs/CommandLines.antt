@@ -6,7 +6,7 @@ use mathlib.Core.Path.{_≡_, refl, sym, ap, _∙_}
 use mathlib.Core.Bool.{Bool, true, false, not, _&&_}
 use mathlib.Core.List.{List, _++_}
 use native.Mathlib.Omega.{arith}
-use lib.ListN.{length}
+use lib.ListN.{length, length-append}
 use lib.Dec.{leb}
 use borrow.Author.Tests.{leb-true, le-leb, ne-eqb}
 use Rattle.text.specs.Words.{ascii}
@@ -85,6 +85,15 @@ module _ (c : Command) where
   command-length =
       let short = parameter-short c in
       let same : length (commandText c) ≡ length spelled = ap length text in
+      omega arith
+
+  pub line-length : length (commandLine c) ≡ length (commandText c) + 1
+  line-length = length-append (commandText c) (ascii "\r")
+
+  pub line-at-most-10 : length (commandLine c) ≤ 10
+  line-at-most-10 =
+      let long = line-length in
+      let short = command-length in
       omega arith
 
   pub command-form : isCommandForm (commandText c) ≡ true

@@ -1,18 +1,20 @@
--- A reply built from a body and a parameter has the form, and gives both back; it is not the ERRA line.
+-- A reply built from a body and a parameter has the form, and gives both back; it is not the ERRA line. Any reply
+-- of the form has its head and its CR.
 -- Assumes nothing.
 use Prim.Native.Nat.{ℕ, _+_, _-_, _≤_}
 use mathlib.Core.Path.{_≡_, refl, ap, _∙_}
-use mathlib.Core.Bool.{true, false}
+use mathlib.Core.Bool.{true, false, _&&_}
 use mathlib.Core.List.{List, [], _∷_, _++_}
 use native.Mathlib.Omega.{arith}
 use lib.ListN.{length, take, length-append}
 use lib.Seq.{take-append-seam, getD-append-seam}
-use borrow.Author.Tests.{le-leb, eq-eqb}
+use lib.Dec.{leb, eqb}
+use borrow.Author.Tests.{leb-true, le-leb, eq-eqb}
 use Rattle.text.specs.Words.{ascii}
 use Rattle.text.specs.Scans.{every, sameBy, itself}
 use Rattle.text.proofs.Choices.{both, both-left, both-right}
 use Rattle.lines.specs.Bytes.{_at_, isAlnum, noCr}
-use Rattle.lines.specs.Forms.{isHeaded, headBody, isReplyForm, replyParameter, replyLine, erraLine}
+use Rattle.lines.specs.Forms.{isHeaded, headBody, replyMost, isReplyForm, replyParameter, replyLine, erraLine}
 
 module _ (a b c d : ℕ) (letters : every isAlnum (a ∷ b ∷ c ∷ d ∷ []) ≡ true) where
   -- whatever follows the mark
@@ -24,8 +26,7 @@ module _ (a b c d : ℕ) (letters : every isAlnum (a ∷ b ∷ c ∷ d ∷ []) �
       simp (
         both-left (isAlnum a) _ letters,
         both-left (isAlnum b) _ after-a,
-        both-left
-            (isAlnum c) _ after-b,
+        both-left (isAlnum c) _ after-b,
         both-left (isAlnum d) _ after-c,
         eq-eqb m m refl,
       )
@@ -59,3 +60,12 @@ module _ (a b c d : ℕ) (letters : every isAlnum (a ∷ b ∷ c ∷ d ∷ []) �
 
     pub reply-not-erra : sameBy itself (replyLine a b c d p) erraLine ≡ false
     reply-not-erra = refl
+
+pub reply-long : (l : List ℕ) → isReplyForm l ≡ true → 8 ≤ length l
+unfolding isReplyForm
+reply-long l e =
+    let enough = leb 8 (length l) in
+    let short = enough && leb (length l) replyMost in
+    let headed = short && isHeaded 61 l in
+    let ended = headed && eqb (l at (length l - 1)) 13 in
+    leb-true 8 (length l) (both-left enough _ (both-left short _ (both-left headed _ (both-left ended _ e))))

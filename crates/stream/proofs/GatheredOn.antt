@@ -43,7 +43,8 @@ module _ (most : ℕ) where
       = if-no _ _ (not-true (b is "\r") (both-left (notCr b) (every notCr bs) e)) in
       (ap (λ (g : Gathered). g .before) first ∙ omega (arith, rest .0), ap (λ (g : Gathered). g .ended) first ∙ rest .1)
 
-  pub line-counted : (l : Line) (xs more : List ℕ) → every notCr xs ≡ true → let g = gathered most l (xs ++ (13 ∷ more)) in
+  pub line-counted : (l : Line) (xs more : List ℕ) → every notCr xs ≡ true
+      → let g = gathered most l (xs ++ (13 ∷ more)) in
       (g .before ≡ length xs) × (g .ended ≡ true)
   unfolding gathered
   line-counted l [] more e = (refl, refl)

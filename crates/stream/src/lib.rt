@@ -23,7 +23,7 @@ impl Gathered {
     };
 }
 
-// The bytes `more`, none of them CR, after those collected; or the overlong mark where there is no room for all of them.
+// The bytes `more`, none of them CR, after those collected; or the overlong mark where there is no room for them all.
 fn collect(most: usize, l: Line, more: &[u8]) -> Line
     requires { ⌜ most ≤ lineRoom ⌝ }
     ensures { λ r. ⌜ r ≡ collectedAll most l (now (more .entry)) ⌝ }

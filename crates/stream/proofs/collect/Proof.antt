@@ -64,7 +64,9 @@ pub collect-spec : {M : Type 1} → statement M
 collect-spec =
     tie.close
     (tie.spec
-    (λ c. let args = c .before .before .args in sym (marked-stays (args .most) (args .l) (args .more .now) (c .if1 .taken)))
+    (λ c.
+    let args = c .before .before .args in
+    sym (marked-stays (args .most) (args .l) (args .more .now) (c .if1 .taken)))
     (λ c.
     let args = c .before .before .before .args in
     sym (none-collected (args .most) (args .l) (args .more .now) (c .if2 .taken)))

@@ -27,7 +27,8 @@ module _ (c : tie.After-held-most) where
   found : c .before .find .result ≡ before (start .args .bytes .now)
   unfolding slice
   found =
-      c .before .find .ensures .0 ∙ zero-add (indexOf 13 (take (length (start .args .bytes .now)) (start .args .bytes .now)))
+      c .before .find .ensures .0
+      ∙ zero-add (indexOf 13 (take (length (start .args .bytes .now)) (start .args .bytes .now)))
       ∙ ap (indexOf 13) (take-length (start .args .bytes .now))
 
 gathers : tie.Need-returns
@@ -36,7 +37,9 @@ gathers c =
     let args = start known .args in
     let bs = args .bytes .now in
     let e = found known in
-    let line = c .collect .ensures ∙ (λ i. collectedAll (known .held-most .ensures i) (args .l) (take ((ap (λ (n : ℕ). n - 0) e ∙ sub-zero (before bs)) i) bs)) in
+    let until = ap (λ (n : ℕ). n - 0) e ∙ sub-zero (before bs) in
+    let line = c .collect .ensures
+    ∙ (λ i. collectedAll (known .held-most .ensures i) (args .l) (take (until i) bs)) in
     let made : _≡_ {A = Gathered} _ _ = λ i. record { line = line i; before = e i; ended = ltb (e i) (length bs) } in
     made ∙ sym (all-at-once (heldMost (args .phase)) (args .l) bs)
 

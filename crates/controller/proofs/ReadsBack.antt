@@ -1,0 +1,171 @@
+-- THE LAW: for a legal projector on a connection between lines, what the reader takes from the reply to a command's
+-- line is what the projector meant (01, "Controller").
+--   meaning m            the reading that means m
+--   ReadBack d c bs r    the result r of receiving bs: number 0, exactly bs taken, the record as the command leaves it
+--                        on a connection open between lines with the random number kept, and the reply read as meant
+-- Assumes nothing.
+use Prim.Native.Nat.{ℕ, _+_, _≤_}
+use mathlib.Core.Path.{_≡_, refl, sym, ap, subst, _∙_}
+use mathlib.Core.Bool.{true, false}
+use mathlib.Core.List.{List, [], _++_, append-assoc}
+use native.Mathlib.Omega.{arith}
+use lib.ListN.{length, length-append}
+use lib.Dec.{eqb}
+use Rattle.text.specs.Words.{ascii}
+use Rattle.text.specs.Scans.{every}
+use Rattle.digest.specs.Hex.{leadingDigest}
+use Rattle.digest.proofs.Laws.{leading-digest-length}
+use Rattle.lines.specs.Bytes.{_at_, isAlnum, notCr, noCr}
+use Rattle.lines.specs.Forms.{replyLine}
+use Rattle.lines.specs.Requests.{isBody}
+use Rattle.lines.specs.Commands.{bodyText, bodyOf, isCommand, commandText, commandLine}
+use Rattle.lines.specs.declared.command.Command.{Command}
+use Rattle.lines.specs.declared.request.Request.the-variants.{Asks}
+use Rattle.lines.proofs.Bodies.{four, body-spelt}
+use Rattle.lines.proofs.CommandLines.{command-length, line-length, command-no-cr}
+use Rattle.lines.proofs.RepliesReadBack.{reply-not-erra, reply-form, reply-parameter}
+use Rattle.answers.specs.Said.{Said, saidBytes}
+use Rattle.answers.specs.Reading.{readParameter}
+use Rattle.answers.specs.CanSay.{CanSay, done as does, refuses, power, input, mutes, errors, lamps, inputs, name, maker, model, other, class-1}
+use Rattle.answers.proofs.ReadsBack.{reads-back as parameter-reads-back}
+use Rattle.record.specs.Limits.{shut, awaiting, opened}
+use Rattle.record.specs.Legal.{isLegal}
+use Rattle.record.specs.declared.types.Device.{Device}
+use Rattle.record.proofs.LegalTold.{legal-settings, legal-own, legal-connection}
+use Rattle.stream.specs.Collecting.{emptyLine}
+use Rattle.meaning.specs.Meaning.{meant, done}
+use Rattle.meaning.proofs.CanBeSaid.{meant-fits, meant-can-be-said}
+use Rattle.device.specs.Answering.{Answered, answered}
+use Rattle.device.specs.Receiving.{Taken, turned, spoken, passwordOf, digestLong}
+use Rattle.device.specs.Calls.{Result, replyRoom, withParts, acceptedTaken, received}
+use Rattle.device.proofs.Cases.{takes, received-taken}
+use Rattle.device.proofs.Legal.{line-legal}
+use Rattle.device.proofs.WholeLines.{between-lines, open-line-taken, matching-line-taken, command-answered}
+use Rattle.controller.specs.Reading.{ReadAs, outcomeOf, saying, readReply}
+use Rattle.controller.specs.declared.reading.Outcome.{Outcome}
+use Rattle.controller.specs.declared.reading.Outcome.the-variants.{Means}
+use Rattle.controller.proofs.Cases.{reply-said}
+
+-- 01's "between lines", no collected bytes and no overlong mark, is what the laws ask of the line
+pub is-between : (d : Device) → isLegal d ≡ true → d .connection .line .overlong ≡ false
+    → d .connection .line .held ≡ 0
+    → d .connection .line ≡ emptyLine
+is-between d legal unmarked none =
+    between-lines (d .connection .phase) (d .connection .line)
+    (line-legal (d .connection) (legal-connection d legal)) unmarked none
+
+abbrev pub meaning : Said → ReadAs
+meaning m = record { outcome = Means; said = m }
+
+pub record ReadBack (d : Device) (c : Command) (bs : List ℕ) (r : Result Device) : Type 0 where
+  pub number : r .number ≡ 0
+  pub taken : r .taken ≡ length bs
+  pub device : r .device ≡ withParts d (done (d .settings) (d .own) (Asks c)) (turned (d .connection) opened)
+  pub said : readReply c (r .reply) ≡ meaning (meant (d .settings) (d .own) (Asks c))
+
+-- every answer that a command can have means something
+can-mean : {c : Command} {m : Said} → CanSay c m → outcomeOf m ≡ Means
+can-mean (does s) = refl
+can-mean (refuses n l h t) = refl
+can-mean (power p) = refl
+can-mean (input i e) = refl
+can-mean (mutes v a) = refl
+can-mean (errors ds h e) = refl
+can-mean (lamps ls l h e) = refl
+can-mean (inputs is l h e) = refl
+can-mean (name s e) = refl
+can-mean (maker s e) = refl
+can-mean (model s e) = refl
+can-mean (other s e) = refl
+can-mean class-1 = refl
+
+-- the reply to a command, by what it says
+module _ (c : Command) {m : Said} (can : CanSay c m) (short : length (saidBytes m) ≤ 128)
+    (plain : noCr (saidBytes m) ≡ true) where
+  abbrev text : List ℕ
+  text = bodyText (bodyOf c)
+
+  abbrev spelled : List ℕ
+  spelled = replyLine (text at 0) (text at 1) (text at 2) (text at 3) (saidBytes m)
+
+  letters : every isAlnum (four text) ≡ true
+  letters = ap (every isAlnum) (body-spelt (bodyOf c) .long) ∙ body-spelt (bodyOf c) .letters
+
+  spelled-read : readReply c spelled ≡ meaning m
+  spelled-read =
+      reply-said c spelled (reply-not-erra (text at 0) (text at 1) (text at 2) (text at 3) letters (saidBytes m))
+      (reply-form (text at 0) (text at 1) (text at 2) (text at 3) letters (saidBytes m) short plain)
+      (ap (λ (s : List ℕ). isBody s (bodyOf c)) (body-spelt (bodyOf c) .long) ∙ body-spelt (bodyOf c) .own)
+      ∙ ap (λ (p : List ℕ). saying (readParameter c p))
+      (reply-parameter (text at 0) (text at 1) (text at 2) (text at 3) letters (saidBytes m))
+      ∙ ap saying (parameter-reads-back can)
+      ∙ ap {B = ReadAs} (λ (o : Outcome). record { outcome = o; said = m }) (can-mean can)
+
+  pub reply-read : readReply c (ascii "%1" ++ text ++ ascii "=" ++ saidBytes m ++ ascii "\r") ≡ meaning m
+  reply-read =
+      ap (λ (s : List ℕ). readReply c (ascii "%1" ++ s ++ ascii "=" ++ saidBytes m ++ ascii "\r"))
+      (sym (body-spelt (bodyOf c) .long))
+      ∙ spelled-read
+
+module _ (d : Device) (legal : isLegal d ≡ true) (between : d .connection .line ≡ emptyLine)
+    (c : Command) (writable : isCommand c ≡ true) (room : ℕ) (enough : replyRoom ≤ room) where
+  abbrev told : Said
+  told = meant (d .settings) (d .own) (Asks c)
+
+  abbrev answer : Answered
+  answer = record {
+    own = done (d .settings) (d .own) (Asks c);
+    reply = ascii "%1" ++ bodyText (bodyOf c) ++ ascii "=" ++ saidBytes told ++ ascii "\r";
+  }
+
+  answer-read : readReply c (answer .reply) ≡ meaning told
+  answer-read =
+      let settings = legal-settings d legal in
+      let own = legal-own d legal in
+      let fits = meant-fits (d .settings) (d .own) settings own (Asks c) in
+      let short = fits .short in
+      reply-read c (meant-can-be-said (d .settings) (d .own) settings own c) (omega arith) (fits .no-cr)
+
+  -- what is left to show: the bytes are taken as the command's line
+  abbrev takenAs : Answered → ℕ → Taken
+  takenAs a n = record { ended = spoken (d .connection) a; taken = n }
+
+  abbrev lineAnswered : Answered
+  lineAnswered = answered (d .settings) (d .own) (commandText c)
+
+  read-back : (bs : List ℕ) → eqb (d .connection .phase) shut ≡ false → takes d bs ≡ takenAs lineAnswered (length bs)
+      → ReadBack d c bs (received d bs room)
+  read-back bs listens takes-it =
+      let answers = command-answered (d .settings) (d .own) c writable in
+      let result : received d bs room ≡ acceptedTaken d (takenAs answer (length bs))
+      = received-taken d bs room legal enough listens
+      ∙ ap (acceptedTaken d) (takes-it ∙ ap (λ (a : Answered). takenAs a (length bs)) answers) in
+      subst (ReadBack d c bs) (sym result) (record { number = refl; taken = refl; device = refl; said = answer-read })
+
+  plain-line : every notCr (commandText c) ≡ true
+  unfolding noCr
+  plain-line = command-no-cr c
+
+  pub reads-back : d .connection .phase ≡ opened → ReadBack d c (commandLine c) (received d (commandLine c) room)
+  reads-back phase =
+      let short = command-length c in
+      read-back (commandLine c) (ap (λ (p : ℕ). eqb p shut) phase)
+      (open-line-taken (d .settings) (d .own) (d .connection) between [] (commandText c) phase (omega arith) plain-line
+      ∙ ap (takenAs lineAnswered) (sym (line-length c)))
+
+  abbrev ledLine : List ℕ
+  ledLine = leadingDigest (d .connection .random) (passwordOf (d .settings)) ++ commandLine c
+
+  pub reads-back-secured : d .connection .phase ≡ awaiting → ReadBack d c ledLine (received d ledLine room)
+  reads-back-secured phase =
+      let short = command-length c in
+      let digest = leadingDigest (d .connection .random) (passwordOf (d .settings)) in
+      let digest-long = leading-digest-length (d .connection .random) (passwordOf (d .settings)) in
+      let long = line-length c in
+      let all-long = length-append digest (commandLine c) in
+      let count : digestLong + length (commandText c) + 1 ≡ length ledLine = omega arith in
+      read-back ledLine (ap (λ (p : ℕ). eqb p shut) phase)
+      (ap (takes d) (sym (append-assoc digest (commandText c) (ascii "\r")))
+      ∙ matching-line-taken (d .settings) (d .own) (d .connection) between [] (commandText c) phase (omega arith)
+      plain-line
+      ∙ ap (takenAs lineAnswered) count)

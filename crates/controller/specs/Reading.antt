@@ -1,0 +1,79 @@
+-- Reading a reply (01, "Controller"). The ERRA line is known for every command (docs/DECISIONS).
+--   ReadAs              what the reader gives: the outcome, and what is said (nothing unless the outcome is Means)
+--   numberOf o          the number of an outcome in the table of 01
+--   readReply c l       what the line l, with its CR, says to the command c: the ERRA line, then the form, then the
+--                       body, then the parameter
+--   readingOf r         this as the code returns it
+-- Assumes nothing.
+use Prim.Native.Nat.{ℕ}
+use mathlib.Core.Bool.{not}
+use mathlib.Core.List.{List}
+use Rattle.text.specs.Words.{if_then_else_}
+use Rattle.text.specs.Scans.{sameBy, itself}
+use Rattle.lines.specs.Forms.{erraLine, isReplyForm, headBody, replyParameter}
+use Rattle.lines.specs.Requests.{isBody}
+use Rattle.lines.specs.Commands.{bodyOf}
+use Rattle.lines.specs.declared.command.Command.{Command}
+use Rattle.answers.specs.Said.{Said, okay, refused, powerIs, chosenIs, mutesAre, errorsAre, lampsAre, inputsAre, textIs, classIs1, nothing}
+use Rattle.answers.specs.Carried.{answerOf}
+use Rattle.answers.specs.Reading.{readParameter}
+use Rattle.answers.specs.declared.answer.Kind.{Kind}
+use Rattle.answers.specs.declared.answer.Kind.the-variants.{Ok, Refused, Powered, Chosen, Muted, Errors, Lamps, Inputs, Text, Class, Nothing}
+use Rattle.controller.specs.declared.reading.Outcome.{Outcome}
+use Rattle.controller.specs.declared.reading.Outcome.the-variants.{Means, Erra, NotALine, OtherCommand, NotAllowed}
+use Rattle.controller.specs.declared.reading.Reading.{Reading}
+
+pub record ReadAs : Type 0 where
+  pub outcome : Outcome
+  pub said : Said
+
+abbrev pub numberOf : Outcome → ℕ
+numberOf Means = 0
+numberOf Erra = 0
+numberOf NotALine = 10
+numberOf OtherCommand = 11
+numberOf NotAllowed = 12
+
+abbrev pub without : Outcome → ReadAs
+without o = record { outcome = o; said = nothing }
+
+-- a parameter that says nothing is not allowed
+abbrev pub outcomeOf : Said → Outcome
+outcomeOf okay = Means
+outcomeOf (refused n) = Means
+outcomeOf (powerIs p) = Means
+outcomeOf (chosenIs i) = Means
+outcomeOf (mutesAre video audio) = Means
+outcomeOf (errorsAre ds) = Means
+outcomeOf (lampsAre ls) = Means
+outcomeOf (inputsAre is) = Means
+outcomeOf (textIs s) = Means
+outcomeOf classIs1 = Means
+outcomeOf nothing = NotAllowed
+
+abbrev pub saying : Said → ReadAs
+saying m = record { outcome = outcomeOf m; said = m }
+
+unfoldable pub readReply : Command → List ℕ → ReadAs
+readReply c l =
+    if sameBy itself l erraLine then without Erra
+    else if not (isReplyForm l) then without NotALine
+    else if not (isBody (headBody l) (bodyOf c)) then without OtherCommand
+    else saying (readParameter c (replyParameter l))
+
+abbrev pub readingOf : ReadAs → Reading
+readingOf r = record { outcome = r .outcome; answer = answerOf (r .said) }
+
+-- the outcome by the kind of the answer
+abbrev pub kindOutcome : Kind → Outcome
+kindOutcome Ok = Means
+kindOutcome (Refused n) = Means
+kindOutcome (Powered p) = Means
+kindOutcome (Chosen i) = Means
+kindOutcome (Muted video audio) = Means
+kindOutcome Errors = Means
+kindOutcome (Lamps n) = Means
+kindOutcome (Inputs n) = Means
+kindOutcome (Text n) = Means
+kindOutcome Class = Means
+kindOutcome Nothing = NotAllowed

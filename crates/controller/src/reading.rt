@@ -1,0 +1,74 @@
+// Reading a reply, told the command that it answers.
+use answers::answer;
+use answers::answer::Answer;
+use answers::answer::Kind;
+use answers::read;
+use lines::command;
+use lines::command::Command;
+use lines::form;
+use lines::request;
+ghost use mathlib.Core.Path.{_≡_};
+ghost use Rattle.controller.specs.Reading.{readReply, readingOf, kindOutcome, without};
+
+pub enum Outcome {
+    Means,
+    Erra,
+    NotALine,
+    OtherCommand,
+    NotAllowed,
+}
+
+// The answer is of the kind Nothing, zeros beside it, unless the outcome is Means.
+pub struct Reading {
+    pub outcome: Outcome,
+    pub answer: Answer,
+}
+
+fn outcome_of(k: Kind) -> Outcome
+    ensures { λ r. ⌜ r ≡ kindOutcome k ⌝ }
+{
+    match k {
+        Kind::Ok => Outcome::Means,
+        Kind::Refused(_) => Outcome::Means,
+        Kind::Powered(_) => Outcome::Means,
+        Kind::Chosen(_) => Outcome::Means,
+        Kind::Muted(_, _) => Outcome::Means,
+        Kind::Errors => Outcome::Means,
+        Kind::Lamps(_) => Outcome::Means,
+        Kind::Inputs(_) => Outcome::Means,
+        Kind::Text(_) => Outcome::Means,
+        Kind::Class => Outcome::Means,
+        Kind::Nothing => Outcome::NotAllowed,
+    }
+}
+
+fn meaningless(o: Outcome) -> Reading
+    ensures { λ r. ⌜ r ≡ readingOf (without o) ⌝ }
+{
+    Reading {
+        outcome: o,
+        answer: answer::plain(Kind::Nothing),
+    }
+}
+
+// The ERRA line, then the form, then the body, then the parameter.
+pub fn read_reply(c: Command, line: &[u8]) -> Reading
+    ensures { λ r. ⌜ r ≡ readingOf (readReply c (now (line .entry))) ⌝ }
+{
+    if text::same(line, b"PJLINK ERRA\r") {
+        return meaningless(Outcome::Erra);
+    }
+    if !form::is_reply_form(line) {
+        return meaningless(Outcome::NotALine);
+    }
+    if !request::is_body(line[2], line[3], line[4], line[5], command::body_of(c)) {
+        return meaningless(Outcome::OtherCommand);
+    }
+    let last = line.len() - 1;
+    let answer = read::read_parameter(c, &line[7..last]);
+    let kind = answer.kind;
+    Reading {
+        outcome: outcome_of(kind),
+        answer,
+    }
+}
