@@ -1,29 +1,13 @@
 -- Reading the eight digits of a number gives the number back.
 -- Assumes nothing.
-use Prim.Native.Nat.{ℕ, zero, suc, _+_, _*_, _-_, _/_, _%_, _^_, _<_}
-use mathlib.Core.Path.{_≡_, refl, subst, _∙_}
-use mathlib.Core.Bool.{Bool, true, false, _&&_}
+use Prim.Native.Nat.{ℕ, _+_, _*_, _-_, _/_, _%_, _^_, _<_}
+use mathlib.Core.Path.{_≡_, refl, _∙_}
 use native.Mathlib.Omega.{arith}
-use lib.Dec.{ltb, eqb}
-use borrow.Author.Tests.{ltb-true, ltb-false, eqb-true}
-use Rattle.text.proofs.Choices.{both-left, both-right}
+use lib.Dec.{eqb}
+use borrow.Author.Tests.{eqb-true}
+use Rattle.text.proofs.EachBelow.{each-below}
 use Rattle.digest.specs.Hex.{digitOf, hexDigits}
 use Rattle.controller.specs.Greetings.{digitValue, valueAfter}
-
-abbrev allBelow : (ℕ → Bool) → ℕ → Bool
-allBelow f zero = true
-allBelow f (suc n) = f n && allBelow f n
-
-each-below : (f : ℕ → Bool) (n : ℕ) → allBelow f n ≡ true → (k : ℕ) → k < n → f k ≡ true
-each-below f zero t k h = absurd (omega arith)
-each-below f (suc n) t k h =
-    by (ltb k n) refl (λ h. each-below f n (both-right (f n) (allBelow f n) t) k h) (both-left (f n) (allBelow f n) t)
-  where
-    by : (b : Bool) → ltb k n ≡ b → (k < n → f k ≡ true) → f n ≡ true → f k ≡ true
-    by true e earlier last = earlier (ltb-true k n e)
-    by false e earlier last =
-        let same : n ≡ k = omega (arith, ltb-false k n e) in
-        subst (λ (m : ℕ). f m ≡ true) same last
 
 pub digit-back : (n : ℕ) → n < 16 → digitValue (digitOf n) ≡ n
 unfolding digitOf digitValue

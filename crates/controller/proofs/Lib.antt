@@ -8,5 +8,4 @@ pub mod OneResult
 pub mod ReadsSound
 pub mod OutsidersReadErra
 pub mod CallsReadBack
-mod Carried
 mod Examples

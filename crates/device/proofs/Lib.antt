@@ -18,4 +18,3 @@ pub mod PowerLines
 pub mod Histories
 mod Used
 mod Written
-mod Carried

@@ -1,31 +1,15 @@
 -- What holds at each entry of a table, by one test of the whole table that antt computes, and what `byRound` chooses.
---   allBelow f n      the test f passes at each number below n
 --   byFormula i       the word number of operation i as the code computes it
 -- Assumes nothing.
-use mathlib.Core.Path.{_≡_, refl, subst}
-use mathlib.Core.Bool.{Bool, true, false, _&&_}
-use Prim.Native.Nat.{ℕ, zero, suc, _+_, _*_, _%_, _≤_, _<_}
+use mathlib.Core.Path.{_≡_, refl}
+use mathlib.Core.Bool.{true}
+use Prim.Native.Nat.{ℕ, _+_, _*_, _%_, _≤_, _<_}
 use native.Mathlib.Omega.{arith}
 use lib.Dec.{ltb, eqb}
-use borrow.Author.Tests.{ltb-true, ltb-false, eqb-true, lt-ltb, le-ltb}
-use Rattle.text.proofs.Choices.{both-left, both-right}
+use borrow.Author.Tests.{ltb-true, eqb-true, lt-ltb, le-ltb}
+use Rattle.text.proofs.EachBelow.{each-below}
 use Rattle.digest.specs.Rounds.{byRound, shifts, shiftOf, wordNumbers, wordNumber}
 use Rattle.digest.specs.Hex.{digitOf, isHexDigit}
-
-abbrev allBelow : (ℕ → Bool) → ℕ → Bool
-allBelow f zero = true
-allBelow f (suc n) = f n && allBelow f n
-
-each-below : (f : ℕ → Bool) (n : ℕ) → allBelow f n ≡ true → (k : ℕ) → k < n → f k ≡ true
-each-below f zero t k h = absurd (omega arith)
-each-below f (suc n) t k h =
-    by (ltb k n) refl (λ h. each-below f n (both-right (f n) (allBelow f n) t) k h) (both-left (f n) (allBelow f n) t)
-  where
-    by : (b : Bool) → ltb k n ≡ b → (k < n → f k ≡ true) → f n ≡ true → f k ≡ true
-    by true e earlier last = earlier (ltb-true k n e)
-    by false e earlier last =
-        let same : n ≡ k = omega (arith, ltb-false k n e) in
-        subst (λ (m : ℕ). f m ≡ true) same last
 
 -- a value of its round's kind is what `byRound` chooses
 module _ {A : Type 0} {r : A} (i : ℕ) (w x y z : A) where

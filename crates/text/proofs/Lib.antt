@@ -1,4 +1,6 @@
+pub mod Carried
 pub mod Choices
+pub mod EachBelow
 pub mod OneResult
 pub mod Orders
 pub mod Sameness

@@ -1,10 +1,10 @@
 -- `controller::writing::write_command` meets its contract: each `return` is one case of `written`, and what follows the
 -- digest is put after its 32 bytes.
 -- Assumes nothing.
-use Prim.Native.Nat.{_+_}
+use Prim.Native.Nat.{ℕ, _+_}
 use mathlib.Core.Path.{_≡_, refl, sym, ap, _∙_}
 use mathlib.Core.Bool.{true}
-use mathlib.Core.List.{_++_}
+use mathlib.Core.List.{List, _++_}
 use native.Mathlib.Nat.{zero-add}
 use native.Mathlib.Omega.{arith}
 use lib.ListN.{length, length-append}
@@ -12,21 +12,25 @@ use lib.Seq.{sets}
 use borrow.Author.Tests.{not-true, not-false}
 use borrow.Author.Needs.{needs}
 use Rattle.text.proofs.Stores.{sets-then, sets-over}
+use Rattle.text.proofs.Carried.{carried}
 use Rattle.digest.specs.Hex.{leadingDigest}
 use Rattle.digest.proofs.Laws.{leading-digest-length}
 use Rattle.lines.specs.Commands.{isCommand, commandLine}
-use Rattle.controller.specs.declared.writing.Written.{Written}
-use Rattle.controller.proofs.Carried.{carried}
-use Rattle.controller.proofs.Cases.{written-short, written-no-command, written-plain, written-no-password, written-led}
 use Rattle.lines.proofs.CommandLines.{line-at-most-10}
+use Rattle.controller.specs.Writing.{WrittenAs, toldWritten}
+use Rattle.controller.specs.declared.writing.Written.{Written}
+use Rattle.controller.proofs.Cases.{written-short, written-no-command, written-plain, written-no-password, written-led}
 use Rattle.controller.proofs.writing.write_command.Statement.{statement}
 use Rattle.controller.proofs.writing.write_command.Tie as tie
+
+abbrev bytesOf : WrittenAs → List ℕ
+bytesOf w = w .bytes
 
 short : tie.Need-returns
 short c =
     let args = c .before .before .before .args in
     let out = args .out .now in
-    carried out
+    carried toldWritten bytesOf out
     (written-short (args .c) (args .secured) (args .random) (args .password .now) (length out) (c .if1 .taken))
     refl refl
 
@@ -36,7 +40,7 @@ no-command c =
     let roomy = tested .before in
     let args = roomy .before .before .before .args in
     let out = args .out .now in
-    carried out
+    carried toldWritten bytesOf out
     (written-no-command (args .c) (args .secured) (args .random) (args .password .now) (length out) (roomy .if1 .left)
     (sym (tested .is-command .ensures) ∙ not-true _ (c .if2 .taken)))
     refl refl
@@ -64,7 +68,7 @@ plain c =
     let enough = roomy second .if1 .left in
     let result : _≡_ {A = Written} _ _
     = λ i. record { number = 0; length = (put .put-command .ensures .0 ∙ zero-add (length line)) i } in
-    carried out
+    carried toldWritten bytesOf out
     (written-plain (args .c) (args .secured) (args .random) (args .password .now) (length out) enough (writable second)
     (not-true _ (tested .if3 .taken)))
     result (put .put-command .ensures .1 ∙ sets-over line out (omega arith))
@@ -76,7 +80,7 @@ no-password c =
     let second = third .before in
     let args = start second .args in
     let out = args .out .now in
-    carried out
+    carried toldWritten bytesOf out
     (written-no-password (args .c) (args .secured) (args .random) (args .password .now) (length out)
     (roomy second .if1 .left) (writable second) (not-false _ (third .if3 .left))
     (sym (tested .is-password .ensures) ∙ not-true _ (c .if4 .taken)))
@@ -104,7 +108,7 @@ led c =
     let at : 32 ≡ 0 + length digest = omega arith in
     let result : _≡_ {A = Written} _ _
     = λ i. record { number = 0; length = (put .put-command2 .ensures .0 ∙ number) i } in
-    carried out
+    carried toldWritten bytesOf out
     (written-led (args .c) (args .secured) (args .random) password (length out) enough (writable second)
     (not-false _ (third .if3 .left)) (sym (tested .is-password .ensures) ∙ not-false _ (fourth .if4 .left)))
     result

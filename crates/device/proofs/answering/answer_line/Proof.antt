@@ -25,7 +25,7 @@ use Rattle.device.specs.Answering.{Answered, asked, swallowed, replied, 
 use Rattle.device.specs.Told.{spokenOf}
 use Rattle.device.specs.declared.answering.Spoken.{Spoken}
 use Rattle.lines.proofs.CommandLines.{form-long}
-use Rattle.device.proofs.Carried.{carried}
+use Rattle.text.proofs.Carried.{carried}
 use Rattle.device.proofs.answering.answer_line.Statement.{statement}
 use Rattle.device.proofs.answering.answer_line.Tie as tie
 

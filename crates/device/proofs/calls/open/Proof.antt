@@ -12,7 +12,7 @@ use Rattle.record.specs.declared.types.Device.{Device}
 use Rattle.device.specs.Calls.{Result, withParts, toldOpened}
 use Rattle.device.specs.declared.calls.Opened.{Opened}
 use Rattle.device.proofs.Cases.{opened-illegal, opened-short, opened-taken, opened-greeted}
-use Rattle.device.proofs.Carried.{carried}
+use Rattle.text.proofs.Carried.{carried}
 use Rattle.device.proofs.calls.open.Statement.{statement}
 use Rattle.device.proofs.calls.open.Tie as tie
 

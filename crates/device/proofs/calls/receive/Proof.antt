@@ -13,7 +13,7 @@ use Rattle.record.proofs.LegalTold.{legal-settings, legal-own}
 use Rattle.device.specs.Calls.{Result, withParts, told}
 use Rattle.device.specs.declared.calls.Received.{Received}
 use Rattle.device.proofs.Cases.{received-illegal, received-short, received-shut, received-taken}
-use Rattle.device.proofs.Carried.{carried}
+use Rattle.text.proofs.Carried.{carried}
 use Rattle.device.proofs.calls.receive.Statement.{statement}
 use Rattle.device.proofs.calls.receive.Tie as tie
 

@@ -14,7 +14,7 @@ use Rattle.device.specs.Receiving.{Ended}
 use Rattle.device.specs.Told.{doneOf}
 use Rattle.device.specs.declared.receiving.Done.{Done}
 use Rattle.device.proofs.Cases.{ended-overlong, ended-open, ended-match, ended-erra, ended-other}
-use Rattle.device.proofs.Carried.{carried}
+use Rattle.text.proofs.Carried.{carried}
 use Rattle.device.proofs.receiving.end_line.Statement.{statement}
 use Rattle.device.proofs.receiving.end_line.Tie as tie
 

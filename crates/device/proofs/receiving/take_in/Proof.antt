@@ -17,7 +17,7 @@ use Rattle.device.specs.Receiving.{Taken, keeping, lineEnded}
 use Rattle.device.specs.Told.{doneOf, tookOf}
 use Rattle.device.specs.declared.receiving.Took.{Took}
 use Rattle.device.proofs.Cases.{taken-part, taken-line}
-use Rattle.device.proofs.Carried.{carried}
+use Rattle.text.proofs.Carried.{carried}
 use Rattle.device.proofs.receiving.take_in.Statement.{statement}
 use Rattle.device.proofs.receiving.take_in.Tie as tie
 
