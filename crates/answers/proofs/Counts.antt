@@ -1,13 +1,13 @@
 -- What an answer says, by its kind: a count past the end of an array counts the whole array.
 -- Assumes nothing.
-use Prim.Native.Nat.{ℕ, _+_, _≤_}
+use Prim.Native.Nat.{ℕ, _+_, _≤_, _<_}
 use mathlib.Core.Path.{_≡_, sym, ap, _∙_}
 use mathlib.Core.List.{List}
 use native.Mathlib.Omega.{arith}
 use lib.ListN.{length}
 use lib.Seq.{sets}
 use lib.Dec.{leb}
-use borrow.Author.Tests.{le-leb, leb-true}
+use borrow.Author.Tests.{le-leb, lt-leb, leb-true}
 use Rattle.text.proofs.Choices.{if-by}
 use Rattle.answers.specs.Said.{saidBytes}
 use Rattle.answers.specs.Carried.{least, saidAs, saidBy}
@@ -21,6 +21,10 @@ least-within n m = if-by (λ (k : ℕ). k ≤ m) (leb n m) (λ e. leb-true n m e
 pub least-of : (n m : ℕ) → n ≤ m → least n m ≡ n
 unfolding least
 least-of n m h = rw (le-leb n m h)
+
+pub least-high : (n m : ℕ) → m < n → least n m ≡ m
+unfolding least
+least-high n m h = rw (lt-leb n m h)
 
 -- bytes that say what an answer of its kind says, put
 pub put-as : (a : Answer) (out : List ℕ) (at : ℕ) {k : Kind} → a .kind ≡ k → {r : ℕ} {m b : List ℕ}

@@ -16,3 +16,4 @@ pub mod SaidBack
 pub mod SaidPlain
 pub mod OneResult
 pub mod ReadSound
+pub mod OnlyOkay

@@ -1,6 +1,6 @@
 -- Whatever bytes come, what is read of them is an answer that the command can have, or nothing.
 -- Assumes nothing.
-use Prim.Native.Nat.{ℕ, zero, suc, _+_, _-_, _<_, _≤_}
+use Prim.Native.Nat.{ℕ, zero, suc, _+_, _<_, _≤_}
 use Prim.Native.Char.{code}
 use mathlib.Core.Path.{_≡_, refl, _∙_}
 use mathlib.Core.Bool.{Bool, true, false, _&&_}
@@ -18,17 +18,16 @@ use Rattle.numbers.specs.declared.Number.{Number}
 use Rattle.numbers.specs.declared.Number.the-variants.{Value, NotANumber}
 use Rattle.numbers.proofs.ReadBack.{read-below}
 use Rattle.lines.specs.Bytes.{_at_}
-use Rattle.lines.specs.Inputs.{isInputText, readInput, isInput}
-use Rattle.lines.specs.Texts.{isRefusal, refusalOf, isName, isInfo}
+use Rattle.lines.specs.Inputs.{isInput}
+use Rattle.lines.specs.Texts.{refusalOf, isName, isInfo}
 use Rattle.lines.specs.declared.input.Input.{Input}
-use Rattle.lines.specs.declared.input.MaybeInput.{MaybeInput}
 use Rattle.lines.specs.declared.command.Command.{Command}
 use Rattle.lines.specs.declared.command.Command.the-variants.{PowerSet, InputSet, MuteSet, Query}
 use Rattle.lines.specs.declared.command.Body.{Body}
 use Rattle.lines.specs.declared.command.Body.the-variants.{Powr, Inpt, Avmt, Erst, Lamp, Inst, Name, Inf1, Inf2, Info}
 use Rattle.lines.specs.declared.command.Body.the-variants.{Clss}
-use Rattle.lines.proofs.Refusals.{refusal-high}
-use Rattle.lines.proofs.InputsReadBack.{named-is-input}
+use Rattle.lines.proofs.Refusals.{refusal-at-most-4}
+use Rattle.lines.proofs.InputsReadBack.{named-is-input, read-input-by}
 use Rattle.answers.specs.Lists.{Head, noHead, head, Got, none, all, afterHead, listFrom, listOf}
 use Rattle.answers.specs.Said.{Said, nothing}
 use Rattle.answers.specs.Carried.{lampsMost, inputsMost, errorsCount}
@@ -92,10 +91,9 @@ lamp-begun s =
     tested false r e = not-begun
 
 input-begun : (s : List ℕ) → Begun isInput inputHead inputsMost (inputHead s)
-unfolding readInput
 input-begun s =
-    if-by (λ (m : MaybeInput). Begun isInput inputHead inputsMost (inputIn m)) (isInputText (s at 0) (s at 1))
-    (λ e. begun _ _ (named-is-input (s at 0) (s at 1) e)) (λ e. not-begun)
+    read-input-by (λ m. Begun isInput inputHead inputsMost (inputIn m)) (s at 0) (s at 1)
+    (λ e. begun _ _ (named-is-input (s at 0) (s at 1) e)) not-begun
 
 lamps-sound : (p : List ℕ) → CanRead (Query Lamp) (readLamps p)
 unfolding readLamps
@@ -121,7 +119,7 @@ errors-small (b ∷ p) e =
     both (le-leb (errorOf b) 2 (omega arith)) (errors-small p (both-right (isErrorText b) (every isErrorText p) e))
 
 queried-sound : (b : Body) (p : List ℕ) → CanRead (Query b) (readQueried b p)
-unfolding readPower powerNamed readChosen readInput readMutes mutesNamed readErrors
+unfolding readPower powerNamed readChosen readMutes mutesNamed readErrors
 queried-sound Powr p =
     let b = p at 0 in
     if-all (CanRead _) (eqb (length p) 1)
@@ -130,8 +128,8 @@ queried-sound Powr p =
     no-answer
 queried-sound Inpt p =
     if-all (CanRead _) (eqb (length p) 2)
-    (if-by (λ (m : MaybeInput). CanRead (Query Inpt) (chosenOr m)) (isInputText (p at 0) (p at 1))
-    (λ e. answer (input _ (named-is-input (p at 0) (p at 1) e))) (λ e. no-answer))
+    (read-input-by (λ m. CanRead (Query Inpt) (chosenOr m)) (p at 0) (p at 1)
+    (λ e. answer (input _ (named-is-input (p at 0) (p at 1) e))) no-answer)
     no-answer
 queried-sound Avmt p =
     let a = p at 0 in
@@ -163,14 +161,10 @@ value-sound (InputSet i) p = if-all (CanRead _) (p says ascii "OK") (answer (don
 value-sound (MuteSet half on) p = if-all (CanRead _) (p says ascii "OK") (answer (done refl)) no-answer
 value-sound (Query b) p = queried-sound b p
 
-refusal-small : (p : List ℕ) → refusalOf p ≤ 4
-unfolding refusalOf
-refusal-small p = if-by (λ (n : ℕ). n ≤ 4) (isRefusal p) (λ r. omega (arith, refusal-high p r)) (λ r. omega arith)
-
 pub read-sound : (c : Command) (p : List ℕ) → CanRead c (readParameter c p)
 unfolding readParameter
 read-sound c p =
     let n = refusalOf p in
     if-by (CanRead c) (eqb n 0) (λ e. value-sound c p)
     (λ e. if-by (CanRead c) (isRefusalTo c n)
-    (λ t. answer (refuses n (let some = eqb-false n 0 e in omega arith) (refusal-small p) t)) (λ t. no-answer))
+    (λ t. answer (refuses n (let some = eqb-false n 0 e in omega arith) (refusal-at-most-4 p) t)) (λ t. no-answer))

@@ -14,7 +14,7 @@ use Rattle.numbers.specs.Decimal.{digits, isDigit}
 use Rattle.numbers.proofs.Digits.{digits-are-digits, digits-at-least-1, digit-to}
 use Rattle.lines.specs.Inputs.{isInput, inputText, numberDigit}
 use Rattle.lines.specs.Commands.{switchDigit}
-use Rattle.lines.specs.Texts.{isRefusal, refusalOf, nameMost, infoMost}
+use Rattle.lines.specs.Texts.{refusalOf, nameMost, infoMost}
 use Rattle.lines.specs.declared.input.Input.{Input}
 use Rattle.lines.specs.declared.command.Command.{Command}
 use Rattle.lines.specs.declared.command.Command.the-variants.{PowerSet, InputSet, MuteSet, Query}
@@ -29,7 +29,7 @@ use Rattle.answers.specs.declared.answer.Power.{Power}
 use Rattle.answers.specs.declared.answer.Power.the-variants.{Off, On, Cooling, WarmUp}
 use Rattle.answers.specs.declared.answer.LampHours.{LampHours}
 use Rattle.lines.proofs.TextsTold.{text-no-refusal, name-is-text}
-use Rattle.lines.proofs.Refusals.{first-not-E, refusal-back}
+use Rattle.lines.proofs.Refusals.{first-not-E, not-four-no-refusal, refusal-back}
 use Rattle.answers.proofs.InputDigits.{input-digits}
 use Rattle.answers.proofs.Inputs.{input-heads, chosen-back}
 use Rattle.answers.proofs.LampsBack.{lamp-heads}
@@ -51,8 +51,7 @@ value : (c : Command) (p : List ℕ) {m : Said} → refusalOf p ≡ 0 → readVa
 value c p z e = no-refusal c p (sym z) refl ∙ e
 
 plain-back : (refusalOf (ascii "OK") ≡ 0) × (refusalOf (ascii "1") ≡ 0)
-unfolding refusalOf isRefusal
-plain-back = (refl, refl)
+plain-back = (not-four-no-refusal (ascii "OK") (λ e. omega arith), not-four-no-refusal (ascii "1") (λ e. omega arith))
 
 ok-back : (c : Command) → isSet c ≡ true → readValue c (ascii "OK") ≡ okay
 ok-back (PowerSet on) e = refl
@@ -61,18 +60,18 @@ ok-back (MuteSet half on) e = refl
 ok-back (Query b) e = cc
 
 power-back : (p : Power) → (refusalOf (powerText p) ≡ 0) × (readPower (powerText p) ≡ powerIs p)
-unfolding refusalOf isRefusal readPower powerNamed
-power-back Off = (refl, refl)
-power-back On = (refl, refl)
-power-back Cooling = (refl, refl)
-power-back WarmUp = (refl, refl)
+unfolding readPower powerNamed
+power-back Off = (not-four-no-refusal (ascii "0") (λ e. omega arith), refl)
+power-back On = (not-four-no-refusal (ascii "1") (λ e. omega arith), refl)
+power-back Cooling = (not-four-no-refusal (ascii "2") (λ e. omega arith), refl)
+power-back WarmUp = (not-four-no-refusal (ascii "3") (λ e. omega arith), refl)
 
 mutes-back : (v a : Bool) → (refusalOf (mutesText v a) ≡ 0) × (readMutes (mutesText v a) ≡ mutesAre v a)
-unfolding refusalOf isRefusal readMutes mutesNamed
-mutes-back true true = (refl, refl)
-mutes-back true false = (refl, refl)
-mutes-back false true = (refl, refl)
-mutes-back false false = (refl, refl)
+unfolding readMutes mutesNamed
+mutes-back true true = (not-four-no-refusal (ascii "31") (λ e. omega arith), refl)
+mutes-back true false = (not-four-no-refusal (ascii "11") (λ e. omega arith), refl)
+mutes-back false true = (not-four-no-refusal (ascii "21") (λ e. omega arith), refl)
+mutes-back false false = (not-four-no-refusal (ascii "30") (λ e. omega arith), refl)
 
 lamps-no-refusal : (ls : List LampHours) → 1 ≤ length ls → refusalOf (joined lampText ls) ≡ 0
 lamps-no-refusal [] h = absurd (omega arith)

@@ -1,6 +1,6 @@
 -- An answer's parameter fits a reply: it is short, and no byte of it is CR.
 -- Assumes nothing.
-use Prim.Native.Nat.{ℕ, _-_, _≤_}
+use Prim.Native.Nat.{ℕ, _≤_}
 use Prim.Native.Char.{code}
 use mathlib.Core.Path.{_≡_, refl, ap, subst}
 use mathlib.Core.Bool.{Bool, true, false, not}
@@ -19,6 +19,7 @@ use Rattle.lines.specs.Inputs.{isInput, inputText, numberDigit}
 use Rattle.lines.specs.Texts.{isTextByte, isText, nameMost, infoMost}
 use Rattle.lines.specs.Commands.{switchDigit}
 use Rattle.lines.specs.declared.command.Command.{Command}
+use Rattle.lines.proofs.Characters.{no-cr-of}
 use Rattle.lines.proofs.TextsTold.{name-long, info-long}
 use Rattle.answers.specs.Said.{Said, okay, refused, powerIs, chosenIs, mutesAre, errorsAre, lampsAre, inputsAre}
 use Rattle.answers.specs.Said.{textIs, classIs1, nothing, lampText, powerText, mutesText, saidBytes}
@@ -127,8 +128,8 @@ mutes-no-cr true false = refl
 mutes-no-cr false true = refl
 mutes-no-cr false false = refl
 
-no-cr : {c : Command} {m : Said} → CanSay c m → noCr (saidBytes m) ≡ true
-unfolding saidBytes noCr
+no-cr : {c : Command} {m : Said} → CanSay c m → every notCr (saidBytes m) ≡ true
+unfolding saidBytes
 no-cr (done s) = refl
 no-cr (refuses n l h t) = rw (ne-eqb (numberDigit n) (code "\r") (omega arith))
 no-cr (power p) = power-no-cr p
@@ -146,5 +147,7 @@ no-cr class-1 = refl
 
 pub said-plain : {c : Command} {m : Said} → CanSay c m
     → (length (saidBytes m) ≤ parameterMost) × (noCr (saidBytes m) ≡ true)
-said-plain {c} {m} w =
-    (subst (λ (q : Said). length (saidBytes q) ≤ parameterMost) (can-said-back w) (said-within (answerOf m)), no-cr w)
+said-plain {c} {m} w = (
+  subst (λ (q : Said). length (saidBytes q) ≤ parameterMost) (can-said-back w) (said-within (answerOf m)),
+  no-cr-of (saidBytes m) (no-cr w),
+)

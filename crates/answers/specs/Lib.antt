@@ -3,3 +3,4 @@ pub mod Said
 pub mod Carried
 pub mod Reading
 pub mod CanSay
+pub mod Computing

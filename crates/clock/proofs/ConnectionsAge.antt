@@ -9,12 +9,15 @@ use native.Mathlib.Omega.{arith}
 use lib.Dec.{ltb}
 use borrow.Author.Tests.{lt-ltb, le-ltb}
 use Rattle.text.specs.Words.{if_then_else_}
-use Rattle.text.proofs.Choices.{if-yes, if-no}
+use Rattle.text.proofs.Choices.{if-yes, if-no, if-all}
 use Rattle.record.specs.Limits.{ageEnd}
 use Rattle.record.specs.Legal.{isTimed}
 use Rattle.record.specs.Record.{closed}
+use Rattle.record.specs.declared.types.Line.{Line}
 use Rattle.record.specs.declared.types.Connection.{Connection}
+use Rattle.record.proofs.Spelt.{closed-spelt}
 use Rattle.clock.specs.Second.{times, aged, connectionSecond}
+use Rattle.clock.proofs.Repeated.{times-keeps}
 use Rattle.text.proofs.Orders.{le-or-lt}
 
 module _ (c : Connection) where
@@ -35,9 +38,11 @@ module _ (c : Connection) where
       ∙ if-no (aged c (c .age + 1)) closed (le-ltb (c .age + 1) ageEnd h)
 
 closed-stays : (n : ℕ) → times connectionSecond n closed ≡ closed
-unfolding times closed
+unfolding times
 closed-stays zero = refl
-closed-stays (suc n) = ap connectionSecond (closed-stays n) ∙ second-untimed closed refl
+closed-stays (suc n) =
+    ap connectionSecond (closed-stays n)
+    ∙ second-untimed closed (ap (λ (c : Connection). isTimed (c .phase)) closed-spelt)
 
 pub untimed-stays : (n : ℕ) (c : Connection) → isTimed (c .phase) ≡ false → times connectionSecond n c ≡ c
 unfolding times
@@ -64,3 +69,15 @@ closes (suc (suc n)) c e g h =
     (λ (k : c .age + suc n < ageEnd).
     ap connectionSecond (grows-older (suc n) c e k) ∙ second-closes (aged c (c .age + suc n)) e (omega arith))
     (le-or-lt ageEnd (c .age + suc n))
+
+-- its line is kept, or is the closed connection's
+module _ (P : Line → Type 0) (none : P (closed .line)) where
+  abbrev OfLine : Connection → Type 0
+  OfLine c = P (c .line)
+
+  line-second : (c : Connection) → OfLine c → OfLine (connectionSecond c)
+  unfolding connectionSecond
+  line-second c p = if-all OfLine (isTimed (c .phase)) (if-all OfLine (ltb (c .age + 1) ageEnd) p none) p
+
+  pub line-then : (n : ℕ) (c : Connection) → OfLine c → OfLine (times connectionSecond n c)
+  line-then n c p = times-keeps OfLine connectionSecond line-second n c p

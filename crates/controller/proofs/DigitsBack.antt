@@ -1,17 +1,20 @@
 -- Reading the eight digits of a number gives the number back.
 -- Assumes nothing.
-use Prim.Native.Nat.{ℕ, _+_, _*_, _-_, _/_, _%_, _^_, _<_}
-use mathlib.Core.Path.{_≡_, refl, _∙_}
+use Prim.Native.Nat.{ℕ, _+_, _*_, _/_, _%_, _^_, _<_}
+use mathlib.Core.Path.{_≡_, refl, ap, _∙_}
 use native.Mathlib.Omega.{arith}
 use lib.Dec.{eqb}
 use borrow.Author.Tests.{eqb-true}
 use Rattle.text.proofs.EachBelow.{each-below}
 use Rattle.digest.specs.Hex.{digitOf, hexDigits}
+use Rattle.digest.proofs.Laws.{spelled, digit-spelled}
 use Rattle.controller.specs.Greetings.{digitValue, valueAfter}
 
 pub digit-back : (n : ℕ) → n < 16 → digitValue (digitOf n) ≡ n
-unfolding digitOf digitValue
-digit-back n h = eqb-true _ _ (each-below (λ k. eqb (digitValue (digitOf k)) k) 16 refl n h)
+unfolding digitValue
+digit-back n h =
+    ap digitValue (digit-spelled n h)
+    ∙ eqb-true _ _ (each-below (λ k. eqb (digitValue (spelled k)) k) 16 refl n h)
 
 -- one digit more
 next : (q : ℕ) {m d : ℕ} → m ≡ q / 16 → d ≡ q % 16 → m * 16 + d ≡ q

@@ -6,7 +6,7 @@
 -- Assumes nothing.
 use Prim.Native.Nat.{ℕ, _^_, _≤_, _<_}
 use mathlib.Core.Path.{_≡_, refl, sym, ap, subst, _∙_}
-use mathlib.Core.Bool.{Bool, true, false}
+use mathlib.Core.Bool.{true}
 use mathlib.Core.List.{List, [], _∷_, map}
 use lib.Dec.{eqb}
 use native.Mathlib.Omega.{arith}
@@ -17,14 +17,13 @@ use Rattle.text.proofs.Choices.{both}
 use Rattle.text.proofs.Sameness.{same-turned}
 use Rattle.digest.specs.Hex.{hexDigits}
 use Rattle.lines.specs.Forms.{erraLine, greetingOpen, greetingSecured}
-use Rattle.record.specs.Limits.{shut, awaiting, opened}
+use Rattle.record.specs.Limits.{shut, awaiting}
 use Rattle.record.specs.Legal.{isLegal}
 use Rattle.record.specs.declared.types.Connection.{Connection}
 use Rattle.record.specs.declared.types.Settings.{Settings}
 use Rattle.record.specs.declared.types.Device.{Device}
-use Rattle.stream.specs.Collecting.{emptyLine}
-use Rattle.device.specs.Calls.{Result, replyRoom, isSecured, withParts, greeting, greeted, openedBy}
-use Rattle.device.proofs.Cases.{opened-greeted}
+use Rattle.device.specs.Calls.{Result, replyRoom, withParts, greeting, greeted, openedBy}
+use Rattle.device.proofs.Cases.{opened-greeted, greeted-by}
 use Rattle.controller.specs.Greetings.{greets, randomIn, readGreeting, numberOf}
 use Rattle.controller.specs.declared.greeting.Greeting.{Greeting}
 use Rattle.controller.specs.declared.greeting.Greeting.the-variants.{Open, Secured, Refused, NotAGreeting}
@@ -100,18 +99,17 @@ pub record GreetedBack (d : Device) (r : ℕ) (q : Result Device) : Type 0 where
   pub heard : readGreeting (q .reply) ≡ heardOn (q .device .connection)
 
 greeting-heard : (s : Settings) (r : ℕ) → r < 2 ^ 32 → readGreeting (greeting s r) ≡ heardOn (greeted s r)
-unfolding greeting greeted
-greeting-heard s r word = by (isSecured s)
-  where
-    by : (t : Bool) → readGreeting (if t then greetingSecured (hexDigits 8 r) else greetingOpen)
-        ≡ heardOn (record { phase = if t then awaiting else opened; age = 0; random = r; line = emptyLine })
-    by true = secured-heard r word
-    by false = open-heard
+greeting-heard s r word =
+    greeted-by s r (λ g c. readGreeting g ≡ heardOn c) (secured-heard r word) open-heard
 
 pub greets-back : (d : Device) (r room : ℕ) → isLegal d ≡ true → d .connection .phase ≡ shut → replyRoom ≤ room
     → r < 2 ^ 32
     → GreetedBack d r (openedBy d r room)
-unfolding greeted
 greets-back d r room legal closed enough word =
     subst (GreetedBack d r) (sym (opened-greeted d r room legal enough (eq-eqb (d .connection .phase) shut closed)))
-    (record { number = refl; device = refl; random = refl; heard = greeting-heard (d .settings) r word })
+    (record {
+      number = refl;
+      device = refl;
+      random = greeted-by (d .settings) r (λ g c. c .random ≡ r) refl refl;
+      heard = greeting-heard (d .settings) r word;
+    })

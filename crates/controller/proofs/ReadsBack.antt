@@ -22,6 +22,7 @@ use Rattle.lines.specs.Commands.{bodyText, bodyOf, isCommand, commandText, comm
 use Rattle.lines.specs.declared.command.Command.{Command}
 use Rattle.lines.specs.declared.request.Request.the-variants.{Asks}
 use Rattle.lines.proofs.Bodies.{four, body-spelt}
+use Rattle.lines.proofs.Characters.{no-cr-each}
 use Rattle.lines.proofs.CommandLines.{command-length, line-length, command-no-cr}
 use Rattle.lines.proofs.RepliesReadBack.{reply-not-erra, reply-form, reply-parameter}
 use Rattle.answers.specs.Said.{Said, saidBytes}
@@ -40,7 +41,8 @@ use Rattle.device.specs.Receiving.{Taken, turned, spoken, passwordOf, digestLon
 use Rattle.device.specs.Calls.{Result, replyRoom, withParts, acceptedTaken, received}
 use Rattle.device.proofs.Cases.{takes, received-taken}
 use Rattle.device.proofs.Legal.{line-legal}
-use Rattle.device.proofs.WholeLines.{between-lines, open-line-taken, matching-line-taken, command-answered}
+use Rattle.stream.proofs.LegalLines.{between-lines}
+use Rattle.device.proofs.WholeLines.{open-line-taken, matching-line-taken, command-answered}
 use Rattle.controller.specs.Reading.{ReadAs, outcomeOf, saying, readReply}
 use Rattle.controller.specs.declared.reading.Outcome.{Outcome}
 use Rattle.controller.specs.declared.reading.Outcome.the-variants.{Means}
@@ -143,8 +145,7 @@ module _ (d : Device) (legal : isLegal d ≡ true) (between : d .connection .lin
       subst (ReadBack d c bs) (sym result) (record { number = refl; taken = refl; device = refl; said = answer-read })
 
   plain-line : every notCr (commandText c) ≡ true
-  unfolding noCr
-  plain-line = command-no-cr c
+  plain-line = no-cr-each (commandText c) (command-no-cr c)
 
   pub reads-back : d .connection .phase ≡ opened → ReadBack d c (commandLine c) (received d (commandLine c) room)
   reads-back phase =

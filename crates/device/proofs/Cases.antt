@@ -2,12 +2,15 @@
 -- Assumes nothing.
 use Prim.Native.Nat.{ℕ, _+_, _≤_, _<_}
 use mathlib.Core.Path.{_≡_, ap, _∙_}
-use mathlib.Core.Bool.{true, false, not}
+use mathlib.Core.Bool.{Bool, true, false, not}
 use mathlib.Core.List.{List}
 use lib.ListN.{drop}
 use lib.Dec.{ltb, eqb}
 use borrow.Author.Tests.{ltb-true, ltb-false, lt-ltb, le-ltb, eqb-true, eqb-false, eq-eqb, ne-eqb, not-true, not-false}
+use Rattle.text.specs.Words.{if_then_else_}
 use Rattle.text.proofs.Choices.{if-yes, if-no, if-by}
+use Rattle.digest.specs.Hex.{hexDigits}
+use Rattle.lines.specs.Forms.{greetingOpen, greetingSecured}
 use Rattle.record.specs.Limits.{awaiting, opened, failed}
 use Rattle.record.specs.Legal.{isLegal, heldMost}
 use Rattle.record.specs.Record.{closed}
@@ -17,10 +20,10 @@ use Rattle.record.specs.declared.types.Line.{Line}
 use Rattle.record.specs.declared.types.Connection.{Connection}
 use Rattle.record.specs.declared.types.Device.{Device}
 use Rattle.stream.specs.declared.Gathered.{Gathered}
-use Rattle.stream.specs.Collecting.{gathered}
+use Rattle.stream.specs.Collecting.{emptyLine, lineText, gathered}
 use Rattle.device.specs.Answering.{Answered, answered, swallowed}
-use Rattle.device.specs.Receiving.{Ended, Taken, lineText, isMatch, digestLong, silent, spoken, refusedDigest, lineEnded, keeping, withLine, takenIn}
-use Rattle.device.specs.Calls.{Result, refusing, made, replyRoom, isShut, withParts, acceptedTaken, received, acceptedOpening, openedBy, closedBy}
+use Rattle.device.specs.Receiving.{Ended, Taken, isMatch, digestLong, silent, spoken, refusedDigest, lineEnded, keeping, withLine, takenIn}
+use Rattle.device.specs.Calls.{Result, refusing, made, replyRoom, isShut, withParts, acceptedTaken, received, isSecured, greeting, greeted, acceptedOpening, openedBy, closedBy}
 
 abbrev pub takes : Device → List ℕ → Taken
 takes d bs = takenIn (d .settings) (d .own) (d .connection) bs
@@ -92,6 +95,19 @@ module _ (d : Device) (r room : ℕ) where
     pub opened-greeted : replyRoom ≤ room → isShut (d .connection) ≡ true → openedBy d r room ≡ acceptedOpening d r
     unfolding openedBy
     opened-greeted s c = if-no _ _ (ap not legal) ∙ if-no _ _ (le-ltb room replyRoom s) ∙ if-no _ _ (ap not c)
+
+-- the greeting and the connection that it opens, by whether there is a password
+pub greeted-by : (s : Settings) (r : ℕ) (P : List ℕ → Connection → Type 0)
+    → P (greetingSecured (hexDigits 8 r)) (record { phase = awaiting; age = 0; random = r; line = emptyLine })
+    → P greetingOpen (record { phase = opened; age = 0; random = r; line = emptyLine })
+    → P (greeting s r) (greeted s r)
+unfolding greeting greeted
+greeted-by s r P secured plain = by (isSecured s)
+  where
+    by : (t : Bool) → P (if t then greetingSecured (hexDigits 8 r) else greetingOpen)
+        (record { phase = if t then awaiting else opened; age = 0; random = r; line = emptyLine })
+    by true = secured
+    by false = plain
 
 -- closing: 1, 4, or the closed connection
 module _ (d : Device) where

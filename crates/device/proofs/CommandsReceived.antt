@@ -16,10 +16,11 @@ use Rattle.text.specs.Words.{ascii}
 use Rattle.text.specs.Scans.{every}
 use Rattle.digest.specs.Hex.{leadingDigest}
 use Rattle.digest.proofs.Laws.{leading-digest-length}
-use Rattle.lines.specs.Bytes.{notCr, noCr}
+use Rattle.lines.specs.Bytes.{notCr}
 use Rattle.lines.specs.Commands.{bodyText, bodyOf, isCommand, commandText, commandLine}
 use Rattle.lines.specs.declared.command.Command.{Command}
 use Rattle.lines.specs.declared.request.Request.the-variants.{Asks}
+use Rattle.lines.proofs.Characters.{no-cr-each}
 use Rattle.lines.proofs.CommandLines.{command-length, command-no-cr}
 use Rattle.answers.specs.Said.{Said, saidBytes}
 use Rattle.record.specs.Limits.{shut, awaiting, opened}
@@ -34,7 +35,8 @@ use Rattle.device.specs.Receiving.{turned, spoken, digestLong, passwordO
 use Rattle.device.specs.Calls.{Result, replyRoom, withParts, acceptedTaken, received}
 use Rattle.device.proofs.Cases.{received-taken}
 use Rattle.device.proofs.Legal.{line-legal}
-use Rattle.device.proofs.WholeLines.{between-lines, open-line-taken, matching-line-taken, command-answered}
+use Rattle.stream.proofs.LegalLines.{between-lines}
+use Rattle.device.proofs.WholeLines.{open-line-taken, matching-line-taken, command-answered}
 
 abbrev pub replyTo : Command → Said → List ℕ
 replyTo k m = ascii "%1" ++ bodyText (bodyOf k) ++ ascii "=" ++ saidBytes m ++ ascii "\r"
@@ -48,8 +50,7 @@ commandResult d k n = record {
 }
 
 plain-text : (k : Command) → every notCr (commandText k) ≡ true
-unfolding noCr
-plain-text k = command-no-cr k
+plain-text k = no-cr-each (commandText k) (command-no-cr k)
 
 module _ (d : Device) (room : ℕ) (legal : isLegal d ≡ true) (enough : replyRoom ≤ room)
     (unmarked : d .connection .line .overlong ≡ false) (none : d .connection .line .held ≡ 0)

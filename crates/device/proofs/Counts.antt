@@ -8,7 +8,6 @@ use mathlib.Core.List.{List, [], _∷_, _++_}
 use native.Mathlib.Omega.{arith}
 use lib.ListN.{length}
 use lib.Dec.{eqb}
-use Rattle.text.specs.Words.{_is_}
 use Rattle.text.specs.Scans.{every}
 use Rattle.text.proofs.Choices.{if-all}
 use Rattle.lines.specs.Bytes.{notCr}
@@ -18,9 +17,9 @@ use Rattle.record.specs.declared.types.Settings.{Settings}
 use Rattle.record.specs.declared.types.Own.{Own}
 use Rattle.record.specs.declared.types.Connection.{Connection}
 use Rattle.record.specs.declared.types.Device.{Device}
-use Rattle.stream.specs.Collecting.{gathered}
+use Rattle.stream.proofs.LinesSpelt.{gathered-none}
 use Rattle.stream.proofs.GatheredOn.{gathered-within, gathered-ended, all-counted, line-counted}
-use Rattle.device.specs.Receiving.{Taken, silent, keeping, takenIn}
+use Rattle.device.specs.Receiving.{Taken, silent, keeping, finished, takenIn}
 use Rattle.device.specs.Calls.{received}
 use Rattle.device.proofs.Cases.{received-by, taken-line, taken-part, taken-by}
 
@@ -49,8 +48,10 @@ module _ (s : Settings) (o : Own) (c : Connection) where
   keeps-itself = if-all (λ (k : Connection). k ≡ c) (eqb (c .phase) failed) refl refl
 
   pub nothing-taken : takenIn s o c [] ≡ record { ended = silent o c; taken = 0 }
-  unfolding takenIn gathered
-  nothing-taken = ap {B = Taken} (λ (k : Connection). record { ended = silent o k; taken = 0 }) keeps-itself
+  unfolding takenIn
+  nothing-taken =
+      ap (finished s o c) (gathered-none most (c .line))
+      ∙ ap {B = Taken} (λ (k : Connection). record { ended = silent o k; taken = 0 }) keeps-itself
 
 pub received-within : (d : Device) (bs : List ℕ) (room : ℕ) → received d bs room .taken ≤ length bs
 received-within d bs room =

@@ -29,16 +29,17 @@ use Rattle.record.specs.declared.types.Own.{Own}
 use Rattle.record.specs.declared.types.Connection.{Connection}
 use Rattle.record.specs.declared.types.Device.{Device}
 use Rattle.record.proofs.LegalTold.{legal-connection}
-use Rattle.record.proofs.ConnectionTold.{connection-told, held-within, held-most-none}
+use Rattle.record.proofs.ConnectionTold.{closed-holds-none, connection-told, held-within, held-most-none}
 use Rattle.stream.specs.declared.Gathered.{Gathered}
-use Rattle.stream.specs.Collecting.{emptyLine, gathered}
+use Rattle.stream.specs.Collecting.{lineText, emptyLine, gathered}
 use Rattle.meaning.specs.Meaning.{meant, done}
-use Rattle.device.specs.Receiving.{Taken, lineText, digestLong, lineEnded, keeping, takenIn}
+use Rattle.device.specs.Receiving.{Taken, digestLong, lineEnded, keeping, takenIn}
 use Rattle.device.specs.Calls.{Result, received, greeted, openedBy, closedBy}
 use Rattle.device.proofs.Cases.{received-by, opened-by, closed-by, ended-by, taken-by}
 use Rattle.device.proofs.Legal.{collecting, line-legal}
 use Rattle.device.proofs.Untouched.{taken-keeps}
-use Rattle.device.proofs.LastBytes.{Ends, ends-none, ends-with, ends-trans, ends-unheld, gathered-ends, taken-with-cr}
+use Rattle.stream.proofs.LinesSpelt.{empty-held}
+use Rattle.stream.proofs.LastBytes.{Ends, ends-with, ends-trans, ends-unheld, gathered-ends, taken-with-cr}
 use Rattle.device.proofs.PowerLines.{isPowerOkay, powerLine, PowerEffect, quiet, sets, line-effect}
 
 pub data StreamEffect (s : Settings) (o : Own) (stream reply : List ℕ) (k : Own) : Type 0 where
@@ -131,10 +132,10 @@ module _ (s : Settings) (o : Own) (c : Connection) (bs : List ℕ) (legal : isCo
         (λ p m. stays refl refl refl) (λ p q. stays refl refl refl)
 
     line-last : Ends stream (lineText (lineEnded s o c (gathers .line) .connection .line))
-    unfolding emptyLine
     line-last =
-        ended-by s o c (gathers .line) (λ e. Ends stream (lineText (e .connection .line))) (λ p m. ends-none stream)
-        (λ p m. ends-none stream) (λ p m. ends-none stream) (λ p m. ends-none stream)
+        let none = ends-unheld stream emptyLine empty-held in
+        ended-by s o c (gathers .line) (λ e. Ends stream (lineText (e .connection .line))) (λ p m. none) (λ p m. none)
+        (λ p m. none) (λ p m. none)
         (λ p q. ends-unheld stream (c .line) (unheld c legal p q))
 
   abbrev TellsOf : Taken → Type 0
@@ -171,11 +172,12 @@ held d = lineText (d .connection .line)
 
 module _ (d : Device) (w : List ℕ) (known : Ends w (held d)) where
   pub opening-tells : (r room : ℕ) → Ends w (held (openedBy d r room .device))
-  unfolding greeted emptyLine
+  unfolding greeted
   opening-tells r room =
       opened-by d r room (λ q. Ends w (held (q .device))) (λ h. known) (λ h s. known) (λ h s c. known)
-      (λ h s c. ends-none w)
+      (λ h s c. ends-unheld w emptyLine empty-held)
 
   pub closing-tells : Ends w (held (closedBy d .device))
-  unfolding closed
-  closing-tells = closed-by d (λ q. Ends w (held (q .device))) (λ h. known) (λ h c. known) (λ h c. ends-none w)
+  closing-tells =
+      closed-by d (λ q. Ends w (held (q .device))) (λ h. known) (λ h c. known)
+      (λ h c. ends-unheld w (closed .line) closed-holds-none)

@@ -7,7 +7,6 @@ use mathlib.Core.List.{List}
 use native.Mathlib.Omega.{arith}
 use borrow.Author.Tests.{eqb-false}
 use lib.Dec.{eqb}
-use Rattle.text.specs.Words.{_is_}
 use Rattle.text.proofs.Choices.{if-all, if-by}
 use Rattle.lines.specs.Forms.{isCommandForm}
 use Rattle.record.specs.Limits.{shut, awaiting, opened, failed}
@@ -19,7 +18,6 @@ use Rattle.record.specs.declared.types.Connection.{Connection}
 use Rattle.record.specs.declared.types.Device.{Device}
 use Rattle.record.proofs.LegalTold.{legal-settings, legal-own, legal-connection, legal-by-parts}
 use Rattle.record.proofs.ConnectionTold.{ConnectionTold, connection-told, connection-shown, zero-age, closed-legal}
-use Rattle.stream.specs.Collecting.{collected}
 use Rattle.stream.proofs.LegalLines.{LegalLine, empty-legal, gathered-legal}
 use Rattle.meaning.proofs.Done.{done-legal}
 use Rattle.device.specs.Answering.{Answered, asked, answered}

@@ -12,7 +12,8 @@ pub mod SameCuts
 pub mod OutsiderStreams
 pub mod WholeLines
 pub mod CommandsReceived
-pub mod LastBytes
+pub mod FirstLines
+pub mod LinesReceived
 pub mod PowerRequests
 pub mod PowerLines
 pub mod Histories

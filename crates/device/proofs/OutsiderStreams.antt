@@ -3,8 +3,8 @@
 -- (demand 2: "a first line without the matching digest yields the refusal line only").
 -- Assumes nothing.
 use Prim.Native.Nat.{ℕ, _≤_}
-use mathlib.Core.Path.{_≡_, refl, ap, _∙_}
-use mathlib.Core.Bool.{Bool, true, false}
+use mathlib.Core.Path.{_≡_, refl, sym, ap, subst, _∙_}
+use mathlib.Core.Bool.{Bool, true, false, false≢true}
 use mathlib.Core.List.{List, [], _∷_, _++_}
 use native.Mathlib.Omega.{arith}
 use lib.Dec.{eqb}
@@ -25,6 +25,7 @@ use Rattle.device.proofs.Cases.{keeping-none, keeping-line}
 use Rattle.device.proofs.Outsiders.{Unmatched, mismatch-refused, failed-ignores-line}
 use Rattle.device.proofs.ReceivingAsMachine.{State, stateOf, leaves, collects, ends}
 use Rattle.device.proofs.SameCuts.{deviceOf, partsOf, receives, received-as-run}
+use Rattle.stream.proofs.LinesSpelt.{gathered-none, gathered-more, run-none, run-more}
 use Rattle.stream.proofs.HandedThrough.{outThrough}
 
 -- an outsider's first line, as far as it came
@@ -37,6 +38,18 @@ refusalOf g = if g .ended then erraLine else []
 record Fruitless (o : Own) (g : Gathered) (out : Out State) : Type 0 where
   own : out .state .own ≡ o
   reply : out .reply ≡ refusalOf g
+  fails : g .ended ≡ true → out .state .connection .phase ≡ failed
+  age : g .ended ≡ true → out .state .connection .age ≡ 0
+
+also : {o : Own} {g h : Gathered} {x y : Out State} → g ≡ h → x ≡ y → Fruitless o h y → Fruitless o g x
+also e f t = record {
+  own = ap (λ (k : Out State). k .state .own) f ∙ t .own;
+  reply = ap (λ (k : Out State). k .reply) f ∙ t .reply ∙ ap refusalOf (sym e);
+  fails = λ c. ap (λ (k : Out State). k .state .connection .phase) f
+      ∙ t .fails (sym (ap (λ (k : Gathered). k .ended) e) ∙ c);
+  age = λ c. ap (λ (k : Out State). k .state .connection .age) f
+      ∙ t .age (sym (ap (λ (k : Gathered). k .ended) e) ∙ c);
+}
 
 module _ (s : Settings) where
   abbrev ran : State → List ℕ → Out State
@@ -52,10 +65,10 @@ module _ (s : Settings) where
       ap {B = Out State} (λ (k : Connection). silent (stateOf (m .own) k)) (keeping-none (m .connection) _ f)
 
   pub failed-run : (m : State) (bs : List ℕ) → m .connection .phase ≡ failed → ran m bs ≡ silent m
-  unfolding run
-  failed-run m [] f = refl
+  failed-run m [] f = run-none State collects (ends s) m
   failed-run m (b ∷ bs) f =
-      ap {B = Out State} (λ (o : Out State). after (o .reply) (ran (o .state) bs)) (failed-step m b (b is "\r") f)
+      run-more State collects (ends s) m b bs
+      ∙ ap {B = Out State} (λ (o : Out State). after (o .reply) (ran (o .state) bs)) (failed-step m b (b is "\r") f)
       ∙ failed-run m bs f
 
   first-step : (m : State) (b : ℕ) (bs : List ℕ) (cr : Bool) → m .connection .phase ≡ awaiting
@@ -73,6 +86,8 @@ module _ (s : Settings) where
       record {
         own = ap (λ (k : Out State). k .state .own) still ∙ out .own;
         reply = (λ i. out .reply i ++ still i .reply);
+        fails = λ e. ap (λ (k : Out State). k .state .connection .phase) still ∙ out .phase;
+        age = λ e. ap (λ (k : Out State). k .state .connection .age) still ∙ out .age;
       }
   first-step m b bs false p n on =
       let c = m .connection in
@@ -83,16 +98,30 @@ module _ (s : Settings) where
       record {
         own = ap (λ (k : State). ran k bs .state .own) kept ∙ ends-so .own;
         reply = ap (λ (k : State). ran k bs .reply) kept ∙ ends-so .reply;
+        fails = λ e. ap (λ (k : State). ran k bs .state .connection .phase) kept ∙ ends-so .fails e;
+        age = λ e. ap (λ (k : State). ran k bs .state .connection .age) kept ∙ ends-so .age e;
       }
 
   outsider-run : (m : State) (bs : List ℕ) → m .connection .phase ≡ awaiting → Unmatched s (m .connection) bs
       → Fruitless (m .own) (firstLine (m .connection) bs) (ran m bs)
-  unfolding run gathered isMatch
-  outsider-run m [] p n = record { own = refl; reply = refl }
+  unfolding isMatch
+  outsider-run m [] p n =
+      let c = m .connection in
+      also (gathered-none (heldMost (c .phase)) (c .line)) (run-none State collects (ends s) m)
+      (record {
+        own = refl;
+        reply = refl;
+        fails = λ e. absurd (false≢true e);
+        age = λ e. absurd (false≢true e);
+      })
   outsider-run m (b ∷ bs) p n =
       let c = m .connection in
-      let l = collected (heldMost (c .phase)) (c .line) b in
-      first-step m b bs (b is "\r") p n (λ k. outsider-run (stateOf (m .own) (withLine c l)) bs p k)
+      let most = heldMost (c .phase) in
+      let l = collected most (c .line) b in
+      let g = gathered-more most (c .line) b bs in
+      let unmatched = subst (λ (k : Gathered). k .ended ≡ true → isMatch s c (k .line) ≡ false) g n in
+      also g (run-more State collects (ends s) m b bs)
+      (first-step m b bs (b is "\r") p unmatched (λ k. outsider-run (stateOf (m .own) (withLine c l)) bs p k))
 
 -- the calls, however the stream is cut
 module _ (room : ℕ) (enough : replyRoom ≤ room) (d : Device) (legal : isLegal d ≡ true)
@@ -114,3 +143,18 @@ module _ (room : ℕ) (enough : replyRoom ≤ room) (d : Device) (legal : isLega
   outsider-stream-refused =
       ap (λ (o : Out Device). o .reply) as-run
       ∙ outsider-run (d .settings) (partsOf d) (joined ps) waits unmatched .reply
+
+  pub outsider-stream-keeps-settings : handedParts (receives room) d ps .state .settings ≡ d .settings
+  outsider-stream-keeps-settings = ap (λ (o : Out Device). o .state .settings) as-run
+
+  -- once his first line ended, the connection has failed
+  module _ (cr : firstLine (d .connection) (joined ps) .ended ≡ true) where
+    pub outsider-stream-fails : handedParts (receives room) d ps .state .connection .phase ≡ failed
+    outsider-stream-fails =
+        ap (λ (o : Out Device). o .state .connection .phase) as-run
+        ∙ outsider-run (d .settings) (partsOf d) (joined ps) waits unmatched .fails cr
+
+    pub outsider-stream-age : handedParts (receives room) d ps .state .connection .age ≡ 0
+    outsider-stream-age =
+        ap (λ (o : Out Device). o .state .connection .age) as-run
+        ∙ outsider-run (d .settings) (partsOf d) (joined ps) waits unmatched .age cr

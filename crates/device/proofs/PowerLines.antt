@@ -5,30 +5,30 @@
 --   powerLine a b c d w    the line that sets the power to w, with the body bytes a b c d
 --   PowerEffect s o l r k  the line l, replied to by r, leaves the own part k of o
 -- Assumes nothing.
-use Prim.Native.Nat.{ℕ, _≤_}
+use Prim.Native.Nat.{ℕ}
 use mathlib.Core.Path.{_≡_, refl, sym, ap, _∙_}
 use mathlib.Core.Bool.{Bool, true, false, not, _&&_, false≢true}
 use mathlib.Core.List.{List, [], _∷_, _++_}
-use native.Mathlib.Omega.{arith}
-use lib.ListN.{length, drop}
-use lib.Dec.{eqb, leb}
-use borrow.Author.Tests.{leb-true, eqb-true}
-use Rattle.text.specs.Words.{ascii, _is_}
+use lib.Dec.{eqb}
+use Rattle.text.specs.Words.{ascii}
 use Rattle.text.specs.Scans.{sameBy}
-use Rattle.text.proofs.Choices.{if-by, both-left, both-right}
-use Rattle.lines.specs.Bytes.{_at_, isAlnum, upperOf}
+use Rattle.text.proofs.Choices.{if-by}
+use Rattle.lines.specs.Bytes.{_at_, upperOf}
 use Rattle.lines.specs.Commands.{switchDigit}
-use Rattle.lines.specs.Forms.{isHeaded, headBody, isCommandForm, commandMost, commandParameter, replyLine}
+use Rattle.lines.specs.Forms.{headBody, isCommandForm, commandParameter, replyLine}
 use Rattle.lines.specs.Requests.{isBody, askedOf}
 use Rattle.lines.specs.declared.command.Body.the-variants.{Powr}
 use Rattle.lines.specs.declared.command.Command.the-variants.{PowerSet}
 use Rattle.lines.specs.declared.request.Request.the-variants.{Asks}
+use Rattle.lines.proofs.PowerAsked.{isPowerSet, not-powr, powr-asked, power-parameter}
+use Rattle.lines.proofs.FormsSpelt.{form-spelt}
+use Rattle.answers.proofs.OnlyOkay.{okay-bytes}
 use Rattle.answers.specs.Said.{Said, okay, saidBytes}
 use Rattle.record.specs.declared.types.Settings.{Settings}
 use Rattle.record.specs.declared.types.Own.{Own}
 use Rattle.meaning.specs.Meaning.{meant, done}
 use Rattle.meaning.proofs.PowerSets.{PowerTurn, stays, warms, cools, power-turns}
-use Rattle.device.proofs.PowerRequests.{isPowerSet, not-powr, powr-asked, power-parameter, unchanged, carried, Comes, powr-comes}
+use Rattle.device.proofs.PowerRequests.{unchanged, carried, Comes, powr-comes}
 use Rattle.device.specs.Answering.{Answered, asked, replied, answered}
 
 -- a reply is `%1POWR=OK` exactly when its body is POWR and its parameter OK
@@ -63,8 +63,7 @@ module _ (a b c d : ℕ) (p : List ℕ) where
       ∙ and-none (isBody (a ∷ b ∷ c ∷ d ∷ []) Powr)
 
 okay-said : (a b c d : ℕ) (m : Said) → m ≡ okay → replyLine a b c d (saidBytes m) ≡ replyLine a b c d (ascii "OK")
-unfolding saidBytes
-okay-said a b c d m e = ap (λ (x : Said). replyLine a b c d (saidBytes x)) e
+okay-said a b c d m e = ap (λ (x : Said). replyLine a b c d (saidBytes x)) e ∙ ap (replyLine a b c d) okay-bytes
 
 pub okay-reply : (a b c d : ℕ) → isBody (a ∷ b ∷ c ∷ d ∷ []) Powr ≡ true
     → isPowerOkay (replyLine a b c d (ascii "OK")) ≡ true
@@ -110,54 +109,6 @@ module _ (a b c d : ℕ) (powr : isBody (a ∷ b ∷ c ∷ d ∷ []) Powr ≡ tr
   pub power-line-not-other : isPowerLine (not wanted) (powerLine a b c d wanted ++ ascii "\r") ≡ false
   power-line-not-other = line-by-parts (not wanted) ∙ not-other wanted
 
-by-seven : (l : List ℕ) → 7 ≤ length l
-    → l ≡ (l at 0) ∷ (l at 1) ∷ (l at 2) ∷ (l at 3) ∷ (l at 4) ∷ (l at 5) ∷ (l at 6) ∷ drop 7 l
-by-seven [] h = absurd (omega arith)
-by-seven (a ∷ []) h = absurd (omega arith)
-by-seven (a ∷ b ∷ []) h = absurd (omega arith)
-by-seven (a ∷ b ∷ c ∷ []) h = absurd (omega arith)
-by-seven (a ∷ b ∷ c ∷ d ∷ []) h = absurd (omega arith)
-by-seven (a ∷ b ∷ c ∷ d ∷ e ∷ []) h = absurd (omega arith)
-by-seven (a ∷ b ∷ c ∷ d ∷ e ∷ f ∷ []) h = absurd (omega arith)
-by-seven (a ∷ b ∷ c ∷ d ∷ e ∷ f ∷ g ∷ l) h = refl
-
-module _ (l : List ℕ) (form : isCommandForm l ≡ true) where
-  abbrev sized : Bool
-  sized = leb 7 (length l) && leb (length l) commandMost
-
-  abbrev marked : Bool
-  marked = l at 0 is "%" && l at 1 is "1"
-
-  abbrev lettered : Bool
-  lettered = marked && isAlnum (l at 2) && isAlnum (l at 3) && isAlnum (l at 4) && isAlnum (l at 5)
-
-  long-enough : 7 ≤ length l
-  unfolding isCommandForm
-  long-enough =
-      leb-true 7 (length l) (both-left (leb 7 (length l)) (leb (length l) commandMost)
-      (both-left sized (isHeaded 32 l) form))
-
-  headed : isHeaded 32 l ≡ true
-  unfolding isCommandForm
-  headed = both-right sized (isHeaded 32 l) form
-
-  marks : marked ≡ true
-  marks =
-      both-left marked (isAlnum (l at 2))
-      (both-left (marked && isAlnum (l at 2)) (isAlnum (l at 3))
-      (both-left (marked && isAlnum (l at 2) && isAlnum (l at 3)) (isAlnum (l at 4))
-      (both-left (marked && isAlnum (l at 2) && isAlnum (l at 3) && isAlnum (l at 4)) (isAlnum (l at 5))
-      (both-left lettered (eqb (l at 6) 32) headed))))
-
-  spelt-by-parts : {p : List ℕ} → commandParameter l ≡ p
-      → l ≡ ascii "%1" ++ headBody l ++ ascii " " ++ p
-  spelt-by-parts e =
-      let percent : l at 0 ≡ 37 = eqb-true (l at 0) 37 (both-left (l at 0 is "%") (l at 1 is "1") marks) in
-      let one : l at 1 ≡ 49 = eqb-true (l at 1) 49 (both-right (l at 0 is "%") (l at 1 is "1") marks) in
-      let space : l at 6 ≡ 32 = eqb-true (l at 6) 32 (both-right lettered (eqb (l at 6) 32) headed) in
-      by-seven l long-enough
-      ∙ (λ i. percent i ∷ one i ∷ (l at 2) ∷ (l at 3) ∷ (l at 4) ∷ (l at 5) ∷ space i ∷ e i)
-
 pub data PowerEffect (s : Settings) (o : Own) (l reply : List ℕ) (k : Own) : Type 0 where
   quiet : isPowerOkay reply ≡ false → k .power ≡ o .power → k .left ≡ o .left → PowerEffect s o l reply k
   sets : (a b c d : ℕ) (wanted : Bool) → isBody (a ∷ b ∷ c ∷ d ∷ []) Powr ≡ true → l ≡ powerLine a b c d wanted
@@ -187,7 +138,9 @@ module _ (s : Settings) (o : Own) (l : List ℕ) where
         quiet (other-said (l at 2) (l at 3) (l at 4) (l at 5) (saidBytes (meant s o (asked l))) n) p q
     by-outcome (carried wanted r m) =
         sets (l at 2) (l at 3) (l at 4) (l at 5) wanted powr
-        (spelt-by-parts l form (power-parameter (commandParameter l) wanted (sym is-asked ∙ r)))
+        (form-spelt l form
+        ∙ ap (λ (p : List ℕ). ascii "%1" ++ headBody l ++ ascii " " ++ p)
+        (power-parameter (commandParameter l) wanted (sym is-asked ∙ r)))
         (okay-said (l at 2) (l at 3) (l at 4) (l at 5) (meant s o (asked l)) m) (ap (meant s o) (sym r) ∙ m)
         (ap (done s o) r)
 

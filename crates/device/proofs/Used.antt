@@ -8,15 +8,9 @@ use native.Mathlib.Nat.{sub-zero}
 use native.Mathlib.Omega.{arith}
 use lib.ListN.{length, take, drop, length-take, drop-of-length-le}
 use lib.Seq.{take-all, take-nil}
-use borrow.Author.Tests.{lt-leb}
-use Rattle.text.proofs.Choices.{if-no}
 use Rattle.text.proofs.Orders.{le-or-lt}
 use Rattle.answers.specs.Carried.{least}
-use Rattle.answers.proofs.Counts.{least-of}
-
-least-high : (n m : ℕ) → m < n → least n m ≡ m
-unfolding least
-least-high n m h = if-no n m (lt-leb n m h)
+use Rattle.answers.proofs.Counts.{least-of, least-high}
 
 drop-take : (a b : ℕ) (s : List ℕ) → drop a (take b s) ≡ take (b - a) (drop a s)
 drop-take zero b s = ap (λ (k : ℕ). take k s) (sym (sub-zero b))

@@ -1,19 +1,17 @@
--- A line that is handed on whole, with its CR, on a connection between lines (01, "Connection": no collected bytes
--- and no
--- overlong mark): it is taken with its CR and answered, on an open connection as it is, on an awaiting one behind the
+-- A line that is handed on whole, with its CR, on a connection between lines: it is taken with its CR and answered, on an open connection as it is, on an awaiting one behind the
 -- matching digest; and a command's line is answered what the command means.
 -- Assumes nothing.
 use Prim.Native.Nat.{ℕ, _+_, _≤_}
-use mathlib.Core.Path.{_≡_, refl, sym, ap, _∙_}
-use mathlib.Core.Bool.{true, false}
-use mathlib.Core.List.{List, [], _∷_, _++_, map, append-assoc}
+use mathlib.Core.Path.{_≡_, refl, ap, _∙_}
+use mathlib.Core.Bool.{true}
+use mathlib.Core.List.{List, [], _∷_, _++_, map}
 use native.Mathlib.Omega.{arith}
 use lib.ListN.{length, take, drop, length-append}
 use lib.Seq.{take-at, drop-at}
-use borrow.Author.Tests.{eqb-true, le-leb}
+use borrow.Author.Tests.{le-leb}
 use Rattle.text.specs.Words.{ascii}
 use Rattle.text.specs.Scans.{every, itself}
-use Rattle.text.proofs.Choices.{both, both-left, both-right, if-yes}
+use Rattle.text.proofs.Choices.{both, if-yes}
 use Rattle.text.proofs.Scanning.{every-append}
 use Rattle.text.proofs.Sameness.{turned-same}
 use Rattle.digest.specs.Hex.{leadingDigest}
@@ -29,37 +27,20 @@ use Rattle.lines.proofs.CommandLines.{command-body, command-parameter, command-
 use Rattle.lines.proofs.CommandsAskedBack.{command-asked-back}
 use Rattle.answers.specs.Said.{saidBytes}
 use Rattle.record.specs.Limits.{lineRoom, awaiting, opened}
-use Rattle.record.specs.Record.{zeros, inRoom}
-use Rattle.record.specs.Legal.{isZero, heldMost}
+use Rattle.record.specs.Record.{inRoom}
+use Rattle.record.specs.Legal.{heldMost}
 use Rattle.record.specs.declared.types.Settings.{Settings}
 use Rattle.record.specs.declared.types.Own.{Own}
 use Rattle.record.specs.declared.types.Line.{Line}
 use Rattle.record.specs.declared.types.Connection.{Connection}
-use Rattle.record.proofs.Kept.{filled-take}
+use Rattle.record.proofs.Kept.{filled-take, room-first}
 use Rattle.record.proofs.ConnectionTold.{held-most-opened, held-most-awaiting}
-use Rattle.stream.specs.Collecting.{lineOf, emptyLine, gathered}
-use Rattle.stream.proofs.LegalLines.{LegalLine}
+use Rattle.stream.specs.Collecting.{lineText, lineOf, emptyLine, gathered}
 use Rattle.stream.proofs.LinesCollected.{empty-is-none, line-gathered}
 use Rattle.meaning.specs.Meaning.{meant, done}
 use Rattle.device.specs.Answering.{asked, replied, swallowed, answered}
-use Rattle.device.specs.Receiving.{Ended, Taken, lineText, spoken, isMatch, digestLong, passwordOf, lineEnded, finished, takenIn}
+use Rattle.device.specs.Receiving.{Ended, Taken, spoken, isMatch, digestLong, passwordOf, lineEnded, finished, takenIn}
 use Rattle.device.proofs.Cases.{ended-open, ended-match}
-
--- between lines, a legal line is the empty one
-zeros-by : (s : List ℕ) → every isZero s ≡ true → s ≡ zeros (length s)
-zeros-by [] e = refl
-zeros-by (x ∷ s) e =
-    let first = eqb-true x 0 (both-left (isZero x) (every isZero s) e) in
-    let rest = zeros-by s (both-right (isZero x) (every isZero s) e) in
-    (λ i. first i ∷ rest i)
-
-pub between-lines : (phase : ℕ) (l : Line) → LegalLine phase l → l .overlong ≡ false → l .held ≡ 0 → l ≡ emptyLine
-unfolding emptyLine
-between-lines phase l p unmarked none =
-    let clear : every isZero (l .bytes) ≡ true = ap (λ (n : ℕ). every isZero (drop n (l .bytes))) (sym none)
-    ∙ p .kept .clear in
-    let cleared : l .bytes ≡ zeros lineRoom = zeros-by (l .bytes) clear ∙ ap zeros (p .kept .long) in
-    (λ i. record { overlong = unmarked i; held = none i; bytes = cleared i })
 
 map-itself : (xs : List ℕ) → map itself xs ≡ xs
 map-itself [] = refl
@@ -104,11 +85,10 @@ module _ (s : Settings) (o : Own) (c : Connection) (empty : c .line ≡ emptyLin
     led-long = length-append digest xs ∙ ap (λ (n : ℕ). n + length xs) digest-long
 
     led-matches : length xs ≤ commandMost → isMatch s c (lineOf led) ≡ true
-    unfolding isMatch inRoom
+    unfolding isMatch
     led-matches short =
         let front : take digestLong (inRoom lineRoom led) ≡ digest
-        = ap (take digestLong) (append-assoc digest xs (drop (length led) (zeros lineRoom)))
-        ∙ take-at digest (xs ++ drop (length led) (zeros lineRoom)) digestLong digest-long in
+        = room-first lineRoom led digestLong (omega (arith, led-long)) ∙ take-at digest xs digestLong digest-long in
         both (le-leb digestLong (length led) (omega (arith, led-long)))
         (turned-same itself (take digestLong (inRoom lineRoom led)) digest (map-itself _ ∙ front))
 

@@ -3,3 +3,4 @@ pub mod Answering
 pub mod Receiving
 pub mod Told
 pub mod Calls
+pub mod Computing

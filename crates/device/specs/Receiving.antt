@@ -1,5 +1,4 @@
 -- Receiving on the parts: settings, the projector's own part, and one connection (01, "Connection").
---   lineText l           the bytes collected of a line
 --   turned c phase       the connection in another phase, with nothing collected: age 0, the random number kept
 --   isMatch s c l        the line is not overlong and starts with the digest of the random number and the password
 --   lineEnded s o c l    what the CR of the line l does
@@ -22,7 +21,7 @@ use Rattle.record.specs.declared.types.Own.{Own}
 use Rattle.record.specs.declared.types.Line.{Line}
 use Rattle.record.specs.declared.types.Connection.{Connection}
 use Rattle.stream.specs.declared.Gathered.{Gathered}
-use Rattle.stream.specs.Collecting.{emptyLine, gathered}
+use Rattle.stream.specs.Collecting.{emptyLine, lineText, gathered}
 use Rattle.device.specs.Answering.{Answered, answered, swallowed}
 
 pub record Ended : Type 0 where
@@ -33,9 +32,6 @@ pub record Ended : Type 0 where
 pub record Taken : Type 0 where
   pub ended : Ended
   pub taken : ℕ
-
-abbrev pub lineText : Line → List ℕ
-lineText l = take (l .held) (l .bytes)
 
 abbrev pub turned : Connection → ℕ → Connection
 turned c phase = record { phase = phase; age = 0; random = c .random; line = emptyLine }

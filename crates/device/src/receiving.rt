@@ -19,7 +19,8 @@ ghost use Rattle.digest.specs.Hex.{leadingDigest};
 ghost use Rattle.answers.specs.Carried.{least};
 ghost use Rattle.device.specs.Ready.{Ready};
 ghost use Rattle.device.specs.Answering.{answered};
-ghost use Rattle.device.specs.Receiving.{lineText, turned, isMatch, spoken, lineEnded, keeping, takenIn};
+ghost use Rattle.stream.specs.Collecting.{lineText};
+ghost use Rattle.device.specs.Receiving.{turned, isMatch, spoken, lineEnded, keeping, takenIn};
 ghost use Rattle.device.specs.Told.{spokenOf, doneOf, tookOf};
 
 // What a line's end leaves; the reply stands in the lent memory.

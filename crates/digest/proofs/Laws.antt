@@ -6,18 +6,19 @@ use mathlib.Core.Path.{_≡_, refl, ap, _∙_}
 use mathlib.Core.Bool.{Bool, true, false, not, _&&_, _||_}
 use mathlib.Core.List.{List, [], _∷_}
 use mathlib.Core.Logic.{_⊎_, inl, inr}
-use Prim.Native.Nat.{ℕ, zero, suc, _*_, _/_, _%_, _^_, _≤_, _<_}
+use Prim.Native.Nat.{ℕ, zero, suc, _+_, _-_, _*_, _/_, _%_, _^_, _≤_, _<_}
 use Prim.Native.Char.{code}
 use native.Mathlib.Omega.{arith}
 use lib.ListN.{length, getD}
-use lib.Dec.{leb, eqb}
-use borrow.Author.Tests.{leb-true, ne-eqb}
-use Rattle.text.specs.Words.{_is_, _from_to_}
+use lib.Dec.{leb, ltb, eqb}
+use borrow.Author.Tests.{leb-true, eqb-true, ne-eqb}
+use Rattle.text.specs.Words.{if_then_else_, _is_, _from_to_}
 use Rattle.text.specs.Scans.{every}
 use Rattle.text.proofs.Choices.{both, both-left, both-right}
+use Rattle.text.proofs.EachBelow.{each-below}
 use Rattle.text.proofs.Scanning.{every-append, every-at, every-implies}
 use Rattle.digest.specs.Md5.{md5Of}
-use Rattle.digest.specs.Hex.{hexOf, hexDigits, isHexDigit, leadingDigest}
+use Rattle.digest.specs.Hex.{digitOf, hexOf, hexDigits, isHexDigit, leadingDigest}
 use Rattle.digest.proofs.Tables.{digit-is-hex}
 
 pub md5-length : (s : List ℕ) → length (md5Of s) ≡ 16
@@ -34,6 +35,14 @@ hex-of-md5-length s = hex-length (md5Of s) ∙ ap (λ (n : ℕ). 2 * n) (md5-len
 
 pub leading-digest-length : (random : ℕ) (password : List ℕ) → length (leadingDigest random password) ≡ 32
 leading-digest-length random password = hex-of-md5-length _
+
+-- each of the sixteen digits, by its number
+abbrev pub spelled : ℕ → ℕ
+spelled n = if ltb n 10 then code "0" + n else code "a" + (n - 10)
+
+pub digit-spelled : (n : ℕ) → n < 16 → digitOf n ≡ spelled n
+unfolding digitOf
+digit-spelled n h = eqb-true _ _ (each-below (λ k. eqb (digitOf k) (spelled k)) 16 refl n h)
 
 pub hex-digits-length : (n x : ℕ) → length (hexDigits n x) ≡ n
 hex-digits-length zero x = refl

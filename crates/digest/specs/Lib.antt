@@ -3,3 +3,4 @@ pub mod Padding
 pub mod Rounds
 pub mod Md5
 pub mod Hex
+pub mod Computing

@@ -14,6 +14,7 @@ use Rattle.lines.specs.Inputs.{isInputText, sourceNamed, inputNamed, rea
 use Rattle.lines.specs.declared.input.Source.{Source}
 use Rattle.lines.specs.declared.input.Source.the-variants.{Rgb, Video, Digital, Storage, Network}
 use Rattle.lines.specs.declared.input.Input.{Input}
+use Rattle.lines.specs.declared.input.MaybeInput.{MaybeInput}
 use Rattle.lines.specs.declared.input.MaybeInput.the-variants.{InputIs, NoInput}
 
 -- a source's character is one of the five, and names it
@@ -84,6 +85,13 @@ module _ (a b : ℕ) (named : isInputText a b ≡ true) where
       let high = leb-true b 57 (both-right (leb 49 b) _ number-is) in
       let same : numberDigit (b - 48) ≡ b = omega arith in
       (λ j. source-back j ∷ same j ∷ [])
+
+-- what is read of two characters, by whether they name an input
+pub read-input-by : (P : MaybeInput → Type 0) (a b : ℕ) → (isInputText a b ≡ true → P (InputIs (inputNamed a b)))
+    → P NoInput
+    → P (readInput a b)
+unfolding readInput
+read-input-by P a b named none = if-by P (isInputText a b) named (λ e. none)
 
 -- two characters of which the second is 0 or none name no input
 pub no-number-no-input : (a b : ℕ) → b < code "1" → readInput a b ≡ NoInput

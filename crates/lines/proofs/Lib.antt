@@ -6,5 +6,7 @@ pub mod Bodies
 mod Keyed
 pub mod CommandLines
 pub mod CommandsAskedBack
+pub mod FormsSpelt
+pub mod PowerAsked
 pub mod RepliesReadBack
 mod Examples

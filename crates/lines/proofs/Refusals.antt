@@ -10,7 +10,7 @@ use lib.ListN.{length}
 use lib.Dec.{leb, eqb}
 use borrow.Author.Tests.{eqb-true, leb-true, le-leb, ne-eqb}
 use Rattle.text.specs.Words.{_is_, _from_to_}
-use Rattle.text.proofs.Choices.{if-no, both-left, both-right}
+use Rattle.text.proofs.Choices.{if-no, if-by, both-left, both-right}
 use Rattle.lines.specs.Bytes.{_at_}
 use Rattle.lines.specs.Inputs.{numberDigit}
 use Rattle.lines.specs.Texts.{isRefusal, refusalOf}
@@ -42,6 +42,17 @@ first-not-E p h = rw (ne-eqb (p at 0) (code "E") h) (if-no ((p at 3) - code "0")
     last : (a : Bool) → (a && false && p at 1 is "R" && p at 2 is "R" && p at 3 from "1" to "4") ≡ false
     last true = refl
     last false = refl
+
+pub refusal-at-most-4 : (p : List ℕ) → refusalOf p ≤ 4
+unfolding refusalOf
+refusal-at-most-4 p =
+    if-by (λ (n : ℕ). n ≤ 4) (isRefusal p) (λ r. omega (arith, refusal-high p r)) (λ r. omega arith)
+
+-- only four bytes are one
+pub not-four-no-refusal : (p : List ℕ) → (length p ≡ 4 → ⊥) → refusalOf p ≡ 0
+unfolding refusalOf
+not-four-no-refusal p h =
+    if-by (λ (n : ℕ). n ≡ 0) (isRefusal p) (λ r. absurd (h (refusal-long p r))) (λ r. refl)
 
 pub refusal-back : (n : ℕ) → 1 ≤ n → n ≤ 4 → refusalOf (code "E" ∷ code "R" ∷ code "R" ∷ numberDigit n ∷ []) ≡ n
 unfolding refusalOf isRefusal

@@ -5,3 +5,4 @@ pub mod Commands
 pub mod Keys
 pub mod Requests
 pub mod Forms
+pub mod Computing

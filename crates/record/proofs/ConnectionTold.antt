@@ -4,6 +4,7 @@
 use Prim.Native.Nat.{ℕ, _≤_, _<_}
 use mathlib.Core.Path.{_≡_, refl, sym, ap, _∙_}
 use mathlib.Core.Bool.{Bool, true, false, not, _&&_, _||_, false≢true}
+use mathlib.Core.List.{[]}
 use native.Mathlib.Omega.{arith}
 use lib.Dec.{leb, eqb}
 use borrow.Author.Tests.{leb-true, le-leb, ltb-true, lt-ltb, eqb-true, eq-eqb}
@@ -11,11 +12,12 @@ use Rattle.text.specs.Words.{if_then_else_}
 use Rattle.text.proofs.Choices.{both, both-left, both-right, if-by}
 use Rattle.lines.specs.Bytes.{noCr}
 use Rattle.lines.specs.Forms.{commandMost}
+use Rattle.lines.proofs.Characters.{no-cr-of}
 use Rattle.record.specs.Limits.{lineRoom, ageEnd, shut, awaiting, opened, failed}
 use Rattle.record.specs.Record.{closed}
-use Rattle.record.specs.Legal.{isClear, isKept, isTimed, isCollecting, isAge, heldMost, isHeld, isConnection}
+use Rattle.record.specs.Legal.{isKept, isTimed, isCollecting, isAge, heldMost, isHeld, isConnection}
 use Rattle.record.specs.declared.types.Connection.{Connection}
-use Rattle.record.proofs.Kept.{Kept, kept-told, kept-shown}
+use Rattle.record.proofs.Kept.{Kept, kept-told, kept-shown, nothing-kept}
 
 pub record ConnectionTold (c : Connection) : Type 0 where
   pub line : Kept lineRoom noCr (c .line .bytes) (c .line .held)
@@ -73,10 +75,9 @@ module _ (c : Connection) where
       (random-shown (c .phase) (c .random) (t .random)))
       (t .held)
 
--- the closed connection is legal, and spelt out it is the constant `Connection::CLOSED`
-pub closed-legal : isConnection closed ≡ true
-unfolding isConnection closed isKept isClear noCr isAge isHeld heldMost
-closed-legal = refl
+pub closed-holds-none : closed .line .held ≡ 0
+unfolding closed
+closed-holds-none = refl
 
 -- age, by the phase
 module _ (phase : ℕ) where
@@ -143,3 +144,15 @@ module _ (phase n : ℕ) where
 pub marked-held : (phase : ℕ) → isCollecting phase ≡ true → isHeld phase true 0 ≡ true
 unfolding isHeld
 marked-held phase h = both h refl
+
+pub closed-legal : isConnection closed ≡ true
+unfolding closed
+closed-legal =
+    connection-shown closed
+    (record {
+      line = nothing-kept lineRoom noCr (no-cr-of [] refl);
+      phase = omega arith;
+      age = zero-age shut;
+      random = λ e. refl;
+      held = unmarked-held shut 0 (omega arith);
+    })

@@ -8,11 +8,12 @@ use mathlib.Core.List.{List, [], _∷_, _++_}
 use native.Mathlib.Omega.{arith}
 use native.Mathlib.Numerals.{add-one}
 use lib.ListN.{set, length-set, length, getD, take, drop, length-append, length-drop, length-replicate}
-use lib.Seq.{drop-cons, drop-set-lt, take-suc-set, getD-drop, length-take-le, take-append-seam, drop-append-seam}
+use lib.Seq.{drop-cons, drop-set-lt, take-suc-set, getD-drop, length-take-le, take-append-seam, drop-append-seam, take-append-le}
 use lib.Dec.{leb, eqb}
 use borrow.Author.Tests.{eqb-true, eq-eqb, leb-true, le-leb}
 use Rattle.text.specs.Scans.{every}
 use Rattle.text.proofs.Choices.{both, both-left, both-right}
+use Rattle.text.proofs.Stores.{sets-snoc, sets-over}
 use Rattle.record.specs.Record.{zeros, inRoom}
 use Rattle.record.specs.Legal.{isZero, isClear, isKept}
 use Rattle.record.proofs.Places.{every-by-place}
@@ -121,3 +122,21 @@ module _ (room : ℕ) (rule : List ℕ → Bool) (s : List ℕ) (fits : length s
     clear = ap (every isZero) (drop-append-seam s (drop (length s) (zeros room))) ∙ zeros-clear room (length s);
     follows = ap rule filled-take ∙ h;
   }
+
+-- an empty list leaves the room cleared, a byte more is stored where the list ended, and its front is the list's
+pub room-empty : (room : ℕ) → inRoom room [] ≡ zeros room
+unfolding inRoom
+room-empty room = refl
+
+pub room-more : (room : ℕ) (s : List ℕ) (b : ℕ) → length s < room
+    → set (inRoom room s) (length s) b ≡ inRoom room (s ++ (b ∷ []))
+unfolding inRoom
+room-more room s b h =
+    let long : length (zeros room) ≡ room = length-replicate room 0 in
+    let more : length (s ++ (b ∷ [])) ≤ length (zeros room) = omega (arith, length-append s (b ∷ [])) in
+    sets-snoc (zeros room) 0 s b (sym (sets-over s (zeros room) (omega arith))) (omega arith)
+    ∙ sets-over (s ++ (b ∷ [])) (zeros room) more
+
+pub room-first : (room : ℕ) (s : List ℕ) (n : ℕ) → n ≤ length s → take n (inRoom room s) ≡ take n s
+unfolding inRoom
+room-first room s n h = take-append-le n s (drop (length s) (zeros room)) h

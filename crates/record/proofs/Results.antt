@@ -1,20 +1,33 @@
--- Demand 1 for the calls of this crate: a refusal returns the record that was given (a refused set-up the blank one),
--- and any two results that meet a call's promise are equal.
+-- Demand 1 for the calls of this crate: the number is the first row of the table that applies, a refusal returns the
+-- record that was given (a refused set-up the blank one), and any two results that meet a call's promise are equal.
 -- Assumes nothing.
 use Prim.Native.Nat.{ℕ}
-use mathlib.Core.Path.{_≡_, refl}
-use mathlib.Core.Bool.{Bool}
+use mathlib.Core.Path.{_≡_, refl, sym, ap, _∙_}
+use mathlib.Core.Bool.{Bool, not}
 use mathlib.Core.List.{List}
+use Rattle.text.specs.Words.{if_then_else_}
+use Rattle.text.proofs.Choices.{if-yes, if-no, if-by}
 use Rattle.text.proofs.OneResult.{one-result}
+use Rattle.record.specs.Rules.{isErrors}
 use Rattle.record.specs.Record.{blank}
 use Rattle.record.specs.Legal.{isLegal}
-use Rattle.record.specs.SetUp.{setUp}
+use Rattle.record.specs.SetUp.{isSetUp, setUp}
 use Rattle.record.specs.HostCalls.{faultSet, errorsSet}
 use Rattle.record.specs.declared.types.Device.{Device}
 use Rattle.record.specs.declared.types.Changed.{Changed}
 use Rattle.record.proofs.Calls.{set-up-by, fault-set-by, errors-set-by}
 
 module _ (name maker model other password inputs lamps : List ℕ) (warm cool : ℕ) where
+  abbrev inRange : Bool
+  inRange = isSetUp name maker model other password inputs lamps warm cool
+
+  pub set-up-number : setUp name maker model other password inputs lamps warm cool .number
+      ≡ (if not inRange then 3 else 0)
+  unfolding setUp
+  set-up-number =
+      if-by (λ (r : Changed). r .number ≡ (if not inRange then 3 else 0)) inRange (λ h. sym (if-no _ _ (ap not h)))
+      (λ h. sym (if-yes _ _ (ap not h)))
+
   pub set-up-refusal : (setUp name maker model other password inputs lamps warm cool .number ≡ 0 → ⊥)
       → setUp name maker model other password inputs lamps warm cool .device ≡ blank
   set-up-refusal =
@@ -28,6 +41,24 @@ module _ (name maker model other password inputs lamps : List ℕ) (warm cool : 
 module _ (d : Device) where
   pub legal-one : {r q : Bool} → r ≡ isLegal d → q ≡ isLegal d → r ≡ q
   legal-one e f = one-result e f
+
+  abbrev illegal : Bool
+  illegal = not (isLegal d)
+
+  pub fault-number : (m : Bool) → faultSet d m .number ≡ (if illegal then 1 else 0)
+  unfolding faultSet
+  fault-number m =
+      if-by (λ (r : Changed). r .number ≡ (if illegal then 1 else 0)) illegal (λ h. sym (if-yes _ _ h))
+      (λ h. sym (if-no _ _ h))
+
+  pub errors-number : (ds : List ℕ)
+      → errorsSet d ds .number ≡ (if illegal then 1 else if not (isErrors ds) then 3 else 0)
+  unfolding errorsSet
+  errors-number ds =
+      let wrong = not (isErrors ds) in
+      let P : Changed → Type 0 = λ r. r .number ≡ (if illegal then 1 else if wrong then 3 else 0) in
+      if-by P illegal (λ h. sym (if-yes _ _ h)) (λ h. if-by P wrong (λ k. sym (if-no _ _ h ∙ if-yes _ _ k))
+      (λ k. sym (if-no _ _ h ∙ if-no _ _ k)))
 
   pub fault-refusal : (m : Bool) → (faultSet d m .number ≡ 0 → ⊥) → faultSet d m .device ≡ d
   fault-refusal m = fault-set-by d (λ r. (r .number ≡ 0 → ⊥) → r .device ≡ d) m (λ n. refl) (λ h n. absurd (n refl))

@@ -11,7 +11,7 @@ use Rattle.text.proofs.Choices.{both}
 use Rattle.lines.specs.Texts.{isName, isInfo, isPassword}
 use Rattle.record.specs.Limits.{textRoom, inputRoom, lampsMost}
 use Rattle.record.specs.Rules.{isNewInput, isInputs, isLamps, isErrors}
-use Rattle.record.specs.Record.{zeros, inRoom, settingsOf, startOwn, started, blank}
+use Rattle.record.specs.Record.{zeros, inRoom, closed, settingsOf, startOwn, started, blank}
 use Rattle.record.specs.Legal.{isKept, isSettings, isOwn, isLegal}
 use Rattle.record.specs.SetUp.{isSetUp, setUp}
 use Rattle.record.specs.declared.types.Changed.{Changed}
@@ -98,6 +98,15 @@ module _ (name maker model other password inputs lamps : List ℕ) (warm cool : 
   started-lamp k l = List·getD-append lamps (drop (length lamps) (zeros lampsMost)) 0 k l
 
 module _ (name maker model other password inputs lamps : List ℕ) (warm cool : ℕ) where
+  -- the started device, part by part
+  pub started-parts : started name maker model other password inputs lamps warm cool ≡ record {
+    settings = settingsOf name maker model other password inputs (length lamps) warm cool;
+    own = startOwn lamps;
+    connection = closed;
+  }
+  unfolding started
+  started-parts = refl
+
   abbrev result : Changed
   result = setUp name maker model other password inputs lamps warm cool
 

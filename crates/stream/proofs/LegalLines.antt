@@ -2,19 +2,22 @@
 -- zero.
 -- Assumes nothing.
 use Prim.Native.Nat.{ℕ, _+_}
-use mathlib.Core.Path.{_≡_, refl, ap, _∙_}
-use mathlib.Core.Bool.{Bool, true, not}
+use mathlib.Core.Path.{_≡_, refl, sym, ap, _∙_}
+use mathlib.Core.Bool.{Bool, true, false, not}
 use mathlib.Core.List.{List, [], _∷_, _++_}
 use native.Mathlib.Omega.{arith}
-use lib.ListN.{take}
+use lib.ListN.{length, take, drop}
 use lib.Dec.{leb}
-use borrow.Author.Tests.{leb-false, eqb-false, ne-eqb}
+use borrow.Author.Tests.{leb-false, eqb-true, eqb-false, ne-eqb}
 use Rattle.text.specs.Words.{_is_}
-use Rattle.text.proofs.Choices.{if-by, both}
+use Rattle.text.specs.Scans.{every}
+use Rattle.text.proofs.Choices.{if-by, both, both-left, both-right}
 use Rattle.text.proofs.Scanning.{every-append}
 use Rattle.lines.specs.Bytes.{notCr, noCr}
+use Rattle.lines.proofs.Characters.{no-cr-of, no-cr-each}
 use Rattle.record.specs.Limits.{lineRoom}
-use Rattle.record.specs.Legal.{isCollecting, heldMost, isHeld}
+use Rattle.record.specs.Record.{zeros}
+use Rattle.record.specs.Legal.{isZero, isCollecting, heldMost, isHeld}
 use Rattle.record.specs.declared.types.Line.{Line}
 use Rattle.record.proofs.Kept.{Kept, nothing-kept, one-more-kept}
 use Rattle.record.proofs.ConnectionTold.{held-most-room, unmarked-held, marked-held}
@@ -27,16 +30,16 @@ pub record LegalLine (phase : ℕ) (l : Line) : Type 0 where
   pub held : isHeld phase (l .overlong) (l .held) ≡ true
 
 pub empty-legal : (phase : ℕ) → LegalLine phase emptyLine
-unfolding emptyLine noCr
-empty-legal phase = record { kept = nothing-kept lineRoom noCr refl; held = unmarked-held phase 0 (omega arith) }
+unfolding emptyLine
+empty-legal phase = record { kept = nothing-kept lineRoom noCr (no-cr-of [] refl); held = unmarked-held phase 0 (omega arith) }
 
 overlong-legal : (phase : ℕ) → isCollecting phase ≡ true → LegalLine phase overlongLine
-unfolding overlongLine noCr
-overlong-legal phase e = record { kept = nothing-kept lineRoom noCr refl; held = marked-held phase e }
+unfolding overlongLine
+overlong-legal phase e = record { kept = nothing-kept lineRoom noCr (no-cr-of [] refl); held = marked-held phase e }
 
 no-cr-more : (s : List ℕ) (b : ℕ) → noCr s ≡ true → (b ≡ 13 → ⊥) → noCr (s ++ (b ∷ [])) ≡ true
-unfolding noCr
-no-cr-more s b e n = every-append notCr s (b ∷ []) e (both (ap not (ne-eqb b 13 n)) refl)
+no-cr-more s b e n =
+    no-cr-of (s ++ (b ∷ [])) (every-append notCr s (b ∷ []) (no-cr-each s e) (both (ap not (ne-eqb b 13 n)) refl))
 
 pub collected-legal : (phase : ℕ) (l : Line) (b : ℕ) → isCollecting phase ≡ true → (b ≡ 13 → ⊥) → LegalLine phase l
     → LegalLine phase (collected (heldMost phase) l b)
@@ -61,3 +64,19 @@ gathered-legal phase l (b ∷ bs) e p =
     if-by (λ (g : Gathered). LegalLine phase (g .line)) (b is "\r") (λ cr. p)
     (λ n. gathered-legal phase (collected (heldMost phase) l b) bs e
     (collected-legal phase l b e (eqb-false b 13 n) p))
+
+-- between lines (01, "Connection": no collected bytes and no overlong mark) a legal line is the empty one
+zeros-by : (s : List ℕ) → every isZero s ≡ true → s ≡ zeros (length s)
+zeros-by [] e = refl
+zeros-by (x ∷ s) e =
+    let first = eqb-true x 0 (both-left (isZero x) (every isZero s) e) in
+    let rest = zeros-by s (both-right (isZero x) (every isZero s) e) in
+    (λ i. first i ∷ rest i)
+
+pub between-lines : (phase : ℕ) (l : Line) → LegalLine phase l → l .overlong ≡ false → l .held ≡ 0 → l ≡ emptyLine
+unfolding emptyLine
+between-lines phase l p unmarked none =
+    let clear : every isZero (l .bytes) ≡ true = ap (λ (n : ℕ). every isZero (drop n (l .bytes))) (sym none)
+    ∙ p .kept .clear in
+    let cleared : l .bytes ≡ zeros lineRoom = zeros-by (l .bytes) clear ∙ ap zeros (p .kept .long) in
+    (λ i. record { overlong = unmarked i; held = none i; bytes = cleared i })

@@ -5,3 +5,5 @@ pub mod HandedThrough
 pub mod OneCallGathers
 pub mod LinesCollected
 pub mod LegalLines
+pub mod LinesSpelt
+pub mod LastBytes

@@ -1,15 +1,15 @@
 -- Collecting a line (01, "Connection": "takes bytes up to and including the first CR, or all of them if none").
 --   lineOf xs                the line with the bytes xs collected, and its unused room zero
+--   lineText l               the bytes collected of a line
 --   emptyLine, overlongLine  the line with nothing collected; with the mark alone
 --   collected most l b       the line after one byte more that is no CR; past `most` bytes it only keeps the mark
 --   collectedAll most l bs   the line after these bytes, one after the other
---   gathered most l bs       the line after the bytes of bs before the first CR, how many these are, and whether CR
--- came
+--   gathered most l bs       the line after the bytes of bs before the first CR, how many these are, and whether it came
 -- Assumes nothing.
 use Prim.Native.Nat.{ℕ, _+_}
 use mathlib.Core.Bool.{true, false}
 use mathlib.Core.List.{List, [], _∷_}
-use lib.ListN.{length, set}
+use lib.ListN.{length, take, set}
 use lib.Dec.{leb}
 use Rattle.text.specs.Words.{if_then_else_, _is_}
 use Rattle.record.specs.Limits.{lineRoom}
@@ -19,6 +19,9 @@ use Rattle.stream.specs.declared.Gathered.{Gathered}
 
 abbrev pub lineOf : List ℕ → Line
 lineOf xs = record { overlong = false; held = length xs; bytes = inRoom lineRoom xs }
+
+abbrev pub lineText : Line → List ℕ
+lineText l = take (l .held) (l .bytes)
 
 unfoldable pub emptyLine : Line
 emptyLine = record { overlong = false; held = 0; bytes = zeros lineRoom }

@@ -1,2 +1,3 @@
 pub mod Collecting
 pub mod Machine
+pub mod Computing

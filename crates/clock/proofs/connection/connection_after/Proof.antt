@@ -7,7 +7,7 @@ use native.Mathlib.Omega.{arith}
 use borrow.Author.Tests.{not-true, not-false}
 use borrow.Author.Needs.{needs}
 use Rattle.record.specs.Legal.{isTimed}
-use Rattle.record.specs.Record.{closed}
+use Rattle.record.proofs.Spelt.{closed-spelt}
 use Rattle.clock.specs.Second.{times, connectionSecond}
 use Rattle.clock.proofs.ConnectionsAge.{untimed-stays, grows-older, closes}
 use Rattle.clock.proofs.connection.connection_after.Statement.{statement}
@@ -34,18 +34,16 @@ at-once c =
     ap (λ n. times connectionSecond n (args .c)) (sym (c .if2 .taken))
 
 outlived : tie.Need-returns-3
-unfolding closed
 outlived c =
     let timed = c .before .before in
-    sym (closes (start timed .args .n) (start timed .args .c) (ages timed) (omega arith) (omega arith))
+    sym closed-spelt ∙ sym (closes (start timed .args .n) (start timed .args .c) (ages timed) (omega arith) (omega arith))
 
 closed-by-age : tie.Need-returns-4
-unfolding closed
 closed-by-age c =
     let some-pass = c .before .before .before in
     let timed = some-pass .before in
     let some : 1 ≤ start timed .args .n = omega (arith, some-pass .if2 .left) in
-    sym (closes (start timed .args .n) (start timed .args .c) (ages timed) some (omega arith))
+    sym closed-spelt ∙ sym (closes (start timed .args .n) (start timed .args .c) (ages timed) some (omega arith))
 
 older : tie.Need-returns-5
 older c =

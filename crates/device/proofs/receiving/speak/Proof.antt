@@ -4,7 +4,8 @@ use mathlib.Core.Path.{_≡_}
 use lib.ListN.{drop}
 use borrow.Author.Needs.{needs}
 use Rattle.device.specs.Answering.{answered}
-use Rattle.device.specs.Receiving.{lineText, spoken}
+use Rattle.stream.specs.Collecting.{lineText}
+use Rattle.device.specs.Receiving.{spoken}
 use Rattle.device.specs.Told.{doneOf}
 use Rattle.device.specs.declared.receiving.Done.{Done}
 use Rattle.device.proofs.receiving.speak.Statement.{statement}

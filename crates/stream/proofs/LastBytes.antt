@@ -1,6 +1,4 @@
--- What a connection holds of a line is the end of what it was sent: an outsider who keeps all bytes taken, in a row,
--- has
--- it there.
+-- What is collected of a line is the end of what was sent: someone who keeps all bytes taken, in a row, has it there.
 --   Ends w h      h is the end of w
 -- Assumes nothing.
 use Prim.Native.Nat.{ℕ, suc, _+_, _<_}
@@ -18,10 +16,9 @@ use Rattle.text.proofs.Choices.{if-by}
 use Rattle.record.specs.Legal.{isCollecting, isHeld, heldMost}
 use Rattle.record.specs.declared.types.Line.{Line}
 use Rattle.record.proofs.ConnectionTold.{held-most-room, marked-none}
 use Rattle.stream.specs.declared.Gathered.{Gathered}
-use Rattle.stream.specs.Collecting.{overlongLine, collected, gathered}
+use Rattle.stream.specs.Collecting.{lineText, overlongLine, collected, gathered}
 use Rattle.stream.proofs.LegalLines.{LegalLine, collected-legal}
-use Rattle.device.specs.Receiving.{lineText}
 
 pub record Ends (w h : List ℕ) : Type 0 where
   pub before : List ℕ

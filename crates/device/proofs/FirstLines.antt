@@ -1,0 +1,85 @@
+-- The first line on an awaiting connection between lines, as the bytes before its CR (01, "Connection": "the first 32
+-- bytes are compared exactly with the lowercase hex digest .., and the line at most 167 bytes before CR").
+--   isLed s c l       the line l starts with the digest of the random number and the password, and is not overlong
+-- Assumes nothing.
+use Prim.Native.Nat.{ℕ, _≤_, _<_}
+use mathlib.Core.Path.{_≡_, sym, ap, _∙_}
+use mathlib.Core.Bool.{Bool, true, false, not, _&&_, false≢true}
+use mathlib.Core.List.{List, [], _∷_, _++_}
+use mathlib.Core.Logic.{⊎-elim}
+use native.Mathlib.Omega.{arith}
+use lib.ListN.{length, take}
+use lib.Dec.{leb}
+use borrow.Author.Tests.{leb-true, le-leb}
+use Rattle.text.specs.Scans.{every, sameBy, itself}
+use Rattle.text.proofs.Choices.{both, both-left, both-right, alike}
+use Rattle.text.proofs.Orders.{le-or-lt}
+use Rattle.digest.specs.Hex.{leadingDigest}
+use Rattle.lines.specs.Bytes.{notCr, noCr}
+use Rattle.lines.proofs.Characters.{no-cr-each}
+use Rattle.record.specs.Limits.{lineRoom, awaiting}
+use Rattle.record.specs.Legal.{heldMost}
+use Rattle.record.specs.declared.types.Settings.{Settings}
+use Rattle.record.specs.declared.types.Connection.{Connection}
+use Rattle.record.proofs.Kept.{room-first}
+use Rattle.record.proofs.ConnectionTold.{held-most-awaiting}
+use Rattle.stream.specs.declared.Gathered.{Gathered}
+use Rattle.stream.specs.Collecting.{lineOf, emptyLine, overlongLine, gathered}
+use Rattle.stream.proofs.LinesSpelt.{overlong-marked}
+use Rattle.stream.proofs.GatheredOn.{line-counted}
+use Rattle.stream.proofs.LinesCollected.{empty-is-none, line-gathered, overlong-gathered}
+use Rattle.device.specs.Receiving.{isMatch, digestLong, passwordOf}
+use Rattle.device.proofs.Outsiders.{Unmatched}
+
+module _ (s : Settings) (c : Connection) where
+  abbrev digest : List ℕ
+  digest = leadingDigest (c .random) (passwordOf s)
+
+  abbrev isLed : List ℕ → Bool
+  isLed l = leb (length l) lineRoom && sameBy itself (take digestLong l) digest
+
+  overlong-unmatched : isMatch s c overlongLine ≡ false
+  unfolding isMatch
+  overlong-unmatched =
+      ap (λ (mark : Bool). not mark && leb digestLong (overlongLine .held)
+      && sameBy itself (take digestLong (overlongLine .bytes)) digest) overlong-marked
+
+  match-led : (l : List ℕ) → length l ≤ lineRoom → isMatch s c (lineOf l) ≡ true → isLed l ≡ true
+  unfolding isMatch
+  match-led l short e =
+      let long = leb-true digestLong (length l) (both-left _ _ e) in
+      both (le-leb (length l) lineRoom short)
+      (ap (λ (front : List ℕ). sameBy itself front digest)
+      (sym (room-first lineRoom l digestLong long))
+      ∙ both-right (leb digestLong (length l)) _ e)
+
+  unled-short : (l : List ℕ) → length l ≤ lineRoom → isLed l ≡ false → isMatch s c (lineOf l) ≡ false
+  unled-short l short unled =
+      alike (isMatch s c (lineOf l)) false (λ e. sym unled ∙ match-led l short e) (λ e. absurd (false≢true e))
+
+  module _ (empty : c .line ≡ emptyLine) (phase : c .phase ≡ awaiting) (l more : List ℕ) (plain : noCr l ≡ true) where
+    abbrev first : Gathered
+    first = gathered (heldMost (c .phase)) (c .line) (l ++ (13 ∷ more))
+
+    plainly : every notCr l ≡ true
+    plainly = no-cr-each l plain
+
+    from-none : first ≡ gathered lineRoom (lineOf []) (l ++ (13 ∷ more))
+    from-none =
+        (λ i. gathered ((ap heldMost phase ∙ held-most-awaiting) i) ((empty ∙ empty-is-none) i) (l ++ (13 ∷ more)))
+
+    pub first-line-ends : first .ended ≡ true
+    first-line-ends = line-counted (heldMost (c .phase)) (c .line) l more plainly .1
+
+    -- without the matching digest, or overlong, it does not match
+    pub unled-unmatched : isLed l ≡ false → Unmatched s c (l ++ (13 ∷ more))
+    unled-unmatched unled ended =
+        ⊎-elim (λ (short : length l ≤ lineRoom).
+        ap (λ (g : Gathered). isMatch s c (g .line))
+        (from-none ∙ line-gathered lineRoom [] l more (omega arith) (omega arith) plainly)
+        ∙ unled-short l short unled)
+        (λ (long : lineRoom < length l).
+        ap (λ (g : Gathered). isMatch s c (g .line))
+        (from-none ∙ overlong-gathered lineRoom [] l more (omega arith) (omega arith) (omega arith) plainly)
+        ∙ overlong-unmatched)
+        (le-or-lt (length l) lineRoom)

@@ -1,0 +1,100 @@
+-- Any line, from any controller, handed on whole to a legal projector between lines (01, "Connection"): on an open
+-- connection it is answered, past 135 bytes swallowed; behind the matching digest it is answered on an awaiting one,
+-- which is open afterwards.
+--   lineResult d a n     the result where the line is answered a and n bytes are taken
+-- Assumes nothing.
+use Prim.Native.Nat.{ℕ, _+_, _≤_, _<_}
+use mathlib.Core.Path.{_≡_, ap, _∙_}
+use mathlib.Core.Bool.{true, false}
+use mathlib.Core.List.{List, [], _∷_, _++_}
+use native.Mathlib.Omega.{arith}
+use lib.ListN.{length}
+use lib.Dec.{eqb}
+use Rattle.text.specs.Words.{ascii}
+use Rattle.text.specs.Scans.{every}
+use Rattle.digest.specs.Hex.{leadingDigest}
+use Rattle.lines.specs.Bytes.{notCr, noCr}
+use Rattle.lines.specs.Forms.{commandMost}
+use Rattle.lines.proofs.Characters.{no-cr-each}
+use Rattle.record.specs.Limits.{shut, awaiting, opened}
+use Rattle.record.specs.Legal.{heldMost, isLegal}
+use Rattle.record.specs.declared.types.Settings.{Settings}
+use Rattle.record.specs.declared.types.Own.{Own}
+use Rattle.record.specs.declared.types.Connection.{Connection}
+use Rattle.record.specs.declared.types.Device.{Device}
+use Rattle.record.proofs.LegalTold.{legal-connection}
+use Rattle.record.proofs.ConnectionTold.{held-most-opened}
+use Rattle.stream.specs.declared.Gathered.{Gathered}
+use Rattle.stream.specs.Collecting.{emptyLine, overlongLine, gathered}
+use Rattle.stream.proofs.LinesSpelt.{overlong-marked}
+use Rattle.stream.proofs.LinesCollected.{empty-is-none, overlong-gathered}
+use Rattle.device.specs.Answering.{Answered, answered, swallowed}
+use Rattle.device.specs.Receiving.{Ended, Taken, spoken, digestLong, passwordOf, lineEnded, takenIn}
+use Rattle.device.specs.Calls.{Result, replyRoom, acceptedTaken, received}
+use Rattle.device.proofs.Cases.{received-taken, ended-overlong, taken-line}
+use Rattle.device.proofs.Legal.{line-legal}
+use Rattle.stream.proofs.LegalLines.{between-lines}
+use Rattle.device.proofs.WholeLines.{open-line-taken, matching-line-taken}
+
+-- an overlong line on an open connection
+module _ (s : Settings) (o : Own) (c : Connection) (empty : c .line ≡ emptyLine) (phase : c .phase ≡ opened)
+    (xs rest : List ℕ) (long : commandMost < length xs) (plain : every notCr xs ≡ true) where
+  abbrev bytes : List ℕ
+  bytes = xs ++ (13 ∷ rest)
+
+  only-marked : gathered (heldMost (c .phase)) (c .line) bytes
+      ≡ record { line = overlongLine; before = length xs; ended = true }
+  only-marked =
+      (λ i. gathered ((ap heldMost phase ∙ held-most-opened) i) ((empty ∙ empty-is-none) i) bytes)
+      ∙ overlong-gathered commandMost [] xs rest (omega arith) (omega arith) (omega arith) plain
+
+  pub overlong-line-taken : takenIn s o c bytes
+      ≡ record { ended = spoken c (swallowed o); taken = length xs + 1 }
+  overlong-line-taken =
+      taken-line s o c bytes (ap (λ (g : Gathered). g .ended) only-marked)
+      ∙ ap {B = Taken} (λ (g : Gathered). record { ended = lineEnded s o c (g .line); taken = g .before + 1 }) only-marked
+      ∙ ap {B = Taken} (λ (e : Ended). record { ended = e; taken = length xs + 1 })
+      (ended-overlong s o c overlongLine phase overlong-marked)
+
+abbrev pub lineResult : Device → Answered → ℕ → Result Device
+lineResult d a n = acceptedTaken d (record { ended = spoken (d .connection) a; taken = n })
+
+module _ (d : Device) (room : ℕ) (legal : isLegal d ≡ true) (enough : replyRoom ≤ room)
+    (unmarked : d .connection .line .overlong ≡ false) (none : d .connection .line .held ≡ 0)
+    (l : List ℕ) (plain : noCr l ≡ true) where
+  empty : d .connection .line ≡ emptyLine
+  empty =
+      between-lines (d .connection .phase) (d .connection .line)
+      (line-legal (d .connection) (legal-connection d legal)) unmarked none
+
+  plainly : every notCr l ≡ true
+  plainly = no-cr-each l plain
+
+  module _ (phase : d .connection .phase ≡ opened) where
+    open-takes : received d (l ++ ascii "\r") room
+        ≡ acceptedTaken d (takenIn (d .settings) (d .own) (d .connection) (l ++ ascii "\r"))
+    open-takes = received-taken d (l ++ ascii "\r") room legal enough (ap (λ (p : ℕ). eqb p shut) phase)
+
+    pub line-received : length l ≤ commandMost
+        → received d (l ++ ascii "\r") room ≡ lineResult d (answered (d .settings) (d .own) l) (length l + 1)
+    line-received short =
+        open-takes
+        ∙ ap (acceptedTaken d) (open-line-taken (d .settings) (d .own) (d .connection) empty [] l phase short plainly)
+
+    pub overlong-line-received : commandMost < length l
+        → received d (l ++ ascii "\r") room ≡ lineResult d (swallowed (d .own)) (length l + 1)
+    overlong-line-received long =
+        open-takes
+        ∙ ap (acceptedTaken d)
+        (overlong-line-taken (d .settings) (d .own) (d .connection) empty phase l [] long plainly)
+
+  abbrev digest : List ℕ
+  digest = leadingDigest (d .connection .random) (passwordOf (d .settings))
+
+  pub led-line-received : d .connection .phase ≡ awaiting → length l ≤ commandMost
+      → received d (digest ++ l ++ ascii "\r") room
+      ≡ lineResult d (answered (d .settings) (d .own) l) (digestLong + length l + 1)
+  led-line-received phase short =
+      received-taken d (digest ++ l ++ ascii "\r") room legal enough (ap (λ (p : ℕ). eqb p shut) phase)
+      ∙ ap (acceptedTaken d)
+      (matching-line-taken (d .settings) (d .own) (d .connection) empty [] l phase short plainly)
