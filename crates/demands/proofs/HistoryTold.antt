@@ -1,0 +1,79 @@
+-- Demand 3: the lamps tell the history. A device that was just set up agrees with someone who saw nothing yet, and what
+-- he notes of each call agrees with it (proofs/CallsNoted.antt); so they agree after any calls.
+-- Assumes nothing.
+use Prim.Native.Nat.{ℕ, _+_, _≤_, _<_}
+use mathlib.Core.Path.{_≡_, ap, _∙_}
+use mathlib.Core.Bool.{false}
+use mathlib.Core.List.{List, [], _∷_, _++_}
+use native.Mathlib.Nat.{zero-add, add-assoc}
+use native.Mathlib.Omega.{arith}
+use lib.ListN.{length, getD}
+use Rattle.record.specs.Limits.{lampLimit}
+use Rattle.record.specs.Record.{closed, startOwn}
+use Rattle.record.specs.declared.types.Device.{Device}
+use Rattle.record.proofs.ConnectionTold.{closed-holds-none}
+use Rattle.record.proofs.LegalTold.{own-of-legal}
+use Rattle.record.proofs.OwnTold.{lamp-at}
+use Rattle.record.proofs.Started.{started-parts, started-lamp, set-up-legal, set-up-started, set-up-in-range}
+use Rattle.stream.proofs.LastBytes.{ends-unheld}
+use Rattle.demands.specs.Board.{Wanted, ours, setUpWith}
+use Rattle.demands.specs.Calls.{Call, after, run}
+use Rattle.demands.specs.History.{Event, Stage, steady, took, seen, history, reached, burningFrom, burning}
+use Rattle.demands.specs.History.{stageAfter}
+use Rattle.demands.specs.Demand3.{Accepted, runOf, historyOf}
+use Rattle.demands.proofs.Agrees.{settingsFor, Agrees, reached-append, burning-append, Then, agrees-none}
+use Rattle.demands.proofs.CallsNoted.{noted}
+
+-- ---- set-up
+
+module _ (w : Wanted) (h : Accepted ours w) where
+  abbrev fresh : Device
+  fresh = setUpWith w .device
+
+  is-started : fresh ≡ record { settings = settingsFor w; own = startOwn (w .lamps); connection = closed }
+  is-started = set-up-started _ _ _ _ _ _ _ _ _ h ∙ started-parts _ _ _ _ _ _ _ _ _
+
+  start-lamp : (place : ℕ) → place < length (w .lamps) → getD (fresh .own .lamps) place 0 ≡ getD (w .lamps) place 0
+  start-lamp place inside =
+      ap (λ (d : Device). getD (d .own .lamps) place 0) (set-up-started _ _ _ _ _ _ _ _ _ h)
+      ∙ started-lamp _ _ _ _ _ _ _ _ _ (set-up-in-range _ _ _ _ _ _ _ _ _ h) place inside
+
+  start-within : (place : ℕ) → place < length (w .lamps) → getD (fresh .own .lamps) place 0 ≤ lampLimit
+  start-within place inside =
+      lamp-at (fresh .settings) (fresh .own) (own-of-legal fresh (set-up-legal _ _ _ _ _ _ _ _ _ h)) place
+      (rw is-started inside)
+
+  pub agrees-started : Agrees w (steady false) 0 [] fresh
+  agrees-started = record {
+    settings = ap (λ (d : Device). d .settings) is-started;
+    power = ap (λ (d : Device). d .own .power) is-started;
+    left = ap (λ (d : Device). d .own .left) is-started;
+    lamps = λ place inside.
+        let within = start-within place inside in
+        let same = start-lamp place inside in
+        omega arith;
+    last = ends-unheld [] (fresh .connection .line)
+        (ap (λ (d : Device). d .connection .line .held) is-started ∙ closed-holds-none);
+  }
+
+-- ---- any calls
+
+-- the last record agrees with the whole history, and with some stream
+run-agrees : (cs : List Call) (w : Wanted) (g : Stage) (n : ℕ) (stream : List ℕ) (d : Device) → Agrees w g n stream d
+    → (now : List ℕ) × Then w g n (history ours d stream cs) now (run ours d cs)
+unfolding run history
+run-agrees [] w g n stream d a = (stream, agrees-none a)
+run-agrees (c ∷ cs) w g n stream d a =
+    let now = stream ++ took ours d c in
+    let es = seen ours d now c in
+    let fs = history ours (after ours d c) now cs in
+    rw (reached-append w g es fs, burning-append w g es fs, ← add-assoc)
+    (run-agrees cs w (reached w g es) (n + burningFrom w g es) now (after ours d c) (noted a c))
+
+module _ (w : Wanted) (cs : List Call) (h : Accepted ours w) where
+  abbrev known : List Event
+  known = historyOf ours w cs
+
+  pub history-told : (now : List ℕ) × Agrees w (stageAfter w known) (burning w known) now (runOf ours w cs)
+  history-told =
+      rw zero-add at (run-agrees cs w (steady false) 0 [] (setUpWith w .device) (agrees-started w h))

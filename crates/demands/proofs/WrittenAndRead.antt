@@ -1,0 +1,78 @@
+-- Demand 2: what the writer writes, and what the readers take from the projector's replies and greetings.
+-- Assumes nothing.
+use Prim.Native.Nat.{ℕ, _^_, _≤_, _<_}
+use mathlib.Core.Path.{_≡_, sym, ap, subst, _∙_}
+use mathlib.Core.Bool.{Bool, true, false}
+use mathlib.Core.List.{List, _++_}
+use native.Mathlib.Omega.{arith}
+use lib.ListN.{length}
+use Rattle.lines.specs.Commands.{isCommand, commandLine}
+use Rattle.lines.specs.declared.command.Command.{Command}
+use Rattle.record.specs.Limits.{shut, awaiting, opened}
+use Rattle.record.specs.Legal.{isLegal}
+use Rattle.record.specs.declared.types.Device.{Device}
+use Rattle.device.specs.Receiving.{passwordOf}
+use Rattle.device.specs.Calls.{replyRoom, received, openedBy}
+use Rattle.controller.specs.Writing.{WrittenAs, commandRoom, ledBy, written}
+use Rattle.controller.specs.Reading.{readReply}
+use Rattle.controller.specs.Greetings.{readGreeting}
+use Rattle.controller.proofs.Cases.{written-by}
+use Rattle.controller.proofs.ReadsBack.{is-between, ReadBack as ReadBackFrom}
+use Rattle.controller.proofs.WrittenReadBack.{written-reads-back, written-reads-back-secured}
+use Rattle.controller.proofs.GreetsBack.{greets-back as greeted-back}
+use Rattle.demands.specs.Board.{line, reply, wroteBy, ours}
+use Rattle.demands.specs.Demand2.{BetweenLines, ReadBack, greetedOn}
+use Rattle.demands.proofs.LentMemory.{over-front}
+
+-- what is read of the lent paper is the line
+pub line-written : (w : WrittenAs) (m : List ℕ) → line (wroteBy w m) ≡ w .bytes
+line-written w m = over-front (w .bytes) m
+
+pub writes : (c : Command) (secured : Bool) (random : ℕ) (password m : List ℕ)
+    → let w = ours .write c secured random password m in
+    w .number ≡ 0 → line w ≡ ledBy secured random password ++ commandLine c
+writes c secured random password m =
+    written-by c secured random password (length m)
+    (λ w. w .number ≡ 0 → line (wroteBy w m) ≡ ledBy secured random password ++ commandLine c)
+    (λ h e. absurd (omega arith)) (λ h w e. absurd (omega arith))
+    (λ h w e. line-written (record { number = 0; bytes = ledBy secured random password ++ commandLine c }) m)
+
+module _ (d : Device) (c : Command) (paper m : List ℕ) (writable : isCommand c ≡ true)
+    (roomy : commandRoom ≤ length paper) (enough : replyRoom ≤ length m) where
+  -- from the calls' results to the lent memory
+  on-memory : (w : WrittenAs) → (w .number ≡ 0) × ReadBackFrom d c (w .bytes) (received d (w .bytes) (length m))
+      → ReadBack ours d c (wroteBy w paper) (ours .receive d (line (wroteBy w paper)) m)
+  on-memory w (number, back) =
+      subst (λ (bs : List ℕ). ReadBack ours d c (wroteBy w paper) (ours .receive d bs m)) (sym (line-written w paper))
+      (record {
+        wrote = number;
+        number = back .number;
+        taken = back .taken;
+        read = ap (readReply c) (over-front (received d (w .bytes) (length m) .reply) m) ∙ back .said;
+        device = back .device;
+      })
+
+  pub reads-back : (random : ℕ) (password : List ℕ) → BetweenLines opened d
+      → let w = ours .write c false random password paper in ReadBack ours d c w (ours .receive d (line w) m)
+  reads-back random password between =
+      let empty = is-between d (between .legal) (between .unmarked) (between .none-held) in
+      on-memory (written c false random password (length paper))
+      (written-reads-back d (between .legal) empty c writable (length m) enough (length paper) roomy
+      (between .in-phase) random password)
+
+  pub reads-back-secured : BetweenLines awaiting d
+      → let w = ours .write c true (d .connection .random) (passwordOf (d .settings)) paper in
+      ReadBack ours d c w (ours .receive d (line w) m)
+  reads-back-secured between =
+      let empty = is-between d (between .legal) (between .unmarked) (between .none-held) in
+      on-memory (written c true (d .connection .random) (passwordOf (d .settings)) (length paper))
+      (written-reads-back-secured d (between .legal) empty c writable (length m) enough (length paper) roomy
+      (between .in-phase))
+
+pub greets-back : (d : Device) (random : ℕ) (m : List ℕ) → isLegal d ≡ true
+    → d .connection .phase ≡ shut → replyRoom ≤ length m → random < 2 ^ 32
+    → let r = ours .opening d random m in
+    (r .number ≡ 0) × (ours .read-greeting (reply r) ≡ greetedOn (r .device .connection))
+greets-back d random m legal closed enough word =
+    let back = greeted-back d random (length m) legal closed enough word in
+    (back .number, ap readGreeting (over-front (openedBy d random (length m) .reply) m) ∙ back .heard)

@@ -1,0 +1,153 @@
+-- DEMAND 1. "Whatever bytes arrive, in whatever cuts, every call ends and stays inside its memory. A call that can't be
+-- served gives the one number that the table in document 01 lists for it, returns the device record it was given (a
+-- refused set-up gives the blank record), and writes no byte of the reply memory."
+-- That a call ends is no field below: each call of a board is a function, and a Rattle function meets its contract only
+-- if it ends.
+--   n when t            a row of 01's table: the number n, given when t
+--   firstOf rows        the first row that applies, else 0
+--   rowsOf d c          the rows that the call c can meet, in the table's order; so for set-up, writer and readers
+--   Inside m r          a call that is lent the memory m stays in it, and changes no byte past its reply
+--   Untouched m r       it took nothing, replied nothing and wrote nothing
+-- Assumes nothing.
+use Prim.Native.Nat.{ℕ, _≤_}
+use mathlib.Core.Path.{_≡_}
+use mathlib.Core.Bool.{Bool, true, false, not}
+use mathlib.Core.List.{List, [], _∷_}
+use lib.ListN.{length, drop}
+use lib.Dec.{ltb}
+use Rattle.text.specs.Words.{if_then_else_}
+use Rattle.text.specs.Scans.{sameBy, itself}
+use Rattle.lines.specs.Forms.{erraLine, greetingOpen, isReplyForm, headBody, replyParameter}
+use Rattle.lines.specs.Commands.{bodyOf}
+use Rattle.lines.specs.Requests.{isBody}
+use Rattle.lines.specs.declared.command.Command.{Command}
+use Rattle.answers.specs.Said.{nothing}
+use Rattle.answers.specs.Reading.{readParameter}
+use Rattle.record.specs.Rules.{isErrors}
+use Rattle.record.specs.Legal.{isLegal}
+use Rattle.record.specs.Record.{blank}
+use Rattle.record.specs.SetUp.{isSetUp}
+use Rattle.record.specs.declared.types.Device.{Device}
+use Rattle.device.specs.Calls.{replyRoom, isShut}
+use Rattle.controller.specs.Writing.{commandRoom, isWritable}
+use Rattle.controller.specs.Reading.{outcomeOf, numberOf as numberRead}
+use Rattle.controller.specs.Greetings.{greets, randomIn, numberOf as numberHeard}
+use Rattle.demands.specs.Board.{Board, Lent, Wrote, Wanted}
+use Rattle.demands.specs.Calls.{Call, opens, closes, receives, passes, marks, reports, after, numberOf}
+
+infix 30 _when_
+-- ---- the table of numbers
+
+pub record Row : Type 0 where
+  pub number : ℕ
+  pub applies : Bool
+
+abbrev pub _when_ : ℕ → Bool → Row
+n when t = record { number = n; applies = t }
+
+abbrev pub firstOf : List Row → ℕ
+firstOf [] = 0
+firstOf (row ∷ rows) = if row .applies then row .number else firstOf rows
+
+abbrev isIllegal : Device → Bool
+isIllegal d = not (isLegal d)
+
+abbrev isShort : List ℕ → Bool
+isShort m = ltb (length m) replyRoom
+
+abbrev pub rowsOf : Device → Call → List Row
+rowsOf d (opens random m) = (1 when isIllegal d) ∷ (2 when isShort m) ∷ (5 when not (isShut (d .connection))) ∷ []
+rowsOf d closes = (1 when isIllegal d) ∷ (4 when isShut (d .connection)) ∷ []
+rowsOf d (receives bs m) = (1 when isIllegal d) ∷ (2 when isShort m) ∷ (4 when isShut (d .connection)) ∷ []
+rowsOf d (passes n) = (1 when isIllegal d) ∷ []
+rowsOf d (marks fault) = (1 when isIllegal d) ∷ []
+rowsOf d (reports errors) = (1 when isIllegal d) ∷ (3 when not (isErrors errors)) ∷ []
+
+abbrev pub isInRange : Wanted → Bool
+isInRange w =
+    isSetUp (w .name) (w .maker) (w .model) (w .other) (w .password) (w .inputs) (w .lamps) (w .warm) (w .cool)
+
+abbrev pub setUpRows : Wanted → List Row
+setUpRows w = (3 when not (isInRange w)) ∷ []
+
+abbrev pub writerRows : Command → Bool → List ℕ → List ℕ → List Row
+writerRows c secured password m =
+    (2 when ltb (length m) commandRoom) ∷ (3 when not (isWritable c secured password)) ∷ []
+
+abbrev isErra : List ℕ → Bool
+isErra l = sameBy itself l erraLine
+
+-- the ERRA line is known before the form is tested
+abbrev pub readerRows : Command → List ℕ → List Row
+readerRows c l =
+    (0 when isErra l) ∷ (10 when not (isReplyForm l)) ∷ (11 when not (isBody (headBody l) (bodyOf c)))
+    ∷ (numberRead (outcomeOf (readParameter c (replyParameter l))) when true) ∷ []
+
+-- the two greetings and the ERRA line
+abbrev pub greetingRows : List ℕ → List Row
+greetingRows l =
+    (0 when sameBy itself l greetingOpen) ∷ (0 when isErra l) ∷ (0 when greets l (randomIn l)) ∷ (10 when true) ∷ []
+
+-- ---- the memory
+
+pub record Inside (R : Type 0) (m : List ℕ) (r : Lent R) : Type 0 where
+  pub room : length (r .memory) ≡ length m
+  pub fits : r .length ≤ length m
+  pub later : drop (r .length) (r .memory) ≡ drop (r .length) m
+
+pub record WroteInside (m : List ℕ) (w : Wrote) : Type 0 where
+  pub room : length (w .memory) ≡ length m
+  pub fits : w .length ≤ length m
+  pub later : drop (w .length) (w .memory) ≡ drop (w .length) m
+
+pub record Untouched (R : Type 0) (m : List ℕ) (r : Lent R) : Type 0 where
+  pub taken : r .taken ≡ 0
+  pub length : r .length ≡ 0
+  pub memory : r .memory ≡ m
+
+module _ (B : Board) where
+  abbrev pub StaysInside : B .Record → Call → Type 0
+  StaysInside d (opens random m) = Inside (B .Record) m (B .opening d random m)
+  StaysInside d (receives bs m) =
+      Inside (B .Record) m (B .receive d bs m) × (B .receive d bs m .taken ≤ length bs)
+  StaysInside d closes = Unit {0}
+  StaysInside d (passes n) = Unit {0}
+  StaysInside d (marks fault) = Unit {0}
+  StaysInside d (reports errors) = Unit {0}
+
+  abbrev pub WritesNothing : B .Record → Call → Type 0
+  WritesNothing d (opens random m) = Untouched (B .Record) m (B .opening d random m)
+  WritesNothing d (receives bs m) = Untouched (B .Record) m (B .receive d bs m)
+  WritesNothing d closes = Unit {0}
+  WritesNothing d (passes n) = Unit {0}
+  WritesNothing d (marks fault) = Unit {0}
+  WritesNothing d (reports errors) = Unit {0}
+
+-- ---- the demand
+
+pub record Demand1 (B : Board) : Type 0 where
+  -- "Whatever bytes arrive, in whatever cuts, every call .. stays inside its memory": of any record, legal or not
+  pub stays-inside : (d : B .Record) (c : Call) → StaysInside B d c
+  pub writer-stays-inside : (c : Command) (secured : Bool) (random : ℕ) (password m : List ℕ)
+      → WroteInside m (B .write c secured random password m)
+  -- "A call that can't be served gives the one number that the table in document 01 lists for it"
+  pub number-is-first : (d : B .Record) (c : Call) → numberOf B d c ≡ firstOf (rowsOf (B .shows d) c)
+  pub set-up-number : (w : Wanted) → B .set-up w .number ≡ firstOf (setUpRows w)
+  pub writer-number : (c : Command) (secured : Bool) (random : ℕ) (password m : List ℕ)
+      → B .write c secured random password m .number ≡ firstOf (writerRows c secured password m)
+  pub reader-number : (c : Command) (l : List ℕ) → numberRead (B .read-reply c l .outcome) ≡ firstOf (readerRows c l)
+  pub greeting-number : (l : List ℕ) → numberHeard (B .read-greeting l) ≡ firstOf (greetingRows l)
+  -- "returns the device record it was given .., and writes no byte of the reply memory"
+  pub refused-keeps : (d : B .Record) (c : Call) → (numberOf B d c ≡ 0 → ⊥)
+      → (after B d c ≡ d) × WritesNothing B d c
+  pub refused-writer-writes-nothing : (c : Command) (secured : Bool) (random : ℕ) (password m : List ℕ)
+      → let w = B .write c secured random password m in
+      (w .number ≡ 0 → ⊥) → (w .length ≡ 0) × (w .memory ≡ m)
+  pub refused-reader-means-nothing : (c : Command) (l : List ℕ) → (numberRead (B .read-reply c l .outcome) ≡ 0 → ⊥)
+      → B .read-reply c l .said ≡ nothing
+  -- "(a refused set-up gives the blank record)", which is not legal; an accepted one is, and no call makes it otherwise
+  pub refused-set-up-blank : (w : Wanted) → (B .set-up w .number ≡ 0 → ⊥) → B .shows (B .set-up w .device) ≡ blank
+  pub blank-illegal : isLegal blank ≡ false
+  pub set-up-legal : (w : Wanted) → B .set-up w .number ≡ 0 → isLegal (B .shows (B .set-up w .device)) ≡ true
+  pub stays-legal : (d : B .Record) (c : Call) → isLegal (B .shows d) ≡ true
+      → isLegal (B .shows (after B d c)) ≡ true

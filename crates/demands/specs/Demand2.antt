@@ -1,0 +1,170 @@
+-- DEMAND 2. "The projector's lines and the controller's reading of them are those of PJLink Class 1, version 1.04, with
+-- the digest of RFC 1321. On an open connection between lines, for every command our writer makes without a digest and
+-- in every legal state, what our reader, told the command, takes from the reply is what the projector meant. On a
+-- secured connection a first line without the matching digest yields the refusal line only; power, input, mutes and
+-- lamps stay." What the projector meant is `meant`, 01's table of commands (crate `meaning`), which knows no bytes.
+--   BetweenLines phase d     legal, in that phase, no collected bytes and no overlong mark
+--   ReadBack B d c w r       the command c, written as w and received as r, is read as it was meant and done
+--   isLed d l                the line l starts with the matching digest and is not overlong
+--   RefusalOnly B d out      the refusal line was replied and nothing else; settings and own part stay, the connection
+--                            has failed
+--   handedOn B m d ps        the parts ps of a stream, each handed on until it is taken, the memory m lent each time
+-- Assumes nothing.
+use Prim.Native.Nat.{ℕ, _≤_, _<_, _^_}
+use mathlib.Core.Path.{_≡_}
+use mathlib.Core.Bool.{Bool, true, false, _&&_}
+use mathlib.Core.List.{List, _++_}
+use lib.ListN.{length, take}
+use lib.Dec.{leb, eqb}
+use Rattle.text.specs.Words.{ascii, if_then_else_}
+use Rattle.text.specs.Scans.{sameBy, itself}
+use Rattle.digest.specs.Md5.{md5Of}
+use Rattle.digest.specs.Hex.{hexDigits, leadingDigest}
+use Rattle.lines.specs.Bytes.{noCr}
+use Rattle.lines.specs.Forms.{erraLine, greetingOpen, greetingSecured, commandMost}
+use Rattle.lines.specs.Commands.{isCommand, commandLine}
+use Rattle.lines.specs.declared.command.Command.{Command}
+use Rattle.lines.specs.declared.request.Request.the-variants.{Asks}
+use Rattle.answers.specs.Said.{Said}
+use Rattle.answers.specs.CanSay.{CanSay}
+use Rattle.record.specs.Limits.{shut, awaiting, opened, failed, lineRoom}
+use Rattle.record.specs.Legal.{isLegal}
+use Rattle.record.specs.declared.types.Device.{Device}
+use Rattle.record.specs.declared.types.Connection.{Connection}
+use Rattle.meaning.specs.Meaning.{meant, done}
+use Rattle.stream.specs.Machine.{Out, Took, handedParts, joined}
+use Rattle.device.specs.Answering.{Answered, answered, swallowed}
+use Rattle.device.specs.Receiving.{turned, passwordOf, digestLong}
+use Rattle.device.specs.Calls.{replyRoom, isShut, withParts}
+use Rattle.controller.specs.Writing.{commandRoom, ledBy}
+use Rattle.controller.specs.Reading.{ReadAs}
+use Rattle.controller.specs.declared.reading.Outcome.the-variants.{Means}
+use Rattle.controller.specs.declared.greeting.Greeting.{Greeting}
+use Rattle.controller.specs.declared.greeting.Greeting.the-variants.{Open, Secured, Refused, NotAGreeting}
+use Rattle.demands.specs.Board.{Board, Lent, Wrote, reply, line}
+
+-- ---- a connection between lines
+
+pub record BetweenLines (phase : ℕ) (d : Device) : Type 0 where
+  pub legal : isLegal d ≡ true
+  pub in-phase : d .connection .phase ≡ phase
+  pub unmarked : d .connection .line .overlong ≡ false
+  pub none-held : d .connection .line .held ≡ 0
+
+-- open and between lines, the random number kept
+abbrev pub openAgain : Connection → Connection
+openAgain c = turned c opened
+
+-- ---- what is read of the reply to a command
+
+abbrev pub meaning : Said → ReadAs
+meaning m = record { outcome = Means; said = m }
+
+module _ (B : Board) where
+  pub record ReadBack (d : B .Record) (c : Command) (w : Wrote) (r : Lent (B .Record)) : Type 0 where
+    pub wrote : w .number ≡ 0
+    pub number : r .number ≡ 0
+    pub taken : r .taken ≡ w .length
+    pub read : B .read-reply c (reply r) ≡ meaning (meant (B .shows d .settings) (B .shows d .own) (Asks c))
+    pub device : B .shows (r .device)
+        ≡ withParts (B .shows d) (done (B .shows d .settings) (B .shows d .own) (Asks c))
+        (openAgain (B .shows d .connection))
+
+  -- ---- any line, from any controller: what it is answered by 01's tables, and what it leaves
+  pub record AnsweredAs (d : B .Record) (bs : List ℕ) (a : Answered) (r : Lent (B .Record)) : Type 0 where
+    pub number : r .number ≡ 0
+    pub taken : r .taken ≡ length bs
+    pub replied : reply r ≡ a .reply
+    pub device : B .shows (r .device) ≡ withParts (B .shows d) (a .own) (openAgain (B .shows d .connection))
+
+-- a line of more than 135 bytes is swallowed
+abbrev pub answerTo : Device → List ℕ → Answered
+answerTo d l = if leb (length l) commandMost then answered (d .settings) (d .own) l else swallowed (d .own)
+
+-- ---- the digest
+
+abbrev pub digestFor : Device → List ℕ
+digestFor d = leadingDigest (d .connection .random) (passwordOf (d .settings))
+
+abbrev pub isLed : Device → List ℕ → Bool
+isLed d l = leb (length l) lineRoom && sameBy itself (take digestLong l) (digestFor d)
+
+-- ---- a stream in cuts
+
+abbrev pub callOn : (B : Board) → List ℕ → B .Record → List ℕ → Took (B .Record)
+callOn B m d bs =
+    let r = B .receive d bs m in
+    record { taken = r .taken; state = r .device; reply = reply r }
+
+abbrev pub handedOn : (B : Board) → List ℕ → B .Record → List (List ℕ) → Out (B .Record)
+handedOn B m d ps = handedParts (callOn B m) d ps
+
+-- what someone without the password gets, and leaves as it was
+pub record RefusalOnly (B : Board) (d : B .Record) (out : Out (B .Record)) : Type 0 where
+  pub refusal : out .reply ≡ erraLine
+  pub settings : B .shows (out .state) .settings ≡ B .shows d .settings
+  pub own : B .shows (out .state) .own ≡ B .shows d .own
+  pub phase : B .shows (out .state) .connection .phase ≡ failed
+  pub age : B .shows (out .state) .connection .age ≡ 0
+
+-- ---- greetings
+
+abbrev pub greetedOn : Connection → Greeting
+greetedOn c = if eqb (c .phase) awaiting then Secured (c .random) else Open
+
+-- the two greetings and the ERRA line, each with its CR and nothing more
+abbrev pub Exactly : List ℕ → Greeting → Type 0
+Exactly l Open = l ≡ greetingOpen
+Exactly l (Secured r) = l ≡ greetingSecured (hexDigits 8 r)
+Exactly l Refused = l ≡ erraLine
+Exactly l NotAGreeting = (l ≡ greetingOpen → ⊥) × ((l ≡ erraLine → ⊥)
+    × ((r : ℕ) → r < 2 ^ 32 → l ≡ greetingSecured (hexDigits 8 r) → ⊥))
+
+-- ---- the demand
+
+pub record Demand2 (B : Board) : Type 0 where
+  -- "with the digest of RFC 1321"
+  pub digest : (s : List ℕ) → B .md5 s ≡ md5Of s
+  -- "The projector's lines .. are those of PJLink Class 1": any line of any controller, on an open connection and
+  -- behind the matching digest, is answered as 01's tables say
+  pub answers : (d : B .Record) (l m : List ℕ) → BetweenLines opened (B .shows d) → noCr l ≡ true
+      → replyRoom ≤ length m
+      → let bs = l ++ ascii "\r" in AnsweredAs B d bs (answerTo (B .shows d) l) (B .receive d bs m)
+  pub answers-led : (d : B .Record) (l m : List ℕ) → BetweenLines awaiting (B .shows d) → noCr l ≡ true
+      → length l ≤ commandMost → replyRoom ≤ length m
+      → let bs = digestFor (B .shows d) ++ l ++ ascii "\r" in
+      AnsweredAs B d bs (answerTo (B .shows d) l) (B .receive d bs m)
+  -- "for every command our writer makes": its line, led by the digest where one was asked for
+  pub writes : (c : Command) (secured : Bool) (random : ℕ) (password m : List ℕ)
+      → let w = B .write c secured random password m in
+      w .number ≡ 0 → line w ≡ ledBy secured random password ++ commandLine c
+  -- "On an open connection between lines, for every command our writer makes without a digest and in every legal state,
+  -- what our reader, told the command, takes from the reply is what the projector meant"
+  pub reads-back : (d : B .Record) (c : Command) (random : ℕ) (password paper m : List ℕ)
+      → BetweenLines opened (B .shows d) → isCommand c ≡ true → commandRoom ≤ length paper → replyRoom ≤ length m
+      → let w = B .write c false random password paper in ReadBack B d c w (B .receive d (line w) m)
+  -- 01, "Connection": "its reading holds as well on an awaiting connection between lines, for a command led by the
+  -- matching digest"
+  pub reads-back-secured : (d : B .Record) (c : Command) (paper m : List ℕ)
+      → BetweenLines awaiting (B .shows d) → isCommand c ≡ true → commandRoom ≤ length paper → replyRoom ≤ length m
+      → let w = B .write c true (B .shows d .connection .random) (passwordOf (B .shows d .settings)) paper in
+      ReadBack B d c w (B .receive d (line w) m)
+  -- "On a secured connection a first line without the matching digest yields the refusal line only; power, input, mutes
+  -- and lamps stay": whatever follows it, and however it all is cut
+  pub outsider-refused : (d : B .Record) (l more m : List ℕ) (ps : List (List ℕ))
+      → BetweenLines awaiting (B .shows d) → noCr l ≡ true → isLed (B .shows d) l ≡ false → replyRoom ≤ length m
+      → joined ps ≡ l ++ ascii "\r" ++ more
+      → RefusalOnly B d (handedOn B m d ps)
+  -- what the greeting reader takes from the opening reply is what opening did; it takes no other line for a greeting
+  pub greets-back : (d : B .Record) (random : ℕ) (m : List ℕ) → isLegal (B .shows d) ≡ true
+      → B .shows d .connection .phase ≡ shut → replyRoom ≤ length m → random < 2 ^ 32
+      → let r = B .opening d random m in
+      (r .number ≡ 0) × (B .read-greeting (reply r) ≡ greetedOn (B .shows (r .device) .connection))
+  pub greeting-is : (l : List ℕ) → Exactly l (B .read-greeting l)
+  -- whatever line comes, what a reading means is an answer that the command can have
+  pub reads-sound : (c : Command) (l : List ℕ) → B .read-reply c l .outcome ≡ Means → CanSay c (B .read-reply c l .said)
+  -- 01, "Connection": "Handed on until all is taken, with no time between, a stream gives the same reply bytes and end
+  -- state however it is cut"
+  pub same-however-cut : (d : B .Record) (m : List ℕ) (ps qs : List (List ℕ)) → isLegal (B .shows d) ≡ true
+      → isShut (B .shows d .connection) ≡ false → replyRoom ≤ length m → joined ps ≡ joined qs
+      → handedOn B m d ps ≡ handedOn B m d qs

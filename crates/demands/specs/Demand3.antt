@@ -1,0 +1,63 @@
+-- DEMAND 3. "Time adds up. From any legal state, letting a seconds pass and then b gives the very state that a + b gives
+-- at once, so long as a + b is at most 4,294,967,295. After any calls since set-up, refused ones counting as nothing,
+-- each lamp's stored seconds are its starting seconds plus every second the history puts in warm-up or power-on, stopped
+-- at 359,999,999; the hours answered are the whole hours in that."
+--   Accepted B w        the board accepts the set-up w
+--   historyOf B w cs    what someone outside sees of the calls cs since that set-up
+--   TimeAdds B          the adding law, which a clock that does nothing obeys too (Wrong, proofs/WrongBoards)
+--   lampsThen w es      each lamp of the set-up as LAMP answers it after that history
+-- Assumes nothing.
+use Prim.Native.Nat.{ℕ, _+_, _/_, _≤_, _<_}
+use mathlib.Core.Path.{_≡_}
+use mathlib.Core.Bool.{true}
+use mathlib.Core.List.{List, [], map}
+use lib.ListN.{length, getD}
+use Rattle.lines.specs.Commands.{commandLine}
+use Rattle.lines.specs.declared.command.Command.the-variants.{Query}
+use Rattle.lines.specs.declared.command.Body.the-variants.{Lamp}
+use Rattle.answers.specs.Said.{lampsAre}
+use Rattle.answers.specs.declared.answer.LampHours.{LampHours}
+use Rattle.record.specs.Limits.{opened}
+use Rattle.record.specs.Legal.{isLegal}
+use Rattle.clock.specs.Passing.{secondsMost}
+use Rattle.device.specs.Calls.{replyRoom}
+use Rattle.demands.specs.Board.{Board, Wanted, reply}
+use Rattle.demands.specs.Calls.{Call, run}
+use Rattle.demands.specs.Demand2.{BetweenLines, meaning}
+use Rattle.demands.specs.History.{Event, history, burning, stageAfter, isBurning, lampWith}
+
+module _ (B : Board) (w : Wanted) where
+  abbrev pub Accepted : Type 0
+  Accepted = B .set-up w .number ≡ 0
+
+  abbrev pub runOf : List Call → B .Record
+  runOf cs = run B (B .set-up w .device) cs
+
+  abbrev pub historyOf : List Call → List Event
+  historyOf cs = history B (B .set-up w .device) [] cs
+
+abbrev pub lampThen : Wanted → List Event → ℕ → LampHours
+lampThen w es start = record { hours = lampWith (burning w es) start / 3600; lit = isBurning (stageAfter w es) }
+
+abbrev pub lampsThen : Wanted → List Event → List LampHours
+lampsThen w es = map (lampThen w es) (w .lamps)
+
+-- the whole result, number and record
+abbrev pub TimeAdds : Board → Type 0
+TimeAdds B = (d : B .Record) (a b : ℕ) → isLegal (B .shows d) ≡ true → a + b ≤ secondsMost
+    → B .pass (B .pass d a .device) b ≡ B .pass d (a + b)
+
+pub record Demand3 (B : Board) : Type 0 where
+  -- "From any legal state, letting a seconds pass and then b gives the very state that a + b gives at once, so long as
+  -- a + b is at most 4,294,967,295"
+  pub time-adds : TimeAdds B
+  -- "After any calls since set-up, refused ones counting as nothing, each lamp's stored seconds are its starting seconds
+  -- plus every second the history puts in warm-up or power-on, stopped at 359,999,999"
+  pub lamps-tell-the-history : (w : Wanted) (cs : List Call) (place : ℕ) → Accepted B w → place < length (w .lamps)
+      → getD (B .shows (runOf B w cs) .own .lamps) place 0
+      ≡ lampWith (burning w (historyOf B w cs)) (getD (w .lamps) place 0)
+  -- "the hours answered are the whole hours in that": LAMP, asked on an open connection between lines
+  pub hours-told : (w : Wanted) (cs : List Call) (m : List ℕ) → Accepted B w → 1 ≤ length (w .lamps)
+      → BetweenLines opened (B .shows (runOf B w cs)) → replyRoom ≤ length m
+      → let r = B .receive (runOf B w cs) (commandLine (Query Lamp)) m in
+      B .read-reply (Query Lamp) (reply r) ≡ meaning (lampsAre (lampsThen w (historyOf B w cs)))

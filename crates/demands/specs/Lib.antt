@@ -1,0 +1,9 @@
+pub mod Board
+pub mod Calls
+pub mod History
+pub mod Demand1
+pub mod Demand2
+pub mod Demand3
+pub mod Settled
+pub mod Wrong
+pub mod Computing

@@ -1,0 +1,81 @@
+-- 01, "Lines that settle it", as one statement over the list. The device is W = 20, C = 60, one lamp at 0 s, input 11,
+-- texts empty, no password, its connection opened; each row is a line, its answer, and the calls before it.
+--   t gives u after cs      the line t is answered u, after the calls cs
+--   Settles B               every row holds of the board B
+-- Assumes nothing.
+use Prim.Native.Nat.{ℕ, zero, suc}
+use Prim.Native.String.{String}
+use mathlib.Core.Path.{_≡_}
+use mathlib.Core.List.{List, [], _∷_, _++_}
+use lib.ListN.{replicate}
+use Rattle.text.specs.Words.{ascii}
+use Rattle.demands.specs.Board.{Board, Wanted, reply}
+use Rattle.demands.specs.Calls.{Call, opens, receives, passes, run}
+
+infix 30 _gives_after_
+abbrev pub sample : Wanted
+sample = record {
+  name = [];
+  maker = [];
+  model = [];
+  other = [];
+  password = [];
+  inputs = ascii "11";
+  lamps = 0 ∷ [];
+  warm = 20;
+  cool = 60;
+}
+
+abbrev pub memory : List ℕ
+memory = replicate 136 0
+
+abbrev pub withCr : String → List ℕ
+withCr t = ascii t ++ ascii "\r"
+
+abbrev pub says : String → Call
+says t = receives (withCr t) memory
+
+abbrev pub rounds : ℕ → List Call → List Call
+rounds zero cs = []
+rounds (suc n) cs = cs ++ rounds n cs
+
+-- nine sessions of forty minutes are six hours
+abbrev pub nineSessions : List Call
+nineSessions = rounds 9 (says "%1POWR 1" ∷ passes 2400 ∷ says "%1POWR 0" ∷ passes 60 ∷ [])
+
+pub record Row : Type 0 where
+  pub said : String
+  pub answer : String
+  pub before : List Call
+
+abbrev pub _gives_after_ : String → String → List Call → Row
+t gives u after cs = record { said = t; answer = u; before = cs }
+
+abbrev pub rows : List Row
+rows =
+    ("%1powr 1" gives "%1powr=OK" after [])
+    ∷ ("%1POWR 2" gives "%1POWR=ERR2" after [])
+    ∷ ("%1ABCD x" gives "%1ABCD=ERR1" after [])
+    ∷ ("%1NAME x" gives "%1NAME=ERR1" after [])
+    ∷ ("%1CLSS ?" gives "%1CLSS=1" after [])
+    ∷ ("%1INPT ?" gives "%1INPT=ERR3" after [])
+    ∷ ("%1INPT 12" gives "%1INPT=ERR2" after [])
+    ∷ ("%1POWR ?" gives "%1POWR=3" after says "%1POWR 1" ∷ passes 19 ∷ [])
+    ∷ ("%1POWR ?" gives "%1POWR=1" after says "%1POWR 1" ∷ passes 20 ∷ [])
+    ∷ ("%1LAMP ?" gives "%1LAMP=0 1" after says "%1POWR 1" ∷ passes 3599 ∷ [])
+    ∷ ("%1LAMP ?" gives "%1LAMP=1 1" after says "%1POWR 1" ∷ passes 3600 ∷ [])
+    ∷ ("%1LAMP ?" gives "%1LAMP=6 0" after nineSessions)
+    ∷ []
+
+module _ (B : Board) where
+  abbrev pub Holds : Row → Type 0
+  Holds row =
+      let d = run B (B .set-up sample .device) (opens 0 memory ∷ row .before) in
+      reply (B .receive d (withCr (row .said)) memory) ≡ withCr (row .answer)
+
+  abbrev pub All : List Row → Type 0
+  All [] = Unit {0}
+  All (row ∷ rows) = Holds row × All rows
+
+  abbrev pub Settles : Type 0
+  Settles = All rows
