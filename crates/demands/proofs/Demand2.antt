@@ -1,6 +1,8 @@
 -- DEMAND 2 holds of our calls.
 -- Assumes nothing.
 use mathlib.Core.Path.{refl}
+use lib.ListN.{length}
+use Rattle.device.proofs.Short.{receiving-short}
 use Rattle.controller.proofs.GreetsBack.{heard-exactly}
 use Rattle.controller.proofs.ReadsSound.{reads-sound}
 use Rattle.demands.specs.Board.{ours}
@@ -15,6 +17,7 @@ ours-2 = record {
   digest = λ s. refl;
   answers = λ d l m between plain enough. line-answered d l m plain enough between;
   answers-led = λ d l m between plain short enough. led-line-answered d l m plain enough between short;
+  reply-short = λ d bs m. receiving-short d bs (length m);
   writes = writes;
   reads-back = λ d c random password paper m between writable roomy enough.
       reads-back d c paper m writable roomy enough random password between;

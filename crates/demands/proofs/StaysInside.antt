@@ -12,10 +12,10 @@ use Rattle.lines.specs.declared.command.Command.{Command}
 use Rattle.lines.proofs.CommandLines.{command-length, line-length}
 use Rattle.record.specs.declared.types.Device.{Device}
 use Rattle.device.specs.Receiving.{digestLong}
-use Rattle.device.specs.Calls.{Result, received, openedBy}
+use Rattle.device.specs.Calls.{longestReply, Result, received, openedBy}
 use Rattle.device.proofs.Cases.{received-by, opened-by}
 use Rattle.device.proofs.Counts.{received-within}
-use Rattle.device.proofs.Short.{longestReply, longestGreeting, receiving-short, opening-short}
+use Rattle.device.proofs.Short.{longestGreeting, receiving-short, opening-short}
 use Rattle.controller.specs.Writing.{ledBy, written}
 use Rattle.controller.proofs.Cases.{written-by}
 use Rattle.demands.specs.Board.{lentBy, ours}

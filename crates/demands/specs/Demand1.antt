@@ -21,7 +21,7 @@ use Rattle.lines.specs.Forms.{erraLine, greetingOpen, isReplyForm, headBody, re
 use Rattle.lines.specs.Commands.{bodyOf}
 use Rattle.lines.specs.Requests.{isBody}
 use Rattle.lines.specs.declared.command.Command.{Command}
-use Rattle.answers.specs.Said.{nothing}
+use Rattle.answers.specs.Said.{Said, okay, refused, powerIs, chosenIs, mutesAre, errorsAre, lampsAre, inputsAre, textIs, classIs1, nothing}
 use Rattle.answers.specs.Reading.{readParameter}
 use Rattle.record.specs.Rules.{isErrors}
 use Rattle.record.specs.Legal.{isLegal}
@@ -30,7 +30,7 @@ use Rattle.record.specs.SetUp.{isSetUp}
 use Rattle.record.specs.declared.types.Device.{Device}
 use Rattle.device.specs.Calls.{replyRoom, isShut}
 use Rattle.controller.specs.Writing.{commandRoom, isWritable}
-use Rattle.controller.specs.Reading.{outcomeOf, numberOf as numberRead}
+use Rattle.controller.specs.Reading.{numberOf as numberRead}
 use Rattle.controller.specs.Greetings.{greets, randomIn, numberOf as numberHeard}
 use Rattle.demands.specs.Board.{Board, Lent, Wrote, Wanted}
 use Rattle.demands.specs.Calls.{Call, opens, closes, receives, passes, marks, reports, after, numberOf}
@@ -77,11 +77,25 @@ writerRows c secured password m =
 abbrev isErra : List ℕ → Bool
 isErra l = sameBy itself l erraLine
 
+-- a parameter that is not allowed says nothing
+abbrev pub saysNothing : Said → Bool
+saysNothing okay = false
+saysNothing (refused n) = false
+saysNothing (powerIs p) = false
+saysNothing (chosenIs i) = false
+saysNothing (mutesAre video audio) = false
+saysNothing (errorsAre ds) = false
+saysNothing (lampsAre ls) = false
+saysNothing (inputsAre is) = false
+saysNothing (textIs s) = false
+saysNothing classIs1 = false
+saysNothing nothing = true
+
 -- the ERRA line is known before the form is tested
 abbrev pub readerRows : Command → List ℕ → List Row
 readerRows c l =
     (0 when isErra l) ∷ (10 when not (isReplyForm l)) ∷ (11 when not (isBody (headBody l) (bodyOf c)))
-    ∷ (numberRead (outcomeOf (readParameter c (replyParameter l))) when true) ∷ []
+    ∷ (12 when saysNothing (readParameter c (replyParameter l))) ∷ []
 
 -- the two greetings and the ERRA line
 abbrev pub greetingRows : List ℕ → List Row

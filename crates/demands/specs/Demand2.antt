@@ -35,7 +35,7 @@ use Rattle.meaning.specs.Meaning.{meant, done}
 use Rattle.stream.specs.Machine.{Out, Took, handedParts, joined}
 use Rattle.device.specs.Answering.{Answered, answered, swallowed}
 use Rattle.device.specs.Receiving.{turned, passwordOf, digestLong}
-use Rattle.device.specs.Calls.{replyRoom, isShut, withParts}
+use Rattle.device.specs.Calls.{longestReply, replyRoom, isShut, withParts}
 use Rattle.controller.specs.Writing.{commandRoom, ledBy}
 use Rattle.controller.specs.Reading.{ReadAs}
 use Rattle.controller.specs.declared.reading.Outcome.the-variants.{Means}
@@ -134,6 +134,8 @@ pub record Demand2 (B : Board) : Type 0 where
       → length l ≤ commandMost → replyRoom ≤ length m
       → let bs = digestFor (B .shows d) ++ l ++ ascii "\r" in
       AnsweredAs B d bs (answerTo (B .shows d) l) (B .receive d bs m)
+  -- 01, "Commands": "No reply is longer than 72 bytes"
+  pub reply-short : (d : B .Record) (bs m : List ℕ) → B .receive d bs m .length ≤ longestReply
   -- "for every command our writer makes": its line, led by the digest where one was asked for
   pub writes : (c : Command) (secured : Bool) (random : ℕ) (password m : List ℕ)
       → let w = B .write c secured random password m in

@@ -23,11 +23,8 @@ use Rattle.meaning.specs.Meaning.{meant}
 use Rattle.meaning.proofs.CanBeSaid.{meant-fits}
 use Rattle.device.specs.Answering.{Answered, asked, answered}
 use Rattle.device.specs.Receiving.{lineEnded, takenIn}
-use Rattle.device.specs.Calls.{isSecured, greeting, received, openedBy}
+use Rattle.device.specs.Calls.{longestReply, isSecured, greeting, received, openedBy}
 use Rattle.device.proofs.Cases.{received-by, opened-by, ended-by, taken-by}
-
-abbrev pub longestReply : ℕ
-longestReply = 72
 
 abbrev pub longestGreeting : ℕ
 longestGreeting = 18

@@ -42,6 +42,10 @@ made d = record { number = 0; taken = 0; reply = []; device = d }
 abbrev pub replyRoom : ℕ
 replyRoom = replyMost
 
+-- no reply is longer: a name of 64 bytes, and eight around it
+abbrev pub longestReply : ℕ
+longestReply = 72
+
 abbrev pub isShut : Connection → Bool
 isShut c = eqb (c .phase) shut
 
