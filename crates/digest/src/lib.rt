@@ -18,6 +18,7 @@ struct Buffer {
     d: u32,
 }
 
+#[repr(C)]
 pub struct Digest {
     pub bytes: [u8; 16],
 }

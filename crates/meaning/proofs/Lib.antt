@@ -1,4 +1,4 @@
-mod Filling
+pub mod Filling
 pub mod InputsByPlace
 pub mod Cases
 pub mod CanBeSaid

@@ -1,0 +1,70 @@
+-- THE LAWS at the face: for every legal device between lines and every code that stands for a command, what is read of
+-- the reply to what was written is what the projector meant, in the kinds and values of the header; and so for the
+-- greeting.
+--   Told d m c w r     the writing w of m, which is the command c, and the receiving r of its bytes
+-- Assumes nothing.
+use Prim.Native.Nat.{ℕ, _^_, _≤_, _<_}
+use mathlib.Core.Path.{_≡_, sym, ap, subst}
+use mathlib.Core.Bool.{true, false}
+use mathlib.Core.List.{List}
+use Rattle.lines.specs.declared.command.Command.{Command}
+use Rattle.lines.specs.declared.request.Request.the-variants.{Asks}
+use Rattle.record.specs.Limits.{shut, awaiting, opened}
+use Rattle.record.specs.Legal.{isLegal}
+use Rattle.record.specs.declared.types.Device.{Device}
+use Rattle.stream.specs.Collecting.{emptyLine}
+use Rattle.meaning.specs.Meaning.{meant}
+use Rattle.device.specs.Receiving.{passwordOf}
+use Rattle.device.specs.Calls.{Result, replyRoom, received, openedBy}
+use Rattle.controller.specs.Writing.{WrittenAs, commandRoom}
+use Rattle.controller.specs.Greetings.{readGreeting}
+use Rattle.controller.proofs.ReadsBack.{ReadBack}
+use Rattle.controller.proofs.WrittenReadBack.{written-reads-back, written-reads-back-secured}
+use Rattle.controller.proofs.GreetsBack.{heardOn, greets-back}
+use Rattle.board.specs.Commands.{commandOf}
+use Rattle.board.specs.Readings.{flatGreeting, saidFlat, flat}
+use Rattle.board.specs.Face.{writtenBy, readBy}
+use Rattle.board.specs.declared.codes.Coded.{Coded}
+use Rattle.board.specs.declared.codes.MaybeCommand.{MaybeCommand}
+use Rattle.board.specs.declared.codes.MaybeCommand.the-variants.{CommandIs}
+use Rattle.board.proofs.CodesBack.{command-writable}
+
+pub record Told (d : Device) (m : MaybeCommand) (c : Command) (w : WrittenAs) (r : Result Device) : Type 0 where
+  pub written : w .number ≡ 0
+  pub taken : ReadBack d c (w .bytes) r
+  pub read : readBy m (r .reply) ≡ saidFlat (meant (d .settings) (d .own) (Asks c))
+
+module _ (d : Device) (legal : isLegal d ≡ true) (between : d .connection .line ≡ emptyLine)
+    (k : Coded) (c : Command) (named : commandOf k ≡ CommandIs c) (room : ℕ) (enough : replyRoom ≤ room)
+    (memory : ℕ) (lent : commandRoom ≤ memory) where
+  -- of the command itself, and so of its code
+  abbrev ToldBy : (MaybeCommand → WrittenAs) → MaybeCommand → Type 0
+  ToldBy write m = Told d m c (write m) (received d (write m .bytes) room)
+
+  told : (write : MaybeCommand → WrittenAs)
+      → (write (CommandIs c) .number ≡ 0) × ReadBack d c (write (CommandIs c) .bytes)
+      (received d (write (CommandIs c) .bytes) room)
+      → ToldBy write (commandOf k)
+  told write through =
+      subst (ToldBy write) (sym named)
+      (record { written = through .0; taken = through .1; read = ap flat (through .1 .said) })
+
+  pub face-reads-back : d .connection .phase ≡ opened → (random : ℕ) (password : List ℕ)
+      → ToldBy (λ m. writtenBy m false random password memory) (commandOf k)
+  face-reads-back phase random password =
+      told (λ m. writtenBy m false random password memory)
+      (written-reads-back d legal between c (command-writable k c named) room enough memory lent phase random password)
+
+  -- with the device's own random number and password
+  pub face-reads-back-secured : d .connection .phase ≡ awaiting
+      → ToldBy (λ m. writtenBy m true (d .connection .random) (passwordOf (d .settings)) memory) (commandOf k)
+  face-reads-back-secured phase =
+      told (λ m. writtenBy m true (d .connection .random) (passwordOf (d .settings)) memory)
+      (written-reads-back-secured d legal between c (command-writable k c named) room enough memory lent phase)
+
+pub face-greets-back : (d : Device) (r room : ℕ) → isLegal d ≡ true → d .connection .phase ≡ shut → replyRoom ≤ room
+    → r < 2 ^ 32
+    → let o = openedBy d r room in
+    flatGreeting (readGreeting (o .reply)) ≡ flatGreeting (heardOn (o .device .connection))
+face-greets-back d r room legal closed enough word =
+    ap flatGreeting (greets-back d r room legal closed enough word .heard)

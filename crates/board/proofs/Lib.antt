@@ -1,0 +1,6 @@
+pub mod Flattening
+pub mod ReadingsSaid
+pub mod CodesBack
+pub mod Refusals
+pub mod FaceReadsBack
+pub mod OneResult

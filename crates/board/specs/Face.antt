@@ -1,0 +1,27 @@
+-- The controller's calls on a command by its code. What is no command is 3 (docs/DECISIONS.md): for the writer after 2,
+-- for the reader at once.
+--   writtenBy m ..     what the writer gives
+--   readBy m l         what the reader gives of the line l
+-- Assumes nothing.
+use Prim.Native.Nat.{ℕ}
+use mathlib.Core.Bool.{Bool}
+use mathlib.Core.List.{List}
+use lib.Dec.{ltb}
+use Rattle.text.specs.Words.{if_then_else_}
+use Rattle.controller.specs.Writing.{WrittenAs, refusing, commandRoom, written}
+use Rattle.controller.specs.Reading.{readReply}
+use Rattle.board.specs.Readings.{meaningless, flat}
+use Rattle.board.specs.declared.codes.MaybeCommand.{MaybeCommand}
+use Rattle.board.specs.declared.codes.MaybeCommand.the-variants.{CommandIs, NoCommand}
+use Rattle.board.specs.declared.readings.FlatReading.{FlatReading}
+
+unfoldable pub noneWritten : ℕ → WrittenAs
+noneWritten room = if ltb room commandRoom then refusing 2 else refusing 3
+
+abbrev pub writtenBy : MaybeCommand → (secured : Bool) (random : ℕ) (password : List ℕ) (room : ℕ) → WrittenAs
+writtenBy (CommandIs c) secured random password room = written c secured random password room
+writtenBy NoCommand secured random password room = noneWritten room
+
+abbrev pub readBy : MaybeCommand → List ℕ → FlatReading
+readBy (CommandIs c) l = flat (readReply c l)
+readBy NoCommand l = meaningless 3

@@ -1,0 +1,92 @@
+// The projector's calls, but for those of time.
+use device::calls;
+use device::calls::Opened;
+use device::calls::Received;
+use record::host;
+use record::legality;
+use record::setup;
+use record::types::Changed;
+use record::types::Device;
+ghost use mathlib.Core.Path.{_≡_};
+ghost use lib.ListN.{length};
+ghost use Rattle.text.specs.Words.{over};
+ghost use Rattle.record.specs.Legal.{isLegal};
+ghost use Rattle.record.specs.SetUp.{setUp};
+ghost use Rattle.record.specs.HostCalls.{faultSet, errorsSet};
+ghost use Rattle.device.specs.Calls.{received, openedBy, closedBy, told, toldOpened, toldChanged};
+
+#[no_mangle]
+pub extern "C" fn pj_set_up(
+    name: &[u8],
+    maker: &[u8],
+    model: &[u8],
+    other: &[u8],
+    password: &[u8],
+    inputs: &[u8],
+    lamps: &[u32],
+    warm: u32,
+    cool: u32,
+) -> Changed
+    ensures { λ r.
+        ⌜ r ≡ setUp (now (name .entry)) (now (maker .entry)) (now (model .entry))
+        (now (other .entry)) (now (password .entry)) (now (inputs .entry)) (now (lamps .entry))
+        warm cool ⌝ }
+{
+    setup::set_up(
+        name,
+        maker,
+        model,
+        other,
+        password,
+        inputs,
+        lamps,
+        warm,
+        cool,
+    )
+}
+
+#[no_mangle]
+pub extern "C" fn pj_open(d: Device, random: u32, out: &mut [u8]) -> Opened
+    ensures { λ r. ⌜ r ≡ toldOpened (openedBy d random (length (now (out .entry)))) ⌝ }
+    ensures { λ _. ⌜ now (out .exit) ≡ over (openedBy d random (length (now (out .entry))) .reply)
+        (now (out .entry)) ⌝ }
+{
+    calls::open(d, random, out)
+}
+
+#[no_mangle]
+pub extern "C" fn pj_close(d: Device) -> Changed
+    ensures { λ r. ⌜ r ≡ toldChanged (closedBy d) ⌝ }
+{
+    calls::close(d)
+}
+
+#[no_mangle]
+pub extern "C" fn pj_receive(d: Device, bytes: &[u8], out: &mut [u8]) -> Received
+    ensures { λ r. ⌜ r ≡ told (received d (now (bytes .entry)) (length (now (out .entry)))) ⌝ }
+    ensures { λ _. ⌜ now (out .exit) ≡ over (received d (now (bytes .entry)) (length (now (out .entry))) .reply)
+        (now (out .entry)) ⌝ }
+{
+    calls::receive(d, bytes, out)
+}
+
+#[no_mangle]
+pub extern "C" fn pj_set_fault(d: Device, mark: bool) -> Changed
+    ensures { λ r. ⌜ r ≡ faultSet d mark ⌝ }
+{
+    host::set_fault(d, mark)
+}
+
+#[no_mangle]
+pub extern "C" fn pj_set_errors(d: Device, digits: &[u8]) -> Changed
+    ensures { λ r. ⌜ r ≡ errorsSet d (now (digits .entry)) ⌝ }
+{
+    host::set_errors(d, digits)
+}
+
+#[no_mangle]
+pub extern "C" fn pj_legal(d: Device) -> bool
+    ensures { λ r. ⌜ r ≡ isLegal d ⌝ }
+{
+    legality::legal(d)
+}
