@@ -1,0 +1,173 @@
+//! What is measured: each piece of work, done by the archive, by the second program and, for MD5, by plain C.
+
+use second::face::{Command, Device, Lent, Reading, linked};
+use second::reference::calls;
+use std::hint::black_box;
+
+#[derive(Clone, Copy, PartialEq, Eq, Debug)]
+pub enum By {
+    Board,
+    Second,
+    PlainC,
+}
+
+pub type Run = Box<dyn Fn(By)>;
+
+/// A piece of work under its name. `prepare` makes what it works on, and gives what is then measured.
+pub struct Work {
+    pub name: &'static str,
+    pub by_c: bool,
+    pub prepare: Box<dyn Fn() -> Run>,
+}
+
+unsafe extern "C" {
+    fn plain_md5(message: *const u8, length: usize, digest: *mut u8);
+}
+
+pub const LARGE: usize = 64 << 20;
+
+pub fn all() -> Vec<Work> {
+    let mut all = Vec::new();
+    let mut add = |name, by_c, prepare: Box<dyn Fn() -> Run>| all.push(Work { name, by_c, prepare });
+    add("MD5 of 40 bytes", true, Box::new(|| digest(40)));
+    add("MD5 of 4,096 bytes", true, Box::new(|| digest(4096)));
+    add("MD5 of 64 MB", true, Box::new(|| digest(LARGE)));
+    add("pj_receive, whole query %1LAMP ?, 8 lamps", false, Box::new(|| receiving(opened(b""), b"%1LAMP ?\r")));
+    add("pj_receive, whole query %1NAME ?, 64 bytes", false, Box::new(|| receiving(opened(b""), b"%1NAME ?\r")));
+    add("pj_receive, a line led by its digest", false, Box::new(|| receiving(opened(b"panel2"), &led_by_digest())));
+    add("pj_receive, one byte", false, Box::new(|| receiving(opened(b""), b"%")));
+    add("pj_receive, 4,096 bytes of lines, handed on", false, Box::new(|| handing_on(opened(b""))));
+    add("pj_pass, n = 1", false, Box::new(|| passing(warming(), 1)));
+    add("pj_pass, n = 4,294,967,295", false, Box::new(|| passing(warming(), u32::MAX)));
+    add("pj_pass_in_place, n = 1", false, Box::new(|| passing_in_place(warming(), 1)));
+    add("pj_legal", false, Box::new(|| legality(opened(b""))));
+    add("pj_read_reply, longest LAMP", false, Box::new(|| reading(7, "LAMP", &["99999 1"; 8].join(" "))));
+    add("pj_read_reply, longest INST", false, Box::new(|| reading(8, "INST", &["59"; 32].join(" "))));
+    add("pj_read_reply, longest NAME", false, Box::new(|| reading(9, "NAME", &"n".repeat(64))));
+    all
+}
+
+/// A set-up at its limits, opened: every text and list as long as it may be, so that legality has the most to look at.
+pub fn opened(password: &[u8]) -> Device {
+    let lent = Lent {
+        name: vec![b'n'; 64],
+        maker: vec![b'm'; 32],
+        model: vec![b'o'; 32],
+        other: vec![b'i'; 32],
+        password: password.to_vec(),
+        inputs: (b'1'..=b'2').flat_map(|kind| (b'1'..=b'8').flat_map(move |number| [kind, number])).collect(),
+        lamps: vec![359_000_000; 8],
+        warm: 600,
+        cool: 600,
+    };
+    let fresh = calls::set_up(&lent);
+    assert_eq!(fresh.number, 0);
+    calls::open(&fresh.device, 0x498e_4a67, &mut [0; 136]).device
+}
+
+/// Everything moves: warm-up with 600 seconds left, and an awaiting connection.
+fn warming() -> Device {
+    let mut device = opened(b"panel2");
+    device.own.power = 3;
+    device.own.left = 600;
+    device
+}
+
+fn led_by_digest() -> Vec<u8> {
+    let mut line = second::reference::connection::leading_digest(0x498e_4a67, b"panel2").to_vec();
+    line.extend_from_slice(b"%1POWR ?\r");
+    line
+}
+
+fn digest(length: usize) -> Run {
+    let message: Vec<u8> = (0..length).map(|place| (place * 31 + place / 999) as u8).collect();
+    Box::new(move |by| {
+        let message = black_box(&message);
+        let mut bytes = [0; 16];
+        match by {
+            By::Board => bytes = linked::digest(message).bytes,
+            By::Second => bytes = calls::digest(message).bytes,
+            // SAFETY: a live slice with its own length, and the sixteen bytes that it writes.
+            By::PlainC => unsafe { plain_md5(message.as_ptr(), message.len(), bytes.as_mut_ptr()) },
+        }
+        black_box(bytes);
+    })
+}
+
+fn receiving(device: Device, bytes: &[u8]) -> Run {
+    let bytes = bytes.to_vec();
+    Box::new(move |by| {
+        let (device, bytes) = (black_box(&device), black_box(&bytes));
+        let mut out = [0; 136];
+        let received = match by {
+            By::Board => linked::receive(*device, bytes, &mut out),
+            _ => calls::receive(device, bytes, &mut out),
+        };
+        black_box((&received, &out));
+    })
+}
+
+/// Queries one after another, handed on until all is taken.
+fn handing_on(device: Device) -> Run {
+    let stream: Vec<u8> = b"%1POWR ?\r%1INPT ?\r%1LAMP ?\r".iter().copied().cycle().take(4096).collect();
+    Box::new(move |by| {
+        let mut device = *black_box(&device);
+        let mut rest = black_box(&stream).as_slice();
+        while !rest.is_empty() {
+            let mut out = [0; 136];
+            let received = match by {
+                By::Board => linked::receive(device, rest, &mut out),
+                _ => calls::receive(&device, rest, &mut out),
+            };
+            device = received.device;
+            rest = &rest[received.taken..];
+            black_box(&out);
+        }
+        black_box(&device);
+    })
+}
+
+fn passing(device: Device, seconds: u32) -> Run {
+    Box::new(move |by| {
+        let device = black_box(&device);
+        let changed = match by {
+            By::Board => linked::pass(*device, black_box(seconds)),
+            _ => calls::pass(device, black_box(seconds)),
+        };
+        black_box(&changed);
+    })
+}
+
+fn passing_in_place(device: Device, seconds: u32) -> Run {
+    Box::new(move |by| {
+        let mut device = *black_box(&device);
+        match by {
+            By::Board => drop(black_box(linked::pass_in_place(&mut device, black_box(seconds)))),
+            _ => device = calls::pass(&device, black_box(seconds)).device,
+        }
+        black_box(&device);
+    })
+}
+
+fn legality(device: Device) -> Run {
+    Box::new(move |by| {
+        let device = black_box(&device);
+        black_box(match by {
+            By::Board => linked::legal(*device),
+            _ => calls::legal(device),
+        });
+    })
+}
+
+fn reading(code: u8, body: &str, parameter: &str) -> Run {
+    let line = format!("%1{body}={parameter}\r").into_bytes();
+    let command = Command { code, first: 0, second: 0 };
+    Box::new(move |by| {
+        let line = black_box(&line);
+        let reading: Reading = match by {
+            By::Board => linked::read_reply(command, line),
+            _ => calls::read_reply(command, line),
+        };
+        black_box(&reading);
+    })
+}

@@ -1,0 +1,226 @@
+/* A host of libboard.a for a comparison over pipes: reads a call from standard input, makes it, writes all that it
+   gives to standard output, until the input ends. src/face/wire.rs is the other end: every field in its order,
+   numbers with their lowest byte first, a size_t as eight bytes, a slice after its length. Calls and answers each
+   stand after eight bytes with their length. */
+#include <stdio.h>
+#include <stdlib.h>
+#include <string.h>
+
+#include "ceiling.h"
+
+/* A call in, an answer out. */
+
+static uint8_t call[1 << 23], answer[1 << 16]; /* a message of megabytes, the largest answer */
+static uint32_t lamp_room[1 << 10];
+static size_t at, end;
+
+static void get(void *to, size_t n) {
+    memcpy(to, call + at, n);
+    at += n;
+}
+
+static void put(const void *from, size_t n) {
+    memcpy(answer + end, from, n);
+    end += n;
+}
+
+#define GET(field) get(&(field), sizeof(field))
+#define PUT(field) put(&(field), sizeof(field))
+
+typedef struct {
+    uint8_t *at;
+    size_t n;
+} slice;
+
+static slice get_slice(void) {
+    slice s;
+    GET(s.n);
+    s.at = call + at;
+    at += s.n;
+    return s;
+}
+
+static void put_slice(slice s) {
+    PUT(s.n);
+    put(s.at, s.n);
+}
+
+#define EACH_TEXT(DO, t) DO((t).len) DO((t).bytes)
+#define EACH_FIELD(DO, d)                                                                                              \
+    EACH_TEXT(DO, (d).settings.name)                                                                                   \
+    EACH_TEXT(DO, (d).settings.maker)                                                                                  \
+    EACH_TEXT(DO, (d).settings.model)                                                                                  \
+    EACH_TEXT(DO, (d).settings.other)                                                                                  \
+    EACH_TEXT(DO, (d).settings.password)                                                                               \
+    DO((d).settings.input_count) DO((d).settings.inputs) DO((d).settings.lamp_count)                                   \
+    DO((d).settings.warm) DO((d).settings.cool)                                                                        \
+    DO((d).own.power) DO((d).own.left) DO((d).own.chosen)                                                              \
+    DO((d).own.video_muted) DO((d).own.audio_muted) DO((d).own.fault)                                                  \
+    DO((d).own.errors) DO((d).own.lamps)                                                                               \
+    DO((d).connection.phase) DO((d).connection.age) DO((d).connection.random)                                          \
+    DO((d).connection.line.overlong) DO((d).connection.line.held) DO((d).connection.line.bytes)
+
+#define GET_ONE(field) GET(field);
+#define PUT_ONE(field) PUT(field);
+
+static pj_device get_device(void) {
+    pj_device d;
+    EACH_FIELD(GET_ONE, d)
+    return d;
+}
+
+static void put_device(pj_device d) {
+    EACH_FIELD(PUT_ONE, d)
+}
+
+static void put_changed(pj_changed c) {
+    PUT(c.number);
+    put_device(c.device);
+}
+
+static pj_command get_command(void) {
+    pj_command c;
+    GET(c.code);
+    GET(c.first);
+    GET(c.second);
+    return c;
+}
+
+static void set_up(void) {
+    slice name = get_slice(), maker = get_slice(), model = get_slice(), other = get_slice();
+    slice password = get_slice(), inputs = get_slice();
+    size_t lamps;
+    uint32_t warm, cool;
+    GET(lamps);
+    get(lamp_room, 4 * lamps);
+    GET(warm);
+    GET(cool);
+    put_changed(pj_set_up(name.at, name.n, maker.at, maker.n, model.at, model.n, other.at, other.n, password.at,
+                          password.n, inputs.at, inputs.n, lamp_room, lamps, warm, cool));
+}
+
+static void open_connection(pj_device d) {
+    uint32_t random;
+    GET(random);
+    slice out = get_slice();
+    pj_opened o = pj_open(d, random, out.at, out.n);
+    PUT(o.number);
+    PUT(o.length);
+    put_device(o.device);
+    put_slice(out);
+}
+
+static void receive(pj_device d) {
+    slice bytes = get_slice(), out = get_slice();
+    pj_received r = pj_receive(d, bytes.at, bytes.n, out.at, out.n);
+    PUT(r.number);
+    PUT(r.taken);
+    PUT(r.length);
+    put_device(r.device);
+    put_slice(out);
+}
+
+static void pass(pj_device d, bool in_place) {
+    uint32_t seconds;
+    GET(seconds);
+    if (in_place) {
+        uint32_t number = pj_pass_in_place(&d, seconds);
+        PUT(number);
+        put_device(d);
+    } else {
+        put_changed(pj_pass(d, seconds));
+    }
+}
+
+static void set_fault(pj_device d) {
+    bool mark;
+    GET(mark);
+    put_changed(pj_set_fault(d, mark));
+}
+
+static void set_errors(pj_device d) {
+    slice digits = get_slice();
+    put_changed(pj_set_errors(d, digits.at, digits.n));
+}
+
+static void legal(pj_device d) {
+    bool is = pj_legal(d);
+    PUT(is);
+}
+
+static void digest(void) {
+    slice message = get_slice();
+    pj_digest m = pj_md5(message.at, message.n);
+    PUT(m.bytes);
+}
+
+static void write_command(void) {
+    pj_command c = get_command();
+    bool secured;
+    uint32_t random;
+    GET(secured);
+    GET(random);
+    slice password = get_slice(), out = get_slice();
+    pj_written w = pj_write(c, secured, random, password.at, password.n, out.at, out.n);
+    PUT(w.number);
+    PUT(w.length);
+    put_slice(out);
+}
+
+static void read_greeting(void) {
+    slice line = get_slice();
+    pj_greeting g = pj_read_greeting(line.at, line.n);
+    PUT(g.number);
+    PUT(g.kind);
+    PUT(g.random);
+}
+
+static void read_reply(void) {
+    pj_command c = get_command();
+    slice line = get_slice();
+    pj_reading r = pj_read_reply(c, line.at, line.n);
+    PUT(r.number);
+    PUT(r.kind);
+    PUT(r.first);
+    PUT(r.second);
+    PUT(r.count);
+    PUT(r.hours);
+    PUT(r.lit);
+    PUT(r.inputs);
+    PUT(r.text);
+}
+
+static void make_call(void) {
+    pj_device d = get_device();
+    uint8_t which;
+    GET(which);
+    switch (which) {
+    case 0: set_up(); break;
+    case 1: open_connection(d); break;
+    case 2: put_changed(pj_close(d)); break;
+    case 3: receive(d); break;
+    case 4: pass(d, false); break;
+    case 5: pass(d, true); break;
+    case 6: set_fault(d); break;
+    case 7: set_errors(d); break;
+    case 8: legal(d); break;
+    case 9: digest(); break;
+    case 10: write_command(); break;
+    case 11: read_greeting(); break;
+    case 12: read_reply(); break;
+    default: exit(EXIT_FAILURE);
+    }
+}
+
+int main(void) {
+    size_t length;
+    while (fread(&length, sizeof length, 1, stdin) == 1) {
+        if (length > sizeof call || fread(call, 1, length, stdin) != length) return EXIT_FAILURE;
+        at = 0;
+        end = 0;
+        make_call();
+        if (fwrite(&end, sizeof end, 1, stdout) != 1 || fwrite(answer, 1, end, stdout) != end) return EXIT_FAILURE;
+        fflush(stdout);
+    }
+    return EXIT_SUCCESS;
+}

@@ -1,0 +1,200 @@
+//! The comparison: the same calls on the same inputs in both programs, every number, count, record field and lent byte.
+
+pub mod histories;
+pub mod lines;
+pub mod messages;
+pub mod random;
+pub mod records;
+pub mod replies;
+pub mod report;
+pub mod setups;
+pub mod shrink;
+pub mod tally;
+
+use crate::face::{Act, Answer, Device, Side};
+use crate::reference::side::Second;
+use random::Random;
+use report::Difference;
+use tally::Tally;
+
+/// Nothing, or the smallest difference found.
+type Compared = Result<(), Box<Difference>>;
+
+/// A run has at least so many comparisons.
+pub const ENOUGH: usize = 200_000;
+
+/// Calls from a record on, each lent the record that the last one returned; a call that returns none hands its own on.
+#[derive(Clone, PartialEq, Eq, Debug)]
+pub struct Case {
+    pub start: Device,
+    pub acts: Vec<Act>,
+}
+
+impl Case {
+    fn one(device: Device, act: Act) -> Case {
+        Case { start: device, acts: vec![act] }
+    }
+}
+
+/// One run over one board: how many calls agreed so far, and what they gave.
+pub struct Run<'a, B: Side> {
+    random: Random,
+    board: &'a mut B,
+    pub agreed: usize,
+    pub met: Tally,
+}
+
+impl<'a, B: Side> Run<'a, B> {
+    pub fn new(seed: u64, board: &'a mut B) -> Run<'a, B> {
+        Run { random: Random::new(seed), board, agreed: 0, met: Tally::default() }
+    }
+
+    /// Everything, until enough comparisons agreed; or the smallest difference found.
+    pub fn all(&mut self) -> Result<usize, Box<Difference>> {
+        self.every_code()?;
+        self.every_body()?;
+        self.messages()?;
+        while self.agreed < ENOUGH {
+            self.round()?;
+        }
+        Ok(self.agreed)
+    }
+
+    fn compare(&mut self, case: Case) -> Compared {
+        let (agreed, met) = (&mut self.agreed, &mut self.met);
+        let count = |act: &Act, answer: &Answer| {
+            *agreed += 1;
+            met.count(act, answer);
+        };
+        if difference(&case, self.board, count).is_none() {
+            return Ok(());
+        }
+        let smallest = shrink::smallest(case, |case| difference(case, self.board, |_, _| ()).is_some());
+        Err(Box::new(difference(&smallest, self.board, |_, _| ()).expect("it differed when it was found")))
+    }
+
+    fn compare_call(&mut self, device: Device, act: Act) -> Compared {
+        self.compare(Case::one(device, act))
+    }
+
+    /// Every value of every code that a byte holds, in a record and in a command.
+    fn every_code(&mut self) -> Compared {
+        for code in 0..=255 {
+            let mut device = records::legal(&mut self.random);
+            device.own.power = code;
+            self.compare_call(device, Act::Legal)?;
+            let mut device = records::legal(&mut self.random);
+            device.connection.phase = code;
+            self.compare_call(device, Act::Legal)?;
+            for place in 0..6 {
+                let mut device = records::legal(&mut self.random);
+                device.own.errors[place] = code;
+                self.compare_call(device, Act::Legal)?;
+            }
+            for place in 0..3 {
+                let Act::Write { mut command, secured, random, password, lent } = replies::write(&mut self.random)
+                else {
+                    unreachable!()
+                };
+                *[&mut command.code, &mut command.first, &mut command.second][place] = code;
+                self.compare_call(Device::BLANK, Act::Write { command, secured, random, password, lent })?;
+            }
+        }
+        Ok(())
+    }
+
+    /// Every known body in every case of its letters, asked on an open connection.
+    fn every_body(&mut self) -> Compared {
+        for (_, name) in crate::reference::commands::BODIES {
+            for cases in 0..16 {
+                let mut line = b"%1".to_vec();
+                line.extend((0..4).map(|i| if cases >> i & 1 == 1 { name[i].to_ascii_lowercase() } else { name[i] }));
+                line.extend(b" ?\r");
+                let mut device = records::between_lines(&mut self.random);
+                device.connection.phase = 2;
+                let lent = self.random.memory(136);
+                self.compare_call(device, Act::Receive { bytes: line, lent })?;
+            }
+        }
+        Ok(())
+    }
+
+    fn messages(&mut self) -> Compared {
+        for length in messages::short() {
+            for act in messages::of_length(&mut self.random, length) {
+                self.compare_call(Device::BLANK, act)?;
+            }
+        }
+        for _ in 0..3 {
+            let act = messages::long(&mut self.random);
+            self.compare_call(Device::BLANK, act)?;
+        }
+        Ok(())
+    }
+
+    /// A little of everything, so that a difference of any kind is found early.
+    fn round(&mut self) -> Compared {
+        let history = histories::history(&mut self.random);
+        self.compare(history)?;
+        for field in 0..records::FIELDS {
+            let mut device = records::legal(&mut self.random);
+            records::damage(&mut self.random, &mut device, field);
+            self.compare_call(device, Act::Legal)?;
+        }
+        for _ in 0..8 {
+            let device = records::damaged(&mut self.random);
+            let act = histories::act(&mut self.random, &device);
+            self.compare_call(device, act)?;
+            let device = records::legal(&mut self.random);
+            let act = histories::act(&mut self.random, &device);
+            self.compare_call(device, act)?;
+            let act = Act::SetUp(setups::any(&mut self.random));
+            self.compare_call(Device::BLANK, act)?;
+            let act = replies::write(&mut self.random);
+            self.compare_call(Device::BLANK, act)?;
+            let act = replies::read_greeting(&mut self.random);
+            self.compare_call(Device::BLANK, act)?;
+        }
+        for _ in 0..24 {
+            let device = records::between_lines(&mut self.random);
+            let bytes = lines::line(&mut self.random, &device);
+            let lent = self.random.memory(136);
+            self.compare_call(device, Act::Receive { bytes, lent })?;
+            let act = replies::read_reply(&mut self.random);
+            self.compare_call(Device::BLANK, act)?;
+        }
+        for _ in 0..4 {
+            self.stream()?;
+        }
+        Ok(())
+    }
+
+    /// A stream, handed to the board in random cuts, to the second program whole.
+    fn stream(&mut self) -> Compared {
+        let random = &mut self.random;
+        let device = records::legal(random);
+        let bytes = lines::stream(random, &device);
+        let pieces = random.pick(&[1, 2, 5, 20]);
+        let mut cuts: Vec<usize> = (0..pieces).map(|_| random.below(bytes.len() + 1)).collect();
+        if random.one_in(8) {
+            cuts = (0..bytes.len()).collect();
+        }
+        cuts.sort_unstable();
+        self.compare_call(device, Act::HandOn { bytes, cuts })
+    }
+}
+
+/// Where the two programs first differ in this case, if they do; `agree` hears of each call before that.
+fn difference(case: &Case, board: &mut impl Side, mut agree: impl FnMut(&Act, &Answer)) -> Option<Difference> {
+    let mut device = case.start;
+    for (place, act) in case.acts.iter().enumerate() {
+        let expected = Second.answer(&device, act);
+        let given = board.answer(&device, act);
+        if expected != given {
+            return Some(Difference { case: case.clone(), place, device, expected, given });
+        }
+        agree(act, &given);
+        device = given.device().copied().unwrap_or(device);
+    }
+    None
+}

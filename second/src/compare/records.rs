@@ -1,0 +1,171 @@
+//! Records: legal ones in every state, and damaged ones, field by field.
+
+use super::random::Random;
+use super::{lines, setups};
+use crate::face::{Device, Text};
+use crate::reference::calls;
+
+pub fn legal(random: &mut Random) -> Device {
+    let mut device = calls::set_up(&setups::legal(random)).device;
+    let own = &mut device.own;
+    own.power = random.pick(&[0, 1, 1, 2, 3]);
+    own.left = match own.power {
+        2 => seconds_left(random, device.settings.cool),
+        3 => seconds_left(random, device.settings.warm),
+        _ => 0,
+    };
+    own.chosen = random.below(device.settings.input_count);
+    own.video_muted = random.one_in(2);
+    own.audio_muted = random.one_in(2);
+    own.fault = random.one_in(8);
+    own.errors = std::array::from_fn(|_| random.below(3) as u8);
+    connect(random, &mut device);
+    device
+}
+
+/// A legal record on whose connection a whole line may come next.
+pub fn between_lines(random: &mut Random) -> Device {
+    let mut device = legal(random);
+    device.connection = Device::BLANK.connection;
+    device.connection.phase = if device.settings.password.len > 0 && random.one_in(2) { 1 } else { 2 };
+    device.connection.random = random.word();
+    device
+}
+
+fn seconds_left(random: &mut Random, most: u32) -> u32 {
+    let any = random.from_to(1, most as usize) as u32;
+    random.pick(&[1, most, any])
+}
+
+fn connect(random: &mut Random, device: &mut Device) {
+    let phase = random.pick(&[0, 1, 1, 2, 2, 2, 3]);
+    device.connection.phase = phase;
+    if phase == 1 || phase == 3 {
+        device.connection.age = random.pick(&[0, 1, 15, 28, 29]);
+    }
+    if phase != 0 {
+        device.connection.random = random.word();
+    }
+    if phase == 1 || phase == 2 {
+        collect(random, device);
+    }
+}
+
+/// The start of a line, or anything, up to the limit; or the mark.
+fn collect(random: &mut Random, device: &mut Device) {
+    let most = if device.connection.phase == 1 { 167 } else { 135 };
+    let mut bytes = match random.below(8) {
+        0..=3 => Vec::new(),
+        4 => {
+            let short = random.pick(&[0, 0, 1, 2]);
+            random.bytes_from(0, most - short)
+        }
+        _ => {
+            let line = lines::line(random, device);
+            let length = random.below(line.len() + 1);
+            line[..length].to_vec()
+        }
+    };
+    bytes.retain(|&b| b != b'\r');
+    bytes.truncate(most);
+    let line = &mut device.connection.line;
+    line.overlong = bytes.is_empty() && random.one_in(4);
+    line.held = bytes.len();
+    line.bytes[..bytes.len()].copy_from_slice(&bytes);
+}
+
+/// A legal record with one to three fields replaced; a few are legal still.
+pub fn damaged(random: &mut Random) -> Device {
+    let mut device = legal(random);
+    for _ in 0..random.pick(&[1, 1, 1, 2, 3]) {
+        let field = random.below(FIELDS);
+        damage(random, &mut device, field);
+    }
+    device
+}
+
+/// How many fields `damage` knows.
+pub const FIELDS: usize = 24;
+
+/// Replaces one field, of those that a record has, in their order.
+pub fn damage(random: &mut Random, device: &mut Device, field: usize) {
+    let settings = &mut device.settings;
+    let own = &mut device.own;
+    let connection = &mut device.connection;
+    match field {
+        0 => text(random, &mut settings.name),
+        1 => text(random, &mut settings.maker),
+        2 => text(random, &mut settings.model),
+        3 => text(random, &mut settings.other),
+        4 => text(random, &mut settings.password),
+        5 => settings.input_count = count(random, settings.input_count, 16),
+        6 => settings.inputs[random.below(32)] = random.pick(b"\x000123456789:"),
+        7 => settings.inputs.copy_within(0..2, 2 * random.below(16)),
+        8 => settings.lamp_count = count(random, settings.lamp_count, 8),
+        9 => settings.warm = random.pick(&[0, 1, 600, 601, u32::MAX]),
+        10 => settings.cool = random.pick(&[0, 1, 600, 601, u32::MAX]),
+        11 => own.power = code(random),
+        12 => {
+            own.left =
+                random.pick(&[0, 1, settings.warm, settings.warm + 1, settings.cool, settings.cool + 1, u32::MAX])
+        }
+        13 => own.chosen = count(random, own.chosen, settings.input_count),
+        14 => own.errors[random.below(6)] = code(random),
+        15 => own.lamps[random.below(8)] = random.pick(&[0, 1, 359_999_999, 360_000_000, u32::MAX]),
+        16 => connection.phase = code(random),
+        17 => connection.age = random.pick(&[0, 1, 29, 30, 31, u32::MAX]),
+        18 => connection.random = random.pick(&[0, 1, u32::MAX]),
+        19 => connection.line.overlong = !connection.line.overlong,
+        20 => connection.line.held = count(random, connection.line.held, 167),
+        21 => connection.line.held = count(random, connection.line.held, 135),
+        22 => connection.line.bytes[random.below(167)] = random.pick(b"\r\x00\n1"),
+        _ => {
+            let held = connection.line.held.clamp(1, 167);
+            connection.line.bytes[random.below(held)] = b'\r';
+        }
+    }
+}
+
+fn text(random: &mut Random, text: &mut Text) {
+    match random.below(4) {
+        0 => text.len = count(random, text.len, 64),
+        1 => text.len = count(random, text.len, 32),
+        2 => {
+            text.bytes[random.below(64)] =
+                random.pick(&[0x00, 0x0D, 0x1F, 0x20, b'/', b'0', b'@', b'A', b'z', b'{', 0xFF])
+        }
+        _ => {
+            let refusal = random.pick(&[*b"ERR0", *b"ERR1", *b"ERR2", *b"ERR3", *b"ERR4", *b"ERR5"]);
+            *text = Text::EMPTY;
+            text.len = 4;
+            text.bytes[..4].copy_from_slice(&refusal);
+        }
+    }
+}
+
+/// Beside itself, at its limit, past its array, or so large that twice or eight times it is small again.
+fn count(random: &mut Random, count: usize, limit: usize) -> usize {
+    match random.below(4) {
+        0 => random.pick(&[0, 1, limit, limit + 1]),
+        1 => random.pick(&[count.wrapping_add(1), count.saturating_sub(1)]),
+        2 => random.pick(&[
+            255,
+            256,
+            256 + count,
+            65_536 + count,
+            (1 << 32) + count,
+            (1 << 61) + count,
+            (1 << 63) + count,
+        ]),
+        _ => random.pick(&[usize::MAX, usize::MAX - 1, usize::MAX - 63, 1 << 31, random_size(count)]),
+    }
+}
+
+fn random_size(count: usize) -> usize {
+    count.wrapping_mul(0x0101_0101_0101_0101)
+}
+
+fn code(random: &mut Random) -> u8 {
+    let any = random.byte();
+    random.pick(&[0, 1, 2, 3, 4, 5, 128, 255, any])
+}

@@ -1,0 +1,82 @@
+//! A difference, said so that one can follow it by hand: the calls up to it, and the fields on which the two disagree.
+
+use super::Case;
+use crate::face::fields::{Fields, quoted};
+use crate::face::{Act, Answer, Device};
+use std::fmt;
+
+pub struct Difference {
+    pub case: Case,
+    /// The call that gives different answers, and the record that it is lent.
+    pub place: usize,
+    pub device: Device,
+    pub expected: Answer,
+    pub given: Answer,
+}
+
+impl fmt::Display for Difference {
+    fn fmt(&self, f: &mut fmt::Formatter) -> fmt::Result {
+        writeln!(f, "the two programs differ at call {} of {}:", self.place + 1, self.case.acts.len())?;
+        if self.case.start != Device::BLANK {
+            writeln!(f, "  from the record {}", record(&self.case.start))?;
+        }
+        for act in &self.case.acts[..=self.place] {
+            writeln!(f, "  {}", call(act))?;
+        }
+        if self.place > 0 {
+            writeln!(f, "  which is lent the record {}", record(&self.device))?;
+        }
+        for ((field, expected), (_, given)) in self.expected.fields().iter().zip(self.given.fields()) {
+            if *expected != given {
+                writeln!(f, "  {field}: by 01 {expected}, from libboard.a {given}")?;
+            }
+        }
+        Ok(())
+    }
+}
+
+/// The fields of a record that are not zero.
+fn record(device: &Device) -> String {
+    let zero = Device::BLANK.fields();
+    let fields = device.fields().into_iter().zip(zero).filter(|(field, zero)| field != zero);
+    let said: Vec<String> = fields.map(|((name, value), _)| format!("{name} = {value}")).collect();
+    if said.is_empty() { "of zeros".to_string() } else { said.join(", ") }
+}
+
+fn memory(lent: &[u8]) -> String {
+    format!("memory of {} bytes", lent.len())
+}
+
+fn call(act: &Act) -> String {
+    match act {
+        Act::SetUp(lent) => {
+            let texts = [&lent.name, &lent.maker, &lent.model, &lent.other, &lent.password, &lent.inputs];
+            let texts: Vec<String> = texts.iter().map(|text| quoted(text)).collect();
+            format!("pj_set_up({}, lamps {:?}, warm {}, cool {})", texts.join(", "), lent.lamps, lent.warm, lent.cool)
+        }
+        Act::Open { random, lent } => format!("pj_open({random:#010x}, {})", memory(lent)),
+        Act::Close => "pj_close()".to_string(),
+        Act::Receive { bytes, lent } => format!("pj_receive({}, {})", quoted(bytes), memory(lent)),
+        Act::HandOn { bytes, cuts } => {
+            format!("the stream {} handed to pj_receive in the cuts {cuts:?}", quoted(bytes))
+        }
+        Act::Pass { seconds } => format!("pj_pass({seconds})"),
+        Act::PassInPlace { seconds } => format!("pj_pass_in_place({seconds})"),
+        Act::SetFault { mark } => format!("pj_set_fault({mark})"),
+        Act::SetErrors { digits } => format!("pj_set_errors({digits:?})"),
+        Act::Legal => "pj_legal()".to_string(),
+        Act::Digest { message } => format!("pj_md5({})", quoted(message)),
+        Act::Write { command: c, secured, random, password, lent } => format!(
+            "pj_write(code {} {} {}, secured {secured}, {random:#010x}, {}, {})",
+            c.code,
+            c.first,
+            c.second,
+            quoted(password),
+            memory(lent)
+        ),
+        Act::ReadGreeting { line } => format!("pj_read_greeting({})", quoted(line)),
+        Act::ReadReply { command: c, line } => {
+            format!("pj_read_reply(code {} {} {}, {})", c.code, c.first, c.second, quoted(line))
+        }
+    }
+}

@@ -1,0 +1,202 @@
+//! From a case on which the two programs differ to the smallest that still shows it.
+
+use super::Case;
+use crate::face::wire::Wire;
+use crate::face::{Act, Command, Device, Lent};
+
+/// How many smaller cases are tried at most.
+const TRIES: usize = 20_000;
+
+/// Takes the first smaller case that still differs, until none does.
+pub fn smallest(mut case: Case, mut differs: impl FnMut(&Case) -> bool) -> Case {
+    let mut tries = 0..TRIES;
+    loop {
+        let next = smaller(&case).take_while(|_| tries.next().is_some()).find(&mut differs);
+        match next {
+            Some(smaller) => case = smaller,
+            None => return case,
+        }
+    }
+}
+
+/// Fewer calls first, then a simpler record to start from, then simpler calls.
+fn smaller(case: &Case) -> impl Iterator<Item = Case> {
+    let fewer = shorter(&case.acts).filter(|acts| !acts.is_empty()).map(|acts| Case { start: case.start, acts });
+    let records = zeroed(&case.start).chain(plainer_records(&case.start));
+    let simpler_acts = (0..case.acts.len()).flat_map(move |place| {
+        simpler(&case.acts[place]).into_iter().map(move |act| {
+            let mut acts = case.acts.clone();
+            acts[place] = act;
+            Case { start: case.start, acts }
+        })
+    });
+    fewer.chain(records.map(|start| Case { start, acts: case.acts.clone() })).chain(simpler_acts)
+}
+
+/// A list with a stretch left out: all of it, halves, single places last.
+fn shorter<T: Clone>(list: &[T]) -> impl Iterator<Item = Vec<T>> {
+    halves(list.len()).map(|(first, end)| [&list[..first], &list[end..]].concat())
+}
+
+fn halves(length: usize) -> impl Iterator<Item = (usize, usize)> {
+    stretches(length, (0..8).map(|times| length >> times).chain([1]).collect())
+}
+
+/// Every stretch of each size, at multiples of the size.
+fn stretches(length: usize, mut sizes: Vec<usize>) -> impl Iterator<Item = (usize, usize)> {
+    sizes.dedup();
+    let sizes = sizes.into_iter().filter(|&size| size > 0);
+    sizes.flat_map(move |size| (0..length).step_by(size).map(move |first| (first, (first + size).min(length))))
+}
+
+/// The record with a stretch of its fields set to zero: all, the texts, one text, part of one, a count, a number, a
+/// byte.
+fn zeroed(device: &Device) -> impl Iterator<Item = Device> {
+    let mut bytes = Vec::new();
+    device.put(&mut bytes);
+    let length = bytes.len();
+    stretches(length, vec![length, 360, 72, 36, 8, 4, 1]).filter_map(move |(first, end)| {
+        let mut fewer = bytes.clone();
+        fewer[first..end].fill(0);
+        (fewer != bytes).then(|| Device::get(&mut fewer.as_slice()))
+    })
+}
+
+/// The record with one input, one lamp fewer, or a lower number.
+fn plainer_records(device: &Device) -> impl Iterator<Item = Device> {
+    let mut all = Vec::new();
+    let mut change = |change: &dyn Fn(&mut Device)| {
+        let mut plainer = *device;
+        change(&mut plainer);
+        if plainer != *device {
+            all.push(plainer);
+        }
+    };
+    for inputs in [&b"11"[..], b"1112"] {
+        let longer = device.settings.input_count > inputs.len() / 2;
+        if longer || (device.settings.input_count > 0 && device.settings.inputs[..2] != *b"11") {
+            change(&|d| {
+                d.settings.input_count = inputs.len() / 2;
+                d.settings.inputs = [0; 32];
+                d.settings.inputs[..inputs.len()].copy_from_slice(inputs);
+                d.own.chosen = d.own.chosen.min(inputs.len() / 2 - 1);
+            });
+        }
+    }
+    change(&|d| {
+        let fewer = d.settings.lamp_count.saturating_sub(1).min(7);
+        d.settings.lamp_count = fewer;
+        d.own.lamps[fewer] = 0;
+    });
+    if device.own.lamps[0] == 0 {
+        change(&|d| d.own.lamps.rotate_left(1));
+    }
+    for place in 0..8 {
+        lower(device.own.lamps[place]).for_each(|seconds| change(&|d| d.own.lamps[place] = seconds));
+    }
+    for lower in lower(device.settings.warm) {
+        change(&|d| (d.settings.warm, d.own.left) = (lower, d.own.left.min(lower)));
+    }
+    for lower in lower(device.settings.cool) {
+        change(&|d| (d.settings.cool, d.own.left) = (lower, d.own.left.min(lower)));
+    }
+    lower(device.own.left).for_each(|left| change(&|d| d.own.left = left));
+    all.into_iter()
+}
+
+/// The call with shorter slices and smaller numbers.
+fn simpler(act: &Act) -> Vec<Act> {
+    match act {
+        Act::SetUp(lent) => simpler_set_ups(lent).into_iter().map(Act::SetUp).collect(),
+        Act::Open { random, lent } => {
+            let numbers = lower(*random).map(|random| Act::Open { random, lent: lent.clone() });
+            numbers.chain(memories(lent).map(|lent| Act::Open { random: *random, lent })).collect()
+        }
+        Act::Receive { bytes, lent } => {
+            let simpler = simpler_bytes(bytes).map(|bytes| Act::Receive { bytes, lent: lent.clone() });
+            simpler.chain(memories(lent).map(|lent| Act::Receive { bytes: bytes.clone(), lent })).collect()
+        }
+        Act::HandOn { bytes, cuts } => {
+            let simpler = simpler_bytes(bytes).map(|bytes| Act::HandOn { bytes, cuts: cuts.clone() });
+            simpler.chain(shorter(cuts).map(|cuts| Act::HandOn { bytes: bytes.clone(), cuts })).collect()
+        }
+        Act::Pass { seconds } => lower(*seconds).map(|seconds| Act::Pass { seconds }).collect(),
+        Act::PassInPlace { seconds } => {
+            let by_value = Act::Pass { seconds: *seconds };
+            [by_value].into_iter().chain(lower(*seconds).map(|seconds| Act::PassInPlace { seconds })).collect()
+        }
+        Act::SetErrors { digits } => simpler_bytes(digits).map(|digits| Act::SetErrors { digits }).collect(),
+        Act::Digest { message } => simpler_bytes(message).map(|message| Act::Digest { message }).collect(),
+        Act::Write { command, secured, random, password, lent } => {
+            let write = |command, random, password: &[u8], lent: &[u8]| Act::Write {
+                command,
+                secured: *secured,
+                random,
+                password: password.to_vec(),
+                lent: lent.to_vec(),
+            };
+            let commands = simpler_commands(*command).map(|command| write(command, *random, password, lent));
+            let numbers = lower(*random).map(|random| write(*command, random, password, lent));
+            let passwords = simpler_bytes(password).map(|password| write(*command, *random, &password, lent));
+            let memories = memories(lent).map(|lent| write(*command, *random, password, &lent));
+            commands.chain(numbers).chain(passwords).chain(memories).collect()
+        }
+        Act::ReadGreeting { line } => simpler_bytes(line).map(|line| Act::ReadGreeting { line }).collect(),
+        Act::ReadReply { command, line } => {
+            let commands = simpler_commands(*command).map(|command| Act::ReadReply { command, line: line.clone() });
+            commands.chain(simpler_bytes(line).map(|line| Act::ReadReply { command: *command, line })).collect()
+        }
+        Act::Close | Act::SetFault { .. } | Act::Legal => Vec::new(),
+    }
+}
+
+fn simpler_set_ups(lent: &Lent) -> Vec<Lent> {
+    let mut all = Vec::new();
+    macro_rules! shorten {
+        ($($field:ident)*) => { $(
+            all.extend(shorter(&lent.$field).map(|shorter| Lent { $field: shorter, ..lent.clone() }));
+        )* };
+    }
+    if lent.inputs != b"11" {
+        all.push(Lent { inputs: b"11".to_vec(), ..lent.clone() });
+    }
+    shorten!(name maker model other password inputs lamps);
+    for place in 0..lent.lamps.len() {
+        all.extend(lower(lent.lamps[place]).map(|seconds| {
+            let mut simpler = lent.clone();
+            simpler.lamps[place] = seconds;
+            simpler
+        }));
+    }
+    all.extend(lower(lent.warm).map(|warm| Lent { warm, ..lent.clone() }));
+    all.extend(lower(lent.cool).map(|cool| Lent { cool, ..lent.clone() }));
+    all
+}
+
+fn simpler_commands(command: Command) -> impl Iterator<Item = Command> {
+    let plainer = [Command { first: 0, ..command }, Command { second: 0, ..command }, Command { code: 0, ..command }];
+    plainer.into_iter().filter(move |&plainer| plainer != command)
+}
+
+/// Shorter ones, then ones with a stretch of plain bytes, then upper case.
+fn simpler_bytes(bytes: &[u8]) -> impl Iterator<Item = Vec<u8>> {
+    let plainer = halves(bytes.len()).map(|(first, end)| {
+        let mut plainer = bytes.to_vec();
+        plainer[first..end].fill(b'0');
+        plainer
+    });
+    let changed = plainer.chain([bytes.to_ascii_uppercase()]).filter(move |changed| changed != bytes);
+    shorter(bytes).chain(changed)
+}
+
+/// Memory of zeros, as long as before or just long enough.
+fn memories(lent: &[u8]) -> impl Iterator<Item = Vec<u8>> {
+    let lengths = [0, 136, 168, lent.len()].into_iter().filter(|&length| length <= lent.len());
+    lengths.map(|length| vec![0; length]).filter(move |simpler| simpler != lent)
+}
+
+/// 0, 1, then nearer and nearer.
+fn lower(number: u32) -> impl Iterator<Item = u32> {
+    let steps = [number, number.wrapping_sub(1)].into_iter().chain((1..32).map(move |times| number >> times));
+    steps.filter(move |&step| 0 < step && step <= number).map(move |step| number - step)
+}

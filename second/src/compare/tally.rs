@@ -1,0 +1,83 @@
+//! What a run met: how often each call gave each number, and each kind of reply or reading. A comparison that only ever
+//! saw refusals would say nothing.
+
+use crate::face::{Act, Answer};
+use std::collections::BTreeMap;
+use std::fmt;
+
+#[derive(Default)]
+pub struct Tally(BTreeMap<(&'static str, String), usize>);
+
+impl Tally {
+    pub fn count(&mut self, act: &Act, answer: &Answer) {
+        *self.0.entry((call(act), kind(answer))).or_default() += 1;
+    }
+
+    pub fn times(&self, call: &str, kind: &str) -> usize {
+        self.0.iter().filter(|((c, k), _)| *c == call && k == kind).map(|(_, times)| times).sum()
+    }
+}
+
+impl fmt::Display for Tally {
+    fn fmt(&self, f: &mut fmt::Formatter) -> fmt::Result {
+        let mut last = "";
+        for ((call, kind), times) in &self.0 {
+            if *call != last {
+                write!(f, "{}{call}:", if last.is_empty() { "" } else { "\n" })?;
+            } else {
+                write!(f, ",")?;
+            }
+            write!(f, " {kind} {times}")?;
+            last = call;
+        }
+        Ok(())
+    }
+}
+
+fn call(act: &Act) -> &'static str {
+    match act {
+        Act::SetUp(_) => "pj_set_up",
+        Act::Open { .. } => "pj_open",
+        Act::Close => "pj_close",
+        Act::Receive { .. } => "pj_receive",
+        Act::HandOn { .. } => "streams in cuts",
+        Act::Pass { .. } => "pj_pass",
+        Act::PassInPlace { .. } => "pj_pass_in_place",
+        Act::SetFault { .. } => "pj_set_fault",
+        Act::SetErrors { .. } => "pj_set_errors",
+        Act::Legal => "pj_legal",
+        Act::Digest { .. } => "pj_md5",
+        Act::Write { .. } => "pj_write",
+        Act::ReadGreeting { .. } => "pj_read_greeting",
+        Act::ReadReply { .. } => "pj_read_reply",
+    }
+}
+
+/// A refusal's number; else what the reply or the reading is.
+fn kind(answer: &Answer) -> String {
+    match answer {
+        Answer::Changed(changed) | Answer::HandedOn(changed, _) => refusal_or(changed.number, "served"),
+        Answer::Opened(opened, out) => refusal_or(opened.number, &reply(&out[..opened.length])),
+        Answer::Received(received, out) => refusal_or(received.number, &reply(&out[..received.length])),
+        Answer::Legal(legal) => legal.to_string(),
+        Answer::Digest(_) => "digest".to_string(),
+        Answer::Written(written, _) => refusal_or(written.number, &format!("{} bytes", written.length)),
+        Answer::Greeting(greeting) => refusal_or(greeting.number, &format!("kind {}", greeting.kind)),
+        Answer::Reading(reading) => refusal_or(reading.number, &format!("kind {}", reading.kind)),
+    }
+}
+
+fn refusal_or(number: u32, served: &str) -> String {
+    if number == 0 { served.to_string() } else { format!("!{number}") }
+}
+
+/// The greeting, `OK` or the refusal of a reply line; of another, the body that it answers.
+fn reply(line: &[u8]) -> String {
+    let text = String::from_utf8_lossy(line);
+    match text.trim_end_matches('\r').split_once('=') {
+        _ if line.is_empty() => "none".to_string(),
+        None => text.chars().take(8).collect(),
+        Some((_, end @ ("OK" | "ERR1" | "ERR2" | "ERR3" | "ERR4"))) => end.to_string(),
+        Some((head, _)) => head[2..].to_uppercase(),
+    }
+}

@@ -1,0 +1,137 @@
+//! Every field of every record under its name: to send it, and to say where two records differ.
+
+use super::wire::Wire;
+use super::{
+    Answer, Changed, Command, Connection, Device, Digest, Greeting, Line, Opened, Own, Reading, Received, Settings,
+    Text, Written,
+};
+
+/// A value's fields, as (path, value) in their order.
+pub trait Fields {
+    fn list(&self, path: &str, into: &mut Vec<(String, String)>);
+
+    fn fields(&self) -> Vec<(String, String)> {
+        let mut all = Vec::new();
+        self.list("", &mut all);
+        all
+    }
+}
+
+macro_rules! records {
+    ($($record:ident { $($field:ident),* })*) => { $(
+        impl Fields for $record {
+            fn list(&self, path: &str, into: &mut Vec<(String, String)>) {
+                $(self.$field.list(&joined(path, stringify!($field)), into);)*
+            }
+        }
+
+        impl Wire for $record {
+            fn put(&self, out: &mut Vec<u8>) {
+                $(self.$field.put(out);)*
+            }
+
+            fn get(from: &mut &[u8]) -> Self {
+                $(let $field = Wire::get(from);)*
+                $record { $($field),* }
+            }
+        }
+    )* };
+}
+
+records! {
+    Text { len, bytes }
+    Settings { name, maker, model, other, password, input_count, inputs, lamp_count, warm, cool }
+    Own { power, left, chosen, video_muted, audio_muted, fault, errors, lamps }
+    Line { overlong, held, bytes }
+    Connection { phase, age, random, line }
+    Device { settings, own, connection }
+    Changed { number, device }
+    Opened { number, length, device }
+    Received { number, taken, length, device }
+    Digest { bytes }
+    Command { code, first, second }
+    Written { number, length }
+    Greeting { number, kind, random }
+    Reading { number, kind, first, second, count, hours, lit, inputs, text }
+}
+
+fn joined(path: &str, field: &str) -> String {
+    if path.is_empty() { field.to_string() } else { format!("{path}.{field}") }
+}
+
+macro_rules! plain {
+    ($($kind:ty),*) => { $(
+        impl Fields for $kind {
+            fn list(&self, path: &str, into: &mut Vec<(String, String)>) {
+                into.push((path.to_string(), self.to_string()));
+            }
+        }
+    )* };
+}
+
+plain!(u8, u32, usize, bool);
+
+impl<const N: usize> Fields for [u8; N] {
+    fn list(&self, path: &str, into: &mut Vec<(String, String)>) {
+        into.push((path.to_string(), quoted(self)));
+    }
+}
+
+impl Fields for [u32; 8] {
+    fn list(&self, path: &str, into: &mut Vec<(String, String)>) {
+        into.push((path.to_string(), format!("{self:?}")));
+    }
+}
+
+impl Fields for [bool; 8] {
+    fn list(&self, path: &str, into: &mut Vec<(String, String)>) {
+        into.push((path.to_string(), format!("{self:?}")));
+    }
+}
+
+/// Bytes as a text in quotes, without the zeros at the end; a long run of one byte as that byte and a count.
+pub fn quoted(bytes: &[u8]) -> String {
+    let used = bytes.len() - bytes.iter().rev().take_while(|&&b| b == 0).count();
+    let mut text = String::from("\"");
+    let mut rest = &bytes[..used];
+    while let Some(&first) = rest.first() {
+        let run = rest.iter().take_while(|&&b| b == first).count();
+        let shown = first.escape_ascii().to_string();
+        text += &if run > 8 { format!("{shown}{{{run}}}") } else { shown.repeat(run) };
+        rest = &rest[run..];
+    }
+    text.push('"');
+    if used < bytes.len() {
+        text += &format!(" and {} zeros", bytes.len() - used);
+    }
+    text
+}
+
+impl Fields for Answer {
+    fn list(&self, path: &str, into: &mut Vec<(String, String)>) {
+        let lent = |memory: &[u8], into: &mut Vec<(String, String)>| into.push(("lent memory".into(), quoted(memory)));
+        match self {
+            Answer::Changed(changed) => changed.list(path, into),
+            Answer::Opened(opened, memory) => {
+                opened.list(path, into);
+                lent(memory, into);
+            }
+            Answer::Received(received, memory) => {
+                received.list(path, into);
+                lent(memory, into);
+            }
+            Answer::HandedOn(changed, replies) => {
+                changed.list(path, into);
+                into.push(("reply bytes".into(), quoted(replies)));
+            }
+            Answer::Legal(legal) => into.push(("legal".into(), legal.to_string())),
+            Answer::Digest(digest) => digest.list(path, into),
+            Answer::Written(written, memory) => {
+                written.list(path, into);
+                lent(memory, into);
+            }
+            Answer::Greeting(greeting) => greeting.list(path, into),
+            Answer::Reading(reading) => reading.list(path, into),
+        }
+    }
+}

@@ -1,0 +1,183 @@
+//! How calls and answers go to a process and back: every field in its order, numbers with their lowest byte first, a
+//! `size_t` as eight bytes, a slice after its length. `host/host.c` is the other end.
+
+use super::{Act, Answer};
+
+pub trait Wire {
+    fn put(&self, out: &mut Vec<u8>);
+    fn get(from: &mut &[u8]) -> Self;
+}
+
+fn taken<'a>(from: &mut &'a [u8], length: usize) -> &'a [u8] {
+    let (part, rest) = from.split_at(length);
+    *from = rest;
+    part
+}
+
+impl Wire for u8 {
+    fn put(&self, out: &mut Vec<u8>) {
+        out.push(*self);
+    }
+
+    fn get(from: &mut &[u8]) -> u8 {
+        taken(from, 1)[0]
+    }
+}
+
+impl Wire for bool {
+    fn put(&self, out: &mut Vec<u8>) {
+        out.push(u8::from(*self));
+    }
+
+    fn get(from: &mut &[u8]) -> bool {
+        u8::get(from) != 0
+    }
+}
+
+impl Wire for u32 {
+    fn put(&self, out: &mut Vec<u8>) {
+        out.extend_from_slice(&self.to_le_bytes());
+    }
+
+    fn get(from: &mut &[u8]) -> u32 {
+        u32::from_le_bytes(<[u8; 4]>::get(from))
+    }
+}
+
+impl Wire for usize {
+    fn put(&self, out: &mut Vec<u8>) {
+        out.extend_from_slice(&(*self as u64).to_le_bytes());
+    }
+
+    fn get(from: &mut &[u8]) -> usize {
+        u64::from_le_bytes(<[u8; 8]>::get(from)) as usize
+    }
+}
+
+impl<const N: usize> Wire for [u8; N] {
+    fn put(&self, out: &mut Vec<u8>) {
+        out.extend_from_slice(self);
+    }
+
+    fn get(from: &mut &[u8]) -> [u8; N] {
+        taken(from, N).try_into().unwrap()
+    }
+}
+
+impl Wire for [u32; 8] {
+    fn put(&self, out: &mut Vec<u8>) {
+        self.iter().for_each(|number| number.put(out));
+    }
+
+    fn get(from: &mut &[u8]) -> [u32; 8] {
+        std::array::from_fn(|_| u32::get(from))
+    }
+}
+
+impl Wire for [bool; 8] {
+    fn put(&self, out: &mut Vec<u8>) {
+        self.iter().for_each(|mark| mark.put(out));
+    }
+
+    fn get(from: &mut &[u8]) -> [bool; 8] {
+        std::array::from_fn(|_| bool::get(from))
+    }
+}
+
+impl Wire for Vec<u8> {
+    fn put(&self, out: &mut Vec<u8>) {
+        self.len().put(out);
+        out.extend_from_slice(self);
+    }
+
+    fn get(from: &mut &[u8]) -> Vec<u8> {
+        let length = usize::get(from);
+        taken(from, length).to_vec()
+    }
+}
+
+/// The call's number, then what it is lent; the record stands before all of it, wanted or not.
+pub fn put_act(act: &Act, out: &mut Vec<u8>) {
+    match act {
+        Act::SetUp(lent) => {
+            0u8.put(out);
+            for text in [&lent.name, &lent.maker, &lent.model, &lent.other, &lent.password, &lent.inputs] {
+                text.put(out);
+            }
+            lent.lamps.len().put(out);
+            lent.lamps.iter().for_each(|seconds| seconds.put(out));
+            lent.warm.put(out);
+            lent.cool.put(out);
+        }
+        Act::Open { random, lent } => {
+            1u8.put(out);
+            random.put(out);
+            lent.put(out);
+        }
+        Act::Close => 2u8.put(out),
+        Act::Receive { bytes, lent } => {
+            3u8.put(out);
+            bytes.put(out);
+            lent.put(out);
+        }
+        Act::HandOn { .. } => unreachable!("not one call"),
+        Act::Pass { seconds } => {
+            4u8.put(out);
+            seconds.put(out);
+        }
+        Act::PassInPlace { seconds } => {
+            5u8.put(out);
+            seconds.put(out);
+        }
+        Act::SetFault { mark } => {
+            6u8.put(out);
+            mark.put(out);
+        }
+        Act::SetErrors { digits } => {
+            7u8.put(out);
+            digits.put(out);
+        }
+        Act::Legal => 8u8.put(out),
+        Act::Digest { message } => {
+            9u8.put(out);
+            message.put(out);
+        }
+        Act::Write { command, secured, random, password, lent } => {
+            10u8.put(out);
+            command.put(out);
+            secured.put(out);
+            random.put(out);
+            password.put(out);
+            lent.put(out);
+        }
+        Act::ReadGreeting { line } => {
+            11u8.put(out);
+            line.put(out);
+        }
+        Act::ReadReply { command, line } => {
+            12u8.put(out);
+            command.put(out);
+            line.put(out);
+        }
+    }
+}
+
+/// The answer to this call.
+pub fn get_answer(act: &Act, from: &mut &[u8]) -> Answer {
+    match act {
+        Act::SetUp(_)
+        | Act::Close
+        | Act::Pass { .. }
+        | Act::PassInPlace { .. }
+        | Act::SetFault { .. }
+        | Act::SetErrors { .. } => Answer::Changed(Wire::get(from)),
+        Act::Open { .. } => Answer::Opened(Wire::get(from), Wire::get(from)),
+        Act::Receive { .. } => Answer::Received(Wire::get(from), Wire::get(from)),
+        Act::HandOn { .. } => unreachable!("not one call"),
+        Act::Legal => Answer::Legal(Wire::get(from)),
+        Act::Digest { .. } => Answer::Digest(Wire::get(from)),
+        Act::Write { .. } => Answer::Written(Wire::get(from), Wire::get(from)),
+        Act::ReadGreeting { .. } => Answer::Greeting(Wire::get(from)),
+        Act::ReadReply { .. } => Answer::Reading(Wire::get(from)),
+    }
+}

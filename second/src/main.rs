@@ -1,0 +1,86 @@
+//! `second compare [seed]`, `second wrong [seed]`, `second replay < log`, `second md5 < file`.
+
+use second::compare::Run;
+use second::face::Board;
+use second::reference::md5::{hex, md5};
+use second::{replay, wrong};
+use std::io::{self, Read, Write};
+use std::process::ExitCode;
+use std::time::{SystemTime, UNIX_EPOCH};
+
+const USAGE: &str = "\
+second compare [SEED]   compare with libboard.a; without a seed, a fresh one
+second wrong [SEED]     make each deliberate mistake; the comparison has to find it
+second replay           play a log from standard input (02, L1)
+second md5              the MD5 of standard input, in hex";
+
+fn main() -> ExitCode {
+    let words: Vec<String> = std::env::args().skip(1).collect();
+    let words: Vec<&str> = words.iter().map(String::as_str).collect();
+    match words[..] {
+        ["compare"] => compare(fresh_seed()),
+        ["compare", seed] => with_seed(seed, compare),
+        ["wrong"] => verdict(wrong::all_found(1, &mut Board::start())),
+        ["wrong", seed] => with_seed(seed, |seed| verdict(wrong::all_found(seed, &mut Board::start()))),
+        ["replay"] => done(replay::replay(io::stdin().lock(), io::BufWriter::new(io::stdout()))),
+        ["md5"] => done(digest()),
+        _ => {
+            eprintln!("{USAGE}");
+            ExitCode::from(2)
+        }
+    }
+}
+
+fn with_seed(word: &str, run: impl FnOnce(u64) -> ExitCode) -> ExitCode {
+    match word.parse() {
+        Ok(seed) => run(seed),
+        Err(_) => {
+            eprintln!("a seed is a number of 64 bits, and {word} is none");
+            ExitCode::from(2)
+        }
+    }
+}
+
+fn fresh_seed() -> u64 {
+    let now = SystemTime::now().duration_since(UNIX_EPOCH).unwrap_or_default();
+    now.as_nanos() as u64 ^ u64::from(std::process::id()) << 40
+}
+
+fn compare(seed: u64) -> ExitCode {
+    println!("seed {seed}");
+    let mut board = Board::start();
+    let mut run = Run::new(seed, &mut board);
+    match run.all() {
+        Ok(agreed) => {
+            println!("{}", run.met);
+            println!("{agreed} comparisons agreed, seed {seed}");
+            ExitCode::SUCCESS
+        }
+        Err(difference) => {
+            println!("{difference}after {} comparisons that agreed, seed {seed}", run.agreed);
+            ExitCode::FAILURE
+        }
+    }
+}
+
+fn verdict(good: bool) -> ExitCode {
+    if good { ExitCode::SUCCESS } else { ExitCode::FAILURE }
+}
+
+fn done(result: io::Result<()>) -> ExitCode {
+    match result {
+        Ok(()) => ExitCode::SUCCESS,
+        Err(error) => {
+            eprintln!("{error}");
+            ExitCode::FAILURE
+        }
+    }
+}
+
+fn digest() -> io::Result<()> {
+    let mut message = Vec::new();
+    io::stdin().lock().read_to_end(&mut message)?;
+    let mut out = io::stdout().lock();
+    out.write_all(&hex(md5(&message)))?;
+    out.write_all(b"\n")
+}

@@ -1,0 +1,157 @@
+//! The calls of a host, with 01's table of numbers: "Checks run in the order of the table; a call skips those it can't
+//! meet." A refused call gives the record it was given, counts 0, and writes no byte.
+
+use super::controller::{self, Command};
+use super::replies;
+use super::rules::{Mistake, made};
+use super::set_up::{SetUp, are_lamps, inputs_of};
+use super::{Connection, Projector, md5};
+use crate::face;
+
+/// "lent memory under 136 bytes (projector), 168 (controller writer)".
+const PROJECTOR_ROOM: usize = 136;
+const WRITER_ROOM: usize = 168;
+
+const NOT_LEGAL: u32 = 1;
+const ROOM_SHORT: u32 = 2;
+const OUT_OF_RANGE: u32 = 3;
+const IS_CLOSED: u32 = 4;
+const NOT_CLOSED: u32 = 5;
+
+pub fn set_up(lent: &face::Lent) -> face::Changed {
+    match accepted(lent) {
+        Some(projector) => face::Changed { number: 0, device: projector.record() },
+        None => face::Changed { number: OUT_OF_RANGE, device: face::Device::BLANK },
+    }
+}
+
+fn accepted(lent: &face::Lent) -> Option<Projector> {
+    let set_up = SetUp {
+        name: lent.name.clone(),
+        maker: lent.maker.clone(),
+        model: lent.model.clone(),
+        other: lent.other.clone(),
+        password: lent.password.clone(),
+        inputs: inputs_of(&lent.inputs)?,
+        warm: lent.warm,
+        cool: lent.cool,
+    };
+    (set_up.is_legal() && are_lamps(&lent.lamps)).then(|| set_up.fresh(lent.lamps.clone()))
+}
+
+/// The projector that a record stands for, if there is also room for a reply; else the number of the first check that
+/// fails.
+fn ready(device: &face::Device, out: &[u8]) -> Result<Projector, u32> {
+    if out.len() < PROJECTOR_ROOM && made(Mistake::RoomBeforeLegality) {
+        return Err(ROOM_SHORT);
+    }
+    let projector = Projector::read(device).ok_or(NOT_LEGAL)?;
+    if out.len() < PROJECTOR_ROOM { Err(ROOM_SHORT) } else { Ok(projector) }
+}
+
+pub fn open(device: &face::Device, random: u32, out: &mut [u8]) -> face::Opened {
+    let refused = |number| face::Opened { number, length: 0, device: *device };
+    let mut projector = match ready(device, out) {
+        Ok(projector) => projector,
+        Err(number) => return refused(number),
+    };
+    if projector.connection != Connection::Closed {
+        return refused(NOT_CLOSED);
+    }
+    let reply = projector.open(random);
+    out[..reply.len()].copy_from_slice(&reply);
+    face::Opened { number: 0, length: reply.len(), device: projector.record() }
+}
+
+pub fn close(device: &face::Device) -> face::Changed {
+    let Some(mut projector) = Projector::read(device) else {
+        return face::Changed { number: NOT_LEGAL, device: *device };
+    };
+    if projector.connection == Connection::Closed {
+        return face::Changed { number: IS_CLOSED, device: *device };
+    }
+    projector.connection = Connection::Closed;
+    face::Changed { number: 0, device: projector.record() }
+}
+
+pub fn receive(device: &face::Device, bytes: &[u8], out: &mut [u8]) -> face::Received {
+    let refused = |number| face::Received { number, taken: 0, length: 0, device: *device };
+    let mut projector = match ready(device, out) {
+        Ok(projector) => projector,
+        Err(number) => return refused(number),
+    };
+    if projector.connection == Connection::Closed {
+        return refused(IS_CLOSED);
+    }
+    let (taken, reply) = projector.receive(bytes);
+    out[..reply.len()].copy_from_slice(&reply);
+    face::Received { number: 0, taken, length: reply.len(), device: projector.record() }
+}
+
+/// A call that has a legal record as its only condition.
+fn changed(device: &face::Device, change: impl FnOnce(&mut Projector)) -> face::Changed {
+    match Projector::read(device) {
+        None => face::Changed { number: NOT_LEGAL, device: *device },
+        Some(mut projector) => {
+            change(&mut projector);
+            face::Changed { number: 0, device: projector.record() }
+        }
+    }
+}
+
+pub fn pass(device: &face::Device, seconds: u32) -> face::Changed {
+    changed(device, |projector| projector.pass(seconds))
+}
+
+/// "The host's two calls replace it, or the six error digits, and nothing else."
+pub fn set_fault(device: &face::Device, mark: bool) -> face::Changed {
+    changed(device, |projector| projector.fault = mark)
+}
+
+/// "the error digits are 0 to 2", six of them; anything else is 3, after 1.
+pub fn set_errors(device: &face::Device, digits: &[u8]) -> face::Changed {
+    match <[u8; 6]>::try_from(digits) {
+        Ok(digits) if digits.iter().all(|&digit| digit <= 2) => changed(device, |projector| projector.errors = digits),
+        _ if Projector::read(device).is_none() => face::Changed { number: NOT_LEGAL, device: *device },
+        _ => face::Changed { number: OUT_OF_RANGE, device: *device },
+    }
+}
+
+pub fn legal(device: &face::Device) -> bool {
+    Projector::read(device).is_some()
+}
+
+pub fn digest(message: &[u8]) -> face::Digest {
+    face::Digest { bytes: md5::md5(message) }
+}
+
+pub fn write(command: face::Command, secured: bool, random: u32, password: &[u8], out: &mut [u8]) -> face::Written {
+    if out.len() < WRITER_ROOM {
+        return face::Written { number: ROOM_SHORT, length: 0 };
+    }
+    match controller::written(command, secured, random, password) {
+        None => face::Written { number: OUT_OF_RANGE, length: 0 },
+        Some(line) => {
+            out[..line.len()].copy_from_slice(&line);
+            face::Written { number: 0, length: line.len() }
+        }
+    }
+}
+
+pub fn read_greeting(line: &[u8]) -> face::Greeting {
+    let (number, kind, random) = match controller::greeting(line) {
+        Some(controller::Greeting::Plain) => (0, 1, 0),
+        Some(controller::Greeting::Secured(random)) => (0, 2, random),
+        Some(controller::Greeting::Erra) => (0, 3, 0),
+        None => (replies::NO_REPLY_LINE, 0, 0),
+    };
+    face::Greeting { number, kind, random }
+}
+
+pub fn read_reply(command: face::Command, line: &[u8]) -> face::Reading {
+    let Some(command) = Command::read(command) else { return face::Reading::refused(OUT_OF_RANGE) };
+    match replies::meaning(command, line) {
+        Ok(meaning) => meaning.flattened(),
+        Err(number) => face::Reading::refused(number),
+    }
+}

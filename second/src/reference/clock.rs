@@ -1,0 +1,75 @@
+//! 01, "Time": "The meaning is a definition of one second, applied n times".
+
+use super::record::CLOSING_AGE;
+use super::rules::{Mistake, made};
+use super::set_up::LAMP_LIMIT;
+use super::{Connection, Power, Projector};
+
+impl Projector {
+    /// Seconds one at a time while anything but lamps moves; then only lamps gain, all that is left at once.
+    pub fn pass(&mut self, seconds: u32) {
+        let mut left = seconds;
+        while left > 0 && self.moves() {
+            self.one_second();
+            left -= 1;
+        }
+        if self.burns() {
+            self.burn(left);
+        }
+    }
+
+    /// Whether a second changes more than lamps.
+    fn moves(&self) -> bool {
+        let power_moves = matches!(self.power, Power::WarmUp(_) | Power::Cooling(_));
+        let connection_moves = matches!(self.connection, Connection::Awaiting { .. } | Connection::Failed { .. });
+        power_moves || connection_moves
+    }
+
+    fn one_second(&mut self) {
+        if self.burns() {
+            self.burn(1);
+        }
+        self.power = match self.power {
+            Power::WarmUp(left) => warmed(left),
+            Power::Cooling(1) => Power::Off,
+            Power::Cooling(left) => Power::Cooling(left - 1),
+            still => still,
+        };
+        self.age_by_one();
+    }
+
+    /// "Warm-up or on: every lamp gains one". "The fault mark changes none of this."
+    fn burns(&self) -> bool {
+        match self.power {
+            _ if self.fault && made(Mistake::FaultStopsTime) => false,
+            Power::WarmUp(_) | Power::On => true,
+            Power::Cooling(_) => made(Mistake::CoolingBurns),
+            Power::Off => false,
+        }
+    }
+
+    /// "stopped at 359,999,999".
+    fn burn(&mut self, seconds: u32) {
+        for lamp in &mut self.lamps {
+            let stopped = lamp.saturating_add(seconds).min(LAMP_LIMIT);
+            *lamp = if made(Mistake::LampNotStopped) { lamp.wrapping_add(seconds) } else { stopped };
+        }
+    }
+
+    /// "Awaiting and failed age by one", and "Awaiting or failed, it closes when its age reaches 30 seconds".
+    fn age_by_one(&mut self) {
+        let closing_age = if made(Mistake::ClosesAt31) { CLOSING_AGE + 1 } else { CLOSING_AGE };
+        if let Connection::Awaiting { age, .. } | Connection::Failed { age, .. } = &mut self.connection {
+            *age += 1;
+            if *age == closing_age {
+                self.connection = Connection::Closed;
+            }
+        }
+    }
+}
+
+/// "in warm-up .. seconds left fall by one; at 0 warm-up becomes on".
+fn warmed(left: u32) -> Power {
+    let last = if made(Mistake::WarmUpLeftLate) { 0 } else { 1 };
+    if left <= last { Power::On } else { Power::WarmUp(left - 1) }
+}

@@ -1,0 +1,192 @@
+//! 01, "Commands".
+
+use super::rules::{Mistake, made};
+use super::text::Input;
+use super::{Power, Projector};
+
+/// The bodies of Class 1. "Bodies are compared without regard to case".
+#[derive(Clone, Copy, PartialEq, Eq, Debug)]
+pub enum Body {
+    Powr,
+    Inpt,
+    Avmt,
+    Erst,
+    Lamp,
+    Inst,
+    Name,
+    Inf1,
+    Inf2,
+    Info,
+    Clss,
+}
+
+pub const BODIES: [(Body, &[u8; 4]); 11] = [
+    (Body::Powr, b"POWR"),
+    (Body::Inpt, b"INPT"),
+    (Body::Avmt, b"AVMT"),
+    (Body::Erst, b"ERST"),
+    (Body::Lamp, b"LAMP"),
+    (Body::Inst, b"INST"),
+    (Body::Name, b"NAME"),
+    (Body::Inf1, b"INF1"),
+    (Body::Inf2, b"INF2"),
+    (Body::Info, b"INFO"),
+    (Body::Clss, b"CLSS"),
+];
+
+impl Body {
+    pub fn from_bytes(bytes: &[u8; 4]) -> Option<Body> {
+        BODIES.iter().find(|(_, name)| name.eq_ignore_ascii_case(bytes)).map(|(body, _)| *body)
+    }
+
+    pub fn bytes(self) -> &'static [u8; 4] {
+        BODIES[self as usize].1
+    }
+
+    fn may_be_set(self) -> bool {
+        matches!(self, Body::Powr | Body::Inpt | Body::Avmt)
+    }
+}
+
+/// "Set" in 01's table of bodies; the number is the input's place in the set-up.
+enum Set {
+    Power(bool),
+    Input(usize),
+    Mute { video: bool, audio: bool, on: bool },
+}
+
+impl Projector {
+    /// "The reply is `%1`, the four body bytes as received, case kept (002 says so too), `=`, the parameter, CR."
+    pub fn answer(&mut self, body: &[u8; 4], parameter: &[u8]) -> Vec<u8> {
+        let echoed = if made(Mistake::BodyUpperCased) { body.to_ascii_uppercase() } else { body.to_vec() };
+        let answered = self.answered_parameter(body, parameter);
+        [b"%1", &echoed[..], b"=", &answered, b"\r"].concat()
+    }
+
+    fn answered_parameter(&mut self, body: &[u8; 4], parameter: &[u8]) -> Vec<u8> {
+        let error = |text: &[u8]| text.to_vec();
+        let asks = parameter == b"?";
+
+        // 1. "Unknown body, a query-only body with a parameter other than `?`, or LAMP with no lamps: ERR1."
+        let Some(body) = Body::from_bytes(body) else { return error(b"ERR1") };
+        if (!body.may_be_set() && !asks) || (body == Body::Lamp && self.lamps.is_empty()) {
+            return error(b"ERR1");
+        }
+        if !body.may_be_set() {
+            return self.query(body);
+        }
+
+        // 2. "POWR, INPT or AVMT with a parameter neither `?` nor listed: ERR2."
+        let set = self.listed(body, parameter);
+        if !asks && set.is_none() {
+            return error(b"ERR2");
+        }
+
+        // 3. "POWR, INPT, AVMT, set or query, with the fault mark: ERR4."
+        // 4. "POWR set in warm-up or cooling; INPT and AVMT, set or query, unless on: ERR3."
+        let moving = matches!(self.power, Power::WarmUp(_) | Power::Cooling(_));
+        let not_now = if body == Body::Powr { set.is_some() && moving } else { self.power != Power::On };
+        if not_now && made(Mistake::Err3BeforeErr4) {
+            return error(b"ERR3");
+        }
+        if self.fault {
+            return error(b"ERR4");
+        }
+        if not_now {
+            return error(b"ERR3");
+        }
+
+        match set {
+            Some(set) => self.do_set(set),
+            None => self.query(body),
+        }
+    }
+
+    /// The sets that 01's table lists. "An input not in the set-up is not listed." "First digit of AVMT: 1 video, 2
+    /// audio, 3 both; second: 1 mute on, 0 off".
+    fn listed(&self, body: Body, parameter: &[u8]) -> Option<Set> {
+        match (body, parameter) {
+            (Body::Powr, b"0") => Some(Set::Power(false)),
+            (Body::Powr, b"1") => Some(Set::Power(true)),
+            (Body::Inpt, _) => {
+                let place = self.set_up.inputs.iter().position(|input| input.characters() == parameter)?;
+                Some(Set::Input(place))
+            }
+            (Body::Avmt, [which @ b'1'..=b'3', turn @ b'0'..=b'1']) => {
+                let (first, other) = if made(Mistake::MutesSwapped) { (b'2', b'1') } else { (b'1', b'2') };
+                Some(Set::Mute { video: *which != other, audio: *which != first, on: *turn == b'1' })
+            }
+            _ => None,
+        }
+    }
+
+    /// "A set that passes answers OK. POWR 1 when off starts warm-up with W left; POWR 0 when on starts cooling with C
+    /// left; otherwise power stays." Of the mutes "the unnamed half stays".
+    fn do_set(&mut self, set: Set) -> Vec<u8> {
+        match set {
+            Set::Power(on) => match (on, self.power) {
+                (true, Power::Off) => {
+                    self.power = Power::WarmUp(self.set_up.warm);
+                    if made(Mistake::ChosenInputReset) {
+                        self.chosen = 0;
+                    }
+                }
+                (false, Power::On) => self.power = Power::Cooling(self.set_up.cool),
+                _ => (),
+            },
+            Set::Input(place) => self.chosen = place,
+            Set::Mute { video, audio, on } => {
+                if video {
+                    self.video_muted = on;
+                }
+                if audio {
+                    self.audio_muted = on;
+                }
+            }
+        }
+        b"OK".to_vec()
+    }
+
+    fn query(&self, body: Body) -> Vec<u8> {
+        match body {
+            Body::Powr => vec![self.power_digit()],
+            Body::Inpt => self.set_up.inputs[self.chosen].characters().to_vec(),
+            // "11 video only, 21 audio only, 31 both, 30 neither"
+            Body::Avmt => match (self.video_muted, self.audio_muted) {
+                (true, false) => b"11".to_vec(),
+                (false, true) => b"21".to_vec(),
+                (true, true) => b"31".to_vec(),
+                (false, false) => b"30".to_vec(),
+            },
+            Body::Erst => self.errors.iter().map(|digit| b'0' + digit).collect(),
+            Body::Lamp => joined_by_spaces(self.lamps.iter().map(|&seconds| self.lamp_answer(seconds))),
+            Body::Inst => joined_by_spaces(self.set_up.inputs.iter().map(|input: &Input| input.characters().to_vec())),
+            Body::Name => self.set_up.name.clone(),
+            Body::Inf1 => self.set_up.maker.clone(),
+            Body::Inf2 => self.set_up.model.clone(),
+            Body::Info => self.set_up.other.clone(),
+            Body::Clss => b"1".to_vec(),
+        }
+    }
+
+    /// "0 off, 1 on, 2 cooling, 3 warm-up".
+    pub fn power_digit(&self) -> u8 {
+        match self.power {
+            Power::Off => b'0',
+            Power::On => b'1',
+            Power::Cooling(_) => b'2',
+            Power::WarmUp(_) => b'3',
+        }
+    }
+
+    /// "hours, space, 1 (lit) in warm-up or on, else 0". "Hours are seconds divided by 3,600, rounded down".
+    fn lamp_answer(&self, seconds: u32) -> Vec<u8> {
+        let hours = if made(Mistake::HoursRoundedUp) { seconds.div_ceil(3600) } else { seconds / 3600 };
+        let lit = matches!(self.power, Power::WarmUp(_) | Power::On);
+        format!("{hours} {}", u8::from(lit)).into_bytes()
+    }
+}
+
+fn joined_by_spaces(parts: impl Iterator<Item = Vec<u8>>) -> Vec<u8> {
+    parts.collect::<Vec<_>>().join(&b' ')
+}

@@ -1,0 +1,70 @@
+//! Document 01's rules, written plainly. Every rule has 01's words beside it.
+//!
+//! `calls` has the calls that a host makes, with the numbers they give; the other files have what they mean.
+//! `rules` holds the deliberate mistakes that `second wrong` switches on, one at a time; none is on otherwise.
+
+pub mod calls;
+pub mod clock;
+pub mod commands;
+pub mod connection;
+pub mod controller;
+pub mod flatten;
+pub mod md5;
+pub mod record;
+pub mod replies;
+pub mod rules;
+pub mod set_up;
+#[cfg(test)]
+mod settled;
+pub mod side;
+pub mod text;
+
+use set_up::SetUp;
+
+/// A projector in a legal state. What a record can say and 01 forbids has no form here.
+#[derive(Clone, PartialEq, Eq, Debug)]
+pub struct Projector {
+    pub set_up: SetUp,
+    pub power: Power,
+    /// The place of the chosen input in the set-up's list.
+    pub chosen: usize,
+    pub video_muted: bool,
+    pub audio_muted: bool,
+    pub fault: bool,
+    /// 01: "six digits 0 to 2: fan, lamp, temperature, cover, filter, other".
+    pub errors: [u8; 6],
+    /// Stored seconds, lamp by lamp.
+    pub lamps: Vec<u32>,
+    pub connection: Connection,
+}
+
+/// Warm-up and cooling carry the seconds left.
+#[derive(Clone, Copy, PartialEq, Eq, Debug)]
+pub enum Power {
+    Off,
+    On,
+    Cooling(u32),
+    WarmUp(u32),
+}
+
+/// 01: "A closed connection has age 0, random number 0, no collected bytes and no overlong mark."
+#[derive(Clone, PartialEq, Eq, Debug)]
+pub enum Connection {
+    Closed,
+    Awaiting { age: u32, random: u32, line: Line },
+    Open { random: u32, line: Line },
+    Failed { age: u32, random: u32 },
+}
+
+/// What is collected of a line that has not ended yet.
+#[derive(Clone, PartialEq, Eq, Debug)]
+pub enum Line {
+    Collected(Vec<u8>),
+    Overlong,
+}
+
+impl Line {
+    pub fn empty() -> Line {
+        Line::Collected(Vec::new())
+    }
+}

@@ -1,0 +1,165 @@
+//! 01, "A record is legal if ..": the record that a host keeps, read into a projector and written back.
+
+use super::rules::{Mistake, made};
+use super::set_up::{LONGEST_NAME, MOST_INPUTS, MOST_LAMPS, SetUp, are_lamps, inputs_of};
+use super::text::CR;
+use super::{Connection, Line, Power, Projector};
+use crate::face;
+
+/// "collected bytes .. are at most 167 while awaiting and 135 while open".
+pub const LONGEST_AWAITED: usize = 167;
+pub const LONGEST_LINE: usize = 135;
+/// "Awaiting or failed, it closes when its age reaches 30 seconds."
+pub const CLOSING_AGE: u32 = 30;
+
+impl Projector {
+    /// The projector that a record stands for; nothing exactly if the record is not legal.
+    pub fn read(record: &face::Device) -> Option<Projector> {
+        let face::Device { settings, own, connection } = record;
+        let set_up = read_set_up(settings)?;
+        let lamps = part_in_use(&own.lamps, settings.lamp_count, MOST_LAMPS)?;
+        let power = read_power(own, &set_up)?;
+        let chosen_is_listed = own.chosen < set_up.inputs.len();
+        let errors_are_digits = own.errors.iter().all(|&digit| digit <= 2);
+        if !(are_lamps(&lamps) && chosen_is_listed && errors_are_digits) {
+            return None;
+        }
+        Some(Projector {
+            set_up,
+            power,
+            chosen: own.chosen,
+            video_muted: own.video_muted,
+            audio_muted: own.audio_muted,
+            fault: own.fault,
+            errors: own.errors,
+            lamps,
+            connection: read_connection(connection)?,
+        })
+    }
+
+    pub fn record(&self) -> face::Device {
+        let mut record = face::Device::BLANK;
+        write_set_up(&self.set_up, self.lamps.len(), &mut record.settings);
+        let own = &mut record.own;
+        (own.power, own.left) = match self.power {
+            Power::Off => (0, 0),
+            Power::On => (1, 0),
+            Power::Cooling(left) => (2, left),
+            Power::WarmUp(left) => (3, left),
+        };
+        own.chosen = self.chosen;
+        own.video_muted = self.video_muted;
+        own.audio_muted = self.audio_muted;
+        own.fault = self.fault;
+        own.errors = self.errors;
+        own.lamps[..self.lamps.len()].copy_from_slice(&self.lamps);
+        write_connection(&self.connection, &mut record.connection);
+        record
+    }
+}
+
+/// The part of an array that its count says is in use. "unused room is zero".
+fn part_in_use<T: Copy + Default + PartialEq>(room: &[T], count: usize, most: usize) -> Option<Vec<T>> {
+    if count > most {
+        return None;
+    }
+    let (used, unused) = room.split_at(count);
+    let clean = unused.iter().all(|item| *item == T::default()) || made(Mistake::UnusedRoomPassedOver);
+    clean.then(|| used.to_vec())
+}
+
+fn read_text(text: &face::Text) -> Option<Vec<u8>> {
+    part_in_use(&text.bytes, text.len, LONGEST_NAME)
+}
+
+fn read_set_up(settings: &face::Settings) -> Option<SetUp> {
+    if settings.input_count > MOST_INPUTS {
+        return None;
+    }
+    let characters = part_in_use(&settings.inputs, 2 * settings.input_count, 2 * MOST_INPUTS)?;
+    let set_up = SetUp {
+        name: read_text(&settings.name)?,
+        maker: read_text(&settings.maker)?,
+        model: read_text(&settings.model)?,
+        other: read_text(&settings.other)?,
+        password: read_text(&settings.password)?,
+        inputs: inputs_of(&characters)?,
+        warm: settings.warm,
+        cool: settings.cool,
+    };
+    set_up.is_legal().then_some(set_up)
+}
+
+/// "seconds left are 1 to W in warm-up, 1 to C in cooling, else 0".
+fn read_power(own: &face::Own, set_up: &SetUp) -> Option<Power> {
+    match (own.power, own.left) {
+        (0, 0) => Some(Power::Off),
+        (1, 0) => Some(Power::On),
+        (2, left) if (1..=set_up.cool).contains(&left) => Some(Power::Cooling(left)),
+        (3, left) if (1..=set_up.warm).contains(&left) => Some(Power::WarmUp(left)),
+        _ => None,
+    }
+}
+
+/// "age is 0 to 29 while awaiting or failed, else 0; the random number is 0 while closed; collected bytes hold no CR,
+/// are at most 167 while awaiting and 135 while open, none otherwise or under the mark; the mark stands only while
+/// awaiting or open".
+fn read_connection(connection: &face::Connection) -> Option<Connection> {
+    let face::Connection { phase, age, random, ref line } = *connection;
+    let nothing_held = || read_line(line, 0).filter(|line| *line == Line::empty());
+    match phase {
+        0 if age == 0 && random == 0 => nothing_held().map(|_| Connection::Closed),
+        1 if age < CLOSING_AGE => {
+            read_line(line, LONGEST_AWAITED).map(|line| Connection::Awaiting { age, random, line })
+        }
+        2 if age == 0 => read_line(line, LONGEST_LINE).map(|line| Connection::Open { random, line }),
+        3 if age < CLOSING_AGE => nothing_held().map(|_| Connection::Failed { age, random }),
+        _ => None,
+    }
+}
+
+fn read_line(line: &face::Line, longest: usize) -> Option<Line> {
+    let bytes = part_in_use(&line.bytes, line.held, longest)?;
+    match line.overlong {
+        true => bytes.is_empty().then_some(Line::Overlong),
+        false => (!bytes.contains(&CR)).then_some(Line::Collected(bytes)),
+    }
+}
+
+fn write_text(bytes: &[u8], text: &mut face::Text) {
+    text.len = bytes.len();
+    text.bytes[..bytes.len()].copy_from_slice(bytes);
+}
+
+fn write_set_up(set_up: &SetUp, lamp_count: usize, settings: &mut face::Settings) {
+    write_text(&set_up.name, &mut settings.name);
+    write_text(&set_up.maker, &mut settings.maker);
+    write_text(&set_up.model, &mut settings.model);
+    write_text(&set_up.other, &mut settings.other);
+    write_text(&set_up.password, &mut settings.password);
+    settings.input_count = set_up.inputs.len();
+    for (room, input) in settings.inputs.chunks_exact_mut(2).zip(&set_up.inputs) {
+        room.copy_from_slice(&input.characters());
+    }
+    settings.lamp_count = lamp_count;
+    settings.warm = set_up.warm;
+    settings.cool = set_up.cool;
+}
+
+fn write_connection(connection: &Connection, record: &mut face::Connection) {
+    (record.phase, record.age, record.random) = match *connection {
+        Connection::Closed => (0, 0, 0),
+        Connection::Awaiting { age, random, .. } => (1, age, random),
+        Connection::Open { random, .. } => (2, 0, random),
+        Connection::Failed { age, random } => (3, age, random),
+    };
+    if let Connection::Awaiting { line, .. } | Connection::Open { line, .. } = connection {
+        match line {
+            Line::Overlong => record.line.overlong = true,
+            Line::Collected(bytes) => {
+                record.line.held = bytes.len();
+                record.line.bytes[..bytes.len()].copy_from_slice(bytes);
+            }
+        }
+    }
+}

@@ -1,0 +1,119 @@
+//! 01, "Controller": "The reply reader is told the command."
+
+use super::commands::Body;
+use super::connection::ERRA_LINE;
+use super::controller::Command;
+use super::rules::{Mistake, made};
+use super::set_up::{LONGEST_INFORMATION, LONGEST_NAME, is_text};
+use super::text::{CR, Input, all_letters_or_digits, hours};
+
+/// "Its meaning may be an input with its type and number, a list of lamps, a text."
+#[derive(Clone, PartialEq, Eq, Debug)]
+pub enum Meaning {
+    Ok,
+    Error(u8),
+    Power(u8),
+    Input(Input),
+    Mutes { video: bool, audio: bool },
+    Errors([u8; 6]),
+    Lamps(Vec<(u32, bool)>),
+    Inputs(Vec<Input>),
+    Text(Vec<u8>),
+    Class,
+    Erra,
+}
+
+/// The reply reader's refusals, with 01's numbers.
+pub const NO_REPLY_LINE: u32 = 10;
+pub const OTHER_COMMAND: u32 = 11;
+pub const PARAMETER_NOT_ALLOWED: u32 = 12;
+
+/// "It knows the ERRA line, then tests the form (`%1`, four letters or digits, `=`, 0 to 128 bytes with no CR, one CR
+/// at the end), then the body without case, then the parameter."
+pub fn meaning(command: Command, line: &[u8]) -> Result<Meaning, u32> {
+    if line == ERRA_LINE {
+        return Ok(Meaning::Erra);
+    }
+    let (body, parameter) = formed(line).ok_or(NO_REPLY_LINE)?;
+    if !body.eq_ignore_ascii_case(command.body().bytes()) {
+        return Err(OTHER_COMMAND);
+    }
+    let meaning = match command {
+        Command::Query(body) => query_meaning(body, parameter),
+        _ => set_meaning(parameter),
+    };
+    meaning.ok_or(PARAMETER_NOT_ALLOWED)
+}
+
+fn formed(line: &[u8]) -> Option<(&[u8], &[u8])> {
+    let (body, parameter) = line.strip_prefix(b"%1")?.strip_suffix(b"\r")?.split_at_checked(4)?;
+    let parameter = parameter.strip_prefix(b"=")?;
+    let allowed = all_letters_or_digits(body) && parameter.len() <= 128 && !parameter.contains(&CR);
+    allowed.then_some((body, parameter))
+}
+
+/// "Sets allow OK and ERR1 to ERR4".
+fn set_meaning(parameter: &[u8]) -> Option<Meaning> {
+    match parameter {
+        b"OK" => Some(Meaning::Ok),
+        [b'E', b'R', b'R', digit @ b'1'..=b'4'] => Some(Meaning::Error(digit - b'0')),
+        _ => None,
+    }
+}
+
+/// "queries the values above or ERR1, ERR3, ERR4".
+fn query_meaning(body: Body, parameter: &[u8]) -> Option<Meaning> {
+    if let [b'E', b'R', b'R', digit @ (b'1' | b'3' | b'4')] = parameter {
+        return Some(Meaning::Error(digit - b'0'));
+    }
+    match (body, parameter) {
+        (Body::Powr, [digit @ b'0'..=b'3']) => Some(Meaning::Power(digit - b'0')),
+        (Body::Inpt, _) => Input::from_characters(parameter).map(Meaning::Input),
+        (Body::Avmt, b"11") => Some(Meaning::Mutes { video: true, audio: false }),
+        (Body::Avmt, b"21") => Some(Meaning::Mutes { video: false, audio: true }),
+        (Body::Avmt, b"31") => Some(Meaning::Mutes { video: true, audio: true }),
+        (Body::Avmt, b"30") => Some(Meaning::Mutes { video: false, audio: false }),
+        (Body::Erst, _) => error_digits(parameter).map(Meaning::Errors),
+        (Body::Lamp, _) => lamps(parameter).map(Meaning::Lamps),
+        (Body::Inst, _) => inputs(parameter).map(Meaning::Inputs),
+        (Body::Name, _) => text(parameter, LONGEST_NAME).map(Meaning::Text),
+        (Body::Inf1 | Body::Inf2 | Body::Info, _) => text(parameter, LONGEST_INFORMATION).map(Meaning::Text),
+        (Body::Clss, b"1") => Some(Meaning::Class),
+        _ => None,
+    }
+}
+
+/// "six digits 0 to 2".
+fn error_digits(parameter: &[u8]) -> Option<[u8; 6]> {
+    let digits: [u8; 6] = parameter.try_into().ok()?;
+    digits.iter().all(|digit| (b'0'..=b'2').contains(digit)).then(|| digits.map(|digit| digit - b'0'))
+}
+
+/// "LAMP 1 to 8 lamps".
+fn lamps(parameter: &[u8]) -> Option<Vec<(u32, bool)>> {
+    let words: Vec<&[u8]> = parameter.split(|&b| b == b' ').collect();
+    if !words.len().is_multiple_of(2) || words.len() > 16 {
+        return None;
+    }
+    words.chunks_exact(2).map(|pair| Some((hours(pair[0])?, lit(pair[1])?))).collect()
+}
+
+fn lit(word: &[u8]) -> Option<bool> {
+    match word {
+        b"1" => Some(true),
+        b"0" => Some(false),
+        _ => None,
+    }
+}
+
+/// "INST allows 1 to 32 inputs, repeats included".
+fn inputs(parameter: &[u8]) -> Option<Vec<Input>> {
+    let inputs: Vec<Input> = parameter.split(|&b| b == b' ').map(Input::from_characters).collect::<Option<_>>()?;
+    (inputs.len() <= 32).then_some(inputs)
+}
+
+/// "A text has at most 64 bytes (NAME) or 32, each 0x20 to 0xFF; ERR2 as a text is 12."
+fn text(parameter: &[u8], longest: usize) -> Option<Vec<u8>> {
+    let taken = is_text(parameter, longest) || (parameter == b"ERR2" && made(Mistake::Err2TextTaken));
+    taken.then(|| parameter.to_vec())
+}

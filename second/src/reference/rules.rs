@@ -1,0 +1,57 @@
+//! The deliberate mistakes. Each is a reading of 01 that someone might really ship; `second wrong` makes them one by
+//! one and expects that the comparison finds each.
+
+use std::cell::Cell;
+
+macro_rules! mistakes {
+    ($($name:ident: $words:literal,)*) => {
+        #[derive(Clone, Copy, PartialEq, Eq, Debug)]
+        pub enum Mistake { $($name,)* }
+
+        /// All of them, each with what it gets wrong.
+        pub const MISTAKES: &[(Mistake, &str)] = &[$((Mistake::$name, $words),)*];
+    };
+}
+
+mistakes! {
+    CoolingBurns: "lamps gain seconds in cooling too",
+    WarmUpLeftLate: "warm-up is left one second late",
+    ClosesAt31: "an awaiting connection closes at the age of 31",
+    LongLineTaken: "an open connection takes a line of 136 bytes",
+    Err3BeforeErr4: "ERR3 is tested before ERR4",
+    BodyUpperCased: "the echoed body is upper-cased",
+    UpperDigestTaken: "a digest in upper case matches",
+    LineFeedEndsALine: "LF ends a line",
+    LeadingZeroTaken: "the reader takes lamp hours with a leading zero",
+    SixthInputType: "an input may have the type 6",
+    ChosenInputReset: "power on goes back to the first input",
+    MutesSwapped: "AVMT 1 mutes the sound and 2 the picture",
+    LampNotStopped: "lamp seconds pass the limit",
+    FailedAnswers: "a failed connection answers ERRA again",
+    HoursRoundedUp: "lamp hours are rounded up",
+    RandomDropped: "an open connection without a password keeps no random number",
+    Err2TextTaken: "the reader takes ERR2 for a text",
+    RoomBeforeLegality: "short lent memory is told before an illegal record",
+    UnusedRoomPassedOver: "unused room of a record may hold anything",
+    PasswordAlwaysTested: "the writer tests a password that it does not use",
+    FaultStopsTime: "under the fault mark no lamp gains seconds",
+    PaddingShort: "MD5 pads a message of 56 bytes modulo 64 into the same block",
+}
+
+thread_local! {
+    static MADE: Cell<Option<Mistake>> = const { Cell::new(None) };
+}
+
+/// Whether this mistake is to be made now.
+pub fn made(mistake: Mistake) -> bool {
+    MADE.get() == Some(mistake)
+}
+
+pub fn made_now() -> Option<Mistake> {
+    MADE.get()
+}
+
+/// From now on this mistake is made, or none.
+pub fn make(mistake: Option<Mistake>) {
+    MADE.set(mistake);
+}

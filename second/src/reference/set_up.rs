@@ -1,0 +1,79 @@
+//! 01, "Set-up".
+
+use super::text::{Input, all_letters_or_digits};
+use super::{Connection, Power, Projector};
+
+pub const LONGEST_NAME: usize = 64;
+pub const LONGEST_INFORMATION: usize = 32;
+pub const LONGEST_PASSWORD: usize = 32;
+pub const MOST_INPUTS: usize = 16;
+pub const MOST_LAMPS: usize = 8;
+/// "359,999,999 (which is 99,999 hours and 3,599 seconds)".
+pub const LAMP_LIMIT: u32 = 359_999_999;
+
+#[derive(Clone, PartialEq, Eq, Debug)]
+pub struct SetUp {
+    pub name: Vec<u8>,
+    pub maker: Vec<u8>,
+    pub model: Vec<u8>,
+    pub other: Vec<u8>,
+    pub password: Vec<u8>,
+    pub inputs: Vec<Input>,
+    pub warm: u32,
+    pub cool: u32,
+}
+
+impl SetUp {
+    pub fn is_legal(&self) -> bool {
+        is_text(&self.name, LONGEST_NAME)
+            && is_text(&self.maker, LONGEST_INFORMATION)
+            && is_text(&self.model, LONGEST_INFORMATION)
+            && is_text(&self.other, LONGEST_INFORMATION)
+            && is_password(&self.password)
+            && (1..=MOST_INPUTS).contains(&self.inputs.len())
+            && all_different(&self.inputs)
+            && (1..=600).contains(&self.warm)
+            && (1..=600).contains(&self.cool)
+    }
+
+    /// "A device starts off, with both mutes off, the first input, no fault, error status 000000, connection closed."
+    pub fn fresh(self, lamps: Vec<u32>) -> Projector {
+        Projector {
+            set_up: self,
+            power: Power::Off,
+            chosen: 0,
+            video_muted: false,
+            audio_muted: false,
+            fault: false,
+            errors: [0; 6],
+            lamps,
+            connection: Connection::Closed,
+        }
+    }
+}
+
+/// "Every byte is 0x20 to 0xFF. No text is exactly ERR1, ERR2, ERR3 or ERR4". 01's words for the texts: name, maker,
+/// model and other information.
+pub fn is_text(bytes: &[u8], longest: usize) -> bool {
+    let reads_as_refusal = [&b"ERR1"[..], b"ERR2", b"ERR3", b"ERR4"].contains(&bytes);
+    bytes.len() <= longest && bytes.iter().all(|&b| b >= 0x20) && !reads_as_refusal
+}
+
+/// "Password 0 to 32 ASCII letters and digits."
+pub fn is_password(bytes: &[u8]) -> bool {
+    bytes.len() <= LONGEST_PASSWORD && all_letters_or_digits(bytes)
+}
+
+/// "Lamps: 0 to 8. The lamp starting seconds .. each at most 359,999,999".
+pub fn are_lamps(lamps: &[u32]) -> bool {
+    lamps.len() <= MOST_LAMPS && lamps.iter().all(|&seconds| seconds <= LAMP_LIMIT)
+}
+
+/// Inputs as they are lent: two characters each, so that an odd number of bytes is no list.
+pub fn inputs_of(characters: &[u8]) -> Option<Vec<Input>> {
+    characters.chunks(2).map(Input::from_characters).collect()
+}
+
+fn all_different(inputs: &[Input]) -> bool {
+    (0..inputs.len()).all(|place| !inputs[..place].contains(&inputs[place]))
+}

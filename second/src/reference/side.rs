@@ -1,0 +1,39 @@
+//! The second program as one of the two that are compared.
+
+use super::calls;
+use crate::face::{Act, Answer, Device, Side};
+
+pub struct Second;
+
+impl Side for Second {
+    fn cuts(&self) -> bool {
+        false
+    }
+
+    fn call(&mut self, device: &Device, act: &Act) -> Answer {
+        match act {
+            Act::SetUp(lent) => Answer::Changed(calls::set_up(lent)),
+            Act::Open { random, lent } => {
+                let mut out = lent.clone();
+                Answer::Opened(calls::open(device, *random, &mut out), out)
+            }
+            Act::Close => Answer::Changed(calls::close(device)),
+            Act::Receive { bytes, lent } => {
+                let mut out = lent.clone();
+                Answer::Received(calls::receive(device, bytes, &mut out), out)
+            }
+            Act::Pass { seconds } | Act::PassInPlace { seconds } => Answer::Changed(calls::pass(device, *seconds)),
+            Act::SetFault { mark } => Answer::Changed(calls::set_fault(device, *mark)),
+            Act::SetErrors { digits } => Answer::Changed(calls::set_errors(device, digits)),
+            Act::Legal => Answer::Legal(calls::legal(device)),
+            Act::Digest { message } => Answer::Digest(calls::digest(message)),
+            Act::Write { command, secured, random, password, lent } => {
+                let mut out = lent.clone();
+                Answer::Written(calls::write(*command, *secured, *random, password, &mut out), out)
+            }
+            Act::HandOn { .. } => unreachable!("not one call"),
+            Act::ReadGreeting { line } => Answer::Greeting(calls::read_greeting(line)),
+            Act::ReadReply { command, line } => Answer::Reading(calls::read_reply(*command, line)),
+        }
+    }
+}

@@ -1,0 +1,153 @@
+//! 02, L1: a log from the floor, played on 01's sample set-up (W 20, C 60, one lamp at 0 s, input 11, texts empty, no
+//! password, connection closed).
+
+use crate::reference::set_up::SetUp;
+use crate::reference::text::Input;
+use crate::reference::text::{CR, LF, hex_number};
+use crate::reference::{Connection, Projector};
+use std::io::{self, BufRead, Write};
+
+/// "over 4,096 bytes prints its number, a space and `?` and changes nothing".
+const LONGEST: usize = 4096;
+
+#[derive(Clone, Copy, PartialEq, Eq, Debug)]
+enum Event<'a> {
+    Open(u32),
+    Receive(&'a [u8]),
+    Pass(u32),
+    Close,
+}
+
+enum Outcome {
+    Reply(Vec<u8>),
+    Refused(u32),
+}
+
+/// "`O`, a space and eight lowercase hex digits opens, `R`, a space and text receives it plus a CR, `T`, a space and a
+/// number passes seconds, `X` closes."
+fn event(line: &[u8]) -> Option<Event<'_>> {
+    if line.len() > LONGEST || line.contains(&CR) {
+        return None;
+    }
+    match line {
+        [b'O', b' ', digits @ ..] => hex_number(digits).map(Event::Open),
+        [b'R', b' ', text @ ..] => Some(Event::Receive(text)),
+        [b'T', b' ', digits @ ..] => seconds(digits).map(Event::Pass),
+        b"X" => Some(Event::Close),
+        _ => None,
+    }
+}
+
+/// "the number is one to ten decimal digits, at most 4,294,967,295".
+fn seconds(digits: &[u8]) -> Option<u32> {
+    if !(1..=10).contains(&digits.len()) || !digits.iter().all(|d| d.is_ascii_digit()) {
+        return None;
+    }
+    let number = digits.iter().fold(0, |number, digit| number * 10 + u64::from(digit - b'0'));
+    u32::try_from(number).ok()
+}
+
+fn play(projector: &mut Projector, event: Event) -> Outcome {
+    let closed = projector.connection == Connection::Closed;
+    match event {
+        Event::Open(_) if !closed => Outcome::Refused(5),
+        Event::Open(random) => Outcome::Reply(projector.open(random)),
+        Event::Receive(_) | Event::Close if closed => Outcome::Refused(4),
+        Event::Receive(text) => {
+            let mut line = text.to_vec();
+            line.push(CR);
+            Outcome::Reply(projector.receive(&line).1)
+        }
+        Event::Pass(seconds) => {
+            projector.pass(seconds);
+            Outcome::Reply(Vec::new())
+        }
+        Event::Close => {
+            projector.connection = Connection::Closed;
+            Outcome::Reply(Vec::new())
+        }
+    }
+}
+
+/// "the reply without CR, or `-` for none, or `! ` and the number of a refusal"; `?` for a line of no such form.
+fn told(projector: &mut Projector, line: &[u8]) -> Vec<u8> {
+    let Some(event) = event(line) else { return b"?".to_vec() };
+    match play(projector, event) {
+        Outcome::Refused(number) => format!("! {number}").into_bytes(),
+        Outcome::Reply(reply) => match reply.strip_suffix(&[CR]) {
+            Some(text) => text.to_vec(),
+            None => b"-".to_vec(),
+        },
+    }
+}
+
+pub fn sample() -> Projector {
+    let set_up = SetUp {
+        name: Vec::new(),
+        maker: Vec::new(),
+        model: Vec::new(),
+        other: Vec::new(),
+        password: Vec::new(),
+        inputs: vec![Input { kind: 1, number: 1 }],
+        warm: 20,
+        cool: 60,
+    };
+    set_up.fresh(vec![0])
+}
+
+/// "Lines end with LF, the last perhaps without". After the last, power as POWR answers it and the lamp seconds.
+pub fn replay(mut log: impl BufRead, mut out: impl Write) -> io::Result<()> {
+    let mut projector = sample();
+    let mut line = Vec::new();
+    let mut number = 0u64;
+    loop {
+        line.clear();
+        if log.read_until(LF, &mut line)? == 0 {
+            break;
+        }
+        number += 1;
+        let text = line.strip_suffix(&[LF]).unwrap_or(&line);
+        write!(out, "{number} ")?;
+        out.write_all(&told(&mut projector, text))?;
+        out.write_all(b"\n")?;
+    }
+    let lamps: Vec<String> = projector.lamps.iter().map(u32::to_string).collect();
+    writeln!(out, "power {} lamps {}", char::from(projector.power_digit()), lamps.join(" "))?;
+    out.flush()
+}
+
+#[cfg(test)]
+mod tests {
+    use super::*;
+
+    fn replayed(log: &[u8]) -> String {
+        let mut out = Vec::new();
+        replay(log, &mut out).unwrap();
+        String::from_utf8(out).unwrap()
+    }
+
+    /// L1's own example.
+    #[test]
+    fn example() {
+        let log = b"O 00000000\nR %1POWR 1\nT 3600\nR %1LAMP ?\n";
+        let told = "1 PJLINK 0\n2 %1POWR=OK\n3 -\n4 %1LAMP=1 1\npower 1 lamps 3600\n";
+        assert_eq!(replayed(log), told);
+        assert_eq!(replayed(&log[..log.len() - 1]), told);
+    }
+
+    #[test]
+    fn refusals_and_other_lines() {
+        let log =
+            b"X\nR %1POWR ?\nO 0000000A\nO 0000000a\nO 00000000\nT 4294967296\nT 4294967295\nT 00000000001\n\nR x\nX\n";
+        let told = "1 ! 4\n2 ! 4\n3 ?\n4 PJLINK 0\n5 ! 5\n6 ?\n7 -\n8 ?\n9 ?\n10 -\n11 -\npower 0 lamps 0\n";
+        assert_eq!(replayed(log), told);
+    }
+
+    #[test]
+    fn long_lines_and_carriage_returns() {
+        let line = |length: usize| [b"R ", vec![b'a'; length - 2].as_slice(), b"\n"].concat();
+        let log = [b"O 00000000\n", &line(4096)[..], &line(4097), b"R %1CLSS\r ?\nX \nT \n"].concat();
+        assert_eq!(replayed(&log), "1 PJLINK 0\n2 -\n3 ?\n4 ?\n5 ?\n6 ?\npower 0 lamps 0\n");
+        assert_eq!(replayed(b""), "power 0 lamps 0\n");
+    }
+}
