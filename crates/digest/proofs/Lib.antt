@@ -1,5 +1,7 @@
 mod Tables
 mod Rotation
+mod Chosen
+mod Rows
 mod Stored
 mod Blocks
 mod Padded

@@ -1,39 +1,14 @@
-// Words of 32 bits (RFC 1321, 2), and the four functions of 3.4.
+// Words of 32 bits (RFC 1321, 2).
 ghost use mathlib.Core.Path.{_≡_};
 ghost use Prim.Native.Nat.{_+_, _≤_, _<_};
 ghost use lib.ListN.{length};
 ghost use Rattle.digest.specs.Words.{_<<<_, wordAt};
-ghost use Rattle.digest.specs.Rounds.{fnF, fnG, fnH, fnI};
 
 pub fn rotate_left(x: u32, s: u32) -> u32
     requires { ⌜ (0 < s) × (s < 32) ⌝ }
     ensures { λ r. ⌜ r ≡ x <<< s ⌝ }
 {
     (x << s) | (x >> (32 - s))
-}
-
-pub fn f(x: u32, y: u32, z: u32) -> u32
-    ensures { λ r. ⌜ r ≡ fnF x y z ⌝ }
-{
-    (x & y) | (!x & z)
-}
-
-pub fn g(x: u32, y: u32, z: u32) -> u32
-    ensures { λ r. ⌜ r ≡ fnG x y z ⌝ }
-{
-    (x & z) | (y & !z)
-}
-
-pub fn h(x: u32, y: u32, z: u32) -> u32
-    ensures { λ r. ⌜ r ≡ fnH x y z ⌝ }
-{
-    x ^ y ^ z
-}
-
-pub fn i(x: u32, y: u32, z: u32) -> u32
-    ensures { λ r. ⌜ r ≡ fnI x y z ⌝ }
-{
-    y ^ (x | !z)
 }
 
 // A call, and not a cast at each use: so the bound of the byte comes with its value.
