@@ -66,6 +66,13 @@ int main(void) {
     pj_reading told = ask(PJ_LAMP, 0);
     for (size_t i = 0; i < told.count; i++) printf("lamp %zu: %u h, lit %d\n", i, (unsigned)told.hours[i], told.lit[i]);
 
+    /* what the lamps gained since set-up, and the same tables the other way round */
+    int64_t gained[2];
+    pj_compared c = pj_compare_lamps(lamps, 2, device.own.lamps, 2, gained, 2);
+    printf("gained: %lld s, %lld s, backwards %d\n", (long long)gained[0], (long long)gained[1], c.backwards);
+    c = pj_compare_lamps(device.own.lamps, 2, lamps, 2, gained, 2);
+    printf("gained: %lld s, %lld s, backwards at %zu\n", (long long)gained[0], (long long)gained[1], c.place);
+
     printf("open again: %u\n", (unsigned)pj_open(device, 0, reply, sizeof reply).number);
     printf("close: %u\n", (unsigned)pj_close(device).number);
     return 0;

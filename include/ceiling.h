@@ -8,7 +8,7 @@
    The number that a call gives is 0 where it is served, else the first of these that applies:
      1  the device record is not legal
      2  the lent reply memory is under 136 bytes (168 for pj_write)
-     3  a setting, an error digit, a command or a password is out of its range
+     3  a setting, an error digit, a command or a password is out of its range, or two tables cannot be compared
      4  receiving or closing on a closed connection
      5  opening one that is not closed
      10 not a greeting or reply line, 11 a reply to another command, 12 a parameter that is not allowed there
@@ -36,6 +36,7 @@ enum {
     PJ_LAMPS_MOST = 8,
     PJ_LINE_ROOM = 167,
     PJ_ERRORS = 6,
+    PJ_TABLE_MOST = 64,         /* places of a table of lamp seconds */
     PJ_REPLY_ROOM = 136,        /* the least memory for pj_open and pj_receive */
     PJ_COMMAND_ROOM = 168       /* the least memory for pj_write */
 };
@@ -220,6 +221,19 @@ typedef struct {                            /* what a kind does not use is zero 
 /* What a whole line with its CR says to the command: 3 for what is no command, 10, 11 or 12. */
 pj_reading pj_read_reply(pj_command c, const uint8_t *line, size_t len);
 
+/* Service. */
+
+typedef struct {
+    uint32_t number;
+    bool backwards;                         /* some lamp has fewer seconds than before */
+    size_t place;                           /* of the first such lamp; 0 where there is none */
+} pj_compared;
+
+/* For each place of two tables of lamp seconds the later minus the earlier, into `out`, whose places past the tables
+   stay as they were: 3, and `out` as it was, for tables of unequal length or over 64 places, or fewer places in `out`. */
+pj_compared pj_compare_lamps(const uint32_t *earlier, size_t earlier_count, const uint32_t *later, size_t later_count,
+                             int64_t *out, size_t out_count);
+
 /* The layout that the archive has. */
 CEILING_IS(sizeof(bool) == 1 && sizeof(size_t) == 8);
 CEILING_IS(sizeof(pj_text) == 72 && offsetof(pj_text, bytes) == 8);
@@ -246,6 +260,7 @@ CEILING_IS(sizeof(pj_greeting) == 12 && offsetof(pj_greeting, kind) == 4 && offs
 CEILING_IS(sizeof(pj_reading) == 184 && offsetof(pj_reading, kind) == 4 && offsetof(pj_reading, first) == 5);
 CEILING_IS(offsetof(pj_reading, second) == 6 && offsetof(pj_reading, count) == 8 && offsetof(pj_reading, hours) == 16);
 CEILING_IS(offsetof(pj_reading, lit) == 48 && offsetof(pj_reading, inputs) == 56 && offsetof(pj_reading, text) == 120);
+CEILING_IS(sizeof(pj_compared) == 16 && offsetof(pj_compared, backwards) == 4 && offsetof(pj_compared, place) == 8);
 
 #ifdef __cplusplus
 }

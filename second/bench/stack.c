@@ -38,6 +38,8 @@ static __attribute__((noinline)) void measure(const char *name, void (*call)(voi
 
 static const uint32_t lamps[8] = {1, 2, 3, 4, 5, 6, 7, 8};
 static const char *line;
+static uint32_t tables[2][PJ_TABLE_MOST];
+static int64_t differences[PJ_TABLE_MOST];
 static pj_command command;
 static volatile uint32_t sink;
 
@@ -58,6 +60,9 @@ CALL(call_md5, { sink = pj_md5(message, sizeof message).bytes[0]; })
 CALL(call_write, { sink = (uint32_t)pj_write(command, true, 7, TEXT("panel2"), out, sizeof out).length; })
 CALL(call_read_greeting, { sink = pj_read_greeting(TEXT("PJLINK 1 498e4a67\r")).random; })
 CALL(call_read_reply, { sink = pj_read_reply(command, TEXT(line)).number; })
+CALL(call_compare_lamps, {
+    sink = pj_compare_lamps(tables[0], PJ_TABLE_MOST, tables[1], PJ_TABLE_MOST, differences, PJ_TABLE_MOST).number;
+})
 
 int main(void) {
     measure("pj_set_up", call_set_up);
@@ -86,5 +91,6 @@ int main(void) {
     command = (pj_command){PJ_INST, 0, 0};
     line = "%1INST=11 12 13 14 15 16 17 18 19 21 22 23 24 25 26 27 28 29 31 32 33 34 35 36 37 38 39 41 42 43 44 45\r";
     measure("pj_read_reply, longest INST", call_read_reply);
+    measure("pj_compare_lamps, 64 places", call_compare_lamps);
     return 0;
 }

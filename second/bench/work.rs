@@ -1,7 +1,7 @@
 //! What is measured: each piece of work, done by the archive, by the second program and, for MD5, by plain C.
 
 use second::face::{Command, Device, Lent, Reading, linked};
-use second::reference::calls;
+use second::reference::{calls, service};
 use std::hint::black_box;
 
 #[derive(Clone, Copy, PartialEq, Eq, Debug)]
@@ -44,6 +44,7 @@ pub fn all() -> Vec<Work> {
     add("pj_read_reply, longest LAMP", false, Box::new(|| reading(7, "LAMP", &["99999 1"; 8].join(" "))));
     add("pj_read_reply, longest INST", false, Box::new(|| reading(8, "INST", &["59"; 32].join(" "))));
     add("pj_read_reply, longest NAME", false, Box::new(|| reading(9, "NAME", &"n".repeat(64))));
+    add("pj_compare_lamps, 64 places", false, Box::new(comparing));
     all
 }
 
@@ -169,5 +170,19 @@ fn reading(code: u8, body: &str, parameter: &str) -> Run {
             _ => calls::read_reply(command, line),
         };
         black_box(&reading);
+    })
+}
+
+fn comparing() -> Run {
+    let earlier: Vec<u32> = (0..64).map(|place| place * 5_000_000).collect();
+    let later: Vec<u32> = earlier.iter().map(|seconds| seconds + 600_000).collect();
+    Box::new(move |by| {
+        let (earlier, later) = (black_box(&earlier), black_box(&later));
+        let mut out = [0; 64];
+        let compared = match by {
+            By::Board => linked::compare_lamps(earlier, later, &mut out),
+            _ => service::compare_lamps(earlier, later, &mut out),
+        };
+        black_box((&compared, &out));
     })
 }

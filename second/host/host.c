@@ -11,7 +11,8 @@
 /* A call in, an answer out. */
 
 static uint8_t call[1 << 23], answer[1 << 16]; /* a message of megabytes, the largest answer */
-static uint32_t lamp_room[1 << 10];
+static uint32_t words[2][1 << 10];             /* lists of larger numbers are aligned */
+static int64_t differences[1 << 10];
 static size_t at, end;
 
 static void get(void *to, size_t n) {
@@ -38,6 +39,13 @@ static slice get_slice(void) {
     s.at = call + at;
     at += s.n;
     return s;
+}
+
+static size_t get_words(uint32_t *to) {
+    size_t n;
+    GET(n);
+    get(to, n * sizeof *to);
+    return n;
 }
 
 static void put_slice(slice s) {
@@ -89,14 +97,12 @@ static pj_command get_command(void) {
 static void set_up(void) {
     slice name = get_slice(), maker = get_slice(), model = get_slice(), other = get_slice();
     slice password = get_slice(), inputs = get_slice();
-    size_t lamps;
+    size_t lamps = get_words(words[0]);
     uint32_t warm, cool;
-    GET(lamps);
-    get(lamp_room, 4 * lamps);
     GET(warm);
     GET(cool);
     put_changed(pj_set_up(name.at, name.n, maker.at, maker.n, model.at, model.n, other.at, other.n, password.at,
-                          password.n, inputs.at, inputs.n, lamp_room, lamps, warm, cool));
+                          password.n, inputs.at, inputs.n, words[0], lamps, warm, cool));
 }
 
 static void open_connection(pj_device d) {
@@ -190,6 +196,18 @@ static void read_reply(void) {
     PUT(r.text);
 }
 
+static void compare_lamps(void) {
+    size_t earlier = get_words(words[0]), later = get_words(words[1]), n;
+    GET(n);
+    get(differences, n * sizeof *differences);
+    pj_compared c = pj_compare_lamps(words[0], earlier, words[1], later, differences, n);
+    PUT(c.number);
+    PUT(c.backwards);
+    PUT(c.place);
+    PUT(n);
+    put(differences, n * sizeof *differences);
+}
+
 static void make_call(void) {
     pj_device d = get_device();
     uint8_t which;
@@ -208,6 +226,7 @@ static void make_call(void) {
     case 10: write_command(); break;
     case 11: read_greeting(); break;
     case 12: read_reply(); break;
+    case 13: compare_lamps(); break;
     default: exit(EXIT_FAILURE);
     }
 }

@@ -20,7 +20,7 @@ pub fn all_found(seed: u64, board: &mut impl Side) -> bool {
             }
             Err(difference) => {
                 println!("found after {} comparisons: {words}", run.agreed);
-                print!("{}", difference.to_string().replace("by 01", "by the mistake"));
+                print!("{}", difference.to_string().replace("by the rules", "by the mistake"));
             }
         }
     }
@@ -83,6 +83,7 @@ mod tests {
             ("pj_write", "!2 !3"),
             ("pj_read_greeting", "!10"),
             ("pj_read_reply", "!3 !10 !11 !12"),
+            ("pj_compare_lamps", "!3 none back"),
         ] {
             for kind in kinds.split(' ') {
                 assert!(run.met.times(call, kind) >= 100, "{call} {kind}: {}", run.met.times(call, kind));

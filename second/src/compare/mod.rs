@@ -9,6 +9,7 @@ pub mod replies;
 pub mod report;
 pub mod setups;
 pub mod shrink;
+pub mod tables;
 pub mod tally;
 
 use crate::face::{Act, Answer, Device, Side};
@@ -153,6 +154,8 @@ impl<'a, B: Side> Run<'a, B> {
             let act = replies::write(&mut self.random);
             self.compare_call(Device::BLANK, act)?;
             let act = replies::read_greeting(&mut self.random);
+            self.compare_call(Device::BLANK, act)?;
+            let act = tables::compare_lamps(&mut self.random);
             self.compare_call(Device::BLANK, act)?;
         }
         for _ in 0..24 {

@@ -28,7 +28,7 @@ impl fmt::Display for Difference {
         }
         for ((field, expected), (_, given)) in self.expected.fields().iter().zip(self.given.fields()) {
             if *expected != given {
-                writeln!(f, "  {field}: by 01 {expected}, from libboard.a {given}")?;
+                writeln!(f, "  {field}: by the rules {expected}, from libboard.a {given}")?;
             }
         }
         Ok(())
@@ -77,6 +77,9 @@ fn call(act: &Act) -> String {
         Act::ReadGreeting { line } => format!("pj_read_greeting({})", quoted(line)),
         Act::ReadReply { command: c, line } => {
             format!("pj_read_reply(code {} {} {}, {})", c.code, c.first, c.second, quoted(line))
+        }
+        Act::CompareLamps { earlier, later, lent } => {
+            format!("pj_compare_lamps({earlier:?}, {later:?}, {} places)", lent.len())
         }
     }
 }

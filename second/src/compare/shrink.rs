@@ -1,6 +1,6 @@
 //! From a case on which the two programs differ to the smallest that still shows it.
 
-use super::Case;
+use super::{Case, tables};
 use crate::face::wire::Wire;
 use crate::face::{Act, Command, Device, Lent};
 
@@ -34,7 +34,7 @@ fn smaller(case: &Case) -> impl Iterator<Item = Case> {
 }
 
 /// A list with a stretch left out: all of it, halves, single places last.
-fn shorter<T: Clone>(list: &[T]) -> impl Iterator<Item = Vec<T>> {
+pub fn shorter<T: Clone>(list: &[T]) -> impl Iterator<Item = Vec<T>> {
     halves(list.len()).map(|(first, end)| [&list[..first], &list[end..]].concat())
 }
 
@@ -146,6 +146,7 @@ fn simpler(act: &Act) -> Vec<Act> {
             let commands = simpler_commands(*command).map(|command| Act::ReadReply { command, line: line.clone() });
             commands.chain(simpler_bytes(line).map(|line| Act::ReadReply { command: *command, line })).collect()
         }
+        Act::CompareLamps { earlier, later, lent } => tables::simpler(earlier, later, lent),
         Act::Close | Act::SetFault { .. } | Act::Legal => Vec::new(),
     }
 }
@@ -161,13 +162,7 @@ fn simpler_set_ups(lent: &Lent) -> Vec<Lent> {
         all.push(Lent { inputs: b"11".to_vec(), ..lent.clone() });
     }
     shorten!(name maker model other password inputs lamps);
-    for place in 0..lent.lamps.len() {
-        all.extend(lower(lent.lamps[place]).map(|seconds| {
-            let mut simpler = lent.clone();
-            simpler.lamps[place] = seconds;
-            simpler
-        }));
-    }
+    all.extend(lower_at(&lent.lamps).map(|lamps| Lent { lamps, ..lent.clone() }));
     all.extend(lower(lent.warm).map(|warm| Lent { warm, ..lent.clone() }));
     all.extend(lower(lent.cool).map(|cool| Lent { cool, ..lent.clone() }));
     all
@@ -193,6 +188,17 @@ fn simpler_bytes(bytes: &[u8]) -> impl Iterator<Item = Vec<u8>> {
 fn memories(lent: &[u8]) -> impl Iterator<Item = Vec<u8>> {
     let lengths = [0, 136, 168, lent.len()].into_iter().filter(|&length| length <= lent.len());
     lengths.map(|length| vec![0; length]).filter(move |simpler| simpler != lent)
+}
+
+/// A list with one number lower.
+pub fn lower_at(numbers: &[u32]) -> impl Iterator<Item = Vec<u32>> {
+    (0..numbers.len()).flat_map(move |place| {
+        lower(numbers[place]).map(move |lower| {
+            let mut all = numbers.to_vec();
+            all[place] = lower;
+            all
+        })
+    })
 }
 
 /// 0, 1, then nearer and nearer.

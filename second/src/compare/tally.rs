@@ -50,6 +50,7 @@ fn call(act: &Act) -> &'static str {
         Act::Write { .. } => "pj_write",
         Act::ReadGreeting { .. } => "pj_read_greeting",
         Act::ReadReply { .. } => "pj_read_reply",
+        Act::CompareLamps { .. } => "pj_compare_lamps",
     }
 }
 
@@ -64,6 +65,7 @@ fn kind(answer: &Answer) -> String {
         Answer::Written(written, _) => refusal_or(written.number, &format!("{} bytes", written.length)),
         Answer::Greeting(greeting) => refusal_or(greeting.number, &format!("kind {}", greeting.kind)),
         Answer::Reading(reading) => refusal_or(reading.number, &format!("kind {}", reading.kind)),
+        Answer::Compared(compared, _) => refusal_or(compared.number, if compared.backwards { "back" } else { "none" }),
     }
 }
 

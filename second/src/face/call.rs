@@ -1,6 +1,6 @@
 //! A call of the face with what it is lent, and all that it gives: the same two for both programs.
 
-use super::{Changed, Command, Device, Digest, Greeting, Opened, Reading, Received, Written};
+use super::{Changed, Command, Compared, Device, Digest, Greeting, Opened, Reading, Received, Written};
 
 /// A call, all but the record that some of them are lent. `lent` is the reply memory with what it holds beforehand.
 #[derive(Clone, PartialEq, Eq, Debug)]
@@ -51,6 +51,11 @@ pub enum Act {
         command: Command,
         line: Vec<u8>,
     },
+    CompareLamps {
+        earlier: Vec<u32>,
+        later: Vec<u32>,
+        lent: Vec<i64>,
+    },
 }
 
 /// What a set-up is lent.
@@ -80,6 +85,7 @@ pub enum Answer {
     Written(Written, Vec<u8>),
     Greeting(Greeting),
     Reading(Reading),
+    Compared(Compared, Vec<i64>),
 }
 
 impl Answer {

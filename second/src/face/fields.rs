@@ -2,8 +2,8 @@
 
 use super::wire::Wire;
 use super::{
-    Answer, Changed, Command, Connection, Device, Digest, Greeting, Line, Opened, Own, Reading, Received, Settings,
-    Text, Written,
+    Answer, Changed, Command, Compared, Connection, Device, Digest, Greeting, Line, Opened, Own, Reading, Received,
+    Settings, Text, Written,
 };
 
 /// A value's fields, as (path, value) in their order.
@@ -53,6 +53,7 @@ records! {
     Written { number, length }
     Greeting { number, kind, random }
     Reading { number, kind, first, second, count, hours, lit, inputs, text }
+    Compared { number, backwards, place }
 }
 
 fn joined(path: &str, field: &str) -> String {
@@ -132,6 +133,10 @@ impl Fields for Answer {
             }
             Answer::Greeting(greeting) => greeting.list(path, into),
             Answer::Reading(reading) => reading.list(path, into),
+            Answer::Compared(compared, places) => {
+                compared.list(path, into);
+                into.push(("lent places".into(), format!("{places:?}")));
+            }
         }
     }
 }

@@ -1,6 +1,8 @@
 //! The archive, linked. A slice is a pointer and a length, in that order.
 
-use super::{Act, Answer, Changed, Command, Device, Digest, Greeting, Lent, Opened, Reading, Received, Side, Written};
+use super::{
+    Act, Answer, Changed, Command, Compared, Device, Digest, Greeting, Lent, Opened, Reading, Received, Side, Written,
+};
 
 #[link(name = "board", kind = "static")]
 unsafe extern "C" {
@@ -43,6 +45,14 @@ unsafe extern "C" {
     ) -> Written;
     fn pj_read_greeting(line: *const u8, length: usize) -> Greeting;
     fn pj_read_reply(command: Command, line: *const u8, length: usize) -> Reading;
+    fn pj_compare_lamps(
+        earlier: *const u32,
+        earlier_length: usize,
+        later: *const u32,
+        later_length: usize,
+        out: *mut i64,
+        out_length: usize,
+    ) -> Compared;
 }
 
 // SAFETY, for every call below: the pointers are those of live slices with their own lengths, what is written into is
@@ -109,6 +119,11 @@ pub fn read_reply(command: Command, line: &[u8]) -> Reading {
     unsafe { pj_read_reply(command, line.as_ptr(), line.len()) }
 }
 
+pub fn compare_lamps(earlier: &[u32], later: &[u32], out: &mut [i64]) -> Compared {
+    let ([earlier_at, later_at], out_at) = ([earlier, later].map(<[u32]>::as_ptr), out.as_mut_ptr());
+    unsafe { pj_compare_lamps(earlier_at, earlier.len(), later_at, later.len(), out_at, out.len()) }
+}
+
 pub struct Board;
 
 impl Board {
@@ -152,6 +167,10 @@ impl Side for Board {
             Act::HandOn { .. } => unreachable!("not one call"),
             Act::ReadGreeting { line } => Answer::Greeting(read_greeting(line)),
             Act::ReadReply { command, line } => Answer::Reading(read_reply(*command, line)),
+            Act::CompareLamps { earlier, later, lent } => {
+                let mut out = lent.clone();
+                Answer::Compared(compare_lamps(earlier, later, &mut out), out)
+            }
         }
     }
 }

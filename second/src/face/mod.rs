@@ -5,9 +5,11 @@
 
 mod call;
 pub mod fields;
+mod service;
 pub mod wire;
 
 pub use call::{Act, Answer, Lent, Side};
+pub use service::Compared;
 
 #[cfg(board = "apart")]
 mod apart;

@@ -54,6 +54,16 @@ impl Wire for usize {
     }
 }
 
+impl Wire for i64 {
+    fn put(&self, out: &mut Vec<u8>) {
+        out.extend_from_slice(&self.to_le_bytes());
+    }
+
+    fn get(from: &mut &[u8]) -> i64 {
+        i64::from_le_bytes(<[u8; 8]>::get(from))
+    }
+}
+
 impl<const N: usize> Wire for [u8; N] {
     fn put(&self, out: &mut Vec<u8>) {
         out.extend_from_slice(self);
@@ -84,15 +94,15 @@ impl Wire for [bool; 8] {
     }
 }
 
-impl Wire for Vec<u8> {
+impl<T: Wire> Wire for Vec<T> {
     fn put(&self, out: &mut Vec<u8>) {
         self.len().put(out);
-        out.extend_from_slice(self);
+        self.iter().for_each(|item| item.put(out));
     }
 
-    fn get(from: &mut &[u8]) -> Vec<u8> {
+    fn get(from: &mut &[u8]) -> Vec<T> {
         let length = usize::get(from);
-        taken(from, length).to_vec()
+        (0..length).map(|_| T::get(from)).collect()
     }
 }
 
@@ -104,8 +114,7 @@ pub fn put_act(act: &Act, out: &mut Vec<u8>) {
             for text in [&lent.name, &lent.maker, &lent.model, &lent.other, &lent.password, &lent.inputs] {
                 text.put(out);
             }
-            lent.lamps.len().put(out);
-            lent.lamps.iter().for_each(|seconds| seconds.put(out));
+            lent.lamps.put(out);
             lent.warm.put(out);
             lent.cool.put(out);
         }
@@ -159,6 +168,12 @@ pub fn put_act(act: &Act, out: &mut Vec<u8>) {
             command.put(out);
             line.put(out);
         }
+        Act::CompareLamps { earlier, later, lent } => {
+            13u8.put(out);
+            earlier.put(out);
+            later.put(out);
+            lent.put(out);
+        }
     }
 }
 
@@ -179,5 +194,6 @@ pub fn get_answer(act: &Act, from: &mut &[u8]) -> Answer {
         Act::Write { .. } => Answer::Written(Wire::get(from), Wire::get(from)),
         Act::ReadGreeting { .. } => Answer::Greeting(Wire::get(from)),
         Act::ReadReply { .. } => Answer::Reading(Wire::get(from)),
+        Act::CompareLamps { .. } => Answer::Compared(Wire::get(from), Wire::get(from)),
     }
 }

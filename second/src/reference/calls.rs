@@ -14,7 +14,7 @@ const WRITER_ROOM: usize = 168;
 
 const NOT_LEGAL: u32 = 1;
 const ROOM_SHORT: u32 = 2;
-const OUT_OF_RANGE: u32 = 3;
+pub(super) const OUT_OF_RANGE: u32 = 3;
 const IS_CLOSED: u32 = 4;
 const NOT_CLOSED: u32 = 5;
 

@@ -1,6 +1,7 @@
-//! Document 01's rules, written plainly. Every rule has 01's words beside it.
+//! Document 01's rules and 02's changes, written plainly. Every rule has the document's words beside it.
 //!
-//! `calls` has the calls that a host makes, with the numbers they give; the other files have what they mean.
+//! `calls` has the calls that a host makes, with the numbers they give, and `service` (L10) one that 02 adds; the other
+//! files have what they mean.
 //! `rules` holds the deliberate mistakes that `second wrong` switches on, one at a time; none is on otherwise.
 
 pub mod calls;
@@ -13,6 +14,7 @@ pub mod md5;
 pub mod record;
 pub mod replies;
 pub mod rules;
+pub mod service;
 pub mod set_up;
 #[cfg(test)]
 mod settled;

@@ -1,4 +1,4 @@
-//! The deliberate mistakes. Each is a reading of 01 that someone might really ship; `second wrong` makes them one by
+//! The deliberate mistakes. Each is a reading of 01 or 02 that someone might really ship; `second wrong` makes them one by
 //! one and expects that the comparison finds each.
 
 use std::cell::Cell;
@@ -36,6 +36,9 @@ mistakes! {
     PasswordAlwaysTested: "the writer tests a password that it does not use",
     FaultStopsTime: "under the fault mark no lamp gains seconds",
     PaddingShort: "MD5 pads a message of 56 bytes modulo 64 into the same block",
+    DifferenceReversed: "a lamp's difference is the earlier minus the later",
+    LastPlaceSkipped: "the last place of two tables is not compared",
+    EqualIsBackwards: "a lamp that did not burn went backwards",
 }
 
 thread_local! {

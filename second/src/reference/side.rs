@@ -1,6 +1,6 @@
 //! The second program as one of the two that are compared.
 
-use super::calls;
+use super::{calls, service};
 use crate::face::{Act, Answer, Device, Side};
 
 pub struct Second;
@@ -34,6 +34,10 @@ impl Side for Second {
             Act::HandOn { .. } => unreachable!("not one call"),
             Act::ReadGreeting { line } => Answer::Greeting(calls::read_greeting(line)),
             Act::ReadReply { command, line } => Answer::Reading(calls::read_reply(*command, line)),
+            Act::CompareLamps { earlier, later, lent } => {
+                let mut out = lent.clone();
+                Answer::Compared(service::compare_lamps(earlier, later, &mut out), out)
+            }
         }
     }
 }
