@@ -234,6 +234,42 @@ typedef struct {
 pj_compared pj_compare_lamps(const uint32_t *earlier, size_t earlier_count, const uint32_t *later, size_t later_count,
                              int64_t *out, size_t out_count);
 
+/* A cutting day. Jobs and rigs come as lists of numbers, one for each field, in the order of the jobs or of the rigs.
+   A job has a start and a length in seconds and the rigs that it may use, bit k of a byte for rig k; a rig has W, C and
+   seconds of lamp life left. Rigs are numbered from 0. On its rig a job occupies W seconds before its start, its
+   length, and C after it; it burns W plus its length.
+   3: over 64 jobs or 8 rigs, lists of unequal length, other than one rig a job, a length under 1, an end over 86,400,
+   W or C outside 1 to 600; for the planner also a result list shorter than the jobs. */
+#define PJ_JOBS_MOST 64
+#define PJ_RIGS_MOST 8
+
+/* rule: 0 accepted (or number is 3), 1 no such rig or not allowed, 2 starts before W, 3 clash, 4 burns more than left.
+   first: the lowest job, for rule 4 the lowest rig; second: the other job of a clash, else 0. */
+typedef struct {
+    uint32_t number;
+    uint8_t rule;
+    size_t first, second;
+} pj_verdict;
+
+pj_verdict pj_check_day(const uint32_t *starts, size_t starts_len, const uint32_t *lengths, size_t lengths_len,
+                        const uint8_t *allowed, size_t allowed_len,
+                        const uint8_t *rigs_of_jobs, size_t rigs_of_jobs_len,
+                        const uint32_t *warm, size_t warm_len, const uint32_t *cool, size_t cool_len,
+                        const uint32_t *life, size_t life_len);
+
+/* planned: every job has a rig, and out begins with them; else job is the first that finds none, and out is as it
+   was. */
+typedef struct {
+    uint32_t number;
+    bool planned;
+    size_t job;
+} pj_plan;
+
+pj_plan pj_plan_day(const uint32_t *starts, size_t starts_len, const uint32_t *lengths, size_t lengths_len,
+                    const uint8_t *allowed, size_t allowed_len, const uint32_t *warm, size_t warm_len,
+                    const uint32_t *cool, size_t cool_len, const uint32_t *life, size_t life_len,
+                    uint8_t *out, size_t out_len);
+
 /* The layout that the archive has. */
 CEILING_IS(sizeof(bool) == 1 && sizeof(size_t) == 8);
 CEILING_IS(sizeof(pj_text) == 72 && offsetof(pj_text, bytes) == 8);
@@ -261,6 +297,9 @@ CEILING_IS(sizeof(pj_reading) == 184 && offsetof(pj_reading, kind) == 4 && offse
 CEILING_IS(offsetof(pj_reading, second) == 6 && offsetof(pj_reading, count) == 8 && offsetof(pj_reading, hours) == 16);
 CEILING_IS(offsetof(pj_reading, lit) == 48 && offsetof(pj_reading, inputs) == 56 && offsetof(pj_reading, text) == 120);
 CEILING_IS(sizeof(pj_compared) == 16 && offsetof(pj_compared, backwards) == 4 && offsetof(pj_compared, place) == 8);
+CEILING_IS(sizeof(pj_verdict) == 24 && offsetof(pj_verdict, rule) == 4 && offsetof(pj_verdict, first) == 8);
+CEILING_IS(offsetof(pj_verdict, second) == 16);
+CEILING_IS(sizeof(pj_plan) == 16 && offsetof(pj_plan, planned) == 4 && offsetof(pj_plan, job) == 8);
 
 #ifdef __cplusplus
 }

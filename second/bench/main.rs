@@ -3,6 +3,8 @@
 //!
 //! docs/PERFORMANCE.md says how to run it and what was seen.
 
+#[cfg(all(board = "linked", day))]
+mod day;
 #[cfg(board = "linked")]
 mod measure;
 #[cfg(board = "linked")]

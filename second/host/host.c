@@ -11,7 +11,7 @@
 /* A call in, an answer out. */
 
 static uint8_t call[1 << 23], answer[1 << 16]; /* a message of megabytes, the largest answer */
-static uint32_t words[2][1 << 10];             /* lists of larger numbers are aligned */
+static uint32_t words[5][1 << 10];             /* lists of larger numbers are aligned */
 static int64_t differences[1 << 10];
 static size_t at, end;
 
@@ -208,6 +208,30 @@ static void compare_lamps(void) {
     put(differences, n * sizeof *differences);
 }
 
+#ifdef DAY /* the header declares both */
+static void cutting_day(bool planned) {
+    size_t starts = get_words(words[0]), lengths = get_words(words[1]);
+    slice allowed = get_slice();
+    size_t warm = get_words(words[2]), cool = get_words(words[3]), life = get_words(words[4]);
+    slice rigs = get_slice();
+    if (planned) {
+        pj_plan p = pj_plan_day(words[0], starts, words[1], lengths, allowed.at, allowed.n, words[2], warm, words[3],
+                                cool, words[4], life, rigs.at, rigs.n);
+        PUT(p.number);
+        PUT(p.planned);
+        PUT(p.job);
+        put_slice(rigs);
+    } else {
+        pj_verdict v = pj_check_day(words[0], starts, words[1], lengths, allowed.at, allowed.n, rigs.at, rigs.n,
+                                    words[2], warm, words[3], cool, words[4], life);
+        PUT(v.number);
+        PUT(v.rule);
+        PUT(v.first);
+        PUT(v.second);
+    }
+}
+#endif
+
 static void make_call(void) {
     pj_device d = get_device();
     uint8_t which;
@@ -227,6 +251,10 @@ static void make_call(void) {
     case 11: read_greeting(); break;
     case 12: read_reply(); break;
     case 13: compare_lamps(); break;
+#ifdef DAY
+    case 14: cutting_day(false); break;
+    case 15: cutting_day(true); break;
+#endif
     default: exit(EXIT_FAILURE);
     }
 }

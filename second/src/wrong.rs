@@ -84,6 +84,7 @@ mod tests {
             ("pj_read_greeting", "!10"),
             ("pj_read_reply", "!3 !10 !11 !12"),
             ("pj_compare_lamps", "!3 none back"),
+            ("pj_plan_day", "!3 planned unplanned"),
         ] {
             for kind in kinds.split(' ') {
                 assert!(run.met.times(call, kind) >= 100, "{call} {kind}: {}", run.met.times(call, kind));
@@ -91,6 +92,7 @@ mod tests {
         }
         let of_kind = |call, kind: usize| run.met.times(call, &format!("kind {kind}"));
         (1..=3).for_each(|kind| assert!(of_kind("pj_read_greeting", kind) >= 100, "greeting {kind}"));
+        (0..=4).for_each(|rule| assert!(run.met.times("pj_check_day", &format!("rule {rule}")) >= 100, "rule {rule}"));
         (1..=11).for_each(|kind| assert!(of_kind("pj_read_reply", kind) >= 100, "reading {kind}"));
         ["PJLINK 0", "PJLINK 1"].iter().for_each(|greeting| assert!(run.met.times("pj_open", greeting) >= 100));
         assert!(run.met.times("pj_receive", "PJLINK E") >= 100);

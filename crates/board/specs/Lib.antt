@@ -1,3 +1,4 @@
 pub mod Commands
 pub mod Readings
 pub mod Face
+pub mod Days

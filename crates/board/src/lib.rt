@@ -1,5 +1,6 @@
 // The face that a host links, in C (include/ceiling.h): thin calls over the proved crates, none with a precondition.
 pub mod codes;
+pub mod days;
 pub mod lamps;
 mod lists;
 pub mod projector;

@@ -26,6 +26,7 @@ pub fn act(random: &mut Random, device: &Device) -> Act {
         return Act::Open { random: any_random(random), lent: random.reply_memory(136) };
     }
     match random.below(32) {
+        _ if device.connection.phase == 0 && random.one_in(16) => Act::Close,
         0 => Act::Open { random: any_random(random), lent: random.reply_memory(136) },
         1 => Act::Close,
         2 => Act::SetFault { mark: random.one_in(2) },

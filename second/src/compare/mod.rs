@@ -1,5 +1,6 @@
 //! The comparison: the same calls on the same inputs in both programs, every number, count, record field and lent byte.
 
+pub mod days;
 pub mod histories;
 pub mod lines;
 pub mod messages;
@@ -22,7 +23,7 @@ use tally::Tally;
 type Compared = Result<(), Box<Difference>>;
 
 /// A run has at least so many comparisons.
-pub const ENOUGH: usize = 200_000;
+pub const ENOUGH: usize = 220_000;
 
 /// Calls from a record on, each lent the record that the last one returned; a call that returns none hands its own on.
 #[derive(Clone, PartialEq, Eq, Debug)]
@@ -157,6 +158,13 @@ impl<'a, B: Side> Run<'a, B> {
             self.compare_call(Device::BLANK, act)?;
             let act = tables::compare_lamps(&mut self.random);
             self.compare_call(Device::BLANK, act)?;
+            // Where the header declares them; the generators' own tests need no archive.
+            if cfg!(any(day, test)) {
+                let act = days::check_day(&mut self.random);
+                self.compare_call(Device::BLANK, act)?;
+                let act = days::plan_day(&mut self.random);
+                self.compare_call(Device::BLANK, act)?;
+            }
         }
         for _ in 0..24 {
             let device = records::between_lines(&mut self.random);

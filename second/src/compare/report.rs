@@ -81,5 +81,7 @@ fn call(act: &Act) -> String {
         Act::CompareLamps { earlier, later, lent } => {
             format!("pj_compare_lamps({earlier:?}, {later:?}, {} places)", lent.len())
         }
+        Act::CheckDay { day, rigs } => format!("pj_check_day({day:?}, rigs {rigs:?})"),
+        Act::PlanDay { day, lent } => format!("pj_plan_day({day:?}, {})", memory(lent)),
     }
 }

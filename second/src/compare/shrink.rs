@@ -1,6 +1,6 @@
 //! From a case on which the two programs differ to the smallest that still shows it.
 
-use super::{Case, tables};
+use super::{Case, days, tables};
 use crate::face::wire::Wire;
 use crate::face::{Act, Command, Device, Lent};
 
@@ -147,6 +147,12 @@ fn simpler(act: &Act) -> Vec<Act> {
             commands.chain(simpler_bytes(line).map(|line| Act::ReadReply { command: *command, line })).collect()
         }
         Act::CompareLamps { earlier, later, lent } => tables::simpler(earlier, later, lent),
+        Act::CheckDay { day, rigs } => {
+            days::simpler(day, rigs).into_iter().map(|(day, rigs)| Act::CheckDay { day, rigs }).collect()
+        }
+        Act::PlanDay { day, lent } => {
+            days::simpler(day, lent).into_iter().map(|(day, lent)| Act::PlanDay { day, lent }).collect()
+        }
         Act::Close | Act::SetFault { .. } | Act::Legal => Vec::new(),
     }
 }

@@ -4,7 +4,7 @@ use super::random::Random;
 use super::shrink::{lower_at, shorter};
 use crate::face::Act;
 
-/// Two months: most lamps burn on or rest, a few go backwards. At times a table, or the result list, has another length.
+/// Two months: most lamps burn on or rest, a few go backwards. At times a table or the result list has another length.
 pub fn compare_lamps(random: &mut Random) -> Act {
     let places = match random.below(24) {
         0 => 65,

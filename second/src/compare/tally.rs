@@ -51,6 +51,8 @@ fn call(act: &Act) -> &'static str {
         Act::ReadGreeting { .. } => "pj_read_greeting",
         Act::ReadReply { .. } => "pj_read_reply",
         Act::CompareLamps { .. } => "pj_compare_lamps",
+        Act::CheckDay { .. } => "pj_check_day",
+        Act::PlanDay { .. } => "pj_plan_day",
     }
 }
 
@@ -66,6 +68,8 @@ fn kind(answer: &Answer) -> String {
         Answer::Greeting(greeting) => refusal_or(greeting.number, &format!("kind {}", greeting.kind)),
         Answer::Reading(reading) => refusal_or(reading.number, &format!("kind {}", reading.kind)),
         Answer::Compared(compared, _) => refusal_or(compared.number, if compared.backwards { "back" } else { "none" }),
+        Answer::Verdict(verdict) => refusal_or(verdict.number, &format!("rule {}", verdict.rule)),
+        Answer::Plan(plan, _) => refusal_or(plan.number, if plan.planned { "planned" } else { "unplanned" }),
     }
 }
 

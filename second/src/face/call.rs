@@ -1,6 +1,8 @@
 //! A call of the face with what it is lent, and all that it gives: the same two for both programs.
 
-use super::{Changed, Command, Compared, Device, Digest, Greeting, Opened, Reading, Received, Written};
+use super::{
+    Changed, Command, Compared, Day, Device, Digest, Greeting, Opened, Plan, Reading, Received, Verdict, Written,
+};
 
 /// A call, all but the record that some of them are lent. `lent` is the reply memory with what it holds beforehand.
 #[derive(Clone, PartialEq, Eq, Debug)]
@@ -56,6 +58,14 @@ pub enum Act {
         later: Vec<u32>,
         lent: Vec<i64>,
     },
+    CheckDay {
+        day: Day,
+        rigs: Vec<u8>,
+    },
+    PlanDay {
+        day: Day,
+        lent: Vec<u8>,
+    },
 }
 
 /// What a set-up is lent.
@@ -86,6 +96,8 @@ pub enum Answer {
     Greeting(Greeting),
     Reading(Reading),
     Compared(Compared, Vec<i64>),
+    Verdict(Verdict),
+    Plan(Plan, Vec<u8>),
 }
 
 impl Answer {

@@ -2,8 +2,8 @@
 
 use super::wire::Wire;
 use super::{
-    Answer, Changed, Command, Compared, Connection, Device, Digest, Greeting, Line, Opened, Own, Reading, Received,
-    Settings, Text, Written,
+    Answer, Changed, Command, Compared, Connection, Device, Digest, Greeting, Line, Opened, Own, Plan, Reading,
+    Received, Settings, Text, Verdict, Written,
 };
 
 /// A value's fields, as (path, value) in their order.
@@ -54,6 +54,8 @@ records! {
     Greeting { number, kind, random }
     Reading { number, kind, first, second, count, hours, lit, inputs, text }
     Compared { number, backwards, place }
+    Verdict { number, rule, first, second }
+    Plan { number, planned, job }
 }
 
 fn joined(path: &str, field: &str) -> String {
@@ -136,6 +138,11 @@ impl Fields for Answer {
             Answer::Compared(compared, places) => {
                 compared.list(path, into);
                 into.push(("lent places".into(), format!("{places:?}")));
+            }
+            Answer::Verdict(verdict) => verdict.list(path, into),
+            Answer::Plan(plan, rigs) => {
+                plan.list(path, into);
+                into.push(("lent places".into(), format!("{rigs:?}")));
             }
         }
     }

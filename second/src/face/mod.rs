@@ -9,13 +9,15 @@ mod service;
 pub mod wire;
 
 pub use call::{Act, Answer, Lent, Side};
-pub use service::Compared;
+pub use service::{Compared, Day, Plan, Verdict};
 
 #[cfg(board = "apart")]
 mod apart;
 #[cfg(board = "apart")]
 pub use apart::Board;
 
+#[cfg(all(board = "linked", day))]
+pub mod days;
 #[cfg(board = "linked")]
 pub mod linked;
 #[cfg(board = "linked")]

@@ -1,17 +1,11 @@
 //! How calls and answers go to a process and back: every field in its order, numbers with their lowest byte first, a
 //! `size_t` as eight bytes, a slice after its length. `host/host.c` is the other end.
 
-use super::{Act, Answer};
+use super::{Act, Answer, Day};
 
 pub trait Wire {
     fn put(&self, out: &mut Vec<u8>);
     fn get(from: &mut &[u8]) -> Self;
-}
-
-fn taken<'a>(from: &mut &'a [u8], length: usize) -> &'a [u8] {
-    let (part, rest) = from.split_at(length);
-    *from = rest;
-    part
 }
 
 impl Wire for u8 {
@@ -20,7 +14,9 @@ impl Wire for u8 {
     }
 
     fn get(from: &mut &[u8]) -> u8 {
-        taken(from, 1)[0]
+        let (&first, rest) = from.split_first().expect("one more byte");
+        *from = rest;
+        first
     }
 }
 
@@ -64,33 +60,13 @@ impl Wire for i64 {
     }
 }
 
-impl<const N: usize> Wire for [u8; N] {
+impl<T: Wire, const N: usize> Wire for [T; N] {
     fn put(&self, out: &mut Vec<u8>) {
-        out.extend_from_slice(self);
+        self.iter().for_each(|item| item.put(out));
     }
 
-    fn get(from: &mut &[u8]) -> [u8; N] {
-        taken(from, N).try_into().unwrap()
-    }
-}
-
-impl Wire for [u32; 8] {
-    fn put(&self, out: &mut Vec<u8>) {
-        self.iter().for_each(|number| number.put(out));
-    }
-
-    fn get(from: &mut &[u8]) -> [u32; 8] {
-        std::array::from_fn(|_| u32::get(from))
-    }
-}
-
-impl Wire for [bool; 8] {
-    fn put(&self, out: &mut Vec<u8>) {
-        self.iter().for_each(|mark| mark.put(out));
-    }
-
-    fn get(from: &mut &[u8]) -> [bool; 8] {
-        std::array::from_fn(|_| bool::get(from))
+    fn get(from: &mut &[u8]) -> [T; N] {
+        std::array::from_fn(|_| T::get(from))
     }
 }
 
@@ -174,7 +150,26 @@ pub fn put_act(act: &Act, out: &mut Vec<u8>) {
             later.put(out);
             lent.put(out);
         }
+        Act::CheckDay { day, rigs } => {
+            14u8.put(out);
+            put_day(day, out);
+            rigs.put(out);
+        }
+        Act::PlanDay { day, lent } => {
+            15u8.put(out);
+            put_day(day, out);
+            lent.put(out);
+        }
     }
+}
+
+fn put_day(day: &Day, out: &mut Vec<u8>) {
+    day.starts.put(out);
+    day.lengths.put(out);
+    day.allowed.put(out);
+    day.warm.put(out);
+    day.cool.put(out);
+    day.life.put(out);
 }
 
 /// The answer to this call.
@@ -195,5 +190,7 @@ pub fn get_answer(act: &Act, from: &mut &[u8]) -> Answer {
         Act::ReadGreeting { .. } => Answer::Greeting(Wire::get(from)),
         Act::ReadReply { .. } => Answer::Reading(Wire::get(from)),
         Act::CompareLamps { .. } => Answer::Compared(Wire::get(from), Wire::get(from)),
+        Act::CheckDay { .. } => Answer::Verdict(Wire::get(from)),
+        Act::PlanDay { .. } => Answer::Plan(Wire::get(from), Wire::get(from)),
     }
 }

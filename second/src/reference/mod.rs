@@ -1,7 +1,7 @@
 //! Document 01's rules and 02's changes, written plainly. Every rule has the document's words beside it.
 //!
-//! `calls` has the calls that a host makes, with the numbers they give, and `service` (L10) one that 02 adds; the other
-//! files have what they mean.
+//! `calls` has the calls that a host makes, with the numbers they give; `service` (L10) and `days` (L12) those that 02
+//! adds; the other files have what they mean.
 //! `rules` holds the deliberate mistakes that `second wrong` switches on, one at a time; none is on otherwise.
 
 pub mod calls;
@@ -9,6 +9,7 @@ pub mod clock;
 pub mod commands;
 pub mod connection;
 pub mod controller;
+pub mod days;
 pub mod flatten;
 pub mod md5;
 pub mod record;

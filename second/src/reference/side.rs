@@ -1,6 +1,6 @@
 //! The second program as one of the two that are compared.
 
-use super::{calls, service};
+use super::{calls, days, service};
 use crate::face::{Act, Answer, Device, Side};
 
 pub struct Second;
@@ -37,6 +37,11 @@ impl Side for Second {
             Act::CompareLamps { earlier, later, lent } => {
                 let mut out = lent.clone();
                 Answer::Compared(service::compare_lamps(earlier, later, &mut out), out)
+            }
+            Act::CheckDay { day, rigs } => Answer::Verdict(days::check_day(day, rigs)),
+            Act::PlanDay { day, lent } => {
+                let mut out = lent.clone();
+                Answer::Plan(days::plan_day(day, &mut out), out)
             }
         }
     }

@@ -1,0 +1,10 @@
+pub mod Finding
+pub mod Bits
+pub mod Judged
+pub mod Ranges
+pub mod Kept
+pub mod Joining
+pub mod Placing
+pub mod Keeping
+pub mod OneGreedy
+pub mod PlansGreedily
