@@ -5,7 +5,7 @@ use Prim.Native.Char.{Char, code}
 use mathlib.Core.Path.{_≡_, refl, sym, ap, _∙_}
 use mathlib.Core.Bool.{Bool, true, false, not}
 use mathlib.Core.List.{List, [], _∷_, _++_}
-use native.Mathlib.Nat.{pow-suc}
+use native.Mathlib.Nat.{pow-suc, pow-le-pow-right, suc-add, zero-add}
 use native.Mathlib.Omega.{arith}
 use lib.ListN.{length, getD, length-append}
 use lib.Dec.{ltb, leb}
@@ -14,7 +14,7 @@ use Rattle.text.specs.Words.{if_then_else_, _is_}
 use Rattle.text.specs.Scans.{every}
 use Rattle.text.proofs.Choices.{if-by, both, both-left, both-right}
 use Rattle.text.proofs.Scanning.{every-append, every-at}
-use Rattle.numbers.specs.Decimal.{digitOf, digitsIn, digits, isDigit}
+use Rattle.numbers.specs.Decimal.{digitOf, digitsIn, digits, longDigits, isDigit}
 
 -- one quotient more to take changes nothing
 room : (k n : ℕ) → n < 10 ^ suc k → digitsIn (suc k) n ≡ digitsIn k n
@@ -23,20 +23,46 @@ room (suc k) n h =
     ap (λ (l : List ℕ). if ltb n 10 then digitOf n ∷ [] else l ++ (digitOf n ∷ []))
     (room k (n / 10) (omega (arith, pow-suc 10 (suc k))))
 
+more-room : (j k n : ℕ) → n < 10 ^ suc k → digitsIn (j + k) n ≡ digitsIn k n
+more-room zero k n h = ap (λ (m : ℕ). digitsIn m n) (zero-add k)
+more-room (suc j) k n h =
+    ap (λ (m : ℕ). digitsIn m n) (suc-add j k)
+    ∙ room (j + k) n (omega (arith, pow-le-pow-right {n = 10} (omega arith) {i = suc k} {j = suc (j + k)} (omega arith)))
+    ∙ more-room j k n h
+
+-- a u32 is a u64
+pub digits-long : (n : ℕ) → n < 2 ^ 32 → digits n ≡ longDigits n
+unfolding digits longDigits
+digits-long n f = sym (more-room 10 9 n (omega arith))
+
+-- by the quotient and the last digit
+low-in : (k n : ℕ) → n < 10 → digitsIn (suc k) n ≡ digitOf n ∷ []
+low-in k n h = simp (lt-ltb n 10 h)
+
+high-in : (k n : ℕ) → 10 ≤ n → n / 10 < 10 ^ suc k → digitsIn (suc k) n ≡ digitsIn (suc k) (n / 10) ++ (digitOf n ∷ [])
+high-in k n h f = simp (le-ltb n 10 h) (ap (λ (l : List ℕ). l ++ (digitOf n ∷ [])) (sym (room k (n / 10) f)))
+
 pub digits-low : (n : ℕ) → n < 10 → digits n ≡ digitOf n ∷ []
 unfolding digits
-digits-low n h = simp (lt-ltb n 10 h)
+digits-low n h = low-in 8 n h
 
 pub digits-high : (n : ℕ) → 10 ≤ n → n < 2 ^ 32 → digits n ≡ digits (n / 10) ++ (digitOf n ∷ [])
 unfolding digits
-digits-high n h f =
-    simp (le-ltb n 10 h) (ap (λ (l : List ℕ). l ++ (digitOf n ∷ [])) (sym (room 8 (n / 10) (omega arith))))
+digits-high n h f = high-in 8 n h (omega arith)
 
-pub length-low : (n : ℕ) → n < 10 → length (digits n) ≡ 1
-length-low n h = ap length (digits-low n h)
+pub long-low : (n : ℕ) → n < 10 → longDigits n ≡ digitOf n ∷ []
+unfolding longDigits
+long-low n h = low-in 18 n h
 
-pub length-high : (n : ℕ) → 10 ≤ n → n < 2 ^ 32 → length (digits n) ≡ length (digits (n / 10)) + 1
-length-high n h f = ap length (digits-high n h f) ∙ length-append (digits (n / 10)) (digitOf n ∷ [])
+pub long-high : (n : ℕ) → 10 ≤ n → n < 2 ^ 64 → longDigits n ≡ longDigits (n / 10) ++ (digitOf n ∷ [])
+unfolding longDigits
+long-high n h f = high-in 18 n h (omega arith)
+
+pub long-length-low : (n : ℕ) → n < 10 → length (longDigits n) ≡ 1
+long-length-low n h = ap length (long-low n h)
+
+pub long-length-high : (n : ℕ) → 10 ≤ n → n < 2 ^ 64 → length (longDigits n) ≡ length (longDigits (n / 10)) + 1
+long-length-high n h f = ap length (long-high n h f) ∙ length-append (longDigits (n / 10)) (digitOf n ∷ [])
 
 -- the one induction: P of how many quotients may be taken, a number, and its digits
 module _
@@ -88,6 +114,14 @@ digits-at-least-1 n = lengths-in 9 n .0
 pub digits-at-most-10 : (n : ℕ) → length (digits n) ≤ 10
 unfolding digits
 digits-at-most-10 n = lengths-in 9 n .1
+
+pub long-at-least-1 : (n : ℕ) → 1 ≤ length (longDigits n)
+unfolding longDigits
+long-at-least-1 n = lengths-in 19 n .0
+
+pub long-at-most-20 : (n : ℕ) → length (longDigits n) ≤ 20
+unfolding longDigits
+long-at-most-20 n = lengths-in 19 n .1
 
 -- as many digits as the power of ten above the number
 pub digits-at-most : (k n : ℕ) → n < 2 ^ 32 → n < 10 ^ suc k → length (digits n) ≤ suc k

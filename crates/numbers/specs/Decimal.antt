@@ -3,6 +3,7 @@
 -- Document 01, "Controller": "hours 0 to 99999 with no leading zero".
 --   digitOf n           the last digit of n, as a character
 --   digits n            all digits of the u32 n, most significant first; a number below ten has one
+--   longDigits n        the same of a u64: the number of a line in a log may be larger than a u32
 --   digitsIn k n        the same, where at most k quotients by ten are taken
 --   isDigit b           the byte b is a digit
 --   hasLeadingZero s    s goes on after a zero: the one place of the rule on leading zeros
@@ -32,6 +33,10 @@ digitsIn (suc k) n = if ltb n 10 then digitOf n ∷ [] else digitsIn k (n / 10) 
 -- a u32 has at most ten digits
 unfoldable pub digits : ℕ → List ℕ
 digits n = digitsIn 9 n
+
+-- a u64 has at most twenty
+unfoldable pub longDigits : ℕ → List ℕ
+longDigits n = digitsIn 19 n
 
 abbrev pub isDigit : ℕ → Bool
 isDigit b = b from "0" to "9"

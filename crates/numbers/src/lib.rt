@@ -3,24 +3,33 @@ ghost use mathlib.Core.Path.{_≡_};
 ghost use Prim.Native.Nat.{_+_, _≤_};
 ghost use lib.ListN.{length};
 ghost use lib.Seq.{sets};
-ghost use Rattle.numbers.specs.Decimal.{digits, isDigit, hasLeadingZero, readDigits, readNumber, mostDigits};
+ghost use Rattle.numbers.specs.Decimal.{digits, longDigits, isDigit, hasLeadingZero, readDigits, readNumber, mostDigits};
 
 const MOST_DIGITS: usize = 5;
 
 // The digits of n into out, from the place `at` on; the place after them.
-pub fn put_number(out: &mut [u8], at: usize, n: u32) -> usize
-    requires { ⌜ at + length (digits n) ≤ length (now out) ⌝ }
-    ensures count { λ r. ⌜ r ≡ at + length (digits n) ⌝ }
-    ensures bytes { λ r. ⌜ now (out .exit) ≡ sets (now (out .entry)) at (digits n) ⌝ }
+pub fn put_long(out: &mut [u8], at: usize, n: u64) -> usize
+    requires { ⌜ at + length (longDigits n) ≤ length (now out) ⌝ }
+    ensures count { λ r. ⌜ r ≡ at + length (longDigits n) ⌝ }
+    ensures bytes { λ r. ⌜ now (out .exit) ≡ sets (now (out .entry)) at (longDigits n) ⌝ }
 {
     if n < 10 {
         out[at] = b'0' + (n % 10) as u8;
         at + 1
     } else {
-        let p = put_number(out, at, n / 10);
+        let p = put_long(out, at, n / 10);
         out[p] = b'0' + (n % 10) as u8;
         p + 1
     }
+}
+
+// The same for a u32.
+pub fn put_number(out: &mut [u8], at: usize, n: u32) -> usize
+    requires { ⌜ at + length (digits n) ≤ length (now out) ⌝ }
+    ensures count { λ r. ⌜ r ≡ at + length (digits n) ⌝ }
+    ensures bytes { λ r. ⌜ now (out .exit) ≡ sets (now (out .entry)) at (digits n) ⌝ }
+{
+    put_long(out, at, n as u64)
 }
 
 pub enum Number {

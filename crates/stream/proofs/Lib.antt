@@ -7,3 +7,4 @@ pub mod LinesCollected
 pub mod LegalLines
 pub mod LinesSpelt
 pub mod LastBytes
+pub mod HandedOn

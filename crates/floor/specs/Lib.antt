@@ -1,0 +1,6 @@
+pub mod Lines
+pub mod Events
+pub mod Playing
+pub mod Reading
+pub mod Told
+pub mod Calls

@@ -1,0 +1,66 @@
+-- What a line of a log says (02, L1: "one event a line").
+--   lineMost            the most bytes of a line, without its LF
+--   valueIn base worth v s     the number whose digits are those of v, then s
+--   l starts "O"        the line has that letter, a space and perhaps more
+--   randomSaid s        `O`: s is eight lowercase hex digits, the random number
+--   secondsSaid s       `T`: s is one to ten decimal digits of a number of seconds, at most 4,294,967,295
+--   formSaid l          which of the four forms l has
+--   lineSaid l          the same, for a line that has at most `lineMost` bytes and no CR in it; else no such form
+-- Assumes nothing.
+use Prim.Native.Nat.{ℕ, _+_, _-_, _*_}
+use Prim.Native.Char.{Char, code}
+use mathlib.Core.Bool.{Bool, _&&_}
+use mathlib.Core.List.{List, [], _∷_}
+use lib.ListN.{length, drop}
+use lib.Dec.{leb, eqb}
+use Rattle.text.specs.Words.{if_then_else_, _is_, _from_to_}
+use Rattle.text.specs.Scans.{every}
+use Rattle.numbers.specs.Decimal.{isDigit}
+use Rattle.digest.specs.Hex.{isHexDigit}
+use Rattle.lines.specs.Bytes.{_at_, noCr}
+use Rattle.clock.specs.Passing.{secondsMost}
+use Rattle.floor.specs.declared.line.Says.{Says}
+use Rattle.floor.specs.declared.line.Says.the-variants.{Opens, Receives, Passes, Closes, NoSuch}
+
+infix 40 _starts_
+abbrev pub lineMost : ℕ
+lineMost = 4096
+
+abbrev pub valueIn : ℕ → (ℕ → ℕ) → ℕ → List ℕ → ℕ
+valueIn base worth v [] = v
+valueIn base worth v (b ∷ s) = valueIn base worth (v * base + worth b) s
+
+abbrev pub decimalWorth : ℕ → ℕ
+decimalWorth b = b - code "0"
+
+abbrev pub hexWorth : ℕ → ℕ
+hexWorth b = if b from "0" to "9" then b - code "0" else b - code "a" + 10
+
+abbrev pub randomOf : List ℕ → ℕ
+randomOf s = valueIn 16 hexWorth 0 s
+
+unfoldable pub randomSaid : List ℕ → Says
+randomSaid s = if eqb (length s) 8 && every isHexDigit s then Opens (randomOf s) else NoSuch
+
+abbrev pub secondsOf : List ℕ → ℕ
+secondsOf s = valueIn 10 decimalWorth 0 s
+
+unfoldable pub secondsSaid : List ℕ → Says
+secondsSaid s =
+    if leb 1 (length s) && leb (length s) 10 && every isDigit s && leb (secondsOf s) secondsMost
+    then Passes (secondsOf s)
+    else NoSuch
+
+abbrev pub _starts_ : List ℕ → Char → Bool
+l starts c = leb 2 (length l) && l at 1 is " " && l at 0 is c
+
+unfoldable pub formSaid : List ℕ → Says
+formSaid l =
+    if eqb (length l) 1 && l at 0 is "X" then Closes
+    else if l starts "O" then randomSaid (drop 2 l)
+    else if l starts "R" then Receives
+    else if l starts "T" then secondsSaid (drop 2 l)
+    else NoSuch
+
+unfoldable pub lineSaid : List ℕ → Says
+lineSaid l = if leb (length l) lineMost && noCr l then formSaid l else NoSuch

@@ -1,0 +1,146 @@
+// One event: what it does, and what is printed for it.
+use crate::line::Says;
+use device::calls;
+use record::types::Device;
+ghost use mathlib.Core.Path.{_≡_};
+ghost use mathlib.Core.Bool.{Bool};
+ghost use Prim.Native.Nat.{ℕ, _+_, _-_, _^_, _≤_, _<_};
+ghost use lib.ListN.{length};
+ghost use lib.Seq.{sets};
+ghost use Rattle.text.specs.Words.{over};
+ghost use Rattle.device.specs.Calls.{replyRoom};
+ghost use Rattle.floor.specs.Events.{eventOf};
+ghost use Rattle.floor.specs.Playing.{did, printed};
+ghost use Rattle.floor.specs.Reading.{printRoom};
+ghost use Rattle.floor.specs.Told.{isFormed, ending, calledOf, printedOf};
+
+// What a call gave: its number, the length of its reply, the record.
+pub struct Called {
+    pub number: u32,
+    pub length: usize,
+    pub device: Device,
+}
+
+// What is left of a line: the length of what was printed, the record.
+pub struct Printed {
+    pub length: usize,
+    pub device: Device,
+}
+
+// The event that a line says; a text is lent with its CR.
+fn call(d: Device, says: Says, bytes: &[u8], out: &mut [u8]) -> Called
+    requires { ⌜ replyRoom ≤ length (now out) ⌝ }
+    ensures { λ r. ⌜ r ≡ calledOf (did d (eventOf says (now (bytes .entry)))) ⌝ }
+    ensures { λ _. ⌜ now (out .exit) ≡ over (did d (eventOf says (now (bytes .entry))) .reply) (now (out .entry)) ⌝ }
+{
+    match says {
+        Says::Opens(random) => {
+            let opened = calls::open(d, random, out);
+            let device = opened.device;
+            Called {
+                number: opened.number,
+                length: opened.length,
+                device,
+            }
+        }
+        Says::Receives => {
+            let received = calls::receive(d, bytes, out);
+            let device = received.device;
+            Called {
+                number: received.number,
+                length: received.length,
+                device,
+            }
+        }
+        Says::Passes(seconds) => {
+            let passed = clock::pass::pass(d, seconds);
+            let device = passed.device;
+            Called {
+                number: passed.number,
+                length: 0,
+                device,
+            }
+        }
+        Says::Closes => {
+            let closed = calls::close(d);
+            let device = closed.device;
+            Called {
+                number: closed.number,
+                length: 0,
+                device,
+            }
+        }
+        Says::NoSuch => Called {
+            number: 0,
+            length: 0,
+            device: d,
+        },
+    }
+}
+
+fn is_formed(says: Says) -> bool
+    ensures { λ r. ⌜ r ≡ isFormed says ⌝ }
+{
+    match says {
+        Says::Opens(_) => true,
+        Says::Receives => true,
+        Says::Passes(_) => true,
+        Says::Closes => true,
+        Says::NoSuch => false,
+    }
+}
+
+// The end of a printed line, from the place of the reply's last byte on, or of the missing reply's; the place after it.
+fn put_ending(out: &mut [u8], at: usize, formed: bool, number: u32, replied: usize) -> usize
+    requires { ⌜ at + length (ending formed number replied) ≤ length (now out) ⌝ }
+    ensures { λ r. ⌜ r ≡ at + length (ending formed number replied) ⌝ }
+    ensures { λ _. ⌜ now (out .exit) ≡ sets (now (out .entry)) at (ending formed number replied) ⌝ }
+{
+    if !formed {
+        text::put(out, at, b"?\n");
+        return at + 2;
+    }
+    if number != 0 {
+        text::put(out, at, b"! ");
+        let after = numbers::put_number(out, at + 2, number);
+        text::put(out, after, b"\n");
+        return after + 1;
+    }
+    if replied == 0 {
+        text::put(out, at, b"-\n");
+        return at + 2;
+    }
+    text::put(out, at, b"\n");
+    at + 1
+}
+
+// The place of a reply's last byte, its CR; of no reply, where it would have begun.
+fn last_place(at: usize, replied: usize) -> usize
+    requires { ⌜ at + replied < 2 ^ 64 ⌝ }
+    ensures { λ r. ⌜ r ≡ at + (replied - 1) ⌝ }
+{
+    if replied == 0 {
+        return at;
+    }
+    at + (replied - 1)
+}
+
+// A line's event, and its printed line from the start of the lent memory.
+pub fn print(d: Device, number: u64, says: Says, bytes: &[u8], out: &mut [u8]) -> Printed
+    requires { ⌜ printRoom ≤ length (now out) ⌝ }
+    ensures { λ r. ⌜ r ≡ printedOf number d (eventOf says (now (bytes .entry))) ⌝ }
+    ensures { λ _. ⌜ now (out .exit) ≡ over (printed number (eventOf says (now (bytes .entry)))
+        (did d (eventOf says (now (bytes .entry))))) (now (out .entry)) ⌝ }
+{
+    let space = numbers::put_long(out, 0, number);
+    text::put(out, space, b" ");
+    let at = space + 1;
+    let called = call(d, says, bytes, &mut out[at..]);
+    let last = last_place(at, called.length);
+    let end = put_ending(out, last, is_formed(says), called.number, called.length);
+    let device = called.device;
+    Printed {
+        length: end,
+        device,
+    }
+}

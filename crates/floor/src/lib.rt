@@ -1,0 +1,6 @@
+// The floor log played back (02, L1).
+pub mod event;
+pub mod gather;
+pub mod last;
+pub mod line;
+pub mod replay;
