@@ -1,30 +1,21 @@
 //! Finds `libboard.a` (`rt staticlib board` writes it to target/staticlib) and says how it is reached. The archive is
 //! for x86-64: there it is linked. On another processor a small host in C links it, built by a cross compiler, and the
-//! toolchain's emulator runs that. The calls on a cutting day (02, L12) are made where `include/ceiling.h` declares them.
+//! toolchain's emulator runs that.
 //!
 //! BOARD_ARCHIVE names another archive; BOARD_NATIVE one for the processor at hand, which is linked (bench/native.sh
 //! makes one to measure); BOARD_CC another cross compiler; BOARD_EMULATOR another emulator.
 
 use std::env;
-use std::fs;
 use std::path::{Path, PathBuf};
 use std::process::Command;
 
 fn main() {
     println!("cargo:rustc-check-cfg=cfg(board, values(\"linked\", \"apart\", \"missing\"))");
-    println!("cargo:rustc-check-cfg=cfg(day)");
     for variable in ["BOARD_ARCHIVE", "BOARD_NATIVE", "BOARD_CC", "BOARD_EMULATOR"] {
         println!("cargo:rerun-if-env-changed={variable}");
     }
     let here = PathBuf::from(env::var_os("CARGO_MANIFEST_DIR").unwrap());
     let root = here.parent().expect("second/ stands in the repository");
-    let header = root.join("include/ceiling.h");
-    println!("cargo:rerun-if-changed={}", header.display());
-    let declared = fs::read_to_string(&header).unwrap_or_else(|error| panic!("{}: {error}", header.display()));
-    let day = declared.contains("pj_check_day(");
-    if day {
-        println!("cargo:rustc-cfg=day");
-    }
     let native = env::var_os("BOARD_NATIVE");
     let archive = match native.clone().or_else(|| env::var_os("BOARD_ARCHIVE")) {
         Some(path) => PathBuf::from(path),
@@ -43,7 +34,7 @@ fn main() {
         println!("cargo:rustc-link-search=native={}", archive.parent().unwrap().display());
         println!("cargo:rustc-cfg=board=\"linked\"");
     } else {
-        host_apart(&here, root, &archive, day);
+        host_apart(&here, root, &archive);
         println!("cargo:rustc-cfg=board=\"apart\"");
     }
 }
@@ -58,15 +49,14 @@ fn plain_md5(here: &Path) {
     println!("cargo:rustc-link-arg-bin=bench={}", object.display());
 }
 
-fn host_apart(here: &Path, root: &Path, archive: &Path, day: bool) {
+fn host_apart(here: &Path, root: &Path, archive: &Path) {
     let source = here.join("host/host.c");
     println!("cargo:rerun-if-changed={}", source.display());
+    println!("cargo:rerun-if-changed={}", root.join("include/ceiling.h").display());
     let host = PathBuf::from(env::var_os("OUT_DIR").unwrap()).join("host");
     let compiler = env::var_os("BOARD_CC").unwrap_or_else(|| root.join(".ci/board-cc").into());
     let made = Command::new(&compiler)
-        .args(["-std=c11", "-O2", "-Wall", "-Wextra"])
-        .args(day.then_some("-DDAY"))
-        .arg("-I")
+        .args(["-std=c11", "-O2", "-Wall", "-Wextra", "-I"])
         .arg(root.join("include"))
         .arg(&source)
         .arg(archive)

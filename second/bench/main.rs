@@ -3,7 +3,7 @@
 //!
 //! docs/PERFORMANCE.md says how to run it and what was seen.
 
-#[cfg(all(board = "linked", day))]
+#[cfg(board = "linked")]
 mod day;
 #[cfg(board = "linked")]
 mod measure;

@@ -63,18 +63,16 @@ CALL(call_read_reply, { sink = pj_read_reply(command, TEXT(line)).number; })
 CALL(call_compare_lamps, {
     sink = pj_compare_lamps(tables[0], PJ_TABLE_MOST, tables[1], PJ_TABLE_MOST, differences, PJ_TABLE_MOST).number;
 })
-#ifdef DAY /* the header declares both */
-static uint32_t starts[64], lengths[64], rig_numbers[8];
+static uint32_t starts[64], lengths[64], seconds[8], life[8];
 static uint8_t allowed[64], rigs_of_jobs[64];
 CALL(call_check_day, {
-    sink = pj_check_day(starts, 64, lengths, 64, allowed, 64, rigs_of_jobs, 64, rig_numbers, 8, rig_numbers, 8,
-                        rig_numbers, 8).number;
+    sink = pj_check_day(starts, 64, lengths, 64, allowed, 64, rigs_of_jobs, 64, seconds, 8, seconds, 8, life,
+                        8).rule;
 })
 CALL(call_plan_day, {
-    sink = pj_plan_day(starts, 64, lengths, 64, allowed, 64, rig_numbers, 8, rig_numbers, 8, rig_numbers, 8,
-                       rigs_of_jobs, 64).number;
+    sink = pj_plan_day(starts, 64, lengths, 64, allowed, 64, seconds, 8, seconds, 8, life, 8, rigs_of_jobs,
+                       64).planned;
 })
-#endif
 
 int main(void) {
     measure("pj_set_up", call_set_up);
@@ -104,16 +102,17 @@ int main(void) {
     line = "%1INST=11 12 13 14 15 16 17 18 19 21 22 23 24 25 26 27 28 29 31 32 33 34 35 36 37 38 39 41 42 43 44 45\r";
     measure("pj_read_reply, longest INST", call_read_reply);
     measure("pj_compare_lamps, 64 places", call_compare_lamps);
-#ifdef DAY
     for (uint32_t job = 0; job < 64; job++) {
         starts[job] = 600 + job / 8 * 1200;
         lengths[job] = 1;
         allowed[job] = 0xFF;
         rigs_of_jobs[job] = (uint8_t)(job % 8);
     }
-    for (int rig = 0; rig < 8; rig++) rig_numbers[rig] = 500;
+    for (int rig = 0; rig < 8; rig++) {
+        seconds[rig] = 500;
+        life[rig] = 8 * 501;
+    }
     measure("pj_check_day, 64 jobs on 8 rigs", call_check_day);
     measure("pj_plan_day, 64 jobs on 8 rigs", call_plan_day);
-#endif
     return 0;
 }

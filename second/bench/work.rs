@@ -45,7 +45,6 @@ pub fn all() -> Vec<Work> {
     add("pj_read_reply, longest INST", false, Box::new(|| reading(8, "INST", &["59"; 32].join(" "))));
     add("pj_read_reply, longest NAME", false, Box::new(|| reading(9, "NAME", &"n".repeat(64))));
     add("pj_compare_lamps, 64 places", false, Box::new(comparing));
-    #[cfg(day)]
     all.extend(crate::day::all());
     all
 }

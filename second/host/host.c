@@ -208,7 +208,6 @@ static void compare_lamps(void) {
     put(differences, n * sizeof *differences);
 }
 
-#ifdef DAY /* the header declares both */
 static void cutting_day(bool planned) {
     size_t starts = get_words(words[0]), lengths = get_words(words[1]);
     slice allowed = get_slice();
@@ -230,7 +229,6 @@ static void cutting_day(bool planned) {
         PUT(v.second);
     }
 }
-#endif
 
 static void make_call(void) {
     pj_device d = get_device();
@@ -251,10 +249,8 @@ static void make_call(void) {
     case 11: read_greeting(); break;
     case 12: read_reply(); break;
     case 13: compare_lamps(); break;
-#ifdef DAY
     case 14: cutting_day(false); break;
     case 15: cutting_day(true); break;
-#endif
     default: exit(EXIT_FAILURE);
     }
 }

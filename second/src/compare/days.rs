@@ -24,9 +24,10 @@ pub fn plan_day(random: &mut Random) -> Act {
 fn any(random: &mut Random) -> (Day, Vec<u8>) {
     let (mut day, mut rigs) = if random.one_in(4) { crowded(random) } else { kept(random) };
     if !rigs.is_empty() {
-        match random.below(8) {
-            0..=2 => move_something(random, &mut day, &mut rigs),
-            3 => leave_the_range(random, &mut day, &mut rigs),
+        match random.below(32) {
+            0..=11 => (0..random.pick(&[1, 1, 2, 6])).for_each(|_| move_something(random, &mut day, &mut rigs)),
+            12..=15 => leave_the_range(random, &mut day, &mut rigs),
+            16 => [&mut day.warm, &mut day.cool, &mut day.life].into_iter().for_each(Vec::clear),
             _ => (),
         }
     }
@@ -86,16 +87,15 @@ fn kept(random: &mut Random) -> (Day, Vec<u8>) {
 /// By a second, or by far.
 fn move_something(random: &mut Random, day: &mut Day, rigs: &mut [u8]) {
     let (job, rig) = (random.below(rigs.len()), random.below(day.warm.len()));
-    match random.below(20) {
-        0..=2 => day.starts[job] -= 1,
+    match random.below(19) {
+        0..=2 => day.starts[job] = day.starts[job].saturating_sub(1),
         3..=4 => day.starts[job] = random.below(3_000) as u32,
         5..=6 => day.lengths[job] += 1,
         7..=8 => rigs[job] = random.pick(&[rig as u8, day.warm.len() as u8, 7, 8, 9, 255]),
         9 => day.allowed[job] = random.byte(),
-        10..=11 => day.allowed[job] ^= 1 << rigs[job],
+        10..=11 => day.allowed[job] ^= 1 << (rigs[job] & 7),
         12..=14 => day.life[rig] = random.pick(&[0, day.life[rig].saturating_sub(1), day.life[rig] / 2]),
         15..=16 => day.warm[rig] += 1,
-        17 => [&mut day.warm, &mut day.cool, &mut day.life].into_iter().for_each(Vec::clear),
         _ => day.cool[rig] += 1,
     }
 }

@@ -1,11 +1,9 @@
 //! The archive, linked. A slice is a pointer and a length, in that order.
 
+use super::days;
 use super::{
     Act, Answer, Changed, Command, Compared, Device, Digest, Greeting, Lent, Opened, Reading, Received, Side, Written,
 };
-
-#[cfg(day)]
-use super::days;
 
 #[link(name = "board", kind = "static")]
 unsafe extern "C" {
@@ -174,15 +172,11 @@ impl Side for Board {
                 let mut out = lent.clone();
                 Answer::Compared(compare_lamps(earlier, later, &mut out), out)
             }
-            #[cfg(day)]
             Act::CheckDay { day, rigs } => Answer::Verdict(days::check_day(day, rigs)),
-            #[cfg(day)]
             Act::PlanDay { day, lent } => {
                 let mut out = lent.clone();
                 Answer::Plan(days::plan_day(day, &mut out), out)
             }
-            #[cfg(not(day))]
-            Act::CheckDay { .. } | Act::PlanDay { .. } => unreachable!("not declared yet"),
         }
     }
 }

@@ -16,7 +16,7 @@ mod apart;
 #[cfg(board = "apart")]
 pub use apart::Board;
 
-#[cfg(all(board = "linked", day))]
+#[cfg(board = "linked")]
 pub mod days;
 #[cfg(board = "linked")]
 pub mod linked;

@@ -4,12 +4,12 @@
 use std::cell::Cell;
 
 macro_rules! mistakes {
-    ($($(#[$where:meta])* $name:ident: $words:literal,)*) => {
+    ($($name:ident: $words:literal,)*) => {
         #[derive(Clone, Copy, PartialEq, Eq, Debug)]
         pub enum Mistake { $($name,)* }
 
         /// All of them, each with what it gets wrong.
-        pub const MISTAKES: &[(Mistake, &str)] = &[$($(#[$where])* (Mistake::$name, $words),)*];
+        pub const MISTAKES: &[(Mistake, &str)] = &[$((Mistake::$name, $words),)*];
     };
 }
 
@@ -39,11 +39,8 @@ mistakes! {
     DifferenceReversed: "a lamp's difference is the earlier minus the later",
     LastPlaceSkipped: "the last place of two tables is not compared",
     EqualIsBackwards: "a lamp that did not burn went backwards",
-    #[cfg(any(day, test))]
     TouchingClashes: "two stretches that touch clash",
-    #[cfg(any(day, test))]
     AllLeftRefused: "a rig may not burn all that it has left",
-    #[cfg(any(day, test))]
     HighestRigFirst: "the planner tries the highest-numbered rig first",
 }
 
