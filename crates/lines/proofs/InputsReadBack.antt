@@ -97,12 +97,3 @@ read-input-by P a b named none = if-by P (isInputText a b) named (λ e. none)
 pub no-number-no-input : (a b : ℕ) → b < code "1" → readInput a b ≡ NoInput
 unfolding readInput
 no-number-no-input a b h = rw (lt-leb (code "1") b h, and-false (a from "1" to "5"))
-
--- an input's characters name it
-pub input-named-back : (i : Input) → isInput i ≡ true
-    → inputNamed (sourceDigit (i .source)) (numberDigit (i .number)) ≡ i
-unfolding readInput
-input-named-back i e =
-    let named : InputIs (inputNamed (sourceDigit (i .source)) (numberDigit (i .number))) ≡ InputIs i =
-    sym (if-yes _ NoInput (input-is-text i e)) ∙ input-read-back i e in
-    cc

@@ -1,6 +1,7 @@
 -- One name that opens this crate's definitions, for computing on concrete records only (01, "Lines that settle it").
 -- Assumes nothing.
 use Rattle.lines.specs.Bytes.{noCr}
+use Rattle.lines.specs.Sources.{inputFor}
 use Rattle.lines.specs.Inputs.{sourceNamed, readInput}
 use Rattle.lines.specs.Texts.{isRefusal, refusalOf, isText, isName, isPassword}
 use Rattle.lines.specs.Requests.{bodyNamed, powerAsked, inputAsked, halfNamed, muteAsked, askedOf, requestOf}
@@ -8,6 +9,6 @@ use Rattle.lines.specs.Forms.{isCommandForm, isReplyForm}
 
 unfoldable pub computing : Unit {0}
 unfolding
-    noCr sourceNamed readInput isRefusal refusalOf isText isName isPassword bodyNamed powerAsked inputAsked halfNamed
-    muteAsked askedOf requestOf isCommandForm isReplyForm
+    noCr inputFor sourceNamed readInput isRefusal refusalOf isText isName isPassword bodyNamed powerAsked inputAsked
+    halfNamed muteAsked askedOf requestOf isCommandForm isReplyForm
 computing = tt

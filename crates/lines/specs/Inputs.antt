@@ -1,4 +1,5 @@
--- Inputs: a type 1 to 5 (RGB, VIDEO, DIGITAL, STORAGE, NETWORK) and a number 1 to 9 (01, "Set-up"; 000, 4.3).
+-- Inputs as two characters, read and written: a type 1 to 5 and a number 1 to 9 (01, "Set-up"; 000, 4.3). Which type is
+-- which stands in Sources, and these definitions are proved to follow it (proofs/SourcesFollowed).
 --   isInputText a b      the two characters name an input: 11 and 59 do; 10, 20 and 61 do not
 --   inputNamed a b       the input that they name
 --   readInput a b        that input, or none

@@ -10,13 +10,15 @@ use borrow.Author.Tests.{leb-true, le-leb, eqb-false, not-false}
 use Rattle.text.specs.Scans.{every}
 use Rattle.text.proofs.Scanning.{every-map}
 use Rattle.lines.specs.Bytes.{noCr}
-use Rattle.lines.specs.Inputs.{isInputText, isInput}
+use Rattle.lines.specs.Inputs.{isInput}
+use Rattle.lines.specs.declared.input.MaybeInput.{MaybeInput}
 use Rattle.lines.specs.declared.command.Body.the-variants.{Powr, Inpt, Avmt, Erst, Lamp, Inst, Name, Inf1, Inf2, Info, Clss}
 use Rattle.lines.specs.declared.command.Command.{Command}
 use Rattle.lines.specs.declared.command.Command.the-variants.{PowerSet, InputSet, MuteSet, Query}
 use Rattle.lines.specs.declared.request.Request.{Request}
 use Rattle.lines.specs.declared.request.Request.the-variants.{Asks, Unlisted, UnknownBody}
 use Rattle.lines.proofs.InputsReadBack.{named-is-input}
+use Rattle.lines.proofs.SourcesFollowed.{named-stands}
 use Rattle.answers.specs.Said.{Said, refused, saidBytes, inputCount}
 use Rattle.answers.specs.Carried.{answerOf, saidBy, isSayable}
 use Rattle.answers.specs.Reading.{isSet, isRefusalTo}
@@ -33,10 +35,10 @@ use Rattle.record.proofs.Rules.{errors-long, errors-within, lamps-within}
 use Rattle.record.proofs.SettingsTold.{SettingsTold, settings-told, input-count-low, input-count-high, input-at}
 use Rattle.record.proofs.OwnTold.{OwnTold, own-told}
 use Rattle.clock.specs.Second.{isLit}
-use Rattle.meaning.specs.SetUpInputs.{pairsOf, inputsOf}
+use Rattle.meaning.specs.SetUpInputs.{noInput, inputOrNone, pairsOf, inputsOf}
 use Rattle.meaning.specs.Rules.{hasSet, isUndefined, isUnlisted}
-use Rattle.meaning.specs.Meaning.{noInput, chosenOf, lampSaid, lampsOf, told, answered, meant}
-use Rattle.meaning.proofs.InputsByPlace.{input-at-place, inputs-counted, in-use, first-in-use, second-in-use}
+use Rattle.meaning.specs.Meaning.{chosenOf, lampSaid, lampsOf, told, answered, meant}
+use Rattle.meaning.proofs.InputsByPlace.{inputs-counted, input-in-use}
 use Rattle.meaning.proofs.Cases.{Passes, meant-by}
 
 -- the inputs of a legal set-up
@@ -47,11 +49,12 @@ module _ (s : Settings) (t : SettingsTold s) where
   pub listed-input : (k : ℕ) → k < s .«input_count» → isInput (getD (inputsOf s) k noInput) ≡ true
   listed-input k h =
       let room : 2 * k + 1 < length (s .inputs) = omega (arith, t .inputs .long, t .inputs .inside) in
-      let first = first-in-use (s .inputs) (s .«input_count») k h room in
-      let second = second-in-use (s .inputs) (s .«input_count») k h room in
-      ap isInput (input-at-place (pairsOf s) k noInput (in-use (s .inputs) (s .«input_count») k h room))
-      ∙ named-is-input (getD (pairsOf s) (2 * k) 0) (getD (pairsOf s) (2 * k + 1) 0)
-      ((λ j. isInputText (first j) (second j)) ∙ input-at s t k h)
+      let a = getD (s .inputs) (2 * k) 0 in
+      let b = getD (s .inputs) (2 * k + 1) 0 in
+      let named = input-at s t k h in
+      ap isInput (input-in-use (s .inputs) (s .«input_count») k h room noInput)
+      ∙ ap (λ (m : MaybeInput). isInput (inputOrNone m)) (named-stands a b named)
+      ∙ named-is-input a b named
 
   pub listed-inputs : every isInput (inputsOf s) ≡ true
   listed-inputs =

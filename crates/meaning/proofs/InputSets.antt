@@ -1,39 +1,38 @@
--- INPT: the input that was set is the one that is then answered.
+-- INPT: the input that was set is the one that is then answered, and only an input that a line can carry is listed.
 -- Assumes nothing.
-use Prim.Native.Nat.{_+_, _*_, _<_}
-use mathlib.Core.Path.{_≡_, refl, _∙_}
+use mathlib.Core.Path.{_≡_, refl, sym, ap, _∙_}
 use mathlib.Core.Bool.{true}
 use native.Mathlib.Omega.{arith}
-use lib.ListN.{length}
 use borrow.Author.Tests.{ltb-true, not-false}
-use Rattle.lines.specs.Inputs.{inputNamed, isInput, sourceDigit, numberDigit}
+use Rattle.lines.specs.Inputs.{isInput}
 use Rattle.lines.specs.declared.input.Input.{Input}
 use Rattle.lines.specs.declared.command.Body.the-variants.{Inpt}
 use Rattle.lines.specs.declared.command.Command.the-variants.{InputSet, Query}
 use Rattle.lines.specs.declared.request.Request.the-variants.{Asks}
 use Rattle.answers.specs.Said.{okay, chosenIs}
-use Rattle.record.specs.Limits.{inputRoom}
-use Rattle.record.specs.Rules.{isInputs}
 use Rattle.record.specs.Legal.{isSettings}
 use Rattle.record.specs.declared.types.Settings.{Settings}
 use Rattle.record.specs.declared.types.Own.{Own}
-use Rattle.record.proofs.Kept.{kept-length}
 use Rattle.record.proofs.SettingsTold.{settings-told}
-use Rattle.meaning.specs.SetUpInputs.{pairsOf, placeOf, isListed}
-use Rattle.meaning.specs.Meaning.{noInput, chosenOf, withChosen, meant, done}
-use Rattle.lines.proofs.InputsReadBack.{input-named-back}
-use Rattle.meaning.proofs.InputsByPlace.{pair-found, input-at-place}
+use Rattle.meaning.specs.SetUpInputs.{noInput, inputsOf, placeOf, isListed}
+use Rattle.meaning.specs.Meaning.{chosenOf, withChosen, meant, done}
+use Rattle.meaning.proofs.InputsByPlace.{found-at-place}
+use Rattle.meaning.proofs.CanBeSaid.{inputs-number, listed-input}
 use Rattle.meaning.proofs.Cases.{decided-by, meant-passed}
 
-module _ (s : Settings) (settings : isSettings s ≡ true) (i : Input) (legal : isInput i ≡ true) where
+module _ (s : Settings) (settings : isSettings s ≡ true) (i : Input) where
   pub chosen-is-asked : (o : Own) → isListed s i ≡ true → chosenOf s (withChosen o (placeOf s i)) ≡ i
   chosen-is-asked o listed =
-      let k = placeOf s i in
-      let below = ltb-true k (s .«input_count») listed in
-      let long = kept-length inputRoom isInputs _ _ (settings-told s settings .inputs) in
-      let room : 2 * k + 1 < length (pairsOf s) = omega arith in
-      let pair = pair-found (pairsOf s) (sourceDigit (i .source)) (numberDigit (i .number)) room in
-      input-at-place (pairsOf s) k noInput room ∙ (λ j. inputNamed (pair .0 j) (pair .1 j)) ∙ input-named-back i legal
+      let below = ltb-true (placeOf s i) (s .«input_count») listed in
+      found-at-place i noInput (inputsOf s) (omega (arith, inputs-number s (settings-told s settings)))
+
+  -- an input that is listed is one that two characters can name: none has the number 11
+  pub listed-is-input : isListed s i ≡ true → isInput i ≡ true
+  listed-is-input listed =
+      let told = settings-told s settings in
+      let below = ltb-true (placeOf s i) (s .«input_count») listed in
+      ap isInput (sym (found-at-place i noInput (inputsOf s) (omega (arith, inputs-number s told))))
+      ∙ listed-input s told (placeOf s i) below
 
   -- INPT with the input, answered OK, and then INPT ?
   pub set-then-asked : (o : Own) → meant s o (Asks (InputSet i)) ≡ okay

@@ -3,6 +3,7 @@ pub mod InputsByPlace
 pub mod Cases
 pub mod CanBeSaid
 pub mod Done
+pub mod HalvesStay
 pub mod Okay
 pub mod PowerSets
 pub mod InputSets

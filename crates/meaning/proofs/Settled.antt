@@ -10,6 +10,7 @@ use Rattle.lines.specs.declared.command.Body.the-variants.{Powr, Inpt, Lamp, Na
 use Rattle.lines.specs.declared.command.Command.the-variants.{PowerSet, InputSet, Query}
 use Rattle.lines.specs.declared.request.Request.{Request}
 use Rattle.lines.specs.declared.request.Request.the-variants.{Asks, Unlisted, UnknownBody}
+use Rattle.lines.specs.Computing.{computing as lines-computing}
 use Rattle.answers.specs.Said.{Said, okay, refused, lampsAre, classIs1}
 use Rattle.record.specs.Limits.{warming, on}
 use Rattle.record.specs.Record.{settingsOf, startOwn}
@@ -34,7 +35,7 @@ requests =
 -- POWR 1, POWR 2, ABCD x, NAME x, CLSS ?, INPT ?, INPT 12
 pub settled : map (meant settings own) requests
     ≡ okay ∷ refused 2 ∷ refused 1 ∷ refused 1 ∷ classIs1 ∷ refused 3 ∷ refused 2 ∷ []
-unfolding computing record-computing
+unfolding computing record-computing lines-computing
 settled = refl
 
 -- POWR 1 starts warm-up with W left

@@ -12,7 +12,6 @@ use mathlib.Core.List.{List, map}
 use lib.ListN.{take, getD}
 use lib.Dec.{eqb}
 use Rattle.text.specs.Words.{if_then_else_}
-use Rattle.lines.specs.declared.input.Source.the-variants.{Rgb}
 use Rattle.lines.specs.declared.input.Input.{Input}
 use Rattle.lines.specs.declared.command.Body.{Body}
 use Rattle.lines.specs.declared.command.Body.the-variants.{Powr, Inpt, Avmt, Erst, Lamp, Inst, Name, Inf1, Inf2, Info, Clss}
@@ -32,7 +31,7 @@ use Rattle.record.specs.declared.types.Text.{Text}
 use Rattle.record.specs.declared.types.Settings.{Settings}
 use Rattle.record.specs.declared.types.Own.{Own}
 use Rattle.clock.specs.Second.{isLit}
-use Rattle.meaning.specs.SetUpInputs.{inputsOf, placeOf}
+use Rattle.meaning.specs.SetUpInputs.{noInput, inputsOf, placeOf}
 use Rattle.meaning.specs.Rules.{isUndefined, isOutOfParameter, isFailure, isUnavailable}
 use Rattle.meaning.specs.declared.Decided.{Decided}
 
@@ -43,9 +42,6 @@ powerSaid power =
     else if eqb power on then On
     else if eqb power cooling then Cooling
     else WarmUp
-
-abbrev pub noInput : Input
-noInput = record { source = Rgb; number = 0 }
 
 abbrev pub chosenOf : Settings → Own → Input
 chosenOf s o = getD (inputsOf s) (o .chosen) noInput

@@ -4,6 +4,7 @@ use answers::answer::Answer;
 use answers::answer::NO_INPUT;
 use lines::input;
 use lines::input::Input;
+use lines::input::MaybeInput;
 use record::types::INPUT_ROOM;
 use record::types::INPUTS_MOST;
 use record::types::Settings;
@@ -12,19 +13,38 @@ ghost use Prim.Native.Nat.{_*_};
 ghost use lib.ListN.{take, getD};
 ghost use Rattle.answers.specs.Said.{inputsAre};
 ghost use Rattle.answers.specs.Carried.{answerOf};
-ghost use Rattle.meaning.specs.SetUpInputs.{inputsNamed, placeIn, placeOf, isListed};
-ghost use Rattle.meaning.specs.Meaning.{noInput};
+ghost use Rattle.lines.specs.Sources.{sameInput};
+ghost use Rattle.meaning.specs.SetUpInputs.{noInput, inputOfPair, inputsOfPairs, placeIn, placeOf, isListed};
 
-// The first place of the characters x, y among the first pairs.
-fn place_in(x: u8, y: u8, pairs: [u8; INPUT_ROOM], count: usize) -> usize
-    ensures { λ r. ⌜ r ≡ placeIn x y (take (2 * count) pairs) ⌝ }
+// No legal set-up has a pair that stands for no input.
+fn input_of_pair(a: u8, b: u8) -> Input
+    ensures { λ r. ⌜ r ≡ inputOfPair a b ⌝ }
+{
+    let read = input::read_input(a, b);
+    match read {
+        MaybeInput::InputIs(i) => i,
+        MaybeInput::NoInput => NO_INPUT,
+    }
+}
+
+fn same_input(i: Input, j: Input) -> bool
+    ensures { λ r. ⌜ r ≡ sameInput i j ⌝ }
+{
+    let one = i.source;
+    let other = j.source;
+    (input::source_digit(one) == input::source_digit(other)) & (i.number == j.number)
+}
+
+// The first place of the input among the first pairs.
+fn place_in(i: Input, pairs: [u8; INPUT_ROOM], count: usize) -> usize
+    ensures { λ r. ⌜ r ≡ placeIn i (inputsOfPairs (take (2 * count) pairs)) ⌝ }
 {
     let mut k = 0;
     while k < INPUTS_MOST {
         if count <= k {
             return k;
         }
-        if (pairs[2 * k] == x) & (pairs[2 * k + 1] == y) {
+        if same_input(input_of_pair(pairs[2 * k], pairs[2 * k + 1]), i) {
             return k;
         }
         k += 1;
@@ -35,14 +55,8 @@ fn place_in(x: u8, y: u8, pairs: [u8; INPUT_ROOM], count: usize) -> usize
 pub fn place_of(s: Settings, i: Input) -> usize
     ensures { λ r. ⌜ r ≡ placeOf s i ⌝ }
 {
-    let source = i.source;
     let pairs = s.inputs;
-    place_in(
-        input::source_digit(source),
-        input::number_digit(i.number),
-        pairs,
-        s.input_count,
-    )
+    place_in(i, pairs, s.input_count)
 }
 
 pub fn is_listed(s: Settings, i: Input) -> bool
@@ -52,7 +66,7 @@ pub fn is_listed(s: Settings, i: Input) -> bool
 }
 
 pub fn input_at(pairs: [u8; INPUT_ROOM], count: usize, place: usize) -> Input
-    ensures { λ r. ⌜ r ≡ getD (inputsNamed (take (2 * count) pairs)) place noInput ⌝ }
+    ensures { λ r. ⌜ r ≡ getD (inputsOfPairs (take (2 * count) pairs)) place noInput ⌝ }
 {
     if INPUTS_MOST <= place {
         return NO_INPUT;
@@ -60,12 +74,12 @@ pub fn input_at(pairs: [u8; INPUT_ROOM], count: usize, place: usize) -> Input
     if count <= place {
         return NO_INPUT;
     }
-    input::input_named(pairs[2 * place], pairs[2 * place + 1])
+    input_of_pair(pairs[2 * place], pairs[2 * place + 1])
 }
 
 // In set-up order.
 pub fn told_inputs(pairs: [u8; INPUT_ROOM], count: usize) -> Answer
-    ensures { λ r. ⌜ r ≡ answerOf (inputsAre (inputsNamed (take (2 * count) pairs))) ⌝ }
+    ensures { λ r. ⌜ r ≡ answerOf (inputsAre (inputsOfPairs (take (2 * count) pairs))) ⌝ }
 {
     let mut inputs = [NO_INPUT; 32];
     let mut k = 0;
@@ -73,7 +87,7 @@ pub fn told_inputs(pairs: [u8; INPUT_ROOM], count: usize) -> Answer
         if count <= k {
             return answer::of_inputs(k, inputs);
         }
-        inputs[k] = input::input_named(pairs[2 * k], pairs[2 * k + 1]);
+        inputs[k] = input_of_pair(pairs[2 * k], pairs[2 * k + 1]);
         k += 1;
     }
     answer::of_inputs(k, inputs)

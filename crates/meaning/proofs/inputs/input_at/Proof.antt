@@ -5,9 +5,8 @@ use mathlib.Core.Path.{_≡_, sym, _∙_}
 use native.Mathlib.Omega.{arith}
 use lib.ListN.{length, take, length-take}
 use borrow.Author.Needs.{needs}
-use Rattle.lines.specs.Inputs.{inputNamed}
-use Rattle.meaning.specs.Meaning.{noInput}
-use Rattle.meaning.proofs.InputsByPlace.{input-at-place, no-input-past, in-use, first-in-use, second-in-use}
+use Rattle.meaning.specs.SetUpInputs.{noInput}
+use Rattle.meaning.proofs.InputsByPlace.{no-input-past, input-in-use}
 use Rattle.meaning.proofs.inputs.input_at.Statement.{statement}
 use Rattle.meaning.proofs.inputs.input_at.Tie as tie
 
@@ -34,11 +33,7 @@ named c =
     let size = long start in
     let h : a .place < a .count = c .before .if2 .left in
     let room : 2 * a .place + 1 < length (a .t1) = omega (arith, c .before .before .if1 .left) in
-    let first = first-in-use (a .t1) (a .count) (a .place) h room in
-    let second = second-in-use (a .t1) (a .count) (a .place) h room in
-    c .input-named .ensures
-    ∙ sym (input-at-place (take (2 * a .count) (a .t1)) (a .place) noInput (in-use (a .t1) (a .count) (a .place) h room)
-    ∙ (λ j. inputNamed (first j) (second j)))
+    c .input-of-pair .ensures ∙ sym (input-in-use (a .t1) (a .count) (a .place) h room noInput)
 
 pub input-at-spec : {M : Type 1} → statement M
 input-at-spec =

@@ -1,80 +1,84 @@
--- `meaning::inputs::place_in` meets its contract: while no pair is found, the place is the number of pairs passed and
--- the place among what is left.
+-- `meaning::inputs::place_in` meets its contract: while the input is not found, its place is the number of pairs passed
+-- and its place among the inputs of what is left.
 -- Assumes nothing.
 use Prim.Native.Nat.{ℕ, _+_, _*_, _-_, _<_, _≤_}
-use mathlib.Core.Path.{_≡_, sym, _∙_}
-use mathlib.Core.Bool.{_&&_}
+use mathlib.Core.Path.{_≡_, sym, ap, _∙_}
 use mathlib.Core.List.{List}
 use native.Mathlib.Omega.{arith}
 use lib.ListN.{length, getD, take, length-take}
-use lib.Dec.{eqb}
 use borrow.Author.Needs.{needs}
-use Rattle.meaning.proofs.InputsByPlace.{Sought, none-sought, all-sought, found-here, not-here, in-use, first-in-use, second-in-use}
+use Rattle.lines.specs.Sources.{sameInput}
+use Rattle.lines.specs.declared.input.Input.{Input}
+use Rattle.meaning.specs.SetUpInputs.{noInput, inputsOfPairs}
+use Rattle.meaning.proofs.InputsByPlace.{Sought, none-sought, all-sought, found-here, not-here, at-most-inputs, input-in-use, place-in-use}
 use Rattle.meaning.proofs.inputs.place_in.Statement.{statement}
 use Rattle.meaning.proofs.inputs.place_in.Tie as tie
 
-record Passed (x y count : ℕ) (pairs : List ℕ) (k : ℕ) : Type 0 where
+abbrev among : List ℕ → ℕ → List Input
+among pairs count = inputsOfPairs (take (2 * count) pairs)
+
+record Passed (i : Input) (count : ℕ) (pairs : List ℕ) (k : ℕ) : Type 0 where
   inside : k ≤ 16
   counted : k ≤ count
-  sought : Sought x y (take (2 * count) pairs) k
+  sought : Sought i (among pairs count) k
 
 abbrev Inv : tie.InvT-loop
-Inv x y count pairs k₀ k = Passed x y count pairs k
+Inv i count pairs k₀ k = Passed i count pairs k
 
 abbrev μ : tie.MeasureT-loop
-μ x y count pairs k₀ k = 16 - k
+μ i count pairs k₀ k = 16 - k
 
-long : (start : tie.Start Inv μ) → length (start .args .t3) ≡ 32
+long : (start : tie.Start Inv μ) → length (start .args .t2) ≡ 32
 long start = search needs
 
 stopped : tie.Need-returns Inv μ
 stopped c =
     let turn = c .before .before in
     let a = turn .before .args in
-    sym (all-sought (a .x) (a .y) (take (2 * a .count) (a .t3)) (turn .loop .inv .sought)
-    (omega (arith, length-take (2 * a .count) (a .t3))))
+    sym (all-sought (a .i) (among (a .t2) (a .count)) (turn .loop .inv .sought)
+    (at-most-inputs (take (2 * a .count) (a .t2)) (turn .loop .k) (omega (arith, length-take (2 * a .count) (a .t2)))))
 
--- the turn's place, seen from the comparison, which is of the array and not of its part in use
-module _ (turn : tie.At-loop Inv μ) where
+-- what is compared is the input at the turn's place
+module _ (told : tie.After-same-input Inv μ) where
+  abbrev tested : tie.Else1 Inv μ
+  tested = told .before .before
+
+  abbrev turn : tie.At-loop Inv μ
+  turn = tested .before .before
+
   abbrev pairs : List ℕ
-  pairs = turn .before .args .t3
+  pairs = turn .before .args .t2
 
   abbrev count : ℕ
   count = turn .before .args .count
 
-  abbrev k : ℕ
-  k = turn .loop .k
+  room : 2 * turn .loop .k + 1 < length pairs
+  room = let size = long (turn .before) in omega (arith, tested .before .loop-test .taken)
 
-  module _ (h : k < count) (room : 2 * k + 1 < length pairs) where
-    compared : (eqb (getD (take (2 * count) pairs) (2 * k) 0) (turn .before .args .x)
-        && eqb (getD (take (2 * count) pairs) (2 * k + 1) 0) (turn .before .args .y))
-        ≡ (eqb (getD pairs (2 * k) 0) (turn .before .args .x) && eqb (getD pairs (2 * k + 1) 0) (turn .before .args .y))
-    compared =
-        (λ i. eqb (first-in-use pairs count k h room i) (turn .before .args .x)
-        && eqb (second-in-use pairs count k h room i) (turn .before .args .y))
+  here : turn .loop .k < length (among pairs count)
+  here = place-in-use pairs count (turn .loop .k) (tested .if1 .left) room
+
+  compared : sameInput (getD (among pairs count) (turn .loop .k) noInput) (turn .before .args .i)
+      ≡ told .same-input .result
+  compared =
+      ap (λ (x : Input). sameInput x (turn .before .args .i))
+      (input-in-use pairs count (turn .loop .k) (tested .if1 .left) room noInput
+      ∙ sym (told .before .input-of-pair .ensures))
+      ∙ sym (told .same-input .ensures)
 
 found : tie.Need-returns-2 Inv μ
 found c =
-    let turn = c .before .before .before in
-    let a = turn .before .args in
-    let size = long (turn .before) in
-    let h : turn .loop .k < a .count = c .before .if1 .left in
-    let room : 2 * turn .loop .k + 1 < length (a .t3) = omega (arith, c .before .before .loop-test .taken) in
-    sym (found-here (a .x) (a .y) (take (2 * a .count) (a .t3)) (turn .loop .inv .sought)
-    (in-use (a .t3) (a .count) (turn .loop .k) h room) (compared turn h room ∙ c .if2 .taken))
+    let told = c .before in
+    sym (found-here _ _ (turn told .loop .inv .sought) noInput (here told) (compared told ∙ c .if2 .taken))
 
 again : tie.Need-loop-again Inv μ
 again c =
-    let turn = c .before .before .before in
-    let a = turn .before .args in
-    let size = long (turn .before) in
-    let h : turn .loop .k < a .count = c .before .if1 .left in
-    let room : 2 * turn .loop .k + 1 < length (a .t3) = omega (arith, c .before .before .loop-test .taken) in
+    let told = c .before in
+    let tests = tested told in
     record {
-      inside = omega arith;
-      counted = omega arith;
-      sought = not-here (a .x) (a .y) (take (2 * a .count) (a .t3)) (turn .loop .inv .sought)
-          (in-use (a .t3) (a .count) (turn .loop .k) h room) (compared turn h room ∙ c .if2 .left);
+      inside = omega (arith, tests .before .loop-test .taken);
+      counted = omega (arith, tests .if1 .left);
+      sought = not-here _ _ (turn told .loop .inv .sought) noInput (here told) (compared told ∙ c .if2 .left);
     }
 
 ended : tie.Need-returns-3 Inv μ
@@ -82,8 +86,9 @@ ended c =
     let turn = c .before in
     let a = turn .before .args in
     let size = long (turn .before) in
-    sym (all-sought (a .x) (a .y) (take (2 * a .count) (a .t3)) (turn .loop .inv .sought)
-    (omega (arith, length-take (2 * a .count) (a .t3), c .loop-test .left)))
+    sym (all-sought (a .i) (among (a .t2) (a .count)) (turn .loop .inv .sought)
+    (at-most-inputs (take (2 * a .count) (a .t2)) (turn .loop .k)
+    (omega (arith, length-take (2 * a .count) (a .t2), c .loop-test .left))))
 
 pub place-in-spec : {M : Type 1} → statement M
 place-in-spec =
@@ -91,13 +96,15 @@ place-in-spec =
     (tie.spec
     Inv
     μ
-    (λ c. record { inside = omega arith; counted = omega arith; sought = none-sought _ _ _ })
+    (λ c. record { inside = omega arith; counted = omega arith; sought = none-sought _ _ })
     stopped
     (λ c. search needs)
     (λ c. search needs)
     (λ c. search needs)
     (λ c. search needs)
     (λ c. search needs)
+    (λ c κs. search needs)
+    (λ c κs. search needs)
     found
     (λ c. search needs)
     (λ c. search needs)

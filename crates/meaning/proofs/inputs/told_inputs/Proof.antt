@@ -6,18 +6,17 @@ use mathlib.Core.List.{List}
 use native.Mathlib.Omega.{arith}
 use lib.ListN.{length, getD, take}
 use borrow.Author.Needs.{needs}
-use Rattle.lines.specs.Inputs.{inputNamed}
 use Rattle.lines.specs.declared.input.Input.{Input}
 use Rattle.answers.specs.Said.{inputsAre}
 use Rattle.answers.specs.Carried.{noInputs, ofInputs, answerOf}
-use Rattle.meaning.specs.SetUpInputs.{inputsNamed}
+use Rattle.meaning.specs.SetUpInputs.{inputOfPair, inputsOfPairs}
 use Rattle.meaning.proofs.Filling.{Filled, none-filled, one-filled}
 use Rattle.meaning.proofs.InputsByPlace.{one-more-named, all-named}
 use Rattle.meaning.proofs.inputs.told_inputs.Statement.{statement}
 use Rattle.meaning.proofs.inputs.told_inputs.Tie as tie
 
 abbrev first : List ℕ → ℕ → List Input
-first pairs k = inputsNamed (take (2 * k) pairs)
+first pairs k = inputsOfPairs (take (2 * k) pairs)
 
 record Passed (pairs : List ℕ) (count : ℕ) (inputs : List Input) (k : ℕ) : Type 0 where
   inside : k ≤ 16
@@ -33,7 +32,7 @@ long : (start : tie.Start Inv μ) → length (start .args .t1) ≡ 32
 long start = search needs
 
 enters : tie.Need-loop-holds Inv μ
-unfolding inputsNamed
+unfolding inputsOfPairs
 enters c = record { inside = omega arith; filled = none-filled (first _) noInputs _ refl }
 
 -- where the loop ends, the inputs passed are all there are
@@ -58,11 +57,11 @@ again c =
     let size = long (turn .before) in
     let pairs = turn .before .args .t1 in
     let k = turn .loop .k in
-    let input : c .input-named .result ≡ inputNamed (getD pairs (2 * k) 0) (getD pairs (2 * k + 1) 0)
-    = c .input-named .ensures in
+    let input : c .input-of-pair .result ≡ inputOfPair (getD pairs (2 * k) 0) (getD pairs (2 * k + 1) 0)
+    = c .input-of-pair .ensures in
     record {
       inside = omega arith;
-      filled = one-filled (first pairs) noInputs _ (c .input-named .result) (turn .loop .inv .filled)
+      filled = one-filled (first pairs) noInputs _ (c .input-of-pair .result) (turn .loop .inv .filled)
           (c .before .if1 .left)
           (one-more-named pairs k (omega (arith, c .before .before .loop-test .taken)) ∙ rw (← input));
     }
