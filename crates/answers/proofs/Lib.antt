@@ -15,5 +15,10 @@ pub mod ReadsBack
 pub mod SaidBack
 pub mod SaidPlain
 pub mod OneResult
+mod JoinedRead
+mod LampsRead
+mod InputsRead
+mod ErrorsRead
 pub mod ReadSound
+pub mod ReadWritings
 pub mod OnlyOkay

@@ -1,170 +1,154 @@
--- Whatever bytes come, what is read of them is an answer that the command can have, or nothing.
+-- Whatever bytes come, what is read of them is an answer that the command can have, in the bytes that write it; or
+-- nothing.
 -- Assumes nothing.
-use Prim.Native.Nat.{ℕ, zero, suc, _+_, _<_, _≤_}
-use Prim.Native.Char.{code}
-use mathlib.Core.Path.{_≡_, refl, _∙_}
+use Prim.Native.Nat.{ℕ}
+use mathlib.Core.Path.{_≡_, refl, sym, _∙_}
 use mathlib.Core.Bool.{Bool, true, false, _&&_}
-use mathlib.Core.List.{List, [], _∷_, _++_, map}
+use mathlib.Core.List.{List, [], _∷_, map}
 use native.Mathlib.Omega.{arith}
-use lib.ListN.{length, drop, take, length-append, length-map}
-use lib.Dec.{leb, eqb}
-use borrow.Author.Tests.{le-leb, leb-true, eqb-true, eqb-false}
-use Rattle.text.specs.Words.{ascii, if_then_else_, _is_, _from_to_}
+use lib.ListN.{length, length-map}
+use lib.Dec.{eqb}
+use borrow.Author.Tests.{eqb-true, eqb-false}
+use Rattle.text.specs.Words.{ascii, if_then_else_}
 use Rattle.text.specs.Scans.{every}
-use Rattle.text.proofs.Choices.{if-all, if-by, both, both-left, both-right}
-use Rattle.text.proofs.Scanning.{every-append}
-use Rattle.numbers.specs.Decimal.{readNumber}
-use Rattle.numbers.specs.declared.Number.{Number}
-use Rattle.numbers.specs.declared.Number.the-variants.{Value, NotANumber}
-use Rattle.numbers.proofs.ReadBack.{read-below}
+use Rattle.text.proofs.Choices.{if-by, both-left, both-right}
+use Rattle.text.proofs.Sameness.{same-is}
 use Rattle.lines.specs.Bytes.{_at_}
-use Rattle.lines.specs.Inputs.{isInput}
+use Rattle.lines.specs.Inputs.{isInput, inputText}
 use Rattle.lines.specs.Texts.{refusalOf, isName, isInfo}
-use Rattle.lines.specs.declared.input.Input.{Input}
 use Rattle.lines.specs.declared.command.Command.{Command}
 use Rattle.lines.specs.declared.command.Command.the-variants.{PowerSet, InputSet, MuteSet, Query}
 use Rattle.lines.specs.declared.command.Body.{Body}
 use Rattle.lines.specs.declared.command.Body.the-variants.{Powr, Inpt, Avmt, Erst, Lamp, Inst, Name, Inf1, Inf2, Info}
 use Rattle.lines.specs.declared.command.Body.the-variants.{Clss}
-use Rattle.lines.proofs.Refusals.{refusal-at-most-4}
-use Rattle.lines.proofs.InputsReadBack.{named-is-input, read-input-by}
-use Rattle.answers.specs.Lists.{Head, noHead, head, Got, none, all, afterHead, listFrom, listOf}
-use Rattle.answers.specs.Said.{Said, nothing}
+use Rattle.lines.proofs.ByPlaces.{by-places}
+use Rattle.lines.proofs.Refusals.{refusal-at-most-4, refusal-text}
+use Rattle.lines.proofs.InputsReadBack.{named-is-input, named-text, read-input-by}
+use Rattle.answers.specs.Said.{Said, textIs, nothing, lampText, saidBytes}
 use Rattle.answers.specs.Carried.{lampsMost, inputsMost, errorsCount}
-use Rattle.answers.specs.Reading.{_says_, isRefusalTo, isErrorText, errorOf, lampWith, lampAt, lampIn, lampHead}
-use Rattle.answers.specs.Reading.{lampsGot, inputIn, inputHead, inputsGot, wordLong, chosenOr, powerNamed}
-use Rattle.answers.specs.Reading.{readPower, readChosen, mutesNamed, readMutes, readErrors, readLamps, readInputs}
-use Rattle.answers.specs.Reading.{readQueried, readValue, readParameter}
+use Rattle.answers.specs.Reading.{isSet, isRefusalTo, isErrorText, errorOf, lampHead, lampsGot, inputHead}
+use Rattle.answers.specs.Reading.{inputsGot, chosenOr, powerNamed, readPower, readChosen, mutesNamed, readMutes}
+use Rattle.answers.specs.Reading.{readErrors, readLamps, readInputs, readOk, readQueried, readValue}
+use Rattle.answers.specs.Reading.{readParameter}
 use Rattle.answers.specs.CanSay.{CanSay, done, refuses, power, input, mutes, errors, lamps, inputs, name, maker}
-use Rattle.answers.specs.CanSay.{model, other, class-1, hoursMost, isLampHours, isErrorDigit}
-use Rattle.answers.specs.declared.answer.LampHours.{LampHours}
-use Rattle.answers.specs.declared.list.MaybeLamp.the-variants.{NoLamp}
+use Rattle.answers.specs.CanSay.{model, other, class-1, isLampHours}
+use Rattle.answers.specs.Writings.{Writes, Says}
+use Rattle.answers.specs.declared.answer.Power.the-variants.{Off, On, Cooling, WarmUp}
+use Rattle.answers.proofs.JoinedRead.{list-by}
+use Rattle.answers.proofs.ErrorsRead.{errors-are}
+use Rattle.answers.proofs.LampsRead.{lamp-headed}
+use Rattle.answers.proofs.InputsRead.{input-headed}
 
-pub data CanRead (c : Command) : Said → Type 0 where
-  answer : {m : Said} → CanSay c m → CanRead c m
-  no-answer : CanRead c nothing
+pub data CanRead (c : Command) (p : List ℕ) : Said → Type 0 where
+  answer : {m : Said} → Says c m p → CanRead c p m
+  no-answer : CanRead c p nothing
 
--- a list that is read has 1 to `most` things, each as its own reader gives it
-module _ {A : Type 0} (P : A → Bool) (g : List ℕ → Head A) (most : ℕ) where
-  data Listed : Got A → Type 0 where
-    not-listed : Listed none
-    listed : (xs : List A) → 1 ≤ length xs → length xs ≤ most → every P xs ≡ true → Listed (all xs)
+module _ {c : Command} {p : List ℕ} {m : Said} (t : Bool) where
+  -- where a test holds that shows the writing, the answer; else the other ones
+  shown : {n : Said} → CanSay c m → (t ≡ true → Writes m p) → CanRead c p n → CanRead c p (if t then m else n)
+  shown can shows rest = if-by (CanRead c p) t (λ e. answer (record { can = can; written = shows e })) (λ e. rest)
 
-  data Begun : Head A → Type 0 where
-    not-begun : Begun noHead
-    begun : (a : A) (n : ℕ) → P a ≡ true → Begun (head a n)
+  -- what is read where a test holds
+  guarded : (t ≡ true → CanRead c p m) → CanRead c p (if t then m else nothing)
+  guarded reads = if-by (CanRead c p) t reads (λ e. no-answer)
 
-  module _ (each : (s : List ℕ) → Begun (g s)) where
-    after : (further : List A → List ℕ → Got A) (xs : List A) (s : List ℕ) {h : Head A} → Begun h
-        → every P xs ≡ true → length xs < most
-        → ((ys : List A) (t : List ℕ) → length ys ≡ length xs + 1 → every P ys ≡ true → Listed (further ys t))
-        → Listed (afterHead further xs s h)
-    after further xs s not-begun e l next = not-listed
-    after further xs s (begun a n p) e l next =
-        let long : length (xs ++ (a ∷ [])) ≡ length xs + 1 = length-append xs (a ∷ []) in
-        let good : every P (xs ++ (a ∷ [])) ≡ true = every-append P xs (a ∷ []) e (both p refl) in
-        if-all Listed (leb (length s) n)
-        (listed (xs ++ (a ∷ [])) (omega arith) (omega arith) good)
-        (if-all Listed (s at n is " ") (next (xs ++ (a ∷ [])) (drop (n + 1) s) long good) not-listed)
+module _ (p : List ℕ) where
+  byte-is : {x : ℕ} → eqb (length p) 1 ≡ true → eqb (p at 0) x ≡ true → p ≡ x ∷ []
+  byte-is {x} one e = by-places 1 p (eqb-true (length p) 1 one) ∙ (λ i. eqb-true (p at 0) x e i ∷ [])
 
-    all-from : (room : ℕ) (xs : List A) (s : List ℕ) → length xs + room ≡ most → every P xs ≡ true
-        → Listed (listFrom g room xs s)
-    all-from zero xs s h e = not-listed
-    all-from (suc room) xs s h e =
-        after (listFrom g room) xs s (each s) e (omega arith) (λ ys t l f. all-from room ys t (omega arith) f)
+  bytes-are : {x y : ℕ} → eqb (length p) 2 ≡ true → (eqb (p at 0) x && eqb (p at 1) y) ≡ true → p ≡ x ∷ y ∷ []
+  bytes-are {x} {y} two e =
+      let first = eqb-true (p at 0) x (both-left (eqb (p at 0) x) (eqb (p at 1) y) e) in
+      let second = eqb-true (p at 1) y (both-right (eqb (p at 0) x) (eqb (p at 1) y) e) in
+      by-places 2 p (eqb-true (length p) 2 two) ∙ (λ i. first i ∷ second i ∷ [])
 
-    whole : (s : List ℕ) → Listed (listOf g most s)
-    unfolding listOf
-    whole s = all-from most [] s (omega arith) refl
+  power-sound : CanRead (Query Powr) p (readPower p)
+  unfolding readPower powerNamed saidBytes
+  power-sound =
+      guarded (eqb (length p) 1) (λ one.
+      shown _ (power Off) (byte-is one)
+      (shown _ (power On) (byte-is one)
+      (shown _ (power Cooling) (byte-is one)
+      (shown _ (power WarmUp) (byte-is one) no-answer))))
 
-lamp-begun : (s : List ℕ) → Begun isLampHours lampHead lampsMost (lampHead s)
-unfolding lampAt
-lamp-begun s =
-    tested (leb (wordLong s + 2) (length s) && s at (wordLong s + 1) from "0" to "1")
-    (readNumber (take (wordLong s) s)) refl
-  where
-    tested : (t : Bool) (r : Number) → readNumber (take (wordLong s) s) ≡ r
-        → Begun isLampHours lampHead lampsMost
-        (lampIn (wordLong s + 2) (if t then lampWith (s at (wordLong s + 1) is "1") r else NoLamp))
-    tested true (Value n) e = begun _ _ (le-leb n hoursMost (omega (arith, read-below (take (wordLong s) s) n e)))
-    tested true NotANumber e = not-begun
-    tested false r e = not-begun
+  chosen-sound : CanRead (Query Inpt) p (readChosen p)
+  unfolding readChosen saidBytes
+  chosen-sound =
+      guarded (eqb (length p) 2) (λ two.
+      read-input-by (λ m. CanRead (Query Inpt) p (chosenOr m)) (p at 0) (p at 1)
+      (λ e. answer (record {
+        can = input _ (named-is-input (p at 0) (p at 1) e);
+        written = by-places 2 p (eqb-true (length p) 2 two) ∙ sym (named-text (p at 0) (p at 1) e);
+      }))
+      no-answer)
 
-input-begun : (s : List ℕ) → Begun isInput inputHead inputsMost (inputHead s)
-input-begun s =
-    read-input-by (λ m. Begun isInput inputHead inputsMost (inputIn m)) (s at 0) (s at 1)
-    (λ e. begun _ _ (named-is-input (s at 0) (s at 1) e)) not-begun
+  mutes-sound : CanRead (Query Avmt) p (readMutes p)
+  unfolding readMutes mutesNamed saidBytes
+  mutes-sound =
+      guarded (eqb (length p) 2) (λ two.
+      shown _ (mutes true false) (bytes-are two)
+      (shown _ (mutes false true) (bytes-are two)
+      (shown _ (mutes true true) (bytes-are two)
+      (shown _ (mutes false false) (bytes-are two) no-answer))))
 
-lamps-sound : (p : List ℕ) → CanRead (Query Lamp) (readLamps p)
-unfolding readLamps
-lamps-sound p = by (whole isLampHours lampHead lampsMost lamp-begun p)
-  where
-    by : {q : Got LampHours} → Listed isLampHours lampHead lampsMost q → CanRead (Query Lamp) (lampsGot q)
-    by not-listed = no-answer
-    by (listed xs l h e) = answer (lamps xs l h e)
+  errors-sound : CanRead (Query Erst) p (readErrors p)
+  unfolding readErrors saidBytes
+  errors-sound =
+      guarded (eqb (length p) errorsCount && every isErrorText p) (λ e.
+      let six = eqb-true (length p) errorsCount (both-left (eqb (length p) errorsCount) (every isErrorText p) e) in
+      let told = errors-are p (both-right (eqb (length p) errorsCount) (every isErrorText p) e) in
+      answer (record { can = errors (map errorOf p) (length-map p errorOf ∙ six) (told .0); written = told .1 }))
 
-inputs-sound : (p : List ℕ) → CanRead (Query Inst) (readInputs p)
-unfolding readInputs
-inputs-sound p = by (whole isInput inputHead inputsMost input-begun p)
-  where
-    by : {q : Got Input} → Listed isInput inputHead inputsMost q → CanRead (Query Inst) (inputsGot q)
-    by not-listed = no-answer
-    by (listed xs l h e) = answer (inputs xs l h e)
+  lamps-sound : CanRead (Query Lamp) p (readLamps p)
+  unfolding readLamps saidBytes
+  lamps-sound =
+      list-by lampText isLampHours lampHead lamp-headed (λ q. CanRead (Query Lamp) p (lampsGot q)) no-answer
+      lampsMost p (λ xs some most good text. answer (record { can = lamps xs some most good; written = text }))
 
-errors-small : (p : List ℕ) → every isErrorText p ≡ true → every isErrorDigit (map errorOf p) ≡ true
-errors-small [] e = refl
-errors-small (b ∷ p) e =
-    let text = both-left (isErrorText b) (every isErrorText p) e in
-    let high = leb-true b (code "2") (both-right (leb (code "0") b) (leb b (code "2")) text) in
-    both (le-leb (errorOf b) 2 (omega arith)) (errors-small p (both-right (isErrorText b) (every isErrorText p) e))
+  inputs-sound : CanRead (Query Inst) p (readInputs p)
+  unfolding readInputs saidBytes
+  inputs-sound =
+      list-by inputText isInput inputHead input-headed (λ q. CanRead (Query Inst) p (inputsGot q)) no-answer
+      inputsMost p (λ xs some most good text. answer (record { can = inputs xs some most good; written = text }))
 
-queried-sound : (b : Body) (p : List ℕ) → CanRead (Query b) (readQueried b p)
-unfolding readPower powerNamed readChosen readMutes mutesNamed readErrors
-queried-sound Powr p =
-    let b = p at 0 in
-    if-all (CanRead _) (eqb (length p) 1)
-    (if-all (CanRead _) (b is "0") (answer (power _)) (if-all (CanRead _) (b is "1") (answer (power _))
-    (if-all (CanRead _) (b is "2") (answer (power _)) (if-all (CanRead _) (b is "3") (answer (power _)) no-answer))))
-    no-answer
-queried-sound Inpt p =
-    if-all (CanRead _) (eqb (length p) 2)
-    (read-input-by (λ m. CanRead (Query Inpt) (chosenOr m)) (p at 0) (p at 1)
-    (λ e. answer (input _ (named-is-input (p at 0) (p at 1) e))) no-answer)
-    no-answer
-queried-sound Avmt p =
-    let a = p at 0 in
-    let b = p at 1 in
-    if-all (CanRead _) (eqb (length p) 2)
-    (if-all (CanRead _) (a is "1" && b is "1") (answer (mutes _ _))
-    (if-all (CanRead _) (a is "2" && b is "1") (answer (mutes _ _))
-    (if-all (CanRead _) (a is "3" && b is "1") (answer (mutes _ _))
-    (if-all (CanRead _) (a is "3" && b is "0") (answer (mutes _ _)) no-answer))))
-    no-answer
-queried-sound Erst p =
-    if-by (CanRead _) (eqb (length p) errorsCount && every isErrorText p)
-    (λ e.
-    let six = eqb-true (length p) errorsCount (both-left (eqb (length p) errorsCount) (every isErrorText p) e) in
-    answer (errors (map errorOf p) (length-map p errorOf ∙ six)
-    (errors-small p (both-right (eqb (length p) errorsCount) (every isErrorText p) e))))
-    (λ e. no-answer)
+  -- the bytes themselves are the text
+  text-sound : {b : Body} (t : Bool) → (t ≡ true → CanSay (Query b) (textIs p))
+      → CanRead (Query b) p (if t then textIs p else nothing)
+  unfolding saidBytes
+  text-sound t can = guarded t (λ e. answer (record { can = can e; written = refl }))
+
+queried-sound : (b : Body) (p : List ℕ) → CanRead (Query b) p (readQueried b p)
+unfolding saidBytes
+queried-sound Powr p = power-sound p
+queried-sound Inpt p = chosen-sound p
+queried-sound Avmt p = mutes-sound p
+queried-sound Erst p = errors-sound p
 queried-sound Lamp p = lamps-sound p
 queried-sound Inst p = inputs-sound p
-queried-sound Name p = if-by (CanRead _) (isName p) (λ e. answer (name p e)) (λ e. no-answer)
-queried-sound Inf1 p = if-by (CanRead _) (isInfo p) (λ e. answer (maker p e)) (λ e. no-answer)
-queried-sound Inf2 p = if-by (CanRead _) (isInfo p) (λ e. answer (model p e)) (λ e. no-answer)
-queried-sound Info p = if-by (CanRead _) (isInfo p) (λ e. answer (other p e)) (λ e. no-answer)
-queried-sound Clss p = if-all (CanRead _) (p says ascii "1") (answer class-1) no-answer
+queried-sound Name p = text-sound p (isName p) (name p)
+queried-sound Inf1 p = text-sound p (isInfo p) (maker p)
+queried-sound Inf2 p = text-sound p (isInfo p) (model p)
+queried-sound Info p = text-sound p (isInfo p) (other p)
+queried-sound Clss p = shown _ class-1 (same-is p (ascii "1")) no-answer
 
-value-sound : (c : Command) (p : List ℕ) → CanRead c (readValue c p)
-value-sound (PowerSet on) p = if-all (CanRead _) (p says ascii "OK") (answer (done refl)) no-answer
-value-sound (InputSet i) p = if-all (CanRead _) (p says ascii "OK") (answer (done refl)) no-answer
-value-sound (MuteSet half on) p = if-all (CanRead _) (p says ascii "OK") (answer (done refl)) no-answer
+ok-sound : (c : Command) (p : List ℕ) → isSet c ≡ true → CanRead c p (readOk p)
+unfolding saidBytes
+ok-sound c p set = shown _ (done set) (same-is p (ascii "OK")) no-answer
+
+value-sound : (c : Command) (p : List ℕ) → CanRead c p (readValue c p)
+value-sound (PowerSet on) p = ok-sound (PowerSet on) p refl
+value-sound (InputSet i) p = ok-sound (InputSet i) p refl
+value-sound (MuteSet half on) p = ok-sound (MuteSet half on) p refl
 value-sound (Query b) p = queried-sound b p
 
-pub read-sound : (c : Command) (p : List ℕ) → CanRead c (readParameter c p)
-unfolding readParameter
+pub read-sound : (c : Command) (p : List ℕ) → CanRead c p (readParameter c p)
+unfolding readParameter saidBytes
 read-sound c p =
     let n = refusalOf p in
-    if-by (CanRead c) (eqb n 0) (λ e. value-sound c p)
-    (λ e. if-by (CanRead c) (isRefusalTo c n)
-    (λ t. answer (refuses n (let some = eqb-false n 0 e in omega arith) (refusal-at-most-4 p) t)) (λ t. no-answer))
+    if-by (CanRead c p) (eqb n 0) (λ e. value-sound c p)
+    (λ e.
+    let some : n ≡ 0 → ⊥ = eqb-false n 0 e in
+    guarded (isRefusalTo c n) (λ t. answer (record {
+      can = refuses n (omega arith) (refusal-at-most-4 p) t;
+      written = refusal-text p some;
+    })))

@@ -1,15 +1,16 @@
 -- The first word of a text, which a space or the end closes: what a loop over the bytes learns of its length.
 -- Assumes nothing.
-use Prim.Native.Nat.{ℕ, _+_, _<_, _≤_}
+use Prim.Native.Nat.{ℕ, suc, _+_, _<_, _≤_}
 use Prim.Native.Char.{code}
-use mathlib.Core.Path.{_≡_, ap}
+use mathlib.Core.Path.{_≡_, refl, ap, _∙_}
+use mathlib.Core.Bool.{Bool, true, false}
 use mathlib.Core.List.{List, [], _∷_}
 use native.Mathlib.Numerals.{add-one}
 use native.Mathlib.Omega.{arith}
 use lib.ListN.{length, getD, drop, drop-of-length-le}
 use lib.Seq.{drop-cons}
-use borrow.Author.Tests.{eq-eqb, ne-eqb}
-use Rattle.text.specs.Words.{_is_}
+use borrow.Author.Tests.{eq-eqb, ne-eqb, eqb-true}
+use Rattle.text.specs.Words.{if_then_else_, _is_}
 use Rattle.text.proofs.Choices.{if-all}
 use Rattle.answers.specs.Reading.{wordLong}
 
@@ -44,3 +45,16 @@ word-within (b ∷ bs) = go (word-within bs)
   where
     go : wordLong bs ≤ length bs → wordLong (b ∷ bs) ≤ length (b ∷ bs)
     go h = if-all (λ (n : ℕ). n ≤ length (b ∷ bs)) (b is " ") (omega arith) (omega arith)
+
+-- a space follows the word, unless the text ends there
+pub word-then-space : (s : List ℕ) → wordLong s < length s → getD s (wordLong s) 0 ≡ code " "
+word-then-space [] h = absurd (omega arith)
+word-then-space (b ∷ bs) h = by (b is " ") refl h (word-then-space bs)
+  where
+    by : (t : Bool) → (b is " ") ≡ t → (if t then 0 else 1 + wordLong bs) < length (b ∷ bs)
+        → (wordLong bs < length bs → getD bs (wordLong bs) 0 ≡ code " ")
+        → getD (b ∷ bs) (if t then 0 else 1 + wordLong bs) 0 ≡ code " "
+    by true e l rest = eqb-true b (code " ") e
+    by false e l rest =
+        let next : 1 + wordLong bs ≡ suc (wordLong bs) = omega arith in
+        ap (λ (k : ℕ). getD (b ∷ bs) k 0) next ∙ rest (omega arith)

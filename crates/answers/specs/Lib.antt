@@ -3,4 +3,5 @@ pub mod Said
 pub mod Carried
 pub mod Reading
 pub mod CanSay
+pub mod Writings
 pub mod Computing

@@ -14,8 +14,8 @@ use Rattle.controller.specs.Reading.{readReply}
 use Rattle.controller.proofs.Cases.{reply-by}
 
 module _ (c : Command) (l : List ℕ) where
-  sayable : {m : Said} → CanRead c m → isSayable m ≡ true
-  sayable (answer can) = can-sayable can
+  sayable : {p : List ℕ} {m : Said} → CanRead c p m → isSayable m ≡ true
+  sayable (answer said) = can-sayable (said .can)
   sayable no-answer = refl
 
   pub reading-said : saidBy (answerOf (readReply c l .said)) ≡ readReply c l .said

@@ -5,17 +5,19 @@
 --                         greeted, and the reply read as what the connection now is
 -- Assumes nothing.
 use Prim.Native.Nat.{ℕ, _^_, _≤_, _<_}
+use Prim.Native.Char.{code}
 use mathlib.Core.Path.{_≡_, refl, sym, ap, subst, _∙_}
 use mathlib.Core.Bool.{true}
-use mathlib.Core.List.{List, [], _∷_, map}
-use lib.Dec.{eqb}
+use mathlib.Core.List.{List, [], _∷_}
+use lib.Dec.{eqb, leb}
 use native.Mathlib.Omega.{arith}
-use borrow.Author.Tests.{eq-eqb}
-use Rattle.text.specs.Words.{if_then_else_}
+use borrow.Author.Tests.{eq-eqb, leb-true}
+use Rattle.text.specs.Words.{if_then_else_, _from_to_}
 use Rattle.text.specs.Scans.{sameBy, itself}
-use Rattle.text.proofs.Choices.{both}
-use Rattle.text.proofs.Sameness.{same-turned}
+use Rattle.text.proofs.Choices.{both, both-right, if-by}
+use Rattle.text.proofs.Sameness.{same-is}
 use Rattle.digest.specs.Hex.{hexDigits}
+use Rattle.lines.specs.Bytes.{_at_}
 use Rattle.lines.specs.Forms.{erraLine, greetingOpen, greetingSecured}
 use Rattle.record.specs.Limits.{shut, awaiting}
 use Rattle.record.specs.Legal.{isLegal}
@@ -24,7 +26,7 @@ use Rattle.record.specs.declared.types.Settings.{Settings}
 use Rattle.record.specs.declared.types.Device.{Device}
 use Rattle.device.specs.Calls.{Result, replyRoom, withParts, greeting, greeted, openedBy}
 use Rattle.device.proofs.Cases.{opened-greeted, greeted-by}
-use Rattle.controller.specs.Greetings.{greets, randomIn, readGreeting, numberOf}
+use Rattle.controller.specs.Greetings.{digitValue, greets, randomIn, readGreeting, numberOf}
 use Rattle.controller.specs.declared.greeting.Greeting.{Greeting}
 use Rattle.controller.specs.declared.greeting.Greeting.the-variants.{Open, Secured, Refused, NotAGreeting}
 use Rattle.controller.proofs.Cases.{greeting-by, greeting-secured}
@@ -56,16 +58,33 @@ module _ (r : ℕ) (word : r < 2 ^ 32) where
       greeting-secured line refl refl (ap (greets line) random-back ∙ same-self line) ∙ ap Secured random-back
 
 -- and nothing else is
-same-is : (s t : List ℕ) → sameBy itself s t ≡ true → s ≡ t
-same-is s t e = sym (map-itself s) ∙ same-turned itself s t e
-  where
-    map-itself : (s : List ℕ) → map itself s ≡ s
-    map-itself [] = refl
-    map-itself (x ∷ s) = ap (λ (l : List ℕ). x ∷ l) (map-itself s)
+-- a digit is below 16, so eight of them are below 2^32
+digit-below : (b : ℕ) → digitValue b < 16
+unfolding digitValue
+digit-below b =
+    if-by (λ (n : ℕ). n < 16) (b from "0" to "9")
+    (λ e. omega (arith, leb-true b (code "9") (both-right (leb (code "0") b) _ e)))
+    (λ _. if-by (λ (n : ℕ). n < 16) (b from "a" to "f")
+    (λ e. omega (arith, leb-true b (code "f") (both-right (leb (code "a") b) _ e))) (λ _. omega arith))
+
+pub random-below : (l : List ℕ) → randomIn l < 2 ^ 32
+unfolding randomIn
+random-below l =
+    omega (
+      arith,
+      digit-below (l at 9),
+      digit-below (l at 10),
+      digit-below (l at 11),
+      digit-below (l at 12),
+      digit-below (l at 13),
+      digit-below (l at 14),
+      digit-below (l at 15),
+      digit-below (l at 16),
+    )
 
 abbrev pub Exactly : List ℕ → Greeting → Type 0
 Exactly l Open = l ≡ greetingOpen
-Exactly l (Secured r) = l ≡ greetingSecured (hexDigits 8 r)
+Exactly l (Secured r) = (r < 2 ^ 32) × (l ≡ greetingSecured (hexDigits 8 r))
 Exactly l Refused = l ≡ erraLine
 Exactly l NotAGreeting = (l ≡ greetingOpen → ⊥) × ((l ≡ erraLine → ⊥)
     × ((r : ℕ) → r < 2 ^ 32 → l ≡ greetingSecured (hexDigits 8 r) → ⊥))
@@ -78,7 +97,7 @@ other-line l t none some e =
 pub heard-exactly : (l : List ℕ) → Exactly l (readGreeting l)
 heard-exactly l =
     greeting-by l (λ g. readGreeting l ≡ g → Exactly l g) (λ e q. same-is l greetingOpen e)
-    (λ e q. same-is l erraLine e) (λ e q. same-is l _ e)
+    (λ e q. same-is l erraLine e) (λ e q. (random-below l, same-is l _ e))
     (λ q. (
       other-line l greetingOpen q (ap numberOf open-heard),
       (

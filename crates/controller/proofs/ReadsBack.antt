@@ -66,7 +66,7 @@ pub record ReadBack (d : Device) (c : Command) (bs : List ℕ) (r : Result Devic
   pub said : readReply c (r .reply) ≡ meaning (meant (d .settings) (d .own) (Asks c))
 
 -- every answer that a command can have means something
-can-mean : {c : Command} {m : Said} → CanSay c m → outcomeOf m ≡ Means
+pub can-mean : {c : Command} {m : Said} → CanSay c m → outcomeOf m ≡ Means
 can-mean (does s) = refl
 can-mean (refuses n l h t) = refl
 can-mean (power p) = refl

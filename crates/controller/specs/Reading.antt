@@ -4,9 +4,11 @@
 --   readReply c l       what the line l, with its CR, says to the command c: the ERRA line, then the form, then the
 --                       body, then the parameter
 --   readingOf r         this as the code returns it
+--   LineSays c l m      the line l, with its CR, says m in reply to c: by its form, its body and its parameter
 -- Assumes nothing.
 use Prim.Native.Nat.{ℕ}
-use mathlib.Core.Bool.{not}
+use mathlib.Core.Path.{_≡_}
+use mathlib.Core.Bool.{true, not}
 use mathlib.Core.List.{List}
 use Rattle.text.specs.Words.{if_then_else_}
 use Rattle.text.specs.Scans.{sameBy, itself}
@@ -17,6 +19,7 @@ use Rattle.lines.specs.declared.command.Command.{Command}
 use Rattle.answers.specs.Said.{Said, okay, refused, powerIs, chosenIs, mutesAre, errorsAre, lampsAre, inputsAre, textIs, classIs1, nothing}
 use Rattle.answers.specs.Carried.{answerOf}
 use Rattle.answers.specs.Reading.{readParameter}
+use Rattle.answers.specs.Writings.{Says}
 use Rattle.answers.specs.declared.answer.Kind.{Kind}
 use Rattle.answers.specs.declared.answer.Kind.the-variants.{Ok, Refused, Powered, Chosen, Muted, Errors, Lamps, Inputs, Text, Class, Nothing}
 use Rattle.controller.specs.declared.reading.Outcome.{Outcome}
@@ -63,6 +66,12 @@ readReply c l =
 
 abbrev pub readingOf : ReadAs → Reading
 readingOf r = record { outcome = r .outcome; answer = answerOf (r .said) }
+
+-- whoever reads it
+pub record LineSays (c : Command) (l : List ℕ) (m : Said) : Type 0 where
+  pub form : isReplyForm l ≡ true
+  pub body : isBody (headBody l) (bodyOf c) ≡ true
+  pub says : Says c m (replyParameter l)
 
 -- the outcome by the kind of the answer
 abbrev pub kindOutcome : Kind → Outcome

@@ -1,7 +1,9 @@
+pub mod ByPlaces
 pub mod Refusals
 pub mod TextsTold
 pub mod Characters
 pub mod InputsReadBack
+pub mod SourcesFollowed
 pub mod Bodies
 mod Keyed
 pub mod CommandLines

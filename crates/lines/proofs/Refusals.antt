@@ -1,38 +1,62 @@
 -- What the test for ERR1 to ERR4 tells of the bytes that pass it, and what passes it.
 -- Assumes nothing.
-use mathlib.Core.Path.{_≡_, refl}
+use mathlib.Core.Path.{_≡_, refl, _∙_}
 use mathlib.Core.Bool.{Bool, true, false, _&&_}
-use mathlib.Core.List.{List, [], _∷_}
+use mathlib.Core.List.{List, [], _∷_, _++_}
 use native.Mathlib.Omega.{arith}
 use Prim.Native.Nat.{ℕ, _+_, _-_, _%_, _≤_}
 use Prim.Native.Char.{code}
 use lib.ListN.{length}
 use lib.Dec.{leb, eqb}
 use borrow.Author.Tests.{eqb-true, leb-true, le-leb, ne-eqb}
-use Rattle.text.specs.Words.{_is_, _from_to_}
+use Rattle.text.specs.Words.{ascii, _is_, _from_to_}
 use Rattle.text.proofs.Choices.{if-no, if-by, both-left, both-right}
 use Rattle.lines.specs.Bytes.{_at_}
 use Rattle.lines.specs.Inputs.{numberDigit}
 use Rattle.lines.specs.Texts.{isRefusal, refusalOf}
+use Rattle.lines.proofs.ByPlaces.{by-places}
+
+-- the tests, one by one
+record Told (s : List ℕ) : Type 0 where
+  long : length s ≡ 4
+  first : s at 0 ≡ code "E"
+  second : s at 1 ≡ code "R"
+  third : s at 2 ≡ code "R"
+  low : code "1" ≤ s at 3
+  high : s at 3 ≤ code "4"
 
 module _ (s : List ℕ) (r : isRefusal s ≡ true) where
-  digit : s at 3 from "1" to "4" ≡ true
+  told : Told s
   unfolding isRefusal
-  digit = both-right (eqb (length s) 4 && s at 0 is "E" && s at 1 is "R" && s at 2 is "R") _ r
+  told =
+      let four = eqb (length s) 4 in
+      let e = four && s at 0 is "E" in
+      let er = e && s at 1 is "R" in
+      let err = er && s at 2 is "R" in
+      let digit = both-right err (s at 3 from "1" to "4") r in
+      let is-err = both-left err (s at 3 from "1" to "4") r in
+      let is-er = both-left er (s at 2 is "R") is-err in
+      let is-e = both-left e (s at 1 is "R") is-er in
+      record {
+        long = eqb-true (length s) 4 (both-left four (s at 0 is "E") is-e);
+        first = eqb-true (s at 0) (code "E") (both-right four (s at 0 is "E") is-e);
+        second = eqb-true (s at 1) (code "R") (both-right e (s at 1 is "R") is-er);
+        third = eqb-true (s at 2) (code "R") (both-right er (s at 2 is "R") is-err);
+        low = leb-true (code "1") (s at 3) (both-left (leb (code "1") (s at 3)) (leb (s at 3) (code "4")) digit);
+        high = leb-true (s at 3) (code "4") (both-right (leb (code "1") (s at 3)) (leb (s at 3) (code "4")) digit);
+      }
 
   pub refusal-long : length s ≡ 4
-  unfolding isRefusal
-  refusal-long =
-      let before = both-left (eqb (length s) 4 && s at 0 is "E" && s at 1 is "R" && s at 2 is "R") _ r in
-      let before = both-left (eqb (length s) 4 && s at 0 is "E" && s at 1 is "R") _ before in
-      let before = both-left (eqb (length s) 4 && s at 0 is "E") _ before in
-      eqb-true (length s) 4 (both-left (eqb (length s) 4) _ before)
+  refusal-long = told .long
 
-  pub refusal-low : 49 ≤ s at 3
-  refusal-low = leb-true 49 (s at 3) (both-left _ (leb (s at 3) 52) digit)
+  pub refusal-low : code "1" ≤ s at 3
+  refusal-low = told .low
 
-  pub refusal-high : s at 3 ≤ 52
-  refusal-high = leb-true (s at 3) 52 (both-right (leb 49 (s at 3)) _ digit)
+  refusal-spelt : s ≡ ascii "ERR" ++ (numberDigit ((s at 3) - code "0") ∷ [])
+  refusal-spelt =
+      let t = told in
+      let digit : s at 3 ≡ numberDigit ((s at 3) - code "0") = omega arith in
+      by-places 4 s (t .long) ∙ (λ i. t .first i ∷ t .second i ∷ t .third i ∷ digit i ∷ [])
 
 -- bytes that do not begin with `E` are no refusal
 pub first-not-E : (p : List ℕ) → (p at 0 ≡ code "E" → ⊥) → refusalOf p ≡ 0
@@ -46,7 +70,7 @@ first-not-E p h = rw (ne-eqb (p at 0) (code "E") h) (if-no ((p at 3) - code "0")
 pub refusal-at-most-4 : (p : List ℕ) → refusalOf p ≤ 4
 unfolding refusalOf
 refusal-at-most-4 p =
-    if-by (λ (n : ℕ). n ≤ 4) (isRefusal p) (λ r. omega (arith, refusal-high p r)) (λ r. omega arith)
+    if-by (λ (n : ℕ). n ≤ 4) (isRefusal p) (λ r. omega (arith, told p r)) (λ r. omega arith)
 
 -- only four bytes are one
 pub not-four-no-refusal : (p : List ℕ) → (length p ≡ 4 → ⊥) → refusalOf p ≡ 0
@@ -60,3 +84,10 @@ refusal-back n l h =
     let e : n % 10 ≡ n = omega arith in
     let back : code "0" + n - code "0" ≡ n = omega arith in
     rw (e, le-leb (code "1") (code "0" + n) (omega arith), le-leb (code "0" + n) (code "4") (omega arith)) back
+
+-- and what is one was written so
+pub refusal-text : (p : List ℕ) → (refusalOf p ≡ 0 → ⊥) → p ≡ ascii "ERR" ++ (numberDigit (refusalOf p) ∷ [])
+unfolding refusalOf
+refusal-text p =
+    if-by (λ (n : ℕ). (n ≡ 0 → ⊥) → p ≡ ascii "ERR" ++ (numberDigit n ∷ [])) (isRefusal p)
+    (λ r some. refusal-spelt p r) (λ r some. absurd (some refl))

@@ -2,8 +2,8 @@
 -- of the form has its head and its CR.
 -- Assumes nothing.
 use Prim.Native.Nat.{ℕ, _+_, _-_, _≤_}
-use mathlib.Core.Path.{_≡_, refl, ap, _∙_}
-use mathlib.Core.Bool.{true, false, _&&_}
+use mathlib.Core.Path.{_≡_, refl, sym, ap, _∙_}
+use mathlib.Core.Bool.{Bool, true, false, _&&_}
 use mathlib.Core.List.{List, [], _∷_, _++_}
 use native.Mathlib.Omega.{arith}
 use lib.ListN.{length, take, length-append}
@@ -13,6 +13,7 @@ use borrow.Author.Tests.{leb-true, le-leb, eq-eqb}
 use Rattle.text.specs.Words.{ascii}
 use Rattle.text.specs.Scans.{every, sameBy, itself}
 use Rattle.text.proofs.Choices.{both, both-left, both-right}
+use Rattle.text.proofs.Sameness.{same-is}
 use Rattle.lines.specs.Bytes.{_at_, isAlnum, noCr}
 use Rattle.lines.specs.Forms.{isHeaded, headBody, replyMost, isReplyForm, replyParameter, replyLine, erraLine}
 
@@ -69,3 +70,12 @@ reply-long l e =
     let headed = short && isHeaded 61 l in
     let ended = headed && eqb (l at (length l - 1)) 13 in
     leb-true 8 (length l) (both-left enough _ (both-left short _ (both-left headed _ (both-left ended _ e))))
+
+-- no reply of the form is the ERRA line
+pub form-not-erra : (l : List ℕ) → isReplyForm l ≡ true → sameBy itself l erraLine ≡ false
+unfolding isReplyForm noCr
+form-not-erra l formed = by (sameBy itself l erraLine) refl
+  where
+    by : (t : Bool) → sameBy itself l erraLine ≡ t → t ≡ false
+    by true e = sym formed ∙ ap isReplyForm (same-is l erraLine e)
+    by false e = refl

@@ -3,7 +3,7 @@
 use Prim.Native.Nat.{ℕ}
 use mathlib.Core.Path.{_≡_, refl, sym, ap, _∙_}
 use mathlib.Core.Bool.{true, _&&_}
-use mathlib.Core.List.{List, [], _∷_, map}
+use mathlib.Core.List.{List, [], _∷_, map, map-id}
 use lib.Dec.{eqb}
 use borrow.Author.Tests.{eqb-true, eq-eqb}
 use Rattle.text.specs.Scans.{sameBy, itself}
@@ -16,6 +16,10 @@ same-turned f (x ∷ xs) [] e = cc
 same-turned f (x ∷ xs) (y ∷ ys) e =
     (λ i. eqb-true (f x) y (both-left (eqb (f x) y) (sameBy f xs ys) e) i
     ∷ same-turned f xs ys (both-right (eqb (f x) y) (sameBy f xs ys) e) i)
+
+-- no byte turned
+pub same-is : (s t : List ℕ) → sameBy itself s t ≡ true → s ≡ t
+same-is s t e = sym (map-id s) ∙ same-turned itself s t e
 
 pub turned-same : (f : ℕ → ℕ) (s t : List ℕ) → map f s ≡ t → sameBy f s t ≡ true
 turned-same f s t e = ap (sameBy f s) (sym e) ∙ of-map s
