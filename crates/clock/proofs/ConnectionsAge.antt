@@ -70,14 +70,17 @@ closes (suc (suc n)) c e g h =
     ap connectionSecond (grows-older (suc n) c e k) ∙ second-closes (aged c (c .age + suc n)) e (omega arith))
     (le-or-lt ageEnd (c .age + suc n))
 
--- its line is kept, or is the closed connection's
-module _ (P : Line → Type 0) (none : P (closed .line)) where
-  abbrev OfLine : Connection → Type 0
-  OfLine c = P (c .line)
-
-  line-second : (c : Connection) → OfLine c → OfLine (connectionSecond c)
+-- what holds of it at every age, and of the closed connection, holds of it later
+module _ (P : Connection → Type 0) (none : P closed) (older : (c : Connection) (age : ℕ) → P c → P (aged c age)) where
+  connection-second : (c : Connection) → P c → P (connectionSecond c)
   unfolding connectionSecond
-  line-second c p = if-all OfLine (isTimed (c .phase)) (if-all OfLine (ltb (c .age + 1) ageEnd) p none) p
+  connection-second c p =
+      if-all P (isTimed (c .phase)) (if-all P (ltb (c .age + 1) ageEnd) (older c (c .age + 1) p) none) p
 
-  pub line-then : (n : ℕ) (c : Connection) → OfLine c → OfLine (times connectionSecond n c)
-  line-then n c p = times-keeps OfLine connectionSecond line-second n c p
+  pub connection-then : (n : ℕ) (c : Connection) → P c → P (times connectionSecond n c)
+  connection-then n c p = times-keeps P connectionSecond connection-second n c p
+
+-- its line is kept, or is the closed connection's
+pub line-then : (P : Line → Type 0) → P (closed .line) → (n : ℕ) (c : Connection) → P (c .line)
+    → P (times connectionSecond n c .line)
+line-then P none n c p = connection-then (λ (k : Connection). P (k .line)) none (λ k age q. q) n c p

@@ -109,6 +109,26 @@ greeted-by s r P secured plain = by (isSecured s)
     by true = secured
     by false = plain
 
+-- a password of length 0 means no security, and any other that the digest is awaited
+module _ (s : Settings) (r : ℕ) where
+  module _ (on : isSecured s ≡ true) where
+    pub secured-greeting : greeting s r ≡ greetingSecured (hexDigits 8 r)
+    unfolding greeting
+    secured-greeting = if-yes _ _ on
+
+    pub secured-greeted : greeted s r ≡ record { phase = awaiting; age = 0; random = r; line = emptyLine }
+    unfolding greeted
+    secured-greeted = ap (λ (p : ℕ). record { phase = p; age = 0; random = r; line = emptyLine }) (if-yes _ _ on)
+
+  module _ (none : isSecured s ≡ false) where
+    pub open-greeting : greeting s r ≡ greetingOpen
+    unfolding greeting
+    open-greeting = if-no _ _ none
+
+    pub open-greeted : greeted s r ≡ record { phase = opened; age = 0; random = r; line = emptyLine }
+    unfolding greeted
+    open-greeted = ap (λ (p : ℕ). record { phase = p; age = 0; random = r; line = emptyLine }) (if-no _ _ none)
+
 -- closing: 1, 4, or the closed connection
 module _ (d : Device) where
   pub closed-by : (P : Result Device → Type 0)

@@ -3,11 +3,11 @@
 --   isLed s c l       the line l starts with the digest of the random number and the password, and is not overlong
 -- Assumes nothing.
 use Prim.Native.Nat.{ℕ, _≤_, _<_}
+use Prim.Native.Char.{code}
 use mathlib.Core.Path.{_≡_, sym, ap, _∙_}
 use mathlib.Core.Bool.{Bool, true, false, not, _&&_, false≢true}
-use mathlib.Core.List.{List, [], _∷_, _++_}
+use mathlib.Core.List.{List, _∷_, _++_}
 use mathlib.Core.Logic.{⊎-elim}
-use native.Mathlib.Omega.{arith}
 use lib.ListN.{length, take}
 use lib.Dec.{leb}
 use borrow.Author.Tests.{leb-true, le-leb}
@@ -24,10 +24,9 @@ use Rattle.record.specs.declared.types.Connection.{Connection}
 use Rattle.record.proofs.Kept.{room-first}
 use Rattle.record.proofs.ConnectionTold.{held-most-awaiting}
 use Rattle.stream.specs.declared.Gathered.{Gathered}
-use Rattle.stream.specs.Collecting.{lineOf, emptyLine, overlongLine, gathered}
+use Rattle.stream.specs.Collecting.{lineOf, emptyLine, overlongLine, collectedAll, gathered}
 use Rattle.stream.proofs.LinesSpelt.{overlong-marked}
-use Rattle.stream.proofs.GatheredOn.{line-counted}
-use Rattle.stream.proofs.LinesCollected.{empty-is-none, line-gathered, overlong-gathered}
+use Rattle.stream.proofs.CollectedOn.{whole-gathered, collected-whole, collected-overlong}
 use Rattle.device.specs.Receiving.{isMatch, digestLong, passwordOf}
 use Rattle.device.proofs.Outsiders.{Unmatched}
 
@@ -57,29 +56,27 @@ module _ (s : Settings) (c : Connection) where
   unled-short l short unled =
       alike (isMatch s c (lineOf l)) false (λ e. sym unled ∙ match-led l short e) (λ e. absurd (false≢true e))
 
+  -- without the matching digest, or overlong, what is collected of it does not match
+  pub unled-collected : (l : List ℕ) → every notCr l ≡ true → isLed l ≡ false
+      → isMatch s c (collectedAll lineRoom emptyLine l) ≡ false
+  unled-collected l plain unled =
+      ⊎-elim
+      (λ (short : length l ≤ lineRoom). ap (isMatch s c) (collected-whole l plain short) ∙ unled-short l short unled)
+      (λ (long : lineRoom < length l). ap (isMatch s c) (collected-overlong l plain long) ∙ overlong-unmatched)
+      (le-or-lt (length l) lineRoom)
+
   module _ (empty : c .line ≡ emptyLine) (phase : c .phase ≡ awaiting) (l more : List ℕ) (plain : noCr l ≡ true) where
     abbrev first : Gathered
-    first = gathered (heldMost (c .phase)) (c .line) (l ++ (13 ∷ more))
+    first = gathered (heldMost (c .phase)) (c .line) (l ++ (code "\r" ∷ more))
 
-    plainly : every notCr l ≡ true
-    plainly = no-cr-each l plain
-
-    from-none : first ≡ gathered lineRoom (lineOf []) (l ++ (13 ∷ more))
-    from-none =
-        (λ i. gathered ((ap heldMost phase ∙ held-most-awaiting) i) ((empty ∙ empty-is-none) i) (l ++ (13 ∷ more)))
+    whole : first ≡ record { line = collectedAll lineRoom emptyLine l; before = length l; ended = true }
+    whole =
+        (λ i. gathered ((ap heldMost phase ∙ held-most-awaiting) i) (empty i) (l ++ (code "\r" ∷ more)))
+        ∙ whole-gathered lineRoom emptyLine l more (no-cr-each l plain)
 
     pub first-line-ends : first .ended ≡ true
-    first-line-ends = line-counted (heldMost (c .phase)) (c .line) l more plainly .1
+    first-line-ends = ap (λ (g : Gathered). g .ended) whole
 
-    -- without the matching digest, or overlong, it does not match
-    pub unled-unmatched : isLed l ≡ false → Unmatched s c (l ++ (13 ∷ more))
+    pub unled-unmatched : isLed l ≡ false → Unmatched s c (l ++ (code "\r" ∷ more))
     unled-unmatched unled ended =
-        ⊎-elim (λ (short : length l ≤ lineRoom).
-        ap (λ (g : Gathered). isMatch s c (g .line))
-        (from-none ∙ line-gathered lineRoom [] l more (omega arith) (omega arith) plainly)
-        ∙ unled-short l short unled)
-        (λ (long : lineRoom < length l).
-        ap (λ (g : Gathered). isMatch s c (g .line))
-        (from-none ∙ overlong-gathered lineRoom [] l more (omega arith) (omega arith) (omega arith) plainly)
-        ∙ overlong-unmatched)
-        (le-or-lt (length l) lineRoom)
+        ap (λ (g : Gathered). isMatch s c (g .line)) whole ∙ unled-collected l (no-cr-each l plain) unled

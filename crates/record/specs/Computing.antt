@@ -1,7 +1,7 @@
--- One name that opens this crate's definitions, for computing on concrete records only (01, "Lines that settle it").
+-- One name that opens this crate's definitions and, by their own name, those of `lines`, for computing on concrete records
+-- only (01, "Lines that settle it").
 -- Assumes nothing.
-use Rattle.lines.specs.Bytes.{noCr}
-use Rattle.lines.specs.Texts.{isRefusal, isText, isName, isPassword}
+use Rattle.lines.specs.Computing.{computing as lines}
 use Rattle.record.specs.Rules.{eachPair, isNone, isInputs, isLamps, isErrors}
 use Rattle.record.specs.Record.{inRoom, closed, started, blank}
 use Rattle.record.specs.Legal.{isClear, isKept, isSettings, isLeft, isOwn, isAge, heldMost, isHeld, isConnection, isLegal}
@@ -10,7 +10,6 @@ use Rattle.record.specs.HostCalls.{faultSet, errorsSet}
 
 unfoldable pub computing : Unit {0}
 unfolding
-    noCr isRefusal isText isName isPassword eachPair isNone isInputs isLamps isErrors inRoom closed started blank
-    isClear isKept isSettings isLeft isOwn isAge heldMost isHeld isConnection isLegal isTexts isEquipment isSetUp setUp
-    faultSet errorsSet
+    lines eachPair isNone isInputs isLamps isErrors inRoom closed started blank isClear isKept isSettings isLeft isOwn
+    isAge heldMost isHeld isConnection isLegal isTexts isEquipment isSetUp setUp faultSet errorsSet
 computing = tt

@@ -3,8 +3,8 @@
 use mathlib.Core.Path.{_≡_, refl}
 use mathlib.Core.List.{List, [], _∷_, _++_}
 use Prim.Native.Nat.{ℕ, zero, suc}
-use lib.ListN.{length, drop}
-use Rattle.stream.specs.Machine.{Took, silent, after, handed, handedParts, joined}
+use lib.ListN.{drop}
+use Rattle.stream.specs.Machine.{Took, silent, after, handed, handedPart, handedParts, joined}
 
 module _ {D : Type 0} (f : D → List ℕ → Took D) (d : D) where
   pub handed-none : (n : ℕ) → handed f n d [] ≡ silent d
@@ -21,7 +21,7 @@ module _ {D : Type 0} (f : D → List ℕ → Took D) (d : D) where
   unfolding handedParts
   parts-none = refl
 
-  pub parts-more : (p : List ℕ) (ps : List (List ℕ)) → let o = handed f (length p) d p in
+  pub parts-more : (p : List ℕ) (ps : List (List ℕ)) → let o = handedPart f d p in
       handedParts f d (p ∷ ps) ≡ after (o .reply) (handedParts f (o .state) ps)
   unfolding handedParts
   parts-more p ps = refl

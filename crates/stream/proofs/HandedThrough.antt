@@ -1,13 +1,12 @@
--- A machine seen through a larger record: where the calls of h on the record that g makes of a state are the calls
--- of f on
--- that state, so is a stream handed on. A law of `stream`, which stands here until it is moved down.
+-- A machine seen through a larger record: where the calls of h on the record that g makes of a state are the calls of f
+-- on that state, so is a stream handed on.
 --   outThrough g, tookThrough g     what is left of a state, of the record that g makes of it
 -- Assumes nothing.
 use mathlib.Core.Path.{_≡_, refl, ap}
 use mathlib.Core.List.{List, [], _∷_}
 use Prim.Native.Nat.{ℕ, zero, suc}
 use lib.ListN.{length, drop}
-use Rattle.stream.specs.Machine.{Out, Took, after, handed, handedParts}
+use Rattle.stream.specs.Machine.{Out, Took, after, handed, handedPart, handedParts}
 
 module _ {S D : Type 0} (g : S → D) where
   abbrev pub outThrough : Out S → Out D
@@ -40,6 +39,9 @@ module _ {S D : Type 0} (g : S → D) where
     unfolding handedParts
     parts-through s [] r = refl
     parts-through s (p ∷ ps) r =
-        let o = handed f (length p) s p in
-        rw (handed-through (length p) s p r)
-        (ap (after (o .reply)) (parts-through (o .state) ps (ready-handed (length p) s p r)))
+        let t = f s p in
+        let o = handedPart f s p in
+        let left = drop (t .taken) p in
+        let ready = ready-call s p r in
+        rw (through s p r, handed-through (length p) (t .state) left ready)
+        (ap (after (o .reply)) (parts-through (o .state) ps (ready-handed (length p) (t .state) left ready)))

@@ -1,4 +1,5 @@
 pub mod GatheredOn
+pub mod CollectedOn
 mod AllAtOnce
 pub mod SameHoweverCut
 pub mod HandedThrough

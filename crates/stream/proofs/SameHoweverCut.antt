@@ -9,7 +9,7 @@ use lib.ListN.{length, drop, length-drop}
 use borrow.Author.Tests.{eqb-false}
 use Rattle.text.specs.Words.{if_then_else_, _is_}
 use Rattle.text.proofs.Choices.{if-all, if-by}
-use Rattle.stream.specs.Machine.{Out, Took, silent, after, took, oneMoreTaken, step, run, oneCall, handed, handedParts, joined}
+use Rattle.stream.specs.Machine.{Out, Took, silent, after, took, oneMoreTaken, step, run, oneCall, handed, handedPart, handedParts, joined}
 
 after-after : {D : Type 0} (r s : List ℕ) (o : Out D) → after r (after s o) ≡ after (r ++ s) o
 after-after {D} r s o = ap {B = Out D} (λ (l : List ℕ). record { state = o .state; reply = l })
@@ -87,13 +87,22 @@ module _ (D : Type 0) (collect : D → ℕ → D) (ends : D → Out D) where
         (ap (after (g .reply)) (handed-runs n (g .state) (drop (g .taken) (b ∷ bs)) (ready-call d (b ∷ bs) r) k)
         ∙ sym (call-runs d (b ∷ bs)))
 
+    -- the first call and what it did not take
+    part-runs : (d : D) (p : List ℕ) → Ready d → handedPart f d p ≡ ran d p
+    part-runs d p r =
+        let g = called d p in
+        let k : length (drop (g .taken) p) ≤ length p = simp length-drop (omega arith) in
+        rw (is-call d p r)
+        (ap (after (g .reply)) (handed-runs (length p) (g .state) (drop (g .taken) p) (ready-call d p r) k)
+        ∙ sym (call-runs d p))
+
     pub parts-run : (d : D) (ps : List (List ℕ)) → Ready d → handedParts f d ps ≡ ran d (joined ps)
     unfolding handedParts joined run
     parts-run d [] r = refl
     parts-run d (p ∷ ps) r =
-        rw (handed-runs (length p) d p r (omega arith))
-        (ap (after (ran d p .reply)) (parts-run (ran d p .state) ps (ready-run d p r))
-        ∙ sym (run-append d p (joined ps)))
+        ap (λ (o : Out D). after (o .reply) (handedParts f (o .state) ps)) (part-runs d p r)
+        ∙ ap (after (ran d p .reply)) (parts-run (ran d p .state) ps (ready-run d p r))
+        ∙ sym (run-append d p (joined ps))
 
     pub same-however-cut : (d : D) (ps qs : List (List ℕ)) → Ready d → joined ps ≡ joined qs
         → handedParts f d ps ≡ handedParts f d qs

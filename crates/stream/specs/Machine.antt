@@ -6,7 +6,8 @@
 --   run d bs            the bytes bs, one after the other
 --   oneCall d bs        what one call takes: up to and including the first CR, or all
 --   handed f n d bs     calls of f, each handed what the last one did not take: at most n of them
---   handedParts f d ps  the parts ps, each handed on until it is taken
+--   handedPart f d p    one part: a first call, whatever it holds, and then what that one did not take
+--   handedParts f d ps  the parts ps, each handed on until it is taken, an empty one too
 -- Assumes nothing.
 use Prim.Native.Nat.{ℕ, zero, suc}
 use mathlib.Core.List.{List, [], _∷_, _++_}
@@ -52,9 +53,12 @@ handed f (suc n) d [] = silent d
 handed f (suc n) d (b ∷ bs) =
     after (f d (b ∷ bs) .reply) (handed f n (f d (b ∷ bs) .state) (drop (f d (b ∷ bs) .taken) (b ∷ bs)))
 
+abbrev pub handedPart : {D : Type 0} → (D → List ℕ → Took D) → D → List ℕ → Out D
+handedPart f d p = after (f d p .reply) (handed f (length p) (f d p .state) (drop (f d p .taken) p))
+
 unfoldable pub handedParts : {D : Type 0} → (D → List ℕ → Took D) → D → List (List ℕ) → Out D
 handedParts f d [] = silent d
-handedParts f d (p ∷ ps) = after (handed f (length p) d p .reply) (handedParts f (handed f (length p) d p .state) ps)
+handedParts f d (p ∷ ps) = after (handedPart f d p .reply) (handedParts f (handedPart f d p .state) ps)
 
 unfoldable pub joined : List (List ℕ) → List ℕ
 joined [] = []
