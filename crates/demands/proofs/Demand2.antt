@@ -4,12 +4,14 @@ use mathlib.Core.Path.{refl}
 use lib.ListN.{length}
 use Rattle.device.proofs.Short.{receiving-short}
 use Rattle.controller.proofs.GreetsBack.{heard-exactly}
-use Rattle.controller.proofs.ReadsSound.{reads-sound}
+use Rattle.controller.proofs.ReadsSound.{means-what-was-written, what-was-written-is-meant, erra-exactly}
 use Rattle.demands.specs.Board.{ours}
 use Rattle.demands.specs.Demand2.{Demand2}
 use Rattle.demands.proofs.LinesAnswered.{line-answered, led-line-answered}
 use Rattle.demands.proofs.CutsOnBoards.{same-however-cut}
 use Rattle.demands.proofs.OutsidersRefused.{outsider-refused}
+use Rattle.demands.proofs.OutsiderHasNoSay.{outsider-has-no-say}
+use Rattle.demands.proofs.CallsLeave.{set-up-shows, opens, closes, marks, reports}
 use Rattle.demands.proofs.WrittenAndRead.{writes, reads-back, reads-back-secured, greets-back}
 
 pub ours-2 : Demand2 ours
@@ -18,14 +20,22 @@ ours-2 = record {
   answers = λ d l m between plain enough. line-answered d l m plain enough between;
   answers-led = λ d l m between plain short enough. led-line-answered d l m plain enough between short;
   reply-short = λ d bs m. receiving-short d bs (length m);
+  reads-what-is-said = means-what-was-written;
+  what-is-said-is-read = what-was-written-is-meant;
+  erra-exactly = erra-exactly;
   writes = writes;
   reads-back = λ d c random password paper m between writable roomy enough.
       reads-back d c paper m writable roomy enough random password between;
   reads-back-secured = λ d c paper m between writable roomy enough.
       reads-back-secured d c paper m writable roomy enough between;
   outsider-refused = outsider-refused;
+  outsider-has-no-say = λ d random m cs secured. outsider-has-no-say d random m secured cs;
+  set-up-shows = set-up-shows;
+  opens = opens;
+  closes = closes;
+  marks = marks;
+  reports = reports;
   greets-back = greets-back;
   greeting-is = heard-exactly;
-  reads-sound = reads-sound;
   same-however-cut = same-however-cut;
 }

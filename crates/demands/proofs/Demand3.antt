@@ -1,16 +1,23 @@
 -- Demand 3 holds of our board.
 -- Assumes nothing.
-use mathlib.Core.Path.{ap}
+use mathlib.Core.Path.{refl, ap}
+use native.Mathlib.Omega.{arith}
+use Rattle.record.specs.declared.types.Changed.{Changed}
+use Rattle.clock.specs.Second.{times, second}
+use Rattle.clock.proofs.Cases.{passed-by}
 use Rattle.clock.proofs.TimeAdds.{time-adds}
 use Rattle.demands.specs.Board.{ours, givenBy}
+use Rattle.demands.specs.CallsDone.{Leaves}
 use Rattle.demands.specs.Demand3.{Demand3, historyOf}
 use Rattle.demands.proofs.HistoryTold.{history-told}
-use Rattle.demands.proofs.HoursTold.{hours-read}
+use Rattle.demands.proofs.HoursTold.{hours-told}
 
 pub ours-3 : Demand3 ours
 ours-3 = record {
   time-adds = λ d a b legal within. ap givenBy (time-adds a b d within);
+  second-by-second = λ d n. passed-by (λ (r : Changed). Leaves ours (givenBy r) (times second n d)) d n
+      (λ h e. absurd (omega arith)) (λ h e. refl);
   lamps-tell-the-history = λ w cs place accepted inside. history-told w cs accepted .1 .lamps place inside;
   hours-told = λ w cs m accepted some between enough.
-      hours-read w (historyOf ours w cs) (history-told w cs accepted .1) between m some enough;
+      hours-told w (historyOf ours w cs) (history-told w cs accepted .1) between m some enough;
 }

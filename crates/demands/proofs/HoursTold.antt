@@ -5,8 +5,7 @@ use Prim.Native.Nat.{ℕ, suc, _≤_, _<_}
 use mathlib.Core.Path.{_≡_, refl, ap, ap₂, _∙_}
 use mathlib.Core.List.{List, [], _∷_, map}
 use native.Mathlib.Omega.{arith}
-use lib.ListN.{length, take, drop, getD}
-use lib.Seq.{take-append-seam}
+use lib.ListN.{length, take, getD}
 use Rattle.lines.specs.Commands.{commandLine}
 use Rattle.lines.specs.declared.command.Command.the-variants.{Query}
 use Rattle.lines.specs.declared.command.Body.the-variants.{Lamp}
@@ -18,13 +17,15 @@ use Rattle.record.proofs.LegalTold.{own-of-legal}
 use Rattle.clock.specs.Second.{isLit}
 use Rattle.meaning.specs.Meaning.{lampSaid, lampsOf}
 use Rattle.meaning.proofs.LampsTold.{lamps-answered}
-use Rattle.device.specs.Calls.{replyRoom, received}
+use Rattle.device.specs.Calls.{Result, replyRoom, received}
+use Rattle.device.proofs.CommandsReceived.{replyTo, command-received}
 use Rattle.controller.specs.Reading.{readReply}
 use Rattle.controller.proofs.ReadsBack.{is-between, reads-back}
 use Rattle.demands.specs.Board.{Wanted, ours, reply}
 use Rattle.demands.specs.History.{Event, isBurning, burning, stageAfter}
 use Rattle.demands.specs.Demand2.{BetweenLines, meaning}
-use Rattle.demands.specs.Demand3.{lampThen, lampsThen}
+use Rattle.demands.specs.Demand3.{lampThen, lampsThen, LampsTold}
+use Rattle.demands.proofs.LentMemory.{over-front}
 use Rattle.demands.proofs.Agrees.{Agrees, lit-shown}
 
 -- two lists, the one as long as the other at least, that are turned alike at each place
@@ -55,13 +56,17 @@ module _ (w : Wanted) (es : List Event) {stream : List ℕ} {d : Device}
       (alike-by-place (lampSaid (isLit (d .own .power))) (lampThen w es) (d .own .lamps) (w .lamps)
       (omega (arith, kept .long, kept .inside, count)) lamp-same)
 
-  pub hours-read : (m : List ℕ) → 1 ≤ length (w .lamps) → replyRoom ≤ length m
-      → readReply (Query Lamp) (reply (ours .receive d (commandLine (Query Lamp)) m))
-      ≡ meaning (lampsAre (lampsThen w es))
-  hours-read m some enough =
-      let answer = received d (commandLine (Query Lamp)) (length m) .reply in
+  pub hours-told : (m : List ℕ) → 1 ≤ length (w .lamps) → replyRoom ≤ length m
+      → LampsTold ours (lampsThen w es) (reply (ours .receive d (commandLine (Query Lamp)) m))
+  hours-told m some enough =
+      let result = received d (commandLine (Query Lamp)) (length m) in
       let line = is-between d (between .legal) (between .unmarked) (between .none-held) in
       let back = reads-back d (between .legal) line (Query Lamp) refl (length m) enough (between .in-phase) in
-      ap (readReply (Query Lamp)) (take-append-seam answer (drop (length answer) m))
-      ∙ back .said
-      ∙ ap meaning (lamps-answered (d .settings) (d .own) (omega (arith, count)) ∙ ap lampsAre lamps-same)
+      let said = command-received d (length m) (between .legal) enough (between .unmarked) (between .none-held)
+      (Query Lamp) refl (between .in-phase) in
+      let lamps = lamps-answered (d .settings) (d .own) (omega (arith, count)) ∙ ap lampsAre lamps-same in
+      let seam = over-front (result .reply) m in
+      record {
+        bytes = seam ∙ ap (λ (r : Result Device). r .reply) said ∙ ap (replyTo (Query Lamp)) lamps;
+        read = ap (readReply (Query Lamp)) seam ∙ back .said ∙ ap meaning lamps;
+      }

@@ -3,7 +3,7 @@
 use Prim.Native.Nat.{ℕ}
 use mathlib.Core.Path.{_≡_, refl, sym, ap, _∙_}
 use mathlib.Core.Bool.{Bool, true, false, not}
-use mathlib.Core.List.{List}
+use mathlib.Core.List.{List, [], _∷_}
 use lib.ListN.{length}
 use Rattle.text.specs.Words.{if_then_else_}
 use Rattle.text.proofs.Choices.{if-yes, if-no}
@@ -12,21 +12,22 @@ use Rattle.lines.specs.Forms.{erraLine, greetingOpen, isReplyForm, headBody, re
 use Rattle.lines.specs.Commands.{bodyOf}
 use Rattle.lines.specs.Requests.{isBody}
 use Rattle.lines.specs.declared.command.Command.{Command}
-use Rattle.answers.specs.Said.{Said, okay, refused, powerIs, chosenIs, mutesAre, errorsAre, lampsAre, inputsAre, textIs, classIs1, nothing}
-use Rattle.answers.specs.Reading.{readParameter}
+use Rattle.answers.specs.Writings.{Allowed}
 use Rattle.record.specs.Legal.{isLegal}
 use Rattle.record.specs.declared.types.Device.{Device}
 use Rattle.record.proofs.Results.{set-up-number as set-up-table, fault-number, errors-number}
 use Rattle.clock.proofs.Results.{passed-number}
 use Rattle.device.proofs.Numbers.{received-number, opened-number, closed-number}
-use Rattle.controller.specs.Reading.{ReadAs, outcomeOf, numberOf as numberRead, readReply}
+use Rattle.controller.specs.Reading.{numberOf as numberRead}
+use Rattle.controller.specs.declared.reading.Outcome.the-variants.{Means, Erra, NotALine, OtherCommand, NotAllowed}
 use Rattle.controller.specs.Greetings.{greets, randomIn, readGreeting, numberOf as numberHeard}
 use Rattle.controller.proofs.Refusals.{written-number}
-use Rattle.controller.proofs.Cases.{reply-erra, reply-unformed, reply-other, reply-said}
+use Rattle.controller.proofs.ReadsSound.{outcome-is-first}
 use Rattle.controller.proofs.Cases.{greeting-open, greeting-refused, greeting-secured, greeting-none}
 use Rattle.demands.specs.Board.{Wanted, ours}
 use Rattle.demands.specs.Calls.{Call, opens, closes, receives, passes, marks, reports, numberOf}
-use Rattle.demands.specs.Demand1.{firstOf, rowsOf, setUpRows, writerRows, readerRows, greetingRows, saysNothing}
+use Rattle.demands.specs.Demand1.{firstOf, rowsOf, setUpRows, writerRows, readerRows, greetingRows}
+use Rattle.demands.specs.Demand1.{_when_}
 
 unless : (legal : Bool) → _≡_ {A = ℕ} (if legal then 0 else 1) (if not legal then 1 else 0)
 unless true = refl
@@ -48,38 +49,23 @@ pub writer-number : (c : Command) (secured : Bool) (random : ℕ) (password m : 
     → ours .write c secured random password m .number ≡ firstOf (writerRows c secured password m)
 writer-number c secured random password m = written-number c secured random password (length m)
 
--- only a parameter that is not allowed has a number
-said-number : (m : Said) → numberRead (outcomeOf m) ≡ (if saysNothing m then 12 else 0)
-said-number okay = refl
-said-number (refused n) = refl
-said-number (powerIs p) = refl
-said-number (chosenIs i) = refl
-said-number (mutesAre video audio) = refl
-said-number (errorsAre ds) = refl
-said-number (lampsAre ls) = refl
-said-number (inputsAre is) = refl
-said-number (textIs s) = refl
-said-number classIs1 = refl
-said-number nothing = refl
+-- the outcomes in the order of the tests, and their numbers
+by-tests : (erra formed named allowed : Bool)
+    → numberRead
+    (if erra then Erra else if not formed then NotALine else if not named then OtherCommand
+    else if not allowed then NotAllowed else Means)
+    ≡ firstOf ((0 when erra) ∷ (10 when not formed) ∷ (11 when not named) ∷ (12 when not allowed) ∷ [])
+by-tests true formed named allowed = refl
+by-tests false false named allowed = refl
+by-tests false true false allowed = refl
+by-tests false true true false = refl
+by-tests false true true true = refl
 
-module _ (c : Command) (l : List ℕ) where
-  abbrev number : ReadAs → ℕ
-  number r = numberRead (r .outcome)
-
-  reply-by-tests : (erra formed named : Bool) → sameBy itself l erraLine ≡ erra → isReplyForm l ≡ formed
-      → isBody (headBody l) (bodyOf c) ≡ named
-      → number (readReply c l) ≡ firstOf (readerRows c l)
-  reply-by-tests true formed named e f b = ap number (reply-erra c l e) ∙ sym (if-yes _ _ e)
-  reply-by-tests false false named e f b =
-      ap number (reply-unformed c l e f) ∙ sym (if-no _ _ e ∙ if-yes _ _ (ap not f))
-  reply-by-tests false true false e f b =
-      ap number (reply-other c l e f b) ∙ sym (if-no _ _ e ∙ if-no _ _ (ap not f) ∙ if-yes _ _ (ap not b))
-  reply-by-tests false true true e f b =
-      ap number (reply-said c l e f b) ∙ said-number (readParameter c (replyParameter l))
-      ∙ sym (if-no _ _ e ∙ if-no _ _ (ap not f) ∙ if-no _ _ (ap not b))
-
-  pub reader-number : number (ours .read-reply c l) ≡ firstOf (readerRows c l)
-  reader-number = reply-by-tests _ _ _ refl refl refl
+pub reader-number : (c : Command) (l : List ℕ) (allowed : Bool) → Allowed c (replyParameter l) allowed
+    → numberRead (ours .read-reply c l .outcome) ≡ firstOf (readerRows c l allowed)
+reader-number c l allowed said =
+    ap numberRead (outcome-is-first c l said)
+    ∙ by-tests (sameBy itself l erraLine) (isReplyForm l) (isBody (headBody l) (bodyOf c)) allowed
 
 module _ (l : List ℕ) where
   greeting-by-tests : (plain erra secured : Bool) → sameBy itself l greetingOpen ≡ plain

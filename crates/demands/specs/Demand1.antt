@@ -3,6 +3,12 @@
 -- refused set-up gives the blank record), and writes no byte of the reply memory."
 -- That a call ends is no field below: each call of a board is a function, and a Rattle function meets its contract only
 -- if it ends.
+-- TO BELIEVE IT, believe, and nothing else: the rows below, against 01's table; what is legal and what is in range
+-- (record/specs: Limits, Rules, Legal, SetUp, and `blank` of Record; lines/specs: Bytes, Inputs, Texts); the lengths
+-- 136 and 168 and when a connection is closed (`replyRoom`, `isShut` of device/specs/Calls, `commandRoom` of
+-- controller/specs/Writing); for the readers, the forms of lines (lines/specs: Forms, Commands, Requests) and which
+-- parameter says what (answers/specs: Said, CanSay, Writings; `greets`, `randomIn` of controller/specs/Greetings); here
+-- Board and Calls.
 --   n when t            a row of 01's table: the number n, given when t
 --   firstOf rows        the first row that applies, else 0
 --   rowsOf d c          the rows that the call c can meet, in the table's order; so for set-up, writer and readers
@@ -21,8 +27,8 @@ use Rattle.lines.specs.Forms.{erraLine, greetingOpen, isReplyForm, headBody, re
 use Rattle.lines.specs.Commands.{bodyOf}
 use Rattle.lines.specs.Requests.{isBody}
 use Rattle.lines.specs.declared.command.Command.{Command}
-use Rattle.answers.specs.Said.{Said, okay, refused, powerIs, chosenIs, mutesAre, errorsAre, lampsAre, inputsAre, textIs, classIs1, nothing}
-use Rattle.answers.specs.Reading.{readParameter}
+use Rattle.answers.specs.Said.{nothing}
+use Rattle.answers.specs.Writings.{Allowed}
 use Rattle.record.specs.Rules.{isErrors}
 use Rattle.record.specs.Legal.{isLegal}
 use Rattle.record.specs.Record.{blank}
@@ -77,25 +83,11 @@ writerRows c secured password m =
 abbrev isErra : List ℕ → Bool
 isErra l = sameBy itself l erraLine
 
--- a parameter that is not allowed says nothing
-abbrev pub saysNothing : Said → Bool
-saysNothing okay = false
-saysNothing (refused n) = false
-saysNothing (powerIs p) = false
-saysNothing (chosenIs i) = false
-saysNothing (mutesAre video audio) = false
-saysNothing (errorsAre ds) = false
-saysNothing (lampsAre ls) = false
-saysNothing (inputsAre is) = false
-saysNothing (textIs s) = false
-saysNothing classIs1 = false
-saysNothing nothing = true
-
--- the ERRA line is known before the form is tested
-abbrev pub readerRows : Command → List ℕ → List Row
-readerRows c l =
+-- the ERRA line is known before the form is tested; whether the parameter is allowed is what it says (`Allowed`)
+abbrev pub readerRows : Command → List ℕ → Bool → List Row
+readerRows c l allowed =
     (0 when isErra l) ∷ (10 when not (isReplyForm l)) ∷ (11 when not (isBody (headBody l) (bodyOf c)))
-    ∷ (12 when saysNothing (readParameter c (replyParameter l))) ∷ []
+    ∷ (12 when not allowed) ∷ []
 
 -- the two greetings and the ERRA line
 abbrev pub greetingRows : List ℕ → List Row
@@ -149,7 +141,8 @@ pub record Demand1 (B : Board) : Type 0 where
   pub set-up-number : (w : Wanted) → B .set-up w .number ≡ firstOf (setUpRows w)
   pub writer-number : (c : Command) (secured : Bool) (random : ℕ) (password m : List ℕ)
       → B .write c secured random password m .number ≡ firstOf (writerRows c secured password m)
-  pub reader-number : (c : Command) (l : List ℕ) → numberRead (B .read-reply c l .outcome) ≡ firstOf (readerRows c l)
+  pub reader-number : (c : Command) (l : List ℕ) (allowed : Bool) → Allowed c (replyParameter l) allowed
+      → numberRead (B .read-reply c l .outcome) ≡ firstOf (readerRows c l allowed)
   pub greeting-number : (l : List ℕ) → numberHeard (B .read-greeting l) ≡ firstOf (greetingRows l)
   -- "returns the device record it was given .., and writes no byte of the reply memory"
   pub refused-keeps : (d : B .Record) (c : Call) → (numberOf B d c ≡ 0 → ⊥)

@@ -2,7 +2,13 @@
 -- the digest of RFC 1321. On an open connection between lines, for every command our writer makes without a digest and
 -- in every legal state, what our reader, told the command, takes from the reply is what the projector meant. On a
 -- secured connection a first line without the matching digest yields the refusal line only; power, input, mutes and
--- lamps stay." What the projector meant is `meant`, 01's table of commands (crate `meaning`), which knows no bytes.
+-- lamps stay." What the projector meant is `meant`, 01's table of commands (crate `meaning`), which knows no bytes but
+-- a set-up's inputs, two characters each, by 01's table of types.
+-- TO BELIEVE IT, believe, and nothing else: MD5 and its digits (digest/specs); lines, inputs, commands and requests
+-- (lines/specs, but Keys); what an answer is and which bytes say it (answers/specs: Said, CanSay, Writings, `LineSays`
+-- of controller/specs/Reading); what is meant and done (meaning/specs); how a line is answered and a connection greeted
+-- (device/specs: Answering, and `greeting`, `greeted`, `withParts` of Calls); the record (record/specs); a stream in
+-- cuts (stream/specs/Machine); here Board, Calls, CallsDone, Outsider.
 --   BetweenLines phase d     legal, in that phase, no collected bytes and no overlong mark
 --   ReadBack B d c w r       the command c, written as w and received as r, is read as it was meant and done
 --   isLed d l                the line l starts with the matching digest and is not overlong
@@ -12,12 +18,12 @@
 -- Assumes nothing.
 use Prim.Native.Nat.{ℕ, _≤_, _<_, _^_}
 use mathlib.Core.Path.{_≡_}
-use mathlib.Core.Bool.{Bool, true, false, _&&_}
+use mathlib.Core.Bool.{Bool, true, false}
 use mathlib.Core.List.{List, _++_}
-use lib.ListN.{length, take}
+use mathlib.Core.Logic.{_↔_}
+use lib.ListN.{length}
 use lib.Dec.{leb, eqb}
 use Rattle.text.specs.Words.{ascii, if_then_else_}
-use Rattle.text.specs.Scans.{sameBy, itself}
 use Rattle.digest.specs.Md5.{md5Of}
 use Rattle.digest.specs.Hex.{hexDigits, leadingDigest}
 use Rattle.lines.specs.Bytes.{noCr}
@@ -26,22 +32,26 @@ use Rattle.lines.specs.Commands.{isCommand, commandLine}
 use Rattle.lines.specs.declared.command.Command.{Command}
 use Rattle.lines.specs.declared.request.Request.the-variants.{Asks}
 use Rattle.answers.specs.Said.{Said}
-use Rattle.answers.specs.CanSay.{CanSay}
-use Rattle.record.specs.Limits.{shut, awaiting, opened, failed, lineRoom}
+use Rattle.record.specs.Limits.{shut, awaiting, opened, failed}
 use Rattle.record.specs.Legal.{isLegal}
+use Rattle.record.specs.Record.{closed}
+use Rattle.record.specs.HostCalls.{withOwn, withFault, withErrors}
 use Rattle.record.specs.declared.types.Device.{Device}
 use Rattle.record.specs.declared.types.Connection.{Connection}
 use Rattle.meaning.specs.Meaning.{meant, done}
 use Rattle.stream.specs.Machine.{Out, Took, handedParts, joined}
 use Rattle.device.specs.Answering.{Answered, answered, swallowed}
-use Rattle.device.specs.Receiving.{turned, passwordOf, digestLong}
-use Rattle.device.specs.Calls.{longestReply, replyRoom, isShut, withParts}
+use Rattle.device.specs.Receiving.{turned, passwordOf}
+use Rattle.device.specs.Calls.{longestReply, replyRoom, isShut, isSecured, withParts}
 use Rattle.controller.specs.Writing.{commandRoom, ledBy}
-use Rattle.controller.specs.Reading.{ReadAs}
-use Rattle.controller.specs.declared.reading.Outcome.the-variants.{Means}
+use Rattle.controller.specs.Reading.{ReadAs, LineSays}
+use Rattle.controller.specs.declared.reading.Outcome.the-variants.{Means, Erra}
 use Rattle.controller.specs.declared.greeting.Greeting.{Greeting}
 use Rattle.controller.specs.declared.greeting.Greeting.the-variants.{Open, Secured, Refused, NotAGreeting}
-use Rattle.demands.specs.Board.{Board, Lent, Wrote, reply, line}
+use Rattle.demands.specs.Board.{Board, Lent, Wrote, Wanted, reply, line}
+use Rattle.demands.specs.Calls.{Call}
+use Rattle.demands.specs.CallsDone.{startedWith, OpenedAs, Leaves}
+use Rattle.demands.specs.Outsider.{openedWith, isLedBy, NeverMatched, NoSay}
 
 -- ---- a connection between lines
 
@@ -87,7 +97,7 @@ abbrev pub digestFor : Device → List ℕ
 digestFor d = leadingDigest (d .connection .random) (passwordOf (d .settings))
 
 abbrev pub isLed : Device → List ℕ → Bool
-isLed d l = leb (length l) lineRoom && sameBy itself (take digestLong l) (digestFor d)
+isLed d l = isLedBy (d .connection .random) (passwordOf (d .settings)) l
 
 -- ---- a stream in cuts
 
@@ -115,7 +125,7 @@ greetedOn c = if eqb (c .phase) awaiting then Secured (c .random) else Open
 -- the two greetings and the ERRA line, each with its CR and nothing more
 abbrev pub Exactly : List ℕ → Greeting → Type 0
 Exactly l Open = l ≡ greetingOpen
-Exactly l (Secured r) = l ≡ greetingSecured (hexDigits 8 r)
+Exactly l (Secured r) = (r < 2 ^ 32) × (l ≡ greetingSecured (hexDigits 8 r))
 Exactly l Refused = l ≡ erraLine
 Exactly l NotAGreeting = (l ≡ greetingOpen → ⊥) × ((l ≡ erraLine → ⊥)
     × ((r : ℕ) → r < 2 ^ 32 → l ≡ greetingSecured (hexDigits 8 r) → ⊥))
@@ -136,6 +146,12 @@ pub record Demand2 (B : Board) : Type 0 where
       AnsweredAs B d bs (answerTo (B .shows d) l) (B .receive d bs m)
   -- 01, "Commands": "No reply is longer than 72 bytes"
   pub reply-short : (d : B .Record) (bs m : List ℕ) → B .receive d bs m .length ≤ longestReply
+  -- "and the controller's reading of them": whatever line comes, what is read was said by it, and what it says is read;
+  -- the ERRA line and no other is read as such
+  pub reads-what-is-said : (c : Command) (l : List ℕ) → B .read-reply c l .outcome ≡ Means
+      → LineSays c l (B .read-reply c l .said)
+  pub what-is-said-is-read : (c : Command) (l : List ℕ) (m : Said) → LineSays c l m → B .read-reply c l ≡ meaning m
+  pub erra-exactly : (c : Command) (l : List ℕ) → (B .read-reply c l .outcome ≡ Erra) ↔ (l ≡ erraLine)
   -- "for every command our writer makes": its line, led by the digest where one was asked for
   pub writes : (c : Command) (secured : Bool) (random : ℕ) (password m : List ℕ)
       → let w = B .write c secured random password m in
@@ -157,14 +173,28 @@ pub record Demand2 (B : Board) : Type 0 where
       → BetweenLines awaiting (B .shows d) → noCr l ≡ true → isLed (B .shows d) l ≡ false → replyRoom ≤ length m
       → joined ps ≡ l ++ ascii "\r" ++ more
       → RefusalOnly B d (handedOn B m d ps)
+  -- and over any calls: from any accepted opening of a device with a password, so long as no first line of a connection
+  -- is led by the digest of its opening's number
+  pub outsider-has-no-say : (d : B .Record) (random : ℕ) (m : List ℕ) (cs : List Call)
+      → isSecured (B .shows d .settings) ≡ true → B .opening d random m .number ≡ 0
+      → let e = B .opening d random m .device in
+      NeverMatched B (passwordOf (B .shows d .settings)) e (openedWith random) cs
+      → NoSay B e (openedWith random) cs
+  -- 01, "Set-up", "Connection" and "Time": what the other calls leave, where they are accepted
+  pub set-up-shows : (w : Wanted) → Leaves B (B .set-up w) (startedWith w)
+  pub opens : (d : B .Record) (random : ℕ) (m : List ℕ) → B .opening d random m .number ≡ 0
+      → OpenedAs B d random (B .opening d random m)
+  pub closes : (d : B .Record) → Leaves B (B .closing d) (withParts (B .shows d) (B .shows d .own) closed)
+  pub marks : (d : B .Record) (fault : Bool)
+      → Leaves B (B .set-fault d fault) (withOwn (B .shows d) (withFault (B .shows d .own) fault))
+  pub reports : (d : B .Record) (errors : List ℕ)
+      → Leaves B (B .set-errors d errors) (withOwn (B .shows d) (withErrors (B .shows d .own) errors))
   -- what the greeting reader takes from the opening reply is what opening did; it takes no other line for a greeting
   pub greets-back : (d : B .Record) (random : ℕ) (m : List ℕ) → isLegal (B .shows d) ≡ true
       → B .shows d .connection .phase ≡ shut → replyRoom ≤ length m → random < 2 ^ 32
       → let r = B .opening d random m in
       (r .number ≡ 0) × (B .read-greeting (reply r) ≡ greetedOn (B .shows (r .device) .connection))
   pub greeting-is : (l : List ℕ) → Exactly l (B .read-greeting l)
-  -- whatever line comes, what a reading means is an answer that the command can have
-  pub reads-sound : (c : Command) (l : List ℕ) → B .read-reply c l .outcome ≡ Means → CanSay c (B .read-reply c l .said)
   -- 01, "Connection": "Handed on until all is taken, with no time between, a stream gives the same reply bytes and end
   -- state however it is cut"
   pub same-however-cut : (d : B .Record) (m : List ℕ) (ps qs : List (List ℕ)) → isLegal (B .shows d) ≡ true

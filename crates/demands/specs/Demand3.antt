@@ -1,28 +1,36 @@
--- DEMAND 3. "Time adds up. From any legal state, letting a seconds pass and then b gives the very state that a + b gives
--- at once, so long as a + b is at most 4,294,967,295. After any calls since set-up, refused ones counting as nothing,
--- each lamp's stored seconds are its starting seconds plus every second the history puts in warm-up or power-on, stopped
--- at 359,999,999; the hours answered are the whole hours in that."
+-- DEMAND 3. "Time adds up. From any legal state, letting a seconds pass and then b gives the very state that a + b
+-- gives at once, so long as a + b is at most 4,294,967,295. After any calls since set-up, refused ones counting as
+-- nothing, each lamp's stored seconds are its starting seconds plus every second the history puts in warm-up or
+-- power-on, stopped at 359,999,999; the hours answered are the whole hours in that."
+-- TO BELIEVE IT, believe, and nothing else: one second (clock/specs/Second), and what is legal (record/specs); what
+-- someone outside sees of a history, and his own clock (History, here); the line of a command and the text of lamps
+-- (lines/specs: Commands; answers/specs: Said; numbers/specs: Decimal); here Board, Calls, CallsDone, and
+-- `BetweenLines` and `meaning` of Demand2.
 --   Accepted B w        the board accepts the set-up w
 --   historyOf B w cs    what someone outside sees of the calls cs since that set-up
---   TimeAdds B          the adding law, which a clock that does nothing obeys too (Wrong, proofs/WrongBoards)
+--   TimeAdds B          the adding law, which a clock that does nothing obeys too (WrongClocks)
 --   lampsThen w es      each lamp of the set-up as LAMP answers it after that history
+--   LampsTold B ls r    the reply r says the lamps ls, and the reader takes them from it
 -- Assumes nothing.
 use Prim.Native.Nat.{ℕ, _+_, _/_, _≤_, _<_}
 use mathlib.Core.Path.{_≡_}
 use mathlib.Core.Bool.{true}
-use mathlib.Core.List.{List, [], map}
+use mathlib.Core.List.{List, [], _++_, map}
 use lib.ListN.{length, getD}
+use Rattle.text.specs.Words.{ascii}
 use Rattle.lines.specs.Commands.{commandLine}
 use Rattle.lines.specs.declared.command.Command.the-variants.{Query}
 use Rattle.lines.specs.declared.command.Body.the-variants.{Lamp}
-use Rattle.answers.specs.Said.{lampsAre}
+use Rattle.answers.specs.Said.{lampsAre, saidBytes}
 use Rattle.answers.specs.declared.answer.LampHours.{LampHours}
 use Rattle.record.specs.Limits.{opened}
 use Rattle.record.specs.Legal.{isLegal}
+use Rattle.clock.specs.Second.{times, second}
 use Rattle.clock.specs.Passing.{secondsMost}
 use Rattle.device.specs.Calls.{replyRoom}
 use Rattle.demands.specs.Board.{Board, Wanted, reply}
 use Rattle.demands.specs.Calls.{Call, run}
+use Rattle.demands.specs.CallsDone.{Leaves}
 use Rattle.demands.specs.Demand2.{BetweenLines, meaning}
 use Rattle.demands.specs.History.{Event, history, burning, stageAfter, isBurning, lampWith}
 
@@ -42,6 +50,14 @@ lampThen w es start = record { hours = lampWith (burning w es) start / 3600; lit
 abbrev pub lampsThen : Wanted → List Event → List LampHours
 lampsThen w es = map (lampThen w es) (w .lamps)
 
+-- `%1LAMP=` and, joined by spaces, each lamp's hours in decimal digits, a space and 1 or 0
+abbrev pub lampLine : List LampHours → List ℕ
+lampLine ls = ascii "%1LAMP=" ++ saidBytes (lampsAre ls) ++ ascii "\r"
+
+pub record LampsTold (B : Board) (ls : List LampHours) (answer : List ℕ) : Type 0 where
+  pub bytes : answer ≡ lampLine ls
+  pub read : B .read-reply (Query Lamp) answer ≡ meaning (lampsAre ls)
+
 -- the whole result, number and record
 abbrev pub TimeAdds : Board → Type 0
 TimeAdds B = (d : B .Record) (a b : ℕ) → isLegal (B .shows d) ≡ true → a + b ≤ secondsMost
@@ -51,13 +67,16 @@ pub record Demand3 (B : Board) : Type 0 where
   -- "From any legal state, letting a seconds pass and then b gives the very state that a + b gives at once, so long as
   -- a + b is at most 4,294,967,295"
   pub time-adds : TimeAdds B
+  -- 01, "Time": "The meaning is a definition of one second, applied n times"
+  pub second-by-second : (d : B .Record) (n : ℕ) → Leaves B (B .pass d n) (times second n (B .shows d))
   -- "After any calls since set-up, refused ones counting as nothing, each lamp's stored seconds are its starting seconds
   -- plus every second the history puts in warm-up or power-on, stopped at 359,999,999"
   pub lamps-tell-the-history : (w : Wanted) (cs : List Call) (place : ℕ) → Accepted B w → place < length (w .lamps)
       → getD (B .shows (runOf B w cs) .own .lamps) place 0
       ≡ lampWith (burning w (historyOf B w cs)) (getD (w .lamps) place 0)
-  -- "the hours answered are the whole hours in that": LAMP, asked on an open connection between lines
+  -- "the hours answered are the whole hours in that": LAMP, asked on an open connection between lines, the reply's
+  -- bytes and what our reader takes from them
   pub hours-told : (w : Wanted) (cs : List Call) (m : List ℕ) → Accepted B w → 1 ≤ length (w .lamps)
       → BetweenLines opened (B .shows (runOf B w cs)) → replyRoom ≤ length m
       → let r = B .receive (runOf B w cs) (commandLine (Query Lamp)) m in
-      B .read-reply (Query Lamp) (reply r) ≡ meaning (lampsAre (lampsThen w (historyOf B w cs)))
+      LampsTold B (lampsThen w (historyOf B w cs)) (reply r)

@@ -1,5 +1,5 @@
--- Demand 3's history (01, "Time"): what someone outside knows who sees the bytes handed over, the numbers, the counts and
--- the replies, and never a record.
+-- Demand 3's history (01, "Time"): what someone outside knows who sees the bytes handed over, the numbers, the counts
+-- and the replies, and never a record.
 --   the stream            all bytes that were taken so far, in one row: no phases, no digests, no limits
 --   powerSet s r          a power set was answered OK: the reply r says so, and the stream s ends in its line
 --   history B d s cs      the power sets answered OK and the seconds passed; a refused call counts as nothing

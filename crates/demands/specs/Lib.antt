@@ -1,9 +1,16 @@
 pub mod Board
 pub mod Calls
 pub mod History
+pub mod CallsDone
+pub mod Outsider
 pub mod Demand1
 pub mod Demand2
 pub mod Demand3
 pub mod Settled
-pub mod Wrong
+pub mod OursBut
+pub mod WrongRefusals
+pub mod WrongLines
+pub mod WrongDoors
+pub mod WrongClocks
 pub mod Computing
+pub mod Tied

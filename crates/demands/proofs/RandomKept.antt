@@ -1,0 +1,80 @@
+-- 01, "Connection": "Either way the random number is kept until closing": whatever call comes on a connection that is
+-- not closed, it is closed afterwards or has the number that it had, over lines and over time.
+-- Assumes nothing.
+use Prim.Native.Nat.{ℕ}
+use mathlib.Core.Path.{_≡_, refl, sym, ap, subst}
+use mathlib.Core.Bool.{Bool, true, false}
+use mathlib.Core.List.{List}
+use mathlib.Core.Logic.{_⊎_, inl, inr}
+use lib.ListN.{length}
+use lib.Dec.{eqb}
+use borrow.Author.Tests.{eqb-true, eqb-false}
+use Rattle.record.specs.Limits.{shut, failed}
+use Rattle.record.specs.declared.types.Settings.{Settings}
+use Rattle.record.specs.declared.types.Own.{Own}
+use Rattle.record.specs.declared.types.Line.{Line}
+use Rattle.record.specs.declared.types.Connection.{Connection}
+use Rattle.record.specs.declared.types.Changed.{Changed}
+use Rattle.record.specs.declared.types.Device.{Device}
+use Rattle.record.proofs.Spelt.{closed-spelt}
+use Rattle.record.proofs.Calls.{fault-set-by, errors-set-by}
+use Rattle.clock.specs.Second.{times, connectionSecond}
+use Rattle.clock.proofs.Cases.{passed-by}
+use Rattle.clock.proofs.ConnectionsAge.{connection-then}
+use Rattle.clock.proofs.InOneGo.{parts-pass}
+use Rattle.device.specs.Receiving.{lineEnded, keeping, takenIn}
+use Rattle.device.specs.Calls.{Result}
+use Rattle.device.proofs.Cases.{received-by, opened-by, closed-by, ended-by, keeping-none, keeping-line, taken-by}
+use Rattle.demands.specs.Board.{ours}
+use Rattle.demands.specs.Calls.{Call, opens, closes, receives, passes, marks, reports, after}
+
+abbrev pub ClosedOr : ℕ → Connection → Type 0
+ClosedOr random c = (c .phase ≡ shut) ⊎ (c .random ≡ random)
+
+module _ (c : Connection) where
+  keeping-keeps : (l : Line) → keeping c l .random ≡ c .random
+  keeping-keeps l = by-phase (eqb (c .phase) failed) refl
+    where
+      by-phase : (t : Bool) → eqb (c .phase) failed ≡ t → keeping c l .random ≡ c .random
+      by-phase true e = ap (λ (k : Connection). k .random) (keeping-none c l (eqb-true (c .phase) failed e))
+      by-phase false e = ap (λ (k : Connection). k .random) (keeping-line c l (eqb-false (c .phase) failed e))
+
+  module _ (s : Settings) (o : Own) where
+    line-keeps : (l : Line) → lineEnded s o c l .connection .random ≡ c .random
+    line-keeps l =
+        ended-by s o c l (λ e. e .connection .random ≡ c .random) (λ p m. refl) (λ p m. refl) (λ p m. refl)
+        (λ p m. refl) (λ p q. refl)
+
+    bytes-keep : (bs : List ℕ) → takenIn s o c bs .ended .connection .random ≡ c .random
+    bytes-keep bs =
+        taken-by s o c bs (λ t. t .ended .connection .random ≡ c .random) (λ e. line-keeps _) (λ e. keeping-keeps _)
+
+  time-keeps : (n : ℕ) → ClosedOr (c .random) (times connectionSecond n c)
+  time-keeps n =
+      connection-then (ClosedOr (c .random)) (inl (ap (λ (k : Connection). k .phase) closed-spelt)) (λ k age p. p) n c
+      (inr refl)
+
+module _ (d : Device) (live : d .connection .phase ≡ shut → ⊥) where
+  abbrev Keeps : Device → Type 0
+  Keeps e = ClosedOr (d .connection .random) (e .connection)
+
+  stays : Keeps d
+  stays = inr refl
+
+  pub random-kept : (c : Call) → Keeps (after ours d c)
+  random-kept (opens random m) =
+      opened-by d random (length m) (λ (r : Result Device). Keeps (r .device)) (λ h. stays) (λ h k. stays)
+      (λ h k c. stays) (λ h k c. absurd (live (eqb-true (d .connection .phase) shut c)))
+  random-kept closes =
+      closed-by d (λ (r : Result Device). Keeps (r .device)) (λ h. stays) (λ h c. stays)
+      (λ h c. inl (ap (λ (k : Connection). k .phase) closed-spelt))
+  random-kept (receives bs m) =
+      received-by d bs (length m) (λ (r : Result Device). Keeps (r .device)) (λ h. stays) (λ h k. stays)
+      (λ h k c. stays) (λ h k c. inr (bytes-keep (d .connection) (d .settings) (d .own) bs))
+  random-kept (passes n) =
+      passed-by (λ (r : Changed). Keeps (r .device)) d n (λ h. stays)
+      (λ h. subst Keeps (sym (parts-pass n d)) (time-keeps (d .connection) n))
+  random-kept (marks fault) =
+      fault-set-by d (λ (r : Changed). Keeps (r .device)) fault stays (λ h. stays)
+  random-kept (reports errors) =
+      errors-set-by d (λ (r : Changed). Keeps (r .device)) errors stays stays (λ h k. stays)

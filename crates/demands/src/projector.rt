@@ -1,0 +1,78 @@
+// `ours`'s set-up, opening, closing, receiving, fault mark and error digits.
+use device::calls;
+use device::calls::Opened;
+use device::calls::Received;
+use record::host;
+use record::setup;
+use record::types::Changed;
+use record::types::Device;
+ghost use mathlib.Core.Path.{_≡_};
+ghost use Rattle.demands.specs.Board.{ours, givenBy};
+ghost use Rattle.demands.specs.Tied.{lentOpened, lentReceived};
+
+pub fn set_up(
+    name: &[u8],
+    maker: &[u8],
+    model: &[u8],
+    other: &[u8],
+    password: &[u8],
+    inputs: &[u8],
+    lamps: &[u32],
+    warm: u32,
+    cool: u32,
+) -> Changed
+    ensures { λ r.
+        ⌜ givenBy r ≡ ours .set-up (record {
+          name = now (name .entry);
+          maker = now (maker .entry);
+          model = now (model .entry);
+          other = now (other .entry);
+          password = now (password .entry);
+          inputs = now (inputs .entry);
+          lamps = now (lamps .entry);
+          warm = warm;
+          cool = cool;
+        }) ⌝ }
+{
+    setup::set_up(
+        name,
+        maker,
+        model,
+        other,
+        password,
+        inputs,
+        lamps,
+        warm,
+        cool,
+    )
+}
+
+pub fn opening(d: Device, random: u32, out: &mut [u8]) -> Opened
+    ensures { λ r. ⌜ lentOpened r (now (out .exit)) ≡ ours .opening d random (now (out .entry)) ⌝ }
+{
+    calls::open(d, random, out)
+}
+
+pub fn closing(d: Device) -> Changed
+    ensures { λ r. ⌜ givenBy r ≡ ours .closing d ⌝ }
+{
+    calls::close(d)
+}
+
+pub fn receive(d: Device, bytes: &[u8], out: &mut [u8]) -> Received
+    ensures { λ r. ⌜ lentReceived r (now (out .exit)) ≡ ours .receive d (now (bytes .entry)) (now (out .entry)) ⌝ }
+{
+    calls::receive(d, bytes, out)
+}
+
+pub fn set_fault(d: Device, mark: bool) -> Changed
+    ensures { λ r. ⌜ givenBy r ≡ ours .set-fault d mark ⌝ }
+{
+    host::set_fault(d, mark)
+}
+
+pub fn set_errors(d: Device, digits: &[u8]) -> Changed
+    ensures { λ r. ⌜ givenBy r ≡ ours .set-errors d (now (digits .entry)) ⌝ }
+{
+    host::set_errors(d, digits)
+}
