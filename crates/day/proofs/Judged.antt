@@ -6,13 +6,14 @@ use mathlib.Core.Bool.{Bool, true, false, _&&_}
 use mathlib.Core.List.{List}
 use lib.ListN.{length}
 use lib.Dec.{ltb, eqb}
-use borrow.Author.Tests.{lt-ltb, le-ltb, eq-eqb, ne-eqb}
-use Rattle.text.proofs.Choices.{if-yes, if-no, both}
+use borrow.Author.Tests.{lt-ltb, le-ltb, eq-eqb, eqb-true, ne-eqb}
+use Rattle.text.proofs.Choices.{if-yes, if-no, if-by, both, both-left, both-right}
 use Rattle.day.specs.Finding.{first}
 use Rattle.day.specs.Days.{Day, jobs, rigs, isDay}
 use Rattle.day.specs.Verdicts.{_below_gives_else_, unrigged, early, clashing, clashWith, spent, judged, checked}
 use Rattle.day.specs.declared.check.Verdict.{Verdict}
 use Rattle.day.specs.declared.check.Verdict.the-variants.{OutOfRange, Accepted, NoRig, TooEarly, Clash, Spent}
+use Rattle.day.proofs.Finding.{not-both}
 
 module _ (f : ℕ → Bool) (n : ℕ) (named : ℕ → Verdict) (other : Verdict) {x : ℕ} (e : x ≡ first f n) where
   names-it : x < n → (f below n gives named else other) ≡ named x
@@ -80,3 +81,12 @@ module _ (d : Day) (a : List ℕ) where
   pub checked-judged : isDay d ≡ true → n ≡ jobs d → judged d a ≡ checked d a
   unfolding checked
   checked-judged e h = sym (if-yes _ _ (both e (eq-eqb n (jobs d) h)))
+
+  pub checked-by : (P : Verdict → Type 0) → (isDay d ≡ true → n ≡ jobs d → P (judged d a))
+      → ((isDay d ≡ true → n ≡ jobs d → ⊥) → P OutOfRange) → P (checked d a)
+  unfolding checked
+  checked-by P p q =
+      if-by P (isDay d && eqb n (jobs d))
+      (λ e. p (both-left (isDay d) (eqb n (jobs d)) e)
+      (eqb-true n (jobs d) (both-right (isDay d) (eqb n (jobs d)) e)))
+      (λ e. q (λ t s. not-both (isDay d && eqb n (jobs d)) (both t (eq-eqb n (jobs d) s)) e))

@@ -2,8 +2,8 @@
 -- rules.
 -- Assumes nothing.
 use Prim.Native.Nat.{ℕ, _+_, _-_, _<_, _≤_, max}
-use mathlib.Core.Path.{_≡_, refl, sym, ap, subst, _∙_}
-use mathlib.Core.Bool.{Bool, true, false, not, _&&_}
+use mathlib.Core.Path.{_≡_, sym, ap, subst, _∙_}
+use mathlib.Core.Bool.{true, false, not, _&&_}
 use mathlib.Core.List.{List}
 use native.Mathlib.Omega.{arith}
 use lib.ListN.{length}
@@ -16,15 +16,10 @@ use Rattle.day.specs.Rules.{burnt, HasRig, Occupies, Share, Keeps}
 use Rattle.day.specs.Tests.{share}
 use Rattle.day.specs.Verdicts.{unrigged, checked, isAccepted, isKept}
 use Rattle.day.specs.declared.check.Verdict.the-variants.{Accepted}
-use Rattle.day.proofs.Finding.{not-both}
+use Rattle.day.proofs.Finding.{not-both, by-not}
 use Rattle.day.proofs.Ranges.{job-long}
 use Rattle.day.proofs.Judged.{checked-judged}
 use Rattle.day.proofs.Kept.{met, Passes, passes-accepted, passes-kept, kept-passes}
-
--- a test that does not hold, by what would follow if it did
-by-not : (b : Bool) → (b ≡ true → ⊥) → b ≡ false
-by-not true h = absurd (h refl)
-by-not false h = refl
 
 -- two stretches share a second exactly if each begins before the other one ends
 module _ (w c s l t m : ℕ) where
@@ -46,27 +41,25 @@ module _ (w c s l t m : ℕ) where
       (lt-ltb t (s + l + c + w) (omega (arith, p .0, p .1, q .0, q .1)))
 
 module _ (d : Day) (a : List ℕ) where
-  rig-told : (j : ℕ) → unrigged d a j ≡ false → HasRig d a j
+  pub rig-told : (j : ℕ) → unrigged d a j ≡ false → HasRig d a j
   rig-told j e =
       let t = not-false (ltb (a at j) (rigs d) && isAllowed (d .allowed at j) (a at j)) e in (
         ltb-true (a at j) (rigs d) (both-left (ltb (a at j) (rigs d)) (isAllowed (d .allowed at j) (a at j)) t),
         both-right (ltb (a at j) (rigs d)) (isAllowed (d .allowed at j) (a at j)) t,
       )
 
-  rig-tested : (j : ℕ) → HasRig d a j → unrigged d a j ≡ false
+  pub rig-tested : (j : ℕ) → HasRig d a j → unrigged d a j ≡ false
   rig-tested j h = ap not (both (lt-ltb (a at j) (rigs d) (h .0)) (h .1))
 
   -- the rigs are one, so both jobs' stretches are on it
-  meet-tested : (i j : ℕ) → (Share d a i j → ⊥) → (1 ≤ d .lengths at i) → (1 ≤ d .lengths at j) → met d a i j ≡ false
-  meet-tested i j h l m =
-      by-not (met d a i j)
-      (λ e.
+  pub met-shares : (i j : ℕ) → (1 ≤ d .lengths at i) → (1 ≤ d .lengths at j) → met d a i j ≡ true → Share d a i j
+  met-shares i j l m e =
       let same = eqb-true (a at i) (a at j) (both-left (eqb (a at i) (a at j)) _ e) in
       let x = second-shared (d .warm at (a at j)) (d .cool at (a at j)) (d .starts at i) (d .lengths at i)
       (d .starts at j) (d .lengths at j) l m (both-right (eqb (a at i) (a at j)) _ e) in
-      h (same, (x .0, subst (λ (r : ℕ). Occupies d r i (x .0)) (sym same) (x .1), x .2)))
+      (same, (x .0, subst (λ (r : ℕ). Occupies d r i (x .0)) (sym same) (x .1), x .2))
 
-  meet-told : (i j : ℕ) → met d a i j ≡ false → Share d a i j → ⊥
+  pub meet-told : (i j : ℕ) → met d a i j ≡ false → Share d a i j → ⊥
   meet-told i j e (same, (x, p, q)) =
       not-both (met d a i j)
       (both (eq-eqb (a at i) (a at j) same)
@@ -88,8 +81,10 @@ module _ (d : Day) (a : List ℕ) where
         record {
           rigged = λ j h. rig-tested j (k .rigged j h);
           timely = λ j h. le-ltb (d .starts at j) (d .warm at (a at j)) (k .timely j h);
-          apart = λ i j l h. meet-tested i j (k .apart i j l h) (job-long d ranged i (omega arith))
-              (job-long d ranged j (omega arith));
+          apart = λ i j l h.
+              let long = job-long d ranged in
+              by-not (met d a i j)
+              (λ e. k .apart i j l h (met-shares i j (long i (omega arith)) (long j (omega arith)) e));
           lasting = λ r h. le-ltb (d .life at r) (burnt (d .lengths) (d .warm) a r) (k .lasting r h);
         }
 

@@ -6,5 +6,11 @@ pub mod Kept
 pub mod Joining
 pub mod Placing
 pub mod Keeping
+pub mod Breaking
+pub mod VerdictHolds
 pub mod OneGreedy
 pub mod PlansGreedily
+pub mod PlanHolds
+pub mod OneResult
+pub mod InNumbers
+pub mod Examples

@@ -103,20 +103,20 @@ module _ (d : Day) (array : List ℕ) where
 
 -- what the planner answers and what it writes
 module _ (d : Day) (room : ℕ) where
-  refused : isPlannable d room ≡ false → (OutOfRange ≡ planOf d room) × (written d room ≡ [])
+  pub plan-refused : isPlannable d room ≡ false → (OutOfRange ≡ planOf d room) × (written d room ≡ [])
   unfolding planOf written
-  refused e = (
+  plan-refused e = (
     sym (if-yes _ _ (ap not e)),
     if-no _ _ (ap (λ (b : Bool). b && leb (jobs d) (length (planned d))) e),
   )
 
   pub plan-no-day : isDay d ≡ false → (OutOfRange ≡ planOf d room) × (written d room ≡ [])
-  plan-no-day e = refused (ap (λ (b : Bool). b && leb (jobs d) room) e)
+  plan-no-day e = plan-refused (ap (λ (b : Bool). b && leb (jobs d) room) e)
 
   module _ (ranged : isDay d ≡ true) where
     pub plan-no-room : room < jobs d → (OutOfRange ≡ planOf d room) × (written d room ≡ [])
     plan-no-room h =
-        refused (ap (λ (b : Bool). b && leb (jobs d) room) ranged ∙ lt-leb (jobs d) room h)
+        plan-refused (ap (λ (b : Bool). b && leb (jobs d) room) ranged ∙ lt-leb (jobs d) room h)
 
     module _ (fits : jobs d ≤ room) {count : ℕ} (e : count ≡ length (planned d)) where
       plannable : isPlannable d room ≡ true

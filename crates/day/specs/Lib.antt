@@ -5,3 +5,5 @@ pub mod Tests
 pub mod Verdicts
 pub mod Plans
 pub mod Greedy
+pub mod VerdictHolds
+pub mod PlanHolds
