@@ -1,17 +1,15 @@
--- However a log is cut into reads: calls that take some bytes each, handed on until all are taken, do what the bytes do one
--- after the other.
+-- A call takes some bytes of a log, and does what these do one after the other; what it leaves is played after them.
 -- Assumes nothing.
-use Prim.Native.Nat.{ℕ, zero, suc, _-_, _≤_}
+use Prim.Native.Nat.{ℕ, suc, _-_, _≤_}
 use mathlib.Core.Path.{_≡_, refl, sym, ap, _∙_, subst}
 use mathlib.Core.Bool.{Bool, true, false}
 use mathlib.Core.List.{List, [], _∷_, _++_, append-assoc}
 use native.Mathlib.Omega.{arith}
-use lib.ListN.{length, take, drop, length-drop, take-append-drop}
+use lib.ListN.{length, take, drop, take-append-drop}
 use lib.Dec.{ltb}
 use Rattle.text.specs.Words.{if_then_else_, _is_}
 use Rattle.text.proofs.Choices.{if-yes, if-no, if-all}
-use Rattle.stream.proofs.HandedOn.{handed-none, handed-more, parts-none, parts-more, joined-none, joined-more}
-use Rattle.stream.specs.Machine.{Out, Took, silent, after, took, oneMoreTaken, handed, handedParts, joined}
+use Rattle.stream.specs.Machine.{Out, Took, silent, after, took, oneMoreTaken}
 use Rattle.floor.specs.Reading.{Reading, more, ended, step, run, printRoom, thenTook, playedIn}
 
 pub run-append : (s : Reading) (xs ys : List ℕ) → run s (xs ++ ys) ≡ after (run s xs .reply) (run (run s xs .state) ys)
@@ -65,39 +63,14 @@ played-runs left s [] = refl
 played-runs left s (b ∷ bs) =
     first-ran left s b bs (played-runs _ (ended s .state) bs) (played-runs left (more s b) bs) (b is "\n") refl
 
-some-taken : (left : ℕ) (s : Reading) (b : ℕ) (bs : List ℕ) → 1 ≤ playedIn left s (b ∷ bs) .taken
+pub some-taken : (left : ℕ) (s : Reading) (b : ℕ) (bs : List ℕ) → 1 ≤ playedIn left s (b ∷ bs) .taken
 unfolding playedIn
 some-taken left s b bs = if-all (λ (t : Took Reading). 1 ≤ t .taken) (b is "\n") (omega arith) (omega arith)
 
--- calls that have so much room, handed on until all is taken
-module _ (room : ℕ) where
-  handed-runs : (n : ℕ) (s : Reading) (bs : List ℕ) → length bs ≤ n → handed (playedIn room) n s bs ≡ run s bs
-  unfolding run
-  handed-runs zero s [] h = handed-none (playedIn room) s zero
-  handed-runs zero s (b ∷ bs) h = absurd (omega arith)
-  handed-runs (suc n) s [] h = handed-none (playedIn room) s (suc n)
-  handed-runs (suc n) s (b ∷ bs) h =
-      let t = playedIn room s (b ∷ bs) in
-      let l : List ℕ = b ∷ bs in
-      let k : length (drop (t .taken) l) ≤ n = simp length-drop (omega (arith, some-taken room s b bs)) in
-      handed-more (playedIn room) s n b bs
-      ∙ ap (after (t .reply)) (handed-runs n (t .state) (drop (t .taken) l) k)
-      ∙ ap (λ (u : Took Reading). after (u .reply) (run (u .state) (drop (t .taken) l))) (played-runs room s l)
-      ∙ sym (run-append s (take (t .taken) l) (drop (t .taken) l))
-      ∙ ap (run s) (take-append-drop (t .taken) l)
-
-  pub parts-run : (s : Reading) (ps : List (List ℕ)) → handedParts (playedIn room) s ps ≡ run s (joined ps)
-  unfolding run
-  parts-run s [] = parts-none (playedIn room) s ∙ ap (run s) (sym joined-none)
-  parts-run s (p ∷ ps) =
-      let o = run s p in
-      parts-more (playedIn room) s p ps
-      ∙ ap (λ (u : Out Reading). after (u .reply) (handedParts (playedIn room) (u .state) ps))
-      (handed-runs (length p) s p (omega arith))
-      ∙ ap (after (o .reply)) (parts-run (o .state) ps)
-      ∙ sym (run-append s p (joined ps))
-      ∙ ap (run s) (sym (joined-more p ps))
-
-  pub same-however-cut : (s : Reading) (ps qs : List (List ℕ)) → joined ps ≡ joined qs
-      → handedParts (playedIn room) s ps ≡ handedParts (playedIn room) s qs
-  same-however-cut s ps qs e = parts-run s ps ∙ ap (run s) e ∙ sym (parts-run s qs)
+pub then-the-rest : (room : ℕ) (s : Reading) (bs : List ℕ) → let t = playedIn room s bs in
+    after (t .reply) (run (t .state) (drop (t .taken) bs)) ≡ run s bs
+then-the-rest room s bs =
+    let t = playedIn room s bs in
+    ap (λ (u : Took Reading). after (u .reply) (run (u .state) (drop (t .taken) bs))) (played-runs room s bs)
+    ∙ sym (run-append s (take (t .taken) bs) (drop (t .taken) bs))
+    ∙ ap (run s) (take-append-drop (t .taken) bs)

@@ -11,4 +11,7 @@ mod Carrying
 mod LampsShown
 pub mod Cuts
 pub mod Replayed
-pub mod PlayedBack
+mod Accepted
+pub mod WholeLog
+pub mod LastLine
+pub mod Counted

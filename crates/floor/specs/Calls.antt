@@ -1,20 +1,24 @@
 -- The calls of a replay, for every state and every lent memory (02, L1).
---   readingOf f m          a code's state f and the memory m lent for a line, as a reading
---   isReady f m lines      f can go on: the bytes kept fit a line, m has room for one and its CR, and the number of so many
---                          lines more still fits 64 bits
+--   readingOf f m          a state f and the memory m lent for a line, as a reading; `keeping f k m`: with k begun
+--   floorOf s              the state of a reading, without that memory
+--   lineTakenOf t          what was taken, as the code returns it
+--   finishRoom             so much room `finish` never needs more than
 --   refusal ..             the number of a call: 2 for too little memory to print in or to keep a line in; 3 for a state
 --                          with more bytes kept than a line has, or whose line number could pass 64 bits; else 0
---   stepped f m bs room    what a call on the bytes bs gives: its number, and what it took; nothing where it refuses
+--   refusing f m n short   the same on f and m, for a call that may play n lines
+--   Step                   a call's number, and what it took
+--   giving n s t           the step of a call with the number n: it takes t; nothing where n is a refusal
+--   stepped f m bs room    what a call on the bytes bs gives, that has so much room to print in
 --   endedAt f m room       what the call at the end of the input gives
 --   stepOf                 these as the code returns them; the length is that of the printed bytes
 -- Assumes nothing.
 use Prim.Native.Nat.{ℕ, _+_, _^_}
 use mathlib.Core.Bool.{Bool, _||_}
-use mathlib.Core.List.{List, []}
+use mathlib.Core.List.{List}
 use lib.ListN.{length}
 use lib.Dec.{leb, ltb, eqb}
 use Rattle.text.specs.Words.{if_then_else_}
-use Rattle.stream.specs.Machine.{Out, Took, silent, took}
+use Rattle.stream.specs.Machine.{Took, silent, took}
 use Rattle.floor.specs.declared.gather.Begun.{Begun}
 use Rattle.floor.specs.declared.replay.Floor.{Floor}
 use Rattle.floor.specs.declared.replay.Stepped.{Stepped}

@@ -4,3 +4,4 @@ pub mod Playing
 pub mod Reading
 pub mod Told
 pub mod Calls
+pub mod WholeLog

@@ -1,6 +1,6 @@
 -- A log that is read in parts (02, L1): what is kept between two reads, byte by byte, and what one call takes.
---   Kept                what is kept of a line that has begun: how many bytes, the overlong mark, and the memory lent for
---                       them
+--   Kept                what is kept of a line that has begun: how many bytes, the overlong mark, and the memory lent
+--                       for them
 --   Reading             the device, how many lines were played, and that
 --   collected k b       what is kept after one byte more that is no LF; past `lineMost` bytes only the mark is
 --   gathered k bs       what is kept after the bytes of bs before the first LF, how many these are, and whether LF came
@@ -14,7 +14,8 @@
 --   fresh m             before a log: 01's sample set-up, its connection closed, no line played, m the lent memory
 -- Assumes nothing.
 use Prim.Native.Nat.{ℕ, suc, _+_, _-_}
-use mathlib.Core.Bool.{Bool, true, false, _&&_, _||_, not}
+use Prim.Native.Char.{code}
+use mathlib.Core.Bool.{Bool, true, false, _||_}
 use mathlib.Core.List.{List, [], _∷_, _++_}
 use lib.ListN.{length, take, set}
 use lib.Dec.{leb, ltb, eqb}
@@ -72,7 +73,7 @@ abbrev pub keptEvent : Kept → Event
 keptEvent k = if k .begun .overlong then noSuch else event (take (k .begun .held) (k .line))
 
 abbrev pub lineAfter : Kept → List ℕ
-lineAfter k = if k .begun .overlong then k .line else set (k .line) (k .begun .held) 13
+lineAfter k = if k .begun .overlong then k .line else set (k .line) (k .begun .held) (code "\r")
 
 abbrev pub playedOn : Device → ℕ → Event → List ℕ → Out Reading
 playedOn d n e line = record {

@@ -1,29 +1,27 @@
--- The structs that the code returns, and how a printed line ends.
+-- The structs that the inner functions return, and how a printed line ends.
 --   isFormed says       a line has one of the four forms
---   ending f n k        what is printed after a reply of k bytes has lost its CR: LF; or `-`, the refusal n or `?`, and LF
---   refusal f m l o     the number of a call on f that is lent memory of m bytes for a line and o for what is printed, and
---                       that may play l lines: 2, 3, or 0
---   toldStep, ..        the results as the code returns them; each length is that of the printed bytes
+--   ending f n k        what is printed after a reply of k bytes without its CR: LF; or `-`, the refusal n or `?`, and LF
+--   calledOf r          what a call gave, as the code returns it: its number, its reply's length, the record
+--   printedOf n d e     what is left of the line n with the event e: the printed bytes' length, the record
+--   gatheredOf g        what is kept of a line up to LF, as the code returns it
 -- Assumes nothing.
-use Prim.Native.Nat.{ℕ, _+_, _-_, _^_}
-use mathlib.Core.Bool.{Bool, true, false, not, _||_}
+use Prim.Native.Nat.{ℕ}
+use mathlib.Core.Bool.{Bool, true, false, not}
 use mathlib.Core.List.{List, _++_}
 use lib.ListN.{length}
-use lib.Dec.{leb, ltb, eqb}
+use lib.Dec.{eqb}
 use Rattle.text.specs.Words.{ascii, if_then_else_}
 use Rattle.numbers.specs.Decimal.{digits}
 use Rattle.record.specs.declared.types.Device.{Device}
-use Rattle.device.specs.Calls.{Result, replyRoom}
-use Rattle.stream.specs.Machine.{Out, Took}
+use Rattle.device.specs.Calls.{Result}
 use Rattle.floor.specs.declared.line.Says.{Says}
 use Rattle.floor.specs.declared.line.Says.the-variants.{Opens, Receives, Passes, Closes, NoSuch}
 use Rattle.floor.specs.declared.gather.Gathered.{Gathered}
 use Rattle.floor.specs.declared.event.Called.{Called}
 use Rattle.floor.specs.declared.event.Printed.{Printed}
-use Rattle.floor.specs.Lines.{lineMost}
 use Rattle.floor.specs.Events.{Event}
 use Rattle.floor.specs.Playing.{did, printed}
-use Rattle.floor.specs.Reading.{UpToLf, Reading}
+use Rattle.floor.specs.Reading.{UpToLf}
 
 abbrev pub isFormed : Says → Bool
 isFormed (Opens r) = true

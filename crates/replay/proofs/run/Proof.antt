@@ -36,10 +36,10 @@ again c =
       of-out = t .turn .kept .1 .1 .1 .0 ∙ held .of-out;
     }
 
-abbrev finished : tie.After-write-start Inv μ → tie.After-finish Inv μ
-finished c = let known = c .before .before .before in known .before .before .before
+abbrev ended : tie.After-slice-known8 Inv μ → tie.After-end Inv μ
+ended c = let known = c .before .before in known .before .before
 
-abbrev held : (c : tie.After-finish Inv μ) → tie.At-loop Inv μ
+abbrev held : tie.After-end Inv μ → tie.At-loop Inv μ
 held c = let lent = c .before .before in lent .before .before
 
 pub run-spec : {M : Type 1} → statement M
@@ -51,12 +51,12 @@ run-spec =
     (λ c κs. search needs)
     (λ c. record { of-line = refl; of-input = refl; of-out = refl })
     (λ c κs. search needs)
+    (λ c κs. search needs)
     (λ c. omega (arith, test (turned c) .loop-test .taken))
     (λ c. omega (arith, test (turned c) .loop-test .taken))
     again
     (λ c κs. search needs)
-    (λ c κs. search needs)
-    (λ c. finished c .finish .kept .1 .0 ∙ held (finished c) .loop .inv .of-line)
-    (λ c. held (finished c) .loop .inv .of-input)
-    (λ c. finished c .finish .kept .1 .1 .0 ∙ held (finished c) .loop .inv .of-out)
+    (λ c. ended c .«end» .kept .1 .0 ∙ held (ended c) .loop .inv .of-line)
+    (λ c. held (ended c) .loop .inv .of-input)
+    (λ c. ended c .«end» .kept .1 .1 .0 ∙ held (ended c) .loop .inv .of-out)
     (λ c. search needs))

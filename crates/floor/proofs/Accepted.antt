@@ -1,46 +1,23 @@
--- The floor log played back (02, L1): whatever the sizes of the reads, what the calls print is what the definitions print
--- for the log, and the device at the end is the one that 01's definitions give for its events.
+-- No call of a replay refuses while its state can go on and the numbers last: `play` plays, `finish` tells (02, L1).
 -- Assumes nothing.
 use Prim.Native.Nat.{ℕ, _+_, _≤_, _<_, _^_}
-use mathlib.Core.Path.{_≡_, refl, sym, ap, _∙_}
-use mathlib.Core.Bool.{Bool, true, false, _||_}
-use mathlib.Core.List.{List, [], _∷_, _++_}
+use mathlib.Core.Path.{_≡_, refl}
+use mathlib.Core.Bool.{Bool, false, _||_}
+use mathlib.Core.List.{List, [], _∷_}
 use native.Mathlib.Omega.{arith}
 use lib.ListN.{length}
-use lib.Dec.{leb, ltb}
+use lib.Dec.{ltb}
 use borrow.Author.Tests.{le-ltb, lt-leb}
 use Rattle.text.specs.Words.{_is_}
 use Rattle.text.proofs.Choices.{if-all}
-use Rattle.stream.specs.Machine.{Out, Took, silent, took, handedParts, joined}
+use Rattle.stream.specs.Machine.{Out, took}
 use Rattle.floor.specs.declared.replay.Floor.{Floor}
 use Rattle.floor.specs.Lines.{lineMost}
-use Rattle.floor.specs.Events.{events}
-use Rattle.floor.specs.Playing.{stateAfter, sample, replayed}
-use Rattle.floor.specs.Reading.{Reading, printRoom, ended, more, step, run, playedIn, finished, fresh}
-use Rattle.floor.specs.Calls.{readingOf, finishRoom, refusing, Step, stepped, endedAt}
+use Rattle.floor.specs.Reading.{Reading, printRoom, ended, more, step, run, playedIn, finished}
+use Rattle.floor.specs.Calls.{readingOf, finishRoom, refusing, stepped, endedAt}
 use Rattle.floor.proofs.Gathering.{collected-held, collected-long}
 use Rattle.floor.proofs.LinesPlayed.{after-long}
 use Rattle.floor.proofs.Refusals.{not-refused, gives-all}
-use Rattle.floor.proofs.Cuts.{parts-run}
-use Rattle.floor.proofs.Replayed.{end-state, all-printed}
-
--- m is the memory lent for a line, room that for what is printed, ps the reads
-module _ (m : List ℕ) (memory : lineMost < length m) (room : ℕ) (ps : List (List ℕ)) where
-  abbrev read : Out Reading
-  read = handedParts (playedIn room) (fresh m) ps
-
-  abbrev log : List ℕ
-  log = joined ps
-
-  pub played-back : read .reply ++ finished (read .state) .reply ≡ replayed log
-  played-back =
-      ap (λ (o : Out Reading). o .reply ++ finished (o .state) .reply) (parts-run room (fresh m) ps)
-      ∙ all-printed m memory log
-
-  pub played-to : finished (read .state) .state .device ≡ stateAfter sample (events log)
-  played-to =
-      ap (λ (o : Out Reading). finished (o .state) .state .device) (parts-run room (fresh m) ps)
-      ∙ end-state m memory log
 
 -- what a state needs to go on, kept by every byte
 pub record Going (s : Reading) : Type 0 where
@@ -65,20 +42,6 @@ run-goes s (b ∷ bs) g =
     run-goes (step s b .state) bs
     (if-all (λ (o : Out Reading). Going (o .state)) (b is "\n") (ended-goes s g) (more-goes s g b))
 
-ended-counts : (s : Reading) → ended s .state .number ≤ s .number + 1
-unfolding ended
-ended-counts s = omega arith
-
--- each line adds one to the number: it stays below 64 bits for every log that is shorter
-pub run-counts : (s : Reading) (bs : List ℕ) → run s bs .state .number ≤ s .number + length bs
-unfolding run
-run-counts s [] = omega arith
-run-counts s (b ∷ bs) =
-    let one : step s b .state .number ≤ s .number + 1 =
-    if-all (λ (o : Out Reading). o .state .number ≤ s .number + 1) (b is "\n") (ended-counts s) (omega arith) in
-    omega (arith, run-counts (step s b .state) bs, one)
-
--- so the calls are never refused, and do what is said above
 module _ (f : Floor) (m : List ℕ) (g : Going (readingOf f m)) where
   accepted : (lines : ℕ) (short : Bool) → short ≡ false → f .number + lines < 2 ^ 64
       → refusing f m lines short ≡ 0
