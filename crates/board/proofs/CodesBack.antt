@@ -8,6 +8,7 @@ use native.Mathlib.Omega.{arith}
 use lib.Dec.{leb, eqb}
 use borrow.Author.Tests.{leb-true, eqb-true, eqb-false}
 use Rattle.text.proofs.Choices.{if-yes, if-by, both, both-left, both-right}
+use Rattle.lines.specs.Sources.{typeOf}
 use Rattle.lines.specs.Commands.{isCommand}
 use Rattle.lines.specs.declared.input.Source.{Source}
 use Rattle.lines.specs.declared.input.Source.the-variants.{Rgb, Video, Digital, Storage, Network}
@@ -23,6 +24,14 @@ use Rattle.board.specs.Commands.{coded, bit, sourceNumber, halfNumber, c
 use Rattle.board.specs.declared.codes.Coded.{Coded}
 use Rattle.board.specs.declared.codes.MaybeCommand.{MaybeCommand}
 use Rattle.board.specs.declared.codes.MaybeCommand.the-variants.{CommandIs, NoCommand}
+
+-- the face tells a type by 01's number of it
+pub face-follows : (s : Source) → sourceNumber s ≡ typeOf s
+face-follows Rgb = refl
+face-follows Video = refl
+face-follows Digital = refl
+face-follows Storage = refl
+face-follows Network = refl
 
 -- from a command to its code and back
 asked-back : (b : Body) → commandOf (codeOf (Query b)) ≡ CommandIs (Query b)

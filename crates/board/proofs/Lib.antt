@@ -4,3 +4,4 @@ pub mod CodesBack
 pub mod Refusals
 pub mod FaceReadsBack
 pub mod OneResult
+pub mod WhichSetting

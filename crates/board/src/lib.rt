@@ -8,4 +8,5 @@ pub mod reader;
 pub mod readings;
 pub mod sums;
 pub mod time;
+pub mod which;
 pub mod writer;

@@ -18,7 +18,5 @@ pub extern "C" fn pj_pass_in_place(d: &mut Device, seconds: u32) -> u32
     ensures { λ r. ⌜ (r ≡ passed (now (d .entry)) seconds .number)
         × (now (d .exit) ≡ passed (now (d .entry)) seconds .device) ⌝ }
 {
-    let changed = pass::pass(*d, seconds);
-    *d = changed.device;
-    changed.number
+    pass::pass_in_place(d, seconds)
 }

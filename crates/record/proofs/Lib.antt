@@ -14,4 +14,5 @@ pub mod LegalTold
 pub mod Started
 pub mod HostKept
 pub mod Results
+pub mod OutOfRange
 mod Samples

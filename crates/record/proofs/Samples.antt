@@ -1,16 +1,19 @@
--- Set-ups of 01's "Lines that settle it" and of its own examples, computed.
+-- Set-ups of 01's "Lines that settle it" and of its own examples, and which setting is out of its range, computed.
 -- Assumes nothing.
 use Prim.Native.Nat.{ℕ}
 use Prim.Native.String.{String}
 use mathlib.Core.Path.{_≡_, refl}
 use mathlib.Core.Bool.{true}
-use mathlib.Core.List.{List, [], _∷_}
+use mathlib.Core.List.{List, [], _∷_, map}
 use Rattle.text.specs.Words.{ascii}
 use Rattle.record.specs.Limits.{lampLimit}
 use Rattle.record.specs.Legal.{isLegal}
 use Rattle.record.specs.SetUp.{setUp}
+use Rattle.record.specs.OutOfRange.{settingsInOrder, firstFailing, firstOutOfRange}
 use Rattle.record.specs.Computing.{computing}
 use Rattle.record.specs.declared.types.Changed.{Changed}
+use Rattle.record.specs.declared.out_of_range.MaybeSetting.{MaybeSetting}
+use Rattle.record.specs.declared.out_of_range.MaybeSetting.the-variants.{SettingIs, NoSetting}
 
 -- W = 20, C = 60, one lamp; the name and the inputs as given
 abbrev small : String → String → ℕ → Changed
@@ -31,3 +34,30 @@ numbers =
 pub numbered : numbers ≡ 0 ∷ 0 ∷ 3 ∷ 3 ∷ 3 ∷ 3 ∷ 3 ∷ 3 ∷ 3 ∷ 3 ∷ []
 unfolding computing
 numbered = refl
+
+-- one lamp
+abbrev which : (name maker model other password inputs : String) (lamp warm cool : ℕ) → MaybeSetting
+which name maker model other password inputs lamp warm cool =
+    firstOutOfRange (ascii name) (ascii maker) (ascii model) (ascii other) (ascii password) (ascii inputs) (lamp ∷ [])
+    warm cool
+
+-- each setting out of its range in turn, the others in theirs, but for C = c
+abbrev inTurn : ℕ → List MaybeSetting
+inTurn c =
+    which "ERR1" "" "" "" "" "11" 0 20 c ∷ which "" "ERR1" "" "" "" "11" 0 20 c
+    ∷ which "" "" "ERR1" "" "" "11" 0 20 c ∷ which "" "" "" "ERR1" "" "11" 0 20 c
+    ∷ which "" "" "" "" "pass word" "11" 0 20 c ∷ which "" "" "" "" "" "10" 0 20 c
+    ∷ which "" "" "" "" "" "11" 360000000 20 c ∷ which "" "" "" "" "" "11" 0 601 c ∷ which "" "" "" "" "" "11" 0 20 0
+    ∷ []
+
+pub each-setting-told : inTurn 60 ≡ map SettingIs settingsInOrder
+unfolding computing firstFailing
+each-setting-told = refl
+
+pub first-of-two-told : inTurn 0 ≡ map SettingIs settingsInOrder
+unfolding computing firstFailing
+first-of-two-told = refl
+
+pub no-setting-told : which "ERR5" "" "" "" "password" "1159" lampLimit 600 600 ≡ NoSetting
+unfolding computing firstFailing
+no-setting-told = refl

@@ -3,5 +3,6 @@ pub mod Record
 pub mod Rules
 pub mod Legal
 pub mod SetUp
+pub mod OutOfRange
 pub mod HostCalls
 pub mod Computing

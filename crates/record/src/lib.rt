@@ -4,6 +4,7 @@ mod fill;
 pub mod host;
 pub mod inputs;
 pub mod legality;
+pub mod out_of_range;
 pub mod own;
 pub mod scan;
 pub mod settings;

@@ -1,0 +1,34 @@
+-- The number of a setting: it tells one setting or none, 0 exactly where set-up gives 0, and its promise leaves one
+-- result.
+-- Assumes nothing.
+use Prim.Native.Nat.{ℕ}
+use mathlib.Core.Path.{_≡_, refl, ap}
+use mathlib.Core.List.{List}
+use native.Mathlib.Omega.{arith}
+use Rattle.text.proofs.OneResult.{one-result}
+use Rattle.record.specs.SetUp.{setUp}
+use Rattle.record.specs.OutOfRange.{firstOutOfRange}
+use Rattle.record.specs.declared.out_of_range.MaybeSetting.{MaybeSetting}
+use Rattle.record.specs.declared.out_of_range.MaybeSetting.the-variants.{SettingIs, NoSetting}
+use Rattle.record.proofs.OutOfRange.{one-setting-place, setting-place-within, none-gives-0, gives-0-none}
+use Rattle.board.specs.Which.{settingNumber}
+
+pub setting-number-back : (m n : MaybeSetting) → settingNumber m ≡ settingNumber n → m ≡ n
+setting-number-back NoSetting NoSetting e = refl
+setting-number-back NoSetting (SettingIs t) e = absurd (omega (arith, setting-place-within t))
+setting-number-back (SettingIs s) NoSetting e = absurd (omega (arith, setting-place-within s))
+setting-number-back (SettingIs s) (SettingIs t) e = ap SettingIs (one-setting-place s t e)
+
+module _ (name maker model other password inputs lamps : List ℕ) (warm cool : ℕ) where
+  abbrev which : ℕ
+  which = settingNumber (firstOutOfRange name maker model other password inputs lamps warm cool)
+
+  pub which-0-set-up : which ≡ 0 → setUp name maker model other password inputs lamps warm cool .number ≡ 0
+  which-0-set-up e =
+      none-gives-0 name maker model other password inputs lamps warm cool (setting-number-back _ NoSetting e)
+
+  pub set-up-which-0 : setUp name maker model other password inputs lamps warm cool .number ≡ 0 → which ≡ 0
+  set-up-which-0 e = ap settingNumber (gives-0-none name maker model other password inputs lamps warm cool e)
+
+  pub one-which : {r s : ℕ} → r ≡ which → s ≡ which → r ≡ s
+  one-which = one-result

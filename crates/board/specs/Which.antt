@@ -1,0 +1,11 @@
+-- The setting that is out of its range, as a number (include/ceiling.h): its place in the order of set-up, or 0.
+--   settingNumber m
+-- Assumes nothing.
+use Prim.Native.Nat.{ℕ}
+use Rattle.record.specs.OutOfRange.{settingPlace}
+use Rattle.record.specs.declared.out_of_range.MaybeSetting.{MaybeSetting}
+use Rattle.record.specs.declared.out_of_range.MaybeSetting.the-variants.{SettingIs, NoSetting}
+
+abbrev pub settingNumber : MaybeSetting → ℕ
+settingNumber NoSetting = 0
+settingNumber (SettingIs s) = settingPlace s
