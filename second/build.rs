@@ -2,8 +2,8 @@
 //! for x86-64: there it is linked. On another processor a small host in C links it, built by a cross compiler, and the
 //! toolchain's emulator runs that.
 //!
-//! BOARD_ARCHIVE names another archive; BOARD_NATIVE one for the processor at hand, which is linked (bench/native.sh
-//! makes one to measure); BOARD_CC another cross compiler; BOARD_EMULATOR another emulator.
+//! BOARD_ARCHIVE names another archive; BOARD_NATIVE one for the processor at hand, which is linked (`./archive` writes
+//! it to target/native); BOARD_CC another cross compiler; BOARD_EMULATOR another emulator.
 
 use std::env;
 use std::path::{Path, PathBuf};

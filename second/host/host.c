@@ -94,15 +94,21 @@ static pj_command get_command(void) {
     return c;
 }
 
-static void set_up(void) {
+static void set_up(bool which) {
     slice name = get_slice(), maker = get_slice(), model = get_slice(), other = get_slice();
     slice password = get_slice(), inputs = get_slice();
     size_t lamps = get_words(words[0]);
     uint32_t warm, cool;
     GET(warm);
     GET(cool);
-    put_changed(pj_set_up(name.at, name.n, maker.at, maker.n, model.at, model.n, other.at, other.n, password.at,
-                          password.n, inputs.at, inputs.n, words[0], lamps, warm, cool));
+    if (which) {
+        uint32_t setting = pj_which_setting(name.at, name.n, maker.at, maker.n, model.at, model.n, other.at, other.n,
+                                            password.at, password.n, inputs.at, inputs.n, words[0], lamps, warm, cool);
+        PUT(setting);
+    } else {
+        put_changed(pj_set_up(name.at, name.n, maker.at, maker.n, model.at, model.n, other.at, other.n, password.at,
+                              password.n, inputs.at, inputs.n, words[0], lamps, warm, cool));
+    }
 }
 
 static void open_connection(pj_device d) {
@@ -235,7 +241,7 @@ static void make_call(void) {
     uint8_t which;
     GET(which);
     switch (which) {
-    case 0: set_up(); break;
+    case 0: set_up(false); break;
     case 1: open_connection(d); break;
     case 2: put_changed(pj_close(d)); break;
     case 3: receive(d); break;
@@ -251,6 +257,7 @@ static void make_call(void) {
     case 13: compare_lamps(); break;
     case 14: cutting_day(false); break;
     case 15: cutting_day(true); break;
+    case 16: set_up(true); break;
     default: exit(EXIT_FAILURE);
     }
 }

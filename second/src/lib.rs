@@ -3,6 +3,7 @@
 
 pub mod compare;
 pub mod face;
+pub mod logs;
 pub mod reference;
 pub mod replay;
 pub mod wrong;

@@ -1,7 +1,8 @@
-//! `second compare [seed]`, `second wrong [seed]`, `second replay < log`, `second md5 < file`.
+//! `second compare [seed]`, `second wrong [seed]`, `second replay < log`, `second logs`, `second md5 < file`.
 
 use second::compare::Run;
 use second::face::Board;
+use second::logs::{self, Fed, Program};
 use second::reference::md5::{hex, md5};
 use second::{replay, wrong};
 use std::io::{self, Read, Write};
@@ -12,6 +13,9 @@ const USAGE: &str = "\
 second compare [SEED]   compare with libboard.a; without a seed, a fresh one
 second wrong [SEED]     make each deliberate mistake; the comparison has to find it
 second replay           play a log from standard input (02, L1)
+second logs SEED COUNT PROGRAM..
+                        so many random logs, and some fixed ones, played by the program alike; `fresh` is a seed too
+second log SEED NUMBER  that log of a seed
 second md5              the MD5 of standard input, in hex";
 
 fn main() -> ExitCode {
@@ -23,6 +27,12 @@ fn main() -> ExitCode {
         ["wrong"] => verdict(wrong::all_found(1, &mut Board::start())),
         ["wrong", seed] => with_seed(seed, |seed| verdict(wrong::all_found(seed, &mut Board::start()))),
         ["replay"] => done(replay::replay(io::stdin().lock(), io::BufWriter::new(io::stdout()))),
+        ["logs", seed, count, _, ..] => {
+            with_seed(seed, |seed| with_count(count, |count| logs(seed, count, &words[3..])))
+        }
+        ["log", seed, number] => with_seed(seed, |seed| {
+            with_count(number, |number| done(io::stdout().write_all(&Fed::nth(seed, number).log)))
+        }),
         ["md5"] => done(digest()),
         _ => {
             eprintln!("{USAGE}");
@@ -34,8 +44,19 @@ fn main() -> ExitCode {
 fn with_seed(word: &str, run: impl FnOnce(u64) -> ExitCode) -> ExitCode {
     match word.parse() {
         Ok(seed) => run(seed),
+        Err(_) if word == "fresh" => run(fresh_seed()),
         Err(_) => {
             eprintln!("a seed is a number of 64 bits, and {word} is none");
+            ExitCode::from(2)
+        }
+    }
+}
+
+fn with_count(word: &str, run: impl FnOnce(usize) -> ExitCode) -> ExitCode {
+    match word.parse() {
+        Ok(count) => run(count),
+        Err(_) => {
+            eprintln!("{word} is no count");
             ExitCode::from(2)
         }
     }
@@ -58,6 +79,21 @@ fn compare(seed: u64) -> ExitCode {
         }
         Err(difference) => {
             println!("{difference}after {} comparisons that agreed, seed {seed}", run.agreed);
+            ExitCode::FAILURE
+        }
+    }
+}
+
+fn logs(seed: u64, count: usize, program: &[&str]) -> ExitCode {
+    println!("seed {seed}");
+    let program = Program(program.iter().map(|word| word.to_string()).collect());
+    match logs::compare(&program, seed, count) {
+        Ok(met) => {
+            println!("{met}, seed {seed}");
+            verdict(met.missed().next().is_none())
+        }
+        Err(difference) => {
+            println!("{difference}`second log {seed} {}` prints it whole", difference.number);
             ExitCode::FAILURE
         }
     }

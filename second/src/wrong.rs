@@ -94,6 +94,8 @@ mod tests {
         (1..=3).for_each(|kind| assert!(of_kind("pj_read_greeting", kind) >= 100, "greeting {kind}"));
         (0..=4).for_each(|rule| assert!(run.met.times("pj_check_day", &format!("rule {rule}")) >= 100, "rule {rule}"));
         (1..=11).for_each(|kind| assert!(of_kind("pj_read_reply", kind) >= 100, "reading {kind}"));
+        let told = |place| run.met.times("pj_which_setting", &format!("setting {place}"));
+        (0..=9).for_each(|place| assert!(told(place) >= 100, "setting {place}: {}", told(place)));
         ["PJLINK 0", "PJLINK 1"].iter().for_each(|greeting| assert!(run.met.times("pj_open", greeting) >= 100));
         assert!(run.met.times("pj_receive", "PJLINK E") >= 100);
     }

@@ -25,6 +25,9 @@ type Compared = Result<(), Box<Difference>>;
 /// A run has at least so many comparisons.
 pub const ENOUGH: usize = 220_000;
 
+/// How many smaller cases are tried at most, once one differs.
+const TRIES: usize = 20_000;
+
 /// Calls from a record on, each lent the record that the last one returned; a call that returns none hands its own on.
 #[derive(Clone, PartialEq, Eq, Debug)]
 pub struct Case {
@@ -71,7 +74,7 @@ impl<'a, B: Side> Run<'a, B> {
         if difference(&case, self.board, count).is_none() {
             return Ok(());
         }
-        let smallest = shrink::smallest(case, |case| difference(case, self.board, |_, _| ()).is_some());
+        let smallest = shrink::smallest(case, TRIES, |case| difference(case, self.board, |_, _| ()).is_some());
         Err(Box::new(difference(&smallest, self.board, |_, _| ()).expect("it differed when it was found")))
     }
 
@@ -150,8 +153,9 @@ impl<'a, B: Side> Run<'a, B> {
             let device = records::legal(&mut self.random);
             let act = histories::act(&mut self.random, &device);
             self.compare_call(device, act)?;
-            let act = Act::SetUp(setups::any(&mut self.random));
-            self.compare_call(Device::BLANK, act)?;
+            let lent = setups::any(&mut self.random);
+            self.compare_call(Device::BLANK, Act::SetUp(lent.clone()))?;
+            self.compare_call(Device::BLANK, Act::WhichSetting(lent))?;
             let act = replies::write(&mut self.random);
             self.compare_call(Device::BLANK, act)?;
             let act = replies::read_greeting(&mut self.random);

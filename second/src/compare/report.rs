@@ -49,10 +49,11 @@ fn memory(lent: &[u8]) -> String {
 
 fn call(act: &Act) -> String {
     match act {
-        Act::SetUp(lent) => {
+        Act::SetUp(lent) | Act::WhichSetting(lent) => {
+            let name = if matches!(act, Act::SetUp(_)) { "pj_set_up" } else { "pj_which_setting" };
             let texts = [&lent.name, &lent.maker, &lent.model, &lent.other, &lent.password, &lent.inputs];
             let texts: Vec<String> = texts.iter().map(|text| quoted(text)).collect();
-            format!("pj_set_up({}, lamps {:?}, warm {}, cool {})", texts.join(", "), lent.lamps, lent.warm, lent.cool)
+            format!("{name}({}, lamps {:?}, warm {}, cool {})", texts.join(", "), lent.lamps, lent.warm, lent.cool)
         }
         Act::Open { random, lent } => format!("pj_open({random:#010x}, {})", memory(lent)),
         Act::Close => "pj_close()".to_string(),

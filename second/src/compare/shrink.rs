@@ -4,14 +4,17 @@ use super::{Case, days, tables};
 use crate::face::wire::Wire;
 use crate::face::{Act, Command, Device, Lent};
 
-/// How many smaller cases are tried at most.
-const TRIES: usize = 20_000;
+/// What can be cut down.
+pub trait Smaller: Sized {
+    /// Smaller ones, the most promising first.
+    fn smaller(&self) -> impl Iterator<Item = Self>;
+}
 
-/// Takes the first smaller case that still differs, until none does.
-pub fn smallest(mut case: Case, mut differs: impl FnMut(&Case) -> bool) -> Case {
-    let mut tries = 0..TRIES;
+/// Takes the first smaller case that still differs, until none does or so many were tried.
+pub fn smallest<T: Smaller>(mut case: T, tries: usize, mut differs: impl FnMut(&T) -> bool) -> T {
+    let mut tries = 0..tries;
     loop {
-        let next = smaller(&case).take_while(|_| tries.next().is_some()).find(&mut differs);
+        let next = case.smaller().take_while(|_| tries.next().is_some()).find(&mut differs);
         match next {
             Some(smaller) => case = smaller,
             None => return case,
@@ -19,18 +22,20 @@ pub fn smallest(mut case: Case, mut differs: impl FnMut(&Case) -> bool) -> Case 
     }
 }
 
-/// Fewer calls first, then a simpler record to start from, then simpler calls.
-fn smaller(case: &Case) -> impl Iterator<Item = Case> {
-    let fewer = shorter(&case.acts).filter(|acts| !acts.is_empty()).map(|acts| Case { start: case.start, acts });
-    let records = zeroed(&case.start).chain(plainer_records(&case.start));
-    let simpler_acts = (0..case.acts.len()).flat_map(move |place| {
-        simpler(&case.acts[place]).into_iter().map(move |act| {
-            let mut acts = case.acts.clone();
-            acts[place] = act;
-            Case { start: case.start, acts }
-        })
-    });
-    fewer.chain(records.map(|start| Case { start, acts: case.acts.clone() })).chain(simpler_acts)
+impl Smaller for Case {
+    /// Fewer calls first, then a simpler record to start from, then simpler calls.
+    fn smaller(&self) -> impl Iterator<Item = Case> {
+        let fewer = shorter(&self.acts).filter(|acts| !acts.is_empty()).map(|acts| Case { start: self.start, acts });
+        let records = zeroed(&self.start).chain(plainer_records(&self.start));
+        let simpler_acts = (0..self.acts.len()).flat_map(move |place| {
+            simpler(&self.acts[place]).into_iter().map(move |act| {
+                let mut acts = self.acts.clone();
+                acts[place] = act;
+                Case { start: self.start, acts }
+            })
+        });
+        fewer.chain(records.map(|start| Case { start, acts: self.acts.clone() })).chain(simpler_acts)
+    }
 }
 
 /// A list with a stretch left out: all of it, halves, single places last.
@@ -38,7 +43,8 @@ pub fn shorter<T: Clone>(list: &[T]) -> impl Iterator<Item = Vec<T>> {
     halves(list.len()).map(|(first, end)| [&list[..first], &list[end..]].concat())
 }
 
-fn halves(length: usize) -> impl Iterator<Item = (usize, usize)> {
+/// The stretches of a list to leave out: first and end of each.
+pub fn halves(length: usize) -> impl Iterator<Item = (usize, usize)> {
     stretches(length, (0..8).map(|times| length >> times).chain([1]).collect())
 }
 
@@ -108,6 +114,7 @@ fn plainer_records(device: &Device) -> impl Iterator<Item = Device> {
 fn simpler(act: &Act) -> Vec<Act> {
     match act {
         Act::SetUp(lent) => simpler_set_ups(lent).into_iter().map(Act::SetUp).collect(),
+        Act::WhichSetting(lent) => simpler_set_ups(lent).into_iter().map(Act::WhichSetting).collect(),
         Act::Open { random, lent } => {
             let numbers = lower(*random).map(|random| Act::Open { random, lent: lent.clone() });
             numbers.chain(memories(lent).map(|lent| Act::Open { random: *random, lent })).collect()

@@ -37,6 +37,7 @@ impl fmt::Display for Tally {
 fn call(act: &Act) -> &'static str {
     match act {
         Act::SetUp(_) => "pj_set_up",
+        Act::WhichSetting(_) => "pj_which_setting",
         Act::Open { .. } => "pj_open",
         Act::Close => "pj_close",
         Act::Receive { .. } => "pj_receive",
@@ -60,6 +61,7 @@ fn call(act: &Act) -> &'static str {
 fn kind(answer: &Answer) -> String {
     match answer {
         Answer::Changed(changed) | Answer::HandedOn(changed, _) => refusal_or(changed.number, "served"),
+        Answer::Setting(place) => format!("setting {place}"),
         Answer::Opened(opened, out) => refusal_or(opened.number, &reply(&out[..opened.length])),
         Answer::Received(received, out) => refusal_or(received.number, &reply(&out[..received.length])),
         Answer::Legal(legal) => legal.to_string(),

@@ -8,6 +8,7 @@ use super::{
 #[derive(Clone, PartialEq, Eq, Debug)]
 pub enum Act {
     SetUp(Lent),
+    WhichSetting(Lent),
     Open {
         random: u32,
         lent: Vec<u8>,
@@ -68,7 +69,7 @@ pub enum Act {
     },
 }
 
-/// What a set-up is lent.
+/// What a set-up is lent, and the call that tells which of it is out of range.
 #[derive(Clone, PartialEq, Eq, Debug, Default)]
 pub struct Lent {
     pub name: Vec<u8>,
@@ -86,6 +87,7 @@ pub struct Lent {
 #[derive(Clone, PartialEq, Eq, Debug)]
 pub enum Answer {
     Changed(Changed),
+    Setting(u32),
     Opened(Opened, Vec<u8>),
     Received(Received, Vec<u8>),
     /// The last number and record, and all reply bytes.

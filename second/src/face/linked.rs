@@ -26,6 +26,25 @@ unsafe extern "C" {
         warm: u32,
         cool: u32,
     ) -> Changed;
+    #[rustfmt::skip]
+    fn pj_which_setting(
+        name: *const u8,
+        name_length: usize,
+        maker: *const u8,
+        maker_length: usize,
+        model: *const u8,
+        model_length: usize,
+        other: *const u8,
+        other_length: usize,
+        password: *const u8,
+        password_length: usize,
+        inputs: *const u8,
+        inputs_length: usize,
+        lamps: *const u32,
+        lamps_length: usize,
+        warm: u32,
+        cool: u32,
+    ) -> u32;
     fn pj_open(device: Device, random: u32, out: *mut u8, out_length: usize) -> Opened;
     fn pj_close(device: Device) -> Changed;
     fn pj_receive(device: Device, bytes: *const u8, length: usize, out: *mut u8, out_length: usize) -> Received;
@@ -69,6 +88,19 @@ pub fn set_up(lent: &Lent) -> Changed {
             lamps.as_ptr(), lamps.len(), *warm, *cool,
         );
         changed
+    }
+}
+
+pub fn which_setting(lent: &Lent) -> u32 {
+    let Lent { name, maker, model, other, password, inputs, lamps, warm, cool } = lent;
+    unsafe {
+        #[rustfmt::skip]
+        let setting = pj_which_setting(
+            name.as_ptr(), name.len(), maker.as_ptr(), maker.len(), model.as_ptr(), model.len(),
+            other.as_ptr(), other.len(), password.as_ptr(), password.len(), inputs.as_ptr(), inputs.len(),
+            lamps.as_ptr(), lamps.len(), *warm, *cool,
+        );
+        setting
     }
 }
 
@@ -142,6 +174,7 @@ impl Side for Board {
         let device = *device;
         match act {
             Act::SetUp(lent) => Answer::Changed(set_up(lent)),
+            Act::WhichSetting(lent) => Answer::Setting(which_setting(lent)),
             Act::Open { random, lent } => {
                 let mut out = lent.clone();
                 Answer::Opened(open(device, *random, &mut out), out)

@@ -1,7 +1,7 @@
 //! How calls and answers go to a process and back: every field in its order, numbers with their lowest byte first, a
 //! `size_t` as eight bytes, a slice after its length. `host/host.c` is the other end.
 
-use super::{Act, Answer, Day};
+use super::{Act, Answer, Day, Lent};
 
 pub trait Wire {
     fn put(&self, out: &mut Vec<u8>);
@@ -87,12 +87,11 @@ pub fn put_act(act: &Act, out: &mut Vec<u8>) {
     match act {
         Act::SetUp(lent) => {
             0u8.put(out);
-            for text in [&lent.name, &lent.maker, &lent.model, &lent.other, &lent.password, &lent.inputs] {
-                text.put(out);
-            }
-            lent.lamps.put(out);
-            lent.warm.put(out);
-            lent.cool.put(out);
+            put_settings(lent, out);
+        }
+        Act::WhichSetting(lent) => {
+            16u8.put(out);
+            put_settings(lent, out);
         }
         Act::Open { random, lent } => {
             1u8.put(out);
@@ -163,6 +162,15 @@ pub fn put_act(act: &Act, out: &mut Vec<u8>) {
     }
 }
 
+fn put_settings(lent: &Lent, out: &mut Vec<u8>) {
+    for text in [&lent.name, &lent.maker, &lent.model, &lent.other, &lent.password, &lent.inputs] {
+        text.put(out);
+    }
+    lent.lamps.put(out);
+    lent.warm.put(out);
+    lent.cool.put(out);
+}
+
 fn put_day(day: &Day, out: &mut Vec<u8>) {
     day.starts.put(out);
     day.lengths.put(out);
@@ -181,6 +189,7 @@ pub fn get_answer(act: &Act, from: &mut &[u8]) -> Answer {
         | Act::PassInPlace { .. }
         | Act::SetFault { .. }
         | Act::SetErrors { .. } => Answer::Changed(Wire::get(from)),
+        Act::WhichSetting(_) => Answer::Setting(Wire::get(from)),
         Act::Open { .. } => Answer::Opened(Wire::get(from), Wire::get(from)),
         Act::Receive { .. } => Answer::Received(Wire::get(from), Wire::get(from)),
         Act::HandOn { .. } => unreachable!("not one call"),

@@ -4,7 +4,7 @@
 use super::controller::{self, Command};
 use super::replies;
 use super::rules::{Mistake, made};
-use super::set_up::{SetUp, are_lamps, inputs_of};
+use super::set_up::{self, SetUp, are_lamps, inputs_of};
 use super::{Connection, Projector, md5};
 use crate::face;
 
@@ -37,6 +37,15 @@ fn accepted(lent: &face::Lent) -> Option<Projector> {
         cool: lent.cool,
     };
     (set_up.is_legal() && are_lamps(&lent.lamps)).then(|| set_up.fresh(lent.lamps.clone()))
+}
+
+/// The header: "the first that is out of its range", in the order in which a set-up is lent them, from 1; else 0.
+pub fn which_setting(lent: &face::Lent) -> u32 {
+    let wrong = set_up::in_range(lent).map(|in_range| !in_range);
+    let first = wrong.iter().position(|&wrong| wrong);
+    let last = wrong.iter().rposition(|&wrong| wrong);
+    let told = if made(Mistake::LastSettingTold) { last } else { first };
+    told.map_or(0, |place| place as u32 + 1)
 }
 
 /// The projector that a record stands for, if there is also room for a reply; else the number of the first check that

@@ -42,6 +42,7 @@ mistakes! {
     TouchingClashes: "two stretches that touch clash",
     AllLeftRefused: "a rig may not burn all that it has left",
     HighestRigFirst: "the planner tries the highest-numbered rig first",
+    LastSettingTold: "of two settings out of their range the later is told",
 }
 
 thread_local! {

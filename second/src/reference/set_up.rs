@@ -2,6 +2,7 @@
 
 use super::text::{Input, all_letters_or_digits};
 use super::{Connection, Power, Projector};
+use crate::face;
 
 pub const LONGEST_NAME: usize = 64;
 pub const LONGEST_INFORMATION: usize = 32;
@@ -30,10 +31,9 @@ impl SetUp {
             && is_text(&self.model, LONGEST_INFORMATION)
             && is_text(&self.other, LONGEST_INFORMATION)
             && is_password(&self.password)
-            && (1..=MOST_INPUTS).contains(&self.inputs.len())
-            && all_different(&self.inputs)
-            && (1..=600).contains(&self.warm)
-            && (1..=600).contains(&self.cool)
+            && are_inputs(&self.inputs)
+            && is_stretch(self.warm)
+            && is_stretch(self.cool)
     }
 
     /// "A device starts off, with both mutes off, the first input, no fault, error status 000000, connection closed."
@@ -72,6 +72,31 @@ pub fn are_lamps(lamps: &[u32]) -> bool {
 /// Inputs as they are lent: two characters each, so that an odd number of bytes is no list.
 pub fn inputs_of(characters: &[u8]) -> Option<Vec<Input>> {
     characters.chunks(2).map(Input::from_characters).collect()
+}
+
+/// "1 to 16, all different."
+fn are_inputs(inputs: &[Input]) -> bool {
+    (1..=MOST_INPUTS).contains(&inputs.len()) && all_different(inputs)
+}
+
+/// "Warm-up W and cooling C: 1 to 600 seconds each."
+fn is_stretch(seconds: u32) -> bool {
+    (1..=600).contains(&seconds)
+}
+
+/// Whether each setting is in its range: name, maker, model, other, password, inputs, lamps, W, C.
+pub fn in_range(lent: &face::Lent) -> [bool; 9] {
+    [
+        is_text(&lent.name, LONGEST_NAME),
+        is_text(&lent.maker, LONGEST_INFORMATION),
+        is_text(&lent.model, LONGEST_INFORMATION),
+        is_text(&lent.other, LONGEST_INFORMATION),
+        is_password(&lent.password),
+        inputs_of(&lent.inputs).is_some_and(|inputs| are_inputs(&inputs)),
+        are_lamps(&lent.lamps),
+        is_stretch(lent.warm),
+        is_stretch(lent.cool),
+    ]
 }
 
 fn all_different(inputs: &[Input]) -> bool {

@@ -1,31 +1,32 @@
 //! 02, L1: a log from the floor, played on 01's sample set-up (W 20, C 60, one lamp at 0 s, input 11, texts empty, no
-//! password, connection closed).
+//! password, connection closed). `mistakes` has the deliberate ones.
+
+pub mod mistakes;
 
 use crate::reference::set_up::SetUp;
-use crate::reference::text::Input;
-use crate::reference::text::{CR, LF, hex_number};
+use crate::reference::text::{CR, Input, LF, hex_number};
 use crate::reference::{Connection, Projector};
 use std::io::{self, BufRead, Write};
 
 /// "over 4,096 bytes prints its number, a space and `?` and changes nothing".
-const LONGEST: usize = 4096;
+pub const LONGEST: usize = 4096;
 
 #[derive(Clone, Copy, PartialEq, Eq, Debug)]
-enum Event<'a> {
+pub enum Event<'a> {
     Open(u32),
     Receive(&'a [u8]),
     Pass(u32),
     Close,
 }
 
-enum Outcome {
+pub enum Outcome {
     Reply(Vec<u8>),
     Refused(u32),
 }
 
 /// "`O`, a space and eight lowercase hex digits opens, `R`, a space and text receives it plus a CR, `T`, a space and a
 /// number passes seconds, `X` closes."
-fn event(line: &[u8]) -> Option<Event<'_>> {
+pub fn event(line: &[u8]) -> Option<Event<'_>> {
     if line.len() > LONGEST || line.contains(&CR) {
         return None;
     }
@@ -47,7 +48,10 @@ fn seconds(digits: &[u8]) -> Option<u32> {
     u32::try_from(number).ok()
 }
 
-fn play(projector: &mut Projector, event: Event) -> Outcome {
+/// How an event is played.
+type Play = fn(&mut Projector, Event) -> Outcome;
+
+pub fn play(projector: &mut Projector, event: Event) -> Outcome {
     let closed = projector.connection == Connection::Closed;
     match event {
         Event::Open(_) if !closed => Outcome::Refused(5),
@@ -70,11 +74,11 @@ fn play(projector: &mut Projector, event: Event) -> Outcome {
 }
 
 /// "the reply without CR, or `-` for none, or `! ` and the number of a refusal"; `?` for a line of no such form.
-fn told(projector: &mut Projector, line: &[u8]) -> Vec<u8> {
-    let Some(event) = event(line) else { return b"?".to_vec() };
-    match play(projector, event) {
-        Outcome::Refused(number) => format!("! {number}").into_bytes(),
-        Outcome::Reply(reply) => match reply.strip_suffix(&[CR]) {
+fn told(outcome: Option<Outcome>) -> Vec<u8> {
+    match outcome {
+        None => b"?".to_vec(),
+        Some(Outcome::Refused(number)) => format!("! {number}").into_bytes(),
+        Some(Outcome::Reply(reply)) => match reply.strip_suffix(&[CR]) {
             Some(text) => text.to_vec(),
             None => b"-".to_vec(),
         },
@@ -95,8 +99,12 @@ pub fn sample() -> Projector {
     set_up.fresh(vec![0])
 }
 
+pub fn replay(log: impl BufRead, out: impl Write) -> io::Result<()> {
+    replay_by(play, log, out)
+}
+
 /// "Lines end with LF, the last perhaps without". After the last, power as POWR answers it and the lamp seconds.
-pub fn replay(mut log: impl BufRead, mut out: impl Write) -> io::Result<()> {
+fn replay_by(play: Play, mut log: impl BufRead, mut out: impl Write) -> io::Result<()> {
     let mut projector = sample();
     let mut line = Vec::new();
     let mut number = 0u64;
@@ -106,9 +114,8 @@ pub fn replay(mut log: impl BufRead, mut out: impl Write) -> io::Result<()> {
             break;
         }
         number += 1;
-        let text = line.strip_suffix(&[LF]).unwrap_or(&line);
         write!(out, "{number} ")?;
-        out.write_all(&told(&mut projector, text))?;
+        out.write_all(&told(event(text_of(&line)).map(|event| play(&mut projector, event))))?;
         out.write_all(b"\n")?;
     }
     let lamps: Vec<String> = projector.lamps.iter().map(u32::to_string).collect();
@@ -116,14 +123,31 @@ pub fn replay(mut log: impl BufRead, mut out: impl Write) -> io::Result<()> {
     out.flush()
 }
 
+/// The lines of a log, each with the LF that it has.
+pub fn lines(log: &[u8]) -> impl Iterator<Item = &[u8]> {
+    log.split_inclusive(|&byte| byte == LF)
+}
+
+/// A line without its LF.
+pub fn text_of(line: &[u8]) -> &[u8] {
+    line.strip_suffix(&[LF]).unwrap_or(line)
+}
+
+/// What a log in memory prints.
+pub fn replayed(log: &[u8]) -> Vec<u8> {
+    in_memory(play, log)
+}
+
+fn in_memory(play: Play, log: &[u8]) -> Vec<u8> {
+    let mut out = Vec::new();
+    replay_by(play, log, &mut out).expect("memory takes what is written");
+    out
+}
+
 #[cfg(test)]
 mod tests {
-    use super::*;
-
     fn replayed(log: &[u8]) -> String {
-        let mut out = Vec::new();
-        replay(log, &mut out).unwrap();
-        String::from_utf8(out).unwrap()
+        String::from_utf8(super::replayed(log)).unwrap()
     }
 
     /// L1's own example.
