@@ -1,30 +1,40 @@
 /* A host: it keeps one projector, feeds it bytes in odd cuts as a network would, lets time pass, and asks as a
-   controller. What it must print, by the rules of document 01, is in host.stdout. */
+   controller; then service compares two tables of lamp seconds, and a cutting day is planned and checked. Every number
+   that a call gives is tested before anything else of its result is used. What it must print, by the rules of documents
+   01 and 02, is in host.stdout. */
 #include <stdio.h>
+#include <stdlib.h>
 #include <string.h>
 
 #include "ceiling.h"
 
 #define TEXT(s) (const uint8_t *)(s), strlen(s)
+#define LIST(a) (a), sizeof(a) / sizeof *(a)
 
 static pj_device device;
 static uint8_t reply[PJ_REPLY_ROOM];
-static size_t length; /* of the last reply, with its CR */
 
-/* Hands bytes on in cuts of 1, 2, 3, .. until all are taken, and prints each reply without its CR. */
-static void feed(const uint8_t *bytes, size_t len) {
+/* Ends the program where a call was refused that should be served. */
+static void served(uint32_t number, const char *call) {
+    if (number == PJ_SERVED) return;
+    printf("%s gives %u\n", call, (unsigned)number);
+    exit(1);
+}
+
+/* Hands bytes on in cuts of 1, 2, 3, .. until all are taken, and prints each reply without its CR. Gives the length of
+   the last reply, 0 where the last call wrote none. */
+static size_t feed(const uint8_t *bytes, size_t len) {
+    size_t length = 0;
     for (size_t cut = 1; len > 0; cut++) {
         pj_received r = pj_receive(device, bytes, cut < len ? cut : len, reply, sizeof reply);
-        if (r.number != 0) {
-            printf("refused: %u\n", (unsigned)r.number);
-            return;
-        }
+        served(r.number, "pj_receive");
         device = r.device;
         bytes += r.taken;
         len -= r.taken;
         length = r.length;
         if (length > 0) printf("< %.*s\n", (int)length - 1, (const char *)reply);
     }
+    return length;
 }
 
 /* A controller's command, and what it reads of the reply. */
@@ -32,48 +42,112 @@ static pj_reading ask(uint8_t code, uint8_t first) {
     uint8_t line[PJ_COMMAND_ROOM];
     pj_command command = {code, first, 0};
     pj_written w = pj_write(command, false, 0, TEXT(""), line, sizeof line);
-    feed(line, w.length);
-    return pj_read_reply(command, reply, length);
+    served(w.number, "pj_write");
+    pj_reading r = pj_read_reply(command, reply, feed(line, w.length));
+    served(r.number, "pj_read_reply");
+    return r;
 }
 
-int main(void) {
-    const uint32_t lamps[] = {0, 3600};
-    pj_changed started = pj_set_up(TEXT("Table 3"), TEXT("maker"), TEXT("model"), TEXT(""), TEXT("JBMIAProjectorLink"),
-                                   TEXT("1132"), lamps, 2, 20, 60);
-    device = started.device;
-    printf("set up: %u, legal: %d\n", (unsigned)started.number, pj_legal(device));
+/* The command was carried out. */
+static void set(uint8_t code, uint8_t first) {
+    if (ask(code, first).kind == PJ_READ_OK) return;
+    printf("not OK\n");
+    exit(1);
+}
 
+static void pass(uint32_t seconds) { served(pj_pass_in_place(&device, seconds), "pj_pass_in_place"); }
+
+static void one_projector(void) {
+    const uint32_t lamps[] = {0, 3600};
+
+    /* warm-up and cooling of no seconds: set-up refuses, and the first setting out of its range is told */
+    pj_changed started = pj_set_up(TEXT("Table 3"), TEXT("maker"), TEXT("model"), TEXT(""), TEXT("JBMIAProjectorLink"),
+                                   TEXT("1132"), LIST(lamps), 0, 0);
+    printf("no warm-up: refused %d", started.number == PJ_OUT_OF_RANGE);
+    printf(", for warm-up %d\n", pj_which_setting(TEXT("Table 3"), TEXT("maker"), TEXT("model"), TEXT(""),
+                                                  TEXT("JBMIAProjectorLink"), TEXT("1132"), LIST(lamps), 0, 0)
+                                      == PJ_SETTING_WARM);
+    started = pj_set_up(TEXT("Table 3"), TEXT("maker"), TEXT("model"), TEXT(""), TEXT("JBMIAProjectorLink"), TEXT("1132"),
+                        LIST(lamps), 20, 60);
+    served(started.number, "pj_set_up");
+    device = started.device;
+    printf("set up: legal %d\n", pj_legal(device));
+
+    /* a real host draws the random number; this one has the specification's, to show its digest */
     pj_opened opened = pj_open(device, 0x498e4a67, reply, sizeof reply);
+    served(opened.number, "pj_open");
     device = opened.device;
     pj_greeting greeting = pj_read_greeting(reply, opened.length);
+    served(greeting.number, "pj_read_greeting");
     printf("greeting: kind %d, random %08x\n", greeting.kind, (unsigned)greeting.random);
 
     /* the digest that the specification prints for this random number and password, then three lines at once */
     feed(TEXT("5d8409bc1c3fa39749434aa3a5c38682%1POWR 1\r%1powr ?\r%1NAME ?\r"));
-    pj_pass_in_place(&device, 19);
-    printf("power after 19 s: %d\n", ask(PJ_POWR_ASK, 0).first);
-    pj_pass_in_place(&device, 1);
-    printf("power after 20 s: %d\n", ask(PJ_POWR_ASK, 0).first);
-    pj_pass_in_place(&device, 2380);
+    pass(19);
+    printf("after 19 s: warm-up %d\n", ask(PJ_POWR_ASK, 0).first == PJ_POWER_WARM_UP);
+    pass(1);
+    printf("after 20 s: on %d\n", ask(PJ_POWR_ASK, 0).first == PJ_POWER_ON);
+    pass(2380);
 
     /* the other eight of nine sessions of forty minutes: six hours in all */
     for (int session = 1; session < 9; session++) {
-        ask(PJ_POWR_SET, 0);
-        device = pj_pass(device, 60).device;
-        ask(PJ_POWR_SET, 1);
-        device = pj_pass(device, 2400).device;
+        set(PJ_POWR_SET, 0);
+        pass(60);
+        set(PJ_POWR_SET, 1);
+        pj_changed passed = pj_pass(device, 2400); /* the same by value */
+        served(passed.number, "pj_pass");
+        device = passed.device;
     }
     pj_reading told = ask(PJ_LAMP, 0);
     for (size_t i = 0; i < told.count; i++) printf("lamp %zu: %u h, lit %d\n", i, (unsigned)told.hours[i], told.lit[i]);
 
     /* what the lamps gained since set-up, and the same tables the other way round */
     int64_t gained[2];
-    pj_compared c = pj_compare_lamps(lamps, 2, device.own.lamps, 2, gained, 2);
+    pj_compared c = pj_compare_lamps(LIST(lamps), device.own.lamps, 2, LIST(gained));
+    served(c.number, "pj_compare_lamps");
     printf("gained: %lld s, %lld s, backwards %d\n", (long long)gained[0], (long long)gained[1], c.backwards);
-    c = pj_compare_lamps(device.own.lamps, 2, lamps, 2, gained, 2);
+    c = pj_compare_lamps(device.own.lamps, 2, LIST(lamps), LIST(gained));
+    served(c.number, "pj_compare_lamps");
     printf("gained: %lld s, %lld s, backwards at %zu\n", (long long)gained[0], (long long)gained[1], c.place);
 
-    printf("open again: %u\n", (unsigned)pj_open(device, 0, reply, sizeof reply).number);
-    printf("close: %u\n", (unsigned)pj_close(device).number);
+    /* a refusal: the number alone says something, and the record and the reply memory are as they were */
+    pj_opened again = pj_open(device, 0, reply, sizeof reply);
+    printf("open again: refused %d\n", again.number == PJ_CONNECTED);
+    pj_changed closed = pj_close(device);
+    served(closed.number, "pj_close");
+    device = closed.device;
+    printf("close: phase %d\n", device.connection.phase);
+}
+
+static void one_day(void) {
+    /* three jobs, of which the first two overlap, on two rigs; the last may use rig 0 alone (bit 0) */
+    const uint32_t starts[] = {600, 1200, 9000}, lengths[] = {3600, 1800, 7200};
+    const uint8_t allowed[] = {3, 3, 1};
+    const uint32_t warm[] = {20, 30}, cool[] = {60, 60}, life[] = {36000, 7200};
+    uint8_t rigs[3];
+
+    pj_plan plan = pj_plan_day(LIST(starts), LIST(lengths), LIST(allowed),
+                               LIST(warm), LIST(cool), LIST(life), LIST(rigs));
+    served(plan.number, "pj_plan_day");
+    if (!plan.planned) {
+        printf("job %zu finds no rig\n", plan.job);
+        return; /* and the list of rigs has nothing to be read */
+    }
+    for (size_t job = 0; job < sizeof rigs; job++) printf("job %zu: rig %d\n", job, rigs[job]);
+
+    pj_verdict v = pj_check_day(LIST(starts), LIST(lengths), LIST(allowed), LIST(rigs),
+                                LIST(warm), LIST(cool), LIST(life));
+    served(v.number, "pj_check_day");
+    printf("as planned: accepted %d\n", v.rule == PJ_DAY_ACCEPTED);
+
+    rigs[1] = rigs[0]; /* by hand, and wrong */
+    v = pj_check_day(LIST(starts), LIST(lengths), LIST(allowed), LIST(rigs), LIST(warm), LIST(cool), LIST(life));
+    served(v.number, "pj_check_day");
+    if (v.rule == PJ_DAY_CLASH) printf("by hand: jobs %zu and %zu clash\n", v.first, v.second);
+}
+
+int main(void) {
+    one_projector();
+    one_day();
     return 0;
 }

@@ -1,26 +1,39 @@
 /* The control software of a ceiling projector: PJLink Class 1, version 1.04, both sides, with the MD5 of RFC 1321.
 
-   Declares what the archive libboard.a defines (`rt staticlib board`), for x86-64. Every call ends, keeps to the memory
-   that it is lent and keeps no state: the device record goes in and comes back. A call asks only what C cannot say: that
-   a pointer is good for its length (NULL is good for none, 0 included), that a bool is 0 or 1, and that reply memory
-   overlaps nothing else that is lent.
+   This declares what the archive libboard.a defines. `rt staticlib board` writes the archive for x86-64, whose calls
+   are those of the System V calling convention for AMD64; `./archive` writes it for the processor at hand, on AArch64
+   by the calling convention AAPCS64. The layout of the records is the same on both.
 
-   The number that a call gives is 0 where it is served, else the first of these that applies:
-     1  the device record is not legal
-     2  the lent reply memory is under 136 bytes (168 for pj_write)
-     3  a setting, an error digit, a command or a password is out of its range, or two tables cannot be compared
-     4  receiving or closing on a closed connection
-     5  opening one that is not closed
-     10 not a greeting or reply line, 11 a reply to another command, 12 a parameter that is not allowed there
-   With 1 to 5 the record that was given comes back (from pj_set_up the blank record, all zero), counts are 0, and no
-   byte of the reply memory is written. With 0 the reply fills the start of the reply memory for its length, and every
-   later byte is as it was. */
+   Every call ends, keeps to the memory that it is lent, allocates nothing and keeps no state. The projector is a
+   record, pj_device, and the host keeps it: a call takes the record, and the changed record comes back in what the
+   call gives. Store it over the one you had. A host with several threads makes the calls on one record one after the
+   other.
+
+   A call asks only what C cannot say:
+   - A pointer is good for its length. It is never NULL, even with length 0.
+   - A bool is 0 or 1.
+   - Memory that a call writes, be it reply memory or a result list, overlaps nothing else that is lent to that call.
+
+   Text is bytes with a length, and no NUL ends it. A line ends with CR (0x0D) alone. */
 #ifndef CEILING_H
 #define CEILING_H
 
 #include <stdbool.h>
 #include <stddef.h>
 #include <stdint.h>
+
+/* The version of this face. It moves with each landing that moves a struct or a call; docs/landings/README.md says what
+   moved. A host that was written for one version can ask for it: #if CEILING_FACE != 4 .. #error. */
+#define CEILING_FACE 4
+
+/* What stands before a call whose result has the record in it: a compiler warns where such a result is dropped. */
+#if defined(__cplusplus) && __cplusplus >= 201703L || defined(__STDC_VERSION__) && __STDC_VERSION__ >= 202311L
+#define CEILING_KEEP [[nodiscard]]
+#elif defined(__GNUC__)
+#define CEILING_KEEP __attribute__((warn_unused_result))
+#else
+#define CEILING_KEEP
+#endif
 
 #ifdef __cplusplus
 #define CEILING_IS(fact) static_assert(fact, #fact)
@@ -29,19 +42,61 @@ extern "C" {
 #define CEILING_IS(fact) _Static_assert(fact, #fact)
 #endif
 
-enum {
-    PJ_TEXT_ROOM = 64,
+/* The number that a call gives: PJ_SERVED, or the first of the others that applies, in this order. Below, each call
+   says with which it refuses. With 1 to 5 the record that was given comes back (from pj_set_up the blank record, all
+   zero, which is not legal), counts and lengths are 0, and no byte of the lent memory is written. With PJ_SERVED a
+   reply fills the start of the reply memory for its length, and every later byte there is as it was. */
+enum pj_number {
+    PJ_SERVED = 0,
+    PJ_NOT_LEGAL = 1,           /* the device record is not legal (pj_legal) */
+    PJ_NO_ROOM = 2,             /* the lent reply memory is under PJ_REPLY_ROOM bytes, for pj_write PJ_COMMAND_ROOM */
+    PJ_OUT_OF_RANGE = 3,        /* a setting, an error digit, a command or a password is out of its range, two tables
+                                   cannot be compared, or the jobs, rigs or lists of a day are out of theirs */
+    PJ_NOT_CONNECTED = 4,       /* receiving or closing on a closed connection */
+    PJ_CONNECTED = 5,           /* opening a connection that is not closed */
+    PJ_NOT_A_LINE = 10,         /* what was read is not a greeting or reply line */
+    PJ_OTHER_COMMAND = 11,      /* it is a reply to another command */
+    PJ_NOT_ALLOWED = 12         /* it is a reply to the command, with a parameter that is not allowed there */
+};
+
+enum pj_limit {
+    PJ_NAME_MOST = 64,          /* bytes of the projector's name */
+    PJ_INFO_MOST = 32,          /* bytes of maker, model and other information */
+    PJ_PASSWORD_MOST = 32,
     PJ_INPUTS_MOST = 16,        /* of a projector */
     PJ_INPUTS_READ_MOST = 32,   /* of a reply that is read */
     PJ_LAMPS_MOST = 8,
-    PJ_LINE_ROOM = 167,
-    PJ_ERRORS = 6,
+    PJ_LAMP_MOST = 359999999,   /* seconds of a lamp: 99,999 hours and 3,599 seconds */
+    PJ_WARM_COOL_MOST = 600,    /* seconds of warm-up, and of cooling */
+    PJ_WAIT_MOST = 30,          /* seconds: at this age an awaiting or failed connection is closed */
     PJ_TABLE_MOST = 64,         /* places of a table of lamp seconds */
-    PJ_REPLY_ROOM = 136,        /* the least memory for pj_open and pj_receive */
+    PJ_JOBS_MOST = 64,          /* of a cutting day */
+    PJ_RIGS_MOST = 8,
+    PJ_DAY_SECONDS = 86400,     /* no job ends later */
+
+    PJ_TEXT_ROOM = 64,          /* of the record: bytes of a text */
+    PJ_LINE_ROOM = 167,         /* of the record: bytes of a line that is being collected */
+    PJ_ERRORS = 6,              /* error digits */
+    PJ_REPLY_ROOM = 136,        /* the least memory for pj_open and pj_receive; enough to collect any reply */
     PJ_COMMAND_ROOM = 168       /* the least memory for pj_write */
 };
 
-/* The device record. Unused room is zero, everywhere. */
+enum pj_phase {                 /* of the connection */
+    PJ_PHASE_CLOSED = 0,        /* there is none: the host closes its socket */
+    PJ_PHASE_AWAITING = 1,      /* greeted; the first line, led by the digest, has not come */
+    PJ_PHASE_OPEN = 2,          /* commands are served */
+    PJ_PHASE_FAILED = 3         /* the digest did not match: what comes is ignored */
+};
+
+enum pj_power {                 /* as POWR answers, and as it is read (PJ_READ_POWER) */
+    PJ_POWER_OFF = 0,
+    PJ_POWER_ON = 1,
+    PJ_POWER_COOLING = 2,
+    PJ_POWER_WARM_UP = 3
+};
+
+/* The device record. A host reads it where it likes and changes it by the calls alone. Unused room is zero,
+   everywhere. */
 
 typedef struct {
     size_t len;
@@ -63,17 +118,17 @@ typedef struct {                            /* what is collected of a line */
 } pj_line;
 
 typedef struct {
-    uint8_t phase;                          /* 0 closed, 1 awaiting, 2 open, 3 failed */
+    uint8_t phase;                          /* enum pj_phase */
     uint32_t age, random;
     pj_line line;
 } pj_connection;
 
 typedef struct {
-    uint8_t power;                          /* 0 off, 1 on, 2 cooling, 3 warm-up, as POWR answers */
+    uint8_t power;                          /* enum pj_power */
     uint32_t left;                          /* seconds of warm-up or cooling */
     size_t chosen;                          /* the place of the chosen input in the list */
     bool video_muted, audio_muted, fault;
-    uint8_t errors[PJ_ERRORS];              /* 0 to 2: fan, lamp, temperature, cover, filter, other */
+    uint8_t errors[PJ_ERRORS];              /* numbers 0 to 2: fan, lamp, temperature, cover, filter, other */
     uint32_t lamps[PJ_LAMPS_MOST];          /* seconds */
 } pj_own;
 
@@ -84,7 +139,7 @@ typedef struct {
 } pj_device;
 
 typedef struct {
-    uint32_t number;
+    uint32_t number;                        /* enum pj_number, here and in every result */
     pj_device device;
 } pj_changed;
 
@@ -102,37 +157,89 @@ typedef struct {
 
 /* The projector. */
 
-/* A projector that is off, its connection closed: 3 for a name over 64 bytes, another text over 32, a text byte under
-   0x20, a text ERR1 to ERR4, a password that is not 0 to 32 letters and digits (0: no security), not 1 to 16 different
-   inputs of two characters each (type 1 to 5, number 1 to 9), over 8 lamps, a lamp over 359,999,999 s, or a warm-up or
-   cooling that is not 1 to 600 s. */
+/* Makes the record of a projector that is off, with its connection closed. This comes first, and once after each
+   start of the board.
+   - Texts: the name to PJ_NAME_MOST bytes, maker, model and other information to PJ_INFO_MOST, each byte 0x20 to
+     0xFF; none of them is exactly ERR1, ERR2, ERR3 or ERR4.
+   - The password: 0 to PJ_PASSWORD_MOST ASCII letters and digits. Length 0 means no security.
+   - Inputs: 1 to PJ_INPUTS_MOST, all different, two ASCII characters each, a type '1' to '5' (RGB, VIDEO, DIGITAL,
+     STORAGE, NETWORK) and a number '1' to '9'; inputs_len counts the characters. The first one is chosen.
+   - Lamps: 0 to PJ_LAMPS_MOST, with the seconds that each has burnt, at most PJ_LAMP_MOST. The archive keeps
+     nothing: a host saves own.lamps where a loss of power leaves them (every minute, say) and hands them in here at
+     the next start.
+   - Warm-up and cooling: 1 to PJ_WARM_COOL_MOST seconds each.
+   Refuses anything else with PJ_OUT_OF_RANGE; pj_which_setting tells which it was. */
+CEILING_KEEP
 pj_changed pj_set_up(const uint8_t *name, size_t name_len, const uint8_t *maker, size_t maker_len,
                      const uint8_t *model, size_t model_len, const uint8_t *other, size_t other_len,
                      const uint8_t *password, size_t password_len, const uint8_t *inputs, size_t inputs_len,
                      const uint32_t *lamps, size_t lamp_count, uint32_t warm, uint32_t cool);
 
-/* A new connection with the random number that the host draws; the reply is the greeting: 1, 2 or 5. */
+enum pj_setting {               /* in the order in which pj_set_up is lent them */
+    PJ_SETTING_NONE = 0,        /* all are in range: pj_set_up gives PJ_SERVED */
+    PJ_SETTING_NAME = 1,
+    PJ_SETTING_MAKER = 2,
+    PJ_SETTING_MODEL = 3,
+    PJ_SETTING_OTHER = 4,
+    PJ_SETTING_PASSWORD = 5,
+    PJ_SETTING_INPUTS = 6,
+    PJ_SETTING_LAMPS = 7,
+    PJ_SETTING_WARM = 8,
+    PJ_SETTING_COOL = 9
+};
+
+/* Tells why pj_set_up refuses: of the same settings the first that is out of its range, an enum pj_setting. It is
+   PJ_SETTING_NONE exactly where pj_set_up gives PJ_SERVED. Refuses nothing. */
+uint32_t pj_which_setting(const uint8_t *name, size_t name_len, const uint8_t *maker, size_t maker_len,
+                          const uint8_t *model, size_t model_len, const uint8_t *other, size_t other_len,
+                          const uint8_t *password, size_t password_len, const uint8_t *inputs, size_t inputs_len,
+                          const uint32_t *lamps, size_t lamp_count, uint32_t warm, uint32_t cool);
+
+/* Opens the connection where a controller has connected; the reply is the greeting, and the host sends it. The
+   random number has to be unpredictable: draw it anew for each connection from the system's source. Where it can be
+   foreseen, or comes again, a digest that was overheard lets an outsider in. Without a password any number will do.
+   Refuses with PJ_NOT_LEGAL, PJ_NO_ROOM or PJ_CONNECTED. */
+CEILING_KEEP
 pj_opened pj_open(pj_device d, uint32_t random, uint8_t *out, size_t out_len);
 
-/* The connection closed: 1 or 4. */
+/* Closes the connection: the peer has gone, or the host ends it. What was collected of a line is dropped.
+   Refuses with PJ_NOT_LEGAL or PJ_NOT_CONNECTED. */
+CEILING_KEEP
 pj_changed pj_close(pj_device d);
 
-/* Bytes from the network, taken up to and including the first CR; call again with the rest: 1, 2 or 4. */
+/* Hands in bytes from the network, in whatever cuts they come, and serves the line that they end. It takes the bytes
+   up to and including the first CR, or all where there is none: the host sends the reply, if there is one, and calls
+   again with the rest until all are taken.
+   Refuses with PJ_NOT_LEGAL, PJ_NO_ROOM or PJ_NOT_CONNECTED, also where no bytes are handed in. */
+CEILING_KEEP
 pj_received pj_receive(pj_device d, const uint8_t *bytes, size_t len, uint8_t *out, size_t out_len);
 
-/* Any number of seconds: 1. */
+/* Lets seconds pass, any number at once: lamps burn, warm-up and cooling end, and a connection that is awaiting or
+   failed is closed when its age reaches PJ_WAIT_MOST seconds. Nothing is sent for that: where connection.phase is
+   PJ_PHASE_CLOSED afterwards, the host closes the socket. An open connection never times out, so an idle peer holds
+   it until the host calls pj_close. Count the seconds by a clock that nobody sets (CLOCK_MONOTONIC), and keep what
+   is left of a second for the next call.
+   Refuses with PJ_NOT_LEGAL. */
+CEILING_KEEP
 pj_changed pj_pass(pj_device d, uint32_t seconds);
 
-/* The same where the record lies; gives the number. */
+/* Lets seconds pass as pj_pass does, and changes the record where it lies: this is the board's own clock call.
+   Gives the number alone, PJ_SERVED or PJ_NOT_LEGAL. */
 uint32_t pj_pass_in_place(pj_device *d, uint32_t seconds);
 
-/* The fault mark, and nothing else, replaced: 1. */
+/* Replaces the fault mark, and nothing else: with it POWR, INPT and AVMT answer ERR4. Refuses with PJ_NOT_LEGAL. */
+CEILING_KEEP
 pj_changed pj_set_fault(pj_device d, bool mark);
 
-/* The six error digits, and nothing else, replaced: 1, or 3 for another count than 6 or a digit over 2. */
+/* Replaces the six error digits that ERST answers, and nothing else: fan, lamp, temperature, cover, filter, other. A
+   digit is a number, 0 (none or not known), 1 (warning) or 2 (error), and not a character: 1, not '1'. (The inputs
+   of pj_set_up are characters.)
+   Refuses with PJ_NOT_LEGAL, then with PJ_OUT_OF_RANGE another count than PJ_ERRORS or a digit over 2. */
+CEILING_KEEP
 pj_changed pj_set_errors(pj_device d, const uint8_t *digits, size_t count);
 
-/* Whether the record is one that the other calls serve. */
+/* Tells whether the record is one that the other calls serve. Every record that a call gave with PJ_SERVED is; this
+   is for one that was stored elsewhere, and may have been damaged. Refuses nothing. */
 bool pj_legal(pj_device d);
 
 /* The digest. */
@@ -141,12 +248,13 @@ typedef struct {
     uint8_t bytes[16];
 } pj_digest;
 
-/* MD5 of RFC 1321 over any bytes. */
+/* Computes the MD5 of RFC 1321 over any bytes. The other calls do so by themselves. Refuses nothing. */
 pj_digest pj_md5(const uint8_t *bytes, size_t len);
 
-/* The controller. */
+/* The controller. It keeps no record: the host remembers the greeting's random number until it has sent the first
+   command, and the command until it has read the reply. */
 
-enum {                                      /* the codes of commands */
+enum pj_code {                              /* the codes of commands */
     PJ_POWR_ASK = 0,
     PJ_POWR_SET = 1,                        /* first: 0 off, 1 on */
     PJ_INPT_ASK = 2,
@@ -157,27 +265,32 @@ enum {                                      /* the codes of commands */
     PJ_LAMP = 7,
     PJ_INST = 8,
     PJ_NAME = 9,
-    PJ_INF1 = 10,
-    PJ_INF2 = 11,
-    PJ_INFO = 12,
+    PJ_INF1 = 10,                           /* maker */
+    PJ_INF2 = 11,                           /* model */
+    PJ_INFO = 12,                           /* other information */
     PJ_CLSS = 13
 };
 
-typedef struct {                            /* what a code does not use is passed over */
+typedef struct {                            /* numbers, not characters; what a code does not use is passed over */
     uint8_t code, first, second;
 } pj_command;
 
 typedef struct {
     uint32_t number;
-    size_t length;
+    size_t length;                          /* of the line, with its CR */
 } pj_written;
 
-/* The command's line, led where `secured` by the digest of the random number and the password: 2, or 3 for what is no
-   command and for a password, where it is used, that is not 0 to 32 letters and digits. */
+/* Writes the command's line, to be sent to a projector. Where `secured`, the line is led by the digest of the random
+   number and the password; otherwise neither of the two is looked at. `secured` is for the first command of a
+   connection whose greeting was PJ_GREETING_SECURED, with the random number of that greeting, and for no later one:
+   document 000 says (5.3) that a digest before later commands does no harm, but by 01's rule on the form of a line
+   the projector swallows such a line, and no reply comes. We follow 01.
+   Refuses with PJ_NO_ROOM, then with PJ_OUT_OF_RANGE what is no command and, where `secured`, a password that is not
+   0 to PJ_PASSWORD_MOST letters and digits. */
 pj_written pj_write(pj_command c, bool secured, uint32_t random, const uint8_t *password, size_t password_len,
                     uint8_t *out, size_t out_len);
 
-enum {                                      /* the kinds of greetings */
+enum pj_greeting_kind {
     PJ_GREETING_NONE = 0,                   /* with a number that is not 0 */
     PJ_GREETING_OPEN = 1,                   /* PJLINK 0 */
     PJ_GREETING_SECURED = 2,                /* PJLINK 1, with the random number */
@@ -186,31 +299,33 @@ enum {                                      /* the kinds of greetings */
 
 typedef struct {
     uint32_t number;
-    uint8_t kind;
+    uint8_t kind;                           /* enum pj_greeting_kind */
     uint32_t random;
 } pj_greeting;
 
-/* A whole line with its CR: 10 for what is no greeting. */
+/* Reads the line that a projector sends when it is connected to. The host collects bytes up to and including the CR,
+   as for a reply.
+   Refuses what is no greeting with PJ_NOT_A_LINE. */
 pj_greeting pj_read_greeting(const uint8_t *line, size_t len);
 
-enum {                                      /* the kinds of readings */
+enum pj_reading_kind {
     PJ_READ_NONE = 0,                       /* no meaning: the number is not 0 */
     PJ_READ_OK = 1,
-    PJ_READ_ERR = 2,                        /* first: n of ERRn */
-    PJ_READ_POWER = 3,                      /* first: 0 to 3 */
-    PJ_READ_INPUT = 4,                      /* first: type, second: number */
-    PJ_READ_MUTES = 5,                      /* first: video 0 or 1, second: audio */
-    PJ_READ_ERRORS = 6,                     /* text: six numbers 0 to 2, count 6 */
+    PJ_READ_ERR = 2,                        /* first: n of ERRn, 1 to 4 */
+    PJ_READ_POWER = 3,                      /* first: enum pj_power */
+    PJ_READ_INPUT = 4,                      /* first: type, second: number, as numbers */
+    PJ_READ_MUTES = 5,                      /* first: video 0 or 1, second: audio 0 or 1 */
+    PJ_READ_ERRORS = 6,                     /* text: six numbers 0 to 2, not characters; count 6 */
     PJ_READ_LAMPS = 7,                      /* count, hours, lit */
     PJ_READ_INPUTS = 8,                     /* count, inputs: two ASCII characters each */
     PJ_READ_TEXT = 9,                       /* count, text */
     PJ_READ_CLASS = 10,                     /* first: 1 */
-    PJ_READ_ERRA = 11
+    PJ_READ_ERRA = 11                       /* the digest was wrong, or was asked for and not sent */
 };
 
 typedef struct {                            /* what a kind does not use is zero */
     uint32_t number;
-    uint8_t kind, first, second;
+    uint8_t kind, first, second;            /* kind: enum pj_reading_kind */
     size_t count;
     uint32_t hours[PJ_LAMPS_MOST];
     bool lit[PJ_LAMPS_MOST];
@@ -218,7 +333,10 @@ typedef struct {                            /* what a kind does not use is zero 
     uint8_t text[PJ_TEXT_ROOM];
 } pj_reading;
 
-/* What a whole line with its CR says to the command: 3 for what is no command, 10, 11 or 12. */
+/* Reads what the reply to a command says. The host collects bytes up to and including the CR and lends them with the
+   command that it sent. PJ_REPLY_ROOM bytes are enough: a reply that has no CR by then is none, and may be given up.
+   Refuses what is no command with PJ_OUT_OF_RANGE, then the line with PJ_NOT_A_LINE, PJ_OTHER_COMMAND or
+   PJ_NOT_ALLOWED. */
 pj_reading pj_read_reply(pj_command c, const uint8_t *line, size_t len);
 
 /* Service. */
@@ -229,42 +347,53 @@ typedef struct {
     size_t place;                           /* of the first such lamp; 0 where there is none */
 } pj_compared;
 
-/* For each place of two tables of lamp seconds the later minus the earlier, into `out`, whose places past the tables
-   stay as they were: 3, and `out` as it was, for tables of unequal length or over 64 places, or fewer places in `out`. */
+/* Compares two months' tables of lamp seconds: writes the later minus the earlier for each place into the result
+   list `out`, whose places past the tables stay as they were, and tells the first lamp that went backwards, as one
+   does that was exchanged.
+   Refuses with PJ_OUT_OF_RANGE tables of unequal length or over PJ_TABLE_MOST places, and fewer places in `out`. */
 pj_compared pj_compare_lamps(const uint32_t *earlier, size_t earlier_count, const uint32_t *later, size_t later_count,
                              int64_t *out, size_t out_count);
 
-/* A cutting day. Jobs and rigs come as lists of numbers, one for each field, in the order of the jobs or of the rigs.
-   A job has a start and a length in seconds and the rigs that it may use, bit k of a byte for rig k; a rig has W, C and
-   seconds of lamp life left. Rigs are numbered from 0. On its rig a job occupies W seconds before its start, its
-   length, and C after it; it burns W plus its length.
-   3: over 64 jobs or 8 rigs, lists of unequal length, other than one rig a job, a length under 1, an end over 86,400,
-   W or C outside 1 to 600; for the planner also a result list shorter than the jobs. */
-#define PJ_JOBS_MOST 64
-#define PJ_RIGS_MOST 8
+/* A cutting day. Jobs and rigs come as lists of numbers, one list for each field, in the order of the jobs or of the
+   rigs; jobs and rigs are numbered from 0. A job has a start and a length in seconds, and the rigs that it may use:
+   bit k of its byte for rig k. A rig has warm-up, cooling and seconds of lamp life left. On its rig a job occupies
+   the warm-up before its start, its length, and the cooling after it; it burns the warm-up and its length.
 
-/* rule: 0 accepted (or number is 3), 1 no such rig or not allowed, 2 starts before W, 3 clash, 4 burns more than left.
-   first: the lowest job, for rule 4 the lowest rig; second: the other job of a clash, else 0. */
+   Both calls refuse with PJ_OUT_OF_RANGE: over PJ_JOBS_MOST jobs or PJ_RIGS_MOST rigs, lists of the jobs or of the
+   rigs that are not of one length, other than one rig a job, a length under 1, an end over PJ_DAY_SECONDS, a warm-up
+   or cooling that is not 1 to PJ_WARM_COOL_MOST; and the planner a result list shorter than the jobs. */
+
+enum pj_rule {                              /* the first rule that is broken, in this order */
+    PJ_DAY_ACCEPTED = 0,                    /* none is; or the call was refused */
+    PJ_DAY_NO_RIG = 1,                      /* the rig of job `first` does not exist, or it may not use it */
+    PJ_DAY_TOO_EARLY = 2,                   /* job `first` starts before its rig's warm-up has passed */
+    PJ_DAY_CLASH = 3,                       /* jobs `first` and `second` share a second on one rig */
+    PJ_DAY_SPENT = 4                        /* rig `first` burns more than it has left */
+};
+
 typedef struct {
     uint32_t number;
-    uint8_t rule;
-    size_t first, second;
+    uint8_t rule;                           /* enum pj_rule */
+    size_t first, second;                   /* the lowest concerned; what a rule does not use is 0 */
 } pj_verdict;
 
+/* Checks a day for which each job has a rig, and names the first rule that is broken with the lowest job or rig
+   concerned. Refuses as above. */
 pj_verdict pj_check_day(const uint32_t *starts, size_t starts_len, const uint32_t *lengths, size_t lengths_len,
                         const uint8_t *allowed, size_t allowed_len,
                         const uint8_t *rigs_of_jobs, size_t rigs_of_jobs_len,
                         const uint32_t *warm, size_t warm_len, const uint32_t *cool, size_t cool_len,
                         const uint32_t *life, size_t life_len);
 
-/* planned: every job has a rig, and out begins with them; else job is the first that finds none, and out is as it
-   was. */
 typedef struct {
     uint32_t number;
-    bool planned;
-    size_t job;
+    bool planned;                           /* every job has a rig */
+    size_t job;                             /* else the first that finds none */
 } pj_plan;
 
+/* Plans a day: gives each job, in the order of the list, the lowest rig that keeps every rule with the jobs before
+   it, and writes the rigs to the start of the result list `out`. Where some job finds none, `out` stays as it was.
+   Refuses as above. */
 pj_plan pj_plan_day(const uint32_t *starts, size_t starts_len, const uint32_t *lengths, size_t lengths_len,
                     const uint8_t *allowed, size_t allowed_len, const uint32_t *warm, size_t warm_len,
                     const uint32_t *cool, size_t cool_len, const uint32_t *life, size_t life_len,
@@ -306,5 +435,6 @@ CEILING_IS(sizeof(pj_plan) == 16 && offsetof(pj_plan, planned) == 4 && offsetof(
 #endif
 
 #undef CEILING_IS
+#undef CEILING_KEEP
 
 #endif
