@@ -48,6 +48,10 @@ CALL(call_set_up, {
                              TEXT("11213141"), lamps, 8, 600, 600);
     device = c.device;
 })
+CALL(call_which_setting, {
+    sink = pj_which_setting(TEXT("name"), TEXT("maker"), TEXT("model"), TEXT("other"), TEXT("panel2"),
+                            TEXT("11213141"), lamps, 8, 600, 600);
+})
 CALL(call_open, { device = pj_open(device, 0x498e4a67, out, sizeof out).device; })
 CALL(call_receive, { device = pj_receive(device, TEXT(line), out, sizeof out).device; })
 CALL(call_pass, { device = pj_pass(device, 4294967295u).device; })
@@ -76,6 +80,7 @@ CALL(call_plan_day, {
 
 int main(void) {
     measure("pj_set_up", call_set_up);
+    measure("pj_which_setting", call_which_setting);
     measure("pj_open, secured", call_open);
     line = "0123456789abcdef0123456789abcdef%1POWR 1\r";
     measure("pj_receive, a first line with a wrong digest", call_receive);
@@ -86,6 +91,11 @@ int main(void) {
     measure("pj_receive, %1LAMP ?", call_receive);
     line = "%1POWR 1\r";
     measure("pj_receive, %1POWR 1", call_receive);
+    device = pj_pass(device, 600).device;
+    line = "%1INPT 11\r";
+    measure("pj_receive, %1INPT 11", call_receive);
+    line = "%1INST ?\r";
+    measure("pj_receive, %1INST ?", call_receive);
     measure("pj_pass_in_place", call_pass_in_place);
     measure("pj_set_fault", call_set_fault);
     measure("pj_set_errors", call_set_errors);

@@ -20,7 +20,7 @@ use Rattle.floor.specs.Lines.{lineMost}
 use Rattle.floor.specs.Events.{linesFrom, linesOf}
 use Rattle.floor.specs.Reading.{Reading, printRoom, ended, more, step, run, playedIn, finished, fresh}
 use Rattle.floor.specs.Calls.{floorOf, finishRoom}
-use Rattle.floor.specs.WholeLog.{Stage, startedWith, stageAfter, playedBy, finishedBy, wholePlay}
+use Rattle.floor.specs.WholeLog.{Stage, startStage, callLeaves, playedBy, finishedBy, wholePlay}
 use Rattle.floor.specs.WholeLog.{noneLonger, Countable, PlaysBack}
 use Rattle.floor.proofs.Cuts.{run-append, played-runs, some-taken, then-the-rest}
 use Rattle.floor.proofs.Replayed.{end-state, all-printed}
@@ -76,7 +76,7 @@ module _ (room : ℕ) (printable : printRoom ≤ room) where
   one-call : (s : Reading) → Going s → (bs : List ℕ) → s .number + length bs < 2 ^ 64
       → playedBy room (stageOf s) bs ≡ stageTook (playedIn room s bs)
   unfolding playedBy
-  one-call s g bs h = ap stageAfter (play-plays (floorOf s) (s .kept .line) g bs room printable h)
+  one-call s g bs h = ap callLeaves (play-plays (floorOf s) (s .kept .line) g bs room printable h)
 
   abbrev Handed : ℕ → Type 0
   Handed n = (s : Reading) → Going s → (bs : List ℕ) → length bs ≤ n → s .number + length bs < 2 ^ 64
@@ -157,7 +157,7 @@ module _ (room : ℕ) (m : List ℕ) (size : ℕ) (reads : List (List ℕ)) (pri
   unfolding fresh
   counts = run-counts (fresh m) log ∙ omega arith
 
-  all-taken : handedParts (playedBy room) (startedWith m) reads ≡ stageOut read
+  all-taken : handedParts (playedBy room) (startStage m) reads ≡ stageOut read
   unfolding fresh
   all-taken =
       all-reads room (omega arith) size (fresh m) starts reads (countable .sizes)
@@ -166,7 +166,7 @@ module _ (room : ℕ) (m : List ℕ) (size : ℕ) (reads : List (List ℕ)) (pri
   ends : finishedBy room (stageOf (read .state)) ≡ stageTook (took 0 (finished (read .state)))
   unfolding finishedBy
   ends =
-      ap stageAfter
+      ap callLeaves
       (finish-tells (floorOf (read .state)) (read .state .kept .line) (run-goes (fresh m) log starts) room printable
       (omega (arith, counts, ends-lines [] log, countable .lines, countable .some)))
 

@@ -1,7 +1,7 @@
 -- A whole log through the calls (02, L1): `start`, then `play` on each read until all of it is taken, then `finish`.
 --   Stage                 how far the calls have come: the number of the first that refused, or 0; the state and the
 --                         memory lent for a line, as the last call left them
---   startedWith m         what `start` gives, and m the memory lent for a line
+--   startStage m          what `start` gives, and m the memory lent for a line
 --   playedBy room g bs    what `play` on the bytes bs leaves, lent so many bytes to print in; after a refusal nobody
 --                         calls again
 --   finishedBy room g     what `finish` leaves
@@ -32,11 +32,11 @@ pub record Stage : Type 0 where
   pub floor : Floor
   pub line : List ℕ
 
-abbrev pub startedWith : List ℕ → Stage
-startedWith m = record { number = 0; floor = floorOf (fresh []); line = m }
+abbrev pub startStage : List ℕ → Stage
+startStage m = record { number = 0; floor = floorOf (fresh []); line = m }
 
-abbrev pub stageAfter : Step → Took Stage
-stageAfter s = record {
+abbrev pub callLeaves : Step → Took Stage
+callLeaves s = record {
   taken = s .took .taken;
   state = record { number = s .number; floor = floorOf (s .took .state); line = s .took .state .kept .line };
   reply = s .took .reply;
@@ -46,14 +46,14 @@ abbrev pub unlessRefused : Stage → Took Stage → Took Stage
 unlessRefused g t = if eqb (g .number) 0 then t else took 0 (silent g)
 
 unfoldable pub playedBy : ℕ → Stage → List ℕ → Took Stage
-playedBy room g bs = unlessRefused g (stageAfter (stepped (g .floor) (g .line) bs room))
+playedBy room g bs = unlessRefused g (callLeaves (stepped (g .floor) (g .line) bs room))
 
 unfoldable pub finishedBy : ℕ → Stage → Took Stage
-finishedBy room g = unlessRefused g (stageAfter (endedAt (g .floor) (g .line) room))
+finishedBy room g = unlessRefused g (callLeaves (endedAt (g .floor) (g .line) room))
 
 unfoldable pub wholePlay : ℕ → List ℕ → List (List ℕ) → Out Stage
 wholePlay room m reads =
-    let played = handedParts (playedBy room) (startedWith m) reads in
+    let played = handedParts (playedBy room) (startStage m) reads in
     let last = finishedBy room (played .state) in
     record { state = last .state; reply = played .reply ++ last .reply }
 
