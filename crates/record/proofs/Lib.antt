@@ -1,5 +1,7 @@
 pub mod Rooms
 pub mod Pairs
+pub mod Marks
+pub mod Sifted
 pub mod Places
 pub mod Kept
 pub mod Filled
