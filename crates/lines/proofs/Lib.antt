@@ -1,6 +1,7 @@
 pub mod ByPlaces
 pub mod Refusals
 pub mod TextsTold
+pub mod WithinLength
 pub mod Characters
 pub mod InputsReadBack
 pub mod SourcesFollowed
