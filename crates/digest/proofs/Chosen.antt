@@ -3,6 +3,7 @@
 --   chosen n x y z      as the definition has it, n being the word of ones
 -- Assumes nothing.
 use mathlib.Core.Path.{_≡_, refl, sym, _∙_}
+use mathlib.Core.Bool.{Bool}
 use Prim.Native.Nat.{ℕ, zero, suc, _+_, _*_, _-_, _/_, _%_, _^_, _<_}
 use native.Mathlib.Nat.{pow-suc}
 use native.Mathlib.Omega.{arith}
@@ -23,9 +24,8 @@ at-a-bit x y z hx hy hz =
     let ex : k / 4 ≡ x = omega arith in
     let ey : k / 2 % 2 ≡ y = omega arith in
     let ez : k % 2 ≡ z = omega arith in
-    let here = eqb-true _ _ (
-    each-below (λ j. eqb (mixed (j / 4) (j / 2 % 2) (j % 2)) (chosen 1 (j / 4) (j / 2 % 2) (j % 2))) 8 refl k (omega arith)
-    ) in
+    let alike : ℕ → Bool = λ j. eqb (mixed (j / 4) (j / 2 % 2) (j % 2)) (chosen 1 (j / 4) (j / 2 % 2) (j % 2)) in
+    let here = eqb-true _ _ (each-below alike 8 refl k (omega arith)) in
     sym (λ i. mixed (ex i) (ey i) (ez i)) ∙ here ∙ (λ i. chosen 1 (ex i) (ey i) (ez i))
 
 same-halves : (m n : ℕ) → m / 2 ≡ n / 2 → m % 2 ≡ n % 2 → m ≡ n

@@ -6,20 +6,20 @@ use mathlib.Core.Path.{_≡_, refl, ap, _∙_}
 use mathlib.Core.Bool.{Bool, true, false, not, _&&_, _||_}
 use mathlib.Core.List.{List, [], _∷_}
 use mathlib.Core.Logic.{_⊎_, inl, inr}
-use Prim.Native.Nat.{ℕ, zero, suc, _+_, _-_, _*_, _/_, _%_, _^_, _≤_, _<_}
+use Prim.Native.Nat.{ℕ, _*_, _^_, _≤_, _<_}
 use Prim.Native.Char.{code}
 use native.Mathlib.Omega.{arith}
 use lib.ListN.{length, getD}
-use lib.Dec.{leb, ltb, eqb}
-use borrow.Author.Tests.{leb-true, eqb-true, ne-eqb}
-use Rattle.text.specs.Words.{if_then_else_, _is_, _from_to_}
+use lib.Dec.{leb, eqb}
+use borrow.Author.Tests.{leb-true, ne-eqb}
+use Rattle.text.specs.Words.{_is_, _from_to_}
 use Rattle.text.specs.Scans.{every}
-use Rattle.text.proofs.Choices.{both, both-left, both-right}
-use Rattle.text.proofs.EachBelow.{each-below}
+use Rattle.text.proofs.Choices.{if-by, both-left, both-right}
+use Rattle.text.proofs.Bases.{low-digits-length, low-digits-pass, low-digits-back, value-below}
 use Rattle.text.proofs.Scanning.{every-append, every-at, every-implies}
 use Rattle.digest.specs.Md5.{md5Of}
-use Rattle.digest.specs.Hex.{digitOf, hexOf, hexDigits, isHexDigit, leadingDigest}
-use Rattle.digest.proofs.Tables.{digit-is-hex}
+use Rattle.digest.specs.Hex.{hexDigit, hexWorth, hexOf, hexDigits, hexValue, isHexDigit, leadingDigest}
+use Rattle.digest.proofs.Tables.{digit-is-hex, digit-worth}
 
 pub md5-length : (s : List ℕ) → length (md5Of s) ≡ 16
 unfolding md5Of
@@ -36,21 +36,28 @@ hex-of-md5-length s = hex-length (md5Of s) ∙ ap (λ (n : ℕ). 2 * n) (md5-len
 pub leading-digest-length : (random : ℕ) (password : List ℕ) → length (leadingDigest random password) ≡ 32
 leading-digest-length random password = hex-of-md5-length _
 
--- each of the sixteen digits, by its number
-abbrev pub spelled : ℕ → ℕ
-spelled n = if ltb n 10 then code "0" + n else code "a" + (n - 10)
-
-pub digit-spelled : (n : ℕ) → n < 16 → digitOf n ≡ spelled n
-unfolding digitOf
-digit-spelled n h = eqb-true _ _ (each-below (λ k. eqb (digitOf k) (spelled k)) 16 refl n h)
+pub between : (l h b : ℕ) → (leb l b && leb b h) ≡ true → (l ≤ b) × (b ≤ h)
+between l h b e = (leb-true l b (both-left (leb l b) (leb b h) e), leb-true b h (both-right (leb l b) (leb b h) e))
 
 pub hex-digits-length : (n x : ℕ) → length (hexDigits n x) ≡ n
-hex-digits-length zero x = refl
-hex-digits-length (suc n) x = ap suc (hex-digits-length n x)
+hex-digits-length = low-digits-length 16 hexDigit
 
 pub hex-digits-are-digits : (n x : ℕ) → every isHexDigit (hexDigits n x) ≡ true
-hex-digits-are-digits zero x = refl
-hex-digits-are-digits (suc n) x = both (digit-is-hex (x / 16 ^ n % 16) (omega arith)) (hex-digits-are-digits n x)
+hex-digits-are-digits = low-digits-pass 16 hexDigit isHexDigit (omega arith) digit-is-hex
+
+-- the digits of a number are read as the number, and whatever n bytes are read as is below 16 to the n
+pub hex-value-back : (n x : ℕ) → x < 16 ^ n → hexValue (hexDigits n x) ≡ x
+hex-value-back = low-digits-back 16 hexWorth hexDigit (omega arith) digit-worth
+
+pub hex-worth-small : (b : ℕ) → hexWorth b < 16
+unfolding hexWorth
+hex-worth-small b =
+    if-by (λ (n : ℕ). n < 16) (b from "0" to "9") (λ e. omega (arith, between (code "0") (code "9") b e))
+    (λ _. if-by (λ (n : ℕ). n < 16) (b from "a" to "f") (λ e. omega (arith, between (code "a") (code "f") b e))
+    (λ _. omega arith))
+
+pub hex-value-below : (s : List ℕ) → hexValue s < 16 ^ length s
+hex-value-below s = value-below 16 hexWorth s (λ i h. hex-worth-small (getD s i 0))
 
 pub hex-are-digits : (xs : List ℕ) → every isHexDigit (hexOf xs) ≡ true
 unfolding hexOf
@@ -60,9 +67,6 @@ hex-are-digits (x ∷ xs) =
 
 abbrev pub BetweenDigits : ℕ → Type 0
 BetweenDigits b = ((code "0" ≤ b) × (b ≤ code "9")) ⊎ ((code "a" ≤ b) × (b ≤ code "f"))
-
-between : (l h b : ℕ) → (leb l b && leb b h) ≡ true → (l ≤ b) × (b ≤ h)
-between l h b e = (leb-true l b (both-left (leb l b) (leb b h) e), leb-true b h (both-right (leb l b) (leb b h) e))
 
 pub digit-bounds : (b : ℕ) → isHexDigit b ≡ true → BetweenDigits b
 digit-bounds b = by (b from "0" to "9") refl

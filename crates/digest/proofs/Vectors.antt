@@ -6,10 +6,10 @@ use Prim.Native.Nat.{ℕ}
 use Prim.Native.String.{String}
 use Rattle.text.specs.Words.{ascii}
 use Rattle.digest.specs.Padding.{zerosAfter, padding}
-use Rattle.digest.specs.Rounds.{wordNumbers, shifts, wordNumber, shiftOf, byRound, functionOf}
+use Rattle.digest.specs.Rounds.{tableT, wordNumbers, shifts, constantOf, wordNumber, shiftOf, byRound, functionOf}
 use Rattle.digest.specs.Rounds.{operated, operation, operations, added, blockOf}
 use Rattle.digest.specs.Md5.{blocksOf, md5Of}
-use Rattle.digest.specs.Hex.{digitOf, hexOf, leadingDigest}
+use Rattle.digest.specs.Hex.{hexDigit, hexOf, leadingDigest}
 
 infix 40 _hashes-to_
 abbrev _hashes-to_ : List ℕ → String → Type 0
@@ -28,8 +28,8 @@ record TestSuite : Type 0 where
   projector : leadingDigest 0x498e4a67 (ascii "JBMIAProjectorLink") ≡ ascii "5d8409bc1c3fa39749434aa3a5c38682"
 
 suite : TestSuite
-unfolding zerosAfter padding wordNumbers shifts wordNumber shiftOf byRound functionOf operated operation
-    operations added blockOf blocksOf md5Of digitOf hexOf
+unfolding zerosAfter padding tableT wordNumbers shifts constantOf wordNumber shiftOf byRound functionOf operated
+    operation operations added blockOf blocksOf md5Of hexDigit hexOf
 suite =
     record {
       empty = refl;

@@ -4,6 +4,7 @@
 --   wordNumbers           the k of the 64 operations [abcd k s i], a round a row
 --   shifts                their s, a round a row: each row is gone through four times
 --   byRound i w x y z     w, x, y or z, as operation i is of round 1, 2, 3 or 4
+--   inRow f i             what f is of four operations, a row [ABCD k s i] [DABC k s i] [CDAB k s i] [BCDA k s i]
 --   operated q f x s t    a = b + ((a + f + x + t) <<< s), after which DABC are called ABCD, for the next operation
 --   operation xs i q      operation i on the block xs
 --   operations i n xs q   n operations, the first of them operation i
@@ -31,7 +32,7 @@ fnH x y z = bitXor (bitXor x y) z
 abbrev pub fnI : ℕ → ℕ → ℕ → ℕ
 fnI x y z = bitXor y (bitOr x (complement z))
 
-abbrev pub tableT : List ℕ
+unfoldable pub tableT : List ℕ
 tableT =
     0xd76aa478 ∷ 0xe8c7b756 ∷ 0x242070db ∷ 0xc1bdceee ∷ 0xf57c0faf ∷ 0x4787c62a ∷ 0xa8304613 ∷ 0xfd469501 ∷
     0x698098d8 ∷ 0x8b44f7af ∷ 0xffff5bb1 ∷ 0x895cd7be ∷ 0x6b901122 ∷ 0xfd987193 ∷ 0xa679438e ∷ 0x49b40821 ∷
@@ -63,7 +64,7 @@ unfoldable pub byRound : {A : Type 0} → ℕ → A → A → A → A → A
 byRound i w x y z = if ltb i 16 then w else if ltb i 32 then x else if ltb i 48 then y else z
 
 -- of operation i: its constant, its word, its shift, and its function of b, c and d
-abbrev pub constantOf : ℕ → ℕ
+unfoldable pub constantOf : ℕ → ℕ
 constantOf i = getD tableT i 0
 
 unfoldable pub wordNumber : ℕ → ℕ
@@ -74,6 +75,9 @@ shiftOf i = getD shifts (i / 16 * 4 + i % 4) 0
 
 unfoldable pub functionOf : ℕ → ℕ → ℕ → ℕ → ℕ
 functionOf i b c d = byRound i (fnF b c d) (fnG b c d) (fnH b c d) (fnI b c d)
+
+abbrev pub inRow : (ℕ → ℕ) → ℕ → List ℕ
+inRow f i = f i ∷ f (i + 1) ∷ f (i + 2) ∷ f (i + 3) ∷ []
 
 unfoldable pub operated : Buffer → ℕ → ℕ → ℕ → ℕ → Buffer
 operated q f x s t =

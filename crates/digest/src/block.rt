@@ -24,10 +24,8 @@ pub fn block(s: &[u8], q: Buffer) -> Buffer
     requires { ⌜ length (now s) ≡ 64 ⌝ }
     ensures { λ r. ⌜ r ≡ blockOf (now (s .entry)) q ⌝ }
 {
-    let p = rounds::round_1(s, q);
-    let p = rounds::round_2(s, p);
-    let p = rounds::round_3(s, p);
-    let p = rounds::round_4(s, p);
+    let p = rounds::first_two(s, q);
+    let p = rounds::last_two(s, p);
     add(q, p)
 }
 

@@ -7,8 +7,10 @@ mod word;
 use std::num::wrapping_add_u64;
 ghost use mathlib.Core.Path.{_≡_};
 ghost use mathlib.Core.List.{_++_};
+ghost use Prim.Native.Nat.{_≤_};
+ghost use lib.ListN.{length};
 ghost use Rattle.digest.specs.Md5.{startWords, md5Of, finishing};
-ghost use Rattle.digest.specs.Hex.{hexOf, hexDigits, leadingDigest};
+ghost use Rattle.digest.specs.Hex.{hexOf, hexDigits, hexValue, leadingDigest};
 
 // The four-word buffer of RFC 1321, 3.3.
 struct Buffer {
@@ -76,6 +78,14 @@ pub fn hex8(x: u32) -> [u8; 8]
     ensures { λ r. ⌜ r ≡ hexDigits 8 x ⌝ }
 {
     digits::eight(x)
+}
+
+// The number of at most eight hexadecimal digits.
+pub fn hex_value(s: &[u8]) -> u32
+    requires { ⌜ length (now s) ≤ 8 ⌝ }
+    ensures { λ r. ⌜ r ≡ hexValue (now (s .entry)) ⌝ }
+{
+    digits::value(s)
 }
 
 // What a controller that knows the password leads its first line with (000, 5.1).

@@ -8,6 +8,7 @@ pub fn rotate_left(x: u32, s: u32) -> u32
     requires { ⌜ (0 < s) × (s < 32) ⌝ }
     ensures { λ r. ⌜ r ≡ x <<< s ⌝ }
 {
+    let s = s % 32;
     (x << s) | (x >> (32 - s))
 }
 

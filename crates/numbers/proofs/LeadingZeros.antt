@@ -12,7 +12,7 @@ use borrow.Author.Tests.{le-leb, lt-leb, ne-eqb, eqb-false}
 use Rattle.text.specs.Words.{_is_}
 use Rattle.text.specs.Scans.{every}
 use Rattle.text.proofs.Choices.{both-left, both-right}
-use Rattle.numbers.specs.Decimal.{digitOf, digits, isDigit, hasLeadingZero, valueFrom}
+use Rattle.numbers.specs.Decimal.{lastDigit, digits, isDigit, hasLeadingZero, decimalValue}
 use Rattle.numbers.proofs.Digits.{digits-all, digits-low, digit-from}
 use Rattle.numbers.proofs.Values.{one-digit, value-digits}
 
@@ -40,13 +40,13 @@ record Begun (n : ℕ) (l : List ℕ) : Type 0 where
 digits-begun : (n : ℕ) → n < 2 ^ 32 → Begun n (digits n)
 digits-begun = digits-all Begun low high
   where
-    low : (n : ℕ) → n < 10 → Begun n (digitOf n ∷ [])
+    low : (n : ℕ) → n < 10 → Begun n (lastDigit n ∷ [])
     low n h = record { some = omega arith; first = λ p e. omega arith }
 
-    high : (n : ℕ) (l : List ℕ) → 10 ≤ n → Begun (n / 10) l → Begun n (l ++ (digitOf n ∷ []))
+    high : (n : ℕ) (l : List ℕ) → 10 ≤ n → Begun (n / 10) l → Begun n (l ++ (lastDigit n ∷ []))
     high n l h b = record {
-      some = omega (arith, length-append l (digitOf n ∷ []), b .some);
-      first = λ p e. b .first (omega arith) (sym (List·getD-append l (digitOf n ∷ []) 0 0 (b .some)) ∙ e);
+      some = omega (arith, length-append l (lastDigit n ∷ []), b .some);
+      first = λ p e. b .first (omega arith) (sym (List·getD-append l (lastDigit n ∷ []) 0 0 (b .some)) ∙ e);
     }
 
 pub digits-no-leading-zero : (n : ℕ) → n < 2 ^ 32 → hasLeadingZero (digits n) ≡ false
@@ -57,13 +57,13 @@ digits-no-leading-zero (suc m) h =
 
 -- with no leading zero a number has one form
 pub no-leading-zero-unique : (s : List ℕ) → 1 ≤ length s → every isDigit s ≡ true → hasLeadingZero s ≡ false
-    → valueFrom 0 s < 2 ^ 32 → s ≡ digits (valueFrom 0 s)
+    → decimalValue s < 2 ^ 32 → s ≡ digits (decimalValue s)
 no-leading-zero-unique [] p e z f = absurd (omega arith)
 no-leading-zero-unique (b ∷ []) p e z f = sym (one-digit b (both-left (isDigit b) true e))
 no-leading-zero-unique (b ∷ c ∷ s) p e z f =
     let d : isDigit b ≡ true = both-left (isDigit b) (every isDigit (c ∷ s)) e in
     let n : b ≡ code "0" → ⊥ = eqb-false b (code "0") (sym (more-bytes-first-zero (b ∷ c ∷ s) (omega arith)) ∙ z) in
-    let v : 1 ≤ valueFrom 0 (b ∷ []) = omega (arith, digit-from b d) in
+    let v : 1 ≤ decimalValue (b ∷ []) = omega (arith, digit-from b d) in
     sym
-    (value-digits (valueFrom 0 (b ∷ [])) (c ∷ s) v (both-right (isDigit b) (every isDigit (c ∷ s)) e) f
+    (value-digits (decimalValue (b ∷ [])) (c ∷ s) v (both-right (isDigit b) (every isDigit (c ∷ s)) e) f
     ∙ ap (λ (l : List ℕ). l ++ (c ∷ s)) (one-digit b d))

@@ -11,12 +11,14 @@ use lib.Dec.{leb}
 use borrow.Author.Tests.{le-leb, leb-true, not-true}
 use Rattle.text.specs.Words.{if_then_else_}
 use Rattle.text.specs.Scans.{every}
+use Rattle.text.proofs.Bases.{value-below}
 use Rattle.text.proofs.Choices.{both-left, both-right}
-use Rattle.numbers.specs.Decimal.{digits, isDigit, hasLeadingZero, valueFrom, readDigits, mostDigits, readNumber}
+use Rattle.numbers.specs.Decimal.{digits, isDigit, hasLeadingZero, decimalWorth, decimalValue}
+use Rattle.numbers.specs.Decimal.{readDigits, mostDigits, readNumber}
 use Rattle.numbers.specs.declared.Number.{Number}
 use Rattle.numbers.specs.declared.Number.the-variants.{Value, NotANumber}
 use Rattle.numbers.proofs.Digits.{digits-at-least-1, digits-at-most-5, digits-are-digits}
-use Rattle.numbers.proofs.Values.{value-back, value-below}
+use Rattle.numbers.proofs.Values.{value-back, digits-worth}
 use Rattle.numbers.proofs.LeadingZeros.{digits-no-leading-zero, no-leading-zero-unique}
 
 pub read-back : (n : ℕ) → n < 100000 → readNumber (digits n) ≡ Value n
@@ -40,7 +42,7 @@ record ReadAs (s : List ℕ) (n : ℕ) : Type 0 where
   short : length s ≤ mostDigits
   plain : hasLeadingZero s ≡ false
   figures : every isDigit s ≡ true
-  value : valueFrom 0 s ≡ n
+  value : decimalValue s ≡ n
 
 read-as : (s : List ℕ) (n : ℕ) → readNumber s ≡ Value n → ReadAs s n
 unfolding readNumber readDigits
@@ -49,7 +51,7 @@ read-as s n e =
     let most : Bool = leb (length s) mostDigits in
     let formed = chosen (least && most && not (hasLeadingZero s)) (readDigits s) n e in
     let sized : (least && most) ≡ true = both-left (least && most) (not (hasLeadingZero s)) (formed .0) in
-    let figures = chosen (every isDigit s) (Value (valueFrom 0 s)) n (formed .1) in
+    let figures = chosen (every isDigit s) (Value (decimalValue s)) n (formed .1) in
     record {
       some = leb-true 1 (length s) (both-left least most sized);
       short = leb-true (length s) mostDigits (both-right least most sized);
@@ -61,10 +63,8 @@ read-as s n e =
 pub read-below : (s : List ℕ) (n : ℕ) → readNumber s ≡ Value n → n < 100000
 read-below s n e =
     let r = read-as s n e in
-    let w : 10 ^ (length s + 0) ≤ 10 ^ 5 =
-    pow-le-pow-right {n = 10} (omega arith) {i = length s + 0} {j = 5} (omega (arith, r .short))
-    in
-    omega (arith, value-below 0 0 s (omega arith) (r .figures), r .value)
+    let most = pow-le-pow-right {n = 10} (omega arith) {i = length s} {j = 5} (r .short) in
+    omega (arith, value-below 10 decimalWorth s (digits-worth s (r .figures)), r .value)
 
 -- by the rule on leading zeros
 pub read-unique : (s : List ℕ) (n : ℕ) → readNumber s ≡ Value n → s ≡ digits n

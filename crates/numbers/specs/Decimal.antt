@@ -1,18 +1,19 @@
 -- Decimal numbers, as lines are written and read.
 -- Document 01, "Commands": "the hours are written most significant digit first, no leading zeros".
 -- Document 01, "Controller": "hours 0 to 99999 with no leading zero".
---   digitOf n           the last digit of n, as a character
+--   lastDigit n         the last digit of n, as a character
+--   decimalWorth b      the number that the digit b stands for
+--   decimalValue s      the number whose digits are s
 --   digits n            all digits of the u32 n, most significant first; a number below ten has one
 --   longDigits n        the same of a u64: the number of a line in a log may be larger than a u32
 --   digitsIn k n        the same, where at most k quotients by ten are taken
 --   isDigit b           the byte b is a digit
 --   hasLeadingZero s    s goes on after a zero: the one place of the rule on leading zeros
---   valueFrom v s       the value of the digits s after those whose value is v
 --   readDigits s        the value of s, where each of its bytes is a digit
 --   mostDigits          how many digits are read at most, and so 99999 the greatest number
 --   readNumber s        the value of s, where it is one to `mostDigits` digits under the rule on leading zeros
 -- Assumes nothing.
-use Prim.Native.Nat.{ℕ, zero, suc, _+_, _-_, _*_, _/_, _%_}
+use Prim.Native.Nat.{ℕ, zero, suc, _+_, _-_, _/_, _%_}
 use Prim.Native.Char.{code}
 use mathlib.Core.Bool.{Bool, not, _&&_}
 use mathlib.Core.List.{List, [], _∷_, _++_}
@@ -20,15 +21,22 @@ use lib.ListN.{length, getD}
 use lib.Dec.{ltb, leb}
 use Rattle.text.specs.Words.{if_then_else_, _is_, _from_to_}
 use Rattle.text.specs.Scans.{every}
+use Rattle.text.specs.Bases.{valueIn}
 use Rattle.numbers.specs.declared.Number.{Number}
 use Rattle.numbers.specs.declared.Number.the-variants.{Value, NotANumber}
 
-abbrev pub digitOf : ℕ → ℕ
-digitOf n = code "0" + n % 10
+abbrev pub lastDigit : ℕ → ℕ
+lastDigit n = code "0" + n % 10
+
+abbrev pub decimalWorth : ℕ → ℕ
+decimalWorth b = b - code "0"
+
+abbrev pub decimalValue : List ℕ → ℕ
+decimalValue s = valueIn 10 decimalWorth 0 s
 
 abbrev pub digitsIn : ℕ → ℕ → List ℕ
-digitsIn zero n = digitOf n ∷ []
-digitsIn (suc k) n = if ltb n 10 then digitOf n ∷ [] else digitsIn k (n / 10) ++ (digitOf n ∷ [])
+digitsIn zero n = lastDigit n ∷ []
+digitsIn (suc k) n = if ltb n 10 then lastDigit n ∷ [] else digitsIn k (n / 10) ++ (lastDigit n ∷ [])
 
 -- a u32 has at most ten digits
 unfoldable pub digits : ℕ → List ℕ
@@ -44,12 +52,8 @@ isDigit b = b from "0" to "9"
 unfoldable pub hasLeadingZero : List ℕ → Bool
 hasLeadingZero s = leb 2 (length s) && getD s 0 0 is "0"
 
-abbrev pub valueFrom : ℕ → List ℕ → ℕ
-valueFrom v [] = v
-valueFrom v (b ∷ s) = valueFrom (v * 10 + (b - code "0")) s
-
 unfoldable pub readDigits : List ℕ → Number
-readDigits s = if every isDigit s then Value (valueFrom 0 s) else NotANumber
+readDigits s = if every isDigit s then Value (decimalValue s) else NotANumber
 
 abbrev pub mostDigits : ℕ
 mostDigits = 5

@@ -3,7 +3,8 @@ ghost use mathlib.Core.Path.{_≡_};
 ghost use Prim.Native.Nat.{_+_, _≤_};
 ghost use lib.ListN.{length};
 ghost use lib.Seq.{sets};
-ghost use Rattle.numbers.specs.Decimal.{digits, longDigits, isDigit, hasLeadingZero, readDigits, readNumber, mostDigits};
+ghost use Rattle.numbers.specs.Decimal.{digits, longDigits, isDigit, hasLeadingZero};
+ghost use Rattle.numbers.specs.Decimal.{readDigits, readNumber, mostDigits};
 
 const MOST_DIGITS: usize = 5;
 

@@ -1,8 +1,12 @@
+pub mod ByRows
+pub mod Bases
 pub mod Carried
 pub mod Choices
+pub mod DigitsRead
 pub mod EachBelow
 pub mod OneResult
 pub mod Orders
+pub mod Parts
 pub mod Sameness
 pub mod Scanning
 pub mod Stores

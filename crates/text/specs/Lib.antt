@@ -1,2 +1,4 @@
 pub mod Words
 pub mod Scans
+pub mod Rows
+pub mod Bases

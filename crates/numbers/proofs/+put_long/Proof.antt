@@ -11,7 +11,7 @@ use borrow.Author.Needs.{needs}
 use borrow.Fn.Kinds.{In}
 use borrow.Fn.PlainCycle.{Measures, is, falls, and}
 use Rattle.text.proofs.Stores.{sets-snoc}
-use Rattle.numbers.specs.Decimal.{digitOf, longDigits}
+use Rattle.numbers.specs.Decimal.{lastDigit, longDigits}
 use Rattle.numbers.proofs.Digits.{long-low, long-high, long-length-low, long-length-high}
 use Rattle.numbers.proofs.put_long.Reads as put-long
 use Rattle.numbers.proofs.put_long.Kinds as kinds
@@ -69,7 +69,7 @@ module _ (t : ℕ) where
       let e = called t c .put-long .ensures in
       let high = long-high (a .n) (large t c .if1 .left) (omega arith) in (
         omega (arith, longer t c, e .0),
-        sets-snoc (now (a .out)) (a .at) (longDigits (a .n / 10)) (digitOf (a .n)) (e .1) (e .0)
+        sets-snoc (now (a .out)) (a .at) (longDigits (a .n / 10)) (lastDigit (a .n)) (e .1) (e .0)
             ∙ ap (sets (now (a .out)) (a .at)) (sym high),
       )
 

@@ -1,6 +1,6 @@
 -- `numbers::read_digits` meets its contract: up to i each byte is a digit, and v is their value, below 10 to the i.
 -- Assumes nothing.
-use Prim.Native.Nat.{ℕ, _-_}
+use Prim.Native.Nat.{ℕ, _-_, _^_, _<_}
 use mathlib.Core.Path.{_≡_, sym, _∙_}
 use mathlib.Core.Bool.{true}
 use mathlib.Core.List.{List}
@@ -8,14 +8,15 @@ use native.Mathlib.Omega.{arith}
 use lib.ListN.{length, getD}
 use borrow.Author.Needs.{needs}
 use borrow.Author.Tests.{not-true, not-false}
-use Rattle.numbers.specs.Decimal.{isDigit}
+use Rattle.text.proofs.DigitsRead.{ReadTo, none-read, one-read, read-below}
+use Rattle.numbers.specs.Decimal.{isDigit, decimalWorth}
 use Rattle.numbers.proofs.Digits.{digit-from, digit-to}
-use Rattle.numbers.proofs.Reading.{ReadTo, none-read, one-read, no-digit, all-read, value-small}
+use Rattle.numbers.proofs.Reading.{no-digit, digits-read}
 use Rattle.numbers.proofs.read_digits.Statement.{statement}
 use Rattle.numbers.proofs.read_digits.Tie as tie
 
 abbrev Inv : tie.InvT-loop
-Inv s v₀ i₀ v i = ReadTo s v i
+Inv s v₀ i₀ v i = ReadTo 10 decimalWorth isDigit s v i
 
 abbrev μ : tie.MeasureT-loop
 μ s v₀ i₀ v i = length s - i
@@ -34,6 +35,10 @@ module _ (c : tie.Else1 Inv μ) where
   passes : isDigit byte ≡ true
   passes = sym (c .before .is-digit .ensures) ∙ not-false (c .before .is-digit .result) (c .if1 .left)
 
+  -- another digit keeps the value within a u32
+  small : turn .loop .v < 10 ^ 4
+  small = read-below 10 decimalWorth isDigit s (turn .loop .inv) 4 (omega arith) (omega arith)
+
 fails : tie.Need-returns Inv μ
 fails c =
     let asked = c .before in
@@ -41,14 +46,10 @@ fails c =
     let failed = sym (asked .is-digit .ensures) ∙ not-true (asked .is-digit .result) (c .if1 .taken) in
     sym (no-digit (turn .before .before .args .s .now) (turn .loop .inv) (search needs) failed)
 
-multiplies : tie.Need-mul-v Inv μ
-multiplies c = omega (arith, value-small (s c) (turn c .loop .inv) (omega arith))
-
-adds : tie.Need-add-v Inv μ
-adds c = omega (arith, value-small (s c) (turn c .loop .inv) (omega arith), digit-to (byte c) (passes c))
-
 again : tie.Need-loop-again Inv μ
-again c = one-read (s c) (turn c .loop .inv) (search needs) (passes c)
+again c =
+    one-read 10 decimalWorth isDigit (s c) (turn c .loop .inv) (search needs) (passes c)
+    (omega (arith, digit-from (byte c) (passes c), digit-to (byte c) (passes c)))
 
 pub read-digits-spec : {M : Type 1} → statement M
 read-digits-spec =
@@ -56,15 +57,15 @@ read-digits-spec =
     (tie.spec
     Inv
     μ
-    (λ c. none-read _)
+    (λ c. none-read 10 decimalWorth isDigit _)
     (λ c. search needs)
     (λ c κs. search needs)
     fails
-    multiplies
+    (λ c. omega (arith, small c))
     (λ c. digit-from (byte c) (passes c))
     (λ c. omega (arith, digit-to (byte c) (passes c)))
-    adds
+    (λ c. omega (arith, small c, digit-to (byte c) (passes c)))
     (λ c. search needs)
     (λ c. search needs)
     again
-    (λ c. sym (all-read _ (c .before .loop .inv) (c .loop-test .left))))
+    (λ c. sym (digits-read _ (c .before .loop .inv) (c .loop-test .left))))

@@ -8,7 +8,8 @@ use Rattle.text.proofs.put.Tie as tie
 returns : tie.Need-returns
 returns c =
     let copied = c .before .before in
-    let start = copied .before .before .before .before in
+    let lent = copied .before .before in
+    let start = lent .before .before in
     sets-part (start .args .out .now) (start .args .src .now) (start .args .at) (start .pre) (copied .copy .ensures .1)
 
 pub put-spec : {M : Type 1} → statement M

@@ -18,14 +18,15 @@ abbrev μ : tie.MeasureT-loop
 -- the loop's place, seen from the test in it
 module _ (c : tie.Else2 Inv μ) where
   abbrev turn : tie.At-loop Inv μ
-  turn = c .before .before .before .before
+  turn = let read = c .before .before in read .before .before
 
 again : tie.Need-loop-again Inv μ
 again c = one-alike itself _ _ (turn c .loop .inv) (search needs) (c .if2 .left)
 
 differs : tie.Need-returns-2 Inv μ
 differs c =
-    let turn = c .before .before .before .before in
+    let read = c .before .before in
+    let turn = read .before .before in
     sym (one-differs itself _ _ (turn .loop .inv) (search needs) (c .if2 .taken))
 
 pub same-spec : {M : Type 1} → statement M
