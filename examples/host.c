@@ -67,7 +67,11 @@ static void one_projector(void) {
     printf(", for warm-up %d\n", pj_which_setting(TEXT("Table 3"), TEXT("maker"), TEXT("model"), TEXT(""),
                                                   TEXT("JBMIAProjectorLink"), TEXT("1132"), LIST(lamps), 0, 0)
                                       == PJ_SETTING_WARM);
-    started = pj_set_up(TEXT("Table 3"), TEXT("maker"), TEXT("model"), TEXT(""), TEXT("JBMIAProjectorLink"), TEXT("1132"),
+    /* a name in UTF-8 whose last character is cut off */
+    started = pj_set_up(TEXT("\xE5\x8F\xB0 3 \xE5\x8F"), TEXT("maker"), TEXT("model"), TEXT(""), TEXT(""), TEXT("1132"),
+                        LIST(lamps), 20, 60);
+    printf("a character cut off: refused %d\n", started.number == PJ_OUT_OF_RANGE);
+    started = pj_set_up(TEXT("\xE5\x8F\xB0 3"), TEXT("maker"), TEXT("model"), TEXT(""), TEXT("JBMIAProjectorLink"), TEXT("1132"),
                         LIST(lamps), 20, 60);
     served(started.number, "pj_set_up");
     device = started.device;

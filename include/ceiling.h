@@ -160,7 +160,8 @@ typedef struct {
 /* Makes the record of a projector that is off, with its connection closed. This comes first, and once after each
    start of the board.
    - Texts: the name to PJ_NAME_MOST bytes, maker, model and other information to PJ_INFO_MOST, each byte 0x20 to
-     0xFF; none of them is exactly ERR1, ERR2, ERR3 or ERR4.
+     0xFF; none of them is exactly ERR1, ERR2, ERR3 or ERR4. The name is well-formed UTF-8 too (RFC 3629): no overlong
+     form, no surrogate, nothing over U+10FFFF, and no character cut off at the end.
    - The password: 0 to PJ_PASSWORD_MOST ASCII letters and digits. Length 0 means no security.
    - Inputs: 1 to PJ_INPUTS_MOST, all different, two ASCII characters each, a type '1' to '5' (RGB, VIDEO, DIGITAL,
      STORAGE, NETWORK) and a number '1' to '9'; inputs_len counts the characters. The first one is chosen.

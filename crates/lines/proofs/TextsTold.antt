@@ -8,9 +8,11 @@ use lib.ListN.{length}
 use lib.Dec.{leb}
 use borrow.Author.Tests.{leb-true, not-true}
 use Rattle.text.specs.Scans.{every}
+use Rattle.utf8.specs.Utf8.{isUtf8}
 use Rattle.text.proofs.Choices.{both-left, both-right}
 use Rattle.lines.specs.Bytes.{isAlnum}
-use Rattle.lines.specs.Texts.{isRefusal, refusalOf, isTextByte, isText, isName, isInfo, isPassword, nameMost, infoMost, passwordMost}
+use Rattle.lines.specs.Texts.{isRefusal, refusalOf, isTextByte, isText, isName, isInfo, isPassword}
+use Rattle.lines.specs.Texts.{nameMost, infoMost, passwordMost}
 
 module _ (s : List ℕ) where
   text-long : (n : ℕ) → isText n s ≡ true → length s ≤ n
@@ -20,9 +22,17 @@ module _ (s : List ℕ) where
       (both-left (leb (length s) n) (every isTextByte s)
       (both-left (leb (length s) n && every isTextByte s) (not (isRefusal s)) h))
 
-  pub name-long : isName s ≡ true → length s ≤ nameMost
+  -- a name is such a text, and more
+  pub name-is-text : isName s ≡ true → isText nameMost s ≡ true
   unfolding isName
-  name-long h = text-long nameMost h
+  name-is-text h = both-left (isText nameMost s) (isUtf8 s) h
+
+  pub name-is-utf8 : isName s ≡ true → isUtf8 s ≡ true
+  unfolding isName
+  name-is-utf8 h = both-right (isText nameMost s) (isUtf8 s) h
+
+  pub name-long : isName s ≡ true → length s ≤ nameMost
+  name-long h = text-long nameMost (name-is-text h)
 
   pub info-long : isInfo s ≡ true → length s ≤ infoMost
   info-long h = text-long infoMost h
@@ -41,7 +51,3 @@ pub text-no-refusal : (n : ℕ) (s : List ℕ) → isText n s ≡ true → refus
 unfolding isText refusalOf
 text-no-refusal n s e =
     rw (not-true (isRefusal s) (both-right (leb (length s) n && every isTextByte s) (not (isRefusal s)) e))
-
-pub name-is-text : (s : List ℕ) → isName s ≡ true → isText nameMost s ≡ true
-unfolding isName
-name-is-text s e = e

@@ -8,7 +8,7 @@ use lib.ListN.{length}
 use borrow.Author.Tests.{le-leb, lt-leb}
 use Rattle.text.specs.Scans.{every}
 use Rattle.lines.specs.Bytes.{isAlnum, notCr, noCr}
-use Rattle.lines.specs.Texts.{isRefusal, isTextByte, isText, isName, isPassword, nameMost, passwordMost}
+use Rattle.lines.specs.Texts.{isRefusal, isTextByte, isText, isPassword, passwordMost}
 
 module _ (s : List ℕ) where
   pub text-within : (n : ℕ) → length s ≤ n → isText n s ≡ (every isTextByte s && not (isRefusal s))
@@ -18,10 +18,6 @@ module _ (s : List ℕ) where
   pub text-longer : (n : ℕ) → n < length s → isText n s ≡ false
   unfolding isText
   text-longer n h = rw (lt-leb (length s) n h)
-
-  pub name-text : isName s ≡ isText nameMost s
-  unfolding isName
-  name-text = refl
 
   pub password-within : length s ≤ passwordMost → isPassword s ≡ every isAlnum s
   unfolding isPassword

@@ -1,5 +1,7 @@
--- One name that opens this crate's definitions, for computing on concrete records only (01, "Lines that settle it").
+-- One name that opens this crate's definitions and, by their own name, those of `utf8`, for computing on concrete
+-- records only (01, "Lines that settle it").
 -- Assumes nothing.
+use Rattle.utf8.specs.Computing.{computing as utf8}
 use Rattle.lines.specs.Bytes.{noCr}
 use Rattle.lines.specs.Sources.{inputFor}
 use Rattle.lines.specs.Inputs.{sourceNamed, readInput}
@@ -9,6 +11,6 @@ use Rattle.lines.specs.Forms.{isCommandForm, isReplyForm}
 
 unfoldable pub computing : Unit {0}
 unfolding
-    noCr inputFor sourceNamed readInput isRefusal refusalOf isText isName isPassword bodyNamed powerAsked inputAsked
+    utf8 noCr inputFor sourceNamed readInput isRefusal refusalOf isText isName isPassword bodyNamed powerAsked inputAsked
     halfNamed muteAsked askedOf requestOf isCommandForm isReplyForm
 computing = tt

@@ -2,7 +2,8 @@
 --   isRefusal s       s is exactly ERR1, ERR2, ERR3 or ERR4
 --   refusalOf s       its digit; 0 for any other bytes
 --   isText n s        0 to n bytes, each 0x20 to 0xFF, and no refusal: a reader couldn't tell it from one
---   isName, isInfo    the rule of the name; of maker, model and other information
+--   isName s          the rule of the name: such a text of at most 64 bytes, in well-formed UTF-8 (02, L2)
+--   isInfo s          the rule of maker, model and other information
 --   isPassword s      0 to 32 ASCII letters and digits
 -- 000 narrows INF1, INF2 and INFO to 0x20 to 0x7E; 01's rule stands for every text.
 -- Assumes nothing.
@@ -14,6 +15,7 @@ use lib.ListN.{length}
 use lib.Dec.{leb, eqb}
 use Rattle.text.specs.Words.{if_then_else_, _is_, _from_to_}
 use Rattle.text.specs.Scans.{every}
+use Rattle.utf8.specs.Utf8.{isUtf8}
 use Rattle.lines.specs.Bytes.{isAlnum, _at_}
 
 unfoldable pub isRefusal : List ℕ → Bool
@@ -38,7 +40,7 @@ abbrev pub passwordMost : ℕ
 passwordMost = 32
 
 unfoldable pub isName : List ℕ → Bool
-isName s = isText nameMost s
+isName s = isText nameMost s && isUtf8 s
 
 abbrev pub isInfo : List ℕ → Bool
 isInfo s = isText infoMost s

@@ -13,4 +13,7 @@ is-refusal-spec =
     (tie.spec
     (λ c. simp (ne-eqb _ _ (c .if1 .taken)))
     (λ c. search needs) (λ c. search needs) (λ c. search needs) (λ c. search needs) (λ c. search needs)
-    (λ c. let long = c .before .before .before .before .before in simp (eq-eqb _ _ (long .if1 .left))))
+    (λ c.
+    let second = c .before .before .before in
+    let long = second .before .before in
+    simp (eq-eqb _ _ (long .if1 .left))))

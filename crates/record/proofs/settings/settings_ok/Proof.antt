@@ -16,8 +16,8 @@ decided c =
     let maker = other .before .before in
     let start = maker .before .before .before in
     (λ j.
-    maker .before .name-ok .ensures j && maker .info-ok .ensures j && other .before .info-ok2 .ensures j
-    && other .info-ok3 .ensures j && inputs .before .password-ok .ensures j && inputs .input-list-ok .ensures j
+    maker .before .name-ok .ensures j && maker .text-ok .ensures j && other .before .text-ok2 .ensures j
+    && other .text-ok3 .ensures j && inputs .before .password-ok .ensures j && inputs .input-list-ok .ensures j
     && leb (start .args .s .«lamp_count») lampsMost && c .before .stretch-ok .ensures j && c .stretch-ok2 .ensures j)
 
 pub settings-ok-spec : {M : Type 1} → statement M

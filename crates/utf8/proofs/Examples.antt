@@ -1,0 +1,101 @@
+-- Vectors of UTF-8: the examples of RFC 3629, section 7, and the borders of its tables.
+-- Assumes nothing.
+use Prim.Native.Nat.{ℕ}
+use mathlib.Core.Path.{_≡_, refl}
+use mathlib.Core.Bool.{Bool, true, not}
+use mathlib.Core.List.{List, [], _∷_, map}
+use Rattle.text.specs.Scans.{every}
+use Rattle.utf8.specs.Utf8.{isUtf8, isScalar, encoded, encodedAll}
+
+-- "A<NOT IDENTICAL TO><ALPHA>."; the Korean "hangugeo"; the Japanese "nihongo"; a byte order mark and U+233B4
+abbrev points : List (List ℕ)
+points =
+    (0x41 ∷ 0x2262 ∷ 0x391 ∷ 0x2E ∷ [])
+    ∷ (0xD55C ∷ 0xAD6D ∷ 0xC5B4 ∷ [])
+    ∷ (0x65E5 ∷ 0x672C ∷ 0x8A9E ∷ [])
+    ∷ (0xFEFF ∷ 0x233B4 ∷ [])
+    ∷ []
+
+abbrev octets : List (List ℕ)
+octets =
+    (0x41 ∷ 0xE2 ∷ 0x89 ∷ 0xA2 ∷ 0xCE ∷ 0x91 ∷ 0x2E ∷ [])
+    ∷ (0xED ∷ 0x95 ∷ 0x9C ∷ 0xEA ∷ 0xB5 ∷ 0xAD ∷ 0xEC ∷ 0x96 ∷ 0xB4 ∷ [])
+    ∷ (0xE6 ∷ 0x97 ∷ 0xA5 ∷ 0xE6 ∷ 0x9C ∷ 0xAC ∷ 0xE8 ∷ 0xAA ∷ 0x9E ∷ [])
+    ∷ (0xEF ∷ 0xBB ∷ 0xBF ∷ 0xF0 ∷ 0xA3 ∷ 0x8E ∷ 0xB4 ∷ [])
+    ∷ []
+
+section-7 : map encodedAll points ≡ octets
+unfolding encoded
+section-7 = refl
+
+section-7-well-formed : every isUtf8 octets ≡ true
+unfolding isUtf8
+section-7-well-formed = refl
+
+-- the first and the last number of each length, and those beside the surrogates
+borders : map encoded
+    (0x00 ∷ 0x7F ∷ 0x80 ∷ 0x7FF ∷ 0x800 ∷ 0xD7FF ∷ 0xE000 ∷ 0xFFFF ∷ 0x10000 ∷ 0x10FFFF ∷ [])
+    ≡ (0x00 ∷ []) ∷ (0x7F ∷ []) ∷ (0xC2 ∷ 0x80 ∷ []) ∷ (0xDF ∷ 0xBF ∷ []) ∷ (0xE0 ∷ 0xA0 ∷ 0x80 ∷ [])
+    ∷ (0xED ∷ 0x9F ∷ 0xBF ∷ []) ∷ (0xEE ∷ 0x80 ∷ 0x80 ∷ []) ∷ (0xEF ∷ 0xBF ∷ 0xBF ∷ [])
+    ∷ (0xF0 ∷ 0x90 ∷ 0x80 ∷ 0x80 ∷ []) ∷ (0xF4 ∷ 0x8F ∷ 0xBF ∷ 0xBF ∷ []) ∷ []
+unfolding encoded
+borders = refl
+
+well-formed : every isUtf8
+    ((0x00 ∷ []) ∷ (0x7F ∷ []) ∷ (0xC2 ∷ 0x80 ∷ []) ∷ (0xDF ∷ 0xBF ∷ []) ∷ (0xE0 ∷ 0xA0 ∷ 0x80 ∷ [])
+    ∷ (0xED ∷ 0x9F ∷ 0xBF ∷ []) ∷ (0xEE ∷ 0x80 ∷ 0x80 ∷ []) ∷ (0xEF ∷ 0xBF ∷ 0xBF ∷ [])
+    ∷ (0xF0 ∷ 0x90 ∷ 0x80 ∷ 0x80 ∷ []) ∷ (0xF4 ∷ 0x8F ∷ 0xBF ∷ 0xBF ∷ []) ∷ []) ≡ true
+unfolding isUtf8
+well-formed = refl
+
+no-scalars : every (λ (n : ℕ). not (isScalar n)) (0xD800 ∷ 0xDFFF ∷ 0x110000 ∷ []) ≡ true
+no-scalars = refl
+
+abbrev ill : List ℕ → Bool
+ill s = not (isUtf8 s)
+
+-- overlong forms of U+0000, U+007F, U+07FF and U+FFFF
+overlong : every ill
+    ((0xC0 ∷ 0x80 ∷ []) ∷ (0xC1 ∷ 0xBF ∷ []) ∷ (0xE0 ∷ 0x80 ∷ 0x80 ∷ []) ∷ (0xE0 ∷ 0x9F ∷ 0xBF ∷ [])
+    ∷ (0xF0 ∷ 0x80 ∷ 0x80 ∷ 0x80 ∷ []) ∷ (0xF0 ∷ 0x8F ∷ 0xBF ∷ 0xBF ∷ []) ∷ []) ≡ true
+unfolding isUtf8
+overlong = refl
+
+-- U+D800 and U+DFFF, alone and as a pair that means U+10000 elsewhere
+surrogates : every ill
+    ((0xED ∷ 0xA0 ∷ 0x80 ∷ []) ∷ (0xED ∷ 0xBF ∷ 0xBF ∷ [])
+    ∷ (0xED ∷ 0xA0 ∷ 0x80 ∷ 0xED ∷ 0xB0 ∷ 0x80 ∷ []) ∷ []) ≡ true
+unfolding isUtf8
+surrogates = refl
+
+-- U+110000 and more, and bytes that begin nothing
+too-large : every ill
+    ((0xF4 ∷ 0x90 ∷ 0x80 ∷ 0x80 ∷ []) ∷ (0xF5 ∷ 0x80 ∷ 0x80 ∷ 0x80 ∷ [])
+    ∷ (0xF8 ∷ 0x88 ∷ 0x80 ∷ 0x80 ∷ 0x80 ∷ []) ∷ (0xFE ∷ []) ∷ (0xFF ∷ []) ∷ []) ≡ true
+unfolding isUtf8
+too-large = refl
+
+-- bytes that only continue, with no character to continue
+lone : every ill
+    ((0x80 ∷ []) ∷ (0xBF ∷ []) ∷ (0x41 ∷ 0x80 ∷ []) ∷ (0xC2 ∷ 0x80 ∷ 0x80 ∷ [])
+    ∷ (0xE2 ∷ 0x89 ∷ 0xA2 ∷ 0xBF ∷ []) ∷ []) ≡ true
+unfolding isUtf8
+lone = refl
+
+-- characters cut at the end
+cut-at-the-end : every ill
+    ((0xC2 ∷ []) ∷ (0xE2 ∷ []) ∷ (0xE2 ∷ 0x89 ∷ []) ∷ (0xF0 ∷ []) ∷ (0xF0 ∷ 0xA3 ∷ []) ∷ (0xF0 ∷ 0xA3 ∷ 0x8E ∷ [])
+    ∷ (0x41 ∷ 0xE2 ∷ 0x89 ∷ []) ∷ []) ≡ true
+unfolding isUtf8
+cut-at-the-end = refl
+
+-- and in the middle, by a letter or by the next character
+cut-in-the-middle : every ill
+    ((0xC2 ∷ 0x41 ∷ []) ∷ (0xE2 ∷ 0x89 ∷ 0x41 ∷ []) ∷ (0xF0 ∷ 0xA3 ∷ 0x8E ∷ 0x41 ∷ [])
+    ∷ (0xE2 ∷ 0x89 ∷ 0xCE ∷ 0x91 ∷ []) ∷ (0xF0 ∷ 0xE2 ∷ 0x89 ∷ 0xA2 ∷ []) ∷ []) ≡ true
+unfolding isUtf8
+cut-in-the-middle = refl
+
+nothing : isUtf8 [] ≡ true
+unfolding isUtf8
+nothing = refl
