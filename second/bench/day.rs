@@ -7,7 +7,7 @@ use second::reference::days;
 use std::hint::black_box;
 
 pub fn all() -> [Work; 2] {
-    let work = |name, run: fn() -> Run| Work { name, by_c: false, prepare: Box::new(run) };
+    let work = |name, run: fn() -> Run| Work { name, by_c: false, bar: None, prepare: Box::new(run) };
     [work("pj_check_day, 64 jobs on 8 rigs", checking), work("pj_plan_day, 64 jobs on 8 rigs", planning)]
 }
 

@@ -15,7 +15,7 @@ pub fn main() -> ExitCode {
     let words: Vec<&str> = words.iter().map(String::as_str).collect();
     match words[..] {
         [] => times(),
-        ["count"] => counts(),
+        ["count"] => return counts(),
         ["once", work, side, times] => once(work.parse().unwrap(), side.parse().unwrap(), times.parse().unwrap()),
         _ => {
             eprintln!("bench | bench count");
@@ -116,9 +116,10 @@ fn other_programs() {
     let _ = (fs::remove_file(large), fs::remove_file(empty));
 }
 
-/// Instructions of one call: those of 101 calls less those of one, divided. 64 MB are left out: callgrind is slow, and
+/// Instructions of one call: those of 101 calls less those of one, divided. It fails where one is over its bar. 64 MB are left out: callgrind is slow, and
 /// 4,096 bytes say the same.
-fn counts() {
+fn counts() -> ExitCode {
+    let mut over = 0;
     println!(
         "{:44} {:>12} {:>12} {:>7} {:>12} {:>7}",
         "instructions a call", "libboard.a", "second", "ratio", "C", "ratio"
@@ -128,8 +129,14 @@ fn counts() {
             let (few, many) = (counted(number, side, 1), counted(number, side, 101));
             (many - few) as f64 / 100.0
         });
-        line(work.name, &counted.collect::<Vec<_>>());
+        let counted = counted.collect::<Vec<_>>();
+        line(work.name, &counted);
+        if let Some(bar) = work.bar.filter(|&bar| bar < counted[0]) {
+            println!("  over its bar of {bar:.0} instructions");
+            over += 1;
+        }
     }
+    ExitCode::from(u8::from(over != 0))
 }
 
 fn counted(work: usize, side: usize, times: u32) -> u64 {

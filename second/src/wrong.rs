@@ -32,7 +32,7 @@ pub fn all_found(seed: u64, board: &mut impl Side) -> bool {
 mod tests {
     use super::*;
     use crate::face::{Act, Answer, Device};
-    use crate::reference::rules::{made_now, make};
+    use crate::reference::rules::unmistaken;
     use crate::reference::side::Second;
 
     /// In the archive's place, the second program without the mistake: the generators can be tried with no archive.
@@ -40,11 +40,7 @@ mod tests {
 
     impl Side for WithoutMistake {
         fn call(&mut self, device: &Device, act: &Act) -> Answer {
-            let mistake = made_now();
-            make(None);
-            let answer = Second.call(device, act);
-            make(mistake);
-            answer
+            unmistaken(|| Second.call(device, act))
         }
 
         fn cuts(&self) -> bool {

@@ -4,6 +4,7 @@ pub mod days;
 pub mod histories;
 pub mod lines;
 pub mod messages;
+pub mod names;
 pub mod random;
 pub mod records;
 pub mod replies;
@@ -13,7 +14,7 @@ pub mod shrink;
 pub mod tables;
 pub mod tally;
 
-use crate::face::{Act, Answer, Device, Side};
+use crate::face::{Act, Answer, Device, Lent, Side};
 use crate::reference::side::Second;
 use random::Random;
 use report::Difference;
@@ -23,7 +24,7 @@ use tally::Tally;
 type Compared = Result<(), Box<Difference>>;
 
 /// A run has at least so many comparisons.
-pub const ENOUGH: usize = 220_000;
+pub const ENOUGH: usize = 260_000;
 
 /// How many smaller cases are tried at most, once one differs.
 const TRIES: usize = 20_000;
@@ -59,6 +60,7 @@ impl<'a, B: Side> Run<'a, B> {
         self.every_code()?;
         self.every_body()?;
         self.messages()?;
+        self.every_name()?;
         while self.agreed < ENOUGH {
             self.round()?;
         }
@@ -137,6 +139,25 @@ impl<'a, B: Side> Run<'a, B> {
         Ok(())
     }
 
+    /// Names at the edges of what RFC 3629 allows.
+    fn every_name(&mut self) -> Compared {
+        names::every().into_iter().try_for_each(|name| self.name(name))
+    }
+
+    /// A name in each of its places: lent to a set-up, in a record, asked for, in a reply.
+    fn name(&mut self, name: Vec<u8>) -> Compared {
+        let lent = Lent { name: name.clone(), ..setups::legal(&mut self.random) };
+        self.compare_call(Device::BLANK, Act::SetUp(lent.clone()))?;
+        self.compare_call(Device::BLANK, Act::WhichSetting(lent))?;
+        let mut device = records::between_lines(&mut self.random);
+        device.connection.phase = 2;
+        records::rename(&mut device, &name);
+        self.compare_call(device, Act::Legal)?;
+        let asked = Act::Receive { bytes: b"%1NAME ?\r".to_vec(), lent: self.random.memory(136) };
+        self.compare_call(device, asked)?;
+        self.compare_call(Device::BLANK, replies::named(&name))
+    }
+
     /// A little of everything, so that a difference of any kind is found early.
     fn round(&mut self) -> Compared {
         let history = histories::history(&mut self.random);
@@ -177,6 +198,8 @@ impl<'a, B: Side> Run<'a, B> {
         }
         for _ in 0..4 {
             self.stream()?;
+            let name = names::any(&mut self.random);
+            self.name(name)?;
         }
         Ok(())
     }

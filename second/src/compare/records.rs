@@ -1,12 +1,15 @@
 //! Records: legal ones in every state, and damaged ones, field by field.
 
 use super::random::Random;
-use super::{lines, setups};
+use super::{lines, names, setups};
 use crate::face::{Device, Text};
 use crate::reference::calls;
+use crate::reference::rules::unmistaken;
 
+/// Legal by the rules, whatever mistake is made.
 pub fn legal(random: &mut Random) -> Device {
-    let mut device = calls::set_up(&setups::legal(random)).device;
+    let lent = setups::legal(random);
+    let mut device = unmistaken(|| calls::set_up(&lent)).device;
     let own = &mut device.own;
     own.power = random.pick(&[0, 1, 1, 2, 3]);
     own.left = match own.power {
@@ -93,6 +96,10 @@ pub fn damage(random: &mut Random, device: &mut Device, field: usize) {
     let own = &mut device.own;
     let connection = &mut device.connection;
     match field {
+        0 if random.one_in(2) => {
+            let name = names::any(random);
+            rename(device, &name);
+        }
         0 => text(random, &mut settings.name),
         1 => text(random, &mut settings.maker),
         2 => text(random, &mut settings.model),
@@ -124,6 +131,14 @@ pub fn damage(random: &mut Random, device: &mut Device, field: usize) {
             connection.line.bytes[random.below(held)] = b'\r';
         }
     }
+}
+
+/// The record with another name, or the first 64 bytes of it.
+pub fn rename(device: &mut Device, name: &[u8]) {
+    let text = &mut device.settings.name;
+    *text = Text::EMPTY;
+    text.len = name.len().min(64);
+    text.bytes[..text.len].copy_from_slice(&name[..text.len]);
 }
 
 fn text(random: &mut Random, text: &mut Text) {

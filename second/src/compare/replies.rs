@@ -2,7 +2,7 @@
 
 use super::lines::any_case;
 use super::random::Random;
-use super::setups;
+use super::{names, setups};
 use crate::face::{Act, Command};
 use crate::reference::commands::BODIES;
 
@@ -77,6 +77,11 @@ pub fn read_reply(random: &mut Random) -> Act {
     Act::ReadReply { command, line }
 }
 
+/// The reply that tells a name, read by the controller that asked for it.
+pub fn named(name: &[u8]) -> Act {
+    Act::ReadReply { command: Command { code: 9, first: 0, second: 0 }, line: [b"%1NAME=", name, b"\r"].concat() }
+}
+
 /// A parameter for a command of this code, mostly one that is allowed.
 fn parameter(random: &mut Random, code: usize) -> Vec<u8> {
     if random.one_in(8) {
@@ -92,7 +97,7 @@ fn parameter(random: &mut Random, code: usize) -> Vec<u8> {
         3 => (0..random.pick(&[6, 6, 6, 6, 5, 7])).map(|_| random.pick(b"00112223")).collect(),
         4 => lamps(random),
         5 => inputs(random),
-        6 => text(random, 64),
+        6 => name(random),
         10 => random.pick(&[&b"1"[..], b"1", b"2", b"11", b"0"]).to_vec(),
         _ => text(random, 32),
     }
@@ -127,6 +132,18 @@ fn inputs(random: &mut Random) -> Vec<u8> {
         inputs[place] = random.pick(&[&b"10"[..], b"61", b"01", b"1", b"", b"111", b"1a"]).to_vec();
     }
     inputs.join(&b' ')
+}
+
+fn name(random: &mut Random) -> Vec<u8> {
+    match random.below(8) {
+        0 => names::of_length(random, 65),
+        1 => {
+            let length = random.pick(&[127, 128, 129, 65, 33]);
+            names::of_length(random, length)
+        }
+        2 => names::wrong(random),
+        _ => names::legal(random),
+    }
 }
 
 /// Around the longest, with every byte from 0x20 and at times one below.

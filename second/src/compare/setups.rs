@@ -1,12 +1,13 @@
 //! Set-ups, legal and not.
 
+use super::names;
 use super::random::Random;
 use crate::face::Lent;
 use crate::reference::set_up::LAMP_LIMIT;
 
 pub fn legal(random: &mut Random) -> Lent {
     Lent {
-        name: text(random, 64),
+        name: names::legal(random),
         maker: text(random, 32),
         model: text(random, 32),
         other: text(random, 32),
@@ -85,7 +86,7 @@ fn damage(random: &mut Random, lent: &mut Lent) {
         3 => (other, 32),
         _ => (password, 32),
     };
-    match random.below(10) {
+    match random.below(11) {
         0 => *text = random.bytes_from(0x30, longest + 1),
         1 => *text = random.letters_or_digits(longest + 1),
         2 => *text = random.pick(&[b"ERR1", b"ERR2", b"ERR3", b"ERR4"]).to_vec(),
@@ -95,10 +96,11 @@ fn damage(random: &mut Random, lent: &mut Lent) {
             text.insert(place, strange);
         }
         4 => *text = random.letters_or_digits(random_long(longest)),
-        5 => random.damage(&mut lent.inputs),
-        6 => damage_inputs(random, &mut lent.inputs),
-        7 => lent.lamps.push(lamp_seconds(random)),
-        8 => {
+        5 => lent.name = names::wrong(random),
+        6 => random.damage(&mut lent.inputs),
+        7 => damage_inputs(random, &mut lent.inputs),
+        8 => lent.lamps.push(lamp_seconds(random)),
+        9 => {
             let seconds = random.pick(&[LAMP_LIMIT + 1, LAMP_LIMIT + 2, 360_003_600, u32::MAX]);
             let place = random.below(lent.lamps.len() + 1);
             lent.lamps.insert(place, seconds);

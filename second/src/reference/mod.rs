@@ -1,7 +1,7 @@
 //! Document 01's rules and 02's changes, written plainly. Every rule has the document's words beside it.
 //!
 //! `calls` has the calls that a host makes, with the numbers they give; `service` (L10) and `days` (L12) those that 02
-//! adds; the other files have what they mean.
+//! adds; the other files have what they mean, `utf8` what L2 says of names.
 //! `rules` holds the deliberate mistakes that `second wrong` switches on, one at a time; none is on otherwise.
 
 pub mod calls;
@@ -21,6 +21,7 @@ pub mod set_up;
 mod settled;
 pub mod side;
 pub mod text;
+pub mod utf8;
 
 use set_up::SetUp;
 

@@ -1,7 +1,7 @@
 //! 01, "A record is legal if ..": the record that a host keeps, read into a projector and written back.
 
 use super::rules::{Mistake, made};
-use super::set_up::{LONGEST_NAME, MOST_INPUTS, MOST_LAMPS, SetUp, are_lamps, inputs_of};
+use super::set_up::{LONGEST_NAME, MOST_INPUTS, MOST_LAMPS, SetUp, are_lamps, inputs_of, is_text};
 use super::text::CR;
 use super::{Connection, Line, Power, Projector};
 use crate::face;
@@ -87,6 +87,9 @@ fn read_set_up(settings: &face::Settings) -> Option<SetUp> {
         warm: settings.warm,
         cool: settings.cool,
     };
+    if made(Mistake::RecordKeepsOldNames) && is_text(&set_up.name, LONGEST_NAME) {
+        return SetUp { name: Vec::new(), ..set_up.clone() }.is_legal().then_some(set_up);
+    }
     set_up.is_legal().then_some(set_up)
 }
 

@@ -4,7 +4,7 @@ use super::commands::Body;
 use super::connection::ERRA_LINE;
 use super::controller::Command;
 use super::rules::{Mistake, made};
-use super::set_up::{LONGEST_INFORMATION, LONGEST_NAME, is_text};
+use super::set_up::{LONGEST_NAME, is_information, is_name, is_text};
 use super::text::{CR, Input, all_letters_or_digits, hours};
 
 /// "Its meaning may be an input with its type and number, a list of lamps, a text."
@@ -76,8 +76,8 @@ fn query_meaning(body: Body, parameter: &[u8]) -> Option<Meaning> {
         (Body::Erst, _) => error_digits(parameter).map(Meaning::Errors),
         (Body::Lamp, _) => lamps(parameter).map(Meaning::Lamps),
         (Body::Inst, _) => inputs(parameter).map(Meaning::Inputs),
-        (Body::Name, _) => text(parameter, LONGEST_NAME).map(Meaning::Text),
-        (Body::Inf1 | Body::Inf2 | Body::Info, _) => text(parameter, LONGEST_INFORMATION).map(Meaning::Text),
+        (Body::Name, _) => text(parameter, is_name(parameter) || is_old_name(parameter)).map(Meaning::Text),
+        (Body::Inf1 | Body::Inf2 | Body::Info, _) => text(parameter, is_information(parameter)).map(Meaning::Text),
         (Body::Clss, b"1") => Some(Meaning::Class),
         _ => None,
     }
@@ -112,8 +112,14 @@ fn inputs(parameter: &[u8]) -> Option<Vec<Input>> {
     (inputs.len() <= 32).then_some(inputs)
 }
 
-/// "A text has at most 64 bytes (NAME) or 32, each 0x20 to 0xFF; ERR2 as a text is 12."
-fn text(parameter: &[u8], longest: usize) -> Option<Vec<u8>> {
-    let taken = is_text(parameter, longest) || (parameter == b"ERR2" && made(Mistake::Err2TextTaken));
+/// "A text has at most 64 bytes (NAME) or 32, each 0x20 to 0xFF; ERR2 as a text is 12." By 02, L2, a name is UTF-8 here
+/// as in a set-up, and another is refused "with 12".
+fn text(parameter: &[u8], allowed: bool) -> Option<Vec<u8>> {
+    let taken = allowed || (parameter == b"ERR2" && made(Mistake::Err2TextTaken));
     taken.then(|| parameter.to_vec())
+}
+
+/// 01's rule on names, which no longer holds.
+fn is_old_name(parameter: &[u8]) -> bool {
+    made(Mistake::ReaderKeepsOldNames) && is_text(parameter, LONGEST_NAME)
 }

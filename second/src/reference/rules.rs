@@ -43,6 +43,14 @@ mistakes! {
     AllLeftRefused: "a rig may not burn all that it has left",
     HighestRigFirst: "the planner tries the highest-numbered rig first",
     LastSettingTold: "of two settings out of their range the later is told",
+    SurrogateTaken: "a name may have a surrogate (ED A0 80)",
+    OverlongTaken: "a name may have an overlong form (C0 80)",
+    PastTheLastTaken: "a name may have a character over U+10FFFF (F4 90 80 80)",
+    CutCharacterTaken: "a name may end inside a character",
+    ControlsRefused: "a name may not have U+007F to U+009F",
+    InformationInUtf8: "maker, model and other information have to be UTF-8 too",
+    RecordKeepsOldNames: "a record's name need not be UTF-8",
+    ReaderKeepsOldNames: "the reader takes a name that is not UTF-8",
 }
 
 thread_local! {
@@ -56,6 +64,14 @@ pub fn made(mistake: Mistake) -> bool {
 
 pub fn made_now() -> Option<Mistake> {
     MADE.get()
+}
+
+/// What this gives where no mistake is made.
+pub fn unmistaken<T>(run: impl FnOnce() -> T) -> T {
+    let mistake = MADE.take();
+    let given = run();
+    MADE.set(mistake);
+    given
 }
 
 /// From now on this mistake is made, or none.

@@ -1,7 +1,8 @@
 //! 01, "Set-up".
 
+use super::rules::{Mistake, made};
 use super::text::{Input, all_letters_or_digits};
-use super::{Connection, Power, Projector};
+use super::{Connection, Power, Projector, utf8};
 use crate::face;
 
 pub const LONGEST_NAME: usize = 64;
@@ -26,10 +27,10 @@ pub struct SetUp {
 
 impl SetUp {
     pub fn is_legal(&self) -> bool {
-        is_text(&self.name, LONGEST_NAME)
-            && is_text(&self.maker, LONGEST_INFORMATION)
-            && is_text(&self.model, LONGEST_INFORMATION)
-            && is_text(&self.other, LONGEST_INFORMATION)
+        is_name(&self.name)
+            && is_information(&self.maker)
+            && is_information(&self.model)
+            && is_information(&self.other)
             && is_password(&self.password)
             && are_inputs(&self.inputs)
             && is_stretch(self.warm)
@@ -57,6 +58,25 @@ impl SetUp {
 pub fn is_text(bytes: &[u8], longest: usize) -> bool {
     let reads_as_refusal = [&b"ERR1"[..], b"ERR2", b"ERR3", b"ERR4"].contains(&bytes);
     bytes.len() <= longest && bytes.iter().all(|&b| b >= 0x20) && !reads_as_refusal
+}
+
+/// 02, L2: "the name must be well-formed UTF-8 by RFC 3629 (no overlong form, no surrogate) with no byte under 0x20."
+/// For the rest it is a text as before.
+pub fn is_name(bytes: &[u8]) -> bool {
+    let taken = is_text(bytes, LONGEST_NAME) && utf8::is_well_formed(bytes);
+    taken && !(made(Mistake::ControlsRefused) && has_controls(bytes))
+}
+
+/// No rule refuses these; a mistake does.
+fn has_controls(bytes: &[u8]) -> bool {
+    let is_control = |number: &u32| (0x7F..=0x9F).contains(number);
+    utf8::characters(bytes).is_some_and(|numbers| numbers.iter().any(is_control))
+}
+
+/// 02, L2: "Maker, model and other information keep the old rule."
+pub fn is_information(bytes: &[u8]) -> bool {
+    let refused = made(Mistake::InformationInUtf8) && !utf8::is_well_formed(bytes);
+    is_text(bytes, LONGEST_INFORMATION) && !refused
 }
 
 /// "Password 0 to 32 ASCII letters and digits."
@@ -87,10 +107,10 @@ fn is_stretch(seconds: u32) -> bool {
 /// Whether each setting is in its range: name, maker, model, other, password, inputs, lamps, W, C.
 pub fn in_range(lent: &face::Lent) -> [bool; 9] {
     [
-        is_text(&lent.name, LONGEST_NAME),
-        is_text(&lent.maker, LONGEST_INFORMATION),
-        is_text(&lent.model, LONGEST_INFORMATION),
-        is_text(&lent.other, LONGEST_INFORMATION),
+        is_name(&lent.name),
+        is_information(&lent.maker),
+        is_information(&lent.model),
+        is_information(&lent.other),
         is_password(&lent.password),
         inputs_of(&lent.inputs).is_some_and(|inputs| are_inputs(&inputs)),
         are_lamps(&lent.lamps),
