@@ -1,14 +1,23 @@
--- Bytes without CR, one by one; letters and digits are never CR.
+-- Bytes within a range of characters; bytes without CR, one by one; letters and digits are never CR.
 -- Assumes nothing.
-use Prim.Native.Nat.{ℕ}
+use Prim.Native.Nat.{ℕ, _≤_}
+use Prim.Native.Char.{Char, code}
 use mathlib.Core.Path.{_≡_, refl, sym, ap, _∙_}
 use mathlib.Core.Bool.{Bool, true, false, not}
 use mathlib.Core.List.{List}
-use lib.Dec.{eqb}
-use borrow.Author.Tests.{eqb-true}
+use lib.Dec.{leb}
+use borrow.Author.Tests.{eqb-true, leb-true}
+use Rattle.text.specs.Words.{_is_, _from_to_}
 use Rattle.text.specs.Scans.{every}
+use Rattle.text.proofs.Choices.{both-left, both-right}
 use Rattle.text.proofs.Scanning.{every-implies}
 use Rattle.lines.specs.Bytes.{isAlnum, notCr, noCr}
+
+pub in-range : (b : ℕ) (l h : Char) → b from l to h ≡ true → (code l ≤ b) × (b ≤ code h)
+in-range b l h e = (
+  leb-true (code l) b (both-left (leb (code l) b) (leb b (code h)) e),
+  leb-true b (code h) (both-right (leb (code l) b) (leb b (code h)) e),
+)
 
 pub no-cr-of : (s : List ℕ) → every notCr s ≡ true → noCr s ≡ true
 unfolding noCr
@@ -19,11 +28,11 @@ unfolding noCr
 no-cr-each s e = e
 
 pub alnum-not-cr : (b : ℕ) → isAlnum b ≡ true → notCr b ≡ true
-alnum-not-cr b e = told (eqb b 13) refl
+alnum-not-cr b e = told (b is "\r") refl
   where
-    told : (t : Bool) → eqb b 13 ≡ t → not t ≡ true
+    told : (t : Bool) → b is "\r" ≡ t → not t ≡ true
     told false f = refl
-    told true f = sym (ap isAlnum (eqb-true b 13 f)) ∙ e
+    told true f = sym (ap isAlnum (eqb-true b (code "\r") f)) ∙ e
 
 pub alnum-no-cr : (s : List ℕ) → every isAlnum s ≡ true → noCr s ≡ true
 alnum-no-cr s e = no-cr-of s (every-implies isAlnum notCr alnum-not-cr s e)

@@ -2,6 +2,7 @@
 -- both back; no byte of it but the last is CR.
 -- Assumes nothing.
 use Prim.Native.Nat.{ℕ, _+_, _≤_}
+use Prim.Native.Char.{code}
 use mathlib.Core.Path.{_≡_, refl, sym, ap, _∙_}
 use mathlib.Core.Bool.{Bool, true, false, not, _&&_}
 use mathlib.Core.List.{List, _++_}
@@ -15,7 +16,8 @@ use Rattle.text.proofs.Choices.{both, both-left}
 use Rattle.text.proofs.Scanning.{every-append, every-implies}
 use Rattle.lines.specs.Bytes.{_at_, isAlnum, notCr, noCr}
 use Rattle.lines.specs.Inputs.{sourceDigit, numberDigit}
-use Rattle.lines.specs.Commands.{bodyText, bodyOf, switchDigit, halfDigit, parameterOf, commandText, commandLine}
+use Rattle.lines.specs.Commands.{bodyText, bodyOf, switchDigit, halfDigit, parameterOf, commandText}
+use Rattle.lines.specs.Commands.{commandLine}
 use Rattle.lines.specs.Forms.{headBody, commandMost, isCommandForm, commandParameter}
 use Rattle.lines.specs.declared.input.Source.{Source}
 use Rattle.lines.specs.declared.input.Source.the-variants.{Rgb, Video, Digital, Storage, Network}
@@ -58,7 +60,7 @@ source-not-cr Network = refl
 parameter-no-cr : (c : Command) → every notCr (parameterOf c) ≡ true
 parameter-no-cr (PowerSet on) = both (switch-not-cr on) refl
 parameter-no-cr (InputSet i) = both (source-not-cr (i .source))
-    (both (ap not (ne-eqb (numberDigit (i .number)) 13 (omega arith))) refl)
+    (both (ap not (ne-eqb (numberDigit (i .number)) (code "\r") (omega arith))) refl)
 parameter-no-cr (MuteSet h on) = both (half-not-cr h) (both (switch-not-cr on) refl)
 parameter-no-cr (Query b) = refl
 
@@ -101,8 +103,8 @@ module _ (c : Command) where
   command-form =
       let short = parameter-short c in
       ap isCommandForm text
-      ∙ both (both (le-leb 7 (length spelled) (omega arith)) (le-leb (length spelled) 135 (omega arith)))
-      (headed (body at 0) (body at 1) (body at 2) (body at 3) letters 32 (parameterOf c))
+      ∙ both (both (le-leb 7 (length spelled) (omega arith)) (le-leb (length spelled) commandMost (omega arith)))
+      (headed (body at 0) (body at 1) (body at 2) (body at 3) letters (code " ") (parameterOf c))
 
   pub command-no-cr : noCr (commandText c) ≡ true
   unfolding noCr

@@ -5,7 +5,8 @@ use mathlib.Core.Path.{_≡_, refl, ap, _∙_}
 use mathlib.Core.Bool.{true, false}
 use mathlib.Core.List.{List}
 use Rattle.lines.specs.Commands.{bodyOf, parameterOf, isCommand}
-use Rattle.lines.specs.Requests.{isBody, powerAsked, inputGiven, inputAsked, halfNamed, muteAsked, askedOf, asked, requestOf}
+use Rattle.lines.specs.Requests.{isBody, powerAsked, inputGiven, inputAsked, halfNamed, muteAsked, askedOf}
+use Rattle.lines.specs.Requests.{asked, requestOf}
 use Rattle.lines.specs.declared.command.Half.the-variants.{VideoHalf, AudioHalf, BothHalves}
 use Rattle.lines.specs.declared.command.Command.{Command}
 use Rattle.lines.specs.declared.command.Command.the-variants.{PowerSet, InputSet, MuteSet, Query}

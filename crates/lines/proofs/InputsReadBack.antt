@@ -10,12 +10,14 @@ use lib.Dec.{leb}
 use borrow.Author.Tests.{eqb-true, eqb-false, leb-true, le-leb, lt-leb}
 use Rattle.text.specs.Words.{_is_, _from_to_}
 use Rattle.text.proofs.Choices.{if-yes, if-by, both, both-left, both-right}
-use Rattle.lines.specs.Inputs.{isInputText, sourceNamed, inputNamed, readInput, isInput, sourceDigit, numberDigit, inputText}
+use Rattle.lines.specs.Inputs.{isInputText, sourceNamed, inputNamed, readInput, isInput, sourceDigit}
+use Rattle.lines.specs.Inputs.{numberDigit, inputText}
 use Rattle.lines.specs.declared.input.Source.{Source}
 use Rattle.lines.specs.declared.input.Source.the-variants.{Rgb, Video, Digital, Storage, Network}
 use Rattle.lines.specs.declared.input.Input.{Input}
 use Rattle.lines.specs.declared.input.MaybeInput.{MaybeInput}
 use Rattle.lines.specs.declared.input.MaybeInput.the-variants.{InputIs, NoInput}
+use Rattle.lines.proofs.Characters.{in-range}
 
 -- a source's character is one of the five, and names it
 record Told (s : Source) : Type 0 where
@@ -41,49 +43,44 @@ module _ (i : Input) (legal : isInput i ≡ true) where
   input-is-text =
       let l = low in
       let h = high in
+      let digit = numberDigit (i .number) in
       both (source-told (i .source) .listed)
-      (both (le-leb 49 (numberDigit (i .number)) (omega arith)) (le-leb (numberDigit (i .number)) 57 (omega arith)))
+      (both (le-leb (code "1") digit (omega arith)) (le-leb digit (code "9") (omega arith)))
 
   pub input-read-back : readInput (sourceDigit (i .source)) (numberDigit (i .number)) ≡ InputIs i
   unfolding readInput
   input-read-back =
       let l = low in
       let h = high in
-      let same : numberDigit (i .number) - 48 ≡ i .number = omega arith in
+      let same : numberDigit (i .number) - code "0" ≡ i .number = omega arith in
       if-yes _ NoInput input-is-text
       ∙ (λ j. InputIs (record { source = source-told (i .source) .back j; number = same j }))
 
 module _ (a b : ℕ) (named : isInputText a b ≡ true) where
-  source-is : a from "1" to "5" ≡ true
-  source-is = both-left (a from "1" to "5") _ named
+  source-is : (code "1" ≤ a) × (a ≤ code "5")
+  source-is = in-range a "1" "5" (both-left (a from "1" to "5") _ named)
 
-  number-is : b from "1" to "9" ≡ true
-  number-is = both-right (a from "1" to "5") _ named
+  pub number-is : (code "1" ≤ b) × (b ≤ code "9")
+  number-is = in-range b "1" "9" (both-right (a from "1" to "5") _ named)
 
   source-back : sourceDigit (sourceNamed a) ≡ a
   unfolding sourceNamed
   source-back =
-      let low = leb-true 49 a (both-left (leb 49 a) _ source-is) in
-      let high = leb-true a 53 (both-right (leb 49 a) _ source-is) in
       let P : Source → Type 0 = λ s. sourceDigit s ≡ a in
-      if-by P (a is "1") (λ e. sym (eqb-true a 49 e)) (λ n₁.
-      if-by P (a is "2") (λ e. sym (eqb-true a 50 e)) (λ n₂.
-      if-by P (a is "3") (λ e. sym (eqb-true a 51 e)) (λ n₃.
-      if-by P (a is "4") (λ e. sym (eqb-true a 52 e)) (λ n₄.
-      let last : 53 ≡ a = omega
-      (arith, eqb-false a 49 n₁, eqb-false a 50 n₂, eqb-false a 51 n₃, eqb-false a 52 n₄) in last))))
+      if-by P (a is "1") (λ e. sym (eqb-true a _ e)) (λ n₁.
+      if-by P (a is "2") (λ e. sym (eqb-true a _ e)) (λ n₂.
+      if-by P (a is "3") (λ e. sym (eqb-true a _ e)) (λ n₃.
+      if-by P (a is "4") (λ e. sym (eqb-true a _ e)) (λ n₄.
+      omega (arith, source-is, eqb-false a _ n₁, eqb-false a _ n₂, eqb-false a _ n₃, eqb-false a _ n₄)))))
 
   pub named-is-input : isInput (inputNamed a b) ≡ true
   named-is-input =
-      let low = leb-true 49 b (both-left (leb 49 b) _ number-is) in
-      let high = leb-true b 57 (both-right (leb 49 b) _ number-is) in
-      both (le-leb 1 (b - 48) (omega arith)) (le-leb (b - 48) 9 (omega arith))
+      let digit = b - code "0" in
+      both (le-leb 1 digit (omega (arith, number-is))) (le-leb digit 9 (omega (arith, number-is)))
 
   pub named-text : inputText (inputNamed a b) ≡ a ∷ b ∷ []
   named-text =
-      let low = leb-true 49 b (both-left (leb 49 b) _ number-is) in
-      let high = leb-true b 57 (both-right (leb 49 b) _ number-is) in
-      let same : numberDigit (b - 48) ≡ b = omega arith in
+      let same : numberDigit (b - code "0") ≡ b = omega (arith, number-is) in
       (λ j. source-back j ∷ same j ∷ [])
 
 -- what is read of two characters, by whether they name an input

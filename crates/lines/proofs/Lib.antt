@@ -6,7 +6,6 @@ pub mod Characters
 pub mod InputsReadBack
 pub mod SourcesFollowed
 pub mod Bodies
-mod Keyed
 pub mod CommandLines
 pub mod CommandsAskedBack
 pub mod FormsSpelt

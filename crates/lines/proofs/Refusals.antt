@@ -7,13 +7,14 @@ use native.Mathlib.Omega.{arith}
 use Prim.Native.Nat.{ℕ, _+_, _-_, _%_, _≤_}
 use Prim.Native.Char.{code}
 use lib.ListN.{length}
-use lib.Dec.{leb, eqb}
-use borrow.Author.Tests.{eqb-true, leb-true, le-leb, ne-eqb}
+use lib.Dec.{eqb}
+use borrow.Author.Tests.{eqb-true, le-leb, ne-eqb}
 use Rattle.text.specs.Words.{ascii, _is_, _from_to_}
 use Rattle.text.proofs.Choices.{if-no, if-by, both-left, both-right}
 use Rattle.lines.specs.Bytes.{_at_}
 use Rattle.lines.specs.Inputs.{numberDigit}
 use Rattle.lines.specs.Texts.{isRefusal, refusalOf}
+use Rattle.lines.proofs.Characters.{in-range}
 use Rattle.lines.proofs.ByPlaces.{by-places}
 
 -- the tests, one by one
@@ -33,7 +34,7 @@ module _ (s : List ℕ) (r : isRefusal s ≡ true) where
       let e = four && s at 0 is "E" in
       let er = e && s at 1 is "R" in
       let err = er && s at 2 is "R" in
-      let digit = both-right err (s at 3 from "1" to "4") r in
+      let digit = in-range (s at 3) "1" "4" (both-right err _ r) in
       let is-err = both-left err (s at 3 from "1" to "4") r in
       let is-er = both-left er (s at 2 is "R") is-err in
       let is-e = both-left e (s at 1 is "R") is-er in
@@ -42,8 +43,8 @@ module _ (s : List ℕ) (r : isRefusal s ≡ true) where
         first = eqb-true (s at 0) (code "E") (both-right four (s at 0 is "E") is-e);
         second = eqb-true (s at 1) (code "R") (both-right e (s at 1 is "R") is-er);
         third = eqb-true (s at 2) (code "R") (both-right er (s at 2 is "R") is-err);
-        low = leb-true (code "1") (s at 3) (both-left (leb (code "1") (s at 3)) (leb (s at 3) (code "4")) digit);
-        high = leb-true (s at 3) (code "4") (both-right (leb (code "1") (s at 3)) (leb (s at 3) (code "4")) digit);
+        low = digit .0;
+        high = digit .1;
       }
 
   pub refusal-long : length s ≡ 4

@@ -2,15 +2,16 @@
 -- of the form has its head and its CR.
 -- Assumes nothing.
 use Prim.Native.Nat.{ℕ, _+_, _-_, _≤_}
+use Prim.Native.Char.{code}
 use mathlib.Core.Path.{_≡_, refl, sym, ap, _∙_}
 use mathlib.Core.Bool.{Bool, true, false, _&&_}
 use mathlib.Core.List.{List, [], _∷_, _++_}
 use native.Mathlib.Omega.{arith}
 use lib.ListN.{length, take, length-append}
 use lib.Seq.{take-append-seam, getD-append-seam}
-use lib.Dec.{leb, eqb}
+use lib.Dec.{leb}
 use borrow.Author.Tests.{leb-true, le-leb, eq-eqb}
-use Rattle.text.specs.Words.{ascii}
+use Rattle.text.specs.Words.{ascii, _is_}
 use Rattle.text.specs.Scans.{every, sameBy, itself}
 use Rattle.text.proofs.Choices.{both, both-left, both-right}
 use Rattle.text.proofs.Sameness.{same-is}
@@ -37,18 +38,18 @@ module _ (a b c d : ℕ) (letters : every isAlnum (a ∷ b ∷ c ∷ d ∷ []) �
     reply-body = refl
 
     pub reply-length : length (replyLine a b c d p) ≡ length p + 8
-    reply-length = omega (arith, length-append p (13 ∷ []))
+    reply-length = omega (arith, length-append p (ascii "\r"))
 
     pub reply-parameter : replyParameter (replyLine a b c d p) ≡ p
     reply-parameter =
-        let n : length (replyLine a b c d p) - 8 ≡ length p = omega (arith, length-append p (13 ∷ [])) in
-        ap (λ (k : ℕ). take k (p ++ (13 ∷ []))) n ∙ take-append-seam p (13 ∷ [])
+        let n : length (replyLine a b c d p) - 8 ≡ length p = omega (arith, length-append p (ascii "\r")) in
+        ap (λ (k : ℕ). take k (p ++ ascii "\r")) n ∙ take-append-seam p (ascii "\r")
 
-    ends : replyLine a b c d p at (length (replyLine a b c d p) - 1) ≡ 13
+    ends : replyLine a b c d p at (length (replyLine a b c d p) - 1) ≡ code "\r"
     ends =
         let line = ascii "%1" ++ (a ∷ b ∷ c ∷ d ∷ []) ++ ascii "=" ++ p in
-        let n : length (replyLine a b c d p) - 1 ≡ length line = omega (arith, length-append p (13 ∷ [])) in
-        ap (λ (k : ℕ). replyLine a b c d p at k) n ∙ getD-append-seam line 13 [] 0
+        let n : length (replyLine a b c d p) - 1 ≡ length line = omega (arith, length-append p (ascii "\r")) in
+        ap (λ (k : ℕ). replyLine a b c d p at k) n ∙ getD-append-seam line (code "\r") [] 0
 
     pub reply-form : length p ≤ 128 → noCr p ≡ true → isReplyForm (replyLine a b c d p) ≡ true
     unfolding isReplyForm
@@ -56,8 +57,8 @@ module _ (a b c d : ℕ) (letters : every isAlnum (a ∷ b ∷ c ∷ d ∷ []) �
         let long = reply-length in
         both (both (both
         (both (le-leb 8 (length (replyLine a b c d p)) (omega arith))
-        (le-leb (length (replyLine a b c d p)) 136 (omega arith)))
-        (headed 61 (p ++ (13 ∷ [])))) (eq-eqb _ 13 ends)) (ap noCr reply-parameter ∙ plain)
+        (le-leb (length (replyLine a b c d p)) replyMost (omega arith)))
+        (headed (code "=") (p ++ ascii "\r"))) (eq-eqb _ (code "\r") ends)) (ap noCr reply-parameter ∙ plain)
 
     pub reply-not-erra : sameBy itself (replyLine a b c d p) erraLine ≡ false
     reply-not-erra = refl
@@ -67,8 +68,8 @@ unfolding isReplyForm
 reply-long l e =
     let enough = leb 8 (length l) in
     let short = enough && leb (length l) replyMost in
-    let headed = short && isHeaded 61 l in
-    let ended = headed && eqb (l at (length l - 1)) 13 in
+    let headed = short && isHeaded (code "=") l in
+    let ended = headed && l at (length l - 1) is "\r" in
     leb-true 8 (length l) (both-left enough _ (both-left short _ (both-left headed _ (both-left ended _ e))))
 
 -- no reply of the form is the ERRA line

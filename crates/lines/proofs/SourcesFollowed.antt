@@ -7,17 +7,19 @@ use mathlib.Core.Path.{_≡_, refl, sym, ap, _∙_}
 use mathlib.Core.Bool.{true, false, and-false}
 use mathlib.Core.List.{[], _∷_}
 use native.Mathlib.Omega.{arith}
-use lib.Dec.{leb, eqb}
-use borrow.Author.Tests.{eqb-true, eqb-false, eq-eqb, leb-true}
+use lib.Dec.{eqb}
+use borrow.Author.Tests.{eqb-true, eqb-false, eq-eqb}
 use Rattle.text.specs.Words.{_is_, _from_to_}
 use Rattle.text.proofs.Choices.{if-yes, if-by, both-left, both-right, alike}
 use Rattle.lines.specs.Sources.{typeOf, sameInput, character, inputFor}
-use Rattle.lines.specs.Inputs.{isInputText, sourceNamed, inputNamed, readInput, isInput, sourceDigit, numberDigit, inputText}
+use Rattle.lines.specs.Inputs.{isInputText, sourceNamed, inputNamed, readInput, isInput, sourceDigit}
+use Rattle.lines.specs.Inputs.{numberDigit, inputText}
 use Rattle.lines.specs.declared.input.Source.{Source}
 use Rattle.lines.specs.declared.input.Source.the-variants.{Rgb, Video, Digital, Storage, Network}
 use Rattle.lines.specs.declared.input.Input.{Input}
 use Rattle.lines.specs.declared.input.MaybeInput.{MaybeInput}
 use Rattle.lines.specs.declared.input.MaybeInput.the-variants.{InputIs, NoInput}
+use Rattle.lines.proofs.Characters.{in-range}
 use Rattle.lines.proofs.InputsReadBack.{input-read-back, read-input-by, named-text}
 
 -- each row, as it is written and as it is read
@@ -59,17 +61,8 @@ module _ (a b : ℕ) where
   in-no-row n₁ n₂ n₃ n₄ n₅ =
       read-input-by (λ m. m ≡ NoInput) a b
       (λ named.
-      let type = both-left (a from "1" to "5") _ named in
-      let low = leb-true (code "1") a (both-left (leb (code "1") a) _ type) in
-      let high = leb-true a (code "5") (both-right (leb (code "1") a) _ type) in
-      absurd (omega (
-        arith,
-        eqb-false a (code "1") n₁,
-        eqb-false a (code "2") n₂,
-        eqb-false a (code "3") n₃,
-        eqb-false a (code "4") n₄,
-        eqb-false a (code "5") n₅,
-      )))
+      let type = in-range a "1" "5" (both-left (a from "1" to "5") _ named) in
+      absurd (omega (arith, eqb-false a _ n₁, eqb-false a _ n₂, eqb-false a _ n₃, eqb-false a _ n₄, eqb-false a _ n₅)))
       refl
 
   pub reader-follows : readInput a b ≡ inputFor a b

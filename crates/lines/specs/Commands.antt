@@ -13,8 +13,9 @@ use Prim.Native.Nat.{ℕ}
 use Prim.Native.Char.{code}
 use Rattle.text.specs.Words.{ascii}
 use Rattle.lines.specs.Inputs.{isInput, inputText}
+use Rattle.lines.specs.Bodies.{rowOf}
 use Rattle.lines.specs.declared.command.Body.{Body}
-use Rattle.lines.specs.declared.command.Body.the-variants.{Powr, Inpt, Avmt, Erst, Lamp, Inst, Name, Inf1, Inf2, Info, Clss}
+use Rattle.lines.specs.declared.command.Body.the-variants.{Powr, Inpt, Avmt}
 use Rattle.lines.specs.declared.command.Half.{Half}
 use Rattle.lines.specs.declared.command.Half.the-variants.{VideoHalf, AudioHalf, BothHalves}
 use Rattle.lines.specs.declared.command.Parameter.{Parameter}
@@ -23,17 +24,7 @@ use Rattle.lines.specs.declared.command.Command.{Command}
 use Rattle.lines.specs.declared.command.Command.the-variants.{PowerSet, InputSet, MuteSet, Query}
 
 abbrev pub bodyText : Body → List ℕ
-bodyText Powr = ascii "POWR"
-bodyText Inpt = ascii "INPT"
-bodyText Avmt = ascii "AVMT"
-bodyText Erst = ascii "ERST"
-bodyText Lamp = ascii "LAMP"
-bodyText Inst = ascii "INST"
-bodyText Name = ascii "NAME"
-bodyText Inf1 = ascii "INF1"
-bodyText Inf2 = ascii "INF2"
-bodyText Info = ascii "INFO"
-bodyText Clss = ascii "CLSS"
+bodyText b = rowOf b .letters
 
 abbrev pub bodyOf : Command → Body
 bodyOf (PowerSet on) = Powr

@@ -1,9 +1,9 @@
 pub mod Bytes
 pub mod Sources
 pub mod Inputs
+pub mod Bodies
 pub mod Texts
 pub mod Commands
-pub mod Keys
 pub mod Requests
 pub mod Forms
 pub mod Computing

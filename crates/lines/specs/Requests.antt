@@ -15,14 +15,17 @@ use Rattle.text.specs.Words.{if_then_else_, _is_, _from_to_}
 use Rattle.text.specs.Scans.{sameBy}
 use Rattle.lines.specs.Bytes.{_at_, upperOf}
 use Rattle.lines.specs.Inputs.{readInput}
+use Rattle.lines.specs.Bodies.{bodies, rowOf}
 use Rattle.lines.specs.Commands.{bodyText}
 use Rattle.lines.specs.declared.input.MaybeInput.{MaybeInput}
 use Rattle.lines.specs.declared.input.MaybeInput.the-variants.{InputIs, NoInput}
 use Rattle.lines.specs.declared.command.Body.{Body}
-use Rattle.lines.specs.declared.command.Body.the-variants.{Powr, Inpt, Avmt, Erst, Lamp, Inst, Name, Inf1, Inf2, Info, Clss}
+use Rattle.lines.specs.declared.command.Body.the-variants.{Powr, Inpt, Avmt}
 use Rattle.lines.specs.declared.command.Half.{Half}
 use Rattle.lines.specs.declared.command.Half.the-variants.{VideoHalf, AudioHalf, BothHalves}
 use Rattle.lines.specs.declared.command.Command.the-variants.{PowerSet, InputSet, MuteSet, Query}
+use Rattle.lines.specs.declared.body.Sets.{Sets}
+use Rattle.lines.specs.declared.body.Sets.the-variants.{SetsPower, SetsInput, SetsMute, QueryOnly}
 use Rattle.lines.specs.declared.request.MaybeBody.{MaybeBody}
 use Rattle.lines.specs.declared.request.MaybeBody.the-variants.{BodyIs, NoBody}
 use Rattle.lines.specs.declared.request.Request.{Request}
@@ -30,9 +33,6 @@ use Rattle.lines.specs.declared.request.Request.the-variants.{Asks, Unli
 
 abbrev pub isBody : List ℕ → Body → Bool
 isBody s b = sameBy upperOf s (bodyText b)
-
-abbrev pub bodies : List Body
-bodies = Powr ∷ Inpt ∷ Avmt ∷ Erst ∷ Lamp ∷ Inst ∷ Name ∷ Inf1 ∷ Inf2 ∷ Info ∷ Clss ∷ []
 
 abbrev pub firstNamed : List Body → List ℕ → MaybeBody
 firstNamed [] s = NoBody
@@ -64,18 +64,14 @@ muteAsked p =
     then Asks (MuteSet (halfNamed (p at 0)) (p at 1 is "1"))
     else Unlisted Avmt
 
+abbrev pub setBy : Sets → Body → List ℕ → Request
+setBy SetsPower b p = powerAsked p
+setBy SetsInput b p = inputAsked p
+setBy SetsMute b p = muteAsked p
+setBy QueryOnly b p = Unlisted b
+
 abbrev pub setAsked : Body → List ℕ → Request
-setAsked Powr p = powerAsked p
-setAsked Inpt p = inputAsked p
-setAsked Avmt p = muteAsked p
-setAsked Erst p = Unlisted Erst
-setAsked Lamp p = Unlisted Lamp
-setAsked Inst p = Unlisted Inst
-setAsked Name p = Unlisted Name
-setAsked Inf1 p = Unlisted Inf1
-setAsked Inf2 p = Unlisted Inf2
-setAsked Info p = Unlisted Info
-setAsked Clss p = Unlisted Clss
+setAsked b p = setBy (rowOf b .set) b p
 
 abbrev pub isQuestion : List ℕ → Bool
 isQuestion p = eqb (length p) 1 && p at 0 is "?"

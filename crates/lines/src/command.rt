@@ -1,11 +1,13 @@
 // The commands that our writer can write, and their lines (000, 2.1 and 4.1 to 4.14).
+use crate::body;
 use crate::input;
 use crate::input::Input;
 ghost use mathlib.Core.Path.{_≡_};
 ghost use Prim.Native.Nat.{_+_, _≤_};
 ghost use lib.ListN.{length};
 ghost use lib.Seq.{sets};
-ghost use Rattle.lines.specs.Commands.{bodyText, bodyOf, parameterOf, parameterBytes, switchDigit, halfDigit, isCommand, commandLine};
+ghost use Rattle.lines.specs.Commands.{bodyText, bodyOf, parameterOf, parameterBytes, switchDigit, halfDigit};
+ghost use Rattle.lines.specs.Commands.{isCommand, commandLine};
 
 // The four letters that name what a command is about.
 pub enum Body {
@@ -46,19 +48,7 @@ pub enum Parameter {
 pub fn body_text(b: Body) -> [u8; 4]
     ensures { λ r. ⌜ r ≡ bodyText b ⌝ }
 {
-    match b {
-        Body::Powr => *b"POWR",
-        Body::Inpt => *b"INPT",
-        Body::Avmt => *b"AVMT",
-        Body::Erst => *b"ERST",
-        Body::Lamp => *b"LAMP",
-        Body::Inst => *b"INST",
-        Body::Name => *b"NAME",
-        Body::Inf1 => *b"INF1",
-        Body::Inf2 => *b"INF2",
-        Body::Info => *b"INFO",
-        Body::Clss => *b"CLSS",
-    }
+    body::row_of(b).letters
 }
 
 pub fn body_of(c: Command) -> Body

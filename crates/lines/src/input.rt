@@ -1,6 +1,6 @@
 // Inputs and their two characters (01, "Set-up"; 000, 4.3).
 ghost use mathlib.Core.Path.{_≡_};
-ghost use Rattle.lines.specs.Inputs.{isInputText, sourceNamed, inputNamed, readInput, isInput, sourceDigit, numberDigit};
+ghost use Rattle.lines.specs.Inputs.{isInputText, sourceNamed, readInput, isInput, sourceDigit, numberDigit};
 
 pub enum Source {
     Rgb,
@@ -39,27 +39,18 @@ fn source_named(a: u8) -> Source
     }
 }
 
-// The input that two characters name, where they name one.
-pub fn input_named(a: u8, b: u8) -> Input
-    ensures { λ r. ⌜ r ≡ inputNamed a b ⌝ }
-{
-    let source = source_named(a);
-    if b < b'0' {
-        return Input { source, number: 0 };
-    }
-    Input {
-        source,
-        number: b - b'0',
-    }
-}
-
+// The input that two characters name, or none.
 pub fn read_input(a: u8, b: u8) -> MaybeInput
     ensures { λ r. ⌜ r ≡ readInput a b ⌝ }
 {
     if !is_input_text(a, b) {
         return MaybeInput::NoInput;
     }
-    MaybeInput::InputIs(input_named(a, b))
+    let source = source_named(a);
+    MaybeInput::InputIs(Input {
+        source,
+        number: b - b'0',
+    })
 }
 
 // Whether two characters can name the input.

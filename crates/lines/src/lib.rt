@@ -1,4 +1,5 @@
 // What both sides of the wire share: the rules of bytes, inputs, texts, commands and lines of PJLink Class 1.
+pub mod body;
 pub mod byte;
 pub mod command;
 pub mod form;

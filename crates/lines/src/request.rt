@@ -1,4 +1,6 @@
 // What a received body and parameter ask for (01, "Commands").
+use crate::body;
+use crate::body::Sets;
 use crate::byte;
 use crate::command;
 use crate::command::Body;
@@ -8,10 +10,8 @@ use crate::input;
 use crate::input::MaybeInput;
 ghost use mathlib.Core.Path.{_≡_};
 ghost use mathlib.Core.List.{[], _∷_};
-ghost use Prim.Native.Nat.{_+_, _*_, _<_};
-ghost use Rattle.lines.specs.Keys.{upperKey, textKey};
-ghost use Rattle.lines.specs.Commands.{bodyText};
-ghost use Rattle.lines.specs.Requests.{isBody, bodyNamed, isQuestion, powerAsked, inputAsked, halfNamed, muteAsked, setAsked, askedOf, requestOf};
+ghost use Rattle.lines.specs.Requests.{isBody, bodyNamed, isQuestion, powerAsked, inputAsked, halfNamed};
+ghost use Rattle.lines.specs.Requests.{muteAsked, setAsked, askedOf, requestOf};
 
 pub enum MaybeBody {
     BodyIs(Body),
@@ -24,77 +24,44 @@ pub enum Request {
     UnknownBody,
 }
 
-const POWR: u32 = ((b'P' as u32 * 256 + b'O' as u32) * 256 + b'W' as u32) * 256 + b'R' as u32;
+// Every body, in the order of 01's table.
+const BODIES: [Body; 11] = [
+    Body::Powr,
+    Body::Inpt,
+    Body::Avmt,
+    Body::Erst,
+    Body::Lamp,
+    Body::Inst,
+    Body::Name,
+    Body::Inf1,
+    Body::Inf2,
+    Body::Info,
+    Body::Clss,
+];
 
-const INPT: u32 = ((b'I' as u32 * 256 + b'N' as u32) * 256 + b'P' as u32) * 256 + b'T' as u32;
-
-const AVMT: u32 = ((b'A' as u32 * 256 + b'V' as u32) * 256 + b'M' as u32) * 256 + b'T' as u32;
-
-const ERST: u32 = ((b'E' as u32 * 256 + b'R' as u32) * 256 + b'S' as u32) * 256 + b'T' as u32;
-
-const LAMP: u32 = ((b'L' as u32 * 256 + b'A' as u32) * 256 + b'M' as u32) * 256 + b'P' as u32;
-
-const INST: u32 = ((b'I' as u32 * 256 + b'N' as u32) * 256 + b'S' as u32) * 256 + b'T' as u32;
-
-const NAME: u32 = ((b'N' as u32 * 256 + b'A' as u32) * 256 + b'M' as u32) * 256 + b'E' as u32;
-
-const INF1: u32 = ((b'I' as u32 * 256 + b'N' as u32) * 256 + b'F' as u32) * 256 + b'1' as u32;
-
-const INF2: u32 = ((b'I' as u32 * 256 + b'N' as u32) * 256 + b'F' as u32) * 256 + b'2' as u32;
-
-const INFO: u32 = ((b'I' as u32 * 256 + b'N' as u32) * 256 + b'F' as u32) * 256 + b'O' as u32;
-
-const CLSS: u32 = ((b'C' as u32 * 256 + b'L' as u32) * 256 + b'S' as u32) * 256 + b'S' as u32;
-
-fn wide(b: u8) -> u32
-    ensures { λ r. ⌜ (r ≡ b) × (r < 256) ⌝ }
+// Whether four bytes name the body, whatever their case.
+pub fn is_body(a: u8, b: u8, c: u8, d: u8, body: Body) -> bool
+    ensures { λ r. ⌜ r ≡ isBody (a ∷ b ∷ c ∷ d ∷ []) body ⌝ }
 {
-    b as u32
-}
-
-fn upper_key(a: u8, b: u8, c: u8, d: u8) -> u32
-    ensures { λ r. ⌜ r ≡ upperKey a b c d ⌝ }
-{
-    let p = wide(byte::upper(a));
-    let q = wide(byte::upper(b));
-    let r = wide(byte::upper(c));
-    let s = wide(byte::upper(d));
-    ((p * 256 + q) * 256 + r) * 256 + s
+    let t = command::body_text(body);
+    (byte::upper(a) == t[0])
+        & ((byte::upper(b) == t[1]) & ((byte::upper(c) == t[2]) & (byte::upper(d) == t[3])))
 }
 
 // The body that four bytes name, whatever their case.
 pub fn body_named(a: u8, b: u8, c: u8, d: u8) -> MaybeBody
     ensures { λ r. ⌜ r ≡ bodyNamed (a ∷ b ∷ c ∷ d ∷ []) ⌝ }
 {
-    let key = upper_key(a, b, c, d);
-    match key {
-        POWR => MaybeBody::BodyIs(Body::Powr),
-        INPT => MaybeBody::BodyIs(Body::Inpt),
-        AVMT => MaybeBody::BodyIs(Body::Avmt),
-        ERST => MaybeBody::BodyIs(Body::Erst),
-        LAMP => MaybeBody::BodyIs(Body::Lamp),
-        INST => MaybeBody::BodyIs(Body::Inst),
-        NAME => MaybeBody::BodyIs(Body::Name),
-        INF1 => MaybeBody::BodyIs(Body::Inf1),
-        INF2 => MaybeBody::BodyIs(Body::Inf2),
-        INFO => MaybeBody::BodyIs(Body::Info),
-        CLSS => MaybeBody::BodyIs(Body::Clss),
-        _ => MaybeBody::NoBody,
+    let bodies = BODIES;
+    let mut i = 0;
+    while i < 11 {
+        let body = bodies[i];
+        if is_body(a, b, c, d, body) {
+            return MaybeBody::BodyIs(body);
+        }
+        i += 1;
     }
-}
-
-fn text_key(t: [u8; 4]) -> u32
-    ensures { λ r. ⌜ r ≡ textKey t ⌝ }
-{
-    ((wide(t[0]) * 256 + wide(t[1])) * 256 + wide(t[2])) * 256 + wide(t[3])
-}
-
-// Whether four bytes name the body, whatever their case.
-pub fn is_body(a: u8, b: u8, c: u8, d: u8, body: Body) -> bool
-    ensures { λ r. ⌜ r ≡ isBody (a ∷ b ∷ c ∷ d ∷ []) body ⌝ }
-{
-    let key = upper_key(a, b, c, d);
-    key == text_key(command::body_text(body))
+    MaybeBody::NoBody
 }
 
 fn is_question(p: &[u8]) -> bool
@@ -159,18 +126,12 @@ fn mute_asked(p: &[u8]) -> Request
 fn set_asked(b: Body, p: &[u8]) -> Request
     ensures { λ r. ⌜ r ≡ setAsked b (now (p .entry)) ⌝ }
 {
-    match b {
-        Body::Powr => power_asked(p),
-        Body::Inpt => input_asked(p),
-        Body::Avmt => mute_asked(p),
-        Body::Erst => Request::Unlisted(Body::Erst),
-        Body::Lamp => Request::Unlisted(Body::Lamp),
-        Body::Inst => Request::Unlisted(Body::Inst),
-        Body::Name => Request::Unlisted(Body::Name),
-        Body::Inf1 => Request::Unlisted(Body::Inf1),
-        Body::Inf2 => Request::Unlisted(Body::Inf2),
-        Body::Info => Request::Unlisted(Body::Info),
-        Body::Clss => Request::Unlisted(Body::Clss),
+    let set = body::row_of(b).set;
+    match set {
+        Sets::SetsPower => power_asked(p),
+        Sets::SetsInput => input_asked(p),
+        Sets::SetsMute => mute_asked(p),
+        Sets::QueryOnly => Request::Unlisted(b),
     }
 }
 

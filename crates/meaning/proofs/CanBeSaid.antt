@@ -4,40 +4,45 @@
 use Prim.Native.Nat.{ℕ, _+_, _*_, _/_, _<_, _≤_}
 use mathlib.Core.Path.{_≡_, refl, sym, ap, _∙_}
 use mathlib.Core.Bool.{Bool, true, false, _||_, false≢true}
+use mathlib.Core.List.{map}
 use native.Mathlib.Omega.{arith}
 use lib.ListN.{length, getD, take, length-map}
+use lib.Dec.{leb}
 use borrow.Author.Tests.{leb-true, le-leb, eqb-false, not-false}
 use Rattle.text.specs.Scans.{every}
-use Rattle.text.proofs.Scanning.{every-map}
+use Rattle.text.proofs.Scanning.{every-map, every-by-place}
 use Rattle.lines.specs.Bytes.{noCr}
 use Rattle.lines.specs.Inputs.{isInput}
+use Rattle.lines.specs.Bodies.{bodies, hasSet}
 use Rattle.lines.specs.declared.input.MaybeInput.{MaybeInput}
-use Rattle.lines.specs.declared.command.Body.the-variants.{Powr, Inpt, Avmt, Erst, Lamp, Inst, Name, Inf1, Inf2, Info, Clss}
+use Rattle.lines.specs.declared.command.Body.{Body}
+use Rattle.lines.specs.declared.command.Body.the-variants.{Powr, Inpt, Avmt, Erst, Lamp, Inst, Name, Inf1, Inf2, Info}
+use Rattle.lines.specs.declared.command.Body.the-variants.{Clss}
 use Rattle.lines.specs.declared.command.Command.{Command}
 use Rattle.lines.specs.declared.command.Command.the-variants.{PowerSet, InputSet, MuteSet, Query}
 use Rattle.lines.specs.declared.request.Request.{Request}
 use Rattle.lines.specs.declared.request.Request.the-variants.{Asks, Unlisted, UnknownBody}
+use Rattle.lines.proofs.Bodies.{each-body, yes}
 use Rattle.lines.proofs.InputsReadBack.{named-is-input}
 use Rattle.lines.proofs.SourcesFollowed.{named-stands}
-use Rattle.answers.specs.Said.{Said, refused, saidBytes, inputCount}
+use Rattle.answers.specs.Said.{Said, saidBytes, inputCount}
 use Rattle.answers.specs.Carried.{answerOf, saidBy, isSayable}
 use Rattle.answers.specs.Reading.{isSet, isRefusalTo}
-use Rattle.answers.specs.CanSay.{CanSay, done, refuses, power, input, mutes, errors, lamps, inputs, name, maker, model, other, class-1, isLampHours}
+use Rattle.answers.specs.CanSay.{CanSay, done, refuses, power, input, mutes, errors, lamps, inputs, name, maker, model}
+use Rattle.answers.specs.CanSay.{other, class-1, isLampHours}
 use Rattle.answers.proofs.SaidPlain.{can-sayable, can-said-back, said-64, said-plain}
-use Rattle.record.specs.Limits.{inputRoom, lampsMost, lampLimit}
+use Rattle.record.specs.Limits.{inputRoom, lampsMost, lampLimit, isLit}
 use Rattle.record.specs.Rules.{isLamp, isLamps, isInputs}
 use Rattle.record.specs.Legal.{isSettings, isOwn}
 use Rattle.record.specs.declared.types.Settings.{Settings}
 use Rattle.record.specs.declared.types.Own.{Own}
 use Rattle.record.proofs.Kept.{kept-length}
-use Rattle.record.proofs.Places.{every-by-place}
 use Rattle.record.proofs.Rules.{errors-long, errors-within, lamps-within}
 use Rattle.record.proofs.SettingsTold.{SettingsTold, settings-told, input-count-low, input-count-high, input-at}
 use Rattle.record.proofs.OwnTold.{OwnTold, own-told}
-use Rattle.clock.specs.Second.{isLit}
 use Rattle.meaning.specs.SetUpInputs.{noInput, inputOrNone, pairsOf, inputsOf}
-use Rattle.meaning.specs.Rules.{hasSet, isUndefined, isUnlisted}
-use Rattle.meaning.specs.Meaning.{chosenOf, lampSaid, lampsOf, told, answered, meant}
+use Rattle.meaning.specs.Rules.{isUndefined, isUnlisted}
+use Rattle.meaning.specs.Meaning.{chosenOf, lampSaid, lampsOf, queried, tableAnswer, requestAnswer, meant}
 use Rattle.meaning.proofs.InputsByPlace.{inputs-counted, input-in-use}
 use Rattle.meaning.proofs.Cases.{Passes, meant-by}
 
@@ -89,7 +94,7 @@ module _ (s : Settings) (o : Own) (settings : isSettings s ≡ true) (own : isOw
       length-map (take (s .«lamp_count») (o .lamps)) (lampSaid (isLit (o .power)))
       ∙ kept-length lampsMost isLamps _ _ (kept .lamps)
 
-  told-can-be-said : (c : Command) → isUndefined s (Asks c) ≡ false → CanSay c (told s o c)
+  told-can-be-said : (c : Command) → isUndefined s (Asks c) ≡ false → CanSay c (tableAnswer s o c)
   told-can-be-said (PowerSet wanted) e = done refl
   told-can-be-said (InputSet i) e = done refl
   told-can-be-said (MuteSet half wanted) e = done refl
@@ -139,23 +144,21 @@ module _ (s : Settings) (o : Own) (settings : isSettings s ≡ true) (own : isOw
       always-refused (Unlisted b) (λ p. false≢true (sym (p .listed) ∙ not-false (hasSet b) (p .defined)))
   answer-can-be-said UnknownBody = always-refused UnknownBody (λ p. false≢true (sym (p .defined)))
 
-  told-few : (c : Command) → inputCount (told s o c) ≤ 16
+  abbrev isFew : Body → Bool
+  isFew b = leb (inputCount (queried s o b)) 16
+
+  queried-few : map isFew bodies ≡ map yes bodies
+  queried-few =
+      let most : length (inputsOf s) ≤ 16 = omega (arith, inputs-number s set-up, input-count-high s set-up) in
+      rw (le-leb (length (inputsOf s)) 16 most)
+
+  told-few : (c : Command) → inputCount (tableAnswer s o c) ≤ 16
   told-few (PowerSet wanted) = omega arith
   told-few (InputSet i) = omega arith
   told-few (MuteSet half wanted) = omega arith
-  told-few (Query Powr) = omega arith
-  told-few (Query Inpt) = omega arith
-  told-few (Query Avmt) = omega arith
-  told-few (Query Erst) = omega arith
-  told-few (Query Lamp) = omega arith
-  told-few (Query Inst) = omega (arith, inputs-number s set-up, input-count-high s set-up)
-  told-few (Query Name) = omega arith
-  told-few (Query Inf1) = omega arith
-  told-few (Query Inf2) = omega arith
-  told-few (Query Info) = omega arith
-  told-few (Query Clss) = omega arith
+  told-few (Query b) = leb-true (inputCount (queried s o b)) 16 (each-body isFew yes queried-few b)
 
-  answered-few : (r : Request) → inputCount (answered s o r) ≤ 16
+  answered-few : (r : Request) → inputCount (requestAnswer s o r) ≤ 16
   answered-few (Asks c) = told-few c
   answered-few (Unlisted b) = omega arith
   answered-few UnknownBody = omega arith

@@ -12,7 +12,7 @@ use Rattle.answers.specs.Carried.{answerOf}
 use Rattle.record.specs.declared.types.Settings.{Settings}
 use Rattle.record.specs.declared.types.Own.{Own}
 use Rattle.meaning.specs.Rules.{isUndefined, isOutOfParameter, isFailure, isUnavailable}
-use Rattle.meaning.specs.Meaning.{answered, carriedOut, meant, done, decided}
+use Rattle.meaning.specs.Meaning.{requestAnswer, carriedOut, meant, done, decided}
 use Rattle.meaning.specs.declared.Decided.{Decided}
 
 -- the first of four tests decides
@@ -40,7 +40,7 @@ module _ (s : Settings) (o : Own) (r : Request) where
       → (isUndefined s r ≡ false → isOutOfParameter s r ≡ false → isFailure o r ≡ true → P (refused 4) o)
       → (isUndefined s r ≡ false → isOutOfParameter s r ≡ false → isFailure o r ≡ false → isUnavailable o r ≡ true
       → P (refused 3) o)
-      → (Passes → P (answered s o r) (carriedOut s o r))
+      → (Passes → P (requestAnswer s o r) (carriedOut s o r))
       → P (meant s o r) (done s o r)
   unfolding meant done
   decided-by P p q u v n =
@@ -53,7 +53,7 @@ module _ (s : Settings) (o : Own) (r : Request) where
       → (isUndefined s r ≡ false → isOutOfParameter s r ≡ false → isFailure o r ≡ true → P (refused 4))
       → (isUndefined s r ≡ false → isOutOfParameter s r ≡ false → isFailure o r ≡ false → isUnavailable o r ≡ true
       → P (refused 3))
-      → (Passes → P (answered s o r))
+      → (Passes → P (requestAnswer s o r))
       → P (meant s o r)
   meant-by P = decided-by (λ m k. P m)
 
@@ -66,7 +66,7 @@ module _ (s : Settings) (o : Own) (r : Request) where
   refusedWith n = record { answer = answerOf (refused n); own = o }
 
   abbrev accepted : Decided
-  accepted = record { answer = answerOf (answered s o r); own = carriedOut s o r }
+  accepted = record { answer = answerOf (requestAnswer s o r); own = carriedOut s o r }
 
   module _ (a : isUndefined s r ≡ true) where
     pub err1 : meant s o r ≡ refused 1
@@ -118,7 +118,7 @@ module _ (s : Settings) (o : Own) (r : Request) where
     decided-err3 e = e ∙ (λ i. record { answer = answerOf (sym err3 i); own = sym nothing-done-3 i })
 
   module _ (p : Passes) where
-    pub meant-passed : meant s o r ≡ answered s o r
+    pub meant-passed : meant s o r ≡ requestAnswer s o r
     unfolding meant
     meant-passed = if-no _ _ (p .defined) ∙ if-no _ _ (p .listed) ∙ if-no _ _ (p .sound) ∙ if-no _ _ (p .timely)
 

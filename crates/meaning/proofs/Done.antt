@@ -16,6 +16,7 @@ use Rattle.lines.specs.declared.request.Request.{Request}
 use Rattle.lines.specs.declared.request.Request.the-variants.{Asks, Unlisted, UnknownBody}
 use Rattle.answers.specs.Said.{okay}
 use Rattle.record.specs.Limits.{off, on, cooling, warming}
+use Rattle.record.specs.Updates.{withPower, withChosen, withMutes}
 use Rattle.record.specs.Legal.{isLeft, isSettings, isOwn}
 use Rattle.record.specs.declared.types.Settings.{Settings}
 use Rattle.record.specs.declared.types.Own.{Own}
@@ -23,7 +24,7 @@ use Rattle.record.proofs.SettingsTold.{SettingsTold, settings-told}
 use Rattle.record.proofs.OwnTold.{OwnTold, own-told, own-shown, warming-left, cooling-left}
 use Rattle.meaning.specs.SetUpInputs.{placeOf, isListed}
 use Rattle.meaning.specs.Rules.{isOutOfParameter}
-use Rattle.meaning.specs.Meaning.{withPower, withChosen, withMutes, afterPower, afterMute, answered, carriedOut, meant, done}
+use Rattle.meaning.specs.Meaning.{afterPower, afterMute, requestAnswer, carriedOut, meant, done}
 use Rattle.meaning.proofs.Cases.{decided-by, done-by}
 
 pub record Keeps (o k : Own) : Type 0 where
@@ -58,7 +59,7 @@ module _ (s : Settings) (o : Own) where
   pub done-keeps : (r : Request) → Keeps o (done s o r)
   done-keeps r = done-by s o r (Keeps o) all-kept (λ p. after-keeps r)
 
-  told-or-kept : (r : Request) → (answered s o r ≡ okay → ⊥) → carriedOut s o r ≡ o
+  told-or-kept : (r : Request) → (requestAnswer s o r ≡ okay → ⊥) → carriedOut s o r ≡ o
   told-or-kept (Asks (PowerSet wanted)) n = absurd (n refl)
   told-or-kept (Asks (InputSet i)) n = absurd (n refl)
   told-or-kept (Asks (MuteSet half wanted)) n = absurd (n refl)

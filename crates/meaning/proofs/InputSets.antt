@@ -10,12 +10,13 @@ use Rattle.lines.specs.declared.command.Body.the-variants.{Inpt}
 use Rattle.lines.specs.declared.command.Command.the-variants.{InputSet, Query}
 use Rattle.lines.specs.declared.request.Request.the-variants.{Asks}
 use Rattle.answers.specs.Said.{okay, chosenIs}
+use Rattle.record.specs.Updates.{withChosen}
 use Rattle.record.specs.Legal.{isSettings}
 use Rattle.record.specs.declared.types.Settings.{Settings}
 use Rattle.record.specs.declared.types.Own.{Own}
 use Rattle.record.proofs.SettingsTold.{settings-told}
 use Rattle.meaning.specs.SetUpInputs.{noInput, inputsOf, placeOf, isListed}
-use Rattle.meaning.specs.Meaning.{chosenOf, withChosen, meant, done}
+use Rattle.meaning.specs.Meaning.{chosenOf, meant, done}
 use Rattle.meaning.proofs.InputsByPlace.{found-at-place}
 use Rattle.meaning.proofs.CanBeSaid.{inputs-number, listed-input}
 use Rattle.meaning.proofs.Cases.{decided-by, meant-passed}

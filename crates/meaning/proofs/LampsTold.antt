@@ -12,9 +12,9 @@ use Rattle.lines.specs.declared.command.Command.the-variants.{Query}
 use Rattle.lines.specs.declared.request.Request.the-variants.{Asks}
 use Rattle.answers.specs.Said.{lampsAre}
 use Rattle.answers.specs.declared.answer.LampHours.{LampHours}
+use Rattle.record.specs.Limits.{isLit}
 use Rattle.record.specs.declared.types.Settings.{Settings}
 use Rattle.record.specs.declared.types.Own.{Own}
-use Rattle.clock.specs.Second.{isLit}
 use Rattle.meaning.specs.Meaning.{lampSaid, lampsOf, meant}
 use Rattle.meaning.proofs.Cases.{meant-passed}
 

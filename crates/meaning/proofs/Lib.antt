@@ -4,7 +4,6 @@ pub mod Cases
 pub mod CanBeSaid
 pub mod Done
 pub mod HalvesStay
-pub mod Okay
 pub mod PowerSets
 pub mod InputSets
 pub mod LampsTold

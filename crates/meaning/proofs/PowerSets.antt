@@ -14,11 +14,11 @@ use Rattle.lines.specs.declared.command.Command.the-variants.{PowerSet, InputSe
 use Rattle.lines.specs.declared.request.Request.{Request}
 use Rattle.lines.specs.declared.request.Request.the-variants.{Asks, Unlisted, UnknownBody}
 use Rattle.answers.specs.Said.{Said, okay, refused}
-use Rattle.record.specs.Limits.{off, on, cooling, warming}
+use Rattle.record.specs.Limits.{off, on, cooling, warming, isBetween}
+use Rattle.record.specs.Updates.{withPower}
 use Rattle.record.specs.declared.types.Settings.{Settings}
 use Rattle.record.specs.declared.types.Own.{Own}
-use Rattle.clock.specs.Second.{isBetween}
-use Rattle.meaning.specs.Meaning.{withPower, afterPower, afterMute, answered, carriedOut, meant, done}
+use Rattle.meaning.specs.Meaning.{afterPower, afterMute, requestAnswer, carriedOut, meant, done}
 use Rattle.meaning.proofs.Cases.{decided-by, meant-by, meant-passed}
 
 pub data PowerTurn (s : Settings) (o : Own) (r : Request) (m : Said) (k : Own) : Type 0 where
@@ -37,7 +37,7 @@ module _ (s : Settings) (o : Own) where
   muted AudioHalf wanted = stays refl refl
   muted BothHalves wanted = stays refl refl
 
-  turned : (r : Request) → PowerTurn s o r (answered s o r) (carriedOut s o r)
+  turned : (r : Request) → PowerTurn s o r (requestAnswer s o r) (carriedOut s o r)
   unfolding afterPower
   turned (Asks (PowerSet true)) =
       if-by (PowerTurn s o (Asks (PowerSet true)) okay) (eqb (o .power) off)

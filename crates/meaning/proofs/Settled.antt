@@ -13,16 +13,18 @@ use Rattle.lines.specs.declared.request.Request.the-variants.{Asks, Unlisted, U
 use Rattle.lines.specs.Computing.{computing as lines-computing}
 use Rattle.answers.specs.Said.{Said, okay, refused, lampsAre, classIs1}
 use Rattle.record.specs.Limits.{warming, on}
+use Rattle.record.specs.Wanted.{wantedOf}
+use Rattle.record.specs.Updates.{withPower}
 use Rattle.record.specs.Record.{settingsOf, startOwn}
 use Rattle.record.specs.Computing.{computing as record-computing}
 use Rattle.record.specs.declared.types.Settings.{Settings}
 use Rattle.record.specs.declared.types.Own.{Own}
-use Rattle.meaning.specs.Meaning.{withPower, meant, done}
+use Rattle.meaning.specs.Meaning.{meant, done}
 use Rattle.meaning.specs.Computing.{computing}
 
 -- W = 20, C = 60, one lamp at 0 s, input 11, texts empty
 abbrev settings : Settings
-settings = settingsOf [] [] [] [] [] (ascii "11") 1 20 60
+settings = settingsOf (wantedOf [] [] [] [] [] (ascii "11") (0 ∷ []) 20 60)
 
 abbrev own : Own
 own = startOwn (0 ∷ [])

@@ -1,7 +1,8 @@
 -- What the projector answers to a request, and what the request does to it (01, "Commands").
---   told s o c            01's table: what a command that no rule refuses is answered
---   after s o c           what it does
---   answered, carriedOut  the same for a request; one that is no command is always refused, so `nothing` is never said
+--   tableAnswer s o c     01's table: what a command that no rule refuses is answered
+--   afterCommand s o c    the own part after it
+--   requestAnswer s o r, carriedOut s o r
+--                         the same of a request; one that is no command is always refused, so `nothing` is never said
 --   meant s o r           the answer to the request r
 --   done s o r            the own part after it
 --   decided s o r         both, the answer as it is carried
@@ -14,23 +15,25 @@ use lib.Dec.{eqb}
 use Rattle.text.specs.Words.{if_then_else_}
 use Rattle.lines.specs.declared.input.Input.{Input}
 use Rattle.lines.specs.declared.command.Body.{Body}
-use Rattle.lines.specs.declared.command.Body.the-variants.{Powr, Inpt, Avmt, Erst, Lamp, Inst, Name, Inf1, Inf2, Info, Clss}
+use Rattle.lines.specs.declared.command.Body.the-variants.{Powr, Inpt, Avmt, Erst, Lamp, Inst, Name, Inf1, Inf2, Info}
+use Rattle.lines.specs.declared.command.Body.the-variants.{Clss}
 use Rattle.lines.specs.declared.command.Half.{Half}
 use Rattle.lines.specs.declared.command.Half.the-variants.{VideoHalf, AudioHalf, BothHalves}
 use Rattle.lines.specs.declared.command.Command.{Command}
 use Rattle.lines.specs.declared.command.Command.the-variants.{PowerSet, InputSet, MuteSet, Query}
 use Rattle.lines.specs.declared.request.Request.{Request}
 use Rattle.lines.specs.declared.request.Request.the-variants.{Asks, Unlisted, UnknownBody}
-use Rattle.answers.specs.Said.{Said, okay, refused, powerIs, chosenIs, mutesAre, errorsAre, lampsAre, inputsAre, textIs, classIs1, nothing}
+use Rattle.answers.specs.Said.{Said, okay, refused, powerIs, chosenIs, mutesAre, errorsAre, lampsAre, inputsAre}
+use Rattle.answers.specs.Said.{textIs, classIs1, nothing}
 use Rattle.answers.specs.Carried.{answerOf}
 use Rattle.answers.specs.declared.answer.Power.{Power}
 use Rattle.answers.specs.declared.answer.Power.the-variants.{Off, On, Cooling, WarmUp}
 use Rattle.answers.specs.declared.answer.LampHours.{LampHours}
-use Rattle.record.specs.Limits.{off, on, cooling, warming}
+use Rattle.record.specs.Limits.{off, on, cooling, warming, isLit}
+use Rattle.record.specs.Updates.{withPower, withChosen, withMutes}
 use Rattle.record.specs.declared.types.Text.{Text}
 use Rattle.record.specs.declared.types.Settings.{Settings}
 use Rattle.record.specs.declared.types.Own.{Own}
-use Rattle.clock.specs.Second.{isLit}
 use Rattle.meaning.specs.SetUpInputs.{noInput, inputsOf, placeOf}
 use Rattle.meaning.specs.Rules.{isUndefined, isOutOfParameter, isFailure, isUnavailable}
 use Rattle.meaning.specs.declared.Decided.{Decided}
@@ -70,52 +73,16 @@ queried s o Info = textSaid (s .other)
 queried s o Clss = classIs1
 
 -- a set that passes answers OK
-abbrev pub told : Settings → Own → Command → Said
-told s o (PowerSet wanted) = okay
-told s o (InputSet i) = okay
-told s o (MuteSet half wanted) = okay
-told s o (Query b) = queried s o b
+abbrev pub tableAnswer : Settings → Own → Command → Said
+tableAnswer s o (PowerSet wanted) = okay
+tableAnswer s o (InputSet i) = okay
+tableAnswer s o (MuteSet half wanted) = okay
+tableAnswer s o (Query b) = queried s o b
 
-abbrev pub answered : Settings → Own → Request → Said
-answered s o (Asks c) = told s o c
-answered s o (Unlisted b) = nothing
-answered s o UnknownBody = nothing
-
-abbrev pub withPower : Own → ℕ → ℕ → Own
-withPower o power left = record {
-  power = power;
-  left = left;
-  chosen = o .chosen;
-  «video_muted» = o .«video_muted»;
-  «audio_muted» = o .«audio_muted»;
-  fault = o .fault;
-  errors = o .errors;
-  lamps = o .lamps;
-}
-
-abbrev pub withChosen : Own → ℕ → Own
-withChosen o place = record {
-  power = o .power;
-  left = o .left;
-  chosen = place;
-  «video_muted» = o .«video_muted»;
-  «audio_muted» = o .«audio_muted»;
-  fault = o .fault;
-  errors = o .errors;
-  lamps = o .lamps;
-}
-
-abbrev pub withMutes : Own → Bool → Bool → Own
-withMutes o video audio = record {
-  power = o .power;
-  left = o .left;
-  chosen = o .chosen;
-  «video_muted» = video;
-  «audio_muted» = audio;
-  fault = o .fault;
-  errors = o .errors;
-  lamps = o .lamps;
-}
+abbrev pub requestAnswer : Settings → Own → Request → Said
+requestAnswer s o (Asks c) = tableAnswer s o c
+requestAnswer s o (Unlisted b) = nothing
+requestAnswer s o UnknownBody = nothing
 
 -- POWR 1 when off starts warm-up with W left; POWR 0 when on starts cooling with C left; otherwise power stays.
 unfoldable pub afterPower : Settings → Own → Bool → Own
@@ -130,14 +97,14 @@ afterMute o VideoHalf wanted = withMutes o wanted (o .«audio_muted»)
 afterMute o AudioHalf wanted = withMutes o (o .«video_muted») wanted
 afterMute o BothHalves wanted = withMutes o wanted wanted
 
-abbrev pub after : Settings → Own → Command → Own
-after s o (PowerSet wanted) = afterPower s o wanted
-after s o (InputSet i) = withChosen o (placeOf s i)
-after s o (MuteSet half wanted) = afterMute o half wanted
-after s o (Query b) = o
+abbrev pub afterCommand : Settings → Own → Command → Own
+afterCommand s o (PowerSet wanted) = afterPower s o wanted
+afterCommand s o (InputSet i) = withChosen o (placeOf s i)
+afterCommand s o (MuteSet half wanted) = afterMute o half wanted
+afterCommand s o (Query b) = o
 
 abbrev pub carriedOut : Settings → Own → Request → Own
-carriedOut s o (Asks c) = after s o c
+carriedOut s o (Asks c) = afterCommand s o c
 carriedOut s o (Unlisted b) = o
 carriedOut s o UnknownBody = o
 
@@ -148,7 +115,7 @@ meant s o r =
     else if isOutOfParameter s r then refused 2
     else if isFailure o r then refused 4
     else if isUnavailable o r then refused 3
-    else answered s o r
+    else requestAnswer s o r
 
 abbrev pub isRefused : Settings → Own → Request → Bool
 isRefused s o r = isUndefined s r || isOutOfParameter s r || isFailure o r || isUnavailable o r

@@ -1,5 +1,5 @@
--- When a request is refused: the four rules of 01, "Commands", in its order. 000, 2.5 names the four refusals.
---   hasSet b                 POWR, INPT and AVMT; every other body is query-only
+-- When a request is refused: the four rules of 01, "Commands", in its order. 000, 2.5 names the four refusals. Which
+-- body is query-only, which asks for lamps and which has to be on stands in its row (`rowOf` of `lines`).
 --   isUndefined s r          rule 1, ERR1: undefined command
 --   isOutOfParameter s r     rule 2, ERR2: out of parameter
 --   isFailure o r            rule 3, ERR4: projector failure
@@ -10,63 +10,22 @@
 use Prim.Native.Nat.{ℕ}
 use mathlib.Core.Bool.{Bool, true, false, not, _&&_}
 use lib.Dec.{eqb}
+use Rattle.lines.specs.Bodies.{rowOf, hasSet}
 use Rattle.lines.specs.Commands.{bodyOf}
-use Rattle.lines.specs.declared.command.Body.{Body}
-use Rattle.lines.specs.declared.command.Body.the-variants.{Powr, Inpt, Avmt, Erst, Lamp, Inst, Name, Inf1, Inf2, Info, Clss}
 use Rattle.lines.specs.declared.command.Command.{Command}
 use Rattle.lines.specs.declared.command.Command.the-variants.{PowerSet, InputSet, MuteSet, Query}
 use Rattle.lines.specs.declared.request.Request.{Request}
 use Rattle.lines.specs.declared.request.Request.the-variants.{Asks, Unlisted, UnknownBody}
-use Rattle.record.specs.Limits.{on}
+use Rattle.record.specs.Limits.{on, isBetween}
 use Rattle.record.specs.declared.types.Settings.{Settings}
 use Rattle.record.specs.declared.types.Own.{Own}
-use Rattle.clock.specs.Second.{isBetween}
 use Rattle.meaning.specs.SetUpInputs.{isListed}
-
-abbrev pub hasSet : Body → Bool
-hasSet Powr = true
-hasSet Inpt = true
-hasSet Avmt = true
-hasSet Erst = false
-hasSet Lamp = false
-hasSet Inst = false
-hasSet Name = false
-hasSet Inf1 = false
-hasSet Inf2 = false
-hasSet Info = false
-hasSet Clss = false
-
-abbrev pub isLampBody : Body → Bool
-isLampBody Powr = false
-isLampBody Inpt = false
-isLampBody Avmt = false
-isLampBody Erst = false
-isLampBody Lamp = true
-isLampBody Inst = false
-isLampBody Name = false
-isLampBody Inf1 = false
-isLampBody Inf2 = false
-isLampBody Info = false
-isLampBody Clss = false
-
-abbrev pub isInputOrMute : Body → Bool
-isInputOrMute Powr = false
-isInputOrMute Inpt = true
-isInputOrMute Avmt = true
-isInputOrMute Erst = false
-isInputOrMute Lamp = false
-isInputOrMute Inst = false
-isInputOrMute Name = false
-isInputOrMute Inf1 = false
-isInputOrMute Inf2 = false
-isInputOrMute Info = false
-isInputOrMute Clss = false
 
 -- 1. Unknown body, a query-only body with a parameter other than `?`, or LAMP with no lamps: ERR1.
 abbrev pub isUndefined : Settings → Request → Bool
 isUndefined s UnknownBody = true
 isUndefined s (Unlisted b) = not (hasSet b)
-isUndefined s (Asks c) = isLampBody (bodyOf c) && eqb (s .«lamp_count») 0
+isUndefined s (Asks c) = rowOf (bodyOf c) .lamps && eqb (s .«lamp_count») 0
 
 -- An input not in the set-up is not listed.
 abbrev pub isUnlisted : Settings → Command → Bool
@@ -91,7 +50,7 @@ abbrev pub isUntimely : ℕ → Command → Bool
 isUntimely power (PowerSet wanted) = isBetween power
 isUntimely power (InputSet i) = not (eqb power on)
 isUntimely power (MuteSet half wanted) = not (eqb power on)
-isUntimely power (Query b) = isInputOrMute b && not (eqb power on)
+isUntimely power (Query b) = rowOf b .on && not (eqb power on)
 
 -- 4. POWR set in warm-up or cooling; INPT and AVMT, set or query, unless on: ERR3.
 abbrev pub isUnavailable : Own → Request → Bool

@@ -10,8 +10,9 @@ use record::own::WARMING;
 use record::types::Own;
 use record::types::Settings;
 ghost use mathlib.Core.Path.{_≡_};
+ghost use Rattle.record.specs.Updates.{withPower, withChosen, withMutes};
 ghost use Rattle.meaning.specs.SetUpInputs.{placeOf};
-ghost use Rattle.meaning.specs.Meaning.{withPower, withChosen, withMutes, afterPower, afterMute, after};
+ghost use Rattle.meaning.specs.Meaning.{afterPower, afterMute, afterCommand};
 
 fn with_power(o: Own, power: u8, left: u32) -> Own
     ensures { λ r. ⌜ r ≡ withPower o power left ⌝ }
@@ -62,8 +63,8 @@ fn after_mute(o: Own, half: Half, wanted: bool) -> Own
     }
 }
 
-pub fn after(s: Settings, o: Own, c: Command) -> Own
-    ensures { λ r. ⌜ r ≡ after s o c ⌝ }
+pub fn after_command(s: Settings, o: Own, c: Command) -> Own
+    ensures { λ r. ⌜ r ≡ afterCommand s o c ⌝ }
 {
     match c {
         Command::PowerSet(wanted) => after_power(s, o, wanted),

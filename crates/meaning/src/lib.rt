@@ -13,7 +13,7 @@ use record::types::Own;
 use record::types::Settings;
 ghost use mathlib.Core.Path.{_≡_};
 ghost use Rattle.answers.specs.Carried.{plainOf, answerOf};
-ghost use Rattle.meaning.specs.Meaning.{told, answered, after, carriedOut, decided};
+ghost use Rattle.meaning.specs.Meaning.{tableAnswer, requestAnswer, afterCommand, carriedOut, decided};
 
 pub struct Decided {
     pub answer: Answer,
@@ -28,16 +28,16 @@ fn unchanged(o: Own, k: Kind) -> Decided
 }
 
 fn carry_out(s: Settings, o: Own, c: Command) -> Decided
-    ensures { λ d. ⌜ d ≡ record { answer = answerOf (told s o c); own = after s o c } ⌝ }
+    ensures { λ d. ⌜ d ≡ record { answer = answerOf (tableAnswer s o c); own = afterCommand s o c } ⌝ }
 {
-    let answer = table::told(s, o, c);
-    let own = change::after(s, o, c);
+    let answer = table::table_answer(s, o, c);
+    let own = change::after_command(s, o, c);
     Decided { answer, own }
 }
 
 // Of a request that no rule refuses, and so of a command.
 fn accept(s: Settings, o: Own, r: Request) -> Decided
-    ensures { λ d. ⌜ d ≡ record { answer = answerOf (answered s o r); own = carriedOut s o r } ⌝ }
+    ensures { λ d. ⌜ d ≡ record { answer = answerOf (requestAnswer s o r); own = carriedOut s o r } ⌝ }
 {
     match r {
         Request::Asks(c) => carry_out(s, o, c),

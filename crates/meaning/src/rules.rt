@@ -1,73 +1,16 @@
 // When a request is refused: the four rules of 01, "Commands".
 use crate::inputs;
-use clock::own;
+use lines::body;
 use lines::command;
-use lines::command::Body;
 use lines::command::Command;
 use lines::request::Request;
-use record::own::COOLING;
+use record::own;
 use record::own::ON;
-use record::own::WARMING;
 use record::types::Own;
 use record::types::Settings;
 ghost use mathlib.Core.Path.{_≡_};
-ghost use Rattle.clock.specs.Second.{isBetween};
-ghost use Rattle.meaning.specs.Rules.{hasSet, isLampBody, isInputOrMute, isUndefined, isUnlisted, isOutOfParameter, isFailure, isUntimely, isUnavailable};
-
-// Every other body is query-only.
-fn has_set(b: Body) -> bool
-    ensures { λ r. ⌜ r ≡ hasSet b ⌝ }
-{
-    match b {
-        Body::Powr => true,
-        Body::Inpt => true,
-        Body::Avmt => true,
-        Body::Erst => false,
-        Body::Lamp => false,
-        Body::Inst => false,
-        Body::Name => false,
-        Body::Inf1 => false,
-        Body::Inf2 => false,
-        Body::Info => false,
-        Body::Clss => false,
-    }
-}
-
-fn is_lamp_body(b: Body) -> bool
-    ensures { λ r. ⌜ r ≡ isLampBody b ⌝ }
-{
-    match b {
-        Body::Powr => false,
-        Body::Inpt => false,
-        Body::Avmt => false,
-        Body::Erst => false,
-        Body::Lamp => true,
-        Body::Inst => false,
-        Body::Name => false,
-        Body::Inf1 => false,
-        Body::Inf2 => false,
-        Body::Info => false,
-        Body::Clss => false,
-    }
-}
-
-fn is_input_or_mute(b: Body) -> bool
-    ensures { λ r. ⌜ r ≡ isInputOrMute b ⌝ }
-{
-    match b {
-        Body::Powr => false,
-        Body::Inpt => true,
-        Body::Avmt => true,
-        Body::Erst => false,
-        Body::Lamp => false,
-        Body::Inst => false,
-        Body::Name => false,
-        Body::Inf1 => false,
-        Body::Inf2 => false,
-        Body::Info => false,
-        Body::Clss => false,
-    }
-}
+ghost use Rattle.meaning.specs.Rules.{isUndefined, isUnlisted, isOutOfParameter, isFailure, isUntimely};
+ghost use Rattle.meaning.specs.Rules.{isUnavailable};
 
 // Rule 1.
 pub fn is_undefined(s: Settings, r: Request) -> bool
@@ -75,8 +18,8 @@ pub fn is_undefined(s: Settings, r: Request) -> bool
 {
     match r {
         Request::UnknownBody => true,
-        Request::Unlisted(b) => !has_set(b),
-        Request::Asks(c) => is_lamp_body(command::body_of(c)) & (s.lamp_count == 0),
+        Request::Unlisted(b) => !body::has_set(b),
+        Request::Asks(c) => body::row_of(command::body_of(c)).lamps & (s.lamp_count == 0),
     }
 }
 
@@ -97,7 +40,7 @@ pub fn is_out_of_parameter(s: Settings, r: Request) -> bool
 {
     match r {
         Request::UnknownBody => false,
-        Request::Unlisted(b) => has_set(b),
+        Request::Unlisted(b) => body::has_set(b),
         Request::Asks(c) => is_unlisted(s, c),
     }
 }
@@ -108,8 +51,8 @@ pub fn is_failure(o: Own, r: Request) -> bool
 {
     match r {
         Request::UnknownBody => false,
-        Request::Unlisted(b) => has_set(b) & o.fault,
-        Request::Asks(c) => has_set(command::body_of(c)) & o.fault,
+        Request::Unlisted(b) => body::has_set(b) & o.fault,
+        Request::Asks(c) => body::has_set(command::body_of(c)) & o.fault,
     }
 }
 
@@ -120,7 +63,7 @@ fn is_untimely(power: u8, c: Command) -> bool
         Command::PowerSet(_) => own::is_between(power),
         Command::InputSet(_) => power != ON,
         Command::MuteSet(_, _) => power != ON,
-        Command::Query(b) => is_input_or_mute(b) & (power != ON),
+        Command::Query(b) => body::row_of(b).on & (power != ON),
     }
 }
 

@@ -6,13 +6,12 @@ use answers::answer::Kind;
 use answers::answer::LampHours;
 use answers::answer::NO_LAMP;
 use answers::answer::Power;
-use clock::own;
 use lines::command::Body;
 use lines::command::Command;
+use record::own;
 use record::own::COOLING;
 use record::own::OFF;
 use record::own::ON;
-use record::own::WARMING;
 use record::types::LAMPS_MOST;
 use record::types::Own;
 use record::types::Settings;
@@ -25,9 +24,8 @@ ghost use lib.ListN.{length, take};
 ghost use Rattle.answers.specs.Said.{powerIs, chosenIs, errorsAre, lampsAre, inputsAre, textIs};
 ghost use Rattle.answers.specs.Carried.{answerOf};
 ghost use Rattle.record.specs.Limits.{textRoom};
-ghost use Rattle.clock.specs.Second.{isLit};
 ghost use Rattle.meaning.specs.SetUpInputs.{inputsOf};
-ghost use Rattle.meaning.specs.Meaning.{powerSaid, chosenOf, lampSaid, lampsOf, textSaid, queried, told};
+ghost use Rattle.meaning.specs.Meaning.{powerSaid, chosenOf, lampSaid, lampsOf, textSaid, queried, tableAnswer};
 
 const HOUR: u32 = 3600;
 
@@ -136,8 +134,8 @@ fn queried(s: Settings, o: Own, b: Body) -> Answer
     }
 }
 
-pub fn told(s: Settings, o: Own, c: Command) -> Answer
-    ensures { λ r. ⌜ r ≡ answerOf (told s o c) ⌝ }
+pub fn table_answer(s: Settings, o: Own, c: Command) -> Answer
+    ensures { λ r. ⌜ r ≡ answerOf (tableAnswer s o c) ⌝ }
 {
     match c {
         Command::PowerSet(_) => answer::plain(Kind::Ok),

@@ -4,7 +4,7 @@ use mathlib.Core.Path.{_≡_, sym, ap, _∙_}
 use borrow.Author.Needs.{needs}
 use Rattle.lines.specs.declared.request.Request.{Request}
 use Rattle.answers.specs.Carried.{answerOf}
-use Rattle.meaning.specs.Meaning.{answered, carriedOut}
+use Rattle.meaning.specs.Meaning.{requestAnswer, carriedOut}
 use Rattle.meaning.specs.declared.Decided.{Decided}
 use Rattle.meaning.proofs.accept.Statement.{statement}
 use Rattle.meaning.proofs.accept.Tie as tie
@@ -12,7 +12,7 @@ use Rattle.meaning.proofs.accept.Tie as tie
 module _ (start : tie.Start) where
   abbrev accepted : Request → Decided
   accepted r = record {
-    answer = answerOf (answered (start .args .s) (start .args .o) r);
+    answer = answerOf (requestAnswer (start .args .s) (start .args .o) r);
     own = carriedOut (start .args .s) (start .args .o) r;
   }
 

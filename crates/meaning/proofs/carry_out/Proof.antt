@@ -5,7 +5,7 @@ use Rattle.meaning.proofs.carry_out.Statement.{statement}
 use Rattle.meaning.proofs.carry_out.Tie as tie
 
 both : tie.Need-returns
-both c = λ j. record { answer = c .before .told .ensures j; own = c .after .ensures j }
+both c = λ j. record { answer = c .before .table-answer .ensures j; own = c .after-command .ensures j }
 
 pub carry-out-spec : {M : Type 1} → statement M
 carry-out-spec =

@@ -45,13 +45,15 @@ module _ (known : tie.After-parameter-of) where
 one : tie.Need-returns
 one c =
     let put = c .before .before in
-    let given = put .before .before .before .before in
+    let made = put .before .before in
+    let given = made .before .before in
     line-is-put (given .before .before) (ap parameterBytes (sym (given .p .given .1))) (put .put .ensures)
 
 two : tie.Need-returns-2
 two c =
     let put = c .before .before in
-    let given = put .before .before .before .before in
+    let made = put .before .before in
+    let given = made .before .before in
     line-is-put (given .before .before) (ap parameterBytes (sym (given .p2 .given .1))) (put .put2 .ensures)
 
 pub put-command-spec : {M : Type 1} → statement M

@@ -5,9 +5,9 @@ use mathlib.Core.Path.{_≡_, ap, _∙_}
 use mathlib.Core.Bool.{_&&_}
 use native.Mathlib.Omega.{arith}
 use lib.ListN.{length, take, drop}
-use lib.Dec.{eqb}
 use borrow.Author.Tests.{le-leb, lt-leb}
 use borrow.Author.Needs.{needs}
+use Rattle.text.specs.Words.{_is_}
 use Rattle.lines.specs.Bytes.{_at_, noCr}
 use Rattle.lines.specs.Forms.{isReplyForm}
 use Rattle.lines.proofs.form.is_reply_form.Statement.{statement}
@@ -21,7 +21,7 @@ formed c =
     let l = long .before .before .args .l .now in
     let parameter : length l - 1 - 7 ≡ length l - 8 = omega arith in
     simp (le-leb _ _ (long .if1 .left), le-leb _ _ (headed .before .if2 .left))
-    (λ i. headed .is-headed .ensures i && eqb (l at (length l - 1)) 13
+    (λ i. headed .is-headed .ensures i && l at (length l - 1) is "\r"
     && (c .no-cr .ensures ∙ ap (λ n. noCr (take n (drop 7 l))) parameter) i)
 
 pub is-reply-form-spec : {M : Type 1} → statement M

@@ -1,67 +1,33 @@
--- `lines::request::body_named` meets its contract: an arm's number is the number of its body's letters, and equal
--- numbers are equal bytes.
+-- `lines::request::body_named` meets its contract: the loop has passed bodies that the bytes do not name, so they name
+-- what they name among the rest.
 -- Assumes nothing.
-use mathlib.Core.Path.{_≡_, sym, _∙_}
+use Prim.Native.Nat.{_-_}
+use mathlib.Core.Path.{sym, _∙_}
 use mathlib.Core.List.{[], _∷_}
-use native.Mathlib.Omega.{arith}
 use borrow.Author.Needs.{needs}
-use Rattle.lines.specs.Keys.{textKey}
-use Rattle.lines.specs.Commands.{bodyText}
-use Rattle.lines.specs.Requests.{bodyNamed}
-use Rattle.lines.specs.declared.request.MaybeBody.the-variants.{BodyIs, NoBody}
-use Rattle.lines.specs.declared.command.Body.{Body}
-use Rattle.lines.specs.declared.command.Body.the-variants.{Powr, Inpt, Avmt, Erst, Lamp, Inst, Name, Inf1, Inf2, Info, Clss}
-use Rattle.lines.proofs.Keyed.{named-by-key, unnamed-by-key}
+use Rattle.lines.proofs.Bodies.{Sought, none-sought, one-sought, all-sought, body-is-named}
 use Rattle.lines.proofs.request.body_named.Statement.{statement}
 use Rattle.lines.proofs.request.body_named.Tie as tie
 
--- the four bytes, and what is known of them
-module _ (keyed : tie.After-upper-key) where
-  abbrev start : tie.Start
-  start = keyed .before
+abbrev Inv : tie.InvT-loop
+Inv a b c d all i₀ i = Sought (a ∷ b ∷ c ∷ d ∷ []) i
 
-  by-key : (body : Body) → keyed .upper-key .result ≡ textKey (bodyText body)
-      → BodyIs body ≡ bodyNamed (start .args .a ∷ start .args .b ∷ start .args .c ∷ start .args .d ∷ [])
-  by-key body e =
-      sym (named-by-key (start .args .a) (start .args .b) (start .args .c) (start .args .d)
-      (omega arith) (omega arith) (omega arith) (omega arith) body (sym (keyed .upper-key .ensures) ∙ e))
-
-  by-no-key : ((body : Body) → keyed .upper-key .result ≡ textKey (bodyText body) → ⊥)
-      → NoBody ≡ bodyNamed (start .args .a ∷ start .args .b ∷ start .args .c ∷ start .args .d ∷ [])
-  by-no-key n =
-      sym (unnamed-by-key (start .args .a) (start .args .b) (start .args .c) (start .args .d)
-      (omega arith) (omega arith) (omega arith) (omega arith) (λ body e. n body (keyed .upper-key .ensures ∙ e)))
-
-none : tie.Need-returns-12
-none c = by-no-key (c .before) differs
-  where
-    differs : (body : Body) → c .before .upper-key .result ≡ textKey (bodyText body) → ⊥
-    differs Powr e = c .match .rest .0 .0 .0 .0 .0 .0 .0 .0 .0 .0 .1 e
-    differs Inpt e = c .match .rest .0 .0 .0 .0 .0 .0 .0 .0 .0 .1 e
-    differs Avmt e = c .match .rest .0 .0 .0 .0 .0 .0 .0 .0 .1 e
-    differs Erst e = c .match .rest .0 .0 .0 .0 .0 .0 .0 .1 e
-    differs Lamp e = c .match .rest .0 .0 .0 .0 .0 .0 .1 e
-    differs Inst e = c .match .rest .0 .0 .0 .0 .0 .1 e
-    differs Name e = c .match .rest .0 .0 .0 .0 .1 e
-    differs Inf1 e = c .match .rest .0 .0 .0 .1 e
-    differs Inf2 e = c .match .rest .0 .0 .1 e
-    differs Info e = c .match .rest .0 .1 e
-    differs Clss e = c .match .rest .1 e
+abbrev μ : tie.MeasureT-loop
+μ a b c d all i₀ i = 11 - i
 
 pub body-named-spec : {M : Type 1} → statement M
 body-named-spec =
     tie.close
     (tie.spec
+    Inv
+    μ
+    (λ c. none-sought _)
+    (λ c. search needs)
     (λ c κs. search needs)
-    (λ c. by-key (c .before) Powr (c .match .keys1))
-    (λ c. by-key (c .before) Inpt (c .match .keys2))
-    (λ c. by-key (c .before) Avmt (c .match .keys3))
-    (λ c. by-key (c .before) Erst (c .match .keys4))
-    (λ c. by-key (c .before) Lamp (c .match .keys5))
-    (λ c. by-key (c .before) Inst (c .match .keys6))
-    (λ c. by-key (c .before) Name (c .match .keys7))
-    (λ c. by-key (c .before) Inf1 (c .match .keys8))
-    (λ c. by-key (c .before) Inf2 (c .match .keys9))
-    (λ c. by-key (c .before) Info (c .match .keys10))
-    (λ c. by-key (c .before) Clss (c .match .keys11))
-    none)
+    (λ c. sym (body-is-named _ _ (sym (c .before .is-body .ensures) ∙ c .if1 .taken)))
+    (λ c. search needs)
+    (λ c. search needs)
+    (λ c.
+    let turn = c .before .before .before in
+    one-sought _ _ (turn .before .loop .inv) (turn .loop-test .taken) (c .before .is-body .ensures) (c .if1 .left))
+    (λ c. all-sought _ (c .before .loop .inv) (c .loop-test .left)))

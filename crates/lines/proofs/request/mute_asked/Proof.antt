@@ -26,10 +26,10 @@ mute-asked-spec =
     simp (eq-eqb _ _ (long .if1 .left), not-true (listed (long .before .before .args .p .now)) (c .if2 .taken)))
     (λ c κs. search needs)
     (λ c.
-    let long = c .before .before .before .before in
+    let tested = c .before in
+    let long = tested .before .before .before in
     simp (
       eq-eqb _ _ (long .if1 .left),
-      not-false (listed (long .before .before .args .p .now))
-          (c .before .if2 .left),
+      not-false (listed (long .before .before .args .p .now)) (tested .if2 .left),
       c .half-named .ensures,
     )))

@@ -20,8 +20,9 @@ request-of-spec =
     (tie.spec
     (λ c κs. search needs) (λ c. search needs) (λ c κs. search needs) (λ c. search needs)
     (λ c.
-    let read = c .before .before .before .before in
-    c .asked-of .ensures ∙ ap (with-parameter _) (sym (c .before .before .named .given .1) ∙ read .body-named .ensures))
+    let arm = c .before .before in
+    let read = arm .before .before in
+    c .asked-of .ensures ∙ ap (with-parameter _) (sym (arm .named .given .1) ∙ read .body-named .ensures))
     (λ c.
     let read = c .before .before in
     ap (with-parameter (read .before .before .args .p .now))

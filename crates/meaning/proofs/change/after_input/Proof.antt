@@ -2,7 +2,7 @@
 -- Assumes nothing.
 use mathlib.Core.Path.{ap}
 use borrow.Author.Needs.{needs}
-use Rattle.meaning.specs.Meaning.{withChosen}
+use Rattle.record.specs.Updates.{withChosen}
 use Rattle.meaning.proofs.change.after_input.Statement.{statement}
 use Rattle.meaning.proofs.change.after_input.Tie as tie
 

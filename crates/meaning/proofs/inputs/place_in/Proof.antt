@@ -10,7 +10,8 @@ use borrow.Author.Needs.{needs}
 use Rattle.lines.specs.Sources.{sameInput}
 use Rattle.lines.specs.declared.input.Input.{Input}
 use Rattle.meaning.specs.SetUpInputs.{noInput, inputsOfPairs}
-use Rattle.meaning.proofs.InputsByPlace.{Sought, none-sought, all-sought, found-here, not-here, at-most-inputs, input-in-use, place-in-use}
+use Rattle.meaning.proofs.InputsByPlace.{Sought, none-sought, all-sought, found-here, not-here, at-most-inputs}
+use Rattle.meaning.proofs.InputsByPlace.{input-in-use, place-in-use}
 use Rattle.meaning.proofs.inputs.place_in.Statement.{statement}
 use Rattle.meaning.proofs.inputs.place_in.Tie as tie
 

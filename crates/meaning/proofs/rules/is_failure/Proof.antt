@@ -3,7 +3,8 @@
 use mathlib.Core.Path.{sym, ap, _∙_}
 use mathlib.Core.Bool.{Bool, _&&_}
 use borrow.Author.Needs.{needs}
-use Rattle.meaning.specs.Rules.{hasSet, isFailure}
+use Rattle.lines.specs.Bodies.{hasSet}
+use Rattle.meaning.specs.Rules.{isFailure}
 use Rattle.meaning.proofs.rules.is_failure.Statement.{statement}
 use Rattle.meaning.proofs.rules.is_failure.Tie as tie
 

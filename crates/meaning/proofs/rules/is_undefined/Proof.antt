@@ -1,10 +1,12 @@
 -- `meaning::rules::is_undefined` meets its contract: each arm is its request's clause.
 -- Assumes nothing.
 use mathlib.Core.Path.{sym, ap, _∙_}
-use mathlib.Core.Bool.{Bool, not, _&&_}
+use mathlib.Core.Bool.{not, _&&_}
 use lib.Dec.{eqb}
 use borrow.Author.Needs.{needs}
-use Rattle.meaning.specs.Rules.{isLampBody, isUndefined}
+use Rattle.lines.specs.Bodies.{rowOf}
+use Rattle.lines.specs.declared.body.BodyRow.{BodyRow}
+use Rattle.meaning.specs.Rules.{isUndefined}
 use Rattle.meaning.proofs.rules.is_undefined.Statement.{statement}
 use Rattle.meaning.proofs.rules.is_undefined.Tie as tie
 
@@ -19,11 +21,11 @@ unlisted c =
 
 asked : tie.Need-returns-3
 asked c =
-    let told = c .before in
-    let arm = told .before .before .before in
+    let read = c .before .before in
+    let arm = read .before .before .before in
     let start = arm .before .before in
-    ap (λ (t : Bool). t && eqb (start .args .s .«lamp_count») 0)
-    (told .is-lamp-body .ensures ∙ ap isLampBody (told .before .body-of .ensures))
+    ap (λ (r : BodyRow). r .lamps && eqb (start .args .s .«lamp_count») 0)
+    (read .row-of .ensures ∙ ap rowOf (read .before .body-of .ensures))
     ∙ ap (isUndefined (start .args .s)) (sym (arm .r2 .given .1))
 
 pub is-undefined-spec : {M : Type 1} → statement M

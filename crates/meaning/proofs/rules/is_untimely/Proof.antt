@@ -1,9 +1,10 @@
 -- `meaning::rules::is_untimely` meets its contract: each arm is its command's clause.
 -- Assumes nothing.
 use mathlib.Core.Path.{sym, ap, _∙_}
-use mathlib.Core.Bool.{Bool, not, _&&_}
+use mathlib.Core.Bool.{not, _&&_}
 use lib.Dec.{eqb}
 use borrow.Author.Needs.{needs}
+use Rattle.lines.specs.declared.body.BodyRow.{BodyRow}
 use Rattle.record.specs.Limits.{on}
 use Rattle.meaning.specs.Rules.{isUntimely}
 use Rattle.meaning.proofs.rules.is_untimely.Statement.{statement}
@@ -22,9 +23,10 @@ set-mute c = ap (isUntimely (c .before .before .args .power)) (sym (c .enum-told
 
 queried : tie.Need-returns-4
 queried c =
-    let arm = c .before .before in
+    let read = c .before in
+    let arm = read .before .before in
     let start = arm .before .before in
-    ap (λ (t : Bool). t && not (eqb (start .args .power) on)) (c .is-input-or-mute .ensures)
+    ap (λ (r : BodyRow). r .on && not (eqb (start .args .power) on)) (read .row-of .ensures)
     ∙ ap (isUntimely (start .args .power)) (sym (arm .c .given .1))
 
 pub is-untimely-spec : {M : Type 1} → statement M

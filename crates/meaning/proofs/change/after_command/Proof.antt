@@ -1,19 +1,20 @@
--- `meaning::change::after` meets its contract: each arm is its command's clause.
+-- `meaning::change::after_command` meets its contract: each arm is its command's clause.
 -- Assumes nothing.
 use mathlib.Core.Path.{_≡_, sym, ap, _∙_}
 use borrow.Author.Needs.{needs}
 use Rattle.lines.specs.declared.command.Command.{Command}
-use Rattle.meaning.specs.Meaning.{after}
-use Rattle.meaning.proofs.change.after.Statement.{statement}
-use Rattle.meaning.proofs.change.after.Tie as tie
+use Rattle.meaning.specs.Meaning.{afterCommand}
+use Rattle.meaning.proofs.change.after_command.Statement.{statement}
+use Rattle.meaning.proofs.change.after_command.Tie as tie
 
 module _ (start : tie.Start) where
   asked : {d : Command} → start .args .c ≡ d
-      → after (start .args .s) (start .args .o) d ≡ after (start .args .s) (start .args .o) (start .args .c)
-  asked e = ap (after (start .args .s) (start .args .o)) (sym e)
+      → afterCommand (start .args .s) (start .args .o) d
+      ≡ afterCommand (start .args .s) (start .args .o) (start .args .c)
+  asked e = ap (afterCommand (start .args .s) (start .args .o)) (sym e)
 
-pub after-spec : {M : Type 1} → statement M
-after-spec =
+pub after-command-spec : {M : Type 1} → statement M
+after-command-spec =
     tie.close
     (tie.spec
     (λ c. search needs)

@@ -1,21 +1,21 @@
--- `meaning::table::told` meets its contract: a set is answered OK, a query by its body.
+-- `meaning::table::table_answer` meets its contract: a set is answered OK, a query by its body.
 -- Assumes nothing.
 use mathlib.Core.Path.{_≡_, sym, ap, _∙_}
 use borrow.Author.Needs.{needs}
 use Rattle.lines.specs.declared.command.Command.{Command}
 use Rattle.answers.specs.Carried.{answerOf}
-use Rattle.meaning.specs.Meaning.{told}
-use Rattle.meaning.proofs.table.told.Statement.{statement}
-use Rattle.meaning.proofs.table.told.Tie as tie
+use Rattle.meaning.specs.Meaning.{tableAnswer}
+use Rattle.meaning.proofs.table.table_answer.Statement.{statement}
+use Rattle.meaning.proofs.table.table_answer.Tie as tie
 
 module _ (start : tie.Start) where
   asked : {d : Command} → start .args .c ≡ d
-      → answerOf (told (start .args .s) (start .args .o) d)
-      ≡ answerOf (told (start .args .s) (start .args .o) (start .args .c))
-  asked e = ap (λ (d : Command). answerOf (told (start .args .s) (start .args .o) d)) (sym e)
+      → answerOf (tableAnswer (start .args .s) (start .args .o) d)
+      ≡ answerOf (tableAnswer (start .args .s) (start .args .o) (start .args .c))
+  asked e = ap (λ (d : Command). answerOf (tableAnswer (start .args .s) (start .args .o) d)) (sym e)
 
-pub told-spec : {M : Type 1} → statement M
-told-spec =
+pub table-answer-spec : {M : Type 1} → statement M
+table-answer-spec =
     tie.close
     (tie.spec
     (λ c. search needs) (λ c κs. search needs)
