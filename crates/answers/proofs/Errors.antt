@@ -15,7 +15,7 @@ use Rattle.text.specs.Scans.{every}
 use Rattle.text.proofs.Choices.{both}
 use Rattle.text.proofs.Scanning.{Passed, none-passed, one-passed, one-fails, all-passed}
 use Rattle.answers.specs.Said.{errorsAre, nothing}
-use Rattle.answers.specs.Carried.{errorsCount, noText, ofText, answerOf}
+use Rattle.answers.specs.Carried.{errorsCarried, noText, ofText, answerOf}
 use Rattle.answers.specs.Reading.{isErrorText, errorOf, readErrors}
 use Rattle.answers.specs.declared.answer.Kind.the-variants.{Errors}
 use Rattle.answers.specs.declared.answer.Answer.{Answer}
@@ -23,21 +23,21 @@ use Rattle.answers.proofs.Mapped.{Mapped, none-mapped, one-mapped}
 
 -- the first i bytes of p are digits 0 to 2, and their numbers stand at the start of t
 pub record ErrorsTo (p t : List ℕ) (i : ℕ) : Type 0 where
-  pub six : length p ≡ errorsCount
+  pub six : length p ≡ errorsCarried
   pub passed : Passed isErrorText p i
   pub stored : Mapped errorOf noText 0 p t i
 
-pub none-told : (p : List ℕ) → length p ≡ errorsCount → ErrorsTo p noText 0
+pub none-told : (p : List ℕ) → length p ≡ errorsCarried → ErrorsTo p noText 0
 none-told p e = record { six = e; passed = none-passed isErrorText p; stored = none-mapped errorOf noText 0 p }
 
-pub not-six : (p : List ℕ) → (length p ≡ errorsCount → ⊥) → readErrors p ≡ nothing
+pub not-six : (p : List ℕ) → (length p ≡ errorsCarried → ⊥) → readErrors p ≡ nothing
 unfolding readErrors
-not-six p h = rw (ne-eqb (length p) errorsCount h)
+not-six p h = rw (ne-eqb (length p) errorsCarried h)
 
-pub by-test : (p : List ℕ) {b : Bool} → length p ≡ errorsCount → every isErrorText p ≡ b
+pub by-test : (p : List ℕ) {b : Bool} → length p ≡ errorsCarried → every isErrorText p ≡ b
     → readErrors p ≡ (if b then errorsAre (map errorOf p) else nothing)
 unfolding readErrors
-by-test p h e = rw (eq-eqb (length p) errorsCount h, e)
+by-test p h e = rw (eq-eqb (length p) errorsCarried h, e)
 
 module _ {p t : List ℕ} {i : ℕ} (st : ErrorsTo p t i) where
   pub low-fails : i < length p → getD p i 0 < code "0" → readErrors p ≡ nothing

@@ -14,7 +14,7 @@ use Rattle.numbers.specs.Decimal.{isDigit}
 use Rattle.numbers.proofs.Digits.{digit-is-digit}
 use Rattle.lines.specs.Inputs.{numberDigit}
 use Rattle.answers.specs.Said.{errorsAre}
-use Rattle.answers.specs.Carried.{errorsCount}
+use Rattle.answers.specs.Carried.{errorsCarried}
 use Rattle.answers.specs.Reading.{isErrorText, errorOf, readErrors}
 use Rattle.answers.specs.CanSay.{isErrorDigit}
 use Rattle.answers.proofs.Errors.{by-test}
@@ -37,7 +37,7 @@ back (d ∷ ds) e =
     let same : errorOf (numberDigit d) ≡ d = omega arith in
     (λ i. same i ∷ back ds (both-right (isErrorDigit d) (every isErrorDigit ds) e) i)
 
-pub errors-back : (ds : List ℕ) → length ds ≡ errorsCount → every isErrorDigit ds ≡ true
+pub errors-back : (ds : List ℕ) → length ds ≡ errorsCarried → every isErrorDigit ds ≡ true
     → readErrors (map numberDigit ds) ≡ errorsAre ds
 errors-back ds h e =
     by-test (map numberDigit ds) (length-map ds numberDigit ∙ h) (texts ds e) ∙ ap errorsAre (back ds e)

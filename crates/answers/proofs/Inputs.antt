@@ -1,53 +1,89 @@
--- Inputs: one at the start of a text, and one as a whole text; read back from its characters; the end of the loop.
+-- Inputs: what is read as one was its two characters, and is read back from them; the loop over a list of them.
 -- Assumes nothing.
-use Prim.Native.Nat.{ℕ, _<_}
+use Prim.Native.Nat.{ℕ, _-_, _≤_}
+use Prim.Native.Char.{code}
 use mathlib.Core.Path.{_≡_, refl, sym, ap, _∙_}
-use mathlib.Core.Bool.{true}
-use mathlib.Core.List.{List, _++_}
+use mathlib.Core.Bool.{true, not}
+use mathlib.Core.List.{List, [], _∷_, _++_}
 use native.Mathlib.Omega.{arith}
-use lib.ListN.{length, List·getD-eq-default}
-use borrow.Author.Tests.{eq-eqb}
+use lib.ListN.{length, take, drop}
+use lib.Dec.{eqb}
+use borrow.Author.Tests.{eqb-true}
+use Rattle.text.proofs.Choices.{if-by, both}
+use Rattle.text.proofs.Scanning.{every-implies}
+use Rattle.numbers.specs.Decimal.{isDigit}
+use Rattle.numbers.proofs.Digits.{digit-isnt}
 use Rattle.lines.specs.Bytes.{_at_}
-use Rattle.lines.specs.Inputs.{readInput, isInput, inputText}
+use Rattle.lines.specs.Inputs.{isInput, inputText}
 use Rattle.lines.specs.declared.input.Input.{Input}
 use Rattle.lines.specs.declared.input.MaybeInput.{MaybeInput}
-use Rattle.lines.proofs.InputsReadBack.{input-read-back}
-use Rattle.answers.specs.Lists.{noHead, head, Got, none, listOf}
-use Rattle.answers.specs.Said.{chosenIs}
-use Rattle.answers.specs.Carried.{inputsMost, noInputs, plainOf, ofInputs, answerOf}
-use Rattle.answers.specs.Reading.{inputIn, inputHead, inputsGot, chosenOr, readChosen, readInputs}
+use Rattle.lines.specs.declared.input.MaybeInput.the-variants.{InputIs, NoInput}
+use Rattle.lines.proofs.ByPlaces.{by-places}
+use Rattle.lines.proofs.InputsReadBack.{input-read-back, named-is-input, named-text, read-input-by}
+use Rattle.answers.specs.Lists.{wordsOf, wordsAfter, WordTo, all, _andThen_}
+use Rattle.answers.specs.Said.{inputsAre, nothing}
+use Rattle.answers.specs.Carried.{inputsCarried, noInputs, plainOf, ofInputs, answerOf}
+use Rattle.answers.specs.Reading.{inputOf, inputGot, inputsIn, listSays, readInputs}
 use Rattle.answers.specs.declared.answer.Kind.the-variants.{Nothing}
 use Rattle.answers.specs.declared.answer.Answer.{Answer}
-use Rattle.lines.proofs.InputsReadBack.{no-number-no-input}
-use Rattle.answers.proofs.ReadLists.{AllRead}
+use Rattle.answers.proofs.InputDigits.{input-digits}
+use Rattle.answers.proofs.Words.{notSpace, word-first}
+use Rattle.answers.proofs.JoinedRead.{Reads, not-read, read, nothing-read, reads-then}
+use Rattle.answers.proofs.ReadLists.{AllRead, listed}
 
-pub short-no-input : (s : List ℕ) → length s < 2 → noHead ≡ inputHead s
-short-no-input s h =
-    let none : s at 1 ≡ 0 = List·getD-eq-default s 0 (omega arith) in
-    sym (ap inputIn (no-number-no-input (s at 0) (s at 1) (omega arith)))
+-- what a word is read as, by whether it is the text of an input
+pub input-by : (Q : MaybeInput → Type 0) (w : List ℕ)
+    → ((i : Input) → isInput i ≡ true → w ≡ inputText i → Q (InputIs i))
+    → Q NoInput
+    → Q (inputOf w)
+unfolding inputOf
+input-by Q w named unnamed =
+    if-by Q (eqb (length w) 2)
+    (λ two. read-input-by Q (w at 0) (w at 1)
+    (λ e. named _ (named-is-input (w at 0) (w at 1) e)
+    (by-places 2 w (eqb-true (length w) 2 two) ∙ sym (named-text (w at 0) (w at 1) e)))
+    unnamed)
+    (λ e. unnamed)
 
-pub two-chosen : (p : List ℕ) {m : MaybeInput} → length p ≡ 2 → m ≡ readInput (p at 0) (p at 1)
-    → readChosen p ≡ chosenOr m
-unfolding readChosen
-two-chosen p h e = rw (eq-eqb (length p) 2 h) (ap chosenOr (sym e))
+pub inputs-read : (ws : List (List ℕ)) → Reads inputText isInput ws (inputsIn ws)
+inputs-read [] = nothing-read _ _
+inputs-read (w ∷ ws) =
+    reads-then _ _ (w ∷ []) ws
+    (input-by (λ m. Reads inputText isInput (w ∷ []) (inputGot m)) w
+    (λ i good text. read (i ∷ []) (both good refl) (ap (λ (l : List ℕ). code " " ∷ (l ++ [])) text))
+    not-read)
+    (inputs-read ws)
 
--- an input is read from its characters, whatever follows them
-pub input-heads : (i : Input) (rest : List ℕ) → isInput i ≡ true → inputHead (inputText i ++ rest) ≡ head i 2
-input-heads i rest e = ap inputIn (input-read-back i e)
+pub input-back : (i : Input) → isInput i ≡ true → inputOf (inputText i) ≡ InputIs i
+unfolding inputOf
+input-back i e = input-read-back i e
 
-pub chosen-back : (i : Input) → isInput i ≡ true → readChosen (inputText i) ≡ chosenIs i
-chosen-back i e = two-chosen (inputText i) refl (sym (input-read-back i e))
+pub inputs-back : (i : Input) → isInput i ≡ true → (t : List ℕ) (ws : List (List ℕ)) → wordsOf t ≡ [] ∷ ws
+    → inputsIn (wordsOf (inputText i ++ t)) ≡ (all (i ∷ []) andThen inputsIn ws)
+inputs-back i e t ws h =
+    ap inputsIn
+    (word-first (inputText i) t
+    (every-implies isDigit notSpace (λ b d. ap not (digit-isnt " " (omega arith) b d)) (inputText i) (input-digits i e))
+    h)
+    ∙ ap (λ (m : MaybeInput). inputGot m andThen inputsIn ws) (input-back i e)
 
--- the end of the loop over the inputs
-module _ (p : List ℕ) {r : Answer} where
-  pub no-inputs : r ≡ plainOf Nothing → listOf inputHead inputsMost p ≡ none → r ≡ answerOf (readInputs p)
-  unfolding readInputs
-  no-inputs e n = e ∙ ap (λ (q : Got Input). answerOf (inputsGot q)) (sym n)
+-- the loop: one input, and the end
+module _ (p : List ℕ) where
+  pub input-here : {start end : ℕ} → WordTo p start end → {r m : MaybeInput}
+      → r ≡ inputOf (take (end - start) (drop start p))
+      → r ≡ m
+      → inputsIn (wordsOf (drop start p)) ≡ (inputGot m andThen inputsIn (wordsAfter (drop end p)))
+  input-here {start} {end} word e f =
+      ap inputsIn (word .words)
+      ∙ ap (λ (m : MaybeInput). inputGot m andThen inputsIn (wordsAfter (drop end p))) (sym e ∙ f)
 
-  pub all-inputs : {arr : List Input} {k : ℕ} → r ≡ ofInputs k arr → AllRead inputHead inputsMost noInputs p arr k
+  pub no-inputs : {r : Answer} → r ≡ plainOf Nothing → listSays inputsAre inputsCarried (inputsIn (wordsOf p)) ≡ nothing
       → r ≡ answerOf (readInputs p)
   unfolding readInputs
-  all-inputs e w =
-      e
-      ∙ (λ j. ofInputs (w .count j) (w .stored j))
-      ∙ ap (λ (q : Got Input). answerOf (inputsGot q)) (sym (w .whole))
+  no-inputs e n = e ∙ ap answerOf (sym n)
+
+  pub all-inputs : {r : Answer} {arr : List Input} {k : ℕ} → r ≡ ofInputs k arr → k ≤ inputsCarried
+      → AllRead inputsIn noInputs p arr k
+      → r ≡ answerOf (readInputs p)
+  unfolding readInputs
+  all-inputs e h w = e ∙ (λ j. ofInputs (w .count j) (w .stored j)) ∙ ap answerOf (sym (listed inputsAre h w))

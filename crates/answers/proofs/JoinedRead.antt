@@ -1,69 +1,46 @@
--- What is read as things joined by spaces was these things joined by spaces: once over the kind of thing and over the
--- list.
---   Headed s h     what a reader of one thing finds at the start of s: none, or a thing whose text stands there
+-- What words are read as was written by these words: once over the kind of thing and over the list.
+--   Reads w P ws q     q, which is read of the words ws, is none, or things that pass P, whose texts by w are the words
 -- Assumes nothing.
-use Prim.Native.Nat.{ℕ, zero, suc, _+_, _<_, _≤_}
+use Prim.Native.Nat.{ℕ}
 use Prim.Native.Char.{code}
-use mathlib.Core.Path.{_≡_, refl, sym, ap, subst, _∙_}
+use mathlib.Core.Path.{_≡_, refl, sym, ap, _∙_}
 use mathlib.Core.Bool.{Bool, true}
-use mathlib.Core.List.{List, [], _∷_, _++_, append-assoc, append-nil}
-use native.Mathlib.Numerals.{add-one}
+use mathlib.Core.List.{List, [], _∷_, _++_, append-assoc}
 use native.Mathlib.Omega.{arith}
-use lib.ListN.{length, drop, take}
-use lib.Seq.{take-all, split-at}
-use lib.Dec.{leb}
-use borrow.Author.Tests.{leb-true, leb-false, eqb-true}
-use Rattle.text.specs.Words.{_is_}
 use Rattle.text.specs.Scans.{every}
-use Rattle.text.proofs.Choices.{if-by, both}
-use Rattle.lines.specs.Bytes.{_at_}
-use Rattle.answers.specs.Lists.{joined, Head, noHead, head, Got, none, all, afterHead, listFrom, listOf}
+use Rattle.text.proofs.Scanning.{every-append}
+use Rattle.answers.specs.Lists.{spaced, joined, wordsOf, Got, none, all, _andThen_}
+use Rattle.answers.proofs.Words.{bySpaces, words-spaced}
+
+pub spaced-append : {A : Type 0} (w : A → List ℕ) (xs ys : List A) → spaced w (xs ++ ys) ≡ spaced w xs ++ spaced w ys
+spaced-append w [] ys = refl
+spaced-append w (x ∷ xs) ys =
+    ap (λ (l : List ℕ). code " " ∷ (w x ++ l)) (spaced-append w xs ys)
+    ∙ ap (λ (l : List ℕ). code " " ∷ l) (sym (append-assoc (w x) (spaced w xs) (spaced w ys)))
 
 module _ {A : Type 0} (w : A → List ℕ) (P : A → Bool) where
-  pub data Headed (s : List ℕ) : Head A → Type 0 where
-    not-headed : Headed s noHead
-    headed : (a : A) (n : ℕ) → P a ≡ true → take n s ≡ w a → Headed s (head a n)
+  pub data Reads (ws : List (List ℕ)) : Got A → Type 0 where
+    not-read : Reads ws none
+    read : (xs : List A) → every P xs ≡ true → bySpaces ws ≡ spaced w xs → Reads ws (all xs)
 
-  module _ (s : List ℕ) {a : A} {n : ℕ} (text : take n s ≡ w a) where
-    one-joined : length s ≤ n → s ≡ joined w (a ∷ [])
-    one-joined h = sym (take-all n s h) ∙ text ∙ sym (append-nil (w a))
+  pub nothing-read : Reads [] (all [])
+  nothing-read = read [] refl refl
 
-    more-joined : n < length s → s at n ≡ code " " → (xs : List A) → 1 ≤ length xs → drop (n + 1) s ≡ joined w xs
-        → s ≡ joined w (a ∷ xs)
-    more-joined h space [] some rest = absurd (omega arith)
-    more-joined h space (x ∷ xs) some rest =
-        split-at s n 0 h
-        ∙ (λ i. text i ++ (space i ∷ drop (sym (add-one n) i) s))
-        ∙ ap (λ (l : List ℕ). w a ++ (code " " ∷ l)) rest
+  pub reads-then : (us ws : List (List ℕ)) {q r : Got A} → Reads us q → Reads ws r → Reads (us ++ ws) (q andThen r)
+  reads-then us ws not-read rest = not-read
+  reads-then us ws (read xs good text) not-read = not-read
+  reads-then us ws (read xs good text) (read ys goods texts) =
+      read (xs ++ ys) (every-append P xs ys good goods)
+      (spaced-append (λ (u : List ℕ). u) us ws ∙ (λ i. text i ++ texts i) ∙ sym (spaced-append w xs ys))
 
-  -- what holds of no list, and of the things that a text is, holds of what is read
-  module _ (g : List ℕ → Head A) (each : (s : List ℕ) → Headed s (g s)) (Q : Got A → Type 0) (unlisted : Q none) where
-    abbrev OfThings : ℕ → List A → List ℕ → Type 0
-    OfThings room before s = (xs : List A) → 1 ≤ length xs → length xs ≤ room → every P xs ≡ true → s ≡ joined w xs
-        → Q (all (before ++ xs))
-
-    after : (room : ℕ) (before : List A) (s : List ℕ) → OfThings (suc room) before s
-        → ((a : A) (t : List ℕ) → OfThings room (before ++ (a ∷ [])) t → Q (listFrom g room (before ++ (a ∷ [])) t))
-        → {h : Head A} → Headed s h → Q (afterHead (listFrom g room) before s h)
-    after room before s listed next not-headed = unlisted
-    after room before s listed next (headed a n good text) =
-        if-by Q (leb (length s) n)
-        (λ e. listed (a ∷ []) (omega arith) (omega arith) (both good refl)
-        (one-joined s text (leb-true (length s) n e)))
-        (λ e. if-by Q (s at n is " ")
-        (λ f. next a (drop (n + 1) s) (λ xs some most goods rest.
-        subst Q (ap all (sym (append-assoc before (a ∷ []) xs)))
-        (listed (a ∷ xs) (omega arith) (omega arith) (both good goods)
-        (more-joined s text (leb-false (length s) n e) (eqb-true (s at n) (code " ") f) xs some rest))))
-        (λ f. unlisted))
-
-    all-from : (room : ℕ) (before : List A) (s : List ℕ) → OfThings room before s → Q (listFrom g room before s)
-    all-from zero before s listed = unlisted
-    all-from (suc room) before s listed =
-        after room before s listed (λ a t. all-from room (before ++ (a ∷ [])) t) (each s)
-
-    pub list-by : (most : ℕ) (s : List ℕ)
-        → ((xs : List A) → 1 ≤ length xs → length xs ≤ most → every P xs ≡ true → s ≡ joined w xs → Q (all xs))
-        → Q (listOf g most s)
-    unfolding listOf
-    list-by most s listed = all-from most [] s listed
+  -- what holds of none, and of the things that a text is, holds of what is read
+  pub words-by : (reads : List (List ℕ) → Got A) → ((ws : List (List ℕ)) → Reads ws (reads ws))
+      → (Q : Got A → Type 0) → Q none → (s : List ℕ)
+      → ((x : A) (xs : List A) → every P (x ∷ xs) ≡ true → s ≡ joined w (x ∷ xs) → Q (all (x ∷ xs)))
+      → Q (reads (wordsOf s))
+  words-by reads each Q unlisted s listed = by (each (wordsOf s))
+    where
+      by : {q : Got A} → Reads (wordsOf s) q → Q q
+      by not-read = unlisted
+      by (read [] good text) = absurd (let z : _≡_ {A = ℕ} 0 1 = cc (words-spaced s) in omega arith)
+      by (read (x ∷ xs) good text) = listed x xs good (cc (words-spaced s))

@@ -1,76 +1,109 @@
--- What is read as a lamp was the lamp's text: its hours are digits with no leading zero, up to the first space.
+-- What is read as a lamp was the lamp's two words, hours with no leading zero and 1 or 0; the loop over a list of them.
 -- Assumes nothing.
-use Prim.Native.Nat.{ℕ, suc, _+_, _≤_}
+use Prim.Native.Nat.{ℕ, _+_, _-_, _<_, _≤_}
 use Prim.Native.Char.{code}
 use mathlib.Core.Path.{_≡_, refl, sym, ap, _∙_}
-use mathlib.Core.Bool.{Bool, true, false, _&&_}
-use mathlib.Core.List.{List, [], _∷_, _++_}
-use native.Mathlib.Numerals.{add-one}
+use mathlib.Core.Bool.{Bool, true, false, _||_}
+use mathlib.Core.List.{List, [], _∷_, _++_, append-nil}
 use native.Mathlib.Omega.{arith}
 use lib.ListN.{length, take, drop}
-use lib.Seq.{take-add, drop-cons}
-use lib.Dec.{leb}
-use borrow.Author.Tests.{le-leb, leb-true, eqb-true, eqb-false}
-use Rattle.text.specs.Words.{if_then_else_, _is_, _from_to_}
-use Rattle.text.proofs.Choices.{both-left, both-right}
-use Rattle.numbers.specs.Decimal.{readNumber}
+use borrow.Author.Tests.{le-leb}
+use Rattle.text.specs.Words.{ascii}
+use Rattle.text.proofs.Choices.{if-yes, if-no, if-by, both}
+use Rattle.text.proofs.Sameness.{same-is}
+use Rattle.numbers.specs.Decimal.{digits, readNumber}
 use Rattle.numbers.specs.declared.Number.{Number}
 use Rattle.numbers.specs.declared.Number.the-variants.{Value, NotANumber}
 use Rattle.numbers.proofs.ReadBack.{read-below, read-unique}
-use Rattle.lines.specs.Bytes.{_at_}
 use Rattle.lines.specs.Commands.{switchDigit}
-use Rattle.answers.specs.Said.{lampText}
-use Rattle.answers.specs.Reading.{wordLong, lampWith, lampAt, lampIn, lampHead}
+use Rattle.answers.specs.Lists.{wordsOf, wordsAfter, WordTo, none, _andThen_}
+use Rattle.answers.specs.Said.{lampsAre, nothing, lampText}
+use Rattle.answers.specs.Carried.{lampsCarried, noLamps, plainOf, ofLamps, answerOf}
+use Rattle.answers.specs.Reading.{_spells_, lampOfHours, lampOf, lampGot, lampsIn, listSays, readLamps}
 use Rattle.answers.specs.CanSay.{hoursMost, isLampHours}
-use Rattle.answers.specs.declared.list.MaybeLamp.the-variants.{NoLamp}
-use Rattle.answers.proofs.Words.{word-then-space}
-use Rattle.answers.proofs.JoinedRead.{Headed, not-headed, headed}
+use Rattle.answers.specs.declared.answer.LampHours.{LampHours}
+use Rattle.answers.specs.declared.answer.Kind.the-variants.{Nothing}
+use Rattle.answers.specs.declared.answer.Answer.{Answer}
+use Rattle.answers.specs.declared.list.MaybeLamp.{MaybeLamp}
+use Rattle.answers.specs.declared.list.MaybeLamp.the-variants.{LampIs, NoLamp}
+use Rattle.answers.proofs.Words.{after-space, after-end}
+use Rattle.answers.proofs.JoinedRead.{Reads, not-read, read, nothing-read, reads-then}
+use Rattle.answers.proofs.ReadLists.{AllRead, listed}
 
-switch-text : (b : ℕ) → code "0" ≤ b → b ≤ code "1" → b ≡ switchDigit (b is "1")
-switch-text b low high = by (b is "1") refl
+switch-text : (lit : List ℕ) (on : Bool) → (lit spells ascii "1") ≡ on → (on || lit spells ascii "0") ≡ true
+    → lit ≡ switchDigit on ∷ []
+switch-text lit true e t = same-is lit (ascii "1") e
+switch-text lit false e t = same-is lit (ascii "0") t
+
+-- what two words are read as, by whether they are the words of a lamp
+pub lamp-by : (Q : MaybeLamp → Type 0) (hours lit : List ℕ)
+    → ((x : LampHours) → isLampHours x ≡ true → hours ≡ digits (x .hours) → lit ≡ switchDigit (x .lit) ∷ []
+    → Q (LampIs x))
+    → Q NoLamp
+    → Q (lampOf hours lit)
+unfolding lampOf
+lamp-by Q hours lit named unnamed =
+    if-by Q (lit spells ascii "1" || lit spells ascii "0") (λ t. by t (readNumber hours) refl) (λ t. unnamed)
   where
-    by : (lit : Bool) → (b is "1") ≡ lit → b ≡ switchDigit lit
-    by true e = eqb-true b (code "1") e
-    by false e = omega (arith, eqb-false b (code "1") e)
+    by : (lit spells ascii "1" || lit spells ascii "0") ≡ true → (n : Number) → readNumber hours ≡ n
+        → Q (lampOfHours (lit spells ascii "1") n)
+    by t (Value v) e =
+        named (record { hours = v; lit = lit spells ascii "1" })
+        (le-leb v hoursMost (omega (arith, read-below hours v e)))
+        (read-unique hours v e)
+        (switch-text lit (lit spells ascii "1") refl t)
+    by t NotANumber e = unnamed
 
--- a word, the space after it, and a byte
-word-and-more : (s : List ℕ) → wordLong s + 2 ≤ length s
-    → take (wordLong s + 2) s ≡ take (wordLong s) s ++ (code " " ∷ (s at (wordLong s + 1)) ∷ [])
-word-and-more s h =
-    let n = wordLong s in
-    let two : drop n s ≡ (s at n) ∷ (s at (suc n)) ∷ drop (suc (suc n)) s = drop-cons s n 0 (omega arith)
-    ∙ ap (λ (l : List ℕ). (s at n) ∷ l) (drop-cons s (suc n) 0 (omega arith)) in
-    take-add n 2 s
-    ∙ ap (λ (l : List ℕ). take n s ++ take 2 l) two
-    ∙ (λ i. take n s ++ (word-then-space s (omega arith) i ∷ (s at (sym (add-one n) i)) ∷ []))
+-- by the tests that the code makes
+module _ (hours lit : List ℕ) {on off : Bool} (e : on ≡ (lit spells ascii "1")) (f : off ≡ (lit spells ascii "0")) where
+  tests : {t : Bool} → (on || off) ≡ t → (lit spells ascii "1" || lit spells ascii "0") ≡ t
+  tests h = sym (λ i. e i || f i) ∙ h
 
-module _ (s : List ℕ) where
-  abbrev n : ℕ
-  n = wordLong s
+  pub not-lit : (on || off) ≡ false → lampOf hours lit ≡ NoLamp
+  unfolding lampOf
+  not-lit h = if-no _ NoLamp (tests h)
 
-  abbrev flag : ℕ
-  flag = s at (n + 1)
+  pub lit-by : (on || off) ≡ true → {n : Number} → n ≡ readNumber hours → lampOf hours lit ≡ lampOfHours on n
+  unfolding lampOf
+  lit-by h g = if-yes _ NoLamp (tests h) ∙ sym (λ i. lampOfHours (e i) (g i))
 
-  abbrev formed : Bool
-  formed = leb (n + 2) (length s) && flag from "0" to "1"
+pub lamps-read : (ws : List (List ℕ)) → Reads lampText isLampHours ws (lampsIn ws)
+lamps-read [] = nothing-read _ _
+lamps-read (h ∷ []) = not-read
+lamps-read (h ∷ l ∷ ws) =
+    reads-then _ _ (h ∷ l ∷ []) ws
+    (lamp-by (λ m. Reads lampText isLampHours (h ∷ l ∷ []) (lampGot m)) h l
+    (λ x good hours lit. read (x ∷ []) (both good refl)
+    ((λ i. code " " ∷ (hours i ++ (code " " ∷ (lit i ++ []))))
+    ∙ ap (λ (s : List ℕ). code " " ∷ s) (sym (append-nil (lampText x)))))
+    not-read)
+    (lamps-read ws)
 
-  lamp-there : (v : ℕ) → formed ≡ true → readNumber (take n s) ≡ Value v
-      → take (n + 2) s ≡ lampText (record { hours = v; lit = flag is "1" })
-  lamp-there v f e =
-      let long = leb-true (n + 2) (length s) (both-left (leb (n + 2) (length s)) (flag from "0" to "1") f) in
-      let lit = both-right (leb (n + 2) (length s)) (flag from "0" to "1") f in
-      let low = leb-true (code "0") flag (both-left (leb (code "0") flag) (leb flag (code "1")) lit) in
-      let high = leb-true flag (code "1") (both-right (leb (code "0") flag) (leb flag (code "1")) lit) in
-      word-and-more s long
-      ∙ (λ i. read-unique (take n s) v e i ++ (code " " ∷ switch-text flag low high i ∷ []))
+-- the loop: one lamp, a word that is left over, and the end
+module _ (p : List ℕ) {start mid : ℕ} (first : WordTo p start mid) where
+  abbrev hours-word : List ℕ
+  hours-word = take (mid - start) (drop start p)
 
-  tested : (t : Bool) (r : Number) → formed ≡ t → readNumber (take n s) ≡ r
-      → Headed lampText isLampHours s (lampIn (n + 2) (if t then lampWith (flag is "1") r else NoLamp))
-  tested true (Value v) f e =
-      headed _ _ (le-leb v hoursMost (omega (arith, read-below (take n s) v e))) (lamp-there v f e)
-  tested true NotANumber f e = not-headed
-  tested false r f e = not-headed
+  pub lamp-here : mid < length p → {end : ℕ} → WordTo p (mid + 1) end → {r m : MaybeLamp}
+      → r ≡ lampOf hours-word (take (end - (mid + 1)) (drop (mid + 1) p))
+      → r ≡ m
+      → lampsIn (wordsOf (drop start p)) ≡ (lampGot m andThen lampsIn (wordsAfter (drop end p)))
+  lamp-here h {end} second e f =
+      ap lampsIn
+      (first .words ∙ ap (λ (ws : List (List ℕ)). hours-word ∷ ws) (after-space p h ∙ second .words))
+      ∙ ap (λ (m : MaybeLamp). lampGot m andThen lampsIn (wordsAfter (drop end p))) (sym e ∙ f)
 
-  pub lamp-headed : Headed lampText isLampHours s (lampHead s)
-  unfolding lampAt
-  lamp-headed = tested formed (readNumber (take n s)) refl refl
+  pub no-second : length p ≤ mid → lampsIn (wordsOf (drop start p)) ≡ none
+  no-second h = ap lampsIn (first .words ∙ ap (λ (ws : List (List ℕ)). hours-word ∷ ws) (after-end p h))
+
+module _ (p : List ℕ) {r : Answer} where
+  pub no-lamps : r ≡ plainOf Nothing → listSays lampsAre lampsCarried (lampsIn (wordsOf p)) ≡ nothing
+      → r ≡ answerOf (readLamps p)
+  unfolding readLamps
+  no-lamps e n = e ∙ ap answerOf (sym n)
+
+  pub all-lamps : {arr : List LampHours} {k : ℕ} → r ≡ ofLamps k arr → k ≤ lampsCarried
+      → AllRead lampsIn noLamps p arr k
+      → r ≡ answerOf (readLamps p)
+  unfolding readLamps
+  all-lamps e h w = e ∙ (λ j. ofLamps (w .count j) (w .stored j)) ∙ ap answerOf (sym (listed lampsAre h w))

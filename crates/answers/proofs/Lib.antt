@@ -17,7 +17,6 @@ pub mod SaidPlain
 pub mod OneResult
 mod JoinedRead
 mod LampsRead
-mod InputsRead
 mod ErrorsRead
 pub mod ReadSound
 pub mod ReadWritings

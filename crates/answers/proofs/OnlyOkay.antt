@@ -4,7 +4,7 @@
 use Prim.Native.Nat.{ℕ}
 use mathlib.Core.Path.{_≡_, refl}
 use mathlib.Core.Bool.{false}
-use mathlib.Core.List.{[], _∷_, _++_}
+use mathlib.Core.List.{_++_}
 use Rattle.text.specs.Words.{ascii}
 use Rattle.text.specs.Scans.{sameBy}
 use Rattle.lines.specs.Bytes.{upperOf}
@@ -13,7 +13,7 @@ use Rattle.answers.specs.declared.answer.Power.{Power}
 use Rattle.answers.specs.declared.answer.Power.the-variants.{Off, On, Cooling, WarmUp}
 
 abbrev pub NotOkay : Said → Type 0
-NotOkay m = sameBy upperOf (saidBytes m ++ (13 ∷ [])) (ascii "OK\r") ≡ false
+NotOkay m = sameBy upperOf (saidBytes m ++ ascii "\r") (ascii "OK\r") ≡ false
 
 pub okay-bytes : saidBytes okay ≡ ascii "OK"
 unfolding saidBytes

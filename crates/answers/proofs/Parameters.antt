@@ -13,7 +13,7 @@ use Rattle.lines.proofs.TextsTold.{info-long}
 use Rattle.lines.specs.declared.command.Command.{Command}
 use Rattle.answers.specs.Said.{Said, refused, textIs, nothing}
 use Rattle.answers.specs.Carried.{plainOf, answerOf}
-use Rattle.answers.specs.Reading.{_says_, isRefusalTo, readValue, readParameter}
+use Rattle.answers.specs.Reading.{_spells_, isRefusalTo, readValue, readParameter}
 use Rattle.answers.specs.declared.answer.Kind.{Kind}
 use Rattle.answers.specs.declared.answer.Kind.the-variants.{Nothing}
 use Rattle.answers.specs.declared.answer.Answer.{Answer}
@@ -33,9 +33,10 @@ module _ (c : Command) (p : List ℕ) {n : ℕ} (e : n ≡ refusalOf p) where
     not-allowed t = rw (← e, ne-eqb n 0 some, t)
 
 -- a kind that the exact text gives is what that text says
-pub exactly-said : (p t : List ℕ) (k : Kind) (m : Said) → plainOf k ≡ answerOf m → {r : Answer}
-    → r ≡ plainOf (if p says t then k else Nothing) → r ≡ answerOf (if p says t then m else nothing)
-exactly-said p t k m e f = f ∙ by (p says t)
+pub exactly-said : (p t : List ℕ) (k : Kind) (m : Said) → plainOf k ≡ answerOf m → {r : Kind}
+    → r ≡ (if p spells t then k else Nothing)
+    → plainOf r ≡ answerOf (if p spells t then m else nothing)
+exactly-said p t k m e f = ap plainOf f ∙ by (p spells t)
   where
     by : (b : Bool) → plainOf (if b then k else Nothing) ≡ answerOf (if b then m else nothing)
     by true = e

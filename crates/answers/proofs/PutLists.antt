@@ -16,6 +16,7 @@ use Rattle.text.specs.Scans.{every}
 use Rattle.text.proofs.Choices.{if-all, both-left, both-right}
 use Rattle.text.proofs.Stores.{sets-then}
 use Rattle.answers.specs.Lists.{spaced, gap, joined}
+use Rattle.answers.proofs.JoinedRead.{spaced-append}
 
 pub gap-short : (i : ℕ) → length (gap i) ≤ 1
 unfolding gap
@@ -23,10 +24,8 @@ gap-short i = if-all (λ (l : List ℕ). length l ≤ 1) (eqb i 0) (omega arith)
 
 module _ {A : Type 0} (w : A → List ℕ) where
   spaced-snoc : (xs : List A) (y : A) → spaced w (xs ++ (y ∷ [])) ≡ spaced w xs ++ (code " " ∷ w y)
-  spaced-snoc [] y = ap (λ (l : List ℕ). code " " ∷ l) (append-nil (w y))
-  spaced-snoc (x ∷ xs) y =
-      ap (λ (l : List ℕ). code " " ∷ (w x ++ l)) (spaced-snoc xs y)
-      ∙ ap (λ (l : List ℕ). code " " ∷ l) (sym (append-assoc (w x) (spaced w xs) (code " " ∷ w y)))
+  spaced-snoc xs y =
+      spaced-append w xs (y ∷ []) ∙ ap (λ (l : List ℕ). spaced w xs ++ (code " " ∷ l)) (append-nil (w y))
 
   joined-snoc : (xs : List A) (y : A) → joined w (xs ++ (y ∷ [])) ≡ joined w xs ++ (gap (length xs) ++ w y)
   unfolding gap

@@ -1,101 +1,111 @@
--- The loop that reads things joined by spaces into an array, once over the kind of thing and the number of places.
---   ListAt g most z p arr k at      k things of p are read into arr, which was z, and the bytes from `at` on are left
---   AllRead g most z p arr k        p is read to its end, and all its k things are in arr
+-- The loop that reads things joined by spaces into an array, once over the kind of thing and how its words are read.
+--   ListAt reads z p arr k at      k things of p are read into arr, which was z, and the bytes from `at` on are left
+--   AllRead reads z p arr k        p is read to its end, and all its k things are in arr
 -- Assumes nothing.
-use Prim.Native.Nat.{ℕ, suc, _+_, _-_, _<_, _≤_}
-use Prim.Native.Char.{code}
-use mathlib.Core.Path.{_≡_, refl, ap, _∙_}
-use mathlib.Core.Bool.{false}
-use mathlib.Core.List.{List, [], _∷_, _++_}
+use Prim.Native.Nat.{ℕ, _+_, _<_, _≤_}
+use mathlib.Core.Path.{_≡_, refl, sym, ap, _∙_}
+use mathlib.Core.Bool.{Bool}
+use mathlib.Core.List.{List, [], _∷_, _++_, append-assoc, append-nil}
 use native.Mathlib.Omega.{arith}
-use lib.ListN.{length, getD, set, drop, take, length-append, length-drop}
-use lib.Seq.{sets, drop-drop, take-all, getD-drop}
-use lib.Dec.{leb}
-use borrow.Author.Tests.{le-leb, lt-leb, eq-eqb, ne-eqb}
+use lib.ListN.{length, set, drop, length-append}
+use lib.Seq.{sets}
+use borrow.Author.Tests.{le-leb, lt-leb}
 use Rattle.text.proofs.Stores.{sets-snoc}
-use Rattle.answers.specs.Lists.{Head, noHead, head, none, all, afterHead, listFrom, listOf}
+use Rattle.answers.specs.Lists.{wordsOf, wordsAfter, Got, none, all, _andThen_}
+use Rattle.answers.specs.Said.{Said, nothing}
+use Rattle.answers.specs.Reading.{listSays}
+use Rattle.answers.proofs.Words.{after-space, after-end}
+use Rattle.answers.proofs.JoinedRead.{Reads, words-by}
 
--- the part from a place on, as the code lends it
-pub tail-is : (p : List ℕ) (at : ℕ) → take (length p - at) (drop at p) ≡ drop at p
-tail-is p at = take-all (length p - at) (drop at p) (omega (arith, length-drop at p))
+none-then : {A : Type 0} (q : Got A) → q ≡ (all [] andThen q)
+none-then none = refl
+none-then (all ys) = refl
 
-module _ {A : Type 0} (g : List ℕ → Head A) (most : ℕ) (z : List A) (p : List ℕ) where
+one-then : {A : Type 0} (xs : List A) (a : A) (q : Got A)
+    → (all xs andThen all (a ∷ []) andThen q) ≡ (all (xs ++ (a ∷ [])) andThen q)
+one-then xs a none = refl
+one-then xs a (all ys) = ap all (sym (append-assoc xs (a ∷ []) ys))
+
+module _ {A : Type 0} (reads : List (List ℕ) → Got A) (z : List A) (p : List ℕ) where
   pub record ListAt (arr : List A) (k at : ℕ) : Type 0 where
     pub done : List A
     pub count : k ≡ length done
     pub inside : at ≤ length p
     pub stored : arr ≡ sets z 0 done
-    pub rest : listOf g most p ≡ listFrom g (most - k) done (drop at p)
+    pub rest : reads (wordsOf p) ≡ (all done andThen reads (wordsOf (drop at p)))
 
   pub record AllRead (arr : List A) (k : ℕ) : Type 0 where
     pub things : List A
     pub count : k ≡ length things
     pub stored : arr ≡ sets z 0 things
-    pub whole : listOf g most p ≡ all things
+    pub whole : reads (wordsOf p) ≡ all things
 
   pub none-read : ListAt z 0 0
-  unfolding listOf
   none-read = record {
     done = [];
     count = refl;
     inside = omega arith;
     stored = refl;
-    rest = ap (λ (j : ℕ). listFrom g j [] p) (let m : most ≡ most - 0 = omega arith in m);
+    rest = none-then (reads (wordsOf p));
   }
 
-module _ {A : Type 0} {g : List ℕ → Head A} {most : ℕ} {z : List A} {p : List ℕ}
-    {arr : List A} {k at : ℕ} (st : ListAt g most z p arr k at) where
-  pub no-room : most ≤ k → listOf g most p ≡ none
-  no-room h =
-      let m : most - k ≡ 0 = omega arith in
-      st .rest ∙ ap (λ (j : ℕ). listFrom g j (st .done) (drop at p)) m
+module _ {A : Type 0} {reads : List (List ℕ) → Got A} {z : List A} {p : List ℕ} where
+  -- what the whole list says, read to its end
+  pub listed : (says : List A → Said) {most : ℕ} {arr : List A} {k : ℕ} → k ≤ most
+      → (w : AllRead reads z p arr k)
+      → listSays says most (reads (wordsOf p)) ≡ says (w .things)
+  listed says {most} h w =
+      ap (listSays says most) (w .whole) ∙ rw (le-leb (length (w .things)) most (omega (arith, w .count)))
 
-  counted : (a : A) → k + 1 ≡ length (st .done ++ (a ∷ []))
-  counted a = rw length-append (omega (arith, st .count))
+  module _ {arr : List A} {k at : ℕ} (st : ListAt reads z p arr k at) where
+    -- with no room for more: a further thing is one too many
+    pub no-room : (says : List A → Said) {most : ℕ} → most ≤ k → {w : A → List ℕ} {P : A → Bool}
+        → ((ws : List (List ℕ)) → Reads w P ws (reads ws))
+        → listSays says most (reads (wordsOf p)) ≡ nothing
+    no-room says {most} h each =
+        ap (listSays says most) (st .rest)
+        ∙ words-by _ _ reads each (λ (q : Got A). listSays says most (all (st .done) andThen q) ≡ nothing) refl
+        (drop at p)
+        (λ x xs good text.
+        rw (lt-leb (length (st .done ++ (x ∷ xs))) most (omega (arith, st .count, length-append (st .done) (x ∷ xs)))))
 
-  added : (a : A) → set arr k a ≡ sets z 0 (st .done ++ (a ∷ []))
-  added a = sets-snoc z 0 (st .done) a (st .stored) (omega (arith, st .count))
+    pub no-thing : (says : List A → Said) (most : ℕ) → reads (wordsOf (drop at p)) ≡ none
+        → listSays says most (reads (wordsOf p)) ≡ nothing
+    no-thing says most e =
+        ap (listSays says most) (st .rest ∙ ap (λ (q : Got A). all (st .done) andThen q) e)
 
-  module _ (h : k < most) where
-    turn : {x : Head A} → g (drop at p) ≡ x
-        → listOf g most p ≡ afterHead (listFrom g (most - (k + 1))) (st .done) (drop at p) x
-    turn {x} e =
-        let m : most - k ≡ suc (most - (k + 1)) = omega arith in
-        st .rest
-        ∙ ap (λ (j : ℕ). listFrom g j (st .done) (drop at p)) m
-        ∙ ap (afterHead (listFrom g (most - (k + 1))) (st .done) (drop at p)) e
+    module _ (a : A) (end : ℕ)
+        (here : reads (wordsOf (drop at p)) ≡ (all (a ∷ []) andThen reads (wordsAfter (drop end p)))) where
+      counted : k + 1 ≡ length (st .done ++ (a ∷ []))
+      counted = rw length-append (omega (arith, st .count))
 
-    pub no-thing : g (drop at p) ≡ noHead → listOf g most p ≡ none
-    no-thing e = turn e
+      added : set arr k a ≡ sets z 0 (st .done ++ (a ∷ []))
+      added = sets-snoc z 0 (st .done) a (st .stored) (omega (arith, st .count))
 
-    module _ {a : A} {n : ℕ} (e : g (drop at p) ≡ head a n) where
-      pub at-end : length p ≤ at + n → AllRead g most z p (set arr k a) (k + 1)
-      at-end l = record {
+      more : {ws : List (List ℕ)} → wordsAfter (drop end p) ≡ ws
+          → reads (wordsOf p) ≡ (all (st .done ++ (a ∷ [])) andThen reads ws)
+      more {ws} e =
+          st .rest
+          ∙ ap (λ (q : Got A). all (st .done) andThen q) here
+          ∙ one-then (st .done) a (reads (wordsAfter (drop end p)))
+          ∙ ap (λ (vs : List (List ℕ)). all (st .done ++ (a ∷ [])) andThen reads vs) e
+
+      pub at-end : reads [] ≡ all [] → length p ≤ end → AllRead reads z p (set arr k a) (k + 1)
+      at-end e h = record {
         things = st .done ++ (a ∷ []);
-        count = counted a;
-        stored = added a;
-        whole = turn e ∙ rw (le-leb (length (drop at p)) n (omega (arith, length-drop at p)));
+        count = counted;
+        stored = added;
+        whole =
+            more (after-end p h)
+            ∙ ap (λ (q : Got A). all (st .done ++ (a ∷ [])) andThen q) e
+            ∙ ap all (append-nil (st .done ++ (a ∷ [])));
       }
 
-      module _ (l : at + n < length p) where
-        longer : leb (length (drop at p)) n ≡ false
-        longer = lt-leb (length (drop at p)) n (omega (arith, length-drop at p))
-
-        pub no-space : (getD p (at + n) 0 ≡ code " " → ⊥) → listOf g most p ≡ none
-        no-space s = turn e ∙ rw (longer, getD-drop at p n 0, ne-eqb (getD p (at + n) 0) (code " ") s)
-
-        pub one-read : getD p (at + n) 0 ≡ code " " → ListAt g most z p (set arr k a) (k + 1) (at + n + 1)
-        one-read s =
-            let m : at + (n + 1) ≡ at + n + 1 = omega arith in
-            let left : drop (n + 1) (drop at p) ≡ drop (at + n + 1) p = drop-drop (n + 1) at p ∙ ap
-            (λ (j : ℕ). drop j p) m in
-            record {
-              done = st .done ++ (a ∷ []);
-              count = counted a;
-              inside = omega arith;
-              stored = added a;
-              rest =
-                  turn e
-                  ∙ rw (longer, getD-drop at p n 0, eq-eqb (getD p (at + n) 0) (code " ") s)
-                  (ap (listFrom g (most - (k + 1)) (st .done ++ (a ∷ []))) left);
-            }
+      pub one-read : end < length p → ListAt reads z p (set arr k a) (k + 1) (end + 1)
+      one-read h = record {
+        done = st .done ++ (a ∷ []);
+        count = counted;
+        inside = omega arith;
+        stored = added;
+        rest = more (after-space p h);
+      }

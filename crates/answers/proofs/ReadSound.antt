@@ -1,14 +1,14 @@
 -- Whatever bytes come, what is read of them is an answer that the command can have, in the bytes that write it; or
 -- nothing.
 -- Assumes nothing.
-use Prim.Native.Nat.{ℕ}
-use mathlib.Core.Path.{_≡_, refl, sym, _∙_}
+use Prim.Native.Nat.{ℕ, _≤_}
+use mathlib.Core.Path.{_≡_, refl, _∙_}
 use mathlib.Core.Bool.{Bool, true, false, _&&_}
 use mathlib.Core.List.{List, [], _∷_, map}
 use native.Mathlib.Omega.{arith}
 use lib.ListN.{length, length-map}
-use lib.Dec.{eqb}
-use borrow.Author.Tests.{eqb-true, eqb-false}
+use lib.Dec.{leb, eqb}
+use borrow.Author.Tests.{eqb-true, eqb-false, leb-true}
 use Rattle.text.specs.Words.{ascii, if_then_else_}
 use Rattle.text.specs.Scans.{every}
 use Rattle.text.proofs.Choices.{if-by, both-left, both-right}
@@ -23,21 +23,21 @@ use Rattle.lines.specs.declared.command.Body.the-variants.{Powr, Inpt, Avmt, Er
 use Rattle.lines.specs.declared.command.Body.the-variants.{Clss}
 use Rattle.lines.proofs.ByPlaces.{by-places}
 use Rattle.lines.proofs.Refusals.{refusal-at-most-4, refusal-text}
-use Rattle.lines.proofs.InputsReadBack.{named-is-input, named-text, read-input-by}
-use Rattle.answers.specs.Said.{Said, textIs, nothing, lampText, saidBytes}
-use Rattle.answers.specs.Carried.{lampsMost, inputsMost, errorsCount}
-use Rattle.answers.specs.Reading.{isSet, isRefusalTo, isErrorText, errorOf, lampHead, lampsGot, inputHead}
-use Rattle.answers.specs.Reading.{inputsGot, chosenOr, powerNamed, readPower, readChosen, mutesNamed, readMutes}
+use Rattle.answers.specs.Said.{Said, lampsAre, inputsAre, textIs, nothing, lampText, saidBytes}
+use Rattle.answers.specs.Carried.{lampsCarried, inputsCarried, errorsCarried}
+use Rattle.answers.specs.Lists.{all}
+use Rattle.answers.specs.Reading.{isSet, isRefusalTo, isErrorText, errorOf, lampsIn, inputsIn, listSays}
+use Rattle.answers.specs.Reading.{chosenOr, powerNamed, readPower, readChosen, mutesNamed, readMutes}
 use Rattle.answers.specs.Reading.{readErrors, readLamps, readInputs, readOk, readQueried, readValue}
 use Rattle.answers.specs.Reading.{readParameter}
 use Rattle.answers.specs.CanSay.{CanSay, done, refuses, power, input, mutes, errors, lamps, inputs, name, maker}
 use Rattle.answers.specs.CanSay.{model, other, class-1, isLampHours}
 use Rattle.answers.specs.Writings.{Writes, Says}
 use Rattle.answers.specs.declared.answer.Power.the-variants.{Off, On, Cooling, WarmUp}
-use Rattle.answers.proofs.JoinedRead.{list-by}
+use Rattle.answers.proofs.JoinedRead.{words-by}
 use Rattle.answers.proofs.ErrorsRead.{errors-are}
-use Rattle.answers.proofs.LampsRead.{lamp-headed}
-use Rattle.answers.proofs.InputsRead.{input-headed}
+use Rattle.answers.proofs.LampsRead.{lamps-read}
+use Rattle.answers.proofs.Inputs.{input-by, inputs-read}
 
 pub data CanRead (c : Command) (p : List ℕ) : Said → Type 0 where
   answer : {m : Said} → Says c m p → CanRead c p m
@@ -72,15 +72,11 @@ module _ (p : List ℕ) where
       (shown _ (power WarmUp) (byte-is one) no-answer))))
 
   chosen-sound : CanRead (Query Inpt) p (readChosen p)
-  unfolding readChosen saidBytes
+  unfolding saidBytes
   chosen-sound =
-      guarded (eqb (length p) 2) (λ two.
-      read-input-by (λ m. CanRead (Query Inpt) p (chosenOr m)) (p at 0) (p at 1)
-      (λ e. answer (record {
-        can = input _ (named-is-input (p at 0) (p at 1) e);
-        written = by-places 2 p (eqb-true (length p) 2 two) ∙ sym (named-text (p at 0) (p at 1) e);
-      }))
-      no-answer)
+      input-by (λ m. CanRead (Query Inpt) p (chosenOr m)) p
+      (λ i good text. answer (record { can = input i good; written = text }))
+      no-answer
 
   mutes-sound : CanRead (Query Avmt) p (readMutes p)
   unfolding readMutes mutesNamed saidBytes
@@ -94,22 +90,32 @@ module _ (p : List ℕ) where
   errors-sound : CanRead (Query Erst) p (readErrors p)
   unfolding readErrors saidBytes
   errors-sound =
-      guarded (eqb (length p) errorsCount && every isErrorText p) (λ e.
-      let six = eqb-true (length p) errorsCount (both-left (eqb (length p) errorsCount) (every isErrorText p) e) in
-      let told = errors-are p (both-right (eqb (length p) errorsCount) (every isErrorText p) e) in
+      guarded (eqb (length p) errorsCarried && every isErrorText p) (λ e.
+      let six = eqb-true (length p) errorsCarried (both-left (eqb (length p) errorsCarried) (every isErrorText p) e) in
+      let told = errors-are p (both-right (eqb (length p) errorsCarried) (every isErrorText p) e) in
       answer (record { can = errors (map errorOf p) (length-map p errorOf ∙ six) (told .0); written = told .1 }))
+
+  -- a list that is not too long
+  list-sound : {A : Type 0} {b : Body} (says : List A → Said) (most : ℕ) (xs : List A)
+      → (length xs ≤ most → CanRead (Query b) p (says xs))
+      → CanRead (Query b) p (listSays says most (all xs))
+  list-sound says most xs reads = guarded (leb (length xs) most) (λ e. reads (leb-true (length xs) most e))
 
   lamps-sound : CanRead (Query Lamp) p (readLamps p)
   unfolding readLamps saidBytes
   lamps-sound =
-      list-by lampText isLampHours lampHead lamp-headed (λ q. CanRead (Query Lamp) p (lampsGot q)) no-answer
-      lampsMost p (λ xs some most good text. answer (record { can = lamps xs some most good; written = text }))
+      words-by lampText isLampHours lampsIn lamps-read (λ q. CanRead (Query Lamp) p (listSays lampsAre lampsCarried q))
+      no-answer p
+      (λ x xs good text. list-sound lampsAre lampsCarried (x ∷ xs)
+      (λ few. answer (record { can = lamps (x ∷ xs) (omega arith) few good; written = text })))
 
   inputs-sound : CanRead (Query Inst) p (readInputs p)
   unfolding readInputs saidBytes
   inputs-sound =
-      list-by inputText isInput inputHead input-headed (λ q. CanRead (Query Inst) p (inputsGot q)) no-answer
-      inputsMost p (λ xs some most good text. answer (record { can = inputs xs some most good; written = text }))
+      words-by inputText isInput inputsIn inputs-read (λ q. CanRead (Query Inst) p (listSays inputsAre inputsCarried q))
+      no-answer p
+      (λ x xs good text. list-sound inputsAre inputsCarried (x ∷ xs)
+      (λ few. answer (record { can = inputs (x ∷ xs) (omega arith) few good; written = text })))
 
   -- the bytes themselves are the text
   text-sound : {b : Body} (t : Bool) → (t ≡ true → CanSay (Query b) (textIs p))

@@ -19,9 +19,10 @@ use Rattle.lines.specs.declared.input.Input.{Input}
 use Rattle.lines.specs.declared.command.Command.{Command}
 use Rattle.lines.specs.declared.command.Command.the-variants.{PowerSet, InputSet, MuteSet, Query}
 use Rattle.answers.specs.Lists.{spaced, joined}
-use Rattle.answers.specs.Said.{Said, okay, powerIs, mutesAre, lampText, powerText, mutesText, saidBytes}
-use Rattle.answers.specs.Carried.{lampsMost, inputsMost}
-use Rattle.answers.specs.Reading.{isSet, lampHead, lampsGot, inputHead, inputsGot, powerNamed, readPower}
+use Rattle.answers.specs.Said.{Said, okay, powerIs, mutesAre, lampsAre, inputsAre, lampText, powerText}
+use Rattle.answers.specs.Said.{mutesText, saidBytes}
+use Rattle.answers.specs.Carried.{lampsCarried, inputsCarried}
+use Rattle.answers.specs.Reading.{isSet, chosenOr, lampsIn, inputsIn, powerNamed, readPower}
 use Rattle.answers.specs.Reading.{mutesNamed, readMutes, readLamps, readInputs, readValue, readParameter}
 use Rattle.answers.specs.CanSay.{CanSay, done, refuses, power, input, mutes, errors, lamps, inputs, name, maker}
 use Rattle.answers.specs.CanSay.{model, other, class-1, isLampHours}
@@ -31,8 +32,8 @@ use Rattle.answers.specs.declared.answer.LampHours.{LampHours}
 use Rattle.lines.proofs.TextsTold.{text-no-refusal, name-is-text}
 use Rattle.lines.proofs.Refusals.{first-not-E, not-four-no-refusal, refusal-back}
 use Rattle.answers.proofs.InputDigits.{input-digits}
-use Rattle.answers.proofs.Inputs.{input-heads, chosen-back}
-use Rattle.answers.proofs.LampsBack.{lamp-heads}
+use Rattle.answers.proofs.Inputs.{input-back, inputs-back}
+use Rattle.answers.proofs.LampsBack.{lamps-back}
 use Rattle.answers.proofs.ErrorsBack.{numbers-are-digits, errors-back}
 use Rattle.answers.proofs.JoinedBack.{read-joined}
 use Rattle.answers.proofs.Parameters.{no-refusal, allowed}
@@ -93,7 +94,8 @@ reads-back {c} (done s) = value c (ascii "OK") (plain-back .0) (ok-back c s)
 reads-back {c} (refuses n l h t) = allowed c _ (sym (refusal-back n l h)) (omega arith) t
 reads-back (power p) = value _ (powerText p) (power-back p .0) (power-back p .1)
 reads-back (input i e) =
-    value _ (inputText i) (digits-no-refusal (inputText i) (omega arith) (input-digits i e)) (chosen-back i e)
+    value _ (inputText i) (digits-no-refusal (inputText i) (omega arith) (input-digits i e))
+    (ap chosenOr (input-back i e))
 reads-back (mutes v a) = value _ (mutesText v a) (mutes-back v a .0) (mutes-back v a .1)
 reads-back (errors ds h e) =
     value _ (map numberDigit ds)
@@ -101,10 +103,10 @@ reads-back (errors ds h e) =
     (errors-back ds h e)
 reads-back (lamps ls l h e) =
     value _ (joined lampText ls) (lamps-no-refusal ls l)
-    (ap lampsGot (read-joined lampText isLampHours lampHead lamp-heads lampsMost ls l h e))
+    (read-joined lampText isLampHours lampsIn refl lamps-back lampsAre lampsCarried ls l h e)
 reads-back (inputs is l h e) =
     value _ (joined inputText is) (inputs-no-refusal is l e)
-    (ap inputsGot (read-joined inputText isInput inputHead input-heads inputsMost is l h e))
+    (read-joined inputText isInput inputsIn refl inputs-back inputsAre inputsCarried is l h e)
 reads-back (name s e) = value _ s (text-no-refusal nameMost s (name-is-text s e)) (if-yes _ _ e)
 reads-back (maker s e) = value _ s (text-no-refusal infoMost s e) (if-yes _ _ e)
 reads-back (model s e) = value _ s (text-no-refusal infoMost s e) (if-yes _ _ e)

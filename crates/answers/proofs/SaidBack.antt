@@ -1,11 +1,11 @@
 -- What is said and has room in the arrays comes back out of them; and whatever an answer says has at most 128 bytes.
 -- Assumes nothing.
-use Prim.Native.Nat.{ℕ, zero, suc, _+_, _≤_}
+use Prim.Native.Nat.{ℕ, _+_, _≤_, min}
 use mathlib.Core.Path.{_≡_, refl, sym, ap, _∙_}
 use mathlib.Core.Bool.{Bool, true, false}
-use mathlib.Core.List.{List, [], _∷_}
+use mathlib.Core.List.{List}
 use native.Mathlib.Omega.{arith}
-use lib.ListN.{length, take, drop, replicate, length-replicate, length-map}
+use lib.ListN.{length, take, drop, replicate, length-replicate, length-map, length-take}
 use lib.Seq.{sets, sets-eq, take-append-seam}
 use borrow.Author.Tests.{leb-true, eqb-true}
 use Rattle.lines.specs.Inputs.{inputText, numberDigit}
@@ -13,7 +13,7 @@ use Rattle.lines.specs.Texts.{nameMost}
 use Rattle.answers.specs.Said.{Said, okay, refused, powerIs, chosenIs, mutesAre, errorsAre, lampsAre, inputsAre}
 use Rattle.answers.specs.Said.{textIs, classIs1, nothing, lampText, powerText, mutesText, saidBytes}
 use Rattle.answers.specs.Said.{parameterMost}
-use Rattle.answers.specs.Carried.{lampsMost, inputsMost, errorsCount, noText, answerOf, least, saidAs, saidBy}
+use Rattle.answers.specs.Carried.{lampsCarried, inputsCarried, errorsCarried, noText, answerOf, saidAs, saidBy}
 use Rattle.answers.specs.Carried.{isSayable}
 use Rattle.answers.specs.declared.answer.Power.{Power}
 use Rattle.answers.specs.declared.answer.Power.the-variants.{Off, On, Cooling, WarmUp}
@@ -21,7 +21,6 @@ use Rattle.answers.specs.declared.answer.Kind.{Kind}
 use Rattle.answers.specs.declared.answer.Kind.the-variants.{Ok, Refused, Powered, Chosen, Muted, Errors, Lamps}
 use Rattle.answers.specs.declared.answer.Kind.the-variants.{Inputs, Text, Class, Nothing}
 use Rattle.answers.specs.declared.answer.Answer.{Answer}
-use Rattle.answers.proofs.Counts.{least-within, least-of}
 use Rattle.answers.proofs.Lamps.{lamp-short}
 use Rattle.answers.proofs.PutLists.{joined-any}
 
@@ -34,9 +33,10 @@ taken z room xs h =
     (drop (0 + length xs) (replicate room z))
 
 counted : {A : Type 0} (z : A) (room : ℕ) (xs : List A) → length xs ≤ room
-    → take (least (length xs) room) (sets (replicate room z) 0 xs) ≡ xs
+    → take (min (length xs) room) (sets (replicate room z) 0 xs) ≡ xs
 counted z room xs h =
-    ap (λ (k : ℕ). take k (sets (replicate room z) 0 xs)) (least-of (length xs) room h) ∙ taken z room xs h
+    let all : min (length xs) room ≡ length xs = omega arith in
+    ap (λ (k : ℕ). take k (sets (replicate room z) 0 xs)) all ∙ taken z room xs h
 
 pub said-back : (m : Said) → isSayable m ≡ true → saidBy (answerOf m) ≡ m
 unfolding saidBy
@@ -46,18 +46,13 @@ said-back (powerIs p) e = refl
 said-back (chosenIs i) e = refl
 said-back (mutesAre v a) e = refl
 said-back (errorsAre ds) e =
-    let six : length ds ≡ errorsCount = eqb-true (length ds) errorsCount e in
+    let six : length ds ≡ errorsCarried = eqb-true (length ds) errorsCarried e in
     ap errorsAre (ap (λ (k : ℕ). take k (sets noText 0 ds)) (sym six) ∙ taken 0 nameMost ds (omega arith))
-said-back (lampsAre ls) e = ap lampsAre (counted _ lampsMost ls (leb-true (length ls) lampsMost e))
-said-back (inputsAre is) e = ap inputsAre (counted _ inputsMost is (leb-true (length is) inputsMost e))
+said-back (lampsAre ls) e = ap lampsAre (counted _ lampsCarried ls (leb-true (length ls) lampsCarried e))
+said-back (inputsAre is) e = ap inputsAre (counted _ inputsCarried is (leb-true (length is) inputsCarried e))
 said-back (textIs s) e = ap textIs (counted 0 nameMost s (leb-true (length s) nameMost e))
 said-back classIs1 e = refl
 said-back nothing e = refl
-
-taken-within : {A : Type 0} (k : ℕ) (l : List A) → length (take k l) ≤ k
-taken-within zero l = omega arith
-taken-within (suc k) [] = omega arith
-taken-within (suc k) (x ∷ l) = omega (arith, taken-within k l)
 
 pub power-within : (p : Power) → length (powerText p) ≤ 1
 power-within Off = omega arith
@@ -78,26 +73,15 @@ within (Refused n) a = omega arith
 within (Powered p) a = omega (arith, power-within p)
 within (Chosen i) a = omega arith
 within (Muted v b) a = omega (arith, mutes-within v b)
-within Errors a = omega (arith, length-map (take errorsCount (a .text)) numberDigit, taken-within errorsCount (a .text))
+within Errors a =
+    omega (arith, length-map (take errorsCarried (a .text)) numberDigit, length-take errorsCarried (a .text))
 within (Lamps n) a =
-    let ls = take (least n lampsMost) (a .lamps) in
-    omega (
-      arith,
-      joined-any lampText 12 lamp-short ls,
-      taken-within (least n lampsMost)
-          (a .lamps),
-      least-within n lampsMost,
-    )
+    let ls = take (min n lampsCarried) (a .lamps) in
+    omega (arith, joined-any lampText 12 lamp-short ls, length-take (min n lampsCarried) (a .lamps))
 within (Inputs n) a =
-    let is = take (least n inputsMost) (a .inputs) in
-    omega (
-      arith,
-      joined-any inputText 2 (λ x. omega arith) is,
-      taken-within (least n inputsMost)
-          (a .inputs),
-      least-within n inputsMost,
-    )
-within (Text n) a = omega (arith, taken-within (least n nameMost) (a .text), least-within n nameMost)
+    let is = take (min n inputsCarried) (a .inputs) in
+    omega (arith, joined-any inputText 2 (λ x. omega arith) is, length-take (min n inputsCarried) (a .inputs))
+within (Text n) a = omega (arith, length-take (min n nameMost) (a .text))
 within Class a = omega arith
 within Nothing a = omega arith
 

@@ -24,7 +24,7 @@ use Rattle.lines.proofs.TextsTold.{name-long, info-long}
 use Rattle.answers.specs.Said.{Said, okay, refused, powerIs, chosenIs, mutesAre, errorsAre, lampsAre, inputsAre}
 use Rattle.answers.specs.Said.{textIs, classIs1, nothing, lampText, powerText, mutesText, saidBytes}
 use Rattle.answers.specs.Said.{parameterMost, bytesMost, inputCount}
-use Rattle.answers.specs.Carried.{lampsMost, inputsMost, errorsCount, answerOf, saidBy, isSayable}
+use Rattle.answers.specs.Carried.{lampsCarried, inputsCarried, errorsCarried, answerOf, saidBy, isSayable}
 use Rattle.answers.specs.CanSay.{CanSay, done, refuses, power, input, mutes, errors, lamps, inputs, name, maker}
 use Rattle.answers.specs.CanSay.{model, other, class-1, hoursMost, isLampHours}
 use Rattle.answers.specs.declared.answer.Power.{Power}
@@ -44,9 +44,9 @@ can-sayable (refuses n l h t) = refl
 can-sayable (power p) = refl
 can-sayable (input i e) = refl
 can-sayable (mutes v a) = refl
-can-sayable (errors ds h e) = eq-eqb (length ds) errorsCount h
-can-sayable (lamps ls l h e) = le-leb (length ls) lampsMost h
-can-sayable (inputs is l h e) = le-leb (length is) inputsMost h
+can-sayable (errors ds h e) = eq-eqb (length ds) errorsCarried h
+can-sayable (lamps ls l h e) = le-leb (length ls) lampsCarried h
+can-sayable (inputs is l h e) = le-leb (length is) inputsCarried h
 can-sayable (name s e) = le-leb (length s) nameMost (name-long s e)
 can-sayable (maker s e) = le-leb (length s) nameMost (omega (arith, info-long s e))
 can-sayable (model s e) = le-leb (length s) nameMost (omega (arith, info-long s e))
@@ -151,3 +151,8 @@ said-plain {c} {m} w = (
   subst (λ (q : Said). length (saidBytes q) ≤ parameterMost) (can-said-back w) (said-within (answerOf m)),
   no-cr-of (saidBytes m) (no-cr w),
 )
+
+-- a text is its own parameter
+pub text-said : (s : List ℕ) → saidBytes (textIs s) ≡ s
+unfolding saidBytes
+text-said s = refl

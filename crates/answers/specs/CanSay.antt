@@ -19,7 +19,7 @@ use Rattle.lines.specs.declared.command.Body.the-variants.{Powr, Inpt, Avmt, Er
 use Rattle.lines.specs.declared.command.Body.the-variants.{Clss}
 use Rattle.answers.specs.Said.{Said, okay, refused, powerIs, chosenIs, mutesAre, errorsAre, lampsAre, inputsAre}
 use Rattle.answers.specs.Said.{textIs, classIs1}
-use Rattle.answers.specs.Carried.{lampsMost, inputsMost, errorsCount}
+use Rattle.answers.specs.Carried.{lampsCarried, inputsCarried, errorsCarried}
 use Rattle.answers.specs.Reading.{isSet, isRefusalTo}
 use Rattle.answers.specs.declared.answer.Power.{Power}
 use Rattle.answers.specs.declared.answer.LampHours.{LampHours}
@@ -39,10 +39,10 @@ pub data CanSay : Command → Said → Type 0 where
   power : (p : Power) → CanSay (Query Powr) (powerIs p)
   input : (i : Input) → isInput i ≡ true → CanSay (Query Inpt) (chosenIs i)
   mutes : (video audio : Bool) → CanSay (Query Avmt) (mutesAre video audio)
-  errors : (ds : List ℕ) → length ds ≡ errorsCount → every isErrorDigit ds ≡ true → CanSay (Query Erst) (errorsAre ds)
-  lamps : (ls : List LampHours) → 1 ≤ length ls → length ls ≤ lampsMost → every isLampHours ls ≡ true
+  errors : (ds : List ℕ) → length ds ≡ errorsCarried → every isErrorDigit ds ≡ true → CanSay (Query Erst) (errorsAre ds)
+  lamps : (ls : List LampHours) → 1 ≤ length ls → length ls ≤ lampsCarried → every isLampHours ls ≡ true
       → CanSay (Query Lamp) (lampsAre ls)
-  inputs : (is : List Input) → 1 ≤ length is → length is ≤ inputsMost → every isInput is ≡ true
+  inputs : (is : List Input) → 1 ≤ length is → length is ≤ inputsCarried → every isInput is ≡ true
       → CanSay (Query Inst) (inputsAre is)
   name : (s : List ℕ) → isName s ≡ true → CanSay (Query Name) (textIs s)
   maker : (s : List ℕ) → isInfo s ≡ true → CanSay (Query Inf1) (textIs s)

@@ -1,16 +1,18 @@
 -- How an answer is carried: arrays beside an enum (01, "Forms by place in the code").
+--   lampsCarried    so many lamps an answer carries at most, and inputsCarried inputs (01, "Controller": "INST allows 1
+--                   to 32 inputs, repeats included, LAMP 1 to 8 lamps"): what a set-up may have is record's to say
+--   errorsCarried   so many error digits it carries, where it carries any
 --   plainOf k       the answer of the kind k with nothing in its arrays
 --   answerOf m      what is said, in arrays from their start on; the rest of each is blank
 --   saidBy a        what an answer says: as many of its elements as it counts, and no more than an array has
 --   isSayable m     what is said has room in the arrays
 -- Assumes nothing.
-use Prim.Native.Nat.{ℕ}
+use Prim.Native.Nat.{ℕ, min}
 use mathlib.Core.Bool.{Bool, true, false}
 use mathlib.Core.List.{List}
 use lib.ListN.{length, take, replicate}
 use lib.Seq.{sets}
 use lib.Dec.{leb, eqb}
-use Rattle.text.specs.Words.{if_then_else_}
 use Rattle.lines.specs.Texts.{nameMost}
 use Rattle.lines.specs.declared.input.Source.the-variants.{Rgb}
 use Rattle.lines.specs.declared.input.Input.{Input}
@@ -22,20 +24,20 @@ use Rattle.answers.specs.declared.answer.Kind.the-variants.{Ok, Refused,
 use Rattle.answers.specs.declared.answer.Kind.the-variants.{Inputs, Text, Class, Nothing}
 use Rattle.answers.specs.declared.answer.Answer.{Answer}
 
-abbrev pub lampsMost : ℕ
-lampsMost = 8
+abbrev pub lampsCarried : ℕ
+lampsCarried = 8
 
-abbrev pub inputsMost : ℕ
-inputsMost = 32
+abbrev pub inputsCarried : ℕ
+inputsCarried = 32
 
-abbrev pub errorsCount : ℕ
-errorsCount = 6
+abbrev pub errorsCarried : ℕ
+errorsCarried = 6
 
 abbrev pub noLamps : List LampHours
-noLamps = replicate lampsMost (record { hours = 0; lit = false })
+noLamps = replicate lampsCarried (record { hours = 0; lit = false })
 
 abbrev pub noInputs : List Input
-noInputs = replicate inputsMost (record { source = Rgb; number = 0 })
+noInputs = replicate inputsCarried (record { source = Rgb; number = 0 })
 
 abbrev pub noText : List ℕ
 noText = replicate nameMost 0
@@ -65,20 +67,16 @@ answerOf (textIs s) = ofText (Text (length s)) (sets noText 0 s)
 answerOf classIs1 = plainOf Class
 answerOf nothing = plainOf Nothing
 
--- the smaller of two
-unfoldable pub least : ℕ → ℕ → ℕ
-least n m = if leb n m then n else m
-
 abbrev pub saidAs : Kind → Answer → Said
 saidAs Ok a = okay
 saidAs (Refused n) a = refused n
 saidAs (Powered p) a = powerIs p
 saidAs (Chosen i) a = chosenIs i
 saidAs (Muted video audio) a = mutesAre video audio
-saidAs Errors a = errorsAre (take errorsCount (a .text))
-saidAs (Lamps n) a = lampsAre (take (least n lampsMost) (a .lamps))
-saidAs (Inputs n) a = inputsAre (take (least n inputsMost) (a .inputs))
-saidAs (Text n) a = textIs (take (least n nameMost) (a .text))
+saidAs Errors a = errorsAre (take errorsCarried (a .text))
+saidAs (Lamps n) a = lampsAre (take (min n lampsCarried) (a .lamps))
+saidAs (Inputs n) a = inputsAre (take (min n inputsCarried) (a .inputs))
+saidAs (Text n) a = textIs (take (min n nameMost) (a .text))
 saidAs Class a = classIs1
 saidAs Nothing a = nothing
 
@@ -91,9 +89,9 @@ isSayable (refused n) = true
 isSayable (powerIs p) = true
 isSayable (chosenIs i) = true
 isSayable (mutesAre video audio) = true
-isSayable (errorsAre ds) = eqb (length ds) errorsCount
-isSayable (lampsAre ls) = leb (length ls) lampsMost
-isSayable (inputsAre is) = leb (length is) inputsMost
+isSayable (errorsAre ds) = eqb (length ds) errorsCarried
+isSayable (lampsAre ls) = leb (length ls) lampsCarried
+isSayable (inputsAre is) = leb (length is) inputsCarried
 isSayable (textIs s) = leb (length s) nameMost
 isSayable classIs1 = true
 isSayable nothing = true

@@ -1,18 +1,21 @@
--- Things joined by spaces, of any kind (01, "Commands": "lamps joined by spaces", "inputs .. joined by spaces").
---   joined w xs           the texts of xs, each by w, joined by spaces
---   Head A                what stands at the start of a text: `head a n`, the thing a in n bytes, or noHead
---   Got A                 what a whole text is: `all xs`, the things xs joined by spaces, or none
---   listFrom g room done s    what s is after those that are done, with room for so many more; g reads one thing
---   listOf g most s       what s is: 1 to `most` things
+-- Things joined by spaces, of any kind (01, "Commands": "lamps joined by spaces", "inputs .. joined by spaces"), and
+-- the words between single spaces that such a text is read by.
+--   joined w xs        the texts of xs, each by w, joined by spaces
+--   wordsOf s          what stands between the spaces of s: one word more than it has spaces, empty where two meet
+--   wordsAfter s       the words after the first byte of s: where a word has ended, those that follow its space
+--   WordTo p i n       the word that begins at the place i of p ends at n, before a space or at the end of p
+--   Got A              what words are read as: `all xs`, the things xs, or none
+--   q andThen r        the things of q and then those of r, where both are some
 -- Assumes nothing.
-use Prim.Native.Nat.{ℕ, zero, suc, _+_}
+use Prim.Native.Nat.{ℕ, _-_, _≤_}
 use Prim.Native.Char.{code}
+use mathlib.Core.Path.{_≡_}
 use mathlib.Core.List.{List, [], _∷_, _++_}
-use lib.ListN.{length, drop}
-use lib.Dec.{leb, eqb}
+use lib.ListN.{length, take, drop}
+use lib.Dec.{eqb}
 use Rattle.text.specs.Words.{ascii, if_then_else_, _is_}
-use Rattle.lines.specs.Bytes.{_at_}
 
+infixr 20 _andThen_
 abbrev pub spaced : {A : Type 0} → (A → List ℕ) → List A → List ℕ
 spaced w [] = []
 spaced w (x ∷ xs) = code " " ∷ (w x ++ spaced w xs)
@@ -25,25 +28,32 @@ joined w (x ∷ xs) = w x ++ spaced w xs
 unfoldable pub gap : ℕ → List ℕ
 gap i = if eqb i 0 then [] else ascii " "
 
-pub data Head (A : Type 0) : Type 0 where
-  noHead : Head A
-  head : A → ℕ → Head A
+-- a byte before words: a space ends a word of no bytes, any other byte is the first of the first word
+abbrev pub begins : ℕ → List (List ℕ) → List (List ℕ)
+begins b [] = []
+begins b (w ∷ ws) = (b ∷ w) ∷ ws
+
+abbrev pub onto : ℕ → List (List ℕ) → List (List ℕ)
+onto b ws = if b is " " then [] ∷ ws else begins b ws
+
+abbrev pub wordsOf : List ℕ → List (List ℕ)
+wordsOf [] = [] ∷ []
+wordsOf (b ∷ s) = onto b (wordsOf s)
+
+abbrev pub wordsAfter : List ℕ → List (List ℕ)
+wordsAfter [] = []
+wordsAfter (b ∷ s) = wordsOf s
+
+pub record WordTo (p : List ℕ) (i n : ℕ) : Type 0 where
+  pub begun : i ≤ n
+  pub inside : n ≤ length p
+  pub words : wordsOf (drop i p) ≡ take (n - i) (drop i p) ∷ wordsAfter (drop n p)
 
 pub data Got (A : Type 0) : Type 0 where
   none : Got A
   all : List A → Got A
 
--- after a thing the text ends, or a space leads to a further one
-abbrev pub afterHead : {A : Type 0} → (List A → List ℕ → Got A) → List A → List ℕ → Head A → Got A
-afterHead further done s noHead = none
-afterHead further done s (head a n) =
-    if leb (length s) n then all (done ++ (a ∷ []))
-    else if s at n is " " then further (done ++ (a ∷ [])) (drop (n + 1) s)
-    else none
-
-abbrev pub listFrom : {A : Type 0} → (List ℕ → Head A) → ℕ → List A → List ℕ → Got A
-listFrom g zero done s = none
-listFrom g (suc room) done s = afterHead (listFrom g room) done s (g s)
-
-unfoldable pub listOf : {A : Type 0} → (List ℕ → Head A) → ℕ → List ℕ → Got A
-listOf g most s = listFrom g most [] s
+abbrev pub _andThen_ : {A : Type 0} → Got A → Got A → Got A
+none andThen r = none
+all xs andThen none = none
+all xs andThen all ys = all (xs ++ ys)

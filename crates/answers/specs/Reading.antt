@@ -1,17 +1,21 @@
 -- The parameter of a reply, read for the command that it answers (01, "Controller").
 -- ERR1 to ERR4 are tested first, alike for every command: a set may have any of them, a query all but ERR2.
---   p says t               the bytes p are the text t
+--   p spells t             the bytes p are the text t
 --   isRefusalTo c n        ERRn is allowed in reply to c
+--   inputOf w              the input that a word names: two characters
+--   lampOf hours lit       the lamp of two words: its hours, and 1 if it is lit, else 0
+--   inputsIn ws            the inputs of a list's words, one each
+--   lampsIn ws             the lamps of a list's words, two each
 --   readPower p, ..        the value in p of one query; nothing where it has none
 --   readQueried b p        the same for the query of the body b
 --   readValue c p          what p says to c, where it is no refusal: OK to a set, the value to a query
 --   readParameter c p      what p says to c
 -- Assumes nothing.
-use Prim.Native.Nat.{ℕ, _+_, _-_}
+use Prim.Native.Nat.{ℕ, _-_}
 use Prim.Native.Char.{code}
 use mathlib.Core.Bool.{Bool, true, false, not, _&&_, _||_}
 use mathlib.Core.List.{List, [], _∷_, map}
-use lib.ListN.{length, take}
+use lib.ListN.{length}
 use lib.Dec.{leb, eqb}
 use Rattle.text.specs.Words.{ascii, if_then_else_, _is_, _from_to_}
 use Rattle.text.specs.Scans.{every, sameBy, itself}
@@ -21,6 +25,7 @@ use Rattle.numbers.specs.declared.Number.the-variants.{Value, NotANumber}
 use Rattle.lines.specs.Bytes.{_at_}
 use Rattle.lines.specs.Inputs.{readInput}
 use Rattle.lines.specs.Texts.{refusalOf, isName, isInfo}
+use Rattle.lines.specs.Commands.{bodyOf}
 use Rattle.lines.specs.declared.input.Input.{Input}
 use Rattle.lines.specs.declared.input.MaybeInput.{MaybeInput}
 use Rattle.lines.specs.declared.input.MaybeInput.the-variants.{InputIs, NoInput}
@@ -29,21 +34,21 @@ use Rattle.lines.specs.declared.command.Command.the-variants.{PowerSet, InputSe
 use Rattle.lines.specs.declared.command.Body.{Body}
 use Rattle.lines.specs.declared.command.Body.the-variants.{Powr, Inpt, Avmt, Erst, Lamp, Inst, Name, Inf1, Inf2, Info}
 use Rattle.lines.specs.declared.command.Body.the-variants.{Clss}
-use Rattle.answers.specs.Lists.{Head, noHead, head, Got, none, all, listOf}
+use Rattle.answers.specs.Lists.{wordsOf, Got, none, all, _andThen_}
 use Rattle.answers.specs.Said.{Said, okay, refused, powerIs, chosenIs, mutesAre, errorsAre, lampsAre, inputsAre}
 use Rattle.answers.specs.Said.{textIs, classIs1, nothing}
-use Rattle.answers.specs.Carried.{lampsMost, inputsMost, errorsCount}
+use Rattle.answers.specs.Carried.{lampsCarried, inputsCarried, errorsCarried}
 use Rattle.answers.specs.declared.answer.Power.the-variants.{Off, On, Cooling, WarmUp}
 use Rattle.answers.specs.declared.answer.LampHours.{LampHours}
 use Rattle.answers.specs.declared.list.MaybeLamp.{MaybeLamp}
 use Rattle.answers.specs.declared.list.MaybeLamp.the-variants.{LampIs, NoLamp}
 
-infix 40 _says_
-abbrev pub _says_ : List ℕ → List ℕ → Bool
-p says t = sameBy itself p t
+infix 40 _spells_
+abbrev pub _spells_ : List ℕ → List ℕ → Bool
+p spells t = sameBy itself p t
 
 abbrev pub readOk : List ℕ → Said
-readOk p = if p says ascii "OK" then okay else nothing
+readOk p = if p spells ascii "OK" then okay else nothing
 
 unfoldable pub powerNamed : ℕ → Said
 powerNamed b =
@@ -60,8 +65,11 @@ abbrev pub chosenOr : MaybeInput → Said
 chosenOr (InputIs i) = chosenIs i
 chosenOr NoInput = nothing
 
-unfoldable pub readChosen : List ℕ → Said
-readChosen p = if eqb (length p) 2 then chosenOr (readInput (p at 0) (p at 1)) else nothing
+unfoldable pub inputOf : List ℕ → MaybeInput
+inputOf w = if eqb (length w) 2 then readInput (w at 0) (w at 1) else NoInput
+
+abbrev pub readChosen : List ℕ → Said
+readChosen p = chosenOr (inputOf p)
 
 unfoldable pub mutesNamed : ℕ → ℕ → Said
 mutesNamed a b =
@@ -82,51 +90,45 @@ abbrev pub errorOf : ℕ → ℕ
 errorOf b = b - code "0"
 
 unfoldable pub readErrors : List ℕ → Said
-readErrors p = if eqb (length p) errorsCount && every isErrorText p then errorsAre (map errorOf p) else nothing
+readErrors p = if eqb (length p) errorsCarried && every isErrorText p then errorsAre (map errorOf p) else nothing
 
--- the bytes before the first space
-abbrev pub wordLong : List ℕ → ℕ
-wordLong [] = 0
-wordLong (b ∷ bs) = if b is " " then 0 else 1 + wordLong bs
+abbrev pub lampOfHours : Bool → Number → MaybeLamp
+lampOfHours lit (Value n) = LampIs (record { hours = n; lit = lit })
+lampOfHours lit NotANumber = NoLamp
 
--- the lamp with its hours in the first n bytes, and one byte between these and its 1 or 0
-abbrev pub lampWith : Bool → Number → MaybeLamp
-lampWith lit (Value n) = LampIs (record { hours = n; lit = lit })
-lampWith lit NotANumber = NoLamp
-
-unfoldable pub lampAt : List ℕ → ℕ → MaybeLamp
-lampAt s n =
-    if leb (n + 2) (length s) && s at (n + 1) from "0" to "1"
-    then lampWith (s at (n + 1) is "1") (readNumber (take n s))
+unfoldable pub lampOf : List ℕ → List ℕ → MaybeLamp
+lampOf hours lit =
+    if lit spells ascii "1" || lit spells ascii "0"
+    then lampOfHours (lit spells ascii "1") (readNumber hours)
     else NoLamp
 
-abbrev pub lampIn : ℕ → MaybeLamp → Head LampHours
-lampIn n (LampIs l) = head l n
-lampIn n NoLamp = noHead
+abbrev pub lampGot : MaybeLamp → Got LampHours
+lampGot (LampIs l) = all (l ∷ [])
+lampGot NoLamp = none
 
-abbrev pub lampHead : List ℕ → Head LampHours
-lampHead s = lampIn (wordLong s + 2) (lampAt s (wordLong s))
+abbrev pub lampsIn : List (List ℕ) → Got LampHours
+lampsIn [] = all []
+lampsIn (hours ∷ []) = none
+lampsIn (hours ∷ lit ∷ ws) = lampGot (lampOf hours lit) andThen lampsIn ws
 
-abbrev pub inputIn : MaybeInput → Head Input
-inputIn (InputIs i) = head i 2
-inputIn NoInput = noHead
+abbrev pub inputGot : MaybeInput → Got Input
+inputGot (InputIs i) = all (i ∷ [])
+inputGot NoInput = none
 
-abbrev pub inputHead : List ℕ → Head Input
-inputHead s = inputIn (readInput (s at 0) (s at 1))
+abbrev pub inputsIn : List (List ℕ) → Got Input
+inputsIn [] = all []
+inputsIn (w ∷ ws) = inputGot (inputOf w) andThen inputsIn ws
 
-abbrev pub lampsGot : Got LampHours → Said
-lampsGot none = nothing
-lampsGot (all xs) = lampsAre xs
-
-abbrev pub inputsGot : Got Input → Said
-inputsGot none = nothing
-inputsGot (all xs) = inputsAre xs
+-- the things of a list, where there are no more than a reply may have
+abbrev pub listSays : {A : Type 0} → (List A → Said) → ℕ → Got A → Said
+listSays says most none = nothing
+listSays says most (all xs) = if leb (length xs) most then says xs else nothing
 
 unfoldable pub readLamps : List ℕ → Said
-readLamps p = lampsGot (listOf lampHead lampsMost p)
+readLamps p = listSays lampsAre lampsCarried (lampsIn (wordsOf p))
 
 unfoldable pub readInputs : List ℕ → Said
-readInputs p = inputsGot (listOf inputHead inputsMost p)
+readInputs p = listSays inputsAre inputsCarried (inputsIn (wordsOf p))
 
 abbrev pub readName : List ℕ → Said
 readName p = if isName p then textIs p else nothing
@@ -135,7 +137,7 @@ abbrev pub readInfo : List ℕ → Said
 readInfo p = if isInfo p then textIs p else nothing
 
 abbrev pub readClass : List ℕ → Said
-readClass p = if p says ascii "1" then classIs1 else nothing
+readClass p = if p spells ascii "1" then classIs1 else nothing
 
 abbrev pub isSet : Command → Bool
 isSet (PowerSet on) = true
@@ -157,10 +159,7 @@ readQueried Info p = readInfo p
 readQueried Clss p = readClass p
 
 abbrev pub readValue : Command → List ℕ → Said
-readValue (PowerSet on) p = readOk p
-readValue (InputSet i) p = readOk p
-readValue (MuteSet half on) p = readOk p
-readValue (Query b) p = readQueried b p
+readValue c p = if isSet c then readOk p else readQueried (bodyOf c) p
 
 abbrev pub isRefusalTo : Command → ℕ → Bool
 isRefusalTo c n = isSet c || not (eqb n 2)

@@ -1,4 +1,4 @@
-// Lists of lamps and of inputs, joined by spaces, read into arrays (01, "Controller").
+// Lists of lamps and of inputs, read into arrays word by word (01, "Controller").
 use crate::answer;
 use crate::answer::Answer;
 use crate::answer::INPUTS_MOST;
@@ -11,23 +11,25 @@ use lines::input;
 use lines::input::MaybeInput;
 use numbers::Number;
 ghost use mathlib.Core.Path.{_≡_};
-ghost use Prim.Native.Nat.{_+_, _≤_};
+ghost use Prim.Native.Nat.{_≤_};
 ghost use lib.ListN.{length};
 ghost use Rattle.answers.specs.Carried.{answerOf};
-ghost use Rattle.answers.specs.Reading.{wordLong, lampAt, inputHead, inputIn, readLamps, readInputs};
+ghost use Rattle.answers.specs.Lists.{WordTo};
+ghost use Rattle.answers.specs.Reading.{lampOf, inputOf, readLamps, readInputs};
 
 pub enum MaybeLamp {
     LampIs(LampHours),
     NoLamp,
 }
 
-// How many bytes stand before the first space.
-fn word_long(s: &[u8]) -> usize
-    ensures { λ r. ⌜ r ≡ wordLong (now (s .entry)) ⌝ }
+// Where the word ends that begins at `start`: at the next space, or at the end of p.
+fn word_end(p: &[u8], start: usize) -> usize
+    requires { ⌜ start ≤ length (now p) ⌝ }
+    ensures { λ r. ⌜ WordTo (now (p .entry)) start r ⌝ }
 {
-    let mut i = 0;
-    while i < s.len() {
-        if s[i] == b' ' {
+    let mut i = start;
+    while i < p.len() {
+        if p[i] == b' ' {
             return i;
         }
         i += 1;
@@ -35,39 +37,30 @@ fn word_long(s: &[u8]) -> usize
     i
 }
 
-// The lamp with its hours in the first n bytes of s.
-fn lamp_at(s: &[u8], n: usize) -> MaybeLamp
-    requires { ⌜ n ≤ length (now s) ⌝ }
-    ensures { λ r. ⌜ r ≡ lampAt (now (s .entry)) n ⌝ }
+// The lamp of two words.
+fn lamp_of(hours: &[u8], lit: &[u8]) -> MaybeLamp
+    ensures { λ r. ⌜ r ≡ lampOf (now (hours .entry)) (now (lit .entry)) ⌝ }
 {
-    if s.len() < n + 2 {
+    let on = text::same(lit, b"1");
+    let off = text::same(lit, b"0");
+    if !(on | off) {
         return MaybeLamp::NoLamp;
     }
-    let f = s[n + 1];
-    if f < b'0' {
-        return MaybeLamp::NoLamp;
-    }
-    if b'1' < f {
-        return MaybeLamp::NoLamp;
-    }
-    let number = numbers::read_number(&s[..n]);
-    let Number::Value(hours) = number else {
+    let number = numbers::read_number(hours);
+    let Number::Value(n) = number else {
         return MaybeLamp::NoLamp;
     };
-    MaybeLamp::LampIs(LampHours {
-        hours,
-        lit: f == b'1',
-    })
+    MaybeLamp::LampIs(LampHours { hours: n, lit: on })
 }
 
-// The input at the start of s.
-fn input_at(s: &[u8]) -> MaybeInput
-    ensures { λ r. ⌜ inputIn r ≡ inputHead (now (s .entry)) ⌝ }
+// The input of one word.
+pub fn input_of(w: &[u8]) -> MaybeInput
+    ensures { λ r. ⌜ r ≡ inputOf (now (w .entry)) ⌝ }
 {
-    if s.len() < 2 {
+    if w.len() != 2 {
         return MaybeInput::NoInput;
     }
-    input::read_input(s[0], s[1])
+    input::read_input(w[0], w[1])
 }
 
 pub fn read_lamps(p: &[u8]) -> Answer
@@ -77,21 +70,22 @@ pub fn read_lamps(p: &[u8]) -> Answer
     let mut k: usize = 0;
     let mut at: usize = 0;
     while k < LAMPS_MOST {
-        let n = word_long(&p[at..]);
-        let found = lamp_at(&p[at..], n);
+        let mid = word_end(p, at);
+        if p.len() <= mid {
+            return answer::plain(Kind::Nothing);
+        }
+        let second = mid + 1;
+        let end = word_end(p, second);
+        let found = lamp_of(&p[at..mid], &p[second..end]);
         let MaybeLamp::LampIs(l) = found else {
             return answer::plain(Kind::Nothing);
         };
         lamps[k] = l;
         k += 1;
-        at += n + 2;
-        if p.len() <= at {
+        if p.len() <= end {
             return answer::of_lamps(k, lamps);
         }
-        if p[at] != b' ' {
-            return answer::plain(Kind::Nothing);
-        }
-        at += 1;
+        at = end + 1;
     }
     answer::plain(Kind::Nothing)
 }
@@ -103,20 +97,17 @@ pub fn read_inputs(p: &[u8]) -> Answer
     let mut k: usize = 0;
     let mut at: usize = 0;
     while k < INPUTS_MOST {
-        let found = input_at(&p[at..]);
+        let end = word_end(p, at);
+        let found = input_of(&p[at..end]);
         let MaybeInput::InputIs(i) = found else {
             return answer::plain(Kind::Nothing);
         };
         inputs[k] = i;
         k += 1;
-        at += 2;
-        if p.len() <= at {
+        if p.len() <= end {
             return answer::of_inputs(k, inputs);
         }
-        if p[at] != b' ' {
-            return answer::plain(Kind::Nothing);
-        }
-        at += 1;
+        at = end + 1;
     }
     answer::plain(Kind::Nothing)
 }

@@ -6,9 +6,9 @@ use crate::answer::Kind;
 use crate::answer::Power;
 use crate::answer::TEXT_MOST;
 use crate::list;
+use lines::command;
 use lines::command::Body;
 use lines::command::Command;
-use lines::input;
 use lines::input::MaybeInput;
 use lines::texts;
 ghost use mathlib.Core.Path.{_≡_};
@@ -20,18 +20,17 @@ ghost use Rattle.lines.specs.Texts.{nameMost};
 ghost use Rattle.answers.specs.Said.{textIs, nothing};
 ghost use Rattle.answers.specs.declared.answer.Kind.the-variants.{Nothing};
 ghost use Rattle.answers.specs.Carried.{plainOf, answerOf};
-ghost use Rattle.answers.specs.Reading.{_says_, isRefusalTo, powerNamed, readPower, readChosen, mutesNamed};
-ghost use Rattle.answers.specs.Reading.{readMutes};
-ghost use Rattle.answers.specs.Reading.{readErrors, readQueried, readValue, readParameter};
+ghost use Rattle.answers.specs.Reading.{_spells_, isSet, isRefusalTo, powerNamed, readPower, readChosen};
+ghost use Rattle.answers.specs.Reading.{mutesNamed, readMutes, readErrors, readQueried, readValue, readParameter};
 
 // The kind k where p is exactly t.
-fn read_exactly(p: &[u8], t: &[u8], k: Kind) -> Answer
-    ensures { λ r. ⌜ r ≡ plainOf (if now (p .entry) says now (t .entry) then k else Nothing) ⌝ }
+fn read_exactly(p: &[u8], t: &[u8], k: Kind) -> Kind
+    ensures { λ r. ⌜ r ≡ (if now (p .entry) spells now (t .entry) then k else Nothing) ⌝ }
 {
     if text::same(p, t) {
-        return answer::plain(k);
+        return k;
     }
-    answer::plain(Kind::Nothing)
+    Kind::Nothing
 }
 
 fn power_named(b: u8) -> Kind
@@ -46,25 +45,22 @@ fn power_named(b: u8) -> Kind
     }
 }
 
-fn read_power(p: &[u8]) -> Answer
-    ensures { λ r. ⌜ r ≡ answerOf (readPower (now (p .entry))) ⌝ }
+fn read_power(p: &[u8]) -> Kind
+    ensures { λ r. ⌜ plainOf r ≡ answerOf (readPower (now (p .entry))) ⌝ }
 {
     if p.len() != 1 {
-        return answer::plain(Kind::Nothing);
+        return Kind::Nothing;
     }
-    answer::plain(power_named(p[0]))
+    power_named(p[0])
 }
 
-fn read_chosen(p: &[u8]) -> Answer
-    ensures { λ r. ⌜ r ≡ answerOf (readChosen (now (p .entry))) ⌝ }
+fn read_chosen(p: &[u8]) -> Kind
+    ensures { λ r. ⌜ plainOf r ≡ answerOf (readChosen (now (p .entry))) ⌝ }
 {
-    if p.len() != 2 {
-        return answer::plain(Kind::Nothing);
-    }
-    let found = input::read_input(p[0], p[1]);
+    let found = list::input_of(p);
     match found {
-        MaybeInput::InputIs(i) => answer::plain(Kind::Chosen(i)),
-        MaybeInput::NoInput => answer::plain(Kind::Nothing),
+        MaybeInput::InputIs(i) => Kind::Chosen(i),
+        MaybeInput::NoInput => Kind::Nothing,
     }
 }
 
@@ -86,13 +82,13 @@ fn mutes_named(a: u8, b: u8) -> Kind
     Kind::Nothing
 }
 
-fn read_mutes(p: &[u8]) -> Answer
-    ensures { λ r. ⌜ r ≡ answerOf (readMutes (now (p .entry))) ⌝ }
+fn read_mutes(p: &[u8]) -> Kind
+    ensures { λ r. ⌜ plainOf r ≡ answerOf (readMutes (now (p .entry))) ⌝ }
 {
     if p.len() != 2 {
-        return answer::plain(Kind::Nothing);
+        return Kind::Nothing;
     }
-    answer::plain(mutes_named(p[0], p[1]))
+    mutes_named(p[0], p[1])
 }
 
 fn read_errors(p: &[u8]) -> Answer
@@ -134,9 +130,9 @@ fn read_queried(b: Body, p: &[u8]) -> Answer
     ensures { λ r. ⌜ r ≡ answerOf (readQueried b (now (p .entry))) ⌝ }
 {
     match b {
-        Body::Powr => read_power(p),
-        Body::Inpt => read_chosen(p),
-        Body::Avmt => read_mutes(p),
+        Body::Powr => answer::plain(read_power(p)),
+        Body::Inpt => answer::plain(read_chosen(p)),
+        Body::Avmt => answer::plain(read_mutes(p)),
         Body::Erst => read_errors(p),
         Body::Lamp => list::read_lamps(p),
         Body::Inst => list::read_inputs(p),
@@ -144,31 +140,35 @@ fn read_queried(b: Body, p: &[u8]) -> Answer
         Body::Inf1 => text_if(texts::is_info(p), p),
         Body::Inf2 => text_if(texts::is_info(p), p),
         Body::Info => text_if(texts::is_info(p), p),
-        Body::Clss => read_exactly(p, b"1", Kind::Class),
+        Body::Clss => answer::plain(read_exactly(p, b"1", Kind::Class)),
+    }
+}
+
+fn is_set(c: Command) -> bool
+    ensures { λ r. ⌜ r ≡ isSet c ⌝ }
+{
+    match c {
+        Command::PowerSet(_) => true,
+        Command::InputSet(_) => true,
+        Command::MuteSet(_, _) => true,
+        Command::Query(_) => false,
     }
 }
 
 fn read_value(c: Command, p: &[u8]) -> Answer
     ensures { λ r. ⌜ r ≡ answerOf (readValue c (now (p .entry))) ⌝ }
 {
-    match c {
-        Command::PowerSet(_) => read_exactly(p, b"OK", Kind::Ok),
-        Command::InputSet(_) => read_exactly(p, b"OK", Kind::Ok),
-        Command::MuteSet(_, _) => read_exactly(p, b"OK", Kind::Ok),
-        Command::Query(b) => read_queried(b, p),
+    if is_set(c) {
+        return answer::plain(read_exactly(p, b"OK", Kind::Ok));
     }
+    read_queried(command::body_of(c), p)
 }
 
 // Whether ERRn is allowed in reply to c: ERR2 is none to a query.
 fn is_refusal_to(c: Command, n: u8) -> bool
     ensures { λ r. ⌜ r ≡ isRefusalTo c n ⌝ }
 {
-    match c {
-        Command::PowerSet(_) => true,
-        Command::InputSet(_) => true,
-        Command::MuteSet(_, _) => true,
-        Command::Query(_) => n != 2,
-    }
+    is_set(c) | (n != 2)
 }
 
 // What the parameter p says to the command c.

@@ -11,7 +11,7 @@ use lines::input;
 use lines::input::Input;
 ghost use mathlib.Core.Path.{_≡_};
 ghost use mathlib.Core.List.{map};
-ghost use Prim.Native.Nat.{_+_, _≤_};
+ghost use Prim.Native.Nat.{_+_, _≤_, min};
 ghost use lib.ListN.{length, take};
 ghost use lib.Seq.{sets};
 ghost use Rattle.lines.specs.Inputs.{inputText, numberDigit};
@@ -19,10 +19,10 @@ ghost use Rattle.lines.specs.Commands.{switchDigit};
 ghost use Rattle.lines.specs.Texts.{nameMost};
 ghost use Rattle.answers.specs.Lists.{gap, joined};
 ghost use Rattle.answers.specs.Said.{powerText, mutesText, refusalText, lampText, saidBytes, parameterMost};
-ghost use Rattle.answers.specs.Carried.{lampsMost, inputsMost, errorsCount, least, saidBy};
+ghost use Rattle.answers.specs.Carried.{lampsCarried, inputsCarried, errorsCarried, saidBy};
 
 fn least(n: usize, m: usize) -> usize
-    ensures { λ r. ⌜ r ≡ least n m ⌝ }
+    ensures { λ r. ⌜ r ≡ min n m ⌝ }
 {
     if n <= m {
         return n;
@@ -40,10 +40,10 @@ fn power_text(p: Power) -> [u8; 1]
     ensures { λ r. ⌜ r ≡ powerText p ⌝ }
 {
     match p {
-        Power::Off => *b"0",
-        Power::On => *b"1",
-        Power::Cooling => *b"2",
-        Power::WarmUp => *b"3",
+        Power::Off => [b'0'],
+        Power::On => [b'1'],
+        Power::Cooling => [b'2'],
+        Power::WarmUp => [b'3'],
     }
 }
 
@@ -59,14 +59,14 @@ fn mutes_text(video: bool, audio: bool) -> [u8; 2]
 {
     if video {
         if audio {
-            return *b"31";
+            return [b'3', b'1'];
         }
-        return *b"11";
+        return [b'1', b'1'];
     }
     if audio {
-        return *b"21";
+        return [b'2', b'1'];
     }
-    *b"30"
+    [b'3', b'0']
 }
 
 // Each function below puts bytes into out, from the place `at` on, and gives the place after them.
@@ -81,9 +81,9 @@ fn put_all(out: &mut [u8], at: usize, src: &[u8]) -> usize
 
 // The first six numbers of `errors`, a digit each.
 fn put_errors(out: &mut [u8], at: usize, errors: [u8; TEXT_MOST]) -> usize
-    requires { ⌜ at + errorsCount ≤ length (now out) ⌝ }
-    ensures { λ r. ⌜ r ≡ at + length (map numberDigit (take errorsCount errors)) ⌝ }
-    ensures { λ _. ⌜ now (out .exit) ≡ sets (now (out .entry)) at (map numberDigit (take errorsCount errors)) ⌝ }
+    requires { ⌜ at + errorsCarried ≤ length (now out) ⌝ }
+    ensures { λ r. ⌜ r ≡ at + length (map numberDigit (take errorsCarried errors)) ⌝ }
+    ensures { λ _. ⌜ now (out .exit) ≡ sets (now (out .entry)) at (map numberDigit (take errorsCarried errors)) ⌝ }
 {
     let mut i = 0;
     while i < ERRORS_COUNT {
@@ -124,16 +124,18 @@ fn put_gap(out: &mut [u8], at: usize, i: usize) -> usize
     at + 1
 }
 
-// The first `count` of the lamps, joined by spaces.
+// Lists and texts: the first `count`, where a count past the array's end counts the whole array. Lamps and inputs are
+// joined by spaces.
 fn put_lamps(out: &mut [u8], at: usize, lamps: [LampHours; LAMPS_MOST], count: usize) -> usize
-    requires { ⌜ count ≤ lampsMost ⌝ }
     requires { ⌜ at + parameterMost ≤ length (now out) ⌝ }
-    ensures { λ r. ⌜ r ≡ at + length (joined lampText (take count lamps)) ⌝ }
-    ensures { λ _. ⌜ now (out .exit) ≡ sets (now (out .entry)) at (joined lampText (take count lamps)) ⌝ }
+    ensures { λ r. ⌜ r ≡ at + length (joined lampText (take (min count lampsCarried) lamps)) ⌝ }
+    ensures { λ _. ⌜ now (out .exit)
+        ≡ sets (now (out .entry)) at (joined lampText (take (min count lampsCarried) lamps)) ⌝ }
 {
+    let most = least(count, LAMPS_MOST);
     let mut p = at;
     let mut i = 0;
-    while i < count {
+    while i < most {
         p = put_gap(out, p, i);
         p = put_lamp(out, p, lamps[i]);
         i += 1;
@@ -141,16 +143,16 @@ fn put_lamps(out: &mut [u8], at: usize, lamps: [LampHours; LAMPS_MOST], count: u
     p
 }
 
-// The first `count` of the inputs, joined by spaces.
 fn put_inputs(out: &mut [u8], at: usize, inputs: [Input; INPUTS_MOST], count: usize) -> usize
-    requires { ⌜ count ≤ inputsMost ⌝ }
     requires { ⌜ at + parameterMost ≤ length (now out) ⌝ }
-    ensures { λ r. ⌜ r ≡ at + length (joined inputText (take count inputs)) ⌝ }
-    ensures { λ _. ⌜ now (out .exit) ≡ sets (now (out .entry)) at (joined inputText (take count inputs)) ⌝ }
+    ensures { λ r. ⌜ r ≡ at + length (joined inputText (take (min count inputsCarried) inputs)) ⌝ }
+    ensures { λ _. ⌜ now (out .exit)
+        ≡ sets (now (out .entry)) at (joined inputText (take (min count inputsCarried) inputs)) ⌝ }
 {
+    let most = least(count, INPUTS_MOST);
     let mut p = at;
     let mut i = 0;
-    while i < count {
+    while i < most {
         p = put_gap(out, p, i);
         p = put_all(out, p, &input_text(inputs[i]));
         i += 1;
@@ -159,12 +161,12 @@ fn put_inputs(out: &mut [u8], at: usize, inputs: [Input; INPUTS_MOST], count: us
 }
 
 fn put_text(out: &mut [u8], at: usize, kept: [u8; TEXT_MOST], count: usize) -> usize
-    requires { ⌜ count ≤ nameMost ⌝ }
     requires { ⌜ at + nameMost ≤ length (now out) ⌝ }
-    ensures { λ r. ⌜ r ≡ at + length (take count kept) ⌝ }
-    ensures { λ _. ⌜ now (out .exit) ≡ sets (now (out .entry)) at (take count kept) ⌝ }
+    ensures { λ r. ⌜ r ≡ at + length (take (min count nameMost) kept) ⌝ }
+    ensures { λ _. ⌜ now (out .exit) ≡ sets (now (out .entry)) at (take (min count nameMost) kept) ⌝ }
 {
-    put_all(out, at, &kept[..count])
+    let most = least(count, TEXT_MOST);
+    put_all(out, at, &kept[..most])
 }
 
 // What the answer a says.
@@ -174,19 +176,28 @@ pub fn put_answer(out: &mut [u8], at: usize, a: Answer) -> usize
     ensures { λ _. ⌜ now (out .exit) ≡ sets (now (out .entry)) at (saidBytes (saidBy a)) ⌝ }
 {
     let k = a.kind;
-    let lamps = a.lamps;
-    let inputs = a.inputs;
-    let kept = a.text;
     match k {
         Kind::Ok => put_all(out, at, b"OK"),
         Kind::Refused(n) => put_all(out, at, &refusal_text(n)),
         Kind::Powered(p) => put_all(out, at, &power_text(p)),
         Kind::Chosen(i) => put_all(out, at, &input_text(i)),
         Kind::Muted(video, audio) => put_all(out, at, &mutes_text(video, audio)),
-        Kind::Errors => put_errors(out, at, kept),
-        Kind::Lamps(n) => put_lamps(out, at, lamps, least(n, LAMPS_MOST)),
-        Kind::Inputs(n) => put_inputs(out, at, inputs, least(n, INPUTS_MOST)),
-        Kind::Text(n) => put_text(out, at, kept, least(n, TEXT_MOST)),
+        Kind::Errors => {
+            let errors = a.text;
+            put_errors(out, at, errors)
+        }
+        Kind::Lamps(n) => {
+            let lamps = a.lamps;
+            put_lamps(out, at, lamps, n)
+        }
+        Kind::Inputs(n) => {
+            let inputs = a.inputs;
+            put_inputs(out, at, inputs, n)
+        }
+        Kind::Text(n) => {
+            let kept = a.text;
+            put_text(out, at, kept, n)
+        }
         Kind::Class => put_all(out, at, b"1"),
         Kind::Nothing => at,
     }

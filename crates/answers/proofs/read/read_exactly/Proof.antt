@@ -10,7 +10,5 @@ read-exactly-spec =
     tie.close
     (tie.spec
     (λ c κs. search needs)
-    (λ c κs. search needs)
-    (λ c. let test = c .before in simp (sym (test .before .same .ensures) ∙ test .if1 .taken) (c .plain .ensures))
-    (λ c κs. search needs)
-    (λ c. let test = c .before in simp (sym (test .before .same .ensures) ∙ test .if1 .left) (c .plain2 .ensures)))
+    (λ c. simp (sym (c .before .same .ensures) ∙ c .if1 .taken))
+    (λ c. simp (sym (c .before .same .ensures) ∙ c .if1 .left)))

@@ -1,6 +1,5 @@
 -- `answers::read::read_mutes` meets its contract: the length decides whether the characters count.
 -- Assumes nothing.
-use mathlib.Core.Path.{_∙_}
 use borrow.Author.Tests.{eq-eqb, ne-eqb}
 use borrow.Author.Needs.{needs}
 use Rattle.answers.specs.Reading.{readMutes}
@@ -12,13 +11,8 @@ unfolding readMutes
 read-mutes-spec =
     tie.close
     (tie.spec
-    (λ c κs. search needs)
-    (λ c. simp (ne-eqb _ _ (c .before .if1 .taken)) (c .plain .ensures))
+    (λ c. simp (ne-eqb _ _ (c .if1 .taken)))
     (λ c. search needs)
     (λ c. search needs)
     (λ c κs. search needs)
-    (λ c κs. search needs)
-    (λ c.
-    let named = c .before in
-    let tested = named .before .before .before in
-    simp (eq-eqb _ _ (tested .if1 .left)) (c .plain2 .ensures ∙ named .mutes-named .ensures)))
+    (λ c. let two = c .before .before .before in simp (eq-eqb _ _ (two .if1 .left)) (c .mutes-named .ensures)))

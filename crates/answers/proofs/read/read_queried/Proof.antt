@@ -22,9 +22,9 @@ pub read-queried-spec : {M : Type 1} → statement M
 read-queried-spec =
     tie.close
     (tie.spec
-    (λ c. search needs) (λ c κs. search needs)
-    (λ c. search needs) (λ c κs. search needs)
-    (λ c. search needs) (λ c κs. search needs)
+    (λ c. search needs) (λ c κs. search needs) (λ c κs. search needs)
+    (λ c. search needs) (λ c κs. search needs) (λ c κs. search needs)
+    (λ c. search needs) (λ c κs. search needs) (λ c κs. search needs)
     (λ c. search needs) (λ c κs. search needs)
     (λ c. search needs) (λ c κs. search needs)
     (λ c. search needs) (λ c κs. search needs)
@@ -32,16 +32,19 @@ read-queried-spec =
     (λ c. search needs) (λ c κs. search needs) (λ c κs e. room-for-info _ (sym (c .is-info .ensures) ∙ e))
     (λ c. search needs) (λ c κs. search needs) (λ c κs e. room-for-info _ (sym (c .is-info2 .ensures) ∙ e))
     (λ c. search needs) (λ c κs. search needs) (λ c κs e. room-for-info _ (sym (c .is-info3 .ensures) ∙ e))
-    (λ c. search needs) (λ c. search needs) (λ c κs. search needs)
+    (λ c. search needs) (λ c. search needs) (λ c κs. search needs) (λ c κs. search needs)
     (λ c.
-    let arm = c .before in
-    c .read-power .ensures ∙ told (arm .before .before .before) (arm .enum-told .given .1))
+    let read = c .before in
+    let arm = read .before in
+    c .plain .ensures ∙ read .read-power .ensures ∙ told (arm .before .before .before) (arm .enum-told .given .1))
     (λ c.
-    let arm = c .before in
-    c .read-chosen .ensures ∙ told (arm .before .before .before) (arm .enum-told2 .given .1))
+    let read = c .before in
+    let arm = read .before in
+    c .plain2 .ensures ∙ read .read-chosen .ensures ∙ told (arm .before .before .before) (arm .enum-told2 .given .1))
     (λ c.
-    let arm = c .before in
-    c .read-mutes .ensures ∙ told (arm .before .before .before) (arm .enum-told3 .given .1))
+    let read = c .before in
+    let arm = read .before in
+    c .plain3 .ensures ∙ read .read-mutes .ensures ∙ told (arm .before .before .before) (arm .enum-told3 .given .1))
     (λ c.
     let arm = c .before in
     c .read-errors .ensures ∙ told (arm .before .before .before) (arm .enum-told4 .given .1))
@@ -76,7 +79,9 @@ read-queried-spec =
     text-said (start .args .p .now) (c .text-if4 .ensures) (test .is-info3 .ensures) ∙ told start
     (arm .enum-told10 .given .1))
     (λ c.
-    let arm = c .before .before in
+    let read = c .before in
+    let arm = read .before .before in
     let start = arm .before .before .before in
-    exactly-said (start .args .p .now) (ascii "1") Class classIs1 refl (c .read-exactly .ensures)
+    c .plain4 .ensures
+    ∙ exactly-said (start .args .p .now) (ascii "1") Class classIs1 refl (read .read-exactly .ensures)
     ∙ told start (arm .enum-told11 .given .1)))

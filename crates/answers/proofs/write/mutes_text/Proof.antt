@@ -7,7 +7,7 @@ pub mutes-text-spec : {M : Type 1} → statement M
 mutes-text-spec =
     tie.close
     (tie.spec
-    (λ c. let tested = c .before .before in simp (tested .before .if1 .taken, tested .if2 .taken))
-    (λ c. let tested = c .before .before in simp (tested .before .if1 .taken, tested .if2 .left))
-    (λ c. let tested = c .before .before in simp (tested .before .if1 .left, tested .if3 .taken))
-    (λ c. let tested = c .before .before in simp (tested .before .if1 .left, tested .if3 .left)))
+    (λ c. simp (c .before .if1 .taken, c .if2 .taken))
+    (λ c. simp (c .before .if1 .taken, c .if2 .left))
+    (λ c. simp (c .before .if1 .left, c .if3 .taken))
+    (λ c. simp (c .before .if1 .left, c .if3 .left)))

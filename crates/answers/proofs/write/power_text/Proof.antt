@@ -11,7 +11,7 @@ power-text-spec =
     tie.close
     (tie.spec
     (λ c. search needs) (λ c. search needs) (λ c. search needs) (λ c. search needs)
-    (λ c. ap powerText (sym (c .before .before .enum-told .given .1)))
-    (λ c. ap powerText (sym (c .before .before .enum-told2 .given .1)))
-    (λ c. ap powerText (sym (c .before .before .enum-told3 .given .1)))
-    (λ c. ap powerText (sym (c .before .before .enum-told4 .given .1))))
+    (λ c. ap powerText (sym (c .enum-told .given .1)))
+    (λ c. ap powerText (sym (c .enum-told2 .given .1)))
+    (λ c. ap powerText (sym (c .enum-told3 .given .1)))
+    (λ c. ap powerText (sym (c .enum-told4 .given .1))))

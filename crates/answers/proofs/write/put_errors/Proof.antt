@@ -5,15 +5,16 @@ use mathlib.Core.Path.{refl}
 use native.Mathlib.Omega.{arith}
 use borrow.Author.Needs.{needs}
 use Rattle.lines.specs.Inputs.{numberDigit}
+use Rattle.answers.specs.Carried.{errorsCarried}
 use Rattle.answers.proofs.Mapped.{Mapped, none-mapped, one-mapped, mapped-room, all-mapped}
 use Rattle.answers.proofs.write.put_errors.Statement.{statement}
 use Rattle.answers.proofs.write.put_errors.Tie as tie
 
 abbrev Inv : tie.InvT-loop
-Inv out₀ at errors i₀ out i = (i ≤ 6) × Mapped numberDigit out₀ at errors out i
+Inv out₀ at errors i₀ out i = (i ≤ errorsCarried) × Mapped numberDigit out₀ at errors out i
 
 abbrev μ : tie.MeasureT-loop
-μ out₀ at errors i₀ out i = 6 - i
+μ out₀ at errors i₀ out i = errorsCarried - i
 
 again : tie.Need-loop-again Inv μ
 again c =

@@ -1,21 +1,22 @@
 -- `answers::write::put_lamps` meets its contract: up to i the lamps stand joined by spaces,
 -- and each takes at most 13 bytes with its space.
 -- Assumes nothing.
-use Prim.Native.Nat.{_-_, _≤_}
+use Prim.Native.Nat.{_-_, _≤_, min}
 use mathlib.Core.Path.{_≡_}
 use native.Mathlib.Omega.{arith}
 use borrow.Author.Needs.{needs}
 use Rattle.answers.specs.Said.{lampText}
+use Rattle.answers.specs.Carried.{lampsCarried}
 use Rattle.answers.proofs.Lamps.{lamp-short}
 use Rattle.answers.proofs.PutLists.{gap-short, PutTo, none-put, put-room, put-within, one-put, all-put}
 use Rattle.answers.proofs.write.put_lamps.Statement.{statement}
 use Rattle.answers.proofs.write.put_lamps.Tie as tie
 
 abbrev Inv : tie.InvT-loop
-Inv out₀ at count lamps p₀ i₀ out p i = (i ≤ count) × PutTo lampText lamps out₀ at out p i
+Inv out₀ at count lamps most p₀ i₀ out p i = (i ≤ most) × PutTo lampText lamps out₀ at out p i
 
 abbrev μ : tie.MeasureT-loop
-μ out₀ at count lamps p₀ i₀ out p i = count - i
+μ out₀ at count lamps most p₀ i₀ out p i = most - i
 
 gap-fits : tie.Need-put-gap-requires Inv μ
 gap-fits c κs =
@@ -37,7 +38,7 @@ again c =
     let arg = lamp .before .before in
     let gap = arg .before .before .before in
     let turn = gap .before .before .before in
-    let start = turn .before .before in (
+    let start = turn .before .before .before in (
       search needs,
       one-put (turn .loop .inv .1) _
           (omega (arith, start .fits, start .good, start .pre, gap .before .before .loop-test .taken))
@@ -47,7 +48,7 @@ again c =
 ends : tie.Need-returns Inv μ
 ends c =
     let turn = c .before in
-    let all : turn .loop .i ≡ turn .before .before .args .count = omega arith in
+    let all : turn .loop .i ≡ min (turn .before .before .before .args .count) lampsCarried = omega arith in
     all-put (turn .loop .inv .1) all
 
 pub put-lamps-spec : {M : Type 1} → statement M
@@ -56,6 +57,7 @@ put-lamps-spec =
     (tie.spec
     Inv
     μ
+    (λ c κs. search needs)
     (λ c. (search needs, none-put lampText _ _ _))
     gap-fits
     (λ c. search needs)
