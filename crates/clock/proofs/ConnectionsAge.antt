@@ -11,12 +11,13 @@ use borrow.Author.Tests.{lt-ltb, le-ltb}
 use Rattle.text.specs.Words.{if_then_else_}
 use Rattle.text.proofs.Choices.{if-yes, if-no, if-all}
 use Rattle.record.specs.Limits.{ageEnd}
+use Rattle.record.specs.Updates.{aged}
 use Rattle.record.specs.Legal.{isTimed}
 use Rattle.record.specs.Record.{closed}
 use Rattle.record.specs.declared.types.Line.{Line}
 use Rattle.record.specs.declared.types.Connection.{Connection}
 use Rattle.record.proofs.Spelt.{closed-spelt}
-use Rattle.clock.specs.Second.{times, aged, connectionSecond}
+use Rattle.clock.specs.Second.{times, connectionSecond}
 use Rattle.clock.proofs.Repeated.{times-keeps}
 use Rattle.text.proofs.Orders.{le-or-lt}
 

@@ -5,7 +5,8 @@ use mathlib.Core.Path.{_≡_, refl, sym, ap, _∙_}
 use mathlib.Core.Bool.{Bool, true}
 use Rattle.record.specs.Legal.{isLegal}
 use Rattle.record.specs.Record.{accepted}
-use Rattle.record.specs.HostCalls.{withOwn, withFault, faultSet}
+use Rattle.record.specs.Updates.{withOwn, withFault}
+use Rattle.record.specs.HostCalls.{faultSet}
 use Rattle.record.specs.declared.types.Settings.{Settings}
 use Rattle.record.specs.declared.types.Own.{Own}
 use Rattle.record.specs.declared.types.Device.{Device}

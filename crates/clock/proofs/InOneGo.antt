@@ -6,11 +6,12 @@ use mathlib.Core.Bool.{Bool, true, false}
 use mathlib.Core.List.{List}
 use Rattle.text.specs.Words.{if_then_else_}
 use Rattle.text.proofs.Choices.{if-all}
+use Rattle.record.specs.Limits.{isLit}
+use Rattle.record.specs.Updates.{withPower, withSeconds}
 use Rattle.record.specs.declared.types.Settings.{Settings}
 use Rattle.record.specs.declared.types.Own.{Own}
 use Rattle.record.specs.declared.types.Device.{Device}
-use Rattle.clock.specs.Second.{times, firstChanged, isLit, oneMore, lampsSecond, withPowerLeftLamps, ownSecond}
-use Rattle.clock.specs.Second.{second}
+use Rattle.clock.specs.Second.{times, firstChanged, oneMore, lampsSecond, ownSecond, second}
 use Rattle.clock.specs.After.{powerAfter, lampsAfter, ownAfter, partsAfter}
 use Rattle.clock.proofs.FirstChanged.{none-changed, twice-changed}
 use Rattle.clock.proofs.PowerTurns.{power-none, left-none, power-more, left-more, lit-throughout}
@@ -18,19 +19,19 @@ use Rattle.clock.proofs.PowerTurns.{power-none, left-none, power-more, 
 lamps-none : (power count : ℕ) (l : List ℕ) → lampsAfter 0 power count l ≡ l
 unfolding lampsAfter times
 lamps-none power count l =
-    if-all (λ (x : List ℕ). x ≡ l) (isLit power) (none-changed count (λ k. times oneMore 0) l (λ k x. refl)) refl
+    if-all (λ (x : List ℕ). x ≡ l) (isLit power) (none-changed count (times oneMore 0) l (λ x. refl)) refl
 
 -- one second of the lamps, and n of them, where they burn or not
 abbrev burns-on : ℕ → Bool → List ℕ → List ℕ
-burns-on count lit l = if lit then firstChanged count (λ place. oneMore) l else l
+burns-on count lit l = if lit then firstChanged count oneMore l else l
 
 module _ (count : ℕ) (l : List ℕ) where
   abbrev burnt : ℕ → Bool → List ℕ
-  burnt n lit = if lit then firstChanged count (λ place. times oneMore n) l else l
+  burnt n lit = if lit then firstChanged count (times oneMore n) l else l
 
   burnt-more : (n : ℕ) (lit : Bool) → burns-on count lit (burnt n lit) ≡ burnt (suc n) lit
   unfolding times
-  burnt-more n true = twice-changed count (λ place. oneMore) (λ place. times oneMore n) l
+  burnt-more n true = twice-changed count oneMore (times oneMore n) l
   burnt-more n false = refl
 
   lamps-more : (n power left : ℕ)
@@ -45,16 +46,12 @@ module _ (s : Settings) (o : Own) where
   unfolding times ownSecond
   own-in-one-go zero =
       sym (λ i.
-      withPowerLeftLamps o
-      (power-none (o .power) (o .left) i)
-      (left-none (o .power) (o .left) i)
+      withSeconds (withPower o (power-none (o .power) (o .left) i) (left-none (o .power) (o .left) i))
       (lamps-none (o .power) (s .«lamp_count») (o .lamps) i))
   own-in-one-go (suc n) =
       ap (ownSecond s) (own-in-one-go n)
       ∙ (λ i.
-      withPowerLeftLamps o
-      (power-more n (o .power) (o .left) i)
-      (left-more n (o .power) (o .left) i)
+      withSeconds (withPower o (power-more n (o .power) (o .left) i) (left-more n (o .power) (o .left) i))
       (lamps-more (s .«lamp_count») (o .lamps) n (o .power) (o .left) i))
 
 -- the parts pass their seconds each for itself

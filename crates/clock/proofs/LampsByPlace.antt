@@ -8,14 +8,14 @@ use mathlib.Core.List.{List}
 use native.Mathlib.Omega.{arith}
 use lib.ListN.{length, getD}
 use Rattle.text.specs.Words.{if_then_else_}
-use Rattle.record.specs.Limits.{lampLimit}
+use Rattle.record.specs.Limits.{lampLimit, isLit}
 use Rattle.record.specs.Legal.{isLegal}
 use Rattle.record.specs.declared.types.Settings.{Settings}
 use Rattle.record.specs.declared.types.Own.{Own}
 use Rattle.record.specs.declared.types.Device.{Device}
 use Rattle.record.proofs.OwnTold.{OwnTold, lamp-at}
 use Rattle.record.proofs.LegalTold.{own-of-legal}
-use Rattle.clock.specs.Second.{times, firstChanged, isLit, oneMore, ownSecond, second}
+use Rattle.clock.specs.Second.{times, firstChanged, oneMore, ownSecond, second}
 use Rattle.clock.specs.After.{lampAfter, lampsAfter}
 use Rattle.clock.proofs.FirstChanged.{changed-at, kept-at}
 use Rattle.clock.proofs.LampsGain.{burns}
@@ -23,16 +23,16 @@ use Rattle.clock.proofs.InOneGo.{own-in-one-go, parts-pass}
 
 module _ (count n : ℕ) (l : List ℕ) (k : ℕ) where
   abbrev after : Bool → List ℕ
-  after lit = if lit then firstChanged count (λ place. times oneMore n) l else l
+  after lit = if lit then firstChanged count (times oneMore n) l else l
 
   used : (lit : Bool) → k < count → k < length l → getD l k 0 ≤ lampLimit
       → getD (after lit) k 0 ≡ lampAfter n lit (getD l k 0)
   used true h inside within =
-      changed-at count (λ place. times oneMore n) l 0 k h inside ∙ burns n (getD l k 0) within
+      changed-at count (times oneMore n) l 0 k h inside ∙ burns n (getD l k 0) within
   used false h inside within = refl
 
   unused : (lit : Bool) → count ≤ k → getD (after lit) k 0 ≡ getD l k 0
-  unused true h = kept-at count (λ place. times oneMore n) l 0 k h
+  unused true h = kept-at count (times oneMore n) l 0 k h
   unused false h = refl
 
 module _ (s : Settings) (o : Own) (n : ℕ) where

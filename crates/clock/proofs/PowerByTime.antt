@@ -6,10 +6,10 @@ use Prim.Native.Nat.{ℕ, _-_, _≤_, _<_}
 use mathlib.Core.Path.{_≡_, refl, ap, _∙_}
 use mathlib.Core.Bool.{true, false}
 use native.Mathlib.Omega.{arith}
-use Rattle.record.specs.Limits.{off, on, cooling, warming}
+use Rattle.record.specs.Limits.{off, on, cooling, warming, isBetween}
 use Rattle.record.specs.declared.types.Settings.{Settings}
 use Rattle.record.specs.declared.types.Own.{Own}
-use Rattle.clock.specs.Second.{times, isBetween, settledPower, ownSecond}
+use Rattle.clock.specs.Second.{times, settledPower, ownSecond}
 use Rattle.clock.specs.After.{powerAfter, leftAfter}
 use Rattle.clock.proofs.PowerTurns.{power-still, power-over, power-not-yet, left-still, left-between}
 use Rattle.clock.proofs.InOneGo.{own-in-one-go}

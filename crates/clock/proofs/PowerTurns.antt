@@ -11,8 +11,8 @@ use lib.Dec.{leb, eqb}
 use borrow.Author.Tests.{le-leb, lt-leb, leb-true, eqb-true, eq-eqb}
 use Rattle.text.specs.Words.{if_then_else_}
 use Rattle.text.proofs.Choices.{if-yes, if-no, if-all, if-by, both, both-right, alike}
-use Rattle.record.specs.Limits.{cooling, warming}
-use Rattle.clock.specs.Second.{isLit, isBetween, settledPower, leftSecond, powerSecond}
+use Rattle.record.specs.Limits.{cooling, warming, isLit, isBetween}
+use Rattle.clock.specs.Second.{settledPower, leftSecond, powerSecond}
 use Rattle.clock.specs.After.{powerAfter, leftAfter}
 use Rattle.text.proofs.Orders.{le-or-lt}
 

@@ -9,16 +9,17 @@ use native.Mathlib.Omega.{arith}
 use lib.ListN.{getD}
 use Rattle.text.specs.Words.{ascii}
 use Rattle.record.specs.Limits.{on, warming}
+use Rattle.record.specs.Wanted.{wantedOf}
 use Rattle.record.specs.Legal.{isTimed}
 use Rattle.record.specs.Record.{closed, started}
-use Rattle.record.specs.HostCalls.{withOwn}
+use Rattle.record.specs.Updates.{withOwn, withPower, aged}
 use Rattle.record.specs.Computing.{computing as computing-record}
 use Rattle.record.specs.declared.types.Settings.{Settings}
 use Rattle.record.specs.declared.types.Own.{Own}
 use Rattle.record.specs.declared.types.Connection.{Connection}
 use Rattle.record.specs.declared.types.Device.{Device}
 use Rattle.record.specs.declared.types.Changed.{Changed}
-use Rattle.clock.specs.Second.{times, oneMore, withPowerLeftLamps, ownSecond, connectionSecond, aged}
+use Rattle.clock.specs.Second.{times, oneMore, ownSecond, connectionSecond}
 use Rattle.clock.specs.Passing.{secondsMost, passed}
 use Rattle.clock.specs.Computing.{computing}
 use Rattle.clock.proofs.LampsGain.{gains, stops}
@@ -47,10 +48,10 @@ module _ (c : Connection) (ages : isTimed (c .phase) ≡ true) where
 
 -- W = 20, C = 60, one lamp at 0 s, input 11: the device that was just switched on, and what a call gives of it
 abbrev fresh : Device
-fresh = started [] [] [] [] [] (ascii "11") (0 ∷ []) 20 60
+fresh = started (wantedOf [] [] [] [] [] (ascii "11") (0 ∷ []) 20 60)
 
 abbrev warmed : Device
-warmed = withOwn fresh (withPowerLeftLamps (fresh .own) warming 20 (fresh .own .lamps))
+warmed = withOwn fresh (withPower (fresh .own) warming 20)
 
 abbrev number-power-left-lamp : Changed → List ℕ
 number-power-left-lamp r =

@@ -11,7 +11,7 @@ use lib.Dec.{ltb, eqb}
 use borrow.Author.Tests.{ltb-true, eqb-true, eqb-false}
 use Rattle.text.specs.Words.{if_then_else_}
 use Rattle.text.proofs.Choices.{if-all, if-by}
-use Rattle.record.specs.Limits.{lampsMost, lampLimit, ageEnd, off, on, cooling, warming}
+use Rattle.record.specs.Limits.{lampsMost, lampLimit, ageEnd, off, on, cooling, warming, isLit}
 use Rattle.record.specs.Rules.{isLamps}
 use Rattle.record.specs.Legal.{isLeft, isTimed, isLegal}
 use Rattle.record.specs.Record.{closed}
@@ -24,7 +24,7 @@ use Rattle.record.proofs.OwnTold.{OwnTold, own-shown, lamp-at, lamps-shown, Lef
 use Rattle.record.proofs.OwnTold.{when-off, left-told, warming-left, cooling-left, on-left, off-left}
 use Rattle.record.proofs.ConnectionTold.{ConnectionTold, connection-told, connection-shown, closed-legal, timed-age}
 use Rattle.record.proofs.LegalTold.{legal-settings, own-of-legal, connection-of-legal, legal-by-parts}
-use Rattle.clock.specs.Second.{times, firstChanged, isLit, settledPower, oneMore, lampsSecond, leftSecond}
+use Rattle.clock.specs.Second.{times, firstChanged, settledPower, oneMore, lampsSecond, leftSecond}
 use Rattle.clock.specs.Second.{powerSecond, ownSecond, connectionSecond, second}
 use Rattle.clock.specs.Passing.{passed}
 use Rattle.clock.proofs.Repeated.{times-keeps}
@@ -60,15 +60,15 @@ module _ (s : Settings) (o : Own) (t : OwnTold s o) where
   abbrev count : ℕ
   count = s .«lamp_count»
 
-  burnt-kept : Kept lampsMost isLamps (firstChanged count (λ place. oneMore) (o .lamps)) count
+  burnt-kept : Kept lampsMost isLamps (firstChanged count oneMore (o .lamps)) count
   burnt-kept =
-      lamps-shown _ count (changed-length count (λ place. oneMore) (o .lamps) ∙ t .lamps .long) (t .lamps .inside)
+      lamps-shown _ count (changed-length count oneMore (o .lamps) ∙ t .lamps .long) (t .lamps .inside)
       (λ k h.
       let inside : k < length (o .lamps) = omega (arith, t .lamps .long, t .lamps .inside) in
-      let gained = changed-at count (λ place. oneMore) (o .lamps) 0 k h inside in
+      let gained = changed-at count oneMore (o .lamps) 0 k h inside in
       let one = one-within (getD (o .lamps) k 0) (lamp-at s o t k h) in
       omega (arith, gained, one))
-      (λ k h. kept-at count (λ place. oneMore) (o .lamps) 0 k h ∙ kept-zero lampsMost isLamps _ _ (t .lamps) k h)
+      (λ k h. kept-at count oneMore (o .lamps) 0 k h ∙ kept-zero lampsMost isLamps _ _ (t .lamps) k h)
 
   lamps-kept : Kept lampsMost isLamps (lampsSecond (o .power) count (o .lamps)) count
   unfolding lampsSecond
@@ -98,13 +98,6 @@ connection-second-kept c t =
     })
     (λ l. connection-told closed closed-legal))
     (λ e. t)
-
--- part by part
-pub own-time-kept : (n : ℕ) (s : Settings) (o : Own) → OwnTold s o → OwnTold s (times (ownSecond s) n o)
-own-time-kept n s o t = times-keeps (OwnTold s) (ownSecond s) (own-second-kept s) n o t
-
-pub connection-time-kept : (n : ℕ) (c : Connection) → ConnectionTold c → ConnectionTold (times connectionSecond n c)
-connection-time-kept n c t = times-keeps ConnectionTold connectionSecond connection-second-kept n c t
 
 -- the record
 pub second-legal : (d : Device) → isLegal d ≡ true → isLegal (second d) ≡ true

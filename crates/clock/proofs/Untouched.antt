@@ -2,13 +2,14 @@
 --   Untouched before after      all else is after as it was before
 -- Assumes nothing.
 use Prim.Native.Nat.{ℕ}
-use mathlib.Core.Path.{_≡_, refl, ap}
+use mathlib.Core.Path.{_≡_, refl}
 use mathlib.Core.Bool.{false}
 use Rattle.record.specs.Legal.{isTimed}
+use Rattle.record.specs.Updates.{withPower, withSeconds}
 use Rattle.record.specs.declared.types.Settings.{Settings}
 use Rattle.record.specs.declared.types.Own.{Own}
 use Rattle.record.specs.declared.types.Device.{Device}
-use Rattle.clock.specs.Second.{times, withPowerLeftLamps, ownSecond, second}
+use Rattle.clock.specs.Second.{times, ownSecond, second}
 use Rattle.clock.specs.Passing.{passed}
 use Rattle.clock.proofs.ConnectionsAge.{untimed-stays}
 use Rattle.clock.proofs.InOneGo.{own-in-one-go, parts-pass}
@@ -16,7 +17,8 @@ use Rattle.clock.proofs.Cases.{passed-by}
 
 pub record Untouched (before after : Device) : Type 0 where
   pub settings : after .settings ≡ before .settings
-  pub own : after .own ≡ withPowerLeftLamps (before .own) (after .own .power) (after .own .left) (after .own .lamps)
+  pub own : after .own
+      ≡ withSeconds (withPower (before .own) (after .own .power) (after .own .left)) (after .own .lamps)
   pub connection : isTimed (before .connection .phase) ≡ false → after .connection ≡ before .connection
 
 -- the chosen input, the mutes, the fault mark and the error digits stay
@@ -24,7 +26,7 @@ module _ (n : ℕ) (s : Settings) (o : Own) where
   abbrev then : Own
   then = times (ownSecond s) n o
 
-  pub own-else-stays : then ≡ withPowerLeftLamps o (then .power) (then .left) (then .lamps)
+  pub own-else-stays : then ≡ withSeconds (withPower o (then .power) (then .left)) (then .lamps)
   own-else-stays = rw (own-in-one-go s o n)
 
 pub time-leaves : (n : ℕ) (d : Device) → Untouched d (times second n d)
@@ -39,20 +41,3 @@ passed-leaves d n =
     passed-by (λ r. Untouched d (r .device)) d n
     (λ h. record { settings = refl; own = refl; connection = λ e. refl })
     (λ h. time-leaves n d)
-
--- what that says, field by field
-module _ {before after : Device} (u : Untouched before after) where
-  pub chosen-stays : after .own .chosen ≡ before .own .chosen
-  chosen-stays = ap (λ (o : Own). o .chosen) (u .own)
-
-  pub video-stays : after .own .«video_muted» ≡ before .own .«video_muted»
-  video-stays = ap (λ (o : Own). o .«video_muted») (u .own)
-
-  pub audio-stays : after .own .«audio_muted» ≡ before .own .«audio_muted»
-  audio-stays = ap (λ (o : Own). o .«audio_muted») (u .own)
-
-  pub fault-stays : after .own .fault ≡ before .own .fault
-  fault-stays = ap (λ (o : Own). o .fault) (u .own)
-
-  pub errors-stay : after .own .errors ≡ before .own .errors
-  errors-stay = ap (λ (o : Own). o .errors) (u .own)

@@ -11,12 +11,12 @@ use mathlib.Core.Bool.{Bool, _&&_}
 use mathlib.Core.List.{List}
 use lib.Dec.{leb}
 use Rattle.text.specs.Words.{if_then_else_}
-use Rattle.record.specs.Limits.{lampLimit}
+use Rattle.record.specs.Limits.{lampLimit, isLit, isBetween}
+use Rattle.record.specs.Updates.{withPower, withSeconds}
 use Rattle.record.specs.declared.types.Settings.{Settings}
 use Rattle.record.specs.declared.types.Own.{Own}
 use Rattle.record.specs.declared.types.Device.{Device}
-use Rattle.clock.specs.Second.{times, firstChanged, isLit, isBetween, settledPower, oneMore, withPowerLeftLamps}
-use Rattle.clock.specs.Second.{ownSecond, connectionSecond}
+use Rattle.clock.specs.Second.{times, firstChanged, settledPower, oneMore, ownSecond, connectionSecond}
 
 unfoldable pub powerAfter : ℕ → ℕ → ℕ → ℕ
 powerAfter n power left = if isBetween power && (leb 1 n && leb left n) then settledPower power else power
@@ -28,13 +28,11 @@ abbrev pub lampAfter : ℕ → Bool → ℕ → ℕ
 lampAfter n lit x = if lit then min lampLimit (x + n) else x
 
 unfoldable pub lampsAfter : ℕ → ℕ → ℕ → List ℕ → List ℕ
-lampsAfter n power count lamps = if isLit power then firstChanged count (λ place. times oneMore n) lamps else lamps
+lampsAfter n power count lamps = if isLit power then firstChanged count (times oneMore n) lamps else lamps
 
 abbrev pub ownAfter : Settings → Own → ℕ → Own
 ownAfter s o n =
-    withPowerLeftLamps o
-    (powerAfter n (o .power) (o .left))
-    (leftAfter n (o .power) (o .left))
+    withSeconds (withPower o (powerAfter n (o .power) (o .left)) (leftAfter n (o .power) (o .left)))
     (lampsAfter n (o .power) (s .«lamp_count») (o .lamps))
 
 abbrev pub partsAfter : ℕ → Device → Device

@@ -1,8 +1,6 @@
 -- One second (01, "Time"), as a second of the projector's own part and a second of the connection.
 --   times f n x              f applied n times to x
---   firstChanged n f l       the list l, its first n elements changed by f, which is told each one's place
---   isLit power              warm-up or on: the lamps burn
---   isBetween power          warm-up or cooling: seconds are left
+--   firstChanged n f l       the list l, its first n elements changed by f
 --   oneMore x                a burning lamp gains one second, stopped at the limit
 --   ownSecond s o            the own part a second later, under the settings s
 --   connectionSecond c       the connection a second later: awaiting and failed age by one, and close at 30 seconds
@@ -10,11 +8,12 @@
 -- The fault mark changes none of this.
 -- Assumes nothing.
 use Prim.Native.Nat.{ℕ, zero, suc, _+_, _-_}
-use mathlib.Core.Bool.{Bool, _&&_, _||_}
+use mathlib.Core.Bool.{_&&_}
 use mathlib.Core.List.{List, [], _∷_}
 use lib.Dec.{ltb, eqb}
 use Rattle.text.specs.Words.{if_then_else_}
-use Rattle.record.specs.Limits.{lampLimit, ageEnd, off, on, cooling, warming}
+use Rattle.record.specs.Limits.{lampLimit, ageEnd, off, on, warming, isLit, isBetween}
+use Rattle.record.specs.Updates.{withPower, withSeconds, aged}
 use Rattle.record.specs.Legal.{isTimed}
 use Rattle.record.specs.Record.{closed}
 use Rattle.record.specs.declared.types.Settings.{Settings}
@@ -26,23 +25,17 @@ unfoldable pub times : {A : Type 0} → (A → A) → ℕ → A → A
 times f zero x = x
 times f (suc n) x = f (times f n x)
 
-unfoldable pub firstChanged : {A : Type 0} → ℕ → (ℕ → A → A) → List A → List A
+unfoldable pub firstChanged : {A : Type 0} → ℕ → (A → A) → List A → List A
 firstChanged zero f l = l
 firstChanged (suc n) f [] = []
-firstChanged (suc n) f (x ∷ l) = f 0 x ∷ firstChanged n (λ k. f (suc k)) l
-
-abbrev pub isLit : ℕ → Bool
-isLit power = eqb power warming || eqb power on
-
-abbrev pub isBetween : ℕ → Bool
-isBetween power = eqb power warming || eqb power cooling
+firstChanged (suc n) f (x ∷ l) = f x ∷ firstChanged n f l
 
 unfoldable pub oneMore : ℕ → ℕ
 oneMore x = if ltb x lampLimit then x + 1 else x
 
 -- warm-up or on: every lamp gains one
 unfoldable pub lampsSecond : ℕ → ℕ → List ℕ → List ℕ
-lampsSecond power count lamps = if isLit power then firstChanged count (λ place. oneMore) lamps else lamps
+lampsSecond power count lamps = if isLit power then firstChanged count oneMore lamps else lamps
 
 -- then, in warm-up or cooling, seconds left fall by one
 unfoldable pub leftSecond : ℕ → ℕ → ℕ
@@ -55,27 +48,10 @@ settledPower power = if eqb power warming then on else off
 unfoldable pub powerSecond : ℕ → ℕ → ℕ
 powerSecond power left = if isBetween power && eqb (leftSecond power left) 0 then settledPower power else power
 
-abbrev pub withPowerLeftLamps : Own → ℕ → ℕ → List ℕ → Own
-withPowerLeftLamps o power left lamps = record {
-  power = power;
-  left = left;
-  chosen = o .chosen;
-  «video_muted» = o .«video_muted»;
-  «audio_muted» = o .«audio_muted»;
-  fault = o .fault;
-  errors = o .errors;
-  lamps = lamps;
-}
-
 unfoldable pub ownSecond : Settings → Own → Own
 ownSecond s o =
-    withPowerLeftLamps o
-    (powerSecond (o .power) (o .left))
-    (leftSecond (o .power) (o .left))
+    withSeconds (withPower o (powerSecond (o .power) (o .left)) (leftSecond (o .power) (o .left)))
     (lampsSecond (o .power) (s .«lamp_count») (o .lamps))
-
-abbrev pub aged : Connection → ℕ → Connection
-aged c age = record { phase = c .phase; age = age; random = c .random; line = c .line }
 
 unfoldable pub connectionSecond : Connection → Connection
 connectionSecond c =

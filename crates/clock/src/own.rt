@@ -1,5 +1,5 @@
 // The projector's own part after n seconds, in closed form: the cost does not grow with n.
-use record::own::COOLING;
+use record::own;
 use record::own::LAMP_LIMIT;
 use record::own::OFF;
 use record::own::ON;
@@ -8,22 +8,8 @@ use record::types::LAMPS_MOST;
 use record::types::Own;
 use record::types::Settings;
 ghost use mathlib.Core.Path.{_≡_};
-ghost use Rattle.clock.specs.Second.{isLit, isBetween, settledPower, oneMore, firstChanged, ownSecond, times};
+ghost use Rattle.clock.specs.Second.{settledPower, oneMore, firstChanged, ownSecond, times};
 ghost use Rattle.clock.specs.After.{powerAfter, leftAfter, lampsAfter};
-
-// A lamp burns in warm-up and power-on.
-pub fn is_lit(power: u8) -> bool
-    ensures { λ r. ⌜ r ≡ isLit power ⌝ }
-{
-    (power == WARMING) | (power == ON)
-}
-
-// Seconds are left in warm-up and cooling.
-pub fn is_between(power: u8) -> bool
-    ensures { λ r. ⌜ r ≡ isBetween power ⌝ }
-{
-    (power == WARMING) | (power == COOLING)
-}
 
 fn settled_power(power: u8) -> u8
     ensures { λ r. ⌜ r ≡ settledPower power ⌝ }
@@ -34,7 +20,7 @@ fn settled_power(power: u8) -> u8
 fn power_after(power: u8, left: u32, n: u32) -> u8
     ensures { λ r. ⌜ r ≡ powerAfter n power left ⌝ }
 {
-    if is_between(power) & ((1 <= n) & (left <= n)) {
+    if own::is_between(power) & ((1 <= n) & (left <= n)) {
         return settled_power(power);
     }
     power
@@ -43,7 +29,7 @@ fn power_after(power: u8, left: u32, n: u32) -> u8
 fn left_after(power: u8, left: u32, n: u32) -> u32
     ensures { λ r. ⌜ r ≡ leftAfter n power left ⌝ }
 {
-    if !is_between(power) {
+    if !own::is_between(power) {
         return left;
     }
     if left <= n {
@@ -66,7 +52,7 @@ fn lamp_after(seconds: u32, n: u32) -> u32
 }
 
 fn burnt(lamps: [u32; LAMPS_MOST], count: usize, n: u32) -> [u32; LAMPS_MOST]
-    ensures { λ r. ⌜ r ≡ firstChanged count (λ place. times oneMore n) lamps ⌝ }
+    ensures { λ r. ⌜ r ≡ firstChanged count (times oneMore n) lamps ⌝ }
 {
     let mut after = lamps;
     let mut k = 0;
@@ -83,7 +69,7 @@ fn burnt(lamps: [u32; LAMPS_MOST], count: usize, n: u32) -> [u32; LAMPS_MOST]
 fn lamps_after(power: u8, lamps: [u32; LAMPS_MOST], count: usize, n: u32) -> [u32; LAMPS_MOST]
     ensures { λ r. ⌜ r ≡ lampsAfter n power count lamps ⌝ }
 {
-    if is_lit(power) {
+    if own::is_lit(power) {
         return burnt(lamps, count, n);
     }
     lamps

@@ -5,49 +5,46 @@ use Prim.Native.Nat.{ℕ}
 use mathlib.Core.Path.{_≡_, sym, _∙_}
 use mathlib.Core.Bool.{Bool, true, false, not}
 use mathlib.Core.List.{List}
-use lib.ListN.{length}
+use native.Mathlib.Omega.{arith}
 use borrow.Author.Tests.{not-false}
 use Rattle.text.proofs.Choices.{if-by}
+use Rattle.record.specs.Wanted.{Wanted}
 use Rattle.record.specs.Rules.{isErrors}
 use Rattle.record.specs.Record.{closed, settingsOf, startOwn, started, blank, accepted, refused}
 use Rattle.record.specs.Legal.{isLegal}
 use Rattle.record.specs.SetUp.{isSetUp, setUp}
-use Rattle.record.specs.HostCalls.{withOwn, withFault, withErrors, faultSet, errorsSet}
+use Rattle.record.specs.Updates.{withOwn, withFault, withErrors}
+use Rattle.record.specs.HostCalls.{faultSet, errorsSet}
 use Rattle.record.specs.declared.types.Settings.{Settings}
 use Rattle.record.specs.declared.types.Own.{Own}
 use Rattle.record.specs.declared.types.Connection.{Connection}
 use Rattle.record.specs.declared.types.Device.{Device}
 use Rattle.record.specs.declared.types.Changed.{Changed}
 
-module _ (name maker model other password inputs lamps : List ℕ) (warm cool : ℕ) where
-  pub set-up-refused : isSetUp name maker model other password inputs lamps warm cool ≡ false
-      → setUp name maker model other password inputs lamps warm cool ≡ refused 3 blank
+module _ (w : Wanted) where
+  pub set-up-refused : isSetUp w ≡ false → setUp w ≡ refused 3 blank
   unfolding setUp
   set-up-refused h = rw h
 
-  pub set-up-accepted : isSetUp name maker model other password inputs lamps warm cool ≡ true
-      → setUp name maker model other password inputs lamps warm cool
-      ≡ accepted (started name maker model other password inputs lamps warm cool)
+  pub set-up-accepted : isSetUp w ≡ true → setUp w ≡ accepted (started w)
   unfolding setUp
   set-up-accepted h = rw h
 
   -- the started device, from its parts
-  pub set-up-made : {s : Settings} {o : Own} {c : Connection}
-      → isSetUp name maker model other password inputs lamps warm cool ≡ true
-      → s ≡ settingsOf name maker model other password inputs (length lamps) warm cool → o ≡ startOwn lamps → c ≡ closed
-      → accepted (record { settings = s; own = o; connection = c })
-      ≡ setUp name maker model other password inputs lamps warm cool
+  pub set-up-made : {s : Settings} {o : Own} {c : Connection} → isSetUp w ≡ true → s ≡ settingsOf w
+      → o ≡ startOwn (w .lamps) → c ≡ closed → accepted (record { settings = s; own = o; connection = c }) ≡ setUp w
   unfolding started
   set-up-made h e f g =
       (λ j. accepted (record { settings = e j; own = f j; connection = g j })) ∙ sym (set-up-accepted h)
 
-  pub set-up-by : (P : Changed → Type 0) → P (refused 3 blank)
-      → (isSetUp name maker model other password inputs lamps warm cool ≡ true
-      → P (accepted (started name maker model other password inputs lamps warm cool)))
-      → P (setUp name maker model other password inputs lamps warm cool)
+  pub set-up-by : (P : Changed → Type 0) → P (refused 3 blank) → (isSetUp w ≡ true → P (accepted (started w)))
+      → P (setUp w)
   unfolding setUp
-  set-up-by P refuse accept =
-      if-by P (isSetUp name maker model other password inputs lamps warm cool) accept (λ h. refuse)
+  set-up-by P refuse accept = if-by P (isSetUp w) accept (λ h. refuse)
+
+  -- set-up gives 0 where each setting is in its range only
+  pub set-up-in-range : setUp w .number ≡ 0 → isSetUp w ≡ true
+  set-up-in-range = set-up-by (λ r. r .number ≡ 0 → isSetUp w ≡ true) (λ e. absurd (omega arith)) (λ h e. h)
 
 module _ (d : Device) where
   pub fault-illegal : (m : Bool) → isLegal d ≡ false → faultSet d m ≡ refused 1 d

@@ -6,16 +6,16 @@ use mathlib.Core.Path.{_≡_, refl, sym, ap, _∙_}
 use mathlib.Core.Bool.{Bool, true, false, not, _&&_, _||_, false≢true}
 use mathlib.Core.List.{[]}
 use native.Mathlib.Omega.{arith}
-use lib.Dec.{leb, eqb}
+use lib.Dec.{eqb}
 use borrow.Author.Tests.{leb-true, le-leb, ltb-true, lt-ltb, eqb-true, eq-eqb}
 use Rattle.text.specs.Words.{if_then_else_}
 use Rattle.text.proofs.Choices.{both, both-left, both-right, if-by}
 use Rattle.lines.specs.Bytes.{noCr}
 use Rattle.lines.specs.Forms.{commandMost}
 use Rattle.lines.proofs.Characters.{no-cr-of}
-use Rattle.record.specs.Limits.{lineRoom, ageEnd, shut, awaiting, opened, failed}
+use Rattle.record.specs.Limits.{lineRoom, ageEnd, shut, awaiting, opened, failed, isPhase}
 use Rattle.record.specs.Record.{closed}
-use Rattle.record.specs.Legal.{isKept, isTimed, isCollecting, isAge, heldMost, isHeld, isConnection}
+use Rattle.record.specs.Legal.{fillsRoom, isTimed, isCollecting, isAge, heldMost, isHeld, isConnection}
 use Rattle.record.specs.declared.types.Connection.{Connection}
 use Rattle.record.proofs.Kept.{Kept, kept-told, kept-shown, nothing-kept}
 
@@ -39,10 +39,10 @@ random-shown p r h = by-case (eqb p shut) (λ e. eq-eqb r 0 (h (eqb-true p shut 
 
 module _ (c : Connection) where
   abbrev line-ok : Bool
-  line-ok = isKept lineRoom noCr (c .line .bytes) (c .line .held)
+  line-ok = fillsRoom lineRoom noCr (c .line .bytes) (c .line .held)
 
   abbrev to-phase : Bool
-  to-phase = line-ok && leb (c .phase) failed
+  to-phase = line-ok && isPhase (c .phase)
 
   abbrev to-age : Bool
   to-age = to-phase && isAge (c .phase) (c .age)
@@ -60,8 +60,8 @@ module _ (c : Connection) where
       let h3 = both-left to-age random-ok h4 in
       let h2 = both-left to-phase (isAge (c .phase) (c .age)) h3 in
       record {
-        line = kept-told lineRoom noCr _ _ (both-left line-ok (leb (c .phase) failed) h2);
-        phase = leb-true (c .phase) failed (both-right line-ok (leb (c .phase) failed) h2);
+        line = kept-told lineRoom noCr _ _ (both-left line-ok (isPhase (c .phase)) h2);
+        phase = leb-true (c .phase) failed (both-right line-ok (isPhase (c .phase)) h2);
         age = both-right to-phase (isAge (c .phase) (c .age)) h3;
         random = random-told (c .phase) (c .random) (both-right to-age random-ok h4);
         held = both-right (to-age && random-ok) held-ok h;

@@ -5,7 +5,8 @@ use mathlib.Core.Bool.{Bool, true}
 use mathlib.Core.List.{List}
 use Prim.Native.Nat.{ℕ}
 use Rattle.record.specs.Legal.{isLegal}
-use Rattle.record.specs.HostCalls.{withOwn, withFault, withErrors, faultSet, errorsSet}
+use Rattle.record.specs.Updates.{withOwn, withFault, withErrors}
+use Rattle.record.specs.HostCalls.{faultSet, errorsSet}
 use Rattle.record.specs.declared.types.Own.{Own}
 use Rattle.record.specs.declared.types.Device.{Device}
 use Rattle.record.proofs.OwnTold.{OwnTold, own-shown}

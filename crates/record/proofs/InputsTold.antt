@@ -43,7 +43,8 @@ module _ (s : List ℕ) (h : isInputs s ≡ true) where
         let at-second : drop n s at (2 * place + 1) ≡ s at (2 * k + 1)
         = getD-drop n s (2 * place + 1) 0 ∙ ap (λ (i : ℕ). s at i) (omega arith) in
         (λ i. not (eqb (sym at-first i) (s at (2 * j)) && eqb (sym at-second i) (s at (2 * j + 1))))
-        ∙ pair-at (isOther (s at (2 * j)) (s at (2 * j + 1))) (drop n s) none place (omega (arith, length-drop n s))
+        ∙ pair-at (λ x y later. isOther (s at (2 * j)) (s at (2 * j + 1)) x y) (drop n s) none place
+        (omega (arith, length-drop n s))
 
     pub inputs-differ : s at (2 * k) ≡ s at (2 * j) → s at (2 * k + 1) ≡ s at (2 * j + 1) → ⊥
     inputs-differ e f =

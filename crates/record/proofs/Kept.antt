@@ -1,4 +1,4 @@
--- What `isKept` tells of an array, and how it is shown.
+-- What `fillsRoom` tells of an array, and how it is shown.
 --   Kept room rule s n      the array s has that room, its first n places follow the rule, the rest is zero
 -- Assumes nothing.
 use Prim.Native.Nat.{ℕ, zero, suc, _+_, _-_, _≤_, _<_}
@@ -8,15 +8,16 @@ use mathlib.Core.List.{List, [], _∷_, _++_}
 use native.Mathlib.Omega.{arith}
 use native.Mathlib.Numerals.{add-one}
 use lib.ListN.{set, length-set, length, getD, take, drop, length-append, length-drop, length-replicate}
-use lib.Seq.{drop-cons, drop-set-lt, take-suc-set, getD-drop, length-take-le, take-append-seam, drop-append-seam, take-append-le}
+use lib.Seq.{drop-cons, drop-set-lt, take-suc-set, getD-drop, length-take-le}
+use lib.Seq.{take-append-seam, drop-append-seam, take-append-le}
 use lib.Dec.{leb, eqb}
 use borrow.Author.Tests.{eqb-true, eq-eqb, leb-true, le-leb}
 use Rattle.text.specs.Scans.{every}
 use Rattle.text.proofs.Choices.{both, both-left, both-right}
 use Rattle.text.proofs.Stores.{sets-snoc, sets-over}
 use Rattle.record.specs.Record.{zeros, inRoom}
-use Rattle.record.specs.Legal.{isZero, isClear, isKept}
-use Rattle.record.proofs.Places.{every-by-place}
+use Rattle.record.specs.Legal.{isZero, isClear, fillsRoom}
+use Rattle.text.proofs.Scanning.{every-by-place}
 
 zero-at : (s : List ℕ) (k : ℕ) → every isZero s ≡ true → getD s k 0 ≡ 0
 zero-at [] k h = refl
@@ -33,8 +34,8 @@ module _ (room : ℕ) (rule : List ℕ → Bool) (s : List ℕ) (n : ℕ) where
   abbrev clear-test : Bool
   clear-test = leb n (length s) && every isZero (drop n s)
 
-  pub kept-told : isKept room rule s n ≡ true → Kept
-  unfolding isKept isClear
+  pub kept-told : fillsRoom room rule s n ≡ true → Kept
+  unfolding fillsRoom isClear
   kept-told h =
       let front = both-left (eqb (length s) room && clear-test) (rule (take n s)) h in
       let rest = both-right (eqb (length s) room) clear-test front in
@@ -47,8 +48,8 @@ module _ (room : ℕ) (rule : List ℕ → Bool) (s : List ℕ) (n : ℕ) where
         follows = both-right (eqb (length s) room && clear-test) (rule (take n s)) h;
       }
 
-  pub kept-shown : Kept → isKept room rule s n ≡ true
-  unfolding isKept isClear
+  pub kept-shown : Kept → fillsRoom room rule s n ≡ true
+  unfolding fillsRoom isClear
   kept-shown k =
       let inside = le-leb n (length s) (omega (arith, k .long, k .inside)) in
       both (both (eq-eqb (length s) room (k .long)) (both inside (k .clear))) (k .follows)

@@ -1,13 +1,13 @@
 pub mod Rooms
-pub mod Pairs
+pub mod Places
 pub mod Marks
 pub mod Sifted
-pub mod Places
 pub mod Kept
 pub mod Filled
 pub mod Rules
 pub mod Spelt
 pub mod Calls
+pub mod OutOfRange
 pub mod InputsTold
 pub mod SettingsTold
 pub mod OwnTold
@@ -16,5 +16,4 @@ pub mod LegalTold
 pub mod Started
 pub mod HostKept
 pub mod Results
-pub mod OutOfRange
 mod Samples

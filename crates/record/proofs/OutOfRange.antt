@@ -10,20 +10,19 @@ use native.Mathlib.Omega.{arith}
 use lib.Dec.{ltb, eqb}
 use borrow.Author.Tests.{ltb-true, ltb-false}
 use Rattle.text.specs.Words.{if_then_else_}
-use Rattle.text.proofs.Choices.{if-yes, if-no, if-by, both}
+use Rattle.text.specs.Scans.{every}
+use Rattle.text.proofs.Choices.{if-yes, if-no, if-by, both, both-left, both-right}
 use Rattle.text.proofs.OneResult.{one-result}
-use Rattle.record.specs.SetUp.{isTexts, isEquipment, isSetUp, setUp}
-use Rattle.record.specs.OutOfRange.{settingsInOrder, settingPlace, firstFailing, isSettingInRange}
-use Rattle.record.specs.OutOfRange.{firstOutOfRange, SettingHolds}
+use Rattle.record.specs.Wanted.{Wanted}
+use Rattle.record.specs.SetUp.{settingsInOrder, isSettingInRange, isSetUp, setUp}
+use Rattle.record.specs.OutOfRange.{settingPlace, firstFailing, firstOutOfRange, SettingHolds}
 use Rattle.record.specs.declared.types.Changed.{Changed}
 use Rattle.record.specs.declared.out_of_range.Setting.{Setting}
 use Rattle.record.specs.declared.out_of_range.Setting.the-variants.{Name, Maker, Model, Other, Password, Inputs}
 use Rattle.record.specs.declared.out_of_range.Setting.the-variants.{Lamps, WarmUp, Cooling}
 use Rattle.record.specs.declared.out_of_range.MaybeSetting.{MaybeSetting}
 use Rattle.record.specs.declared.out_of_range.MaybeSetting.the-variants.{SettingIs, NoSetting}
-use Rattle.record.proofs.Rules.{TextsTold, texts-told, SetUpTold, set-up-told}
-use Rattle.record.proofs.Calls.{set-up-accepted}
-use Rattle.record.proofs.Started.{set-up-in-range}
+use Rattle.record.proofs.Calls.{set-up-accepted, set-up-in-range}
 
 -- ---- the places
 
@@ -125,54 +124,45 @@ module _ (f : Setting → Bool) where
   pub holding-told : (m : MaybeSetting) → SettingHolds f m → firstFailing f settingsInOrder ≡ m
   holding-told m h = one-holds _ m first-holds h
 
+  -- none fails where all are met, and only there
+  pub none-failing : (l : List Setting) → every f l ≡ true → firstFailing f l ≡ NoSetting
+  unfolding firstFailing
+  none-failing [] h = refl
+  none-failing (s ∷ l) h =
+      if-yes _ _ (both-left (f s) (every f l) h) ∙ none-failing l (both-right (f s) (every f l) h)
+
+  pub all-met : (l : List Setting) → firstFailing f l ≡ NoSetting → every f l ≡ true
+  unfolding firstFailing
+  all-met [] = λ e. refl
+  all-met (s ∷ l) = if-by (λ (m : MaybeSetting). m ≡ NoSetting → every f (s ∷ l) ≡ true) (f s)
+      (λ h e. both h (all-met l e)) (λ h e. let z : _≡_ {A = ℕ} 0 1 = cc in absurd (omega arith))
+
 -- ---- against set-up
 
-module _ (name maker model other password inputs lamps : List ℕ) (warm cool : ℕ) where
-  abbrev rule : Setting → Bool
-  rule = isSettingInRange name maker model other password inputs lamps warm cool
+module _ (w : Wanted) where
+  pub none-in-range : firstOutOfRange w ≡ NoSetting → isSetUp w ≡ true
+  unfolding isSetUp
+  none-in-range = all-met (isSettingInRange w) settingsInOrder
 
-  abbrev which : MaybeSetting
-  which = firstOutOfRange name maker model other password inputs lamps warm cool
+  pub in-range-none : isSetUp w ≡ true → firstOutOfRange w ≡ NoSetting
+  unfolding isSetUp
+  in-range-none = none-failing (isSettingInRange w) settingsInOrder
 
-  each : isSetUp name maker model other password inputs lamps warm cool ≡ true → (s : Setting) → rule s ≡ true
-  each h = by
+  pub each-in-range : isSetUp w ≡ true → (s : Setting) → isSettingInRange w s ≡ true
+  each-in-range h = subst (SettingHolds (isSettingInRange w)) (in-range-none h) (first-holds (isSettingInRange w))
+
+  pub out-refused : (s : Setting) → firstOutOfRange w ≡ SettingIs s → isSetUp w ≡ false
+  out-refused s e = by (isSetUp w) refl
     where
-      told : SetUpTold name maker model other password inputs lamps warm cool
-      told = set-up-told name maker model other password inputs lamps warm cool h
+      by : (b : Bool) → isSetUp w ≡ b → b ≡ false
+      by false h = refl
+      by true h = let f = in-range-none h in let z : _≡_ {A = ℕ} 0 1 = cc in absurd (omega arith)
 
-      texts : TextsTold name maker model other password
-      texts = texts-told name maker model other password (told .texts)
+  pub none-gives-0 : firstOutOfRange w ≡ NoSetting → setUp w .number ≡ 0
+  none-gives-0 e = ap (λ (r : Changed). r .number) (set-up-accepted w (none-in-range e))
 
-      by : (s : Setting) → rule s ≡ true
-      by Name = texts .name-told
-      by Maker = texts .maker-told
-      by Model = texts .model-told
-      by Other = texts .other-told
-      by Password = texts .password-told
-      by Inputs = told .listed
-      by Lamps = told .lit
-      by WarmUp = told .warms
-      by Cooling = told .cools
+  pub gives-0-none : setUp w .number ≡ 0 → firstOutOfRange w ≡ NoSetting
+  gives-0-none e = in-range-none (set-up-in-range w e)
 
-  all : ((s : Setting) → rule s ≡ true) → isSetUp name maker model other password inputs lamps warm cool ≡ true
-  unfolding isSetUp isTexts isEquipment
-  all h =
-      both (both (both (both (both (h Name) (h Maker)) (h Model)) (h Other)) (h Password))
-      (both (both (both (h Inputs) (h Lamps)) (h WarmUp)) (h Cooling))
-
-  pub none-in-range : which ≡ NoSetting → isSetUp name maker model other password inputs lamps warm cool ≡ true
-  none-in-range e = all (subst (SettingHolds rule) e (first-holds rule))
-
-  pub in-range-none : isSetUp name maker model other password inputs lamps warm cool ≡ true → which ≡ NoSetting
-  in-range-none h = holding-told rule NoSetting (each h)
-
-  pub none-gives-0 : which ≡ NoSetting → setUp name maker model other password inputs lamps warm cool .number ≡ 0
-  none-gives-0 e =
-      ap (λ (r : Changed). r .number)
-      (set-up-accepted name maker model other password inputs lamps warm cool (none-in-range e))
-
-  pub gives-0-none : setUp name maker model other password inputs lamps warm cool .number ≡ 0 → which ≡ NoSetting
-  gives-0-none e = in-range-none (set-up-in-range name maker model other password inputs lamps warm cool e)
-
-  pub one-setting : {r q : MaybeSetting} → r ≡ which → q ≡ which → r ≡ q
+  pub one-setting : {r q : MaybeSetting} → r ≡ firstOutOfRange w → q ≡ firstOutOfRange w → r ≡ q
   one-setting e f = one-result e f

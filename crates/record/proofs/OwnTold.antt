@@ -11,17 +11,16 @@ use native.Mathlib.Omega.{arith}
 use lib.ListN.{length, getD, take}
 use lib.Seq.{getD-take, length-take-le}
 use lib.Dec.{leb, ltb, eqb}
-use borrow.Author.Tests.{leb-true, le-leb, ltb-true, lt-ltb, eqb-true}
-use Rattle.text.proofs.Scanning.{every-at}
+use borrow.Author.Tests.{leb-true, le-leb, ltb-true, lt-ltb, eqb-true, eqb-false}
+use Rattle.text.proofs.Scanning.{every-at, every-by-place}
 use Rattle.text.proofs.Choices.{both, both-left, both-right, if-by}
-use Rattle.record.specs.Limits.{lampsMost, lampLimit, errorsCount, errorMost, off, on, cooling, warming}
+use Rattle.record.specs.Limits.{lampsMost, lampLimit, errorsCount, errorMost, off, on, cooling, warming, isPower}
 use Rattle.record.specs.Rules.{atMost, isLamp, isLamps, isErrors}
-use Rattle.record.specs.Legal.{isKept, isLeft, isOwn}
+use Rattle.record.specs.Legal.{fillsRoom, isLeft, isOwn}
 use Rattle.record.specs.declared.types.Settings.{Settings}
 use Rattle.record.specs.declared.types.Own.{Own}
 use Rattle.record.proofs.Kept.{Kept, kept-told, kept-shown, kept-length, clear-by-place}
 use Rattle.record.proofs.Rules.{errors-long, errors-within, lamps-within}
-use Rattle.record.proofs.Places.{every-by-place}
 
 pub record OwnTold (s : Settings) (o : Own) : Type 0 where
   pub errors : isErrors (o .errors) ≡ true
@@ -31,7 +30,7 @@ pub record OwnTold (s : Settings) (o : Own) : Type 0 where
 
 module _ (s : Settings) (o : Own) where
   abbrev lamps-ok : Bool
-  lamps-ok = isKept lampsMost isLamps (o .lamps) (s .«lamp_count»)
+  lamps-ok = fillsRoom lampsMost isLamps (o .lamps) (s .«lamp_count»)
 
   abbrev left-ok : Bool
   left-ok = isLeft (o .power) (o .left) (s .warm) (s .cool)
@@ -107,15 +106,12 @@ module _ (power left w c : ℕ) where
       (λ e. if-by Tells (eqb power cooling)
       (λ f h. in-cooling (eqb-true power cooling f) (leb-true 1 left (both-left (leb 1 left) (leb left c) h))
       (leb-true left c (both-right (leb 1 left) (leb left c) h)))
-      (λ f h. let none = eqb-true left 0 (both-right (leb power on) (eqb left 0) h) in
+      (λ f h.
+      let none = eqb-true left 0 (both-right (isPower power) (eqb left 0) h) in
+      let known = leb-true power warming (both-left (isPower power) (eqb left 0) h) in
+      let low : power ≤ on = omega (arith, eqb-false power warming e, eqb-false power cooling f) in
       ⊎-elim (λ (g : power ≡ on). when-on g none) (λ (g : power < on). when-off (omega arith) none)
-      (eq-or-lt-of-le (leb-true power on (both-left (leb power on) (eqb left 0) h)))))
-
-  pub left-power : LeftTold w c power left → power ≤ warming
-  left-power (in-warm-up p h k) = omega arith
-  left-power (in-cooling p h k) = omega arith
-  left-power (when-on p h) = omega arith
-  left-power (when-off p h) = omega arith
+      (eq-or-lt-of-le low)))
 
 pub warming-left : (left w c : ℕ) → 1 ≤ left → left ≤ w → isLeft warming left w c ≡ true
 unfolding isLeft

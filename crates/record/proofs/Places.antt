@@ -1,22 +1,33 @@
--- Tests of whole lists, place by place. The first is of every list: to be moved down to `text`.
+-- The test of a list of pairs, pair by pair.
 -- Assumes nothing.
 use Prim.Native.Nat.{ℕ, zero, suc, _+_, _*_, _≤_, _<_}
-use mathlib.Core.Path.{_≡_, refl, sym, ap, _∙_}
+use mathlib.Core.Path.{_≡_, sym, ap, _∙_}
 use mathlib.Core.Bool.{Bool, true, _&&_, false≢true}
 use mathlib.Core.Logic.{⊎-elim}
 use mathlib.Core.List.{List, [], _∷_}
 use native.Mathlib.Nat.{eq-or-lt-of-le}
+use native.Mathlib.Numerals.{add-one}
 use native.Mathlib.Omega.{arith}
-use lib.ListN.{length, getD, drop}
-use Rattle.text.specs.Scans.{every}
-use Rattle.text.proofs.Choices.{both, both-left, both-right}
+use lib.ListN.{length, getD, drop, drop-of-length-le}
+use lib.Seq.{drop-cons}
+use Rattle.text.proofs.Choices.{both-left, both-right}
 use Rattle.record.specs.Rules.{eachPair}
-use Rattle.record.proofs.Pairs.{two-left, one-left}
 
-module _ {A : Type 0} (f : A → Bool) (d : A) where
-  pub every-by-place : (s : List A) → ((k : ℕ) → k < length s → f (getD s k d) ≡ true) → every f s ≡ true
-  every-by-place [] h = refl
-  every-by-place (x ∷ s) h = both (h 0 (omega arith)) (every-by-place s (λ k l. h (suc k) (omega arith)))
+-- a pair that is there, and a last element that has no partner
+pub two-left : (s : List ℕ) (i : ℕ) → i + 1 < length s → drop i s ≡ getD s i 0 ∷ getD s (i + 1) 0 ∷ drop (i + 2) s
+two-left s i h =
+    let g : i < length s = omega arith in
+    let one : suc i ≡ i + 1 = sym (add-one i) in
+    let two : suc (i + 1) ≡ i + 2 = omega arith in
+    drop-cons s i 0 g
+    ∙ ap (λ (k : ℕ). getD s i 0 ∷ drop k s) one
+    ∙ ap (λ (l : List ℕ). getD s i 0 ∷ l) (drop-cons s (i + 1) 0 h)
+    ∙ ap (λ (k : ℕ). getD s i 0 ∷ getD s (i + 1) 0 ∷ drop k s) two
+
+pub one-left : (s : List ℕ) (i : ℕ) → i < length s → length s ≤ i + 1 → drop i s ≡ getD s i 0 ∷ []
+one-left s i h g =
+    let none : drop (suc i) s ≡ [] = drop-of-length-le s {i = suc i} (omega arith) in
+    drop-cons s i 0 h ∙ ap (λ (l : List ℕ). getD s i 0 ∷ l) none
 
 -- a list of pairs: what is left after k of them, the pair at k, and the length
 module _ (f : ℕ → ℕ → List ℕ → Bool) (s : List ℕ) (h : eachPair f s ≡ true) where

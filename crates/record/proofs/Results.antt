@@ -8,6 +8,7 @@ use mathlib.Core.List.{List}
 use Rattle.text.specs.Words.{if_then_else_}
 use Rattle.text.proofs.Choices.{if-yes, if-no, if-by}
 use Rattle.text.proofs.OneResult.{one-result}
+use Rattle.record.specs.Wanted.{Wanted}
 use Rattle.record.specs.Rules.{isErrors}
 use Rattle.record.specs.Record.{blank}
 use Rattle.record.specs.Legal.{isLegal}
@@ -17,25 +18,17 @@ use Rattle.record.specs.declared.types.Device.{Device}
 use Rattle.record.specs.declared.types.Changed.{Changed}
 use Rattle.record.proofs.Calls.{set-up-by, fault-set-by, errors-set-by}
 
-module _ (name maker model other password inputs lamps : List ℕ) (warm cool : ℕ) where
-  abbrev inRange : Bool
-  inRange = isSetUp name maker model other password inputs lamps warm cool
-
-  pub set-up-number : setUp name maker model other password inputs lamps warm cool .number
-      ≡ (if not inRange then 3 else 0)
+module _ (w : Wanted) where
+  pub set-up-number : setUp w .number ≡ (if not (isSetUp w) then 3 else 0)
   unfolding setUp
   set-up-number =
-      if-by (λ (r : Changed). r .number ≡ (if not inRange then 3 else 0)) inRange (λ h. sym (if-no _ _ (ap not h)))
-      (λ h. sym (if-yes _ _ (ap not h)))
+      if-by (λ (r : Changed). r .number ≡ (if not (isSetUp w) then 3 else 0)) (isSetUp w)
+      (λ h. sym (if-no _ _ (ap not h))) (λ h. sym (if-yes _ _ (ap not h)))
 
-  pub set-up-refusal : (setUp name maker model other password inputs lamps warm cool .number ≡ 0 → ⊥)
-      → setUp name maker model other password inputs lamps warm cool .device ≡ blank
-  set-up-refusal =
-      set-up-by name maker model other password inputs lamps warm cool
-      (λ r. (r .number ≡ 0 → ⊥) → r .device ≡ blank) (λ n. refl) (λ h n. absurd (n refl))
+  pub set-up-refusal : (setUp w .number ≡ 0 → ⊥) → setUp w .device ≡ blank
+  set-up-refusal = set-up-by w (λ r. (r .number ≡ 0 → ⊥) → r .device ≡ blank) (λ n. refl) (λ h n. absurd (n refl))
 
-  pub set-up-one : {r q : Changed} → r ≡ setUp name maker model other password inputs lamps warm cool
-      → q ≡ setUp name maker model other password inputs lamps warm cool → r ≡ q
+  pub set-up-one : {r q : Changed} → r ≡ setUp w → q ≡ setUp w → r ≡ q
   set-up-one e f = one-result e f
 
 module _ (d : Device) where

@@ -7,9 +7,10 @@ use mathlib.Core.Bool.{true}
 use mathlib.Core.List.{List, [], _∷_, map}
 use Rattle.text.specs.Words.{ascii}
 use Rattle.record.specs.Limits.{lampLimit}
+use Rattle.record.specs.Wanted.{wantedOf}
 use Rattle.record.specs.Legal.{isLegal}
-use Rattle.record.specs.SetUp.{setUp}
-use Rattle.record.specs.OutOfRange.{settingsInOrder, firstFailing, firstOutOfRange}
+use Rattle.record.specs.SetUp.{settingsInOrder, setUp}
+use Rattle.record.specs.OutOfRange.{firstFailing, firstOutOfRange}
 use Rattle.record.specs.Computing.{computing}
 use Rattle.record.specs.declared.types.Changed.{Changed}
 use Rattle.record.specs.declared.out_of_range.MaybeSetting.{MaybeSetting}
@@ -17,7 +18,7 @@ use Rattle.record.specs.declared.out_of_range.MaybeSetting.the-variants.
 
 -- W = 20, C = 60, one lamp; the name and the inputs as given
 abbrev small : String → String → ℕ → Changed
-small name inputs lamp = setUp (ascii name) [] [] [] [] (ascii inputs) (lamp ∷ []) 20 60
+small name inputs lamp = setUp (wantedOf (ascii name) [] [] [] [] (ascii inputs) (lamp ∷ []) 20 60)
 
 pub settles : isLegal (small "" "11" 0 .device) ≡ true
 unfolding computing
@@ -38,8 +39,9 @@ numbered = refl
 -- one lamp
 abbrev which : (name maker model other password inputs : String) (lamp warm cool : ℕ) → MaybeSetting
 which name maker model other password inputs lamp warm cool =
-    firstOutOfRange (ascii name) (ascii maker) (ascii model) (ascii other) (ascii password) (ascii inputs) (lamp ∷ [])
-    warm cool
+    firstOutOfRange
+    (wantedOf (ascii name) (ascii maker) (ascii model) (ascii other) (ascii password) (ascii inputs) (lamp ∷ [])
+    warm cool)
 
 -- each setting out of its range in turn, the others in theirs, but for C = c
 abbrev inTurn : ℕ → List MaybeSetting

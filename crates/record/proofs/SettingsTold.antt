@@ -14,9 +14,9 @@ use Rattle.text.proofs.Choices.{both-left, both-right}
 use Rattle.lines.specs.Bytes.{_at_}
 use Rattle.lines.specs.Inputs.{isInputText}
 use Rattle.lines.specs.Texts.{isName, isInfo, isPassword, passwordMost}
-use Rattle.record.specs.Limits.{textRoom, inputRoom, inputsMost, lampsMost, stretchMost}
+use Rattle.record.specs.Limits.{textRoom, inputRoom, listedMost, lampsMost, stretchMost}
 use Rattle.record.specs.Rules.{isInputs, isStretch}
-use Rattle.record.specs.Legal.{isTextKept, isKept, isSettings}
+use Rattle.record.specs.Legal.{fillsTextRoom, fillsRoom, isSettings}
 use Rattle.record.specs.declared.types.Text.{Text}
 use Rattle.record.specs.declared.types.Settings.{Settings}
 use Rattle.lines.proofs.TextsTold.{password-long}
@@ -54,22 +54,22 @@ stretch-told n h = record {
 
 module _ (s : Settings) where
   abbrev name-ok : Bool
-  name-ok = isTextKept isName (s .name)
+  name-ok = fillsTextRoom isName (s .name)
 
   abbrev to-maker : Bool
-  to-maker = name-ok && isTextKept isInfo (s .maker)
+  to-maker = name-ok && fillsTextRoom isInfo (s .maker)
 
   abbrev to-model : Bool
-  to-model = to-maker && isTextKept isInfo (s .model)
+  to-model = to-maker && fillsTextRoom isInfo (s .model)
 
   abbrev to-other : Bool
-  to-other = to-model && isTextKept isInfo (s .other)
+  to-other = to-model && fillsTextRoom isInfo (s .other)
 
   abbrev to-password : Bool
-  to-password = to-other && isTextKept isPassword (s .password)
+  to-password = to-other && fillsTextRoom isPassword (s .password)
 
   abbrev inputs-ok : Bool
-  inputs-ok = isKept inputRoom isInputs (s .inputs) (2 * s .«input_count»)
+  inputs-ok = fillsRoom inputRoom isInputs (s .inputs) (2 * s .«input_count»)
 
   abbrev to-inputs : Bool
   to-inputs = to-password && inputs-ok
@@ -87,15 +87,15 @@ module _ (s : Settings) where
       let h7 = both-left to-lamps (isStretch (s .warm)) h8 in
       let h6 = both-left to-inputs (leb (s .«lamp_count») lampsMost) h7 in
       let h5 = both-left to-password inputs-ok h6 in
-      let h4 = both-left to-other (isTextKept isPassword (s .password)) h5 in
-      let h3 = both-left to-model (isTextKept isInfo (s .other)) h4 in
-      let h2 = both-left to-maker (isTextKept isInfo (s .model)) h3 in
+      let h4 = both-left to-other (fillsTextRoom isPassword (s .password)) h5 in
+      let h3 = both-left to-model (fillsTextRoom isInfo (s .other)) h4 in
+      let h2 = both-left to-maker (fillsTextRoom isInfo (s .model)) h3 in
       record {
-        name = kept-told textRoom isName _ _ (both-left name-ok (isTextKept isInfo (s .maker)) h2);
-        maker = kept-told textRoom isInfo _ _ (both-right name-ok (isTextKept isInfo (s .maker)) h2);
-        model = kept-told textRoom isInfo _ _ (both-right to-maker (isTextKept isInfo (s .model)) h3);
-        other = kept-told textRoom isInfo _ _ (both-right to-model (isTextKept isInfo (s .other)) h4);
-        password = kept-told textRoom isPassword _ _ (both-right to-other (isTextKept isPassword (s .password)) h5);
+        name = kept-told textRoom isName _ _ (both-left name-ok (fillsTextRoom isInfo (s .maker)) h2);
+        maker = kept-told textRoom isInfo _ _ (both-right name-ok (fillsTextRoom isInfo (s .maker)) h2);
+        model = kept-told textRoom isInfo _ _ (both-right to-maker (fillsTextRoom isInfo (s .model)) h3);
+        other = kept-told textRoom isInfo _ _ (both-right to-model (fillsTextRoom isInfo (s .other)) h4);
+        password = kept-told textRoom isPassword _ _ (both-right to-other (fillsTextRoom isPassword (s .password)) h5);
         inputs = kept-told inputRoom isInputs _ _ (both-right to-password inputs-ok h6);
         lamps = leb-true (s .«lamp_count») lampsMost (both-right to-inputs (leb (s .«lamp_count») lampsMost) h7);
         warm = stretch-told (s .warm) (both-right to-lamps (isStretch (s .warm)) h8);
@@ -115,7 +115,7 @@ module _ (s : Settings) (t : SettingsTold s) where
   pub input-count-low : 1 ≤ s .«input_count»
   input-count-low = omega (arith, listed, inputs-some _ (t .inputs .follows))
 
-  pub input-count-high : s .«input_count» ≤ inputsMost
+  pub input-count-high : s .«input_count» ≤ listedMost
   input-count-high = omega (arith, t .inputs .inside)
 
   -- the bytes that are used are the array's

@@ -1,15 +1,16 @@
--- One name that opens this crate's definitions and, by their own name, those of `lines`, for computing on concrete records
--- only (01, "Lines that settle it").
+-- One name that opens this crate's definitions and, by their own name, those of `lines`, for computing on concrete
+-- records only (01, "Lines that settle it").
 -- Assumes nothing.
 use Rattle.lines.specs.Computing.{computing as lines}
 use Rattle.record.specs.Rules.{eachPair, isNone, isInputs, isLamps, isErrors}
 use Rattle.record.specs.Record.{inRoom, closed, started, blank}
-use Rattle.record.specs.Legal.{isClear, isKept, isSettings, isLeft, isOwn, isAge, heldMost, isHeld, isConnection, isLegal}
-use Rattle.record.specs.SetUp.{isTexts, isEquipment, isSetUp, setUp}
+use Rattle.record.specs.Legal.{isClear, fillsRoom, isSettings, isLeft, isOwn}
+use Rattle.record.specs.Legal.{isAge, heldMost, isHeld, isConnection, isLegal}
+use Rattle.record.specs.SetUp.{isSetUp, setUp}
 use Rattle.record.specs.HostCalls.{faultSet, errorsSet}
 
 unfoldable pub computing : Unit {0}
 unfolding
-    lines eachPair isNone isInputs isLamps isErrors inRoom closed started blank isClear isKept isSettings isLeft isOwn
-    isAge heldMost isHeld isConnection isLegal isTexts isEquipment isSetUp setUp faultSet errorsSet
+    lines eachPair isNone isInputs isLamps isErrors inRoom closed started blank isClear fillsRoom isSettings isLeft
+    isOwn isAge heldMost isHeld isConnection isLegal isSetUp setUp faultSet errorsSet
 computing = tt

@@ -1,8 +1,8 @@
 -- A legal record (01, "Set-up", last paragraph), a definition a part: settings alone, the own part with the settings,
 -- the connection alone. An array of a record is a list of any length here, so each part says its arrays' lengths.
 --   isClear s n               s has n places and more, and zero at each place from n on: its unused room
---   isKept room rule s n      the array s has that room; its first n places follow the rule, the rest is zero
---   isTextKept rule t         a text follows the rule
+--   fillsRoom room rule s n      the array s has that room; its first n places follow the rule, the rest is zero
+--   fillsTextRoom rule t         a text follows the rule
 --   isSettings s              the settings are in range
 --   isLeft power left w c     seconds left: 1 to w in warm-up, 1 to c in cooling, else 0
 --   isOwn s o                 the own part is legal under the settings s
@@ -23,7 +23,8 @@ use Rattle.text.specs.Scans.{every}
 use Rattle.lines.specs.Bytes.{noCr}
 use Rattle.lines.specs.Texts.{isName, isInfo, isPassword}
 use Rattle.lines.specs.Forms.{commandMost}
-use Rattle.record.specs.Limits.{textRoom, inputRoom, lampsMost, lineRoom, ageEnd, on, cooling, warming, shut, awaiting, opened, failed}
+use Rattle.record.specs.Limits.{textRoom, inputRoom, lampsMost, lineRoom, ageEnd, cooling, warming, isPower}
+use Rattle.record.specs.Limits.{shut, awaiting, opened, failed, isPhase}
 use Rattle.record.specs.Rules.{isInputs, isLamps, isStretch, isErrors}
 use Rattle.record.specs.declared.types.Text.{Text}
 use Rattle.record.specs.declared.types.Settings.{Settings}
@@ -37,29 +38,29 @@ isZero x = eqb x 0
 unfoldable pub isClear : List ℕ → ℕ → Bool
 isClear s n = leb n (length s) && every isZero (drop n s)
 
-unfoldable pub isKept : ℕ → (List ℕ → Bool) → List ℕ → ℕ → Bool
-isKept room rule s n = eqb (length s) room && isClear s n && rule (take n s)
+unfoldable pub fillsRoom : ℕ → (List ℕ → Bool) → List ℕ → ℕ → Bool
+fillsRoom room rule s n = eqb (length s) room && isClear s n && rule (take n s)
 
-abbrev pub isTextKept : (List ℕ → Bool) → Text → Bool
-isTextKept rule t = isKept textRoom rule (t .bytes) (t .len)
+abbrev pub fillsTextRoom : (List ℕ → Bool) → Text → Bool
+fillsTextRoom rule t = fillsRoom textRoom rule (t .bytes) (t .len)
 
 unfoldable pub isSettings : Settings → Bool
 isSettings s =
-    isTextKept isName (s .name) && isTextKept isInfo (s .maker) && isTextKept isInfo (s .model)
-    && isTextKept isInfo (s .other) && isTextKept isPassword (s .password)
-    && isKept inputRoom isInputs (s .inputs) (2 * s .«input_count»)
+    fillsTextRoom isName (s .name) && fillsTextRoom isInfo (s .maker) && fillsTextRoom isInfo (s .model)
+    && fillsTextRoom isInfo (s .other) && fillsTextRoom isPassword (s .password)
+    && fillsRoom inputRoom isInputs (s .inputs) (2 * s .«input_count»)
     && leb (s .«lamp_count») lampsMost && isStretch (s .warm) && isStretch (s .cool)
 
 unfoldable pub isLeft : ℕ → ℕ → ℕ → ℕ → Bool
 isLeft power left warm cool =
     if eqb power warming then leb 1 left && leb left warm
     else if eqb power cooling then leb 1 left && leb left cool
-    else leb power on && eqb left 0
+    else isPower power && eqb left 0
 
 -- the chosen input is listed: its place is one of the list's
 unfoldable pub isOwn : Settings → Own → Bool
 isOwn s o =
-    isErrors (o .errors) && isKept lampsMost isLamps (o .lamps) (s .«lamp_count»)
+    isErrors (o .errors) && fillsRoom lampsMost isLamps (o .lamps) (s .«lamp_count»)
     && isLeft (o .power) (o .left) (s .warm) (s .cool)
     && ltb (o .chosen) (s .«input_count»)
 
@@ -80,8 +81,8 @@ isHeld phase mark n = if mark then isCollecting phase && eqb n 0 else leb n (hel
 
 unfoldable pub isConnection : Connection → Bool
 isConnection c =
-    isKept lineRoom noCr (c .line .bytes) (c .line .held)
-    && leb (c .phase) failed && isAge (c .phase) (c .age)
+    fillsRoom lineRoom noCr (c .line .bytes) (c .line .held)
+    && isPhase (c .phase) && isAge (c .phase) (c .age)
     && (not (eqb (c .phase) shut) || eqb (c .random) 0)
     && isHeld (c .phase) (c .line .overlong) (c .line .held)
 

@@ -1,4 +1,6 @@
 pub mod Limits
+pub mod Wanted
+pub mod Updates
 pub mod Record
 pub mod Rules
 pub mod Legal

@@ -1,22 +1,29 @@
 -- The numbers of the device record, each named once (01, "Set-up", "Connection" and "Commands").
---   textRoom, inputsMost, ..     the room of each array, and how much of it a set-up may use
+--   textRoom, listedMost, ..     the room of each array, and how much of it a set-up may use
 --   lampLimit                    a lamp's seconds stop here: 99,999 hours and 3,599 seconds
 --   stretchMost                  warm-up and cooling last 1 to this many seconds
 --   ageEnd                       an awaiting or failed connection closes when its age reaches this
---   off, on, cooling, warming    the power, as POWR answers it
---   shut, awaiting, opened, failed    the phase of a connection
+--   off, on, cooling, warming    the power, as POWR answers it: isPower p says that p is one of them
+--   isLit power                  warm-up or on: the lamps burn
+--   isBetween power              warm-up or cooling: seconds are left
+--   shut, awaiting, opened, failed    the phase of a connection: isPhase p says that p is one of them
 -- Assumes nothing.
 use Prim.Native.Nat.{ℕ, _*_}
+use mathlib.Core.Bool.{Bool, _||_}
+use lib.Dec.{leb, eqb}
+use Rattle.lines.specs.Texts.{nameMost}
 
+-- of the longest text
 abbrev pub textRoom : ℕ
-textRoom = 64
+textRoom = nameMost
 
-abbrev pub inputsMost : ℕ
-inputsMost = 16
+-- of the inputs that a set-up lists
+abbrev pub listedMost : ℕ
+listedMost = 16
 
 -- two characters an input
 abbrev pub inputRoom : ℕ
-inputRoom = 2 * inputsMost
+inputRoom = 2 * listedMost
 
 abbrev pub lampsMost : ℕ
 lampsMost = 8
@@ -53,6 +60,15 @@ cooling = 2
 abbrev pub warming : ℕ
 warming = 3
 
+abbrev pub isPower : ℕ → Bool
+isPower p = leb p warming
+
+abbrev pub isLit : ℕ → Bool
+isLit power = eqb power warming || eqb power on
+
+abbrev pub isBetween : ℕ → Bool
+isBetween power = eqb power warming || eqb power cooling
+
 abbrev pub shut : ℕ
 shut = 0
 
@@ -64,3 +80,6 @@ opened = 2
 
 abbrev pub failed : ℕ
 failed = 3
+
+abbrev pub isPhase : ℕ → Bool
+isPhase p = leb p failed

@@ -1,10 +1,8 @@
 -- Which setting was it? Set-up's 3 names none (01, "The numbers a call gives"): of the same settings, the first that is
 -- out of its range, in the order in which set-up is lent them, or none.
---   settingsInOrder           the nine settings
 --   settingPlace s            the place of a setting among them, from 1
 --   firstFailing f l          the first of l whose rule f is not met, or none
---   isSettingInRange .. s     the setting s meets its rule, the one that set-up tests (01, "Set-up")
---   firstOutOfRange ..        the first setting out of its range, or none
+--   firstOutOfRange w         the first setting out of its range, or none
 --   FirstOut f s              s is the first: its rule is not met, and that of each earlier one is
 --   SettingHolds f m          what m says of the rules f: s is the first, or every rule is met
 -- Assumes nothing.
@@ -13,16 +11,13 @@ use mathlib.Core.Path.{_≡_}
 use mathlib.Core.Bool.{Bool, true, false}
 use mathlib.Core.List.{List, [], _∷_}
 use Rattle.text.specs.Words.{if_then_else_}
-use Rattle.lines.specs.Texts.{isName, isInfo, isPassword}
-use Rattle.record.specs.Rules.{isInputs, isLamps, isStretch}
+use Rattle.record.specs.Wanted.{Wanted}
+use Rattle.record.specs.SetUp.{settingsInOrder, isSettingInRange}
 use Rattle.record.specs.declared.out_of_range.Setting.{Setting}
 use Rattle.record.specs.declared.out_of_range.Setting.the-variants.{Name, Maker, Model, Other, Password, Inputs}
 use Rattle.record.specs.declared.out_of_range.Setting.the-variants.{Lamps, WarmUp, Cooling}
 use Rattle.record.specs.declared.out_of_range.MaybeSetting.{MaybeSetting}
 use Rattle.record.specs.declared.out_of_range.MaybeSetting.the-variants.{SettingIs, NoSetting}
-
-abbrev pub settingsInOrder : List Setting
-settingsInOrder = Name ∷ Maker ∷ Model ∷ Other ∷ Password ∷ Inputs ∷ Lamps ∷ WarmUp ∷ Cooling ∷ []
 
 abbrev pub settingPlace : Setting → ℕ
 settingPlace Name = 1
@@ -39,20 +34,8 @@ unfoldable pub firstFailing : (Setting → Bool) → List Setting → MaybeSetti
 firstFailing f [] = NoSetting
 firstFailing f (s ∷ l) = if f s then firstFailing f l else SettingIs s
 
-module _ (name maker model other password inputs lamps : List ℕ) (warm cool : ℕ) where
-  abbrev pub isSettingInRange : Setting → Bool
-  isSettingInRange Name = isName name
-  isSettingInRange Maker = isInfo maker
-  isSettingInRange Model = isInfo model
-  isSettingInRange Other = isInfo other
-  isSettingInRange Password = isPassword password
-  isSettingInRange Inputs = isInputs inputs
-  isSettingInRange Lamps = isLamps lamps
-  isSettingInRange WarmUp = isStretch warm
-  isSettingInRange Cooling = isStretch cool
-
-  abbrev pub firstOutOfRange : MaybeSetting
-  firstOutOfRange = firstFailing isSettingInRange settingsInOrder
+abbrev pub firstOutOfRange : Wanted → MaybeSetting
+firstOutOfRange w = firstFailing (isSettingInRange w) settingsInOrder
 
 pub record FirstOut (f : Setting → Bool) (s : Setting) : Type 0 where
   pub out : f s ≡ false

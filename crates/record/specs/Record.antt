@@ -4,9 +4,10 @@
 --   textOf s             the text s in its room
 --   closed               the closed connection: age 0, random number 0, no collected bytes, no overlong mark
 --   blank                the blank record, all zero
---   settingsOf ..        the settings that set-up keeps
---   startOwn lamps       off, both mutes off, the first input, no fault, error status 000000
---   started ..           the device that an accepted set-up gives
+--   settingsOf w         the settings that set-up keeps
+--   blankOwn             off, both mutes off, the first input, no fault, error status 000000: all zero
+--   startOwn lamps       the same, with the lamps' starting seconds
+--   started w            the device that an accepted set-up gives
 --   accepted d           the number 0 and the record d
 --   refused n d          the number n and the record that was given
 -- Assumes nothing.
@@ -16,6 +17,8 @@ use mathlib.Core.List.{List}
 use lib.ListN.{length, replicate}
 use Rattle.text.specs.Words.{over}
 use Rattle.record.specs.Limits.{textRoom, inputRoom, lampsMost, lineRoom, errorsCount, off, shut}
+use Rattle.record.specs.Wanted.{Wanted}
+use Rattle.record.specs.Updates.{withSeconds}
 use Rattle.record.specs.declared.types.Text.{Text}
 use Rattle.record.specs.declared.types.Settings.{Settings}
 use Rattle.record.specs.declared.types.Own.{Own}
@@ -40,22 +43,22 @@ closed = record {
   line = record { overlong = false; held = 0; bytes = zeros lineRoom };
 }
 
-abbrev pub settingsOf : (name maker model other password inputs : List ℕ) (lampCount warm cool : ℕ) → Settings
-settingsOf name maker model other password inputs lampCount warm cool = record {
-  name = textOf name;
-  maker = textOf maker;
-  model = textOf model;
-  other = textOf other;
-  password = textOf password;
-  «input_count» = length inputs / 2;
-  inputs = inRoom inputRoom inputs;
-  «lamp_count» = lampCount;
-  warm = warm;
-  cool = cool;
+abbrev pub settingsOf : Wanted → Settings
+settingsOf w = record {
+  name = textOf (w .name);
+  maker = textOf (w .maker);
+  model = textOf (w .model);
+  other = textOf (w .other);
+  password = textOf (w .password);
+  «input_count» = length (w .inputs) / 2;
+  inputs = inRoom inputRoom (w .inputs);
+  «lamp_count» = length (w .lamps);
+  warm = w .warm;
+  cool = w .cool;
 }
 
-abbrev pub startOwn : List ℕ → Own
-startOwn lamps = record {
+abbrev pub blankOwn : Own
+blankOwn = record {
   power = off;
   left = 0;
   chosen = 0;
@@ -63,15 +66,14 @@ startOwn lamps = record {
   «audio_muted» = false;
   fault = false;
   errors = zeros errorsCount;
-  lamps = inRoom lampsMost lamps;
+  lamps = zeros lampsMost;
 }
 
-unfoldable pub started : (name maker model other password inputs lamps : List ℕ) (warm cool : ℕ) → Device
-started name maker model other password inputs lamps warm cool = record {
-  settings = settingsOf name maker model other password inputs (length lamps) warm cool;
-  own = startOwn lamps;
-  connection = closed;
-}
+abbrev pub startOwn : List ℕ → Own
+startOwn lamps = withSeconds blankOwn (inRoom lampsMost lamps)
+
+unfoldable pub started : Wanted → Device
+started w = record { settings = settingsOf w; own = startOwn (w .lamps); connection = closed }
 
 abbrev pub blankText : Text
 blankText = record { len = 0; bytes = zeros textRoom }
@@ -90,16 +92,7 @@ blank = record {
     warm = 0;
     cool = 0;
   };
-  own = record {
-    power = 0;
-    left = 0;
-    chosen = 0;
-    «video_muted» = false;
-    «audio_muted» = false;
-    fault = false;
-    errors = zeros errorsCount;
-    lamps = zeros lampsMost;
-  };
+  own = blankOwn;
   connection = closed;
 }
 

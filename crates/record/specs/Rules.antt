@@ -2,17 +2,20 @@
 --   eachPair f s         s is pairs, and each pair passes the test f, which also sees what follows it
 --   isNone a b s         the input a b is none of the inputs s: each of them is another (isOther)
 --   isNewInput a b s     the characters a b name an input, which none of the later ones s repeats
+--   inputPlace a b       the place of the input a b, at which the code marks it
 --   isInputs s           1 to 16 inputs, two characters each, all different
 --   isLamp x             a lamp's seconds are at most the limit
 --   isLamps xs           0 to 8 lamps
 --   isStretch n          1 to 600 seconds, of warm-up or of cooling
 --   isErrors ds          six error digits, each 0 to 2
 -- Assumes nothing.
-use Prim.Native.Nat.{ℕ}
+use Prim.Native.Nat.{ℕ, _+_, _-_, _*_}
+use Prim.Native.Char.{code}
 use mathlib.Core.Bool.{Bool, true, false, not, _&&_}
 use mathlib.Core.List.{List, [], _∷_}
 use lib.ListN.{length}
 use lib.Dec.{leb, eqb}
+use Rattle.text.specs.Words.{if_then_else_}
 use Rattle.text.specs.Scans.{every}
 use Rattle.lines.specs.Inputs.{isInputText}
 use Rattle.record.specs.Limits.{inputRoom, lampsMost, lampLimit, stretchMost, errorsCount, errorMost}
@@ -25,14 +28,18 @@ eachPair f [] = true
 eachPair f (a ∷ []) = false
 eachPair f (a ∷ b ∷ s) = f a b s && eachPair f s
 
-abbrev pub isOther : ℕ → ℕ → ℕ → ℕ → List ℕ → Bool
-isOther a b x y later = not (eqb x a && eqb y b)
+abbrev pub isOther : ℕ → ℕ → ℕ → ℕ → Bool
+isOther a b x y = not (eqb x a && eqb y b)
 
 unfoldable pub isNone : ℕ → ℕ → List ℕ → Bool
-isNone a b s = eachPair (isOther a b) s
+isNone a b s = eachPair (λ x y later. isOther a b x y) s
 
 abbrev pub isNewInput : ℕ → ℕ → List ℕ → Bool
 isNewInput a b later = isInputText a b && isNone a b later
+
+-- among the 45 inputs that there are, five types of nine numbers; 45 for two characters that name none
+abbrev pub inputPlace : ℕ → ℕ → ℕ
+inputPlace a b = if isInputText a b then 9 * (a - code "1") + (b - code "1") else 45
 
 unfoldable pub isInputs : List ℕ → Bool
 isInputs s = leb 2 (length s) && leb (length s) inputRoom && eachPair isNewInput s

@@ -1,32 +1,39 @@
 -- Set-up (01, "Set-up"; number 3 of "The numbers a call gives"): which device it gives, for every input.
---   isTexts ..        the texts and the password follow their rules
---   isEquipment ..    the inputs, the lamps, warm-up and cooling are in range
---   isSetUp ..        each setting is in its range
---   setUp ..          0 and the started device, or 3 and the blank record
--- An input is lent as two ASCII characters; an odd number of them is out of range.
+--   settingsInOrder           the nine settings, in the order in which set-up is lent them
+--   isSettingInRange w s      the setting s meets its rule
+--   isSetUp w                 each setting does
+--   setUp w                   0 and the started device, or 3 and the blank record
+-- An odd number of characters is no list of inputs, and so out of range.
 -- Assumes nothing.
-use Prim.Native.Nat.{ℕ}
-use mathlib.Core.Bool.{Bool, _&&_}
-use mathlib.Core.List.{List}
+use mathlib.Core.Bool.{Bool}
+use mathlib.Core.List.{List, [], _∷_}
 use Rattle.text.specs.Words.{if_then_else_}
+use Rattle.text.specs.Scans.{every}
 use Rattle.lines.specs.Texts.{isName, isInfo, isPassword}
+use Rattle.record.specs.Wanted.{Wanted}
 use Rattle.record.specs.Rules.{isInputs, isLamps, isStretch}
 use Rattle.record.specs.Record.{started, blank, accepted, refused}
 use Rattle.record.specs.declared.types.Changed.{Changed}
+use Rattle.record.specs.declared.out_of_range.Setting.{Setting}
+use Rattle.record.specs.declared.out_of_range.Setting.the-variants.{Name, Maker, Model, Other, Password, Inputs}
+use Rattle.record.specs.declared.out_of_range.Setting.the-variants.{Lamps, WarmUp, Cooling}
 
-unfoldable pub isTexts : (name maker model other password : List ℕ) → Bool
-isTexts name maker model other password =
-    isName name && isInfo maker && isInfo model && isInfo other && isPassword password
+abbrev pub settingsInOrder : List Setting
+settingsInOrder = Name ∷ Maker ∷ Model ∷ Other ∷ Password ∷ Inputs ∷ Lamps ∷ WarmUp ∷ Cooling ∷ []
 
-unfoldable pub isEquipment : (inputs lamps : List ℕ) (warm cool : ℕ) → Bool
-isEquipment inputs lamps warm cool = isInputs inputs && isLamps lamps && isStretch warm && isStretch cool
+abbrev pub isSettingInRange : Wanted → Setting → Bool
+isSettingInRange w Name = isName (w .name)
+isSettingInRange w Maker = isInfo (w .maker)
+isSettingInRange w Model = isInfo (w .model)
+isSettingInRange w Other = isInfo (w .other)
+isSettingInRange w Password = isPassword (w .password)
+isSettingInRange w Inputs = isInputs (w .inputs)
+isSettingInRange w Lamps = isLamps (w .lamps)
+isSettingInRange w WarmUp = isStretch (w .warm)
+isSettingInRange w Cooling = isStretch (w .cool)
 
-unfoldable pub isSetUp : (name maker model other password inputs lamps : List ℕ) (warm cool : ℕ) → Bool
-isSetUp name maker model other password inputs lamps warm cool =
-    isTexts name maker model other password && isEquipment inputs lamps warm cool
+unfoldable pub isSetUp : Wanted → Bool
+isSetUp w = every (isSettingInRange w) settingsInOrder
 
-unfoldable pub setUp : (name maker model other password inputs lamps : List ℕ) (warm cool : ℕ) → Changed
-setUp name maker model other password inputs lamps warm cool =
-    if isSetUp name maker model other password inputs lamps warm cool
-    then accepted (started name maker model other password inputs lamps warm cool)
-    else refused 3 blank
+unfoldable pub setUp : Wanted → Changed
+setUp w = if isSetUp w then accepted (started w) else refused 3 blank

@@ -1,6 +1,4 @@
 // What set-up keeps of the lent slices: each at the start of a cleared room (01, "Set-up").
-use crate::own;
-use crate::types::ERRORS;
 use crate::types::INPUT_ROOM;
 use crate::types::LAMPS_MOST;
 use crate::types::Own;
@@ -52,14 +50,8 @@ pub fn start_own(lamps: &[u32]) -> Own
     ensures { λ r. ⌜ r ≡ startOwn (now (lamps .entry)) ⌝ }
 {
     let seconds = lamp_room(lamps);
-    Own {
-        power: own::OFF,
-        left: 0,
-        chosen: 0,
-        video_muted: false,
-        audio_muted: false,
-        fault: false,
-        errors: [0; ERRORS],
-        lamps: seconds,
-    }
+    let blank = Own::BLANK;
+    let mut start = blank;
+    start.lamps = seconds;
+    start
 }

@@ -8,7 +8,8 @@ use crate::types::Own;
 ghost use mathlib.Core.Path.{_≡_};
 ghost use lib.ListN.{length};
 ghost use Rattle.record.specs.Limits.{errorsCount};
-ghost use Rattle.record.specs.HostCalls.{withOwn, withFault, withErrors, faultSet, errorsSet};
+ghost use Rattle.record.specs.Updates.{withOwn, withFault, withErrors};
+ghost use Rattle.record.specs.HostCalls.{faultSet, errorsSet};
 
 pub fn with_own(d: Device, o: Own) -> Device
     ensures { λ r. ⌜ r ≡ withOwn d o ⌝ }

@@ -2,11 +2,11 @@
 pub mod connection;
 mod fill;
 pub mod host;
-pub mod inputs;
+mod inputs;
 pub mod legality;
 pub mod out_of_range;
 pub mod own;
-pub mod scan;
-pub mod settings;
+mod scan;
+mod settings;
 pub mod setup;
 pub mod types;

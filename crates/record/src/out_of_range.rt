@@ -4,6 +4,7 @@ use crate::own;
 use crate::settings;
 use lines::texts;
 ghost use mathlib.Core.Path.{_≡_};
+ghost use Rattle.record.specs.Wanted.{wantedOf};
 ghost use Rattle.record.specs.OutOfRange.{firstOutOfRange};
 
 pub enum Setting {
@@ -36,9 +37,8 @@ pub fn first_out_of_range(
     cool: u32,
 ) -> MaybeSetting
     ensures { λ r.
-        ⌜ r ≡ firstOutOfRange (now (name .entry)) (now (maker .entry)) (now (model .entry))
-        (now (other .entry)) (now (password .entry)) (now (inputs .entry)) (now (lamps .entry))
-        warm cool ⌝ }
+        ⌜ r ≡ firstOutOfRange (wantedOf (now (name .entry)) (now (maker .entry)) (now (model .entry))
+        (now (other .entry)) (now (password .entry)) (now (inputs .entry)) (now (lamps .entry)) warm cool) ⌝ }
 {
     if !texts::is_name(name) {
         return MaybeSetting::SettingIs(Setting::Name);

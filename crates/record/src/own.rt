@@ -1,13 +1,13 @@
-// The legality of the projector's own part (01, "Set-up").
+// The power, and the legality of the projector's own part (01, "Set-up").
 use crate::scan;
 use crate::types::ERRORS;
 use crate::types::LAMPS_MOST;
 use crate::types::Own;
 use crate::types::Settings;
 ghost use mathlib.Core.Path.{_≡_};
-ghost use Rattle.record.specs.Limits.{lampsMost};
+ghost use Rattle.record.specs.Limits.{lampsMost, isLit, isBetween};
 ghost use Rattle.record.specs.Rules.{isLamps, isErrors};
-ghost use Rattle.record.specs.Legal.{isKept, isLeft, isOwn};
+ghost use Rattle.record.specs.Legal.{fillsRoom, isLeft, isOwn};
 
 // 99,999 hours and 3,599 seconds.
 pub const LAMP_LIMIT: u32 = 359_999_999;
@@ -23,6 +23,20 @@ pub const COOLING: u8 = 2;
 
 pub const WARMING: u8 = 3;
 
+// A lamp burns in warm-up and power-on.
+pub fn is_lit(power: u8) -> bool
+    ensures { λ r. ⌜ r ≡ isLit power ⌝ }
+{
+    (power == WARMING) | (power == ON)
+}
+
+// Seconds are left in warm-up and cooling.
+pub fn is_between(power: u8) -> bool
+    ensures { λ r. ⌜ r ≡ isBetween power ⌝ }
+{
+    (power == WARMING) | (power == COOLING)
+}
+
 // 0 to 8 lamps, each within the limit.
 pub fn lamps_ok(s: &[u32]) -> bool
     ensures { λ r. ⌜ r ≡ isLamps (now (s .entry)) ⌝ }
@@ -31,7 +45,7 @@ pub fn lamps_ok(s: &[u32]) -> bool
 }
 
 fn lamp_list_ok(list: [u32; LAMPS_MOST], count: usize) -> bool
-    ensures { λ r. ⌜ r ≡ isKept lampsMost isLamps list count ⌝ }
+    ensures { λ r. ⌜ r ≡ fillsRoom lampsMost isLamps list count ⌝ }
 {
     if LAMPS_MOST < count {
         return false;
@@ -62,7 +76,7 @@ fn left_ok(power: u8, left: u32, warm: u32, cool: u32) -> bool
     if power == COOLING {
         return (1 <= left) & (left <= cool);
     }
-    (power <= ON) & (left == 0)
+    (power <= WARMING) & (left == 0)
 }
 
 pub fn own_ok(s: Settings, o: Own) -> bool

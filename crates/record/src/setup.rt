@@ -1,42 +1,16 @@
 // Set-up (01, "Set-up"): each setting is tested, then kept.
 use crate::fill;
-use crate::inputs;
-use crate::own;
-use crate::settings;
+use crate::out_of_range;
+use crate::out_of_range::MaybeSetting;
 use crate::types::Changed;
 use crate::types::Connection;
 use crate::types::Device;
 use crate::types::Settings;
-use lines::texts;
 ghost use mathlib.Core.Path.{_≡_};
 ghost use mathlib.Core.Bool.{true};
-ghost use Prim.Native.Nat.{_≤_};
-ghost use lib.ListN.{length};
-ghost use Rattle.record.specs.Limits.{inputRoom};
+ghost use Rattle.record.specs.Wanted.{wantedOf};
 ghost use Rattle.record.specs.Record.{settingsOf};
-ghost use Rattle.record.specs.SetUp.{isTexts, isEquipment, setUp};
-
-fn texts_ok(name: &[u8], maker: &[u8], model: &[u8], other: &[u8], password: &[u8]) -> bool
-    ensures { λ r.
-        ⌜ r ≡ isTexts (now (name .entry)) (now (maker .entry)) (now (model .entry))
-        (now (other .entry)) (now (password .entry)) ⌝ }
-{
-    texts::is_name(name)
-        & texts::is_info(maker)
-        & texts::is_info(model)
-        & texts::is_info(other)
-        & texts::is_password(password)
-}
-
-// The inputs, the lamps, warm-up and cooling are in range.
-fn equipment_ok(inputs: &[u8], lamps: &[u32], warm: u32, cool: u32) -> bool
-    ensures { λ r. ⌜ r ≡ isEquipment (now (inputs .entry)) (now (lamps .entry)) warm cool ⌝ }
-{
-    inputs::inputs_ok(inputs)
-        & own::lamps_ok(lamps)
-        & settings::stretch_ok(warm)
-        & settings::stretch_ok(cool)
-}
+ghost use Rattle.record.specs.SetUp.{isSetUp, setUp};
 
 fn settings_of(
     name: &[u8],
@@ -45,15 +19,15 @@ fn settings_of(
     other: &[u8],
     password: &[u8],
     inputs: &[u8],
-    count: usize,
+    lamps: &[u32],
     warm: u32,
     cool: u32,
 ) -> Settings
-    requires { ⌜ isTexts (now name) (now maker) (now model) (now other) (now password) ≡ true ⌝ }
-    requires { ⌜ length (now inputs) ≤ inputRoom ⌝ }
+    requires { ⌜ isSetUp (wantedOf (now name) (now maker) (now model) (now other) (now password) (now inputs)
+        (now lamps) warm cool) ≡ true ⌝ }
     ensures { λ r.
-        ⌜ r ≡ settingsOf (now (name .entry)) (now (maker .entry)) (now (model .entry))
-        (now (other .entry)) (now (password .entry)) (now (inputs .entry)) count warm cool ⌝ }
+        ⌜ r ≡ settingsOf (wantedOf (now (name .entry)) (now (maker .entry)) (now (model .entry)) (now (other .entry))
+        (now (password .entry)) (now (inputs .entry)) (now (lamps .entry)) warm cool) ⌝ }
 {
     let kept_name = fill::text_of(name);
     let kept_maker = fill::text_of(maker);
@@ -69,7 +43,7 @@ fn settings_of(
         password: kept_password,
         input_count: inputs.len() / 2,
         inputs: kept_inputs,
-        lamp_count: count,
+        lamp_count: lamps.len(),
         warm,
         cool,
     }
@@ -88,33 +62,45 @@ pub fn set_up(
     cool: u32,
 ) -> Changed
     ensures { λ r.
-        ⌜ r ≡ setUp (now (name .entry)) (now (maker .entry)) (now (model .entry))
-        (now (other .entry)) (now (password .entry)) (now (inputs .entry)) (now (lamps .entry))
-        warm cool ⌝ }
+        ⌜ r ≡ setUp (wantedOf (now (name .entry)) (now (maker .entry)) (now (model .entry)) (now (other .entry))
+        (now (password .entry)) (now (inputs .entry)) (now (lamps .entry)) warm cool) ⌝ }
 {
-    let texts = texts_ok(name, maker, model, other, password);
-    let equipment = equipment_ok(inputs, lamps, warm, cool);
-    if !(texts & equipment) {
-        let device = Device::BLANK;
-        return Changed { number: 3, device };
-    }
-    let settings = settings_of(
+    let first = out_of_range::first_out_of_range(
         name,
         maker,
         model,
         other,
         password,
         inputs,
-        lamps.len(),
+        lamps,
         warm,
         cool,
     );
-    let own = fill::start_own(lamps);
-    let connection = Connection::CLOSED;
-    let device = Device {
-        settings,
-        own,
-        connection,
-    };
-    Changed { number: 0, device }
+    match first {
+        MaybeSetting::SettingIs(_) => {
+            let device = Device::BLANK;
+            Changed { number: 3, device }
+        }
+        MaybeSetting::NoSetting => {
+            let settings = settings_of(
+                name,
+                maker,
+                model,
+                other,
+                password,
+                inputs,
+                lamps,
+                warm,
+                cool,
+            );
+            let own = fill::start_own(lamps);
+            let connection = Connection::CLOSED;
+            let device = Device {
+                settings,
+                own,
+                connection,
+            };
+            Changed { number: 0, device }
+        }
+    }
 }

@@ -83,6 +83,20 @@ impl Text {
     };
 }
 
+// All zero: off, both mutes off, the first input, no fault, error status 000000.
+impl Own {
+    pub const BLANK: Own = Own {
+        power: 0,
+        left: 0,
+        chosen: 0,
+        video_muted: false,
+        audio_muted: false,
+        fault: false,
+        errors: [0; ERRORS],
+        lamps: [0; LAMPS_MOST],
+    };
+}
+
 impl Connection {
     pub const CLOSED: Connection = Connection {
         phase: 0,
@@ -111,16 +125,7 @@ impl Device {
             warm: 0,
             cool: 0,
         },
-        own: Own {
-            power: 0,
-            left: 0,
-            chosen: 0,
-            video_muted: false,
-            audio_muted: false,
-            fault: false,
-            errors: [0; ERRORS],
-            lamps: [0; LAMPS_MOST],
-        },
+        own: Own::BLANK,
         connection: Connection::CLOSED,
     };
 }

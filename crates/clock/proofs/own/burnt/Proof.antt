@@ -12,13 +12,10 @@ use Rattle.clock.proofs.FirstChanged.{one-more-changed, all-changed}
 use Rattle.clock.proofs.own.burnt.Statement.{statement}
 use Rattle.clock.proofs.own.burnt.Tie as tie
 
-abbrev burning : ℕ → ℕ → ℕ → ℕ
-burning n place = times oneMore n
-
 record Burnt (lamps : List ℕ) (count n : ℕ) (after : List ℕ) (k : ℕ) : Type 0 where
   inside : k ≤ 8
   counted : k ≤ count
-  first : after ≡ firstChanged k (burning n) lamps
+  first : after ≡ firstChanged k (times oneMore n) lamps
 
 abbrev Inv : tie.InvT-loop
 Inv count n lamps after₀ k₀ after k = Burnt lamps count n after k
@@ -35,7 +32,7 @@ stopped c =
     let turn = c .before .before in
     let start = turn .before in
     let same : turn .loop .k ≡ start .args .count = omega (arith, turn .loop .inv .counted) in
-    turn .loop .inv .first ∙ ap (λ (k : ℕ). firstChanged k (burning (start .args .n)) (start .args .t1)) same
+    turn .loop .inv .first ∙ ap (λ (k : ℕ). firstChanged k (times oneMore (start .args .n)) (start .args .t1)) same
 
 again : tie.Need-loop-again Inv μ
 again c =
@@ -48,8 +45,8 @@ again c =
       counted = omega arith;
       first =
           (λ i. set (turn .loop .inv .first i) k (c .lamp-after .ensures i))
-          ∙ one-more-changed k (burning (start .args .n)) (start .args .t1) 0 (omega arith)
-          ∙ ap (λ (j : ℕ). firstChanged j (burning (start .args .n)) (start .args .t1)) (sym (add-one k));
+          ∙ one-more-changed k (times oneMore (start .args .n)) (start .args .t1) 0 (omega arith)
+          ∙ ap (λ (j : ℕ). firstChanged j (times oneMore (start .args .n)) (start .args .t1)) (sym (add-one k));
     }
 
 ended : tie.Need-returns-2 Inv μ
@@ -59,7 +56,7 @@ ended c =
     let long : length (start .args .t1) ≡ 8 = search needs in
     let counted : length (start .args .t1) ≤ start .args .count = omega (arith, turn .loop .inv .counted) in
     turn .loop .inv .first
-    ∙ all-changed (turn .loop .k) (start .args .count) (burning (start .args .n)) _ (omega arith) counted
+    ∙ all-changed (turn .loop .k) (start .args .count) (times oneMore (start .args .n)) _ (omega arith) counted
 
 pub burnt-spec : {M : Type 1} → statement M
 burnt-spec =

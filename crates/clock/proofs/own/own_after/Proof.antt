@@ -2,7 +2,7 @@
 -- Assumes nothing.
 use mathlib.Core.Path.{sym, _∙_}
 use borrow.Author.Needs.{needs}
-use Rattle.clock.specs.Second.{withPowerLeftLamps}
+use Rattle.record.specs.Updates.{withPower, withSeconds}
 use Rattle.clock.specs.After.{ownAfter}
 use Rattle.clock.proofs.InOneGo.{own-in-one-go}
 use Rattle.clock.proofs.own.own_after.Statement.{statement}
@@ -16,9 +16,7 @@ made c =
     let args = start .args in
     _∙_ {b = ownAfter (args .s) (args .o) (args .n)}
     (λ i.
-    withPowerLeftLamps (args .o)
-    (power .power-after .ensures i)
-    (c .left-after .ensures i)
+    withSeconds (withPower (args .o) (power .power-after .ensures i) (c .left-after .ensures i))
     (lamps .lamps-after .ensures i))
     (sym (own-in-one-go (args .s) (args .o) (args .n)))
 

@@ -5,7 +5,7 @@ use mathlib.Core.Bool.{Bool, _&&_}
 use lib.Dec.{leb}
 use borrow.Author.Needs.{needs}
 use Rattle.text.proofs.Choices.{if-yes, if-no}
-use Rattle.clock.specs.Second.{isBetween}
+use Rattle.record.specs.Limits.{isBetween}
 use Rattle.clock.specs.After.{powerAfter}
 use Rattle.clock.proofs.own.power_after.Statement.{statement}
 use Rattle.clock.proofs.own.power_after.Tie as tie

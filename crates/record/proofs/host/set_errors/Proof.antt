@@ -7,7 +7,7 @@ use borrow.Author.Needs.{needs}
 use Rattle.record.specs.Rules.{isErrors}
 use Rattle.record.specs.Record.{accepted}
 use Rattle.record.specs.Legal.{isLegal}
-use Rattle.record.specs.HostCalls.{withOwn}
+use Rattle.record.specs.Updates.{withOwn}
 use Rattle.record.proofs.Rules.{errors-long}
 use Rattle.record.proofs.Calls.{errors-illegal, errors-wrong, errors-accepted}
 use Rattle.record.proofs.host.set_errors.Statement.{statement}

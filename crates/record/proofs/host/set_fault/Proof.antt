@@ -4,7 +4,7 @@ use mathlib.Core.Path.{sym, ap, _∙_}
 use borrow.Author.Tests.{not-true, not-false}
 use borrow.Author.Needs.{needs}
 use Rattle.record.specs.Record.{accepted}
-use Rattle.record.specs.HostCalls.{withOwn}
+use Rattle.record.specs.Updates.{withOwn}
 use Rattle.record.proofs.Calls.{fault-illegal, fault-accepted}
 use Rattle.record.proofs.host.set_fault.Statement.{statement}
 use Rattle.record.proofs.host.set_fault.Tie as tie

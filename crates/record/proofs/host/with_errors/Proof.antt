@@ -3,7 +3,7 @@
 use mathlib.Core.Path.{ap, _∙_}
 use borrow.Author.Needs.{needs}
 use Rattle.record.specs.Limits.{errorsCount}
-use Rattle.record.specs.HostCalls.{withErrors}
+use Rattle.record.specs.Updates.{withErrors}
 use Rattle.record.proofs.Filled.{room-full}
 use Rattle.record.proofs.host.with_errors.Statement.{statement}
 use Rattle.record.proofs.host.with_errors.Tie as tie

@@ -1,34 +1,44 @@
 -- `record::setup::settings_of` meets its contract: texts that follow their rules fit, and each is kept in its own room.
 -- Assumes nothing.
 use Prim.Native.Nat.{_≤_, _/_}
+use mathlib.Core.Path.{_≡_}
+use mathlib.Core.Bool.{true}
 use native.Mathlib.Omega.{arith}
 use lib.ListN.{length}
-use borrow.Author.Needs.{needs}
 use Rattle.record.specs.Limits.{textRoom}
+use Rattle.record.specs.Wanted.{Wanted, wantedOf}
+use Rattle.record.specs.SetUp.{isSettingInRange}
+use Rattle.record.specs.declared.out_of_range.Setting.{Setting}
+use Rattle.record.specs.declared.out_of_range.Setting.the-variants.{Name, Maker, Model, Other, Password, Inputs}
 use Rattle.lines.proofs.TextsTold.{name-long, info-long, password-long}
-use Rattle.record.proofs.Rules.{TextsTold, texts-told}
+use Rattle.record.proofs.Rules.{inputs-few}
+use Rattle.record.proofs.OutOfRange.{each-in-range}
 use Rattle.record.proofs.setup.settings_of.Statement.{statement}
 use Rattle.record.proofs.setup.settings_of.Tie as tie
 
 module _ (c : tie.Start) where
-  told : TextsTold (c .args .name .now) (c .args .maker .now) (c .args .model .now) (c .args .other .now)
-      (c .args .password .now)
-  told = texts-told _ _ _ _ _ (c .pre .0)
+  abbrev lent : Wanted
+  lent =
+      wantedOf (c .args .name .now) (c .args .maker .now) (c .args .model .now) (c .args .other .now)
+      (c .args .password .now) (c .args .inputs .now) (c .args .lamps .now) (c .args .warm) (c .args .cool)
 
-  maker-fits : length (c .args .maker .now) ≤ textRoom
-  maker-fits = omega (arith, info-long _ (told .maker-told))
+  met : (s : Setting) → isSettingInRange lent s ≡ true
+  met = each-in-range lent (c .pre)
 
-  model-fits : length (c .args .model .now) ≤ textRoom
-  model-fits = omega (arith, info-long _ (told .model-told))
+  maker-fits : length (lent .maker) ≤ textRoom
+  maker-fits = omega (arith, info-long _ (met Maker))
 
-  other-fits : length (c .args .other .now) ≤ textRoom
-  other-fits = omega (arith, info-long _ (told .other-told))
+  model-fits : length (lent .model) ≤ textRoom
+  model-fits = omega (arith, info-long _ (met Model))
 
-  password-fits : length (c .args .password .now) ≤ textRoom
-  password-fits = omega (arith, password-long _ (told .password-told))
+  other-fits : length (lent .other) ≤ textRoom
+  other-fits = omega (arith, info-long _ (met Other))
 
-abbrev start : tie.After-shared-slice-known6 → tie.Start
-start c = let c3 = c .before .before .before in c3 .before .before .before
+  password-fits : length (lent .password) ≤ textRoom
+  password-fits = omega (arith, password-long _ (met Password))
+
+abbrev start : tie.After-shared-slice-known7 → tie.Start
+start c = let c3 = c .before .before .before in let c6 = c3 .before .before .before in c6 .before
 
 kept : tie.Need-returns
 kept c =
@@ -43,7 +53,7 @@ kept c =
       password = c .before .text-of5 .ensures j;
       «input_count» = length (args .inputs .now) / 2;
       inputs = c .input-room .ensures j;
-      «lamp_count» = args .count;
+      «lamp_count» = length (args .lamps .now);
       warm = args .warm;
       cool = args .cool;
     })
@@ -52,10 +62,10 @@ pub settings-of-spec : {M : Type 1} → statement M
 settings-of-spec =
     tie.close
     (tie.spec
-    (λ c κs. name-long _ (told (start c) .name-told))
+    (λ c κs. name-long _ (met (start c) Name))
     (λ c κs. maker-fits (start (c .before)))
     (λ c κs. model-fits (start (c .before .before)))
     (λ c κs. other-fits (start (c .before .before .before)))
     (λ c κs. let maker = c .before .before in password-fits (start (maker .before .before)))
-    (λ c κs. search needs)
+    (λ c κs. let maker = c .before .before .before in inputs-few _ (met (start (maker .before .before)) Inputs))
     kept)
