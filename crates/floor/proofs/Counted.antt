@@ -11,8 +11,8 @@ use lib.Dec.{eqb}
 use borrow.Author.Tests.{le-leb, eqb-false}
 use Rattle.text.specs.Words.{_is_}
 use Rattle.text.proofs.Choices.{if-all, if-by, both}
-use Rattle.stream.specs.Machine.{joined}
-use Rattle.stream.proofs.HandedOn.{joined-more}
+use Rattle.stream.specs.Machine.{uncut}
+use Rattle.stream.proofs.LinesSpelt.{uncut-more}
 use Rattle.floor.specs.Events.{linesFrom}
 use Rattle.floor.specs.WholeLog.{noneLonger, Countable}
 
@@ -25,19 +25,19 @@ lines-few g (b ∷ bs) =
     if-all (λ (ls : List (List ℕ)). length ls ≤ length g + suc (length bs)) (b is "\n")
     (omega (arith, lines-few [] bs)) (omega (arith, lines-few (g ++ (b ∷ [])) bs, length-append g (b ∷ [])))
 
-joined-long : (r : List ℕ) (reads : List (List ℕ)) → length (joined (r ∷ reads)) ≡ length r + length (joined reads)
-joined-long r reads = ap length (joined-more r reads) ∙ length-append r (joined reads)
+uncut-long : (r : List ℕ) (reads : List (List ℕ)) → length (uncut (r ∷ reads)) ≡ length r + length (uncut reads)
+uncut-long r reads = ap length (uncut-more r reads) ∙ length-append r (uncut reads)
 
-none-longer : (size : ℕ) (reads : List (List ℕ)) → length (joined reads) ≤ size → noneLonger size reads ≡ true
+none-longer : (size : ℕ) (reads : List (List ℕ)) → length (uncut reads) ≤ size → noneLonger size reads ≡ true
 none-longer size [] h = refl
 none-longer size (r ∷ reads) h =
-    both (le-leb (length r) size (omega (arith, joined-long r reads)))
-    (none-longer size reads (omega (arith, joined-long r reads)))
+    both (le-leb (length r) size (omega (arith, uncut-long r reads)))
+    (none-longer size reads (omega (arith, uncut-long r reads)))
 
-pub short-log-countable : (reads : List (List ℕ)) → length (joined reads) < 2 ^ 63
-    → Countable (length (joined reads) + 1) reads
+pub short-log-countable : (reads : List (List ℕ)) → length (uncut reads) < 2 ^ 63
+    → Countable (length (uncut reads) + 1) reads
 short-log-countable reads h = record {
   some = omega arith;
-  sizes = none-longer (length (joined reads) + 1) reads (omega arith);
-  lines = omega (arith, lines-few [] (joined reads));
+  sizes = none-longer (length (uncut reads) + 1) reads (omega arith);
+  lines = omega (arith, lines-few [] (uncut reads));
 }

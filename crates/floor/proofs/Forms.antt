@@ -12,13 +12,12 @@ use borrow.Author.Tests.{le-leb, lt-leb, eq-eqb, ne-eqb, eqb-true}
 use Rattle.text.specs.Words.{_is_}
 use Rattle.text.specs.Scans.{every}
 use Rattle.text.proofs.Choices.{if-yes, if-no, both}
-use Rattle.numbers.specs.Decimal.{isDigit}
-use Rattle.digest.specs.Hex.{isHexDigit}
+use Rattle.numbers.specs.Decimal.{isDigit, decimalValue}
+use Rattle.digest.specs.Hex.{isHexDigit, hexValue}
 use Rattle.lines.specs.Bytes.{_at_, noCr}
 use Rattle.clock.specs.Passing.{secondsMost}
-use Rattle.floor.specs.declared.line.Says.{Says}
 use Rattle.floor.specs.declared.line.Says.the-variants.{Opens, Receives, Passes, Closes, NoSuch}
-use Rattle.floor.specs.Lines.{lineMost, randomOf, randomSaid, secondsOf, secondsSaid, _starts_, formSaid, lineSaid}
+use Rattle.floor.specs.Lines.{lineMost, randomSaid, secondsSaid, _starts_, formSaid, lineSaid}
 
 -- a conjunction fails by its second side
 never : (a b : Bool) → b ≡ false → (a && b) ≡ false
@@ -35,9 +34,9 @@ module _ (s : List ℕ) where
   unfolding randomSaid
   random-no-digit e = if-no _ _ (never (eqb (length s) 8) (every isHexDigit s) e)
 
-  pub random-opens : (v : ℕ) → length s ≡ 8 → every isHexDigit s ≡ true → randomOf s ≡ v → randomSaid s ≡ Opens v
+  pub random-opens : length s ≡ 8 → every isHexDigit s ≡ true → randomSaid s ≡ Opens (hexValue s)
   unfolding randomSaid
-  random-opens v h e f = if-yes _ _ (both (eq-eqb (length s) 8 h) e) ∙ ap Opens f
+  random-opens h e = if-yes _ _ (both (eq-eqb (length s) 8 h) e)
 
 -- the seconds after `T`
 module _ (s : List ℕ) where
@@ -57,15 +56,15 @@ module _ (s : List ℕ) where
     unfolding secondsSaid
     seconds-no-digit e = simp (sized, e)
 
-    module _ (figures : every isDigit s ≡ true) (v : ℕ) (value : secondsOf s ≡ v) where
+    module _ (figures : every isDigit s ≡ true) (v : ℕ) (value : decimalValue s ≡ v) where
       pub seconds-over : secondsMost < v → secondsSaid s ≡ NoSuch
       unfolding secondsSaid
-      seconds-over h = simp (sized, figures, lt-leb (secondsOf s) secondsMost (omega arith))
+      seconds-over h = simp (sized, figures, lt-leb (decimalValue s) secondsMost (omega arith))
 
       pub seconds-passes : v ≤ secondsMost → secondsSaid s ≡ Passes v
       unfolding secondsSaid
       seconds-passes h =
-          if-yes _ _ (both (both sized figures) (le-leb (secondsOf s) secondsMost (omega arith))) ∙ ap Passes value
+          if-yes _ _ (both (both sized figures) (le-leb (decimalValue s) secondsMost (omega arith))) ∙ ap Passes value
 
 -- the four forms
 module _ (l : List ℕ) where

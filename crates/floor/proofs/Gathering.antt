@@ -1,121 +1,71 @@
--- The loop that gathers a line: at i, with no LF found, the answer for all bytes is that for what is left, i later.
+-- What is kept of a line, byte by byte, never passes a line's length and stays in its memory; the loop that collects
+-- it.
+--   InMemory k now      the line k has become `now`, in the same memory
+--   GoneTo k bs n now i     the loop has come to i, and `now` is what the bytes before i, of the first n, made of k
 -- Assumes nothing.
-use Prim.Native.Nat.{ℕ, suc, _+_, _≤_, _<_}
+use Prim.Native.Nat.{ℕ, _+_, _≤_, _<_}
 use Prim.Native.Char.{code}
 use mathlib.Core.Path.{_≡_, refl, sym, ap, _∙_}
-use mathlib.Core.Bool.{true, false, false≢true}
-use mathlib.Core.List.{List, [], _∷_}
-use native.Mathlib.Nat.{zero-add, add-zero}
+use mathlib.Core.Bool.{true, false}
+use mathlib.Core.List.{List, [], _∷_, foldl, foldl-append}
 use native.Mathlib.Numerals.{add-one}
 use native.Mathlib.Omega.{arith}
-use lib.ListN.{length, getD, drop, drop-of-length-le, length-set}
-use lib.Seq.{drop-cons}
-use lib.Dec.{ltb}
-use borrow.Author.Tests.{eq-eqb, ne-eqb, ltb-true}
-use Rattle.text.specs.Words.{_is_}
-use Rattle.text.proofs.Choices.{if-yes, if-no, if-all, if-by}
+use lib.ListN.{length, getD, take, length-set}
+use lib.Seq.{take-suc}
+use Rattle.record.specs.declared.types.Line.{Line}
+use Rattle.stream.proofs.UpToTheEnd.{up-to-keeps}
+use Rattle.stream.proofs.AllAtOnce.{more, collected-by, one-marked, one-fits, one-past}
 use Rattle.floor.specs.Lines.{lineMost}
-use Rattle.floor.specs.Reading.{Kept, UpToLf, collected, later, gathered}
+use Rattle.floor.specs.Reading.{keptWith, upToLf}
 
-abbrev laterBy : ℕ → UpToLf → UpToLf
-laterBy n g = record { kept = g .kept; before = n + g .before; came = g .came }
+pub record InMemory (k now : Line) : Type 0 where
+  pub held : now .held ≤ lineMost
+  pub long : length (now .bytes) ≡ length (k .bytes)
 
-pub collected-long : (k : Kept) (b : ℕ) → length (collected k b .line) ≡ length (k .line)
-unfolding collected
-collected-long k b =
-    if-all (λ (m : Kept). length (m .line) ≡ length (k .line)) (k .begun .overlong) refl
-    (if-all (λ (m : Kept). length (m .line) ≡ length (k .line)) (ltb (k .begun .held) lineMost)
-    (length-set (k .line) (k .begun .held) b) refl)
+-- one byte more: under the mark, where there is room, past it
+module _ (k : Line) (b : ℕ) where
+  pub kept-marked : k .overlong ≡ true → keptWith k b ≡ k
+  kept-marked = one-marked _ lineMost k b
 
-module _ (k : Kept) (bs : List ℕ) where
-  pub record GoneTo (now : Kept) (i : ℕ) : Type 0 where
-    pub inside : i ≤ length bs
-    pub room : length (now .line) ≡ length (k .line)
-    pub rest : gathered k bs ≡ laterBy i (gathered now (drop i bs))
+  pub kept-more : k .overlong ≡ false → k .held < lineMost → keptWith k b ≡ more k b
+  kept-more = one-fits _ lineMost k b
+
+  pub kept-past : k .overlong ≡ false → lineMost ≤ k .held
+      → keptWith k b ≡ record { overlong = true; held = 0; bytes = k .bytes }
+  kept-past = one-past _ lineMost k b
+
+pub kept-long : (k : Line) (b : ℕ) → length (keptWith k b .bytes) ≡ length (k .bytes)
+kept-long k b =
+    collected-by _ lineMost k b (λ m. length (m .bytes) ≡ length (k .bytes)) (λ e. refl) (λ u f. refl)
+    (λ u f. length-set (k .bytes) (k .held) b)
+
+pub kept-held : (k : Line) (b : ℕ) → k .held ≤ lineMost → keptWith k b .held ≤ lineMost
+kept-held k b h =
+    collected-by _ lineMost k b (λ m. m .held ≤ lineMost) (λ e. h) (λ u f. omega arith) (λ u f. omega arith)
+
+pub line-in-memory : (k : Line) (bs : List ℕ) → k .held ≤ lineMost → InMemory k (upToLf k bs .line)
+line-in-memory k bs h =
+    up-to-keeps (code "\n") keptWith (InMemory k)
+    (λ m b n r. record { held = kept-held m b (r .held); long = kept-long m b ∙ r .long }) k bs
+    (record { held = h; long = refl })
+
+module _ (k : Line) (bs : List ℕ) (n : ℕ) where
+  pub record GoneTo (now : Line) (i : ℕ) : Type 0 where
+    pub inside : i ≤ n
+    pub long : length (now .bytes) ≡ length (k .bytes)
+    pub so-far : now ≡ foldl keptWith k (take i bs)
 
   pub none-gone : GoneTo k 0
-  none-gone = record {
-    inside = omega arith;
-    room = refl;
-    rest = (λ i. laterBy-0 (gathered k bs) i);
-  }
-    where
-      laterBy-0 : (g : UpToLf) → g ≡ laterBy 0 g
-      laterBy-0 g = ap {B = UpToLf} (λ (n : ℕ). record { kept = g .kept; before = n; came = g .came })
-          (sym (zero-add (g .before)))
+  none-gone = record { inside = omega arith; long = refl; so-far = refl }
 
-  module _ {now : Kept} {i : ℕ} (p : GoneTo now i) where
-    pub lf-found : i < length bs → getD bs i 0 ≡ code "\n" → gathered k bs ≡ record { kept = now; before = i; came = true }
-    unfolding gathered
-    lf-found h e =
-        p .rest
-        ∙ ap (λ (s : List ℕ). laterBy i (gathered now s)) (drop-cons bs i 0 h)
-        ∙ ap (laterBy i) (if-yes _ _ (eq-eqb (getD bs i 0) (code "\n") e))
-        ∙ ap {B = UpToLf} (λ (n : ℕ). record { kept = now; before = n; came = true }) (add-zero i)
-
-    pub one-gone : i < length bs → (getD bs i 0 ≡ code "\n" → ⊥) → GoneTo (collected now (getD bs i 0)) (i + 1)
-    unfolding gathered
-    one-gone h e = record {
-      inside = omega arith;
-      room = collected-long now (getD bs i 0) ∙ p .room;
-      rest =
-          p .rest
-          ∙ ap (λ (s : List ℕ). laterBy i (gathered now s)) (drop-cons bs i 0 h)
-          ∙ ap (laterBy i) (if-no _ _ (ne-eqb (getD bs i 0) (code "\n") e))
-          ∙ moved (gathered (collected now (getD bs i 0)) (drop (suc i) bs))
-          ∙ ap (λ (j : ℕ). laterBy (i + 1) (gathered (collected now (getD bs i 0)) (drop j bs))) (sym (add-one i));
-    }
-      where
-        moved : (g : UpToLf) → laterBy i (later g) ≡ laterBy (i + 1) g
-        moved g =
-            let sum : i + suc (g .before) ≡ i + 1 + g .before = omega arith in
-            ap {B = UpToLf} (λ (n : ℕ). record { kept = g .kept; before = n; came = g .came }) sum
-
-    pub all-gone : length bs ≤ i → gathered k bs ≡ record { kept = now; before = i; came = false }
-    unfolding gathered
-    all-gone h =
-        p .rest
-        ∙ ap (λ (s : List ℕ). laterBy i (gathered now s)) (drop-of-length-le bs h)
-        ∙ ap {B = UpToLf} (λ (n : ℕ). record { kept = now; before = n; came = false }) (add-zero i)
-
--- what is kept never passes a line's length, and the LF is one of the bytes
-pub collected-held : (k : Kept) (b : ℕ) → k .begun .held ≤ lineMost → collected k b .begun .held ≤ lineMost
-unfolding collected
-collected-held k b h =
-    if-all (λ (m : Kept). m .begun .held ≤ lineMost) (k .begun .overlong) h
-    (if-by (λ (m : Kept). m .begun .held ≤ lineMost) (ltb (k .begun .held) lineMost)
-    (λ l. omega (arith, ltb-true (k .begun .held) lineMost l)) (λ l. omega arith))
-
-pub record Within (k : Kept) (bs : List ℕ) (g : UpToLf) : Type 0 where
-  pub held : g .kept .begun .held ≤ lineMost
-  pub long : length (g .kept .line) ≡ length (k .line)
-  pub inside : g .before ≤ length bs
-  pub lf : g .came ≡ true → g .before < length bs
-  pub all : g .came ≡ false → g .before ≡ length bs
-
-pub gathered-within : (k : Kept) (bs : List ℕ) → k .begun .held ≤ lineMost → Within k bs (gathered k bs)
-unfolding gathered
-gathered-within k [] h = record {
-  held = h;
-  long = refl;
-  inside = omega arith;
-  lf = λ e. absurd (false≢true e);
-  all = λ e. refl;
-}
-gathered-within k (b ∷ bs) h =
-    if-all (Within k (b ∷ bs)) (b is "\n")
-    (record {
-      held = h;
-      long = refl;
-      inside = omega arith;
-      lf = λ e. omega arith;
-      all = λ e. absurd (false≢true (sym e));
-    })
-    (let w = gathered-within (collected k b) bs (collected-held k b h) in
-    record {
-      held = w .held;
-      long = w .long ∙ collected-long k b;
-      inside = omega (arith, w .inside);
-      lf = λ e. omega (arith, w .lf e);
-      all = λ e. ap suc (w .all e);
-    })
+  pub one-gone : {now : Line} {i : ℕ} → GoneTo now i → i < n → n ≤ length bs
+      → GoneTo (keptWith now (getD bs i 0)) (i + 1)
+  one-gone {now} {i} p h within =
+      let b = getD bs i 0 in
+      record {
+        inside = omega arith;
+        long = kept-long now b ∙ p .long;
+        so-far = ap (λ (m : Line). keptWith m b) (p .so-far)
+            ∙ sym (foldl-append keptWith k (take i bs) (b ∷ []))
+            ∙ ap (foldl keptWith k) (sym (ap (λ (j : ℕ). take j bs) (add-one i) ∙ take-suc bs i 0 (omega arith)));
+      }

@@ -1,23 +1,18 @@
 -- The text of a kept line with its CR, as the code lends it.
 -- Assumes nothing.
-use Prim.Native.Nat.{ℕ, zero, suc, _+_, _-_, _≤_, _<_, min}
-use mathlib.Core.Path.{_≡_, refl, sym, ap, _∙_}
-use mathlib.Core.List.{List, [], _∷_, _++_}
+use Prim.Native.Nat.{ℕ, _+_, _-_, _≤_, _<_, min}
+use Prim.Native.Char.{code}
+use mathlib.Core.Path.{_≡_, sym, ap, _∙_}
+use mathlib.Core.List.{List, _++_}
 use mathlib.Core.Logic.{⊎-elim}
 use native.Mathlib.Nat.{sub-zero}
 use native.Mathlib.Numerals.{add-one}
 use native.Mathlib.Omega.{arith}
-use lib.ListN.{length, take, drop, set, length-take, drop-of-length-le}
-use lib.Seq.{take-suc-set, take-set-le, take-nil, drop-append-le, length-take-le}
+use lib.ListN.{length, take, drop, set, drop-of-length-le}
+use lib.Seq.{take-suc-set, take-set-le, drop-append-le, length-take-le}
+use Rattle.text.specs.Words.{ascii}
 use Rattle.text.proofs.Orders.{le-or-lt}
-
-drop-take : (a b : ℕ) (s : List ℕ) → drop a (take b s) ≡ take (b - a) (drop a s)
-drop-take zero b s = ap (λ (k : ℕ). take k s) (sym (sub-zero b))
-drop-take (suc a) zero s = let none : 0 - suc a ≡ 0 = omega arith in sym (ap (λ (k : ℕ). take k (drop (suc a) s)) none)
-drop-take (suc a) (suc b) [] = sym (take-nil (suc b - suc a))
-drop-take (suc a) (suc b) (x ∷ s) =
-    let same : b - a ≡ suc b - suc a = omega arith in
-    drop-take a b s ∙ ap (λ (k : ℕ). take k (drop a s)) same
+use Rattle.text.proofs.Parts.{drop-take}
 
 -- past the end nothing is left, wherever one begins
 dropped : (a b : ℕ) (s : List ℕ) → a ≡ min b (length s) → drop a s ≡ drop b s
@@ -27,15 +22,17 @@ dropped a b s e =
     (le-or-lt b (length s))
 
 module _ (m : List ℕ) (held : ℕ) (inside : held < length m) where
-  pub line-lent : take (held - 0) (set m held 13) ≡ take held m
-  line-lent = ap (λ (k : ℕ). take k (set m held 13)) (sub-zero held) ∙ take-set-le held m held 13 (omega arith)
+  pub line-lent : take (held - 0) (set m held (code "\r")) ≡ take held m
+  line-lent =
+      ap (λ (k : ℕ). take k (set m held (code "\r"))) (sub-zero held)
+      ∙ take-set-le held m held (code "\r") (omega arith)
 
   pub text-lent : (from : ℕ) → from ≡ min 2 held
-      → take (held + 1 - from) (drop from (set m held 13)) ≡ drop 2 (take held m) ++ (13 ∷ [])
+      → take (held + 1 - from) (drop from (set m held (code "\r"))) ≡ drop 2 (take held m) ++ ascii "\r"
   text-lent from e =
       let long : length (take held m) ≡ held = length-take-le held m (omega arith) in
-      sym (drop-take from (held + 1) (set m held 13))
-      ∙ ap (λ (k : ℕ). drop from (take k (set m held 13))) (add-one held)
-      ∙ ap (drop from) (take-suc-set m held 13 inside)
-      ∙ drop-append-le from (take held m) (13 ∷ []) (omega arith)
-      ∙ ap (λ (s : List ℕ). s ++ (13 ∷ [])) (dropped from 2 (take held m) (omega arith))
+      sym (drop-take from (held + 1) (set m held (code "\r")))
+      ∙ ap (λ (k : ℕ). drop from (take k (set m held (code "\r")))) (add-one held)
+      ∙ ap (drop from) (take-suc-set m held (code "\r") inside)
+      ∙ drop-append-le from (take held m) (ascii "\r") (omega arith)
+      ∙ ap (λ (s : List ℕ). s ++ ascii "\r") (dropped from 2 (take held m) (omega arith))

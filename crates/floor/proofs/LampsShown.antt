@@ -1,6 +1,6 @@
 -- The seconds of lamps, one lamp more, and how long they can be; the loop that puts them.
 -- Assumes nothing.
-use Prim.Native.Nat.{ℕ, suc, _+_, _*_, _≤_, _<_}
+use Prim.Native.Nat.{ℕ, _+_, _*_, _≤_, _<_}
 use mathlib.Core.Path.{_≡_, refl, sym, ap, _∙_}
 use mathlib.Core.List.{List, [], _∷_, _++_, append-nil, append-assoc}
 use native.Mathlib.Nat.{add-zero}
@@ -56,7 +56,8 @@ module _ (out : List ℕ) (at : ℕ) (lamps : List ℕ) (count : ℕ) where
         let x = getD lamps k 0 in
         let text = lampsShown (take k lamps) in
         let spaced = sets-then out at text (ascii " ") (p .stored) (p .counted) in
-        let sum : place + 1 ≡ at + length (text ++ ascii " ") = omega (arith, p .counted, length-append text (ascii " ")) in
+        let sum : place + 1 ≡ at + length (text ++ ascii " ") =
+        omega (arith, p .counted, length-append text (ascii " ")) in
         let whole : text ++ ascii " " ++ digits x ≡ lampsShown (take (k + 1) lamps) =
         append-assoc text (ascii " ") (digits x) ∙ sym (shown-more lamps k h) in
         record {

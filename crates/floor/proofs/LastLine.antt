@@ -1,6 +1,6 @@
 -- How what is printed for a log ends (02, L1: "after the last, one line with power and lamp seconds"): before its last
--- LF stands a digit of a lamp's seconds, or the `s` of `lamps` where there is none. So for no log a line is printed last
--- that ends in any other way.
+-- LF stands a digit of a lamp's seconds, or the `s` of `lamps` where there is none. So for no log a line is printed
+-- last that ends in any other way.
 --   EndsIn f l      l ends in a byte that passes the test f
 -- Assumes nothing.
 use Prim.Native.Nat.{ℕ, suc, _-_}
@@ -15,7 +15,7 @@ use Rattle.text.specs.Words.{ascii, _is_}
 use Rattle.numbers.specs.Decimal.{digits, isDigit}
 use Rattle.numbers.proofs.Digits.{digits-at-least-1, digits-each-digit}
 use Rattle.floor.specs.Events.{events}
-use Rattle.floor.specs.Playing.{sample, stateAfter, linesPrinted, lampsShown, lastLineOf, replayed}
+use Rattle.floor.specs.Playing.{sampleDevice, stateAfter, linesPrinted, lampsShown, lastLineOf, replayed}
 
 record EndsIn (f : ℕ → Bool) (l : List ℕ) : Type 0 where
   before : List ℕ
@@ -92,6 +92,6 @@ pub no-log-ends-in : (log other : List ℕ) (c : ℕ) → (isDigit c || c is "s"
     → replayed log ≡ other ++ (c ∷ ascii "\n") → ⊥
 unfolding replayed
 no-log-ends-in log other c h e =
-    let d = stateAfter sample (events log) in
-    last-line-ends (linesPrinted 0 sample (events log)) (d .own .power)
+    let d = stateAfter sampleDevice (events log) in
+    last-line-ends (linesPrinted 0 sampleDevice (events log)) (d .own .power)
     (take (d .settings .«lamp_count») (d .own .lamps)) other c h e

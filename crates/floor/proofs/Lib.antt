@@ -1,17 +1,19 @@
-pub mod DigitsRead
-pub mod HexDigits
 pub mod Forms
 mod Gathering
-mod MoreRoom
+mod Endings
 mod Printing
+mod PartsPut
 mod KeptText
 mod LinesPlayed
+mod LoopPlayed
 mod Refusals
 mod Carrying
 mod LampsShown
-pub mod Cuts
-pub mod Replayed
+mod Cuts
+mod KeptLine
+mod Replayed
 mod Accepted
+mod LinesCounted
 pub mod WholeLog
 pub mod LastLine
 pub mod Counted

@@ -1,122 +1,26 @@
 -- A printed line, as the code puts it together: the number and a space, a reply that loses its CR, and an ending.
 -- Assumes nothing.
-use Prim.Native.Nat.{ℕ, zero, suc, _+_, _-_, _≤_, _<_}
-use mathlib.Core.Path.{_≡_, refl, sym, ap, _∙_}
-use mathlib.Core.Bool.{Bool, true, false, not, false≢true}
+use Prim.Native.Nat.{ℕ, suc, _+_, _-_, _≤_}
+use mathlib.Core.Path.{_≡_, sym, ap, _∙_}
+use mathlib.Core.Bool.{Bool, true, not}
 use mathlib.Core.List.{List, [], _∷_, _++_, append-nil, append-assoc}
-use native.Mathlib.Nat.{add-zero, zero-add}
 use native.Mathlib.Omega.{arith}
-use lib.ListN.{length, getD, take, drop, set, length-append, length-take}
+use lib.ListN.{length, getD, take, set, length-append, length-take}
 use lib.Seq.{sets, set-set, take-suc, take-length, length-take-le}
-use lib.Dec.{eqb}
-use borrow.Author.Tests.{eqb-true, eqb-false, eq-eqb, ne-eqb}
-use Rattle.text.specs.Words.{ascii, if_then_else_, over}
-use Rattle.text.proofs.Choices.{if-yes, if-no, if-by}
-use Rattle.text.proofs.Stores.{sets-append, sets-then}
+use borrow.Author.Tests.{eq-eqb, ne-eqb}
+use Rattle.text.specs.Words.{ascii}
+use Rattle.text.proofs.Choices.{if-yes, if-no}
+use Rattle.text.proofs.Stores.{sets-append, sets-then, sets-over}
 use Rattle.numbers.specs.Decimal.{digits, longDigits}
 use Rattle.numbers.proofs.Digits.{digits-at-most-10}
 use Rattle.record.specs.declared.types.Device.{Device}
-use Rattle.device.specs.Calls.{Result, replyRoom, received, openedBy, closedBy}
-use Rattle.device.proofs.Refusals.{opening-refused, receiving-refused, closing-refused}
+use Rattle.device.specs.Calls.{Result, replyRoom}
+use Rattle.floor.specs.declared.event.Called.{Called}
 use Rattle.floor.specs.declared.line.Says.{Says}
-use Rattle.floor.specs.declared.line.Says.the-variants.{Opens, Receives, Passes, Closes, NoSuch}
-use Rattle.floor.specs.Events.{Event, eventOf}
+use Rattle.floor.specs.Events.{eventOf}
 use Rattle.floor.specs.Playing.{did, outcome, shown, printed}
-use Rattle.floor.specs.Told.{isFormed, ending}
-
--- how a line ends
-module _ (n k : ℕ) where
-  pub ending-unformed : {f : Bool} → f ≡ false → ending f n k ≡ ascii "?\n"
-  unfolding ending
-  ending-unformed e = if-yes _ _ (ap not e)
-
-  module _ {f : Bool} (formed : f ≡ true) where
-    pub ending-refused : (n ≡ 0 → ⊥) → ending f n k ≡ ascii "! " ++ digits n ++ ascii "\n"
-    unfolding ending
-    ending-refused h = if-no _ _ (ap not formed) ∙ if-yes _ _ (ap not (ne-eqb n 0 h))
-
-    pub ending-silent : n ≡ 0 → k ≡ 0 → ending f n k ≡ ascii "-\n"
-    unfolding ending
-    ending-silent e z = if-no _ _ (ap not formed) ∙ if-no _ _ (ap not (eq-eqb n 0 e)) ∙ if-yes _ _ (eq-eqb k 0 z)
-
-    pub ending-replied : n ≡ 0 → (k ≡ 0 → ⊥) → ending f n k ≡ ascii "\n"
-    unfolding ending
-    ending-replied e z = if-no _ _ (ap not formed) ∙ if-no _ _ (ap not (eq-eqb n 0 e)) ∙ if-no _ _ (ne-eqb k 0 z)
-
--- a refusal has no reply, and a line of no such form has none
-pub record Plain (formed : Bool) (r : Result Device) : Type 0 where
-  pub unformed : formed ≡ false → r .reply ≡ []
-  pub refused : (r .number ≡ 0 → ⊥) → r .reply ≡ []
-
-formed-plain : (r : Result Device) → ((r .number ≡ 0 → ⊥) → r .reply ≡ []) → Plain true r
-formed-plain r h = record { unformed = λ e. absurd (false≢true (sym e)); refused = h }
-
-pub did-plain : (d : Device) (says : Says) (bs : List ℕ) → Plain (isFormed says) (did d (eventOf says bs))
-unfolding did
-did-plain d (Opens x) bs = formed-plain _ (λ n. opening-refused d x replyRoom n .reply)
-did-plain d Receives bs = formed-plain _ (λ n. receiving-refused d bs replyRoom n .reply)
-did-plain d (Passes n) bs = formed-plain _ (λ n. refl)
-did-plain d Closes bs = formed-plain _ (λ n. closing-refused d n .reply)
-did-plain d NoSuch bs = record { unformed = λ e. refl; refused = λ n. refl }
-
-none : (s : List ℕ) → length s ≡ 0 → s ≡ []
-none [] e = refl
-none (x ∷ s) e = absurd (omega arith)
-
--- the reply without its CR
-abbrev pub bare : Result Device → List ℕ
-bare r = take (length (r .reply) - 1) (r .reply)
-
-module _ (f : Bool) (r : Result Device) (plain : Plain f r) where
-  abbrev last : List ℕ
-  last = ending f (r .number) (length (r .reply))
-
-  -- by what the line is: not formed, refused, without a reply, with one
-  pub ending-by : (P : List ℕ → List ℕ → Type 0)
-      → (f ≡ false → P [] (ascii "?\n"))
-      → (f ≡ true → (r .number ≡ 0 → ⊥) → P [] (ascii "! " ++ digits (r .number) ++ ascii "\n"))
-      → (f ≡ true → r .number ≡ 0 → r .reply ≡ [] → P [] (ascii "-\n"))
-      → (f ≡ true → r .number ≡ 0 → (length (r .reply) ≡ 0 → ⊥) → P (r .reply) (ascii "\n"))
-      → P (r .reply) last
-  ending-by P unformed refused silent replied = by f refl
-    where
-      both-ways : {s t m n : List ℕ} → s ≡ t → m ≡ n → P t n → P s m
-      both-ways p q h = rw (p, q) h
-
-      numbered : f ≡ true → (t : Bool) → eqb (r .number) 0 ≡ t → (u : Bool) → eqb (length (r .reply)) 0 ≡ u
-          → P (r .reply) last
-      numbered e false n u z =
-          let other = eqb-false (r .number) 0 n in
-          both-ways (plain .refused other) (ending-refused (r .number) (length (r .reply)) e other) (refused e other)
-      numbered e true n true z =
-          let zero = eqb-true (r .number) 0 n in
-          let empty = eqb-true (length (r .reply)) 0 z in
-          both-ways (none (r .reply) empty) (ending-silent (r .number) (length (r .reply)) e zero empty)
-          (silent e zero (none (r .reply) empty))
-      numbered e true n false z =
-          let zero = eqb-true (r .number) 0 n in
-          let some = eqb-false (length (r .reply)) 0 z in
-          both-ways refl (ending-replied (r .number) (length (r .reply)) e zero some) (replied e zero some)
-
-      by : (t : Bool) → f ≡ t → P (r .reply) last
-      by false e = both-ways (plain .unformed e) (ending-unformed (r .number) (length (r .reply)) e) (unformed e)
-      by true e = numbered e (eqb (r .number) 0) refl (eqb (length (r .reply)) 0) refl
-
-pub shown-formed : (says : Says) (bs : List ℕ) (r : Result Device) → isFormed says ≡ true
-    → shown (eventOf says bs) r ≡ outcome r
-shown-formed (Opens x) bs r e = refl
-shown-formed Receives bs r e = refl
-shown-formed (Passes n) bs r e = refl
-shown-formed Closes bs r e = refl
-shown-formed NoSuch bs r e = absurd (false≢true e)
-
-pub shown-unformed : (says : Says) (bs : List ℕ) (r : Result Device) → isFormed says ≡ false
-    → shown (eventOf says bs) r ≡ ascii "?"
-shown-unformed (Opens x) bs r e = absurd (false≢true (sym e))
-shown-unformed Receives bs r e = absurd (false≢true (sym e))
-shown-unformed (Passes n) bs r e = absurd (false≢true (sym e))
-shown-unformed Closes bs r e = absurd (false≢true (sym e))
-shown-unformed NoSuch bs r e = refl
+use Rattle.floor.specs.Told.{isFormed, ending, calledOf, PrintedAs}
+use Rattle.floor.proofs.Endings.{did-plain, bare, ending-by, shown-formed, shown-unformed}
 
 -- an ending after no reply, and one in the place of a reply's last byte
 appended : (l text end : List ℕ) → sets (sets l 0 (text ++ [])) (length text + (0 - 1)) end ≡ sets l 0 (text ++ end)
@@ -209,3 +113,44 @@ module _ (n : ℕ) (d : Device) (says : Says) (bs : List ℕ) where
         length-append (bare result) tail,
         length-take (length (result .reply) - 1) (result .reply),
       )
+
+  -- the number, a space and the reply stand in memory; what the call gave and whether the line is formed, as told
+  module _ (out : List ℕ) where
+    pub record Replied (at : ℕ) (left : List ℕ) : Type 0 where
+      pub place : at ≡ 0 + length headed
+      pub stored : left ≡ sets out 0 (headed ++ result .reply)
+      pub long : length left ≡ length out
+      pub fits : at + length (result .reply) ≤ length out
+      pub room : at + replyRoom ≤ length out
+
+    module _ {at : ℕ} {left : List ℕ} (p : Replied at left) {c : Called} {f : Bool} (gave : c ≡ calledOf result)
+        (formed : f ≡ isFormed says) {last : ℕ} (lasts : last ≡ at + (c .length - 1)) where
+      same-end : ending f (c .number) (c .length) ≡ tail
+      same-end = (λ i. ending (formed i) (gave i .number) (gave i .length))
+
+      place : last ≡ length headed + (length (result .reply) - 1)
+      place = omega (arith, lasts, ap (λ (x : Called). x .length) gave, p .place)
+
+      pub ending-fits : last + length (ending f (c .number) (c .length)) ≤ length left
+      ending-fits =
+          omega (
+            arith,
+            ap length same-end,
+            place,
+            p .place,
+            p .long,
+            p .room,
+            tail-fits (length out - at) (omega (arith, p .fits)) (omega (arith, p .room)),
+          )
+
+      pub line-printed : {end : ℕ} {m : List ℕ} → end ≡ last + length (ending f (c .number) (c .length))
+          → m ≡ sets left last (ending f (c .number) (c .length))
+          → PrintedAs n d (eventOf says bs) out (record { length = end; device = c .device }) m
+      line-printed {end} e q =
+          let all = printed n (eventOf says bs) result in
+          let whole : end ≡ length all = omega (arith, e, ap length same-end, place, printed-long) in
+          record {
+            returned = (λ i. record { length = whole i; device = gave i .device });
+            stored = q ∙ (λ i. sets (p .stored i) (place i) (same-end i)) ∙ printed-stored out
+                ∙ sets-over all out (omega (arith, whole, e, ending-fits, p .long));
+          }

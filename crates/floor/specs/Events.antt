@@ -1,9 +1,10 @@
 -- A log as events (02, L1).
---   Event             what a line asks for: a connection opened with a random number; bytes received; seconds passed; the
---                     connection closed; or a line of no such form, which changes nothing
+--   LogEvent          what a line asks for: a connection opened with a random number; bytes received; seconds passed;
+--                     the connection closed; or a line of no such form, which changes nothing
 --   eventOf says bs   the event of what a line says, where bs are the bytes that it would have received
 --   event l           the event of the line l: a text is received with a CR after it
---   linesFrom g log   the lines of a log of which the first has begun with g: each ends with LF, the last perhaps without
+--   linesFrom g log   the lines of a log of which the first has begun with g: each ends with LF, the last perhaps
+--                     without
 --   linesOf log       the lines of a log
 --   events log        its events
 -- Assumes nothing.
@@ -16,21 +17,21 @@ use Rattle.floor.specs.declared.line.Says.{Says}
 use Rattle.floor.specs.declared.line.Says.the-variants.{Opens, Receives, Passes, Closes, NoSuch}
 use Rattle.floor.specs.Lines.{lineSaid}
 
-pub data Event : Type 0 where
-  opens : ℕ → Event
-  receives : List ℕ → Event
-  passes : ℕ → Event
-  closes : Event
-  noSuch : Event
+pub data LogEvent : Type 0 where
+  opens : ℕ → LogEvent
+  receives : List ℕ → LogEvent
+  passes : ℕ → LogEvent
+  closes : LogEvent
+  noSuch : LogEvent
 
-abbrev pub eventOf : Says → List ℕ → Event
+abbrev pub eventOf : Says → List ℕ → LogEvent
 eventOf (Opens r) bs = opens r
 eventOf Receives bs = receives bs
 eventOf (Passes n) bs = passes n
 eventOf Closes bs = closes
 eventOf NoSuch bs = noSuch
 
-unfoldable pub event : List ℕ → Event
+unfoldable pub event : List ℕ → LogEvent
 event l = eventOf (lineSaid l) (drop 2 l ++ ascii "\r")
 
 unfoldable pub linesFrom : List ℕ → List ℕ → List (List ℕ)
@@ -40,5 +41,5 @@ linesFrom g (b ∷ bs) = if b is "\n" then g ∷ linesFrom [] bs else linesFrom 
 abbrev pub linesOf : List ℕ → List (List ℕ)
 linesOf log = linesFrom [] log
 
-abbrev pub events : List ℕ → List Event
+abbrev pub events : List ℕ → List LogEvent
 events log = map event (linesOf log)

@@ -1,22 +1,21 @@
 -- What a line of a log says (02, L1: "one event a line").
 --   lineMost            the most bytes of a line, without its LF
---   valueIn base worth v s     the number whose digits are those of v, then s
 --   l starts "O"        the line has that letter, a space and perhaps more
 --   randomSaid s        `O`: s is eight lowercase hex digits, the random number
 --   secondsSaid s       `T`: s is one to ten decimal digits of a number of seconds, at most 4,294,967,295
 --   formSaid l          which of the four forms l has
 --   lineSaid l          the same, for a line that has at most `lineMost` bytes and no CR in it; else no such form
 -- Assumes nothing.
-use Prim.Native.Nat.{ℕ, _+_, _-_, _*_}
-use Prim.Native.Char.{Char, code}
+use Prim.Native.Nat.{ℕ}
+use Prim.Native.Char.{Char}
 use mathlib.Core.Bool.{Bool, _&&_}
-use mathlib.Core.List.{List, [], _∷_}
+use mathlib.Core.List.{List}
 use lib.ListN.{length, drop}
 use lib.Dec.{leb, eqb}
-use Rattle.text.specs.Words.{if_then_else_, _is_, _from_to_}
+use Rattle.text.specs.Words.{if_then_else_, _is_}
 use Rattle.text.specs.Scans.{every}
-use Rattle.numbers.specs.Decimal.{isDigit}
-use Rattle.digest.specs.Hex.{isHexDigit}
+use Rattle.numbers.specs.Decimal.{isDigit, decimalValue}
+use Rattle.digest.specs.Hex.{isHexDigit, hexValue}
 use Rattle.lines.specs.Bytes.{_at_, noCr}
 use Rattle.clock.specs.Passing.{secondsMost}
 use Rattle.floor.specs.declared.line.Says.{Says}
@@ -26,29 +25,13 @@ infix 40 _starts_
 abbrev pub lineMost : ℕ
 lineMost = 4096
 
-abbrev pub valueIn : ℕ → (ℕ → ℕ) → ℕ → List ℕ → ℕ
-valueIn base worth v [] = v
-valueIn base worth v (b ∷ s) = valueIn base worth (v * base + worth b) s
-
-abbrev pub decimalWorth : ℕ → ℕ
-decimalWorth b = b - code "0"
-
-abbrev pub hexWorth : ℕ → ℕ
-hexWorth b = if b from "0" to "9" then b - code "0" else b - code "a" + 10
-
-abbrev pub randomOf : List ℕ → ℕ
-randomOf s = valueIn 16 hexWorth 0 s
-
 unfoldable pub randomSaid : List ℕ → Says
-randomSaid s = if eqb (length s) 8 && every isHexDigit s then Opens (randomOf s) else NoSuch
-
-abbrev pub secondsOf : List ℕ → ℕ
-secondsOf s = valueIn 10 decimalWorth 0 s
+randomSaid s = if eqb (length s) 8 && every isHexDigit s then Opens (hexValue s) else NoSuch
 
 unfoldable pub secondsSaid : List ℕ → Says
 secondsSaid s =
-    if leb 1 (length s) && leb (length s) 10 && every isDigit s && leb (secondsOf s) secondsMost
-    then Passes (secondsOf s)
+    if leb 1 (length s) && leb (length s) 10 && every isDigit s && leb (decimalValue s) secondsMost
+    then Passes (decimalValue s)
     else NoSuch
 
 abbrev pub _starts_ : List ℕ → Char → Bool

@@ -1,12 +1,13 @@
 -- What a log does and what is printed for it, by 01's definitions of the calls (02, L1).
---   did d e             what the event e does to the device d: the call's number, its reply and the record that it leaves
+--   did d e             what the event e does to the device d: the call's number, its reply and the record that it
+--                       leaves
 --   shown e r           what is printed for an event with that result: the reply without its CR, `-` for none, `! ` and
 --                       the number of a refusal, or `?` for a line of no such form
 --   printed n e r       the line number n, a space, that, and LF
 --   stateAfter d es     the device after these events
 --   linesPrinted n d es what is printed for them, the first being line n + 1
 --   lastLine d          the last line: power, and the seconds of each lamp; of those parts, lastLineOf
---   sample              01's sample set-up: W 20, C 60, one lamp at 0 s, input 11, texts empty, no password
+--   sampleDevice        01's sample set-up: W 20, C 60, one lamp at 0 s, input 11, texts empty, no password
 --   replayed log        all that is printed for a log
 -- Assumes nothing.
 use Prim.Native.Nat.{ℕ, _+_, _-_}
@@ -16,17 +17,18 @@ use lib.ListN.{length, take}
 use lib.Dec.{eqb}
 use Rattle.text.specs.Words.{ascii, if_then_else_}
 use Rattle.numbers.specs.Decimal.{digits, longDigits}
+use Rattle.record.specs.Wanted.{wantedOf}
 use Rattle.record.specs.SetUp.{setUp}
 use Rattle.record.specs.declared.types.Device.{Device}
 use Rattle.record.specs.declared.types.Changed.{Changed}
 use Rattle.clock.specs.Passing.{passed}
 use Rattle.device.specs.Calls.{Result, made, replyRoom, received, openedBy, closedBy}
-use Rattle.floor.specs.Events.{Event, opens, receives, passes, closes, noSuch, events}
+use Rattle.floor.specs.Events.{LogEvent, opens, receives, passes, closes, noSuch, events}
 
 abbrev pub changedTo : Changed → Result Device
 changedTo c = record { number = c .number; taken = 0; reply = []; device = c .device }
 
-unfoldable pub did : Device → Event → Result Device
+unfoldable pub did : Device → LogEvent → Result Device
 did d (opens r) = openedBy d r replyRoom
 did d (receives bs) = received d bs replyRoom
 did d (passes n) = changedTo (passed d n)
@@ -39,27 +41,34 @@ outcome r =
     else if eqb (length (r .reply)) 0 then ascii "-"
     else take (length (r .reply) - 1) (r .reply)
 
-abbrev pub shown : Event → Result Device → List ℕ
+abbrev pub shown : LogEvent → Result Device → List ℕ
 shown noSuch r = ascii "?"
 shown (opens x) r = outcome r
 shown (receives bs) r = outcome r
 shown (passes n) r = outcome r
 shown closes r = outcome r
 
-unfoldable pub printed : ℕ → Event → Result Device → List ℕ
+unfoldable pub printed : ℕ → LogEvent → Result Device → List ℕ
 printed n e r = longDigits n ++ ascii " " ++ shown e r ++ ascii "\n"
 
-unfoldable pub stateAfter : Device → List Event → Device
+unfoldable pub stateAfter : Device → List LogEvent → Device
 stateAfter d [] = d
 stateAfter d (e ∷ es) = stateAfter (did d e .device) es
 
-unfoldable pub linesPrinted : ℕ → Device → List Event → List ℕ
+unfoldable pub linesPrinted : ℕ → Device → List LogEvent → List ℕ
 linesPrinted n d [] = []
 linesPrinted n d (e ∷ es) = printed (n + 1) e (did d e) ++ linesPrinted (n + 1) (did d e .device) es
 
 abbrev pub lampsShown : List ℕ → List ℕ
 lampsShown [] = []
 lampsShown (x ∷ xs) = ascii " " ++ digits x ++ lampsShown xs
+
+-- so much room the lamps' seconds never need more than: a space and ten digits for each of eight; and the last line
+abbrev pub lampsRoom : ℕ
+lampsRoom = 88
+
+abbrev pub lastRoom : ℕ
+lastRoom = 111
 
 unfoldable pub lastLineOf : ℕ → List ℕ → List ℕ
 lastLineOf power lamps =
@@ -68,8 +77,8 @@ lastLineOf power lamps =
 abbrev pub lastLine : Device → List ℕ
 lastLine d = lastLineOf (d .own .power) (take (d .settings .«lamp_count») (d .own .lamps))
 
-unfoldable pub sample : Device
-sample = setUp [] [] [] [] [] (ascii "11") (0 ∷ []) 20 60 .device
+unfoldable pub sampleDevice : Device
+sampleDevice = setUp (wantedOf [] [] [] [] [] (ascii "11") (0 ∷ []) 20 60) .device
 
 unfoldable pub replayed : List ℕ → List ℕ
-replayed log = linesPrinted 0 sample (events log) ++ lastLine (stateAfter sample (events log))
+replayed log = linesPrinted 0 sampleDevice (events log) ++ lastLine (stateAfter sampleDevice (events log))

@@ -1,5 +1,5 @@
 -- A whole log through the calls (02, L1): `start`, then `play` on each read until all of it is taken, then `finish`.
---   Stage                 how far the calls have come: the number of the first that refused, or 0; the state and the
+--   LogStage              how far the calls have come: the number of the first that refused, or 0; the state and the
 --                         memory lent for a line, as the last call left them
 --   startStage m          what `start` gives, and m the memory lent for a line
 --   playedBy room g bs    what `play` on the bytes bs leaves, lent so many bytes to print in; after a refusal nobody
@@ -20,38 +20,38 @@ use lib.ListN.{length}
 use lib.Dec.{leb, eqb}
 use Rattle.text.specs.Words.{if_then_else_}
 use Rattle.text.specs.Scans.{every}
-use Rattle.stream.specs.Machine.{Out, Took, silent, took, handedParts, joined}
+use Rattle.stream.specs.Machine.{Out, Took, unanswered, tookBytes, handedParts, uncut}
 use Rattle.floor.specs.declared.replay.Floor.{Floor}
 use Rattle.floor.specs.Events.{linesOf, events}
-use Rattle.floor.specs.Playing.{sample, stateAfter, replayed}
+use Rattle.floor.specs.Playing.{sampleDevice, stateAfter, replayed}
 use Rattle.floor.specs.Reading.{fresh}
 use Rattle.floor.specs.Calls.{floorOf, Step, stepped, endedAt}
 
-pub record Stage : Type 0 where
+pub record LogStage : Type 0 where
   pub number : ℕ
   pub floor : Floor
   pub line : List ℕ
 
-abbrev pub startStage : List ℕ → Stage
+abbrev pub startStage : List ℕ → LogStage
 startStage m = record { number = 0; floor = floorOf (fresh []); line = m }
 
-abbrev pub callLeaves : Step → Took Stage
+abbrev pub callLeaves : Step → Took LogStage
 callLeaves s = record {
   taken = s .took .taken;
-  state = record { number = s .number; floor = floorOf (s .took .state); line = s .took .state .kept .line };
+  state = record { number = s .number; floor = floorOf (s .took .state); line = s .took .state .kept .bytes };
   reply = s .took .reply;
 }
 
-abbrev pub unlessRefused : Stage → Took Stage → Took Stage
-unlessRefused g t = if eqb (g .number) 0 then t else took 0 (silent g)
+abbrev pub unlessRefused : LogStage → Took LogStage → Took LogStage
+unlessRefused g t = if eqb (g .number) 0 then t else tookBytes 0 (unanswered g)
 
-unfoldable pub playedBy : ℕ → Stage → List ℕ → Took Stage
+unfoldable pub playedBy : ℕ → LogStage → List ℕ → Took LogStage
 playedBy room g bs = unlessRefused g (callLeaves (stepped (g .floor) (g .line) bs room))
 
-unfoldable pub finishedBy : ℕ → Stage → Took Stage
+unfoldable pub finishedBy : ℕ → LogStage → Took LogStage
 finishedBy room g = unlessRefused g (callLeaves (endedAt (g .floor) (g .line) room))
 
-unfoldable pub wholePlay : ℕ → List ℕ → List (List ℕ) → Out Stage
+unfoldable pub wholePlay : ℕ → List ℕ → List (List ℕ) → Out LogStage
 wholePlay room m reads =
     let played = handedParts (playedBy room) (startStage m) reads in
     let last = finishedBy room (played .state) in
@@ -63,9 +63,9 @@ noneLonger size reads = every (λ (r : List ℕ). leb (length r) size) reads
 pub record Countable (size : ℕ) (reads : List (List ℕ)) : Type 0 where
   pub some : 1 ≤ size
   pub sizes : noneLonger size reads ≡ true
-  pub lines : length (linesOf (joined reads)) + size < 2 ^ 64
+  pub lines : length (linesOf (uncut reads)) + size < 2 ^ 64
 
-pub record PlaysBack (log : List ℕ) (o : Out Stage) : Type 0 where
+pub record PlaysBack (log : List ℕ) (o : Out LogStage) : Type 0 where
   pub accepted : o .state .number ≡ 0
   pub printed : o .reply ≡ replayed log
-  pub device : o .state .floor .device ≡ stateAfter sample (events log)
+  pub device : o .state .floor .device ≡ stateAfter sampleDevice (events log)

@@ -3,16 +3,15 @@ use crate::line::Says;
 use device::calls;
 use record::types::Device;
 ghost use mathlib.Core.Path.{_≡_};
-ghost use mathlib.Core.Bool.{Bool};
-ghost use Prim.Native.Nat.{ℕ, _+_, _-_, _^_, _≤_, _<_};
+ghost use Prim.Native.Nat.{_+_, _-_, _^_, _≤_, _<_};
 ghost use lib.ListN.{length};
 ghost use lib.Seq.{sets};
 ghost use Rattle.text.specs.Words.{over};
 ghost use Rattle.device.specs.Calls.{replyRoom};
 ghost use Rattle.floor.specs.Events.{eventOf};
-ghost use Rattle.floor.specs.Playing.{did, printed};
+ghost use Rattle.floor.specs.Playing.{did};
 ghost use Rattle.floor.specs.Reading.{printRoom};
-ghost use Rattle.floor.specs.Told.{isFormed, ending, calledOf, printedOf};
+ghost use Rattle.floor.specs.Told.{isFormed, endMark, ending, calledOf, PrintedAs};
 
 // What a call gave: its number, the length of its reply, the record.
 pub struct Called {
@@ -90,28 +89,36 @@ fn is_formed(says: Says) -> bool
     }
 }
 
+// What stands at a line's end before LF, from `at` on; the place after it.
+fn put_mark(out: &mut [u8], at: usize, formed: bool, number: u32, replied: usize) -> usize
+    requires { ⌜ at + length (endMark formed number replied) < length (now out) ⌝ }
+    ensures { λ r. ⌜ r ≡ at + length (endMark formed number replied) ⌝ }
+    ensures { λ _. ⌜ now (out .exit) ≡ sets (now (out .entry)) at (endMark formed number replied) ⌝ }
+{
+    if !formed {
+        out[at] = b'?';
+        return at + 1;
+    }
+    if number != 0 {
+        text::put(out, at, b"! ");
+        return numbers::put_number(out, at + 2, number);
+    }
+    if replied == 0 {
+        out[at] = b'-';
+        return at + 1;
+    }
+    at
+}
+
 // The end of a printed line, from the place of the reply's last byte on, or of the missing reply's; the place after it.
 fn put_ending(out: &mut [u8], at: usize, formed: bool, number: u32, replied: usize) -> usize
     requires { ⌜ at + length (ending formed number replied) ≤ length (now out) ⌝ }
     ensures { λ r. ⌜ r ≡ at + length (ending formed number replied) ⌝ }
     ensures { λ _. ⌜ now (out .exit) ≡ sets (now (out .entry)) at (ending formed number replied) ⌝ }
 {
-    if !formed {
-        text::put(out, at, b"?\n");
-        return at + 2;
-    }
-    if number != 0 {
-        text::put(out, at, b"! ");
-        let after = numbers::put_number(out, at + 2, number);
-        text::put(out, after, b"\n");
-        return after + 1;
-    }
-    if replied == 0 {
-        text::put(out, at, b"-\n");
-        return at + 2;
-    }
-    text::put(out, at, b"\n");
-    at + 1
+    let end = put_mark(out, at, formed, number, replied);
+    out[end] = b'\n';
+    end + 1
 }
 
 // The place of a reply's last byte, its CR; of no reply, where it would have begun.
@@ -128,9 +135,7 @@ fn last_place(at: usize, replied: usize) -> usize
 // A line's event, and its printed line from the start of the lent memory.
 pub fn print(d: Device, number: u64, says: Says, bytes: &[u8], out: &mut [u8]) -> Printed
     requires { ⌜ printRoom ≤ length (now out) ⌝ }
-    ensures { λ r. ⌜ r ≡ printedOf number d (eventOf says (now (bytes .entry))) ⌝ }
-    ensures { λ _. ⌜ now (out .exit) ≡ over (printed number (eventOf says (now (bytes .entry)))
-        (did d (eventOf says (now (bytes .entry))))) (now (out .entry)) ⌝ }
+    ensures { λ r. ⌜ PrintedAs number d (eventOf says (now (bytes .entry))) (now (out .entry)) r (now (out .exit)) ⌝ }
 {
     let space = numbers::put_long(out, 0, number);
     text::put(out, space, b" ");

@@ -4,8 +4,8 @@ ghost use mathlib.Core.Path.{_≡_};
 ghost use Prim.Native.Nat.{_≤_};
 ghost use lib.ListN.{length};
 ghost use Rattle.floor.specs.Lines.{lineMost};
-ghost use Rattle.floor.specs.Reading.{keptOf, collected, gathered};
-ghost use Rattle.floor.specs.Told.{gatheredOf};
+ghost use Rattle.floor.specs.Reading.{keptOf, begunOf, keptWith, upToLf};
+ghost use Rattle.floor.specs.Told.{gatheredTo};
 
 // What is kept of a line that has begun.
 pub struct Begun {
@@ -28,8 +28,8 @@ pub struct Gathered {
 
 fn collect(k: Begun, line: &mut [u8], b: u8) -> Begun
     requires { ⌜ lineMost ≤ length (now line) ⌝ }
-    ensures { λ r. ⌜ r ≡ collected (keptOf k (now (line .entry))) b .begun ⌝ }
-    ensures { λ _. ⌜ now (line .exit) ≡ collected (keptOf k (now (line .entry))) b .line ⌝ }
+    ensures { λ r. ⌜ r ≡ begunOf (keptWith (keptOf k (now (line .entry))) b) ⌝ }
+    ensures { λ _. ⌜ now (line .exit) ≡ keptWith (keptOf k (now (line .entry))) b .bytes ⌝ }
 {
     if k.overlong {
         return k;
@@ -51,26 +51,19 @@ fn collect(k: Begun, line: &mut [u8], b: u8) -> Begun
 // The bytes before the first LF, or all; how many these are, and whether LF came.
 pub fn gather(k: Begun, line: &mut [u8], bytes: &[u8]) -> Gathered
     requires { ⌜ lineMost ≤ length (now line) ⌝ }
-    ensures { λ r. ⌜ r ≡ gatheredOf (gathered (keptOf k (now (line .entry))) (now (bytes .entry))) ⌝ }
-    ensures { λ _. ⌜ now (line .exit) ≡ gathered (keptOf k (now (line .entry))) (now (bytes .entry)) .kept .line ⌝ }
+    ensures { λ r. ⌜ r ≡ gatheredTo (upToLf (keptOf k (now (line .entry))) (now (bytes .entry))) ⌝ }
+    ensures { λ _. ⌜ now (line .exit) ≡ upToLf (keptOf k (now (line .entry))) (now (bytes .entry)) .line .bytes ⌝ }
 {
+    let before = bytes::scan::find(bytes, 0, bytes.len(), b'\n');
     let mut begun = k;
     let mut i = 0;
-    while i < bytes.len() {
-        let b = bytes[i];
-        if b == b'\n' {
-            return Gathered {
-                begun,
-                before: i,
-                ended: true,
-            };
-        }
-        begun = collect(begun, line, b);
+    while i < before {
+        begun = collect(begun, line, bytes[i]);
         i += 1;
     }
     Gathered {
         begun,
-        before: i,
-        ended: false,
+        before,
+        ended: before < bytes.len(),
     }
 }

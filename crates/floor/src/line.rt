@@ -1,8 +1,7 @@
 // What a line of a log says (02, L1).
 ghost use mathlib.Core.Path.{_≡_};
-ghost use mathlib.Core.Bool.{true};
 ghost use Rattle.digest.specs.Hex.{isHexDigit};
-ghost use Rattle.floor.specs.Lines.{hexWorth, randomSaid, secondsSaid, formSaid, lineSaid};
+ghost use Rattle.floor.specs.Lines.{randomSaid, secondsSaid, formSaid, lineSaid};
 
 pub enum Says {
     Opens(u32),
@@ -23,17 +22,6 @@ fn is_hex_digit(b: u8) -> bool
     ((b'0' <= b) & (b <= b'9')) | ((b'a' <= b) & (b <= b'f'))
 }
 
-// What a hexadecimal digit is worth.
-fn hex_worth(b: u8) -> u32
-    requires { ⌜ isHexDigit b ≡ true ⌝ }
-    ensures { λ r. ⌜ r ≡ hexWorth b ⌝ }
-{
-    if b <= b'9' {
-        return (b - b'0') as u32;
-    }
-    (b - b'a') as u32 + 10
-}
-
 // Eight lowercase hexadecimal digits.
 fn random_said(s: &[u8]) -> Says
     ensures { λ r. ⌜ r ≡ randomSaid (now (s .entry)) ⌝ }
@@ -41,17 +29,14 @@ fn random_said(s: &[u8]) -> Says
     if s.len() != 8 {
         return Says::NoSuch;
     }
-    let mut v: u32 = 0;
     let mut i = 0;
     while i < s.len() {
-        let b = s[i];
-        if !is_hex_digit(b) {
+        if !is_hex_digit(s[i]) {
             return Says::NoSuch;
         }
-        v = v * 16 + hex_worth(b);
         i += 1;
     }
-    Says::Opens(v)
+    Says::Opens(digest::hex_value(s))
 }
 
 // One to ten decimal digits, of a number that a u32 can hold.

@@ -3,7 +3,8 @@
 --   readWay got          what a read's answer means: -1 that it failed, 0 the end of the log, more that bytes came
 --   callWay written n    how the replay goes on after a call with the number n, whose output was written or not
 --   failureLine f        the last line then, in place of the line of power and lamps. No log prints it by itself: every
---                        other line begins with a digit or with `power `, and no log's last line ends so (`no-log-prints`)
+--                        other line begins with a digit or with `power `, and no log's last line ends so
+--                        (`no-log-prints`)
 --   failureRoom          so much room a failure line never needs more than
 -- Assumes nothing.
 use Prim.Native.Nat.{ℕ, zero, suc}

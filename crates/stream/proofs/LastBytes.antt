@@ -1,23 +1,25 @@
 -- What is collected of a line is the end of what was sent: someone who keeps all bytes taken, in a row, has it there.
 --   Ends w h      h is the end of w
 -- Assumes nothing.
-use Prim.Native.Nat.{ℕ, suc, _+_, _<_}
+use Prim.Native.Nat.{ℕ, _+_, _<_}
+use Prim.Native.Char.{code}
 use mathlib.Core.Path.{_≡_, refl, sym, ap, _∙_}
 use mathlib.Core.Bool.{Bool, true, false≢true}
 use mathlib.Core.List.{List, [], _∷_, _++_, append-assoc, append-nil}
 use native.Mathlib.Omega.{arith}
 use native.Mathlib.Numerals.{add-one}
 use lib.ListN.{length, take, set}
-use lib.Seq.{take-suc-set}
-use lib.Dec.{leb}
-use borrow.Author.Tests.{leb-false, eqb-true, eqb-false}
+use lib.Seq.{take-suc-set, take-append-seam, take-append-add}
+use borrow.Author.Tests.{eqb-false}
 use Rattle.text.specs.Words.{_is_}
 use Rattle.text.proofs.Choices.{if-by}
 use Rattle.record.specs.Legal.{isCollecting, isHeld, heldMost}
 use Rattle.record.specs.declared.types.Line.{Line}
 use Rattle.record.proofs.ConnectionTold.{held-most-room, marked-none}
-use Rattle.stream.specs.declared.Gathered.{Gathered}
-use Rattle.stream.specs.Collecting.{lineText, overlongLine, collected, gathered}
+use Rattle.stream.specs.Machine.{UpTo, upTo}
+use Rattle.stream.specs.Collecting.{lineText, collected, gathered}
+use Rattle.stream.proofs.UpToTheEnd.{up-to-by}
+use Rattle.stream.proofs.AllAtOnce.{collected-by}
 use Rattle.stream.proofs.LegalLines.{LegalLine, collected-legal}
 
 pub record Ends (w h : List ℕ) : Type 0 where
@@ -68,49 +70,39 @@ overlong-unheld phase l p e = marked-none phase (l .held)
 
 one-more-ends : (phase : ℕ) (l : Line) (b : ℕ) → LegalLine phase l
     → Ends (lineText l ++ (b ∷ [])) (lineText (collected (heldMost phase) l b))
-unfolding collected overlongLine
 one-more-ends phase l b p =
-    let Told : Line → Type 0 = λ k. Ends (lineText l ++ (b ∷ [])) (lineText k) in
-    if-by Told (l .overlong) (λ m. ends-unheld _ l (overlong-unheld phase l p m)) (λ m.
-    if-by Told (leb (heldMost phase) (l .held)) (λ full. ends-none (lineText l ++ (b ∷ []))) (λ room.
-    let inside = leb-false (heldMost phase) (l .held) room in
     let most = held-most-room phase in
+    collected-by _ (heldMost phase) l b (λ k. Ends (lineText l ++ (b ∷ [])) (lineText k))
+    (λ m. ends-unheld _ l (overlong-unheld phase l p m)) (λ u full. ends-none (lineText l ++ (b ∷ []))) (λ u room.
     let within : l .held < length (l .bytes) = omega (arith, p .kept .long) in
     record {
       before = [];
       split = sym (ap (λ (n : ℕ). take n (set (l .bytes) (l .held) b)) (add-one (l .held))
           ∙ take-suc-set (l .bytes) (l .held) b within);
-    }))
+    })
 
 -- what is gathered ends what was held and what is taken before CR
 pub gathered-ends : (phase : ℕ) (l : Line) (bs : List ℕ) → isCollecting phase ≡ true → LegalLine phase l
     → let g = gathered (heldMost phase) l bs in
     Ends (lineText l ++ take (g .before) bs) (lineText (g .line))
-unfolding gathered
+unfolding gathered upTo
 gathered-ends phase l [] c p = record { before = []; split = append-nil (lineText l) }
 gathered-ends phase l (b ∷ bs) c p =
-    if-by (λ (g : Gathered). Ends (lineText l ++ take (g .before) (b ∷ bs)) (lineText (g .line))) (b is "\r")
+    if-by (λ (g : UpTo Line). Ends (lineText l ++ take (g .before) (b ∷ bs)) (lineText (g .line))) (b is "\r")
     (λ cr. record { before = []; split = append-nil (lineText l) }) (λ n.
     let k = collected (heldMost phase) l b in
-    let g = gathered (heldMost phase) k bs in
-    let rest = gathered-ends phase k bs c (collected-legal phase l b c (eqb-false b 13 n) p) in
-    let one : 1 + g .before ≡ suc (g .before) = omega arith in
-    let all : lineText l ++ take (1 + g .before) (b ∷ bs) ≡ (lineText l ++ (b ∷ [])) ++ take (g .before) bs
-    = ap (λ (m : ℕ). lineText l ++ take m (b ∷ bs)) one
-    ∙ sym (append-assoc (lineText l) (b ∷ []) (take (g .before) bs)) in
-    rw all (ends-trans (ends-with (take (g .before) bs) (one-more-ends phase l b p)) rest))
+    let taken = take (gathered (heldMost phase) k bs .before) bs in
+    rw (← append-assoc (lineText l) (b ∷ []) taken)
+    (ends-trans (ends-with taken (one-more-ends phase l b p))
+    (gathered-ends phase k bs c (collected-legal phase l b c (eqb-false b (code "\r") n) p))))
 
 -- with CR, one byte more is taken
 pub taken-with-cr : (most : ℕ) (l : Line) (bs : List ℕ) → let g = gathered most l bs in
-    g .ended ≡ true → take (g .before + 1) bs ≡ take (g .before) bs ++ (13 ∷ [])
+    g .ended ≡ true → take (g .before + 1) bs ≡ take (g .before) bs ++ (code "\r" ∷ [])
 unfolding gathered
-taken-with-cr most l [] = λ e. absurd (false≢true e)
-taken-with-cr most l (b ∷ bs) =
-    if-by (λ (g : Gathered). g .ended ≡ true → take (g .before + 1) (b ∷ bs) ≡ take (g .before) (b ∷ bs) ++ (13 ∷ []))
-    (b is "\r") (λ cr e. ap (λ (x : ℕ). x ∷ []) (eqb-true b 13 cr)) (λ n e.
-    let g = gathered most (collected most l b) bs in
-    let one : 1 + g .before ≡ suc (g .before) = omega arith in
-    let two : 1 + g .before + 1 ≡ suc (g .before + 1) = omega arith in
-    ap (λ (m : ℕ). take m (b ∷ bs)) two
-    ∙ ap (λ (x : List ℕ). b ∷ x) (taken-with-cr most (collected most l b) bs e)
-    ∙ sym (ap (λ (m : ℕ). take m (b ∷ bs) ++ (13 ∷ [])) one))
+taken-with-cr most l bs =
+    up-to-by (code "\r") (collected most) l bs
+    (λ s g. g .ended ≡ true → take (g .before + 1) s ≡ take (g .before) s ++ (code "\r" ∷ []))
+    (λ p e. absurd (false≢true e))
+    (λ xs more p e. take-append-add xs (code "\r" ∷ more) 1
+    ∙ ap (λ (s : List ℕ). s ++ (code "\r" ∷ [])) (sym (take-append-seam xs (code "\r" ∷ more))))

@@ -1,109 +1,156 @@
--- However a stream is cut: once, for every machine.
+-- However a stream is cut: once, for every machine, whatever byte ends its lines. The calls may leave the machine's
+-- state in a larger record, and may take several lines each.
+--   outThrough g, tookThrough g    what is left of a state, of the record that g makes of it
+--   Taking ..                      what a call does that is handed bytes: it takes some of them and runs over these
 -- Assumes nothing.
 use mathlib.Core.Path.{_≡_, refl, sym, ap, _∙_}
-use mathlib.Core.Bool.{Bool, true, false}
-use mathlib.Core.List.{List, [], _∷_, _++_, append-assoc}
-use Prim.Native.Nat.{ℕ, zero, suc, _≤_}
+use mathlib.Core.Bool.{true}
+use mathlib.Core.List.{List, [], _∷_, _++_, append-assoc, append-nil, foldl}
+use Prim.Native.Nat.{ℕ, zero, suc, _+_, _≤_}
 use native.Mathlib.Omega.{arith}
-use lib.ListN.{length, drop, length-drop}
-use borrow.Author.Tests.{eqb-false}
-use Rattle.text.specs.Words.{if_then_else_, _is_}
-use Rattle.text.proofs.Choices.{if-all, if-by}
-use Rattle.stream.specs.Machine.{Out, Took, silent, after, took, oneMoreTaken, step, run, oneCall, handed, handedPart, handedParts, joined}
+use lib.ListN.{length, take, drop, length-drop, take-append-drop}
+use lib.Seq.{take-length, take-append-add}
+use lib.Dec.{eqb}
+use borrow.Author.Tests.{eqb-false, eq-eqb, not-true}
+use Rattle.text.specs.Scans.{every}
+use Rattle.text.proofs.Choices.{if-yes, if-no, if-by, both-left, both-right}
+use Rattle.stream.specs.Machine.{Out, Took, unanswered, replyThen, tookBytes, oneStep, runOver}
+use Rattle.stream.specs.Machine.{oneCall, handed, handedPart, handedParts, uncut}
+use Rattle.stream.proofs.UpToTheEnd.{notEnd}
+use Rattle.stream.proofs.OneCallGathers.{call-by}
 
-after-after : {D : Type 0} (r s : List ℕ) (o : Out D) → after r (after s o) ≡ after (r ++ s) o
-after-after {D} r s o = ap {B = Out D} (λ (l : List ℕ). record { state = o .state; reply = l })
-    (sym (append-assoc r s (o .reply)))
+module _ {D E : Type 0} (g : D → E) where
+  abbrev pub outThrough : Out D → Out E
+  outThrough o = record { state = g (o .state); reply = o .reply }
 
-module _ (D : Type 0) (collect : D → ℕ → D) (ends : D → Out D) where
+  abbrev pub tookThrough : Took D → Took E
+  tookThrough t = record { taken = t .taken; state = g (t .state); reply = t .reply }
+
+module _ (end : ℕ) (D : Type 0) (collect : D → ℕ → D) (ends : D → Out D) where
   abbrev ran : D → List ℕ → Out D
-  ran = run D collect ends
+  ran = runOver end D collect ends
 
   abbrev stepped : D → ℕ → Out D
-  stepped = step D collect ends
+  stepped = oneStep end D collect ends
 
   abbrev called : D → List ℕ → Took D
-  called = oneCall D collect ends
+  called = oneCall end D collect ends
 
-  pub run-append : (d : D) (xs ys : List ℕ) → ran d (xs ++ ys) ≡ after (ran d xs .reply) (ran (ran d xs .state) ys)
-  unfolding run
+  pub run-append : (d : D) (xs ys : List ℕ) → ran d (xs ++ ys) ≡ replyThen (ran d xs .reply) (ran (ran d xs .state) ys)
+  unfolding runOver
   run-append d [] ys = refl
   run-append d (b ∷ xs) ys =
-      ap (after (stepped d b .reply)) (run-append (stepped d b .state) xs ys)
-      ∙ after-after (stepped d b .reply) (ran (stepped d b .state) xs .reply) _
+      let o = stepped d b in
+      let p = ran (o .state) xs in
+      ap (replyThen (o .reply)) (run-append (o .state) xs ys)
+      ∙ ap {B = Out D} (λ (l : List ℕ). record { state = ran (p .state) ys .state; reply = l })
+      (sym (append-assoc (o .reply) (p .reply) (ran (p .state) ys .reply)))
 
-  abbrev rest : List ℕ → Took D → Out D
-  rest bs g = after (g .reply) (ran (g .state) (drop (g .taken) bs))
+  module _ {E : Type 0} (g : D → E) (f : E → List ℕ → Took E) (Ready : D → List ℕ → Type 0) where
+    pub record Taking (d : D) (bs : List ℕ) : Type 0 where
+      pub taken : ℕ
+      pub some : 1 ≤ length bs → 1 ≤ taken
+      pub runs : f (g d) bs ≡ tookThrough g (tookBytes taken (ran d (take taken bs)))
+      pub ready : Ready (ran d (take taken bs) .state) (drop taken bs)
 
-  first : (d : D) (b : ℕ) (bs : List ℕ) (t : Bool) → ran (collect d b) bs ≡ rest bs (called (collect d b) bs)
-      → let s = if t then ends d else silent (collect d b) in
-      after (s .reply) (ran (s .state) bs) ≡ rest (b ∷ bs)
-      (if t then took 1 (ends d) else oneMoreTaken (called (collect d b) bs))
-  first d b bs true ih = refl
-  first d b bs false ih = ih
+    module _ (takes : (d : D) (bs : List ℕ) → Ready d bs → Taking d bs) where
+      -- a call, and then what it did not take
+      then-rest : (n : ℕ) (d : D) (bs : List ℕ) (k : Taking d bs)
+          → let o = ran d (take (k .taken) bs) in
+          let rest = drop (k .taken) bs in
+          handed f n (g (o .state)) rest ≡ outThrough g (ran (o .state) rest)
+          → replyThen (o .reply) (handed f n (g (o .state)) rest) ≡ outThrough g (ran d bs)
+      then-rest n d bs k on =
+          ap (replyThen (ran d (take (k .taken) bs) .reply)) on
+          ∙ ap (outThrough g)
+          (sym (run-append d (take (k .taken) bs) (drop (k .taken) bs)) ∙ ap (ran d) (take-append-drop (k .taken) bs))
 
-  -- one call is the steps of what it takes
-  pub call-runs : (d : D) (bs : List ℕ) → ran d bs ≡ rest bs (called d bs)
-  unfolding run oneCall
-  call-runs d [] = refl
-  call-runs d (b ∷ bs) = first d b bs (b is "\r") (call-runs (collect d b) bs)
+      handed-runs : (n : ℕ) (d : D) (bs : List ℕ) → Ready d bs → length bs ≤ n
+          → handed f n (g d) bs ≡ outThrough g (ran d bs)
+      unfolding handed runOver
+      handed-runs zero d [] r h = refl
+      handed-runs zero d (b ∷ bs) r h = absurd (omega arith)
+      handed-runs (suc n) d [] r h = refl
+      handed-runs (suc n) d (b ∷ bs) r h =
+          let k = takes d (b ∷ bs) r in
+          let less : length (drop (k .taken) (b ∷ bs)) ≤ n = simp length-drop (omega (arith, k .some (omega arith))) in
+          rw (k .runs) (then-rest n d (b ∷ bs) k (handed-runs n _ (drop (k .taken) (b ∷ bs)) (k .ready) less))
 
-  -- Ready: the states in which f takes bytes as the machine does
-  module _ (Ready : D → Type 0)
-      (ready-collect : (d : D) (b : ℕ) → (b ≡ 13 → ⊥) → Ready d → Ready (collect d b))
-      (ready-ends : (d : D) → Ready d → Ready (ends d .state))
-      (f : D → List ℕ → Took D)
-      (is-call : (d : D) (bs : List ℕ) → Ready d → f d bs ≡ called d bs) where
-    ready-step : (d : D) (b : ℕ) → Ready d → Ready (stepped d b .state)
-    ready-step d b r =
-        if-by (λ (o : Out D). Ready (o .state)) (b is "\r") (λ _. ready-ends d r)
-        (λ e. ready-collect d b (eqb-false b 13 e) r)
+      part-runs : (d : D) (p : List ℕ) → Ready d p → handedPart f (g d) p ≡ outThrough g (ran d p)
+      part-runs d p r =
+          let k = takes d p r in
+          let less : length (drop (k .taken) p) ≤ length p = simp length-drop (omega arith) in
+          rw (k .runs) (then-rest (length p) d p k (handed-runs (length p) _ (drop (k .taken) p) (k .ready) less))
 
-    pub ready-run : (d : D) (bs : List ℕ) → Ready d → Ready (ran d bs .state)
-    unfolding run
-    ready-run d [] r = r
-    ready-run d (b ∷ bs) r = ready-run (stepped d b .state) bs (ready-step d b r)
+      -- Ahead: what is known of the parts that are still to come
+      module _ (Ahead : D → List (List ℕ) → Type 0)
+          (first : (d : D) (p : List ℕ) (ps : List (List ℕ)) → Ahead d (p ∷ ps) → Ready d p)
+          (next : (d : D) (p : List ℕ) (ps : List (List ℕ)) → Ahead d (p ∷ ps) → Ahead (ran d p .state) ps) where
+        pub parts-run : (d : D) (ps : List (List ℕ)) → Ahead d ps
+            → handedParts f (g d) ps ≡ outThrough g (ran d (uncut ps))
+        unfolding handedParts uncut runOver
+        parts-run d [] a = refl
+        parts-run d (p ∷ ps) a =
+            ap (λ (o : Out E). replyThen (o .reply) (handedParts f (o .state) ps)) (part-runs d p (first d p ps a))
+            ∙ ap (replyThen (ran d p .reply)) (parts-run (ran d p .state) ps (next d p ps a))
+            ∙ ap (outThrough g) (sym (run-append d p (uncut ps)))
 
-    pub ready-call : (d : D) (bs : List ℕ) → Ready d → Ready (called d bs .state)
-    unfolding oneCall
-    ready-call d [] r = r
-    ready-call d (b ∷ bs) r =
-        if-by (λ (g : Took D). Ready (g .state)) (b is "\r") (λ _. ready-ends d r)
-        (λ e. ready-call (collect d b) bs (ready-collect d b (eqb-false b 13 e) r))
+  -- bytes that end no line are collected, and one call runs over what it takes
+  run-plain : (d : D) (xs : List ℕ) → every (notEnd end) xs ≡ true → ran d xs ≡ unanswered (foldl collect d xs)
+  unfolding runOver
+  run-plain d [] p = refl
+  run-plain d (x ∷ xs) p =
+      ap (λ (o : Out D). replyThen (o .reply) (ran (o .state) xs))
+      (if-no _ _ (not-true (eqb x end) (both-left (notEnd end x) (every (notEnd end) xs) p)))
+      ∙ run-plain (collect d x) xs (both-right (notEnd end x) (every (notEnd end) xs) p)
 
-    some-taken : (d : D) (b : ℕ) (bs : List ℕ) → 1 ≤ called d (b ∷ bs) .taken
-    unfolding oneCall
-    some-taken d b bs = if-all (λ (g : Took D). 1 ≤ g .taken) (b is "\r") (omega arith) (omega arith)
+  run-line : (d : D) (xs : List ℕ) → every (notEnd end) xs ≡ true
+      → ran d (xs ++ (end ∷ [])) ≡ ends (foldl collect d xs)
+  unfolding runOver
+  run-line d xs p =
+      let line = foldl collect d xs in
+      run-append d xs (end ∷ [])
+      ∙ ap (λ (o : Out D). replyThen (o .reply) (ran (o .state) (end ∷ []))) (run-plain d xs p)
+      ∙ ap (λ (o : Out D). replyThen (o .reply) (unanswered (o .state))) (if-yes _ _ (eq-eqb end end refl))
+      ∙ ap {B = Out D} (λ (r : List ℕ). record { state = ends line .state; reply = r }) (append-nil (ends line .reply))
 
-    handed-runs : (n : ℕ) (d : D) (bs : List ℕ) → Ready d → length bs ≤ n → handed f n d bs ≡ ran d bs
-    unfolding handed run
-    handed-runs zero d [] r h = refl
-    handed-runs zero d (b ∷ bs) r h = absurd (omega arith)
-    handed-runs (suc n) d [] r h = refl
-    handed-runs (suc n) d (b ∷ bs) r h =
-        let g = called d (b ∷ bs) in
-        let k : length (drop (g .taken) (b ∷ bs)) ≤ n = simp length-drop (omega (arith, some-taken d b bs)) in
-        rw (is-call d (b ∷ bs) r)
-        (ap (after (g .reply)) (handed-runs n (g .state) (drop (g .taken) (b ∷ bs)) (ready-call d (b ∷ bs) r) k)
-        ∙ sym (call-runs d (b ∷ bs)))
+  pub call-runs : (d : D) (bs : List ℕ) → let t = called d bs in t ≡ tookBytes (t .taken) (ran d (take (t .taken) bs))
+  call-runs d bs =
+      call-by end D collect ends d bs (λ l t. t ≡ tookBytes (t .taken) (ran d (take (t .taken) l)))
+      (λ p. ap (tookBytes (length bs)) (sym (ap (ran d) (take-length bs) ∙ run-plain d bs p)))
+      (λ xs more p.
+      ap (tookBytes (length xs + 1)) (sym (ap (ran d) (take-append-add xs (end ∷ more) 1) ∙ run-line d xs p)))
 
-    -- the first call and what it did not take
-    part-runs : (d : D) (p : List ℕ) → Ready d → handedPart f d p ≡ ran d p
-    part-runs d p r =
-        let g = called d p in
-        let k : length (drop (g .taken) p) ≤ length p = simp length-drop (omega arith) in
-        rw (is-call d p r)
-        (ap (after (g .reply)) (handed-runs (length p) (g .state) (drop (g .taken) p) (ready-call d p r) k)
-        ∙ sym (call-runs d p))
+  some-taken : (d : D) (bs : List ℕ) → 1 ≤ length bs → 1 ≤ called d bs .taken
+  some-taken d bs =
+      call-by end D collect ends d bs (λ l t. 1 ≤ length l → 1 ≤ t .taken) (λ p h. h) (λ xs more p h. omega arith)
 
-    pub parts-run : (d : D) (ps : List (List ℕ)) → Ready d → handedParts f d ps ≡ ran d (joined ps)
-    unfolding handedParts joined run
-    parts-run d [] r = refl
-    parts-run d (p ∷ ps) r =
-        ap (λ (o : Out D). after (o .reply) (handedParts f (o .state) ps)) (part-runs d p r)
-        ∙ ap (after (ran d p .reply)) (parts-run (ran d p .state) ps (ready-run d p r))
-        ∙ sym (run-append d p (joined ps))
+  -- Live: the states in which f takes bytes as the machine does
+  module _ (Live : D → Type 0)
+      (live-collect : (d : D) (b : ℕ) → (b ≡ end → ⊥) → Live d → Live (collect d b))
+      (live-ends : (d : D) → Live d → Live (ends d .state)) where
+    pub live-run : (d : D) (bs : List ℕ) → Live d → Live (ran d bs .state)
+    unfolding runOver
+    live-run d [] r = r
+    live-run d (b ∷ bs) r =
+        live-run (stepped d b .state) bs
+        (if-by (λ (o : Out D). Live (o .state)) (eqb b end) (λ e. live-ends d r)
+        (λ e. live-collect d b (eqb-false b end e) r))
 
-    pub same-however-cut : (d : D) (ps qs : List (List ℕ)) → Ready d → joined ps ≡ joined qs
-        → handedParts f d ps ≡ handedParts f d qs
-    same-however-cut d ps qs r e = parts-run d ps r ∙ ap (ran d) e ∙ sym (parts-run d qs r)
+    module _ {E : Type 0} (g : D → E) (f : E → List ℕ → Took E)
+        (is-call : (d : D) (bs : List ℕ) → Live d → f (g d) bs ≡ tookThrough g (called d bs)) where
+      pub calls-run : (d : D) (ps : List (List ℕ)) → Live d → handedParts f (g d) ps ≡ outThrough g (ran d (uncut ps))
+      calls-run =
+          parts-run g f (λ d bs. Live d)
+          (λ d bs r. record {
+            taken = called d bs .taken;
+            some = some-taken d bs;
+            runs = is-call d bs r ∙ ap (tookThrough g) (call-runs d bs);
+            ready = live-run d (take (called d bs .taken) bs) r;
+          })
+          (λ d ps. Live d) (λ d p ps r. r) (λ d p ps r. live-run d p r)
+
+      pub same-however-cut : (d : D) (ps qs : List (List ℕ)) → Live d → uncut ps ≡ uncut qs
+          → handedParts f (g d) ps ≡ handedParts f (g d) qs
+      same-however-cut d ps qs r e =
+          calls-run d ps r ∙ ap (λ (s : List ℕ). outThrough g (ran d s)) e ∙ sym (calls-run d qs r)

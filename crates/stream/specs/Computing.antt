@@ -1,8 +1,8 @@
 -- One name that opens this crate's definitions, for computing on concrete records only (01, "Lines that settle it").
 -- Assumes nothing.
-use Rattle.stream.specs.Collecting.{emptyLine, overlongLine, collected, collectedAll, gathered}
-use Rattle.stream.specs.Machine.{handed, handedParts, joined}
+use Rattle.stream.specs.Collecting.{emptyLine, overlongLine, collectedIn, gathered}
+use Rattle.stream.specs.Machine.{upTo, handed, handedParts, uncut}
 
 unfoldable pub computing : Unit {0}
-unfolding emptyLine overlongLine collected collectedAll gathered handed handedParts joined
+unfolding emptyLine overlongLine collectedIn gathered upTo handed handedParts uncut
 computing = tt

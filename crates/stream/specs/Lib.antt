@@ -1,3 +1,3 @@
-pub mod Collecting
 pub mod Machine
+pub mod Collecting
 pub mod Computing

@@ -54,7 +54,7 @@ collects c =
     let fits = put .before .before .before in
     let args = start (tested fits) .args in
     let stored : _≡_ {A = Line} _ _ = λ i. record {
-      overlong = args .l .overlong;
+      overlong = unmarked (tested fits) .if1 .left i;
       held = args .l .held + length (args .more .now);
       bytes = put .put .ensures i;
     } in

@@ -18,7 +18,7 @@ use Rattle.floor.specs.declared.line.Says.{Says}
 use Rattle.floor.specs.Events.{eventOf}
 use Rattle.floor.specs.Playing.{did}
 use Rattle.floor.specs.Told.{calledOf}
-use Rattle.floor.proofs.MoreRoom.{opened-room, received-room, closing-quiet}
+use Rattle.device.proofs.EnoughRoom.{opened-room, received-room, closing-quiet}
 use Rattle.floor.proofs.event.call.Statement.{statement}
 use Rattle.floor.proofs.event.call.Tie as tie
 

@@ -1,24 +1,22 @@
 -- `floor::event::print` meets its contract: the number and a space, the reply after them, and the line's ending in the
 -- place of its CR.
 -- Assumes nothing.
-use Prim.Native.Nat.{ℕ, _+_, _-_, _≤_}
-use mathlib.Core.Path.{_≡_, sym, ap, _∙_}
+use Prim.Native.Nat.{ℕ, _+_, _≤_}
+use mathlib.Core.Path.{_≡_, ap, _∙_}
 use mathlib.Core.List.{List, _++_}
 use native.Mathlib.Omega.{arith}
-use lib.ListN.{length, length-append, length-take, length-drop, take, drop}
-use lib.Seq.{sets, take-length, length-sets}
+use lib.ListN.{length, length-append}
+use lib.Seq.{sets}
 use denote.Ref.{now}
 use borrow.Author.Needs.{needs}
 use Rattle.text.specs.Words.{ascii}
-use Rattle.text.proofs.Stores.{sets-then, sets-part, sets-over}
+use Rattle.text.proofs.Stores.{sets-then}
 use Rattle.numbers.specs.Decimal.{longDigits}
 use Rattle.numbers.proofs.Digits.{long-at-most-20}
+use Rattle.device.specs.Calls.{replyRoom}
 use Rattle.floor.specs.declared.event.Called.{Called}
-use Rattle.floor.specs.declared.event.Printed.{Printed}
-use Rattle.floor.specs.Events.{eventOf}
-use Rattle.floor.specs.Playing.{printed}
-use Rattle.floor.specs.Told.{ending}
-use Rattle.floor.proofs.Printing.{result, headed, tail, tail-fits, printed-stored, printed-long}
+use Rattle.floor.proofs.PartsPut.{leftFrom, Put, part-long, part-put}
+use Rattle.floor.proofs.Printing.{result, Replied, ending-fits, line-printed}
 use Rattle.floor.proofs.event.print.Statement.{statement}
 use Rattle.floor.proofs.event.print.Tie as tie
 
@@ -41,7 +39,7 @@ module _ (c : tie.After-put-long) where
   short : length (longDigits n) ≤ 20
   short = long-at-most-20 n
 
-  long : length (headed n (start .args .d) (start .args .says) (start .args .bytes .now)) ≡ length (longDigits n) + 1
+  long : length (longDigits n ++ ascii " ") ≡ length (longDigits n) + 1
   long = length-append (longDigits n) (ascii " ")
 
 space-fits : tie.Need-put-requires
@@ -72,23 +70,16 @@ module _ (c : tie.After-put) where
   fits : at ≤ 21
   fits = omega (arith, place, short numbered)
 
+  room-from : at + replyRoom ≤ length (c .put .last .0)
+  room-from = omega (arith, fits, room, start numbered .pre)
+
 place-fits : tie.Need-add-at
 place-fits c = let put = c .before .before in omega (arith, short (numbered put), numbered put .put-long .ensures .0)
-
-part-length : tie.Need-sub-call
-part-length c = let put = c .before .before in omega (arith, fits put, room put, start (numbered put) .pre)
-
-part-start : tie.Need-part-call-start
-part-start c = let put = c .before .before in omega (arith, fits put, room put, start (numbered put) .pre)
-
--- the part of the memory that a call is lent has room for its reply
-part-long : (m : List ℕ) (at : ℕ) → length (take (length m - at) (drop at m)) ≡ length m - at
-part-long m at = omega (arith, length-take (length m - at) (drop at m), length-drop at m)
 
 reply-fits : tie.Need-call-requires
 reply-fits c κs =
     let put = c .before .before .before in
-    omega (arith, part-long (put .put .last .0) (at put), fits put, room put, start (numbered put) .pre)
+    omega (arith, part-long (put .put .last .0) (at put), room-from put)
 
 -- the reply stands after them
 module _ (c : tie.After-call) where
@@ -98,120 +89,73 @@ module _ (c : tie.After-call) where
   abbrev begun : tie.Start
   begun = start (numbered put)
 
-  abbrev text : List ℕ
-  text = headed (begun .args .number) (begun .args .d) (begun .args .says) (begun .args .bytes .now)
-
   abbrev reply : List ℕ
   reply = result (begun .args .number) (begun .args .d) (begun .args .says) (begun .args .bytes .now) .reply
 
   abbrev lent : List ℕ
   lent = put .put .last .0
 
-  abbrev part : List ℕ
-  part = take (length lent - at put) (drop (at put) lent)
+  -- the part that is lent, as the call leaves it, and the whole memory
+  abbrev part-left : List ℕ
+  part-left = c .call .last .1 .1 .1 .0
 
-  -- the memory as the call leaves it
   abbrev left : List ℕ
-  left = take (at put) lent ++ (c .call .last .1 .1 .1 .0 ++ drop (length lent - at put) (drop (at put) lent))
+  left = leftFrom lent (at put) part-left
 
-  within : at put + length reply ≤ length lent
-  within =
-      omega (
-        arith,
-        ap length (c .call .ensures .1),
-        length-append reply (drop (length reply) part),
-        length-drop (length reply) part,
-        c .call .kept .1 .1 .1 .0,
-        part-long lent (at put),
-        fits put,
-        room put,
-        start (numbered put) .pre,
-      )
-
-  headed-long : at put ≡ 0 + length text
-  headed-long = omega (arith, place put, long (numbered put))
-
-  replied : left ≡ sets (out (numbered put)) 0 (text ++ reply)
+  replied : Replied (begun .args .number) (begun .args .d) (begun .args .says) (begun .args .bytes .now)
+      (out (numbered put)) (at put) left
   replied =
-      sets-part lent reply (at put) within
-      (c .call .ensures .1 ∙ ap (λ (s : List ℕ). s ++ drop (length reply) part) (sym (take-length reply)))
-      ∙ sets-then (out (numbered put)) 0 text reply (spaced put) headed-long
-
-  left-long : length left ≡ length (out (numbered put))
-  left-long = ap length replied ∙ length-sets (out (numbered put)) 0 (text ++ reply)
-
-  counted : c .call .result .length ≡ length reply
-  counted = ap (λ (x : Called). x .length) (c .call .ensures .0)
+      let wrote : Put lent reply (at put) (length lent) left =
+      part-put lent reply (at put) (omega (arith, room-from put)) (c .call .ensures .1) (c .call .kept .1 .1 .1 .0) in
+      let text = longDigits (begun .args .number) ++ ascii " " in
+      let headed-long : at put ≡ 0 + length text = omega (arith, place put, long (numbered put)) in
+      record {
+        place = headed-long;
+        stored = wrote .stored ∙ sets-then (out (numbered put)) 0 text reply (spaced put) headed-long;
+        long = wrote .long ∙ room put;
+        fits = omega (arith, wrote .fits, room put);
+        room = omega (arith, room-from put, room put);
+      }
 
 last-fits : tie.Need-last-place-requires
 last-fits c κs =
     let called = c .before .before in
-    omega (arith, counted called, within called, room (put called), start (numbered (put called)) .good)
+    omega (arith, ap (λ (x : Called). x .length) (called .call .ensures .0), replied called .fits, begun called .good)
 
--- the ending that is put
-module _ (c : tie.After-is-formed) where
-  abbrev called : tie.After-call
-  called = let placed = c .before .before in placed .before .before .before
+-- the ending is asked for
+abbrev called : tie.After-is-formed → tie.After-call
+called c = let placed = c .before .before in placed .before .before .before
 
-  abbrev end : List ℕ
-  end = let a = begun called .args in tail (a .number) (a .d) (a .says) (a .bytes .now)
-
-  ended : ending (c .is-formed .result) (called .call .result .number) (called .call .result .length) ≡ end
-  ended = (λ i. ending (c .is-formed .ensures i) (called .call .ensures .0 i .number) (called .call .ensures .0 i .length))
-
-  last : c .before .before .last-place .result ≡ length (text called) + (length (reply called) - 1)
-  last = omega (arith, c .before .before .last-place .ensures, counted called, headed-long called)
-
-  end-fits : length (text called) + (length (reply called) - 1) + length end ≤ length (out (numbered (put called)))
-  end-fits =
-      let a = begun called .args in
-      let memory = length (out (numbered (put called))) in
-      omega (
-        arith,
-        tail-fits (a .number) (a .d) (a .says) (a .bytes .now) (memory - length (text called))
-            (omega (arith, within called, room (put called), headed-long called))
-            (omega (arith, fits (put called), headed-long called, start (numbered (put called)) .pre)),
-        fits (put called),
-        headed-long called,
-        start (numbered (put called)) .pre,
-      )
-
-ending-fits : tie.Need-put-ending-requires
-ending-fits c κs = omega (arith, ap length (ended c), last c, end-fits c, left-long (called c))
+end-fits : tie.Need-put-ending-requires
+end-fits c κs =
+    let k = called c in
+    ending-fits _ _ _ _ _ (replied k) (k .call .ensures .0) (c .is-formed .ensures) (c .before .before .last-place .ensures)
 
 same : tie.Need-same-length
-same c = let put = c .before .before .before in put .put-ending .kept .0 ∙ left-long (called (put .before))
+same c = let put = c .before .before .before in put .put-ending .kept .0 ∙ replied (called (put .before)) .long
 
 returns : tie.Need-returns
 returns c =
     let put = c .before .before .before in
     let formed = put .before in
-    let before = called formed in
-    let a = begun before .args in
-    let m = now (a .out) in
-    let n = a .number in
-    let bs = a .bytes .now in
-    let all = printed n (eventOf (a .says) bs) (result n (a .d) (a .says) bs) in
-    let whole : put .put-ending .result ≡ length all =
-    omega (
-      arith,
-      put .put-ending .ensures .0,
-      ap length (ended formed),
-      last formed,
-      printed-long n (a .d) (a .says) bs,
-    ) in
-    let told : _≡_ {A = Printed} _ _ =
-    λ i. record { length = whole i; device = before .call .ensures .0 i .device } in
-    let fits : length all ≤ length m = omega (arith, printed-long n (a .d) (a .says) bs, end-fits formed) in (
-      told,
-      put .put-ending .ensures .1
-          ∙ (λ i. sets (replied before i) (last formed i) (ended formed i))
-          ∙ printed-stored n (a .d) (a .says) bs m ∙ sets-over all m fits,
-    )
+    let k = called formed in
+    line-printed _ _ _ _ _ (replied k) (k .call .ensures .0) (formed .is-formed .ensures)
+    (formed .before .before .last-place .ensures) (put .put-ending .ensures .0) (put .put-ending .ensures .1)
 
 pub print-spec : {M : Type 1} → statement M
 print-spec =
     tie.close
     (tie.spec
-    number-fits (λ c. search needs) space-fits place-fits part-length part-start (λ c. search needs) reply-fits
-    last-fits (λ c κs. search needs) ending-fits same returns)
+    number-fits
+    (λ c. search needs)
+    space-fits
+    place-fits
+    (λ c. omega (arith, room-from (c .before .before)))
+    (λ c. omega (arith, room-from (c .before .before)))
+    (λ c. search needs)
+    reply-fits
+    last-fits
+    (λ c κs. search needs)
+    end-fits
+    same
+    returns)

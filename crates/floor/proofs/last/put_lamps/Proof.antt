@@ -1,7 +1,7 @@
 -- `floor::last::put_lamps` meets its contract: up to k each lamp has its seconds in memory.
 -- Assumes nothing.
 use Prim.Native.Nat.{ℕ, _+_, _-_, _*_, _≤_}
-use mathlib.Core.Path.{_≡_, sym, ap, _∙_}
+use mathlib.Core.Path.{_≡_, ap, _∙_}
 use mathlib.Core.List.{List}
 use native.Mathlib.Omega.{arith}
 use lib.ListN.{length, getD, take}
@@ -35,7 +35,9 @@ module _ (turn : tie.At-loop Inv μ) where
   eight = search needs
 
   long : length (turn .loop .out) ≡ length lent
-  long = ap length (put .stored) ∙ length-sets lent (start .args .at) (lampsShown (take (turn .loop .k) (start .args .t3)))
+  long =
+      ap length (put .stored)
+      ∙ length-sets lent (start .args .at) (lampsShown (take (turn .loop .k) (start .args .t3)))
 
   small : turn .loop .place ≤ start .args .at + 11 * turn .loop .k
   small = place-small lent (start .args .at) (start .args .t3) (start .args .count) put

@@ -1,16 +1,15 @@
 -- `floor::line::form_says` meets its contract: at each `return` the tests that led there say which form the line has.
 -- Assumes nothing.
 use Prim.Native.Nat.{ℕ, _-_, _≤_}
-use Prim.Native.Char.{code}
 use mathlib.Core.Path.{_≡_, sym, ap, _∙_}
 use mathlib.Core.List.{List}
 use native.Mathlib.Omega.{arith}
 use lib.ListN.{length, take, drop, length-drop}
 use lib.Seq.{take-all}
 use borrow.Author.Needs.{needs}
-use Rattle.lines.specs.Bytes.{_at_}
 use Rattle.floor.specs.Lines.{randomSaid, secondsSaid}
-use Rattle.floor.proofs.Forms.{form-short, form-closes, form-unspaced, form-opens, form-receives, form-passes, form-none}
+use Rattle.floor.proofs.Forms.{form-short, form-closes, form-unspaced, form-opens, form-receives}
+use Rattle.floor.proofs.Forms.{form-passes, form-none}
 use Rattle.floor.proofs.line.form_says.Statement.{statement}
 use Rattle.floor.proofs.line.form_says.Tie as tie
 

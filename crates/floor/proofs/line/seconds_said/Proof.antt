@@ -1,4 +1,5 @@
--- `floor::line::seconds_said` meets its contract: up to i each byte is a digit, and v is their value, below 10 to the i.
+-- `floor::line::seconds_said` meets its contract: up to i each byte is a digit, and v is their value, below 10 to the
+-- i.
 -- Assumes nothing.
 use Prim.Native.Nat.{ℕ, _-_, _<_, _≤_, _^_}
 use mathlib.Core.Path.{_≡_, sym, _∙_}
@@ -10,10 +11,9 @@ use borrow.Author.Needs.{needs}
 use borrow.Author.Tests.{not-true, not-false}
 use Rattle.text.specs.Scans.{every}
 use Rattle.text.proofs.Scanning.{one-fails, all-passed}
-use Rattle.numbers.specs.Decimal.{isDigit}
+use Rattle.text.proofs.DigitsRead.{ReadTo, none-read, one-read, all-read, read-below}
+use Rattle.numbers.specs.Decimal.{isDigit, decimalWorth, decimalValue}
 use Rattle.numbers.proofs.Digits.{digit-from, digit-to}
-use Rattle.floor.specs.Lines.{decimalWorth, secondsOf}
-use Rattle.floor.proofs.DigitsRead.{ReadTo, none-read, one-read, all-read, value-below}
 use Rattle.floor.proofs.Forms.{seconds-none, seconds-long, seconds-no-digit, seconds-over, seconds-passes}
 use Rattle.floor.proofs.line.seconds_said.Statement.{statement}
 use Rattle.floor.proofs.line.seconds_said.Tie as tie
@@ -50,7 +50,7 @@ module _ (c : tie.Else3 Inv μ) where
   passes = sym (c .before .is-digit .ensures) ∙ not-false (c .before .is-digit .result) (c .if3 .left)
 
   small : turn .loop .v < 10 ^ 9
-  small = value-below 10 decimalWorth isDigit s (turn .loop .inv) 9 (omega arith) (omega (arith, few (turn .before)))
+  small = read-below 10 decimalWorth isDigit s (turn .loop .inv) 9 (omega arith) (omega (arith, few (turn .before)))
 
 fails : tie.Need-returns-3 Inv μ
 fails c =
@@ -77,7 +77,7 @@ module _ (c : tie.After-loop Inv μ) where
   figures : every isDigit (whole (ended .before)) ≡ true
   figures = all-passed isDigit (whole (ended .before)) 0 (ended .loop .inv .passed) (c .loop-test .left)
 
-  value : secondsOf (whole (ended .before)) ≡ read
+  value : decimalValue (whole (ended .before)) ≡ read
   value = all-read 10 decimalWorth isDigit (whole (ended .before)) (ended .loop .inv) (c .loop-test .left)
 
 over : tie.Need-returns-4 Inv μ

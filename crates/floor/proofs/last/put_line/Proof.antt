@@ -1,8 +1,8 @@
--- `floor::last::put_last` meets its contract: each part stands after the one before it.
+-- `floor::last::put_line` meets its contract: each part stands after the one before it.
 -- Assumes nothing.
 use Prim.Native.Nat.{ℕ, _+_, _≤_}
-use mathlib.Core.Path.{_≡_, refl, sym, ap, _∙_}
-use mathlib.Core.List.{List, _++_, append-assoc}
+use mathlib.Core.Path.{_≡_, refl, ap, _∙_}
+use mathlib.Core.List.{List, _++_}
 use native.Mathlib.Omega.{arith}
 use lib.ListN.{length, take, length-append, length-take}
 use lib.Seq.{sets}
@@ -14,8 +14,8 @@ use Rattle.numbers.specs.Decimal.{digits}
 use Rattle.numbers.proofs.Digits.{digits-at-most-10}
 use Rattle.floor.specs.Playing.{lampsShown, lastLineOf}
 use Rattle.floor.proofs.LampsShown.{shown-short}
-use Rattle.floor.proofs.last.put_last.Statement.{statement}
-use Rattle.floor.proofs.last.put_last.Tie as tie
+use Rattle.floor.proofs.last.put_line.Statement.{statement}
+use Rattle.floor.proofs.last.put_line.Tie as tie
 
 -- the power is put
 module _ (c : tie.After-put-number) where
@@ -114,7 +114,8 @@ module _ (c : tie.After-put-lamps) where
 
   lamps-stored : c .put-lamps .last .0 ≡ sets (out (numbered word)) 0 all
   lamps-stored =
-      c .put-lamps .ensures .1 ∙ sets-then (out (numbered word)) 0 (worded word) lamps (word-stored word) (word-place word)
+      c .put-lamps .ensures .1
+      ∙ sets-then (out (numbered word)) 0 (worded word) lamps (word-stored word) (word-place word)
 
   lamps-long : length (c .put-lamps .last .0) ≡ length (out (numbered word))
   lamps-long = c .put-lamps .kept .0 ∙ word-long word
@@ -143,14 +144,15 @@ returns c =
     let l = put last in
     let m = out (numbered (word l)) in
     let line = all l ++ ascii "\n" in
-    let whole : l .put-lamps .result + 1 ≡ length line = omega (arith, end-place l, length-append (all l) (ascii "\n")) in (
+    let whole : l .put-lamps .result + 1 ≡ length line =
+    omega (arith, end-place l, length-append (all l) (ascii "\n")) in (
       whole,
       last .put3 .ensures ∙ sets-then m 0 (all l) (ascii "\n") (lamps-stored l) (end-place l)
           ∙ sets-over line m (omega (arith, whole, end-short l, begun l .pre)),
     )
 
-pub put-last-spec : {M : Type 1} → statement M
-put-last-spec =
+pub put-line-spec : {M : Type 1} → statement M
+put-line-spec =
     tie.close
     (tie.spec
     (λ c. search needs) (λ c κs. search needs) (λ c κs. search needs) power-fits (λ c. search needs) word-fits
