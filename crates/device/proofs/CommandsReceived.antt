@@ -1,7 +1,6 @@
 -- The projector's half of demand 2's reading back: on a legal record between lines, for every command that can be
--- written,
--- its line is taken whole, the reply says what the command means, and the record is what the command does to it. On an
--- open connection, and on an awaiting one behind the matching digest, which is open afterwards.
+-- written, its line is taken whole, the reply says what the command means, and the record is what the command does to
+-- it. On an open connection, and on an awaiting one behind the matching digest, which is open afterwards.
 --   replyTo k m                  the reply that says m to the command k
 --   commandResult d k n          the result of receiving it where n bytes are taken
 -- Assumes nothing.
@@ -30,7 +29,7 @@ use Rattle.record.proofs.LegalTold.{legal-connection}
 use Rattle.record.proofs.ConnectionTold.{connection-told, age-untimed}
 use Rattle.stream.specs.Collecting.{emptyLine}
 use Rattle.meaning.specs.Meaning.{meant, done}
-use Rattle.device.specs.Answering.{Answered, answered}
+use Rattle.device.specs.Answering.{Answered, lineAnswer}
 use Rattle.device.specs.Receiving.{turned, spoken, digestLong, passwordOf, takenIn}
 use Rattle.device.specs.Calls.{Result, replyRoom, withParts, acceptedTaken, received}
 use Rattle.device.proofs.Cases.{received-taken}
@@ -71,7 +70,7 @@ module _ (d : Device) (room : ℕ) (legal : isLegal d ≡ true) (enough : replyR
   abbrev spokenAfter : ℕ → Answered → Result Device
   spokenAfter n a = acceptedTaken d (record { ended = spoken (d .connection) a; taken = n })
 
-  answers : (n m : ℕ) → n ≡ m → spokenAfter n (answered (d .settings) (d .own) (commandText k)) ≡ commandResult d k m
+  answers : (n m : ℕ) → n ≡ m → spokenAfter n (lineAnswer (d .settings) (d .own) (commandText k)) ≡ commandResult d k m
   answers n m e = (λ i. spokenAfter (e i) (command-answered (d .settings) (d .own) k writable i))
 
   pub command-received : d .connection .phase ≡ opened

@@ -2,6 +2,7 @@
 -- bytes change nothing.
 -- Assumes nothing.
 use Prim.Native.Nat.{ℕ, _+_, _≤_}
+use Prim.Native.Char.{code}
 use mathlib.Core.Path.{_≡_, refl, ap, _∙_}
 use mathlib.Core.Bool.{true}
 use mathlib.Core.List.{List, [], _∷_, _++_}
@@ -17,9 +18,11 @@ use Rattle.record.specs.declared.types.Settings.{Settings}
 use Rattle.record.specs.declared.types.Own.{Own}
 use Rattle.record.specs.declared.types.Connection.{Connection}
 use Rattle.record.specs.declared.types.Device.{Device}
+use Rattle.stream.specs.declared.Gathered.{Gathered}
 use Rattle.stream.proofs.LinesSpelt.{gathered-none}
-use Rattle.stream.proofs.GatheredOn.{gathered-within, gathered-ended, all-counted, line-counted}
-use Rattle.device.specs.Receiving.{Taken, silent, keeping, finished, takenIn}
+use Rattle.stream.proofs.GatheredOn.{gathered-within, gathered-ended, plain-gathered}
+use Rattle.stream.proofs.LinesCollected.{whole-gathered}
+use Rattle.device.specs.Receiving.{Taken, noReply, keepingLine, takenOf, takenIn}
 use Rattle.device.specs.Calls.{received}
 use Rattle.device.proofs.Cases.{received-by, taken-line, taken-part, taken-by}
 
@@ -29,31 +32,33 @@ module _ (s : Settings) (o : Own) (c : Connection) where
 
   pub all-taken : (bs : List ℕ) → every notCr bs ≡ true → takenIn s o c bs .taken ≡ length bs
   all-taken bs e =
-      let g = all-counted most (c .line) bs e in
-      ap (λ (t : Taken). t .taken) (taken-part s o c bs (g .1)) ∙ g .0
+      let g = plain-gathered most (c .line) bs e in
+      ap (λ (t : Taken). t .taken) (taken-part s o c bs (ap (λ (h : Gathered). h .ended) g))
+      ∙ ap (λ (h : Gathered). h .before) g
 
   pub line-taken : (xs more : List ℕ) → every notCr xs ≡ true
-      → takenIn s o c (xs ++ (13 ∷ more)) .taken ≡ length xs + 1
+      → takenIn s o c (xs ++ (code "\r" ∷ more)) .taken ≡ length xs + 1
   line-taken xs more e =
-      let g = line-counted most (c .line) xs more e in
-      ap (λ (t : Taken). t .taken) (taken-line s o c (xs ++ (13 ∷ more)) (g .1)) ∙ ap (λ (n : ℕ). n + 1) (g .0)
+      let g = whole-gathered most (c .line) xs more e in
+      ap (λ (t : Taken). t .taken) (taken-line s o c (xs ++ (code "\r" ∷ more)) (ap (λ (h : Gathered). h .ended) g))
+      ∙ ap (λ (h : Gathered). h .before + 1) g
 
   pub taken-within : (bs : List ℕ) → takenIn s o c bs .taken ≤ length bs
   taken-within bs =
       taken-by s o c bs (λ t. t .taken ≤ length bs) (λ e. gathered-ended most (c .line) bs e)
       (λ e. gathered-within most (c .line) bs)
 
-  keeps-itself : keeping c (c .line) ≡ c
-  unfolding keeping
+  keeps-itself : keepingLine c (c .line) ≡ c
+  unfolding keepingLine
   keeps-itself = if-all (λ (k : Connection). k ≡ c) (eqb (c .phase) failed) refl refl
 
-  pub nothing-taken : takenIn s o c [] ≡ record { ended = silent o c; taken = 0 }
+  pub nothing-taken : takenIn s o c [] ≡ record { ended = noReply o c; taken = 0 }
   unfolding takenIn
   nothing-taken =
-      ap (finished s o c) (gathered-none most (c .line))
-      ∙ ap {B = Taken} (λ (k : Connection). record { ended = silent o k; taken = 0 }) keeps-itself
+      ap (takenOf s o c) (gathered-none most (c .line))
+      ∙ ap {B = Taken} (λ (k : Connection). record { ended = noReply o k; taken = 0 }) keeps-itself
 
 pub received-within : (d : Device) (bs : List ℕ) (room : ℕ) → received d bs room .taken ≤ length bs
 received-within d bs room =
-    received-by d bs room (λ r. r .taken ≤ length bs) (λ h. omega arith) (λ h s. omega arith) (λ h s c. omega arith)
+    received-by d bs room (λ r. r .taken ≤ length bs) (λ n z. omega arith)
     (λ h s c. taken-within (d .settings) (d .own) (d .connection) bs)

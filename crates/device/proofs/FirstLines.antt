@@ -1,6 +1,5 @@
 -- The first line on an awaiting connection between lines, as the bytes before its CR (01, "Connection": "the first 32
 -- bytes are compared exactly with the lowercase hex digest .., and the line at most 167 bytes before CR").
---   isLed s c l       the line l starts with the digest of the random number and the password, and is not overlong
 -- Assumes nothing.
 use Prim.Native.Nat.{ℕ, _≤_, _<_}
 use Prim.Native.Char.{code}
@@ -11,11 +10,11 @@ use mathlib.Core.Logic.{⊎-elim}
 use lib.ListN.{length, take}
 use lib.Dec.{leb}
 use borrow.Author.Tests.{leb-true, le-leb}
-use Rattle.text.specs.Scans.{every, sameBy, itself}
+use Rattle.text.specs.Scans.{sameBy, itself}
 use Rattle.text.proofs.Choices.{both, both-left, both-right, alike}
 use Rattle.text.proofs.Orders.{le-or-lt}
 use Rattle.digest.specs.Hex.{leadingDigest}
-use Rattle.lines.specs.Bytes.{notCr, noCr}
+use Rattle.lines.specs.Bytes.{noCr}
 use Rattle.lines.proofs.Characters.{no-cr-each}
 use Rattle.record.specs.Limits.{lineRoom, awaiting}
 use Rattle.record.specs.Legal.{heldMost}
@@ -26,16 +25,17 @@ use Rattle.record.proofs.ConnectionTold.{held-most-awaiting}
 use Rattle.stream.specs.declared.Gathered.{Gathered}
 use Rattle.stream.specs.Collecting.{lineOf, emptyLine, overlongLine, collectedAll, gathered}
 use Rattle.stream.proofs.LinesSpelt.{overlong-marked}
-use Rattle.stream.proofs.CollectedOn.{whole-gathered, collected-whole, collected-overlong}
-use Rattle.device.specs.Receiving.{isMatch, digestLong, passwordOf}
+use Rattle.stream.proofs.CollectedOn.{collected-whole, collected-overlong}
+use Rattle.stream.proofs.LinesCollected.{whole-gathered}
+use Rattle.device.specs.Receiving.{isLedBy, isMatch, digestLong, passwordOf}
 use Rattle.device.proofs.Outsiders.{Unmatched}
 
 module _ (s : Settings) (c : Connection) where
   abbrev digest : List ℕ
   digest = leadingDigest (c .random) (passwordOf s)
 
-  abbrev isLed : List ℕ → Bool
-  isLed l = leb (length l) lineRoom && sameBy itself (take digestLong l) digest
+  abbrev ledHere : List ℕ → Bool
+  ledHere l = isLedBy (c .random) (passwordOf s) l
 
   overlong-unmatched : isMatch s c overlongLine ≡ false
   unfolding isMatch
@@ -43,7 +43,7 @@ module _ (s : Settings) (c : Connection) where
       ap (λ (mark : Bool). not mark && leb digestLong (overlongLine .held)
       && sameBy itself (take digestLong (overlongLine .bytes)) digest) overlong-marked
 
-  match-led : (l : List ℕ) → length l ≤ lineRoom → isMatch s c (lineOf l) ≡ true → isLed l ≡ true
+  match-led : (l : List ℕ) → length l ≤ lineRoom → isMatch s c (lineOf l) ≡ true → ledHere l ≡ true
   unfolding isMatch
   match-led l short e =
       let long = leb-true digestLong (length l) (both-left _ _ e) in
@@ -52,17 +52,17 @@ module _ (s : Settings) (c : Connection) where
       (sym (room-first lineRoom l digestLong long))
       ∙ both-right (leb digestLong (length l)) _ e)
 
-  unled-short : (l : List ℕ) → length l ≤ lineRoom → isLed l ≡ false → isMatch s c (lineOf l) ≡ false
+  unled-short : (l : List ℕ) → length l ≤ lineRoom → ledHere l ≡ false → isMatch s c (lineOf l) ≡ false
   unled-short l short unled =
       alike (isMatch s c (lineOf l)) false (λ e. sym unled ∙ match-led l short e) (λ e. absurd (false≢true e))
 
   -- without the matching digest, or overlong, what is collected of it does not match
-  pub unled-collected : (l : List ℕ) → every notCr l ≡ true → isLed l ≡ false
+  pub unled-collected : (l : List ℕ) → ledHere l ≡ false
       → isMatch s c (collectedAll lineRoom emptyLine l) ≡ false
-  unled-collected l plain unled =
+  unled-collected l unled =
       ⊎-elim
-      (λ (short : length l ≤ lineRoom). ap (isMatch s c) (collected-whole l plain short) ∙ unled-short l short unled)
-      (λ (long : lineRoom < length l). ap (isMatch s c) (collected-overlong l plain long) ∙ overlong-unmatched)
+      (λ (short : length l ≤ lineRoom). ap (isMatch s c) (collected-whole l short) ∙ unled-short l short unled)
+      (λ (long : lineRoom < length l). ap (isMatch s c) (collected-overlong l long) ∙ overlong-unmatched)
       (le-or-lt (length l) lineRoom)
 
   module _ (empty : c .line ≡ emptyLine) (phase : c .phase ≡ awaiting) (l more : List ℕ) (plain : noCr l ≡ true) where
@@ -77,6 +77,6 @@ module _ (s : Settings) (c : Connection) where
     pub first-line-ends : first .ended ≡ true
     first-line-ends = ap (λ (g : Gathered). g .ended) whole
 
-    pub unled-unmatched : isLed l ≡ false → Unmatched s c (l ++ (code "\r" ∷ more))
+    pub unled-unmatched : ledHere l ≡ false → Unmatched s c (l ++ (code "\r" ∷ more))
     unled-unmatched unled ended =
-        ap (λ (g : Gathered). isMatch s c (g .line)) whole ∙ unled-collected l (no-cr-each l plain) unled
+        ap (λ (g : Gathered). isMatch s c (g .line)) whole ∙ unled-collected l unled

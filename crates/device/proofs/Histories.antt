@@ -33,7 +33,7 @@ use Rattle.record.proofs.ConnectionTold.{closed-holds-none, connection-told, he
 use Rattle.stream.specs.declared.Gathered.{Gathered}
 use Rattle.stream.specs.Collecting.{lineText, emptyLine, gathered}
 use Rattle.meaning.specs.Meaning.{meant, done}
-use Rattle.device.specs.Receiving.{Taken, digestLong, lineEnded, keeping, takenIn}
+use Rattle.device.specs.Receiving.{Taken, digestLong, lineEnded, keepingLine, takenIn}
 use Rattle.device.specs.Calls.{Result, received, greeted, openedBy, closedBy}
 use Rattle.device.proofs.Cases.{received-by, opened-by, closed-by, ended-by, taken-by}
 use Rattle.device.proofs.Legal.{collecting, line-legal}
@@ -93,8 +93,8 @@ module _ (s : Settings) (o : Own) (c : Connection) (bs : List ℕ) (legal : isCo
   abbrev sent : ℕ → List ℕ
   sent n = lineText (c .line) ++ take n bs
 
-  part-last : (c .phase ≡ shut → ⊥) → Ends (sent (gathers .before)) (lineText (keeping c (gathers .line) .line))
-  unfolding keeping
+  part-last : (c .phase ≡ shut → ⊥) → Ends (sent (gathers .before)) (lineText (keepingLine c (gathers .line) .line))
+  unfolding keepingLine
   part-last live =
       if-by (λ (k : Connection). Ends (sent (gathers .before)) (lineText (k .line))) (eqb (c .phase) failed)
       (λ f. let is-failed = eqb-true (c .phase) failed f in
@@ -162,7 +162,7 @@ received-tells d bs room =
       lamps = refl;
       last = record { before = []; split = append-nil held };
     } in
-    received-by d bs room Told (λ h. nothing) (λ h s. nothing) (λ h s c. nothing)
+    received-by d bs room Told (λ n z. nothing)
     (λ h s c. taken-tells (d .settings) (d .own) (d .connection) bs (legal-connection d h)
     (eqb-false (d .connection .phase) shut c))
 
@@ -174,10 +174,10 @@ module _ (d : Device) (w : List ℕ) (known : Ends w (held d)) where
   pub opening-tells : (r room : ℕ) → Ends w (held (openedBy d r room .device))
   unfolding greeted
   opening-tells r room =
-      opened-by d r room (λ q. Ends w (held (q .device))) (λ h. known) (λ h s. known) (λ h s c. known)
+      opened-by d r room (λ q. Ends w (held (q .device))) (λ n z. known)
       (λ h s c. ends-unheld w emptyLine empty-held)
 
   pub closing-tells : Ends w (held (closedBy d .device))
   closing-tells =
-      closed-by d (λ q. Ends w (held (q .device))) (λ h. known) (λ h c. known)
+      closed-by d (λ q. Ends w (held (q .device))) (λ n z. known)
       (λ h c. ends-unheld w (closed .line) closed-holds-none)

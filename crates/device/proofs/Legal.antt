@@ -1,8 +1,8 @@
 -- Opening, closing and receiving keep a record legal, a law a part.
 -- Assumes nothing.
 use Prim.Native.Nat.{ℕ, zero, suc, _≤_}
-use mathlib.Core.Path.{_≡_, refl, sym, _∙_}
-use mathlib.Core.Bool.{true, false≢true}
+use mathlib.Core.Path.{_≡_, refl}
+use mathlib.Core.Bool.{true}
 use mathlib.Core.List.{List}
 use native.Mathlib.Omega.{arith}
 use borrow.Author.Tests.{eqb-false}
@@ -10,6 +10,7 @@ use lib.Dec.{eqb}
 use Rattle.text.proofs.Choices.{if-all, if-by}
 use Rattle.lines.specs.Forms.{isCommandForm}
 use Rattle.record.specs.Limits.{shut, awaiting, opened, failed}
+use Rattle.record.specs.Updates.{withLine}
 use Rattle.record.specs.Legal.{isCollecting, isSettings, isOwn, isConnection, isLegal}
 use Rattle.record.specs.declared.types.Settings.{Settings}
 use Rattle.record.specs.declared.types.Own.{Own}
@@ -20,8 +21,8 @@ use Rattle.record.proofs.LegalTold.{legal-settings, legal-own, legal-connection
 use Rattle.record.proofs.ConnectionTold.{ConnectionTold, connection-told, connection-shown, zero-age, closed-legal}
 use Rattle.stream.proofs.LegalLines.{LegalLine, empty-legal, gathered-legal}
 use Rattle.meaning.proofs.Done.{done-legal}
-use Rattle.device.specs.Answering.{Answered, asked, answered}
-use Rattle.device.specs.Receiving.{turned, withLine, lineEnded, keeping, takenIn}
+use Rattle.device.specs.Answering.{Answered, lineAsks, lineAnswer}
+use Rattle.device.specs.Receiving.{turned, lineEnded, keepingLine, takenIn}
 use Rattle.device.specs.Calls.{Result, isSecured, greeted, received, openedBy, closedBy}
 use Rattle.device.proofs.Cases.{received-by, opened-by, closed-by, ended-by, taken-by}
 
@@ -60,18 +61,19 @@ module _ (c : Connection) where
 
     -- what is kept of a line that is legal where lines are collected
     pub keeping-legal : (l : Line) → (c .phase ≡ shut → ⊥) → (isCollecting (c .phase) ≡ true → LegalLine (c .phase) l)
-        → isConnection (keeping c l) ≡ true
-    unfolding keeping
+        → isConnection (keepingLine c l) ≡ true
+    unfolding keepingLine
     keeping-legal l n p =
         if-by (λ (k : Connection). isConnection k ≡ true) (eqb (c .phase) failed) (λ f. legal) (λ f.
         with-line-legal l (p (collecting (c .phase) (known .phase) n (eqb-false (c .phase) failed f))))
 
 -- the parts of receiving
 module _ (s : Settings) (o : Own) (settings : isSettings s ≡ true) (own : isOwn s o ≡ true) where
-  pub answered-legal : (l : List ℕ) → isOwn s (answered s o l .own) ≡ true
-  unfolding answered
+  pub answered-legal : (l : List ℕ) → isOwn s (lineAnswer s o l .own) ≡ true
+  unfolding lineAnswer
   answered-legal l =
-      if-all (λ (a : Answered). isOwn s (a .own) ≡ true) (isCommandForm l) (done-legal s o settings own (asked l)) own
+      if-all (λ (a : Answered). isOwn s (a .own) ≡ true) (isCommandForm l)
+      (done-legal s o settings own (lineAsks l)) own
 
   module _ (c : Connection) where
     pub ended-own-legal : (l : Line) → isOwn s (lineEnded s o c l .own) ≡ true
@@ -111,7 +113,7 @@ module _ (d : Device) (legal : isLegal d ≡ true) where
   pub receiving-legal : (bs : List ℕ) (room : ℕ) → isLegal (received d bs room .device) ≡ true
   receiving-legal bs room =
       let settings = legal-settings d legal in
-      received-by d bs room LegalAfter (λ h. absurd (false≢true (sym h ∙ legal))) (λ h s. legal) (λ h s c. legal)
+      received-by d bs room LegalAfter (λ n z. legal)
       (λ h s c. legal-by-parts _ settings
       (taken-own-legal (d .settings) (d .own) settings (legal-own d legal) (d .connection) bs)
       (taken-connection-legal (d .settings) (d .own) (d .connection) (legal-connection d legal) bs
@@ -119,10 +121,10 @@ module _ (d : Device) (legal : isLegal d ≡ true) where
 
   pub opening-legal : (r room : ℕ) → isLegal (openedBy d r room .device) ≡ true
   opening-legal r room =
-      opened-by d r room LegalAfter (λ h. absurd (false≢true (sym h ∙ legal))) (λ h s. legal) (λ h s c. legal)
+      opened-by d r room LegalAfter (λ n z. legal)
       (λ h s c. legal-by-parts _ (legal-settings d legal) (legal-own d legal) (greeted-legal (d .settings) r))
 
   pub closing-legal : isLegal (closedBy d .device) ≡ true
   closing-legal =
-      closed-by d LegalAfter (λ h. absurd (false≢true (sym h ∙ legal))) (λ h c. legal)
+      closed-by d LegalAfter (λ n z. legal)
       (λ h c. legal-by-parts _ (legal-settings d legal) (legal-own d legal) closed-legal)

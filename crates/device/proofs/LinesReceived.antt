@@ -4,6 +4,7 @@
 --   lineResult d a n     the result where the line is answered a and n bytes are taken
 -- Assumes nothing.
 use Prim.Native.Nat.{ℕ, _+_, _≤_, _<_}
+use Prim.Native.Char.{code}
 use mathlib.Core.Path.{_≡_, ap, _∙_}
 use mathlib.Core.Bool.{true, false}
 use mathlib.Core.List.{List, [], _∷_, _++_}
@@ -28,7 +29,7 @@ use Rattle.stream.specs.declared.Gathered.{Gathered}
 use Rattle.stream.specs.Collecting.{emptyLine, overlongLine, gathered}
 use Rattle.stream.proofs.LinesSpelt.{overlong-marked}
 use Rattle.stream.proofs.LinesCollected.{empty-is-none, overlong-gathered}
-use Rattle.device.specs.Answering.{Answered, answered, swallowed}
+use Rattle.device.specs.Answering.{Answered, lineAnswer, swallowed}
 use Rattle.device.specs.Receiving.{Ended, Taken, spoken, digestLong, passwordOf, lineEnded, takenIn}
 use Rattle.device.specs.Calls.{Result, replyRoom, acceptedTaken, received}
 use Rattle.device.proofs.Cases.{received-taken, ended-overlong, taken-line}
@@ -40,7 +41,7 @@ use Rattle.device.proofs.WholeLines.{open-line-taken, matching-line-tak
 module _ (s : Settings) (o : Own) (c : Connection) (empty : c .line ≡ emptyLine) (phase : c .phase ≡ opened)
     (xs rest : List ℕ) (long : commandMost < length xs) (plain : every notCr xs ≡ true) where
   abbrev bytes : List ℕ
-  bytes = xs ++ (13 ∷ rest)
+  bytes = xs ++ (code "\r" ∷ rest)
 
   only-marked : gathered (heldMost (c .phase)) (c .line) bytes
       ≡ record { line = overlongLine; before = length xs; ended = true }
@@ -52,7 +53,8 @@ module _ (s : Settings) (o : Own) (c : Connection) (empty : c .line ≡ emptyLin
       ≡ record { ended = spoken c (swallowed o); taken = length xs + 1 }
   overlong-line-taken =
       taken-line s o c bytes (ap (λ (g : Gathered). g .ended) only-marked)
-      ∙ ap {B = Taken} (λ (g : Gathered). record { ended = lineEnded s o c (g .line); taken = g .before + 1 }) only-marked
+      ∙ ap {B = Taken} (λ (g : Gathered). record { ended = lineEnded s o c (g .line); taken = g .before + 1 })
+      only-marked
       ∙ ap {B = Taken} (λ (e : Ended). record { ended = e; taken = length xs + 1 })
       (ended-overlong s o c overlongLine phase overlong-marked)
 
@@ -76,7 +78,7 @@ module _ (d : Device) (room : ℕ) (legal : isLegal d ≡ true) (enough : replyR
     open-takes = received-taken d (l ++ ascii "\r") room legal enough (ap (λ (p : ℕ). eqb p shut) phase)
 
     pub line-received : length l ≤ commandMost
-        → received d (l ++ ascii "\r") room ≡ lineResult d (answered (d .settings) (d .own) l) (length l + 1)
+        → received d (l ++ ascii "\r") room ≡ lineResult d (lineAnswer (d .settings) (d .own) l) (length l + 1)
     line-received short =
         open-takes
         ∙ ap (acceptedTaken d) (open-line-taken (d .settings) (d .own) (d .connection) empty [] l phase short plainly)
@@ -93,7 +95,7 @@ module _ (d : Device) (room : ℕ) (legal : isLegal d ≡ true) (enough : replyR
 
   pub led-line-received : d .connection .phase ≡ awaiting → length l ≤ commandMost
       → received d (digest ++ l ++ ascii "\r") room
-      ≡ lineResult d (answered (d .settings) (d .own) l) (digestLong + length l + 1)
+      ≡ lineResult d (lineAnswer (d .settings) (d .own) l) (digestLong + length l + 1)
   led-line-received phase short =
       received-taken d (digest ++ l ++ ascii "\r") room legal enough (ap (λ (p : ℕ). eqb p shut) phase)
       ∙ ap (acceptedTaken d)

@@ -3,6 +3,7 @@
 -- (demand 2: "a first line without the matching digest yields the refusal line only").
 -- Assumes nothing.
 use Prim.Native.Nat.{ℕ, _≤_}
+use Prim.Native.Char.{code}
 use mathlib.Core.Path.{_≡_, refl, sym, ap, subst, _∙_}
 use mathlib.Core.Bool.{Bool, true, false, false≢true}
 use mathlib.Core.List.{List, [], _∷_, _++_}
@@ -11,22 +12,23 @@ use lib.Dec.{eqb}
 use Rattle.text.specs.Words.{if_then_else_, _is_}
 use Rattle.lines.specs.Forms.{erraLine}
 use Rattle.record.specs.Limits.{shut, awaiting, failed}
+use Rattle.record.specs.Updates.{withLine}
 use Rattle.record.specs.Legal.{heldMost, isLegal}
 use Rattle.record.specs.declared.types.Settings.{Settings}
 use Rattle.record.specs.declared.types.Own.{Own}
 use Rattle.record.specs.declared.types.Connection.{Connection}
 use Rattle.record.specs.declared.types.Device.{Device}
 use Rattle.stream.specs.declared.Gathered.{Gathered}
-use Rattle.stream.specs.Collecting.{collected, gathered, later}
-use Rattle.stream.specs.Machine.{Out, silent, after, run, handedParts, joined}
-use Rattle.device.specs.Receiving.{isMatch, withLine, keeping}
+use Rattle.stream.specs.Collecting.{collected, gathered}
+use Rattle.stream.specs.Machine.{Out, unanswered, replyThen, runOver, handedParts, uncut}
+use Rattle.device.specs.Receiving.{isMatch, keepingLine}
 use Rattle.device.specs.Calls.{replyRoom}
 use Rattle.device.proofs.Cases.{keeping-none, keeping-line}
 use Rattle.device.proofs.Outsiders.{Unmatched, mismatch-refused, failed-ignores-line}
 use Rattle.device.proofs.ReceivingAsMachine.{State, stateOf, leaves, collects, ends}
 use Rattle.device.proofs.SameCuts.{deviceOf, partsOf, receives, received-as-run}
-use Rattle.stream.proofs.LinesSpelt.{gathered-none, gathered-more, run-none, run-more}
-use Rattle.stream.proofs.HandedThrough.{outThrough}
+use Rattle.stream.proofs.LinesSpelt.{later, gathered-none, gathered-more, run-none, run-more}
+use Rattle.stream.proofs.SameHoweverCut.{outThrough}
 
 -- an outsider's first line, as far as it came
 abbrev pub firstLine : Connection → List ℕ → Gathered
@@ -53,33 +55,33 @@ also e f t = record {
 
 module _ (s : Settings) where
   abbrev ran : State → List ℕ → Out State
-  ran = run State collects (ends s)
+  ran = runOver (code "\r") State collects (ends s)
 
   abbrev stepped : State → ℕ → Bool → Out State
-  stepped m b cr = if cr then ends s m else silent (collects m b)
+  stepped m b cr = if cr then ends s m else unanswered (collects m b)
 
   -- a failed connection ignores whatever comes
-  failed-step : (m : State) (b : ℕ) (cr : Bool) → m .connection .phase ≡ failed → stepped m b cr ≡ silent m
+  failed-step : (m : State) (b : ℕ) (cr : Bool) → m .connection .phase ≡ failed → stepped m b cr ≡ unanswered m
   failed-step m b true f = ap leaves (failed-ignores-line s (m .own) (m .connection) f _)
   failed-step m b false f =
-      ap {B = Out State} (λ (k : Connection). silent (stateOf (m .own) k)) (keeping-none (m .connection) _ f)
+      ap {B = Out State} (λ (k : Connection). unanswered (stateOf (m .own) k)) (keeping-none (m .connection) _ f)
 
-  pub failed-run : (m : State) (bs : List ℕ) → m .connection .phase ≡ failed → ran m bs ≡ silent m
-  failed-run m [] f = run-none State collects (ends s) m
+  pub failed-run : (m : State) (bs : List ℕ) → m .connection .phase ≡ failed → ran m bs ≡ unanswered m
+  failed-run m [] f = run-none (code "\r") State collects (ends s) m
   failed-run m (b ∷ bs) f =
-      run-more State collects (ends s) m b bs
-      ∙ ap {B = Out State} (λ (o : Out State). after (o .reply) (ran (o .state) bs)) (failed-step m b (b is "\r") f)
+      run-more (code "\r") State collects (ends s) m b bs
+      ∙ ap {B = Out State} (λ (o : Out State). replyThen (o .reply) (ran (o .state) bs)) (failed-step m b (b is "\r") f)
       ∙ failed-run m bs f
 
   first-step : (m : State) (b : ℕ) (bs : List ℕ) (cr : Bool) → m .connection .phase ≡ awaiting
       → let c = m .connection in
       let l = collected (heldMost (c .phase)) (c .line) b in
       let later-on = firstLine (withLine c l) bs in
-      let g : Gathered = if cr then record { line = c .line; before = 0; ended = true } else later 1 later-on in
+      let g : Gathered = if cr then record { line = c .line; before = 0; ended = true } else later later-on in
       (g .ended ≡ true → isMatch s c (g .line) ≡ false)
       → ((later-on .ended ≡ true → isMatch s c (later-on .line) ≡ false)
       → Fruitless (m .own) later-on (ran (stateOf (m .own) (withLine c l)) bs))
-      → Fruitless (m .own) g (after (stepped m b cr .reply) (ran (stepped m b cr .state) bs))
+      → Fruitless (m .own) g (replyThen (stepped m b cr .reply) (ran (stepped m b cr .state) bs))
   first-step m b bs true p n on =
       let out = mismatch-refused s (m .own) (m .connection) p (m .connection .line) (n refl) in
       let still = failed-run (ends s m .state) bs (out .phase) in
@@ -92,7 +94,7 @@ module _ (s : Settings) where
   first-step m b bs false p n on =
       let c = m .connection in
       let l = collected (heldMost (c .phase)) (c .line) b in
-      let kept : stateOf (m .own) (keeping c l) ≡ stateOf (m .own) (withLine c l)
+      let kept : stateOf (m .own) (keepingLine c l) ≡ stateOf (m .own) (withLine c l)
       = ap {B = State} (stateOf (m .own)) (keeping-line c l (λ f. omega arith)) in
       let ends-so = on n in
       record {
@@ -107,7 +109,7 @@ module _ (s : Settings) where
   unfolding isMatch
   outsider-run m [] p n =
       let c = m .connection in
-      also (gathered-none (heldMost (c .phase)) (c .line)) (run-none State collects (ends s) m)
+      also (gathered-none (heldMost (c .phase)) (c .line)) (run-none (code "\r") State collects (ends s) m)
       (record {
         own = refl;
         reply = refl;
@@ -120,41 +122,41 @@ module _ (s : Settings) where
       let l = collected most (c .line) b in
       let g = gathered-more most (c .line) b bs in
       let unmatched = subst (λ (k : Gathered). k .ended ≡ true → isMatch s c (k .line) ≡ false) g n in
-      also g (run-more State collects (ends s) m b bs)
+      also g (run-more (code "\r") State collects (ends s) m b bs)
       (first-step m b bs (b is "\r") p unmatched (λ k. outsider-run (stateOf (m .own) (withLine c l)) bs p k))
 
 -- the calls, however the stream is cut
 module _ (room : ℕ) (enough : replyRoom ≤ room) (d : Device) (legal : isLegal d ≡ true)
     (waits : d .connection .phase ≡ awaiting) (ps : List (List ℕ))
-    (unmatched : Unmatched (d .settings) (d .connection) (joined ps)) where
+    (unmatched : Unmatched (d .settings) (d .connection) (uncut ps)) where
   abbrev all : Out Device
   all = handedParts (receives room) d ps
 
-  as-run : all ≡ outThrough (deviceOf (d .settings)) (ran (d .settings) (partsOf d) (joined ps))
+  as-run : all ≡ outThrough (deviceOf (d .settings)) (ran (d .settings) (partsOf d) (uncut ps))
   as-run = received-as-run room enough d legal (ap (λ (p : ℕ). eqb p shut) waits) ps
 
   pub outsider-stream-keeps-own : handedParts (receives room) d ps .state .own ≡ d .own
   outsider-stream-keeps-own =
       ap (λ (o : Out Device). o .state .own) as-run
-      ∙ outsider-run (d .settings) (partsOf d) (joined ps) waits unmatched .own
+      ∙ outsider-run (d .settings) (partsOf d) (uncut ps) waits unmatched .own
 
   pub outsider-stream-refused : handedParts (receives room) d ps .reply
-      ≡ refusalOf (firstLine (d .connection) (joined ps))
+      ≡ refusalOf (firstLine (d .connection) (uncut ps))
   outsider-stream-refused =
       ap (λ (o : Out Device). o .reply) as-run
-      ∙ outsider-run (d .settings) (partsOf d) (joined ps) waits unmatched .reply
+      ∙ outsider-run (d .settings) (partsOf d) (uncut ps) waits unmatched .reply
 
   pub outsider-stream-keeps-settings : handedParts (receives room) d ps .state .settings ≡ d .settings
   outsider-stream-keeps-settings = ap (λ (o : Out Device). o .state .settings) as-run
 
   -- once his first line ended, the connection has failed
-  module _ (cr : firstLine (d .connection) (joined ps) .ended ≡ true) where
+  module _ (cr : firstLine (d .connection) (uncut ps) .ended ≡ true) where
     pub outsider-stream-fails : handedParts (receives room) d ps .state .connection .phase ≡ failed
     outsider-stream-fails =
         ap (λ (o : Out Device). o .state .connection .phase) as-run
-        ∙ outsider-run (d .settings) (partsOf d) (joined ps) waits unmatched .fails cr
+        ∙ outsider-run (d .settings) (partsOf d) (uncut ps) waits unmatched .fails cr
 
     pub outsider-stream-age : handedParts (receives room) d ps .state .connection .age ≡ 0
     outsider-stream-age =
         ap (λ (o : Out Device). o .state .connection .age) as-run
-        ∙ outsider-run (d .settings) (partsOf d) (joined ps) waits unmatched .age cr
+        ∙ outsider-run (d .settings) (partsOf d) (uncut ps) waits unmatched .age cr

@@ -15,7 +15,7 @@ use Rattle.record.specs.declared.types.Line.{Line}
 use Rattle.record.specs.declared.types.Connection.{Connection}
 use Rattle.record.specs.declared.types.Device.{Device}
 use Rattle.stream.specs.Collecting.{emptyLine, gathered}
-use Rattle.device.specs.Receiving.{Ended, isMatch, silent, lineEnded, takenIn}
+use Rattle.device.specs.Receiving.{Ended, isMatch, noReply, lineEnded, takenIn}
 use Rattle.device.specs.Calls.{received}
 use Rattle.device.proofs.Cases.{received-by, ended-other, ended-erra, keeping-none, taken-by}
 
@@ -50,30 +50,30 @@ module _ (s : Settings) (o : Own) (c : Connection) where
         (λ e. absurd (false≢true (sym e ∙ cr)))
 
   module _ (phase : c .phase ≡ failed) where
-    pub failed-ignores-line : (l : Line) → lineEnded s o c l ≡ silent o c
+    pub failed-ignores-line : (l : Line) → lineEnded s o c l ≡ noReply o c
     failed-ignores-line l = ended-other s o c l (λ p. omega arith) (λ p. omega arith)
 
-    pub failed-ignores : (bs : List ℕ) → takenIn s o c bs .ended ≡ silent o c
+    pub failed-ignores : (bs : List ℕ) → takenIn s o c bs .ended ≡ noReply o c
     failed-ignores bs =
-        taken-by s o c bs (λ t. t .ended ≡ silent o c) (λ e. failed-ignores-line _)
-        (λ e. ap (silent o) (keeping-none c _ phase))
+        taken-by s o c bs (λ t. t .ended ≡ noReply o c) (λ e. failed-ignores-line _)
+        (λ e. ap (noReply o) (keeping-none c _ phase))
 
 module _ (d : Device) (bs : List ℕ) (room : ℕ) where
   pub outsider-keeps-own : d .connection .phase ≡ awaiting → Unmatched (d .settings) (d .connection) bs
       → received d bs room .device .own ≡ d .own
   outsider-keeps-own p n =
-      received-by d bs room (λ r. r .device .own ≡ d .own) (λ h. refl) (λ h s. refl) (λ h s c. refl)
+      received-by d bs room (λ r. r .device .own ≡ d .own) (λ n z. refl)
       (λ h s c. unmatched-keeps-own (d .settings) (d .own) (d .connection) p bs n)
 
   module _ (phase : d .connection .phase ≡ failed) where
     pub failed-keeps-record : received d bs room .device ≡ d
     failed-keeps-record =
-        received-by d bs room (λ r. r .device ≡ d) (λ h. refl) (λ h s. refl) (λ h s c. refl)
+        received-by d bs room (λ r. r .device ≡ d) (λ n z. refl)
         (λ h s c. ap {B = Device}
         (λ (e : Ended). record { settings = d .settings; own = e .own; connection = e .connection })
         (failed-ignores (d .settings) (d .own) (d .connection) phase bs))
 
     pub failed-never-replies : received d bs room .reply ≡ []
     failed-never-replies =
-        received-by d bs room (λ r. r .reply ≡ []) (λ h. refl) (λ h s. refl) (λ h s c. refl)
+        received-by d bs room (λ r. r .reply ≡ []) (λ n z. refl)
         (λ h s c. ap (λ (e : Ended). e .reply) (failed-ignores (d .settings) (d .own) (d .connection) phase bs))

@@ -6,8 +6,9 @@
 --   PowerEffect s o l r k  the line l, replied to by r, leaves the own part k of o
 -- Assumes nothing.
 use Prim.Native.Nat.{ℕ}
+use Prim.Native.Char.{code}
 use mathlib.Core.Path.{_≡_, refl, sym, ap, _∙_}
-use mathlib.Core.Bool.{Bool, true, false, not, _&&_, false≢true}
+use mathlib.Core.Bool.{Bool, true, false, not, _&&_, false≢true, and-false}
 use mathlib.Core.List.{List, [], _∷_, _++_}
 use lib.Dec.{eqb}
 use Rattle.text.specs.Words.{ascii}
@@ -29,7 +30,7 @@ use Rattle.record.specs.declared.types.Own.{Own}
 use Rattle.meaning.specs.Meaning.{meant, done}
 use Rattle.meaning.proofs.PowerSets.{PowerTurn, stays, warms, cools, power-turns}
 use Rattle.device.proofs.PowerRequests.{unchanged, carried, Comes, powr-comes}
-use Rattle.device.specs.Answering.{Answered, asked, replied, answered}
+use Rattle.device.specs.Answering.{Answered, lineAsks, replied, lineAnswer}
 
 -- a reply is `%1POWR=OK` exactly when its body is POWR and its parameter OK
 abbrev pub isPowerOkay : List ℕ → Bool
@@ -42,25 +43,22 @@ four-and true true false w t = refl
 four-and true false z w t = refl
 four-and false y z w t = refl
 
-and-none : (t : Bool) → (t && false) ≡ false
-and-none true = refl
-and-none false = refl
-
 module _ (a b c d : ℕ) (p : List ℕ) where
   okay-by-parts : isPowerOkay (replyLine a b c d p)
-      ≡ (isBody (a ∷ b ∷ c ∷ d ∷ []) Powr && sameBy upperOf (p ++ (13 ∷ [])) (ascii "OK\r"))
+      ≡ (isBody (a ∷ b ∷ c ∷ d ∷ []) Powr && sameBy upperOf (p ++ (code "\r" ∷ [])) (ascii "OK\r"))
   okay-by-parts =
-      four-and (eqb (upperOf a) 80) (eqb (upperOf b) 79) (eqb (upperOf c) 87) (eqb (upperOf d) 82)
-      (sameBy upperOf (p ++ (13 ∷ [])) (ascii "OK\r"))
+      four-and (eqb (upperOf a) (code "P")) (eqb (upperOf b) (code "O")) (eqb (upperOf c) (code "W"))
+      (eqb (upperOf d) (code "R"))
+      (sameBy upperOf (p ++ (code "\r" ∷ [])) (ascii "OK\r"))
 
   other-reply : isBody (a ∷ b ∷ c ∷ d ∷ []) Powr ≡ false → isPowerOkay (replyLine a b c d p) ≡ false
   other-reply e =
-      okay-by-parts ∙ ap (λ (t : Bool). t && sameBy upperOf (p ++ (13 ∷ [])) (ascii "OK\r")) e
+      okay-by-parts ∙ ap (λ (t : Bool). t && sameBy upperOf (p ++ (code "\r" ∷ [])) (ascii "OK\r")) e
 
-  other-said : sameBy upperOf (p ++ (13 ∷ [])) (ascii "OK\r") ≡ false → isPowerOkay (replyLine a b c d p) ≡ false
+  other-said : sameBy upperOf (p ++ (code "\r" ∷ [])) (ascii "OK\r") ≡ false → isPowerOkay (replyLine a b c d p) ≡ false
   other-said e =
       okay-by-parts ∙ ap (λ (t : Bool). isBody (a ∷ b ∷ c ∷ d ∷ []) Powr && t) e
-      ∙ and-none (isBody (a ∷ b ∷ c ∷ d ∷ []) Powr)
+      ∙ and-false (isBody (a ∷ b ∷ c ∷ d ∷ []) Powr)
 
 okay-said : (a b c d : ℕ) (m : Said) → m ≡ okay → replyLine a b c d (saidBytes m) ≡ replyLine a b c d (ascii "OK")
 okay-said a b c d m e = ap (λ (x : Said). replyLine a b c d (saidBytes x)) e ∙ ap (replyLine a b c d) okay-bytes
@@ -99,7 +97,8 @@ not-other false = refl
 module _ (a b c d : ℕ) (powr : isBody (a ∷ b ∷ c ∷ d ∷ []) Powr ≡ true) (wanted : Bool) where
   line-by-parts : (v : Bool) → isPowerLine v (powerLine a b c d wanted ++ ascii "\r") ≡ isSame wanted v
   line-by-parts v =
-      four-and (eqb (upperOf a) 80) (eqb (upperOf b) 79) (eqb (upperOf c) 87) (eqb (upperOf d) 82)
+      four-and (eqb (upperOf a) (code "P")) (eqb (upperOf b) (code "O")) (eqb (upperOf c) (code "W"))
+      (eqb (upperOf d) (code "R"))
       (sameBy upperOf (switchDigit wanted ∷ ascii "\r") (switchDigit v ∷ ascii "\r"))
       ∙ (λ i. powr i && switch-read wanted v i)
 
@@ -120,28 +119,28 @@ module _ (s : Settings) (o : Own) (l : List ℕ) where
   EffectOf a = PowerEffect s o l (a .reply) (a .own)
 
   module _ (other : isBody (headBody l) Powr ≡ false) where
-    abbrev not-asked : isPowerSet (asked l) ≡ false
+    abbrev not-asked : isPowerSet (lineAsks l) ≡ false
     not-asked = not-powr (commandParameter l) (headBody l) other
 
-    by-turn : PowerTurn s o (asked l) (meant s o (asked l)) (done s o (asked l)) → EffectOf (replied s o l)
+    by-turn : PowerTurn s o (lineAsks l) (meant s o (lineAsks l)) (done s o (lineAsks l)) → EffectOf (replied s o l)
     by-turn (stays p q) =
-        quiet (other-reply (l at 2) (l at 3) (l at 4) (l at 5) (saidBytes (meant s o (asked l))) other) p q
+        quiet (other-reply (l at 2) (l at 3) (l at 4) (l at 5) (saidBytes (meant s o (lineAsks l))) other) p q
     by-turn (warms r m h p q) = absurd (false≢true (sym not-asked ∙ ap isPowerSet r))
     by-turn (cools r m h p q) = absurd (false≢true (sym not-asked ∙ ap isPowerSet r))
 
   module _ (form : isCommandForm l ≡ true) (powr : isBody (headBody l) Powr ≡ true) where
-    abbrev is-asked : asked l ≡ askedOf Powr (commandParameter l)
+    abbrev is-asked : lineAsks l ≡ askedOf Powr (commandParameter l)
     is-asked = powr-asked (commandParameter l) (headBody l) powr
 
-    by-outcome : Comes s o (asked l) → EffectOf (replied s o l)
+    by-outcome : Comes s o (lineAsks l) → EffectOf (replied s o l)
     by-outcome (unchanged n p q) =
-        quiet (other-said (l at 2) (l at 3) (l at 4) (l at 5) (saidBytes (meant s o (asked l))) n) p q
+        quiet (other-said (l at 2) (l at 3) (l at 4) (l at 5) (saidBytes (meant s o (lineAsks l))) n) p q
     by-outcome (carried wanted r m) =
         sets (l at 2) (l at 3) (l at 4) (l at 5) wanted powr
         (form-spelt l form
         ∙ ap (λ (p : List ℕ). ascii "%1" ++ headBody l ++ ascii " " ++ p)
         (power-parameter (commandParameter l) wanted (sym is-asked ∙ r)))
-        (okay-said (l at 2) (l at 3) (l at 4) (l at 5) (meant s o (asked l)) m) (ap (meant s o) (sym r) ∙ m)
+        (okay-said (l at 2) (l at 3) (l at 4) (l at 5) (meant s o (lineAsks l)) m) (ap (meant s o) (sym r) ∙ m)
         (ap (done s o) r)
 
     powr-effect : EffectOf (replied s o l)
@@ -149,10 +148,10 @@ module _ (s : Settings) (o : Own) (l : List ℕ) where
 
   by-body : isCommandForm l ≡ true → (t : Bool) → isBody (headBody l) Powr ≡ t → EffectOf (replied s o l)
   by-body form true e = powr-effect form e
-  by-body form false e = by-turn e (power-turns s o (asked l))
+  by-body form false e = by-turn e (power-turns s o (lineAsks l))
 
-  pub line-effect : PowerEffect s o l (answered s o l .reply) (answered s o l .own)
-  unfolding answered
+  pub line-effect : PowerEffect s o l (lineAnswer s o l .reply) (lineAnswer s o l .own)
+  unfolding lineAnswer
   line-effect =
       if-by EffectOf (isCommandForm l) (λ form. by-body form (isBody (headBody l) Powr) refl)
       (λ n. quiet refl refl refl)

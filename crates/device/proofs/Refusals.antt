@@ -20,17 +20,15 @@ module _ (d : Device) where
   pub receiving-refused : (bs : List ℕ) (room : ℕ) → (received d bs room .number ≡ 0 → ⊥)
       → Refused d (received d bs room)
   receiving-refused bs room =
-      received-by d bs room (RefusedUnless0 d) (λ h n. record { device = refl; taken = refl; reply = refl })
-      (λ h s n. record { device = refl; taken = refl; reply = refl })
-      (λ h s c n. record { device = refl; taken = refl; reply = refl }) (λ h s c n. absurd (n refl))
+      received-by d bs room (RefusedUnless0 d)
+      (λ n z e. record { device = refl; taken = refl; reply = refl }) (λ h s c n. absurd (n refl))
 
   pub opening-refused : (r room : ℕ) → (openedBy d r room .number ≡ 0 → ⊥) → Refused d (openedBy d r room)
   opening-refused r room =
-      opened-by d r room (RefusedUnless0 d) (λ h n. record { device = refl; taken = refl; reply = refl })
-      (λ h s n. record { device = refl; taken = refl; reply = refl })
-      (λ h s c n. record { device = refl; taken = refl; reply = refl }) (λ h s c n. absurd (n refl))
+      opened-by d r room (RefusedUnless0 d)
+      (λ n z e. record { device = refl; taken = refl; reply = refl }) (λ h s c n. absurd (n refl))
 
   pub closing-refused : (closedBy d .number ≡ 0 → ⊥) → Refused d (closedBy d)
   closing-refused =
-      closed-by d (RefusedUnless0 d) (λ h n. record { device = refl; taken = refl; reply = refl })
-      (λ h c n. record { device = refl; taken = refl; reply = refl }) (λ h c n. absurd (n refl))
+      closed-by d (RefusedUnless0 d) (λ n z e. record { device = refl; taken = refl; reply = refl })
+      (λ h c n. absurd (n refl))

@@ -10,7 +10,7 @@ use Rattle.record.specs.declared.types.Device.{Device}
 use Rattle.record.specs.declared.types.Changed.{Changed}
 use Rattle.device.specs.declared.calls.Opened.{Opened}
 use Rattle.device.specs.declared.calls.Received.{Received}
-use Rattle.device.specs.Calls.{received, openedBy, closedBy, told, toldOpened, toldChanged}
+use Rattle.device.specs.Calls.{received, openedBy, closedBy, toldReceived, toldOpened, toldChanged}
 
 module _ (d : Device) where
   -- out is the lent memory
@@ -18,7 +18,7 @@ module _ (d : Device) where
     abbrev pub Receives : Received → List ℕ → Type 0
     Receives =
         let r = received d bs (length out) in
-        Left (told r) (over (r .reply) out)
+        Left (toldReceived r) (over (r .reply) out)
 
     pub one-receiving : {r s : Received} {m n : List ℕ} → Receives r m → Receives s n → (r ≡ s) × (m ≡ n)
     one-receiving p q = one-left p q

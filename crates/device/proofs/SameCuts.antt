@@ -1,9 +1,10 @@
 -- Handed on until all is taken, a stream gives the same reply bytes and end state however it is cut (01, "Connection"):
--- `same-however-cut` holds of every machine, and receiving is one. On the parts, and on the whole record.
+-- `same-however-cut` holds of every machine, and receiving is one, seen through the whole record.
 --   Live s m               the states in which bytes are taken: legal, and not closed
 --   receives room d bs     what the call leaves of the whole record
 -- Assumes nothing.
 use Prim.Native.Nat.{ℕ, _≤_}
+use Prim.Native.Char.{code}
 use mathlib.Core.Path.{_≡_, refl, sym, ap, _∙_}
 use mathlib.Core.Bool.{true, false}
 use mathlib.Core.List.{List}
@@ -20,15 +21,14 @@ use Rattle.record.specs.declared.types.Connection.{Connection}
 use Rattle.record.specs.declared.types.Device.{Device}
 use Rattle.record.proofs.LegalTold.{legal-settings, legal-own, legal-connection, legal-by-parts}
 use Rattle.record.proofs.ConnectionTold.{connection-told}
-use Rattle.stream.specs.Machine.{Took, run, oneCall, handedParts, joined}
+use Rattle.stream.specs.Machine.{Took, runOver, oneCall, handedParts, uncut}
 use Rattle.stream.proofs.LegalLines.{collected-legal}
-use Rattle.stream.proofs.SameHoweverCut.{parts-run, same-however-cut}
-use Rattle.device.specs.Receiving.{lineEnded, keeping, takenIn}
+use Rattle.stream.proofs.SameHoweverCut.{outThrough, tookThrough, calls-run, same-however-cut}
+use Rattle.device.specs.Receiving.{lineEnded, keepingLine}
 use Rattle.device.specs.Calls.{Result, replyRoom, isShut, received}
-use Rattle.device.proofs.Cases.{received-taken, ended-by, taken-by}
-use Rattle.device.proofs.Legal.{line-legal, keeping-legal, ended-own-legal, ended-connection-legal, taken-own-legal, taken-connection-legal}
-use Rattle.stream.proofs.HandedThrough.{outThrough, tookThrough, parts-through}
-use Rattle.device.proofs.ReceivingAsMachine.{State, stateOf, takesIn, collects, ends, taking-is-call}
+use Rattle.device.proofs.Cases.{received-taken, ended-by}
+use Rattle.device.proofs.Legal.{line-legal, keeping-legal, ended-own-legal, ended-connection-legal}
+use Rattle.device.proofs.ReceivingAsMachine.{State, stateOf, collects, ends, taking-is-call}
 
 -- the states in which bytes are taken
 pub record Live (s : Settings) (m : State) : Type 0 where
@@ -37,8 +37,8 @@ pub record Live (s : Settings) (m : State) : Type 0 where
   pub connection : isConnection (m .connection) ≡ true
   pub live : m .connection .phase ≡ shut → ⊥
 
-keeping-phase : (c : Connection) (l : Line) → keeping c l .phase ≡ c .phase
-unfolding keeping
+keeping-phase : (c : Connection) (l : Line) → keepingLine c l .phase ≡ c .phase
+unfolding keepingLine
 keeping-phase c l = if-all (λ (k : Connection). k .phase ≡ c .phase) (eqb (c .phase) failed) refl refl
 
 ended-live : (s : Settings) (o : Own) (c : Connection) (l : Line) → (c .phase ≡ shut → ⊥)
@@ -47,19 +47,8 @@ ended-live s o c l n =
     ended-by s o c l (λ e. e .connection .phase ≡ shut → ⊥) (λ p m z. omega arith) (λ p m z. omega arith)
     (λ p m z. omega arith) (λ p m z. omega arith) (λ p q. n)
 
-pub taken-live : (s : Settings) (o : Own) (c : Connection) (bs : List ℕ) → (c .phase ≡ shut → ⊥)
-    → takenIn s o c bs .ended .connection .phase ≡ shut → ⊥
-taken-live s o c bs n =
-    taken-by s o c bs (λ t. t .ended .connection .phase ≡ shut → ⊥) (λ e. ended-live s o c _ n)
-    (λ e z. n (sym (keeping-phase c _) ∙ z))
-
 module _ (s : Settings) where
-  is-call : (m : State) (bs : List ℕ) → Live s m → takesIn s m bs ≡ oneCall State collects (ends s) m bs
-  is-call m bs r =
-      let c = m .connection in
-      taking-is-call s (m .own) c bs (connection-told c (r .connection) .phase) (r .live)
-
-  ready-collect : (m : State) (b : ℕ) → (b ≡ 13 → ⊥) → Live s m → Live s (collects m b)
+  ready-collect : (m : State) (b : ℕ) → (b ≡ code "\r" → ⊥) → Live s m → Live s (collects m b)
   ready-collect m b n r =
       let c = m .connection in
       record {
@@ -80,24 +69,6 @@ module _ (s : Settings) where
         live = ended-live s (m .own) c (c .line) (r .live);
       }
 
-  ready-taken : (m : State) (bs : List ℕ) → Live s m → Live s (takesIn s m bs .state)
-  ready-taken m bs r = record {
-    settings = r .settings;
-    own = taken-own-legal s (m .own) (r .settings) (r .own) (m .connection) bs;
-    connection = taken-connection-legal s (m .own) (m .connection) (r .connection) bs (r .live);
-    live = taken-live s (m .own) (m .connection) bs (r .live);
-  }
-
-  -- on the parts
-  pub taken-as-run : (m : State) (ps : List (List ℕ)) → Live s m
-      → handedParts (takesIn s) m ps ≡ run State collects (ends s) m (joined ps)
-  taken-as-run = parts-run State collects (ends s) (Live s) ready-collect ready-ends (takesIn s) is-call
-
-  pub taken-however-cut : (m : State) (ps qs : List (List ℕ)) → Live s m → joined ps ≡ joined qs
-      → handedParts (takesIn s) m ps ≡ handedParts (takesIn s) m qs
-  taken-however-cut =
-      same-however-cut State collects (ends s) (Live s) ready-collect ready-ends (takesIn s) is-call
-
 -- on the whole record
 abbrev pub asDeviceCall : Result Device → Took Device
 asDeviceCall r = record { taken = r .taken; state = r .device; reply = r .reply }
@@ -112,13 +83,17 @@ abbrev pub partsOf : Device → State
 partsOf d = stateOf (d .own) (d .connection)
 
 module _ (room : ℕ) (enough : replyRoom ≤ room) where
-  receiving-takes : (s : Settings) (m : State) (bs : List ℕ) → Live s m
-      → receives room (deviceOf s m) bs ≡ tookThrough (deviceOf s) (takesIn s m bs)
-  receiving-takes s m bs r =
+  receiving-is-call : (s : Settings) (m : State) (bs : List ℕ) → Live s m
+      → receives room (deviceOf s m) bs
+      ≡ tookThrough (deviceOf s) (oneCall (code "\r") State collects (ends s) m bs)
+  receiving-is-call s m bs r =
+      let c = m .connection in
       ap asDeviceCall
       (received-taken (deviceOf s m) bs room
       (legal-by-parts (deviceOf s m) (r .settings) (r .own) (r .connection)) enough
-      (ne-eqb (m .connection .phase) shut (r .live)))
+      (ne-eqb (c .phase) shut (r .live)))
+      ∙ ap (tookThrough (deviceOf s))
+      (taking-is-call s (m .own) c bs (connection-told c (r .connection) .phase) (r .live))
 
   module _ (d : Device) (legal : isLegal d ≡ true) (live : isShut (d .connection) ≡ false) where
     ready-parts : Live (d .settings) (partsOf d)
@@ -129,24 +104,18 @@ module _ (room : ℕ) (enough : replyRoom ≤ room) where
       live = eqb-false (d .connection .phase) shut live;
     }
 
-    received-as-taken : (ps : List (List ℕ))
-        → handedParts (receives room) d ps
-        ≡ outThrough (deviceOf (d .settings)) (handedParts (takesIn (d .settings)) (partsOf d) ps)
-    received-as-taken ps =
-        let s = d .settings in
-        parts-through (deviceOf s) (takesIn s) (receives room) (Live s) (ready-taken s) (receiving-takes s) (partsOf d)
-        ps ready-parts
-
     pub received-as-run : (ps : List (List ℕ))
         → handedParts (receives room) d ps
-        ≡ outThrough (deviceOf (d .settings)) (run State collects (ends (d .settings)) (partsOf d) (joined ps))
+        ≡ outThrough (deviceOf (d .settings))
+        (runOver (code "\r") State collects (ends (d .settings)) (partsOf d) (uncut ps))
     received-as-run ps =
-        received-as-taken ps
-        ∙ ap (outThrough (deviceOf (d .settings))) (taken-as-run (d .settings) (partsOf d) ps ready-parts)
+        let s = d .settings in
+        calls-run (code "\r") State collects (ends s) (Live s) (ready-collect s) (ready-ends s) (deviceOf s)
+        (receives room) (receiving-is-call s) (partsOf d) ps ready-parts
 
-    pub received-however-cut : (ps qs : List (List ℕ)) → joined ps ≡ joined qs
+    pub received-however-cut : (ps qs : List (List ℕ)) → uncut ps ≡ uncut qs
         → handedParts (receives room) d ps ≡ handedParts (receives room) d qs
     received-however-cut ps qs e =
-        received-as-taken ps
-        ∙ ap (outThrough (deviceOf (d .settings))) (taken-however-cut (d .settings) (partsOf d) ps qs ready-parts e)
-        ∙ sym (received-as-taken qs)
+        let s = d .settings in
+        same-however-cut (code "\r") State collects (ends s) (Live s) (ready-collect s) (ready-ends s) (deviceOf s)
+        (receives room) (receiving-is-call s) (partsOf d) ps qs ready-parts e

@@ -1,7 +1,8 @@
 -- No reply is longer than 72 bytes (01, "Commands"): eight around a parameter of at most 64, 12 for the refused digest,
 -- at most 18 for a greeting.
 -- Assumes nothing.
-use Prim.Native.Nat.{ℕ, _+_, _≤_}
+use Prim.Native.Nat.{ℕ, _≤_}
+use Prim.Native.Char.{code}
 use mathlib.Core.Path.{_≡_}
 use mathlib.Core.Bool.{true}
 use mathlib.Core.List.{List, [], _∷_}
@@ -10,7 +11,7 @@ use lib.ListN.{length, length-append}
 use Rattle.text.proofs.Choices.{if-all}
 use Rattle.digest.specs.Hex.{hexDigits}
 use Rattle.digest.proofs.Laws.{hex-digits-length}
-use Rattle.lines.specs.Forms.{isCommandForm, replyLine}
+use Rattle.lines.specs.Forms.{isCommandForm}
 use Rattle.record.specs.Legal.{isSettings, isOwn}
 use Rattle.record.specs.declared.types.Settings.{Settings}
 use Rattle.record.specs.declared.types.Own.{Own}
@@ -21,7 +22,7 @@ use Rattle.record.proofs.LegalTold.{legal-settings, legal-own}
 use Rattle.answers.specs.Said.{saidBytes}
 use Rattle.meaning.specs.Meaning.{meant}
 use Rattle.meaning.proofs.CanBeSaid.{meant-fits}
-use Rattle.device.specs.Answering.{Answered, asked, answered}
+use Rattle.device.specs.Answering.{Answered, lineAsks, lineAnswer}
 use Rattle.device.specs.Receiving.{lineEnded, takenIn}
 use Rattle.device.specs.Calls.{longestReply, isSecured, greeting, received, openedBy}
 use Rattle.device.proofs.Cases.{received-by, opened-by, ended-by, taken-by}
@@ -29,17 +30,14 @@ use Rattle.device.proofs.Cases.{received-by, opened-by, ended-by, taken
 abbrev pub longestGreeting : ℕ
 longestGreeting = 18
 
-reply-long : (a b c d : ℕ) (p : List ℕ) → length (replyLine a b c d p) ≡ length p + 8
-reply-long a b c d p = omega (arith, length-append p (13 ∷ []))
-
 module _ (s : Settings) (o : Own) (settings : isSettings s ≡ true) (own : isOwn s o ≡ true) where
-  pub answered-short : (l : List ℕ) → length (answered s o l .reply) ≤ longestReply
-  unfolding answered
+  pub answered-short : (l : List ℕ) → length (lineAnswer s o l .reply) ≤ longestReply
+  unfolding lineAnswer
   answered-short l =
-      let p = saidBytes (meant s o (asked l)) in
-      let short : length p ≤ 64 = meant-fits s o settings own (asked l) .short in
+      let p = saidBytes (meant s o (lineAsks l)) in
+      let short : length p ≤ 64 = meant-fits s o settings own (lineAsks l) .short in
       if-all (λ (a : Answered). length (a .reply) ≤ longestReply) (isCommandForm l)
-      (omega (arith, length-append p (13 ∷ []))) (omega arith)
+      (omega (arith, length-append p (code "\r" ∷ []))) (omega arith)
 
   module _ (c : Connection) where
     pub ended-short : (l : Line) → length (lineEnded s o c l .reply) ≤ longestReply
@@ -55,17 +53,16 @@ pub greeting-short : (s : Settings) (r : ℕ) → length (greeting s r) ≤ long
 unfolding greeting
 greeting-short s r =
     if-all (λ (m : List ℕ). length m ≤ longestGreeting) (isSecured s)
-    (omega (arith, length-append (hexDigits 8 r) (13 ∷ []), hex-digits-length 8 r)) (omega arith)
+    (omega (arith, length-append (hexDigits 8 r) (code "\r" ∷ []), hex-digits-length 8 r)) (omega arith)
 
 module _ (d : Device) where
   -- on any input, refused or not
   pub receiving-short : (bs : List ℕ) (room : ℕ) → length (received d bs room .reply) ≤ longestReply
   receiving-short bs room =
-      received-by d bs room (λ r. length (r .reply) ≤ longestReply) (λ h. omega arith) (λ h s. omega arith)
-      (λ h s c. omega arith)
+      received-by d bs room (λ r. length (r .reply) ≤ longestReply) (λ n z. omega arith)
       (λ h s c. taken-short (d .settings) (d .own) (legal-settings d h) (legal-own d h) (d .connection) bs)
 
   pub opening-short : (r room : ℕ) → length (openedBy d r room .reply) ≤ longestGreeting
   opening-short r room =
-      opened-by d r room (λ q. length (q .reply) ≤ longestGreeting) (λ h. omega arith) (λ h s. omega arith)
-      (λ h s c. omega arith) (λ h s c. greeting-short (d .settings) r)
+      opened-by d r room (λ q. length (q .reply) ≤ longestGreeting) (λ n z. omega arith)
+      (λ h s c. greeting-short (d .settings) r)

@@ -12,7 +12,7 @@ use Rattle.record.specs.declared.types.Line.{Line}
 use Rattle.record.specs.declared.types.Connection.{Connection}
 use Rattle.record.specs.declared.types.Device.{Device}
 use Rattle.meaning.proofs.Done.{Keeps, done-keeps}
-use Rattle.device.specs.Answering.{Answered, asked, answered}
+use Rattle.device.specs.Answering.{Answered, lineAsks, lineAnswer}
 use Rattle.device.specs.Receiving.{lineEnded, takenIn}
 use Rattle.device.specs.Calls.{received, openedBy, closedBy}
 use Rattle.device.proofs.Cases.{received-by, opened-by, closed-by, ended-by, taken-by}
@@ -21,10 +21,10 @@ itself-kept : (o : Own) → Keeps o o
 itself-kept o = record { lamps = refl; fault = refl; errors = refl }
 
 module _ (s : Settings) (o : Own) where
-  pub answered-keeps : (l : List ℕ) → Keeps o (answered s o l .own)
-  unfolding answered
+  pub answered-keeps : (l : List ℕ) → Keeps o (lineAnswer s o l .own)
+  unfolding lineAnswer
   answered-keeps l =
-      if-all (λ (a : Answered). Keeps o (a .own)) (isCommandForm l) (done-keeps s o (asked l)) (itself-kept o)
+      if-all (λ (a : Answered). Keeps o (a .own)) (isCommandForm l) (done-keeps s o (lineAsks l)) (itself-kept o)
 
   pub ended-keeps : (c : Connection) (l : Line) → Keeps o (lineEnded s o c l .own)
   ended-keeps c l =
@@ -39,28 +39,27 @@ module _ (d : Device) where
   module _ (bs : List ℕ) (room : ℕ) where
     pub receiving-keeps-settings : received d bs room .device .settings ≡ d .settings
     receiving-keeps-settings =
-        received-by d bs room (λ r. r .device .settings ≡ d .settings) (λ h. refl) (λ h s. refl) (λ h s c. refl)
+        received-by d bs room (λ r. r .device .settings ≡ d .settings) (λ n z. refl)
         (λ h s c. refl)
 
     pub receiving-keeps : Keeps (d .own) (received d bs room .device .own)
     receiving-keeps =
-        received-by d bs room (λ r. Keeps (d .own) (r .device .own)) (λ h. itself-kept (d .own))
-        (λ h s. itself-kept (d .own)) (λ h s c. itself-kept (d .own))
+        received-by d bs room (λ r. Keeps (d .own) (r .device .own)) (λ n z. itself-kept (d .own))
         (λ h s c. taken-keeps (d .settings) (d .own) (d .connection) bs)
 
   module _ (r room : ℕ) where
     pub opening-keeps-settings : openedBy d r room .device .settings ≡ d .settings
     opening-keeps-settings =
-        opened-by d r room (λ q. q .device .settings ≡ d .settings) (λ h. refl) (λ h s. refl) (λ h s c. refl)
+        opened-by d r room (λ q. q .device .settings ≡ d .settings) (λ n z. refl)
         (λ h s c. refl)
 
     pub opening-keeps-own : openedBy d r room .device .own ≡ d .own
     opening-keeps-own =
-        opened-by d r room (λ q. q .device .own ≡ d .own) (λ h. refl) (λ h s. refl) (λ h s c. refl) (λ h s c. refl)
+        opened-by d r room (λ q. q .device .own ≡ d .own) (λ n z. refl) (λ h s c. refl)
 
   pub closing-keeps-settings : closedBy d .device .settings ≡ d .settings
   closing-keeps-settings =
-      closed-by d (λ q. q .device .settings ≡ d .settings) (λ h. refl) (λ h c. refl) (λ h c. refl)
+      closed-by d (λ q. q .device .settings ≡ d .settings) (λ n z. refl) (λ h c. refl)
 
   pub closing-keeps-own : closedBy d .device .own ≡ d .own
-  closing-keeps-own = closed-by d (λ q. q .device .own ≡ d .own) (λ h. refl) (λ h c. refl) (λ h c. refl)
+  closing-keeps-own = closed-by d (λ q. q .device .own ≡ d .own) (λ n z. refl) (λ h c. refl)

@@ -1,7 +1,9 @@
--- A line that is handed on whole, with its CR, on a connection between lines: it is taken with its CR and answered, on an open connection as it is, on an awaiting one behind the
--- matching digest; and a command's line is answered what the command means.
+-- A line that is handed on whole, with its CR, on a connection between lines: it is taken with its CR and answered, on
+-- an open connection as it is, on an awaiting one behind the matching digest; and a command's line is answered what the
+-- command means.
 -- Assumes nothing.
 use Prim.Native.Nat.{ℕ, _+_, _≤_}
+use Prim.Native.Char.{code}
 use mathlib.Core.Path.{_≡_, refl, ap, _∙_}
 use mathlib.Core.Bool.{true}
 use mathlib.Core.List.{List, [], _∷_, _++_, map}
@@ -38,8 +40,9 @@ use Rattle.record.proofs.ConnectionTold.{held-most-opened, held-most-awaiting}
 use Rattle.stream.specs.Collecting.{lineText, lineOf, emptyLine, gathered}
 use Rattle.stream.proofs.LinesCollected.{empty-is-none, line-gathered}
 use Rattle.meaning.specs.Meaning.{meant, done}
-use Rattle.device.specs.Answering.{asked, replied, swallowed, answered}
-use Rattle.device.specs.Receiving.{Ended, Taken, spoken, isMatch, digestLong, passwordOf, lineEnded, finished, takenIn}
+use Rattle.device.specs.Answering.{lineAsks, replied, swallowed, lineAnswer}
+use Rattle.device.specs.Receiving.{Ended, Taken, spoken, isMatch, digestLong, passwordOf}
+use Rattle.device.specs.Receiving.{lineEnded, takenOf, takenIn}
 use Rattle.device.proofs.Cases.{ended-open, ended-match}
 
 map-itself : (xs : List ℕ) → map itself xs ≡ xs
@@ -53,20 +56,20 @@ text-of-line xs h = filled-take lineRoom noCr xs h
 module _ (s : Settings) (o : Own) (c : Connection) (empty : c .line ≡ emptyLine) (rest : List ℕ) where
   whole-line : (xs : List ℕ) → length xs ≤ heldMost (c .phase) → heldMost (c .phase) ≤ lineRoom
       → every notCr xs ≡ true
-      → takenIn s o c (xs ++ (13 ∷ rest)) ≡ record { ended = lineEnded s o c (lineOf xs); taken = length xs + 1 }
+      → takenIn s o c (xs ++ (code "\r" ∷ rest)) ≡ record { ended = lineEnded s o c (lineOf xs); taken = length xs + 1 }
   unfolding takenIn
   whole-line xs h room plain =
       let most = heldMost (c .phase) in
-      ap (λ (l : Line). finished s o c (gathered most l (xs ++ (13 ∷ rest)))) (empty ∙ empty-is-none)
-      ∙ ap (finished s o c) (line-gathered most [] xs rest room (omega arith) plain)
+      ap (λ (l : Line). takenOf s o c (gathered most l (xs ++ (code "\r" ∷ rest)))) (empty ∙ empty-is-none)
+      ∙ ap (takenOf s o c) (line-gathered most [] xs rest room (omega arith) plain)
 
   pub open-line-taken : (xs : List ℕ) → c .phase ≡ opened → length xs ≤ commandMost → every notCr xs ≡ true
-      → takenIn s o c (xs ++ (13 ∷ rest)) ≡ record { ended = spoken c (answered s o xs); taken = length xs + 1 }
+      → takenIn s o c (xs ++ (code "\r" ∷ rest)) ≡ record { ended = spoken c (lineAnswer s o xs); taken = length xs + 1 }
   open-line-taken xs phase short plain =
       let most : heldMost (c .phase) ≡ commandMost = ap heldMost phase ∙ held-most-opened in
-      let ended : lineEnded s o c (lineOf xs) ≡ spoken c (answered s o xs)
+      let ended : lineEnded s o c (lineOf xs) ≡ spoken c (lineAnswer s o xs)
       = ended-open s o c (lineOf xs) phase refl
-      ∙ ap (λ (l : List ℕ). spoken c (answered s o l)) (text-of-line xs (omega arith)) in
+      ∙ ap (λ (l : List ℕ). spoken c (lineAnswer s o l)) (text-of-line xs (omega arith)) in
       whole-line xs (omega arith) (omega arith) plain
       ∙ ap {B = Taken} (λ (e : Ended). record { ended = e; taken = length xs + 1 }) ended
 
@@ -97,32 +100,32 @@ module _ (s : Settings) (o : Own) (c : Connection) (empty : c .line ≡ emptyLin
         ap (drop digestLong) (text-of-line led (omega (arith, led-long))) ∙ drop-at digest xs digestLong digest-long
 
     pub matching-line-taken : c .phase ≡ awaiting → length xs ≤ commandMost → every notCr xs ≡ true
-        → takenIn s o c (led ++ (13 ∷ rest))
-        ≡ record { ended = spoken c (answered s o xs); taken = digestLong + length xs + 1 }
+        → takenIn s o c (led ++ (code "\r" ∷ rest))
+        ≡ record { ended = spoken c (lineAnswer s o xs); taken = digestLong + length xs + 1 }
     matching-line-taken phase short plain =
         let most : heldMost (c .phase) ≡ lineRoom = ap heldMost phase ∙ held-most-awaiting in
         let long = led-long in
-        let ended : lineEnded s o c (lineOf led) ≡ spoken c (answered s o xs)
+        let ended : lineEnded s o c (lineOf led) ≡ spoken c (lineAnswer s o xs)
         = ended-match s o c (lineOf led) phase (led-matches short)
-        ∙ ap (λ (l : List ℕ). spoken c (answered s o l)) (led-rest short) in
+        ∙ ap (λ (l : List ℕ). spoken c (lineAnswer s o l)) (led-rest short) in
         whole-line led (omega arith) (omega arith)
         (every-append notCr digest xs (digits-have-no-cr digest (hex-are-digits _)) plain)
         ∙ (λ i. record { ended = ended i; taken = long i + 1 })
 
 -- a command's line
 module _ (s : Settings) (o : Own) (k : Command) (writable : isCommand k ≡ true) where
-  command-asked : asked (commandText k) ≡ Asks k
+  command-asked : lineAsks (commandText k) ≡ Asks k
   command-asked =
       ap (requestOf (headBody (commandText k))) (command-parameter k)
       ∙ command-asked-back k (headBody (commandText k)) writable
       (ap (λ (h : List ℕ). isBody h (bodyOf k)) (command-body k) ∙ body-spelt (bodyOf k) .own)
 
   -- the body as sent, what the command means, and what it does
-  pub command-answered : answered s o (commandText k) ≡ record {
+  pub command-answered : lineAnswer s o (commandText k) ≡ record {
     own = done s o (Asks k);
     reply = ascii "%1" ++ bodyText (bodyOf k) ++ ascii "=" ++ saidBytes (meant s o (Asks k)) ++ ascii "\r";
   }
-  unfolding answered
+  unfolding lineAnswer
   command-answered =
       if-yes (replied s o (commandText k)) (swallowed o) (command-form k)
       ∙ (λ i. record {

@@ -1,7 +1,7 @@
 -- A line that is received on an open connection, without its CR (01, "Connection" and "Commands").
 --   Answered            what a line leaves: the projector's own part, and the reply's bytes (none, or a whole reply)
---   asked l             what the line asks for
---   answered s o l      a line of the form is answered: `%1`, the four body bytes as received, `=`, the parameter, CR;
+--   lineAsks l          what the line asks for
+--   lineAnswer s o l    a line of the form is answered: `%1`, the four body bytes as received, `=`, the parameter, CR;
 --                       any other is swallowed, with no reply
 -- Assumes nothing.
 use Prim.Native.Nat.{ℕ}
@@ -20,17 +20,17 @@ pub record Answered : Type 0 where
   pub own : Own
   pub reply : List ℕ
 
-abbrev pub asked : List ℕ → Request
-asked l = requestOf (headBody l) (commandParameter l)
+abbrev pub lineAsks : List ℕ → Request
+lineAsks l = requestOf (headBody l) (commandParameter l)
 
 abbrev pub swallowed : Own → Answered
 swallowed o = record { own = o; reply = [] }
 
 abbrev pub replied : Settings → Own → List ℕ → Answered
 replied s o l = record {
-  own = done s o (asked l);
-  reply = replyLine (l at 2) (l at 3) (l at 4) (l at 5) (saidBytes (meant s o (asked l)));
+  own = done s o (lineAsks l);
+  reply = replyLine (l at 2) (l at 3) (l at 4) (l at 5) (saidBytes (meant s o (lineAsks l)));
 }
 
-unfoldable pub answered : Settings → Own → List ℕ → Answered
-answered s o l = if isCommandForm l then replied s o l else swallowed o
+unfoldable pub lineAnswer : Settings → Own → List ℕ → Answered
+lineAnswer s o l = if isCommandForm l then replied s o l else swallowed o

@@ -5,14 +5,14 @@ use lines::request;
 use record::types::Own;
 use record::types::Settings;
 ghost use mathlib.Core.Path.{_≡_};
-ghost use Prim.Native.Nat.{ℕ, _≤_};
+ghost use Prim.Native.Nat.{_≤_};
 ghost use lib.ListN.{length};
 ghost use Rattle.text.specs.Words.{over};
 ghost use Rattle.lines.specs.Forms.{replyLine};
 ghost use Rattle.answers.specs.Said.{saidBytes};
 ghost use Rattle.answers.specs.Carried.{saidBy};
 ghost use Rattle.device.specs.Ready.{Ready};
-ghost use Rattle.device.specs.Answering.{answered};
+ghost use Rattle.device.specs.Answering.{lineAnswer};
 ghost use Rattle.device.specs.Told.{spokenOf};
 
 // What a line leaves: the projector's own part, and the length of the reply that now stands in the lent memory.
@@ -37,8 +37,8 @@ fn put_reply(out: &mut [u8], a: u8, b: u8, c: u8, d: u8, answer: Answer) -> usiz
 // What the line asks is decided and answered; a line not of the form is swallowed.
 pub fn answer_line(s: Settings, o: Own, l: &[u8], out: &mut [u8]) -> Spoken
     requires { ⌜ Ready s o (length (now out)) ⌝ }
-    ensures { λ r. ⌜ r ≡ spokenOf (answered s o (now (l .entry))) ⌝ }
-    ensures { λ _. ⌜ now (out .exit) ≡ over (answered s o (now (l .entry)) .reply) (now (out .entry)) ⌝ }
+    ensures { λ r. ⌜ r ≡ spokenOf (lineAnswer s o (now (l .entry))) ⌝ }
+    ensures { λ _. ⌜ now (out .exit) ≡ over (lineAnswer s o (now (l .entry)) .reply) (now (out .entry)) ⌝ }
 {
     if !form::is_command_form(l) {
         return Spoken { own: o, length: 0 };
@@ -49,8 +49,7 @@ pub fn answer_line(s: Settings, o: Own, l: &[u8], out: &mut [u8]) -> Spoken
     let d = l[5];
     let r = request::request_of(a, b, c, d, &l[7..]);
     let decided = meaning::decide(s, o, r);
-    let answer = decided.answer;
     let own = decided.own;
-    let length = put_reply(out, a, b, c, d, answer);
+    let length = put_reply(out, a, b, c, d, decided.answer);
     Spoken { own, length }
 }

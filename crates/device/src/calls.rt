@@ -1,19 +1,12 @@
-// The calls on the whole record: thin, over the parts.
-use crate::receiving;
-use record::connection::AWAITING;
-use record::connection::OPENED;
-use record::connection::SHUT;
+// The calls on the whole record: 1 for one that is not legal, else what `on_legal` does with it.
+use crate::on_legal;
 use record::legality;
 use record::types::Changed;
-use record::types::Connection;
 use record::types::Device;
-use record::types::Own;
-use record::types::Settings;
 ghost use mathlib.Core.Path.{_≡_};
-ghost use Prim.Native.Nat.{ℕ, _≤_};
 ghost use lib.ListN.{length};
 ghost use Rattle.text.specs.Words.{over};
-ghost use Rattle.device.specs.Calls.{received, openedBy, closedBy, greeting, greeted, withParts, told, toldOpened, toldChanged};
+ghost use Rattle.device.specs.Calls.{received, openedBy, closedBy, toldReceived, toldOpened, toldChanged};
 
 #[repr(C)]
 pub struct Opened {
@@ -30,18 +23,9 @@ pub struct Received {
     pub device: Device,
 }
 
-fn with_parts(d: Device, own: Own, connection: Connection) -> Device
-    ensures { λ r. ⌜ r ≡ withParts d own connection ⌝ }
-{
-    let mut next = d;
-    next.own = own;
-    next.connection = connection;
-    next
-}
-
 // Bytes from the network: 1, 2 and 4 in that order, even for no bytes.
 pub fn receive(d: Device, bytes: &[u8], out: &mut [u8]) -> Received
-    ensures { λ r. ⌜ r ≡ told (received d (now (bytes .entry)) (length (now (out .entry)))) ⌝ }
+    ensures { λ r. ⌜ r ≡ toldReceived (received d (now (bytes .entry)) (length (now (out .entry)))) ⌝ }
     ensures { λ _. ⌜ now (out .exit) ≡ over (received d (now (bytes .entry)) (length (now (out .entry))) .reply)
         (now (out .entry)) ⌝ }
 {
@@ -53,64 +37,7 @@ pub fn receive(d: Device, bytes: &[u8], out: &mut [u8]) -> Received
             device: d,
         };
     }
-    if out.len() < 136 {
-        return Received {
-            number: 2,
-            taken: 0,
-            length: 0,
-            device: d,
-        };
-    }
-    let c = d.connection;
-    if c.phase == SHUT {
-        return Received {
-            number: 4,
-            taken: 0,
-            length: 0,
-            device: d,
-        };
-    }
-    let took = receiving::take_in(d.settings, d.own, c, bytes, out);
-    let device = with_parts(d, took.own, took.connection);
-    Received {
-        number: 0,
-        taken: took.taken,
-        length: took.length,
-        device,
-    }
-}
-
-// The greeting, from the start of the lent memory; its length.
-fn put_greeting(s: Settings, random: u32, out: &mut [u8]) -> usize
-    requires { ⌜ 136 ≤ length (now out) ⌝ }
-    ensures { λ r. ⌜ r ≡ length (greeting s random) ⌝ }
-    ensures { λ _. ⌜ now (out .exit) ≡ over (greeting s random) (now (out .entry)) ⌝ }
-{
-    let password = s.password;
-    if password.len == 0 {
-        text::put(out, 0, b"PJLINK 0\r");
-        return 9;
-    }
-    let digits = digest::hex8(random);
-    text::put(out, 0, b"PJLINK 1 ");
-    text::put(out, 9, &digits);
-    text::put(out, 17, b"\r");
-    18
-}
-
-fn greeted_connection(s: Settings, random: u32) -> Connection
-    ensures { λ r. ⌜ r ≡ greeted s random ⌝ }
-{
-    let password = s.password;
-    let closed = Connection::CLOSED;
-    let mut next = closed;
-    next.random = random;
-    if password.len == 0 {
-        next.phase = OPENED;
-        return next;
-    }
-    next.phase = AWAITING;
-    next
+    on_legal::receive(d, bytes, out)
 }
 
 // A new connection, with the random number that the host lends: 1, 2 and 5 in that order.
@@ -126,31 +53,7 @@ pub fn open(d: Device, random: u32, out: &mut [u8]) -> Opened
             device: d,
         };
     }
-    if out.len() < 136 {
-        return Opened {
-            number: 2,
-            length: 0,
-            device: d,
-        };
-    }
-    let c = d.connection;
-    if c.phase != SHUT {
-        return Opened {
-            number: 5,
-            length: 0,
-            device: d,
-        };
-    }
-    let s = d.settings;
-    let length = put_greeting(s, random, out);
-    let connection = greeted_connection(s, random);
-    let own = d.own;
-    let device = with_parts(d, own, connection);
-    Opened {
-        number: 0,
-        length,
-        device,
-    }
+    on_legal::open(d, random, out)
 }
 
 // The connection closed: 1 and 4 in that order.
@@ -163,15 +66,5 @@ pub fn close(d: Device) -> Changed
             device: d,
         };
     }
-    let c = d.connection;
-    if c.phase == SHUT {
-        return Changed {
-            number: 4,
-            device: d,
-        };
-    }
-    let own = d.own;
-    let closed = Connection::CLOSED;
-    let device = with_parts(d, own, closed);
-    Changed { number: 0, device }
+    on_legal::close(d)
 }

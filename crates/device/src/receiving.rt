@@ -11,16 +11,15 @@ use record::types::Own;
 use record::types::Settings;
 use record::types::TEXT_ROOM;
 ghost use mathlib.Core.Path.{_≡_};
-ghost use Prim.Native.Nat.{ℕ, _≤_};
+ghost use Prim.Native.Nat.{min};
 ghost use lib.ListN.{length, take, drop};
 ghost use Rattle.text.specs.Words.{over};
 ghost use Rattle.text.specs.Scans.{sameBy, itself};
 ghost use Rattle.digest.specs.Hex.{leadingDigest};
-ghost use Rattle.answers.specs.Carried.{least};
 ghost use Rattle.device.specs.Ready.{Ready};
-ghost use Rattle.device.specs.Answering.{answered};
+ghost use Rattle.device.specs.Answering.{lineAnswer};
 ghost use Rattle.stream.specs.Collecting.{lineText};
-ghost use Rattle.device.specs.Receiving.{turned, isMatch, spoken, lineEnded, keeping, takenIn};
+ghost use Rattle.device.specs.Receiving.{turned, isMatch, spoken, lineEnded, keepingLine, takenIn};
 ghost use Rattle.device.specs.Told.{spokenOf, doneOf, tookOf};
 
 // What a line's end leaves; the reply stands in the lent memory.
@@ -40,7 +39,7 @@ pub struct Took {
 
 // A count that may lie past an array's end, cut there.
 fn within(n: usize, room: usize) -> usize
-    ensures { λ r. ⌜ r ≡ least n room ⌝ }
+    ensures { λ r. ⌜ r ≡ min n room ⌝ }
 {
     if n <= room {
         return n;
@@ -94,8 +93,8 @@ fn answer_held(
     out: &mut [u8],
 ) -> Spoken
     requires { ⌜ Ready s o (length (now out)) ⌝ }
-    ensures { λ r. ⌜ r ≡ spokenOf (answered s o (drop from (take held bytes))) ⌝ }
-    ensures { λ _. ⌜ now (out .exit) ≡ over (answered s o (drop from (take held bytes)) .reply) (now (out .entry)) ⌝ }
+    ensures { λ r. ⌜ r ≡ spokenOf (lineAnswer s o (drop from (take held bytes))) ⌝ }
+    ensures { λ _. ⌜ now (out .exit) ≡ over (lineAnswer s o (drop from (take held bytes)) .reply) (now (out .entry)) ⌝ }
 {
     let end = within(held, LINE_ROOM);
     let start = within(from, end);
@@ -104,8 +103,8 @@ fn answer_held(
 
 fn speak(s: Settings, o: Own, c: Connection, l: Line, from: usize, out: &mut [u8]) -> Done
     requires { ⌜ Ready s o (length (now out)) ⌝ }
-    ensures { λ r. ⌜ r ≡ doneOf (spoken c (answered s o (drop from (lineText l)))) ⌝ }
-    ensures { λ _. ⌜ now (out .exit) ≡ over (answered s o (drop from (lineText l)) .reply) (now (out .entry)) ⌝ }
+    ensures { λ r. ⌜ r ≡ doneOf (spoken c (lineAnswer s o (drop from (lineText l)))) ⌝ }
+    ensures { λ _. ⌜ now (out .exit) ≡ over (lineAnswer s o (drop from (lineText l)) .reply) (now (out .entry)) ⌝ }
 {
     let bytes = l.bytes;
     let said = answer_held(bytes, l.held, from, s, o, out);
@@ -157,7 +156,7 @@ fn end_line(s: Settings, o: Own, c: Connection, l: Line, out: &mut [u8]) -> Done
 
 // A failed connection keeps no byte.
 fn keep(c: Connection, l: Line) -> Connection
-    ensures { λ r. ⌜ r ≡ keeping c l ⌝ }
+    ensures { λ r. ⌜ r ≡ keepingLine c l ⌝ }
 {
     if c.phase == FAILED {
         return c;
@@ -173,12 +172,10 @@ pub fn take_in(s: Settings, o: Own, c: Connection, bytes: &[u8], out: &mut [u8])
     ensures { λ r. ⌜ r ≡ tookOf (takenIn s o c (now (bytes .entry))) ⌝ }
     ensures { λ _. ⌜ now (out .exit) ≡ over (takenIn s o c (now (bytes .entry)) .ended .reply) (now (out .entry)) ⌝ }
 {
-    let line = c.line;
-    let gathered = stream::gather(c.phase, line, bytes);
-    let got = gathered.line;
+    let gathered = stream::gather(c.phase, c.line, bytes);
     let before = gathered.before;
     if !gathered.ended {
-        let connection = keep(c, got);
+        let connection = keep(c, gathered.line);
         return Took {
             own: o,
             connection,
@@ -186,7 +183,7 @@ pub fn take_in(s: Settings, o: Own, c: Connection, bytes: &[u8], out: &mut [u8])
             length: 0,
         };
     }
-    let done = end_line(s, o, c, got, out);
+    let done = end_line(s, o, c, gathered.line, out);
     let own = done.own;
     let connection = done.connection;
     Took {

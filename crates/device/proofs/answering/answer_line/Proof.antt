@@ -6,8 +6,7 @@ use mathlib.Core.Path.{_≡_, refl, sym, ap, _∙_}
 use mathlib.Core.Bool.{true}
 use mathlib.Core.List.{List}
 use native.Mathlib.Omega.{arith}
-use lib.ListN.{length, take, drop, length-drop}
-use lib.Seq.{take-all}
+use lib.ListN.{length, take, drop}
 use borrow.Author.Tests.{not-true, not-false}
 use borrow.Author.Needs.{needs}
 use Rattle.text.specs.Words.{over}
@@ -21,11 +20,12 @@ use Rattle.answers.specs.Carried.{saidBy}
 use Rattle.meaning.specs.Meaning.{meant, decided}
 use Rattle.meaning.specs.declared.Decided.{Decided}
 use Rattle.meaning.proofs.CanBeSaid.{meant-fits}
-use Rattle.device.specs.Answering.{Answered, asked, swallowed, replied, answered}
+use Rattle.device.specs.Answering.{Answered, lineAsks, swallowed, replied, lineAnswer}
 use Rattle.device.specs.Told.{spokenOf}
 use Rattle.device.specs.declared.answering.Spoken.{Spoken}
 use Rattle.lines.proofs.CommandLines.{form-long}
 use Rattle.text.proofs.Carried.{carried}
+use Rattle.text.proofs.Parts.{rest-whole}
 use Rattle.device.proofs.answering.answer_line.Statement.{statement}
 use Rattle.device.proofs.answering.answer_line.Tie as tie
 
@@ -33,7 +33,7 @@ abbrev replyOf : Answered → List ℕ
 replyOf a = a .reply
 
 swallows : tie.Need-returns
-unfolding answered
+unfolding lineAnswer
 swallows c =
     let tested = c .before in
     let args = tested .before .before .before .args in
@@ -45,7 +45,7 @@ swallows c =
 -- past the test the line has the form
 module _ (c : tie.Else1) where
   abbrev start : tie.Start
-  start = c .before .before .before .before
+  start = let asked = c .before in asked .before .before .before
 
   abbrev line : List ℕ
   line = start .args .l .now
@@ -57,31 +57,31 @@ module _ (c : tie.Else1) where
   long = form-long line formed
 
   whole : take (length line - 7) (drop 7 line) ≡ drop 7 line
-  whole = take-all (length line - 7) (drop 7 line) (omega (arith, length-drop 7 line))
+  whole = rest-whole line 7
 
 -- what is decided
 module _ (c : tie.After-decide) where
   abbrev tested : tie.Else1
-  tested = c .before .before .before .before .before .before .before
+  tested = let parts = c .before .before .before in let first = parts .before .before .before in first .before
 
-  decision : c .decide .result ≡ decided (start tested .args .s) (start tested .args .o) (asked (line tested))
+  decision : c .decide .result ≡ decided (start tested .args .s) (start tested .args .o) (lineAsks (line tested))
   decision =
       c .decide .ensures
       ∙ ap (λ (r : Request). decided (start tested .args .s) (start tested .args .o) r)
       (c .before .request-of .ensures ∙ ap (requestOf (headBody (line tested))) (whole tested))
 
   said : saidBy (c .decide .result .answer)
-      ≡ meant (start tested .args .s) (start tested .args .o) (asked (line tested))
+      ≡ meant (start tested .args .s) (start tested .args .o) (lineAsks (line tested))
   said =
       ap (λ (d : Decided). saidBy (d .answer)) decision
       ∙ meant-fits (start tested .args .s) (start tested .args .o) (start tested .pre .settings)
-      (start tested .pre .own) (asked (line tested)) .back
+      (start tested .pre .own) (lineAsks (line tested)) .back
 
 replies : tie.Need-returns-2
-unfolding answered
+unfolding lineAnswer
 replies c =
     let put = c .before .before in
-    let made = put .before .before .before .before in
+    let made = put .before .before .before in
     let args = start (tested made) .args in
     let l = line (tested made) in
     let bytes : Said → List ℕ = λ m. replyLine (l at 2) (l at 3) (l at 4) (l at 5) (saidBytes m) in
@@ -102,12 +102,12 @@ answer-line-spec =
     (λ c. omega (arith, long (c .before)))
     (λ c. omega (arith, long (c .before .before)))
     (λ c. omega (arith, long (c .before .before .before)))
-    (λ c. let read = c .before .before .before .before in omega (arith, long read))
-    (λ c. let read = c .before .before .before .before in omega (arith, long read))
-    (λ c. let read = c .before .before .before .before in omega (arith, long read))
+    (λ c. let third = c .before in omega (arith, long (third .before .before .before)))
+    (λ c. let third = c .before in omega (arith, long (third .before .before .before)))
+    (λ c. let third = c .before in omega (arith, long (third .before .before .before)))
     (λ c. search needs)
     (λ c κs. search needs)
     (λ c κs. search needs)
-    (λ c κs. start (tested (c .before .before .before)) .pre .room)
+    (λ c κs. start (tested (c .before .before)) .pre .room)
     (λ c. search needs)
     replies)

@@ -15,10 +15,10 @@ use Rattle.device.proofs.answering.put_reply.Tie as tie
 -- where the parameter is written
 module _ (c : tie.After-put-answer) where
   abbrev begun : tie.After-put
-  begun = c .before .before .before .before
+  begun = let lent = c .before .before in lent .before .before
 
   abbrev start : tie.Start
-  start = begun .before .before .before .before
+  start = let lent = begun .before .before in lent .before .before
 
   -- no store changes the memory's length
   room : length (c .put-answer .last .0) ≡ length (start .args .out .now)

@@ -7,9 +7,8 @@ use native.Mathlib.Omega.{arith}
 use lib.ListN.{length}
 use borrow.Author.Needs.{needs}
 use Rattle.text.specs.Words.{over}
-use Rattle.device.specs.Answering.{answered}
+use Rattle.device.specs.Answering.{lineAnswer}
 use Rattle.device.specs.Told.{spokenOf}
-use Rattle.answers.proofs.Counts.{least-within}
 use Rattle.device.proofs.Used.{used-from}
 use Rattle.device.proofs.receiving.answer_held.Statement.{statement}
 use Rattle.device.proofs.receiving.answer_held.Tie as tie
@@ -23,21 +22,22 @@ module _ (c : tie.After-within2) where
   long = search needs
 
   end-inside : c .before .within .result ≤ 167
-  end-inside = omega (arith, c .before .within .ensures, least-within (start .args .held) 167)
+  end-inside = omega (arith, c .before .within .ensures)
 
   start-inside : c .within2 .result ≤ c .before .within .result
-  start-inside = omega (arith, c .within2 .ensures, least-within (start .args .from) (c .before .within .result))
+  start-inside = omega (arith, c .within2 .ensures)
 
 answers : tie.Need-returns
 answers c =
     let called = c .before .before in
-    let cut = called .before .before .before .before in
+    let lent = called .before .before in
+    let cut = lent .before .before in
     let args = start cut .args in
     let part = used-from (args .held) 167 (args .t1) (long cut) (args .from) (cut .before .within .ensures)
     (cut .within2 .ensures) in (
-      called .answer-line .ensures .0 ∙ ap (λ (t : List ℕ). spokenOf (answered (args .s) (args .o) t)) part,
+      called .answer-line .ensures .0 ∙ ap (λ (t : List ℕ). spokenOf (lineAnswer (args .s) (args .o) t)) part,
       called .answer-line .ensures .1
-          ∙ ap (λ (t : List ℕ). over (answered (args .s) (args .o) t .reply) (args .out .now)) part,
+          ∙ ap (λ (t : List ℕ). over (lineAnswer (args .s) (args .o) t .reply) (args .out .now)) part,
     )
 
 pub answer-held-spec : {M : Type 1} → statement M

@@ -2,11 +2,9 @@
 -- Assumes nothing.
 use Prim.Native.Nat.{ℕ, _-_}
 use mathlib.Core.Path.{_≡_, ap, _∙_}
-use native.Mathlib.Omega.{arith}
 use lib.ListN.{length, take}
 use borrow.Author.Needs.{needs}
 use Rattle.digest.specs.Hex.{leadingDigest}
-use Rattle.answers.proofs.Counts.{least-within}
 use Rattle.device.proofs.Used.{used-part}
 use Rattle.device.proofs.receiving.digest_of.Statement.{statement}
 use Rattle.device.proofs.receiving.digest_of.Tie as tie
@@ -28,6 +26,6 @@ digest-of-spec =
     (λ c κs. search needs)
     (λ c. search needs)
     (λ c. search needs)
-    (λ c. let used = c .before in omega (arith, used .within .ensures, least-within (used .before .args .len) 64))
+    (λ c. search needs)
     (λ c κs. search needs)
     digested)

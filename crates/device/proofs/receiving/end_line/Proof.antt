@@ -81,11 +81,11 @@ end-line-spec =
     tie.close
     (tie.spec
     (λ c κs. search needs) overlong
-    (λ c κs. c .before .before .before .before .pre)
+    (λ c κs. let tested = c .before .before in tested .before .before .pre)
     (λ c. search needs) line
     other
     (λ c κs. search needs)
-    (λ c κs. let compared = c .before .before in compared .before .before .before .before .pre)
+    (λ c κs. let compared = c .before .before in let tested = compared .before .before in tested .before .before .pre)
     (λ c. search needs) matched
     (λ c. search needs) (λ c κs. search needs) (λ c κs. search needs) (λ c. search needs)
     refused)

@@ -3,12 +3,12 @@
 use mathlib.Core.Path.{sym}
 use borrow.Author.Tests.{eq-eqb, ne-eqb}
 use Rattle.text.proofs.Choices.{if-yes, if-no}
-use Rattle.device.specs.Receiving.{keeping}
+use Rattle.device.specs.Receiving.{keepingLine}
 use Rattle.device.proofs.receiving.keep.Statement.{statement}
 use Rattle.device.proofs.receiving.keep.Tie as tie
 
 pub keep-spec : {M : Type 1} → statement M
-unfolding keeping
+unfolding keepingLine
 keep-spec =
     tie.close
     (tie.spec

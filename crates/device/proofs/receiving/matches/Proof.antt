@@ -13,7 +13,8 @@ use Rattle.device.proofs.receiving.matches.Tie as tie
 matched : tie.Need-returns
 unfolding isMatch
 matched c =
-    let digest = c .before .before .before .before in
+    let held = c .before .before in
+    let digest = held .before .before in
     let start = digest .before .before .before in
     let l = start .args .l in
     ap (λ (b : Bool). not (l .overlong) && leb 32 (l .held) && b)

@@ -3,7 +3,7 @@
 use mathlib.Core.Path.{_≡_}
 use lib.ListN.{drop}
 use borrow.Author.Needs.{needs}
-use Rattle.device.specs.Answering.{answered}
+use Rattle.device.specs.Answering.{lineAnswer}
 use Rattle.stream.specs.Collecting.{lineText}
 use Rattle.device.specs.Receiving.{spoken}
 use Rattle.device.specs.Told.{doneOf}
@@ -13,10 +13,12 @@ use Rattle.device.proofs.receiving.speak.Tie as tie
 
 speaks : tie.Need-returns
 speaks c =
-    let said = c .before .before .before .before in
-    let args = said .before .before .before .before .args in
+    let left = c .before .before in
+    let said = left .before .before in
+    let lent = said .before .before in
+    let args = lent .before .before .args in
     let done : _≡_ {A = Done} _
-    (doneOf (spoken (args .c) (answered (args .s) (args .o) (drop (args .from) (lineText (args .l)))))) =
+    (doneOf (spoken (args .c) (lineAnswer (args .s) (args .o) (drop (args .from) (lineText (args .l)))))) =
     λ i. record {
       own = said .answer-held .ensures .0 i .own;
       connection = c .turn .ensures i;

@@ -13,7 +13,7 @@ use Rattle.record.specs.Legal.{heldMost}
 use Rattle.stream.specs.declared.Gathered.{Gathered}
 use Rattle.stream.specs.Collecting.{gathered}
 use Rattle.stream.proofs.GatheredOn.{gathered-ended}
-use Rattle.device.specs.Receiving.{Taken, keeping, lineEnded}
+use Rattle.device.specs.Receiving.{Taken, keepingLine, lineEnded}
 use Rattle.device.specs.Told.{doneOf, tookOf}
 use Rattle.device.specs.declared.receiving.Took.{Took}
 use Rattle.device.proofs.Cases.{taken-part, taken-line}
@@ -26,7 +26,7 @@ replyOf t = t .ended .reply
 
 module _ (c : tie.After-gather) where
   abbrev start : tie.Start
-  start = c .before .before .before .before
+  start = c .before .before .before
 
   abbrev gathers : Gathered
   gathers = gathered (heldMost (start .args .c .phase)) (start .args .c .line) (start .args .bytes .now)
@@ -34,14 +34,14 @@ module _ (c : tie.After-gather) where
 part : tie.Need-returns
 part c =
     let tested = c .before in
-    let known = tested .before .before .before in
+    let known = tested .before .before in
     let args = start known .args in
     let e = known .gather .ensures in
     let open-ended = ap (λ (g : Gathered). g .ended) (sym e)
     ∙ not-true (known .gather .result .ended) (tested .if1 .taken) in
     let took : _≡_ {A = Took} _ _ = λ i. record {
       own = args .o;
-      connection = (c .keep .ensures ∙ ap (λ (g : Gathered). keeping (args .c) (g .line)) e) i;
+      connection = (c .keep .ensures ∙ ap (λ (g : Gathered). keepingLine (args .c) (g .line)) e) i;
       taken = e i .before;
       length = 0;
     } in
@@ -51,7 +51,7 @@ part c =
 -- past the test CR came
 module _ (c : tie.Else1) where
   abbrev known : tie.After-gather
-  known = c .before .before .before
+  known = c .before .before
 
   ended : gathers known .ended ≡ true
   ended =
@@ -69,7 +69,8 @@ module _ (c : tie.Else1) where
 
 line : tie.Need-returns-2
 line c =
-    let done = c .before .before .before .before in
+    let wrote = c .before .before in
+    let done = wrote .before .before in
     let tested = done .before .before in
     let args = start (known tested) .args in
     let e = known tested .gather .ensures in
@@ -98,7 +99,7 @@ take-in-spec =
     (λ c κs. search needs)
     part
     (λ c κs. start (known (c .before)) .pre)
-    (λ c. let done = c .before .before .before .before in let tested = done .before .before in omega
-    (arith, counted tested, fits (known tested .before .before .before)))
+    (λ c. let wrote = c .before .before in let done = wrote .before .before in let tested = done .before .before in omega
+    (arith, counted tested, fits (known tested .before .before)))
     (λ c. search needs)
     line)

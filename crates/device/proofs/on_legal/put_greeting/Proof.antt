@@ -1,4 +1,4 @@
--- `device::calls::put_greeting` meets its contract: each greeting is put piece by piece.
+-- `device::on_legal::put_greeting` meets its contract: each greeting is put piece by piece.
 -- Assumes nothing.
 use Prim.Native.Nat.{ℕ}
 use mathlib.Core.Path.{_≡_, sym, ap, _∙_}
@@ -17,8 +17,8 @@ use Rattle.digest.proofs.Laws.{hex-digits-length}
 use Rattle.lines.specs.Forms.{greetingOpen, greetingSecured}
 use Rattle.device.specs.Calls.{greeting}
 use Rattle.device.proofs.Written.{greeting-written}
-use Rattle.device.proofs.calls.put_greeting.Statement.{statement}
-use Rattle.device.proofs.calls.put_greeting.Tie as tie
+use Rattle.device.proofs.on_legal.put_greeting.Statement.{statement}
+use Rattle.device.proofs.on_legal.put_greeting.Tie as tie
 
 -- the greeting is one of two, and what is put is it
 given : {g : List ℕ} (l out : List ℕ) {m : List ℕ} → l ≡ g → m ≡ over l out → (length l ≡ length g) × (m ≡ over g out)
@@ -29,7 +29,7 @@ unfolding greeting
 plain c =
     let put = c .before .before in
     let tested = put .before .before .before in
-    let start = tested .before .before .before .before in
+    let start = tested .before .before .before in
     let s = start .args .s in
     let is-open = sym
     (if-no (greetingSecured (hexDigits 8 (start .args .random))) greetingOpen
@@ -41,11 +41,13 @@ secured : tie.Need-returns-2
 unfolding greeting
 secured c =
     let ended = c .before .before in
-    let third = ended .before .before .before .before .before in
-    let second = third .before .before .before .before .before in
+    let third-put = ended .before .before .before in
+    let third = third-put .before .before in
+    let second-put = third .before .before .before in
+    let second = second-put .before .before in
     let digits = second .before .before .before in
     let tested = digits .before in
-    let start = tested .before .before .before .before in
+    let start = tested .before .before .before in
     let random = start .args .random in
     let out = start .args .out .now in
     let eight = hex-digits-length 8 random in

@@ -1,10 +1,10 @@
--- `device::calls::greeted_connection` meets its contract: a password of length 0 means no security.
+-- `device::on_legal::greeted_connection` meets its contract: a password of length 0 means no security.
 -- Assumes nothing.
 use borrow.Author.Tests.{eq-eqb, ne-eqb}
 use Rattle.stream.proofs.LinesSpelt.{empty-spelt}
 use Rattle.device.specs.Calls.{greeted}
-use Rattle.device.proofs.calls.greeted_connection.Statement.{statement}
-use Rattle.device.proofs.calls.greeted_connection.Tie as tie
+use Rattle.device.proofs.on_legal.greeted_connection.Statement.{statement}
+use Rattle.device.proofs.on_legal.greeted_connection.Tie as tie
 
 pub greeted-connection-spec : {M : Type 1} → statement M
 unfolding greeted
