@@ -1,26 +1,28 @@
 -- Every command that can be written has one code, and every code that stands for a command stands for one that can be
 -- written: `codeOf` and `commandOf` are inverse, but for what a code does not use.
 -- Assumes nothing.
-use Prim.Native.Nat.{ℕ, _≤_}
+use Prim.Native.Nat.{ℕ, zero, suc, _≤_}
 use mathlib.Core.Path.{_≡_, refl, sym, ap, subst, _∙_}
 use mathlib.Core.Bool.{Bool, true, false, _&&_}
+use mathlib.Core.List.{List, [], _∷_}
 use native.Mathlib.Omega.{arith}
-use lib.Dec.{leb, eqb}
-use borrow.Author.Tests.{leb-true, eqb-true, eqb-false}
-use Rattle.text.proofs.Choices.{if-yes, if-by, both, both-left, both-right}
+use lib.Dec.{leb, ltb, eqb}
+use borrow.Author.Tests.{leb-true, ltb-true, eqb-true, eqb-false, ne-eqb}
+use Rattle.text.specs.Scans.{every}
+use Rattle.text.proofs.Choices.{if-yes, if-no, if-by, both, both-left, both-right}
 use Rattle.lines.specs.Sources.{typeOf}
+use Rattle.lines.specs.Bodies.{bodies}
 use Rattle.lines.specs.Commands.{isCommand}
 use Rattle.lines.specs.declared.input.Source.{Source}
 use Rattle.lines.specs.declared.input.Source.the-variants.{Rgb, Video, Digital, Storage, Network}
 use Rattle.lines.specs.declared.command.Body.{Body}
-use Rattle.lines.specs.declared.command.Body.the-variants.{Powr, Inpt, Avmt, Erst, Lamp, Inst, Name, Inf1, Inf2, Info}
-use Rattle.lines.specs.declared.command.Body.the-variants.{Clss}
 use Rattle.lines.specs.declared.command.Half.{Half}
 use Rattle.lines.specs.declared.command.Half.the-variants.{VideoHalf, AudioHalf, BothHalves}
 use Rattle.lines.specs.declared.command.Command.{Command}
 use Rattle.lines.specs.declared.command.Command.the-variants.{PowerSet, InputSet, MuteSet, Query}
-use Rattle.board.specs.Commands.{powerSet, sourceAt, inputSet, halfAt, muteSet, commandOf}
-use Rattle.board.specs.Commands.{coded, bit, sourceNumber, halfNumber, codeOf, usedOf}
+use Rattle.lines.proofs.Bodies.{each-body}
+use Rattle.board.specs.Commands.{powerCoded, sourceAt, inputCoded, halfAt, muteCoded, queryCode, queryCoded}
+use Rattle.board.specs.Commands.{commandOf, coded, bit, sourceNumber, halfNumber, codeOf, usedOf}
 use Rattle.board.specs.declared.codes.Coded.{Coded}
 use Rattle.board.specs.declared.codes.MaybeCommand.{MaybeCommand}
 use Rattle.board.specs.declared.codes.MaybeCommand.the-variants.{CommandIs, NoCommand}
@@ -36,29 +38,19 @@ face-follows Network = refl
 -- from a command to its code and back
 asked-back : (b : Body) → commandOf (codeOf (Query b)) ≡ CommandIs (Query b)
 unfolding commandOf
-asked-back Powr = refl
-asked-back Inpt = refl
-asked-back Avmt = refl
-asked-back Erst = refl
-asked-back Lamp = refl
-asked-back Inst = refl
-asked-back Name = refl
-asked-back Inf1 = refl
-asked-back Inf2 = refl
-asked-back Info = refl
-asked-back Clss = refl
+asked-back = each-body (λ (b : Body). commandOf (codeOf (Query b))) (λ (b : Body). CommandIs (Query b)) refl
 
 input-back : (s : Source) (n : ℕ) → (leb 1 n && leb n 9) ≡ true
-    → inputSet (sourceNumber s) n ≡ CommandIs (InputSet (record { source = s; number = n }))
-unfolding inputSet sourceAt
+    → inputCoded (sourceNumber s) n ≡ CommandIs (InputSet (record { source = s; number = n }))
+unfolding inputCoded sourceAt
 input-back Rgb n e = if-yes _ _ e
 input-back Video n e = if-yes _ _ e
 input-back Digital n e = if-yes _ _ e
 input-back Storage n e = if-yes _ _ e
 input-back Network n e = if-yes _ _ e
 
-mute-back : (h : Half) (on : Bool) → muteSet (halfNumber h) (bit on) ≡ CommandIs (MuteSet h on)
-unfolding muteSet halfAt
+mute-back : (h : Half) (on : Bool) → muteCoded (halfNumber h) (bit on) ≡ CommandIs (MuteSet h on)
+unfolding muteCoded halfAt
 mute-back VideoHalf true = refl
 mute-back VideoHalf false = refl
 mute-back AudioHalf true = refl
@@ -67,7 +59,7 @@ mute-back BothHalves true = refl
 mute-back BothHalves false = refl
 
 pub code-back : (c : Command) → isCommand c ≡ true → commandOf (codeOf c) ≡ CommandIs c
-unfolding commandOf powerSet
+unfolding commandOf powerCoded
 code-back (Query b) e = asked-back b
 code-back (PowerSet true) e = refl
 code-back (PowerSet false) e = refl
@@ -108,16 +100,16 @@ pub data Stands (k : Coded) : MaybeCommand → Type 0 where
   stands : {c : Command} → isCommand c ≡ true → codeOf c ≡ usedOf k → Stands k (CommandIs c)
 
 module _ (first second : ℕ) where
-  power-stands : Stands (coded 1 first second) (powerSet first)
-  unfolding powerSet usedOf
+  power-stands : Stands (coded 1 first second) (powerCoded first)
+  unfolding powerCoded usedOf
   power-stands =
       let k = coded 1 first second in
       if-by (Stands k) (eqb first 0) (λ e. stands refl (ap (λ (n : ℕ). coded 1 n 0) (sym (eqb-true first 0 e)))) (λ a.
       if-by (Stands k) (eqb first 1) (λ e. stands refl (ap (λ (n : ℕ). coded 1 n 0) (sym (eqb-true first 1 e)))) (λ b.
       none))
 
-  input-stands : Stands (coded 3 first second) (inputSet first second)
-  unfolding inputSet usedOf
+  input-stands : Stands (coded 3 first second) (inputCoded first second)
+  unfolding inputCoded usedOf
   input-stands =
       let type-low = leb 1 first in
       let type-high = leb first 5 in
@@ -133,8 +125,8 @@ module _ (first second : ℕ) where
       stands number (ap (λ (n : ℕ). coded 3 n second) (source-there first at-least at-most)))
       (λ e. none)
 
-  mute-stands : Stands (coded 5 first second) (muteSet first second)
-  unfolding muteSet usedOf
+  mute-stands : Stands (coded 5 first second) (muteCoded first second)
+  unfolding muteCoded usedOf
   mute-stands =
       let low = leb 1 first in
       let high = leb first 3 in
@@ -154,25 +146,47 @@ at-code k n e none = none
 at-code k n e (stands c f) =
     stands c (f ∙ ap (λ (j : ℕ). usedOf (coded j (k .first) (k .second))) (sym (eqb-true (k .code) n e)))
 
+query-stands : (k : Coded) (bs : List Body) → coded (k .code) 0 0 ≡ usedOf k → Stands k (queryCoded bs (k .code))
+query-stands k [] used = none
+query-stands k (b ∷ bs) used =
+    if-by (Stands k) (eqb (k .code) (queryCode b))
+    (λ e. stands refl (ap (λ (n : ℕ). coded n 0 0) (sym (eqb-true (k .code) (queryCode b) e)) ∙ used))
+    (λ e. query-stands k bs used)
+
 pub command-stands : (k : Coded) → Stands k (commandOf k)
 unfolding commandOf usedOf
 command-stands k =
     let f = k .first in
     let s = k .second in
-    if-by (Stands k) (eqb (k .code) 0) (λ e. at-code k 0 e (stands refl refl)) (λ e0.
     if-by (Stands k) (eqb (k .code) 1) (λ e. at-code k 1 e (power-stands f s)) (λ e1.
-    if-by (Stands k) (eqb (k .code) 2) (λ e. at-code k 2 e (stands refl refl)) (λ e2.
     if-by (Stands k) (eqb (k .code) 3) (λ e. at-code k 3 e (input-stands f s)) (λ e3.
-    if-by (Stands k) (eqb (k .code) 4) (λ e. at-code k 4 e (stands refl refl)) (λ e4.
     if-by (Stands k) (eqb (k .code) 5) (λ e. at-code k 5 e (mute-stands f s)) (λ e5.
-    if-by (Stands k) (eqb (k .code) 6) (λ e. at-code k 6 e (stands refl refl)) (λ e6.
-    if-by (Stands k) (eqb (k .code) 7) (λ e. at-code k 7 e (stands refl refl)) (λ e7.
-    if-by (Stands k) (eqb (k .code) 8) (λ e. at-code k 8 e (stands refl refl)) (λ e8.
-    if-by (Stands k) (eqb (k .code) 9) (λ e. at-code k 9 e (stands refl refl)) (λ e9.
-    if-by (Stands k) (eqb (k .code) 10) (λ e. at-code k 10 e (stands refl refl)) (λ e10.
-    if-by (Stands k) (eqb (k .code) 11) (λ e. at-code k 11 e (stands refl refl)) (λ e11.
-    if-by (Stands k) (eqb (k .code) 12) (λ e. at-code k 12 e (stands refl refl)) (λ e12.
-    if-by (Stands k) (eqb (k .code) 13) (λ e. at-code k 13 e (stands refl refl)) (λ e13. none))))))))))))))
+    query-stands k bodies (sym (if-no _ _ e1 ∙ if-no _ _ e3 ∙ if-no _ _ e5)))))
+
+-- a number that is none of those below k, as the last arm of a `match` knows it, is at least k
+abbrev pub NoneBelow : ℕ → ℕ → Type 0
+NoneBelow n zero = Unit {0}
+NoneBelow n (suc k) = NoneBelow n k × (n ≡ k → ⊥)
+
+none-below : (n k : ℕ) → NoneBelow n k → k ≤ n
+none-below n zero h = omega arith
+none-below n (suc k) h = let below = none-below n k (h .0) in let other = h .1 in omega arith
+
+-- a code past those of the queries stands for none
+query-past : (bs : List Body) (n : ℕ) → every (λ (b : Body). ltb (queryCode b) 14) bs ≡ true → 14 ≤ n
+    → queryCoded bs n ≡ NoCommand
+query-past [] n e h = refl
+query-past (b ∷ bs) n e h =
+    let below = ltb-true (queryCode b) 14 (both-left (ltb (queryCode b) 14) _ e) in
+    if-no _ _ (ne-eqb n (queryCode b) (λ same. omega arith))
+    ∙ query-past bs n (both-right (ltb (queryCode b) 14) _ e) h
+
+pub no-code-left : (k : Coded) → NoneBelow (k .code) 14 → NoCommand ≡ commandOf k
+unfolding commandOf
+no-code-left k left =
+    let past = none-below (k .code) 14 left in
+    sym (if-no _ _ (ne-eqb (k .code) 1 (λ e. omega arith)) ∙ if-no _ _ (ne-eqb (k .code) 3 (λ e. omega arith))
+    ∙ if-no _ _ (ne-eqb (k .code) 5 (λ e. omega arith)) ∙ query-past bodies (k .code) refl past)
 
 told : {k : Coded} {c : Command} → Stands k (CommandIs c) → (isCommand c ≡ true) × (codeOf c ≡ usedOf k)
 told (stands e f) = (e, f)

@@ -17,10 +17,10 @@ use Rattle.meaning.specs.Meaning.{meant}
 use Rattle.device.specs.Receiving.{passwordOf}
 use Rattle.device.specs.Calls.{Result, replyRoom, received, openedBy}
 use Rattle.controller.specs.Writing.{WrittenAs, commandRoom}
-use Rattle.controller.specs.Greetings.{readGreeting}
-use Rattle.controller.proofs.ReadsBack.{ReadBack}
+use Rattle.controller.specs.Greetings.{readGreeting, greetedOn}
+use Rattle.controller.proofs.ReadsBack.{TakenAndRead}
 use Rattle.controller.proofs.WrittenReadBack.{written-reads-back, written-reads-back-secured}
-use Rattle.controller.proofs.GreetsBack.{heardOn, greets-back}
+use Rattle.controller.proofs.GreetsBack.{greets-back}
 use Rattle.board.specs.Commands.{commandOf}
 use Rattle.board.specs.Readings.{flatGreeting, saidFlat, flat}
 use Rattle.board.specs.Face.{writtenBy, readBy}
@@ -31,7 +31,7 @@ use Rattle.board.proofs.CodesBack.{command-writable}
 
 pub record Told (d : Device) (m : MaybeCommand) (c : Command) (w : WrittenAs) (r : Result Device) : Type 0 where
   pub written : w .number ≡ 0
-  pub taken : ReadBack d c (w .bytes) r
+  pub taken : TakenAndRead d c (w .bytes) r
   pub read : readBy m (r .reply) ≡ saidFlat (meant (d .settings) (d .own) (Asks c))
 
 module _ (d : Device) (legal : isLegal d ≡ true) (between : d .connection .line ≡ emptyLine)
@@ -42,7 +42,7 @@ module _ (d : Device) (legal : isLegal d ≡ true) (between : d .connection .lin
   ToldBy write m = Told d m c (write m) (received d (write m .bytes) room)
 
   told : (write : MaybeCommand → WrittenAs)
-      → (write (CommandIs c) .number ≡ 0) × ReadBack d c (write (CommandIs c) .bytes)
+      → (write (CommandIs c) .number ≡ 0) × TakenAndRead d c (write (CommandIs c) .bytes)
       (received d (write (CommandIs c) .bytes) room)
       → ToldBy write (commandOf k)
   told write through =
@@ -65,6 +65,6 @@ module _ (d : Device) (legal : isLegal d ≡ true) (between : d .connection .lin
 pub face-greets-back : (d : Device) (r room : ℕ) → isLegal d ≡ true → d .connection .phase ≡ shut → replyRoom ≤ room
     → r < 2 ^ 32
     → let o = openedBy d r room in
-    flatGreeting (readGreeting (o .reply)) ≡ flatGreeting (heardOn (o .device .connection))
+    flatGreeting (readGreeting (o .reply)) ≡ flatGreeting (greetedOn (o .device .connection))
 face-greets-back d r room legal closed enough word =
     ap flatGreeting (greets-back d r room legal closed enough word .heard)

@@ -14,7 +14,7 @@ use Rattle.text.proofs.Choices.{both-left, both-right}
 use Rattle.text.proofs.Stores.{sets-snoc}
 use Rattle.lines.specs.Inputs.{inputText, sourceDigit, numberDigit}
 use Rattle.lines.specs.declared.input.Input.{Input}
-use Rattle.board.specs.Readings.{inRoom, noBytes, characters}
+use Rattle.board.specs.Readings.{filledTo, noBytes, characters}
 
 -- the test of a turn: below the array's room, and below the count
 abbrev pub goesOn : ℕ → ℕ → ℕ → Bool
@@ -51,18 +51,18 @@ characters-long (x ∷ xs) = omega (arith, characters-long xs)
 
 -- one turn: two stores for one input more
 pub one-more-input : (l : List Input) (k : ℕ) (d : Input) {pairs : List ℕ} → k < length l
-    → pairs ≡ inRoom 64 0 (characters (take k l))
+    → pairs ≡ filledTo 64 0 (characters (take k l))
     → set (set pairs (2 * k) (sourceDigit (getD l k d .source))) (2 * k + 1) (numberDigit (getD l k d .number))
-    ≡ inRoom 64 0 (characters (take (k + 1) l))
+    ≡ filledTo 64 0 (characters (take (k + 1) l))
 one-more-input l k d {pairs} h e =
     let i = getD l k d in
     let before = characters (take k l) in
     let a = sourceDigit (i .source) in
     let long : length before ≡ 2 * k
     = characters-long (take k l) ∙ ap (λ (j : ℕ). 2 * j) (length-take-le k l (omega arith)) in
-    let first : set pairs (2 * k) a ≡ inRoom 64 0 (before ++ (a ∷ []))
+    let first : set pairs (2 * k) a ≡ filledTo 64 0 (before ++ (a ∷ []))
     = sets-snoc noBytes 0 before a e (omega arith) in
     sets-snoc noBytes 0 (before ++ (a ∷ [])) (numberDigit (i .number)) first
     (omega (arith, length-append before (a ∷ [])))
-    ∙ ap (inRoom 64 0) (append-assoc before (a ∷ []) (numberDigit (i .number) ∷ []) ∙ sym (characters-snoc (take k l) i)
+    ∙ ap (filledTo 64 0) (append-assoc before (a ∷ []) (numberDigit (i .number) ∷ []) ∙ sym (characters-snoc (take k l) i)
     ∙ ap characters (sym (ap (λ (j : ℕ). take j l) (add-one k) ∙ take-suc l k d h)))

@@ -1,5 +1,4 @@
 pub mod Flattening
-pub mod ReadingsSaid
 pub mod CodesBack
 pub mod Refusals
 pub mod FaceReadsBack

@@ -14,7 +14,7 @@ use Rattle.controller.specs.Greetings.{readGreeting}
 use Rattle.controller.specs.declared.writing.Written.{Written}
 use Rattle.day.specs.Days.{Day}
 use Rattle.day.specs.Verdicts.{checked}
-use Rattle.day.specs.Plans.{planOf, written}
+use Rattle.day.specs.Plans.{planOf, rigsWritten}
 use Rattle.day.specs.declared.check.Verdict.{Verdict}
 use Rattle.day.specs.declared.plan.Plan.{Plan}
 use Rattle.day.proofs.InNumbers.{verdict-by-numbers, plan-by-numbers}
@@ -52,7 +52,7 @@ one-flat-verdict d a = one-result
 
 module _ (d : Day) (out : List ℕ) where
   abbrev pub PlansFlat : FlatPlan → List ℕ → Type 0
-  PlansFlat = Left (flatPlan (planOf d (length out))) (over (written d (length out)) out)
+  PlansFlat = Left (flatPlan (planOf d (length out))) (over (rigsWritten d (length out)) out)
 
   pub one-flat-plan : {r s : FlatPlan} {m n : List ℕ} → PlansFlat r m → PlansFlat s n → (r ≡ s) × (m ≡ n)
   one-flat-plan p q = one-left p q

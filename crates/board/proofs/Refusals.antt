@@ -14,8 +14,8 @@ use Rattle.lines.specs.declared.command.Command.{Command}
 use Rattle.answers.specs.Said.{Said, okay, refused, powerIs, chosenIs, mutesAre, errorsAre, lampsAre, inputsAre}
 use Rattle.answers.specs.Said.{textIs, classIs1, nothing}
 use Rattle.answers.specs.Reading.{readParameter}
-use Rattle.controller.specs.Writing.{WrittenAs, refusing, commandRoom, isWritable}
-use Rattle.controller.specs.Reading.{numberOf, saying, readReply}
+use Rattle.controller.specs.Writing.{WrittenAs, nothingWritten, commandRoom, isWritable}
+use Rattle.controller.specs.Reading.{outcomeNumber, saying, readReply}
 use Rattle.controller.specs.declared.reading.Outcome.{Outcome}
 use Rattle.controller.specs.declared.reading.Outcome.the-variants.{Means, Erra, NotALine, OtherCommand, NotAllowed}
 use Rattle.controller.proofs.Cases.{reply-by}
@@ -35,7 +35,7 @@ none-number : (room : ℕ) → noneWritten room .number ≡ (if ltb room command
 unfolding noneWritten
 none-number room = by (ltb room commandRoom)
   where
-    by : (t : Bool) → (if t then refusing 2 else refusing 3) .number ≡ (if t then 2 else 3)
+    by : (t : Bool) → (if t then nothingWritten 2 else nothingWritten 3) .number ≡ (if t then 2 else 3)
     by true = refl
     by false = refl
 
@@ -55,11 +55,11 @@ module _ (secured : Bool) (random : ℕ) (password : List ℕ) (room : ℕ) wher
   refused-writes-nothing NoCommand n = none-bytes room
 
   pub no-command-written : (k : Coded) → commandOf k ≡ NoCommand → commandRoom ≤ room
-      → writtenBy (commandOf k) secured random password room ≡ refusing 3
+      → writtenBy (commandOf k) secured random password room ≡ nothingWritten 3
   unfolding noneWritten
   no-command-written k e enough =
       ap (λ (m : MaybeCommand). writtenBy m secured random password room) e
-      ∙ if-no (refusing 2) (refusing 3) (le-ltb room commandRoom enough)
+      ∙ if-no (nothingWritten 2) (nothingWritten 3) (le-ltb room commandRoom enough)
 
 pub no-command-read : (k : Coded) (l : List ℕ) → commandOf k ≡ NoCommand → readBy (commandOf k) l ≡ meaningless 3
 no-command-read k l e = ap (λ (m : MaybeCommand). readBy m l) e
@@ -91,7 +91,7 @@ refused-means-nothing (CommandIs c) l n = flat-or-none (readReply c l .outcome) 
 refused-means-nothing NoCommand l n = refl
 
 -- the number of a reading is its outcome's
-saying-number : (m : Said) → flat (saying m) .number ≡ numberOf (saying m .outcome)
+saying-number : (m : Said) → flat (saying m) .number ≡ outcomeNumber (saying m .outcome)
 saying-number okay = refl
 saying-number (refused k) = refl
 saying-number (powerIs p) = refl
@@ -104,7 +104,7 @@ saying-number (textIs s) = refl
 saying-number classIs1 = refl
 saying-number nothing = refl
 
-pub read-number : (c : Command) (l : List ℕ) → readBy (CommandIs c) l .number ≡ numberOf (readReply c l .outcome)
+pub read-number : (c : Command) (l : List ℕ) → readBy (CommandIs c) l .number ≡ outcomeNumber (readReply c l .outcome)
 read-number c l =
-    reply-by c l (λ r. flat r .number ≡ numberOf (r .outcome)) (λ e. refl) (λ e f. refl) (λ f b. refl)
+    reply-by c l (λ r. flat r .number ≡ outcomeNumber (r .outcome)) (λ e. refl) (λ e f. refl) (λ f b. refl)
     (λ f b. saying-number (readParameter c (replyParameter l)))

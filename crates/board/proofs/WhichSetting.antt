@@ -3,9 +3,9 @@
 -- Assumes nothing.
 use Prim.Native.Nat.{ℕ}
 use mathlib.Core.Path.{_≡_, refl, ap}
-use mathlib.Core.List.{List}
 use native.Mathlib.Omega.{arith}
 use Rattle.text.proofs.OneResult.{one-result}
+use Rattle.record.specs.Wanted.{Wanted}
 use Rattle.record.specs.SetUp.{setUp}
 use Rattle.record.specs.OutOfRange.{firstOutOfRange}
 use Rattle.record.specs.declared.out_of_range.MaybeSetting.{MaybeSetting}
@@ -19,16 +19,15 @@ setting-number-back NoSetting (SettingIs t) e = absurd (omega (arith, setting-pl
 setting-number-back (SettingIs s) NoSetting e = absurd (omega (arith, setting-place-within s))
 setting-number-back (SettingIs s) (SettingIs t) e = ap SettingIs (one-setting-place s t e)
 
-module _ (name maker model other password inputs lamps : List ℕ) (warm cool : ℕ) where
+module _ (w : Wanted) where
   abbrev which : ℕ
-  which = settingNumber (firstOutOfRange name maker model other password inputs lamps warm cool)
+  which = settingNumber (firstOutOfRange w)
 
-  pub which-0-set-up : which ≡ 0 → setUp name maker model other password inputs lamps warm cool .number ≡ 0
-  which-0-set-up e =
-      none-gives-0 name maker model other password inputs lamps warm cool (setting-number-back _ NoSetting e)
+  pub which-0-set-up : which ≡ 0 → setUp w .number ≡ 0
+  which-0-set-up e = none-gives-0 w (setting-number-back _ NoSetting e)
 
-  pub set-up-which-0 : setUp name maker model other password inputs lamps warm cool .number ≡ 0 → which ≡ 0
-  set-up-which-0 e = ap settingNumber (gives-0-none name maker model other password inputs lamps warm cool e)
+  pub set-up-which-0 : setUp w .number ≡ 0 → which ≡ 0
+  set-up-which-0 e = ap settingNumber (gives-0-none w e)
 
   pub one-which : {r s : ℕ} → r ≡ which → s ≡ which → r ≡ s
   one-which = one-result

@@ -5,8 +5,10 @@
 -- Assumes nothing.
 use Prim.Native.Nat.{ℕ}
 use mathlib.Core.Bool.{Bool, true, false, _&&_}
+use mathlib.Core.List.{List, [], _∷_}
 use lib.Dec.{leb, eqb}
 use Rattle.text.specs.Words.{if_then_else_}
+use Rattle.lines.specs.Bodies.{bodies}
 use Rattle.lines.specs.declared.input.Source.{Source}
 use Rattle.lines.specs.declared.input.Source.the-variants.{Rgb, Video, Digital, Storage, Network}
 use Rattle.lines.specs.declared.command.Body.{Body}
@@ -21,8 +23,8 @@ use Rattle.board.specs.declared.codes.MaybeCommand.{MaybeCommand}
 use Rattle.board.specs.declared.codes.MaybeCommand.the-variants.{CommandIs, NoCommand}
 
 -- 0 off, 1 on
-unfoldable pub powerSet : ℕ → MaybeCommand
-powerSet on =
+unfoldable pub powerCoded : ℕ → MaybeCommand
+powerCoded on =
     if eqb on 0 then CommandIs (PowerSet false)
     else if eqb on 1 then CommandIs (PowerSet true)
     else NoCommand
@@ -36,8 +38,8 @@ sourceAt n =
     else Network
 
 -- a type 1 to 5, and a number 1 to 9
-unfoldable pub inputSet : ℕ → ℕ → MaybeCommand
-inputSet source number =
+unfoldable pub inputCoded : ℕ → ℕ → MaybeCommand
+inputCoded source number =
     if leb 1 source && leb source 5 && leb 1 number && leb number 9
     then CommandIs (InputSet (record { source = sourceAt source; number = number }))
     else NoCommand
@@ -49,31 +51,35 @@ halfAt n =
     else BothHalves
 
 -- 1 video, 2 audio, 3 both; 1 on, 0 off
-unfoldable pub muteSet : ℕ → ℕ → MaybeCommand
-muteSet half on =
+unfoldable pub muteCoded : ℕ → ℕ → MaybeCommand
+muteCoded half on =
     if leb 1 half && leb half 3 && leb on 1 then CommandIs (MuteSet (halfAt half) (eqb on 1))
     else NoCommand
 
-abbrev pub asks : Body → MaybeCommand
-asks b = CommandIs (Query b)
+abbrev pub queryCode : Body → ℕ
+queryCode Powr = 0
+queryCode Inpt = 2
+queryCode Avmt = 4
+queryCode Erst = 6
+queryCode Lamp = 7
+queryCode Inst = 8
+queryCode Name = 9
+queryCode Inf1 = 10
+queryCode Inf2 = 11
+queryCode Info = 12
+queryCode Clss = 13
+
+-- the query that has the code
+abbrev pub queryCoded : List Body → ℕ → MaybeCommand
+queryCoded [] n = NoCommand
+queryCoded (b ∷ bs) n = if eqb n (queryCode b) then CommandIs (Query b) else queryCoded bs n
 
 unfoldable pub commandOf : Coded → MaybeCommand
 commandOf k =
-    if eqb (k .code) 0 then asks Powr
-    else if eqb (k .code) 1 then powerSet (k .first)
-    else if eqb (k .code) 2 then asks Inpt
-    else if eqb (k .code) 3 then inputSet (k .first) (k .second)
-    else if eqb (k .code) 4 then asks Avmt
-    else if eqb (k .code) 5 then muteSet (k .first) (k .second)
-    else if eqb (k .code) 6 then asks Erst
-    else if eqb (k .code) 7 then asks Lamp
-    else if eqb (k .code) 8 then asks Inst
-    else if eqb (k .code) 9 then asks Name
-    else if eqb (k .code) 10 then asks Inf1
-    else if eqb (k .code) 11 then asks Inf2
-    else if eqb (k .code) 12 then asks Info
-    else if eqb (k .code) 13 then asks Clss
-    else NoCommand
+    if eqb (k .code) 1 then powerCoded (k .first)
+    else if eqb (k .code) 3 then inputCoded (k .first) (k .second)
+    else if eqb (k .code) 5 then muteCoded (k .first) (k .second)
+    else queryCoded bodies (k .code)
 
 abbrev pub coded : ℕ → ℕ → ℕ → Coded
 coded code first second = record { code = code; first = first; second = second }
@@ -93,19 +99,6 @@ abbrev pub halfNumber : Half → ℕ
 halfNumber VideoHalf = 1
 halfNumber AudioHalf = 2
 halfNumber BothHalves = 3
-
-abbrev pub queryCode : Body → ℕ
-queryCode Powr = 0
-queryCode Inpt = 2
-queryCode Avmt = 4
-queryCode Erst = 6
-queryCode Lamp = 7
-queryCode Inst = 8
-queryCode Name = 9
-queryCode Inf1 = 10
-queryCode Inf2 = 11
-queryCode Info = 12
-queryCode Clss = 13
 
 abbrev pub codeOf : Command → Coded
 codeOf (Query b) = coded (queryCode b) 0 0

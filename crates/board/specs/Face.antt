@@ -8,7 +8,7 @@ use mathlib.Core.Bool.{Bool}
 use mathlib.Core.List.{List}
 use lib.Dec.{ltb}
 use Rattle.text.specs.Words.{if_then_else_}
-use Rattle.controller.specs.Writing.{WrittenAs, refusing, commandRoom, written}
+use Rattle.controller.specs.Writing.{WrittenAs, nothingWritten, commandRoom, writtenCommand}
 use Rattle.controller.specs.Reading.{readReply}
 use Rattle.board.specs.Readings.{meaningless, flat}
 use Rattle.board.specs.declared.codes.MaybeCommand.{MaybeCommand}
@@ -16,10 +16,10 @@ use Rattle.board.specs.declared.codes.MaybeCommand.the-variants.{Command
 use Rattle.board.specs.declared.readings.FlatReading.{FlatReading}
 
 unfoldable pub noneWritten : ℕ → WrittenAs
-noneWritten room = if ltb room commandRoom then refusing 2 else refusing 3
+noneWritten room = if ltb room commandRoom then nothingWritten 2 else nothingWritten 3
 
 abbrev pub writtenBy : MaybeCommand → (secured : Bool) (random : ℕ) (password : List ℕ) (room : ℕ) → WrittenAs
-writtenBy (CommandIs c) secured random password room = written c secured random password room
+writtenBy (CommandIs c) secured random password room = writtenCommand c secured random password room
 writtenBy NoCommand secured random password room = noneWritten room
 
 abbrev pub readBy : MaybeCommand → List ℕ → FlatReading

@@ -15,8 +15,8 @@ use Rattle.answers.specs.Said.{textIs, classIs1, nothing}
 use Rattle.answers.specs.declared.answer.Power.{Power}
 use Rattle.answers.specs.declared.answer.Power.the-variants.{Off, On, Cooling, WarmUp}
 use Rattle.answers.specs.declared.answer.LampHours.{LampHours}
-use Rattle.controller.specs.Greetings as Greetings
-use Rattle.controller.specs.Reading.{ReadAs, numberOf}
+use Rattle.controller.specs.Greetings.{greetingNumber}
+use Rattle.controller.specs.Reading.{ReadAs, outcomeNumber}
 use Rattle.controller.specs.declared.greeting.Greeting.{Greeting}
 use Rattle.controller.specs.declared.greeting.Greeting.the-variants.{Open, Secured, Refused, NotAGreeting}
 use Rattle.controller.specs.declared.reading.Outcome.{Outcome}
@@ -38,20 +38,20 @@ greetingRandom Refused = 0
 greetingRandom NotAGreeting = 0
 
 abbrev pub flatGreeting : Greeting → FlatGreeting
-flatGreeting g = record { number = Greetings.numberOf g; kind = greetingKind g; random = greetingRandom g }
+flatGreeting g = record { number = greetingNumber g; kind = greetingKind g; random = greetingRandom g }
 
 -- the things xs from the start of so much room, blank after them
-abbrev pub inRoom : {A : Type 0} → ℕ → A → List A → List A
-inRoom room blank xs = sets (replicate room blank) 0 xs
+abbrev pub filledTo : {A : Type 0} → ℕ → A → List A → List A
+filledTo room blank xs = sets (replicate room blank) 0 xs
 
 abbrev pub noHours : List ℕ
-noHours = inRoom 8 0 []
+noHours = filledTo 8 0 []
 
 abbrev pub noneLit : List Bool
-noneLit = inRoom 8 false []
+noneLit = filledTo 8 false []
 
 abbrev pub noBytes : List ℕ
-noBytes = inRoom 64 0 []
+noBytes = filledTo 64 0 []
 
 abbrev pub flatOf : (number kind first second count : ℕ) (hours : List ℕ) (lit : List Bool) (inputs text : List ℕ)
     → FlatReading
@@ -74,7 +74,7 @@ abbrev pub plain : (kind first second : ℕ) → FlatReading
 plain kind first second = flatOf 0 kind first second 0 noHours noneLit noBytes noBytes
 
 abbrev pub withText : ℕ → List ℕ → FlatReading
-withText kind s = flatOf 0 kind 0 0 (length s) noHours noneLit noBytes (inRoom 64 0 s)
+withText kind s = flatOf 0 kind 0 0 (length s) noHours noneLit noBytes (filledTo 64 0 s)
 
 abbrev pub hoursOf : LampHours → ℕ
 hoursOf l = l .hours
@@ -84,7 +84,7 @@ litOf l = l .lit
 
 abbrev pub withLamps : List LampHours → FlatReading
 withLamps ls =
-    flatOf 0 7 0 0 (length ls) (inRoom 8 0 (map hoursOf ls)) (inRoom 8 false (map litOf ls)) noBytes noBytes
+    flatOf 0 7 0 0 (length ls) (filledTo 8 0 (map hoursOf ls)) (filledTo 8 false (map litOf ls)) noBytes noBytes
 
 -- two characters an input
 abbrev pub characters : List Input → List ℕ
@@ -92,7 +92,7 @@ characters [] = []
 characters (i ∷ is) = inputText i ++ characters is
 
 abbrev pub withInputs : List Input → FlatReading
-withInputs is = flatOf 0 8 0 0 (length is) noHours noneLit (inRoom 64 0 (characters is)) noBytes
+withInputs is = flatOf 0 8 0 0 (length is) noHours noneLit (filledTo 64 0 (characters is)) noBytes
 
 abbrev pub powerNumber : Power → ℕ
 powerNumber Off = 0
@@ -111,14 +111,14 @@ saidFlat (lampsAre ls) = withLamps ls
 saidFlat (inputsAre is) = withInputs is
 saidFlat (textIs s) = withText 9 s
 saidFlat classIs1 = plain 10 1 0
-saidFlat nothing = meaningless (numberOf NotAllowed)
+saidFlat nothing = meaningless (outcomeNumber NotAllowed)
 
 abbrev pub flatAs : Outcome → Said → FlatReading
 flatAs Means m = saidFlat m
 flatAs Erra m = plain 11 0 0
-flatAs NotALine m = meaningless (numberOf NotALine)
-flatAs OtherCommand m = meaningless (numberOf OtherCommand)
-flatAs NotAllowed m = meaningless (numberOf NotAllowed)
+flatAs NotALine m = meaningless (outcomeNumber NotALine)
+flatAs OtherCommand m = meaningless (outcomeNumber OtherCommand)
+flatAs NotAllowed m = meaningless (outcomeNumber NotAllowed)
 
 abbrev pub flat : ReadAs → FlatReading
 flat r = flatAs (r .outcome) (r .said)

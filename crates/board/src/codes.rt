@@ -5,7 +5,7 @@ use lines::command::Half;
 use lines::input::Input;
 use lines::input::Source;
 ghost use mathlib.Core.Path.{_≡_};
-ghost use Rattle.board.specs.Commands.{powerSet, sourceAt, inputSet, halfAt, muteSet, commandOf};
+ghost use Rattle.board.specs.Commands.{powerCoded, sourceAt, inputCoded, halfAt, muteCoded, commandOf};
 
 // `pj_command`. What a code does not use is passed over.
 #[repr(C)]
@@ -21,7 +21,7 @@ pub enum MaybeCommand {
 }
 
 fn power_set(on: u8) -> MaybeCommand
-    ensures { λ r. ⌜ r ≡ powerSet on ⌝ }
+    ensures { λ r. ⌜ r ≡ powerCoded on ⌝ }
 {
     match on {
         0 => MaybeCommand::CommandIs(Command::PowerSet(false)),
@@ -44,7 +44,7 @@ fn source_at(n: u8) -> Source
 
 // A type 1 to 5 and a number 1 to 9.
 fn input_set(source: u8, number: u8) -> MaybeCommand
-    ensures { λ r. ⌜ r ≡ inputSet source number ⌝ }
+    ensures { λ r. ⌜ r ≡ inputCoded source number ⌝ }
 {
     if !((1 <= source) & (source <= 5) & (1 <= number) & (number <= 9)) {
         return MaybeCommand::NoCommand;
@@ -65,7 +65,7 @@ fn half_at(n: u8) -> Half
 
 // 1 video, 2 audio, 3 both; 1 on, 0 off.
 fn mute_set(half: u8, on: u8) -> MaybeCommand
-    ensures { λ r. ⌜ r ≡ muteSet half on ⌝ }
+    ensures { λ r. ⌜ r ≡ muteCoded half on ⌝ }
 {
     if !((1 <= half) & (half <= 3) & (on <= 1)) {
         return MaybeCommand::NoCommand;

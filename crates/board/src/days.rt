@@ -8,7 +8,7 @@ ghost use lib.ListN.{length};
 ghost use Rattle.text.specs.Words.{over};
 ghost use Rattle.day.specs.Days.{day};
 ghost use Rattle.day.specs.Verdicts.{checked};
-ghost use Rattle.day.specs.Plans.{planOf, written};
+ghost use Rattle.day.specs.Plans.{planOf, rigsWritten};
 ghost use Rattle.board.specs.Days.{flatVerdict, flatPlan};
 
 #[repr(C)]
@@ -113,7 +113,7 @@ pub extern "C" fn pj_plan_day(
         ⌝ }
     ensures { λ _.
         ⌜
-        now (out .exit) ≡ over (written (day (now (starts .entry)) (now (lengths .entry)) (now (allowed .entry))
+        now (out .exit) ≡ over (rigsWritten (day (now (starts .entry)) (now (lengths .entry)) (now (allowed .entry))
         (now (warm .entry)) (now (cool .entry)) (now (life .entry))) (length (now (out .entry)))) (now (out .entry))
         ⌝ }
 {

@@ -9,10 +9,10 @@ use answers::answer::TEXT_MOST;
 use lines::input;
 use lines::input::Input;
 ghost use mathlib.Core.Path.{_≡_};
-ghost use Prim.Native.Nat.{_≤_};
+ghost use Prim.Native.Nat.{_≤_, min};
 ghost use lib.ListN.{length, take};
 ghost use Rattle.lines.specs.Texts.{nameMost};
-ghost use Rattle.answers.specs.Carried.{lampsMost, inputsMost, least};
+ghost use Rattle.answers.specs.Carried.{lampsCarried, inputsCarried};
 ghost use Rattle.board.specs.Readings.{withText, withLamps, withInputs};
 
 fn with_text(kind: u8, s: &[u8]) -> FlatReading
@@ -29,7 +29,7 @@ fn with_text(kind: u8, s: &[u8]) -> FlatReading
 
 // Here and below, a count past the array's end counts the whole array.
 pub fn text_of(kind: u8, text: [u8; TEXT_MOST], count: usize) -> FlatReading
-    ensures { λ r. ⌜ r ≡ withText kind (take (least count nameMost) text) ⌝ }
+    ensures { λ r. ⌜ r ≡ withText kind (take (min count nameMost) text) ⌝ }
 {
     if TEXT_MOST < count {
         return with_text(kind, &text);
@@ -38,7 +38,7 @@ pub fn text_of(kind: u8, text: [u8; TEXT_MOST], count: usize) -> FlatReading
 }
 
 pub fn lamps_of(lamps: [LampHours; LAMPS_MOST], count: usize) -> FlatReading
-    ensures { λ r. ⌜ r ≡ withLamps (take (least count lampsMost) lamps) ⌝ }
+    ensures { λ r. ⌜ r ≡ withLamps (take (min count lampsCarried) lamps) ⌝ }
 {
     let mut hours = [0u32; LAMPS_MOST];
     let mut lit = [false; LAMPS_MOST];
@@ -57,7 +57,7 @@ pub fn lamps_of(lamps: [LampHours; LAMPS_MOST], count: usize) -> FlatReading
 }
 
 pub fn inputs_of(inputs: [Input; INPUTS_MOST], count: usize) -> FlatReading
-    ensures { λ r. ⌜ r ≡ withInputs (take (least count inputsMost) inputs) ⌝ }
+    ensures { λ r. ⌜ r ≡ withInputs (take (min count inputsCarried) inputs) ⌝ }
 {
     let mut pairs = [0u8; CHARACTERS];
     let mut k = 0;

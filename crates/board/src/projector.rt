@@ -11,9 +11,10 @@ ghost use mathlib.Core.Path.{_≡_};
 ghost use lib.ListN.{length};
 ghost use Rattle.text.specs.Words.{over};
 ghost use Rattle.record.specs.Legal.{isLegal};
+ghost use Rattle.record.specs.Wanted.{wantedOf};
 ghost use Rattle.record.specs.SetUp.{setUp};
 ghost use Rattle.record.specs.HostCalls.{faultSet, errorsSet};
-ghost use Rattle.device.specs.Calls.{received, openedBy, closedBy, told, toldOpened, toldChanged};
+ghost use Rattle.device.specs.Calls.{received, openedBy, closedBy, toldReceived, toldOpened, toldChanged};
 
 #[no_mangle]
 pub extern "C" fn pj_set_up(
@@ -28,9 +29,8 @@ pub extern "C" fn pj_set_up(
     cool: u32,
 ) -> Changed
     ensures { λ r.
-        ⌜ r ≡ setUp (now (name .entry)) (now (maker .entry)) (now (model .entry))
-        (now (other .entry)) (now (password .entry)) (now (inputs .entry)) (now (lamps .entry))
-        warm cool ⌝ }
+        ⌜ r ≡ setUp (wantedOf (now (name .entry)) (now (maker .entry)) (now (model .entry)) (now (other .entry))
+        (now (password .entry)) (now (inputs .entry)) (now (lamps .entry)) warm cool) ⌝ }
 {
     setup::set_up(
         name,
@@ -63,7 +63,7 @@ pub extern "C" fn pj_close(d: Device) -> Changed
 
 #[no_mangle]
 pub extern "C" fn pj_receive(d: Device, bytes: &[u8], out: &mut [u8]) -> Received
-    ensures { λ r. ⌜ r ≡ told (received d (now (bytes .entry)) (length (now (out .entry)))) ⌝ }
+    ensures { λ r. ⌜ r ≡ toldReceived (received d (now (bytes .entry)) (length (now (out .entry)))) ⌝ }
     ensures { λ _. ⌜ now (out .exit) ≡ over (received d (now (bytes .entry)) (length (now (out .entry))) .reply)
         (now (out .entry)) ⌝ }
 {

@@ -3,6 +3,7 @@ use record::out_of_range;
 use record::out_of_range::MaybeSetting;
 use record::out_of_range::Setting;
 ghost use mathlib.Core.Path.{_≡_};
+ghost use Rattle.record.specs.Wanted.{wantedOf};
 ghost use Rattle.record.specs.OutOfRange.{settingPlace, firstOutOfRange};
 ghost use Rattle.board.specs.Which.{settingNumber};
 
@@ -46,8 +47,8 @@ pub extern "C" fn pj_which_setting(
 ) -> u32
     ensures { λ r.
         ⌜
-        r ≡ settingNumber (firstOutOfRange (now (name .entry)) (now (maker .entry)) (now (model .entry))
-        (now (other .entry)) (now (password .entry)) (now (inputs .entry)) (now (lamps .entry)) warm cool)
+        r ≡ settingNumber (firstOutOfRange (wantedOf (now (name .entry)) (now (maker .entry)) (now (model .entry))
+        (now (other .entry)) (now (password .entry)) (now (inputs .entry)) (now (lamps .entry)) warm cool))
         ⌝ }
 {
     setting_number(out_of_range::first_out_of_range(

@@ -23,15 +23,15 @@ use Rattle.device.specs.Calls.{replyRoom, withParts, received, openedBy}
 use Rattle.device.specs.declared.calls.Received.{Received}
 use Rattle.device.specs.declared.calls.Opened.{Opened}
 use Rattle.device.proofs.Results.{Receives, Opens}
-use Rattle.controller.specs.Writing.{commandRoom, written}
-use Rattle.controller.specs.Reading.{readReply, readingOf}
-use Rattle.controller.specs.Greetings.{readGreeting}
+use Rattle.controller.specs.Writing.{commandRoom, writtenCommand}
+use Rattle.controller.specs.Reading.{meaning, readReply, readingOf}
+use Rattle.controller.specs.Greetings.{readGreeting, greetedOn}
 use Rattle.controller.specs.declared.writing.Written.{Written}
 use Rattle.controller.specs.declared.reading.Reading.{Reading}
 use Rattle.controller.specs.declared.greeting.Greeting.{Greeting}
-use Rattle.controller.proofs.ReadsBack.{ReadBack, meaning}
+use Rattle.controller.proofs.ReadsBack.{TakenAndRead}
 use Rattle.controller.proofs.WrittenReadBack.{written-reads-back, written-reads-back-secured}
-use Rattle.controller.proofs.GreetsBack.{heardOn, greets-back}
+use Rattle.controller.proofs.GreetsBack.{greets-back}
 use Rattle.controller.proofs.OneResult.{Writes}
 
 -- as many bytes of the lent memory as the call tells are the bytes that it wrote
@@ -48,13 +48,13 @@ pub record CalledBack (d : Device) (c : Command) (w : Written) (r : Received) (x
 -- paper is the memory lent to the writer, out that lent to the projector; m and n are what the calls leave in them
 module _ (d : Device) (c : Command) (paper out : List ℕ) {w : Written} {r : Received} {x : Reading} {m n : List ℕ} where
   called-back : (secured : Bool) (random : ℕ) (password : List ℕ)
-      → let s = written c secured random password (length paper) in
-      s .number ≡ 0 → ReadBack d c (s .bytes) (received d (s .bytes) (length out))
+      → let s = writtenCommand c secured random password (length paper) in
+      s .number ≡ 0 → TakenAndRead d c (s .bytes) (received d (s .bytes) (length out))
       → Writes c secured random password paper w m → Receives d (take (w .length) m) out r n
       → x ≡ readingOf (readReply c (take (r .length) n))
       → CalledBack d c w r x
   called-back secured random password number back writes receives reads =
-      let s = written c secured random password (length paper) in
+      let s = writtenCommand c secured random password (length paper) in
       let sent = lent (s .bytes) paper (ap (λ (v : Written). v .length) (writes .told)) (writes .memory) in
       let took = subst (λ (b : List ℕ). Receives d b out r n) sent receives in
       let q = received d (s .bytes) (length out) in
@@ -91,7 +91,7 @@ module _ (d : Device) (c : Command) (paper out : List ℕ) {w : Written} {r : Re
 
 pub record HeardBack (o : Opened) (g : Greeting) : Type 0 where
   pub number : o .number ≡ 0
-  pub heard : g ≡ heardOn (o .device .connection)
+  pub heard : g ≡ greetedOn (o .device .connection)
 
 pub calls-greet-back : (d : Device) (r : ℕ) (out : List ℕ) {o : Opened} {g : Greeting} {m : List ℕ} → isLegal d ≡ true
     → d .connection .phase ≡ shut → replyRoom ≤ length out → r < 2 ^ 32
@@ -104,5 +104,5 @@ calls-greet-back d r out legal closed enough word opens reads =
     record {
       number = ap (λ (v : Opened). v .number) (opens .told) ∙ back .number;
       heard = reads ∙ ap readGreeting sent ∙ back .heard
-          ∙ sym (ap (λ (v : Opened). heardOn (v .device .connection)) (opens .told));
+          ∙ sym (ap (λ (v : Opened). greetedOn (v .device .connection)) (opens .told));
     }

@@ -1,25 +1,24 @@
 -- The writer and the readers, case by case: the equation of each case.
 -- Assumes nothing.
-use Prim.Native.Nat.{ℕ, suc, _≤_, _<_}
-use mathlib.Core.Path.{_≡_, refl, ap, _∙_}
+use Prim.Native.Nat.{ℕ, _≤_, _<_}
+use mathlib.Core.Path.{_≡_, ap, _∙_}
 use mathlib.Core.Bool.{Bool, true, false, not, _&&_, _||_}
-use mathlib.Core.List.{List, [], _∷_, _++_}
+use mathlib.Core.List.{List, [], _++_}
 use lib.ListN.{length}
-use lib.Dec.{ltb, eqb}
+use lib.Dec.{ltb}
 use borrow.Author.Tests.{ltb-true, ltb-false, lt-ltb, le-ltb, not-true, not-false}
 use Rattle.text.specs.Scans.{sameBy, itself}
 use Rattle.text.proofs.Choices.{if-yes, if-no, if-by, both}
+use Rattle.text.proofs.Scanning.{long-differs}
 use Rattle.digest.specs.Hex.{leadingDigest, hexDigits}
 use Rattle.lines.specs.Texts.{isPassword}
 use Rattle.lines.specs.Commands.{isCommand, bodyOf, commandLine}
 use Rattle.lines.specs.Forms.{erraLine, greetingOpen, greetingSecured, isReplyForm, headBody, replyParameter}
 use Rattle.lines.specs.Requests.{isBody}
 use Rattle.lines.specs.declared.command.Command.{Command}
-use Rattle.answers.specs.Said.{Said, okay, refused, powerIs, chosenIs, mutesAre, errorsAre, lampsAre, inputsAre, textIs, classIs1, nothing}
-use Rattle.answers.specs.Carried.{answerOf}
 use Rattle.answers.specs.Reading.{readParameter}
-use Rattle.controller.specs.Writing.{WrittenAs, refusing, commandRoom, isWritable, ledBy, written}
-use Rattle.controller.specs.Reading.{ReadAs, without, saying, outcomeOf, kindOutcome, readReply}
+use Rattle.controller.specs.Writing.{WrittenAs, nothingWritten, commandRoom, isWritable, ledBy, writtenCommand}
+use Rattle.controller.specs.Reading.{ReadAs, without, saying, readReply}
 use Rattle.controller.specs.Greetings.{greets, randomIn, readGreeting}
 use Rattle.controller.specs.declared.reading.Outcome.the-variants.{Erra, NotALine, OtherCommand}
 use Rattle.controller.specs.declared.greeting.Greeting.{Greeting}
@@ -28,33 +27,34 @@ use Rattle.controller.specs.declared.greeting.Greeting.the-variants.{Ope
 -- writing: 2, 3, or the line
 module _ (c : Command) (secured : Bool) (random : ℕ) (password : List ℕ) (room : ℕ) where
   pub written-by : (P : WrittenAs → Type 0)
-      → (room < commandRoom → P (refusing 2))
-      → (commandRoom ≤ room → isWritable c secured password ≡ false → P (refusing 3))
+      → (room < commandRoom → P (nothingWritten 2))
+      → (commandRoom ≤ room → isWritable c secured password ≡ false → P (nothingWritten 3))
       → (commandRoom ≤ room → isWritable c secured password ≡ true
       → P (record { number = 0; bytes = ledBy secured random password ++ commandLine c }))
-      → P (written c secured random password room)
-  unfolding written
+      → P (writtenCommand c secured random password room)
+  unfolding writtenCommand
   written-by P short illegal line =
       if-by P (ltb room commandRoom) (λ h. short (ltb-true room commandRoom h)) (λ h.
       let enough = ltb-false room commandRoom h in
       let writable = isWritable c secured password in
       if-by P (not writable) (λ w. illegal enough (not-true writable w)) (λ w. line enough (not-false writable w)))
 
-  pub written-short : room < commandRoom → written c secured random password room ≡ refusing 2
-  unfolding written
+  pub written-short : room < commandRoom → writtenCommand c secured random password room ≡ nothingWritten 2
+  unfolding writtenCommand
   written-short h = if-yes _ _ (lt-ltb room commandRoom h)
 
   module _ (enough : commandRoom ≤ room) where
-    pub written-refused : isWritable c secured password ≡ false → written c secured random password room ≡ refusing 3
-    unfolding written
+    pub written-refused : isWritable c secured password ≡ false
+        → writtenCommand c secured random password room ≡ nothingWritten 3
+    unfolding writtenCommand
     written-refused w = if-no _ _ (le-ltb room commandRoom enough) ∙ if-yes _ _ (ap not w)
 
-    pub written-line : isWritable c secured password ≡ true → written c secured random password room
+    pub written-line : isWritable c secured password ≡ true → writtenCommand c secured random password room
         ≡ record { number = 0; bytes = ledBy secured random password ++ commandLine c }
-    unfolding written
+    unfolding writtenCommand
     written-line w = if-no _ _ (le-ltb room commandRoom enough) ∙ if-no _ _ (ap not w)
 
-    pub written-no-command : isCommand c ≡ false → written c secured random password room ≡ refusing 3
+    pub written-no-command : isCommand c ≡ false → writtenCommand c secured random password room ≡ nothingWritten 3
     written-no-command e = written-refused (ap (λ (t : Bool). t && (not secured || isPassword password)) e)
 
     module _ (writable : isCommand c ≡ true) where
@@ -64,16 +64,16 @@ module _ (c : Command) (secured : Bool) (random : ℕ) (password : List ℕ) (ro
       led e = ap (λ (w : List ℕ). record { number = 0; bytes = w ++ commandLine c }) e
 
       pub written-plain : secured ≡ false
-          → written c secured random password room ≡ record { number = 0; bytes = commandLine c }
+          → writtenCommand c secured random password room ≡ record { number = 0; bytes = commandLine c }
       written-plain e =
           written-line (both writable (ap (λ (s : Bool). not s || isPassword password) e))
           ∙ led (if-no (leadingDigest random password) [] e)
 
       pub written-no-password : secured ≡ true → isPassword password ≡ false
-          → written c secured random password room ≡ refusing 3
+          → writtenCommand c secured random password room ≡ nothingWritten 3
       written-no-password e f = written-refused (λ i. writable i && (not (e i) || f i))
 
-      pub written-led : secured ≡ true → isPassword password ≡ true → written c secured random password room
+      pub written-led : secured ≡ true → isPassword password ≡ true → writtenCommand c secured random password room
           ≡ record { number = 0; bytes = leadingDigest random password ++ commandLine c }
       written-led e f =
           written-line (λ i. writable i && (not (e i) || f i)) ∙ led (if-yes (leadingDigest random password) [] e)
@@ -114,32 +114,7 @@ module _ (c : Command) (l : List ℕ) where
       unfolding readReply
       reply-said b = if-no _ _ line ∙ if-no _ _ (ap not formed) ∙ if-no _ _ (ap not b)
 
--- the kind of an answer tells the outcome
-pub kind-outcome : (m : Said) → kindOutcome (answerOf m .kind) ≡ outcomeOf m
-kind-outcome okay = refl
-kind-outcome (refused n) = refl
-kind-outcome (powerIs p) = refl
-kind-outcome (chosenIs i) = refl
-kind-outcome (mutesAre video audio) = refl
-kind-outcome (errorsAre ds) = refl
-kind-outcome (lampsAre ls) = refl
-kind-outcome (inputsAre is) = refl
-kind-outcome (textIs s) = refl
-kind-outcome classIs1 = refl
-kind-outcome nothing = refl
-
 -- reading a greeting: the open one, the ERRA line, the secured one, or none
-no-both : (a : Bool) → (a && false) ≡ false
-no-both true = refl
-no-both false = refl
-
-longer-differs : (s t : List ℕ) → (length s ≡ length t → ⊥) → sameBy itself s t ≡ false
-longer-differs [] [] n = absurd (n refl)
-longer-differs [] (y ∷ t) n = refl
-longer-differs (x ∷ s) [] n = refl
-longer-differs (x ∷ s) (y ∷ t) n =
-    ap (λ (b : Bool). eqb x y && b) (longer-differs s t (λ e. n (ap suc e))) ∙ no-both (eqb x y)
-
 module _ (l : List ℕ) where
   pub greeting-by : (P : Greeting → Type 0)
       → (sameBy itself l greetingOpen ≡ true → P Open)
@@ -171,4 +146,4 @@ module _ (l : List ℕ) where
       greeting-none e = if-no _ _ closed ∙ if-no _ _ line ∙ if-no _ _ e
 
       pub greeting-not-18 : (length l ≡ 18 → ⊥) → readGreeting l ≡ NotAGreeting
-      greeting-not-18 n = greeting-none (longer-differs l (greetingSecured (hexDigits 8 (randomIn l))) n)
+      greeting-not-18 n = greeting-none (long-differs itself l (greetingSecured (hexDigits 8 (randomIn l))) n)

@@ -11,19 +11,18 @@ use Rattle.answers.specs.Said.{okay, powerIs}
 use Rattle.answers.specs.Computing.{computing as answers}
 use Rattle.answers.specs.declared.answer.Power.the-variants.{WarmUp}
 use Rattle.digest.specs.Computing.{computing as digest}
-use Rattle.controller.specs.Writing.{refusing, written}
-use Rattle.controller.specs.Reading.{without, readReply}
+use Rattle.controller.specs.Writing.{nothingWritten, writtenCommand}
+use Rattle.controller.specs.Reading.{meaning, without, readReply}
 use Rattle.controller.specs.Greetings.{readGreeting}
 use Rattle.controller.specs.Computing.{computing}
 use Rattle.controller.specs.declared.reading.Outcome.the-variants.{NotALine, OtherCommand, NotAllowed}
 use Rattle.controller.specs.declared.greeting.Greeting.the-variants.{Secured, NotAGreeting}
-use Rattle.controller.proofs.ReadsBack.{meaning}
 
-power-on-written : written (PowerSet true) false 0 [] 168 ≡ record { number = 0; bytes = ascii "%1POWR 1\r" }
+power-on-written : writtenCommand (PowerSet true) false 0 [] 168 ≡ record { number = 0; bytes = ascii "%1POWR 1\r" }
 unfolding computing lines answers digest
 power-on-written = refl
 
-memory-167 : written (PowerSet true) false 0 [] 167 ≡ refusing 2
+memory-167 : writtenCommand (PowerSet true) false 0 [] 167 ≡ nothingWritten 2
 unfolding computing lines answers digest
 memory-167 = refl
 

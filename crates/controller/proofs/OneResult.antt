@@ -8,7 +8,7 @@ use lib.ListN.{length}
 use Rattle.text.specs.Words.{over}
 use Rattle.text.proofs.OneResult.{one-result, Left, one-left}
 use Rattle.lines.specs.declared.command.Command.{Command}
-use Rattle.controller.specs.Writing.{written, toldWritten}
+use Rattle.controller.specs.Writing.{writtenCommand, toldWritten}
 use Rattle.controller.specs.Reading.{readReply, readingOf}
 use Rattle.controller.specs.Greetings.{readGreeting}
 use Rattle.controller.specs.declared.writing.Written.{Written}
@@ -19,7 +19,7 @@ use Rattle.controller.specs.declared.greeting.Greeting.{Greeting}
 module _ (c : Command) (secured : Bool) (random : ℕ) (password out : List ℕ) where
   abbrev pub Writes : Written → List ℕ → Type 0
   Writes =
-      let w = written c secured random password (length out) in
+      let w = writtenCommand c secured random password (length out) in
       Left (toldWritten w) (over (w .bytes) out)
 
   pub one-writing : {r s : Written} {m n : List ℕ} → Writes r m → Writes s n → (r ≡ s) × (m ≡ n)

@@ -1,8 +1,7 @@
 -- THE LAW: for a legal projector on a connection between lines, what the reader takes from the reply to a command's
 -- line is what the projector meant (01, "Controller").
---   meaning m            the reading that means m
---   ReadBack d c bs r    the result r of receiving bs: number 0, exactly bs taken, the record as the command leaves it
---                        on a connection open between lines with the random number kept, and the reply read as meant
+--   TakenAndRead d c bs r    the result r of receiving bs: number 0, exactly bs taken, the record as the command leaves
+--                            it on a connection open between lines with the random number kept, the reply read as meant
 -- Assumes nothing.
 use Prim.Native.Nat.{ℕ, _+_, _≤_}
 use mathlib.Core.Path.{_≡_, refl, sym, ap, subst, _∙_}
@@ -27,7 +26,8 @@ use Rattle.lines.proofs.CommandLines.{command-length, line-length, command-no-c
 use Rattle.lines.proofs.RepliesReadBack.{reply-not-erra, reply-form, reply-parameter}
 use Rattle.answers.specs.Said.{Said, saidBytes}
 use Rattle.answers.specs.Reading.{readParameter}
-use Rattle.answers.specs.CanSay.{CanSay, done as does, refuses, power, input, mutes, errors, lamps, inputs, name, maker, model, other, class-1}
+use Rattle.answers.specs.CanSay.{CanSay, done as does, refuses, power, input, mutes, errors, lamps, inputs}
+use Rattle.answers.specs.CanSay.{name, maker, model, other, class-1}
 use Rattle.answers.proofs.ReadsBack.{reads-back as parameter-reads-back}
 use Rattle.record.specs.Limits.{shut, awaiting, opened}
 use Rattle.record.specs.Legal.{isLegal}
@@ -36,14 +36,14 @@ use Rattle.record.proofs.LegalTold.{legal-settings, legal-own, legal-connection
 use Rattle.stream.specs.Collecting.{emptyLine}
 use Rattle.meaning.specs.Meaning.{meant, done}
 use Rattle.meaning.proofs.CanBeSaid.{meant-fits, meant-can-be-said}
-use Rattle.device.specs.Answering.{Answered, answered}
+use Rattle.device.specs.Answering.{Answered, lineAnswer}
 use Rattle.device.specs.Receiving.{Taken, turned, spoken, passwordOf, digestLong}
 use Rattle.device.specs.Calls.{Result, replyRoom, withParts, acceptedTaken, received}
 use Rattle.device.proofs.Cases.{takes, received-taken}
 use Rattle.device.proofs.Legal.{line-legal}
 use Rattle.stream.proofs.LegalLines.{between-lines}
 use Rattle.device.proofs.WholeLines.{open-line-taken, matching-line-taken, command-answered}
-use Rattle.controller.specs.Reading.{ReadAs, outcomeOf, saying, readReply}
+use Rattle.controller.specs.Reading.{ReadAs, meaning, outcomeOf, saying, readReply}
 use Rattle.controller.specs.declared.reading.Outcome.{Outcome}
 use Rattle.controller.specs.declared.reading.Outcome.the-variants.{Means}
 use Rattle.controller.proofs.Cases.{reply-said}
@@ -56,10 +56,7 @@ is-between d legal unmarked none =
     between-lines (d .connection .phase) (d .connection .line)
     (line-legal (d .connection) (legal-connection d legal)) unmarked none
 
-abbrev pub meaning : Said → ReadAs
-meaning m = record { outcome = Means; said = m }
-
-pub record ReadBack (d : Device) (c : Command) (bs : List ℕ) (r : Result Device) : Type 0 where
+pub record TakenAndRead (d : Device) (c : Command) (bs : List ℕ) (r : Result Device) : Type 0 where
   pub number : r .number ≡ 0
   pub taken : r .taken ≡ length bs
   pub device : r .device ≡ withParts d (done (d .settings) (d .own) (Asks c)) (turned (d .connection) opened)
@@ -133,21 +130,22 @@ module _ (d : Device) (legal : isLegal d ≡ true) (between : d .connection .lin
   takenAs a n = record { ended = spoken (d .connection) a; taken = n }
 
   abbrev lineAnswered : Answered
-  lineAnswered = answered (d .settings) (d .own) (commandText c)
+  lineAnswered = lineAnswer (d .settings) (d .own) (commandText c)
 
   read-back : (bs : List ℕ) → eqb (d .connection .phase) shut ≡ false → takes d bs ≡ takenAs lineAnswered (length bs)
-      → ReadBack d c bs (received d bs room)
+      → TakenAndRead d c bs (received d bs room)
   read-back bs listens takes-it =
       let answers = command-answered (d .settings) (d .own) c writable in
       let result : received d bs room ≡ acceptedTaken d (takenAs answer (length bs))
       = received-taken d bs room legal enough listens
       ∙ ap (acceptedTaken d) (takes-it ∙ ap (λ (a : Answered). takenAs a (length bs)) answers) in
-      subst (ReadBack d c bs) (sym result) (record { number = refl; taken = refl; device = refl; said = answer-read })
+      subst (TakenAndRead d c bs) (sym result)
+      (record { number = refl; taken = refl; device = refl; said = answer-read })
 
   plain-line : every notCr (commandText c) ≡ true
   plain-line = no-cr-each (commandText c) (command-no-cr c)
 
-  pub reads-back : d .connection .phase ≡ opened → ReadBack d c (commandLine c) (received d (commandLine c) room)
+  pub reads-back : d .connection .phase ≡ opened → TakenAndRead d c (commandLine c) (received d (commandLine c) room)
   reads-back phase =
       let short = command-length c in
       read-back (commandLine c) (ap (λ (p : ℕ). eqb p shut) phase)
@@ -157,7 +155,7 @@ module _ (d : Device) (legal : isLegal d ≡ true) (between : d .connection .lin
   abbrev ledLine : List ℕ
   ledLine = leadingDigest (d .connection .random) (passwordOf (d .settings)) ++ commandLine c
 
-  pub reads-back-secured : d .connection .phase ≡ awaiting → ReadBack d c ledLine (received d ledLine room)
+  pub reads-back-secured : d .connection .phase ≡ awaiting → TakenAndRead d c ledLine (received d ledLine room)
   reads-back-secured phase =
       let short = command-length c in
       let digest = leadingDigest (d .connection .random) (passwordOf (d .settings)) in

@@ -22,11 +22,12 @@ use Rattle.answers.specs.Reading.{readParameter}
 use Rattle.answers.specs.Writings.{Says, Allowed, says, says-nothing}
 use Rattle.answers.proofs.ReadSound.{CanRead, no-answer, answer, read-sound}
 use Rattle.answers.proofs.ReadWritings.{written-is-read, not-allowed-says-nothing}
-use Rattle.controller.specs.Reading.{ReadAs, outcomeOf, saying, readReply, LineSays}
+use Rattle.controller.specs.Reading.{ReadAs, meaning, outcomeOf, saying, readReply, LineSays}
 use Rattle.controller.specs.declared.reading.Outcome.{Outcome}
-use Rattle.controller.specs.declared.reading.Outcome.the-variants.{Means, Erra, NotALine, OtherCommand, NotAllowed}
+use Rattle.controller.specs.declared.reading.Outcome.the-variants.{Means, Erra, NotALine, OtherCommand}
+use Rattle.controller.specs.declared.reading.Outcome.the-variants.{NotAllowed}
 use Rattle.controller.proofs.Cases.{reply-by, reply-said}
-use Rattle.controller.proofs.ReadsBack.{meaning, can-mean}
+use Rattle.controller.proofs.ReadsBack.{can-mean}
 use Rattle.controller.proofs.Refusals.{erra-read}
 
 abbrev isMeans : Outcome → Bool

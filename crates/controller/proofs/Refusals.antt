@@ -11,16 +11,17 @@ use Rattle.text.specs.Words.{if_then_else_}
 use Rattle.text.proofs.Choices.{if-yes, if-no}
 use Rattle.lines.specs.Forms.{erraLine}
 use Rattle.lines.specs.declared.command.Command.{Command}
-use Rattle.answers.specs.Said.{Said, okay, refused, powerIs, chosenIs, mutesAre, errorsAre, lampsAre, inputsAre, textIs, classIs1, nothing}
+use Rattle.answers.specs.Said.{Said, okay, refused, powerIs, chosenIs, mutesAre, errorsAre, lampsAre, inputsAre}
+use Rattle.answers.specs.Said.{textIs, classIs1, nothing}
 use Rattle.answers.specs.Carried.{plainOf, answerOf}
 use Rattle.answers.specs.declared.answer.Kind.the-variants.{Nothing}
-use Rattle.controller.specs.Writing.{commandRoom, isWritable, written}
-use Rattle.controller.specs.Reading.{numberOf, without, saying, readReply, readingOf}
+use Rattle.controller.specs.Writing.{commandRoom, isWritable, writtenCommand}
+use Rattle.controller.specs.Reading.{outcomeNumber, without, saying, readReply, readingOf}
 use Rattle.controller.specs.declared.reading.Outcome.the-variants.{Means, Erra}
 use Rattle.controller.proofs.Cases.{written-by, reply-by, reply-erra}
 
 module _ (c : Command) (secured : Bool) (random : ℕ) (password : List ℕ) (room : ℕ) where
-  pub written-number : written c secured random password room .number
+  pub written-number : writtenCommand c secured random password room .number
       ≡ (if ltb room commandRoom then 2 else if not (isWritable c secured password) then 3 else 0)
   written-number =
       written-by c secured random password room
@@ -29,8 +30,8 @@ module _ (c : Command) (secured : Bool) (random : ℕ) (password : List ℕ) (ro
       (λ h w. sym (if-no _ _ (le-ltb room commandRoom h) ∙ if-yes _ _ (ap not w)))
       (λ h w. sym (if-no _ _ (le-ltb room commandRoom h) ∙ if-no _ _ (ap not w)))
 
-  pub refusal-writes-nothing : (written c secured random password room .number ≡ 0 → ⊥)
-      → written c secured random password room .bytes ≡ []
+  pub refusal-writes-nothing : (writtenCommand c secured random password room .number ≡ 0 → ⊥)
+      → writtenCommand c secured random password room .bytes ≡ []
   refusal-writes-nothing =
       written-by c secured random password room (λ w. (w .number ≡ 0 → ⊥) → w .bytes ≡ []) (λ h n. refl)
       (λ h w n. refl) (λ h w n. absurd (n refl))
@@ -55,8 +56,9 @@ module _ (c : Command) where
       (λ f b n. unsaid _ n)
 
   -- by the number, and as the code returns it: the kind Nothing, zeros beside it
-  pub number-means-nothing : (l : List ℕ) → (numberOf (readReply c l .outcome) ≡ 0 → ⊥) → readReply c l .said ≡ nothing
-  number-means-nothing l n = refusal-means-nothing l (λ e. n (ap numberOf e))
+  pub number-means-nothing : (l : List ℕ) → (outcomeNumber (readReply c l .outcome) ≡ 0 → ⊥)
+      → readReply c l .said ≡ nothing
+  number-means-nothing l n = refusal-means-nothing l (λ e. n (ap outcomeNumber e))
 
   pub refusal-has-zeros : (l : List ℕ) → (readReply c l .outcome ≡ Means → ⊥)
       → readingOf (readReply c l) .answer ≡ plainOf Nothing

@@ -15,26 +15,26 @@ use Rattle.record.proofs.SettingsTold.{settings-told}
 use Rattle.stream.specs.Collecting.{emptyLine}
 use Rattle.device.specs.Receiving.{passwordOf}
 use Rattle.device.specs.Calls.{replyRoom, received}
-use Rattle.controller.specs.Writing.{WrittenAs, commandRoom, written}
+use Rattle.controller.specs.Writing.{WrittenAs, commandRoom, writtenCommand}
 use Rattle.controller.proofs.Cases.{written-plain, written-led}
-use Rattle.controller.proofs.ReadsBack.{ReadBack, reads-back, reads-back-secured}
+use Rattle.controller.proofs.ReadsBack.{TakenAndRead, reads-back, reads-back-secured}
 
 module _ (d : Device) (legal : isLegal d ≡ true) (between : d .connection .line ≡ emptyLine)
     (c : Command) (writable : isCommand c ≡ true) (room : ℕ) (enough : replyRoom ≤ room)
     (memory : ℕ) (lent : commandRoom ≤ memory) where
   -- what is written is no refusal, and is read back
   abbrev Through : WrittenAs → Type 0
-  Through w = (w .number ≡ 0) × ReadBack d c (w .bytes) (received d (w .bytes) room)
+  Through w = (w .number ≡ 0) × TakenAndRead d c (w .bytes) (received d (w .bytes) room)
 
   pub written-reads-back : d .connection .phase ≡ opened → (random : ℕ) (password : List ℕ)
-      → Through (written c false random password memory)
+      → Through (writtenCommand c false random password memory)
   written-reads-back phase random password =
       subst Through (sym (written-plain c false random password memory lent writable refl))
       (refl, reads-back d legal between c writable room enough phase)
 
   -- the device's own random number and password
   pub written-reads-back-secured : d .connection .phase ≡ awaiting
-      → Through (written c true (d .connection .random) (passwordOf (d .settings)) memory)
+      → Through (writtenCommand c true (d .connection .random) (passwordOf (d .settings)) memory)
   written-reads-back-secured phase =
       let told = settings-told (d .settings) (legal-settings d legal) in
       subst Through

@@ -1,9 +1,9 @@
 -- One name that opens this crate's definitions, for computing on concrete records only (01, "Lines that settle it").
 -- Assumes nothing.
-use Rattle.controller.specs.Writing.{written}
+use Rattle.controller.specs.Writing.{writtenCommand}
 use Rattle.controller.specs.Reading.{readReply}
-use Rattle.controller.specs.Greetings.{digitValue, randomIn, readGreeting}
+use Rattle.controller.specs.Greetings.{randomIn, readGreeting}
 
 unfoldable pub computing : Unit {0}
-unfolding written readReply digitValue randomIn readGreeting
+unfolding writtenCommand readReply randomIn readGreeting
 computing = tt

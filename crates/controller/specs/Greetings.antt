@@ -1,39 +1,29 @@
 -- Reading a greeting (01, "Controller"): the two greetings and the ERRA line, each with its CR and nothing more.
---   digitValue b       the number of a lowercase hexadecimal digit; 0 for any other byte
---   valueAfter n s     the number whose digits are those of n, then s
---   randomIn l         the number in the place of the random number
---   greets l r         the line l is the greeting with the random number r, in its eight digits
---   readGreeting l     what the line l is
---   numberOf g         the number of this in the table of 01
+--   randomIn l          the number in the place of the random number
+--   greets l r          the line l is the greeting with the random number r, in its eight digits
+--   readGreeting l      what the line l is
+--   Exactly l g         the line l is the line of g; a line that is no greeting is none of them
+--   greetedOn c         what an opened connection has been greeted with
+--   greetingNumber g    the number of this in the table of 01
 -- Assumes nothing.
-use Prim.Native.Nat.{ℕ, _+_, _*_, _-_}
-use Prim.Native.Char.{code}
+use Prim.Native.Nat.{ℕ, _^_, _<_}
+use mathlib.Core.Path.{_≡_}
 use mathlib.Core.Bool.{Bool}
-use mathlib.Core.List.{List, [], _∷_}
-use Rattle.text.specs.Words.{if_then_else_, _from_to_}
+use mathlib.Core.List.{List}
+use lib.ListN.{take, drop}
+use lib.Dec.{eqb}
+use Rattle.text.specs.Words.{if_then_else_}
 use Rattle.text.specs.Scans.{sameBy, itself}
-use Rattle.digest.specs.Hex.{hexDigits}
-use Rattle.lines.specs.Bytes.{_at_}
+use Rattle.digest.specs.Hex.{hexDigits, hexValue}
 use Rattle.lines.specs.Forms.{erraLine, greetingOpen, greetingSecured}
+use Rattle.record.specs.Limits.{awaiting}
+use Rattle.record.specs.declared.types.Connection.{Connection}
 use Rattle.controller.specs.declared.greeting.Greeting.{Greeting}
 use Rattle.controller.specs.declared.greeting.Greeting.the-variants.{Open, Secured, Refused, NotAGreeting}
 
-unfoldable pub digitValue : ℕ → ℕ
-digitValue b =
-    if b from "0" to "9" then b - code "0"
-    else if b from "a" to "f" then b - code "a" + 10
-    else 0
-
-abbrev pub valueAfter : ℕ → List ℕ → ℕ
-valueAfter n [] = n
-valueAfter n (b ∷ bs) = valueAfter (n * 16 + digitValue b) bs
-
-abbrev pub randomDigits : List ℕ → List ℕ
-randomDigits l =
-    (l at 9) ∷ (l at 10) ∷ (l at 11) ∷ (l at 12) ∷ (l at 13) ∷ (l at 14) ∷ (l at 15) ∷ (l at 16) ∷ []
-
+-- after `PJLINK 1 `
 unfoldable pub randomIn : List ℕ → ℕ
-randomIn l = valueAfter 0 (randomDigits l)
+randomIn l = hexValue (take 8 (drop 9 l))
 
 abbrev pub greets : List ℕ → ℕ → Bool
 greets l r = sameBy itself l (greetingSecured (hexDigits 8 r))
@@ -46,8 +36,18 @@ readGreeting l =
     else if greets l (randomIn l) then Secured (randomIn l)
     else NotAGreeting
 
-abbrev pub numberOf : Greeting → ℕ
-numberOf Open = 0
-numberOf (Secured r) = 0
-numberOf Refused = 0
-numberOf NotAGreeting = 10
+abbrev pub Exactly : List ℕ → Greeting → Type 0
+Exactly l Open = l ≡ greetingOpen
+Exactly l (Secured r) = (r < 2 ^ 32) × (l ≡ greetingSecured (hexDigits 8 r))
+Exactly l Refused = l ≡ erraLine
+Exactly l NotAGreeting = (l ≡ greetingOpen → ⊥) × ((l ≡ erraLine → ⊥)
+    × ((r : ℕ) → r < 2 ^ 32 → l ≡ greetingSecured (hexDigits 8 r) → ⊥))
+
+abbrev pub greetedOn : Connection → Greeting
+greetedOn c = if eqb (c .phase) awaiting then Secured (c .random) else Open
+
+abbrev pub greetingNumber : Greeting → ℕ
+greetingNumber Open = 0
+greetingNumber (Secured r) = 0
+greetingNumber Refused = 0
+greetingNumber NotAGreeting = 10

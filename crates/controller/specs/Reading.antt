@@ -1,6 +1,7 @@
 -- Reading a reply (01, "Controller"). The ERRA line is known for every command (docs/DECISIONS).
 --   ReadAs              what the reader gives: the outcome, and what is said (nothing unless the outcome is Means)
---   numberOf o          the number of an outcome in the table of 01
+--   outcomeNumber o     the number of an outcome in the table of 01
+--   meaning m           the reading that means m
 --   readReply c l       what the line l, with its CR, says to the command c: the ERRA line, then the form, then the
 --                       body, then the parameter
 --   readingOf r         this as the code returns it
@@ -16,43 +17,51 @@ use Rattle.lines.specs.Forms.{erraLine, isReplyForm, headBody, replyParameter}
 use Rattle.lines.specs.Requests.{isBody}
 use Rattle.lines.specs.Commands.{bodyOf}
 use Rattle.lines.specs.declared.command.Command.{Command}
-use Rattle.answers.specs.Said.{Said, okay, refused, powerIs, chosenIs, mutesAre, errorsAre, lampsAre, inputsAre, textIs, classIs1, nothing}
+use Rattle.answers.specs.Said.{Said, nothing}
 use Rattle.answers.specs.Carried.{answerOf}
 use Rattle.answers.specs.Reading.{readParameter}
 use Rattle.answers.specs.Writings.{Says}
 use Rattle.answers.specs.declared.answer.Kind.{Kind}
-use Rattle.answers.specs.declared.answer.Kind.the-variants.{Ok, Refused, Powered, Chosen, Muted, Errors, Lamps, Inputs, Text, Class, Nothing}
+use Rattle.answers.specs.declared.answer.Kind.the-variants.{Ok, Refused, Powered, Chosen, Muted, Errors, Lamps, Inputs}
+use Rattle.answers.specs.declared.answer.Kind.the-variants.{Text, Class, Nothing}
 use Rattle.controller.specs.declared.reading.Outcome.{Outcome}
-use Rattle.controller.specs.declared.reading.Outcome.the-variants.{Means, Erra, NotALine, OtherCommand, NotAllowed}
+use Rattle.controller.specs.declared.reading.Outcome.the-variants.{Means, Erra, NotALine, OtherCommand}
+use Rattle.controller.specs.declared.reading.Outcome.the-variants.{NotAllowed}
 use Rattle.controller.specs.declared.reading.Reading.{Reading}
 
 pub record ReadAs : Type 0 where
   pub outcome : Outcome
   pub said : Said
 
-abbrev pub numberOf : Outcome → ℕ
-numberOf Means = 0
-numberOf Erra = 0
-numberOf NotALine = 10
-numberOf OtherCommand = 11
-numberOf NotAllowed = 12
+abbrev pub outcomeNumber : Outcome → ℕ
+outcomeNumber Means = 0
+outcomeNumber Erra = 0
+outcomeNumber NotALine = 10
+outcomeNumber OtherCommand = 11
+outcomeNumber NotAllowed = 12
+
+abbrev pub meaning : Said → ReadAs
+meaning m = record { outcome = Means; said = m }
 
 abbrev pub without : Outcome → ReadAs
 without o = record { outcome = o; said = nothing }
 
 -- a parameter that says nothing is not allowed
+abbrev pub kindOutcome : Kind → Outcome
+kindOutcome Ok = Means
+kindOutcome (Refused n) = Means
+kindOutcome (Powered p) = Means
+kindOutcome (Chosen i) = Means
+kindOutcome (Muted video audio) = Means
+kindOutcome Errors = Means
+kindOutcome (Lamps n) = Means
+kindOutcome (Inputs n) = Means
+kindOutcome (Text n) = Means
+kindOutcome Class = Means
+kindOutcome Nothing = NotAllowed
+
 abbrev pub outcomeOf : Said → Outcome
-outcomeOf okay = Means
-outcomeOf (refused n) = Means
-outcomeOf (powerIs p) = Means
-outcomeOf (chosenIs i) = Means
-outcomeOf (mutesAre video audio) = Means
-outcomeOf (errorsAre ds) = Means
-outcomeOf (lampsAre ls) = Means
-outcomeOf (inputsAre is) = Means
-outcomeOf (textIs s) = Means
-outcomeOf classIs1 = Means
-outcomeOf nothing = NotAllowed
+outcomeOf m = kindOutcome (answerOf m .kind)
 
 abbrev pub saying : Said → ReadAs
 saying m = record { outcome = outcomeOf m; said = m }
@@ -72,17 +81,3 @@ pub record LineSays (c : Command) (l : List ℕ) (m : Said) : Type 0 where
   pub form : isReplyForm l ≡ true
   pub body : isBody (headBody l) (bodyOf c) ≡ true
   pub says : Says c m (replyParameter l)
-
--- the outcome by the kind of the answer
-abbrev pub kindOutcome : Kind → Outcome
-kindOutcome Ok = Means
-kindOutcome (Refused n) = Means
-kindOutcome (Powered p) = Means
-kindOutcome (Chosen i) = Means
-kindOutcome (Muted video audio) = Means
-kindOutcome Errors = Means
-kindOutcome (Lamps n) = Means
-kindOutcome (Inputs n) = Means
-kindOutcome (Text n) = Means
-kindOutcome Class = Means
-kindOutcome Nothing = NotAllowed

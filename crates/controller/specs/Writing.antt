@@ -3,7 +3,8 @@
 --   commandRoom                      less lent memory is 2: the digest and the longest line that the standard allows
 --   isWritable c secured password    the command's line can be written, and a digest is asked for of a legal password
 --   ledBy secured random password    what stands before the line: where asked for, the digest
---   written c secured random password room     2, 3, or the line
+--   nothingWritten n                 a refusal: the number n, and no bytes
+--   writtenCommand c secured random password room     2, 3, or the line
 -- Assumes nothing.
 use Prim.Native.Nat.{ℕ}
 use mathlib.Core.Bool.{Bool, not, _&&_, _||_}
@@ -21,8 +22,8 @@ pub record WrittenAs : Type 0 where
   pub number : ℕ
   pub bytes : List ℕ
 
-abbrev pub refusing : ℕ → WrittenAs
-refusing n = record { number = n; bytes = [] }
+abbrev pub nothingWritten : ℕ → WrittenAs
+nothingWritten n = record { number = n; bytes = [] }
 
 abbrev pub commandRoom : ℕ
 commandRoom = 168
@@ -33,10 +34,10 @@ isWritable c secured password = isCommand c && (not secured || isPassword passwo
 abbrev pub ledBy : Bool → ℕ → List ℕ → List ℕ
 ledBy secured random password = if secured then leadingDigest random password else []
 
-unfoldable pub written : Command → Bool → ℕ → List ℕ → ℕ → WrittenAs
-written c secured random password room =
-    if ltb room commandRoom then refusing 2
-    else if not (isWritable c secured password) then refusing 3
+unfoldable pub writtenCommand : Command → Bool → ℕ → List ℕ → ℕ → WrittenAs
+writtenCommand c secured random password room =
+    if ltb room commandRoom then nothingWritten 2
+    else if not (isWritable c secured password) then nothingWritten 3
     else record { number = 0; bytes = ledBy secured random password ++ commandLine c }
 
 abbrev pub toldWritten : WrittenAs → Written

@@ -5,7 +5,7 @@ use lines::texts;
 ghost use mathlib.Core.Path.{_≡_};
 ghost use lib.ListN.{length};
 ghost use Rattle.text.specs.Words.{over};
-ghost use Rattle.controller.specs.Writing.{written, toldWritten};
+ghost use Rattle.controller.specs.Writing.{writtenCommand, toldWritten};
 
 #[repr(C)]
 pub struct Written {
@@ -21,8 +21,9 @@ pub fn write_command(
     password: &[u8],
     out: &mut [u8],
 ) -> Written
-    ensures { λ r. ⌜ r ≡ toldWritten (written c secured random (now (password .entry)) (length (now (out .entry)))) ⌝ }
-    ensures { λ _. ⌜ now (out .exit) ≡ over (written c secured random (now (password .entry))
+    ensures { λ r. ⌜ r ≡ toldWritten (writtenCommand c secured random (now (password .entry))
+        (length (now (out .entry)))) ⌝ }
+    ensures { λ _. ⌜ now (out .exit) ≡ over (writtenCommand c secured random (now (password .entry))
         (length (now (out .entry))) .bytes) (now (out .entry)) ⌝ }
 {
     if out.len() < 168 {

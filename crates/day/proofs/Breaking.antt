@@ -11,14 +11,14 @@ use native.Mathlib.Omega.{arith}
 use lib.ListN.{length}
 use lib.Dec.{ltb}
 use borrow.Author.Tests.{lt-ltb, le-ltb, ltb-true, ltb-false}
-use Rattle.text.proofs.Choices.{both-left, both-right}
-use Rattle.day.specs.Finding.{first, _at_}
+use Rattle.text.proofs.Choices.{both-left, both-right, by-not, by-not-not}
+use Rattle.day.specs.Finding.{first, _nth_}
 use Rattle.day.specs.Days.{Day, rigs}
 use Rattle.day.specs.Rules.{burnt, HasRig, InTime, Share, Lasts}
 use Rattle.day.specs.Tests.{clashes}
 use Rattle.day.specs.Verdicts.{unrigged, early, clashing, clashWith, spent}
 use Rattle.day.specs.VerdictHolds.{InRange, LowestBreaking}
-use Rattle.day.proofs.Finding.{not-both, by-not, by-not-not, first-lowest, first-is, first-none, none-below}
+use Rattle.day.proofs.Finding.{not-both, first-lowest, first-is, first-none, none-below}
 use Rattle.day.proofs.Kept.{met}
 use Rattle.day.proofs.Keeping.{rig-told, rig-tested, met-shares, meet-told}
 
@@ -60,15 +60,15 @@ module _ (d : Day) (a : List ℕ) where
   pub time-finds : Finds (early d a) (InTime d a) (length a)
   time-finds =
       record {
-        kept = λ j h. ltb-false (d .starts at j) (d .warm at (a at j));
-        passed = λ j h. le-ltb (d .starts at j) (d .warm at (a at j));
+        kept = λ j h. ltb-false (d .starts nth j) (d .warm nth (a nth j));
+        passed = λ j h. le-ltb (d .starts nth j) (d .warm nth (a nth j));
       }
 
   pub life-finds : Finds (spent d a) (Lasts d a) (rigs d)
   life-finds =
       record {
-        kept = λ r h. ltb-false (d .life at r) (burnt (d .lengths) (d .warm) a r);
-        passed = λ r h. le-ltb (d .life at r) (burnt (d .lengths) (d .warm) a r);
+        kept = λ r h. ltb-false (d .life nth r) (burnt (d .lengths) (d .warm) a r);
+        passed = λ r h. le-ltb (d .life nth r) (burnt (d .lengths) (d .warm) a r);
       }
 
   abbrev pub clash : ℕ → ℕ → Bool

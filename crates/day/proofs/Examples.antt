@@ -7,8 +7,8 @@ use mathlib.Core.List.{List, [], _∷_}
 use Rattle.day.specs.Finding.{first, each}
 use Rattle.day.specs.Days.{Day, day, isAllowed, isDay}
 use Rattle.day.specs.Tests.{share}
-use Rattle.day.specs.Verdicts.{judged, checked, isKept}
-use Rattle.day.specs.Plans.{rigFor, planned, planOf, written}
+use Rattle.day.specs.Verdicts.{judged, checked, keepsRules}
+use Rattle.day.specs.Plans.{rigFor, planned, planOf, rigsWritten}
 use Rattle.day.specs.declared.check.Verdict.the-variants.{OutOfRange, Accepted, NoRig, TooEarly, Clash, Spent}
 use Rattle.day.specs.declared.plan.Plan.the-variants.{Planned, Unplaced}
 
@@ -50,11 +50,12 @@ end-past-the-day = refl
 
 -- the second job would share a second with the first, and finds the other rig; the third follows the first
 lowest-that-fits : (planOf (ofThree (three 10 34 35) 40) 4 ≡ Planned)
-    × (written (ofThree (three 10 34 35) 40) 4 ≡ three 0 1 0)
-unfolding planOf written planned rigFor isKept judged isDay each first isAllowed share
+    × (rigsWritten (ofThree (three 10 34 35) 40) 4 ≡ three 0 1 0)
+unfolding planOf rigsWritten planned rigFor keepsRules judged isDay each first isAllowed share
 lowest-that-fits = (refl, refl)
 
 -- the first rig lacks a second of life, and the second shares a second
-third-finds-none : (planOf (ofThree (three 10 34 35) 39) 4 ≡ Unplaced 2) × (written (ofThree (three 10 34 35) 39) 4 ≡ [])
-unfolding planOf written planned rigFor isKept judged isDay each first isAllowed share
+third-finds-none : (planOf (ofThree (three 10 34 35) 39) 4 ≡ Unplaced 2)
+    × (rigsWritten (ofThree (three 10 34 35) 39) 4 ≡ [])
+unfolding planOf rigsWritten planned rigFor keepsRules judged isDay each first isAllowed share
 third-finds-none = (refl, refl)

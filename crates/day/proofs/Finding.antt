@@ -16,15 +16,6 @@ use Rattle.day.specs.Finding.{first, firstFrom, fails, each}
 pub not-both : (b : Bool) → b ≡ true → b ≡ false → ⊥
 not-both b p q = let z : _≡_ {A = ℕ} 0 1 = cc in omega arith
 
--- a test that does not hold, by what would follow if it did; and one that holds
-pub by-not : (b : Bool) → (b ≡ true → ⊥) → b ≡ false
-by-not true h = absurd (h refl)
-by-not false h = refl
-
-pub by-not-not : (b : Bool) → (b ≡ false → ⊥) → b ≡ true
-by-not-not true h = refl
-by-not-not false h = absurd (h refl)
-
 pub by-test : {R : Type 0} (b : Bool) → (b ≡ true → R) → (b ≡ false → R) → R
 by-test true p q = p refl
 by-test false p q = q refl

@@ -9,14 +9,14 @@ use native.Mathlib.Omega.{arith}
 use lib.ListN.{length}
 use lib.Dec.{ltb, eqb}
 use borrow.Author.Tests.{lt-ltb, le-ltb, ltb-true, ltb-false, eq-eqb, eqb-true, not-false}
-use Rattle.text.proofs.Choices.{both, both-left, both-right}
-use Rattle.day.specs.Finding.{_at_}
+use Rattle.text.proofs.Choices.{both, both-left, both-right, by-not}
+use Rattle.day.specs.Finding.{_nth_}
 use Rattle.day.specs.Days.{Day, jobs, rigs, isAllowed, isDay}
 use Rattle.day.specs.Rules.{burnt, HasRig, Occupies, Share, Keeps}
 use Rattle.day.specs.Tests.{share}
-use Rattle.day.specs.Verdicts.{unrigged, checked, isAccepted, isKept}
+use Rattle.day.specs.Verdicts.{unrigged, checked, isAccepted, keepsRules}
 use Rattle.day.specs.declared.check.Verdict.the-variants.{Accepted}
-use Rattle.day.proofs.Finding.{not-both, by-not}
+use Rattle.day.proofs.Finding.{not-both}
 use Rattle.day.proofs.Ranges.{job-long}
 use Rattle.day.proofs.Judged.{checked-judged}
 use Rattle.day.proofs.Kept.{met, Passes, passes-accepted, passes-kept, kept-passes}
@@ -43,36 +43,36 @@ module _ (w c s l t m : ℕ) where
 module _ (d : Day) (a : List ℕ) where
   pub rig-told : (j : ℕ) → unrigged d a j ≡ false → HasRig d a j
   rig-told j e =
-      let t = not-false (ltb (a at j) (rigs d) && isAllowed (d .allowed at j) (a at j)) e in (
-        ltb-true (a at j) (rigs d) (both-left (ltb (a at j) (rigs d)) (isAllowed (d .allowed at j) (a at j)) t),
-        both-right (ltb (a at j) (rigs d)) (isAllowed (d .allowed at j) (a at j)) t,
+      let t = not-false (ltb (a nth j) (rigs d) && isAllowed (d .allowed nth j) (a nth j)) e in (
+        ltb-true (a nth j) (rigs d) (both-left (ltb (a nth j) (rigs d)) (isAllowed (d .allowed nth j) (a nth j)) t),
+        both-right (ltb (a nth j) (rigs d)) (isAllowed (d .allowed nth j) (a nth j)) t,
       )
 
   pub rig-tested : (j : ℕ) → HasRig d a j → unrigged d a j ≡ false
-  rig-tested j h = ap not (both (lt-ltb (a at j) (rigs d) (h .0)) (h .1))
+  rig-tested j h = ap not (both (lt-ltb (a nth j) (rigs d) (h .0)) (h .1))
 
   -- the rigs are one, so both jobs' stretches are on it
-  pub met-shares : (i j : ℕ) → (1 ≤ d .lengths at i) → (1 ≤ d .lengths at j) → met d a i j ≡ true → Share d a i j
+  pub met-shares : (i j : ℕ) → (1 ≤ d .lengths nth i) → (1 ≤ d .lengths nth j) → met d a i j ≡ true → Share d a i j
   met-shares i j l m e =
-      let same = eqb-true (a at i) (a at j) (both-left (eqb (a at i) (a at j)) _ e) in
-      let x = second-shared (d .warm at (a at j)) (d .cool at (a at j)) (d .starts at i) (d .lengths at i)
-      (d .starts at j) (d .lengths at j) l m (both-right (eqb (a at i) (a at j)) _ e) in
+      let same = eqb-true (a nth i) (a nth j) (both-left (eqb (a nth i) (a nth j)) _ e) in
+      let x = second-shared (d .warm nth (a nth j)) (d .cool nth (a nth j)) (d .starts nth i) (d .lengths nth i)
+      (d .starts nth j) (d .lengths nth j) l m (both-right (eqb (a nth i) (a nth j)) _ e) in
       (same, (x .0, subst (λ (r : ℕ). Occupies d r i (x .0)) (sym same) (x .1), x .2))
 
   pub meet-told : (i j : ℕ) → met d a i j ≡ false → Share d a i j → ⊥
   meet-told i j e (same, (x, p, q)) =
       not-both (met d a i j)
-      (both (eq-eqb (a at i) (a at j) same)
-      (shared-second (d .warm at (a at j)) (d .cool at (a at j)) (d .starts at i) (d .lengths at i) (d .starts at j)
-      (d .lengths at j) (x, subst (λ (r : ℕ). Occupies d r i x) same p, q))) e
+      (both (eq-eqb (a nth i) (a nth j) same)
+      (shared-second (d .warm nth (a nth j)) (d .cool nth (a nth j)) (d .starts nth i) (d .lengths nth i)
+      (d .starts nth j) (d .lengths nth j) (x, subst (λ (r : ℕ). Occupies d r i x) same p, q))) e
 
   pub passes-keeps : Passes d a → Keeps d a
   passes-keeps p =
       record {
         rigged = λ j h. rig-told j (p .rigged j h);
-        timely = λ j h. ltb-false (d .starts at j) (d .warm at (a at j)) (p .timely j h);
+        timely = λ j h. ltb-false (d .starts nth j) (d .warm nth (a nth j)) (p .timely j h);
         apart = λ i j k h. meet-told i j (p .apart i j k h);
-        lasting = λ r h. ltb-false (d .life at r) (burnt (d .lengths) (d .warm) a r) (p .lasting r h);
+        lasting = λ r h. ltb-false (d .life nth r) (burnt (d .lengths) (d .warm) a r) (p .lasting r h);
       }
 
   module _ (ranged : isDay d ≡ true) (few : length a ≤ jobs d) where
@@ -80,24 +80,24 @@ module _ (d : Day) (a : List ℕ) where
     keeps-passes k =
         record {
           rigged = λ j h. rig-tested j (k .rigged j h);
-          timely = λ j h. le-ltb (d .starts at j) (d .warm at (a at j)) (k .timely j h);
+          timely = λ j h. le-ltb (d .starts nth j) (d .warm nth (a nth j)) (k .timely j h);
           apart = λ i j l h.
               let long = job-long d ranged in
               by-not (met d a i j)
               (λ e. k .apart i j l h (met-shares i j (long i (omega arith)) (long j (omega arith)) e));
-          lasting = λ r h. le-ltb (d .life at r) (burnt (d .lengths) (d .warm) a r) (k .lasting r h);
+          lasting = λ r h. le-ltb (d .life nth r) (burnt (d .lengths) (d .warm) a r) (k .lasting r h);
         }
 
-    pub kept-keeps : isKept d a ≡ true → Keeps d a
+    pub kept-keeps : keepsRules d a ≡ true → Keeps d a
     kept-keeps e = passes-keeps (kept-passes d a e)
 
-    pub keeps-kept : Keeps d a → isKept d a ≡ true
+    pub keeps-kept : Keeps d a → keepsRules d a ≡ true
     keeps-kept k = passes-kept d a (keeps-passes k)
 
   -- the checker accepts exactly if all four rules hold
   module _ (ranged : isDay d ≡ true) (one-each : length a ≡ jobs d) where
     pub accepted-keeps : checked d a ≡ Accepted → Keeps d a
-    unfolding isKept
+    unfolding keepsRules
     accepted-keeps e =
         kept-keeps ranged (omega arith) (ap isAccepted (checked-judged d a ranged one-each ∙ e))
 

@@ -10,10 +10,10 @@ use native.Mathlib.Omega.{arith}
 use lib.ListN.{length}
 use borrow.Author.Tests.{lt-ltb, le-ltb, ltb-false}
 use Rattle.text.proofs.Orders.{le-or-lt}
-use Rattle.day.specs.Finding.{first, _at_}
+use Rattle.day.specs.Finding.{first, _nth_}
 use Rattle.day.specs.Days.{Day, rigs}
 use Rattle.day.specs.Tests.{meets, clashes}
-use Rattle.day.specs.Verdicts.{unrigged, early, clashing, clashWith, spent, judged, isAccepted, isKept}
+use Rattle.day.specs.Verdicts.{unrigged, early, clashing, clashWith, spent, judged, isAccepted, keepsRules}
 use Rattle.day.specs.declared.check.Verdict.{Verdict}
 use Rattle.day.specs.declared.check.Verdict.the-variants.{Accepted}
 use Rattle.day.proofs.Finding.{not-both, first-none, none-below}
@@ -21,7 +21,7 @@ use Rattle.day.proofs.Judged.{judged-unrigged, judged-early, judged-cla
 
 module _ (d : Day) (a : List ℕ) where
   abbrev pub met : ℕ → ℕ → Bool
-  met i j = meets (d .starts) (d .lengths) (d .warm) (d .cool) a (a at j) i j
+  met i j = meets (d .starts) (d .lengths) (d .warm) (d .cool) a (a nth j) i j
 
   pub record Passes : Type 0 where
     pub rigged : (j : ℕ) → j < length a → unrigged d a j ≡ false
@@ -52,13 +52,13 @@ module _ (d : Day) (a : List ℕ) where
         (sym (first-none (clashing d a) n no-clashing)) none
         (sym (first-none (spent d a) (rigs d) (p .lasting))) all)
 
-    pub passes-kept : isKept d a ≡ true
-    unfolding isKept
+    pub passes-kept : keepsRules d a ≡ true
+    unfolding keepsRules
     passes-kept = ap isAccepted passes-accepted
 
-  module _ (e : isKept d a ≡ true) where
+  module _ (e : keepsRules d a ≡ true) where
     not-named : (v : Verdict) → isAccepted v ≡ false → v ≡ judged d a → ⊥
-    unfolding isKept
+    unfolding keepsRules
     not-named v f p = not-both (isAccepted (judged d a)) e (ap isAccepted (sym p) ∙ f)
 
     abbrev n : ℕ

@@ -8,7 +8,7 @@ use native.Mathlib.Omega.{arith}
 use lib.ListN.{length, take}
 use lib.Seq.{take-suc, take-all, take-length}
 use Rattle.text.proofs.Orders.{le-or-lt}
-use Rattle.day.specs.Finding.{_at_}
+use Rattle.day.specs.Finding.{_nth_}
 use Rattle.day.specs.Days.{Day, jobs}
 use Rattle.day.specs.Rules.{Keeps}
 use Rattle.day.specs.Greedy.{LowestRig, FindsNone, Greedy, Furthest}
@@ -26,16 +26,16 @@ module _ (d : Day) where
     same-start zero h l = refl
     same-start (suc k) h l =
         let before = same-start k (omega arith) (omega arith) in
-        let rig : a at k ≡ b at k =
-        rig-one (subst (λ (s : List ℕ). LowestRig d s (a at k)) before (f k (omega arith))) (g k (omega arith)) in
+        let rig : a nth k ≡ b nth k =
+        rig-one (subst (λ (s : List ℕ). LowestRig d s (a nth k)) before (f k (omega arith))) (g k (omega arith)) in
         take-suc a k 0 (omega arith) ∙ (λ i. before i ++ (rig i ∷ [])) ∙ sym (take-suc b k 0 (omega arith))
 
     not-shorter : (length a < jobs d → FindsNone d a) → length b ≤ jobs d → length a < length b → ⊥
     not-shorter stopped within h =
         let n = length a in
         let start : take n b ≡ a = sym (same-start n (omega arith) (omega arith)) ∙ take-length a in
-        stopped (omega arith) (b at n)
-        (subst (λ (s : List ℕ). Keeps d (s ++ (b at n ∷ []))) start (g n h .keeps))
+        stopped (omega arith) (b nth n)
+        (subst (λ (s : List ℕ). Keeps d (s ++ (b nth n ∷ []))) start (g n h .keeps))
 
   pub furthest-one : (a b : List ℕ) → Furthest d a → Furthest d b → a ≡ b
   furthest-one a b p q =

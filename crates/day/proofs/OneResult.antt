@@ -8,7 +8,7 @@ use Rattle.text.specs.Words.{over}
 use Rattle.text.proofs.OneResult.{one-result, Left, one-left}
 use Rattle.day.specs.Days.{Day}
 use Rattle.day.specs.Verdicts.{checked}
-use Rattle.day.specs.Plans.{planOf, written}
+use Rattle.day.specs.Plans.{planOf, rigsWritten}
 use Rattle.day.specs.declared.check.Verdict.{Verdict}
 use Rattle.day.specs.declared.plan.Plan.{Plan}
 
@@ -18,7 +18,7 @@ one-verdict d a = one-result
 -- out is the lent list
 module _ (d : Day) (out : List ℕ) where
   abbrev pub PlansInto : Plan → List ℕ → Type 0
-  PlansInto = Left (planOf d (length out)) (over (written d (length out)) out)
+  PlansInto = Left (planOf d (length out)) (over (rigsWritten d (length out)) out)
 
   pub one-plan : {r s : Plan} {m n : List ℕ} → PlansInto r m → PlansInto s n → (r ≡ s) × (m ≡ n)
   one-plan p q = one-left p q

@@ -14,29 +14,29 @@ use lib.Dec.{ltb, leb}
 use borrow.Author.Tests.{lt-ltb, le-ltb, le-leb, lt-leb}
 use Rattle.text.specs.Words.{if_then_else_}
 use Rattle.text.proofs.Choices.{if-yes, if-no, both}
-use Rattle.day.specs.Finding.{first, _at_}
+use Rattle.day.specs.Finding.{first, _nth_}
 use Rattle.day.specs.Days.{Day, jobs, rigs, isDay}
-use Rattle.day.specs.Verdicts.{isKept}
-use Rattle.day.specs.Plans.{joins, rigFor, plannedFrom, planned, Placed, isPlannable, planOf, written}
+use Rattle.day.specs.Verdicts.{keepsRules}
+use Rattle.day.specs.Plans.{joins, rigFor, plannedFrom, planned, Placed, isPlannable, planOf, rigsWritten}
 use Rattle.day.specs.declared.plan.Plan.the-variants.{OutOfRange, Planned, Unplaced}
 use Rattle.day.proofs.Finding.{first-lowest}
 use Rattle.day.proofs.Kept.{passes-kept}
 use Rattle.day.proofs.Joining.{joins-kept, rig-found}
 
-pub nothing-kept : (d : Day) → isKept d [] ≡ true
+pub nothing-kept : (d : Day) → keepsRules d [] ≡ true
 nothing-kept d =
     passes-kept d []
     (record {
       rigged = λ j h. absurd (omega arith);
       timely = λ j h. absurd (omega arith);
       apart = λ i j k h. absurd (omega arith);
-      lasting = λ r h. le-ltb (d .life at r) 0 (omega arith);
+      lasting = λ r h. le-ltb (d .life nth r) 0 (omega arith);
     })
 
 pub record Going (d : Day) (array : List ℕ) (j : ℕ) : Type 0 where
   pub inside : j ≤ jobs d
   pub room : length array ≡ 64
-  pub kept : isKept d (take j array) ≡ true
+  pub kept : keepsRules d (take j array) ≡ true
   pub rest : planned d ≡ plannedFrom d (jobs d - j) (take j array)
 
 module _ (d : Day) (array : List ℕ) where
@@ -96,25 +96,25 @@ module _ (d : Day) (array : List ℕ) where
             record {
               inside = omega arith;
               room = length-set array j r ∙ g .room;
-              kept = ap (isKept d) with-it ∙ joins-kept d a (g .kept) r k ∙ joined;
+              kept = ap (keepsRules d) with-it ∙ joins-kept d a (g .kept) r k ∙ joined;
               rest = next ∙ if-yes _ _ (lt-ltb r (rigs d) k)
                   ∙ ap (plannedFrom d (jobs d - (j + 1))) (sym with-it);
             }
 
 -- what the planner answers and what it writes
 module _ (d : Day) (room : ℕ) where
-  pub plan-refused : isPlannable d room ≡ false → (OutOfRange ≡ planOf d room) × (written d room ≡ [])
-  unfolding planOf written
+  pub plan-refused : isPlannable d room ≡ false → (OutOfRange ≡ planOf d room) × (rigsWritten d room ≡ [])
+  unfolding planOf rigsWritten
   plan-refused e = (
     sym (if-yes _ _ (ap not e)),
     if-no _ _ (ap (λ (b : Bool). b && leb (jobs d) (length (planned d))) e),
   )
 
-  pub plan-no-day : isDay d ≡ false → (OutOfRange ≡ planOf d room) × (written d room ≡ [])
+  pub plan-no-day : isDay d ≡ false → (OutOfRange ≡ planOf d room) × (rigsWritten d room ≡ [])
   plan-no-day e = plan-refused (ap (λ (b : Bool). b && leb (jobs d) room) e)
 
   module _ (ranged : isDay d ≡ true) where
-    pub plan-no-room : room < jobs d → (OutOfRange ≡ planOf d room) × (written d room ≡ [])
+    pub plan-no-room : room < jobs d → (OutOfRange ≡ planOf d room) × (rigsWritten d room ≡ [])
     plan-no-room h =
         plan-refused (ap (λ (b : Bool). b && leb (jobs d) room) ranged ∙ lt-leb (jobs d) room h)
 
@@ -122,8 +122,8 @@ module _ (d : Day) (room : ℕ) where
       plannable : isPlannable d room ≡ true
       plannable = both ranged (le-leb (jobs d) room fits)
 
-      pub plan-fails : count < jobs d → (Unplaced count ≡ planOf d room) × (written d room ≡ [])
-      unfolding planOf written
+      pub plan-fails : count < jobs d → (Unplaced count ≡ planOf d room) × (rigsWritten d room ≡ [])
+      unfolding planOf rigsWritten
       plan-fails h = (
         ap Unplaced e
             ∙ sym (if-no _ _ (ap not plannable) ∙ if-yes _ _ (lt-ltb (length (planned d)) (jobs d) (omega arith))),
@@ -131,8 +131,8 @@ module _ (d : Day) (room : ℕ) where
             ∙ lt-leb (jobs d) (length (planned d)) (omega arith)),
       )
 
-      pub plan-made : jobs d ≤ count → (Planned ≡ planOf d room) × (written d room ≡ planned d)
-      unfolding planOf written
+      pub plan-made : jobs d ≤ count → (Planned ≡ planOf d room) × (rigsWritten d room ≡ planned d)
+      unfolding planOf rigsWritten
       plan-made h = (
         sym (if-no _ _ (ap not plannable) ∙ if-no _ _ (le-ltb (length (planned d)) (jobs d) (omega arith))),
         if-yes _ _ (both plannable (le-leb (jobs d) (length (planned d)) (omega arith))),

@@ -13,7 +13,7 @@ use borrow.Author.Tests.{leb-true, le-leb}
 use Rattle.text.proofs.Choices.{both, both-left, both-right}
 use Rattle.text.proofs.Orders.{le-or-lt}
 use Rattle.day.specs.Days.{Day, jobs, isDay}
-use Rattle.day.specs.Plans.{planned, isPlannable, planOf, written}
+use Rattle.day.specs.Plans.{planned, isPlannable, planOf, rigsWritten}
 use Rattle.day.specs.PlanHolds.{HasRoom, PlanHolds}
 use Rattle.day.specs.declared.plan.Plan.{Plan}
 use Rattle.day.specs.declared.plan.Plan.the-variants.{OutOfRange, Planned, Unplaced}
@@ -43,7 +43,7 @@ module _ (d : Day) (room : ℕ) where
     ranged : isDay d ≡ true
     ranged = ranged-day d (h .0)
 
-    room-told-holds : Holds (planOf d room) (written d room)
+    room-told-holds : Holds (planOf d room) (rigsWritten d room)
     room-told-holds =
         ⊎-elim
         (λ (all : jobs d ≤ n).
@@ -56,7 +56,7 @@ module _ (d : Day) (room : ℕ) where
         subst₂ Holds (fails .0) (sym (fails .1)) (h, (planned d, f .greedy, refl, some, f .stopped some), refl))
         (le-or-lt (jobs d) n)
 
-  pub plan-told-holds : PlanHolds d room (planOf d room) (written d room)
+  pub plan-told-holds : PlanHolds d room (planOf d room) (rigsWritten d room)
   plan-told-holds =
       by-test (isPlannable d room) (λ e. room-told-holds (plannable-room e))
       (λ e.
@@ -65,7 +65,7 @@ module _ (d : Day) (room : ℕ) where
       ((λ h. not-both (isPlannable d room) (room-plannable h) e), refl))
 
   -- and what holds is told
-  pub plan-holds-told : (p : Plan) (w : List ℕ) → PlanHolds d room p w → (planOf d room ≡ p) × (written d room ≡ w)
+  pub plan-holds-told : (p : Plan) (w : List ℕ) → PlanHolds d room p w → (planOf d room ≡ p) × (rigsWritten d room ≡ w)
   plan-holds-told OutOfRange w (out, nothing) =
       by-test (isPlannable d room) (λ e. absurd (out (plannable-room e)))
       (λ e. let refused = plan-refused d room e in (sym (refused .0), refused .1 ∙ sym nothing))

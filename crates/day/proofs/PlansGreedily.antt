@@ -14,9 +14,9 @@ use lib.Dec.{ltb}
 use borrow.Author.Tests.{ltb-true, ltb-false}
 use Rattle.text.proofs.Choices.{if-by}
 use Rattle.text.proofs.Orders.{le-or-lt}
-use Rattle.day.specs.Finding.{first, _at_}
+use Rattle.day.specs.Finding.{first, _nth_}
 use Rattle.day.specs.Days.{Day, jobs, rigs, isDay}
-use Rattle.day.specs.Verdicts.{checked, isKept}
+use Rattle.day.specs.Verdicts.{checked, keepsRules}
 use Rattle.day.specs.Plans.{rigFor, plannedFrom, planned, planOf}
 use Rattle.day.specs.Greedy.{LowestRig, FindsNone, Greedy, Furthest}
 use Rattle.day.specs.declared.check.Verdict.the-variants.{Accepted}
@@ -33,7 +33,7 @@ module _ (d : Day) (ranged : isDay d ≡ true) where
   -- the next job's rig
   module _ (a : List ℕ) (more : length a < jobs d) where
     abbrev fits : ℕ → Bool
-    fits r = isKept d (a ++ (r ∷ []))
+    fits r = keepsRules d (a ++ (r ∷ []))
 
     longer : (r : ℕ) → length (a ++ (r ∷ [])) ≤ jobs d
     longer r = omega (arith, length-append a (r ∷ []))
@@ -47,7 +47,7 @@ module _ (d : Day) (ranged : isDay d ≡ true) where
           lowest = λ q k w. not-both (fits q) (keeps-kept d (a ++ (q ∷ [])) ranged (longer q) w) (l .before q k);
         }
 
-    kept-next : rigFor d a < rigs d → isKept d (a ++ (rigFor d a ∷ [])) ≡ true
+    kept-next : rigFor d a < rigs d → keepsRules d (a ++ (rigFor d a ∷ [])) ≡ true
     unfolding rigFor
     kept-next h = first-lowest fits (rigs d) .here h
 
@@ -63,22 +63,22 @@ module _ (d : Day) (ranged : isDay d ≡ true) where
       ⊎-elim
       (λ (k : length a ≤ j).
       let here : length a ≡ j = omega (arith, length-append a (r ∷ [])) in
-      subst (λ (j : ℕ). LowestRig d (take j (a ++ (r ∷ []))) ((a ++ (r ∷ [])) at j)) here last)
+      subst (λ (j : ℕ). LowestRig d (take j (a ++ (r ∷ []))) ((a ++ (r ∷ [])) nth j)) here last)
       (λ (k : j < length a).
-      subst (λ (s : List ℕ). LowestRig d s ((a ++ (r ∷ [])) at j)) (sym (take-append-le j a (r ∷ []) (omega arith)))
+      subst (λ (s : List ℕ). LowestRig d s ((a ++ (r ∷ [])) nth j)) (sym (take-append-le j a (r ∷ []) (omega arith)))
       (subst (λ (q : ℕ). LowestRig d (take j a) q) (sym (List·getD-append a (r ∷ []) 0 j k)) (g j k)))
       (le-or-lt (length a) j)
     where
-      last : LowestRig d (take (length a) (a ++ (r ∷ []))) ((a ++ (r ∷ [])) at length a)
+      last : LowestRig d (take (length a) (a ++ (r ∷ []))) ((a ++ (r ∷ [])) nth length a)
       last =
-          subst (λ (s : List ℕ). LowestRig d s ((a ++ (r ∷ [])) at length a)) (sym (take-append-seam a (r ∷ [])))
+          subst (λ (s : List ℕ). LowestRig d s ((a ++ (r ∷ [])) nth length a)) (sym (take-append-seam a (r ∷ [])))
           (subst (λ (q : ℕ). LowestRig d a q) (sym (getD-append-seam a r [] 0)) l)
 
   record Reached (a : List ℕ) : Type 0 where
-    kept : isKept d a ≡ true
+    kept : keepsRules d a ≡ true
     furthest : Furthest d a
 
-  reached : (m : ℕ) (a : List ℕ) → length a + m ≡ jobs d → isKept d a ≡ true → Greedy d a
+  reached : (m : ℕ) (a : List ℕ) → length a + m ≡ jobs d → keepsRules d a ≡ true → Greedy d a
       → Reached (plannedFrom d m a)
   reached zero a n k g =
       record {

@@ -6,12 +6,12 @@ use mathlib.Core.Bool.{Bool, true, false, _&&_}
 use lib.ListN.{length}
 use lib.Dec.{leb}
 use borrow.Author.Tests.{leb-true, le-leb, eqb-true, eq-eqb}
-use Rattle.text.proofs.Choices.{both-left, both-right, both}
-use Rattle.day.specs.Finding.{_at_}
-use Rattle.day.specs.Days.{Day, jobs, rigs, jobsMost, rigsMost, dayEnd, stretchMost, isJob, isStretch, isRig}
-use Rattle.day.specs.Days.{eachJob, eachRig, isDay}
-use Rattle.day.specs.VerdictHolds.{Stretch, Ranged}
-use Rattle.day.proofs.Finding.{by-not, each-told, each-all}
+use Rattle.text.proofs.Choices.{both-left, both-right, both, by-not}
+use Rattle.day.specs.Finding.{_nth_}
+use Rattle.day.specs.Days.{Day, jobs, rigs, jobsMost, rigsMost, dayEnd, warmOrCoolMost}
+use Rattle.day.specs.Days.{isJob, isWarmOrCool, isRig, eachJob, eachRig, isDay}
+use Rattle.day.specs.VerdictHolds.{WarmOrCool, Ranged}
+use Rattle.day.proofs.Finding.{each-told, each-all}
 
 -- eight tests that hold together
 record Eight (a b c d e f g h : Bool) : Type 0 where
@@ -43,34 +43,34 @@ eight a b c d e f g h p =
       eighth = both-right (a && b && c && d && e && f && g) h p;
     }
 
-stretch-told : (n : ℕ) → isStretch n ≡ true → Stretch n
+stretch-told : (n : ℕ) → isWarmOrCool n ≡ true → WarmOrCool n
 stretch-told n e = (
-  leb-true 1 n (both-left (leb 1 n) (leb n stretchMost) e),
-  leb-true n stretchMost (both-right (leb 1 n) (leb n stretchMost) e),
+  leb-true 1 n (both-left (leb 1 n) (leb n warmOrCoolMost) e),
+  leb-true n warmOrCoolMost (both-right (leb 1 n) (leb n warmOrCoolMost) e),
 )
 
-stretch-tested : {n : ℕ} → Stretch n → isStretch n ≡ true
-stretch-tested {n} s = both (le-leb 1 n (s .0)) (le-leb n stretchMost (s .1))
+stretch-tested : {n : ℕ} → WarmOrCool n → isWarmOrCool n ≡ true
+stretch-tested {n} s = both (le-leb 1 n (s .0)) (le-leb n warmOrCoolMost (s .1))
 
 module _ (d : Day) where
   job-ranged : eachJob (d .starts) (d .lengths) ≡ true → (j : ℕ) → j < jobs d
-      → (1 ≤ d .lengths at j) × (d .starts at j + d .lengths at j ≤ dayEnd)
+      → (1 ≤ d .lengths nth j) × (d .starts nth j + d .lengths nth j ≤ dayEnd)
   job-ranged e j h =
-      let s = d .starts at j in
-      let l = d .lengths at j in
-      let t = each-told (λ j. isJob (d .starts at j) (d .lengths at j)) (jobs d) e j h in (
+      let s = d .starts nth j in
+      let l = d .lengths nth j in
+      let t = each-told (λ j. isJob (d .starts nth j) (d .lengths nth j)) (jobs d) e j h in (
         leb-true 1 l (both-left (leb 1 l) (leb (s + l) dayEnd) t),
         leb-true (s + l) dayEnd (both-right (leb 1 l) (leb (s + l) dayEnd) t),
       )
 
   rig-ranged : eachRig (d .warm) (d .cool) ≡ true → (r : ℕ) → r < rigs d
-      → Stretch (d .warm at r) × Stretch (d .cool at r)
+      → WarmOrCool (d .warm nth r) × WarmOrCool (d .cool nth r)
   rig-ranged e r h =
-      let w = d .warm at r in
-      let c = d .cool at r in
-      let t = each-told (λ r. isRig (d .warm at r) (d .cool at r)) (rigs d) e r h in (
-        stretch-told w (both-left (isStretch w) (isStretch c) t),
-        stretch-told c (both-right (isStretch w) (isStretch c) t),
+      let w = d .warm nth r in
+      let c = d .cool nth r in
+      let t = each-told (λ r. isRig (d .warm nth r) (d .cool nth r)) (rigs d) e r h in (
+        stretch-told w (both-left (isWarmOrCool w) (isWarmOrCool c) t),
+        stretch-told c (both-right (isWarmOrCool w) (isWarmOrCool c) t),
       )
 
   module _ (told : isDay d ≡ true) where
@@ -97,7 +97,7 @@ module _ (d : Day) where
     pub few-rigs : rigs d ≤ 8
     few-rigs = day-ranged .rigs-in-range
 
-    pub job-long : (j : ℕ) → j < jobs d → 1 ≤ d .lengths at j
+    pub job-long : (j : ℕ) → j < jobs d → 1 ≤ d .lengths nth j
     job-long = day-ranged .length-in-range
 
   pub ranged-day : Ranged d → isDay d ≡ true
@@ -109,10 +109,10 @@ module _ (d : Day) where
       (eq-eqb (length (d .allowed)) (jobs d) (p .allowed-each)))
       (eq-eqb (length (d .cool)) (rigs d) (p .cool-each)))
       (eq-eqb (length (d .life)) (rigs d) (p .life-each)))
-      (each-all (λ j. isJob (d .starts at j) (d .lengths at j)) (jobs d)
-      (λ j h. both (le-leb 1 (d .lengths at j) (p .length-in-range j h))
-      (le-leb (d .starts at j + d .lengths at j) dayEnd (p .end-in-range j h)))))
-      (each-all (λ r. isRig (d .warm at r) (d .cool at r)) (rigs d)
+      (each-all (λ j. isJob (d .starts nth j) (d .lengths nth j)) (jobs d)
+      (λ j h. both (le-leb 1 (d .lengths nth j) (p .length-in-range j h))
+      (le-leb (d .starts nth j + d .lengths nth j) dayEnd (p .end-in-range j h)))))
+      (each-all (λ r. isRig (d .warm nth r) (d .cool nth r)) (rigs d)
       (λ r h. both (stretch-tested (p .warm-in-range r h)) (stretch-tested (p .cool-in-range r h))))
 
   pub unranged-no-day : (Ranged d → ⊥) → isDay d ≡ false

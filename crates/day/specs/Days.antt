@@ -8,11 +8,12 @@
 --   isDay d                at most 64 jobs and 8 rigs, lists of one length, each job and rig in its range
 -- Assumes nothing.
 use Prim.Native.Nat.{ℕ, _+_, _/_, _%_, _^_}
-use mathlib.Core.Bool.{Bool, _&&_}
+use mathlib.Core.Bool.{Bool, true, false, _&&_}
 use mathlib.Core.List.{List}
 use lib.ListN.{length}
 use lib.Dec.{leb, eqb}
-use Rattle.day.specs.Finding.{each, _at_}
+use Rattle.text.specs.Words.{if_then_else_}
+use Rattle.day.specs.Finding.{each, _nth_}
 
 abbrev pub jobsMost : ℕ
 jobsMost = 64
@@ -23,8 +24,8 @@ rigsMost = 8
 abbrev pub dayEnd : ℕ
 dayEnd = 86_400
 
-abbrev pub stretchMost : ℕ
-stretchMost = 600
+abbrev pub warmOrCoolMost : ℕ
+warmOrCoolMost = 600
 
 pub record Day : Type 0 where
   pub starts : List ℕ
@@ -50,17 +51,24 @@ isAllowed bits r = eqb (bits / 2 ^ r % 2) 1
 abbrev pub isJob : ℕ → ℕ → Bool
 isJob s l = leb 1 l && leb (s + l) dayEnd
 
-abbrev pub isStretch : ℕ → Bool
-isStretch n = leb 1 n && leb n stretchMost
+abbrev pub isWarmOrCool : ℕ → Bool
+isWarmOrCool n = leb 1 n && leb n warmOrCoolMost
 
 abbrev pub isRig : ℕ → ℕ → Bool
-isRig w c = isStretch w && isStretch c
+isRig w c = isWarmOrCool w && isWarmOrCool c
+
+-- the numbers at one place of two lists, of a rig or of a job
+abbrev pub isRigOrJob : Bool → ℕ → ℕ → Bool
+isRigOrJob ofRigs x y = if ofRigs then isRig x y else isJob x y
+
+abbrev pub eachOf : Bool → List ℕ → List ℕ → Bool
+eachOf ofRigs xs ys = each (λ k. isRigOrJob ofRigs (xs nth k) (ys nth k)) (length xs)
 
 abbrev pub eachJob : List ℕ → List ℕ → Bool
-eachJob starts lengths = each (λ j. isJob (starts at j) (lengths at j)) (length starts)
+eachJob starts lengths = eachOf false starts lengths
 
 abbrev pub eachRig : List ℕ → List ℕ → Bool
-eachRig warm cool = each (λ r. isRig (warm at r) (cool at r)) (length warm)
+eachRig warm cool = eachOf true warm cool
 
 unfoldable pub isDay : Day → Bool
 isDay d =

@@ -3,7 +3,7 @@
 --   firstFrom f k m      the same among the m numbers from k on; k + m, where none does
 --   each f n             every number below n passes
 --   sum f n              f 0 + f 1 + .. up to n
---   s at i               the number at the place i of the list s; 0 past its end
+--   s nth i              the number at the place i of the list s; 0 past its end
 -- Assumes nothing.
 use Prim.Native.Nat.{ℕ, zero, suc, _+_}
 use mathlib.Core.Bool.{Bool, not}
@@ -12,7 +12,7 @@ use lib.ListN.{getD}
 use lib.Dec.{eqb}
 use Rattle.text.specs.Words.{if_then_else_}
 
-infixl 80 _at_
+infixl 80 _nth_
 abbrev pub firstFrom : (ℕ → Bool) → ℕ → ℕ → ℕ
 firstFrom f k zero = k
 firstFrom f k (suc m) = if f k then k else firstFrom f (suc k) m
@@ -30,5 +30,5 @@ abbrev pub sum : (ℕ → ℕ) → ℕ → ℕ
 sum f zero = 0
 sum f (suc n) = sum f n + f n
 
-abbrev pub _at_ : List ℕ → ℕ → ℕ
-s at i = getD s i 0
+abbrev pub _nth_ : List ℕ → ℕ → ℕ
+s nth i = getD s i 0

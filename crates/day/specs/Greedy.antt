@@ -7,7 +7,7 @@
 use Prim.Native.Nat.{ℕ, _<_, _≤_}
 use mathlib.Core.List.{List, [], _∷_, _++_}
 use lib.ListN.{length, take}
-use Rattle.day.specs.Finding.{_at_}
+use Rattle.day.specs.Finding.{_nth_}
 use Rattle.day.specs.Days.{Day, jobs}
 use Rattle.day.specs.Rules.{Keeps}
 
@@ -19,7 +19,7 @@ abbrev pub FindsNone : Day → List ℕ → Type 0
 FindsNone d a = (r : ℕ) → Keeps d (a ++ (r ∷ [])) → ⊥
 
 abbrev pub Greedy : Day → List ℕ → Type 0
-Greedy d a = (j : ℕ) → j < length a → LowestRig d (take j a) (a at j)
+Greedy d a = (j : ℕ) → j < length a → LowestRig d (take j a) (a nth j)
 
 pub record Furthest (d : Day) (a : List ℕ) : Type 0 where
   pub greedy : Greedy d a

@@ -5,8 +5,8 @@
 --   plannedFrom d m a      up to m more jobs placed after those of a: as many as find a rig, one after the other
 --   planned d              the rigs of the jobs from the first on, up to the first that finds none
 --   planOf d room          the planner's answer, with room for so many rigs
---   written d room         what it writes at the start of the lent list: all the rigs, or nothing
---   numberOf, isMade, jobOf      an answer in numbers, as the paper has it
+--   rigsWritten d room     what it writes at the start of the lent list: all the rigs, or nothing
+--   planNumber, isMade, jobOf      an answer in numbers, as the paper has it
 --   joins d a r            what the code asks of the next job on rig r: the rules as far as they concern that job
 -- Assumes nothing.
 use Prim.Native.Nat.{ℕ, zero, suc, _+_, _≤_}
@@ -16,16 +16,16 @@ use mathlib.Core.List.{List, [], _∷_, _++_}
 use lib.ListN.{length, take}
 use lib.Dec.{ltb, leb}
 use Rattle.text.specs.Words.{if_then_else_}
-use Rattle.day.specs.Finding.{first, each, _at_}
+use Rattle.day.specs.Finding.{first, each, _nth_}
 use Rattle.day.specs.Days.{Day, jobs, rigs, isDay, isAllowed}
 use Rattle.day.specs.Rules.{burnt}
 use Rattle.day.specs.Tests.{meets}
-use Rattle.day.specs.Verdicts.{isKept}
+use Rattle.day.specs.Verdicts.{keepsRules}
 use Rattle.day.specs.declared.plan.Plan.{Plan}
 use Rattle.day.specs.declared.plan.Plan.the-variants.{OutOfRange, Planned, Unplaced}
 
 unfoldable pub rigFor : Day → List ℕ → ℕ
-rigFor d a = first (λ r. isKept d (a ++ (r ∷ []))) (rigs d)
+rigFor d a = first (λ r. keepsRules d (a ++ (r ∷ []))) (rigs d)
 
 abbrev pub plannedFrom : Day → ℕ → List ℕ → List ℕ
 plannedFrom d zero a = a
@@ -49,13 +49,13 @@ planOf d room =
     else if ltb (length (planned d)) (jobs d) then Unplaced (length (planned d))
     else Planned
 
-unfoldable pub written : Day → ℕ → List ℕ
-written d room = if isPlannable d room && leb (jobs d) (length (planned d)) then planned d else []
+unfoldable pub rigsWritten : Day → ℕ → List ℕ
+rigsWritten d room = if isPlannable d room && leb (jobs d) (length (planned d)) then planned d else []
 
-abbrev pub numberOf : Plan → ℕ
-numberOf OutOfRange = 3
-numberOf Planned = 0
-numberOf (Unplaced j) = 0
+abbrev pub planNumber : Plan → ℕ
+planNumber OutOfRange = 3
+planNumber Planned = 0
+planNumber (Unplaced j) = 0
 
 abbrev pub isMade : Plan → Bool
 isMade OutOfRange = false
@@ -78,7 +78,7 @@ module _ (starts lengths warm cool : List ℕ) where
 unfoldable pub joins : Day → List ℕ → ℕ → Bool
 joins d a r =
     let j = length a in
-    isAllowed (d .allowed at j) r
-    && leb (d .warm at r) (d .starts at j)
+    isAllowed (d .allowed nth j) r
+    && leb (d .warm nth r) (d .starts nth j)
     && isFree (d .starts) (d .lengths) (d .warm) (d .cool) a r
-    && leb (burnt (d .lengths) (d .warm) a r + (d .warm at r + d .lengths at j)) (d .life at r)
+    && leb (burnt (d .lengths) (d .warm) a r + (d .warm nth r + d .lengths nth j)) (d .life nth r)

@@ -14,30 +14,30 @@ use mathlib.Core.List.{List}
 use lib.ListN.{length}
 use lib.Dec.{eqb}
 use Rattle.text.specs.Words.{if_then_else_}
-use Rattle.day.specs.Finding.{sum, _at_}
+use Rattle.day.specs.Finding.{sum, _nth_}
 use Rattle.day.specs.Days.{Day, rigs, isAllowed}
 use mathlib.Core.Bool.{true}
 
 abbrev pub HasRig : Day → List ℕ → ℕ → Type 0
-HasRig d a j = (a at j < rigs d) × (isAllowed (d .allowed at j) (a at j) ≡ true)
+HasRig d a j = (a nth j < rigs d) × (isAllowed (d .allowed nth j) (a nth j) ≡ true)
 
 abbrev pub InTime : Day → List ℕ → ℕ → Type 0
-InTime d a j = d .warm at (a at j) ≤ d .starts at j
+InTime d a j = d .warm nth (a nth j) ≤ d .starts nth j
 
 abbrev pub Occupies : Day → ℕ → ℕ → ℕ → Type 0
-Occupies d r j t = (d .starts at j ≤ t + d .warm at r) × (t < d .starts at j + d .lengths at j + d .cool at r)
+Occupies d r j t = (d .starts nth j ≤ t + d .warm nth r) × (t < d .starts nth j + d .lengths nth j + d .cool nth r)
 
 abbrev pub Share : Day → List ℕ → ℕ → ℕ → Type 0
-Share d a i j = (a at i ≡ a at j) × ((t : ℕ) × (Occupies d (a at i) i t) × (Occupies d (a at j) j t))
+Share d a i j = (a nth i ≡ a nth j) × ((t : ℕ) × (Occupies d (a nth i) i t) × (Occupies d (a nth j) j t))
 
-abbrev pub burns : List ℕ → List ℕ → List ℕ → ℕ → ℕ → ℕ
-burns lengths warm a r j = if eqb (a at j) r then warm at r + lengths at j else 0
+abbrev pub burntBy : List ℕ → List ℕ → List ℕ → ℕ → ℕ → ℕ
+burntBy lengths warm a r j = if eqb (a nth j) r then warm nth r + lengths nth j else 0
 
 abbrev pub burnt : List ℕ → List ℕ → List ℕ → ℕ → ℕ
-burnt lengths warm a r = sum (burns lengths warm a r) (length a)
+burnt lengths warm a r = sum (burntBy lengths warm a r) (length a)
 
 abbrev pub Lasts : Day → List ℕ → ℕ → Type 0
-Lasts d a r = burnt (d .lengths) (d .warm) a r ≤ d .life at r
+Lasts d a r = burnt (d .lengths) (d .warm) a r ≤ d .life nth r
 
 pub record Keeps (d : Day) (a : List ℕ) : Type 0 where
   pub rigged : (j : ℕ) → j < length a → HasRig d a j

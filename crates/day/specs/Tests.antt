@@ -12,15 +12,15 @@ use mathlib.Core.Bool.{Bool, not, _&&_}
 use mathlib.Core.List.{List}
 use lib.ListN.{length}
 use lib.Dec.{ltb, eqb}
-use Rattle.day.specs.Finding.{first, _at_}
+use Rattle.day.specs.Finding.{first, _nth_}
 use Rattle.day.specs.Days.{isAllowed}
 use Rattle.day.specs.Rules.{burnt}
 
 abbrev pub lacksRig : List ℕ → ℕ → List ℕ → ℕ → Bool
-lacksRig allowed count a j = not (ltb (a at j) count && isAllowed (allowed at j) (a at j))
+lacksRig allowed count a j = not (ltb (a nth j) count && isAllowed (allowed nth j) (a nth j))
 
 abbrev pub isEarly : List ℕ → List ℕ → List ℕ → ℕ → Bool
-isEarly starts warm a j = ltb (starts at j) (warm at (a at j))
+isEarly starts warm a j = ltb (starts nth j) (warm nth (a nth j))
 
 -- a job that starts at s with the length l, and one at t with the length m; stretches that only touch share no second
 unfoldable pub share : ℕ → ℕ → ℕ → ℕ → ℕ → ℕ → Bool
@@ -29,10 +29,10 @@ share w c s l t m = ltb s (t + m + c + w) && ltb t (s + l + c + w)
 module _ (starts lengths warm cool : List ℕ) where
   abbrev pub meets : List ℕ → ℕ → ℕ → ℕ → Bool
   meets a r i j =
-      eqb (a at i) r && share (warm at r) (cool at r) (starts at i) (lengths at i) (starts at j) (lengths at j)
+      eqb (a nth i) r && share (warm nth r) (cool nth r) (starts nth i) (lengths nth i) (starts nth j) (lengths nth j)
 
   abbrev pub clashes : List ℕ → ℕ → ℕ → Bool
-  clashes a i j = ltb i j && meets a (a at j) i j
+  clashes a i j = ltb i j && meets a (a nth j) i j
 
   abbrev pub partner : List ℕ → ℕ → ℕ
   partner a i = first (clashes a i) (length a)
@@ -41,4 +41,4 @@ module _ (starts lengths warm cool : List ℕ) where
   hasClash a i = ltb (partner a i) (length a)
 
 abbrev pub isSpent : List ℕ → List ℕ → List ℕ → List ℕ → ℕ → Bool
-isSpent lengths warm life a r = ltb (life at r) (burnt lengths warm a r)
+isSpent lengths warm life a r = ltb (life nth r) (burnt lengths warm a r)

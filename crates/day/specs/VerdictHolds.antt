@@ -11,14 +11,14 @@ use Prim.Native.Nat.{ℕ, _+_, _<_, _≤_}
 use mathlib.Core.Path.{_≡_}
 use mathlib.Core.List.{List}
 use lib.ListN.{length}
-use Rattle.day.specs.Finding.{_at_}
-use Rattle.day.specs.Days.{Day, jobs, rigs, jobsMost, rigsMost, dayEnd, stretchMost}
+use Rattle.day.specs.Finding.{_nth_}
+use Rattle.day.specs.Days.{Day, jobs, rigs, jobsMost, rigsMost, dayEnd, warmOrCoolMost}
 use Rattle.day.specs.Rules.{HasRig, InTime, Share, Lasts, Keeps}
 use Rattle.day.specs.declared.check.Verdict.{Verdict}
 use Rattle.day.specs.declared.check.Verdict.the-variants.{OutOfRange, Accepted, NoRig, TooEarly, Clash, Spent}
 
-abbrev pub Stretch : ℕ → Type 0
-Stretch n = (1 ≤ n) × (n ≤ stretchMost)
+abbrev pub WarmOrCool : ℕ → Type 0
+WarmOrCool n = (1 ≤ n) × (n ≤ warmOrCoolMost)
 
 pub record Ranged (d : Day) : Type 0 where
   pub jobs-in-range : jobs d ≤ jobsMost
@@ -27,10 +27,10 @@ pub record Ranged (d : Day) : Type 0 where
   pub allowed-each : length (d .allowed) ≡ jobs d
   pub cool-each : length (d .cool) ≡ rigs d
   pub life-each : length (d .life) ≡ rigs d
-  pub length-in-range : (j : ℕ) → j < jobs d → 1 ≤ d .lengths at j
-  pub end-in-range : (j : ℕ) → j < jobs d → d .starts at j + d .lengths at j ≤ dayEnd
-  pub warm-in-range : (r : ℕ) → r < rigs d → Stretch (d .warm at r)
-  pub cool-in-range : (r : ℕ) → r < rigs d → Stretch (d .cool at r)
+  pub length-in-range : (j : ℕ) → j < jobs d → 1 ≤ d .lengths nth j
+  pub end-in-range : (j : ℕ) → j < jobs d → d .starts nth j + d .lengths nth j ≤ dayEnd
+  pub warm-in-range : (r : ℕ) → r < rigs d → WarmOrCool (d .warm nth r)
+  pub cool-in-range : (r : ℕ) → r < rigs d → WarmOrCool (d .cool nth r)
 
 pub record InRange (d : Day) (a : List ℕ) : Type 0 where
   pub ranged : Ranged d

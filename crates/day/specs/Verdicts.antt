@@ -2,8 +2,8 @@
 --   unrigged d a j, early d a j, clashing d a i, spent d a r      the rules, each broken by a job or a rig
 --   judged d a             the verdict on the first jobs of a day, of which a has the rigs
 --   checked d a            the verdict on a whole day; out of range before anything else
---   isKept d a             all four rules hold of them
---   numberOf, ruleOf, firstOf, secondOf      a verdict in numbers, as the paper has it
+--   keepsRules d a         all four rules hold of them
+--   verdictNumber, ruleOf, firstConcerned, secondConcerned      a verdict in numbers, as the paper has it
 -- Assumes nothing.
 use Prim.Native.Nat.{ℕ}
 use mathlib.Core.Bool.{Bool, true, false, _&&_}
@@ -57,16 +57,16 @@ isAccepted (TooEarly j) = false
 isAccepted (Clash i j) = false
 isAccepted (Spent r) = false
 
-unfoldable pub isKept : Day → List ℕ → Bool
-isKept d a = isAccepted (judged d a)
+unfoldable pub keepsRules : Day → List ℕ → Bool
+keepsRules d a = isAccepted (judged d a)
 
-abbrev pub numberOf : Verdict → ℕ
-numberOf OutOfRange = 3
-numberOf Accepted = 0
-numberOf (NoRig j) = 0
-numberOf (TooEarly j) = 0
-numberOf (Clash i j) = 0
-numberOf (Spent r) = 0
+abbrev pub verdictNumber : Verdict → ℕ
+verdictNumber OutOfRange = 3
+verdictNumber Accepted = 0
+verdictNumber (NoRig j) = 0
+verdictNumber (TooEarly j) = 0
+verdictNumber (Clash i j) = 0
+verdictNumber (Spent r) = 0
 
 abbrev pub ruleOf : Verdict → ℕ
 ruleOf OutOfRange = 0
@@ -76,18 +76,18 @@ ruleOf (TooEarly j) = 2
 ruleOf (Clash i j) = 3
 ruleOf (Spent r) = 4
 
-abbrev pub firstOf : Verdict → ℕ
-firstOf OutOfRange = 0
-firstOf Accepted = 0
-firstOf (NoRig j) = j
-firstOf (TooEarly j) = j
-firstOf (Clash i j) = i
-firstOf (Spent r) = r
+abbrev pub firstConcerned : Verdict → ℕ
+firstConcerned OutOfRange = 0
+firstConcerned Accepted = 0
+firstConcerned (NoRig j) = j
+firstConcerned (TooEarly j) = j
+firstConcerned (Clash i j) = i
+firstConcerned (Spent r) = r
 
-abbrev pub secondOf : Verdict → ℕ
-secondOf OutOfRange = 0
-secondOf Accepted = 0
-secondOf (NoRig j) = 0
-secondOf (TooEarly j) = 0
-secondOf (Clash i j) = j
-secondOf (Spent r) = 0
+abbrev pub secondConcerned : Verdict → ℕ
+secondConcerned OutOfRange = 0
+secondConcerned Accepted = 0
+secondConcerned (NoRig j) = 0
+secondConcerned (TooEarly j) = 0
+secondConcerned (Clash i j) = j
+secondConcerned (Spent r) = 0

@@ -7,7 +7,7 @@ ghost use lib.ListN.{length};
 ghost use Rattle.text.specs.Words.{over};
 ghost use Rattle.day.specs.Finding.{first};
 ghost use Rattle.day.specs.Days.{day};
-ghost use Rattle.day.specs.Plans.{isFree, joins, Placed, planOf, written};
+ghost use Rattle.day.specs.Plans.{isFree, joins, Placed, planOf, rigsWritten};
 
 pub enum Plan {
     OutOfRange,
@@ -153,7 +153,7 @@ pub fn plan_day(
         ⌝ }
     ensures { λ _.
         ⌜
-        now (out .exit) ≡ over (written (day (now (starts .entry)) (now (lengths .entry)) (now (allowed .entry))
+        now (out .exit) ≡ over (rigsWritten (day (now (starts .entry)) (now (lengths .entry)) (now (allowed .entry))
         (now (warm .entry)) (now (cool .entry)) (now (life .entry))) (length (now (out .entry)))) (now (out .entry))
         ⌝ }
 {

@@ -1,7 +1,7 @@
 // The ranges of a day's numbers.
 use crate::rules;
 ghost use mathlib.Core.Path.{_≡_};
-ghost use Rattle.day.specs.Days.{day, isJob, isRig, eachJob, eachRig, isDay};
+ghost use Rattle.day.specs.Days.{day, isRigOrJob, eachOf, isDay};
 
 const JOBS_MOST: usize = 64;
 
@@ -9,42 +9,28 @@ const RIGS_MOST: usize = 8;
 
 const DAY_END: u64 = 86_400;
 
-const STRETCH_MOST: u32 = 600;
+const WARM_OR_COOL_MOST: u32 = 600;
 
-fn is_job(start: u32, length: u32) -> bool
-    ensures { λ r. ⌜ r ≡ isJob start length ⌝ }
+// The W and C of one rig, or else the start and length of one job.
+fn is_rig_or_job(of_rigs: bool, x: u32, y: u32) -> bool
+    ensures { λ r. ⌜ r ≡ isRigOrJob «of_rigs» x y ⌝ }
 {
-    (1 <= length) & (start as u64 + length as u64 <= DAY_END)
-}
-
-fn is_rig(warm: u32, cool: u32) -> bool
-    ensures { λ r. ⌜ r ≡ isRig warm cool ⌝ }
-{
-    (1 <= warm) & (warm <= STRETCH_MOST) & ((1 <= cool) & (cool <= STRETCH_MOST))
-}
-
-fn each_job(starts: &[u32], lengths: &[u32]) -> bool
-    ensures { λ r. ⌜ r ≡ eachJob (now (starts .entry)) (now (lengths .entry)) ⌝ }
-{
-    let mut j = 0;
-    while j < starts.len() {
-        if !is_job(rules::at(starts, j), rules::at(lengths, j)) {
-            return false;
-        }
-        j += 1;
+    if of_rigs {
+        return (1 <= x) & (x <= WARM_OR_COOL_MOST) & ((1 <= y) & (y <= WARM_OR_COOL_MOST));
     }
-    true
+    (1 <= y) & (x as u64 + y as u64 <= DAY_END)
 }
 
-fn each_rig(warm: &[u32], cool: &[u32]) -> bool
-    ensures { λ r. ⌜ r ≡ eachRig (now (warm .entry)) (now (cool .entry)) ⌝ }
+// One loop for rigs and jobs.
+fn each_of(of_rigs: bool, xs: &[u32], ys: &[u32]) -> bool
+    ensures { λ r. ⌜ r ≡ eachOf «of_rigs» (now (xs .entry)) (now (ys .entry)) ⌝ }
 {
-    let mut r = 0;
-    while r < warm.len() {
-        if !is_rig(rules::at(warm, r), rules::at(cool, r)) {
+    let mut k = 0;
+    while k < xs.len() {
+        if !is_rig_or_job(of_rigs, rules::at(xs, k), rules::at(ys, k)) {
             return false;
         }
-        r += 1;
+        k += 1;
     }
     true
 }
@@ -69,6 +55,6 @@ pub fn is_day(
         & (allowed.len() == starts.len())
         & (cool.len() == warm.len())
         & (life.len() == warm.len())
-        & each_job(starts, lengths)
-        & each_rig(warm, cool)
+        & each_of(false, starts, lengths)
+        & each_of(true, warm, cool)
 }

@@ -2,13 +2,13 @@
 ghost use mathlib.Core.Path.{_≡_};
 ghost use Prim.Native.Nat.{_+_, _≤_};
 ghost use lib.ListN.{length};
-ghost use Rattle.day.specs.Finding.{_at_};
+ghost use Rattle.day.specs.Finding.{_nth_};
 ghost use Rattle.day.specs.Days.{isAllowed};
-ghost use Rattle.day.specs.Rules.{burns, burnt};
+ghost use Rattle.day.specs.Rules.{burntBy, burnt};
 ghost use Rattle.day.specs.Tests.{share, meets};
 
 pub fn at(s: &[u32], i: usize) -> u32
-    ensures { λ r. ⌜ r ≡ now (s .entry) at i ⌝ }
+    ensures { λ r. ⌜ r ≡ now (s .entry) nth i ⌝ }
 {
     if s.len() <= i {
         return 0;
@@ -17,7 +17,7 @@ pub fn at(s: &[u32], i: usize) -> u32
 }
 
 pub fn byte_at(s: &[u8], i: usize) -> usize
-    ensures { λ r. ⌜ r ≡ now (s .entry) at i ⌝ }
+    ensures { λ r. ⌜ r ≡ now (s .entry) nth i ⌝ }
 {
     if s.len() <= i {
         return 0;
@@ -84,7 +84,7 @@ pub fn meets_on(
 // What job j burns on the rig, where it is there.
 fn burnt_by(lengths: &[u32], warm: &[u32], rigs: &[u8], rig: usize, j: usize) -> u64
     ensures { λ r.
-        ⌜ (r ≡ burns (now (lengths .entry)) (now (warm .entry)) (now (rigs .entry)) rig j) × (r ≤ 8_589_934_592) ⌝ }
+        ⌜ (r ≡ burntBy (now (lengths .entry)) (now (warm .entry)) (now (rigs .entry)) rig j) × (r ≤ 8_589_934_592) ⌝ }
 {
     if byte_at(rigs, j) != rig {
         return 0;

@@ -2,7 +2,6 @@
 -- every lamp, and the bytes that the device holds are the last of his stream.
 --   powerOf g, leftOf g        the power and the seconds left that the stage g shows
 --   Shows g o                  the own part o has them
---   settingsFor w              the settings of a device that was set up with w
 --   Agrees w g n stream d      the stage g, the count n and the stream agree with the device d, set up with w
 --   Then w g n es stream d     so they do after the events es
 -- Assumes nothing.
@@ -17,7 +16,8 @@ use lib.ListN.{length, getD, replicate}
 use borrow.Author.Tests.{lt-leb}
 use Rattle.text.proofs.Choices.{if-no}
 use Rattle.text.proofs.Orders.{le-or-lt}
-use Rattle.record.specs.Limits.{off, on, cooling, warming}
+use Rattle.record.specs.Limits.{off, on, cooling, warming, isLit, isBetween}
+use Rattle.record.specs.Wanted.{Wanted}
 use Rattle.record.specs.Legal.{isLegal}
 use Rattle.record.specs.Record.{closed, settingsOf}
 use Rattle.record.specs.declared.types.Settings.{Settings}
@@ -27,7 +27,7 @@ use Rattle.record.specs.declared.types.Device.{Device}
 use Rattle.record.proofs.ConnectionTold.{closed-holds-none}
 use Rattle.record.proofs.LegalTold.{own-of-legal}
 use Rattle.record.proofs.OwnTold.{LeftTold, in-warm-up, in-cooling, when-on, when-off, left-told}
-use Rattle.clock.specs.Second.{times, isLit, isBetween, ownSecond, second}
+use Rattle.clock.specs.Second.{times, ownSecond, second}
 use Rattle.clock.specs.After.{lampAfter}
 use Rattle.clock.proofs.ConnectionsAge.{line-then}
 use Rattle.clock.proofs.InOneGo.{parts-pass}
@@ -38,7 +38,6 @@ use Rattle.clock.proofs.TimeAdds.{no-seconds, seconds-add}
 use Rattle.clock.proofs.TimeLegal.{time-legal}
 use Rattle.stream.specs.Collecting.{lineText}
 use Rattle.stream.proofs.LastBytes.{Ends, ends-unheld}
-use Rattle.demands.specs.Board.{Wanted}
 use Rattle.demands.specs.History.{Event, switched, aSecond, Stage, steady, towards, next, isBurning, burns}
 use Rattle.demands.specs.History.{reached, burningFrom, lampWith}
 
@@ -55,13 +54,8 @@ leftOf (towards is-on n) = n
 abbrev pub Shows : Stage → Own → Type 0
 Shows g o = PowerThen (powerOf g) (leftOf g) o
 
-abbrev pub settingsFor : Wanted → Settings
-settingsFor w =
-    settingsOf (w .name) (w .maker) (w .model) (w .other) (w .password) (w .inputs) (length (w .lamps))
-    (w .warm) (w .cool)
-
 pub record Agrees (w : Wanted) (g : Stage) (n : ℕ) (stream : List ℕ) (d : Device) : Type 0 where
-  pub settings : d .settings ≡ settingsFor w
+  pub settings : d .settings ≡ settingsOf w
   pub power : d .own .power ≡ powerOf g
   pub left : d .own .left ≡ leftOf g
   pub lamps : (place : ℕ) → place < length (w .lamps)

@@ -6,34 +6,34 @@ use mathlib.Core.Bool.{Bool}
 use mathlib.Core.List.{List}
 use native.Mathlib.Omega.{arith}
 use lib.ListN.{length}
-use Rattle.record.specs.Record.{closed}
-use Rattle.record.specs.HostCalls.{withOwn, withFault, withErrors}
+use Rattle.record.specs.Wanted.{Wanted}
+use Rattle.record.specs.Record.{closed, started}
+use Rattle.record.specs.Updates.{withOwn, withFault, withErrors}
 use Rattle.record.specs.declared.types.Changed.{Changed}
 use Rattle.record.specs.declared.types.Device.{Device}
 use Rattle.record.proofs.Calls.{fault-set-by, errors-set-by}
 use Rattle.record.proofs.Started.{set-up-started}
 use Rattle.device.specs.Calls.{Result, greeting, withParts}
 use Rattle.device.proofs.Cases.{opened-by, closed-by}
-use Rattle.demands.specs.Board.{Wanted, ours, lentBy, givenBy, closedAs}
-use Rattle.demands.specs.CallsDone.{startedWith, OpenedAs, Leaves}
+use Rattle.demands.specs.Board.{ours, lentBy, givenBy, closedAs}
+use Rattle.demands.specs.CallsDone.{OpenedAs, Leaves}
 use Rattle.demands.proofs.LentMemory.{over-front}
 
-pub set-up-shows : (w : Wanted) → Leaves ours (ours .set-up w) (startedWith w)
-set-up-shows w accepted = set-up-started _ _ _ _ _ _ _ _ _ accepted
+pub set-up-shows : (w : Wanted) → Leaves ours (ours .set-up w) (started w)
+set-up-shows w accepted = set-up-started w accepted
 
 module _ (d : Device) where
   pub opens : (random : ℕ) (m : List ℕ) → ours .opening d random m .number ≡ 0
       → OpenedAs ours d random (ours .opening d random m)
   opens random m =
       opened-by d random (length m)
-      (λ (r : Result Device). r .number ≡ 0 → OpenedAs ours d random (lentBy r m)) (λ h e. absurd (omega arith))
-      (λ h k e. absurd (omega arith)) (λ h k c e. absurd (omega arith))
+      (λ (r : Result Device). r .number ≡ 0 → OpenedAs ours d random (lentBy r m)) (λ n z e. absurd (z e))
       (λ h k c e. record { replied = over-front (greeting (d .settings) random) m; device = refl })
 
   pub closes : Leaves ours (ours .closing d) (withParts d (d .own) closed)
   closes =
       closed-by d (λ (r : Result Device). Leaves ours (closedAs r) (withParts d (d .own) closed))
-      (λ h e. absurd (omega arith)) (λ h c e. absurd (omega arith)) (λ h c e. refl)
+      (λ n z e. absurd (z e)) (λ h c e. refl)
 
   pub marks : (fault : Bool) → Leaves ours (ours .set-fault d fault) (withOwn d (withFault (d .own) fault))
   marks fault =

@@ -9,16 +9,18 @@ use native.Mathlib.Omega.{arith}
 use lib.ListN.{length, take, drop, replicate}
 use lib.Seq.{take-append-seam}
 use lib.Dec.{eqb}
+use borrow.Author.Tests.{ne-eqb}
 use Rattle.text.specs.Words.{if_then_else_}
 use Rattle.lines.specs.declared.command.Command.the-variants.{PowerSet}
 use Rattle.lines.specs.declared.request.Request.the-variants.{Asks}
 use Rattle.answers.specs.Said.{okay}
+use Rattle.record.specs.Limits.{isBetween}
+use Rattle.record.specs.Wanted.{Wanted}
 use Rattle.record.specs.declared.types.Settings.{Settings}
 use Rattle.record.specs.declared.types.Own.{Own}
 use Rattle.record.specs.declared.types.Changed.{Changed}
 use Rattle.record.specs.declared.types.Device.{Device}
 use Rattle.record.proofs.Calls.{fault-set-by, errors-set-by}
-use Rattle.clock.specs.Second.{isBetween}
 use Rattle.clock.proofs.Cases.{passed-by}
 use Rattle.meaning.specs.Meaning.{meant, done}
 use Rattle.meaning.proofs.PowerSets.{power-set-only, on-when-off, on-otherwise, off-when-on, off-otherwise}
@@ -31,7 +33,7 @@ use Rattle.stream.proofs.LastBytes.{Ends}
 use Rattle.device.proofs.PowerLines.{isPowerOkay, okay-reply}
 use Rattle.device.proofs.Untouched.{opening-keeps-settings, opening-keeps-own, closing-keeps-settings}
 use Rattle.device.proofs.Untouched.{closing-keeps-own}
-use Rattle.demands.specs.Board.{Wanted, ours, lentBy, reply}
+use Rattle.demands.specs.Board.{ours, lentBy, reply}
 use Rattle.demands.specs.Calls.{Call, opens, closes, receives, passes, marks, reports, after}
 use Rattle.demands.specs.History.{switched, aSecond, Stage, steady, towards, next, powerSet, took, seen}
 use Rattle.demands.proofs.PowerSetsSeen.{set-seen, none-seen}
@@ -131,7 +133,7 @@ module _ {w : Wanted} {g : Stage} {n : ℕ} {stream : List ℕ} {d : Device} (a 
       Passed : Changed → Type 0
       Passed r = Then w g n (if eqb (r .number) 0 then replicate k aSecond else []) (stream ++ []) (r .device)
   noted (receives bs m) =
-      received-by d bs (length m) (λ r. Told bs r → Received r) (λ h t. kept) (λ h s t. kept) (λ h s c t. kept)
+      received-by d bs (length m) (λ r. Told bs r → Received r) (λ n z t. rw (ne-eqb n 0 z) kept)
       (λ h s c t. handed bs m (acceptedTaken d (takes d bs)) refl t) (received-tells d bs (length m))
     where
       Received : Result Device → Type 0

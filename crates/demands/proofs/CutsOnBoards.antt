@@ -8,7 +8,7 @@ use mathlib.Core.List.{List}
 use lib.ListN.{length}
 use Rattle.record.specs.Legal.{isLegal}
 use Rattle.record.specs.declared.types.Device.{Device}
-use Rattle.stream.specs.Machine.{Took, handedParts, joined}
+use Rattle.stream.specs.Machine.{Took, handedParts, uncut}
 use Rattle.device.specs.Calls.{Result, replyRoom, isShut, received}
 use Rattle.device.proofs.SameCuts.{receives, received-however-cut}
 use Rattle.demands.specs.Board.{ours}
@@ -26,7 +26,7 @@ pub handed-alike : (m : List ℕ) (d : Device) (ps : List (List ℕ))
 handed-alike m d ps = ap (λ (f : Device → List ℕ → Took Device). handedParts f d ps) (same-calls m)
 
 pub same-however-cut : (d : Device) (m : List ℕ) (ps qs : List (List ℕ)) → isLegal d ≡ true
-    → isShut (d .connection) ≡ false → replyRoom ≤ length m → joined ps ≡ joined qs
+    → isShut (d .connection) ≡ false → replyRoom ≤ length m → uncut ps ≡ uncut qs
     → handedOn ours m d ps ≡ handedOn ours m d qs
 same-however-cut d m ps qs legal live enough e =
     handed-alike m d ps ∙ received-however-cut (length m) enough d legal live ps qs e ∙ sym (handed-alike m d qs)

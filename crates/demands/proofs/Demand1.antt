@@ -23,10 +23,8 @@ ours-1 = record {
   refused-keeps = refused-keeps;
   refused-writer-writes-nothing = refused-writer;
   refused-reader-means-nothing = number-means-nothing;
-  refused-set-up-blank = λ w. set-up-refusal (w .name) (w .maker) (w .model) (w .other) (w .password) (w .inputs)
-      (w .lamps) (w .warm) (w .cool);
+  refused-set-up-blank = set-up-refusal;
   blank-illegal = blank-illegal;
-  set-up-legal = λ w. set-up-legal (w .name) (w .maker) (w .model) (w .other) (w .password) (w .inputs) (w .lamps)
-      (w .warm) (w .cool);
+  set-up-legal = set-up-legal;
   stays-legal = stays-legal;
 }

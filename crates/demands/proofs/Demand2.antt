@@ -9,6 +9,7 @@ use Rattle.demands.specs.Board.{ours}
 use Rattle.demands.specs.Demand2.{Demand2}
 use Rattle.demands.proofs.LinesAnswered.{line-answered, led-line-answered}
 use Rattle.demands.proofs.CutsOnBoards.{same-however-cut}
+use Rattle.demands.proofs.NamesRead.{names-read}
 use Rattle.demands.proofs.OutsidersRefused.{outsider-refused}
 use Rattle.demands.proofs.OutsiderHasNoSay.{outsider-has-no-say}
 use Rattle.demands.proofs.CallsLeave.{set-up-shows, opens, closes, marks, reports}
@@ -28,6 +29,7 @@ ours-2 = record {
       reads-back d c paper m writable roomy enough random password between;
   reads-back-secured = λ d c paper m between writable roomy enough.
       reads-back-secured d c paper m writable roomy enough between;
+  names-read = names-read;
   outsider-refused = outsider-refused;
   outsider-has-no-say = λ d random m cs secured. outsider-has-no-say d random m secured cs;
   set-up-shows = set-up-shows;

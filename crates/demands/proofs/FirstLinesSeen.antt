@@ -13,7 +13,8 @@ use Rattle.text.specs.Scans.{every}
 use Rattle.text.proofs.Choices.{if-no, both-left, both-right, alike}
 use Rattle.lines.specs.Bytes.{notCr, noCr}
 use Rattle.lines.proofs.Characters.{no-cr-each}
-use Rattle.demands.specs.Outsider.{firstLine, isLedBy}
+use Rattle.device.specs.Receiving.{isLedBy}
+use Rattle.demands.specs.Outsider.{firstLine}
 
 module _ (more : List ℕ) where
   first-line-is : (l : List ℕ) → every notCr l ≡ true → firstLine (l ++ (code "\r" ∷ more)) ≡ l

@@ -9,38 +9,40 @@ use native.Mathlib.Nat.{zero-add, add-assoc}
 use native.Mathlib.Omega.{arith}
 use lib.ListN.{length, getD}
 use Rattle.record.specs.Limits.{lampLimit}
-use Rattle.record.specs.Record.{closed, startOwn}
+use Rattle.record.specs.Wanted.{Wanted}
+use Rattle.record.specs.Record.{closed, settingsOf, startOwn}
+use Rattle.record.specs.SetUp.{setUp}
 use Rattle.record.specs.declared.types.Device.{Device}
 use Rattle.record.proofs.ConnectionTold.{closed-holds-none}
 use Rattle.record.proofs.LegalTold.{own-of-legal}
 use Rattle.record.proofs.OwnTold.{lamp-at}
-use Rattle.record.proofs.Started.{started-parts, started-lamp, set-up-legal, set-up-started, set-up-in-range}
+use Rattle.record.proofs.Started.{started-parts, started-lamp, set-up-legal, set-up-started}
 use Rattle.stream.proofs.LastBytes.{ends-unheld}
-use Rattle.demands.specs.Board.{Wanted, ours, setUpWith}
+use Rattle.demands.specs.Board.{ours}
 use Rattle.demands.specs.Calls.{Call, after, run}
 use Rattle.demands.specs.History.{Event, Stage, steady, took, seen, history, reached, burningFrom, burning}
 use Rattle.demands.specs.History.{stageAfter}
 use Rattle.demands.specs.Demand3.{Accepted, runOf, historyOf}
-use Rattle.demands.proofs.Agrees.{settingsFor, Agrees, reached-append, burning-append, Then, agrees-none}
+use Rattle.demands.proofs.Agrees.{Agrees, reached-append, burning-append, Then, agrees-none}
 use Rattle.demands.proofs.CallsNoted.{noted}
 
 -- ---- set-up
 
 module _ (w : Wanted) (h : Accepted ours w) where
   abbrev fresh : Device
-  fresh = setUpWith w .device
+  fresh = setUp w .device
 
-  is-started : fresh ≡ record { settings = settingsFor w; own = startOwn (w .lamps); connection = closed }
-  is-started = set-up-started _ _ _ _ _ _ _ _ _ h ∙ started-parts _ _ _ _ _ _ _ _ _
+  is-started : fresh ≡ record { settings = settingsOf w; own = startOwn (w .lamps); connection = closed }
+  is-started = set-up-started w h ∙ started-parts w
 
   start-lamp : (place : ℕ) → place < length (w .lamps) → getD (fresh .own .lamps) place 0 ≡ getD (w .lamps) place 0
   start-lamp place inside =
-      ap (λ (d : Device). getD (d .own .lamps) place 0) (set-up-started _ _ _ _ _ _ _ _ _ h)
-      ∙ started-lamp _ _ _ _ _ _ _ _ _ (set-up-in-range _ _ _ _ _ _ _ _ _ h) place inside
+      ap (λ (d : Device). getD (d .own .lamps) place 0) (set-up-started w h)
+      ∙ started-lamp w place inside
 
   start-within : (place : ℕ) → place < length (w .lamps) → getD (fresh .own .lamps) place 0 ≤ lampLimit
   start-within place inside =
-      lamp-at (fresh .settings) (fresh .own) (own-of-legal fresh (set-up-legal _ _ _ _ _ _ _ _ _ h)) place
+      lamp-at (fresh .settings) (fresh .own) (own-of-legal fresh (set-up-legal w h)) place
       (rw is-started inside)
 
   pub agrees-started : Agrees w (steady false) 0 [] fresh
@@ -76,4 +78,4 @@ module _ (w : Wanted) (cs : List Call) (h : Accepted ours w) where
 
   pub history-told : (now : List ℕ) × Agrees w (stageAfter w known) (burning w known) now (runOf ours w cs)
   history-told =
-      rw zero-add at (run-agrees cs w (steady false) 0 [] (setUpWith w .device) (agrees-started w h))
+      rw zero-add at (run-agrees cs w (steady false) 0 [] (setUp w .device) (agrees-started w h))

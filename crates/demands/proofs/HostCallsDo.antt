@@ -10,7 +10,7 @@ use mathlib.Core.List.{List}
 use Rattle.text.specs.Words.{if_then_else_}
 use Rattle.record.specs.Legal.{isLegal}
 use Rattle.record.specs.Rules.{isErrors}
-use Rattle.record.specs.HostCalls.{withFault, withErrors}
+use Rattle.record.specs.Updates.{withFault, withErrors}
 use Rattle.record.specs.declared.types.Settings.{Settings}
 use Rattle.record.specs.declared.types.Own.{Own}
 use Rattle.record.specs.declared.types.Changed.{Changed}

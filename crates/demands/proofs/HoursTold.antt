@@ -10,20 +10,20 @@ use Rattle.lines.specs.Commands.{commandLine}
 use Rattle.lines.specs.declared.command.Command.the-variants.{Query}
 use Rattle.lines.specs.declared.command.Body.the-variants.{Lamp}
 use Rattle.answers.specs.Said.{lampsAre}
-use Rattle.record.specs.Limits.{opened}
+use Rattle.record.specs.Limits.{opened, isLit}
+use Rattle.record.specs.Wanted.{Wanted}
 use Rattle.record.specs.declared.types.Settings.{Settings}
 use Rattle.record.specs.declared.types.Device.{Device}
 use Rattle.record.proofs.LegalTold.{own-of-legal}
-use Rattle.clock.specs.Second.{isLit}
 use Rattle.meaning.specs.Meaning.{lampSaid, lampsOf}
 use Rattle.meaning.proofs.LampsTold.{lamps-answered}
 use Rattle.device.specs.Calls.{Result, replyRoom, received}
 use Rattle.device.proofs.CommandsReceived.{replyTo, command-received}
-use Rattle.controller.specs.Reading.{readReply}
+use Rattle.controller.specs.Reading.{meaning, readReply}
 use Rattle.controller.proofs.ReadsBack.{is-between, reads-back}
-use Rattle.demands.specs.Board.{Wanted, ours, reply}
+use Rattle.demands.specs.Board.{ours, reply}
 use Rattle.demands.specs.History.{Event, isBurning, burning, stageAfter}
-use Rattle.demands.specs.Demand2.{BetweenLines, meaning}
+use Rattle.demands.specs.Demand2.{BetweenLines}
 use Rattle.demands.specs.Demand3.{lampThen, lampsThen, LampsTold}
 use Rattle.demands.proofs.LentMemory.{over-front}
 use Rattle.demands.proofs.Agrees.{Agrees, lit-shown}

@@ -14,6 +14,7 @@ pub mod HostCallsDo
 pub mod OutsiderHasNoSay
 pub mod RandomKept
 pub mod WrittenAndRead
+pub mod NamesRead
 pub mod Demand2
 pub mod PowerSetsSeen
 pub mod Agrees

@@ -17,7 +17,7 @@ use Rattle.lines.specs.Bytes.{noCr}
 use Rattle.lines.specs.Forms.{commandMost}
 use Rattle.record.specs.Limits.{awaiting, opened}
 use Rattle.record.specs.declared.types.Device.{Device}
-use Rattle.device.specs.Answering.{Answered, answered, swallowed}
+use Rattle.device.specs.Answering.{Answered, lineAnswer, swallowed}
 use Rattle.device.specs.Receiving.{digestLong, passwordOf}
 use Rattle.device.specs.Calls.{Result, replyRoom}
 use Rattle.device.proofs.LinesReceived.{lineResult, line-received, overlong-line-received, led-line-received}
@@ -37,7 +37,7 @@ module _ (d : Device) (bs m : List ℕ) where
 
 module _ (d : Device) (l m : List ℕ) (plain : noCr l ≡ true) (enough : replyRoom ≤ length m) where
   abbrev tables : Answered
-  tables = answered (d .settings) (d .own) l
+  tables = lineAnswer (d .settings) (d .own) l
 
   short-answered : length l ≤ commandMost → tables ≡ answerTo d l
   short-answered short = sym (if-yes tables (swallowed (d .own)) (le-leb (length l) commandMost short))

@@ -7,10 +7,9 @@ use Prim.Native.Nat.{ℕ}
 use mathlib.Core.Path.{_≡_, refl, sym, ap, subst, _∙_}
 use mathlib.Core.Bool.{true, false}
 use mathlib.Core.List.{List, [], _∷_, _++_}
-use native.Mathlib.Omega.{arith}
 use lib.ListN.{length, take}
 use lib.Dec.{eqb}
-use borrow.Author.Tests.{eqb-false}
+use borrow.Author.Tests.{eqb-false, ne-eqb}
 use Rattle.text.specs.Words.{if_then_else_}
 use Rattle.record.specs.Limits.{shut}
 use Rattle.record.specs.Legal.{isLegal}
@@ -84,11 +83,11 @@ module _ (settings : Settings) where
     opening-goes random m =
         opened-by d random (length m)
         (λ (r : Result Device). Goes (if eqb (r .number) 0 then openedWith random else s) (r .device))
-        (λ h. stays) (λ h k. stays) (λ h k c. stays) (λ h k c. (refl, (refl, greeted-stands random)))
+        (λ n z. rw (ne-eqb n 0 z) stays) (λ h k c. (refl, (refl, greeted-stands random)))
 
     closing-goes : Goes s (after ours d closes)
     closing-goes =
-        closed-by d (λ (r : Result Device). Goes s (r .device)) (λ h. stays) (λ h c. stays)
+        closed-by d (λ (r : Result Device). Goes s (r .device)) (λ n z. stays)
         (λ h c. (refl, (refl, closed-stands s (answered-so (b .standing)))))
 
     receiving-goes : (bs m : List ℕ) → isMatched (passwordOf settings) (noted ours d s (receives bs m)) ≡ false
@@ -97,7 +96,7 @@ module _ (settings : Settings) where
         received-by d bs (length m)
         (λ (r : Result Device). let next = if eqb (r .number) 0 then goesOn s bs (lentBy r m) else s in
         isMatched (passwordOf settings) next ≡ false → Goes next (r .device))
-        (λ h u. stays) (λ h k u. stays) (λ h k c u. stays)
+        (λ n z. rw (ne-eqb n 0 z) (λ u. stays))
         (λ h k c.
         let t = takes d bs in
         let told : heard s bs t ≡ goesOn s bs (lentBy (acceptedTaken d t) m)
@@ -157,7 +156,7 @@ module _ (d : Device) (random : ℕ) (m : List ℕ) (secured : isSecured (d .set
   opened-beside =
       opened-by d random (length m)
       (λ (r : Result Device). r .number ≡ 0 → Beside (d .settings) (openedWith random) (r .device) (r .device))
-      (λ h e. absurd (omega arith)) (λ h k e. absurd (omega arith)) (λ h k c e. absurd (omega arith))
+      (λ n z e. absurd (z e))
       (λ h k c e.
       let legal = ap (λ (r : Result Device). isLegal (r .device)) (sym (opened-greeted d random (length m) h k c))
       ∙ opening-legal d h random (length m) in

@@ -11,7 +11,7 @@ use Rattle.text.proofs.Choices.{if-yes}
 use Rattle.lines.specs.Bytes.{noCr}
 use Rattle.record.specs.Limits.{awaiting}
 use Rattle.record.specs.declared.types.Device.{Device}
-use Rattle.stream.specs.Machine.{joined}
+use Rattle.stream.specs.Machine.{uncut}
 use Rattle.device.specs.Calls.{replyRoom}
 use Rattle.device.proofs.Outsiders.{Unmatched}
 use Rattle.device.proofs.OutsiderStreams.{firstLine, outsider-stream-keeps-own, outsider-stream-keeps-settings}
@@ -24,7 +24,7 @@ use Rattle.demands.proofs.CutsOnBoards.{handed-alike}
 
 pub outsider-refused : (d : Device) (l more m : List ℕ) (ps : List (List ℕ))
     → BetweenLines awaiting d → noCr l ≡ true → isLed d l ≡ false → replyRoom ≤ length m
-    → joined ps ≡ l ++ ascii "\r" ++ more
+    → uncut ps ≡ l ++ ascii "\r" ++ more
     → RefusalOnly ours d (handedOn ours m d ps)
 outsider-refused d l more m ps between plain unled enough all =
     let s = d .settings in
@@ -33,10 +33,10 @@ outsider-refused d l more m ps between plain unled enough all =
     let legal = between .legal in
     let waits = between .in-phase in
     let empty = is-between d legal (between .unmarked) (between .none-held) in
-    let bytes : l ++ (13 ∷ more) ≡ joined ps = sym (all ∙ append-assoc l (ascii "\r") more) in
-    let unmatched : Unmatched s c (joined ps)
+    let bytes : l ++ (13 ∷ more) ≡ uncut ps = sym (all ∙ append-assoc l (ascii "\r") more) in
+    let unmatched : Unmatched s c (uncut ps)
     = subst (Unmatched s c) bytes (unled-unmatched s c empty waits l more plain unled) in
-    let cr : firstLine c (joined ps) .ended ≡ true
+    let cr : firstLine c (uncut ps) .ended ≡ true
     = ap (λ (bs : List ℕ). firstLine c bs .ended) (sym bytes) ∙ first-line-ends s c empty waits l more plain in
     subst (RefusalOnly ours d) (sym (handed-alike m d ps))
     (record {

@@ -22,7 +22,7 @@ use Rattle.clock.specs.Second.{times, connectionSecond}
 use Rattle.clock.proofs.Cases.{passed-by}
 use Rattle.clock.proofs.ConnectionsAge.{connection-then}
 use Rattle.clock.proofs.InOneGo.{parts-pass}
-use Rattle.device.specs.Receiving.{lineEnded, keeping, takenIn}
+use Rattle.device.specs.Receiving.{lineEnded, keepingLine, takenIn}
 use Rattle.device.specs.Calls.{Result}
 use Rattle.device.proofs.Cases.{received-by, opened-by, closed-by, ended-by, keeping-none, keeping-line, taken-by}
 use Rattle.demands.specs.Board.{ours}
@@ -32,10 +32,10 @@ abbrev pub ClosedOr : ℕ → Connection → Type 0
 ClosedOr random c = (c .phase ≡ shut) ⊎ (c .random ≡ random)
 
 module _ (c : Connection) where
-  keeping-keeps : (l : Line) → keeping c l .random ≡ c .random
+  keeping-keeps : (l : Line) → keepingLine c l .random ≡ c .random
   keeping-keeps l = by-phase (eqb (c .phase) failed) refl
     where
-      by-phase : (t : Bool) → eqb (c .phase) failed ≡ t → keeping c l .random ≡ c .random
+      by-phase : (t : Bool) → eqb (c .phase) failed ≡ t → keepingLine c l .random ≡ c .random
       by-phase true e = ap (λ (k : Connection). k .random) (keeping-none c l (eqb-true (c .phase) failed e))
       by-phase false e = ap (λ (k : Connection). k .random) (keeping-line c l (eqb-false (c .phase) failed e))
 
@@ -63,14 +63,14 @@ module _ (d : Device) (live : d .connection .phase ≡ shut → ⊥) where
 
   pub random-kept : (c : Call) → Keeps (after ours d c)
   random-kept (opens random m) =
-      opened-by d random (length m) (λ (r : Result Device). Keeps (r .device)) (λ h. stays) (λ h k. stays)
-      (λ h k c. stays) (λ h k c. absurd (live (eqb-true (d .connection .phase) shut c)))
+      opened-by d random (length m) (λ (r : Result Device). Keeps (r .device)) (λ n z. stays)
+      (λ h k c. absurd (live (eqb-true (d .connection .phase) shut c)))
   random-kept closes =
-      closed-by d (λ (r : Result Device). Keeps (r .device)) (λ h. stays) (λ h c. stays)
+      closed-by d (λ (r : Result Device). Keeps (r .device)) (λ n z. stays)
       (λ h c. inl (ap (λ (k : Connection). k .phase) closed-spelt))
   random-kept (receives bs m) =
-      received-by d bs (length m) (λ (r : Result Device). Keeps (r .device)) (λ h. stays) (λ h k. stays)
-      (λ h k c. stays) (λ h k c. inr (bytes-keep (d .connection) (d .settings) (d .own) bs))
+      received-by d bs (length m) (λ (r : Result Device). Keeps (r .device)) (λ n z. stays)
+      (λ h k c. inr (bytes-keep (d .connection) (d .settings) (d .own) bs))
   random-kept (passes n) =
       passed-by (λ (r : Changed). Keeps (r .device)) d n (λ h. stays)
       (λ h. subst Keeps (sym (parts-pass n d)) (time-keeps (d .connection) n))

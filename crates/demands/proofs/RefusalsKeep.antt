@@ -11,7 +11,7 @@ use Rattle.record.proofs.Results.{fault-refusal, errors-refusal}
 use Rattle.clock.proofs.Results.{passed-refusal}
 use Rattle.device.specs.Calls.{Result, received, openedBy}
 use Rattle.device.proofs.Refusals.{Refused, receiving-refused, opening-refused, closing-refused}
-use Rattle.controller.specs.Writing.{written}
+use Rattle.controller.specs.Writing.{writtenCommand}
 use Rattle.controller.proofs.Refusals.{refusal-writes-nothing}
 use Rattle.demands.specs.Board.{lentBy, ours}
 use Rattle.demands.specs.Calls.{Call, opens, closes, receives, passes, marks, reports, after, numberOf}
@@ -42,6 +42,6 @@ pub refused-writer : (c : Command) (secured : Bool) (random : ℕ) (password m :
     → let w = ours .write c secured random password m in
     (w .number ≡ 0 → ⊥) → (w .length ≡ 0) × (w .memory ≡ m)
 refused-writer c secured random password m n =
-    let bs = written c secured random password (length m) .bytes in
+    let bs = writtenCommand c secured random password (length m) .bytes in
     let none = refusal-writes-nothing c secured random password (length m) n in
     (ap length none, over-nothing bs m none)

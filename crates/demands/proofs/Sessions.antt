@@ -17,6 +17,7 @@ use Rattle.text.proofs.Scanning.{every-append}
 use Rattle.lines.specs.Bytes.{notCr}
 use Rattle.lines.specs.Forms.{erraLine}
 use Rattle.record.specs.Limits.{shut, awaiting, failed, lineRoom}
+use Rattle.record.specs.Updates.{aged, withLine}
 use Rattle.record.specs.Legal.{heldMost}
 use Rattle.record.specs.Record.{closed}
 use Rattle.record.specs.declared.types.Settings.{Settings}
@@ -25,14 +26,15 @@ use Rattle.record.specs.declared.types.Line.{Line}
 use Rattle.record.specs.declared.types.Connection.{Connection}
 use Rattle.record.proofs.Spelt.{closed-spelt}
 use Rattle.record.proofs.ConnectionTold.{held-most-awaiting}
-use Rattle.clock.specs.Second.{times, aged, connectionSecond}
+use Rattle.clock.specs.Second.{times, connectionSecond}
 use Rattle.clock.proofs.ConnectionsAge.{connection-then}
 use Rattle.stream.specs.declared.Gathered.{Gathered}
 use Rattle.stream.specs.Collecting.{emptyLine, collectedAll, gathered}
-use Rattle.stream.proofs.CollectedOn.{Cut, plain, line, cut, collected-on, plain-gathered, whole-gathered}
-use Rattle.stream.proofs.CollectedOn.{collected-whole}
-use Rattle.stream.proofs.LinesCollected.{empty-is-none}
-use Rattle.device.specs.Receiving.{Ended, Taken, isMatch, silent, withLine, lineEnded, keeping, takenIn, passwordOf}
+use Rattle.stream.proofs.UpToTheEnd.{Cut, plain, line, cut}
+use Rattle.stream.proofs.GatheredOn.{plain-gathered}
+use Rattle.stream.proofs.CollectedOn.{collected-on, collected-whole}
+use Rattle.stream.proofs.LinesCollected.{empty-is-none, whole-gathered}
+use Rattle.device.specs.Receiving.{Ended, Taken, isMatch, noReply, lineEnded, keepingLine, takenIn, passwordOf}
 use Rattle.device.proofs.Cases.{keeping-line, taken-line, taken-part}
 use Rattle.device.proofs.Outsiders.{mismatch-refused, failed-ignores}
 use Rattle.device.proofs.FirstLines.{unled-collected}
@@ -46,7 +48,7 @@ pub data Standing (s : Session) (c : Connection) : Type 0 where
   has-failed : c .phase ≡ failed → s .replied ≡ erraLine → Standing s c
 
 pub nothing-yet : collectedAll lineRoom emptyLine [] ≡ emptyLine
-nothing-yet = collected-whole [] refl (omega arith) ∙ sym empty-is-none
+nothing-yet = collected-whole [] (omega arith) ∙ sym empty-is-none
 
 pub answered-so : {s : Session} {c : Connection} → Standing s c → RefusalAtMost (s .replied)
 answered-so (is-closed p a) = a
@@ -112,10 +114,10 @@ module _ (settings : Settings) (o : Own) (c : Connection) (s : Session) where
     hears-plain : (bs : List ℕ) → every notCr bs ≡ true → Heard o s bs (takenIn settings o c bs)
     hears-plain bs p =
         let g = by-room bs ∙ plain-gathered lineRoom (c .line) bs p in
-        let t : takenIn settings o c bs ≡ record { ended = silent o (withLine c (more bs)); taken = length bs }
+        let t : takenIn settings o c bs ≡ record { ended = noReply o (withLine c (more bs)); taken = length bs }
         = taken-part settings o c bs (ap (λ (k : Gathered). k .ended) g)
-        ∙ ap {B = Taken} (λ (k : Gathered). record { ended = silent o (keeping c (k .line)); taken = k .before }) g
-        ∙ ap {B = Taken} (λ (k : Connection). record { ended = silent o k; taken = length bs })
+        ∙ ap {B = Taken} (λ (k : Gathered). record { ended = noReply o (keepingLine c (k .line)); taken = k .before }) g
+        ∙ ap {B = Taken} (λ (k : Connection). record { ended = noReply o k; taken = length bs })
         (keeping-line c (more bs) (λ f. omega arith)) in
         subst (Heard o s bs) (sym t)
         (record {
@@ -141,19 +143,19 @@ module _ (settings : Settings) (o : Own) (c : Connection) (s : Session) where
         ∙ (rw (line-taken xs rest) at unmatched) in
         let mismatch : isMatch settings c (more xs) ≡ false
         = ap (isMatch settings c) (more-is xs)
-        ∙ unled-collected settings c (s .taken ++ xs) whole (rw random unled) in
+        ∙ unled-collected settings c (s .taken ++ xs) (rw random unled) in
         let out = mismatch-refused settings o c phase (more xs) mismatch in
         record {
           own = out .own;
           standing = has-failed (out .phase) ((λ i. quiet i ++ out .reply i));
         })
 
-    hears-awaiting : (bs : List ℕ) → Cut bs → Hears bs (takenIn settings o c bs)
+    hears-awaiting : (bs : List ℕ) → Cut (code "\r") bs → Hears bs (takenIn settings o c bs)
     hears-awaiting bs (plain p) = λ unmatched. hears-plain bs p
     hears-awaiting bs (line xs rest e p) =
         subst (λ (k : List ℕ). Hears k (takenIn settings o c k)) (sym e) (hears-line xs rest p)
 
   pub stands-on : (bs : List ℕ) → (c .phase ≡ shut → ⊥) → Standing s c → Hears bs (takenIn settings o c bs)
   stands-on bs live (is-closed p a) = absurd (live p)
-  stands-on bs live (awaits p r n l e) = hears-awaiting p r n l e bs (cut bs)
+  stands-on bs live (awaits p r n l e) = hears-awaiting p r n l e bs (cut (code "\r") bs)
   stands-on bs live (has-failed p e) = hears-failed p e bs

@@ -16,7 +16,7 @@ use Rattle.device.specs.Calls.{longestReply, Result, received, openedBy}
 use Rattle.device.proofs.Cases.{received-by, opened-by}
 use Rattle.device.proofs.Counts.{received-within}
 use Rattle.device.proofs.Short.{longestGreeting, receiving-short, opening-short}
-use Rattle.controller.specs.Writing.{ledBy, written}
+use Rattle.controller.specs.Writing.{ledBy, writtenCommand}
 use Rattle.controller.proofs.Cases.{written-by}
 use Rattle.demands.specs.Board.{lentBy, ours}
 use Rattle.demands.specs.Calls.{Call, opens, closes, receives, passes, marks, reports}
@@ -33,14 +33,14 @@ module _ (d : Device) (m : List ℕ) where
 
   received-fits : (bs : List ℕ) → Fits (received d bs (length m))
   received-fits bs =
-      received-by d bs (length m) (λ r. length (r .reply) ≤ longestReply → Fits r) (λ h short. omega arith)
-      (λ h s short. omega arith) (λ h s c short. omega arith) (λ h s c short. omega arith)
+      received-by d bs (length m) (λ r. length (r .reply) ≤ longestReply → Fits r) (λ n z short. omega arith)
+      (λ h s c short. omega arith)
       (receiving-short d bs (length m))
 
   opened-fits : (random : ℕ) → Fits (openedBy d random (length m))
   opened-fits random =
-      opened-by d random (length m) (λ r. length (r .reply) ≤ longestGreeting → Fits r) (λ h short. omega arith)
-      (λ h s short. omega arith) (λ h s c short. omega arith) (λ h s c short. omega arith)
+      opened-by d random (length m) (λ r. length (r .reply) ≤ longestGreeting → Fits r) (λ n z short. omega arith)
+      (λ h s c short. omega arith)
       (opening-short d random (length m))
 
   lent-inside : (r : Result Device) → Fits r → Inside Device m (lentBy r m)
@@ -56,7 +56,7 @@ stays-inside d (marks fault) = tt
 stays-inside d (reports errors) = tt
 
 module _ (c : Command) (secured : Bool) (random : ℕ) (password m : List ℕ) where
-  written-fits : length (written c secured random password (length m) .bytes) ≤ length m
+  written-fits : length (writtenCommand c secured random password (length m) .bytes) ≤ length m
   written-fits =
       written-by c secured random password (length m) (λ w. length (w .bytes) ≤ length m) (λ h. omega arith)
       (λ h w. omega arith)
@@ -70,5 +70,5 @@ module _ (c : Command) (secured : Bool) (random : ℕ) (password m : List ℕ) w
 
   pub writer-stays-inside : WroteInside m (ours .write c secured random password m)
   writer-stays-inside =
-      let bs = written c secured random password (length m) .bytes in
+      let bs = writtenCommand c secured random password (length m) .bytes in
       record { room = over-room bs m written-fits; fits = written-fits; later = over-later bs m }

@@ -3,21 +3,16 @@
 -- Assumes nothing.
 use Prim.Native.Nat.{ℕ}
 use mathlib.Core.Path.{_≡_, refl, sym, ap, _∙_}
-use mathlib.Core.Bool.{true}
 use mathlib.Core.List.{List}
 use lib.ListN.{length}
 use Rattle.text.specs.Words.{over}
 use Rattle.lines.specs.declared.command.Command.{Command}
 use Rattle.answers.specs.Said.{Said}
-use Rattle.answers.specs.Carried.{isSayable}
-use Rattle.answers.proofs.ReadSound.{CanRead, answer, no-answer, read-sound}
-use Rattle.answers.proofs.SaidPlain.{can-sayable}
-use Rattle.answers.proofs.SaidBack.{said-back}
 use Rattle.record.specs.declared.types.Device.{Device}
 use Rattle.device.specs.Calls.{openedBy, toldOpened}
 use Rattle.device.proofs.Cases.{opened-by}
 use Rattle.controller.specs.Reading.{readingOf}
-use Rattle.controller.proofs.Cases.{reply-by}
+use Rattle.controller.proofs.ReadingsSaid.{reading-said}
 use Rattle.demands.specs.Board.{ours}
 use Rattle.demands.specs.Tied.{lentOpened, readAs}
 
@@ -25,7 +20,7 @@ use Rattle.demands.specs.Tied.{lentOpened, readAs}
 module _ (d : Device) (random : ℕ) (m : List ℕ) where
   opening-takes-none : 0 ≡ openedBy d random (length m) .taken
   opening-takes-none =
-      opened-by d random (length m) (λ r. 0 ≡ r .taken) (λ l. refl) (λ l s. refl) (λ l s c. refl) (λ l s c. refl)
+      opened-by d random (length m) (λ r. 0 ≡ r .taken) (λ n z. refl) (λ l s c. refl)
 
   pub opening-lent :
       let o = openedBy d random (length m) in
@@ -45,16 +40,7 @@ module _ (d : Device) (random : ℕ) (m : List ℕ) where
 
 -- whatever line comes, what our reader says of it has room in the code's form, and comes back out of it
 pub reading-back : (c : Command) (l : List ℕ) → readAs (readingOf (ours .read-reply c l)) ≡ ours .read-reply c l
-reading-back c l =
-    let read = ours .read-reply c l in
-    ap (λ (m : Said). record { outcome = read .outcome; said = m })
-    (said-back (read .said)
-    (reply-by c l (λ r. isSayable (r .said) ≡ true) (λ e. refl) (λ e f. refl) (λ f b. refl)
-    (λ f b. sayable (read-sound c _))))
-  where
-    sayable : {p : List ℕ} {m : Said} → CanRead c p m → isSayable m ≡ true
-    sayable (answer said) = can-sayable (said .can)
-    sayable no-answer = refl
+reading-back c l = ap (λ (m : Said). record { outcome = ours .read-reply c l .outcome; said = m }) (reading-said c l)
 
 -- so two readings of ours that differ are two in the code's form
 pub readings-apart : (c d : Command) (l m : List ℕ)

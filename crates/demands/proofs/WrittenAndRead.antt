@@ -13,15 +13,15 @@ use Rattle.record.specs.Legal.{isLegal}
 use Rattle.record.specs.declared.types.Device.{Device}
 use Rattle.device.specs.Receiving.{passwordOf}
 use Rattle.device.specs.Calls.{replyRoom, received, openedBy}
-use Rattle.controller.specs.Writing.{WrittenAs, commandRoom, ledBy, written}
+use Rattle.controller.specs.Writing.{WrittenAs, commandRoom, ledBy, writtenCommand}
 use Rattle.controller.specs.Reading.{readReply}
-use Rattle.controller.specs.Greetings.{readGreeting}
+use Rattle.controller.specs.Greetings.{readGreeting, greetedOn}
 use Rattle.controller.proofs.Cases.{written-by}
-use Rattle.controller.proofs.ReadsBack.{is-between, ReadBack as ReadBackFrom}
+use Rattle.controller.proofs.ReadsBack.{is-between, TakenAndRead}
 use Rattle.controller.proofs.WrittenReadBack.{written-reads-back, written-reads-back-secured}
 use Rattle.controller.proofs.GreetsBack.{greets-back as greeted-back}
 use Rattle.demands.specs.Board.{line, reply, wroteBy, ours}
-use Rattle.demands.specs.Demand2.{BetweenLines, ReadBack, greetedOn}
+use Rattle.demands.specs.Demand2.{BetweenLines, ReadBack}
 use Rattle.demands.proofs.LentMemory.{over-front}
 
 -- what is read of the lent paper is the line
@@ -40,7 +40,7 @@ writes c secured random password m =
 module _ (d : Device) (c : Command) (paper m : List ℕ) (writable : isCommand c ≡ true)
     (roomy : commandRoom ≤ length paper) (enough : replyRoom ≤ length m) where
   -- from the calls' results to the lent memory
-  on-memory : (w : WrittenAs) → (w .number ≡ 0) × ReadBackFrom d c (w .bytes) (received d (w .bytes) (length m))
+  on-memory : (w : WrittenAs) → (w .number ≡ 0) × TakenAndRead d c (w .bytes) (received d (w .bytes) (length m))
       → ReadBack ours d c (wroteBy w paper) (ours .receive d (line (wroteBy w paper)) m)
   on-memory w (number, back) =
       subst (λ (bs : List ℕ). ReadBack ours d c (wroteBy w paper) (ours .receive d bs m)) (sym (line-written w paper))
@@ -56,7 +56,7 @@ module _ (d : Device) (c : Command) (paper m : List ℕ) (writable : isCommand c
       → let w = ours .write c false random password paper in ReadBack ours d c w (ours .receive d (line w) m)
   reads-back random password between =
       let empty = is-between d (between .legal) (between .unmarked) (between .none-held) in
-      on-memory (written c false random password (length paper))
+      on-memory (writtenCommand c false random password (length paper))
       (written-reads-back d (between .legal) empty c writable (length m) enough (length paper) roomy
       (between .in-phase) random password)
 
@@ -65,7 +65,7 @@ module _ (d : Device) (c : Command) (paper m : List ℕ) (writable : isCommand c
       ReadBack ours d c w (ours .receive d (line w) m)
   reads-back-secured between =
       let empty = is-between d (between .legal) (between .unmarked) (between .none-held) in
-      on-memory (written c true (d .connection .random) (passwordOf (d .settings)) (length paper))
+      on-memory (writtenCommand c true (d .connection .random) (passwordOf (d .settings)) (length paper))
       (written-reads-back-secured d (between .legal) empty c writable (length m) enough (length paper) roomy
       (between .in-phase))
 

@@ -3,7 +3,6 @@
 --   Lent R        what a call gives that is lent reply memory: its number, the bytes taken, the reply's length, the
 --                 memory as the call leaves it, and the record
 --   reply r       the reply: as many bytes of the memory as the length tells
---   Wanted        what set-up is lent
 --   Board         the calls; a board may keep more than the device record, which `shows` gives
 --   ours          our calls: beside each, the function whose contract says this very definition
 -- Assumes nothing.
@@ -16,11 +15,12 @@ use Rattle.digest.specs.Md5.{md5Of}
 use Rattle.lines.specs.declared.command.Command.{Command}
 use Rattle.record.specs.declared.types.Device.{Device}
 use Rattle.record.specs.declared.types.Changed.{Changed}
+use Rattle.record.specs.Wanted.{Wanted}
 use Rattle.record.specs.SetUp.{setUp}
 use Rattle.record.specs.HostCalls.{faultSet, errorsSet}
 use Rattle.clock.specs.Passing.{passed}
 use Rattle.device.specs.Calls.{Result, openedBy, closedBy, received}
-use Rattle.controller.specs.Writing.{WrittenAs, written}
+use Rattle.controller.specs.Writing.{WrittenAs, writtenCommand}
 use Rattle.controller.specs.Reading.{ReadAs, readReply}
 use Rattle.controller.specs.Greetings.{readGreeting}
 use Rattle.controller.specs.declared.greeting.Greeting.{Greeting}
@@ -47,17 +47,6 @@ pub record Wrote : Type 0 where
 
 abbrev pub line : Wrote → List ℕ
 line w = take (w .length) (w .memory)
-
-pub record Wanted : Type 0 where
-  pub name : List ℕ
-  pub maker : List ℕ
-  pub model : List ℕ
-  pub other : List ℕ
-  pub password : List ℕ
-  pub inputs : List ℕ
-  pub lamps : List ℕ
-  pub warm : ℕ
-  pub cool : ℕ
 
 -- memory is the last argument wherever it is lent
 pub record Board : Type 1 where
@@ -94,16 +83,12 @@ lentBy r m = record {
 abbrev pub wroteBy : WrittenAs → List ℕ → Wrote
 wroteBy w m = record { number = w .number; length = length (w .bytes); memory = over (w .bytes) m }
 
-abbrev pub setUpWith : Wanted → Changed
-setUpWith w =
-    setUp (w .name) (w .maker) (w .model) (w .other) (w .password) (w .inputs) (w .lamps) (w .warm) (w .cool)
-
 abbrev pub ours : Board
 ours = record {
   Record = Device;
   shows = λ d. d;
   -- record::setup::set_up
-  set-up = λ w. givenBy (setUpWith w);
+  set-up = λ w. givenBy (setUp w);
   -- device::calls::open
   opening = λ d random m. lentBy (openedBy d random (length m)) m;
   -- device::calls::close
@@ -119,7 +104,7 @@ ours = record {
   -- digest::md5
   md5 = md5Of;
   -- controller::writing::write_command
-  write = λ c secured random password m. wroteBy (written c secured random password (length m)) m;
+  write = λ c secured random password m. wroteBy (writtenCommand c secured random password (length m)) m;
   -- controller::reading::read_reply
   read-reply = readReply;
   -- controller::greeting::read_greeting

@@ -1,20 +1,14 @@
 -- What an accepted call leaves, whole (01, "Set-up", "Connection" and "Time"): set-up, opening, closing and the host's
 -- two calls. Receiving is in Demand2, passing time in Demand3.
---   startedWith w           the device that an accepted set-up gives: what was wanted, and the start that 01 describes
 --   OpenedAs B d random r   the greeting that the password and the lent number give was replied; the connection keeps
 --                           that number and awaits the digest exactly where there is a password; nothing else changed
 --   Leaves B d r e          the call that gave r left the device e
 -- Assumes nothing.
 use Prim.Native.Nat.{ℕ}
 use mathlib.Core.Path.{_≡_}
-use Rattle.record.specs.Record.{started}
 use Rattle.record.specs.declared.types.Device.{Device}
 use Rattle.device.specs.Calls.{greeting, greeted, withParts}
-use Rattle.demands.specs.Board.{Board, Given, Lent, Wanted, reply}
-
-abbrev pub startedWith : Wanted → Device
-startedWith w =
-    started (w .name) (w .maker) (w .model) (w .other) (w .password) (w .inputs) (w .lamps) (w .warm) (w .cool)
+use Rattle.demands.specs.Board.{Board, Given, Lent, reply}
 
 pub record OpenedAs (B : Board) (d : B .Record) (random : ℕ) (r : Lent (B .Record)) : Type 0 where
   pub replied : reply r ≡ greeting (B .shows d .settings) random

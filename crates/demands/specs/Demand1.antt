@@ -3,14 +3,12 @@
 -- refused set-up gives the blank record), and writes no byte of the reply memory."
 -- That a call ends is no field below: each call of a board is a function, and a Rattle function meets its contract only
 -- if it ends.
--- TO BELIEVE IT, believe, and nothing else: the rows below, against 01's table; what is legal and what is in range
--- (record/specs: Limits, Rules, Legal, SetUp, and `blank` of Record; lines/specs: Bytes, Inputs, Texts); the lengths
--- 136 and 168 and when a connection is closed (`replyRoom`, `isShut` of device/specs/Calls, `commandRoom` of
--- controller/specs/Writing); for the readers, the forms of lines (lines/specs: Forms, Commands, Requests) and which
--- parameter says what (answers/specs: Said, CanSay, Writings; `greets`, `randomIn` of controller/specs/Greetings); here
--- Board and Calls.
---   n when t            a row of 01's table: the number n, given when t
---   firstOf rows        the first row that applies, else 0
+-- TO BELIEVE IT, believe, and nothing else: the rows below, against 01's table, those of opening, closing and
+-- receiving as device/specs/Calls has them, with `replyRoom` and `isShut`; what is legal and what is in range
+-- (record/specs: Limits, Rules, Legal, SetUp, and `blank` of Record; lines/specs: Bytes, Inputs, Texts; utf8/specs:
+-- Utf8); the length 168 (`commandRoom` of controller/specs/Writing); for the readers, the forms of lines
+-- (lines/specs: Forms, Commands, Requests) and which parameter says what (answers/specs: Said, CanSay, Writings;
+-- `greets`, `randomIn` of controller/specs/Greetings); here Board and Calls.
 --   rowsOf d c          the rows that the call c can meet, in the table's order; so for set-up, writer and readers
 --   Inside m r          a call that is lent the memory m stays in it, and changes no byte past its reply
 --   Untouched m r       it took nothing, replied nothing and wrote nothing
@@ -21,7 +19,7 @@ use mathlib.Core.Bool.{Bool, true, false, not}
 use mathlib.Core.List.{List, [], _∷_}
 use lib.ListN.{length, drop}
 use lib.Dec.{ltb}
-use Rattle.text.specs.Words.{if_then_else_}
+use Rattle.text.specs.Rows.{Row, _when_, firstOf}
 use Rattle.text.specs.Scans.{sameBy, itself}
 use Rattle.lines.specs.Forms.{erraLine, greetingOpen, isReplyForm, headBody, replyParameter}
 use Rattle.lines.specs.Commands.{bodyOf}
@@ -29,52 +27,34 @@ use Rattle.lines.specs.Requests.{isBody}
 use Rattle.lines.specs.declared.command.Command.{Command}
 use Rattle.answers.specs.Said.{nothing}
 use Rattle.answers.specs.Writings.{Allowed}
+use Rattle.record.specs.Wanted.{Wanted}
 use Rattle.record.specs.Rules.{isErrors}
 use Rattle.record.specs.Legal.{isLegal}
 use Rattle.record.specs.Record.{blank}
 use Rattle.record.specs.SetUp.{isSetUp}
 use Rattle.record.specs.declared.types.Device.{Device}
-use Rattle.device.specs.Calls.{replyRoom, isShut}
+use Rattle.device.specs.Calls.{receivingRows, openingRows, closingRows}
 use Rattle.controller.specs.Writing.{commandRoom, isWritable}
-use Rattle.controller.specs.Reading.{numberOf as numberRead}
-use Rattle.controller.specs.Greetings.{greets, randomIn, numberOf as numberHeard}
-use Rattle.demands.specs.Board.{Board, Lent, Wrote, Wanted}
+use Rattle.controller.specs.Reading.{outcomeNumber}
+use Rattle.controller.specs.Greetings.{greets, randomIn, greetingNumber}
+use Rattle.demands.specs.Board.{Board, Lent, Wrote}
 use Rattle.demands.specs.Calls.{Call, opens, closes, receives, passes, marks, reports, after, numberOf}
 
-infix 30 _when_
 -- ---- the table of numbers
-
-pub record Row : Type 0 where
-  pub number : ℕ
-  pub applies : Bool
-
-abbrev pub _when_ : ℕ → Bool → Row
-n when t = record { number = n; applies = t }
-
-abbrev pub firstOf : List Row → ℕ
-firstOf [] = 0
-firstOf (row ∷ rows) = if row .applies then row .number else firstOf rows
 
 abbrev isIllegal : Device → Bool
 isIllegal d = not (isLegal d)
 
-abbrev isShort : List ℕ → Bool
-isShort m = ltb (length m) replyRoom
-
 abbrev pub rowsOf : Device → Call → List Row
-rowsOf d (opens random m) = (1 when isIllegal d) ∷ (2 when isShort m) ∷ (5 when not (isShut (d .connection))) ∷ []
-rowsOf d closes = (1 when isIllegal d) ∷ (4 when isShut (d .connection)) ∷ []
-rowsOf d (receives bs m) = (1 when isIllegal d) ∷ (2 when isShort m) ∷ (4 when isShut (d .connection)) ∷ []
+rowsOf d (opens random m) = openingRows d (length m)
+rowsOf d closes = closingRows d
+rowsOf d (receives bs m) = receivingRows d (length m)
 rowsOf d (passes n) = (1 when isIllegal d) ∷ []
 rowsOf d (marks fault) = (1 when isIllegal d) ∷ []
 rowsOf d (reports errors) = (1 when isIllegal d) ∷ (3 when not (isErrors errors)) ∷ []
 
-abbrev pub isInRange : Wanted → Bool
-isInRange w =
-    isSetUp (w .name) (w .maker) (w .model) (w .other) (w .password) (w .inputs) (w .lamps) (w .warm) (w .cool)
-
 abbrev pub setUpRows : Wanted → List Row
-setUpRows w = (3 when not (isInRange w)) ∷ []
+setUpRows w = (3 when not (isSetUp w)) ∷ []
 
 abbrev pub writerRows : Command → Bool → List ℕ → List ℕ → List Row
 writerRows c secured password m =
@@ -142,15 +122,15 @@ pub record Demand1 (B : Board) : Type 0 where
   pub writer-number : (c : Command) (secured : Bool) (random : ℕ) (password m : List ℕ)
       → B .write c secured random password m .number ≡ firstOf (writerRows c secured password m)
   pub reader-number : (c : Command) (l : List ℕ) (allowed : Bool) → Allowed c (replyParameter l) allowed
-      → numberRead (B .read-reply c l .outcome) ≡ firstOf (readerRows c l allowed)
-  pub greeting-number : (l : List ℕ) → numberHeard (B .read-greeting l) ≡ firstOf (greetingRows l)
+      → outcomeNumber (B .read-reply c l .outcome) ≡ firstOf (readerRows c l allowed)
+  pub greeting-number : (l : List ℕ) → greetingNumber (B .read-greeting l) ≡ firstOf (greetingRows l)
   -- "returns the device record it was given .., and writes no byte of the reply memory"
   pub refused-keeps : (d : B .Record) (c : Call) → (numberOf B d c ≡ 0 → ⊥)
       → (after B d c ≡ d) × WritesNothing B d c
   pub refused-writer-writes-nothing : (c : Command) (secured : Bool) (random : ℕ) (password m : List ℕ)
       → let w = B .write c secured random password m in
       (w .number ≡ 0 → ⊥) → (w .length ≡ 0) × (w .memory ≡ m)
-  pub refused-reader-means-nothing : (c : Command) (l : List ℕ) → (numberRead (B .read-reply c l .outcome) ≡ 0 → ⊥)
+  pub refused-reader-means-nothing : (c : Command) (l : List ℕ) → (outcomeNumber (B .read-reply c l .outcome) ≡ 0 → ⊥)
       → B .read-reply c l .said ≡ nothing
   -- "(a refused set-up gives the blank record)", which is not legal; an accepted one is, and no call makes it otherwise
   pub refused-set-up-blank : (w : Wanted) → (B .set-up w .number ≡ 0 → ⊥) → B .shows (B .set-up w .device) ≡ blank

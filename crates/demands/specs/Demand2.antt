@@ -4,11 +4,12 @@
 -- secured connection a first line without the matching digest yields the refusal line only; power, input, mutes and
 -- lamps stay." What the projector meant is `meant`, 01's table of commands (crate `meaning`), which knows no bytes but
 -- a set-up's inputs, two characters each, by 01's table of types.
--- TO BELIEVE IT, believe, and nothing else: MD5 and its digits (digest/specs); lines, inputs, commands and requests
--- (lines/specs, but Keys); what an answer is and which bytes say it (answers/specs: Said, CanSay, Writings, `LineSays`
--- of controller/specs/Reading); what is meant and done (meaning/specs); how a line is answered and a connection greeted
--- (device/specs: Answering, and `greeting`, `greeted`, `withParts` of Calls); the record (record/specs); a stream in
--- cuts (stream/specs/Machine); here Board, Calls, CallsDone, Outsider.
+-- TO BELIEVE IT, believe, and nothing else: MD5 and its digits (digest/specs); lines, inputs, texts, commands and
+-- requests (lines/specs; for names also utf8/specs/Utf8); what an answer is and which bytes say it (answers/specs:
+-- Said, CanSay, Writings); what a reading means and a greeting is (controller/specs: `meaning`, `LineSays` of
+-- Reading, `Exactly`, `greetedOn` of Greetings); what is meant and done (meaning/specs); how a line is answered and a
+-- connection greeted (device/specs: Answering, `isLedBy` of Receiving, and `greeting`, `greeted`, `withParts` of
+-- Calls); the record (record/specs); a stream in cuts (stream/specs/Machine); here Board, Calls, CallsDone, Outsider.
 --   BetweenLines phase d     legal, in that phase, no collected bytes and no overlong mark
 --   ReadBack B d c w r       the command c, written as w and received as r, is read as it was meant and done
 --   isLed d l                the line l starts with the matching digest and is not overlong
@@ -22,36 +23,38 @@ use mathlib.Core.Bool.{Bool, true, false}
 use mathlib.Core.List.{List, _++_}
 use mathlib.Core.Logic.{_↔_}
 use lib.ListN.{length}
-use lib.Dec.{leb, eqb}
+use lib.Dec.{leb}
 use Rattle.text.specs.Words.{ascii, if_then_else_}
 use Rattle.digest.specs.Md5.{md5Of}
-use Rattle.digest.specs.Hex.{hexDigits, leadingDigest}
+use Rattle.digest.specs.Hex.{leadingDigest}
 use Rattle.lines.specs.Bytes.{noCr}
-use Rattle.lines.specs.Forms.{erraLine, greetingOpen, greetingSecured, commandMost}
+use Rattle.lines.specs.Forms.{erraLine, commandMost}
 use Rattle.lines.specs.Commands.{isCommand, commandLine}
+use Rattle.lines.specs.declared.command.Body.the-variants.{Name}
 use Rattle.lines.specs.declared.command.Command.{Command}
+use Rattle.lines.specs.declared.command.Command.the-variants.{Query}
 use Rattle.lines.specs.declared.request.Request.the-variants.{Asks}
-use Rattle.answers.specs.Said.{Said}
+use Rattle.answers.specs.Said.{Said, textIs}
 use Rattle.record.specs.Limits.{shut, awaiting, opened, failed}
+use Rattle.record.specs.Wanted.{Wanted}
 use Rattle.record.specs.Legal.{isLegal}
-use Rattle.record.specs.Record.{closed}
-use Rattle.record.specs.HostCalls.{withOwn, withFault, withErrors}
+use Rattle.record.specs.Record.{closed, started}
+use Rattle.record.specs.Updates.{withOwn, withFault, withErrors}
 use Rattle.record.specs.declared.types.Device.{Device}
 use Rattle.record.specs.declared.types.Connection.{Connection}
 use Rattle.meaning.specs.Meaning.{meant, done}
-use Rattle.stream.specs.Machine.{Out, Took, handedParts, joined}
-use Rattle.device.specs.Answering.{Answered, answered, swallowed}
-use Rattle.device.specs.Receiving.{turned, passwordOf}
+use Rattle.stream.specs.Machine.{Out, Took, handedParts, uncut}
+use Rattle.device.specs.Answering.{Answered, lineAnswer, swallowed}
+use Rattle.device.specs.Receiving.{turned, passwordOf, isLedBy}
 use Rattle.device.specs.Calls.{longestReply, replyRoom, isShut, isSecured, withParts}
 use Rattle.controller.specs.Writing.{commandRoom, ledBy}
-use Rattle.controller.specs.Reading.{ReadAs, LineSays}
+use Rattle.controller.specs.Reading.{meaning, LineSays}
+use Rattle.controller.specs.Greetings.{Exactly, greetedOn}
 use Rattle.controller.specs.declared.reading.Outcome.the-variants.{Means, Erra}
-use Rattle.controller.specs.declared.greeting.Greeting.{Greeting}
-use Rattle.controller.specs.declared.greeting.Greeting.the-variants.{Open, Secured, Refused, NotAGreeting}
-use Rattle.demands.specs.Board.{Board, Lent, Wrote, Wanted, reply, line}
+use Rattle.demands.specs.Board.{Board, Lent, Wrote, reply, line}
 use Rattle.demands.specs.Calls.{Call}
-use Rattle.demands.specs.CallsDone.{startedWith, OpenedAs, Leaves}
-use Rattle.demands.specs.Outsider.{openedWith, isLedBy, NeverMatched, NoSay}
+use Rattle.demands.specs.CallsDone.{OpenedAs, Leaves}
+use Rattle.demands.specs.Outsider.{openedWith, NeverMatched, NoSay}
 
 -- ---- a connection between lines
 
@@ -66,9 +69,6 @@ abbrev pub openAgain : Connection → Connection
 openAgain c = turned c opened
 
 -- ---- what is read of the reply to a command
-
-abbrev pub meaning : Said → ReadAs
-meaning m = record { outcome = Means; said = m }
 
 module _ (B : Board) where
   pub record ReadBack (d : B .Record) (c : Command) (w : Wrote) (r : Lent (B .Record)) : Type 0 where
@@ -89,7 +89,7 @@ module _ (B : Board) where
 
 -- a line of more than 135 bytes is swallowed
 abbrev pub answerTo : Device → List ℕ → Answered
-answerTo d l = if leb (length l) commandMost then answered (d .settings) (d .own) l else swallowed (d .own)
+answerTo d l = if leb (length l) commandMost then lineAnswer (d .settings) (d .own) l else swallowed (d .own)
 
 -- ---- the digest
 
@@ -116,19 +116,6 @@ pub record RefusalOnly (B : Board) (d : B .Record) (out : Out (B .Record)) : Typ
   pub own : B .shows (out .state) .own ≡ B .shows d .own
   pub phase : B .shows (out .state) .connection .phase ≡ failed
   pub age : B .shows (out .state) .connection .age ≡ 0
-
--- ---- greetings
-
-abbrev pub greetedOn : Connection → Greeting
-greetedOn c = if eqb (c .phase) awaiting then Secured (c .random) else Open
-
--- the two greetings and the ERRA line, each with its CR and nothing more
-abbrev pub Exactly : List ℕ → Greeting → Type 0
-Exactly l Open = l ≡ greetingOpen
-Exactly l (Secured r) = (r < 2 ^ 32) × (l ≡ greetingSecured (hexDigits 8 r))
-Exactly l Refused = l ≡ erraLine
-Exactly l NotAGreeting = (l ≡ greetingOpen → ⊥) × ((l ≡ erraLine → ⊥)
-    × ((r : ℕ) → r < 2 ^ 32 → l ≡ greetingSecured (hexDigits 8 r) → ⊥))
 
 -- ---- the demand
 
@@ -167,11 +154,14 @@ pub record Demand2 (B : Board) : Type 0 where
       → BetweenLines awaiting (B .shows d) → isCommand c ≡ true → commandRoom ≤ length paper → replyRoom ≤ length m
       → let w = B .write c true (B .shows d .connection .random) (passwordOf (B .shows d .settings)) paper in
       ReadBack B d c w (B .receive d (line w) m)
+  -- 02, L2: a name that the projector accepts is one that our reader accepts
+  pub names-read : (w : Wanted) → B .set-up w .number ≡ 0
+      → B .read-reply (Query Name) (ascii "%1NAME=" ++ w .name ++ ascii "\r") ≡ meaning (textIs (w .name))
   -- "On a secured connection a first line without the matching digest yields the refusal line only; power, input, mutes
   -- and lamps stay": whatever follows it, and however it all is cut
   pub outsider-refused : (d : B .Record) (l more m : List ℕ) (ps : List (List ℕ))
       → BetweenLines awaiting (B .shows d) → noCr l ≡ true → isLed (B .shows d) l ≡ false → replyRoom ≤ length m
-      → joined ps ≡ l ++ ascii "\r" ++ more
+      → uncut ps ≡ l ++ ascii "\r" ++ more
       → RefusalOnly B d (handedOn B m d ps)
   -- and over any calls: from any accepted opening of a device with a password, so long as no first line of a connection
   -- is led by the digest of its opening's number
@@ -181,7 +171,7 @@ pub record Demand2 (B : Board) : Type 0 where
       NeverMatched B (passwordOf (B .shows d .settings)) e (openedWith random) cs
       → NoSay B e (openedWith random) cs
   -- 01, "Set-up", "Connection" and "Time": what the other calls leave, where they are accepted
-  pub set-up-shows : (w : Wanted) → Leaves B (B .set-up w) (startedWith w)
+  pub set-up-shows : (w : Wanted) → Leaves B (B .set-up w) (started w)
   pub opens : (d : B .Record) (random : ℕ) (m : List ℕ) → B .opening d random m .number ≡ 0
       → OpenedAs B d random (B .opening d random m)
   pub closes : (d : B .Record) → Leaves B (B .closing d) (withParts (B .shows d) (B .shows d .own) closed)
@@ -198,5 +188,5 @@ pub record Demand2 (B : Board) : Type 0 where
   -- 01, "Connection": "Handed on until all is taken, with no time between, a stream gives the same reply bytes and end
   -- state however it is cut"
   pub same-however-cut : (d : B .Record) (m : List ℕ) (ps qs : List (List ℕ)) → isLegal (B .shows d) ≡ true
-      → isShut (B .shows d .connection) ≡ false → replyRoom ≤ length m → joined ps ≡ joined qs
+      → isShut (B .shows d .connection) ≡ false → replyRoom ≤ length m → uncut ps ≡ uncut qs
       → handedOn B m d ps ≡ handedOn B m d qs

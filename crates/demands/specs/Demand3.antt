@@ -5,7 +5,7 @@
 -- TO BELIEVE IT, believe, and nothing else: one second (clock/specs/Second), and what is legal (record/specs); what
 -- someone outside sees of a history, and his own clock (History, here); the line of a command and the text of lamps
 -- (lines/specs: Commands; answers/specs: Said; numbers/specs: Decimal); here Board, Calls, CallsDone, and
--- `BetweenLines` and `meaning` of Demand2.
+-- `BetweenLines` of Demand2, `meaning` of controller/specs/Reading.
 --   Accepted B w        the board accepts the set-up w
 --   historyOf B w cs    what someone outside sees of the calls cs since that set-up
 --   TimeAdds B          the adding law, which a clock that does nothing obeys too (WrongClocks)
@@ -24,14 +24,16 @@ use Rattle.lines.specs.declared.command.Body.the-variants.{Lamp}
 use Rattle.answers.specs.Said.{lampsAre, saidBytes}
 use Rattle.answers.specs.declared.answer.LampHours.{LampHours}
 use Rattle.record.specs.Limits.{opened}
+use Rattle.record.specs.Wanted.{Wanted}
 use Rattle.record.specs.Legal.{isLegal}
 use Rattle.clock.specs.Second.{times, second}
 use Rattle.clock.specs.Passing.{secondsMost}
 use Rattle.device.specs.Calls.{replyRoom}
-use Rattle.demands.specs.Board.{Board, Wanted, reply}
+use Rattle.controller.specs.Reading.{meaning}
+use Rattle.demands.specs.Board.{Board, reply}
 use Rattle.demands.specs.Calls.{Call, run}
 use Rattle.demands.specs.CallsDone.{Leaves}
-use Rattle.demands.specs.Demand2.{BetweenLines, meaning}
+use Rattle.demands.specs.Demand2.{BetweenLines}
 use Rattle.demands.specs.History.{Event, history, burning, stageAfter, isBurning, lampWith}
 
 module _ (B : Board) (w : Wanted) where
@@ -69,8 +71,8 @@ pub record Demand3 (B : Board) : Type 0 where
   pub time-adds : TimeAdds B
   -- 01, "Time": "The meaning is a definition of one second, applied n times"
   pub second-by-second : (d : B .Record) (n : ℕ) → Leaves B (B .pass d n) (times second n (B .shows d))
-  -- "After any calls since set-up, refused ones counting as nothing, each lamp's stored seconds are its starting seconds
-  -- plus every second the history puts in warm-up or power-on, stopped at 359,999,999"
+  -- "After any calls since set-up, refused ones counting as nothing, each lamp's stored seconds are its starting
+  -- seconds plus every second the history puts in warm-up or power-on, stopped at 359,999,999"
   pub lamps-tell-the-history : (w : Wanted) (cs : List Call) (place : ℕ) → Accepted B w → place < length (w .lamps)
       → getD (B .shows (runOf B w cs) .own .lamps) place 0
       ≡ lampWith (burning w (historyOf B w cs)) (getD (w .lamps) place 0)

@@ -17,7 +17,8 @@ use Rattle.text.specs.Words.{ascii, if_then_else_}
 use Rattle.text.specs.Scans.{sameBy}
 use Rattle.lines.specs.Bytes.{upperOf}
 use Rattle.record.specs.Limits.{lampLimit}
-use Rattle.demands.specs.Board.{Board, Wanted, reply}
+use Rattle.record.specs.Wanted.{Wanted}
+use Rattle.demands.specs.Board.{Board, reply}
 use Rattle.demands.specs.Calls.{Call, opens, closes, receives, passes, marks, reports, after}
 
 infix 40 _says_

@@ -6,9 +6,10 @@ use Prim.Native.Nat.{ℕ}
 use mathlib.Core.Bool.{Bool}
 use mathlib.Core.List.{List}
 use Rattle.lines.specs.declared.command.Command.{Command}
+use Rattle.record.specs.Wanted.{Wanted}
 use Rattle.record.specs.declared.types.Device.{Device}
 use Rattle.controller.specs.Reading.{ReadAs}
-use Rattle.demands.specs.Board.{Board, Given, Lent, Wanted, ours}
+use Rattle.demands.specs.Board.{Board, Given, Lent, ours}
 
 module _ (set-up : Wanted → Given Device) (opening : Device → ℕ → List ℕ → Lent Device)
     (closing : Device → Given Device) (receive : Device → List ℕ → List ℕ → Lent Device)

@@ -6,7 +6,6 @@
 --   noted B d s c            the session after the call c: an accepted opening starts one, receiving goes on with it
 --   sessionAfter B d s cs    the session after the calls cs
 --   firstLine bs             the bytes before the first CR
---   isLedBy r password l     the line l starts with the digest of r and the password, and has at most 167 bytes
 --   isMatched password s     the session's first line has ended, and is led by the digest of the session's number
 --   NeverMatched             at no moment of the calls is the session matched
 --   hostCalls cs             the passes and the host's two calls among cs: what no connection has a say in
@@ -18,15 +17,12 @@ use Prim.Native.Nat.{ℕ}
 use mathlib.Core.Path.{_≡_}
 use mathlib.Core.Bool.{Bool, false, not, _&&_}
 use mathlib.Core.List.{List, [], _∷_, _++_}
-use lib.ListN.{length, take}
-use lib.Dec.{leb, eqb}
+use lib.ListN.{take}
+use lib.Dec.{eqb}
 use Rattle.text.specs.Words.{if_then_else_, _is_}
-use Rattle.text.specs.Scans.{sameBy, itself}
-use Rattle.digest.specs.Hex.{leadingDigest}
 use Rattle.lines.specs.Bytes.{noCr}
 use Rattle.lines.specs.Forms.{erraLine}
-use Rattle.record.specs.Limits.{lineRoom}
-use Rattle.device.specs.Receiving.{digestLong}
+use Rattle.device.specs.Receiving.{isLedBy}
 use Rattle.demands.specs.Board.{Board, Lent, reply}
 use Rattle.demands.specs.Calls.{Call, opens, closes, receives, passes, marks, reports, after, run}
 
@@ -66,10 +62,6 @@ module _ (B : Board) where
 abbrev pub firstLine : List ℕ → List ℕ
 firstLine [] = []
 firstLine (b ∷ bs) = if b is "\r" then [] else b ∷ firstLine bs
-
-abbrev pub isLedBy : ℕ → List ℕ → List ℕ → Bool
-isLedBy random password l =
-    leb (length l) lineRoom && sameBy itself (take digestLong l) (leadingDigest random password)
 
 abbrev pub isMatched : List ℕ → Session → Bool
 isMatched password s = not (noCr (s .taken)) && isLedBy (s .random) password (firstLine (s .taken))

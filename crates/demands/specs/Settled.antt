@@ -9,7 +9,8 @@ use mathlib.Core.Path.{_≡_}
 use mathlib.Core.List.{List, [], _∷_, _++_}
 use lib.ListN.{replicate}
 use Rattle.text.specs.Words.{ascii}
-use Rattle.demands.specs.Board.{Board, Wanted, reply}
+use Rattle.record.specs.Wanted.{Wanted}
+use Rattle.demands.specs.Board.{Board, reply}
 use Rattle.demands.specs.Calls.{Call, opens, receives, passes, run}
 
 infix 30 _gives_after_
@@ -43,15 +44,15 @@ rounds (suc n) cs = cs ++ rounds n cs
 abbrev pub nineSessions : List Call
 nineSessions = rounds 9 (says "%1POWR 1" ∷ passes 2400 ∷ says "%1POWR 0" ∷ passes 60 ∷ [])
 
-pub record Row : Type 0 where
+pub record SettledLine : Type 0 where
   pub said : String
   pub answer : String
   pub before : List Call
 
-abbrev pub _gives_after_ : String → String → List Call → Row
+abbrev pub _gives_after_ : String → String → List Call → SettledLine
 t gives u after cs = record { said = t; answer = u; before = cs }
 
-abbrev pub rows : List Row
+abbrev pub rows : List SettledLine
 rows =
     ("%1powr 1" gives "%1powr=OK" after [])
     ∷ ("%1POWR 2" gives "%1POWR=ERR2" after [])
@@ -68,12 +69,12 @@ rows =
     ∷ []
 
 module _ (B : Board) where
-  abbrev pub Holds : Row → Type 0
+  abbrev pub Holds : SettledLine → Type 0
   Holds row =
       let d = run B (B .set-up sample .device) (opens 0 memory ∷ row .before) in
       reply (B .receive d (withCr (row .said)) memory) ≡ withCr (row .answer)
 
-  abbrev pub All : List Row → Type 0
+  abbrev pub All : List SettledLine → Type 0
   All [] = Unit {0}
   All (row ∷ rows) = Holds row × All rows
 

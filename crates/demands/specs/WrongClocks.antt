@@ -5,17 +5,17 @@ use Prim.Native.Nat.{ℕ, _*_, _/_}
 use mathlib.Core.Bool.{Bool, false, not, _&&_, _||_}
 use mathlib.Core.List.{List, map}
 use Rattle.text.specs.Words.{if_then_else_}
-use Rattle.record.specs.HostCalls.{withOwn}
+use Rattle.record.specs.Limits.{isLit}
+use Rattle.record.specs.Updates.{withOwn, withSeconds}
 use Rattle.record.specs.declared.types.Device.{Device}
-use Rattle.clock.specs.Second.{isLit, withPowerLeftLamps}
 use Rattle.demands.specs.Board.{Board, Given, Lent, ours}
 use Rattle.demands.specs.OursBut.{butReceive, butPass}
 
 abbrev pub stillClock : Board
 stillClock = butPass (λ d n. record { number = 0; device = d })
 
-abbrev withLamps : Device → List ℕ → Device
-withLamps d lamps = withOwn d (withPowerLeftLamps (d .own) (d .own .power) (d .own .left) lamps)
+abbrev havingLamps : Device → List ℕ → Device
+havingLamps d lamps = withOwn d (withSeconds (d .own) lamps)
 
 abbrev goesDark : Device → Device → Bool
 goesDark before now = isLit (before .own .power) && not (isLit (now .own .power))
@@ -23,7 +23,7 @@ goesDark before now = isLit (before .own .power) && not (isLit (now .own .power)
 -- "dropping the part-hour at power-off"
 abbrev wholeHours : Device → Device → Device
 wholeHours before now =
-    if goesDark before now then withLamps now (map (λ s. s / 3600 * 3600) (now .own .lamps)) else now
+    if goesDark before now then havingLamps now (map (λ s. s / 3600 * 3600) (now .own .lamps)) else now
 
 abbrev pub dropsPartHour : Board
 dropsPartHour = butReceive (λ d bs m.
@@ -42,7 +42,7 @@ Marked = Device × Bool
 
 abbrev session : Marked → Device → Marked
 session (before, isOver) now =
-    (if isOver then withLamps now (before .own .lamps) else now, isOver || goesDark before now)
+    (if isOver then havingLamps now (before .own .lamps) else now, isOver || goesDark before now)
 
 abbrev marked : Marked → Given Device → Given Marked
 marked b r = record { number = r .number; device = session b (r .device) }

@@ -3,31 +3,19 @@
 --   securedSample     01's sample set-up, with the password of 000's example
 -- Assumes nothing.
 use Prim.Native.Nat.{ℕ}
-use mathlib.Core.List.{List, []}
+use mathlib.Core.List.{[]}
 use lib.ListN.{length}
 use lib.Dec.{eqb}
 use Rattle.text.specs.Words.{ascii, if_then_else_}
 use Rattle.lines.specs.Forms.{greetingOpen}
 use Rattle.record.specs.Limits.{awaiting, opened, failed}
+use Rattle.record.specs.Wanted.{Wanted, withPassword}
 use Rattle.record.specs.declared.types.Device.{Device}
 use Rattle.device.specs.Receiving.{turned}
 use Rattle.device.specs.Calls.{Result, openedBy, withParts}
-use Rattle.demands.specs.Board.{Board, Wanted, ours, lentBy}
+use Rattle.demands.specs.Board.{Board, ours, lentBy}
 use Rattle.demands.specs.Settled.{sample}
 use Rattle.demands.specs.OursBut.{butSetUp, butOpening, butClosing, butPass, butFault, butErrors}
-
-abbrev withPassword : List ℕ → Wanted → Wanted
-withPassword password w = record {
-  name = w .name;
-  maker = w .maker;
-  model = w .model;
-  other = w .other;
-  password = password;
-  inputs = w .inputs;
-  lamps = w .lamps;
-  warm = w .warm;
-  cool = w .cool;
-}
 
 abbrev pub securedSample : Wanted
 securedSample = withPassword (ascii "JBMIAProjectorLink") sample

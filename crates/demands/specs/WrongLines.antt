@@ -13,29 +13,28 @@ use Rattle.lines.specs.Requests.{isBody}
 use Rattle.lines.specs.declared.command.Command.{Command}
 use Rattle.lines.specs.declared.command.Body.the-variants.{Name}
 use Rattle.answers.specs.Said.{textIs}
+use Rattle.record.specs.Updates.{withLine}
 use Rattle.record.specs.Record.{blank}
 use Rattle.record.specs.declared.types.Device.{Device}
 use Rattle.stream.specs.Collecting.{emptyLine}
-use Rattle.device.specs.Receiving.{withLine}
-use Rattle.device.specs.Calls.{refusing, withParts}
-use Rattle.controller.specs.Reading.{ReadAs, without, readReply}
+use Rattle.device.specs.Calls.{refusedBy, withParts}
+use Rattle.controller.specs.Reading.{ReadAs, meaning, without, readReply}
 use Rattle.controller.specs.declared.reading.Outcome.{Outcome}
 use Rattle.controller.specs.declared.reading.Outcome.the-variants.{Means, Erra, NotALine, OtherCommand, NotAllowed}
 use Rattle.demands.specs.Board.{Board, Given, Lent, ours, lentBy}
-use Rattle.demands.specs.Demand2.{meaning}
 use Rattle.demands.specs.OursBut.{butReceive, butReader}
 
 -- takes every byte, and says this to them
-abbrev saying : (List ℕ → List ℕ) → Board
-saying answer =
+abbrev alwaysReplying : (List ℕ → List ℕ) → Board
+alwaysReplying answer =
     butReceive (λ d bs m. lentBy (record { number = 0; taken = length bs; reply = answer bs; device = d }) m)
 
 abbrev pub dropsAll : Board
-dropsAll = saying (λ bs. [])
+dropsAll = alwaysReplying (λ bs. [])
 
 -- with the body as received
 abbrev pub okToAll : Board
-okToAll = saying (λ bs. ascii "%1" ++ take 4 (drop 2 bs) ++ ascii "=OK\r")
+okToAll = alwaysReplying (λ bs. ascii "%1" ++ take 4 (drop 2 bs) ++ ascii "=OK\r")
 
 abbrev refusedGiven : ℕ → Device → Given Device
 refusedGiven n d = record { number = n; device = d }
@@ -45,9 +44,9 @@ refusesAll = record {
   Record = Device;
   shows = λ d. d;
   set-up = λ w. refusedGiven 3 blank;
-  opening = λ d random m. lentBy (refusing 1 d) m;
+  opening = λ d random m. lentBy (refusedBy 1 d) m;
   closing = refusedGiven 1;
-  receive = λ d bs m. lentBy (refusing 1 d) m;
+  receive = λ d bs m. lentBy (refusedBy 1 d) m;
   pass = λ d n. refusedGiven 1 d;
   set-fault = λ d mark. refusedGiven 1 d;
   set-errors = λ d digits. refusedGiven 1 d;

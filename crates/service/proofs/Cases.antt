@@ -9,17 +9,17 @@ use lib.Dec.{leb, eqb}
 use borrow.Author.Tests.{eqb-true, leb-true}
 use Rattle.text.proofs.Choices.{if-yes, if-no, if-by, both-left, both-right}
 use Rattle.service.specs.Differences.{tableMost, differences, isComparable}
-use Rattle.service.specs.Differences.{ComparedAs, telling, refusing, compared}
+use Rattle.service.specs.Differences.{ComparedAs, telling, notCompared, compared}
 
 module _ (es ls : List ℕ) (room : ℕ) where
   pub compared-by : (P : ComparedAs → Type 0)
-      → (isComparable es ls room ≡ false → P refusing)
+      → (isComparable es ls room ≡ false → P notCompared)
       → (isComparable es ls room ≡ true → P (telling (differences es ls)))
       → P (compared es ls room)
   unfolding compared
   compared-by P refused told = if-by P (isComparable es ls room) told refused
 
-  pub compared-refused : isComparable es ls room ≡ false → compared es ls room ≡ refusing
+  pub compared-refused : isComparable es ls room ≡ false → compared es ls room ≡ notCompared
   unfolding compared
   compared-refused e = if-no _ _ e
 

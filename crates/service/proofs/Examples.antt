@@ -3,7 +3,7 @@
 use mathlib.Core.Path.{_≡_, refl}
 use mathlib.Core.List.{[], _∷_}
 use lib.IntN.{pos, negsuc}
-use Rattle.service.specs.Differences.{_minus_, refusing, compared}
+use Rattle.service.specs.Differences.{_minus_, notCompared, compared}
 use Rattle.service.specs.declared.Compared.the-variants.{Forwards, Backwards}
 
 -- a lamp that burnt, one that did not, and a new one
@@ -28,10 +28,10 @@ nothing-to-compare : compared [] [] 0 ≡ record { told = Forwards; written = []
 unfolding compared
 nothing-to-compare = refl
 
-one-place-short : compared (1 ∷ []) (1 ∷ 2 ∷ []) 2 ≡ refusing
+one-place-short : compared (1 ∷ []) (1 ∷ 2 ∷ []) 2 ≡ notCompared
 unfolding compared
 one-place-short = refl
 
-no-room : compared (1 ∷ 1 ∷ []) (1 ∷ 2 ∷ []) 1 ≡ refusing
+no-room : compared (1 ∷ 1 ∷ []) (1 ∷ 2 ∷ []) 1 ≡ notCompared
 unfolding compared
 no-room = refl

@@ -49,11 +49,11 @@ pub record ComparedAs : Type 0 where
 abbrev pub telling : List ℤ → ComparedAs
 telling ds = record { told = firstNegative 0 ds; written = ds }
 
-abbrev pub refusing : ComparedAs
-refusing = record { told = Refused; written = [] }
+abbrev pub notCompared : ComparedAs
+notCompared = record { told = Refused; written = [] }
 
 unfoldable pub compared : List ℕ → List ℕ → ℕ → ComparedAs
-compared es ls room = if isComparable es ls room then telling (differences es ls) else refusing
+compared es ls room = if isComparable es ls room then telling (differences es ls) else notCompared
 
 unfoldable pub reportOf : Compared → Report
 reportOf Forwards = record { number = 0; backwards = false; place = 0 }

@@ -26,7 +26,7 @@ refused c =
 -- where the tables can be compared
 module _ (c : tie.Else1) where
   abbrev entry : tie.Start
-  entry = c .before .before .before .before
+  entry = let tested = c .before in tested .before .before .before
 
   abbrev earlier : List ℕ
   earlier = entry .args .earlier .now

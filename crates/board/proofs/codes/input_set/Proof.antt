@@ -5,7 +5,7 @@ use mathlib.Core.Bool.{Bool, _&&_}
 use lib.Dec.{leb}
 use borrow.Author.Tests.{not-true, not-false}
 use borrow.Author.Needs.{needs}
-use Rattle.board.specs.Commands.{inputSet}
+use Rattle.board.specs.Commands.{inputCoded}
 use Rattle.board.proofs.codes.input_set.Statement.{statement}
 use Rattle.board.proofs.codes.input_set.Tie as tie
 
@@ -13,7 +13,7 @@ abbrev isListed : ℕ → ℕ → Bool
 isListed source number = leb 1 source && leb source 5 && leb 1 number && leb number 9
 
 pub input-set-spec : {M : Type 1} → statement M
-unfolding inputSet
+unfolding inputCoded
 input-set-spec =
     tie.close
     (tie.spec

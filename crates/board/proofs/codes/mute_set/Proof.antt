@@ -5,7 +5,7 @@ use mathlib.Core.Bool.{Bool, _&&_}
 use lib.Dec.{leb}
 use borrow.Author.Tests.{not-true, not-false}
 use borrow.Author.Needs.{needs}
-use Rattle.board.specs.Commands.{muteSet}
+use Rattle.board.specs.Commands.{muteCoded}
 use Rattle.board.proofs.codes.mute_set.Statement.{statement}
 use Rattle.board.proofs.codes.mute_set.Tie as tie
 
@@ -13,7 +13,7 @@ abbrev isListed : ℕ → ℕ → Bool
 isListed half on = leb 1 half && leb half 3 && leb on 1
 
 pub mute-set-spec : {M : Type 1} → statement M
-unfolding muteSet
+unfolding muteCoded
 mute-set-spec =
     tie.close
     (tie.spec

@@ -8,9 +8,9 @@ use lib.ListN.{length, take}
 use lib.Seq.{length-take-le}
 use borrow.Author.Needs.{needs}
 use Rattle.lines.specs.declared.input.Input.{Input}
-use Rattle.answers.specs.Carried.{inputsMost}
-use Rattle.answers.proofs.Counts.{least-taken}
-use Rattle.board.specs.Readings.{inRoom, noHours, noneLit, noBytes, flatOf, characters, withInputs}
+use Rattle.answers.specs.Carried.{inputsCarried}
+use Rattle.answers.proofs.Counts.{take-min}
+use Rattle.board.specs.Readings.{filledTo, noHours, noneLit, noBytes, flatOf, characters, withInputs}
 use Rattle.board.proofs.Flattening.{in-room, in-count, all-passed, one-more-input}
 use Rattle.board.proofs.lists.inputs_of.Statement.{statement}
 use Rattle.board.proofs.lists.inputs_of.Tie as tie
@@ -18,7 +18,7 @@ use Rattle.board.proofs.lists.inputs_of.Tie as tie
 record Passed (inputs : List Input) (count : ℕ) (pairs : List ℕ) (k : ℕ) : Type 0 where
   inside : k ≤ 32
   counted : k ≤ count
-  stored : pairs ≡ inRoom 64 0 (characters (take k inputs))
+  stored : pairs ≡ filledTo 64 0 (characters (take k inputs))
 
 abbrev Inv : tie.InvT-loop
 Inv count inputs pairs₀ k₀ pairs k = Passed inputs count pairs k
@@ -56,8 +56,8 @@ ends c =
     let passed = turn .loop .inv in
     let size = long (turn .before) in
     let count = turn .before .args .count in
-    let all = all-passed inputs (turn .loop .k) inputsMost count size (passed .counted) (c .before .loop-test .left)
-    ∙ sym (least-taken count inputsMost inputs size) in
+    let all = all-passed inputs (turn .loop .k) inputsCarried count size (passed .counted) (c .before .loop-test .left)
+    ∙ sym (take-min count inputsCarried inputs size) in
     let counted = sym (length-take-le (turn .loop .k) inputs (omega (arith, passed .inside))) in
     rw (c .plain .ensures)
     ((λ i. flatOf 0 8 0 0 (counted i) noHours noneLit (passed .stored i) noBytes) ∙ ap withInputs all)

@@ -7,9 +7,9 @@ use mathlib.Core.List.{List, map}
 use native.Mathlib.Omega.{arith}
 use lib.ListN.{length, take, length-map}
 use borrow.Author.Needs.{needs}
-use Rattle.answers.specs.Carried.{lampsMost}
+use Rattle.answers.specs.Carried.{lampsCarried}
 use Rattle.answers.specs.declared.answer.LampHours.{LampHours}
-use Rattle.answers.proofs.Counts.{least-taken}
+use Rattle.answers.proofs.Counts.{take-min}
 use Rattle.meaning.proofs.Filling.{Filled, none-filled, one-filled, one-more-turned}
 use Rattle.board.specs.Readings.{noHours, noneLit, noBytes, flatOf, hoursOf, litOf, withLamps}
 use Rattle.board.proofs.Flattening.{in-room, in-count, all-passed}
@@ -56,8 +56,8 @@ ends c =
     let told = turn .loop .inv .told in
     let count = turn .before .args .count in
     let size = long (turn .before) in
-    let all = all-passed lamps (turn .loop .k) lampsMost count size (told .counted) (c .before .loop-test .left)
-    ∙ sym (least-taken count lampsMost lamps size) in
+    let all = all-passed lamps (turn .loop .k) lampsCarried count size (told .counted) (c .before .loop-test .left)
+    ∙ sym (take-min count lampsCarried lamps size) in
     let counted = told .long ∙ length-map (take (turn .loop .k) lamps) hoursOf in
     rw (c .plain .ensures)
     ((λ i. flatOf 0 7 0 0 (counted i) (told .stored i) (turn .loop .inv .shown .stored i) noBytes noBytes)

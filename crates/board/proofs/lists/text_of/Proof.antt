@@ -1,14 +1,13 @@
 -- `board::lists::text_of` meets its contract: a count past the array's end counts the whole array.
 -- Assumes nothing.
-use Prim.Native.Nat.{ℕ, _-_}
+use Prim.Native.Nat.{ℕ, _-_, min}
 use mathlib.Core.Path.{_≡_, sym, ap, _∙_}
 use native.Mathlib.Omega.{arith}
 use lib.ListN.{length, take}
 use lib.Seq.{take-all}
 use borrow.Author.Needs.{needs}
 use Rattle.lines.specs.Texts.{nameMost}
-use Rattle.answers.specs.Carried.{least}
-use Rattle.answers.proofs.Counts.{least-taken}
+use Rattle.answers.proofs.Counts.{take-min}
 use Rattle.board.specs.Readings.{withText}
 use Rattle.board.proofs.lists.text_of.Statement.{statement}
 use Rattle.board.proofs.lists.text_of.Tie as tie
@@ -18,9 +17,9 @@ long start = search needs
 
 module _ (start : tie.Start) where
   counted : withText (start .args .kind) (take (start .args .count) (start .args .t2))
-      ≡ withText (start .args .kind) (take (least (start .args .count) nameMost) (start .args .t2))
+      ≡ withText (start .args .kind) (take (min (start .args .count) nameMost) (start .args .t2))
   counted =
-      ap (withText (start .args .kind)) (sym (least-taken (start .args .count) nameMost (start .args .t2) (long start)))
+      ap (withText (start .args .kind)) (sym (take-min (start .args .count) nameMost (start .args .t2) (long start)))
 
 whole : tie.Need-returns
 whole c =

@@ -2,14 +2,11 @@
 -- Assumes nothing.
 use Prim.Native.Nat.{ℕ}
 use mathlib.Core.Path.{_≡_, sym, ap, _∙_}
-use native.Mathlib.Omega.{arith}
-use lib.ListN.{take}
 use borrow.Author.Needs.{needs}
-use Rattle.lines.specs.Texts.{nameMost}
-use Rattle.answers.specs.Carried.{errorsCount, saidAs, saidBy}
+use Rattle.answers.specs.Carried.{saidAs, saidBy}
 use Rattle.answers.specs.declared.answer.Kind.{Kind}
-use Rattle.answers.proofs.Counts.{least-of, said-of-kind}
-use Rattle.board.specs.Readings.{plain, withText, saidFlat}
+use Rattle.answers.proofs.Counts.{said-of-kind}
+use Rattle.board.specs.Readings.{plain, saidFlat}
 use Rattle.board.proofs.readings.said_flat.Statement.{statement}
 use Rattle.board.proofs.readings.said_flat.Tie as tie
 
@@ -36,9 +33,7 @@ errors : tie.Need-returns-6
 errors c =
     let arm = c .before in
     let start = arm .before .before .before in
-    let six = least-of errorsCount nameMost (omega arith) in
-    c .text-of .ensures ∙ ap (λ (n : ℕ). withText 6 (take n (start .args .a .text))) six
-    ∙ says start (arm .enum-told2 .given .1)
+    c .text-of .ensures ∙ says start (arm .enum-told2 .given .1)
 
 pub said-flat-spec : {M : Type 1} → statement M
 said-flat-spec =

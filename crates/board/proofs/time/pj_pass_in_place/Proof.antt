@@ -1,7 +1,7 @@
 -- `board::time::pj_pass_in_place` meets its contract: the borrow is passed on to `clock::pass::pass_in_place` for good,
 -- at its own lifetime, share and name, so what that says of the record's last value is what this says of it.
--- A walk of the code by hand, since a `&mut` of a struct is not covered: the walk of `demands::time::pass_in_place`, line
--- for line, over this crate's code, to the exit. All that it knows of the callee is its contract.
+-- A walk of the code by hand, since a `&mut` of a struct is not covered: the walk of `demands::time::pass_in_place`,
+-- line for line, over this crate's code, to the exit. All that it knows of the callee is its contract.
 -- Assumes nothing.
 use Prim.Native.Nat.{ℕ, _<_, _^_}
 use mathlib.Core.Path.{_≡_, refl}

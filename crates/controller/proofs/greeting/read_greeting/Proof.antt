@@ -11,7 +11,8 @@ use Rattle.text.specs.Scans.{sameBy, itself}
 use Rattle.lines.specs.Forms.{erraLine, greetingOpen, greetingSecured}
 use Rattle.controller.specs.Greetings.{greets, randomIn}
 use Rattle.controller.specs.declared.greeting.Greeting.the-variants.{Secured}
-use Rattle.controller.proofs.Cases.{greeting-open, greeting-refused, greeting-secured, greeting-none, greeting-not-18}
+use Rattle.controller.proofs.Cases.{greeting-open, greeting-refused, greeting-secured}
+use Rattle.controller.proofs.Cases.{greeting-none, greeting-not-18}
 use Rattle.controller.proofs.greeting.read_greeting.Statement.{statement}
 use Rattle.controller.proofs.greeting.read_greeting.Tie as tie
 
@@ -56,11 +57,15 @@ module _ (c : tie.After-same3) where
   abbrev hexed : tie.After-hex8
   hexed = let begun = put .before .before .before in begun .before .before
 
-  abbrev read : tie.After-random-in
+  abbrev read : tie.After-hex-value
   read = hexed .before
 
   abbrev second : tie.Else2
-  second = read .before .before
+  second = read .before .before .before
+
+  number : read .hex-value .result ≡ randomIn (line (first second))
+  unfolding randomIn
+  number = read .hex-value .ensures
 
   compared : c .same3 .result ≡ greets (line (first second)) (randomIn (line (first second)))
   compared =
@@ -68,12 +73,12 @@ module _ (c : tie.After-same3) where
       let zeros = greetingSecured (ascii "00000000") in
       c .same3 .ensures
       ∙ ap (sameBy itself l) (put .put .ensures ∙ ap (sets zeros 9) (hexed .hex8 .ensures))
-      ∙ ap (greets l) (read .random-in .ensures)
+      ∙ ap (greets l) number
 
 secured : tie.Need-returns-4
 secured c =
     let past = second (c .before) in
-    ap Secured (read (c .before) .random-in .ensures)
+    ap Secured (number (c .before))
     ∙ sym (greeting-secured (line (first past)) (not-open (first past)) (not-erra past)
     (sym (compared (c .before)) ∙ c .if4 .taken))
 
@@ -88,5 +93,6 @@ read-greeting-spec =
     tie.close
     (tie.spec
     (λ c. search needs) (λ c κs. search needs) is-open (λ c. search needs) (λ c κs. search needs) refused not-18
-    (λ c κs. search needs) (λ c κs. search needs) (λ c. search needs) (λ c. search needs) (λ c κs. search needs)
-    (λ c. search needs) (λ c κs. search needs) secured none)
+    (λ c. search needs) (λ c. search needs) (λ c. search needs) (λ c κs. search needs) (λ c κs. search needs)
+    (λ c. search needs) (λ c. search needs) (λ c κs. search needs) (λ c. search needs) (λ c κs. search needs)
+    secured none)

@@ -16,7 +16,7 @@ use Rattle.answers.specs.Carried.{answerOf}
 use Rattle.answers.specs.Reading.{readParameter}
 use Rattle.answers.specs.declared.answer.Answer.{Answer}
 use Rattle.controller.specs.Reading.{readingOf, kindOutcome}
-use Rattle.controller.proofs.Cases.{reply-erra, reply-unformed, reply-other, reply-said, kind-outcome}
+use Rattle.controller.proofs.Cases.{reply-erra, reply-unformed, reply-other, reply-said}
 use Rattle.lines.proofs.RepliesReadBack.{reply-long}
 use Rattle.controller.proofs.reading.read_reply.Statement.{statement}
 use Rattle.controller.proofs.reading.read_reply.Tie as tie
@@ -32,7 +32,7 @@ erra c =
 -- past the first test it is not the ERRA line
 module _ (c : tie.Else1) where
   abbrev start : tie.Start
-  start = c .before .before .before .before
+  start = let compared = c .before .before in compared .before .before
 
   abbrev line : List ℕ
   line = start .args .line .now
@@ -76,7 +76,10 @@ other c =
 -- past the third it answers the command
 module _ (c : tie.Else3) where
   abbrev named : tie.Else2
-  named = c .before .before .before .before .before .before .before
+  named =
+      let body = c .before .before in
+      let read = body .before .before .before in
+      read .before .before
 
 said : tie.Need-returns-4
 said c =
@@ -95,7 +98,7 @@ said c =
     let m = readParameter (args .c) (take (length l - 8) (drop 7 l)) in
     let answers : parameter .read-parameter .result ≡ answerOf m = parameter .read-parameter .ensures
     ∙ ap (λ (n : ℕ). answerOf (readParameter (args .c) (take n (drop 7 l)))) cut in
-    let outcome = c .outcome-of .ensures ∙ ap (λ (a : Answer). kindOutcome (a .kind)) answers ∙ kind-outcome m in
+    let outcome = c .outcome-of .ensures ∙ ap (λ (a : Answer). kindOutcome (a .kind)) answers in
     (λ i. record { outcome = outcome i; answer = answers i })
     ∙ ap readingOf (sym (reply-said (args .c) l (not-erra (first formed)) (has-form formed) has-body))
 

@@ -1,5 +1,5 @@
--- `controller::writing::write_command` meets its contract: each `return` is one case of `written`, and what follows the
--- digest is put after its 32 bytes.
+-- `controller::writing::write_command` meets its contract: each `return` is one case of `writtenCommand`, and what
+-- follows the digest is put after its 32 bytes.
 -- Assumes nothing.
 use Prim.Native.Nat.{ℕ, _+_}
 use mathlib.Core.Path.{_≡_, refl, sym, ap, _∙_}
@@ -19,7 +19,8 @@ use Rattle.lines.specs.Commands.{isCommand, commandLine}
 use Rattle.lines.proofs.CommandLines.{line-at-most-10}
 use Rattle.controller.specs.Writing.{WrittenAs, toldWritten}
 use Rattle.controller.specs.declared.writing.Written.{Written}
-use Rattle.controller.proofs.Cases.{written-short, written-no-command, written-plain, written-no-password, written-led}
+use Rattle.controller.proofs.Cases.{written-short, written-no-command, written-plain}
+use Rattle.controller.proofs.Cases.{written-no-password, written-led}
 use Rattle.controller.proofs.writing.write_command.Statement.{statement}
 use Rattle.controller.proofs.writing.write_command.Tie as tie
 
@@ -89,7 +90,8 @@ no-password c =
 led : tie.Need-returns-5
 led c =
     let put = c .before .before in
-    let first = put .before .before .before .before in
+    let after-first = put .before .before in
+    let first = after-first .before .before in
     let digested = first .before .before .before in
     let fourth = digested .before in
     let tested = fourth .before in

@@ -8,7 +8,7 @@ use native.Mathlib.Omega.{arith}
 use lib.ListN.{length}
 use borrow.Author.Tests.{lt-ltb, le-ltb}
 use borrow.Author.Needs.{needs}
-use Rattle.day.specs.Finding.{_at_}
+use Rattle.day.specs.Finding.{_nth_}
 use Rattle.day.specs.Tests.{meets, clashes}
 use Rattle.day.proofs.Finding.{Sought, one-sought, found, all-sought}
 use Rattle.day.proofs.check.clash_with.Statement.{statement}
@@ -45,7 +45,7 @@ module _ (c : tie.After-meets-on Inv μ) where
       λ r. meets (a .starts .now) (a .lengths .now) (a .warm .now) (a .cool .now) (a .rigs .now) r (a .i)
       (turn .loop .j) in
       c .meets-on .ensures ∙ ap met (c .before .byte-at .ensures)
-      ∙ sym (ap (λ (b : Bool). b && met (a .rigs .now at turn .loop .j)) (lt-ltb _ _ (turn .loop .inv .behind)))
+      ∙ sym (ap (λ (b : Bool). b && met (a .rigs .now nth turn .loop .j)) (lt-ltb _ _ (turn .loop .inv .behind)))
 
 holds : tie.Need-loop-holds Inv μ
 holds c =

@@ -7,7 +7,7 @@ use lib.ListN.{length}
 use lib.Dec.{ltb}
 use borrow.Author.Tests.{lt-ltb, le-ltb}
 use borrow.Author.Needs.{needs}
-use Rattle.day.specs.Finding.{_at_}
+use Rattle.day.specs.Finding.{_nth_}
 use Rattle.day.specs.Tests.{isEarly}
 use Rattle.day.proofs.Finding.{Sought, none-sought, one-sought, found, all-sought}
 use Rattle.day.proofs.check.too_early.Statement.{statement}
@@ -33,7 +33,7 @@ module _ (c : tie.After-at2 Inv μ) where
   tested : ltb (c .before .before .at .result) (c .at2 .result) ≡ early (turn .loop .j)
   tested =
       (λ i. ltb (c .before .before .at .ensures i)
-      ((c .at2 .ensures ∙ ap (λ (r : ℕ). start .args .warm .now at r) (c .before .byte-at .ensures)) i))
+      ((c .at2 .ensures ∙ ap (λ (r : ℕ). start .args .warm .now nth r) (c .before .byte-at .ensures)) i))
 
 here : tie.Need-returns Inv μ
 here c =

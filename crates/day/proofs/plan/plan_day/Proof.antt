@@ -93,11 +93,12 @@ asked c κs =
 made : tie.Need-returns-4
 made c =
     let put = c .before .before in
-    let placed = let c3 = put .before .before .before in c3 .before .before in
+    let tested = let lent = put .before .before in lent .before .before in
+    let placed = tested .before in
     let called = ranged placed .before in
     let w =
     plan-made (theDay called) (length (lent called)) (in-range (ranged placed)) (placed .before .if2 .left)
-    (placed .place .ensures .counted) (put .before .before .before .before .if3 .left) in (
+    (placed .place .ensures .counted) (tested .if3 .left) in (
       w .0,
       put .put .ensures
           ∙ sets-over (take (placed .place .result .count) (placed .place .result .rigs)) (lent called)

@@ -17,7 +17,7 @@ decided c =
     (λ i. leb jobs jobsMost && leb rigs rigsMost
     && eqb (length (a .lengths .now)) jobs && eqb (length (a .allowed .now)) jobs
     && eqb (length (a .cool .now)) rigs && eqb (length (a .life .now)) rigs
-    && c .before .each-job .ensures i && c .each-rig .ensures i)
+    && c .before .each-of .ensures i && c .each-of2 .ensures i)
 
 pub is-day-spec : {M : Type 1} → statement M
 is-day-spec = tie.close (tie.spec (λ c κs. search needs) (λ c κs. search needs) decided)

@@ -6,7 +6,7 @@ use native.Mathlib.Omega.{arith}
 use borrow.Author.Tests.{eq-eqb, ne-eqb}
 use borrow.Author.Needs.{needs}
 use Rattle.text.proofs.Choices.{if-yes, if-no}
-use Rattle.day.specs.Finding.{_at_}
+use Rattle.day.specs.Finding.{_nth_}
 use Rattle.day.proofs.rules.burnt_by.Statement.{statement}
 use Rattle.day.proofs.rules.burnt_by.Tie as tie
 
@@ -15,7 +15,7 @@ elsewhere c =
     let called = c .before in
     let start = let c3 = called .before .before .before in c3 .before in
     let a = start .args in (
-      sym (if-no _ _ (ne-eqb (a .rigs .now at a .j) (a .rig) (λ e. c .if1 .taken (called .byte-at .ensures ∙ e)))),
+      sym (if-no _ _ (ne-eqb (a .rigs .now nth a .j) (a .rig) (λ e. c .if1 .taken (called .byte-at .ensures ∙ e)))),
       omega arith,
     )
 
@@ -26,7 +26,7 @@ there c =
     let start = let c3 = called .before .before .before in c3 .before in
     let a = start .args in (
       (λ i. c .before .at .ensures i + c .at2 .ensures i)
-          ∙ sym (if-yes _ _ (eq-eqb (a .rigs .now at a .j) (a .rig) (sym (called .byte-at .ensures) ∙ on .if1 .left))),
+          ∙ sym (if-yes _ _ (eq-eqb (a .rigs .now nth a .j) (a .rig) (sym (called .byte-at .ensures) ∙ on .if1 .left))),
       omega arith,
     )
 

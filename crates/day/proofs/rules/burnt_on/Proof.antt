@@ -7,7 +7,7 @@ use native.Mathlib.Omega.{arith}
 use lib.ListN.{length}
 use borrow.Author.Needs.{needs}
 use Rattle.day.specs.Finding.{sum}
-use Rattle.day.specs.Rules.{burns}
+use Rattle.day.specs.Rules.{burntBy}
 use Rattle.day.proofs.rules.burnt_on.Statement.{statement}
 use Rattle.day.proofs.rules.burnt_on.Tie as tie
 
@@ -17,7 +17,7 @@ record Summed (f : ℕ → ℕ) (n total j : ℕ) : Type 0 where
   small : total ≤ 8_589_934_592 * j
 
 abbrev Inv : tie.InvT-loop
-Inv lengths warm rigs rig total₀ j₀ total j = Summed (burns lengths warm rigs rig) (length rigs) total j
+Inv lengths warm rigs rig total₀ j₀ total j = Summed (burntBy lengths warm rigs rig) (length rigs) total j
 
 abbrev μ : tie.MeasureT-loop
 μ lengths warm rigs rig total₀ j₀ total j = length rigs - j
@@ -25,8 +25,8 @@ abbrev μ : tie.MeasureT-loop
 again : tie.Need-loop-again Inv μ
 again c =
     let turn = c .before .before in
-    let a = turn .before .before .before .before .args in
-    let f = burns (a .lengths .now) (a .warm .now) (a .rigs .now) (a .rig) in
+    let a = let known = turn .before .before in known .before .before .args in
+    let f = burntBy (a .lengths .now) (a .warm .now) (a .rigs .now) (a .rig) in
     record {
       inside = search needs;
       summed = (λ i. turn .loop .inv .summed i + c .burnt-by .ensures .0 i)
@@ -37,8 +37,8 @@ again c =
 ends : tie.Need-returns Inv μ
 ends c =
     let turn = c .before in
-    let a = turn .before .before .before .before .args in
-    let f = burns (a .lengths .now) (a .warm .now) (a .rigs .now) (a .rig) in
+    let a = let known = turn .before .before in known .before .before .args in
+    let f = burntBy (a .lengths .now) (a .warm .now) (a .rigs .now) (a .rig) in
     let all : turn .loop .j ≡ length (a .rigs .now) = omega (arith, turn .loop .inv .inside) in
     (turn .loop .inv .summed ∙ ap (sum f) all, omega arith)
 
