@@ -16,8 +16,8 @@ use Rattle.numbers.specs.Decimal.{digits}
 use Rattle.record.specs.declared.types.Device.{Device}
 use Rattle.device.specs.Calls.{Result, replyRoom}
 use Rattle.device.proofs.Refusals.{opening-refused, receiving-refused, closing-refused}
-use Rattle.floor.specs.declared.line.Says.{Says}
-use Rattle.floor.specs.declared.line.Says.the-variants.{Opens, Receives, Passes, Closes, NoSuch}
+use Rattle.log.specs.declared.Says.{Says}
+use Rattle.log.specs.declared.Says.the-variants.{Opens, Receives, Passes, Closes, NoSuch}
 use Rattle.floor.specs.Events.{eventOf}
 use Rattle.floor.specs.Playing.{did, outcome, shown}
 use Rattle.floor.specs.Told.{isFormed, endMark, ending}

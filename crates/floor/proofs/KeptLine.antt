@@ -15,11 +15,11 @@ use Rattle.text.specs.Words.{ascii}
 use Rattle.text.proofs.Choices.{if-yes, if-no}
 use Rattle.text.proofs.Orders.{le-or-lt}
 use Rattle.record.specs.declared.types.Line.{Line}
-use Rattle.floor.specs.declared.line.Says.{Says}
-use Rattle.floor.specs.Lines.{lineMost}
+use Rattle.log.specs.declared.Says.{Says}
+use Rattle.log.specs.Lines.{lineMost}
 use Rattle.floor.specs.Events.{eventOf, event}
 use Rattle.floor.specs.Reading.{keptOf, nothingBegun, keptWith, keptEvent, lineAfter, isBegun}
-use Rattle.floor.proofs.Forms.{line-overlong}
+use Rattle.log.proofs.Forms.{line-overlong}
 use Rattle.floor.proofs.Gathering.{kept-marked, kept-more, kept-past, kept-long}
 use Rattle.floor.proofs.LinesPlayed.{after-long}
 

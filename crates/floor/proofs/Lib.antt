@@ -1,4 +1,3 @@
-pub mod Forms
 mod Gathering
 mod Endings
 mod Printing

@@ -22,7 +22,7 @@ use Rattle.record.specs.declared.types.Line.{Line}
 use Rattle.stream.specs.Machine.{Out, Took, unanswered, tookBytes, callOf}
 use Rattle.stream.proofs.UpToTheEnd.{notEnd, found}
 use Rattle.stream.proofs.OneCallGathers.{call-gathers, call-by}
-use Rattle.floor.specs.Lines.{lineMost}
+use Rattle.log.specs.Lines.{lineMost}
 use Rattle.floor.specs.Reading.{Reading, printRoom, keptWith, lineAfter, ended, withKept, more, lineTaken, upToLf}
 use Rattle.floor.specs.Reading.{stepThen, playedIn}
 use Rattle.floor.proofs.Gathering.{line-in-memory}

@@ -14,7 +14,7 @@ use Rattle.text.proofs.Choices.{if-yes, if-no}
 use Rattle.text.proofs.Stores.{sets-then, sets-over}
 use Rattle.stream.specs.Machine.{Took}
 use Rattle.floor.specs.declared.playing.Taken.{Taken}
-use Rattle.floor.specs.Lines.{lineMost}
+use Rattle.log.specs.Lines.{lineMost}
 use Rattle.floor.specs.Reading.{Reading, printRoom, lineTaken, playedIn}
 use Rattle.floor.specs.Calls.{readingIn, floorOf, lineTakenOf, CanPlay, TakenAs}
 use Rattle.floor.proofs.Carrying.{carry}

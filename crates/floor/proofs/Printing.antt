@@ -16,7 +16,7 @@ use Rattle.numbers.proofs.Digits.{digits-at-most-10}
 use Rattle.record.specs.declared.types.Device.{Device}
 use Rattle.device.specs.Calls.{Result, replyRoom}
 use Rattle.floor.specs.declared.event.Called.{Called}
-use Rattle.floor.specs.declared.line.Says.{Says}
+use Rattle.log.specs.declared.Says.{Says}
 use Rattle.floor.specs.Events.{eventOf}
 use Rattle.floor.specs.Playing.{did, outcome, shown, printed}
 use Rattle.floor.specs.Told.{isFormed, ending, calledOf, PrintedAs}

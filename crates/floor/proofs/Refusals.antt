@@ -8,7 +8,7 @@ use lib.Dec.{leb, ltb}
 use borrow.Author.Tests.{lt-ltb, le-ltb, le-leb, lt-leb, ltb-false, leb-false, ne-eqb}
 use Rattle.text.proofs.Choices.{if-yes, if-no, if-by}
 use Rattle.stream.specs.Machine.{Took, unanswered, tookBytes}
-use Rattle.floor.specs.Lines.{lineMost}
+use Rattle.log.specs.Lines.{lineMost}
 use Rattle.floor.specs.Reading.{Reading}
 use Rattle.floor.specs.Calls.{refusal, CanPlay, Step, giving}
 

@@ -16,7 +16,7 @@ use Rattle.record.specs.declared.types.Device.{Device}
 use Rattle.record.specs.declared.types.Line.{Line}
 use Rattle.stream.specs.Machine.{Out, unanswered, replyThen}
 use Rattle.stream.proofs.LinesSpelt.{run-none, run-more}
-use Rattle.floor.specs.Lines.{lineMost}
+use Rattle.log.specs.Lines.{lineMost}
 use Rattle.floor.specs.Events.{LogEvent, event, linesFrom, events}
 use Rattle.floor.specs.Playing.{did, printed, stateAfter, linesPrinted, lastLine, sampleDevice, replayed}
 use Rattle.floor.specs.Reading.{Reading, keptOf, nothingBegun, keptWith, lineAfter, more, ended, logRun}

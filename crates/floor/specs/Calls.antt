@@ -27,7 +27,7 @@ use Rattle.floor.specs.declared.gather.Begun.{Begun}
 use Rattle.floor.specs.declared.replay.Floor.{Floor}
 use Rattle.floor.specs.declared.replay.Stepped.{Stepped}
 use Rattle.floor.specs.declared.playing.Taken.{Taken}
-use Rattle.floor.specs.Lines.{lineMost}
+use Rattle.log.specs.Lines.{lineMost}
 use Rattle.floor.specs.Playing.{lastRoom}
 use Rattle.floor.specs.Reading.{Reading, keptOf, begunOf, printRoom, playedIn, logFinished}
 

@@ -13,9 +13,9 @@ use mathlib.Core.List.{List, [], _∷_, _++_, map}
 use lib.ListN.{length, drop}
 use lib.Dec.{eqb}
 use Rattle.text.specs.Words.{ascii, if_then_else_, _is_}
-use Rattle.floor.specs.declared.line.Says.{Says}
-use Rattle.floor.specs.declared.line.Says.the-variants.{Opens, Receives, Passes, Closes, NoSuch}
-use Rattle.floor.specs.Lines.{lineSaid}
+use Rattle.log.specs.declared.Says.{Says}
+use Rattle.log.specs.declared.Says.the-variants.{Opens, Receives, Passes, Closes, NoSuch}
+use Rattle.log.specs.Lines.{lineSaid}
 
 pub data LogEvent : Type 0 where
   opens : ℕ → LogEvent

@@ -1,4 +1,3 @@
-pub mod Lines
 pub mod Events
 pub mod Playing
 pub mod Reading

@@ -26,7 +26,7 @@ use Rattle.record.specs.declared.types.Line.{Line}
 use Rattle.stream.specs.Collecting.{lineText, collectedIn}
 use Rattle.stream.specs.Machine.{UpTo, Out, Took, unanswered, tookBytes, upTo, oneStep, runOver, oneCall}
 use Rattle.floor.specs.declared.gather.Begun.{Begun}
-use Rattle.floor.specs.Lines.{lineMost}
+use Rattle.log.specs.Lines.{lineMost}
 use Rattle.floor.specs.Events.{LogEvent, noSuch, event}
 use Rattle.floor.specs.Playing.{did, printed, lastLine, sampleDevice}
 

@@ -19,8 +19,8 @@ use Rattle.record.specs.declared.types.Device.{Device}
 use Rattle.record.specs.declared.types.Line.{Line}
 use Rattle.stream.specs.Machine.{UpTo}
 use Rattle.device.specs.Calls.{Result}
-use Rattle.floor.specs.declared.line.Says.{Says}
-use Rattle.floor.specs.declared.line.Says.the-variants.{Opens, Receives, Passes, Closes, NoSuch}
+use Rattle.log.specs.declared.Says.{Says}
+use Rattle.log.specs.declared.Says.the-variants.{Opens, Receives, Passes, Closes, NoSuch}
 use Rattle.floor.specs.declared.gather.Gathered.{Gathered}
 use Rattle.floor.specs.declared.event.Called.{Called}
 use Rattle.floor.specs.declared.event.Printed.{Printed}

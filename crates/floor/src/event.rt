@@ -1,6 +1,6 @@
 // One event: what it does, and what is printed for it.
-use crate::line::Says;
 use device::calls;
+use log::Says;
 use record::types::Device;
 ghost use mathlib.Core.Path.{_≡_};
 ghost use Prim.Native.Nat.{_+_, _-_, _^_, _≤_, _<_};

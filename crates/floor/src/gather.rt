@@ -1,9 +1,9 @@
 // Bytes of a log up to the end of a line, kept in lent memory until the line is whole.
-use crate::line::LINE_MOST;
+use log::LINE_MOST;
 ghost use mathlib.Core.Path.{_≡_};
 ghost use Prim.Native.Nat.{_≤_};
 ghost use lib.ListN.{length};
-ghost use Rattle.floor.specs.Lines.{lineMost};
+ghost use Rattle.log.specs.Lines.{lineMost};
 ghost use Rattle.floor.specs.Reading.{keptOf, begunOf, keptWith, upToLf};
 ghost use Rattle.floor.specs.Told.{gatheredTo};
 

@@ -2,6 +2,5 @@
 pub mod event;
 pub mod gather;
 pub mod last;
-pub mod line;
 mod playing;
 pub mod replay;

@@ -4,9 +4,8 @@ use crate::event::Printed;
 use crate::gather;
 use crate::gather::Begun;
 use crate::last;
-use crate::line;
-use crate::line::Says;
 use crate::replay::Floor;
+use log::Says;
 use record::types::Device;
 ghost use mathlib.Core.Path.{_≡_};
 ghost use Prim.Native.Nat.{min};
@@ -40,7 +39,7 @@ fn end_line(d: Device, number: u64, k: Begun, line: &mut [u8], out: &mut [u8]) -
     }
     let held = k.held;
     line[held] = b'\r';
-    let says = line::line_says(&line[0..held]);
+    let says = log::line_says(&line[0..held]);
     let from = least(2, held);
     let end = held + 1;
     event::print(d, number, says, &line[from..end], out)

@@ -1,8 +1,8 @@
 // A log, handed over in any parts: what is printed for it, and the device that it leaves.
 use crate::gather::Begun;
-use crate::line::LINE_MOST;
 use crate::playing;
 use crate::playing::PRINT_ROOM;
+use log::LINE_MOST;
 use record::setup;
 use record::types::Device;
 ghost use mathlib.Core.Path.{_≡_};

@@ -14,7 +14,7 @@ use Rattle.device.specs.declared.calls.Opened.{Opened}
 use Rattle.device.specs.declared.calls.Received.{Received}
 use Rattle.device.specs.Calls.{Result}
 use Rattle.floor.specs.declared.event.Called.{Called}
-use Rattle.floor.specs.declared.line.Says.{Says}
+use Rattle.log.specs.declared.Says.{Says}
 use Rattle.floor.specs.Events.{eventOf}
 use Rattle.floor.specs.Playing.{did}
 use Rattle.floor.specs.Told.{calledOf}

@@ -11,7 +11,7 @@ use denote.Ref.{now}
 use borrow.Author.Needs.{needs}
 use Rattle.text.proofs.Choices.{if-yes, if-no}
 use Rattle.floor.specs.declared.event.Printed.{Printed}
-use Rattle.floor.specs.Lines.{lineSaid}
+use Rattle.log.specs.Lines.{lineSaid}
 use Rattle.floor.specs.Events.{LogEvent, noSuch, eventOf, event}
 use Rattle.floor.specs.Reading.{keptOf, keptEvent}
 use Rattle.floor.specs.Told.{PrintedAs}

@@ -18,8 +18,8 @@ use Rattle.numbers.specs.Decimal.{isDigit, decimalValue}
 use Rattle.digest.specs.Hex.{isHexDigit, hexValue}
 use Rattle.lines.specs.Bytes.{_at_, noCr}
 use Rattle.clock.specs.Passing.{secondsMost}
-use Rattle.floor.specs.declared.line.Says.{Says}
-use Rattle.floor.specs.declared.line.Says.the-variants.{Opens, Receives, Passes, Closes, NoSuch}
+use Rattle.log.specs.declared.Says.{Says}
+use Rattle.log.specs.declared.Says.the-variants.{Opens, Receives, Passes, Closes, NoSuch}
 
 infix 40 _starts_
 abbrev pub lineMost : ℕ

@@ -16,8 +16,8 @@ use Rattle.numbers.specs.Decimal.{isDigit, decimalValue}
 use Rattle.digest.specs.Hex.{isHexDigit, hexValue}
 use Rattle.lines.specs.Bytes.{_at_, noCr}
 use Rattle.clock.specs.Passing.{secondsMost}
-use Rattle.floor.specs.declared.line.Says.the-variants.{Opens, Receives, Passes, Closes, NoSuch}
-use Rattle.floor.specs.Lines.{lineMost, randomSaid, secondsSaid, _starts_, formSaid, lineSaid}
+use Rattle.log.specs.declared.Says.the-variants.{Opens, Receives, Passes, Closes, NoSuch}
+use Rattle.log.specs.Lines.{lineMost, randomSaid, secondsSaid, _starts_, formSaid, lineSaid}
 
 -- a conjunction fails by its second side
 never : (a b : Bool) → b ≡ false → (a && b) ≡ false

@@ -1,4 +1,4 @@
--- `floor::line::random_said` meets its contract: up to i each byte is a hexadecimal digit, and all of them are read.
+-- `log::random_said` meets its contract: up to i each byte is a hexadecimal digit, and all of them are read.
 -- Assumes nothing.
 use Prim.Native.Nat.{ℕ, _-_}
 use mathlib.Core.Path.{sym, ap, _∙_}
@@ -8,10 +8,10 @@ use borrow.Author.Needs.{needs}
 use borrow.Author.Tests.{not-true, not-false}
 use Rattle.text.proofs.Scanning.{Passed, none-passed, one-passed, one-fails, all-passed}
 use Rattle.digest.specs.Hex.{isHexDigit}
-use Rattle.floor.specs.declared.line.Says.the-variants.{Opens}
-use Rattle.floor.proofs.Forms.{random-not-8, random-no-digit, random-opens}
-use Rattle.floor.proofs.line.random_said.Statement.{statement}
-use Rattle.floor.proofs.line.random_said.Tie as tie
+use Rattle.log.specs.declared.Says.the-variants.{Opens}
+use Rattle.log.proofs.Forms.{random-not-8, random-no-digit, random-opens}
+use Rattle.log.proofs.random_said.Statement.{statement}
+use Rattle.log.proofs.random_said.Tie as tie
 
 abbrev Inv : tie.InvT-loop
 Inv s i₀ i = Passed isHexDigit s i

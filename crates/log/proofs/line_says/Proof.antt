@@ -1,12 +1,12 @@
--- `floor::line::line_says` meets its contract: too long, with a CR in it, or of the form that it has.
+-- `log::line_says` meets its contract: too long, with a CR in it, or of the form that it has.
 -- Assumes nothing.
 use mathlib.Core.Path.{sym, _∙_}
 use borrow.Author.Needs.{needs}
 use borrow.Author.Tests.{not-true, not-false}
 use native.Mathlib.Omega.{arith}
-use Rattle.floor.proofs.Forms.{line-overlong, line-with-cr, line-formed}
-use Rattle.floor.proofs.line.line_says.Statement.{statement}
-use Rattle.floor.proofs.line.line_says.Tie as tie
+use Rattle.log.proofs.Forms.{line-overlong, line-with-cr, line-formed}
+use Rattle.log.proofs.line_says.Statement.{statement}
+use Rattle.log.proofs.line_says.Tie as tie
 
 with-cr : tie.Need-returns-2
 with-cr c =

@@ -1,4 +1,4 @@
--- `floor::line::form_says` meets its contract: at each `return` the tests that led there say which form the line has.
+-- `log::form_says` meets its contract: at each `return` the tests that led there say which form the line has.
 -- Assumes nothing.
 use Prim.Native.Nat.{ℕ, _-_, _≤_}
 use mathlib.Core.Path.{_≡_, sym, ap, _∙_}
@@ -7,11 +7,11 @@ use native.Mathlib.Omega.{arith}
 use lib.ListN.{length, take, drop, length-drop}
 use lib.Seq.{take-all}
 use borrow.Author.Needs.{needs}
-use Rattle.floor.specs.Lines.{randomSaid, secondsSaid}
-use Rattle.floor.proofs.Forms.{form-short, form-closes, form-unspaced, form-opens, form-receives}
-use Rattle.floor.proofs.Forms.{form-passes, form-none}
-use Rattle.floor.proofs.line.form_says.Statement.{statement}
-use Rattle.floor.proofs.line.form_says.Tie as tie
+use Rattle.log.specs.Lines.{randomSaid, secondsSaid}
+use Rattle.log.proofs.Forms.{form-short, form-closes, form-unspaced, form-opens, form-receives}
+use Rattle.log.proofs.Forms.{form-passes, form-none}
+use Rattle.log.proofs.form_says.Statement.{statement}
+use Rattle.log.proofs.form_says.Tie as tie
 
 -- what is lent of a line from its third byte on
 rest : (l : List ℕ) → 2 ≤ length l → take (length l - 2) (drop 2 l) ≡ drop 2 l

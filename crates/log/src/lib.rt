@@ -1,7 +1,7 @@
 // What a line of a log says (02, L1).
 ghost use mathlib.Core.Path.{_≡_};
 ghost use Rattle.digest.specs.Hex.{isHexDigit};
-ghost use Rattle.floor.specs.Lines.{randomSaid, secondsSaid, formSaid, lineSaid};
+ghost use Rattle.log.specs.Lines.{randomSaid, secondsSaid, formSaid, lineSaid};
 
 pub enum Says {
     Opens(u32),

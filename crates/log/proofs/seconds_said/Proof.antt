@@ -1,4 +1,4 @@
--- `floor::line::seconds_said` meets its contract: up to i each byte is a digit, and v is their value, below 10 to the
+-- `log::seconds_said` meets its contract: up to i each byte is a digit, and v is their value, below 10 to the
 -- i.
 -- Assumes nothing.
 use Prim.Native.Nat.{ℕ, _-_, _<_, _≤_, _^_}
@@ -14,9 +14,9 @@ use Rattle.text.proofs.Scanning.{one-fails, all-passed}
 use Rattle.text.proofs.DigitsRead.{ReadTo, none-read, one-read, all-read, read-below}
 use Rattle.numbers.specs.Decimal.{isDigit, decimalWorth, decimalValue}
 use Rattle.numbers.proofs.Digits.{digit-from, digit-to}
-use Rattle.floor.proofs.Forms.{seconds-none, seconds-long, seconds-no-digit, seconds-over, seconds-passes}
-use Rattle.floor.proofs.line.seconds_said.Statement.{statement}
-use Rattle.floor.proofs.line.seconds_said.Tie as tie
+use Rattle.log.proofs.Forms.{seconds-none, seconds-long, seconds-no-digit, seconds-over, seconds-passes}
+use Rattle.log.proofs.seconds_said.Statement.{statement}
+use Rattle.log.proofs.seconds_said.Tie as tie
 
 abbrev Inv : tie.InvT-loop
 Inv s v₀ i₀ v i = ReadTo 10 decimalWorth isDigit s v i
