@@ -105,6 +105,12 @@ static void one_projector(void) {
     pj_reading told = ask(PJ_LAMP, 0);
     for (size_t i = 0; i < told.count; i++) printf("lamp %zu: %u h, lit %d\n", i, (unsigned)told.hours[i], told.lit[i]);
 
+    /* the reply of a hired projector that pads a lamp's hours with zeros */
+    pj_command lamp = {PJ_LAMP, 0, 0};
+    told = pj_read_reply(lamp, TEXT("%1LAMP=00412 1\r"));
+    served(told.number, "pj_read_reply");
+    printf("hired: %u h, lit %d\n", (unsigned)told.hours[0], told.lit[0]);
+
     /* what the lamps gained since set-up, and the same tables the other way round */
     int64_t gained[2];
     pj_compared c = pj_compare_lamps(LIST(lamps), device.own.lamps, 2, LIST(gained));

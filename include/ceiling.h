@@ -336,6 +336,7 @@ typedef struct {                            /* what a kind does not use is zero 
 
 /* Reads what the reply to a command says. The host collects bytes up to and including the CR and lends them with the
    command that it sent. PJ_REPLY_ROOM bytes are enough: a reply that has no CR by then is none, and may be given up.
+   A lamp's hours are read in one to five digits, zeros in front included, as other makers' projectors write them.
    Refuses what is no command with PJ_OUT_OF_RANGE, then the line with PJ_NOT_A_LINE, PJ_OTHER_COMMAND or
    PJ_NOT_ALLOWED. */
 pj_reading pj_read_reply(pj_command c, const uint8_t *line, size_t len);

@@ -1,7 +1,6 @@
 -- Inputs: what is read as one was its two characters, and is read back from them; the loop over a list of them.
 -- Assumes nothing.
 use Prim.Native.Nat.{ℕ, _-_, _≤_}
-use Prim.Native.Char.{code}
 use mathlib.Core.Path.{_≡_, refl, sym, ap, _∙_}
 use mathlib.Core.Bool.{true, not}
 use mathlib.Core.List.{List, [], _∷_, _++_}
@@ -20,7 +19,7 @@ use Rattle.lines.specs.declared.input.MaybeInput.{MaybeInput}
 use Rattle.lines.specs.declared.input.MaybeInput.the-variants.{InputIs, NoInput}
 use Rattle.lines.proofs.ByPlaces.{by-places}
 use Rattle.lines.proofs.InputsReadBack.{input-read-back, named-is-input, named-text, read-input-by}
-use Rattle.answers.specs.Lists.{wordsOf, wordsAfter, WordTo, all, _andThen_}
+use Rattle.answers.specs.Lists.{no-more, one-more, wordsOf, wordsAfter, WordTo, all, _andThen_}
 use Rattle.answers.specs.Said.{inputsAre, nothing}
 use Rattle.answers.specs.Carried.{inputsCarried, noInputs, plainOf, ofInputs, answerOf}
 use Rattle.answers.specs.Reading.{inputOf, inputGot, inputsIn, listSays, readInputs}
@@ -28,6 +27,7 @@ use Rattle.answers.specs.declared.answer.Kind.the-variants.{Nothing}
 use Rattle.answers.specs.declared.answer.Answer.{Answer}
 use Rattle.answers.proofs.InputDigits.{input-digits}
 use Rattle.answers.proofs.Words.{notSpace, word-first}
+use Rattle.answers.proofs.Spaced.{Only}
 use Rattle.answers.proofs.JoinedRead.{Reads, not-read, read, nothing-read, reads-then}
 use Rattle.answers.proofs.ReadLists.{AllRead, listed}
 
@@ -45,12 +45,12 @@ input-by Q w named unnamed =
     unnamed)
     (λ e. unnamed)
 
-pub inputs-read : (ws : List (List ℕ)) → Reads inputText isInput ws (inputsIn ws)
+pub inputs-read : (ws : List (List ℕ)) → Reads (Only inputText) isInput ws (inputsIn ws)
 inputs-read [] = nothing-read _ _
 inputs-read (w ∷ ws) =
     reads-then _ _ (w ∷ []) ws
-    (input-by (λ m. Reads inputText isInput (w ∷ []) (inputGot m)) w
-    (λ i good text. read (i ∷ []) (both good refl) (ap (λ (l : List ℕ). code " " ∷ (l ++ [])) text))
+    (input-by (λ m. Reads (Only inputText) isInput (w ∷ []) (inputGot m)) w
+    (λ i good text. read (i ∷ []) (both good refl) (one-more i [] w [] text no-more))
     not-read)
     (inputs-read ws)
 
@@ -58,10 +58,12 @@ pub input-back : (i : Input) → isInput i ≡ true → inputOf (inputText i) �
 unfolding inputOf
 input-back i e = input-read-back i e
 
-pub inputs-back : (i : Input) → isInput i ≡ true → (t : List ℕ) (ws : List (List ℕ)) → wordsOf t ≡ [] ∷ ws
-    → inputsIn (wordsOf (inputText i ++ t)) ≡ (all (i ∷ []) andThen inputsIn ws)
-inputs-back i e t ws h =
-    ap inputsIn
+pub inputs-back : (i : Input) → isInput i ≡ true → (u : List ℕ) → Only inputText i u → (t : List ℕ)
+    (ws : List (List ℕ)) → wordsOf t ≡ [] ∷ ws
+    → inputsIn (wordsOf (u ++ t)) ≡ (all (i ∷ []) andThen inputsIn ws)
+inputs-back i e u text t ws h =
+    ap (λ (l : List ℕ). inputsIn (wordsOf (l ++ t))) text
+    ∙ ap inputsIn
     (word-first (inputText i) t
     (every-implies isDigit notSpace (λ b d. ap not (digit-isnt " " (omega arith) b d)) (inputText i) (input-digits i e))
     h)

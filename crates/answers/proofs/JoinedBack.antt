@@ -5,18 +5,17 @@ use Prim.Native.Char.{code}
 use mathlib.Core.Path.{_≡_, refl, ap, _∙_}
 use mathlib.Core.Bool.{Bool, true}
 use mathlib.Core.List.{List, [], _∷_, _++_}
-use native.Mathlib.Omega.{arith}
 use lib.ListN.{length}
 use borrow.Author.Tests.{le-leb}
 use Rattle.text.specs.Scans.{every}
 use Rattle.text.proofs.Choices.{both, both-left, both-right}
 use Rattle.text.proofs.Scanning.{every-append}
-use Rattle.answers.specs.Lists.{spaced, joined, wordsOf, Got, all, _andThen_}
+use Rattle.answers.specs.Lists.{spaced, joined, SpacedBy, no-more, one-more, wordsOf, Got, all, _andThen_}
 use Rattle.answers.specs.Said.{Said}
 use Rattle.answers.specs.Reading.{listSays}
 
+-- what holds of each byte of each thing, and of a space, holds of each byte
 module _ {A : Type 0} (w : A → List ℕ) (P : A → Bool) where
-  -- what holds of each byte of each thing, and of a space, holds of each byte
   module _ (f : ℕ → Bool) (each : (a : A) → P a ≡ true → every f (w a) ≡ true) (space : f (code " ") ≡ true) where
     spaced-every : (xs : List A) → every P xs ≡ true → every f (spaced w xs) ≡ true
     spaced-every [] e = refl
@@ -29,35 +28,35 @@ module _ {A : Type 0} (w : A → List ℕ) (P : A → Bool) where
     joined-every [] e = refl
     joined-every (x ∷ xs) e = both-right (f (code " ")) (every f (joined w (x ∷ xs))) (spaced-every (x ∷ xs) e)
 
-  -- where a thing's text, before a space or the end, is read as that thing and then the words that follow
-  module _ (reads : List (List ℕ) → Got A) (end : reads [] ≡ all [])
-      (back : (a : A) → P a ≡ true → (t : List ℕ) (ws : List (List ℕ)) → wordsOf t ≡ [] ∷ ws
-      → reads (wordsOf (w a ++ t)) ≡ (all (a ∷ []) andThen reads ws)) where
-    -- after the space before the first thing
-    record Back (xs : List A) : Type 0 where
-      words : List (List ℕ)
-      split : wordsOf (spaced w xs) ≡ [] ∷ words
-      things : reads words ≡ all xs
+-- where a thing's text, before a space or the end, is read as that thing and then the words that follow
+module _ {A : Type 0} (W : A → List ℕ → Type 0) (P : A → Bool) (reads : List (List ℕ) → Got A) (end : reads [] ≡ all [])
+    (back : (a : A) → P a ≡ true → (u : List ℕ) → W a u → (t : List ℕ) (ws : List (List ℕ)) → wordsOf t ≡ [] ∷ ws
+    → reads (wordsOf (u ++ t)) ≡ (all (a ∷ []) andThen reads ws)) where
+  -- after the space before the first thing
+  record Back (xs : List A) (s : List ℕ) : Type 0 where
+    words : List (List ℕ)
+    split : wordsOf s ≡ [] ∷ words
+    things : reads words ≡ all xs
 
-    spaced-back : (xs : List A) → every P xs ≡ true → Back xs
-    spaced-back [] e = record { words = []; split = refl; things = end }
-    spaced-back (x ∷ xs) e =
-        let rest = spaced-back xs (both-right (P x) (every P xs) e) in
-        record {
-          words = wordsOf (w x ++ spaced w xs);
-          split = refl;
-          things =
-              back x (both-left (P x) (every P xs) e) (spaced w xs) (rest .words) (rest .split)
-              ∙ ap (λ (q : Got A). all (x ∷ []) andThen q) (rest .things);
-        }
+  spaced-back : {xs : List A} {s : List ℕ} → SpacedBy W xs s → every P xs ≡ true → Back xs s
+  spaced-back no-more e = record { words = []; split = refl; things = end }
+  spaced-back (one-more x xs t s text others) e =
+      let rest = spaced-back others (both-right (P x) (every P xs) e) in
+      record {
+        words = wordsOf (t ++ s);
+        split = refl;
+        things =
+            back x (both-left (P x) (every P xs) e) t text s (rest .words) (rest .split)
+            ∙ ap (λ (q : Got A). all (x ∷ []) andThen q) (rest .things);
+      }
 
-    pub read-joined : (says : List A → Said) (most : ℕ) (xs : List A) → 1 ≤ length xs → length xs ≤ most
-        → every P xs ≡ true
-        → listSays says most (reads (wordsOf (joined w xs))) ≡ says xs
-    read-joined says most [] l h e = absurd (omega arith)
-    read-joined says most (x ∷ xs) l h e =
-        let whole = spaced-back (x ∷ xs) e in
-        let same : wordsOf (joined w (x ∷ xs)) ≡ whole .words = cc (whole .split) in
-        ap (λ (ws : List (List ℕ)). listSays says most (reads ws)) same
-        ∙ ap (listSays says most) (whole .things)
-        ∙ rw (le-leb (length (x ∷ xs)) most h)
+  pub read-joined : (says : List A → Said) (most : ℕ) (xs : List A) (p : List ℕ) → SpacedBy W xs (code " " ∷ p)
+      → length xs ≤ most
+      → every P xs ≡ true
+      → listSays says most (reads (wordsOf p)) ≡ says xs
+  read-joined says most xs p texts h e =
+      let whole = spaced-back texts e in
+      let same : wordsOf p ≡ whole .words = cc (whole .split) in
+      ap (λ (ws : List (List ℕ)). listSays says most (reads ws)) same
+      ∙ ap (listSays says most) (whole .things)
+      ∙ rw (le-leb (length xs) most h)

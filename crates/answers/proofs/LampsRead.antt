@@ -1,32 +1,34 @@
--- What is read as a lamp was the lamp's two words, hours with no leading zero and 1 or 0; the loop over a list of them.
+-- What is read as a lamp was two words that write it, hours in one to five digits and 1 or 0; the loop over a list of
+-- them.
 -- Assumes nothing.
 use Prim.Native.Nat.{ℕ, _+_, _-_, _<_, _≤_}
 use Prim.Native.Char.{code}
-use mathlib.Core.Path.{_≡_, refl, sym, ap, _∙_}
+use mathlib.Core.Path.{_≡_, refl, sym, ap, subst, _∙_}
 use mathlib.Core.Bool.{Bool, true, false, _||_}
-use mathlib.Core.List.{List, [], _∷_, _++_, append-nil}
+use mathlib.Core.List.{List, [], _∷_, _++_, append-assoc}
 use native.Mathlib.Omega.{arith}
 use lib.ListN.{length, take, drop}
 use borrow.Author.Tests.{le-leb}
 use Rattle.text.specs.Words.{ascii}
 use Rattle.text.proofs.Choices.{if-yes, if-no, if-by, both}
 use Rattle.text.proofs.Sameness.{same-is}
-use Rattle.numbers.specs.Decimal.{digits, readNumber}
+use Rattle.numbers.specs.Decimal.{WritesNumber, readNumber}
 use Rattle.numbers.specs.declared.Number.{Number}
 use Rattle.numbers.specs.declared.Number.the-variants.{Value, NotANumber}
-use Rattle.numbers.proofs.ReadBack.{read-below, read-unique}
+use Rattle.numbers.proofs.ReadBack.{read-below, read-written}
 use Rattle.lines.specs.Commands.{switchDigit}
-use Rattle.answers.specs.Lists.{wordsOf, wordsAfter, WordTo, none, _andThen_}
-use Rattle.answers.specs.Said.{lampsAre, nothing, lampText}
+use Rattle.answers.specs.Lists.{SpacedBy, no-more, one-more, wordsOf, wordsAfter, WordTo, none, _andThen_}
+use Rattle.answers.specs.Said.{lampsAre, nothing}
 use Rattle.answers.specs.Carried.{lampsCarried, noLamps, plainOf, ofLamps, answerOf}
 use Rattle.answers.specs.Reading.{_spells_, lampOfHours, lampOf, lampGot, lampsIn, listSays, readLamps}
 use Rattle.answers.specs.CanSay.{hoursMost, isLampHours}
+use Rattle.answers.specs.Writings.{WritesLamp}
 use Rattle.answers.specs.declared.answer.LampHours.{LampHours}
 use Rattle.answers.specs.declared.answer.Kind.the-variants.{Nothing}
 use Rattle.answers.specs.declared.answer.Answer.{Answer}
 use Rattle.answers.specs.declared.list.MaybeLamp.{MaybeLamp}
 use Rattle.answers.specs.declared.list.MaybeLamp.the-variants.{LampIs, NoLamp}
-use Rattle.answers.proofs.Words.{after-space, after-end}
+use Rattle.answers.proofs.Words.{bySpaces, after-space, after-end}
 use Rattle.answers.proofs.JoinedRead.{Reads, not-read, read, nothing-read, reads-then}
 use Rattle.answers.proofs.ReadLists.{AllRead, listed}
 
@@ -37,7 +39,7 @@ switch-text lit false e t = same-is lit (ascii "0") t
 
 -- what two words are read as, by whether they are the words of a lamp
 pub lamp-by : (Q : MaybeLamp → Type 0) (hours lit : List ℕ)
-    → ((x : LampHours) → isLampHours x ≡ true → hours ≡ digits (x .hours) → lit ≡ switchDigit (x .lit) ∷ []
+    → ((x : LampHours) → isLampHours x ≡ true → WritesNumber (x .hours) hours → lit ≡ switchDigit (x .lit) ∷ []
     → Q (LampIs x))
     → Q NoLamp
     → Q (lampOf hours lit)
@@ -50,7 +52,7 @@ lamp-by Q hours lit named unnamed =
     by t (Value v) e =
         named (record { hours = v; lit = lit spells ascii "1" })
         (le-leb v hoursMost (omega (arith, read-below hours v e)))
-        (read-unique hours v e)
+        (read-written hours v e)
         (switch-text lit (lit spells ascii "1") refl t)
     by t NotANumber e = unnamed
 
@@ -67,15 +69,23 @@ module _ (hours lit : List ℕ) {on off : Bool} (e : on ≡ (lit spells ascii "1
   unfolding lampOf
   lit-by h g = if-yes _ NoLamp (tests h) ∙ sym (λ i. lampOfHours (e i) (g i))
 
-pub lamps-read : (ws : List (List ℕ)) → Reads lampText isLampHours ws (lampsIn ws)
+lamp-spaced : (x : LampHours) (h l : List ℕ) → WritesNumber (x .hours) h → l ≡ switchDigit (x .lit) ∷ []
+    → SpacedBy WritesLamp (x ∷ []) (bySpaces (h ∷ l ∷ []))
+lamp-spaced x h l hours lit =
+    subst (SpacedBy WritesLamp (x ∷ []))
+    (ap (λ (s : List ℕ). code " " ∷ s) (append-assoc h (code " " ∷ l) []))
+    (one-more x [] (h ++ (code " " ∷ l)) []
+    (record { word = h; hours = hours; text = ap (λ (s : List ℕ). h ++ (code " " ∷ s)) lit })
+    no-more)
+
+pub lamps-read : (ws : List (List ℕ)) → Reads WritesLamp isLampHours ws (lampsIn ws)
 lamps-read [] = nothing-read _ _
 lamps-read (h ∷ []) = not-read
 lamps-read (h ∷ l ∷ ws) =
     reads-then _ _ (h ∷ l ∷ []) ws
-    (lamp-by (λ m. Reads lampText isLampHours (h ∷ l ∷ []) (lampGot m)) h l
+    (lamp-by (λ m. Reads WritesLamp isLampHours (h ∷ l ∷ []) (lampGot m)) h l
     (λ x good hours lit. read (x ∷ []) (both good refl)
-    ((λ i. code " " ∷ (hours i ++ (code " " ∷ (lit i ++ []))))
-    ∙ ap (λ (s : List ℕ). code " " ∷ s) (sym (append-nil (lampText x)))))
+    (lamp-spaced x h l hours lit))
     not-read)
     (lamps-read ws)
 

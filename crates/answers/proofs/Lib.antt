@@ -4,6 +4,7 @@ pub mod Lamps
 pub mod Mapped
 pub mod Errors
 pub mod Words
+pub mod Spaced
 pub mod ReadLists
 pub mod PutLists
 pub mod Parameters
@@ -21,3 +22,4 @@ mod ErrorsRead
 pub mod ReadSound
 pub mod ReadWritings
 pub mod OnlyOkay
+pub mod Examples

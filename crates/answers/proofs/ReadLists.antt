@@ -59,8 +59,8 @@ module _ {A : Type 0} {reads : List (List ℕ) → Got A} {z : List A} {p : List
 
   module _ {arr : List A} {k at : ℕ} (st : ListAt reads z p arr k at) where
     -- with no room for more: a further thing is one too many
-    pub no-room : (says : List A → Said) {most : ℕ} → most ≤ k → {w : A → List ℕ} {P : A → Bool}
-        → ((ws : List (List ℕ)) → Reads w P ws (reads ws))
+    pub no-room : (says : List A → Said) {most : ℕ} → most ≤ k → {W : A → List ℕ → Type 0} {P : A → Bool}
+        → ((ws : List (List ℕ)) → Reads W P ws (reads ws))
         → listSays says most (reads (wordsOf p)) ≡ nothing
     no-room says {most} h each =
         ap (listSays says most) (st .rest)

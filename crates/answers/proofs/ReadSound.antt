@@ -23,7 +23,7 @@ use Rattle.lines.specs.declared.command.Body.the-variants.{Powr, Inpt, Avmt, Er
 use Rattle.lines.specs.declared.command.Body.the-variants.{Clss}
 use Rattle.lines.proofs.ByPlaces.{by-places}
 use Rattle.lines.proofs.Refusals.{refusal-at-most-4, refusal-text}
-use Rattle.answers.specs.Said.{Said, lampsAre, inputsAre, textIs, nothing, lampText, saidBytes}
+use Rattle.answers.specs.Said.{Said, lampsAre, inputsAre, textIs, nothing, saidBytes}
 use Rattle.answers.specs.Carried.{lampsCarried, inputsCarried, errorsCarried}
 use Rattle.answers.specs.Lists.{all}
 use Rattle.answers.specs.Reading.{isSet, isRefusalTo, isErrorText, errorOf, lampsIn, inputsIn, listSays}
@@ -32,8 +32,9 @@ use Rattle.answers.specs.Reading.{readErrors, readLamps, readInputs, rea
 use Rattle.answers.specs.Reading.{readParameter}
 use Rattle.answers.specs.CanSay.{CanSay, done, refuses, power, input, mutes, errors, lamps, inputs, name, maker}
 use Rattle.answers.specs.CanSay.{model, other, class-1, isLampHours}
-use Rattle.answers.specs.Writings.{Writes, Says}
+use Rattle.answers.specs.Writings.{WritesLamp, Writes, Says}
 use Rattle.answers.specs.declared.answer.Power.the-variants.{Off, On, Cooling, WarmUp}
+use Rattle.answers.proofs.Spaced.{Only, only-spaced}
 use Rattle.answers.proofs.JoinedRead.{words-by}
 use Rattle.answers.proofs.ErrorsRead.{errors-are}
 use Rattle.answers.proofs.LampsRead.{lamps-read}
@@ -104,18 +105,18 @@ module _ (p : List ℕ) where
   lamps-sound : CanRead (Query Lamp) p (readLamps p)
   unfolding readLamps saidBytes
   lamps-sound =
-      words-by lampText isLampHours lampsIn lamps-read (λ q. CanRead (Query Lamp) p (listSays lampsAre lampsCarried q))
-      no-answer p
+      words-by WritesLamp isLampHours lampsIn lamps-read
+      (λ q. CanRead (Query Lamp) p (listSays lampsAre lampsCarried q)) no-answer p
       (λ x xs good text. list-sound lampsAre lampsCarried (x ∷ xs)
       (λ few. answer (record { can = lamps (x ∷ xs) (omega arith) few good; written = text })))
 
   inputs-sound : CanRead (Query Inst) p (readInputs p)
   unfolding readInputs saidBytes
   inputs-sound =
-      words-by inputText isInput inputsIn inputs-read (λ q. CanRead (Query Inst) p (listSays inputsAre inputsCarried q))
-      no-answer p
+      words-by (Only inputText) isInput inputsIn inputs-read
+      (λ q. CanRead (Query Inst) p (listSays inputsAre inputsCarried q)) no-answer p
       (λ x xs good text. list-sound inputsAre inputsCarried (x ∷ xs)
-      (λ few. answer (record { can = inputs (x ∷ xs) (omega arith) few good; written = text })))
+      (λ few. answer (record { can = inputs (x ∷ xs) (omega arith) few good; written = cc (only-spaced text) })))
 
   -- the bytes themselves are the text
   text-sound : {b : Body} (t : Bool) → (t ≡ true → CanSay (Query b) (textIs p))

@@ -2,7 +2,7 @@
 -- which is not read of it (01, "Controller"); so a parameter is refused exactly if it says nothing.
 -- Assumes nothing.
 use Prim.Native.Nat.{ℕ}
-use mathlib.Core.Path.{_≡_, refl, sym, ap, subst, _∙_}
+use mathlib.Core.Path.{_≡_, refl, sym, subst, _∙_}
 use mathlib.Core.Bool.{Bool, true, false}
 use mathlib.Core.List.{List}
 use Rattle.lines.specs.declared.command.Command.{Command}
@@ -10,7 +10,7 @@ use Rattle.answers.specs.Said.{Said, nothing}
 use Rattle.answers.specs.Reading.{readParameter}
 use Rattle.answers.specs.CanSay.{CanSay}
 use Rattle.answers.specs.Writings.{Says, Allowed, says, says-nothing}
-use Rattle.answers.proofs.ReadsBack.{reads-back}
+use Rattle.answers.proofs.ReadsBack.{written-back}
 use Rattle.answers.proofs.ReadSound.{CanRead, answer, no-answer, read-sound}
 
 -- `nothing` is no answer
@@ -26,7 +26,7 @@ module _ (c : Command) (p : List ℕ) where
       by no-answer some = absurd (some refl)
 
   pub written-is-read : (m : Said) → Says c m p → readParameter c p ≡ m
-  written-is-read m said = ap (readParameter c) (said .written) ∙ reads-back (said .can)
+  written-is-read m said = written-back (said .can) p (said .written)
 
   pub one-meaning : {m n : Said} → Says c m p → Says c n p → m ≡ n
   one-meaning {m} {n} said told = sym (written-is-read m said) ∙ written-is-read n told

@@ -1,4 +1,5 @@
--- THE LAW: for every command and every answer that it can have, reading the answer's bytes gives the answer back.
+-- THE LAW: for every command and every answer that it can have, reading a writing of the answer gives the answer back;
+-- and so its bytes, which are a writing.
 -- Assumes nothing.
 use Prim.Native.Nat.{ℕ, _≤_}
 use Prim.Native.Char.{code}
@@ -10,15 +11,15 @@ use lib.ListN.{length, length-map}
 use Rattle.text.specs.Words.{ascii}
 use Rattle.text.specs.Scans.{every}
 use Rattle.text.proofs.Choices.{if-yes, both-left}
-use Rattle.numbers.specs.Decimal.{digits, isDigit}
-use Rattle.numbers.proofs.Digits.{digits-are-digits, digits-at-least-1, digit-to}
+use Rattle.numbers.specs.Decimal.{isDigit}
+use Rattle.numbers.proofs.Digits.{digit-to}
 use Rattle.lines.specs.Inputs.{isInput, inputText, numberDigit}
 use Rattle.lines.specs.Commands.{switchDigit}
 use Rattle.lines.specs.Texts.{refusalOf, nameMost, infoMost}
 use Rattle.lines.specs.declared.input.Input.{Input}
 use Rattle.lines.specs.declared.command.Command.{Command}
 use Rattle.lines.specs.declared.command.Command.the-variants.{PowerSet, InputSet, MuteSet, Query}
-use Rattle.answers.specs.Lists.{spaced, joined}
+use Rattle.answers.specs.Lists.{spaced, joined, SpacedBy, no-more, one-more}
 use Rattle.answers.specs.Said.{Said, okay, powerIs, mutesAre, lampsAre, inputsAre, lampText, powerText}
 use Rattle.answers.specs.Said.{mutesText, saidBytes}
 use Rattle.answers.specs.Carried.{lampsCarried, inputsCarried}
@@ -26,6 +27,7 @@ use Rattle.answers.specs.Reading.{isSet, chosenOr, lampsIn, inputsIn, po
 use Rattle.answers.specs.Reading.{mutesNamed, readMutes, readLamps, readInputs, readValue, readParameter}
 use Rattle.answers.specs.CanSay.{CanSay, done, refuses, power, input, mutes, errors, lamps, inputs, name, maker}
 use Rattle.answers.specs.CanSay.{model, other, class-1, isLampHours}
+use Rattle.answers.specs.Writings.{WritesLamp, Writes}
 use Rattle.answers.specs.declared.answer.Power.{Power}
 use Rattle.answers.specs.declared.answer.Power.the-variants.{Off, On, Cooling, WarmUp}
 use Rattle.answers.specs.declared.answer.LampHours.{LampHours}
@@ -33,8 +35,9 @@ use Rattle.lines.proofs.TextsTold.{text-no-refusal, name-is-text}
 use Rattle.lines.proofs.Refusals.{first-not-E, not-four-no-refusal, refusal-back}
 use Rattle.answers.proofs.InputDigits.{input-digits}
 use Rattle.answers.proofs.Inputs.{input-back, inputs-back}
-use Rattle.answers.proofs.LampsBack.{lamps-back}
+use Rattle.answers.proofs.LampsBack.{lamps-back, lamp-written}
 use Rattle.answers.proofs.ErrorsBack.{numbers-are-digits, errors-back}
+use Rattle.answers.proofs.Spaced.{Only, joined-by}
 use Rattle.answers.proofs.JoinedBack.{read-joined}
 use Rattle.answers.proofs.Parameters.{no-refusal, allowed}
 
@@ -50,6 +53,10 @@ digits-no-refusal p h e = sym (ap refusalOf (append-nil p)) ∙ digit-first p []
 -- the value is read once no refusal is found
 value : (c : Command) (p : List ℕ) {m : Said} → refusalOf p ≡ 0 → readValue c p ≡ m → readParameter c p ≡ m
 value c p z e = no-refusal c p (sym z) refl ∙ e
+
+-- from the bytes that these are
+by : (c : Command) {p q : List ℕ} {m : Said} → p ≡ q → readParameter c q ≡ m → readParameter c p ≡ m
+by c same e = ap (readParameter c) same ∙ e
 
 plain-back : (refusalOf (ascii "OK") ≡ 0) × (refusalOf (ascii "1") ≡ 0)
 plain-back = (not-four-no-refusal (ascii "OK") (λ e. omega arith), not-four-no-refusal (ascii "1") (λ e. omega arith))
@@ -74,13 +81,14 @@ mutes-back true false = (not-four-no-refusal (ascii "11") (λ e. omega arith), r
 mutes-back false true = (not-four-no-refusal (ascii "21") (λ e. omega arith), refl)
 mutes-back false false = (not-four-no-refusal (ascii "30") (λ e. omega arith), refl)
 
-lamps-no-refusal : (ls : List LampHours) → 1 ≤ length ls → refusalOf (joined lampText ls) ≡ 0
-lamps-no-refusal [] h = absurd (omega arith)
-lamps-no-refusal (x ∷ xs) h =
+lamps-no-refusal : {ls : List LampHours} {s : List ℕ} → SpacedBy WritesLamp ls s → (p : List ℕ) → s ≡ code " " ∷ p
+    → refusalOf p ≡ 0
+lamps-no-refusal no-more p e = absurd (omega (arith, ap length e))
+lamps-no-refusal (one-more x xs t s lamp rest) p e =
     let flag : List ℕ = code " " ∷ switchDigit (x .lit) ∷ [] in
-    ap refusalOf (append-assoc (digits (x .hours)) flag (spaced lampText xs))
-    ∙ digit-first (digits (x .hours)) (flag ++ spaced lampText xs) (digits-at-least-1 (x .hours))
-    (digits-are-digits (x .hours))
+    let same : p ≡ t ++ s = cc e in
+    ap refusalOf (same ∙ ap (λ (l : List ℕ). l ++ s) (lamp .text) ∙ append-assoc (lamp .word) flag s)
+    ∙ digit-first (lamp .word) (flag ++ s) (lamp .hours .some) (lamp .hours .figures)
 
 inputs-no-refusal : (is : List Input) → 1 ≤ length is → every isInput is ≡ true → refusalOf (joined inputText is) ≡ 0
 inputs-no-refusal [] h e = absurd (omega arith)
@@ -88,27 +96,52 @@ inputs-no-refusal (x ∷ xs) h e =
     digit-first (inputText x) (spaced inputText xs) (omega arith)
     (input-digits x (both-left (isInput x) (every isInput xs) e))
 
-pub reads-back : {c : Command} {m : Said} → CanSay c m → readParameter c (saidBytes m) ≡ m
+-- from any writing of the answer
+pub written-back : {c : Command} {m : Said} → CanSay c m → (p : List ℕ) → Writes m p → readParameter c p ≡ m
 unfolding saidBytes readLamps readInputs
-reads-back {c} (done s) = value c (ascii "OK") (plain-back .0) (ok-back c s)
-reads-back {c} (refuses n l h t) = allowed c _ (sym (refusal-back n l h)) (omega arith) t
-reads-back (power p) = value _ (powerText p) (power-back p .0) (power-back p .1)
-reads-back (input i e) =
-    value _ (inputText i) (digits-no-refusal (inputText i) (omega arith) (input-digits i e))
-    (ap chosenOr (input-back i e))
-reads-back (mutes v a) = value _ (mutesText v a) (mutes-back v a .0) (mutes-back v a .1)
-reads-back (errors ds h e) =
-    value _ (map numberDigit ds)
+written-back {c} (done s) p w = by _ w (value c (ascii "OK") (plain-back .0) (ok-back c s))
+written-back {c} (refuses n l h t) p w = by _ w (allowed c _ (sym (refusal-back n l h)) (omega arith) t)
+written-back (power q) p w = by _ w (value _ (powerText q) (power-back q .0) (power-back q .1))
+written-back (input i e) p w =
+    by _ w
+    (value _ (inputText i) (digits-no-refusal (inputText i) (omega arith) (input-digits i e))
+    (ap chosenOr (input-back i e)))
+written-back (mutes v a) p w = by _ w (value _ (mutesText v a) (mutes-back v a .0) (mutes-back v a .1))
+written-back (errors ds h e) p w =
+    by _ w
+    (value _ (map numberDigit ds)
     (digits-no-refusal (map numberDigit ds) (omega (arith, length-map ds numberDigit)) (numbers-are-digits ds))
-    (errors-back ds h e)
-reads-back (lamps ls l h e) =
-    value _ (joined lampText ls) (lamps-no-refusal ls l)
-    (read-joined lampText isLampHours lampsIn refl lamps-back lampsAre lampsCarried ls l h e)
-reads-back (inputs is l h e) =
-    value _ (joined inputText is) (inputs-no-refusal is l e)
-    (read-joined inputText isInput inputsIn refl inputs-back inputsAre inputsCarried is l h e)
-reads-back (name s e) = value _ s (text-no-refusal nameMost s (name-is-text s e)) (if-yes _ _ e)
-reads-back (maker s e) = value _ s (text-no-refusal infoMost s e) (if-yes _ _ e)
-reads-back (model s e) = value _ s (text-no-refusal infoMost s e) (if-yes _ _ e)
-reads-back (other s e) = value _ s (text-no-refusal infoMost s e) (if-yes _ _ e)
-reads-back class-1 = value _ (ascii "1") (plain-back .1) refl
+    (errors-back ds h e))
+written-back (lamps ls l h e) p w =
+    value _ p (lamps-no-refusal w p refl)
+    (read-joined WritesLamp isLampHours lampsIn refl (λ x good. lamps-back x) lampsAre lampsCarried ls p w h e)
+written-back (inputs is l h e) p w =
+    by _ w
+    (value _ (joined inputText is) (inputs-no-refusal is l e)
+    (read-joined (Only inputText) isInput inputsIn refl inputs-back inputsAre inputsCarried is (joined inputText is)
+    (joined-by inputText isInput (λ x good. refl) is l e) h e))
+written-back (name s e) p w = by _ w (value _ s (text-no-refusal nameMost s (name-is-text s e)) (if-yes _ _ e))
+written-back (maker s e) p w = by _ w (value _ s (text-no-refusal infoMost s e) (if-yes _ _ e))
+written-back (model s e) p w = by _ w (value _ s (text-no-refusal infoMost s e) (if-yes _ _ e))
+written-back (other s e) p w = by _ w (value _ s (text-no-refusal infoMost s e) (if-yes _ _ e))
+written-back class-1 p w = by _ w (value _ (ascii "1") (plain-back .1) refl)
+
+-- what a projector of ours writes is a writing
+pub said-is-written : {c : Command} {m : Said} → CanSay c m → Writes m (saidBytes m)
+unfolding saidBytes
+said-is-written (done s) = refl
+said-is-written (refuses n l h t) = refl
+said-is-written (power p) = refl
+said-is-written (input i e) = refl
+said-is-written (mutes v a) = refl
+said-is-written (errors ds h e) = refl
+said-is-written (lamps ls l h e) = joined-by lampText isLampHours lamp-written ls l e
+said-is-written (inputs is l h e) = refl
+said-is-written (name s e) = refl
+said-is-written (maker s e) = refl
+said-is-written (model s e) = refl
+said-is-written (other s e) = refl
+said-is-written class-1 = refl
+
+pub reads-back : {c : Command} {m : Said} → CanSay c m → readParameter c (saidBytes m) ≡ m
+reads-back {c} {m} can = written-back can (saidBytes m) (said-is-written can)

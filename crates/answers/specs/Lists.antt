@@ -1,6 +1,8 @@
 -- Things joined by spaces, of any kind (01, "Commands": "lamps joined by spaces", "inputs .. joined by spaces"), and
 -- the words between single spaces that such a text is read by.
 --   joined w xs        the texts of xs, each by w, joined by spaces
+--   SpacedBy W xs s    s is the things xs, a space before each, each by one of the texts that W has for it; where s is a
+--                      space and p, the things are joined in p
 --   wordsOf s          what stands between the spaces of s: one word more than it has spaces, empty where two meet
 --   wordsAfter s       the words after the first byte of s: where a word has ended, those that follow its space
 --   WordTo p i n       the word that begins at the place i of p ends at n, before a space or at the end of p
@@ -23,6 +25,10 @@ spaced w (x ∷ xs) = code " " ∷ (w x ++ spaced w xs)
 abbrev pub joined : {A : Type 0} → (A → List ℕ) → List A → List ℕ
 joined w [] = []
 joined w (x ∷ xs) = w x ++ spaced w xs
+
+pub data SpacedBy {A : Type 0} (W : A → List ℕ → Type 0) : List A → List ℕ → Type 0 where
+  no-more : SpacedBy W [] []
+  one-more : (x : A) (xs : List A) (t s : List ℕ) → W x t → SpacedBy W xs s → SpacedBy W (x ∷ xs) (code " " ∷ (t ++ s))
 
 -- what joins the thing at the place i to those before it
 unfoldable pub gap : ℕ → List ℕ

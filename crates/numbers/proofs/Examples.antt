@@ -3,7 +3,7 @@
 use mathlib.Core.Path.{_≡_, refl}
 use mathlib.Core.List.{[]}
 use Rattle.text.specs.Words.{ascii}
-use Rattle.numbers.specs.Decimal.{digits, hasLeadingZero, readDigits, readNumber}
+use Rattle.numbers.specs.Decimal.{digits, readDigits, readNumber}
 use Rattle.numbers.specs.declared.Number.the-variants.{Value, NotANumber}
 
 writes-0 : digits 0 ≡ ascii "0"
@@ -27,29 +27,37 @@ unfolding digits
 writes-4294967295 = refl
 
 reads-0 : readNumber (ascii "0") ≡ Value 0
-unfolding hasLeadingZero readDigits readNumber
+unfolding readDigits readNumber
 reads-0 = refl
 
-refuses-00 : readNumber (ascii "00") ≡ NotANumber
-unfolding hasLeadingZero readDigits readNumber
-refuses-00 = refl
+reads-00 : readNumber (ascii "00") ≡ Value 0
+unfolding readDigits readNumber
+reads-00 = refl
 
-refuses-01 : readNumber (ascii "01") ≡ NotANumber
-unfolding hasLeadingZero readDigits readNumber
-refuses-01 = refl
+reads-00000 : readNumber (ascii "00000") ≡ Value 0
+unfolding readDigits readNumber
+reads-00000 = refl
+
+reads-00412 : readNumber (ascii "00412") ≡ Value 412
+unfolding readDigits readNumber
+reads-00412 = refl
+
+refuses-000000 : readNumber (ascii "000000") ≡ NotANumber
+unfolding readDigits readNumber
+refuses-000000 = refl
 
 reads-99999 : readNumber (ascii "99999") ≡ Value 99999
-unfolding hasLeadingZero readDigits readNumber
+unfolding readDigits readNumber
 reads-99999 = refl
 
 refuses-100000 : readNumber (ascii "100000") ≡ NotANumber
-unfolding hasLeadingZero readDigits readNumber
+unfolding readDigits readNumber
 refuses-100000 = refl
 
 refuses-nothing : readNumber [] ≡ NotANumber
-unfolding hasLeadingZero readDigits readNumber
+unfolding readDigits readNumber
 refuses-nothing = refl
 
 refuses-1a : readNumber (ascii "1a") ≡ NotANumber
-unfolding hasLeadingZero readDigits readNumber
+unfolding readDigits readNumber
 refuses-1a = refl

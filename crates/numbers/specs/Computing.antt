@@ -1,7 +1,7 @@
 -- One name that opens this crate's definitions, for computing on concrete records only (01, "Lines that settle it").
 -- Assumes nothing.
-use Rattle.numbers.specs.Decimal.{digits, hasLeadingZero, readDigits, readNumber}
+use Rattle.numbers.specs.Decimal.{digits, readDigits, readNumber}
 
 unfoldable pub computing : Unit {0}
-unfolding digits hasLeadingZero readDigits readNumber
+unfolding digits readDigits readNumber
 computing = tt

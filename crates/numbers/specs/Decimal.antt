@@ -1,6 +1,7 @@
 -- Decimal numbers, as lines are written and read.
 -- Document 01, "Commands": "the hours are written most significant digit first, no leading zeros".
--- Document 01, "Controller": "hours 0 to 99999 with no leading zero".
+-- Document 01, "Controller": "hours 0 to 99999 with no leading zero", which 02, L4, amends: "The number reader should
+-- take one to five digits, leading zeros included".
 --   lastDigit n         the last digit of n, as a character
 --   decimalWorth b      the number that the digit b stands for
 --   decimalValue s      the number whose digits are s
@@ -8,18 +9,19 @@
 --   longDigits n        the same of a u64: the number of a line in a log may be larger than a u32
 --   digitsIn k n        the same, where at most k quotients by ten are taken
 --   isDigit b           the byte b is a digit
---   hasLeadingZero s    s goes on after a zero: the one place of the rule on leading zeros
 --   readDigits s        the value of s, where each of its bytes is a digit
 --   mostDigits          how many digits are read at most, and so 99999 the greatest number
---   readNumber s        the value of s, where it is one to `mostDigits` digits under the rule on leading zeros
+--   WritesNumber n s    the bytes s are one to `mostDigits` digits whose value is n: a number has several such writings
+--   readNumber s        the value of s, where it is one to `mostDigits` digits
 -- Assumes nothing.
-use Prim.Native.Nat.{ℕ, zero, suc, _+_, _-_, _/_, _%_}
+use Prim.Native.Nat.{ℕ, zero, suc, _+_, _-_, _/_, _%_, _≤_}
 use Prim.Native.Char.{code}
-use mathlib.Core.Bool.{Bool, not, _&&_}
+use mathlib.Core.Path.{_≡_}
+use mathlib.Core.Bool.{Bool, true, _&&_}
 use mathlib.Core.List.{List, [], _∷_, _++_}
-use lib.ListN.{length, getD}
+use lib.ListN.{length}
 use lib.Dec.{ltb, leb}
-use Rattle.text.specs.Words.{if_then_else_, _is_, _from_to_}
+use Rattle.text.specs.Words.{if_then_else_, _from_to_}
 use Rattle.text.specs.Scans.{every}
 use Rattle.text.specs.Bases.{valueIn}
 use Rattle.numbers.specs.declared.Number.{Number}
@@ -49,17 +51,17 @@ longDigits n = digitsIn 19 n
 abbrev pub isDigit : ℕ → Bool
 isDigit b = b from "0" to "9"
 
-unfoldable pub hasLeadingZero : List ℕ → Bool
-hasLeadingZero s = leb 2 (length s) && getD s 0 0 is "0"
-
 unfoldable pub readDigits : List ℕ → Number
 readDigits s = if every isDigit s then Value (decimalValue s) else NotANumber
 
 abbrev pub mostDigits : ℕ
 mostDigits = 5
 
+pub record WritesNumber (n : ℕ) (s : List ℕ) : Type 0 where
+  pub some : 1 ≤ length s
+  pub short : length s ≤ mostDigits
+  pub figures : every isDigit s ≡ true
+  pub value : decimalValue s ≡ n
+
 unfoldable pub readNumber : List ℕ → Number
-readNumber s =
-    if leb 1 (length s) && leb (length s) mostDigits && not (hasLeadingZero s)
-    then readDigits s
-    else NotANumber
+readNumber s = if leb 1 (length s) && leb (length s) mostDigits then readDigits s else NotANumber

@@ -3,7 +3,7 @@ ghost use mathlib.Core.Path.{_≡_};
 ghost use Prim.Native.Nat.{_+_, _≤_};
 ghost use lib.ListN.{length};
 ghost use lib.Seq.{sets};
-ghost use Rattle.numbers.specs.Decimal.{digits, longDigits, isDigit, hasLeadingZero};
+ghost use Rattle.numbers.specs.Decimal.{digits, longDigits, isDigit};
 ghost use Rattle.numbers.specs.Decimal.{readDigits, readNumber, mostDigits};
 
 const MOST_DIGITS: usize = 5;
@@ -44,15 +44,6 @@ pub fn is_digit(b: u8) -> bool
     (b'0' <= b) & (b <= b'9')
 }
 
-fn has_leading_zero(s: &[u8]) -> bool
-    ensures { λ r. ⌜ r ≡ hasLeadingZero (now (s .entry)) ⌝ }
-{
-    if s.len() < 2 {
-        return false;
-    }
-    s[0] == b'0'
-}
-
 fn read_digits(s: &[u8]) -> Number
     requires { ⌜ length (now s) ≤ mostDigits ⌝ }
     ensures { λ r. ⌜ r ≡ readDigits (now (s .entry)) ⌝ }
@@ -70,7 +61,7 @@ fn read_digits(s: &[u8]) -> Number
     Number::Value(v)
 }
 
-// The number that all of s spells: 0 to 99999, in one to five digits.
+// The number that all of s spells: 0 to 99999, in one to five digits, leading zeros included (02, L4).
 pub fn read_number(s: &[u8]) -> Number
     ensures { λ r. ⌜ r ≡ readNumber (now (s .entry)) ⌝ }
 {
@@ -78,9 +69,6 @@ pub fn read_number(s: &[u8]) -> Number
         return Number::NotANumber;
     }
     if MOST_DIGITS < s.len() {
-        return Number::NotANumber;
-    }
-    if has_leading_zero(s) {
         return Number::NotANumber;
     }
     read_digits(s)
