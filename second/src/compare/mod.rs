@@ -61,6 +61,7 @@ impl<'a, B: Side> Run<'a, B> {
         self.every_body()?;
         self.messages()?;
         self.every_name()?;
+        self.every_hours()?;
         while self.agreed < ENOUGH {
             self.round()?;
         }
@@ -142,6 +143,10 @@ impl<'a, B: Side> Run<'a, B> {
     /// Names at the edges of what RFC 3629 allows.
     fn every_name(&mut self) -> Compared {
         names::every().into_iter().try_for_each(|name| self.name(name))
+    }
+
+    fn every_hours(&mut self) -> Compared {
+        replies::every_hours().into_iter().try_for_each(|act| self.compare_call(Device::BLANK, act))
     }
 
     /// A name in each of its places: lent to a set-up, in a record, asked for, in a reply.

@@ -5,6 +5,7 @@ use super::random::Random;
 use super::{names, setups};
 use crate::face::{Act, Command};
 use crate::reference::commands::BODIES;
+use std::collections::BTreeSet;
 
 /// The body of each command's code.
 const BODY: [usize; 14] = [0, 0, 1, 1, 2, 2, 3, 4, 5, 6, 7, 8, 9, 10];
@@ -110,14 +111,43 @@ fn lamps(random: &mut Random) -> Vec<u8> {
 }
 
 fn lamp(random: &mut Random) -> String {
-    let hours = match random.below(24) {
-        0 => format!("{:02}", random.below(100)),
-        1 => format!("{:05}", random.below(100_000)),
-        2 => random.pick(&["", "00", "100000", "99999", "4294967297", "+1", "9999a"]).to_string(),
+    let hours = match random.below(32) {
+        0..=5 => {
+            let width = random.from_to(1, 5);
+            padded(random, width)
+        }
+        6 => {
+            let width = random.pick(&[6, 6, 6, 7, 10, 11]);
+            padded(random, width)
+        }
+        7 => random.pick(&["", "00000", "000000", "100000", "99999", "4294967297", "+1", "9999a"]).to_string(),
         _ => (setups::lamp_seconds(random) / 3600).to_string(),
     };
     let lit = if random.one_in(24) { random.pick(&["2", "", "01", " 1"]) } else { random.pick(&["0", "1"]) };
     format!("{hours} {lit}")
+}
+
+/// A number of so many digits, with every count of leading zeros.
+fn padded(random: &mut Random, width: usize) -> String {
+    let digits = random.from_to(0, width) as u32;
+    format!("{:0width$}", random.below(10usize.pow(digits)))
+}
+
+/// Lamp hours of none to eight digits, around powers of ten and padded, of one lamp and among eight (02, L4).
+pub fn every_hours() -> Vec<Act> {
+    let numbers = [0, 1, 7, 8, 9, 10, 11, 77, 99, 100, 412, 999, 1000, 9999, 10_000, 99_999, 100_000, 999_999];
+    let numbers = numbers.into_iter().flat_map(|number: u32| (1..=8).map(move |width| format!("{number:0width$}")));
+    let all: BTreeSet<String> = numbers.chain([String::new()]).collect();
+    let lamps = all.iter().flat_map(|hours| {
+        let among = |place: usize| {
+            let mut lamps = ["99999 1"; 8].map(str::to_string);
+            lamps[place] = format!("{hours} 0");
+            lamps.join(" ")
+        };
+        [format!("{hours} 0"), format!("{hours} 1"), among(0), among(3), among(7)]
+    });
+    let command = Command { code: 7, first: 0, second: 0 };
+    lamps.map(|lamps| Act::ReadReply { command, line: format!("%1LAMP={lamps}\r").into_bytes() }).collect()
 }
 
 fn inputs(random: &mut Random) -> Vec<u8> {

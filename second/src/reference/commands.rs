@@ -179,11 +179,13 @@ impl Projector {
         }
     }
 
-    /// "hours, space, 1 (lit) in warm-up or on, else 0". "Hours are seconds divided by 3,600, rounded down".
+    /// "hours, space, 1 (lit) in warm-up or on, else 0". "Hours are seconds divided by 3,600, rounded down; the hours are
+    /// written most significant digit first, no leading zeros."
     fn lamp_answer(&self, seconds: u32) -> Vec<u8> {
         let hours = if made(Mistake::HoursRoundedUp) { seconds.div_ceil(3600) } else { seconds / 3600 };
         let lit = matches!(self.power, Power::WarmUp(_) | Power::On);
-        format!("{hours} {}", u8::from(lit)).into_bytes()
+        let width = if made(Mistake::HoursPadded) { 5 } else { 1 };
+        format!("{hours:0width$} {}", u8::from(lit)).into_bytes()
     }
 }
 

@@ -123,3 +123,38 @@ fn text(parameter: &[u8], allowed: bool) -> Option<Vec<u8>> {
 fn is_old_name(parameter: &[u8]) -> bool {
     made(Mistake::ReaderKeepsOldNames) && is_text(parameter, LONGEST_NAME)
 }
+
+#[cfg(test)]
+mod tests {
+    use super::*;
+    use crate::replay::sample;
+
+    fn lamps_read(parameter: &[u8]) -> Result<Meaning, u32> {
+        meaning(Command::Query(Body::Lamp), &[b"%1LAMP=", parameter, b"\r"].concat())
+    }
+
+    #[test]
+    fn hours_of_other_makers() {
+        assert_eq!(lamps_read(b"00412 1"), Ok(Meaning::Lamps(vec![(412, true)])));
+        assert_eq!(lamps_read(b"00000 0"), Ok(Meaning::Lamps(vec![(0, false)])));
+        assert_eq!(lamps_read(b"412 1 0412 0"), Ok(Meaning::Lamps(vec![(412, true), (412, false)])));
+        for refused in [&b"000000 0"[..], b" 0", b"000412 1", b"412 01", b"00412 1 "] {
+            assert_eq!(lamps_read(refused), Err(PARAMETER_NOT_ALLOWED));
+        }
+    }
+
+    /// 02, L4: "Our own projector still writes no leading zero, and our reader must still return what it meant."
+    #[test]
+    fn own_hours_are_read_back() {
+        let mut projector = sample();
+        for first in (0..100_000).step_by(8) {
+            let hours: Vec<u32> = (first..first + 8).collect();
+            projector.lamps = hours.iter().map(|hours| 3600 * hours + first % 3600).collect();
+            let reply = projector.answer(b"LAMP", b"?");
+            let read = meaning(Command::Query(Body::Lamp), &reply);
+            assert_eq!(read, Ok(Meaning::Lamps(hours.iter().map(|&hours| (hours, false)).collect())));
+            let mut words = reply[7..reply.len() - 1].split(|&byte| byte == b' ').step_by(2);
+            assert!(words.all(|word| word == b"0" || word[0] != b'0'));
+        }
+    }
+}

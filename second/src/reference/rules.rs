@@ -22,7 +22,6 @@ mistakes! {
     BodyUpperCased: "the echoed body is upper-cased",
     UpperDigestTaken: "a digest in upper case matches",
     LineFeedEndsALine: "LF ends a line",
-    LeadingZeroTaken: "the reader takes lamp hours with a leading zero",
     SixthInputType: "an input may have the type 6",
     ChosenInputReset: "power on goes back to the first input",
     MutesSwapped: "AVMT 1 mutes the sound and 2 the picture",
@@ -51,6 +50,13 @@ mistakes! {
     InformationInUtf8: "maker, model and other information have to be UTF-8 too",
     RecordKeepsOldNames: "a record's name need not be UTF-8",
     ReaderKeepsOldNames: "the reader takes a name that is not UTF-8",
+    PaddingRefused: "the reader refuses lamp hours with a leading zero",
+    OnlyFivePadded: "the reader takes leading zeros of lamp hours up to five digits and no fewer",
+    PaddingNotCounted: "the reader does not count leading zeros among five digits",
+    SixDigitsTaken: "the reader takes lamp hours of six digits",
+    NoDigitsTaken: "the reader takes no digits for 0 hours",
+    HoursInOctal: "the reader takes lamp hours with a leading zero for octal",
+    HoursPadded: "the projector pads lamp hours to five digits",
 }
 
 thread_local! {

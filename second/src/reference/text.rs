@@ -62,11 +62,52 @@ impl Input {
     }
 }
 
-/// 01, the reply reader: "hours 0 to 99999 with no leading zero".
+/// 02, L4: "The number reader should take one to five digits, leading zeros included; six digits stay 12."
 pub fn hours(digits: &[u8]) -> Option<u32> {
-    let zero_leads = digits.len() > 1 && digits[0] == b'0' && !made(Mistake::LeadingZeroTaken);
-    if digits.is_empty() || digits.len() > 5 || zero_leads || !digits.iter().all(|d| d.is_ascii_digit()) {
+    if !digits.iter().all(|digit| digit.is_ascii_digit()) || hours_refused(digits) {
         return None;
     }
-    Some(digits.iter().fold(0, |number, digit| number * 10 + u32::from(digit - b'0')))
+    let base = if padded(digits) && made(Mistake::HoursInOctal) { 8 } else { 10 };
+    let value = |digit: &u8| u32::from(digit - b'0');
+    digits.iter().map(value).try_fold(0, |number, value| (value < base).then_some(number * base + value))
+}
+
+/// Whether there are too few digits or too many.
+fn hours_refused(digits: &[u8]) -> bool {
+    if padded(digits) && (made(Mistake::PaddingRefused) || made(Mistake::OnlyFivePadded) && digits.len() != 5) {
+        return true;
+    }
+    let zeros = digits.iter().take_while(|&&digit| digit == b'0').count();
+    let counted = if made(Mistake::PaddingNotCounted) { digits.len() - zeros } else { digits.len() };
+    let most = if made(Mistake::SixDigitsTaken) { 6 } else { 5 };
+    counted > most || digits.is_empty() && !made(Mistake::NoDigitsTaken)
+}
+
+fn padded(digits: &[u8]) -> bool {
+    digits.len() > 1 && digits[0] == b'0'
+}
+
+#[cfg(test)]
+mod tests {
+    use super::hours;
+
+    #[test]
+    fn one_to_five_digits() {
+        for width in 1..=5 {
+            for number in 0..10u32.pow(width as u32) {
+                assert_eq!(hours(format!("{number:0width$}").as_bytes()), Some(number));
+            }
+        }
+    }
+
+    #[test]
+    fn six_digits_or_none() {
+        for number in 0..1_000_000 {
+            assert_eq!(hours(format!("{number:06}").as_bytes()), None);
+        }
+        for digits in ["", "0000000", "4294967296", "18446744073709551616", "+1", "-0", " 1", "1 ", "0x1", "4/2", "4:2"]
+        {
+            assert_eq!(hours(digits.as_bytes()), None, "{digits}");
+        }
+    }
 }
