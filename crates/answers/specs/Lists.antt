@@ -1,8 +1,8 @@
 -- Things joined by spaces, of any kind (01, "Commands": "lamps joined by spaces", "inputs .. joined by spaces"), and
 -- the words between single spaces that such a text is read by.
 --   joined w xs        the texts of xs, each by w, joined by spaces
---   SpacedBy W xs s    s is the things xs, a space before each, each by one of the texts that W has for it; where s is a
---                      space and p, the things are joined in p
+--   SpacedBy W xs s    s is the things xs, a space before each, each by one of the texts that W has for it; where s is
+--                      a space and p, the things are joined in p
 --   wordsOf s          what stands between the spaces of s: one word more than it has spaces, empty where two meet
 --   wordsAfter s       the words after the first byte of s: where a word has ended, those that follow its space
 --   WordTo p i n       the word that begins at the place i of p ends at n, before a space or at the end of p

@@ -64,5 +64,6 @@ one-more-input l k d {pairs} h e =
     = sets-snoc noBytes 0 before a e (omega arith) in
     sets-snoc noBytes 0 (before ++ (a ∷ [])) (numberDigit (i .number)) first
     (omega (arith, length-append before (a ∷ [])))
-    ∙ ap (filledTo 64 0) (append-assoc before (a ∷ []) (numberDigit (i .number) ∷ []) ∙ sym (characters-snoc (take k l) i)
+    ∙ ap (filledTo 64 0) (append-assoc before (a ∷ []) (numberDigit (i .number) ∷ [])
+    ∙ sym (characters-snoc (take k l) i)
     ∙ ap characters (sym (ap (λ (j : ℕ). take j l) (add-one k) ∙ take-suc l k d h)))

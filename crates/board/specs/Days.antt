@@ -10,7 +10,12 @@ use Rattle.board.specs.declared.days.FlatVerdict.{FlatVerdict}
 use Rattle.board.specs.declared.days.FlatPlan.{FlatPlan}
 
 abbrev pub flatVerdict : Verdict → FlatVerdict
-flatVerdict v = record { number = verdictNumber v; rule = ruleOf v; first = firstConcerned v; second = secondConcerned v }
+flatVerdict v = record {
+  number = verdictNumber v;
+  rule = ruleOf v;
+  first = firstConcerned v;
+  second = secondConcerned v;
+}
 
 abbrev pub flatPlan : Plan → FlatPlan
 flatPlan p = record { number = planNumber p; planned = isMade p; job = jobOf p }

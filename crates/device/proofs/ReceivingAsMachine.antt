@@ -87,8 +87,8 @@ module _ (s : Settings) (o : Own) (c : Connection) (bs : List ℕ) where
       let there = ended-other s o c l (λ p. omega arith) (λ p. omega arith) in
       ap leaves (here ∙ sym there) in
       takes-finishes (λ l. stateOf o c) kept
-      ∙ sym (call-finishes State collects (ends s) (heldMost (c .phase)) (λ l. stateOf o c) ended (λ l b. kept _) ignored
-      (c .line) bs)
+      ∙ sym (call-finishes State collects (ends s) (heldMost (c .phase)) (λ l. stateOf o c) ended (λ l b. kept _)
+      ignored (c .line) bs)
 
   -- awaiting or open: the line is
   collecting-call : c .phase ≤ failed → (c .phase ≡ shut → ⊥) → (c .phase ≡ failed → ⊥)

@@ -64,7 +64,8 @@ module _ (s : Settings) (o : Own) (c : Connection) (empty : c .line ≡ emptyLin
       ∙ ap (takenOf s o c) (line-gathered most [] xs rest room (omega arith) plain)
 
   pub open-line-taken : (xs : List ℕ) → c .phase ≡ opened → length xs ≤ commandMost → every notCr xs ≡ true
-      → takenIn s o c (xs ++ (code "\r" ∷ rest)) ≡ record { ended = spoken c (lineAnswer s o xs); taken = length xs + 1 }
+      → takenIn s o c (xs ++ (code "\r" ∷ rest))
+      ≡ record { ended = spoken c (lineAnswer s o xs); taken = length xs + 1 }
   open-line-taken xs phase short plain =
       let most : heldMost (c .phase) ≡ commandMost = ap heldMost phase ∙ held-most-opened in
       let ended : lineEnded s o c (lineOf xs) ≡ spoken c (lineAnswer s o xs)

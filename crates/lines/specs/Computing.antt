@@ -11,6 +11,6 @@ use Rattle.lines.specs.Forms.{isCommandForm, isReplyForm}
 
 unfoldable pub computing : Unit {0}
 unfolding
-    utf8 noCr inputFor sourceNamed readInput isRefusal refusalOf isText isName isPassword bodyNamed powerAsked inputAsked
-    halfNamed muteAsked askedOf requestOf isCommandForm isReplyForm
+    utf8 noCr inputFor sourceNamed readInput isRefusal refusalOf isText isName isPassword bodyNamed powerAsked
+    inputAsked halfNamed muteAsked askedOf requestOf isCommandForm isReplyForm
 computing = tt

@@ -31,7 +31,8 @@ whole c =
 
 part : tie.Need-returns-2
 part c =
-    let start = c .before .before .before .before in
+    let cut = c .before .before in
+    let start = cut .before .before in
     let args = start .args in
     let from-first : args .count - 0 ≡ args .count = omega arith in
     c .with-text2 .ensures ∙ ap (λ (n : ℕ). withText (args .kind) (take n (args .t2))) from-first ∙ counted start

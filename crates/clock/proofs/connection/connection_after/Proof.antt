@@ -36,7 +36,8 @@ at-once c =
 outlived : tie.Need-returns-3
 outlived c =
     let timed = c .before .before in
-    sym closed-spelt ∙ sym (closes (start timed .args .n) (start timed .args .c) (ages timed) (omega arith) (omega arith))
+    let args = start timed .args in
+    sym closed-spelt ∙ sym (closes (args .n) (args .c) (ages timed) (omega arith) (omega arith))
 
 closed-by-age : tie.Need-returns-4
 closed-by-age c =

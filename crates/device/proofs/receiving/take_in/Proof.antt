@@ -99,7 +99,10 @@ take-in-spec =
     (λ c κs. search needs)
     part
     (λ c κs. start (known (c .before)) .pre)
-    (λ c. let wrote = c .before .before in let done = wrote .before .before in let tested = done .before .before in omega
-    (arith, counted tested, fits (known tested .before .before)))
+    (λ c.
+    let wrote = c .before .before in
+    let done = wrote .before .before in
+    let tested = done .before .before in
+    omega (arith, counted tested, fits (known tested .before .before)))
     (λ c. search needs)
     line)
