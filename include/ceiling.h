@@ -23,8 +23,8 @@
 #include <stdint.h>
 
 /* The version of this face. It moves with each landing that moves a struct or a call; docs/landings/README.md says what
-   moved. A host that was written for one version can ask for it: #if CEILING_FACE != 4 .. #error. */
-#define CEILING_FACE 4
+   moved. A host that was written for one version can ask for it: #if CEILING_FACE != 5 .. #error. */
+#define CEILING_FACE 5
 
 /* What stands before a call whose result has the record in it: a compiler warns where such a result is dropped. */
 #if defined(__cplusplus) && __cplusplus >= 201703L || defined(__STDC_VERSION__) && __STDC_VERSION__ >= 202311L
@@ -43,20 +43,26 @@ extern "C" {
 #endif
 
 /* The number that a call gives: PJ_SERVED, or the first of the others that applies, in this order. Below, each call
-   says with which it refuses. With 1 to 5 the record that was given comes back (from pj_set_up the blank record, all
-   zero, which is not legal), counts and lengths are 0, and no byte of the lent memory is written. With PJ_SERVED a
+   says with which it refuses. With 1 to 5 the record that was given comes back (from pj_set_up and pj_load, with any
+   number that is not 0, the blank record, all zero, which is not legal), counts and lengths are 0, and no byte of the
+   lent memory is written. With PJ_SERVED a
    reply fills the start of the reply memory for its length, and every later byte there is as it was. */
 enum pj_number {
     PJ_SERVED = 0,
     PJ_NOT_LEGAL = 1,           /* the device record is not legal (pj_legal) */
-    PJ_NO_ROOM = 2,             /* the lent reply memory is under PJ_REPLY_ROOM bytes, for pj_write PJ_COMMAND_ROOM */
+    PJ_NO_ROOM = 2,             /* the lent reply memory is under PJ_REPLY_ROOM bytes, for pj_write PJ_COMMAND_ROOM, for
+                                   pj_store shorter than the form */
     PJ_OUT_OF_RANGE = 3,        /* a setting, an error digit, a command or a password is out of its range, two tables
                                    cannot be compared, or the jobs, rigs or lists of a day are out of theirs */
     PJ_NOT_CONNECTED = 4,       /* receiving or closing on a closed connection */
     PJ_CONNECTED = 5,           /* opening a connection that is not closed */
     PJ_NOT_A_LINE = 10,         /* what was read is not a greeting or reply line */
     PJ_OTHER_COMMAND = 11,      /* it is a reply to another command */
-    PJ_NOT_ALLOWED = 12         /* it is a reply to the command, with a parameter that is not allowed there */
+    PJ_NOT_ALLOWED = 12,        /* it is a reply to the command, with a parameter that is not allowed there */
+    PJ_OTHER_VERSION = 20,      /* a stored form whose version byte is not known */
+    PJ_CUT_SHORT = 21,          /* it ends before the form does; no bytes at all are that too */
+    PJ_LEFT_OVER = 22,          /* bytes are left over after it */
+    PJ_CONTENTS = 23            /* it has contents that pj_set_up would refuse */
 };
 
 enum pj_limit {
@@ -78,7 +84,8 @@ enum pj_limit {
     PJ_LINE_ROOM = 167,         /* of the record: bytes of a line that is being collected */
     PJ_ERRORS = 6,              /* error digits */
     PJ_REPLY_ROOM = 136,        /* the least memory for pj_open and pj_receive; enough to collect any reply */
-    PJ_COMMAND_ROOM = 168       /* the least memory for pj_write */
+    PJ_COMMAND_ROOM = 168,      /* the least memory for pj_write */
+    PJ_FORM_MOST = 268          /* bytes of the longest stored form: room for pj_store with every record */
 };
 
 enum pj_phase {                 /* of the connection */
@@ -243,6 +250,28 @@ pj_changed pj_set_errors(pj_device d, const uint8_t *digits, size_t count);
    is for one that was stored elsewhere, and may have been damaged. Refuses nothing. */
 bool pj_legal(pj_device d);
 
+/* The stored form: settings that survive a board swap. It is bytes, the same on every processor: the version byte 1,
+   then seven sections, each after its count in one byte: name, maker, model, other information and password (count of
+   bytes), inputs (count of inputs, two ASCII digits each), lamps (count of lamps, the seconds of each as four bytes);
+   last warm-up and cooling as two bytes each. Every number has its highest byte first. One set-up has one form. */
+
+typedef struct {
+    uint32_t number;
+    size_t length;                          /* of what was written: of a line with its CR */
+} pj_written;
+
+/* Writes the stored form of the record to the start of the lent memory: its settings, and each lamp's seconds as they
+   are now. Power, mutes, faults and the connection are not stored. Store at every stop, and as often as own.lamps would
+   be saved.
+   Refuses with PJ_NOT_LEGAL, then with PJ_NO_ROOM memory shorter than this form; PJ_FORM_MOST bytes always suffice. */
+pj_written pj_store(pj_device d, uint8_t *out, size_t out_len);
+
+/* Makes the record of the projector whose stored form is lent: pj_set_up with the settings and the lamps' seconds in
+   it, so off, with its connection closed. The bytes are the form's, all of them and no others.
+   Refuses with PJ_OTHER_VERSION, PJ_CUT_SHORT, PJ_LEFT_OVER or PJ_CONTENTS. */
+CEILING_KEEP
+pj_changed pj_load(const uint8_t *bytes, size_t len);
+
 /* The digest. */
 
 typedef struct {
@@ -275,11 +304,6 @@ enum pj_code {                              /* the codes of commands */
 typedef struct {                            /* numbers, not characters; what a code does not use is passed over */
     uint8_t code, first, second;
 } pj_command;
-
-typedef struct {
-    uint32_t number;
-    size_t length;                          /* of the line, with its CR */
-} pj_written;
 
 /* Writes the command's line, to be sent to a projector. Where `secured`, the line is led by the digest of the random
    number and the password; otherwise neither of the two is looked at. `secured` is for the first command of a
