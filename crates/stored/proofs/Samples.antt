@@ -1,0 +1,74 @@
+-- A stored form printed by hand from 02, L3: two lamps, three inputs, a name in Japanese; stored and loaded by computing,
+-- and refused with each number of the reader.
+-- Assumes nothing.
+use Prim.Native.Nat.{ℕ, _+_, _-_, _*_}
+use Prim.Native.String.{String}
+use Prim.Native.Char.{code}
+use mathlib.Core.Path.{_≡_, refl}
+use mathlib.Core.List.{List, [], _∷_, _++_, map}
+use lib.ListN.{take}
+use Rattle.text.specs.Words.{ascii, if_then_else_, _from_to_}
+use Rattle.record.specs.Limits.{lampLimit}
+use Rattle.record.specs.Wanted.{Wanted, wantedOf, withPassword}
+use Rattle.record.specs.Record.{zeros, started, accepted}
+use Rattle.record.specs.Computing.{computing as record-computing}
+use Rattle.stored.specs.Form.{formOf}
+use Rattle.stored.specs.Loading.{loaded}
+use Rattle.stored.specs.Computing.{computing}
+
+-- bytes by their hexadecimal digits, two each
+abbrev hexWorth : ℕ → ℕ
+hexWorth b = if b from "0" to "9" then b - code "0" else b - code "A" + 10
+
+abbrev pairs : List ℕ → List ℕ
+pairs [] = []
+pairs (a ∷ []) = []
+pairs (a ∷ b ∷ s) = (hexWorth a * 16 + hexWorth b) ∷ pairs s
+
+abbrev hex : String → List ℕ
+hex s = pairs (ascii s)
+
+-- the name is 裁断, the room where cloth is cut
+abbrev cuttingRoom : Wanted
+cuttingRoom =
+    wantedOf (hex "E8A381E696AD") (ascii "Kunimi") [] (ascii "Room 2") (ascii "shears8") (ascii "113159")
+    (3600 ∷ lampLimit ∷ []) 20 600
+
+abbrev printed : List ℕ
+printed =
+    hex "01"
+    ++ hex "06" ++ hex "E8A381E696AD"
+    ++ hex "06" ++ ascii "Kunimi"
+    ++ hex "00"
+    ++ hex "06" ++ ascii "Room 2"
+    ++ hex "07" ++ ascii "shears8"
+    ++ hex "03" ++ ascii "113159"
+    ++ hex "02" ++ hex "00000E10" ++ hex "157529FF"
+    ++ hex "0014" ++ hex "0258"
+
+pub printed-stored : formOf cuttingRoom ≡ printed
+unfolding computing
+printed-stored = refl
+
+pub printed-loaded : loaded printed ≡ accepted (started cuttingRoom)
+unfolding computing record-computing
+printed-loaded = refl
+
+abbrev numberOn : List ℕ → ℕ
+numberOn s = loaded s .number
+
+-- a password that 01 does not allow; one lamp too many, all its bytes there
+abbrev spaced : List ℕ
+spaced = formOf (withPassword (ascii "she ars") cuttingRoom)
+
+abbrev nineLamps : List ℕ
+nineLamps = formOf (wantedOf [] [] [] [] [] (ascii "11") (zeros 9) 20 60)
+
+-- no byte; another version, cut short or not; cut short after the version, in the name, before the last byte, under
+-- contents that are not legal; left over, after such contents too; contents
+pub each-refused : map numberOn
+    ([] ∷ hex "00" ∷ hex "02" ∷ (hex "02" ++ printed) ∷ hex "01" ∷ hex "0106E8" ∷ take 50 printed ∷ take 49 spaced
+    ∷ take 49 nineLamps ∷ (printed ++ hex "00") ∷ (spaced ++ hex "0A") ∷ spaced ∷ nineLamps ∷ [])
+    ≡ 21 ∷ 20 ∷ 20 ∷ 20 ∷ 21 ∷ 21 ∷ 21 ∷ 21 ∷ 21 ∷ 22 ∷ 22 ∷ 23 ∷ 23 ∷ []
+unfolding computing record-computing
+each-refused = refl

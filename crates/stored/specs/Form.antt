@@ -1,0 +1,88 @@
+-- The stored form (02, L3): "the version byte 1, then sections in a fixed order, each after its count (of bytes, inputs
+-- or lamps) in one byte: name, maker, model, other, password, inputs (two ASCII digits each), lamps (seconds as four
+-- bytes); last W and C as two bytes each; all highest first".
+--   formVersion               the version byte
+--   highestFirst n x          the number x in n bytes
+--   section count items       a section: its count, then what is counted
+--   textSection s             of a text, whose items are its bytes
+--   secondsBytes xs           the seconds of each lamp, four bytes a lamp
+--   formOf w                  the form of the settings w
+--   formMost                  no form is longer
+--   storedOf d                what is stored of a record: its settings, and each lamp's seconds as they are now
+--   StoredAs                  what storing gives: its number, and the bytes from the start of the lent memory
+--   storingRows d room        when it is refused, and with which number: memory is short by this form's own length
+--   storedBy d room           refused with no byte, or the form
+--   toldStored                the same as the code returns it
+-- Assumes nothing.
+use Prim.Native.Nat.{ℕ, _*_, _/_}
+use mathlib.Core.Bool.{not}
+use mathlib.Core.List.{List, [], _∷_, _++_}
+use lib.ListN.{length, take}
+use lib.Dec.{ltb}
+use Rattle.text.specs.Scans.{itself}
+use Rattle.text.specs.Bases.{lowDigits}
+use Rattle.text.specs.Rows.{Row, _when_, byRows}
+use Rattle.record.specs.Wanted.{Wanted}
+use Rattle.record.specs.Legal.{isLegal}
+use Rattle.record.specs.declared.types.Text.{Text}
+use Rattle.record.specs.declared.types.Device.{Device}
+use Rattle.stored.specs.declared.storing.FormWritten.{FormWritten}
+
+abbrev pub formVersion : ℕ
+formVersion = 1
+
+unfoldable pub highestFirst : ℕ → ℕ → List ℕ
+highestFirst n x = lowDigits 256 itself n x
+
+abbrev pub section : ℕ → List ℕ → List ℕ
+section count items = count ∷ items
+
+abbrev pub textSection : List ℕ → List ℕ
+textSection s = section (length s) s
+
+unfoldable pub secondsBytes : List ℕ → List ℕ
+secondsBytes [] = []
+secondsBytes (x ∷ xs) = highestFirst 4 x ++ secondsBytes xs
+
+unfoldable pub formOf : Wanted → List ℕ
+formOf w =
+    formVersion
+    ∷ (textSection (w .name) ++ textSection (w .maker) ++ textSection (w .model) ++ textSection (w .other)
+    ++ textSection (w .password) ++ section (length (w .inputs) / 2) (w .inputs)
+    ++ section (length (w .lamps)) (secondsBytes (w .lamps)) ++ highestFirst 2 (w .warm) ++ highestFirst 2 (w .cool))
+
+-- a version; a name of 64 bytes; three texts and a password of 32; 16 inputs; 8 lamps; W and C
+abbrev pub formMost : ℕ
+formMost = 268
+
+abbrev pub textStored : Text → List ℕ
+textStored t = take (t .len) (t .bytes)
+
+abbrev pub storedOf : Device → Wanted
+storedOf d = record {
+  name = textStored (d .settings .name);
+  maker = textStored (d .settings .maker);
+  model = textStored (d .settings .model);
+  other = textStored (d .settings .other);
+  password = textStored (d .settings .password);
+  inputs = take (2 * d .settings .«input_count») (d .settings .inputs);
+  lamps = take (d .settings .«lamp_count») (d .own .lamps);
+  warm = d .settings .warm;
+  cool = d .settings .cool;
+}
+
+pub record StoredAs : Type 0 where
+  pub number : ℕ
+  pub bytes : List ℕ
+
+abbrev pub nothingStored : ℕ → StoredAs
+nothingStored n = record { number = n; bytes = [] }
+
+abbrev pub storingRows : Device → ℕ → List Row
+storingRows d room = (1 when not (isLegal d)) ∷ (2 when ltb room (length (formOf (storedOf d)))) ∷ []
+
+unfoldable pub storedBy : Device → ℕ → StoredAs
+storedBy d room = byRows (storingRows d room) nothingStored (record { number = 0; bytes = formOf (storedOf d) })
+
+abbrev pub toldStored : StoredAs → FormWritten
+toldStored s = record { number = s .number; length = length (s .bytes) }

@@ -1,0 +1,3 @@
+// Settings that survive a board swap (02, L3): the stored form, written and loaded.
+pub mod layout;
+pub mod storing;
