@@ -6,6 +6,7 @@
 --   sectionEnd s width p      where the section ends whose count stands at p, of items of so many bytes each; past the
 --                             end of s there is no count, and 0 is read: what begins there ends later still
 --   placesOf s                where each section's count stands, by the counts before it; then W; then the form's end
+--   Walked s p                p are these places, each said by the one before it
 --   formEnd s                 the form's end
 --   between a b s             the bytes from the place a up to b
 --   numberIn s                the number that the bytes s are, highest first
@@ -15,6 +16,7 @@
 --   loaded s                  refused with the blank record, or the set-up of the settings in s
 -- Assumes nothing.
 use Prim.Native.Nat.{ℕ, zero, suc, _+_, _-_, _*_}
+use mathlib.Core.Path.{_≡_}
 use mathlib.Core.Bool.{Bool, false, not}
 use mathlib.Core.List.{List, [], _∷_}
 use lib.ListN.{length, take, drop}
@@ -57,6 +59,16 @@ placesOf s =
       warm = warm;
       end = warm + 4;
     }
+
+pub record Walked (s : List ℕ) (p : Places) : Type 0 where
+  pub maker : p .maker ≡ 2 + (s at 1)
+  pub model : p .model ≡ p .maker + 1 + (s at (p .maker))
+  pub other : p .other ≡ p .model + 1 + (s at (p .model))
+  pub password : p .password ≡ p .other + 1 + (s at (p .other))
+  pub inputs : p .inputs ≡ p .password + 1 + (s at (p .password))
+  pub lamps : p .lamps ≡ p .inputs + 1 + 2 * (s at (p .inputs))
+  pub warm : p .warm ≡ p .lamps + 1 + 4 * (s at (p .lamps))
+  pub end : p .end ≡ p .warm + 4
 
 abbrev pub formEnd : List ℕ → ℕ
 formEnd s = placesOf s .end

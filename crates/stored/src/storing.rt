@@ -1,4 +1,22 @@
 // Storing a record (02, L3): its settings, and each lamp's seconds as they are now.
+use crate::numbers;
+use record::legality;
+use record::types::Device;
+use record::types::LAMPS_MOST;
+use record::types::Settings;
+use record::types::Text;
+ghost use mathlib.Core.Path.{_≡_};
+ghost use mathlib.Core.Bool.{true};
+ghost use mathlib.Core.List.{_∷_, _++_};
+ghost use Prim.Native.Nat.{_+_, _*_, _≤_};
+ghost use lib.ListN.{length, take};
+ghost use lib.Seq.{sets};
+ghost use Rattle.text.specs.Words.{over};
+ghost use Rattle.record.specs.Limits.{textRoom, lampsMost};
+ghost use Rattle.record.specs.Legal.{isSettings, isLegal};
+ghost use Rattle.stored.specs.Form.{formVersion, highestFirst, section, textSection, secondsBytes, textStored};
+ghost use Rattle.stored.specs.Form.{storedOf, formOf, storedBy, toldStored};
+
 #[repr(C)]
 pub struct FormWritten {
     pub number: u32,
@@ -6,3 +24,125 @@ pub struct FormWritten {
 }
 
 pub const VERSION: u8 = 1;
+
+// A section: its count, then what is counted.
+fn put_section(out: &mut [u8], p: usize, count: u8, items: &[u8])
+    requires { ⌜ p + 1 + length (now items) ≤ length (now out) ⌝ }
+    ensures { λ _. ⌜ now (out .exit) ≡ sets (now (out .entry)) p (section count (now (items .entry))) ⌝ }
+{
+    let lead = [count];
+    text::put(out, p, &lead);
+    text::put(out, p + 1, items);
+}
+
+// A text's section. Returns the place after it.
+fn put_text(out: &mut [u8], p: usize, t: Text) -> usize
+    requires { ⌜ t .len ≤ textRoom ⌝ }
+    requires { ⌜ p + 1 + t .len ≤ length (now out) ⌝ }
+    ensures { λ r. ⌜ r ≡ p + 1 + t .len ⌝ }
+    ensures { λ _. ⌜ now (out .exit) ≡ sets (now (out .entry)) p (textSection (textStored t)) ⌝ }
+{
+    let bytes = t.bytes;
+    let len = t.len;
+    put_section(out, p, len as u8, &bytes[0..len]);
+    p + 1 + len
+}
+
+// The seconds of the first n lamps.
+fn put_seconds(out: &mut [u8], p: usize, lamps: [u32; LAMPS_MOST], n: usize)
+    requires { ⌜ n ≤ lampsMost ⌝ }
+    requires { ⌜ p + 4 * n ≤ length (now out) ⌝ }
+    ensures { λ _. ⌜ now (out .exit) ≡ sets (now (out .entry)) p (secondsBytes (take n lamps)) ⌝ }
+{
+    let mut i = 0;
+    while i < n {
+        numbers::put_four(out, p + 4 * i, lamps[i]);
+        i += 1;
+    }
+}
+
+// The length of the form of a legal record.
+fn form_length(d: Device) -> usize
+    requires { ⌜ isLegal d ≡ true ⌝ }
+    ensures { λ r. ⌜ r ≡ length (formOf (storedOf d)) ⌝ }
+{
+    let s = d.settings;
+    let texts = s.name.len + s.maker.len + s.model.len + s.other.len + s.password.len;
+    12 + texts + 2 * s.input_count + 4 * s.lamp_count
+}
+
+// The version and the texts. Returns the place after them.
+fn put_texts(out: &mut [u8], s: Settings) -> usize
+    requires { ⌜ isSettings s ≡ true ⌝ }
+    requires { ⌜ 6 + (s .name .len + s .maker .len + s .model .len + s .other .len + s .password .len)
+        ≤ length (now out) ⌝ }
+    ensures { λ r. ⌜ r ≡ 6 + (s .name .len + s .maker .len + s .model .len + s .other .len + s .password .len) ⌝ }
+    ensures { λ _. ⌜ now (out .exit) ≡ sets (now (out .entry)) 0 (formVersion ∷ (textSection (textStored (s .name))
+        ++ textSection (textStored (s .maker)) ++ textSection (textStored (s .model))
+        ++ textSection (textStored (s .other)) ++ textSection (textStored (s .password)))) ⌝ }
+{
+    let version = [VERSION];
+    text::put(out, 0, &version);
+    let maker = put_text(out, 1, s.name);
+    let model = put_text(out, maker, s.maker);
+    let other = put_text(out, model, s.model);
+    let password = put_text(out, other, s.other);
+    put_text(out, password, s.password)
+}
+
+// The inputs, the lamps, W and C.
+fn put_lists(out: &mut [u8], p: usize, s: Settings, lamps: [u32; LAMPS_MOST])
+    requires { ⌜ isSettings s ≡ true ⌝ }
+    requires { ⌜ p + 6 + 2 * s .«input_count» + 4 * s .«lamp_count» ≤ length (now out) ⌝ }
+    ensures { λ _. ⌜ now (out .exit) ≡ sets (now (out .entry)) p (section (s .«input_count»)
+        (take (2 * s .«input_count») (s .inputs)) ++ section (s .«lamp_count»)
+        (secondsBytes (take (s .«lamp_count») lamps)) ++ highestFirst 2 (s .warm) ++ highestFirst 2 (s .cool)) ⌝ }
+{
+    let list = s.inputs;
+    let count = s.input_count;
+    let n = s.lamp_count;
+    let len = 2 * count;
+    put_section(out, p, count as u8, &list[0..len]);
+    let place = p + 1 + len;
+    let lead = [n as u8];
+    text::put(out, place, &lead);
+    put_seconds(out, place + 1, lamps, n);
+    let warm = place + 1 + 4 * n;
+    numbers::put_two(out, warm, s.warm);
+    numbers::put_two(out, warm + 2, s.cool);
+}
+
+// The form of a legal record from the start of memory that has room for it.
+fn put_form(out: &mut [u8], d: Device)
+    requires { ⌜ isLegal d ≡ true ⌝ }
+    requires { ⌜ length (formOf (storedOf d)) ≤ length (now out) ⌝ }
+    ensures { λ _. ⌜ now (out .exit) ≡ over (formOf (storedOf d)) (now (out .entry)) ⌝ }
+{
+    let settings = d.settings;
+    let own = d.own;
+    let lamps = own.lamps;
+    let lists = put_texts(out, settings);
+    put_lists(out, lists, settings, lamps);
+}
+
+// 1 for a record that is not legal, then 2 for memory shorter than the form.
+pub fn store(d: Device, out: &mut [u8]) -> FormWritten
+    ensures { λ r. ⌜ r ≡ toldStored (storedBy d (length (now (out .entry)))) ⌝ }
+    ensures { λ _. ⌜ now (out .exit) ≡ over (storedBy d (length (now (out .entry))) .bytes) (now (out .entry)) ⌝ }
+{
+    if !legality::legal(d) {
+        return FormWritten {
+            number: 1,
+            length: 0,
+        };
+    }
+    let length = form_length(d);
+    if out.len() < length {
+        return FormWritten {
+            number: 2,
+            length: 0,
+        };
+    }
+    put_form(out, d);
+    FormWritten { number: 0, length }
+}

@@ -1,0 +1,101 @@
+-- How long a form is: a byte for the version, one for each count, four for W and C, and the contents.
+-- Assumes nothing.
+use Prim.Native.Nat.{ℕ, _+_, _*_, _/_, _≤_}
+use mathlib.Core.Path.{_≡_, refl, sym, ap, _∙_}
+use mathlib.Core.Bool.{true}
+use mathlib.Core.List.{List, [], _∷_, _++_, append-assoc}
+use native.Mathlib.Omega.{arith}
+use lib.ListN.{length, take, length-append}
+use Rattle.lines.specs.Texts.{isName, isInfo, isPassword}
+use Rattle.record.specs.Limits.{textRoom, inputRoom, lampsMost}
+use Rattle.record.specs.Wanted.{Wanted}
+use Rattle.record.specs.Rules.{isInputs, isLamps}
+use Rattle.record.specs.Legal.{isLegal}
+use Rattle.record.specs.declared.types.Settings.{Settings}
+use Rattle.record.specs.declared.types.Device.{Device}
+use Rattle.record.proofs.Kept.{kept-length}
+use Rattle.record.proofs.SettingsTold.{SettingsTold}
+use Rattle.record.proofs.LegalTold.{settings-of-legal, own-of-legal}
+use Rattle.stored.specs.Form.{formVersion, highestFirst, section, textSection, secondsBytes, formOf, textStored}
+use Rattle.stored.specs.Form.{storedOf}
+use Rattle.stored.proofs.HighestFirst.{highest-length}
+use Rattle.stored.proofs.Seconds.{seconds-long}
+
+abbrev textsLong : Wanted → ℕ
+textsLong w = length (w .name) + length (w .maker) + length (w .model) + length (w .other) + length (w .password)
+
+pub form-long : (w : Wanted) → length (formOf w) ≡ 12 + textsLong w + length (w .inputs) + 4 * length (w .lamps)
+unfolding formOf
+form-long w =
+    simp length-append
+    (omega (arith, highest-length 2 (w .warm), highest-length 2 (w .cool), seconds-long (w .lamps)))
+
+regroup : (v : ℕ) (a b c d e f g h i : List ℕ)
+    → v ∷ (a ++ b ++ c ++ d ++ e ++ f ++ g ++ h ++ i) ≡ (v ∷ (a ++ b ++ c ++ d ++ e)) ++ (f ++ g ++ h ++ i)
+regroup v a b c d e f g h i = simp append-assoc
+
+-- what legal settings are at most
+pub record Sized (s : Settings) : Type 0 where
+  pub texts : s .name .len + s .maker .len + s .model .len + s .other .len + s .password .len ≤ 320
+  pub inputs : 2 * s .«input_count» ≤ inputRoom
+  pub lamps : s .«lamp_count» ≤ lampsMost
+
+pub sized : (s : Settings) → SettingsTold s → Sized s
+sized s t = record {
+  texts =
+      omega (arith, t .name .inside, t .maker .inside, t .model .inside, t .other .inside, t .password .inside);
+  inputs = t .inputs .inside;
+  lamps = t .lamps;
+}
+
+-- of a legal record: the form in the two parts that the code writes, with the counts that the record has
+abbrev pub textsPart : Device → List ℕ
+textsPart d =
+    formVersion
+    ∷ (textSection (storedOf d .name) ++ textSection (storedOf d .maker) ++ textSection (storedOf d .model)
+    ++ textSection (storedOf d .other) ++ textSection (storedOf d .password))
+
+abbrev pub listsPart : Device → List ℕ
+listsPart d =
+    section (d .settings .«input_count») (storedOf d .inputs)
+    ++ section (d .settings .«lamp_count») (secondsBytes (storedOf d .lamps))
+    ++ highestFirst 2 (d .settings .warm) ++ highestFirst 2 (d .settings .cool)
+
+module _ (d : Device) (h : isLegal d ≡ true) where
+  pub record StoredLong : Type 0 where
+    pub name : length (storedOf d .name) ≡ d .settings .name .len
+    pub maker : length (storedOf d .maker) ≡ d .settings .maker .len
+    pub model : length (storedOf d .model) ≡ d .settings .model .len
+    pub other : length (storedOf d .other) ≡ d .settings .other .len
+    pub password : length (storedOf d .password) ≡ d .settings .password .len
+    pub inputs : length (storedOf d .inputs) ≡ 2 * d .settings .«input_count»
+    pub lamps : length (storedOf d .lamps) ≡ d .settings .«lamp_count»
+
+  pub stored-long : StoredLong
+  stored-long =
+      let t = settings-of-legal d h in
+      record {
+        name = kept-length textRoom isName _ _ (t .name);
+        maker = kept-length textRoom isInfo _ _ (t .maker);
+        model = kept-length textRoom isInfo _ _ (t .model);
+        other = kept-length textRoom isInfo _ _ (t .other);
+        password = kept-length textRoom isPassword _ _ (t .password);
+        inputs = kept-length inputRoom isInputs _ _ (t .inputs);
+        lamps = kept-length lampsMost isLamps _ _ (own-of-legal d h .lamps);
+      }
+
+  pub stored-form : formOf (storedOf d) ≡ textsPart d ++ listsPart d
+  unfolding formOf
+  stored-form =
+      let half : length (storedOf d .inputs) / 2 ≡ d .settings .«input_count» = omega (arith, stored-long .inputs) in
+      rw (half, stored-long .lamps)
+      (regroup formVersion (textSection (storedOf d .name)) (textSection (storedOf d .maker))
+      (textSection (storedOf d .model)) (textSection (storedOf d .other)) (textSection (storedOf d .password))
+      (section (d .settings .«input_count») (storedOf d .inputs))
+      (section (d .settings .«lamp_count») (secondsBytes (storedOf d .lamps))) (highestFirst 2 (d .settings .warm))
+      (highestFirst 2 (d .settings .cool)))
+
+  pub texts-long : length (textsPart d)
+      ≡ 6 + (d .settings .name .len + d .settings .maker .len + d .settings .model .len + d .settings .other .len
+      + d .settings .password .len)
+  texts-long = let l = stored-long in simp length-append (omega arith)
