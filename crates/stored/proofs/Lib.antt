@@ -5,4 +5,11 @@ pub mod FormLong
 pub mod Walked
 pub mod Cases
 pub mod Contents
+pub mod Results
+pub mod Sections
+pub mod FormsLoad
+pub mod StoredLoads
+pub mod OneForm
+pub mod FormMost
+pub mod CutShort
 mod Samples

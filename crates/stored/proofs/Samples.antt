@@ -6,13 +6,13 @@ use Prim.Native.String.{String}
 use Prim.Native.Char.{code}
 use mathlib.Core.Path.{_≡_, refl}
 use mathlib.Core.List.{List, [], _∷_, _++_, map}
-use lib.ListN.{take}
+use lib.ListN.{length, take, replicate}
 use Rattle.text.specs.Words.{ascii, if_then_else_, _from_to_}
 use Rattle.record.specs.Limits.{lampLimit}
 use Rattle.record.specs.Wanted.{Wanted, wantedOf, withPassword}
 use Rattle.record.specs.Record.{zeros, started, accepted}
 use Rattle.record.specs.Computing.{computing as record-computing}
-use Rattle.stored.specs.Form.{formOf}
+use Rattle.stored.specs.Form.{formOf, formMost}
 use Rattle.stored.specs.Loading.{loaded}
 use Rattle.stored.specs.Computing.{computing}
 
@@ -72,3 +72,13 @@ pub each-refused : map numberOn
     ≡ 21 ∷ 20 ∷ 20 ∷ 20 ∷ 21 ∷ 21 ∷ 21 ∷ 21 ∷ 21 ∷ 22 ∷ 22 ∷ 23 ∷ 23 ∷ []
 unfolding computing record-computing
 each-refused = refl
+
+-- the longest form there is: every text, the inputs and the lamps as many as 01 allows
+abbrev widest : Wanted
+widest =
+    wantedOf (replicate 64 (code "N")) (replicate 32 (code "M")) (replicate 32 (code "O")) (replicate 32 (code "I"))
+    (replicate 32 (code "p")) (ascii "11121314151617181921222324252627") (replicate 8 lampLimit) 600 600
+
+pub most-reached : (loaded (formOf widest) .number ≡ 0) × (length (formOf widest) ≡ formMost)
+unfolding computing record-computing
+most-reached = (refl, refl)
