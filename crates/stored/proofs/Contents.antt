@@ -1,11 +1,10 @@
 -- The settings at the places of a form, as the code lends them to set-up; and lamps that are too many.
 -- Assumes nothing.
-use Prim.Native.Nat.{ℕ, _+_, _≤_, _<_}
-use mathlib.Core.Path.{_≡_, ap}
-use mathlib.Core.Bool.{false}
+use Prim.Native.Nat.{ℕ, _+_, _<_}
+use mathlib.Core.Path.{_≡_}
 use mathlib.Core.List.{List}
 use native.Mathlib.Omega.{arith}
-use lib.ListN.{length, take, drop}
+use lib.ListN.{take, drop}
 use Rattle.text.proofs.Choices.{by-not}
 use Rattle.lines.specs.Bytes.{_at_}
 use Rattle.record.specs.Limits.{lampsMost}

@@ -1,5 +1,5 @@
--- Wherever a form is cut, it is cut short (02, L3): what is left of it has its counts as far as they go, and past its end
--- none, so that what it says of its end lies past its end too.
+-- Wherever a form is cut, it is cut short (02, L3): what is left of it has its counts as far as they go, and past its
+-- end none, so that what it says of its end lies past its end too.
 -- Assumes nothing.
 use Prim.Native.Nat.{ℕ, zero, suc, _+_, _*_, _≤_, _<_}
 use mathlib.Core.Path.{_≡_, refl, sym, ap, _∙_}
@@ -56,7 +56,8 @@ module _ (s : List ℕ) (k : ℕ) where
       let inputs = next-text (p .password) (r .password) (p .inputs) (r .inputs) (f .inputs) (g .inputs) password in
       let lamps = next 2 (p .inputs) (r .inputs) (p .lamps) (r .lamps) (f .lamps) (g .lamps) inputs in
       let warm = next 4 (p .lamps) (r .lamps) (p .warm) (r .warm) (f .warm) (g .warm) lamps in
-      ⊎-elim (λ (e : p .warm ≡ r .warm). omega (arith, f .end, g .end)) (λ (e : k < r .warm). omega (arith, g .end)) warm
+      ⊎-elim (λ (e : p .warm ≡ r .warm). omega (arith, f .end, g .end)) (λ (e : k < r .warm). omega (arith, g .end))
+      warm
 
 -- the first byte, if it is still there, is the version
 cut-version : (k : ℕ) (s : List ℕ) → isOtherVersion s ≡ false → isOtherVersion (take k s) ≡ false

@@ -1,11 +1,11 @@
 -- How long a form is: a byte for the version, one for each count, four for W and C, and the contents.
 -- Assumes nothing.
 use Prim.Native.Nat.{ℕ, _+_, _*_, _/_, _≤_}
-use mathlib.Core.Path.{_≡_, refl, sym, ap, _∙_}
+use mathlib.Core.Path.{_≡_}
 use mathlib.Core.Bool.{true}
-use mathlib.Core.List.{List, [], _∷_, _++_, append-assoc}
+use mathlib.Core.List.{List, _∷_, _++_, append-assoc}
 use native.Mathlib.Omega.{arith}
-use lib.ListN.{length, take, length-append}
+use lib.ListN.{length, length-append}
 use Rattle.lines.specs.Texts.{isName, isInfo, isPassword}
 use Rattle.record.specs.Limits.{textRoom, inputRoom, lampsMost}
 use Rattle.record.specs.Wanted.{Wanted}
@@ -16,7 +16,7 @@ use Rattle.record.specs.declared.types.Device.{Device}
 use Rattle.record.proofs.Kept.{kept-length}
 use Rattle.record.proofs.SettingsTold.{SettingsTold}
 use Rattle.record.proofs.LegalTold.{settings-of-legal, own-of-legal}
-use Rattle.stored.specs.Form.{formVersion, highestFirst, section, textSection, secondsBytes, formOf, textStored}
+use Rattle.stored.specs.Form.{formVersion, highestFirst, section, textSection, secondsBytes, formOf}
 use Rattle.stored.specs.Form.{storedOf}
 use Rattle.stored.proofs.HighestFirst.{highest-length}
 use Rattle.stored.proofs.Seconds.{seconds-long}

@@ -7,6 +7,7 @@ pub mod Cases
 pub mod Contents
 pub mod Results
 pub mod Sections
+pub mod FormsRead
 pub mod FormsLoad
 pub mod StoredLoads
 pub mod OneForm

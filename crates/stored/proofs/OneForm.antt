@@ -1,12 +1,12 @@
 -- One set-up has one form (02, L3): bytes that load are the form of what they load, so that stored again they are the
 -- same bytes, and no two byte strings load as one set-up.
 -- Assumes nothing.
-use Prim.Native.Nat.{ℕ, zero, suc, _+_, _-_, _*_, _/_, _≤_, _<_}
+use Prim.Native.Nat.{ℕ, zero, suc, _+_, _-_, _*_, _/_, _≤_}
 use mathlib.Core.Path.{_≡_, refl, sym, ap, _∙_}
-use mathlib.Core.Bool.{Bool, true, false, not}
+use mathlib.Core.Bool.{false}
 use mathlib.Core.List.{List, [], _∷_, _++_, append-assoc}
 use native.Mathlib.Omega.{arith}
-use lib.ListN.{length, getD, take, drop, length-drop, take-append-drop}
+use lib.ListN.{length, take, drop, length-drop, take-append-drop}
 use lib.Seq.{take-add, take-all, getD-take, getD-drop, length-take-le, drop-drop}
 use lib.Dec.{eqb}
 use borrow.Author.Tests.{eqb-true, not-false}
@@ -14,13 +14,11 @@ use Rattle.text.specs.Scans.{itself}
 use Rattle.text.proofs.Bases.{Digits}
 use Rattle.lines.specs.Bytes.{_at_}
 use Rattle.record.specs.Wanted.{Wanted}
-use Rattle.record.specs.Record.{started}
-use Rattle.record.specs.SetUp.{isSetUp, setUp}
 use Rattle.record.specs.declared.types.Device.{Device}
 use Rattle.record.specs.declared.types.Changed.{Changed}
 use Rattle.record.proofs.Calls.{set-up-accepted}
 use Rattle.stored.specs.Form.{formVersion, highestFirst, section, textSection, secondsBytes, formOf, storedOf}
-use Rattle.stored.specs.Loading.{isOtherVersion, placesOf, Walked, formEnd, numberIn, secondsIn, settingsIn}
+use Rattle.stored.specs.Loading.{isOtherVersion, placesOf, Walked, numberIn, secondsIn, settingsIn}
 use Rattle.stored.specs.Loading.{settingsAt, between, loaded}
 use Rattle.stored.specs.declared.layout.Places.{Places}
 use Rattle.stored.proofs.HighestFirst.{highest-one-form}

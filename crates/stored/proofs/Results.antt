@@ -1,14 +1,15 @@
 -- What storing and loading give (02, L3): the number is that of the first row that applies, for every record and every
--- byte string; a refused store writes no byte, a refused load gives the blank record; a load that is accepted is a set-up,
--- and legal; and each promise leaves one result.
+-- byte string; a refused store writes no byte, a refused load gives the blank record; a load that is accepted is a
+-- set-up, and legal; and each promise leaves one result.
+--   StoredTold r      an accepted store: the record is legal, the memory has room, the bytes are the form's
+--   Stores r m        the result r and the lent bytes m meet what storing promises
+--   Accepted s        an accepted load: the version is ours, the bytes are as long as their form, the contents legal
 -- Assumes nothing.
 use Prim.Native.Nat.{ℕ, _≤_}
-use mathlib.Core.Path.{_≡_, refl, sym, ap, subst, _∙_}
-use mathlib.Core.Bool.{Bool, true, false, not}
+use mathlib.Core.Path.{_≡_, refl, sym, ap, _∙_}
+use mathlib.Core.Bool.{Bool, true, false}
 use mathlib.Core.List.{List, [], _∷_}
-use native.Mathlib.Omega.{arith}
 use lib.ListN.{length}
-use lib.Dec.{ltb}
 use borrow.Author.Tests.{ltb-false, not-false}
 use Rattle.text.specs.Words.{over, if_then_else_}
 use Rattle.text.specs.Rows.{Row, firstOf, byRows, NoneOf}
@@ -32,14 +33,14 @@ module _ (d : Device) (room : ℕ) where
       rows-number nothingStored (record { number = 0; bytes = formOf (storedOf d) }) (λ r. r .number) (λ n. refl) refl
       (storingRows d room)
 
-  -- an accepted store: the record is legal, the memory has room, the bytes are the form's
   pub record StoredTold (r : StoredAs) : Type 0 where
     pub legal : isLegal d ≡ true
     pub fits : length (formOf (storedOf d)) ≤ room
     pub form : r .bytes ≡ formOf (storedOf d)
 
   pub storing-by : (P : StoredAs → Type 0) → ((n : ℕ) → (n ≡ 0 → ⊥) → P (nothingStored n))
-      → (isLegal d ≡ true → length (formOf (storedOf d)) ≤ room → P (record { number = 0; bytes = formOf (storedOf d) }))
+      → (isLegal d ≡ true → length (formOf (storedOf d)) ≤ room
+      → P (record { number = 0; bytes = formOf (storedOf d) }))
       → P (storedBy d room)
   unfolding storedBy
   storing-by P refuse accept =
@@ -76,7 +77,6 @@ rows-number-by refuse done f told (row ∷ rows) zero =
     choose false e later = later e
 
 module _ (s : List ℕ) where
-  -- what an accepted load went through: the version is ours, the bytes are as long as their form, the contents are legal
   pub record Accepted : Type 0 where
     pub version : isOtherVersion s ≡ false
     pub uncut : formEnd s ≤ length s

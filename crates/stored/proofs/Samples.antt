@@ -1,5 +1,5 @@
--- A stored form printed by hand from 02, L3: two lamps, three inputs, a name in Japanese; stored and loaded by computing,
--- and refused with each number of the reader.
+-- A stored form printed by hand from 02, L3: two lamps, three inputs, a name in Japanese; stored and loaded by
+-- computing, and refused with each number of the reader.
 -- Assumes nothing.
 use Prim.Native.Nat.{ℕ, _+_, _-_, _*_}
 use Prim.Native.String.{String}

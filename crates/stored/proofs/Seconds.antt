@@ -1,7 +1,7 @@
 -- The lamps' seconds, four bytes each: how long, one lamp more, lamp by lamp.
 --   SecondsPut lent p xs n out i      the loop that writes n of the seconds xs from the place p on has come to i
 -- Assumes nothing.
-use Prim.Native.Nat.{ℕ, zero, suc, _+_, _*_, _≤_, _<_, _^_}
+use Prim.Native.Nat.{ℕ, zero, suc, _+_, _*_, _≤_, _<_}
 use mathlib.Core.Path.{_≡_, refl, sym, ap, _∙_}
 use mathlib.Core.List.{List, [], _∷_, _++_, append-assoc, append-nil}
 use native.Mathlib.Numerals.{add-one}

@@ -1,21 +1,20 @@
 -- A board swap (02, L3): what a legal record stores loads as the fresh set-up of its settings and of its lamps' seconds
 -- as they are, with the number 0. What is stored of a fresh set-up is what it was set up with.
 -- Assumes nothing.
-use Prim.Native.Nat.{ℕ, _*_, _≤_}
-use mathlib.Core.Path.{_≡_, refl, sym, ap, _∙_}
-use mathlib.Core.Bool.{Bool, true}
+use Prim.Native.Nat.{ℕ, _≤_}
+use mathlib.Core.Path.{_≡_, ap, _∙_}
+use mathlib.Core.Bool.{true}
 use mathlib.Core.List.{List}
 use native.Mathlib.Omega.{arith}
 use lib.ListN.{length, take}
 use borrow.Author.Tests.{le-leb}
-use Rattle.text.specs.Scans.{every}
 use Rattle.text.proofs.Choices.{both}
-use Rattle.lines.specs.Texts.{isName, isInfo, isPassword}
+use Rattle.lines.specs.Texts.{isInfo}
 use Rattle.lines.proofs.TextsTold.{name-long, info-long, password-long}
 use Rattle.record.specs.Limits.{textRoom, inputRoom, lampsMost, stretchMost}
 use Rattle.record.specs.Wanted.{Wanted, wantedOf}
 use Rattle.record.specs.Rules.{isStretch, isInputs, isLamps}
-use Rattle.record.specs.Record.{inRoom, settingsOf, startOwn, closed, started, accepted}
+use Rattle.record.specs.Record.{inRoom, started, accepted}
 use Rattle.record.specs.Legal.{isLegal}
 use Rattle.record.specs.SetUp.{isSettingInRange, isSetUp, setUp}
 use Rattle.record.specs.declared.types.Device.{Device}

@@ -1,17 +1,17 @@
 -- Memory that is written from a place on, part after part.
 --   Wrote lent b out p s      the bytes s stand in the lent memory from b on, and p is the place after them
 -- Assumes nothing.
-use Prim.Native.Nat.{ℕ, _+_, _≤_}
-use mathlib.Core.Path.{_≡_, refl, sym, ap, _∙_}
+use Prim.Native.Nat.{ℕ, _+_}
+use mathlib.Core.Path.{_≡_, _∙_}
 use mathlib.Core.Bool.{Bool}
-use mathlib.Core.List.{List, [], _∷_, _++_}
+use mathlib.Core.List.{List, _++_}
 use native.Mathlib.Omega.{arith}
-use lib.ListN.{length, take, length-append}
+use lib.ListN.{length, length-append}
 use lib.Seq.{sets}
 use Rattle.text.proofs.Stores.{sets-then}
 use Rattle.record.specs.Limits.{textRoom}
 use Rattle.record.specs.declared.types.Text.{Text}
-use Rattle.record.proofs.Kept.{Kept, kept-length}
+use Rattle.record.proofs.Kept.{kept-length}
 use Rattle.record.proofs.SettingsTold.{TextKept}
 use Rattle.stored.specs.Form.{textSection, textStored}
 
@@ -29,4 +29,5 @@ module _ (lent : List ℕ) (b : ℕ) where
 
     pub wrote-text : {rule : List ℕ → Bool} (t : Text) {m : List ℕ} {q : ℕ} → TextKept rule t
         → m ≡ sets out p (textSection (textStored t)) → q ≡ p + 1 + t .len → Wrote m q (s ++ textSection (textStored t))
-    wrote-text {rule} t k e f = wrote-then (textSection (textStored t)) e (omega (arith, kept-length textRoom rule _ _ k))
+    wrote-text {rule} t k e f =
+        wrote-then (textSection (textStored t)) e (omega (arith, kept-length textRoom rule _ _ k))

@@ -1,7 +1,7 @@
 -- Loading a stored form (02, L3): "The reader answers new numbers 20 (unknown version), 21 (cut short), 22 (bytes left
--- over), 23 (contents not legal by 01), tested in that order; empty input is 21. .. A refused load gives the blank record.
--- .. Loading is a fresh set-up". A form says by its counts where it ends, so the counts alone decide 21 and 22; the
--- contents are looked at last.
+-- over), 23 (contents not legal by 01), tested in that order; empty input is 21. .. A refused load gives the blank
+-- record. .. Loading is a fresh set-up". A form says by its counts where it ends, so the counts alone decide 21 and 22;
+-- the contents are looked at last.
 --   isOtherVersion s          there is a first byte, and it is another version's
 --   sectionEnd s width p      where the section ends whose count stands at p, of items of so many bytes each; past the
 --                             end of s there is no count, and 0 is read: what begins there ends later still

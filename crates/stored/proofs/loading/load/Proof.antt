@@ -1,8 +1,10 @@
 -- `stored::loading::load` meets its contract: each `return` is one case of `loaded`.
 -- Assumes nothing.
-use Prim.Native.Nat.{_≤_, _<_}
-use mathlib.Core.Path.{_≡_, sym, ap, subst, _∙_}
+use Prim.Native.Nat.{ℕ, _≤_}
+use mathlib.Core.Path.{_≡_, sym, ap, _∙_}
 use mathlib.Core.Bool.{false}
+use mathlib.Core.List.{List}
+use native.Mathlib.Omega.{arith}
 use lib.ListN.{length}
 use borrow.Author.Needs.{needs}
 use Rattle.record.specs.SetUp.{setUp}
@@ -24,26 +26,20 @@ module _ (c : tie.After-walk) where
   abbrev start : tie.Start
   start = let asked = c .before .before in asked .before .before
 
-  ours : isOtherVersion (start .args .s .now) ≡ false
+  abbrev lent : List ℕ
+  lent = start .args .s .now
+
+  ours : isOtherVersion lent ≡ false
   ours = sym (c .before .before .is-other-version .ensures) ∙ c .before .if1 .left
 
-  cut : length (start .args .s .now) < c .walk .result .end → length (start .args .s .now) < formEnd (start .args .s .now)
-  cut = subst (λ (p : Places). length (start .args .s .now) < p .end) (c .walk .ensures)
-
-  uncut : c .walk .result .end ≤ length (start .args .s .now) → formEnd (start .args .s .now) ≤ length (start .args .s .now)
-  uncut = subst (λ (p : Places). p .end ≤ length (start .args .s .now)) (c .walk .ensures)
-
-  over : c .walk .result .end < length (start .args .s .now) → formEnd (start .args .s .now) < length (start .args .s .now)
-  over = subst (λ (p : Places). p .end < length (start .args .s .now)) (c .walk .ensures)
-
-  exact : length (start .args .s .now) ≤ c .walk .result .end → length (start .args .s .now) ≤ formEnd (start .args .s .now)
-  exact = subst (λ (p : Places). length (start .args .s .now) ≤ p .end) (c .walk .ensures)
+  ends : c .walk .result .end ≡ formEnd lent
+  ends = ap (λ (p : Places). p .end) (c .walk .ensures)
 
 short : tie.Need-returns-2
 short c =
     let tested = c .before in
     let places = tested .before in
-    c .refusal2 .ensures ∙ sym (loaded-cut _ (ours places) (cut places (tested .if2 .taken)))
+    c .refusal2 .ensures ∙ sym (loaded-cut (lent places) (ours places) (omega (arith, ends places, tested .if2 .taken)))
 
 longer : tie.Need-returns-3
 longer c =
@@ -51,7 +47,9 @@ longer c =
     let second = tested .before in
     let places = second .before in
     c .refusal3 .ensures
-    ∙ sym (loaded-over _ (ours places) (uncut places (second .if2 .left)) (over places (tested .if3 .taken)))
+    ∙ sym
+    (loaded-over (lent places) (ours places) (omega (arith, ends places, second .if2 .left))
+    (omega (arith, ends places, tested .if3 .taken)))
 
 -- what set-up gave
 module _ (c : tie.After-set-up-at) where
@@ -61,8 +59,14 @@ module _ (c : tie.After-set-up-at) where
   abbrev places : tie.After-walk
   places = third .before .before
 
-  gave : c .set-up-at .result ≡ setUp (settingsIn (start places .args .s .now))
-  gave = c .set-up-at .ensures ∙ ap (λ (p : Places). setUp (settingsAt (start places .args .s .now) p)) (places .walk .ensures)
+  gave : c .set-up-at .result ≡ setUp (settingsIn (lent places))
+  gave = c .set-up-at .ensures ∙ ap (λ (p : Places). setUp (settingsAt (lent places) p)) (places .walk .ensures)
+
+  uncut : formEnd (lent places) ≤ length (lent places)
+  uncut = omega (arith, ends places, third .before .if2 .left)
+
+  whole : length (lent places) ≤ formEnd (lent places)
+  whole = omega (arith, ends places, third .if3 .left)
 
 wrong : tie.Need-returns-4
 wrong c =
@@ -70,14 +74,13 @@ wrong c =
     let made = tested .before .before in
     c .refusal4 .ensures
     ∙ sym
-    (loaded-refused _ (ours (places made)) (uncut (places made) (third made .before .if2 .left))
-    (exact (places made) (third made .if3 .left)) (gave made) (tested .if4 .taken))
+    (loaded-refused (lent (places made)) (ours (places made)) (uncut made) (whole made) (gave made)
+    (tested .if4 .taken))
 
 done : tie.Need-returns-5
 done c =
     let made = c .before .before in
-    loaded-done _ (ours (places made)) (uncut (places made) (third made .before .if2 .left))
-    (exact (places made) (third made .if3 .left)) (gave made) (c .if4 .left)
+    loaded-done (lent (places made)) (ours (places made)) (uncut made) (whole made) (gave made) (c .if4 .left)
 
 pub load-spec : {M : Type 1} → statement M
 load-spec =

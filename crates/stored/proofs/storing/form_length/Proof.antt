@@ -1,8 +1,6 @@
 -- `stored::storing::form_length` meets its contract: the counts of a legal record are the lengths of what is stored.
 -- Assumes nothing.
-use mathlib.Core.Path.{_≡_}
 use native.Mathlib.Omega.{arith}
-use borrow.Author.Needs.{needs}
 use Rattle.record.proofs.LegalTold.{settings-of-legal}
 use Rattle.stored.specs.Form.{storedOf}
 use Rattle.stored.proofs.FormLong.{Sized, sized, stored-long, form-long}

@@ -50,7 +50,8 @@ stored c =
     let h = start .pre .0 in
     let out = start .args .out .now in
     lists .put-lists .ensures
-    ∙ sets-then out 0 (textsPart d) (listsPart d) (texts .put-texts .ensures .1) (texts .put-texts .ensures .0 ∙ sym (texts-long d h) ∙ sym (zero-add _))
+    ∙ sets-then out 0 (textsPart d) (listsPart d) (texts .put-texts .ensures .1)
+    (texts .put-texts .ensures .0 ∙ sym (texts-long d h) ∙ sym (zero-add _))
     ∙ ap (sets out 0) (sym (stored-form d h))
     ∙ sets-over (formOf (storedOf d)) out (start .pre .1)
 

@@ -61,7 +61,8 @@ stored c =
     let w1 : Wrote out p _ (p + 1 + 2 * s .«input_count») first = record {
       bytes =
           inputs .put-section .ensures
-          ∙ ap (λ (l : List ℕ). sets out p (section (s .«input_count») l)) (first-part (s .inputs) (2 * s .«input_count»));
+          ∙ ap (λ (l : List ℕ). sets out p (section (s .«input_count») l))
+          (first-part (s .inputs) (2 * s .«input_count»));
       place = omega arith;
     } in
     let w2 = wrote-then out p w1 (n ∷ []) {q = p + 1 + 2 * s .«input_count» + 1} (count .put .ensures) refl in

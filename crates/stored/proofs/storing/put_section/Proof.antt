@@ -6,31 +6,7 @@ use borrow.Author.Needs.{needs}
 use Rattle.text.proofs.Stores.{sets-then}
 use Rattle.stored.proofs.storing.put_section.Statement.{statement}
 use Rattle.stored.proofs.storing.put_section.Tie as tie
-use Rattle.stored.proofs.storing.put_section.Reads as reads
-use Rattle.stored.proofs.storing.put_section.Lts as lts
-use Rattle.text.proofs.put.Reads as put-reads
 
--- src/storing.rt:33:23
-slice-aggregate-put : tie.Need-slice-aggregate-put
-slice-aggregate-put c = search needs
-
--- src/storing.rt:33:5
-put-requires : tie.Need-put-requires
-put-requires c κs = search needs
-
--- src/storing.rt:34:20
-add-put : tie.Need-add-put
-add-put c = search needs
-
--- src/storing.rt:34:5
-put-requires-2 : tie.Need-put-requires-2
-put-requires-2 c κs = search needs
-
--- src/storing.rt:28:1
-same-length : tie.Need-same-length
-same-length c = search needs
-
--- src/storing.rt:28:1
 returns : tie.Need-returns
 returns c =
     let second = c .before .before in
@@ -43,4 +19,5 @@ returns c =
 pub put-section-spec : {M : Type 1} → statement M
 put-section-spec =
     tie.close
-    (tie.spec slice-aggregate-put put-requires add-put put-requires-2 same-length returns)
+    (tie.spec (λ c. search needs) (λ c κs. search needs) (λ c. search needs) (λ c κs. search needs)
+    (λ c. search needs) returns)
