@@ -8,8 +8,10 @@
 --   secondsBytes xs           the seconds of each lamp, four bytes a lamp
 --   formOf w                  the form of the settings w
 --   formMost                  no form is longer
+--   textStored t              what is stored of a text: the bytes that it has
 --   storedOf d                what is stored of a record: its settings, and each lamp's seconds as they are now
 --   StoredAs                  what storing gives: its number, and the bytes from the start of the lent memory
+--   nothingStored n           a refusal: the number n, and no bytes
 --   storingRows d room        when it is refused, and with which number: memory is short by this form's own length
 --   storedBy d room           refused with no byte, or the form
 --   toldStored                the same as the code returns it
