@@ -160,6 +160,19 @@ static void legal(pj_device d) {
     PUT(is);
 }
 
+static void store(pj_device d) {
+    slice out = get_slice();
+    pj_written w = pj_store(d, out.at, out.n);
+    PUT(w.number);
+    PUT(w.length);
+    put_slice(out);
+}
+
+static void load(void) {
+    slice bytes = get_slice();
+    put_changed(pj_load(bytes.at, bytes.n));
+}
+
 static void digest(void) {
     slice message = get_slice();
     pj_digest m = pj_md5(message.at, message.n);
@@ -258,6 +271,8 @@ static void make_call(void) {
     case 14: cutting_day(false); break;
     case 15: cutting_day(true); break;
     case 16: set_up(true); break;
+    case 17: store(d); break;
+    case 18: load(); break;
     default: exit(EXIT_FAILURE);
     }
 }

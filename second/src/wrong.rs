@@ -73,6 +73,8 @@ mod tests {
             ("pj_set_fault", "served !1"),
             ("pj_set_errors", "served !1 !3"),
             ("pj_legal", "true false"),
+            ("pj_store", "served !1 !2"),
+            ("pj_load", "served !20 !21 !22 !23"),
             ("pj_open", "!1 !2 !5"),
             ("pj_receive", "!1 !2 !4 none OK ERR1 ERR2 ERR3 ERR4"),
             ("pj_receive", "POWR INPT AVMT ERST LAMP INST NAME INF1 INF2 INFO CLSS"),

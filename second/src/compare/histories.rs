@@ -1,7 +1,7 @@
 //! Histories: a set-up, then calls of every kind, each lent the record that the last one returned.
 
 use super::random::Random;
-use super::{Case, lines, setups};
+use super::{Case, forms, lines, setups};
 use crate::face::{Act, Device, Side};
 use crate::reference::side::Second;
 
@@ -33,6 +33,8 @@ pub fn act(random: &mut Random, device: &Device) -> Act {
         3 => Act::SetErrors { digits: error_digits(random) },
         4 => Act::Legal,
         5 if random.one_in(4) => Act::SetUp(setups::any(random)),
+        5 if random.one_in(2) => forms::load(random, device),
+        5 => forms::store(random, device),
         6..=8 => Act::PassInPlace { seconds: seconds(random, device) },
         9..=13 => Act::Pass { seconds: seconds(random, device) },
         14..=15 => Act::Receive { bytes: b"%1POWR 1\r".to_vec(), lent: random.memory(136) },

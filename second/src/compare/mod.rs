@@ -1,6 +1,8 @@
 //! The comparison: the same calls on the same inputs in both programs, every number, count, record field and lent byte.
 
 pub mod days;
+pub mod every_form;
+pub mod forms;
 pub mod histories;
 pub mod lines;
 pub mod messages;
@@ -24,7 +26,7 @@ use tally::Tally;
 type Compared = Result<(), Box<Difference>>;
 
 /// A run has at least so many comparisons.
-pub const ENOUGH: usize = 260_000;
+pub const ENOUGH: usize = 310_000;
 
 /// How many smaller cases are tried at most, once one differs.
 const TRIES: usize = 20_000;
@@ -62,6 +64,7 @@ impl<'a, B: Side> Run<'a, B> {
         self.messages()?;
         self.every_name()?;
         self.every_hours()?;
+        self.every_form()?;
         while self.agreed < ENOUGH {
             self.round()?;
         }
@@ -149,10 +152,21 @@ impl<'a, B: Side> Run<'a, B> {
         replies::every_hours().into_iter().try_for_each(|act| self.compare_call(Device::BLANK, act))
     }
 
-    /// A name in each of its places: lent to a set-up, in a record, asked for, in a reply.
+    /// Stored forms in which everything is damaged, memory of every length for them; long ones last.
+    fn every_form(&mut self) -> Compared {
+        for (device, act) in every_form::stores(&mut self.random) {
+            self.compare_call(device, act)?;
+        }
+        let mut loads = every_form::loads(&mut self.random);
+        loads.extend(every_form::long_loads(&mut self.random));
+        loads.into_iter().try_for_each(|bytes| self.compare_call(Device::BLANK, Act::Load { bytes }))
+    }
+
+    /// A name in each of its places: lent to a set-up, in a stored form, in a record, asked for, in a reply.
     fn name(&mut self, name: Vec<u8>) -> Compared {
         let lent = Lent { name: name.clone(), ..setups::legal(&mut self.random) };
         self.compare_call(Device::BLANK, Act::SetUp(lent.clone()))?;
+        self.compare_call(Device::BLANK, Act::Load { bytes: forms::of(&lent) })?;
         self.compare_call(Device::BLANK, Act::WhichSetting(lent))?;
         let mut device = records::between_lines(&mut self.random);
         device.connection.phase = 2;
@@ -182,6 +196,13 @@ impl<'a, B: Side> Run<'a, B> {
             let lent = setups::any(&mut self.random);
             self.compare_call(Device::BLANK, Act::SetUp(lent.clone()))?;
             self.compare_call(Device::BLANK, Act::WhichSetting(lent))?;
+            let device = forms::record(&mut self.random);
+            let act = forms::store(&mut self.random, &device);
+            self.compare_call(device, act)?;
+            for _ in 0..3 {
+                let act = forms::load(&mut self.random, &device);
+                self.compare_call(device, act)?;
+            }
             let act = replies::write(&mut self.random);
             self.compare_call(Device::BLANK, act)?;
             let act = replies::read_greeting(&mut self.random);

@@ -66,6 +66,8 @@ fn call(act: &Act) -> String {
         Act::SetFault { mark } => format!("pj_set_fault({mark})"),
         Act::SetErrors { digits } => format!("pj_set_errors({digits:?})"),
         Act::Legal => "pj_legal()".to_string(),
+        Act::Store { lent } => format!("pj_store({})", memory(lent)),
+        Act::Load { bytes } => format!("pj_load({})", quoted(bytes)),
         Act::Digest { message } => format!("pj_md5({})", quoted(message)),
         Act::Write { command: c, secured, random, password, lent } => format!(
             "pj_write(code {} {} {}, secured {secured}, {random:#010x}, {}, {})",

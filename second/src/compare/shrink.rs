@@ -1,8 +1,10 @@
 //! From a case on which the two programs differ to the smallest that still shows it.
 
-use super::{Case, days, tables};
+use super::{Case, days, forms, tables};
 use crate::face::wire::Wire;
 use crate::face::{Act, Command, Device, Lent};
+use crate::reference::form;
+use crate::reference::rules::unmistaken;
 
 /// What can be cut down.
 pub trait Smaller: Sized {
@@ -133,6 +135,11 @@ fn simpler(act: &Act) -> Vec<Act> {
             [by_value].into_iter().chain(lower(*seconds).map(|seconds| Act::PassInPlace { seconds })).collect()
         }
         Act::SetErrors { digits } => simpler_bytes(digits).map(|digits| Act::SetErrors { digits }).collect(),
+        Act::Store { lent } => memories(lent).map(|lent| Act::Store { lent }).collect(),
+        Act::Load { bytes } => {
+            let simpler = simpler_forms(bytes).into_iter().chain(simpler_bytes(bytes));
+            simpler.map(|bytes| Act::Load { bytes }).collect()
+        }
         Act::Digest { message } => simpler_bytes(message).map(|message| Act::Digest { message }).collect(),
         Act::Write { command, secured, random, password, lent } => {
             let write = |command, random, password: &[u8], lent: &[u8]| Act::Write {
@@ -179,6 +186,12 @@ fn simpler_set_ups(lent: &Lent) -> Vec<Lent> {
     all.extend(lower(lent.warm).map(|warm| Lent { warm, ..lent.clone() }));
     all.extend(lower(lent.cool).map(|cool| Lent { cool, ..lent.clone() }));
     all
+}
+
+/// The form of simpler settings, with what is left over after it.
+fn simpler_forms(bytes: &[u8]) -> Vec<Vec<u8>> {
+    let Ok((lent, left_over)) = unmistaken(|| form::read(bytes)) else { return Vec::new() };
+    simpler_set_ups(&lent).iter().map(|lent| [&forms::of(lent)[..], left_over].concat()).collect()
 }
 
 fn simpler_commands(command: Command) -> impl Iterator<Item = Command> {

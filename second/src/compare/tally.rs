@@ -10,7 +10,7 @@ pub struct Tally(BTreeMap<(&'static str, String), usize>);
 
 impl Tally {
     pub fn count(&mut self, act: &Act, answer: &Answer) {
-        *self.0.entry((call(act), kind(answer))).or_default() += 1;
+        *self.0.entry((call(act), kind(act, answer))).or_default() += 1;
     }
 
     pub fn times(&self, call: &str, kind: &str) -> usize {
@@ -47,6 +47,8 @@ fn call(act: &Act) -> &'static str {
         Act::SetFault { .. } => "pj_set_fault",
         Act::SetErrors { .. } => "pj_set_errors",
         Act::Legal => "pj_legal",
+        Act::Store { .. } => "pj_store",
+        Act::Load { .. } => "pj_load",
         Act::Digest { .. } => "pj_md5",
         Act::Write { .. } => "pj_write",
         Act::ReadGreeting { .. } => "pj_read_greeting",
@@ -58,7 +60,7 @@ fn call(act: &Act) -> &'static str {
 }
 
 /// A refusal's number; else what the reply or the reading is.
-fn kind(answer: &Answer) -> String {
+fn kind(act: &Act, answer: &Answer) -> String {
     match answer {
         Answer::Changed(changed) | Answer::HandedOn(changed, _) => refusal_or(changed.number, "served"),
         Answer::Setting(place) => format!("setting {place}"),
@@ -66,6 +68,7 @@ fn kind(answer: &Answer) -> String {
         Answer::Received(received, out) => refusal_or(received.number, &reply(&out[..received.length])),
         Answer::Legal(legal) => legal.to_string(),
         Answer::Digest(_) => "digest".to_string(),
+        Answer::Written(stored, _) if matches!(act, Act::Store { .. }) => refusal_or(stored.number, "served"),
         Answer::Written(written, _) => refusal_or(written.number, &format!("{} bytes", written.length)),
         Answer::Greeting(greeting) => refusal_or(greeting.number, &format!("kind {}", greeting.kind)),
         Answer::Reading(reading) => refusal_or(reading.number, &format!("kind {}", reading.kind)),

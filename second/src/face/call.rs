@@ -37,6 +37,12 @@ pub enum Act {
         digits: Vec<u8>,
     },
     Legal,
+    Store {
+        lent: Vec<u8>,
+    },
+    Load {
+        bytes: Vec<u8>,
+    },
     Digest {
         message: Vec<u8>,
     },

@@ -1,9 +1,9 @@
 //! The archive, linked. A slice is a pointer and a length, in that order.
 
-use super::days;
 use super::{
     Act, Answer, Changed, Command, Compared, Device, Digest, Greeting, Lent, Opened, Reading, Received, Side, Written,
 };
+use super::{days, swap};
 
 #[link(name = "board", kind = "static")]
 unsafe extern "C" {
@@ -193,6 +193,11 @@ impl Side for Board {
             Act::SetFault { mark } => Answer::Changed(set_fault(device, *mark)),
             Act::SetErrors { digits } => Answer::Changed(set_errors(device, digits)),
             Act::Legal => Answer::Legal(legal(device)),
+            Act::Store { lent } => {
+                let mut out = lent.clone();
+                Answer::Written(swap::store(device, &mut out), out)
+            }
+            Act::Load { bytes } => Answer::Changed(swap::load(bytes)),
             Act::Digest { message } => Answer::Digest(digest(message)),
             Act::Write { command, secured, random, password, lent } => {
                 let mut out = lent.clone();

@@ -22,6 +22,8 @@ pub mod days;
 pub mod linked;
 #[cfg(board = "linked")]
 pub use linked::Board;
+#[cfg(board = "linked")]
+pub mod swap;
 
 #[cfg(board = "missing")]
 mod missing;

@@ -122,6 +122,14 @@ pub fn put_act(act: &Act, out: &mut Vec<u8>) {
             digits.put(out);
         }
         Act::Legal => 8u8.put(out),
+        Act::Store { lent } => {
+            17u8.put(out);
+            lent.put(out);
+        }
+        Act::Load { bytes } => {
+            18u8.put(out);
+            bytes.put(out);
+        }
         Act::Digest { message } => {
             9u8.put(out);
             message.put(out);
@@ -188,14 +196,15 @@ pub fn get_answer(act: &Act, from: &mut &[u8]) -> Answer {
         | Act::Pass { .. }
         | Act::PassInPlace { .. }
         | Act::SetFault { .. }
-        | Act::SetErrors { .. } => Answer::Changed(Wire::get(from)),
+        | Act::SetErrors { .. }
+        | Act::Load { .. } => Answer::Changed(Wire::get(from)),
         Act::WhichSetting(_) => Answer::Setting(Wire::get(from)),
         Act::Open { .. } => Answer::Opened(Wire::get(from), Wire::get(from)),
         Act::Receive { .. } => Answer::Received(Wire::get(from), Wire::get(from)),
         Act::HandOn { .. } => unreachable!("not one call"),
         Act::Legal => Answer::Legal(Wire::get(from)),
         Act::Digest { .. } => Answer::Digest(Wire::get(from)),
-        Act::Write { .. } => Answer::Written(Wire::get(from), Wire::get(from)),
+        Act::Store { .. } | Act::Write { .. } => Answer::Written(Wire::get(from), Wire::get(from)),
         Act::ReadGreeting { .. } => Answer::Greeting(Wire::get(from)),
         Act::ReadReply { .. } => Answer::Reading(Wire::get(from)),
         Act::CompareLamps { .. } => Answer::Compared(Wire::get(from), Wire::get(from)),

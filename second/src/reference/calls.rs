@@ -12,8 +12,8 @@ use crate::face;
 const PROJECTOR_ROOM: usize = 136;
 const WRITER_ROOM: usize = 168;
 
-const NOT_LEGAL: u32 = 1;
-const ROOM_SHORT: u32 = 2;
+pub(super) const NOT_LEGAL: u32 = 1;
+pub(super) const ROOM_SHORT: u32 = 2;
 pub(super) const OUT_OF_RANGE: u32 = 3;
 const IS_CLOSED: u32 = 4;
 const NOT_CLOSED: u32 = 5;
@@ -25,7 +25,7 @@ pub fn set_up(lent: &face::Lent) -> face::Changed {
     }
 }
 
-fn accepted(lent: &face::Lent) -> Option<Projector> {
+pub(super) fn accepted(lent: &face::Lent) -> Option<Projector> {
     let set_up = SetUp {
         name: lent.name.clone(),
         maker: lent.maker.clone(),

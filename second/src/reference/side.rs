@@ -1,6 +1,6 @@
 //! The second program as one of the two that are compared.
 
-use super::{calls, days, service};
+use super::{calls, days, service, swap};
 use crate::face::{Act, Answer, Device, Side};
 
 pub struct Second;
@@ -27,6 +27,11 @@ impl Side for Second {
             Act::SetFault { mark } => Answer::Changed(calls::set_fault(device, *mark)),
             Act::SetErrors { digits } => Answer::Changed(calls::set_errors(device, digits)),
             Act::Legal => Answer::Legal(calls::legal(device)),
+            Act::Store { lent } => {
+                let mut out = lent.clone();
+                Answer::Written(swap::store(device, &mut out), out)
+            }
+            Act::Load { bytes } => Answer::Changed(swap::load(bytes)),
             Act::Digest { message } => Answer::Digest(calls::digest(message)),
             Act::Write { command, secured, random, password, lent } => {
                 let mut out = lent.clone();

@@ -1,0 +1,135 @@
+//! 02, L3, in a form written out by hand, and what is said of every form.
+
+use super::form::{LONGEST, SHORTEST};
+use super::{calls, swap};
+use crate::compare::random::Random;
+use crate::compare::{forms, records};
+use crate::face::{Changed, Device, Lent};
+
+/// Two lamps, three inputs and a name in Japanese, byte by byte from the document.
+#[rustfmt::skip]
+const BY_HAND: &[u8] = &[
+    1,                                                                          // "the version byte 1"
+    11, 0xE8, 0xA3, 0x81, 0xE6, 0x96, 0xAD, 0xE5, 0x8F, 0xB0, 0x20, 0x33,       // "name": 裁断台 3
+    5, 0x6D, 0x61, 0x6B, 0x65, 0x72,                                            // "maker": maker
+    2, 0x4D, 0x37,                                                              // "model": M7
+    0,                                                                          // "other"
+    8, 0x53, 0x63, 0x68, 0x6E, 0x69, 0x74, 0x74, 0x38,                          // "password": Schnitt8
+    3, 0x31, 0x31, 0x33, 0x32, 0x35, 0x39,                                      // "inputs": 11, 32, 59
+    2, 0x00, 0x00, 0x0E, 0x10, 0x15, 0x75, 0x29, 0xFF,                          // "lamps": 3,600 and 359,999,999
+    0x00, 0x14, 0x02, 0x58,                                                     // "last W and C": 20 and 600
+];
+
+fn by_hand() -> Lent {
+    Lent {
+        name: "裁断台 3".as_bytes().to_vec(),
+        maker: b"maker".to_vec(),
+        model: b"M7".to_vec(),
+        other: Vec::new(),
+        password: b"Schnitt8".to_vec(),
+        inputs: b"113259".to_vec(),
+        lamps: vec![3_600, 359_999_999],
+        warm: 20,
+        cool: 600,
+    }
+}
+
+fn stored(device: &Device) -> Vec<u8> {
+    let mut out = [0xA5; LONGEST + 3];
+    let written = swap::store(device, &mut out);
+    assert_eq!(written.number, 0);
+    assert!(out[written.length..].iter().all(|&byte| byte == 0xA5));
+    out[..written.length].to_vec()
+}
+
+fn number(bytes: &[u8]) -> u32 {
+    let Changed { number, device } = swap::load(bytes);
+    assert_eq!(number == 0, calls::legal(&device));
+    assert!(number == 0 || device == Device::BLANK);
+    number
+}
+
+#[test]
+fn by_hand_is_loaded_and_stored() {
+    assert_eq!(swap::load(BY_HAND), calls::set_up(&by_hand()));
+    assert_eq!(number(BY_HAND), 0);
+    assert_eq!(stored(&calls::set_up(&by_hand()).device), BY_HAND);
+}
+
+/// An hour of warm-up and power-on on the old board; the second lamp is at its limit already.
+#[test]
+fn hours_go_on_after_a_swap() {
+    let mut device = swap::load(BY_HAND).device;
+    device.own.power = 3;
+    device.own.left = 20;
+    device = calls::pass(&device, 3_600).device;
+    let mut burnt = BY_HAND.to_vec();
+    burnt[40..44].copy_from_slice(&[0x00, 0x00, 0x1C, 0x20]);
+    assert_eq!(stored(&device), burnt);
+    let swapped = swap::load(&burnt).device;
+    assert_eq!((swapped.own.power, &swapped.own.lamps[..2]), (0, &[7_200, 359_999_999][..]));
+}
+
+#[test]
+fn numbers_of_the_reader() {
+    assert_eq!(number(b""), 21);
+    (0..=255).filter(|&version| version != 1).for_each(|version| assert_eq!(number(&[version]), 20));
+    (0..BY_HAND.len()).for_each(|end| assert_eq!(number(&BY_HAND[..end]), 21));
+    assert_eq!(number(&[BY_HAND, b"\0"].concat()), 22);
+    let mut wrong = BY_HAND.to_vec();
+    wrong[3] = b'A';
+    assert_eq!(number(&wrong), 23, "not UTF-8");
+    assert_eq!(number(&wrong[..wrong.len() - 1]), 21);
+    assert_eq!(number(&[&wrong[..], b"\0"].concat()), 22);
+    wrong[0] = 2;
+    assert_eq!(number(&wrong[..wrong.len() - 1]), 20);
+    assert_eq!(number(&[&wrong[..], b"\0"].concat()), 20);
+}
+
+#[test]
+fn numbers_of_the_writer() {
+    let device = calls::set_up(&by_hand()).device;
+    for length in 0..BY_HAND.len() {
+        let mut out = vec![7; length];
+        assert_eq!(swap::store(&device, &mut out).number, 2);
+        assert_eq!(swap::store(&Device::BLANK, &mut out).number, 1);
+        assert_eq!(out, vec![7; length]);
+    }
+}
+
+/// `PJ_FORM_MOST` is the longest.
+#[test]
+fn lengths_of_forms() {
+    assert_eq!((SHORTEST, LONGEST), (14, 268));
+    assert_eq!(stored(&calls::set_up(&forms::least()).device).len(), SHORTEST);
+    assert_eq!(stored(&calls::set_up(&forms::most()).device).len(), LONGEST);
+}
+
+/// From any legal state: what is loaded is the fresh set-up of the same settings, with the seconds as they are now.
+#[test]
+fn a_stored_record_loads_as_a_fresh_set_up() {
+    let mut random = Random::new(1);
+    for _ in 0..20_000 {
+        let device = records::legal(&mut random);
+        let swapped = swap::load(&stored(&device));
+        let mut fresh = Device { settings: device.settings, ..Device::BLANK };
+        fresh.own.lamps = device.own.lamps;
+        assert_eq!(swapped, Changed { number: 0, device: fresh });
+    }
+}
+
+/// "One set-up has one form": what loads is what its record stores.
+#[test]
+fn what_loads_is_the_one_form() {
+    let mut random = Random::new(2);
+    let mut loaded = 0;
+    for _ in 0..100_000 {
+        let device = records::legal(&mut random);
+        let crate::face::Act::Load { bytes } = forms::load(&mut random, &device) else { unreachable!() };
+        if number(&bytes) == 0 {
+            loaded += 1;
+            assert_eq!(stored(&swap::load(&bytes).device), bytes);
+        }
+    }
+    assert!(loaded > 10_000, "{loaded}");
+}

@@ -1,0 +1,88 @@
+//! 02, L3: the calls on the stored form, which `form` lays out.
+
+use super::calls::{NOT_LEGAL, ROOM_SHORT, accepted};
+use super::form::{CONTENTS, LEFT_OVER, LONGEST, SHORTEST, read, written};
+use super::rules::{Mistake, made};
+use super::set_up::{LAMP_LIMIT, LONGEST_NAME, is_text};
+use super::{Power, Projector};
+use crate::face;
+
+/// "The writer gives 1 for a record that isn't legal, then 2 for lent memory shorter than the form."
+pub fn store(device: &face::Device, out: &mut [u8]) -> face::Written {
+    let refused = |number| face::Written { number, length: 0 };
+    let Some(projector) = Projector::read(device) else {
+        let room_first = made(Mistake::FormRoomFirst) && out.len() < SHORTEST;
+        return refused(if room_first { ROOM_SHORT } else { NOT_LEGAL });
+    };
+    let form = written(&settings(&projector));
+    let least = if made(Mistake::RoomForTheLongest) { LONGEST } else { form.len() };
+    if out.len() < least {
+        return refused(ROOM_SHORT);
+    }
+    out[..form.len()].copy_from_slice(&form);
+    if made(Mistake::RestCleared) {
+        out[form.len()..].fill(0);
+    }
+    face::Written { number: 0, length: form.len() }
+}
+
+/// "Loading is a fresh set-up, so the history of demand 3 begins there with the stored seconds." "A refused load gives
+/// the blank record."
+pub fn load(bytes: &[u8]) -> face::Changed {
+    let refused = |number| face::Changed { number, device: face::Device::BLANK };
+    let (lent, left_over) = match read(bytes) {
+        Ok(read) => read,
+        Err(number) => return refused(number),
+    };
+    let fresh = accepted(&lent).or_else(|| taken_by_mistake(lent));
+    if !left_over.is_empty() && !made(Mistake::LeftOverTaken) {
+        return match fresh {
+            None if made(Mistake::ContentsBeforeLeftOver) => refused(CONTENTS),
+            Some(fresh) if made(Mistake::LeftOverGivesRecord) => {
+                face::Changed { number: LEFT_OVER, device: fresh.record() }
+            }
+            _ => refused(LEFT_OVER),
+        };
+    }
+    match fresh {
+        None => refused(CONTENTS),
+        Some(mut fresh) => {
+            if made(Mistake::LoadedIsOn) {
+                fresh.power = Power::On;
+            }
+            face::Changed { number: 0, device: fresh.record() }
+        }
+    }
+}
+
+/// No rule takes these; a mistake does.
+fn taken_by_mistake(mut lent: face::Lent) -> Option<Projector> {
+    if made(Mistake::LoadedLampsStopped) {
+        lent.lamps.iter_mut().for_each(|seconds| *seconds = (*seconds).min(LAMP_LIMIT));
+        return accepted(&lent);
+    }
+    if made(Mistake::LoadedKeepsOldNames) && is_text(&lent.name, LONGEST_NAME) {
+        let name = std::mem::take(&mut lent.name);
+        let mut fresh = accepted(&lent)?;
+        fresh.set_up.name = name;
+        return Some(fresh);
+    }
+    None
+}
+
+/// What a set-up would be lent for this projector now: its settings, and "each lamp's seconds as they are now".
+fn settings(projector: &Projector) -> face::Lent {
+    let set_up = projector.set_up.clone();
+    let stored = |&seconds: &u32| if made(Mistake::HoursStored) { seconds - seconds % 3600 } else { seconds };
+    face::Lent {
+        name: set_up.name,
+        maker: set_up.maker,
+        model: set_up.model,
+        other: set_up.other,
+        password: set_up.password,
+        inputs: set_up.inputs.iter().flat_map(|input| input.characters()).collect(),
+        lamps: projector.lamps.iter().map(stored).collect(),
+        warm: set_up.warm,
+        cool: set_up.cool,
+    }
+}
