@@ -1,7 +1,7 @@
 /* A host: it keeps one projector, feeds it bytes in odd cuts as a network would, lets time pass, and asks as a
-   controller; then service compares two tables of lamp seconds, and a cutting day is planned and checked. Every number
-   that a call gives is tested before anything else of its result is used. What it must print, by the rules of documents
-   01 and 02, is in host.stdout. */
+   controller; service compares two tables of lamp seconds, the board is swapped, and a cutting day is planned and
+   checked. Every number that a call gives is tested before anything else of its result is used. What it must print, by
+   the rules of documents 01 and 02, is in host.stdout. */
 #include <stdio.h>
 #include <stdlib.h>
 #include <string.h>
@@ -57,6 +57,11 @@ static void set(uint8_t code, uint8_t first) {
 
 static void pass(uint32_t seconds) { served(pj_pass_in_place(&device, seconds), "pj_pass_in_place"); }
 
+static void print_lamps(void) {
+    pj_reading told = ask(PJ_LAMP, 0);
+    for (size_t i = 0; i < told.count; i++) printf("lamp %zu: %u h, lit %d\n", i, (unsigned)told.hours[i], told.lit[i]);
+}
+
 static void one_projector(void) {
     const uint32_t lamps[] = {0, 3600};
 
@@ -102,12 +107,11 @@ static void one_projector(void) {
         served(passed.number, "pj_pass");
         device = passed.device;
     }
-    pj_reading told = ask(PJ_LAMP, 0);
-    for (size_t i = 0; i < told.count; i++) printf("lamp %zu: %u h, lit %d\n", i, (unsigned)told.hours[i], told.lit[i]);
+    print_lamps();
 
     /* the reply of a hired projector that pads a lamp's hours with zeros */
     pj_command lamp = {PJ_LAMP, 0, 0};
-    told = pj_read_reply(lamp, TEXT("%1LAMP=00412 1\r"));
+    pj_reading told = pj_read_reply(lamp, TEXT("%1LAMP=00412 1\r"));
     served(told.number, "pj_read_reply");
     printf("hired: %u h, lit %d\n", (unsigned)told.hours[0], told.lit[0]);
 
@@ -127,6 +131,31 @@ static void one_projector(void) {
     served(closed.number, "pj_close");
     device = closed.device;
     printf("close: phase %d\n", device.connection.phase);
+}
+
+/* The board is swapped: what the old one stores, the new one loads, and the lamps' seconds go on from there. */
+static void board_swap(void) {
+    uint8_t form[PJ_FORM_MOST];
+    pass(1800); /* half an hour more on the old board, which is on */
+    pj_written stored = pj_store(device, form, sizeof form);
+    served(stored.number, "pj_store");
+    printf("stored: %zu bytes, version %d\n", stored.length, form[0]);
+
+    pj_changed loaded = pj_load(form, stored.length - 1);
+    printf("a byte lost: refused %d\n", loaded.number == PJ_CUT_SHORT);
+    loaded = pj_load(form, stored.length);
+    served(loaded.number, "pj_load");
+    device = loaded.device;
+    printf("loaded: off %d, %u s, %u s\n", device.own.power == PJ_POWER_OFF, (unsigned)device.own.lamps[0],
+           (unsigned)device.own.lamps[1]);
+
+    /* the other half of the hour, on the new board: the password is in the form too */
+    pj_opened opened = pj_open(device, 0x498e4a67, reply, sizeof reply);
+    served(opened.number, "pj_open");
+    device = opened.device;
+    feed(TEXT("5d8409bc1c3fa39749434aa3a5c38682%1POWR 1\r"));
+    pass(1800);
+    print_lamps();
 }
 
 static void one_day(void) {
@@ -158,6 +187,7 @@ static void one_day(void) {
 
 int main(void) {
     one_projector();
+    board_swap();
     one_day();
     return 0;
 }
