@@ -1,23 +1,10 @@
 // The two calls that let time pass.
-use crate::connection;
-use crate::own;
+use crate::on_legal;
 use record::legality;
 use record::types::Changed;
 use record::types::Device;
 ghost use mathlib.Core.Path.{_≡_};
-ghost use Rattle.clock.specs.Second.{second, times};
 ghost use Rattle.clock.specs.Passing.{passed};
-
-fn later(d: Device, n: u32) -> Device
-    ensures { λ r. ⌜ r ≡ times second n d ⌝ }
-{
-    let own = own::own_after(d.settings, d.own, n);
-    let connection = connection::connection_after(d.connection, n);
-    let mut after = d;
-    after.own = own;
-    after.connection = connection;
-    after
-}
 
 // The record after n seconds; 1 and the record as it was where it is not legal.
 pub fn pass(d: Device, n: u32) -> Changed
@@ -29,8 +16,7 @@ pub fn pass(d: Device, n: u32) -> Changed
             device: d,
         };
     }
-    let device = later(d, n);
-    Changed { number: 0, device }
+    on_legal::pass(d, n)
 }
 
 // The same on a record that is lent (01, "lends it to be changed in place as time passes"): its number, and its record

@@ -6,6 +6,7 @@ pub mod Counts
 pub mod Results
 pub mod Untouched
 pub mod Legal
+pub mod Illegal
 pub mod Short
 pub mod Outsiders
 pub mod ReceivingAsMachine

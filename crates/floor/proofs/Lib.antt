@@ -3,6 +3,7 @@ mod Endings
 mod Printing
 mod PartsPut
 mod KeptText
+mod EventsLeave
 mod LinesPlayed
 mod LoopPlayed
 mod Refusals

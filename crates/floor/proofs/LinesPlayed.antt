@@ -18,14 +18,16 @@ use borrow.Author.Tests.{le-ltb, not-true}
 use Rattle.text.specs.Words.{if_then_else_}
 use Rattle.text.specs.Scans.{every}
 use Rattle.text.proofs.Choices.{if-no, if-all, if-by, both-left, both-right}
+use Rattle.record.specs.Legal.{isLegal}
 use Rattle.record.specs.declared.types.Line.{Line}
 use Rattle.stream.specs.Machine.{Out, Took, unanswered, tookBytes, callOf}
 use Rattle.stream.proofs.UpToTheEnd.{notEnd, found}
 use Rattle.stream.proofs.OneCallGathers.{call-gathers, call-by}
 use Rattle.log.specs.Lines.{lineMost}
 use Rattle.floor.specs.Reading.{Reading, printRoom, keptWith, lineAfter, ended, withKept, more, lineTaken, upToLf}
-use Rattle.floor.specs.Reading.{stepThen, playedIn}
+use Rattle.floor.specs.Reading.{keptEvent, stepThen, playedIn}
 use Rattle.floor.proofs.Gathering.{line-in-memory}
+use Rattle.floor.proofs.EventsLeave.{did-settings, did-legality}
 
 abbrev pub addedTo : ℕ → List ℕ → Took Reading → Took Reading
 addedTo n r t = record { taken = n + t .taken; state = t .state; reply = r ++ t .reply }
@@ -42,6 +44,14 @@ added-none t = counted t (sym (zero-add (t .taken)))
 none-onward : (left : ℕ) (s : Reading) → onward left s [] ≡ tookBytes 0 (unanswered s)
 unfolding playedIn
 none-onward left s = if-all (λ (t : Took Reading). t ≡ tookBytes 0 (unanswered s)) (ltb left printRoom) refl refl
+
+-- LF alone plays the line that has begun
+pub lf-played : (room : ℕ) (s : Reading) → playedIn room s (code "\n" ∷ []) ≡ tookBytes 1 (ended s)
+unfolding playedIn
+lf-played room s =
+    let o = ended s in
+    ap (stepThen o) (none-onward (room - length (o .reply)) (o .state))
+    ∙ (λ i. tookBytes 1 (record { state = o .state; reply = append-nil (o .reply) i }))
 
 module _ (left : ℕ) (room : printRoom ≤ left) where
   -- bytes that end no line print nothing: the room stays
@@ -99,6 +109,8 @@ pub record LineTold (s : Reading) (bs : List ℕ) (t : Took Reading) : Type 0 wh
   pub number : t .state .number ≤ s .number + 1
   pub held : t .state .kept .held ≤ lineMost
   pub long : length (t .state .kept .bytes) ≡ length (s .kept .bytes)
+  pub settings : t .state .device .settings ≡ s .device .settings
+  pub legality : isLegal (t .state .device) ≡ isLegal (s .device)
 
 pub line-told : (s : Reading) (bs : List ℕ) → s .kept .held ≤ lineMost → LineTold s bs (lineTaken s bs)
 unfolding ended
@@ -114,6 +126,8 @@ line-told s bs h =
       number = omega arith;
       held = omega arith;
       long = after-long (g .line) ∙ w .long;
+      settings = did-settings (s .device) (keptEvent (g .line));
+      legality = did-legality (s .device) (keptEvent (g .line));
     })
     (λ e. record {
       some = λ n. omega (arith, f .all e);
@@ -121,4 +135,6 @@ line-told s bs h =
       number = omega arith;
       held = w .held;
       long = w .long;
+      settings = refl;
+      legality = refl;
     }))

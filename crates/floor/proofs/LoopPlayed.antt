@@ -1,9 +1,10 @@
 -- The loop that plays line after line.
 --   PlayedTo ..     it has come to a byte with what it printed in memory, and room to print a line
---   Turn ..         what a turn of it leaves, where the call that takes a line returns r
+--   Turn before ..  what a turn of it leaves, where the call that takes a line returns r
 -- Assumes nothing.
 use Prim.Native.Nat.{ℕ, _+_, _-_, _≤_, _<_, _^_}
 use mathlib.Core.Path.{_≡_, refl, sym, ap, _∙_, subst}
+use mathlib.Core.Bool.{Bool}
 use mathlib.Core.List.{List, [], _++_, append-assoc, append-nil}
 use native.Mathlib.Nat.{add-zero, sub-zero}
 use native.Mathlib.Omega.{arith}
@@ -12,7 +13,9 @@ use lib.Seq.{sets, drop-drop, take-all, length-sets}
 use borrow.Author.Tests.{lt-ltb, le-ltb}
 use Rattle.text.proofs.Choices.{if-yes, if-no}
 use Rattle.text.proofs.Stores.{sets-then, sets-over}
+use Rattle.record.specs.Legal.{isLegal}
 use Rattle.stream.specs.Machine.{Took}
+use Rattle.floor.specs.declared.replay.Floor.{Floor}
 use Rattle.floor.specs.declared.playing.Taken.{Taken}
 use Rattle.log.specs.Lines.{lineMost}
 use Rattle.floor.specs.Reading.{Reading, printRoom, lineTaken, playedIn}
@@ -24,6 +27,7 @@ use Rattle.floor.proofs.LinesPlayed.{addedTo, onward, added-none, line-
 module _ (s : Reading) (bs out : List ℕ) where
   pub record PlayedTo (now : Reading) (m : List ℕ) (at used : ℕ) : Type 0 where
     pub inside : at ≤ length bs
+    pub legality : isLegal (now .device) ≡ isLegal (s .device)
     pub held : now .kept .held ≤ lineMost
     pub long : length (now .kept .bytes) ≡ length (s .kept .bytes)
     pub number : now .number + (length bs - at) < 2 ^ 64
@@ -37,6 +41,7 @@ module _ (s : Reading) (bs out : List ℕ) where
       → PlayedTo s out 0 0
   none-played h n r = record {
     inside = omega arith;
+    legality = refl;
     held = h;
     long = refl;
     number = omega arith;
@@ -48,17 +53,18 @@ module _ (s : Reading) (bs out : List ℕ) where
         ∙ ap (λ (k : ℕ). addedTo 0 [] (playedIn k s bs)) (sym (sub-zero (length out)));
   }
 
-  pub record Turn (at used : ℕ) (r : Taken) (l left : List ℕ) : Type 0 where
+  pub record Turn (before : Reading) (at used : ℕ) (r : Taken) (l left : List ℕ) : Type 0 where
     pub inside : at + r .taken ≤ length bs
     pub some : 1 ≤ r .taken
     pub fits : used + r .length ≤ length out
     pub long : length left ≡ length out
     pub line-long : length l ≡ length (s .kept .bytes)
-    pub stops : length out - (used + r .length) < printRoom
+    pub settings : r .floor .device .settings ≡ before .device .settings
+    pub stops : {f : Floor} → f ≡ r .floor → length out - (used + r .length) < printRoom
         → TakenAs (playedIn (length out) s bs) out
-        (record { taken = at + r .taken; length = used + r .length; floor = r .floor }) l left
-    pub goes-on : printRoom ≤ length out - (used + r .length)
-        → PlayedTo (readingIn (r .floor) l) left (at + r .taken) (used + r .length)
+        (record { taken = at + r .taken; length = used + r .length; floor = f }) l left
+    pub goes-on : {f : Floor} → f ≡ r .floor → printRoom ≤ length out - (used + r .length)
+        → PlayedTo (readingIn f l) left (at + r .taken) (used + r .length)
 
   pub memory-long : {now : Reading} {m : List ℕ} {at used : ℕ} → PlayedTo now m at used → length m ≡ length out
   memory-long p = ap length (p .stored) ∙ length-sets out 0 (p .printed)
@@ -130,6 +136,7 @@ module _ (s : Reading) (bs out : List ℕ) where
         → PlayedTo (line .state) k (at + line .taken) (used + length (line .reply))
     one-played e h = record {
       inside = omega (arith, told .inside, bytes-long);
+      legality = told .legality ∙ p .legality;
       held = told .held;
       long = told .long ∙ p .long;
       number = omega (arith, told .number, told .inside, told .some (omega (arith, bytes-long)), bytes-long, p .number);
@@ -141,9 +148,11 @@ module _ (s : Reading) (bs out : List ℕ) where
     }
 
     -- the call that takes the line can, and leaves a turn
-    pub can-take : lineMost < length (s .kept .bytes)
-        → CanPlay (now .kept .held) (now .number) 1 (length (now .kept .bytes)) printRoom (length (partFrom m used))
-    can-take lent = record {
+    pub can-take : {legal : Bool} → legal ≡ isLegal (s .device) → lineMost < length (s .kept .bytes)
+        → CanPlay legal (now .device) (now .kept .held) (now .number) 1 (length (now .kept .bytes)) printRoom
+        (length (partFrom m used))
+    can-take tested lent = record {
+      tested = tested ∙ sym (p .legality);
       kept = p .held;
       lent = omega (arith, p .long);
       counted = omega (arith, p .number);
@@ -151,35 +160,37 @@ module _ (s : Reading) (bs out : List ℕ) where
     }
 
     turn-of : {left : List ℕ} → Put m (line .reply) used (length m) left
-        → Turn at used (lineTakenOf line) (line .state .kept .bytes) left
-    turn-of w = record {
+        → Turn now at used (lineTakenOf line) (line .state .kept .bytes) left
+    turn-of {left} w = record {
       inside = omega (arith, told .inside, bytes-long);
       some = told .some (omega (arith, bytes-long));
       fits = omega (arith, w .fits, memory-long p);
       long = w .long ∙ memory-long p;
       line-long = told .long ∙ p .long;
-      stops = λ h. carry out (all-printed h)
+      settings = told .settings;
+      stops = λ e h. carry out (all-printed h)
           (record {
             returned = (λ i. record {
               taken = at + line .taken;
               length = sym text-long i;
-              floor = floorOf (line .state);
+              floor = e i;
             });
             line = refl;
             printed = text-stored (w .stored) ∙ sets-over text out (omega (arith, text-long, w .fits, memory-long p));
           });
-      goes-on = λ h. one-played (w .stored) h;
+      goes-on = λ e h. subst (λ (f : Floor). PlayedTo (readingIn f (line .state .kept .bytes)) left
+          (at + line .taken) (used + length (line .reply))) (sym e) (one-played (w .stored) h);
     }
 
     pub turn-told : {r : Taken} {l k : List ℕ}
         → TakenAs (lineTaken now (take (length bs - at) (drop at bs))) (partFrom m used) r l k
-        → length k ≡ length (partFrom m used) → Turn at used r l (leftFrom m used k)
+        → length k ≡ length (partFrom m used) → Turn now at used r l (leftFrom m used k)
     turn-told {r} {l} {k} lent same =
         let t : TakenAs line (partFrom m used) r l k =
         subst (λ (x : List ℕ). TakenAs (lineTaken now x) (partFrom m used) r l k)
         (take-all (length bs - at) bytes (omega (arith, bytes-long))) lent in
-        subst (λ (x : Taken). Turn at used x l (leftFrom m used k)) (sym (t .returned))
-        (subst (λ (x : List ℕ). Turn at used (lineTakenOf line) x (leftFrom m used k)) (sym (t .line))
+        subst (λ (x : Taken). Turn now at used x l (leftFrom m used k)) (sym (t .returned))
+        (subst (λ (x : List ℕ). Turn now at used (lineTakenOf line) x (leftFrom m used k)) (sym (t .line))
         (turn-of (part-put m (line .reply) used (omega (arith, memory-long p, p .room)) (t .printed) same)))
 
   pub all-played : {now : Reading} {m : List ℕ} {at used : ℕ} → PlayedTo now m at used → length bs ≤ at

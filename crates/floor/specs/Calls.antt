@@ -7,7 +7,8 @@
 --   finishRoom             so much room `finish` never needs more than
 --   refusal ..             the number of a call: 2 for too little memory to print in or to keep a line in; 3 for a
 --                          state with more bytes kept than a line has, or whose line number could pass 64 bits; else 0
---   CanPlay ..             what a call that is not refused has: its inner functions ask for it
+--   CanPlay legal d ..     what a call that is not refused has, once it has tested its record: its inner functions ask
+--                          for it, and test nothing again
 --   Step                   a call's number, and what it took
 --   giving n s t           the step of a call with the number n: it takes t; nothing where n is a refusal
 --   stepped f m bs room    what a call on the bytes bs gives, that has so much room to print in
@@ -22,6 +23,8 @@ use mathlib.Core.List.{List}
 use lib.ListN.{length}
 use lib.Dec.{leb, ltb, eqb}
 use Rattle.text.specs.Words.{if_then_else_, over}
+use Rattle.record.specs.Legal.{isLegal}
+use Rattle.record.specs.declared.types.Device.{Device}
 use Rattle.stream.specs.Machine.{Took, unanswered, tookBytes}
 use Rattle.floor.specs.declared.gather.Begun.{Begun}
 use Rattle.floor.specs.declared.replay.Floor.{Floor}
@@ -57,7 +60,8 @@ refusal held number memory lines short =
     else if ltb lineMost held || leb (2 ^ 64) (number + lines) then 3
     else 0
 
-pub record CanPlay (held number lines memory least room : ℕ) : Type 0 where
+pub record CanPlay (legal : Bool) (d : Device) (held number lines memory least room : ℕ) : Type 0 where
+  pub tested : legal ≡ isLegal d
   pub kept : held ≤ lineMost
   pub lent : lineMost < memory
   pub counted : number + lines < 2 ^ 64

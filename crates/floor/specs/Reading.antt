@@ -3,7 +3,8 @@
 --   Reading             the device, how many lines were played, and what is kept of a line that has begun
 --   keptOf k m          a line of which k has begun, in the memory m lent for it; `begunOf`: back again
 --   keptWith k b        what is kept after one byte more that is no LF; past `lineMost` bytes only the mark is
---   keptEvent k         the event of the line that is kept; an overlong one has no such form
+--   keptSaid k          what the line that is kept says; an overlong one has no such form
+--   keptEvent k         its event
 --   ended s             what LF does: the line is played, and CR stands after it in the memory
 --   more s b            what any other byte does
 --   logStep, logRun     one byte; bytes, one after the other
@@ -26,7 +27,9 @@ use Rattle.record.specs.declared.types.Line.{Line}
 use Rattle.stream.specs.Collecting.{lineText, collectedIn}
 use Rattle.stream.specs.Machine.{UpTo, Out, Took, unanswered, tookBytes, upTo, oneStep, runOver, oneCall}
 use Rattle.floor.specs.declared.gather.Begun.{Begun}
-use Rattle.log.specs.Lines.{lineMost}
+use Rattle.log.specs.declared.Says.{Says}
+use Rattle.log.specs.declared.Says.the-variants.{NoSuch}
+use Rattle.log.specs.Lines.{lineMost, lineSaid}
 use Rattle.floor.specs.Events.{LogEvent, noSuch, event}
 use Rattle.floor.specs.Playing.{did, printed, lastLine, sampleDevice}
 
@@ -54,6 +57,9 @@ keptWith k b = collectedIn (λ (m : List ℕ). m) lineMost k b
 
 abbrev pub keptEvent : Line → LogEvent
 keptEvent k = if k .overlong then noSuch else event (lineText k)
+
+abbrev pub keptSaid : Line → Says
+keptSaid k = if k .overlong then NoSuch else lineSaid (lineText k)
 
 abbrev pub lineAfter : Line → List ℕ
 lineAfter k = if k .overlong then k .bytes else set (k .bytes) (k .held) (code "\r")

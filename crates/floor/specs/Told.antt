@@ -3,6 +3,7 @@
 --   endMark f n k       what is printed after a reply of k bytes without its CR: nothing; or `-`, the refusal n, or `?`
 --   ending f n k        that, and LF
 --   calledOf r          what a call gave, as the code returns it: its number, its reply's length, the record
+--   silentCall n d      what a call with the number n and no reply gave
 --   printedOf n d e     what is left of the line n with the event e: the printed bytes' length, the record
 --   PrintedAs n d e out ..    that is returned, and the line printed from the start of the memory `out`
 --   gatheredTo g        what is kept of a line up to LF, as the code returns it
@@ -47,6 +48,9 @@ ending formed number replied = endMark formed number replied ++ ascii "\n"
 
 abbrev pub calledOf : Result Device → Called
 calledOf r = record { number = r .number; length = length (r .reply); device = r .device }
+
+abbrev pub silentCall : ℕ → Device → Called
+silentCall n d = record { number = n; length = 0; device = d }
 
 abbrev pub printedOf : ℕ → Device → LogEvent → Printed
 printedOf n d e = record { length = length (printed n e (did d e)); device = did d e .device }

@@ -1,17 +1,19 @@
 // One event: what it does, and what is printed for it.
-use device::calls;
+use device::on_legal;
 use log::Says;
 use record::types::Device;
 ghost use mathlib.Core.Path.{_≡_};
+ghost use mathlib.Core.Bool.{true};
 ghost use Prim.Native.Nat.{_+_, _-_, _^_, _≤_, _<_};
 ghost use lib.ListN.{length};
 ghost use lib.Seq.{sets};
 ghost use Rattle.text.specs.Words.{over};
+ghost use Rattle.record.specs.Legal.{isLegal};
 ghost use Rattle.device.specs.Calls.{replyRoom};
 ghost use Rattle.floor.specs.Events.{eventOf};
 ghost use Rattle.floor.specs.Playing.{did};
 ghost use Rattle.floor.specs.Reading.{printRoom};
-ghost use Rattle.floor.specs.Told.{isFormed, endMark, ending, calledOf, PrintedAs};
+ghost use Rattle.floor.specs.Told.{isFormed, endMark, ending, calledOf, silentCall, PrintedAs};
 
 // What a call gave: its number, the length of its reply, the record.
 pub struct Called {
@@ -26,15 +28,27 @@ pub struct Printed {
     pub device: Device,
 }
 
-// The event that a line says; a text is lent with its CR.
-fn call(d: Device, says: Says, bytes: &[u8], out: &mut [u8]) -> Called
+// A call without a reply.
+fn silent(number: u32, device: Device) -> Called
+    ensures { λ r. ⌜ r ≡ silentCall number device ⌝ }
+{
+    Called {
+        number,
+        length: 0,
+        device,
+    }
+}
+
+// The event that a line says, on a legal record; a text is lent with its CR.
+fn call_legal(d: Device, says: Says, bytes: &[u8], out: &mut [u8]) -> Called
     requires { ⌜ replyRoom ≤ length (now out) ⌝ }
+    requires { ⌜ isLegal d ≡ true ⌝ }
     ensures { λ r. ⌜ r ≡ calledOf (did d (eventOf says (now (bytes .entry)))) ⌝ }
     ensures { λ _. ⌜ now (out .exit) ≡ over (did d (eventOf says (now (bytes .entry))) .reply) (now (out .entry)) ⌝ }
 {
     match says {
         Says::Opens(random) => {
-            let opened = calls::open(d, random, out);
+            let opened = on_legal::open(d, random, out);
             let device = opened.device;
             Called {
                 number: opened.number,
@@ -43,7 +57,7 @@ fn call(d: Device, says: Says, bytes: &[u8], out: &mut [u8]) -> Called
             }
         }
         Says::Receives => {
-            let received = calls::receive(d, bytes, out);
+            let received = on_legal::receive(d, bytes, out);
             let device = received.device;
             Called {
                 number: received.number,
@@ -52,29 +66,31 @@ fn call(d: Device, says: Says, bytes: &[u8], out: &mut [u8]) -> Called
             }
         }
         Says::Passes(seconds) => {
-            let passed = clock::pass::pass(d, seconds);
-            let device = passed.device;
-            Called {
-                number: passed.number,
-                length: 0,
-                device,
-            }
+            let passed = clock::on_legal::pass(d, seconds);
+            silent(passed.number, passed.device)
         }
         Says::Closes => {
-            let closed = calls::close(d);
-            let device = closed.device;
-            Called {
-                number: closed.number,
-                length: 0,
-                device,
-            }
+            let closed = on_legal::close(d);
+            silent(closed.number, closed.device)
         }
-        Says::NoSuch => Called {
-            number: 0,
-            length: 0,
-            device: d,
-        },
+        Says::NoSuch => silent(0, d),
     }
+}
+
+// The same on any record, of which it is known whether it is legal: 1 where it is not.
+fn call(legal: bool, d: Device, says: Says, bytes: &[u8], out: &mut [u8]) -> Called
+    requires { ⌜ replyRoom ≤ length (now out) ⌝ }
+    requires { ⌜ legal ≡ isLegal d ⌝ }
+    ensures { λ r. ⌜ r ≡ calledOf (did d (eventOf says (now (bytes .entry)))) ⌝ }
+    ensures { λ _. ⌜ now (out .exit) ≡ over (did d (eventOf says (now (bytes .entry))) .reply) (now (out .entry)) ⌝ }
+{
+    if legal {
+        return call_legal(d, says, bytes, out);
+    }
+    if is_formed(says) {
+        return silent(1, d);
+    }
+    silent(0, d)
 }
 
 fn is_formed(says: Says) -> bool
@@ -133,14 +149,22 @@ fn last_place(at: usize, replied: usize) -> usize
 }
 
 // A line's event, and its printed line from the start of the lent memory.
-pub fn print(d: Device, number: u64, says: Says, bytes: &[u8], out: &mut [u8]) -> Printed
+pub fn print(
+    legal: bool,
+    d: Device,
+    number: u64,
+    says: Says,
+    bytes: &[u8],
+    out: &mut [u8],
+) -> Printed
     requires { ⌜ printRoom ≤ length (now out) ⌝ }
+    requires { ⌜ legal ≡ isLegal d ⌝ }
     ensures { λ r. ⌜ PrintedAs number d (eventOf says (now (bytes .entry))) (now (out .entry)) r (now (out .exit)) ⌝ }
 {
     let space = numbers::put_long(out, 0, number);
     text::put(out, space, b" ");
     let at = space + 1;
-    let called = call(d, says, bytes, &mut out[at..]);
+    let called = call(legal, d, says, bytes, &mut out[at..]);
     let last = last_place(at, called.length);
     let end = put_ending(out, last, is_formed(says), called.number, called.length);
     let device = called.device;

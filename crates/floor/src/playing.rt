@@ -8,11 +8,11 @@ use crate::replay::Floor;
 use log::Says;
 use record::types::Device;
 ghost use mathlib.Core.Path.{_≡_};
-ghost use Prim.Native.Nat.{min};
+ghost use Prim.Native.Nat.{_<_, min};
 ghost use lib.ListN.{length};
 ghost use Rattle.stream.specs.Machine.{tookBytes};
-ghost use Rattle.floor.specs.Reading.{printRoom, keptOf, keptEvent, lineAfter, ended, lineTaken, playedIn};
-ghost use Rattle.floor.specs.Reading.{endOfInput, logFinished};
+ghost use Rattle.floor.specs.Reading.{printRoom, keptOf, keptSaid, keptEvent, lineAfter, ended, lineTaken};
+ghost use Rattle.floor.specs.Reading.{playedIn, endOfInput, logFinished};
 ghost use Rattle.floor.specs.Told.{PrintedAs};
 ghost use Rattle.floor.specs.Calls.{readingIn, readingWith, finishRoom, CanPlay, TakenAs};
 
@@ -27,22 +27,40 @@ fn least(a: usize, b: usize) -> usize
     b
 }
 
-// The line that is kept is played; CR stands after it in the memory.
-fn end_line(d: Device, number: u64, k: Begun, line: &mut [u8], out: &mut [u8]) -> Printed
-    requires { ⌜ CanPlay (k .held) number 0 (length (now line)) printRoom (length (now out)) ⌝ }
+// What the line that is kept says; CR stands after it in the memory.
+fn kept_says(k: Begun, line: &mut [u8]) -> Says
+    requires { ⌜ k .held < length (now line) ⌝ }
+    ensures { λ r. ⌜ r ≡ keptSaid (keptOf k (now (line .entry))) ⌝ }
+    ensures { λ _. ⌜ now (line .exit) ≡ lineAfter (keptOf k (now (line .entry))) ⌝ }
+{
+    if k.overlong {
+        return Says::NoSuch;
+    }
+    let held = k.held;
+    line[held] = b'\r';
+    log::line_says(&line[0..held])
+}
+
+// That line is played. Its event is printed in one place, so that the compiler puts the calls into the loop and copies
+// no record for them.
+fn end_line(
+    legal: bool,
+    d: Device,
+    number: u64,
+    k: Begun,
+    line: &mut [u8],
+    out: &mut [u8],
+) -> Printed
+    requires { ⌜ CanPlay legal d (k .held) number 0 (length (now line)) printRoom (length (now out)) ⌝ }
     ensures { λ r. ⌜ PrintedAs number d (keptEvent (keptOf k (now (line .entry)))) (now (out .entry))
         r (now (out .exit)) ⌝ }
     ensures { λ _. ⌜ now (line .exit) ≡ lineAfter (keptOf k (now (line .entry))) ⌝ }
 {
-    if k.overlong {
-        return event::print(d, number, Says::NoSuch, b"", out);
-    }
+    let says = kept_says(k, line);
     let held = k.held;
-    line[held] = b'\r';
-    let says = log::line_says(&line[0..held]);
     let from = least(2, held);
     let end = held + 1;
-    event::print(d, number, says, &line[from..end], out)
+    event::print(legal, d, number, says, &line[from..end], out)
 }
 
 pub struct Taken {
@@ -52,13 +70,14 @@ pub struct Taken {
 }
 
 // The same, with the state that it leaves.
-fn play_kept(f: Floor, k: Begun, line: &mut [u8], out: &mut [u8]) -> Taken
-    requires { ⌜ CanPlay (k .held) (f .number) 1 (length (now line)) printRoom (length (now out)) ⌝ }
+fn play_kept(legal: bool, f: Floor, k: Begun, line: &mut [u8], out: &mut [u8]) -> Taken
+    requires { ⌜ CanPlay legal (f .device) (k .held) (f .number) 1 (length (now line)) printRoom
+        (length (now out)) ⌝ }
     ensures { λ r. ⌜ TakenAs (tookBytes 0 (ended (readingWith f k (now (line .entry))))) (now (out .entry))
         r (now (line .exit)) (now (out .exit)) ⌝ }
 {
     let device = f.device;
-    let printed = end_line(device, f.number + 1, k, line, out);
+    let printed = end_line(legal, device, f.number + 1, k, line, out);
     let after = printed.device;
     let nothing = Begun::NOTHING;
     let floor = Floor {
@@ -74,8 +93,9 @@ fn play_kept(f: Floor, k: Begun, line: &mut [u8], out: &mut [u8]) -> Taken
 }
 
 // The bytes up to and including the first LF, or all.
-fn take_line(f: Floor, line: &mut [u8], bytes: &[u8], out: &mut [u8]) -> Taken
-    requires { ⌜ CanPlay (f .begun .held) (f .number) 1 (length (now line)) printRoom (length (now out)) ⌝ }
+fn take_line(legal: bool, f: Floor, line: &mut [u8], bytes: &[u8], out: &mut [u8]) -> Taken
+    requires { ⌜ CanPlay legal (f .device) (f .begun .held) (f .number) 1 (length (now line)) printRoom
+        (length (now out)) ⌝ }
     ensures { λ r. ⌜ TakenAs (lineTaken (readingIn f (now (line .entry))) (now (bytes .entry))) (now (out .entry))
         r (now (line .exit)) (now (out .exit)) ⌝ }
 {
@@ -92,7 +112,7 @@ fn take_line(f: Floor, line: &mut [u8], bytes: &[u8], out: &mut [u8]) -> Taken
             floor,
         };
     }
-    let played = play_kept(f, begun, line, out);
+    let played = play_kept(legal, f, begun, line, out);
     let floor = played.floor;
     Taken {
         taken: before + 1,
@@ -101,10 +121,28 @@ fn take_line(f: Floor, line: &mut [u8], bytes: &[u8], out: &mut [u8]) -> Taken
     }
 }
 
+// `to`, where its settings are those of `from`: they stay where they are, and only the rest of the record is copied.
+fn moved(from: Floor, to: Floor) -> Floor
+    requires { ⌜ from .device .settings ≡ to .device .settings ⌝ }
+    ensures { λ r. ⌜ r ≡ to ⌝ }
+{
+    let own = to.device.own;
+    let connection = to.device.connection;
+    let begun = to.begun;
+    let mut device = from.device;
+    device.own = own;
+    device.connection = connection;
+    Floor {
+        device,
+        number: to.number,
+        begun,
+    }
+}
+
 // The lines of `bytes`, while there is room to print another.
-pub fn play_on(f: Floor, line: &mut [u8], bytes: &[u8], out: &mut [u8]) -> Taken
-    requires { ⌜ CanPlay (f .begun .held) (f .number) (length (now bytes)) (length (now line)) printRoom
-        (length (now out)) ⌝ }
+pub fn play_on(legal: bool, f: Floor, line: &mut [u8], bytes: &[u8], out: &mut [u8]) -> Taken
+    requires { ⌜ CanPlay legal (f .device) (f .begun .held) (f .number) (length (now bytes))
+        (length (now line)) printRoom (length (now out)) ⌝ }
     ensures { λ r. ⌜ TakenAs (playedIn (length (now (out .entry))) (readingIn f (now (line .entry)))
         (now (bytes .entry))) (now (out .entry)) r (now (line .exit)) (now (out .exit)) ⌝ }
 {
@@ -112,10 +150,10 @@ pub fn play_on(f: Floor, line: &mut [u8], bytes: &[u8], out: &mut [u8]) -> Taken
     let mut at = 0;
     let mut used = 0;
     while at < bytes.len() {
-        let t = take_line(floor, line, &bytes[at..], &mut out[used..]);
+        let t = take_line(legal, floor, line, &bytes[at..], &mut out[used..]);
         at += t.taken;
         used += t.length;
-        floor = t.floor;
+        floor = moved(floor, t.floor);
         if out.len() - used < PRINT_ROOM {
             return Taken {
                 taken: at,
@@ -131,9 +169,10 @@ pub fn play_on(f: Floor, line: &mut [u8], bytes: &[u8], out: &mut [u8]) -> Taken
     }
 }
 
-// The line that has begun, where one has, played without its LF.
-fn close_log(f: Floor, line: &mut [u8], out: &mut [u8]) -> Taken
-    requires { ⌜ CanPlay (f .begun .held) (f .number) 1 (length (now line)) printRoom (length (now out)) ⌝ }
+// The line that has begun, where one has, played as if its LF had come.
+fn close_log(legal: bool, f: Floor, line: &mut [u8], out: &mut [u8]) -> Taken
+    requires { ⌜ CanPlay legal (f .device) (f .begun .held) (f .number) 1 (length (now line)) printRoom
+        (length (now out)) ⌝ }
     ensures { λ r. ⌜ TakenAs (tookBytes 0 (endOfInput (readingIn f (now (line .entry))))) (now (out .entry))
         r (now (line .exit)) (now (out .exit)) ⌝ }
 {
@@ -145,16 +184,23 @@ fn close_log(f: Floor, line: &mut [u8], out: &mut [u8]) -> Taken
             floor: f,
         };
     }
-    play_kept(f, begun, line, out)
+    let played = play_on(legal, f, line, b"\n", out);
+    let floor = played.floor;
+    Taken {
+        taken: 0,
+        length: played.length,
+        floor,
+    }
 }
 
 // That, and the last line.
-pub fn close_and_tell(f: Floor, line: &mut [u8], out: &mut [u8]) -> Taken
-    requires { ⌜ CanPlay (f .begun .held) (f .number) 1 (length (now line)) finishRoom (length (now out)) ⌝ }
+pub fn close_and_tell(legal: bool, f: Floor, line: &mut [u8], out: &mut [u8]) -> Taken
+    requires { ⌜ CanPlay legal (f .device) (f .begun .held) (f .number) 1 (length (now line)) finishRoom
+        (length (now out)) ⌝ }
     ensures { λ r. ⌜ TakenAs (tookBytes 0 (logFinished (readingIn f (now (line .entry))))) (now (out .entry))
         r (now (line .exit)) (now (out .exit)) ⌝ }
 {
-    let played = close_log(f, line, &mut out[0..PRINT_ROOM]);
+    let played = close_log(legal, f, line, &mut out[0..PRINT_ROOM]);
     let floor = played.floor;
     let used = played.length;
     let last = last::put_last(&mut out[used..], floor.device);

@@ -3,6 +3,7 @@ use crate::gather::Begun;
 use crate::playing;
 use crate::playing::PRINT_ROOM;
 use log::LINE_MOST;
+use record::legality;
 use record::setup;
 use record::types::Device;
 ghost use mathlib.Core.Path.{_≡_};
@@ -82,7 +83,7 @@ pub fn play(f: Floor, line: &mut [u8], bytes: &[u8], out: &mut [u8]) -> Stepped
             floor: f,
         };
     }
-    let played = playing::play_on(f, line, bytes, out);
+    let played = playing::play_on(legality::legal(f.device), f, line, bytes, out);
     let floor = played.floor;
     Stepped {
         number: 0,
@@ -107,7 +108,7 @@ pub fn finish(f: Floor, line: &mut [u8], out: &mut [u8]) -> Stepped
             floor: f,
         };
     }
-    let played = playing::close_and_tell(f, line, out);
+    let played = playing::close_and_tell(legality::legal(f.device), f, line, out);
     let floor = played.floor;
     Stepped {
         number: 0,

@@ -3,8 +3,8 @@
 use mathlib.Core.Path.{sym, ap, _∙_}
 use mathlib.Core.Bool.{not}
 use borrow.Author.Needs.{needs}
-use Rattle.text.proofs.Choices.{if-yes, if-no}
-use Rattle.record.specs.Record.{accepted}
+use borrow.Author.Tests.{not-false}
+use Rattle.text.proofs.Choices.{if-yes}
 use Rattle.clock.specs.Passing.{passed}
 use Rattle.clock.proofs.pass.pass.Statement.{statement}
 use Rattle.clock.proofs.pass.pass.Tie as tie
@@ -16,7 +16,5 @@ pass-spec =
     (tie.spec
     (λ c κs. search needs)
     (λ c. sym (if-yes _ _ (sym (ap not (c .before .legal .ensures)) ∙ c .if1 .taken)))
-    (λ c κs. search needs)
-    (λ c.
-    let legal = c .before .before in
-    ap accepted (c .later .ensures) ∙ sym (if-no _ _ (sym (ap not (legal .legal .ensures)) ∙ c .before .if1 .left))))
+    (λ c κs. let tested = c .before .legal in sym (tested .ensures) ∙ not-false (tested .result) (c .if1 .left))
+    (λ c. search needs))

@@ -1,117 +1,57 @@
--- `floor::event::call` meets its contract: each arm is one event, and more room changes nothing.
+-- `floor::event::call` meets its contract: a legal record is called on, and one that is not is refused with 1.
 -- Assumes nothing.
 use Prim.Native.Nat.{ℕ}
 use mathlib.Core.Path.{_≡_, refl, sym, ap, _∙_}
-use mathlib.Core.List.{List}
-use lib.ListN.{length}
 use denote.Ref.{now}
 use borrow.Author.Needs.{needs}
-use Rattle.text.specs.Words.{over}
+use Rattle.text.specs.Words.{if_then_else_}
 use Rattle.text.proofs.Carried.{carried}
+use Rattle.text.proofs.Choices.{if-yes, if-no}
 use Rattle.record.specs.declared.types.Device.{Device}
-use Rattle.record.specs.declared.types.Changed.{Changed}
-use Rattle.device.specs.declared.calls.Opened.{Opened}
-use Rattle.device.specs.declared.calls.Received.{Received}
-use Rattle.device.specs.Calls.{Result}
-use Rattle.floor.specs.declared.event.Called.{Called}
-use Rattle.log.specs.declared.Says.{Says}
+use Rattle.device.specs.Calls.{Result, refusedBy}
 use Rattle.floor.specs.Events.{eventOf}
 use Rattle.floor.specs.Playing.{did}
-use Rattle.floor.specs.Told.{calledOf}
-use Rattle.device.proofs.EnoughRoom.{opened-room, received-room, closing-quiet}
+use Rattle.floor.specs.Told.{isFormed, calledOf}
+use Rattle.floor.proofs.EventsLeave.{did-illegal}
 use Rattle.floor.proofs.event.call.Statement.{statement}
 use Rattle.floor.proofs.event.call.Tie as tie
 
--- the event that an arm stands for
-abbrev asked : tie.Start → Says → Result Device
-asked start says = did (start .args .d) (eventOf says (start .args .bytes .now))
+-- the record is not legal
+module _ (c : tie.Else1) where
+  abbrev start : tie.Start
+  start = c .before .before .before
 
-module _ (start : tie.Start) where
-  same : {says : Says} → start .args .says ≡ says → asked start (start .args .says) ≡ asked start says
-  same e = ap (asked start) e
+  refused : {n : ℕ} → (if isFormed (start .args .says) then 1 else 0) ≡ n
+      → did (start .args .d) (eventOf (start .args .says) (start .args .bytes .now)) ≡ refusedBy n (start .args .d)
+  refused e =
+      did-illegal (start .args .d) (start .args .says) (start .args .bytes .now) (sym (start .pre .1) ∙ c .if1 .left)
+      ∙ ap (λ (n : ℕ). refusedBy n (start .args .d)) e
 
-abbrev byOpening : Opened → Called
-byOpening o = record { number = o .number; length = o .length; device = o .device }
+may-call : tie.Need-call-legal-requires
+may-call c κs =
+    let yes = c .before in
+    let start = yes .before .before .before in
+    (start .pre .0, sym (start .pre .1) ∙ yes .if1 .taken)
 
-abbrev byReceiving : Received → Called
-byReceiving r = record { number = r .number; length = r .length; device = r .device }
+formed : tie.Need-returns-2
+formed c =
+    let asked = c .before .before in
+    let illegal = asked .before in
+    let says = if-yes _ _ (sym (asked .is-formed .ensures) ∙ c .before .if2 .taken) in
+    carried calledOf (λ (r : Result Device). r .reply) (now (start illegal .args .out)) (refused illegal says)
+    (c .silent .ensures) refl
 
-abbrev byChange : Changed → Called
-byChange c = record { number = c .number; length = 0; device = c .device }
-
-opening : tie.Need-returns
-unfolding did
-opening c =
-    let called = c .before .before .before in
-    let arm = called .before .before .before in
-    let start = let shared = arm .before .before in shared .before .before in
-    let out = now (start .args .out) in
-    let given = arm .says .given in
-    carried calledOf (λ (r : Result Device). r .reply) out
-    (same start (given .1) ∙ opened-room (start .args .d) (length out) (start .pre) _)
-    (ap byOpening (called .«open» .ensures .0)) (called .«open» .ensures .1)
-
-receiving : tie.Need-returns-2
-unfolding did
-receiving c =
-    let called = c .before .before .before in
-    let arm = called .before .before in
-    let start = let shared = arm .before .before in shared .before .before in
-    let out = now (start .args .out) in
-    carried calledOf (λ (r : Result Device). r .reply) out
-    (same start (arm .enum-told .given .1)
-    ∙ received-room (start .args .d) (length out) (start .pre) (start .args .bytes .now))
-    (ap byReceiving (called .receive .ensures .0)) (called .receive .ensures .1)
-
-passing : tie.Need-returns-3
-unfolding did
-passing c =
-    let called = c .before in
-    let arm = called .before .before in
-    let start = let shared = arm .before .before in shared .before .before in
-    carried calledOf (λ (r : Result Device). r .reply) (now (start .args .out)) (same start (arm .says2 .given .1))
-    (ap byChange (called .pass .ensures)) refl
-
-closing : tie.Need-returns-4
-unfolding did
-closing c =
-    let called = c .before in
-    let arm = called .before in
-    let start = let shared = arm .before .before in shared .before .before in
-    let d = start .args .d in
-    let none = sym (closing-quiet d) in
-    let told : _≡_ {A = Called} _ _ = λ i. record {
-      number = called .close .ensures i .number;
-      length = length (none i);
-      device = called .close .ensures i .device;
-    } in
-    carried calledOf (λ (r : Result Device). r .reply) (now (start .args .out))
-    (same start (arm .enum-told2 .given .1)) told (ap (λ (r : List ℕ). over r (now (start .args .out))) none)
-
-nothing : tie.Need-returns-5
-unfolding did
-nothing c =
-    let start = let shared = c .before .before in shared .before .before in
-    carried calledOf (λ (r : Result Device). r .reply) (now (start .args .out)) (same start (c .enum-told3 .given .1))
-    refl refl
+unformed : tie.Need-returns-3
+unformed c =
+    let asked = c .before .before in
+    let illegal = asked .before in
+    let says = if-no _ _ (sym (asked .is-formed .ensures) ∙ c .before .if2 .left) in
+    carried calledOf (λ (r : Result Device). r .reply) (now (start illegal .args .out)) (refused illegal says)
+    (c .silent2 .ensures) refl
 
 pub call-spec : {M : Type 1} → statement M
 call-spec =
     tie.close
     (tie.spec
-    (λ c. search needs)
-    (λ c κs. search needs)
-    (λ c. search needs)
-    (λ c κs. search needs)
-    (λ c. search needs)
-    (λ c κs. search needs)
-    (λ c. search needs)
-    (λ c κs. search needs)
-    (λ c. search needs)
-    (λ c. search needs)
-    opening
-    (λ c. search needs)
-    receiving
-    passing
-    closing
-    nothing)
+    may-call (λ c. search needs) (λ c. search needs) (λ c κs. search needs) (λ c κs. search needs) formed
+    (λ c κs. search needs) unformed)

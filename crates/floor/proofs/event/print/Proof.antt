@@ -23,7 +23,7 @@ use Rattle.floor.proofs.event.print.Tie as tie
 number-fits : tie.Need-put-long-requires
 number-fits c κs =
     let start = let known = c .before .before in known .before in
-    omega (arith, long-at-most-20 (start .args .number), start .pre)
+    omega (arith, long-at-most-20 (start .args .number), start .pre .0)
 
 -- the number stands in memory
 module _ (c : tie.After-put-long) where
@@ -45,7 +45,7 @@ module _ (c : tie.After-put-long) where
 space-fits : tie.Need-put-requires
 space-fits c κs =
     let numbered = let known = c .before .before in known .before .before in
-    omega (arith, short numbered, start numbered .pre, numbered .put-long .ensures .0, numbered .put-long .kept .0)
+    omega (arith, short numbered, start numbered .pre .0, numbered .put-long .ensures .0, numbered .put-long .kept .0)
 
 -- and the space after it
 module _ (c : tie.After-put) where
@@ -71,7 +71,7 @@ module _ (c : tie.After-put) where
   fits = omega (arith, place, short numbered)
 
   room-from : at + replyRoom ≤ length (c .put .last .0)
-  room-from = omega (arith, fits, room, start numbered .pre)
+  room-from = omega (arith, fits, room, start numbered .pre .0)
 
 place-fits : tie.Need-add-at
 place-fits c = let put = c .before .before in omega (arith, short (numbered put), numbered put .put-long .ensures .0)
@@ -79,7 +79,7 @@ place-fits c = let put = c .before .before in omega (arith, short (numbered put)
 reply-fits : tie.Need-call-requires
 reply-fits c κs =
     let put = c .before .before .before in
-    omega (arith, part-long (put .put .last .0) (at put), room-from put)
+    (omega (arith, part-long (put .put .last .0) (at put), room-from put), start (numbered put) .pre .1)
 
 -- the reply stands after them
 module _ (c : tie.After-call) where
@@ -97,7 +97,7 @@ module _ (c : tie.After-call) where
 
   -- the part that is lent, as the call leaves it, and the whole memory
   abbrev part-left : List ℕ
-  part-left = c .call .last .1 .1 .1 .0
+  part-left = c .call .last .1 .1 .1 .1 .0
 
   abbrev left : List ℕ
   left = leftFrom lent (at put) part-left
@@ -106,7 +106,7 @@ module _ (c : tie.After-call) where
       (out (numbered put)) (at put) left
   replied =
       let wrote : Put lent reply (at put) (length lent) left =
-      part-put lent reply (at put) (omega (arith, room-from put)) (c .call .ensures .1) (c .call .kept .1 .1 .1 .0) in
+      part-put lent reply (at put) (omega (arith, room-from put)) (c .call .ensures .1) (c .call .kept .1 .1 .1 .1 .0) in
       let text = longDigits (begun .args .number) ++ ascii " " in
       let headed-long : at put ≡ 0 + length text = omega (arith, place put, long (numbered put)) in
       record {

@@ -23,6 +23,7 @@ log-lent : tie.Need-close-log-requires
 log-lent c κs =
     let s = let known = c .before .before in known .before .before in
     record {
+      tested = s .pre .tested;
       kept = s .pre .kept;
       lent = s .pre .lent;
       counted = s .pre .counted;
@@ -42,7 +43,7 @@ module _ (c : tie.After-close-log) where
 
   -- the memory to print in, as closing leaves its first part, and the whole of it
   abbrev part-left : List ℕ
-  part-left = c .close-log .last .1 .1 .0
+  part-left = c .close-log .last .1 .1 .1 .0
 
   abbrev left : List ℕ
   left = part-left ++ drop printRoom out
@@ -50,7 +51,7 @@ module _ (c : tie.After-close-log) where
   wrote : Put out (shut .reply) 0 printRoom left
   wrote =
       first-put out (shut .reply) printRoom (omega (arith, start .pre .room-left)) (c .close-log .ensures .printed)
-      (c .close-log .kept .1 .1 .0)
+      (c .close-log .kept .1 .1 .1 .0)
 
   abbrev used : ℕ
   used = c .close-log .result .length
@@ -103,7 +104,7 @@ module _ (c : tie.After-put-last) where
       let place : used log ≡ 0 + length (shut log .reply) = omega (arith, counted log) in
       wrote-last .stored ∙ sets-then (out log) 0 (shut log .reply) (told log) (wrote log .stored) place
 
-length-fits : tie.Need-add-t11
+length-fits : tie.Need-add-t12
 length-fits c =
     let p = c .before .before in
     omega (arith, size p, wrote-last p .fits, wrote (log p) .long, start (log p) .good)
@@ -138,6 +139,6 @@ close-and-tell-spec =
     (λ c. search needs)
     last-lent
     length-fits
-    (λ c. log (c .before .before) .close-log .kept .1 .0)
+    (λ c. log (c .before .before) .close-log .kept .1 .1 .0)
     (λ c. let p = c .before .before in wrote-last p .long ∙ wrote (log p) .long)
     returns)

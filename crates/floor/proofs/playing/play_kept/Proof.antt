@@ -19,7 +19,13 @@ number-fits c = omega (arith, start c .pre .counted)
 lent : tie.Need-end-line-requires
 lent c κs =
     let can = start (c .before .before) .pre in
-    record { kept = can .kept; lent = can .lent; counted = omega (arith, can .counted); room-left = can .room-left }
+    record {
+      tested = can .tested;
+      kept = can .kept;
+      lent = can .lent;
+      counted = omega (arith, can .counted);
+      room-left = can .room-left;
+    }
 
 -- the place after the call
 module _ (c : tie.After-end-line) where
@@ -29,7 +35,7 @@ module _ (c : tie.After-end-line) where
 abbrev called : tie.After-struct-known2 → tie.After-end-line
 called c = let known = c .before .before .before in known .before .before .before
 
-number-again : tie.Need-add-t10
+number-again : tie.Need-add-t11
 number-again c = omega (arith, begun (called c) .pre .counted)
 
 plays : tie.Need-returns

@@ -1,7 +1,7 @@
 -- `floor::playing::play_on` meets its contract: line after line is played, and what was printed stands in memory.
 -- Assumes nothing.
 use Prim.Native.Nat.{ℕ, _-_, _≤_, _+_}
-use mathlib.Core.Path.{_≡_}
+use mathlib.Core.Path.{_≡_, sym}
 use mathlib.Core.List.{List}
 use native.Mathlib.Omega.{arith}
 use lib.ListN.{length}
@@ -15,11 +15,11 @@ use Rattle.floor.proofs.playing.play_on.Statement.{statement}
 use Rattle.floor.proofs.playing.play_on.Tie as tie
 
 abbrev Inv : tie.InvT-loop
-Inv line₀ bytes out₀ floor₀ at₀ used₀ line out floor at used =
+Inv legal line₀ bytes out₀ floor₀ at₀ used₀ line out floor at used =
     PlayedTo (readingIn floor₀ line₀) bytes out₀ (readingIn floor line) out at used
 
 abbrev μ : tie.MeasureT-loop
-μ line₀ bytes out₀ floor₀ at₀ used₀ line out floor at used = length bytes - at
+μ legal line₀ bytes out₀ floor₀ at₀ used₀ line out floor at used = length bytes - at
 
 -- a turn of the loop
 module _ (turn : tie.At-loop Inv μ) where
@@ -56,7 +56,8 @@ line-lent : tie.Need-take-line-requires Inv μ
 line-lent c κs =
     let inside = c .before .before .before in
     let t = inside .before in
-    can-take (begun t) (bytes t) (lent t) (played t) (inside .loop-test .taken) (start t .pre .lent)
+    can-take (begun t) (bytes t) (lent t) (played t) (inside .loop-test .taken)
+    (start t .pre .tested) (start t .pre .lent)
 
 -- a line is taken
 module _ (c : tie.After-take-line Inv μ) where
@@ -68,16 +69,16 @@ module _ (c : tie.After-take-line Inv μ) where
 
   -- the line's memory and the part to print in, as the call leaves them
   abbrev line-left : List ℕ
-  line-left = c .take-line .last .1 .0
+  line-left = c .take-line .last .1 .1 .0
 
   abbrev part-left : List ℕ
-  part-left = c .take-line .last .1 .1 .1 .0
+  part-left = c .take-line .last .1 .1 .1 .1 .0
 
-  told : Turn (begun turn) (bytes turn) (lent turn) (turn .loop .at) (turn .loop .used) (c .take-line .result) line-left
-      (leftFrom (turn .loop .out) (turn .loop .used) part-left)
+  told : Turn (begun turn) (bytes turn) (lent turn) (reading turn) (turn .loop .at) (turn .loop .used)
+      (c .take-line .result) line-left (leftFrom (turn .loop .out) (turn .loop .used) part-left)
   told =
       turn-told (begun turn) (bytes turn) (lent turn) (played turn) (test .loop-test .taken) (c .take-line .ensures)
-      (c .take-line .kept .1 .1 .1 .0)
+      (c .take-line .kept .1 .1 .1 .1 .0)
 
 at-fits : tie.Need-add-at Inv μ
 at-fits c =
@@ -89,8 +90,13 @@ used-fits c =
     let called = let known = c .before .before .before in known .before .before .before in
     omega (arith, told called .fits, start (turn called) .good)
 
+same-settings : tie.Need-moved-requires Inv μ
+same-settings c κs =
+    let called = let known = c .before .before .before in known .before .before .before in
+    sym (told called .settings)
+
 -- past the line: the place before the test
-abbrev before-test : tie.After-floor Inv μ → tie.After-take-line Inv μ
+abbrev before-test : tie.After-moved Inv μ → tie.After-take-line Inv μ
 before-test c = let known = c .before .before .before in let lines = known .before .before in lines .before .before
 
 room-left : tie.Need-sub-if1 Inv μ
@@ -99,7 +105,7 @@ room-left c = let called = before-test c in omega (arith, told called .fits, tol
 no-room : tie.Need-returns Inv μ
 no-room c =
     let called = before-test (c .before) in
-    told called .stops (omega (arith, c .if1 .taken, told called .long))
+    told called .stops (c .before .moved .ensures) (omega (arith, c .if1 .taken, told called .long))
 
 falls : tie.Need-loop-less Inv μ
 falls c =
@@ -109,7 +115,7 @@ falls c =
 again : tie.Need-loop-again Inv μ
 again c =
     let called = before-test (c .before) in
-    told called .goes-on (omega (arith, c .if1 .left, told called .long))
+    told called .goes-on (c .before .moved .ensures) (omega (arith, c .if1 .left, told called .long))
 
 all-taken : tie.Need-returns-2 Inv μ
 all-taken c = let t = c .before in all-played (begun t) (bytes t) (lent t) (played t) (c .loop-test .left)
@@ -130,6 +136,7 @@ play-on-spec =
     line-lent
     at-fits
     used-fits
+    same-settings
     room-left
     (λ c. told (before-test (c .before)) .line-long)
     (λ c. told (before-test (c .before)) .long)

@@ -79,6 +79,7 @@ play-lent c κs =
     let can = start got .pre in
     let held = ap (λ (g : Gathered). g .begun .held) (got .gather .ensures .0) in
     record {
+      tested = can .tested;
       kept = omega (arith, line-in-memory (begun got .kept) (bytes got) (can .kept) .held, held);
       lent = omega (arith, got .gather .kept .1 .0, can .lent);
       counted = can .counted;
@@ -95,10 +96,10 @@ module _ (c : tie.After-play-kept) where
 
   -- the line's memory and what is printed, as they are left
   abbrev line-left : List ℕ
-  line-left = c .play-kept .last .1 .1 .0
+  line-left = c .play-kept .last .1 .1 .1 .0
 
   abbrev out-left : List ℕ
-  out-left = c .play-kept .last .1 .1 .1 .0
+  out-left = c .play-kept .last .1 .1 .1 .1 .0
 
   played : TakenAs (tookBytes 0 (ended (whole gets))) (out (start gets)) (c .play-kept .result) line-left out-left
   played =
@@ -114,7 +115,7 @@ module _ (c : tie.After-play-kept) where
 abbrev after-line : tie.After-floor → tie.After-play-kept
 after-line c = let known = c .before .before .before in known .before .before
 
-count-fits : tie.Need-add-t19
+count-fits : tie.Need-add-t20
 count-fits c =
     let p = after-line c in
     let got = gets p in

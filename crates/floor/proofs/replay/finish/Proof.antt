@@ -30,14 +30,15 @@ refused c =
 
 lent : tie.Need-close-and-tell-requires
 lent c κs =
-    let accepted = c .before .before in
-    no-refusal _ _ _ _ _ _ (sym (accepted .before .refusal-of .ensures) ∙ accepted .if1 .left)
+    let tested = c .before .before in
+    let accepted = tested .before in
+    no-refusal (tested .legal .ensures) _ _ _ _ _ _ (sym (accepted .before .refusal-of .ensures) ∙ accepted .if1 .left)
 
 tells : tie.Need-returns-2
 unfolding endedAt
 tells c =
     let called = let known = c .before .before .before in known .before .before in
-    let accepted = called .before .before .before in
+    let accepted = called .before .before .before .before in
     let asked = accepted .before in
     let closed = called .close-and-tell .ensures in
     let made : _≡_ {A = Stepped} _ _ = λ i. record {
@@ -54,4 +55,4 @@ tells c =
 pub finish-spec : {M : Type 1} → statement M
 finish-spec =
     tie.close
-    (tie.spec (λ c κs. search needs) refused lent (λ c. search needs) (λ c. search needs) tells)
+    (tie.spec (λ c κs. search needs) refused (λ c κs. search needs) lent (λ c. search needs) (λ c. search needs) tells)

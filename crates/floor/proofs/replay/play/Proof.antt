@@ -39,14 +39,15 @@ refused c =
 
 lent : tie.Need-play-on-requires
 lent c κs =
-    let accepted = c .before .before in
-    no-refusal _ _ _ _ _ _ (sym (accepted .before .refusal-of .ensures) ∙ accepted .if1 .left)
+    let tested = c .before .before in
+    let accepted = tested .before in
+    no-refusal (tested .legal .ensures) _ _ _ _ _ _ (sym (accepted .before .refusal-of .ensures) ∙ accepted .if1 .left)
 
 plays : tie.Need-returns-2
 unfolding stepped
 plays c =
     let called = let known = c .before .before .before in known .before .before in
-    let accepted = called .before .before .before in
+    let accepted = called .before .before .before .before in
     let asked = accepted .before in
     let played = called .play-on .ensures in
     let told : _≡_ {A = Stepped} _ _ = λ i. record {
@@ -63,4 +64,4 @@ plays c =
 pub play-spec : {M : Type 1} → statement M
 play-spec =
     tie.close
-    (tie.spec (λ c κs. search needs) refused lent (λ c. search needs) (λ c. search needs) plays)
+    (tie.spec (λ c κs. search needs) refused (λ c κs. search needs) lent (λ c. search needs) (λ c. search needs) plays)
