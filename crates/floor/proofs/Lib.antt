@@ -8,7 +8,6 @@ mod LinesPlayed
 mod LoopPlayed
 mod Refusals
 mod Carrying
-mod LampsShown
 mod Cuts
 mod KeptLine
 mod Replayed

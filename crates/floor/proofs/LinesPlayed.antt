@@ -8,7 +8,7 @@ use Prim.Native.Nat.{ℕ, _+_, _-_, _≤_}
 use Prim.Native.Char.{code}
 use mathlib.Core.Path.{_≡_, refl, sym, ap, _∙_, subst}
 use mathlib.Core.Bool.{true}
-use mathlib.Core.List.{List, [], _∷_, _++_, append-nil, foldl}
+use mathlib.Core.List.{List, [], _∷_, _++_, append-assoc, append-nil, foldl}
 use native.Mathlib.Nat.{zero-add, sub-zero}
 use native.Mathlib.Omega.{arith}
 use lib.ListN.{length, drop, length-set}
@@ -40,6 +40,12 @@ counted t e = ap (λ (n : ℕ). tookBytes n (record { state = t .state; reply = 
 
 pub added-none : (t : Took Reading) → t ≡ addedTo 0 [] t
 added-none t = counted t (sym (zero-add (t .taken)))
+
+pub added-twice : (m n : ℕ) (r q : List ℕ) (t : Took Reading)
+    → addedTo m r (addedTo n q t) ≡ addedTo (m + n) (r ++ q) t
+added-twice m n r q t =
+    let sum : m + (n + t .taken) ≡ m + n + t .taken = omega arith in
+    (λ i. record { taken = sum i; state = t .state; reply = sym (append-assoc r q (t .reply)) i })
 
 none-onward : (left : ℕ) (s : Reading) → onward left s [] ≡ tookBytes 0 (unanswered s)
 unfolding playedIn

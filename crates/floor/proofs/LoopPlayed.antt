@@ -5,7 +5,7 @@
 use Prim.Native.Nat.{ℕ, _+_, _-_, _≤_, _<_, _^_}
 use mathlib.Core.Path.{_≡_, refl, sym, ap, _∙_, subst}
 use mathlib.Core.Bool.{Bool}
-use mathlib.Core.List.{List, [], _++_, append-assoc, append-nil}
+use mathlib.Core.List.{List, [], _++_, append-nil}
 use native.Mathlib.Nat.{add-zero, sub-zero}
 use native.Mathlib.Omega.{arith}
 use lib.ListN.{length, take, drop, length-append, length-drop, drop-of-length-le}
@@ -22,7 +22,7 @@ use Rattle.floor.specs.Reading.{Reading, printRoom, lineTaken, playedIn}
 use Rattle.floor.specs.Calls.{readingIn, floorOf, lineTakenOf, CanPlay, TakenAs}
 use Rattle.floor.proofs.Carrying.{carry}
 use Rattle.floor.proofs.PartsPut.{partFrom, leftFrom, Put, part-long, part-put}
-use Rattle.floor.proofs.LinesPlayed.{addedTo, onward, added-none, line-first, LineTold, line-told}
+use Rattle.floor.proofs.LinesPlayed.{addedTo, onward, added-none, added-twice, line-first, LineTold, line-told}
 
 module _ (s : Reading) (bs out : List ℕ) where
   pub record PlayedTo (now : Reading) (m : List ℕ) (at used : ℕ) : Type 0 where
@@ -100,7 +100,7 @@ module _ (s : Reading) (bs out : List ℕ) where
     onwards =
         p .rest
         ∙ ap (addedTo at (p .printed)) (line-first (length out - used) (omega (arith, p .room)) now bytes)
-        ∙ moved (onward (length out - used - length (line .reply)) (line .state) (drop (line .taken) bytes))
+        ∙ added-twice at (line .taken) (p .printed) (line .reply) _
         ∙ (λ i. addedTo (at + line .taken) text (onward (left i) (line .state) (rest-of i)))
       where
         left : length out - used - length (line .reply) ≡ length out - (used + length (line .reply))
@@ -108,16 +108,6 @@ module _ (s : Reading) (bs out : List ℕ) where
 
         rest-of : drop (line .taken) bytes ≡ drop (at + line .taken) bs
         rest-of = drop-drop (line .taken) at bs
-
-        moved : (t : Took Reading) → addedTo at (p .printed) (addedTo (line .taken) (line .reply) t)
-            ≡ addedTo (at + line .taken) text t
-        moved t =
-            let sum : at + (line .taken + t .taken) ≡ at + line .taken + t .taken = omega arith in
-            (λ i. record {
-              taken = sum i;
-              state = t .state;
-              reply = sym (append-assoc (p .printed) (line .reply) (t .reply)) i;
-            })
 
     -- no room for another line: that is all
     all-printed : length out - (used + length (line .reply)) < printRoom

@@ -17,8 +17,9 @@ use Rattle.record.specs.declared.types.Line.{Line}
 use Rattle.stream.specs.Machine.{Out, unanswered, replyThen}
 use Rattle.stream.proofs.LinesSpelt.{run-none, run-more}
 use Rattle.log.specs.Lines.{lineMost}
+use Rattle.log.specs.LastLine.{lastLine}
 use Rattle.floor.specs.Events.{LogEvent, event, linesFrom, events}
-use Rattle.floor.specs.Playing.{did, printed, stateAfter, linesPrinted, lastLine, sampleDevice, replayed}
+use Rattle.floor.specs.Playing.{did, printed, stateAfter, linesPrinted, sampleDevice, replayed}
 use Rattle.floor.specs.Reading.{Reading, keptOf, nothingBegun, keptWith, lineAfter, more, ended, logRun}
 use Rattle.floor.specs.Reading.{endOfInput}
 use Rattle.floor.specs.Reading.{logFinished, fresh}
@@ -32,8 +33,8 @@ record Plays (d : Device) (n : ℕ) (es : List LogEvent) (o : Out Reading) : Typ
   state : endOfInput (o .state) .state .device ≡ stateAfter d es
 
 -- one line, and what follows it
-then-plays : (d : Device) (n : ℕ) (e : LogEvent) (es : List LogEvent) (o : Out Reading) → Plays (did d e .device) (n + 1) es o
-    → Plays d n (e ∷ es) (replyThen (printed (n + 1) e (did d e)) o)
+then-plays : (d : Device) (n : ℕ) (e : LogEvent) (es : List LogEvent) (o : Out Reading)
+    → Plays (did d e .device) (n + 1) es o → Plays d n (e ∷ es) (replyThen (printed (n + 1) e (did d e)) o)
 unfolding linesPrinted stateAfter
 then-plays d n e es o p = record {
   prints = append-assoc (printed (n + 1) e (did d e)) (o .reply) (endOfInput (o .state) .reply)

@@ -31,7 +31,7 @@ use Rattle.floor.specs.declared.replay.Floor.{Floor}
 use Rattle.floor.specs.declared.replay.Stepped.{Stepped}
 use Rattle.floor.specs.declared.playing.Taken.{Taken}
 use Rattle.log.specs.Lines.{lineMost}
-use Rattle.floor.specs.Playing.{lastRoom}
+use Rattle.log.specs.LastLine.{lastRoom}
 use Rattle.floor.specs.Reading.{Reading, keptOf, begunOf, printRoom, playedIn, logFinished}
 
 abbrev pub readingWith : Floor → Begun → List ℕ → Reading

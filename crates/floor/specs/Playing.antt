@@ -6,7 +6,6 @@
 --   printed n e r       the line number n, a space, that, and LF
 --   stateAfter d es     the device after these events
 --   linesPrinted n d es what is printed for them, the first being line n + 1
---   lastLine d          the last line: power, and the seconds of each lamp; of those parts, lastLineOf
 --   sampleDevice        01's sample set-up: W 20, C 60, one lamp at 0 s, input 11, texts empty, no password
 --   replayed log        all that is printed for a log
 -- Assumes nothing.
@@ -23,6 +22,7 @@ use Rattle.record.specs.declared.types.Device.{Device}
 use Rattle.record.specs.declared.types.Changed.{Changed}
 use Rattle.clock.specs.Passing.{passed}
 use Rattle.device.specs.Calls.{Result, made, replyRoom, received, openedBy, closedBy}
+use Rattle.log.specs.LastLine.{lastLine}
 use Rattle.floor.specs.Events.{LogEvent, opens, receives, passes, closes, noSuch, events}
 
 abbrev pub changedTo : Changed → Result Device
@@ -58,24 +58,6 @@ stateAfter d (e ∷ es) = stateAfter (did d e .device) es
 unfoldable pub linesPrinted : ℕ → Device → List LogEvent → List ℕ
 linesPrinted n d [] = []
 linesPrinted n d (e ∷ es) = printed (n + 1) e (did d e) ++ linesPrinted (n + 1) (did d e .device) es
-
-abbrev pub lampsShown : List ℕ → List ℕ
-lampsShown [] = []
-lampsShown (x ∷ xs) = ascii " " ++ digits x ++ lampsShown xs
-
--- so much room the lamps' seconds never need more than: a space and ten digits for each of eight; and the last line
-abbrev pub lampsRoom : ℕ
-lampsRoom = 88
-
-abbrev pub lastRoom : ℕ
-lastRoom = 111
-
-unfoldable pub lastLineOf : ℕ → List ℕ → List ℕ
-lastLineOf power lamps =
-    ascii "power " ++ digits power ++ ascii " lamps" ++ lampsShown lamps ++ ascii "\n"
-
-abbrev pub lastLine : Device → List ℕ
-lastLine d = lastLineOf (d .own .power) (take (d .settings .«lamp_count») (d .own .lamps))
 
 unfoldable pub sampleDevice : Device
 sampleDevice = setUp (wantedOf [] [] [] [] [] (ascii "11") (0 ∷ []) 20 60) .device

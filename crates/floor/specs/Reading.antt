@@ -30,8 +30,9 @@ use Rattle.floor.specs.declared.gather.Begun.{Begun}
 use Rattle.log.specs.declared.Says.{Says}
 use Rattle.log.specs.declared.Says.the-variants.{NoSuch}
 use Rattle.log.specs.Lines.{lineMost, lineSaid}
+use Rattle.log.specs.LastLine.{lastLine}
 use Rattle.floor.specs.Events.{LogEvent, noSuch, event}
-use Rattle.floor.specs.Playing.{did, printed, lastLine, sampleDevice}
+use Rattle.floor.specs.Playing.{did, printed, sampleDevice}
 
 pub record Reading : Type 0 where
   pub device : Device

@@ -1,6 +1,6 @@
 // The floor log played back (02, L1).
+mod closing;
 pub mod event;
 pub mod gather;
-pub mod last;
 mod playing;
 pub mod replay;

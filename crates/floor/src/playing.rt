@@ -3,7 +3,6 @@ use crate::event;
 use crate::event::Printed;
 use crate::gather;
 use crate::gather::Begun;
-use crate::last;
 use crate::replay::Floor;
 use log::Says;
 use record::types::Device;
@@ -12,9 +11,9 @@ ghost use Prim.Native.Nat.{_<_, min};
 ghost use lib.ListN.{length};
 ghost use Rattle.stream.specs.Machine.{tookBytes};
 ghost use Rattle.floor.specs.Reading.{printRoom, keptOf, keptSaid, keptEvent, lineAfter, ended, lineTaken};
-ghost use Rattle.floor.specs.Reading.{playedIn, endOfInput, logFinished};
+ghost use Rattle.floor.specs.Reading.{playedIn};
 ghost use Rattle.floor.specs.Told.{PrintedAs};
-ghost use Rattle.floor.specs.Calls.{readingIn, readingWith, finishRoom, CanPlay, TakenAs};
+ghost use Rattle.floor.specs.Calls.{readingIn, readingWith, CanPlay, TakenAs};
 
 pub const PRINT_ROOM: usize = 157;
 
@@ -165,48 +164,6 @@ pub fn play_on(legal: bool, f: Floor, line: &mut [u8], bytes: &[u8], out: &mut [
     Taken {
         taken: at,
         length: used,
-        floor,
-    }
-}
-
-// The line that has begun, where one has, played as if its LF had come.
-fn close_log(legal: bool, f: Floor, line: &mut [u8], out: &mut [u8]) -> Taken
-    requires { ⌜ CanPlay legal (f .device) (f .begun .held) (f .number) 1 (length (now line)) printRoom
-        (length (now out)) ⌝ }
-    ensures { λ r. ⌜ TakenAs (tookBytes 0 (endOfInput (readingIn f (now (line .entry))))) (now (out .entry))
-        r (now (line .exit)) (now (out .exit)) ⌝ }
-{
-    let begun = f.begun;
-    if !(begun.overlong | (1 <= begun.held)) {
-        return Taken {
-            taken: 0,
-            length: 0,
-            floor: f,
-        };
-    }
-    let played = play_on(legal, f, line, b"\n", out);
-    let floor = played.floor;
-    Taken {
-        taken: 0,
-        length: played.length,
-        floor,
-    }
-}
-
-// That, and the last line.
-pub fn close_and_tell(legal: bool, f: Floor, line: &mut [u8], out: &mut [u8]) -> Taken
-    requires { ⌜ CanPlay legal (f .device) (f .begun .held) (f .number) 1 (length (now line)) finishRoom
-        (length (now out)) ⌝ }
-    ensures { λ r. ⌜ TakenAs (tookBytes 0 (logFinished (readingIn f (now (line .entry))))) (now (out .entry))
-        r (now (line .exit)) (now (out .exit)) ⌝ }
-{
-    let played = close_log(legal, f, line, &mut out[0..PRINT_ROOM]);
-    let floor = played.floor;
-    let used = played.length;
-    let last = last::put_last(&mut out[used..], floor.device);
-    Taken {
-        taken: 0,
-        length: used + last,
         floor,
     }
 }

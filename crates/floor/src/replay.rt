@@ -1,4 +1,5 @@
 // A log, handed over in any parts: what is printed for it, and the device that it leaves.
+use crate::closing;
 use crate::gather::Begun;
 use crate::playing;
 use crate::playing::PRINT_ROOM;
@@ -108,7 +109,7 @@ pub fn finish(f: Floor, line: &mut [u8], out: &mut [u8]) -> Stepped
             floor: f,
         };
     }
-    let played = playing::close_and_tell(legality::legal(f.device), f, line, out);
+    let played = closing::close_and_tell(legality::legal(f.device), f, line, out);
     let floor = played.floor;
     Stepped {
         number: 0,

@@ -1,1 +1,3 @@
 pub mod Forms
+mod LampsShown
+pub mod LastLineEnds

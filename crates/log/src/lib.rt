@@ -1,4 +1,6 @@
-// What a line of a log says (02, L1).
+// What a line of a log says, and the last line that is printed for a log (02, L1).
+pub mod last;
+
 ghost use mathlib.Core.Path.{_≡_};
 ghost use Rattle.digest.specs.Hex.{isHexDigit};
 ghost use Rattle.log.specs.Lines.{randomSaid, secondsSaid, formSaid, lineSaid};

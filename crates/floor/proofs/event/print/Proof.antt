@@ -106,7 +106,8 @@ module _ (c : tie.After-call) where
       (out (numbered put)) (at put) left
   replied =
       let wrote : Put lent reply (at put) (length lent) left =
-      part-put lent reply (at put) (omega (arith, room-from put)) (c .call .ensures .1) (c .call .kept .1 .1 .1 .1 .0) in
+      part-put lent reply (at put) (omega (arith, room-from put)) (c .call .ensures .1)
+      (c .call .kept .1 .1 .1 .1 .0) in
       let text = longDigits (begun .args .number) ++ ascii " " in
       let headed-long : at put ≡ 0 + length text = omega (arith, place put, long (numbered put)) in
       record {
@@ -129,7 +130,8 @@ called c = let placed = c .before .before in placed .before .before .before
 end-fits : tie.Need-put-ending-requires
 end-fits c κs =
     let k = called c in
-    ending-fits _ _ _ _ _ (replied k) (k .call .ensures .0) (c .is-formed .ensures) (c .before .before .last-place .ensures)
+    ending-fits _ _ _ _ _ (replied k) (k .call .ensures .0) (c .is-formed .ensures)
+    (c .before .before .last-place .ensures)
 
 same : tie.Need-same-length
 same c = let put = c .before .before .before in put .put-ending .kept .0 ∙ replied (called (put .before)) .long

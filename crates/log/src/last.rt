@@ -1,4 +1,4 @@
-// The last line that is printed: power, and the seconds of each lamp.
+// The last line that is printed for a log: power, and the seconds of each lamp.
 use record::types::Device;
 use record::types::LAMPS_MOST;
 ghost use mathlib.Core.Path.{_≡_};
@@ -6,7 +6,7 @@ ghost use Prim.Native.Nat.{_+_, _≤_};
 ghost use lib.ListN.{length, take};
 ghost use lib.Seq.{sets};
 ghost use Rattle.text.specs.Words.{over};
-ghost use Rattle.floor.specs.Playing.{lampsShown, lampsRoom, lastRoom, lastLineOf, lastLine};
+ghost use Rattle.log.specs.LastLine.{lampsShown, lampsRoom, lastRoom, lastLineOf, lastLine};
 
 // A space and the seconds of each lamp, from the place `at` on; the place after them.
 fn put_lamps(out: &mut [u8], at: usize, lamps: [u32; LAMPS_MOST], count: usize) -> usize

@@ -1,4 +1,4 @@
--- `floor::last::put_line` meets its contract: each part stands after the one before it.
+-- `log::last::put_line` meets its contract: each part stands after the one before it.
 -- Assumes nothing.
 use Prim.Native.Nat.{ℕ, _+_, _≤_}
 use mathlib.Core.Path.{_≡_, refl, ap, _∙_}
@@ -12,10 +12,10 @@ use Rattle.text.specs.Words.{ascii}
 use Rattle.text.proofs.Stores.{sets-then, sets-over}
 use Rattle.numbers.specs.Decimal.{digits}
 use Rattle.numbers.proofs.Digits.{digits-at-most-10}
-use Rattle.floor.specs.Playing.{lampsShown, lastLineOf}
-use Rattle.floor.proofs.LampsShown.{shown-short}
-use Rattle.floor.proofs.last.put_line.Statement.{statement}
-use Rattle.floor.proofs.last.put_line.Tie as tie
+use Rattle.log.specs.LastLine.{lampsShown, lastLineOf}
+use Rattle.log.proofs.LampsShown.{shown-short}
+use Rattle.log.proofs.last.put_line.Statement.{statement}
+use Rattle.log.proofs.last.put_line.Tie as tie
 
 -- the power is put
 module _ (c : tie.After-put-number) where

@@ -1,4 +1,4 @@
--- `floor::last::put_lamps` meets its contract: up to k each lamp has its seconds in memory.
+-- `log::last::put_lamps` meets its contract: up to k each lamp has its seconds in memory.
 -- Assumes nothing.
 use Prim.Native.Nat.{ℕ, _+_, _-_, _*_, _≤_}
 use mathlib.Core.Path.{_≡_, ap, _∙_}
@@ -9,10 +9,10 @@ use lib.Seq.{sets, length-sets}
 use denote.Ref.{now}
 use borrow.Author.Needs.{needs}
 use Rattle.numbers.proofs.Digits.{digits-at-most-10}
-use Rattle.floor.specs.Playing.{lampsShown}
-use Rattle.floor.proofs.LampsShown.{PutTo, none-put, place-small, one-put, all-put, few-put}
-use Rattle.floor.proofs.last.put_lamps.Statement.{statement}
-use Rattle.floor.proofs.last.put_lamps.Tie as tie
+use Rattle.log.specs.LastLine.{lampsShown}
+use Rattle.log.proofs.LampsShown.{PutTo, none-put, place-small, one-put, all-put, few-put}
+use Rattle.log.proofs.last.put_lamps.Statement.{statement}
+use Rattle.log.proofs.last.put_lamps.Tie as tie
 
 abbrev Inv : tie.InvT-loop
 Inv out₀ at count lamps place₀ k₀ space out place k = PutTo out₀ at lamps count out place k

@@ -1,4 +1,4 @@
--- `floor::playing::close_log` meets its contract: a line that has begun is played, and where none has nothing changes.
+-- `floor::closing::close_log` meets its contract: a line that has begun is played, and where none has nothing changes.
 -- Assumes nothing.
 use mathlib.Core.Path.{_≡_, refl, sym, ap}
 use lib.ListN.{length}
@@ -12,8 +12,8 @@ use Rattle.floor.specs.Reading.{Reading, isBegun, ended, endOfInput}
 use Rattle.floor.specs.Calls.{readingIn}
 use Rattle.floor.proofs.LinesPlayed.{lf-played}
 use Rattle.floor.proofs.Carrying.{carry}
-use Rattle.floor.proofs.playing.close_log.Statement.{statement}
-use Rattle.floor.proofs.playing.close_log.Tie as tie
+use Rattle.floor.proofs.closing.close_log.Statement.{statement}
+use Rattle.floor.proofs.closing.close_log.Tie as tie
 
 abbrev begun : tie.Start → Reading
 begun s = readingIn (s .args .f) (now (s .args .line))

@@ -1,4 +1,4 @@
--- `floor::playing::close_and_tell` meets its contract: the last line stands after what closing the log printed.
+-- `floor::closing::close_and_tell` meets its contract: the last line stands after what closing the log printed.
 -- Assumes nothing.
 use Prim.Native.Nat.{ℕ, _+_, _≤_}
 use mathlib.Core.Path.{_≡_, ap, _∙_}
@@ -12,12 +12,12 @@ use Rattle.text.specs.Words.{over}
 use Rattle.text.proofs.Stores.{sets-then, sets-over}
 use Rattle.stream.specs.Machine.{Out}
 use Rattle.floor.specs.declared.playing.Taken.{Taken}
-use Rattle.floor.specs.Playing.{lastRoom, lastLine}
+use Rattle.log.specs.LastLine.{lastRoom, lastLine}
 use Rattle.floor.specs.Reading.{Reading, printRoom, endOfInput, logFinished}
 use Rattle.floor.specs.Calls.{readingIn}
 use Rattle.floor.proofs.PartsPut.{partFrom, leftFrom, Put, part-long, part-put, first-put}
-use Rattle.floor.proofs.playing.close_and_tell.Statement.{statement}
-use Rattle.floor.proofs.playing.close_and_tell.Tie as tie
+use Rattle.floor.proofs.closing.close_and_tell.Statement.{statement}
+use Rattle.floor.proofs.closing.close_and_tell.Tie as tie
 
 log-lent : tie.Need-close-log-requires
 log-lent c κs =

@@ -12,7 +12,7 @@ use Rattle.text.specs.Words.{ascii}
 use Rattle.text.proofs.Stores.{sets-then}
 use Rattle.numbers.specs.Decimal.{digits}
 use Rattle.numbers.proofs.Digits.{digits-at-most-10}
-use Rattle.floor.specs.Playing.{lampsShown}
+use Rattle.log.specs.LastLine.{lampsShown}
 
 abbrev one : ℕ → List ℕ
 one x = ascii " " ++ digits x
