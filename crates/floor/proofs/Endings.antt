@@ -3,42 +3,24 @@
 --   bare r              the reply without its CR
 -- Assumes nothing.
 use Prim.Native.Nat.{ℕ, _-_}
-use mathlib.Core.Path.{_≡_, refl, sym, ap, _∙_}
-use mathlib.Core.Bool.{Bool, true, false, not, false≢true}
+use mathlib.Core.Path.{_≡_, refl, sym}
+use mathlib.Core.Bool.{Bool, true, false, false≢true}
 use mathlib.Core.List.{List, [], _∷_, _++_}
 use native.Mathlib.Omega.{arith}
 use lib.ListN.{length, take}
 use lib.Dec.{eqb}
-use borrow.Author.Tests.{eqb-true, eqb-false, eq-eqb, ne-eqb}
+use borrow.Author.Tests.{eqb-true, eqb-false}
 use Rattle.text.specs.Words.{ascii}
-use Rattle.text.proofs.Choices.{if-yes, if-no}
 use Rattle.numbers.specs.Decimal.{digits}
 use Rattle.record.specs.declared.types.Device.{Device}
 use Rattle.device.specs.Calls.{Result, replyRoom}
 use Rattle.device.proofs.Refusals.{opening-refused, receiving-refused, closing-refused}
+use Rattle.log.specs.Ending.{isFormed, ending}
 use Rattle.log.specs.declared.Says.{Says}
 use Rattle.log.specs.declared.Says.the-variants.{Opens, Receives, Passes, Closes, NoSuch}
+use Rattle.log.proofs.Endings.{mark-unformed, mark-refused, mark-silent, mark-replied}
 use Rattle.floor.specs.Events.{eventOf}
 use Rattle.floor.specs.Playing.{did, outcome, shown}
-use Rattle.floor.specs.Told.{isFormed, endMark, ending}
-
-module _ (n k : ℕ) where
-  pub mark-unformed : {f : Bool} → f ≡ false → endMark f n k ≡ ascii "?"
-  unfolding endMark
-  mark-unformed e = if-yes _ _ (ap not e)
-
-  module _ {f : Bool} (formed : f ≡ true) where
-    pub mark-refused : (n ≡ 0 → ⊥) → endMark f n k ≡ ascii "! " ++ digits n
-    unfolding endMark
-    mark-refused h = if-no _ _ (ap not formed) ∙ if-yes _ _ (ap not (ne-eqb n 0 h))
-
-    pub mark-silent : n ≡ 0 → k ≡ 0 → endMark f n k ≡ ascii "-"
-    unfolding endMark
-    mark-silent e z = if-no _ _ (ap not formed) ∙ if-no _ _ (ap not (eq-eqb n 0 e)) ∙ if-yes _ _ (eq-eqb k 0 z)
-
-    pub mark-replied : n ≡ 0 → (k ≡ 0 → ⊥) → endMark f n k ≡ []
-    unfolding endMark
-    mark-replied e z = if-no _ _ (ap not formed) ∙ if-no _ _ (ap not (eq-eqb n 0 e)) ∙ if-no _ _ (ne-eqb k 0 z)
 
 -- a refusal has no reply, and a line of no such form has none
 pub record Plain (formed : Bool) (r : Result Device) : Type 0 where

@@ -17,9 +17,9 @@ use Rattle.device.proofs.Illegal.{received-illegal, opened-illegal, closed-ille
 use Rattle.device.proofs.Illegal.{received-legality, opened-legality, closed-legality}
 use Rattle.log.specs.declared.Says.{Says}
 use Rattle.log.specs.declared.Says.the-variants.{Opens, Receives, Passes, Closes, NoSuch}
+use Rattle.log.specs.Ending.{isFormed}
 use Rattle.floor.specs.Events.{LogEvent, opens, receives, passes, closes, noSuch, eventOf}
 use Rattle.floor.specs.Playing.{changedTo, did}
-use Rattle.floor.specs.Told.{isFormed}
 
 module _ (d : Device) where
   pub did-settings : (e : LogEvent) → did d e .device .settings ≡ d .settings

@@ -16,10 +16,11 @@ use Rattle.numbers.proofs.Digits.{digits-at-most-10}
 use Rattle.record.specs.declared.types.Device.{Device}
 use Rattle.device.specs.Calls.{Result, replyRoom}
 use Rattle.floor.specs.declared.event.Called.{Called}
+use Rattle.log.specs.Ending.{isFormed, ending}
 use Rattle.log.specs.declared.Says.{Says}
 use Rattle.floor.specs.Events.{eventOf}
 use Rattle.floor.specs.Playing.{did, outcome, shown, printed}
-use Rattle.floor.specs.Told.{isFormed, ending, calledOf, PrintedAs}
+use Rattle.floor.specs.Told.{calledOf, PrintedAs}
 use Rattle.floor.proofs.Endings.{did-plain, bare, ending-by, shown-formed, shown-unformed}
 
 -- an ending after no reply, and one in the place of a reply's last byte

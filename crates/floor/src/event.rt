@@ -1,19 +1,19 @@
 // One event: what it does, and what is printed for it.
 use device::on_legal;
 use log::Says;
+use log::ending;
 use record::types::Device;
 ghost use mathlib.Core.Path.{_≡_};
 ghost use mathlib.Core.Bool.{true};
 ghost use Prim.Native.Nat.{_+_, _-_, _^_, _≤_, _<_};
 ghost use lib.ListN.{length};
-ghost use lib.Seq.{sets};
 ghost use Rattle.text.specs.Words.{over};
 ghost use Rattle.record.specs.Legal.{isLegal};
 ghost use Rattle.device.specs.Calls.{replyRoom};
 ghost use Rattle.floor.specs.Events.{eventOf};
 ghost use Rattle.floor.specs.Playing.{did};
 ghost use Rattle.floor.specs.Reading.{printRoom};
-ghost use Rattle.floor.specs.Told.{isFormed, endMark, ending, calledOf, silentCall, PrintedAs};
+ghost use Rattle.floor.specs.Told.{calledOf, silentCall, PrintedAs};
 
 // What a call gave: its number, the length of its reply, the record.
 pub struct Called {
@@ -87,54 +87,10 @@ fn call(legal: bool, d: Device, says: Says, bytes: &[u8], out: &mut [u8]) -> Cal
     if legal {
         return call_legal(d, says, bytes, out);
     }
-    if is_formed(says) {
+    if ending::is_formed(says) {
         return silent(1, d);
     }
     silent(0, d)
-}
-
-fn is_formed(says: Says) -> bool
-    ensures { λ r. ⌜ r ≡ isFormed says ⌝ }
-{
-    match says {
-        Says::Opens(_) => true,
-        Says::Receives => true,
-        Says::Passes(_) => true,
-        Says::Closes => true,
-        Says::NoSuch => false,
-    }
-}
-
-// What stands at a line's end before LF, from `at` on; the place after it.
-fn put_mark(out: &mut [u8], at: usize, formed: bool, number: u32, replied: usize) -> usize
-    requires { ⌜ at + length (endMark formed number replied) < length (now out) ⌝ }
-    ensures { λ r. ⌜ r ≡ at + length (endMark formed number replied) ⌝ }
-    ensures { λ _. ⌜ now (out .exit) ≡ sets (now (out .entry)) at (endMark formed number replied) ⌝ }
-{
-    if !formed {
-        out[at] = b'?';
-        return at + 1;
-    }
-    if number != 0 {
-        text::put(out, at, b"! ");
-        return numbers::put_number(out, at + 2, number);
-    }
-    if replied == 0 {
-        out[at] = b'-';
-        return at + 1;
-    }
-    at
-}
-
-// The end of a printed line, from the place of the reply's last byte on, or of the missing reply's; the place after it.
-fn put_ending(out: &mut [u8], at: usize, formed: bool, number: u32, replied: usize) -> usize
-    requires { ⌜ at + length (ending formed number replied) ≤ length (now out) ⌝ }
-    ensures { λ r. ⌜ r ≡ at + length (ending formed number replied) ⌝ }
-    ensures { λ _. ⌜ now (out .exit) ≡ sets (now (out .entry)) at (ending formed number replied) ⌝ }
-{
-    let end = put_mark(out, at, formed, number, replied);
-    out[end] = b'\n';
-    end + 1
 }
 
 // The place of a reply's last byte, its CR; of no reply, where it would have begun.
@@ -166,7 +122,13 @@ pub fn print(
     let at = space + 1;
     let called = call(legal, d, says, bytes, &mut out[at..]);
     let last = last_place(at, called.length);
-    let end = put_ending(out, last, is_formed(says), called.number, called.length);
+    let end = ending::put_ending(
+        out,
+        last,
+        ending::is_formed(says),
+        called.number,
+        called.length,
+    );
     let device = called.device;
     Printed {
         length: end,

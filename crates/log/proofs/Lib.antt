@@ -1,3 +1,4 @@
 pub mod Forms
+pub mod Endings
 mod LampsShown
 pub mod LastLineEnds

@@ -1,4 +1,5 @@
-// What a line of a log says, and the last line that is printed for a log (02, L1).
+// What a line of a log says; how the line ends that is printed for it, and the last line of all (02, L1).
+pub mod ending;
 pub mod last;
 
 ghost use mathlib.Core.Path.{_≡_};

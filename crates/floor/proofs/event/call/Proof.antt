@@ -9,9 +9,10 @@ use Rattle.text.proofs.Carried.{carried}
 use Rattle.text.proofs.Choices.{if-yes, if-no}
 use Rattle.record.specs.declared.types.Device.{Device}
 use Rattle.device.specs.Calls.{Result, refusedBy}
+use Rattle.log.specs.Ending.{isFormed}
 use Rattle.floor.specs.Events.{eventOf}
 use Rattle.floor.specs.Playing.{did}
-use Rattle.floor.specs.Told.{isFormed, calledOf}
+use Rattle.floor.specs.Told.{calledOf}
 use Rattle.floor.proofs.EventsLeave.{did-illegal}
 use Rattle.floor.proofs.event.call.Statement.{statement}
 use Rattle.floor.proofs.event.call.Tie as tie

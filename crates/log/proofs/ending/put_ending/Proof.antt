@@ -1,4 +1,4 @@
--- `floor::event::put_ending` meets its contract: LF stands after the mark.
+-- `log::ending::put_ending` meets its contract: LF stands after the mark.
 -- Assumes nothing.
 use Prim.Native.Nat.{ℕ, _+_}
 use Prim.Native.Char.{code}
@@ -10,9 +10,9 @@ use denote.Ref.{now}
 use borrow.Author.Needs.{needs}
 use Rattle.text.specs.Words.{ascii}
 use Rattle.text.proofs.Stores.{sets-snoc}
-use Rattle.floor.specs.Told.{endMark, ending}
-use Rattle.floor.proofs.event.put_ending.Statement.{statement}
-use Rattle.floor.proofs.event.put_ending.Tie as tie
+use Rattle.log.specs.Ending.{endMark, ending}
+use Rattle.log.proofs.ending.put_ending.Statement.{statement}
+use Rattle.log.proofs.ending.put_ending.Tie as tie
 
 module _ (start : tie.Start) where
   abbrev mark : List ℕ

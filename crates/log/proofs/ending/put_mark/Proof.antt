@@ -1,4 +1,4 @@
--- `floor::event::put_mark` meets its contract: each `return` is one way in which a printed line ends.
+-- `log::ending::put_mark` meets its contract: each `return` is one way in which a printed line ends.
 -- Assumes nothing.
 use Prim.Native.Nat.{ℕ, _+_}
 use mathlib.Core.Path.{_≡_, refl, sym, ap, _∙_}
@@ -13,10 +13,10 @@ use borrow.Author.Tests.{not-true, not-false}
 use Rattle.text.specs.Words.{ascii}
 use Rattle.text.proofs.Stores.{sets-then}
 use Rattle.numbers.specs.Decimal.{digits}
-use Rattle.floor.specs.Told.{endMark}
-use Rattle.floor.proofs.Endings.{mark-unformed, mark-refused, mark-silent, mark-replied}
-use Rattle.floor.proofs.event.put_mark.Statement.{statement}
-use Rattle.floor.proofs.event.put_mark.Tie as tie
+use Rattle.log.specs.Ending.{endMark}
+use Rattle.log.proofs.Endings.{mark-unformed, mark-refused, mark-silent, mark-replied}
+use Rattle.log.proofs.ending.put_mark.Statement.{statement}
+use Rattle.log.proofs.ending.put_mark.Tie as tie
 
 -- the promise, where the mark is known
 told : (start : tie.Start) {text m : List ℕ} {r : ℕ}
