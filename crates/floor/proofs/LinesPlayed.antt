@@ -7,11 +7,11 @@
 use Prim.Native.Nat.{ℕ, _+_, _-_, _≤_}
 use Prim.Native.Char.{code}
 use mathlib.Core.Path.{_≡_, refl, sym, ap, _∙_, subst}
-use mathlib.Core.Bool.{true}
+use mathlib.Core.Bool.{Bool, true, false}
 use mathlib.Core.List.{List, [], _∷_, _++_, append-assoc, append-nil, foldl}
 use native.Mathlib.Nat.{zero-add, sub-zero}
 use native.Mathlib.Omega.{arith}
-use lib.ListN.{length, drop, length-set}
+use lib.ListN.{length, take, drop, length-set}
 use lib.Seq.{drop-length, drop-append-add}
 use lib.Dec.{ltb, eqb}
 use borrow.Author.Tests.{le-ltb, not-true}
@@ -25,7 +25,7 @@ use Rattle.stream.proofs.UpToTheEnd.{notEnd, found}
 use Rattle.stream.proofs.OneCallGathers.{call-gathers, call-by}
 use Rattle.log.specs.Lines.{lineMost}
 use Rattle.floor.specs.Reading.{Reading, printRoom, keptWith, lineAfter, ended, withKept, more, lineTaken, upToLf}
-use Rattle.floor.specs.Reading.{keptEvent, stepThen, playedIn}
+use Rattle.floor.specs.Reading.{keptEvent, stepThen, playedIn, isBegun, lfMissing, endOfInput}
 use Rattle.floor.proofs.Gathering.{line-in-memory}
 use Rattle.floor.proofs.EventsLeave.{did-settings, did-legality}
 
@@ -51,13 +51,19 @@ none-onward : (left : ℕ) (s : Reading) → onward left s [] ≡ tookBytes 0 (u
 unfolding playedIn
 none-onward left s = if-all (λ (t : Took Reading). t ≡ tookBytes 0 (unanswered s)) (ltb left printRoom) refl refl
 
--- LF alone plays the line that has begun
-pub lf-played : (room : ℕ) (s : Reading) → playedIn room s (code "\n" ∷ []) ≡ tookBytes 1 (ended s)
+-- the LF that is missing, if any, plays the line that has begun
+pub end-played : (room : ℕ) (s : Reading)
+    → playedIn room s (take (lfMissing (s .kept)) (code "\n" ∷ [])) ≡ tookBytes (lfMissing (s .kept)) (endOfInput s)
 unfolding playedIn
-lf-played room s =
-    let o = ended s in
-    ap (stepThen o) (none-onward (room - length (o .reply)) (o .state))
-    ∙ (λ i. tookBytes 1 (record { state = o .state; reply = append-nil (o .reply) i }))
+end-played room s = by (isBegun (s .kept))
+  where
+    by : (t : Bool) → playedIn room s (take (if t then 1 else 0) (code "\n" ∷ []))
+        ≡ tookBytes (if t then 1 else 0) (if t then ended s else unanswered s)
+    by true =
+        let o = ended s in
+        ap (stepThen o) (none-onward (room - length (o .reply)) (o .state))
+        ∙ (λ i. tookBytes 1 (record { state = o .state; reply = append-nil (o .reply) i }))
+    by false = refl
 
 module _ (left : ℕ) (room : printRoom ≤ left) where
   -- bytes that end no line print nothing: the room stays

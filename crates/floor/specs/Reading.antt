@@ -11,6 +11,7 @@
 --   lineTaken s bs      what is taken of one line: up to and including LF, or all
 --   playedIn room s bs  what a call takes that has so much room for what it prints: all bytes; or those after which
 --                       there is no room for another line
+--   lfMissing k         how many LF a log lacks that ends there: one where a line has begun
 --   endOfInput s        what the end of the input does to a line that has begun: it is played
 --   logFinished s       that, and the last line printed
 --   fresh m             before a log: 01's sample set-up, its connection closed, no line played, m the lent memory
@@ -104,6 +105,9 @@ playedIn room s (b ∷ bs) =
 
 abbrev pub isBegun : Line → Bool
 isBegun k = k .overlong || leb 1 (k .held)
+
+abbrev pub lfMissing : Line → ℕ
+lfMissing k = if isBegun k then 1 else 0
 
 abbrev pub endOfInput : Reading → Out Reading
 endOfInput s = if isBegun (s .kept) then ended s else unanswered s

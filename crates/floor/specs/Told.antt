@@ -1,6 +1,6 @@
 -- The structs that the inner functions return.
 --   calledOf r          what a call gave, as the code returns it: its number, its reply's length, the record
---   silentCall n d      what a call with the number n and no reply gave
+--   calledWith n k d    these together
 --   printedOf n d e     what is left of the line n with the event e: the printed bytes' length, the record
 --   PrintedAs n d e out ..    that is returned, and the line printed from the start of the memory `out`
 --   gatheredTo g        what is kept of a line up to LF, as the code returns it
@@ -24,8 +24,8 @@ use Rattle.floor.specs.Reading.{begunOf}
 abbrev pub calledOf : Result Device → Called
 calledOf r = record { number = r .number; length = length (r .reply); device = r .device }
 
-abbrev pub silentCall : ℕ → Device → Called
-silentCall n d = record { number = n; length = 0; device = d }
+abbrev pub calledWith : ℕ → ℕ → Device → Called
+calledWith n k d = record { number = n; length = k; device = d }
 
 abbrev pub printedOf : ℕ → Device → LogEvent → Printed
 printedOf n d e = record { length = length (printed n e (did d e)); device = did d e .device }

@@ -13,7 +13,7 @@ ghost use Rattle.device.specs.Calls.{replyRoom};
 ghost use Rattle.floor.specs.Events.{eventOf};
 ghost use Rattle.floor.specs.Playing.{did};
 ghost use Rattle.floor.specs.Reading.{printRoom};
-ghost use Rattle.floor.specs.Told.{calledOf, silentCall, PrintedAs};
+ghost use Rattle.floor.specs.Told.{calledOf, calledWith, PrintedAs};
 
 // What a call gave: its number, the length of its reply, the record.
 pub struct Called {
@@ -28,13 +28,12 @@ pub struct Printed {
     pub device: Device,
 }
 
-// A call without a reply.
-fn silent(number: u32, device: Device) -> Called
-    ensures { λ r. ⌜ r ≡ silentCall number device ⌝ }
+fn gave(number: u32, length: usize, device: Device) -> Called
+    ensures { λ r. ⌜ r ≡ calledWith number length device ⌝ }
 {
     Called {
         number,
-        length: 0,
+        length,
         device,
     }
 }
@@ -49,31 +48,21 @@ fn call_legal(d: Device, says: Says, bytes: &[u8], out: &mut [u8]) -> Called
     match says {
         Says::Opens(random) => {
             let opened = on_legal::open(d, random, out);
-            let device = opened.device;
-            Called {
-                number: opened.number,
-                length: opened.length,
-                device,
-            }
+            gave(opened.number, opened.length, opened.device)
         }
         Says::Receives => {
             let received = on_legal::receive(d, bytes, out);
-            let device = received.device;
-            Called {
-                number: received.number,
-                length: received.length,
-                device,
-            }
+            gave(received.number, received.length, received.device)
         }
         Says::Passes(seconds) => {
             let passed = clock::on_legal::pass(d, seconds);
-            silent(passed.number, passed.device)
+            gave(passed.number, 0, passed.device)
         }
         Says::Closes => {
             let closed = on_legal::close(d);
-            silent(closed.number, closed.device)
+            gave(closed.number, 0, closed.device)
         }
-        Says::NoSuch => silent(0, d),
+        Says::NoSuch => gave(0, 0, d),
     }
 }
 
@@ -88,9 +77,9 @@ fn call(legal: bool, d: Device, says: Says, bytes: &[u8], out: &mut [u8]) -> Cal
         return call_legal(d, says, bytes, out);
     }
     if ending::is_formed(says) {
-        return silent(1, d);
+        return gave(1, 0, d);
     }
-    silent(0, d)
+    gave(0, 0, d)
 }
 
 // The place of a reply's last byte, its CR; of no reply, where it would have begun.

@@ -1,74 +1,111 @@
 -- `floor::closing::close_and_tell` meets its contract: the last line stands after what closing the log printed.
 -- Assumes nothing.
-use Prim.Native.Nat.{ℕ, _+_, _≤_}
-use mathlib.Core.Path.{_≡_, ap, _∙_}
-use mathlib.Core.List.{List, _++_}
+use Prim.Native.Nat.{ℕ, _+_, _-_, _≤_}
+use Prim.Native.Char.{code}
+use mathlib.Core.Path.{_≡_, sym, ap, _∙_}
+use mathlib.Core.List.{List, [], _∷_, _++_}
+use native.Mathlib.Nat.{sub-zero}
 use native.Mathlib.Omega.{arith}
-use lib.ListN.{length, drop, length-append, length-take}
+use lib.ListN.{length, take, drop, length-append, length-take}
 use lib.Seq.{sets}
 use denote.Ref.{now}
 use borrow.Author.Needs.{needs}
 use Rattle.text.specs.Words.{over}
+use Rattle.text.proofs.Choices.{if-all}
 use Rattle.text.proofs.Stores.{sets-then, sets-over}
-use Rattle.stream.specs.Machine.{Out}
+use Rattle.stream.specs.Machine.{Out, tookBytes}
 use Rattle.floor.specs.declared.playing.Taken.{Taken}
 use Rattle.log.specs.LastLine.{lastRoom, lastLine}
-use Rattle.floor.specs.Reading.{Reading, printRoom, endOfInput, logFinished}
-use Rattle.floor.specs.Calls.{readingIn}
+use Rattle.floor.specs.Reading.{Reading, printRoom, playedIn, isBegun, lfMissing, endOfInput, logFinished}
+use Rattle.floor.specs.Calls.{readingIn, TakenAs}
+use Rattle.floor.proofs.LinesPlayed.{end-played}
+use Rattle.floor.proofs.Carrying.{carry}
 use Rattle.floor.proofs.PartsPut.{partFrom, leftFrom, Put, part-long, part-put, first-put}
 use Rattle.floor.proofs.closing.close_and_tell.Statement.{statement}
 use Rattle.floor.proofs.closing.close_and_tell.Tie as tie
 
-log-lent : tie.Need-close-log-requires
+-- how many LF are missing
+module _ (c : tie.After-missing-lf) where
+  abbrev start : tie.Start
+  start = c .before .before .before
+
+  abbrev begun : Reading
+  begun = readingIn (start .args .f) (now (start .args .line))
+
+  abbrev count : ℕ
+  count = c .missing-lf .result
+
+  missing : count ≡ lfMissing (begun .kept)
+  missing = c .missing-lf .ensures
+
+  at-most-1 : count ≤ 1
+  at-most-1 =
+      omega (
+        arith,
+        missing,
+        if-all (λ (n : ℕ). n ≤ 1) (isBegun (begun .kept)) {a = 1} {b = 0} (omega arith) (omega arith),
+      )
+
+log-lent : tie.Need-play-on-requires
 log-lent c κs =
-    let s = let known = c .before .before in known .before .before in
+    let known = let arg = c .before .before in arg .before .before in
+    let can = start known .pre in
     record {
-      tested = s .pre .tested;
-      kept = s .pre .kept;
-      lent = s .pre .lent;
-      counted = s .pre .counted;
-      room-left = omega (arith, s .pre .room-left, length-take printRoom (now (s .args .out)));
+      tested = can .tested;
+      kept = can .kept;
+      lent = can .lent;
+      counted = omega (arith, can .counted, length-take (count known - 0) (code "\n" ∷ []), at-most-1 known);
+      room-left = omega (arith, can .room-left, length-take printRoom (now (start known .args .out)));
     }
 
 -- the log is closed
-module _ (c : tie.After-close-log) where
-  abbrev start : tie.Start
-  start = let known = c .before .before .before in known .before .before
+module _ (c : tie.After-play-on) where
+  abbrev known : tie.After-missing-lf
+  known = let arg = c .before .before .before in arg .before .before
 
   abbrev out : List ℕ
-  out = now (start .args .out)
+  out = now (start known .args .out)
 
   abbrev shut : Out Reading
-  shut = endOfInput (readingIn (start .args .f) (now (start .args .line)))
+  shut = endOfInput (begun known)
 
   -- the memory to print in, as closing leaves its first part, and the whole of it
   abbrev part-left : List ℕ
-  part-left = c .close-log .last .1 .1 .1 .0
+  part-left = c .play-on .last .1 .1 .1 .1 .0
 
   abbrev left : List ℕ
   left = part-left ++ drop printRoom out
 
+  closed : TakenAs (tookBytes (lfMissing (begun known .kept)) shut) (take printRoom out) (c .play-on .result)
+      (c .play-on .last .1 .1 .0) part-left
+  closed =
+      let room = length (take printRoom out) in
+      carry (take printRoom out)
+      (sym (ap (λ (n : ℕ). playedIn room (begun known) (take n (code "\n" ∷ []))) (sub-zero (count known) ∙ missing known)
+      ∙ end-played room (begun known)))
+      (c .play-on .ensures)
+
   wrote : Put out (shut .reply) 0 printRoom left
   wrote =
-      first-put out (shut .reply) printRoom (omega (arith, start .pre .room-left)) (c .close-log .ensures .printed)
-      (c .close-log .kept .1 .1 .1 .0)
+      first-put out (shut .reply) printRoom (omega (arith, start known .pre .room-left)) (closed .printed)
+      (c .play-on .kept .1 .1 .1 .1 .0)
 
   abbrev used : ℕ
-  used = c .close-log .result .length
+  used = c .play-on .result .length
 
   counted : used ≡ length (shut .reply)
-  counted = ap (λ (t : Taken). t .length) (c .close-log .ensures .returned)
+  counted = ap (λ (t : Taken). t .length) (closed .returned)
 
   room : used + lastRoom ≤ length left
-  room = omega (arith, counted, wrote .fits, wrote .long, start .pre .room-left)
+  room = omega (arith, counted, wrote .fits, wrote .long, start known .pre .room-left)
 
   abbrev told : List ℕ
   told = lastLine (shut .state .device)
 
-  same : lastLine (c .close-log .result .floor .device) ≡ told
-  same = ap (λ (t : Taken). lastLine (t .floor .device)) (c .close-log .ensures .returned)
+  same : lastLine (c .play-on .result .floor .device) ≡ told
+  same = ap (λ (t : Taken). lastLine (t .floor .device)) (closed .returned)
 
-abbrev before-last : tie.After-floor → tie.After-close-log
+abbrev before-last : tie.After-floor → tie.After-play-on
 before-last c = let known = c .before .before .before in known .before .before
 
 last-lent : tie.Need-put-last-requires
@@ -78,7 +115,7 @@ last-lent c κs =
 
 -- the last line is put
 module _ (c : tie.After-put-last) where
-  abbrev log : tie.After-close-log
+  abbrev log : tie.After-play-on
   log = before-last (c .before .before)
 
   abbrev all-left : List ℕ
@@ -104,10 +141,10 @@ module _ (c : tie.After-put-last) where
       let place : used log ≡ 0 + length (shut log .reply) = omega (arith, counted log) in
       wrote-last .stored ∙ sets-then (out log) 0 (shut log .reply) (told log) (wrote log .stored) place
 
-length-fits : tie.Need-add-t12
+length-fits : tie.Need-add-t19
 length-fits c =
     let p = c .before .before in
-    omega (arith, size p, wrote-last p .fits, wrote (log p) .long, start (log p) .good)
+    omega (arith, size p, wrote-last p .fits, wrote (log p) .long, start (known (log p)) .good)
 
 returns : tie.Need-returns
 unfolding logFinished
@@ -117,11 +154,11 @@ returns c =
     let made : _≡_ {A = Taken} _ _ = λ i. record {
       taken = 0;
       length = whole p i;
-      floor = l .close-log .ensures .returned i .floor;
+      floor = closed l .returned i .floor;
     } in
     record {
       returned = made;
-      line = l .close-log .ensures .line;
+      line = closed l .line;
       printed = all-stored p
           ∙ sets-over (all p) (out l) (omega (arith, size p, whole p, wrote-last p .fits, wrote l .long));
     }
@@ -130,15 +167,19 @@ pub close-and-tell-spec : {M : Type 1} → statement M
 close-and-tell-spec =
     tie.close
     (tie.spec
+    (λ c κs. search needs)
     (λ c. search needs)
     (λ c. search needs)
-    (λ c. let s = let known = c .before .before in known .before in omega (arith, s .pre .room-left))
+    (λ c. omega (arith, at-most-1 (c .before .before)))
+    (λ c. search needs)
+    (λ c. search needs)
+    (λ c. let known = c .before .before .before in omega (arith, start known .pre .room-left))
     log-lent
     (λ c. omega (arith, room (before-last c)))
     (λ c. omega (arith, room (before-last c)))
     (λ c. search needs)
     last-lent
     length-fits
-    (λ c. log (c .before .before) .close-log .kept .1 .1 .0)
+    (λ c. log (c .before .before) .play-on .kept .1 .1 .0)
     (λ c. let p = c .before .before in wrote-last p .long ∙ wrote (log p) .long)
     returns)

@@ -40,7 +40,7 @@ formed c =
     let illegal = asked .before in
     let says = if-yes _ _ (sym (asked .is-formed .ensures) ∙ c .before .if2 .taken) in
     carried calledOf (λ (r : Result Device). r .reply) (now (start illegal .args .out)) (refused illegal says)
-    (c .silent .ensures) refl
+    (c .gave .ensures) refl
 
 unformed : tie.Need-returns-3
 unformed c =
@@ -48,7 +48,7 @@ unformed c =
     let illegal = asked .before in
     let says = if-no _ _ (sym (asked .is-formed .ensures) ∙ c .before .if2 .left) in
     carried calledOf (λ (r : Result Device). r .reply) (now (start illegal .args .out)) (refused illegal says)
-    (c .silent2 .ensures) refl
+    (c .gave2 .ensures) refl
 
 pub call-spec : {M : Type 1} → statement M
 call-spec =

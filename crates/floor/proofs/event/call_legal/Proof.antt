@@ -49,7 +49,7 @@ opening c =
     let given = arm .says .given in
     carried calledOf (λ (r : Result Device). r .reply) out
     (same start (given .1) ∙ opened-room (start .args .d) (length out) (start .pre .0) _)
-    (ap byOpening (called .«open» .ensures .0)) (called .«open» .ensures .1)
+    (c .gave .ensures ∙ ap byOpening (called .«open» .ensures .0)) (called .«open» .ensures .1)
 
 receiving : tie.Need-returns-2
 unfolding did
@@ -61,7 +61,7 @@ receiving c =
     carried calledOf (λ (r : Result Device). r .reply) out
     (same start (arm .enum-told .given .1)
     ∙ received-room (start .args .d) (length out) (start .pre .0) (start .args .bytes .now))
-    (ap byReceiving (called .receive .ensures .0)) (called .receive .ensures .1)
+    (c .gave2 .ensures ∙ ap byReceiving (called .receive .ensures .0)) (called .receive .ensures .1)
 
 passing : tie.Need-returns-3
 unfolding did
@@ -70,7 +70,7 @@ passing c =
     let arm = called .before .before in
     let start = let shared = arm .before .before in shared .before .before in
     carried calledOf (λ (r : Result Device). r .reply) (now (start .args .out)) (same start (arm .says2 .given .1))
-    (c .silent .ensures ∙ ap byChange (called .pass .ensures)) refl
+    (c .gave3 .ensures ∙ ap byChange (called .pass .ensures)) refl
 
 closing : tie.Need-returns-4
 unfolding did
@@ -86,7 +86,7 @@ closing c =
       device = called .close .ensures i .device;
     } in
     carried calledOf (λ (r : Result Device). r .reply) (now (start .args .out))
-    (same start (arm .enum-told2 .given .1)) (c .silent2 .ensures ∙ told)
+    (same start (arm .enum-told2 .given .1)) (c .gave4 .ensures ∙ told)
     (ap (λ (r : List ℕ). over r (now (start .args .out))) none)
 
 nothing : tie.Need-returns-5
@@ -95,7 +95,7 @@ nothing c =
     let arm = c .before in
     let start = let shared = arm .before .before in shared .before .before in
     carried calledOf (λ (r : Result Device). r .reply) (now (start .args .out))
-    (same start (arm .enum-told3 .given .1)) (c .silent3 .ensures) refl
+    (same start (arm .enum-told3 .given .1)) (c .gave5 .ensures) refl
 
 open-legal : tie.Need-open-requires
 open-legal c κs =
@@ -121,8 +121,10 @@ call-legal-spec =
     (tie.spec
     (λ c. search needs)
     open-legal
+    (λ c κs. search needs)
     (λ c. search needs)
     receive-legal
+    (λ c κs. search needs)
     (λ c. search needs)
     pass-legal
     (λ c κs. search needs)
