@@ -1,8 +1,8 @@
 -- What a call plays, line by line: one line, and what is played after it.
 --   addedTo n r t       t after n bytes taken and r printed
 --   onward left s bs    what is played of bs where there is room left to print a line; else nothing
---   LineTold s bs t     of one line: at least a byte and at most all are taken, at most one line more is counted, and
---                       what is kept fits
+--   LineTold s bs t     of one line: at least a byte and at most all are taken, at most one line more is counted, what
+--                       is kept fits, the settings stay, and the record stays legal, or not legal
 -- Assumes nothing.
 use Prim.Native.Nat.{ℕ, _+_, _-_, _≤_}
 use Prim.Native.Char.{code}

@@ -1,5 +1,5 @@
 -- The loop that plays line after line.
---   PlayedTo ..     it has come to a byte with what it printed in memory, and room to print a line
+--   PlayedTo ..     it has come to a byte: what it printed is in memory, a line has room, legality is as it was
 --   Turn before ..  what a turn of it leaves, where the call that takes a line returns r
 -- Assumes nothing.
 use Prim.Native.Nat.{ℕ, _+_, _-_, _≤_, _<_, _^_}

@@ -1,4 +1,4 @@
-// One event: what it does, and what is printed for it.
+// One event: what it does, and what is printed for it. No record is tested here: it is known whether it is legal.
 use device::on_legal;
 use log::Says;
 use log::ending;

@@ -1,4 +1,4 @@
-// The lines of a log played one after the other, inside a call that is not refused.
+// The lines of a log played one after the other, inside a call that is not refused and has tested its record.
 use crate::event;
 use crate::event::Printed;
 use crate::gather;

@@ -81,7 +81,9 @@ module _ (c : tie.After-play-on) where
   closed =
       let room = length (take printRoom out) in
       carry (take printRoom out)
-      (sym (ap (λ (n : ℕ). playedIn room (begun known) (take n (code "\n" ∷ []))) (sub-zero (count known) ∙ missing known)
+      (sym
+      (ap (λ (n : ℕ). playedIn room (begun known) (take n (code "\n" ∷ [])))
+      (sub-zero (count known) ∙ missing known)
       ∙ end-played room (begun known)))
       (c .play-on .ensures)
 
