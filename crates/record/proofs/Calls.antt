@@ -5,14 +5,15 @@ use Prim.Native.Nat.{ℕ}
 use mathlib.Core.Path.{_≡_, sym, _∙_}
 use mathlib.Core.Bool.{Bool, true, false, not}
 use mathlib.Core.List.{List}
+use lib.ListN.{length}
 use native.Mathlib.Omega.{arith}
 use borrow.Author.Tests.{not-false}
-use Rattle.text.proofs.Choices.{if-by}
+use Rattle.text.proofs.Choices.{if-by, both, both-left, both-right}
 use Rattle.record.specs.Wanted.{Wanted}
-use Rattle.record.specs.Rules.{isErrors}
+use Rattle.record.specs.Rules.{isLongEnough, isErrors}
 use Rattle.record.specs.Record.{closed, settingsOf, startOwn, started, blank, accepted, refused}
 use Rattle.record.specs.Legal.{isLegal}
-use Rattle.record.specs.SetUp.{isSetUp, setUp}
+use Rattle.record.specs.SetUp.{isInRange, isSetUp, setUp}
 use Rattle.record.specs.Updates.{withOwn, withFault, withErrors}
 use Rattle.record.specs.HostCalls.{faultSet, errorsSet}
 use Rattle.record.specs.declared.types.Settings.{Settings}
@@ -22,13 +23,33 @@ use Rattle.record.specs.declared.types.Device.{Device}
 use Rattle.record.specs.declared.types.Changed.{Changed}
 
 module _ (w : Wanted) where
-  pub set-up-refused : isSetUp w ≡ false → setUp w ≡ refused 3 blank
+  abbrev long : Bool
+  long = isLongEnough (length (w .password))
+
+  -- each setting in its range, and the password long enough
+  pub set-up-ranged : isSetUp w ≡ true → isInRange w ≡ true
+  unfolding isSetUp
+  set-up-ranged h = both-left (isInRange w) long h
+
+  pub set-up-long : isSetUp w ≡ true → long ≡ true
+  unfolding isSetUp
+  set-up-long h = both-right (isInRange w) long h
+
+  pub set-up-shown : isInRange w ≡ true → long ≡ true → isSetUp w ≡ true
+  unfolding isSetUp
+  set-up-shown h k = both h k
+
+  pub set-up-refused : isInRange w ≡ false → setUp w ≡ refused 3 blank
   unfolding setUp
   set-up-refused h = rw h
 
+  pub set-up-short : isInRange w ≡ true → long ≡ false → setUp w ≡ refused 8 blank
+  unfolding setUp
+  set-up-short h k = rw (h, k)
+
   pub set-up-accepted : isSetUp w ≡ true → setUp w ≡ accepted (started w)
   unfolding setUp
-  set-up-accepted h = rw h
+  set-up-accepted h = rw (set-up-ranged h, set-up-long h)
 
   -- the started device, from its parts
   pub set-up-made : {s : Settings} {o : Own} {c : Connection} → isSetUp w ≡ true → s ≡ settingsOf w
@@ -37,14 +58,19 @@ module _ (w : Wanted) where
   set-up-made h e f g =
       (λ j. accepted (record { settings = e j; own = f j; connection = g j })) ∙ sym (set-up-accepted h)
 
-  pub set-up-by : (P : Changed → Type 0) → P (refused 3 blank) → (isSetUp w ≡ true → P (accepted (started w)))
-      → P (setUp w)
+  pub set-up-by : (P : Changed → Type 0) → P (refused 3 blank) → P (refused 8 blank)
+      → (isSetUp w ≡ true → P (accepted (started w))) → P (setUp w)
   unfolding setUp
-  set-up-by P refuse accept = if-by P (isSetUp w) accept (λ h. refuse)
+  set-up-by P out short accept =
+      if-by P (not (isInRange w)) (λ h. out)
+      (λ h. if-by P (not long) (λ k. short)
+      (λ k. accept (set-up-shown (not-false (isInRange w) h) (not-false long k))))
 
-  -- set-up gives 0 where each setting is in its range only
+  -- set-up gives 0 there only
   pub set-up-in-range : setUp w .number ≡ 0 → isSetUp w ≡ true
-  set-up-in-range = set-up-by (λ r. r .number ≡ 0 → isSetUp w ≡ true) (λ e. absurd (omega arith)) (λ h e. h)
+  set-up-in-range =
+      set-up-by (λ r. r .number ≡ 0 → isSetUp w ≡ true) (λ e. absurd (omega arith)) (λ e. absurd (omega arith))
+      (λ h e. h)
 
 module _ (d : Device) where
   pub fault-illegal : (m : Bool) → isLegal d ≡ false → faultSet d m ≡ refused 1 d

@@ -16,4 +16,5 @@ pub mod LegalTold
 pub mod Started
 pub mod HostKept
 pub mod Results
+pub mod RefusedSetting
 mod Samples

@@ -1,5 +1,5 @@
--- Which setting was it: what `firstOutOfRange` tells holds of the settings, what holds of them is told, and none is
--- told exactly where set-up gives 0.
+-- Which setting is out of its range: what `firstOutOfRange` tells holds of the settings, what holds of them is told, and
+-- none is told exactly where each is in its range.
 --   Stepped k l      the settings l stand at the places from k on, to the last
 -- Assumes nothing.
 use Prim.Native.Nat.{ℕ, suc, _≤_, _<_}
@@ -14,15 +14,14 @@ use Rattle.text.specs.Scans.{every}
 use Rattle.text.proofs.Choices.{if-yes, if-no, if-by, both, both-left, both-right}
 use Rattle.text.proofs.OneResult.{one-result}
 use Rattle.record.specs.Wanted.{Wanted}
-use Rattle.record.specs.SetUp.{settingsInOrder, isSettingInRange, isSetUp, setUp}
+use Rattle.record.specs.SetUp.{settingsInOrder, isSettingInRange, isInRange, isSetUp}
 use Rattle.record.specs.OutOfRange.{settingPlace, firstFailing, firstOutOfRange, SettingHolds}
-use Rattle.record.specs.declared.types.Changed.{Changed}
 use Rattle.record.specs.declared.out_of_range.Setting.{Setting}
 use Rattle.record.specs.declared.out_of_range.Setting.the-variants.{Name, Maker, Model, Other, Password, Inputs}
 use Rattle.record.specs.declared.out_of_range.Setting.the-variants.{Lamps, WarmUp, Cooling}
 use Rattle.record.specs.declared.out_of_range.MaybeSetting.{MaybeSetting}
 use Rattle.record.specs.declared.out_of_range.MaybeSetting.the-variants.{SettingIs, NoSetting}
-use Rattle.record.proofs.Calls.{set-up-accepted, set-up-in-range}
+use Rattle.record.proofs.Calls.{set-up-ranged}
 
 -- ---- the places
 
@@ -140,29 +139,24 @@ module _ (f : Setting → Bool) where
 -- ---- against set-up
 
 module _ (w : Wanted) where
-  pub none-in-range : firstOutOfRange w ≡ NoSetting → isSetUp w ≡ true
-  unfolding isSetUp
+  pub none-in-range : firstOutOfRange w ≡ NoSetting → isInRange w ≡ true
+  unfolding isInRange
   none-in-range = all-met (isSettingInRange w) settingsInOrder
 
-  pub in-range-none : isSetUp w ≡ true → firstOutOfRange w ≡ NoSetting
-  unfolding isSetUp
+  pub in-range-none : isInRange w ≡ true → firstOutOfRange w ≡ NoSetting
+  unfolding isInRange
   in-range-none = none-failing (isSettingInRange w) settingsInOrder
 
   pub each-in-range : isSetUp w ≡ true → (s : Setting) → isSettingInRange w s ≡ true
-  each-in-range h = subst (SettingHolds (isSettingInRange w)) (in-range-none h) (first-holds (isSettingInRange w))
+  each-in-range h =
+      subst (SettingHolds (isSettingInRange w)) (in-range-none (set-up-ranged w h)) (first-holds (isSettingInRange w))
 
-  pub out-refused : (s : Setting) → firstOutOfRange w ≡ SettingIs s → isSetUp w ≡ false
-  out-refused s e = by (isSetUp w) refl
+  pub some-out : (s : Setting) → firstOutOfRange w ≡ SettingIs s → isInRange w ≡ false
+  some-out s e = by (isInRange w) refl
     where
-      by : (b : Bool) → isSetUp w ≡ b → b ≡ false
+      by : (b : Bool) → isInRange w ≡ b → b ≡ false
       by false h = refl
       by true h = let f = in-range-none h in let z : _≡_ {A = ℕ} 0 1 = cc in absurd (omega arith)
-
-  pub none-gives-0 : firstOutOfRange w ≡ NoSetting → setUp w .number ≡ 0
-  none-gives-0 e = ap (λ (r : Changed). r .number) (set-up-accepted w (none-in-range e))
-
-  pub gives-0-none : setUp w .number ≡ 0 → firstOutOfRange w ≡ NoSetting
-  gives-0-none e = in-range-none (set-up-in-range w e)
 
   pub one-setting : {r q : MaybeSetting} → r ≡ firstOutOfRange w → q ≡ firstOutOfRange w → r ≡ q
   one-setting e f = one-result e f

@@ -2,31 +2,61 @@
 -- record that was given (a refused set-up the blank one), and any two results that meet a call's promise are equal.
 -- Assumes nothing.
 use Prim.Native.Nat.{ℕ}
-use mathlib.Core.Path.{_≡_, refl, sym, ap, _∙_}
-use mathlib.Core.Bool.{Bool, not}
+use mathlib.Core.Path.{_≡_, refl, sym, _∙_}
+use mathlib.Core.Bool.{Bool, true, false, not}
 use mathlib.Core.List.{List}
+use native.Mathlib.Omega.{arith}
+use lib.ListN.{length}
 use Rattle.text.specs.Words.{if_then_else_}
 use Rattle.text.proofs.Choices.{if-yes, if-no, if-by}
 use Rattle.text.proofs.OneResult.{one-result}
 use Rattle.record.specs.Wanted.{Wanted}
-use Rattle.record.specs.Rules.{isErrors}
+use Rattle.record.specs.Rules.{isLongEnough, isErrors}
 use Rattle.record.specs.Record.{blank}
 use Rattle.record.specs.Legal.{isLegal}
-use Rattle.record.specs.SetUp.{isSetUp, setUp}
+use Rattle.record.specs.SetUp.{isInRange, setUp}
 use Rattle.record.specs.HostCalls.{faultSet, errorsSet}
 use Rattle.record.specs.declared.types.Device.{Device}
 use Rattle.record.specs.declared.types.Changed.{Changed}
 use Rattle.record.proofs.Calls.{set-up-by, fault-set-by, errors-set-by}
 
 module _ (w : Wanted) where
-  pub set-up-number : setUp w .number ≡ (if not (isSetUp w) then 3 else 0)
+  abbrev out : Bool
+  out = not (isInRange w)
+
+  abbrev long : Bool
+  long = isLongEnough (length (w .password))
+
+  abbrev short : Bool
+  short = not long
+
+  pub set-up-number : setUp w .number ≡ (if out then 3 else if short then 8 else 0)
   unfolding setUp
   set-up-number =
-      if-by (λ (r : Changed). r .number ≡ (if not (isSetUp w) then 3 else 0)) (isSetUp w)
-      (λ h. sym (if-no _ _ (ap not h))) (λ h. sym (if-yes _ _ (ap not h)))
+      let P : Changed → Type 0 = λ r. r .number ≡ (if out then 3 else if short then 8 else 0) in
+      if-by P out (λ h. sym (if-yes _ _ h)) (λ h. if-by P short (λ k. sym (if-no _ _ h ∙ if-yes _ _ k))
+      (λ k. sym (if-no _ _ h ∙ if-no _ _ k)))
+
+  -- 3 exactly where a setting is out of its range, 8 exactly where none is and the password is short (`set-up-refused`,
+  -- `set-up-short` are the other way)
+  pub set-up-3 : setUp w .number ≡ 3 → isInRange w ≡ false
+  set-up-3 e = by (isInRange w) long (sym set-up-number ∙ e)
+    where
+      by : (r l : Bool) → _≡_ {A = ℕ} (if not r then 3 else if not l then 8 else 0) 3 → r ≡ false
+      by false l f = refl
+      by true false f = absurd (omega arith)
+      by true true f = absurd (omega arith)
+
+  pub set-up-8 : setUp w .number ≡ 8 → (isInRange w ≡ true) × (long ≡ false)
+  set-up-8 e = by (isInRange w) long (sym set-up-number ∙ e)
+    where
+      by : (r l : Bool) → _≡_ {A = ℕ} (if not r then 3 else if not l then 8 else 0) 8 → (r ≡ true) × (l ≡ false)
+      by false l f = absurd (omega arith)
+      by true false f = (refl, refl)
+      by true true f = absurd (omega arith)
 
   pub set-up-refusal : (setUp w .number ≡ 0 → ⊥) → setUp w .device ≡ blank
-  set-up-refusal = set-up-by w (λ r. (r .number ≡ 0 → ⊥) → r .device ≡ blank) (λ n. refl) (λ h n. absurd (n refl))
+  set-up-refusal = set-up-by w (λ r. (r .number ≡ 0 → ⊥) → r .device ≡ blank) (λ n. refl) (λ n. refl) (λ h n. absurd (n refl))
 
   pub set-up-one : {r q : Changed} → r ≡ setUp w → q ≡ setUp w → r ≡ q
   set-up-one e f = one-result e f

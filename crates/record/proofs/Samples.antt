@@ -1,18 +1,21 @@
--- Set-ups of 01's "Lines that settle it" and of its own examples, and which setting is out of its range, computed.
+-- Set-ups of 01's "Lines that settle it" and of its own examples, passwords on both sides of 02's L9, and which setting
+-- was refused, computed.
 -- Assumes nothing.
 use Prim.Native.Nat.{ℕ}
 use Prim.Native.String.{String}
 use mathlib.Core.Path.{_≡_, refl}
-use mathlib.Core.Bool.{true}
+use mathlib.Core.Bool.{true, false}
 use mathlib.Core.List.{List, [], _∷_, map}
 use Rattle.text.specs.Words.{ascii}
 use Rattle.record.specs.Limits.{lampLimit}
-use Rattle.record.specs.Wanted.{wantedOf}
+use Rattle.record.specs.Wanted.{Wanted, wantedOf}
+use Rattle.record.specs.Record.{started}
 use Rattle.record.specs.Legal.{isLegal}
 use Rattle.record.specs.SetUp.{settingsInOrder, setUp}
-use Rattle.record.specs.OutOfRange.{firstFailing, firstOutOfRange}
+use Rattle.record.specs.OutOfRange.{firstFailing, refusedSetting}
 use Rattle.record.specs.Computing.{computing}
 use Rattle.record.specs.declared.types.Changed.{Changed}
+use Rattle.record.specs.declared.out_of_range.Setting.the-variants.{Password, Cooling}
 use Rattle.record.specs.declared.out_of_range.MaybeSetting.{MaybeSetting}
 use Rattle.record.specs.declared.out_of_range.MaybeSetting.the-variants.{SettingIs, NoSetting}
 
@@ -36,10 +39,34 @@ pub numbered : numbers ≡ 0 ∷ 0 ∷ 3 ∷ 3 ∷ 3 ∷ 3 ∷ 3 ∷ 3 ∷ 3 ∷
 unfolding computing
 numbered = refl
 
+-- the password and the inputs as given
+abbrev secured : String → String → Wanted
+secured password inputs = wantedOf [] [] [] [] (ascii password) (ascii inputs) (0 ∷ []) 20 60
+
+-- none, one, seven, eight and 32 characters; then what is 3 and not 8: a space among seven, 33, an input out of its range
+abbrev withPasswords : List ℕ
+withPasswords =
+    setUp (secured "" "11") .number ∷ setUp (secured "a" "11") .number ∷ setUp (secured "abcdef7" "11") .number
+    ∷ setUp (secured "abcdefg8" "11") .number ∷ setUp (secured "abcdefghijklmnopqrstuvwxyz012345" "11") .number
+    ∷ setUp (secured "abc def" "11") .number ∷ setUp (secured "abcdefghijklmnopqrstuvwxyz0123456" "11") .number
+    ∷ setUp (secured "abcdef7" "10") .number ∷ []
+
+pub passwords-numbered : withPasswords ≡ 0 ∷ 8 ∷ 8 ∷ 0 ∷ 0 ∷ 3 ∷ 3 ∷ 3 ∷ []
+unfolding computing
+passwords-numbered = refl
+
+pub seven-illegal : isLegal (started (secured "abcdef7" "11")) ≡ false
+unfolding computing
+seven-illegal = refl
+
+pub eight-legal : isLegal (started (secured "abcdefg8" "11")) ≡ true
+unfolding computing
+eight-legal = refl
+
 -- one lamp
 abbrev which : (name maker model other password inputs : String) (lamp warm cool : ℕ) → MaybeSetting
 which name maker model other password inputs lamp warm cool =
-    firstOutOfRange
+    refusedSetting
     (wantedOf (ascii name) (ascii maker) (ascii model) (ascii other) (ascii password) (ascii inputs) (lamp ∷ [])
     warm cool)
 
@@ -63,3 +90,12 @@ first-of-two-told = refl
 pub no-setting-told : which "ERR5" "" "" "" "password" "1159" lampLimit 600 600 ≡ NoSetting
 unfolding computing firstFailing
 no-setting-told = refl
+
+pub short-password-told : which "" "" "" "" "abcdef7" "11" 0 20 60 ≡ SettingIs Password
+unfolding computing firstFailing
+short-password-told = refl
+
+-- a password of seven characters is in its range
+pub later-setting-told : which "" "" "" "" "abcdef7" "11" 0 20 0 ≡ SettingIs Cooling
+unfolding computing firstFailing
+later-setting-told = refl

@@ -2,7 +2,7 @@
 --   SettingsTold s      each text with its rule, the inputs, the counts and stretches
 -- Assumes nothing.
 use Prim.Native.Nat.{ℕ, _+_, _*_, _≤_, _<_}
-use mathlib.Core.Path.{_≡_, sym, _∙_}
+use mathlib.Core.Path.{_≡_, sym, ap, _∙_}
 use mathlib.Core.Bool.{Bool, true, _&&_}
 use mathlib.Core.List.{List}
 use native.Mathlib.Omega.{arith}
@@ -15,13 +15,13 @@ use Rattle.lines.specs.Bytes.{_at_}
 use Rattle.lines.specs.Inputs.{isInputText}
 use Rattle.lines.specs.Texts.{isName, isInfo, isPassword, passwordMost}
 use Rattle.record.specs.Limits.{textRoom, inputRoom, listedMost, lampsMost, stretchMost}
-use Rattle.record.specs.Rules.{isInputs, isStretch}
+use Rattle.record.specs.Rules.{isLongEnough, isSetUpPassword, isInputs, isStretch}
 use Rattle.record.specs.Legal.{fillsTextRoom, fillsRoom, isSettings}
 use Rattle.record.specs.declared.types.Text.{Text}
 use Rattle.record.specs.declared.types.Settings.{Settings}
 use Rattle.lines.proofs.TextsTold.{password-long}
 use Rattle.record.proofs.Kept.{Kept, kept-told, kept-length}
-use Rattle.record.proofs.Rules.{inputs-some}
+use Rattle.record.proofs.Rules.{set-up-password-written, set-up-password-long, inputs-some}
 use Rattle.record.proofs.InputsTold.{input-named, inputs-differ}
 
 -- the bytes of a text
@@ -41,6 +41,7 @@ pub record SettingsTold (s : Settings) : Type 0 where
   pub model : TextKept isInfo (s .model)
   pub other : TextKept isInfo (s .other)
   pub password : TextKept isPassword (s .password)
+  pub long-enough : isLongEnough (s .password .len) ≡ true
   pub inputs : Kept inputRoom isInputs (s .inputs) (2 * s .«input_count»)
   pub lamps : s .«lamp_count» ≤ lampsMost
   pub warm : StretchTold (s .warm)
@@ -51,6 +52,20 @@ stretch-told n h = record {
   low = leb-true 1 n (both-left (leb 1 n) (leb n stretchMost) h);
   high = leb-true n stretchMost (both-right (leb 1 n) (leb n stretchMost) h);
 }
+
+-- what a password of set-up tells: what the writer's does, and its length
+module _ (t : Text) (k : TextKept isSetUpPassword t) where
+  password-told : TextKept isPassword t
+  password-told = record {
+    long = k .long;
+    inside = k .inside;
+    clear = k .clear;
+    follows = set-up-password-written (bytesOf t) (k .follows);
+  }
+
+  password-long-enough : isLongEnough (t .len) ≡ true
+  password-long-enough =
+      ap isLongEnough (sym (kept-length textRoom isSetUpPassword _ _ k)) ∙ set-up-password-long (bytesOf t) (k .follows)
 
 module _ (s : Settings) where
   abbrev name-ok : Bool
@@ -66,7 +81,7 @@ module _ (s : Settings) where
   to-other = to-model && fillsTextRoom isInfo (s .other)
 
   abbrev to-password : Bool
-  to-password = to-other && fillsTextRoom isPassword (s .password)
+  to-password = to-other && fillsTextRoom isSetUpPassword (s .password)
 
   abbrev inputs-ok : Bool
   inputs-ok = fillsRoom inputRoom isInputs (s .inputs) (2 * s .«input_count»)
@@ -87,7 +102,8 @@ module _ (s : Settings) where
       let h7 = both-left to-lamps (isStretch (s .warm)) h8 in
       let h6 = both-left to-inputs (leb (s .«lamp_count») lampsMost) h7 in
       let h5 = both-left to-password inputs-ok h6 in
-      let h4 = both-left to-other (fillsTextRoom isPassword (s .password)) h5 in
+      let h4 = both-left to-other (fillsTextRoom isSetUpPassword (s .password)) h5 in
+      let p = kept-told textRoom isSetUpPassword _ _ (both-right to-other (fillsTextRoom isSetUpPassword (s .password)) h5) in
       let h3 = both-left to-model (fillsTextRoom isInfo (s .other)) h4 in
       let h2 = both-left to-maker (fillsTextRoom isInfo (s .model)) h3 in
       record {
@@ -95,7 +111,8 @@ module _ (s : Settings) where
         maker = kept-told textRoom isInfo _ _ (both-right name-ok (fillsTextRoom isInfo (s .maker)) h2);
         model = kept-told textRoom isInfo _ _ (both-right to-maker (fillsTextRoom isInfo (s .model)) h3);
         other = kept-told textRoom isInfo _ _ (both-right to-model (fillsTextRoom isInfo (s .other)) h4);
-        password = kept-told textRoom isPassword _ _ (both-right to-other (fillsTextRoom isPassword (s .password)) h5);
+        password = password-told (s .password) p;
+        long-enough = password-long-enough (s .password) p;
         inputs = kept-told inputRoom isInputs _ _ (both-right to-password inputs-ok h6);
         lamps = leb-true (s .«lamp_count») lampsMost (both-right to-inputs (leb (s .«lamp_count») lampsMost) h7);
         warm = stretch-told (s .warm) (both-right to-lamps (isStretch (s .warm)) h8);

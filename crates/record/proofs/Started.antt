@@ -8,10 +8,10 @@ use native.Mathlib.Omega.{arith}
 use lib.ListN.{length, getD, drop, List·getD-append}
 use borrow.Author.Tests.{le-leb}
 use Rattle.text.proofs.Choices.{both, by-not}
-use Rattle.lines.specs.Texts.{isName, isInfo, isPassword}
+use Rattle.lines.specs.Texts.{isName, isInfo}
 use Rattle.record.specs.Limits.{textRoom, inputRoom, lampsMost}
 use Rattle.record.specs.Wanted.{Wanted}
-use Rattle.record.specs.Rules.{isNewInput, isInputs, isLamps, isErrors}
+use Rattle.record.specs.Rules.{isSetUpPassword, isNewInput, isInputs, isLamps, isErrors}
 use Rattle.record.specs.Record.{zeros, inRoom, closed, settingsOf, startOwn, started, blank}
 use Rattle.record.specs.Legal.{fillsRoom, isSettings, isOwn, isLegal}
 use Rattle.record.specs.SetUp.{isSettingInRange, isSetUp, setUp}
@@ -19,14 +19,14 @@ use Rattle.record.specs.declared.out_of_range.Setting.{Setting}
 use Rattle.record.specs.declared.out_of_range.Setting.the-variants.{Name, Maker, Model, Other, Password, Inputs}
 use Rattle.record.specs.declared.out_of_range.Setting.the-variants.{Lamps, WarmUp, Cooling}
 use Rattle.lines.proofs.TextsTold.{name-long, info-long, password-long}
-use Rattle.record.proofs.Rules.{inputs-some, inputs-few, inputs-new, lamps-few}
+use Rattle.record.proofs.Rules.{set-up-password-shown, inputs-some, inputs-few, inputs-new, lamps-few}
 use Rattle.record.proofs.Places.{pairs-even}
 use Rattle.record.proofs.Kept.{filled-kept, kept-shown}
 use Rattle.record.proofs.OwnTold.{own-shown, off-left}
 use Rattle.record.proofs.ConnectionTold.{closed-legal}
 use Rattle.record.proofs.LegalTold.{legal-by-parts, settings-of-legal}
 use Rattle.record.proofs.SettingsTold.{input-count-low}
-use Rattle.record.proofs.Calls.{set-up-by}
+use Rattle.record.proofs.Calls.{set-up-long, set-up-by}
 use Rattle.record.proofs.OutOfRange.{each-in-range}
 
 -- it has no input
@@ -57,6 +57,9 @@ module _ (w : Wanted) where
     password-fits : length (w .password) ≤ textRoom
     password-fits = omega (arith, password-long (w .password) (met Password))
 
+    secured : isSetUpPassword (w .password) ≡ true
+    secured = set-up-password-shown (w .password) (met Password) (set-up-long w h)
+
     settings-legal : isSettings (settingsOf w) ≡ true
     unfolding isSettings
     settings-legal =
@@ -65,7 +68,7 @@ module _ (w : Wanted) where
         (info-kept (w .maker) (met Maker)))
         (info-kept (w .model) (met Model)))
         (info-kept (w .other) (met Other)))
-        (filled textRoom isPassword (w .password) password-fits (met Password)))
+        (filled textRoom isSetUpPassword (w .password) password-fits secured))
         (ap (fillsRoom inputRoom isInputs (inRoom inputRoom (w .inputs))) (inputs-halved (w .inputs) (met Inputs))
         ∙ filled inputRoom isInputs (w .inputs) (inputs-few (w .inputs) (met Inputs)) (met Inputs)))
         (le-leb (length (w .lamps)) lampsMost (lamps-few (w .lamps) (met Lamps))))
@@ -98,8 +101,10 @@ module _ (w : Wanted) where
   -- an accepted set-up is legal, and gives the started device
   pub set-up-legal : setUp w .number ≡ 0 → isLegal (setUp w .device) ≡ true
   set-up-legal =
-      set-up-by w (λ r. r .number ≡ 0 → isLegal (r .device) ≡ true) (λ e. absurd (omega arith)) (λ h e. started-legal h)
+      set-up-by w (λ r. r .number ≡ 0 → isLegal (r .device) ≡ true) (λ e. absurd (omega arith))
+      (λ e. absurd (omega arith)) (λ h e. started-legal h)
 
   pub set-up-started : setUp w .number ≡ 0 → setUp w .device ≡ started w
   set-up-started =
-      set-up-by w (λ r. r .number ≡ 0 → r .device ≡ started w) (λ e. absurd (omega arith)) (λ h e. refl)
+      set-up-by w (λ r. r .number ≡ 0 → r .device ≡ started w) (λ e. absurd (omega arith))
+      (λ e. absurd (omega arith)) (λ h e. refl)

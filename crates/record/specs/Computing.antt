@@ -2,15 +2,15 @@
 -- records only (01, "Lines that settle it").
 -- Assumes nothing.
 use Rattle.lines.specs.Computing.{computing as lines}
-use Rattle.record.specs.Rules.{eachPair, isNone, isInputs, isLamps, isErrors}
+use Rattle.record.specs.Rules.{isSetUpPassword, eachPair, isNone, isInputs, isLamps, isErrors}
 use Rattle.record.specs.Record.{inRoom, closed, started, blank}
 use Rattle.record.specs.Legal.{isClear, fillsRoom, isSettings, isLeft, isOwn}
 use Rattle.record.specs.Legal.{isAge, heldMost, isHeld, isConnection, isLegal}
-use Rattle.record.specs.SetUp.{isSetUp, setUp}
+use Rattle.record.specs.SetUp.{isInRange, isSetUp, setUp}
 use Rattle.record.specs.HostCalls.{faultSet, errorsSet}
 
 unfoldable pub computing : Unit {0}
 unfolding
-    lines eachPair isNone isInputs isLamps isErrors inRoom closed started blank isClear fillsRoom isSettings isLeft
-    isOwn isAge heldMost isHeld isConnection isLegal isSetUp setUp faultSet errorsSet
+    lines isSetUpPassword eachPair isNone isInputs isLamps isErrors inRoom closed started blank isClear fillsRoom
+    isSettings isLeft isOwn isAge heldMost isHeld isConnection isLegal isInRange isSetUp setUp faultSet errorsSet
 computing = tt

@@ -21,11 +21,11 @@ use lib.Dec.{leb, ltb, eqb}
 use Rattle.text.specs.Words.{if_then_else_}
 use Rattle.text.specs.Scans.{every}
 use Rattle.lines.specs.Bytes.{noCr}
-use Rattle.lines.specs.Texts.{isName, isInfo, isPassword}
+use Rattle.lines.specs.Texts.{isName, isInfo}
 use Rattle.lines.specs.Forms.{commandMost}
 use Rattle.record.specs.Limits.{textRoom, inputRoom, lampsMost, lineRoom, ageEnd, cooling, warming, isPower}
 use Rattle.record.specs.Limits.{shut, awaiting, opened, failed, isPhase}
-use Rattle.record.specs.Rules.{isInputs, isLamps, isStretch, isErrors}
+use Rattle.record.specs.Rules.{isSetUpPassword, isInputs, isLamps, isStretch, isErrors}
 use Rattle.record.specs.declared.types.Text.{Text}
 use Rattle.record.specs.declared.types.Settings.{Settings}
 use Rattle.record.specs.declared.types.Own.{Own}
@@ -47,7 +47,7 @@ fillsTextRoom rule t = fillsRoom textRoom rule (t .bytes) (t .len)
 unfoldable pub isSettings : Settings → Bool
 isSettings s =
     fillsTextRoom isName (s .name) && fillsTextRoom isInfo (s .maker) && fillsTextRoom isInfo (s .model)
-    && fillsTextRoom isInfo (s .other) && fillsTextRoom isPassword (s .password)
+    && fillsTextRoom isInfo (s .other) && fillsTextRoom isSetUpPassword (s .password)
     && fillsRoom inputRoom isInputs (s .inputs) (2 * s .«input_count»)
     && leb (s .«lamp_count») lampsMost && isStretch (s .warm) && isStretch (s .cool)
 

@@ -1,5 +1,6 @@
 -- The numbers of the device record, each named once (01, "Set-up", "Connection" and "Commands").
 --   textRoom, listedMost, ..     the room of each array, and how much of it a set-up may use
+--   passwordLeast                a password that secures has this many characters and more (02, L9)
 --   lampLimit                    a lamp's seconds stop here: 99,999 hours and 3,599 seconds
 --   stretchMost                  warm-up and cooling last 1 to this many seconds
 --   ageEnd                       an awaiting or failed connection closes when its age reaches this
@@ -24,6 +25,9 @@ listedMost = 16
 -- two characters an input
 abbrev pub inputRoom : ℕ
 inputRoom = 2 * listedMost
+
+abbrev pub passwordLeast : ℕ
+passwordLeast = 8
 
 abbrev pub lampsMost : ℕ
 lampsMost = 8

@@ -1,4 +1,6 @@
--- What the settings have to be (01, "Set-up"). The rules of texts and passwords are those of `lines`.
+-- What the settings have to be (01, "Set-up"). The rules of texts, and of a password's characters, are those of `lines`.
+--   isLongEnough n       n characters are a password's: none, which is no security, or 8 and more (02, L9)
+--   isSetUpPassword s    the rule of set-up: as the controller's writer has it (`isPassword`), and long enough
 --   eachPair f s         s is pairs, and each pair passes the test f, which also sees what follows it
 --   isNone a b s         the input a b is none of the inputs s: each of them is another (isOther)
 --   isNewInput a b s     the characters a b name an input, which none of the later ones s repeats
@@ -11,17 +13,25 @@
 -- Assumes nothing.
 use Prim.Native.Nat.{ℕ, _+_, _-_, _*_}
 use Prim.Native.Char.{code}
-use mathlib.Core.Bool.{Bool, true, false, not, _&&_}
+use mathlib.Core.Bool.{Bool, true, false, not, _&&_, _||_}
 use mathlib.Core.List.{List, [], _∷_}
 use lib.ListN.{length}
 use lib.Dec.{leb, eqb}
 use Rattle.text.specs.Words.{if_then_else_}
 use Rattle.text.specs.Scans.{every}
 use Rattle.lines.specs.Inputs.{isInputText}
-use Rattle.record.specs.Limits.{inputRoom, lampsMost, lampLimit, stretchMost, errorsCount, errorMost}
+use Rattle.lines.specs.Texts.{isPassword}
+use Rattle.record.specs.Limits.{passwordLeast, inputRoom, lampsMost, lampLimit, stretchMost}
+use Rattle.record.specs.Limits.{errorsCount, errorMost}
 
 abbrev pub atMost : ℕ → ℕ → Bool
 atMost n x = leb x n
+
+abbrev pub isLongEnough : ℕ → Bool
+isLongEnough n = eqb n 0 || leb passwordLeast n
+
+unfoldable pub isSetUpPassword : List ℕ → Bool
+isSetUpPassword s = isPassword s && isLongEnough (length s)
 
 unfoldable pub eachPair : (ℕ → ℕ → List ℕ → Bool) → List ℕ → Bool
 eachPair f [] = true

@@ -1,17 +1,20 @@
--- Set-up (01, "Set-up"; number 3 of "The numbers a call gives"): which device it gives, for every input.
+-- Set-up (01, "Set-up"; number 3 of "The numbers a call gives"; number 8 of 02, L9): which device it gives, for every
+-- input.
 --   settingsInOrder           the nine settings, in the order in which set-up is lent them
---   isSettingInRange w s      the setting s meets its rule
---   isSetUp w                 each setting does
---   setUp w                   0 and the started device, or 3 and the blank record
+--   isSettingInRange w s      the setting s is in its range: a password of 1 to 7 characters is in its
+--   isInRange w               each setting is: every 3 is ruled out
+--   isSetUp w                 and the password is long enough
+--   setUp w                   0 and the started device, or 3, then 8, and the blank record
 -- An odd number of characters is no list of inputs, and so out of range.
 -- Assumes nothing.
-use mathlib.Core.Bool.{Bool}
+use mathlib.Core.Bool.{Bool, not, _&&_}
 use mathlib.Core.List.{List, [], _∷_}
+use lib.ListN.{length}
 use Rattle.text.specs.Words.{if_then_else_}
 use Rattle.text.specs.Scans.{every}
 use Rattle.lines.specs.Texts.{isName, isInfo, isPassword}
 use Rattle.record.specs.Wanted.{Wanted}
-use Rattle.record.specs.Rules.{isInputs, isLamps, isStretch}
+use Rattle.record.specs.Rules.{isLongEnough, isInputs, isLamps, isStretch}
 use Rattle.record.specs.Record.{started, blank, accepted, refused}
 use Rattle.record.specs.declared.types.Changed.{Changed}
 use Rattle.record.specs.declared.out_of_range.Setting.{Setting}
@@ -32,8 +35,14 @@ isSettingInRange w Lamps = isLamps (w .lamps)
 isSettingInRange w WarmUp = isStretch (w .warm)
 isSettingInRange w Cooling = isStretch (w .cool)
 
+unfoldable pub isInRange : Wanted → Bool
+isInRange w = every (isSettingInRange w) settingsInOrder
+
 unfoldable pub isSetUp : Wanted → Bool
-isSetUp w = every (isSettingInRange w) settingsInOrder
+isSetUp w = isInRange w && isLongEnough (length (w .password))
 
 unfoldable pub setUp : Wanted → Changed
-setUp w = if isSetUp w then accepted (started w) else refused 3 blank
+setUp w =
+    if not (isInRange w) then refused 3 blank
+    else if not (isLongEnough (length (w .password))) then refused 8 blank
+    else accepted (started w)

@@ -1,7 +1,7 @@
 // Set-up (01, "Set-up"): each setting is tested, then kept.
 use crate::fill;
 use crate::out_of_range;
-use crate::out_of_range::MaybeSetting;
+use crate::settings;
 use crate::types::Changed;
 use crate::types::Connection;
 use crate::types::Device;
@@ -9,7 +9,7 @@ use crate::types::Settings;
 ghost use mathlib.Core.Path.{_≡_};
 ghost use mathlib.Core.Bool.{true};
 ghost use Rattle.record.specs.Wanted.{wantedOf};
-ghost use Rattle.record.specs.Record.{settingsOf};
+ghost use Rattle.record.specs.Record.{blank, refused, settingsOf};
 ghost use Rattle.record.specs.SetUp.{isSetUp, setUp};
 
 fn settings_of(
@@ -49,7 +49,15 @@ fn settings_of(
     }
 }
 
-// 0 and the started device, or 3 and the blank record where a setting is out of its range.
+fn refuse(number: u32) -> Changed
+    ensures { λ r. ⌜ r ≡ refused number blank ⌝ }
+{
+    let device = Device::BLANK;
+    Changed { number, device }
+}
+
+// 0 and the started device, or the blank record: with 3 where a setting is out of its range, then with 8 where the
+// password is too short.
 pub fn set_up(
     name: &[u8],
     maker: &[u8],
@@ -65,7 +73,7 @@ pub fn set_up(
         ⌜ r ≡ setUp (wantedOf (now (name .entry)) (now (maker .entry)) (now (model .entry)) (now (other .entry))
         (now (password .entry)) (now (inputs .entry)) (now (lamps .entry)) warm cool) ⌝ }
 {
-    let first = out_of_range::first_out_of_range(
+    let in_range = out_of_range::in_range(
         name,
         maker,
         model,
@@ -76,31 +84,30 @@ pub fn set_up(
         warm,
         cool,
     );
-    match first {
-        MaybeSetting::SettingIs(_) => {
-            let device = Device::BLANK;
-            Changed { number: 3, device }
-        }
-        MaybeSetting::NoSetting => {
-            let settings = settings_of(
-                name,
-                maker,
-                model,
-                other,
-                password,
-                inputs,
-                lamps,
-                warm,
-                cool,
-            );
-            let own = fill::start_own(lamps);
-            let connection = Connection::CLOSED;
-            let device = Device {
-                settings,
-                own,
-                connection,
-            };
-            Changed { number: 0, device }
-        }
+    let long = settings::long_enough(password.len());
+    if !in_range {
+        return refuse(3);
     }
+    if !long {
+        return refuse(8);
+    }
+    let kept = settings_of(
+        name,
+        maker,
+        model,
+        other,
+        password,
+        inputs,
+        lamps,
+        warm,
+        cool,
+    );
+    let own = fill::start_own(lamps);
+    let connection = Connection::CLOSED;
+    let device = Device {
+        settings: kept,
+        own,
+        connection,
+    };
+    Changed { number: 0, device }
 }

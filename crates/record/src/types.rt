@@ -5,6 +5,9 @@ pub const INPUTS_MOST: usize = 16;
 
 pub const INPUT_ROOM: usize = 2 * INPUTS_MOST;
 
+// A password that secures has this many characters and more (02, L9).
+pub const PASSWORD_LEAST: usize = 8;
+
 pub const LAMPS_MOST: usize = 8;
 
 pub const LINE_ROOM: usize = 167;
