@@ -1,5 +1,5 @@
--- Which setting is out of its range: what `firstOutOfRange` tells holds of the settings, what holds of them is told, and
--- none is told exactly where each is in its range.
+-- Which setting is out of its range: what `firstOutOfRange` tells holds of the settings, what holds of them is told,
+-- and none is told exactly where each is in its range.
 --   Stepped k l      the settings l stand at the places from k on, to the last
 -- Assumes nothing.
 use Prim.Native.Nat.{ℕ, suc, _≤_, _<_}

@@ -56,7 +56,8 @@ module _ (w : Wanted) where
       by true true f = absurd (omega arith)
 
   pub set-up-refusal : (setUp w .number ≡ 0 → ⊥) → setUp w .device ≡ blank
-  set-up-refusal = set-up-by w (λ r. (r .number ≡ 0 → ⊥) → r .device ≡ blank) (λ n. refl) (λ n. refl) (λ h n. absurd (n refl))
+  set-up-refusal =
+      set-up-by w (λ r. (r .number ≡ 0 → ⊥) → r .device ≡ blank) (λ n. refl) (λ n. refl) (λ h n. absurd (n refl))
 
   pub set-up-one : {r q : Changed} → r ≡ setUp w → q ≡ setUp w → r ≡ q
   set-up-one e f = one-result e f

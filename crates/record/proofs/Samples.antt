@@ -43,7 +43,7 @@ numbered = refl
 abbrev secured : String → String → Wanted
 secured password inputs = wantedOf [] [] [] [] (ascii password) (ascii inputs) (0 ∷ []) 20 60
 
--- none, one, seven, eight and 32 characters; then what is 3 and not 8: a space among seven, 33, an input out of its range
+-- none, one, seven, eight and 32 characters; then what is 3 and not 8: a space among seven, 33, an input that is none
 abbrev withPasswords : List ℕ
 withPasswords =
     setUp (secured "" "11") .number ∷ setUp (secured "a" "11") .number ∷ setUp (secured "abcdef7" "11") .number

@@ -80,8 +80,11 @@ module _ (s : Settings) where
   abbrev to-other : Bool
   to-other = to-model && fillsTextRoom isInfo (s .other)
 
+  abbrev password-ok : Bool
+  password-ok = fillsTextRoom isSetUpPassword (s .password)
+
   abbrev to-password : Bool
-  to-password = to-other && fillsTextRoom isSetUpPassword (s .password)
+  to-password = to-other && password-ok
 
   abbrev inputs-ok : Bool
   inputs-ok = fillsRoom inputRoom isInputs (s .inputs) (2 * s .«input_count»)
@@ -102,8 +105,8 @@ module _ (s : Settings) where
       let h7 = both-left to-lamps (isStretch (s .warm)) h8 in
       let h6 = both-left to-inputs (leb (s .«lamp_count») lampsMost) h7 in
       let h5 = both-left to-password inputs-ok h6 in
-      let h4 = both-left to-other (fillsTextRoom isSetUpPassword (s .password)) h5 in
-      let p = kept-told textRoom isSetUpPassword _ _ (both-right to-other (fillsTextRoom isSetUpPassword (s .password)) h5) in
+      let h4 = both-left to-other password-ok h5 in
+      let p = kept-told textRoom isSetUpPassword _ _ (both-right to-other password-ok h5) in
       let h3 = both-left to-model (fillsTextRoom isInfo (s .other)) h4 in
       let h2 = both-left to-maker (fillsTextRoom isInfo (s .model)) h3 in
       record {

@@ -1,4 +1,4 @@
--- What the settings have to be (01, "Set-up"). The rules of texts, and of a password's characters, are those of `lines`.
+-- What the settings have to be (01, "Set-up"). The rules of texts and of a password's characters are those of `lines`.
 --   isLongEnough n       n characters are a password's: none, which is no security, or 8 and more (02, L9)
 --   isSetUpPassword s    the rule of set-up: as the controller's writer has it (`isPassword`), and long enough
 --   eachPair f s         s is pairs, and each pair passes the test f, which also sees what follows it

@@ -1,4 +1,4 @@
--- `record::out_of_range::refused_setting` meets its contract: the first out of its range, or the password if it is short.
+-- `record::out_of_range::refused_setting` meets its contract: the first out of its range, or else a short password.
 -- Assumes nothing.
 use mathlib.Core.Path.{_∙_}
 use borrow.Author.Needs.{needs}
