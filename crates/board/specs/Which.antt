@@ -1,4 +1,4 @@
--- The setting that is out of its range, as a number (include/ceiling.h): its place in the order of set-up, or 0.
+-- The setting for which set-up refuses, as a number (include/ceiling.h): its place in the order of set-up, or 0.
 --   settingNumber m
 -- Assumes nothing.
 use Prim.Native.Nat.{ℕ}

@@ -4,7 +4,7 @@ use record::out_of_range::MaybeSetting;
 use record::out_of_range::Setting;
 ghost use mathlib.Core.Path.{_≡_};
 ghost use Rattle.record.specs.Wanted.{wantedOf};
-ghost use Rattle.record.specs.OutOfRange.{settingPlace, firstOutOfRange};
+ghost use Rattle.record.specs.OutOfRange.{settingPlace, refusedSetting};
 ghost use Rattle.board.specs.Which.{settingNumber};
 
 fn place_of(s: Setting) -> u32
@@ -32,7 +32,8 @@ fn setting_number(m: MaybeSetting) -> u32
     }
 }
 
-// 0 where set-up gives 0; else the place of the first setting that is out of its range.
+// 0 where set-up gives 0; the place of the first setting that is out of its range where it gives 3; the password's
+// where it gives 8 (02, L9).
 #[no_mangle]
 pub extern "C" fn pj_which_setting(
     name: &[u8],
@@ -47,11 +48,11 @@ pub extern "C" fn pj_which_setting(
 ) -> u32
     ensures { λ r.
         ⌜
-        r ≡ settingNumber (firstOutOfRange (wantedOf (now (name .entry)) (now (maker .entry)) (now (model .entry))
+        r ≡ settingNumber (refusedSetting (wantedOf (now (name .entry)) (now (maker .entry)) (now (model .entry))
         (now (other .entry)) (now (password .entry)) (now (inputs .entry)) (now (lamps .entry)) warm cool))
         ⌝ }
 {
-    setting_number(out_of_range::first_out_of_range(
+    setting_number(out_of_range::refused_setting(
         name,
         maker,
         model,

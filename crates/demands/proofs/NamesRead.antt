@@ -22,4 +22,5 @@ names-read w =
     set-up-by w
     (λ (r : Changed). r .number ≡ 0
     → ours .read-reply (Query Name) (ascii "%1NAME=" ++ w .name ++ ascii "\r") ≡ meaning (textIs (w .name)))
-    (λ e. absurd (omega arith)) (λ h e. accepted-name-is-read (w .name) (each-in-range w h ItsName))
+    (λ e. absurd (omega arith)) (λ e. absurd (omega arith))
+    (λ h e. accepted-name-is-read (w .name) (each-in-range w h ItsName))

@@ -28,10 +28,10 @@ use Rattle.lines.specs.declared.command.Command.{Command}
 use Rattle.answers.specs.Said.{nothing}
 use Rattle.answers.specs.Writings.{Allowed}
 use Rattle.record.specs.Wanted.{Wanted}
-use Rattle.record.specs.Rules.{isErrors}
+use Rattle.record.specs.Rules.{isLongEnough, isErrors}
 use Rattle.record.specs.Legal.{isLegal}
 use Rattle.record.specs.Record.{blank}
-use Rattle.record.specs.SetUp.{isSetUp}
+use Rattle.record.specs.SetUp.{isInRange}
 use Rattle.record.specs.declared.types.Device.{Device}
 use Rattle.device.specs.Calls.{receivingRows, openingRows, closingRows}
 use Rattle.controller.specs.Writing.{commandRoom, isWritable}
@@ -53,8 +53,9 @@ rowsOf d (passes n) = (1 when isIllegal d) ∷ []
 rowsOf d (marks fault) = (1 when isIllegal d) ∷ []
 rowsOf d (reports errors) = (1 when isIllegal d) ∷ (3 when not (isErrors errors)) ∷ []
 
+-- 02, L9: 8 after every 3
 abbrev pub setUpRows : Wanted → List Row
-setUpRows w = (3 when not (isSetUp w)) ∷ []
+setUpRows w = (3 when not (isInRange w)) ∷ (8 when not (isLongEnough (length (w .password)))) ∷ []
 
 abbrev pub writerRows : Command → Bool → List ℕ → List ℕ → List Row
 writerRows c secured password m =

@@ -10,4 +10,4 @@ pub pj-which-setting-spec : {M : Type 1} → statement M
 pj-which-setting-spec =
     tie.close
     (tie.spec (λ c κs. search needs) (λ c κs. search needs)
-    (λ c. c .setting-number .ensures ∙ ap settingNumber (c .before .first-out-of-range .ensures)))
+    (λ c. c .setting-number .ensures ∙ ap settingNumber (c .before .refused-setting .ensures)))
