@@ -56,6 +56,7 @@ enum pj_number {
                                    cannot be compared, or the jobs, rigs or lists of a day are out of theirs */
     PJ_NOT_CONNECTED = 4,       /* receiving or closing on a closed connection */
     PJ_CONNECTED = 5,           /* opening a connection that is not closed */
+    PJ_SHORT_PASSWORD = 8,      /* a set-up's password has 1 to 7 characters, and nothing is out of its range */
     PJ_NOT_A_LINE = 10,         /* what was read is not a greeting or reply line */
     PJ_OTHER_COMMAND = 11,      /* it is a reply to another command */
     PJ_NOT_ALLOWED = 12,        /* it is a reply to the command, with a parameter that is not allowed there */
@@ -169,14 +170,15 @@ typedef struct {
    - Texts: the name to PJ_NAME_MOST bytes, maker, model and other information to PJ_INFO_MOST, each byte 0x20 to
      0xFF; none of them is exactly ERR1, ERR2, ERR3 or ERR4. The name is well-formed UTF-8 too (RFC 3629): no overlong
      form, no surrogate, nothing over U+10FFFF, and no character cut off at the end.
-   - The password: 0 to PJ_PASSWORD_MOST ASCII letters and digits. Length 0 means no security.
+   - The password: 0 to PJ_PASSWORD_MOST ASCII letters and digits, and not 1 to 7. Length 0 means no security.
    - Inputs: 1 to PJ_INPUTS_MOST, all different, two ASCII characters each, a type '1' to '5' (RGB, VIDEO, DIGITAL,
      STORAGE, NETWORK) and a number '1' to '9'; inputs_len counts the characters. The first one is chosen.
    - Lamps: 0 to PJ_LAMPS_MOST, with the seconds that each has burnt, at most PJ_LAMP_MOST. The archive keeps
      nothing: a host saves own.lamps where a loss of power leaves them (every minute, say) and hands them in here at
      the next start.
    - Warm-up and cooling: 1 to PJ_WARM_COOL_MOST seconds each.
-   Refuses anything else with PJ_OUT_OF_RANGE; pj_which_setting tells which it was. */
+   Refuses a password of 1 to 7 letters and digits with PJ_SHORT_PASSWORD where all else is in range, and before that
+   anything else with PJ_OUT_OF_RANGE; pj_which_setting tells which it was. */
 CEILING_KEEP
 pj_changed pj_set_up(const uint8_t *name, size_t name_len, const uint8_t *maker, size_t maker_len,
                      const uint8_t *model, size_t model_len, const uint8_t *other, size_t other_len,
@@ -184,7 +186,7 @@ pj_changed pj_set_up(const uint8_t *name, size_t name_len, const uint8_t *maker,
                      const uint32_t *lamps, size_t lamp_count, uint32_t warm, uint32_t cool);
 
 enum pj_setting {               /* in the order in which pj_set_up is lent them */
-    PJ_SETTING_NONE = 0,        /* all are in range: pj_set_up gives PJ_SERVED */
+    PJ_SETTING_NONE = 0,        /* pj_set_up gives PJ_SERVED */
     PJ_SETTING_NAME = 1,
     PJ_SETTING_MAKER = 2,
     PJ_SETTING_MODEL = 3,
@@ -196,8 +198,9 @@ enum pj_setting {               /* in the order in which pj_set_up is lent them 
     PJ_SETTING_COOL = 9
 };
 
-/* Tells why pj_set_up refuses: of the same settings the first that is out of its range, an enum pj_setting. It is
-   PJ_SETTING_NONE exactly where pj_set_up gives PJ_SERVED. Refuses nothing. */
+/* Tells why pj_set_up refuses: of the same settings the first that is out of its range, an enum pj_setting. A password
+   of 1 to 7 letters and digits is in range for that, and is told where nothing else is wrong: PJ_SETTING_PASSWORD where
+   pj_set_up gives PJ_SHORT_PASSWORD. It is PJ_SETTING_NONE exactly where pj_set_up gives PJ_SERVED. Refuses nothing. */
 uint32_t pj_which_setting(const uint8_t *name, size_t name_len, const uint8_t *maker, size_t maker_len,
                           const uint8_t *model, size_t model_len, const uint8_t *other, size_t other_len,
                           const uint8_t *password, size_t password_len, const uint8_t *inputs, size_t inputs_len,
@@ -311,7 +314,7 @@ typedef struct {                            /* numbers, not characters; what a c
    document 000 says (5.3) that a digest before later commands does no harm, but by 01's rule on the form of a line
    the projector swallows such a line, and no reply comes. We follow 01.
    Refuses with PJ_NO_ROOM, then with PJ_OUT_OF_RANGE what is no command and, where `secured`, a password that is not
-   0 to PJ_PASSWORD_MOST letters and digits. */
+   0 to PJ_PASSWORD_MOST letters and digits; 1 to 7 are taken, since other projectors may have such a password. */
 pj_written pj_write(pj_command c, bool secured, uint32_t random, const uint8_t *password, size_t password_len,
                     uint8_t *out, size_t out_len);
 
