@@ -44,12 +44,12 @@ static pj_command command;
 static volatile uint32_t sink;
 
 CALL(call_set_up, {
-    pj_changed c = pj_set_up(TEXT("name"), TEXT("maker"), TEXT("model"), TEXT("other"), TEXT("panel2"),
+    pj_changed c = pj_set_up(TEXT("name"), TEXT("maker"), TEXT("model"), TEXT("other"), TEXT("panel123"),
                              TEXT("11213141"), lamps, 8, 600, 600);
     device = c.device;
 })
 CALL(call_which_setting, {
-    sink = pj_which_setting(TEXT("name"), TEXT("maker"), TEXT("model"), TEXT("other"), TEXT("panel2"),
+    sink = pj_which_setting(TEXT("name"), TEXT("maker"), TEXT("model"), TEXT("other"), TEXT("panel123"),
                             TEXT("11213141"), lamps, 8, 600, 600);
 })
 CALL(call_open, { device = pj_open(device, 0x498e4a67, out, sizeof out).device; })
@@ -61,7 +61,7 @@ CALL(call_set_errors, { device = pj_set_errors(device, message, 6).device; })
 CALL(call_legal, { sink = pj_legal(device); })
 CALL(call_close, { device = pj_close(device).device; })
 CALL(call_md5, { sink = pj_md5(message, sizeof message).bytes[0]; })
-CALL(call_write, { sink = (uint32_t)pj_write(command, true, 7, TEXT("panel2"), out, sizeof out).length; })
+CALL(call_write, { sink = (uint32_t)pj_write(command, true, 7, TEXT("panel123"), out, sizeof out).length; })
 CALL(call_read_greeting, { sink = pj_read_greeting(TEXT("PJLINK 1 498e4a67\r")).random; })
 CALL(call_read_reply, { sink = pj_read_reply(command, TEXT(line)).number; })
 CALL(call_compare_lamps, {

@@ -38,7 +38,7 @@ pub fn all() -> Vec<Work> {
     add("MD5 of 64 MB", true, Box::new(|| digest(LARGE)));
     add("pj_receive, whole query %1LAMP ?, 8 lamps", false, Box::new(|| receiving(opened(b""), b"%1LAMP ?\r")));
     add("pj_receive, whole query %1NAME ?, 64 bytes", false, Box::new(|| receiving(opened(b""), b"%1NAME ?\r")));
-    add("pj_receive, a line led by its digest", false, Box::new(|| receiving(opened(b"panel2"), &led_by_digest())));
+    add("pj_receive, a line led by its digest", false, Box::new(|| receiving(opened(b"panel123"), &led_by_digest())));
     add("pj_receive, one byte", false, Box::new(|| receiving(opened(b""), b"%")));
     add("pj_receive, one byte, short texts", false, Box::new(|| receiving(short(), b"%")));
     add("pj_receive, 4,096 bytes of lines, handed on", false, Box::new(|| handing_on(opened(b""))));
@@ -111,14 +111,14 @@ fn made(lent: Lent) -> Device {
 
 /// Everything moves: warm-up with 600 seconds left, and an awaiting connection.
 fn warming() -> Device {
-    let mut device = opened(b"panel2");
+    let mut device = opened(b"panel123");
     device.own.power = 3;
     device.own.left = 600;
     device
 }
 
 fn led_by_digest() -> Vec<u8> {
-    let mut line = second::reference::connection::leading_digest(0x498e_4a67, b"panel2").to_vec();
+    let mut line = second::reference::connection::leading_digest(0x498e_4a67, b"panel123").to_vec();
     line.extend_from_slice(b"%1POWR ?\r");
     line
 }

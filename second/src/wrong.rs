@@ -66,7 +66,7 @@ mod tests {
         let mut run = Run::new(1, &mut board);
         assert!(run.all().is_ok());
         for (call, kinds) in [
-            ("pj_set_up", "served !3"),
+            ("pj_set_up", "served !3 !8"),
             ("pj_close", "served !1 !4"),
             ("pj_pass", "served !1"),
             ("pj_pass_in_place", "served !1"),

@@ -9,6 +9,9 @@ use crate::reference::rules::unmistaken;
 use crate::reference::set_up::{LAMP_LIMIT, MOST_INPUTS};
 use crate::reference::swap;
 
+/// Enough memory for every form.
+pub const ROOM: usize = LONGEST;
+
 /// The sections of a form: how many there are, and what one of each one's count takes.
 const SIZES: [usize; 7] = [1, 1, 1, 1, 1, 2, 4];
 

@@ -7,6 +7,7 @@ pub mod histories;
 pub mod lines;
 pub mod messages;
 pub mod names;
+pub mod passwords;
 pub mod random;
 pub mod records;
 pub mod replies;
@@ -65,6 +66,7 @@ impl<'a, B: Side> Run<'a, B> {
         self.every_name()?;
         self.every_hours()?;
         self.every_form()?;
+        self.every_password()?;
         while self.agreed < ENOUGH {
             self.round()?;
         }
@@ -150,6 +152,11 @@ impl<'a, B: Side> Run<'a, B> {
 
     fn every_hours(&mut self) -> Compared {
         replies::every_hours().into_iter().try_for_each(|act| self.compare_call(Device::BLANK, act))
+    }
+
+    fn every_password(&mut self) -> Compared {
+        let all = passwords::everywhere(&mut self.random);
+        all.into_iter().try_for_each(|(device, act)| self.compare_call(device, act))
     }
 
     /// Stored forms in which everything is damaged, memory of every length for them; long ones last.

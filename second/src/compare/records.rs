@@ -104,6 +104,10 @@ pub fn damage(random: &mut Random, device: &mut Device, field: usize) {
         1 => text(random, &mut settings.maker),
         2 => text(random, &mut settings.model),
         3 => text(random, &mut settings.other),
+        4 if random.one_in(2) => {
+            let length = random.from_to(0, 9);
+            set_text(&mut settings.password, &random.letters_or_digits(length));
+        }
         4 => text(random, &mut settings.password),
         5 => settings.input_count = count(random, settings.input_count, 16),
         6 => settings.inputs[random.below(32)] = random.pick(b"\x000123456789:"),
@@ -135,10 +139,14 @@ pub fn damage(random: &mut Random, device: &mut Device, field: usize) {
 
 /// The record with another name, or the first 64 bytes of it.
 pub fn rename(device: &mut Device, name: &[u8]) {
-    let text = &mut device.settings.name;
+    set_text(&mut device.settings.name, name);
+}
+
+/// These bytes, or the first 64 of them.
+pub fn set_text(text: &mut Text, bytes: &[u8]) {
     *text = Text::EMPTY;
-    text.len = name.len().min(64);
-    text.bytes[..text.len].copy_from_slice(&name[..text.len]);
+    text.len = bytes.len().min(64);
+    text.bytes[..text.len].copy_from_slice(&bytes[..text.len]);
 }
 
 fn text(random: &mut Random, text: &mut Text) {

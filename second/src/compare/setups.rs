@@ -37,7 +37,7 @@ fn text(random: &mut Random, longest: usize) -> Vec<u8> {
 }
 
 fn password(random: &mut Random) -> Vec<u8> {
-    let length = if random.one_in(2) { 0 } else { random.length_to(32) };
+    let length = if random.one_in(2) { 0 } else { 8 + random.length_to(24) };
     random.letters_or_digits(length)
 }
 
@@ -86,7 +86,7 @@ fn damage(random: &mut Random, lent: &mut Lent) {
         3 => (other, 32),
         _ => (password, 32),
     };
-    match random.below(11) {
+    match random.below(13) {
         0 => *text = random.bytes_from(0x30, longest + 1),
         1 => *text = random.letters_or_digits(longest + 1),
         2 => *text = random.pick(&[b"ERR1", b"ERR2", b"ERR3", b"ERR4"]).to_vec(),
@@ -100,7 +100,11 @@ fn damage(random: &mut Random, lent: &mut Lent) {
         6 => random.damage(&mut lent.inputs),
         7 => damage_inputs(random, &mut lent.inputs),
         8 => lent.lamps.push(lamp_seconds(random)),
-        9 => {
+        9 | 10 => {
+            let length = random.from_to(1, 8);
+            lent.password = random.letters_or_digits(length);
+        }
+        11 => {
             let seconds = random.pick(&[LAMP_LIMIT + 1, LAMP_LIMIT + 2, 360_003_600, u32::MAX]);
             let place = random.below(lent.lamps.len() + 1);
             lent.lamps.insert(place, seconds);

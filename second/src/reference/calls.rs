@@ -4,7 +4,7 @@
 use super::controller::{self, Command};
 use super::replies;
 use super::rules::{Mistake, made};
-use super::set_up::{self, SetUp, are_lamps, inputs_of};
+use super::set_up::{self, SetUp, are_lamps, inputs_of, is_short};
 use super::{Connection, Projector, md5};
 use crate::face;
 
@@ -17,31 +17,59 @@ pub(super) const ROOM_SHORT: u32 = 2;
 pub(super) const OUT_OF_RANGE: u32 = 3;
 const IS_CLOSED: u32 = 4;
 const NOT_CLOSED: u32 = 5;
+const SHORT_PASSWORD: u32 = 8;
+
+/// The password's place among the settings.
+const PASSWORD: usize = 4;
 
 pub fn set_up(lent: &face::Lent) -> face::Changed {
     match accepted(lent) {
-        Some(projector) => face::Changed { number: 0, device: projector.record() },
-        None => face::Changed { number: OUT_OF_RANGE, device: face::Device::BLANK },
+        Ok(projector) => face::Changed { number: 0, device: projector.record() },
+        Err(number) => face::Changed { number, device: face::Device::BLANK },
     }
 }
 
-pub(super) fn accepted(lent: &face::Lent) -> Option<Projector> {
+/// The projector of a set-up; else 3, or 8 "after every 3 has been ruled out" (02, L9).
+pub(super) fn accepted(lent: &face::Lent) -> Result<Projector, u32> {
+    if is_short(&lent.password) && is_told_early(lent) {
+        return Err(SHORT_PASSWORD);
+    }
     let set_up = SetUp {
         name: lent.name.clone(),
         maker: lent.maker.clone(),
         model: lent.model.clone(),
         other: lent.other.clone(),
         password: lent.password.clone(),
-        inputs: inputs_of(&lent.inputs)?,
+        inputs: inputs_of(&lent.inputs).ok_or(OUT_OF_RANGE)?,
         warm: lent.warm,
         cool: lent.cool,
     };
-    (set_up.is_legal() && are_lamps(&lent.lamps)).then(|| set_up.fresh(lent.lamps.clone()))
+    if !(set_up.is_in_range() && are_lamps(&lent.lamps)) {
+        return Err(OUT_OF_RANGE);
+    }
+    if is_short(&set_up.password) {
+        return Err(if made(Mistake::ShortIsOutOfRange) { OUT_OF_RANGE } else { SHORT_PASSWORD });
+    }
+    Ok(set_up.fresh(lent.lamps.clone()))
 }
 
-/// The header: "the first that is out of its range", in the order in which a set-up is lent them, from 1; else 0.
+/// No rule tells 8 before a 3; a mistake does: before any, before that of a later setting, or before its own.
+fn is_told_early(lent: &face::Lent) -> bool {
+    let before = || !set_up::in_range(lent)[..PASSWORD].contains(&false);
+    let after = || !set_up::in_range(lent)[PASSWORD + 1..].contains(&false);
+    match () {
+        _ if made(Mistake::ShortFirst) => true,
+        _ if made(Mistake::ShortInTurn) => before(),
+        _ => made(Mistake::ShortBeforeCharacters) && before() && after(),
+    }
+}
+
+/// The header: "the first that is out of its range", in the order in which a set-up is lent them, from 1; a short
+/// password "is in range for that, and is told where nothing else is wrong"; else 0.
 pub fn which_setting(lent: &face::Lent) -> u32 {
-    let wrong = set_up::in_range(lent).map(|in_range| !in_range);
+    let mut wrong = set_up::in_range(lent).map(|in_range| !in_range);
+    let short_counts = !wrong.contains(&true) && !made(Mistake::ShortNotTold) || made(Mistake::ShortToldInTurn);
+    wrong[PASSWORD] |= short_counts && is_short(&lent.password);
     let first = wrong.iter().position(|&wrong| wrong);
     let last = wrong.iter().rposition(|&wrong| wrong);
     let told = if made(Mistake::LastSettingTold) { last } else { first };

@@ -3,7 +3,7 @@
 use super::commands::Body;
 use super::connection::{ERRA_LINE, leading_digest};
 use super::rules::{Mistake, made};
-use super::set_up::is_password;
+use super::set_up::{is_password, is_short};
 use super::text::{CR, Input, hex_number};
 use crate::face;
 
@@ -64,11 +64,13 @@ impl Command {
 }
 
 /// "The writer gives the command, preceded on request by the digest of a lent random number and password; an illegal
-/// input or password is 3." A password that is not used is not looked at.
+/// input or password is 3." A password that is not used is not looked at. 02, L9: "The controller's writer still takes 1
+/// to 7."
 pub fn written(command: face::Command, secured: bool, random: u32, password: &[u8]) -> Option<Vec<u8>> {
     let command = Command::read(command)?;
     let password_matters = secured || made(Mistake::PasswordAlwaysTested);
-    if password_matters && !is_password(password) {
+    let short = is_short(password) && made(Mistake::WriterRefusesShort);
+    if password_matters && (short || !is_password(password)) {
         return None;
     }
     let mut line = Vec::new();

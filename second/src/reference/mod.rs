@@ -20,6 +20,8 @@ pub mod service;
 pub mod set_up;
 #[cfg(test)]
 mod settled;
+#[cfg(test)]
+mod short;
 pub mod side;
 #[cfg(test)]
 mod stored;

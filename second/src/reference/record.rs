@@ -90,7 +90,8 @@ fn read_set_up(settings: &face::Settings) -> Option<SetUp> {
     if made(Mistake::RecordKeepsOldNames) && is_text(&set_up.name, LONGEST_NAME) {
         return SetUp { name: Vec::new(), ..set_up.clone() }.is_legal().then_some(set_up);
     }
-    set_up.is_legal().then_some(set_up)
+    let kept = made(Mistake::RecordKeepsShort) && set_up.is_in_range();
+    (kept || set_up.is_legal()).then_some(set_up)
 }
 
 /// "seconds left are 1 to W in warm-up, 1 to C in cooling, else 0".

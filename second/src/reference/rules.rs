@@ -75,6 +75,19 @@ mistakes! {
     FormRoomFirst: "storing tells short lent memory before an illegal record",
     RoomForTheLongest: "storing asks for room for the longest form",
     RestCleared: "storing clears the lent memory past the form",
+    ShortFirst: "a short password is 8 before any 3",
+    ShortInTurn: "a short password is 8 before the 3 of a later setting",
+    ShortIsOutOfRange: "a short password is 3",
+    ShortBeforeCharacters: "a short password that is not of letters and digits is 8",
+    SevenIsEnough: "a password of seven characters is not short",
+    EightIsShort: "a password of eight characters is short",
+    NoPasswordIsShort: "no password is a short one",
+    ShortToldInTurn: "a short password is told before a later setting that is out of its range",
+    ShortNotTold: "a short password is not told",
+    RecordKeepsShort: "a record may have a short password",
+    WriterRefusesShort: "the writer refuses a short password",
+    LoadedKeepsShort: "a stored form with a short password loads",
+    LoadTellsSetUp: "a load gives the number that set-up would give, and not 23",
 }
 
 thread_local! {

@@ -26,7 +26,13 @@ pub struct SetUp {
 }
 
 impl SetUp {
+    /// 02, L9: "A record or a stored form with such a password is no longer legal".
     pub fn is_legal(&self) -> bool {
+        self.is_in_range() && !is_short(&self.password)
+    }
+
+    /// 01's ranges, of which a short password is in the one for passwords.
+    pub fn is_in_range(&self) -> bool {
         is_name(&self.name)
             && is_information(&self.maker)
             && is_information(&self.model)
@@ -82,6 +88,18 @@ pub fn is_information(bytes: &[u8]) -> bool {
 /// "Password 0 to 32 ASCII letters and digits."
 pub fn is_password(bytes: &[u8]) -> bool {
     bytes.len() <= LONGEST_PASSWORD && all_letters_or_digits(bytes)
+}
+
+/// 02, L9: "The insurer wants at least eight characters. A password of 1 to 7 is refused at set-up with new number 8".
+/// None is none: 01's "Length 0 means no security" stands.
+pub fn is_short(password: &[u8]) -> bool {
+    let fewest = if made(Mistake::NoPasswordIsShort) { 0 } else { 1 };
+    let most = match () {
+        _ if made(Mistake::SevenIsEnough) => 6,
+        _ if made(Mistake::EightIsShort) => 8,
+        _ => 7,
+    };
+    (fewest..=most).contains(&password.len())
 }
 
 /// "Lamps: 0 to 8. The lamp starting seconds .. each at most 359,999,999".

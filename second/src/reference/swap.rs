@@ -3,7 +3,7 @@
 use super::calls::{NOT_LEGAL, ROOM_SHORT, accepted};
 use super::form::{CONTENTS, LEFT_OVER, LONGEST, SHORTEST, read, written};
 use super::rules::{Mistake, made};
-use super::set_up::{LAMP_LIMIT, LONGEST_NAME, is_text};
+use super::set_up::{LAMP_LIMIT, LONGEST_NAME, is_password, is_short, is_text};
 use super::{Power, Projector};
 use crate::face;
 
@@ -34,19 +34,20 @@ pub fn load(bytes: &[u8]) -> face::Changed {
         Ok(read) => read,
         Err(number) => return refused(number),
     };
-    let fresh = accepted(&lent).or_else(|| taken_by_mistake(lent));
+    let fresh = accepted(&lent).or_else(|number| taken_by_mistake(lent).ok_or(number));
     if !left_over.is_empty() && !made(Mistake::LeftOverTaken) {
         return match fresh {
-            None if made(Mistake::ContentsBeforeLeftOver) => refused(CONTENTS),
-            Some(fresh) if made(Mistake::LeftOverGivesRecord) => {
+            Err(_) if made(Mistake::ContentsBeforeLeftOver) => refused(CONTENTS),
+            Ok(fresh) if made(Mistake::LeftOverGivesRecord) => {
                 face::Changed { number: LEFT_OVER, device: fresh.record() }
             }
             _ => refused(LEFT_OVER),
         };
     }
     match fresh {
-        None => refused(CONTENTS),
-        Some(mut fresh) => {
+        Err(number) if made(Mistake::LoadTellsSetUp) => refused(number),
+        Err(_) => refused(CONTENTS),
+        Ok(mut fresh) => {
             if made(Mistake::LoadedIsOn) {
                 fresh.power = Power::On;
             }
@@ -59,11 +60,17 @@ pub fn load(bytes: &[u8]) -> face::Changed {
 fn taken_by_mistake(mut lent: face::Lent) -> Option<Projector> {
     if made(Mistake::LoadedLampsStopped) {
         lent.lamps.iter_mut().for_each(|seconds| *seconds = (*seconds).min(LAMP_LIMIT));
-        return accepted(&lent);
+        return accepted(&lent).ok();
+    }
+    if made(Mistake::LoadedKeepsShort) && is_short(&lent.password) && is_password(&lent.password) {
+        let password = std::mem::take(&mut lent.password);
+        let mut fresh = accepted(&lent).ok()?;
+        fresh.set_up.password = password;
+        return Some(fresh);
     }
     if made(Mistake::LoadedKeepsOldNames) && is_text(&lent.name, LONGEST_NAME) {
         let name = std::mem::take(&mut lent.name);
-        let mut fresh = accepted(&lent)?;
+        let mut fresh = accepted(&lent).ok()?;
         fresh.set_up.name = name;
         return Some(fresh);
     }
