@@ -4,7 +4,8 @@
        projector [PORT [ADDRESS [IDLE]]]        port 4352, address 127.0.0.1, 300 seconds
 
    ADDRESS is numeric; 127.0.0.1 is heard on this machine alone, 0.0.0.0 by every network that it is on. Port 0 is any
-   free one. The password is that of the environment, PJLINK_PASSWORD; none, or an empty one, is no security.
+   free one. The password is that of the environment, PJLINK_PASSWORD, of eight characters or more; none, or an empty
+   one, is no security.
 
    One controller is answered at a time. The next one waits, unanswered, until the one before has gone: what that one
    sent is read to its end first. So whoever hangs up and connects again at once is greeted. As the record never times
@@ -143,7 +144,8 @@ int main(int argc, char **argv) {
     pj_changed made = pj_set_up(TEXT("Table 3"), TEXT("maker"), TEXT("model"), TEXT("an example"),
                                 TEXT(password ? password : ""), TEXT("1132"), lamps, 1, 20, 60);
     if (made.number != PJ_SERVED || idle == 0 || argc > 4) {
-        fprintf(stderr, "projector [PORT [ADDRESS [IDLE]]], PJLINK_PASSWORD: %d letters, digits\n", PJ_PASSWORD_MOST);
+        fprintf(stderr, "projector [PORT [ADDRESS [IDLE]]], PJLINK_PASSWORD: 8 to %d letters, digits\n",
+                PJ_PASSWORD_MOST);
         return 2;
     }
     device = made.device;
