@@ -23,7 +23,7 @@ use Rattle.lines.proofs.Characters.{no-cr-of}
 use Rattle.lines.proofs.TextsTold.{name-long, info-long}
 use Rattle.answers.specs.Said.{Said, okay, refused, powerIs, chosenIs, mutesAre, errorsAre, lampsAre, inputsAre}
 use Rattle.answers.specs.Said.{textIs, classIs1, nothing, lampText, powerText, mutesText, saidBytes}
-use Rattle.answers.specs.Said.{parameterMost, bytesMost, inputCount}
+use Rattle.answers.specs.Said.{parameterMost, saidMost, bytesMost}
 use Rattle.answers.specs.Carried.{lampsCarried, inputsCarried, errorsCarried, answerOf, saidBy, isSayable}
 use Rattle.answers.specs.CanSay.{CanSay, done, refuses, power, input, mutes, errors, lamps, inputs, name, maker}
 use Rattle.answers.specs.CanSay.{model, other, class-1, hoursMost, isLampHours}
@@ -81,22 +81,21 @@ said-long (model s e) = omega arith
 said-long (other s e) = omega arith
 said-long class-1 = omega arith
 
-most-64 : (m : Said) → isSayable m ≡ true → inputCount m ≤ 16 → bytesMost m ≤ 64
-most-64 okay e h = omega arith
-most-64 (refused n) e h = omega arith
-most-64 (powerIs p) e h = omega arith
-most-64 (chosenIs i) e h = omega arith
-most-64 (mutesAre v a) e h = omega arith
-most-64 (errorsAre ds) e h = omega arith
-most-64 (lampsAre ls) e h = omega arith
-most-64 (inputsAre is) e h = omega arith
-most-64 (textIs s) e h = leb-true (length s) nameMost e
-most-64 classIs1 e h = omega arith
-most-64 nothing e h = omega arith
+most-within : (m : Said) → isSayable m ≡ true → bytesMost m ≤ saidMost
+most-within okay e = omega arith
+most-within (refused n) e = omega arith
+most-within (powerIs p) e = omega arith
+most-within (chosenIs i) e = omega arith
+most-within (mutesAre v a) e = omega arith
+most-within (errorsAre ds) e = omega arith
+most-within (lampsAre ls) e = omega arith
+most-within (inputsAre is) e = omega (arith, leb-true (length is) inputsCarried e)
+most-within (textIs s) e = omega (arith, leb-true (length s) nameMost e)
+most-within classIs1 e = omega arith
+most-within nothing e = omega arith
 
--- what a projector says, whose set-up has at most 16 inputs
-pub said-64 : {c : Command} {m : Said} → CanSay c m → inputCount m ≤ 16 → length (saidBytes m) ≤ 64
-said-64 {c} {m} w h = omega (arith, said-long w, most-64 m (can-sayable w) h)
+pub said-most : {c : Command} {m : Said} → CanSay c m → length (saidBytes m) ≤ saidMost
+said-most {c} {m} w = omega (arith, said-long w, most-within m (can-sayable w))
 
 digits-no-cr : (s : List ℕ) → every isDigit s ≡ true → every notCr s ≡ true
 digits-no-cr s e = every-implies isDigit notCr (λ b d. ap not (digit-isnt "\r" (omega arith) b d)) s e

@@ -7,7 +7,7 @@
 --   saidBytes m        the parameter
 --   parameterMost      no parameter of a reply is longer
 --   bytesMost m        no answer of its kind has a longer one: 63 bytes for 8 lamps, 8 × 7 and 7 spaces (000 allows 65)
---   inputCount m       how many inputs it lists
+--   saidMost           no answer has a longer one: 95 bytes for 32 inputs, 32 × 2 and 31 spaces (02, L11)
 -- Assumes nothing.
 use Prim.Native.Nat.{ℕ, _*_, _-_}
 use Prim.Native.Char.{code}
@@ -71,6 +71,9 @@ saidBytes nothing = []
 abbrev pub parameterMost : ℕ
 parameterMost = 128
 
+abbrev pub saidMost : ℕ
+saidMost = 95
+
 abbrev pub bytesMost : Said → ℕ
 bytesMost okay = 2
 bytesMost (refused n) = 4
@@ -83,16 +86,3 @@ bytesMost (inputsAre is) = 3 * length is - 1
 bytesMost (textIs s) = length s
 bytesMost classIs1 = 1
 bytesMost nothing = 0
-
-abbrev pub inputCount : Said → ℕ
-inputCount okay = 0
-inputCount (refused n) = 0
-inputCount (powerIs p) = 0
-inputCount (chosenIs i) = 0
-inputCount (mutesAre video audio) = 0
-inputCount (errorsAre ds) = 0
-inputCount (lampsAre ls) = 0
-inputCount (inputsAre is) = length is
-inputCount (textIs s) = 0
-inputCount classIs1 = 0
-inputCount nothing = 0

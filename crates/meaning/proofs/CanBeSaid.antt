@@ -1,36 +1,32 @@
 -- Every answer of a legal projector is one that its command can have (`CanSay`), and so it fits a reply.
---   Fits m      m has room in the arrays and comes back out of them; its parameter has at most 64 bytes and no CR
+--   Fits m      m has room in the arrays and comes back out of them; its parameter has at most 95 bytes and no CR
 -- Assumes nothing.
 use Prim.Native.Nat.{ℕ, _+_, _*_, _/_, _<_, _≤_}
 use mathlib.Core.Path.{_≡_, refl, sym, ap, _∙_}
 use mathlib.Core.Bool.{Bool, true, false, _||_, false≢true}
-use mathlib.Core.List.{map}
 use native.Mathlib.Omega.{arith}
 use lib.ListN.{length, getD, take, length-map}
-use lib.Dec.{leb}
 use borrow.Author.Tests.{leb-true, le-leb, eqb-false, not-false}
 use Rattle.text.specs.Scans.{every}
 use Rattle.text.proofs.Scanning.{every-map, every-by-place}
 use Rattle.lines.specs.Bytes.{noCr}
 use Rattle.lines.specs.Inputs.{isInput}
-use Rattle.lines.specs.Bodies.{bodies, hasSet}
+use Rattle.lines.specs.Bodies.{hasSet}
 use Rattle.lines.specs.declared.input.MaybeInput.{MaybeInput}
-use Rattle.lines.specs.declared.command.Body.{Body}
 use Rattle.lines.specs.declared.command.Body.the-variants.{Powr, Inpt, Avmt, Erst, Lamp, Inst, Name, Inf1, Inf2, Info}
 use Rattle.lines.specs.declared.command.Body.the-variants.{Clss}
 use Rattle.lines.specs.declared.command.Command.{Command}
 use Rattle.lines.specs.declared.command.Command.the-variants.{PowerSet, InputSet, MuteSet, Query}
 use Rattle.lines.specs.declared.request.Request.{Request}
 use Rattle.lines.specs.declared.request.Request.the-variants.{Asks, Unlisted, UnknownBody}
-use Rattle.lines.proofs.Bodies.{each-body, yes}
 use Rattle.lines.proofs.InputsReadBack.{named-is-input}
 use Rattle.lines.proofs.SourcesFollowed.{named-stands}
-use Rattle.answers.specs.Said.{Said, saidBytes, inputCount}
+use Rattle.answers.specs.Said.{Said, saidBytes, saidMost}
 use Rattle.answers.specs.Carried.{answerOf, saidBy, isSayable}
 use Rattle.answers.specs.Reading.{isSet, isRefusalTo}
 use Rattle.answers.specs.CanSay.{CanSay, done, refuses, power, input, mutes, errors, lamps, inputs, name, maker, model}
 use Rattle.answers.specs.CanSay.{other, class-1, isLampHours}
-use Rattle.answers.proofs.SaidPlain.{can-sayable, can-said-back, said-64, said-plain}
+use Rattle.answers.proofs.SaidPlain.{can-sayable, can-said-back, said-most, said-plain}
 use Rattle.record.specs.Limits.{inputRoom, lampsMost, lampLimit, isLit}
 use Rattle.record.specs.Rules.{isLamp, isLamps, isInputs}
 use Rattle.record.specs.Legal.{isSettings, isOwn}
@@ -42,7 +38,7 @@ use Rattle.record.proofs.SettingsTold.{SettingsTold, settings-told, input-count
 use Rattle.record.proofs.OwnTold.{OwnTold, own-told}
 use Rattle.meaning.specs.SetUpInputs.{noInput, inputOrNone, pairsOf, inputsOf}
 use Rattle.meaning.specs.Rules.{isUndefined, isUnlisted}
-use Rattle.meaning.specs.Meaning.{chosenOf, lampSaid, lampsOf, queried, tableAnswer, requestAnswer, meant}
+use Rattle.meaning.specs.Meaning.{chosenOf, lampSaid, lampsOf, tableAnswer, meant}
 use Rattle.meaning.proofs.InputsByPlace.{inputs-counted, input-in-use}
 use Rattle.meaning.proofs.Cases.{Passes, meant-by}
 
@@ -144,34 +140,10 @@ module _ (s : Settings) (o : Own) (settings : isSettings s ≡ true) (own : isOw
       always-refused (Unlisted b) (λ p. false≢true (sym (p .listed) ∙ not-false (hasSet b) (p .defined)))
   answer-can-be-said UnknownBody = always-refused UnknownBody (λ p. false≢true (sym (p .defined)))
 
-  abbrev isFew : Body → Bool
-  isFew b = leb (inputCount (queried s o b)) 16
-
-  queried-few : map isFew bodies ≡ map yes bodies
-  queried-few =
-      let most : length (inputsOf s) ≤ 16 = omega (arith, inputs-number s set-up, input-count-high s set-up) in
-      rw (le-leb (length (inputsOf s)) 16 most)
-
-  told-few : (c : Command) → inputCount (tableAnswer s o c) ≤ 16
-  told-few (PowerSet wanted) = omega arith
-  told-few (InputSet i) = omega arith
-  told-few (MuteSet half wanted) = omega arith
-  told-few (Query b) = leb-true (inputCount (queried s o b)) 16 (each-body isFew yes queried-few b)
-
-  answered-few : (r : Request) → inputCount (requestAnswer s o r) ≤ 16
-  answered-few (Asks c) = told-few c
-  answered-few (Unlisted b) = omega arith
-  answered-few UnknownBody = omega arith
-
-  meant-few : (r : Request) → inputCount (meant s o r) ≤ 16
-  meant-few r =
-      meant-by s o r (λ m. inputCount m ≤ 16) (λ a. omega arith) (λ a b. omega arith) (λ a b c. omega arith)
-      (λ a b c d. omega arith) (λ p. answered-few r)
-
 pub record Fits (m : Said) : Type 0 where
   pub sayable : isSayable m ≡ true
   pub back : saidBy (answerOf m) ≡ m
-  pub short : length (saidBytes m) ≤ 64
+  pub short : length (saidBytes m) ≤ saidMost
   pub no-cr : noCr (saidBytes m) ≡ true
 
 pub meant-fits : (s : Settings) (o : Own) → isSettings s ≡ true → isOwn s o ≡ true → (r : Request) → Fits (meant s o r)
@@ -180,6 +152,6 @@ meant-fits s o settings own r =
     record {
       sayable = can-sayable w;
       back = can-said-back w;
-      short = said-64 w (meant-few s o settings own r);
+      short = said-most w;
       no-cr = said-plain w .1;
     }

@@ -81,7 +81,7 @@ pub fn input_at(pairs: [u8; INPUT_ROOM], count: usize, place: usize) -> Input
 pub fn told_inputs(pairs: [u8; INPUT_ROOM], count: usize) -> Answer
     ensures { λ r. ⌜ r ≡ answerOf (inputsAre (inputsOfPairs (take (2 * count) pairs))) ⌝ }
 {
-    let mut inputs = [NO_INPUT; 32];
+    let mut inputs = [NO_INPUT; answer::INPUTS_MOST];
     let mut k = 0;
     while k < INPUTS_MOST {
         if count <= k {

@@ -1,7 +1,8 @@
 pub mod Rooms
 pub mod Places
-pub mod Marks
 pub mod Sifted
+pub mod Pairs
+pub mod Marks
 pub mod Kept
 pub mod Filled
 pub mod Rules

@@ -1,5 +1,5 @@
--- Set-ups of 01's "Lines that settle it" and of its own examples, passwords on both sides of 02's L9, and which setting
--- was refused, computed.
+-- Set-ups of 01's "Lines that settle it" and of its own examples, inputs and passwords on both sides of 02's L11 and
+-- L9, and which setting was refused, computed.
 -- Assumes nothing.
 use Prim.Native.Nat.{ℕ}
 use Prim.Native.String.{String}
@@ -38,6 +38,18 @@ numbers =
 pub numbered : numbers ≡ 0 ∷ 0 ∷ 3 ∷ 3 ∷ 3 ∷ 3 ∷ 3 ∷ 3 ∷ 3 ∷ 3 ∷ []
 unfolding computing
 numbered = refl
+
+-- 32 inputs, and one more (02, L11)
+abbrev sockets : String
+sockets = "1112131415161718192122232425262728293132333435363738394142434445"
+
+pub sockets-listed : small "" sockets 0 .number ≡ 0
+unfolding computing
+sockets-listed = refl
+
+pub socket-33-refused : small "" "111213141516171819212223242526272829313233343536373839414243444546" 0 .number ≡ 3
+unfolding computing
+socket-33-refused = refl
 
 -- the password and the inputs as given
 abbrev secured : String → String → Wanted

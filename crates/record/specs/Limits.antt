@@ -18,9 +18,9 @@ use Rattle.lines.specs.Texts.{nameMost}
 abbrev pub textRoom : ℕ
 textRoom = nameMost
 
--- of the inputs that a set-up lists
+-- of the inputs that a set-up lists (02, L11: as many as the standard allows)
 abbrev pub listedMost : ℕ
-listedMost = 16
+listedMost = 32
 
 -- two characters an input
 abbrev pub inputRoom : ℕ

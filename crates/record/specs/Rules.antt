@@ -4,8 +4,9 @@
 --   eachPair f s         s is pairs, and each pair passes the test f, which also sees what follows it
 --   isNone a b s         the input a b is none of the inputs s: each of them is another (isOther)
 --   isNewInput a b s     the characters a b name an input, which none of the later ones s repeats
+--   isNamed s            s is pairs, each of which names an input
 --   inputPlace a b       the place of the input a b, at which the code marks it
---   isInputs s           1 to 16 inputs, two characters each, all different
+--   isInputs s           1 to 32 inputs, two characters each, all different
 --   isLamp x             a lamp's seconds are at most the limit
 --   isLamps xs           0 to 8 lamps
 --   isStretch n          1 to 600 seconds, of warm-up or of cooling
@@ -17,7 +18,6 @@ use mathlib.Core.Bool.{Bool, true, false, not, _&&_, _||_}
 use mathlib.Core.List.{List, [], _∷_}
 use lib.ListN.{length}
 use lib.Dec.{leb, eqb}
-use Rattle.text.specs.Words.{if_then_else_}
 use Rattle.text.specs.Scans.{every}
 use Rattle.lines.specs.Inputs.{isInputText}
 use Rattle.lines.specs.Texts.{isPassword}
@@ -47,9 +47,12 @@ isNone a b s = eachPair (λ x y later. isOther a b x y) s
 abbrev pub isNewInput : ℕ → ℕ → List ℕ → Bool
 isNewInput a b later = isInputText a b && isNone a b later
 
--- among the 45 inputs that there are, five types of nine numbers; 45 for two characters that name none
+unfoldable pub isNamed : List ℕ → Bool
+isNamed s = eachPair (λ a b later. isInputText a b) s
+
+-- among the 45 inputs that there are, five types of nine numbers
 abbrev pub inputPlace : ℕ → ℕ → ℕ
-inputPlace a b = if isInputText a b then 9 * (a - code "1") + (b - code "1") else 45
+inputPlace a b = 9 * (a - code "1") + (b - code "1")
 
 unfoldable pub isInputs : List ℕ → Bool
 isInputs s = leb 2 (length s) && leb (length s) inputRoom && eachPair isNewInput s

@@ -1,7 +1,8 @@
 // The device record (01, "Set-up"): numbers, bools, arrays and structs of these, so that it can cross to C.
 pub const TEXT_ROOM: usize = 64;
 
-pub const INPUTS_MOST: usize = 16;
+// 02, L11: as many as the standard allows.
+pub const INPUTS_MOST: usize = 32;
 
 pub const INPUT_ROOM: usize = 2 * INPUTS_MOST;
 

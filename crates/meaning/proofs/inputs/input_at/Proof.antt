@@ -5,12 +5,13 @@ use mathlib.Core.Path.{_≡_, sym, _∙_}
 use native.Mathlib.Omega.{arith}
 use lib.ListN.{length, take, length-take}
 use borrow.Author.Needs.{needs}
+use Rattle.record.specs.Limits.{inputRoom}
 use Rattle.meaning.specs.SetUpInputs.{noInput}
 use Rattle.meaning.proofs.InputsByPlace.{no-input-past, input-in-use}
 use Rattle.meaning.proofs.inputs.input_at.Statement.{statement}
 use Rattle.meaning.proofs.inputs.input_at.Tie as tie
 
-long : (start : tie.Start) → length (start .args .t1) ≡ 32
+long : (start : tie.Start) → length (start .args .t1) ≡ inputRoom
 long start = search needs
 
 past : tie.Need-returns

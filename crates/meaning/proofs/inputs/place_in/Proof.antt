@@ -9,6 +9,7 @@ use lib.ListN.{length, getD, take, length-take}
 use borrow.Author.Needs.{needs}
 use Rattle.lines.specs.Sources.{sameInput}
 use Rattle.lines.specs.declared.input.Input.{Input}
+use Rattle.record.specs.Limits.{listedMost, inputRoom}
 use Rattle.meaning.specs.SetUpInputs.{noInput, inputsOfPairs}
 use Rattle.meaning.proofs.InputsByPlace.{Sought, none-sought, all-sought, found-here, not-here, at-most-inputs}
 use Rattle.meaning.proofs.InputsByPlace.{input-in-use, place-in-use}
@@ -19,7 +20,7 @@ abbrev among : List ℕ → ℕ → List Input
 among pairs count = inputsOfPairs (take (2 * count) pairs)
 
 record Passed (i : Input) (count : ℕ) (pairs : List ℕ) (k : ℕ) : Type 0 where
-  inside : k ≤ 16
+  inside : k ≤ listedMost
   counted : k ≤ count
   sought : Sought i (among pairs count) k
 
@@ -27,9 +28,9 @@ abbrev Inv : tie.InvT-loop
 Inv i count pairs k₀ k = Passed i count pairs k
 
 abbrev μ : tie.MeasureT-loop
-μ i count pairs k₀ k = 16 - k
+μ i count pairs k₀ k = listedMost - k
 
-long : (start : tie.Start Inv μ) → length (start .args .t2) ≡ 32
+long : (start : tie.Start Inv μ) → length (start .args .t2) ≡ inputRoom
 long start = search needs
 
 stopped : tie.Need-returns Inv μ

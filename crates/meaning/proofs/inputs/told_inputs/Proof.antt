@@ -9,6 +9,7 @@ use borrow.Author.Needs.{needs}
 use Rattle.lines.specs.declared.input.Input.{Input}
 use Rattle.answers.specs.Said.{inputsAre}
 use Rattle.answers.specs.Carried.{noInputs, ofInputs, answerOf}
+use Rattle.record.specs.Limits.{listedMost, inputRoom}
 use Rattle.meaning.specs.SetUpInputs.{inputOfPair, inputsOfPairs}
 use Rattle.meaning.proofs.Filling.{Filled, none-filled, one-filled}
 use Rattle.meaning.proofs.InputsByPlace.{one-more-named, all-named}
@@ -19,16 +20,16 @@ abbrev first : List ℕ → ℕ → List Input
 first pairs k = inputsOfPairs (take (2 * k) pairs)
 
 record Passed (pairs : List ℕ) (count : ℕ) (inputs : List Input) (k : ℕ) : Type 0 where
-  inside : k ≤ 16
+  inside : k ≤ listedMost
   filled : Filled (first pairs) noInputs count inputs k
 
 abbrev Inv : tie.InvT-loop
 Inv count pairs inputs₀ k₀ inputs k = Passed pairs count inputs k
 
 abbrev μ : tie.MeasureT-loop
-μ count pairs inputs₀ k₀ inputs k = 16 - k
+μ count pairs inputs₀ k₀ inputs k = listedMost - k
 
-long : (start : tie.Start Inv μ) → length (start .args .t1) ≡ 32
+long : (start : tie.Start Inv μ) → length (start .args .t1) ≡ inputRoom
 long start = search needs
 
 enters : tie.Need-loop-holds Inv μ

@@ -1,0 +1,47 @@
+-- `record::inputs::all_named` meets its contract: the answer so far is whether each pair passed names an input.
+-- Assumes nothing.
+use Prim.Native.Nat.{_+_, _*_, _-_, _<_}
+use native.Mathlib.Omega.{arith}
+use lib.ListN.{length}
+use borrow.Author.Needs.{needs}
+use Rattle.lines.specs.Inputs.{isInputText}
+use Rattle.record.specs.Rules.{isNamed}
+use Rattle.record.proofs.Pairs.{Paired, none-paired, one-paired, all-paired}
+use Rattle.record.proofs.inputs.all_named.Statement.{statement}
+use Rattle.record.proofs.inputs.all_named.Tie as tie
+
+abbrev Inv : tie.InvT-loop
+Inv s pairs ok₀ k₀ ok k = Paired isInputText s k ok
+
+abbrev μ : tie.MeasureT-loop
+μ s pairs ok₀ k₀ ok k = pairs - k
+
+again : tie.Need-loop-again Inv μ
+again c =
+    let turn = let c3 = c .before .before .before in c3 .before in
+    let p = turn .loop .inv in
+    let there : 2 * turn .loop .k + 1 < length (turn .before .before .args .s .now) = omega arith in
+    rw (c .is-input-text .ensures) (one-paired isInputText _ p there)
+
+ends : tie.Need-returns Inv μ
+unfolding isNamed
+ends c = all-paired isInputText _ (c .before .loop .inv) (omega arith)
+
+pub all-named-spec : {M : Type 1} → statement M
+all-named-spec =
+    tie.close
+    (tie.spec
+    Inv
+    μ
+    (λ c. none-paired isInputText _)
+    (λ c. omega arith)
+    (λ c. omega arith)
+    (λ c. omega arith)
+    (λ c. omega arith)
+    (λ c. omega arith)
+    (λ c κs. search needs)
+    (λ c. omega arith)
+    (λ c. omega arith)
+    again
+    (λ c. omega arith)
+    ends)
