@@ -1,5 +1,5 @@
--- No reply is longer than 72 bytes (01, "Commands"): eight around a parameter of at most 64, 12 for the refused digest,
--- at most 18 for a greeting.
+-- No reply is longer than 103 bytes (02, L11): eight around a parameter of at most 95, 12 for the refused digest, at
+-- most 18 for a greeting.
 -- Assumes nothing.
 use Prim.Native.Nat.{ℕ, _≤_}
 use Prim.Native.Char.{code}
@@ -19,7 +19,7 @@ use Rattle.record.specs.declared.types.Line.{Line}
 use Rattle.record.specs.declared.types.Connection.{Connection}
 use Rattle.record.specs.declared.types.Device.{Device}
 use Rattle.record.proofs.LegalTold.{legal-settings, legal-own}
-use Rattle.answers.specs.Said.{saidBytes}
+use Rattle.answers.specs.Said.{saidBytes, saidMost}
 use Rattle.meaning.specs.Meaning.{meant}
 use Rattle.meaning.proofs.CanBeSaid.{meant-fits}
 use Rattle.device.specs.Answering.{Answered, lineAsks, lineAnswer}
@@ -35,7 +35,7 @@ module _ (s : Settings) (o : Own) (settings : isSettings s ≡ true) (own : isOw
   unfolding lineAnswer
   answered-short l =
       let p = saidBytes (meant s o (lineAsks l)) in
-      let short : length p ≤ 64 = meant-fits s o settings own (lineAsks l) .short in
+      let short : length p ≤ saidMost = meant-fits s o settings own (lineAsks l) .short in
       if-all (λ (a : Answered). length (a .reply) ≤ longestReply) (isCommandForm l)
       (omega (arith, length-append p (code "\r" ∷ []))) (omega arith)
 

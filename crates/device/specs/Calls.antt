@@ -43,9 +43,9 @@ made d = record { number = 0; taken = 0; reply = []; device = d }
 abbrev pub replyRoom : ℕ
 replyRoom = replyMost
 
--- no reply is longer: a name of 64 bytes, and eight around it
+-- no reply is longer: 32 inputs, and eight around them (02, L11; 01's 72 was a name's)
 abbrev pub longestReply : ℕ
-longestReply = 72
+longestReply = 103
 
 abbrev pub isShut : Connection → Bool
 isShut c = eqb (c .phase) shut
