@@ -1,5 +1,5 @@
 -- Demand 1: every call stays inside its memory, whatever bytes arrive, on any record. A refusal replies nothing; a
--- reply has at most 72 bytes, and a digest with a command's line at most 168: no more than what the calls ask for.
+-- reply has at most 103 bytes, and a digest with a command's line at most 168: no more than what the calls ask for.
 -- Assumes nothing.
 use Prim.Native.Nat.{ℕ, _≤_}
 use mathlib.Core.Bool.{Bool, true, false}

@@ -131,7 +131,7 @@ pub record Demand2 (B : Board) : Type 0 where
       → length l ≤ commandMost → replyRoom ≤ length m
       → let bs = digestFor (B .shows d) ++ l ++ ascii "\r" in
       AnsweredAs B d bs (answerTo (B .shows d) l) (B .receive d bs m)
-  -- 01, "Commands": "No reply is longer than 72 bytes"
+  -- 02, L11: "the longest reply is 103 and 01's 72 is amended"
   pub reply-short : (d : B .Record) (bs m : List ℕ) → B .receive d bs m .length ≤ longestReply
   -- "and the controller's reading of them": whatever line comes, what is read was said by it, and what it says is read;
   -- the ERRA line and no other is read as such
