@@ -1,5 +1,5 @@
--- A list tested pair by pair from its start, by a loop that never leaves early; and what the test of new inputs tells of
--- the test that each pair names one.
+-- A list tested pair by pair from its start, by a loop that never leaves early; and that inputs which are new name
+-- inputs.
 --   Paired f s k ok      the loop has passed k pairs, and ok is the answer for them
 -- Assumes nothing.
 use Prim.Native.Nat.{ℕ, _+_, _*_, _≤_, _<_}
