@@ -23,8 +23,8 @@
 #include <stdint.h>
 
 /* The version of this face. It moves with each landing that moves a struct or a call; docs/landings/README.md says what
-   moved. A host that was written for one version can ask for it: #if CEILING_FACE != 5 .. #error. */
-#define CEILING_FACE 5
+   moved. A host that was written for one version can ask for it: #if CEILING_FACE != 6 .. #error. */
+#define CEILING_FACE 6
 
 /* What stands before a call whose result has the record in it: a compiler warns where such a result is dropped. */
 #if defined(__cplusplus) && __cplusplus >= 201703L || defined(__STDC_VERSION__) && __STDC_VERSION__ >= 202311L
@@ -70,7 +70,7 @@ enum pj_limit {
     PJ_NAME_MOST = 64,          /* bytes of the projector's name */
     PJ_INFO_MOST = 32,          /* bytes of maker, model and other information */
     PJ_PASSWORD_MOST = 32,
-    PJ_INPUTS_MOST = 16,        /* of a projector */
+    PJ_INPUTS_MOST = 32,        /* of a projector */
     PJ_INPUTS_READ_MOST = 32,   /* of a reply that is read */
     PJ_LAMPS_MOST = 8,
     PJ_LAMP_MOST = 359999999,   /* seconds of a lamp: 99,999 hours and 3,599 seconds */
@@ -86,7 +86,7 @@ enum pj_limit {
     PJ_ERRORS = 6,              /* error digits */
     PJ_REPLY_ROOM = 136,        /* the least memory for pj_open and pj_receive; enough to collect any reply */
     PJ_COMMAND_ROOM = 168,      /* the least memory for pj_write */
-    PJ_FORM_MOST = 268          /* bytes of the longest stored form: room for pj_store with every record */
+    PJ_FORM_MOST = 300          /* bytes of the longest stored form: room for pj_store with every record */
 };
 
 enum pj_phase {                 /* of the connection */
@@ -431,21 +431,21 @@ pj_plan pj_plan_day(const uint32_t *starts, size_t starts_len, const uint32_t *l
 /* The layout that the archive has. */
 CEILING_IS(sizeof(bool) == 1 && sizeof(size_t) == 8);
 CEILING_IS(sizeof(pj_text) == 72 && offsetof(pj_text, bytes) == 8);
-CEILING_IS(sizeof(pj_settings) == 416 && offsetof(pj_settings, maker) == 72 && offsetof(pj_settings, model) == 144);
+CEILING_IS(sizeof(pj_settings) == 448 && offsetof(pj_settings, maker) == 72 && offsetof(pj_settings, model) == 144);
 CEILING_IS(offsetof(pj_settings, other) == 216 && offsetof(pj_settings, password) == 288);
 CEILING_IS(offsetof(pj_settings, input_count) == 360 && offsetof(pj_settings, inputs) == 368);
-CEILING_IS(offsetof(pj_settings, lamp_count) == 400 && offsetof(pj_settings, warm) == 408);
-CEILING_IS(offsetof(pj_settings, cool) == 412);
+CEILING_IS(offsetof(pj_settings, lamp_count) == 432 && offsetof(pj_settings, warm) == 440);
+CEILING_IS(offsetof(pj_settings, cool) == 444);
 CEILING_IS(sizeof(pj_line) == 184 && offsetof(pj_line, held) == 8 && offsetof(pj_line, bytes) == 16);
 CEILING_IS(sizeof(pj_connection) == 200 && offsetof(pj_connection, age) == 4);
 CEILING_IS(offsetof(pj_connection, random) == 8 && offsetof(pj_connection, line) == 16);
 CEILING_IS(sizeof(pj_own) == 64 && offsetof(pj_own, left) == 4 && offsetof(pj_own, chosen) == 8);
 CEILING_IS(offsetof(pj_own, video_muted) == 16 && offsetof(pj_own, audio_muted) == 17 && offsetof(pj_own, fault) == 18);
 CEILING_IS(offsetof(pj_own, errors) == 19 && offsetof(pj_own, lamps) == 28);
-CEILING_IS(sizeof(pj_device) == 680 && offsetof(pj_device, own) == 416 && offsetof(pj_device, connection) == 480);
-CEILING_IS(sizeof(pj_changed) == 688 && offsetof(pj_changed, device) == 8);
-CEILING_IS(sizeof(pj_opened) == 696 && offsetof(pj_opened, length) == 8 && offsetof(pj_opened, device) == 16);
-CEILING_IS(sizeof(pj_received) == 704 && offsetof(pj_received, taken) == 8);
+CEILING_IS(sizeof(pj_device) == 712 && offsetof(pj_device, own) == 448 && offsetof(pj_device, connection) == 512);
+CEILING_IS(sizeof(pj_changed) == 720 && offsetof(pj_changed, device) == 8);
+CEILING_IS(sizeof(pj_opened) == 728 && offsetof(pj_opened, length) == 8 && offsetof(pj_opened, device) == 16);
+CEILING_IS(sizeof(pj_received) == 736 && offsetof(pj_received, taken) == 8);
 CEILING_IS(offsetof(pj_received, length) == 16 && offsetof(pj_received, device) == 24);
 CEILING_IS(sizeof(pj_digest) == 16);
 CEILING_IS(sizeof(pj_command) == 3 && offsetof(pj_command, first) == 1 && offsetof(pj_command, second) == 2);
