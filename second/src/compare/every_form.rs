@@ -1,7 +1,8 @@
 //! Stored forms (02, L3) that leave nothing to chance. `forms` has the random ones.
 
-use super::forms::{all_inputs, common, least, most, of};
+use super::forms::{common, least, most, of};
 use super::random::Random;
+use super::setups::all_inputs;
 use crate::face::{Act, Device, Lent};
 use crate::reference::calls;
 use crate::reference::rules::unmistaken;

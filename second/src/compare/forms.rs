@@ -15,11 +15,6 @@ pub const ROOM: usize = LONGEST;
 /// The sections of a form: how many there are, and what one of each one's count takes.
 const SIZES: [usize; 7] = [1, 1, 1, 1, 1, 2, 4];
 
-/// All 45 inputs.
-pub fn all_inputs() -> Vec<u8> {
-    (b'1'..=b'5').flat_map(|kind| (b'1'..=b'9').flat_map(move |number| [kind, number])).collect()
-}
-
 /// The form of settings, legal or not, whatever mistake is made.
 pub fn of(lent: &Lent) -> Vec<u8> {
     unmistaken(|| written(lent))
@@ -53,7 +48,7 @@ pub fn most() -> Lent {
         model: vec![0xFF; 32],
         other: vec![b' '; 32],
         password: vec![b'z'; 32],
-        inputs: all_inputs()[..2 * MOST_INPUTS].to_vec(),
+        inputs: setups::all_inputs()[..2 * MOST_INPUTS].to_vec(),
         lamps: vec![LAMP_LIMIT; 8],
         warm: 600,
         cool: 600,
@@ -147,7 +142,7 @@ fn change_count(random: &mut Random, form: &mut [u8]) {
 
 /// Bytes of several lengths, mostly with a version that is known.
 fn rubbish(random: &mut Random) -> Vec<u8> {
-    let length = random.pick(&[1, 2, 7, 13, 14, 15, 60, 267, 268, 269, 300, 1000, 2817, 4096]);
+    let length = random.pick(&[1, 2, 7, 13, 14, 15, 60, 268, 299, 300, 301, 1000, 2817, 4096]);
     let highest = random.pick(&[0, 3, 40, 255]);
     let mut bytes: Vec<u8> = (0..length).map(|_| random.from_to(0, highest) as u8).collect();
     if !random.one_in(4) {

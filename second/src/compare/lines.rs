@@ -104,7 +104,7 @@ fn long_parameter(random: &mut Random) -> Vec<u8> {
 }
 
 fn input(random: &mut Random, device: &Device) -> Vec<u8> {
-    let count = device.settings.input_count.clamp(1, 16);
+    let count = device.settings.input_count.clamp(1, 32);
     match random.below(5) {
         0 => vec![random.pick(b"0123456"), random.pick(b"0123456789")],
         _ => {

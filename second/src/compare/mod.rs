@@ -4,6 +4,7 @@ pub mod days;
 pub mod every_form;
 pub mod forms;
 pub mod histories;
+pub mod inputs;
 pub mod lines;
 pub mod messages;
 pub mod names;
@@ -67,6 +68,7 @@ impl<'a, B: Side> Run<'a, B> {
         self.every_hours()?;
         self.every_form()?;
         self.every_password()?;
+        self.every_input()?;
         while self.agreed < ENOUGH {
             self.round()?;
         }
@@ -156,6 +158,11 @@ impl<'a, B: Side> Run<'a, B> {
 
     fn every_password(&mut self) -> Compared {
         let all = passwords::everywhere(&mut self.random);
+        all.into_iter().try_for_each(|(device, act)| self.compare_call(device, act))
+    }
+
+    fn every_input(&mut self) -> Compared {
+        let all = inputs::everywhere(&mut self.random);
         all.into_iter().try_for_each(|(device, act)| self.compare_call(device, act))
     }
 

@@ -109,9 +109,9 @@ pub fn damage(random: &mut Random, device: &mut Device, field: usize) {
             set_text(&mut settings.password, &random.letters_or_digits(length));
         }
         4 => text(random, &mut settings.password),
-        5 => settings.input_count = count(random, settings.input_count, 16),
-        6 => settings.inputs[random.below(32)] = random.pick(b"\x000123456789:"),
-        7 => settings.inputs.copy_within(0..2, 2 * random.below(16)),
+        5 => settings.input_count = count(random, settings.input_count, 32),
+        6 => settings.inputs[random.below(64)] = random.pick(b"\x000123456789:"),
+        7 => settings.inputs.copy_within(0..2, 2 * random.below(32)),
         8 => settings.lamp_count = count(random, settings.lamp_count, 8),
         9 => settings.warm = random.pick(&[0, 1, 600, 601, u32::MAX]),
         10 => settings.cool = random.pick(&[0, 1, 600, 601, u32::MAX]),

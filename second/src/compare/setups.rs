@@ -41,16 +41,20 @@ fn password(random: &mut Random) -> Vec<u8> {
     random.letters_or_digits(length)
 }
 
-/// Up to sixteen of the 45, in any order.
+/// Up to 32 of the 45, in any order.
 pub fn inputs(random: &mut Random) -> Vec<u8> {
-    let mut all: Vec<[u8; 2]> =
-        (b'1'..=b'5').flat_map(|kind| (b'1'..=b'9').map(move |number| [kind, number])).collect();
-    let count = random.pick(&[1, 1, 2, 3, 5, 15, 16]);
+    let mut all: Vec<[u8; 2]> = all_inputs().chunks_exact(2).map(|input| [input[0], input[1]]).collect();
+    let count = random.pick(&[1, 1, 2, 3, 5, 16, 17, 31, 32]);
     for place in 0..count {
         let other = random.from_to(place, all.len() - 1);
         all.swap(place, other);
     }
     all[..count].concat()
+}
+
+/// The 45 that there are.
+pub fn all_inputs() -> Vec<u8> {
+    (b'1'..=b'5').flat_map(|kind| (b'1'..=b'9').flat_map(move |number| [kind, number])).collect()
 }
 
 fn lamps(random: &mut Random) -> Vec<u32> {
@@ -126,10 +130,7 @@ fn damage_inputs(random: &mut Random, inputs: &mut Vec<u8>) {
         0 => inputs.clear(),
         1 => inputs.extend_from_within(..inputs.len().min(2)),
         2 => inputs.extend_from_slice(&random.pick(&[*b"10", *b"20", *b"61", *b"69", *b"09", *b"01", *b"1:", *b"a1"])),
-        3 => {
-            *inputs =
-                (b'1'..=b'2').flat_map(|kind| (b'1'..=b'9').flat_map(move |number| [kind, number])).take(34).collect()
-        }
+        3 => *inputs = all_inputs()[..random.pick(&[66, 68, 90])].to_vec(),
         _ => drop(inputs.pop()),
     }
 }

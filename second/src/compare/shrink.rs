@@ -85,7 +85,7 @@ fn plainer_records(device: &Device) -> impl Iterator<Item = Device> {
         if longer || (device.settings.input_count > 0 && device.settings.inputs[..2] != *b"11") {
             change(&|d| {
                 d.settings.input_count = inputs.len() / 2;
-                d.settings.inputs = [0; 32];
+                d.settings.inputs = [0; 64];
                 d.settings.inputs[..inputs.len()].copy_from_slice(inputs);
                 d.own.chosen = d.own.chosen.min(inputs.len() / 2 - 1);
             });

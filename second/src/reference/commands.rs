@@ -1,6 +1,7 @@
 //! 01, "Commands".
 
 use super::rules::{Mistake, made};
+use super::set_up::MOST_INPUTS;
 use super::text::Input;
 use super::{Power, Projector};
 
@@ -109,7 +110,9 @@ impl Projector {
             (Body::Powr, b"0") => Some(Set::Power(false)),
             (Body::Powr, b"1") => Some(Set::Power(true)),
             (Body::Inpt, _) => {
-                let place = self.set_up.inputs.iter().position(|input| input.characters() == parameter)?;
+                let most = if made(Mistake::SixteenListed) { 16 } else { MOST_INPUTS };
+                let mut inputs = self.set_up.inputs.iter().take(most);
+                let place = inputs.position(|input| input.characters() == parameter)?;
                 Some(Set::Input(place))
             }
             (Body::Avmt, [which @ b'1'..=b'3', turn @ b'0'..=b'1']) => {
@@ -160,7 +163,11 @@ impl Projector {
             },
             Body::Erst => self.errors.iter().map(|digit| b'0' + digit).collect(),
             Body::Lamp => joined_by_spaces(self.lamps.iter().map(|&seconds| self.lamp_answer(seconds))),
-            Body::Inst => joined_by_spaces(self.set_up.inputs.iter().map(|input: &Input| input.characters().to_vec())),
+            Body::Inst => {
+                let most = if made(Mistake::SixteenAnswered) { 16 } else { MOST_INPUTS };
+                let inputs = self.set_up.inputs.iter().take(most);
+                joined_by_spaces(inputs.map(|input: &Input| input.characters().to_vec()))
+            }
             Body::Name => self.set_up.name.clone(),
             Body::Inf1 => self.set_up.maker.clone(),
             Body::Inf2 => self.set_up.model.clone(),

@@ -73,7 +73,8 @@ fn read_text(text: &face::Text) -> Option<Vec<u8>> {
 }
 
 fn read_set_up(settings: &face::Settings) -> Option<SetUp> {
-    if settings.input_count > MOST_INPUTS {
+    let most = if made(Mistake::SixteenInARecord) { 16 } else { MOST_INPUTS };
+    if settings.input_count > most {
         return None;
     }
     let characters = part_in_use(&settings.inputs, 2 * settings.input_count, 2 * MOST_INPUTS)?;

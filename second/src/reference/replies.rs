@@ -109,7 +109,12 @@ fn lit(word: &[u8]) -> Option<bool> {
 /// "INST allows 1 to 32 inputs, repeats included".
 fn inputs(parameter: &[u8]) -> Option<Vec<Input>> {
     let inputs: Vec<Input> = parameter.split(|&b| b == b' ').map(Input::from_characters).collect::<Option<_>>()?;
-    (inputs.len() <= 32).then_some(inputs)
+    let most = match () {
+        _ if made(Mistake::ReaderKeepsSixteen) => 16,
+        _ if made(Mistake::ReaderTakesMore) => 33,
+        _ => 32,
+    };
+    (inputs.len() <= most).then_some(inputs)
 }
 
 /// "A text has at most 64 bytes (NAME) or 32, each 0x20 to 0xFF; ERR2 as a text is 12." By 02, L2, a name is UTF-8 here

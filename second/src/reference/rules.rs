@@ -88,6 +88,14 @@ mistakes! {
     WriterRefusesShort: "the writer refuses a short password",
     LoadedKeepsShort: "a stored form with a short password loads",
     LoadTellsSetUp: "a load gives the number that set-up would give, and not 23",
+    SixteenInputs: "a set-up has at most 16 inputs",
+    ThirtyThreeInputs: "a set-up may have 33 inputs",
+    SixteenInARecord: "a record has at most 16 inputs",
+    SixteenListed: "INPT takes the first 16 inputs only",
+    SixteenAnswered: "INST answers the first 16 inputs only",
+    SixteenLoaded: "a stored form has at most 16 inputs",
+    ReaderKeepsSixteen: "the reader takes at most 16 inputs",
+    ReaderTakesMore: "the reader takes 33 inputs",
 }
 
 thread_local! {

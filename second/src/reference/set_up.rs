@@ -8,7 +8,8 @@ use crate::face;
 pub const LONGEST_NAME: usize = 64;
 pub const LONGEST_INFORMATION: usize = 32;
 pub const LONGEST_PASSWORD: usize = 32;
-pub const MOST_INPUTS: usize = 16;
+/// 02, L11: "Raise 16 to 32."
+pub const MOST_INPUTS: usize = 32;
 pub const MOST_LAMPS: usize = 8;
 /// "359,999,999 (which is 99,999 hours and 3,599 seconds)".
 pub const LAMP_LIMIT: u32 = 359_999_999;
@@ -112,9 +113,14 @@ pub fn inputs_of(characters: &[u8]) -> Option<Vec<Input>> {
     characters.chunks(2).map(Input::from_characters).collect()
 }
 
-/// "1 to 16, all different."
+/// "1 to 16, all different", now to 32.
 fn are_inputs(inputs: &[Input]) -> bool {
-    (1..=MOST_INPUTS).contains(&inputs.len()) && all_different(inputs)
+    let most = match () {
+        _ if made(Mistake::SixteenInputs) => 16,
+        _ if made(Mistake::ThirtyThreeInputs) => 33,
+        _ => MOST_INPUTS,
+    };
+    (1..=most).contains(&inputs.len()) && all_different(inputs)
 }
 
 /// "Warm-up W and cooling C: 1 to 600 seconds each."

@@ -100,7 +100,7 @@ fn numbers_of_the_writer() {
 /// `PJ_FORM_MOST` is the longest.
 #[test]
 fn lengths_of_forms() {
-    assert_eq!((SHORTEST, LONGEST), (14, 268));
+    assert_eq!((SHORTEST, LONGEST), (14, 300));
     assert_eq!(stored(&calls::set_up(&forms::least()).device).len(), SHORTEST);
     assert_eq!(stored(&calls::set_up(&forms::most()).device).len(), LONGEST);
 }

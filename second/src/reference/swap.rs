@@ -34,6 +34,10 @@ pub fn load(bytes: &[u8]) -> face::Changed {
         Ok(read) => read,
         Err(number) => return refused(number),
     };
+    let kept_out = lent.inputs.len() > 2 * 16 && made(Mistake::SixteenLoaded);
+    if kept_out && left_over.is_empty() {
+        return refused(CONTENTS);
+    }
     let fresh = accepted(&lent).or_else(|number| taken_by_mistake(lent).ok_or(number));
     if !left_over.is_empty() && !made(Mistake::LeftOverTaken) {
         return match fresh {
