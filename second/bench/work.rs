@@ -96,7 +96,7 @@ pub fn opened(password: &[u8]) -> Device {
         model: vec![b'o'; 32],
         other: vec![b'i'; 32],
         password: password.to_vec(),
-        inputs: (b'1'..=b'2').flat_map(|kind| (b'1'..=b'8').flat_map(move |number| [kind, number])).collect(),
+        inputs: (b'1'..=b'4').flat_map(|kind| (b'1'..=b'8').flat_map(move |number| [kind, number])).collect(),
         lamps: vec![359_000_000; 8],
         warm: 600,
         cool: 600,
