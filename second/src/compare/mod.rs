@@ -30,6 +30,9 @@ type Compared = Result<(), Box<Difference>>;
 /// A run has at least so many comparisons.
 pub const ENOUGH: usize = 310_000;
 
+/// So many rounds come before what leaves nothing to chance, so that most differences are found early.
+const FIRST_ROUNDS: usize = 8;
+
 /// How many smaller cases are tried at most, once one differs.
 const TRIES: usize = 20_000;
 
@@ -61,6 +64,7 @@ impl<'a, B: Side> Run<'a, B> {
 
     /// Everything, until enough comparisons agreed; or the smallest difference found.
     pub fn all(&mut self) -> Result<usize, Box<Difference>> {
+        (0..FIRST_ROUNDS).try_for_each(|_| self.round())?;
         self.every_code()?;
         self.every_body()?;
         self.messages()?;

@@ -136,10 +136,7 @@ fn simpler(act: &Act) -> Vec<Act> {
         }
         Act::SetErrors { digits } => simpler_bytes(digits).map(|digits| Act::SetErrors { digits }).collect(),
         Act::Store { lent } => memories(lent).map(|lent| Act::Store { lent }).collect(),
-        Act::Load { bytes } => {
-            let simpler = simpler_forms(bytes).into_iter().chain(simpler_bytes(bytes));
-            simpler.map(|bytes| Act::Load { bytes }).collect()
-        }
+        Act::Load { bytes } => simpler_forms(bytes).into_iter().map(|bytes| Act::Load { bytes }).collect(),
         Act::Digest { message } => simpler_bytes(message).map(|message| Act::Digest { message }).collect(),
         Act::Write { command, secured, random, password, lent } => {
             let write = |command, random, password: &[u8], lent: &[u8]| Act::Write {
@@ -178,7 +175,7 @@ fn simpler_set_ups(lent: &Lent) -> Vec<Lent> {
             all.extend(shorter(&lent.$field).map(|shorter| Lent { $field: shorter, ..lent.clone() }));
         )* };
     }
-    if lent.inputs != b"11" {
+    if lent.inputs.len() >= 2 && lent.inputs != b"11" {
         all.push(Lent { inputs: b"11".to_vec(), ..lent.clone() });
     }
     shorten!(name maker model other password inputs lamps);
@@ -188,10 +185,15 @@ fn simpler_set_ups(lent: &Lent) -> Vec<Lent> {
     all
 }
 
-/// The form of simpler settings, with what is left over after it.
+/// The form of simpler settings, with what is left over after it, or shorter bytes; of what is no form, simpler bytes.
 fn simpler_forms(bytes: &[u8]) -> Vec<Vec<u8>> {
-    let Ok((lent, left_over)) = unmistaken(|| form::read(bytes)) else { return Vec::new() };
-    simpler_set_ups(&lent).iter().map(|lent| [&forms::of(lent)[..], left_over].concat()).collect()
+    match unmistaken(|| form::read(bytes)) {
+        Ok((lent, left_over)) => {
+            let simpler = simpler_set_ups(&lent).into_iter().map(|lent| [&forms::of(&lent)[..], left_over].concat());
+            simpler.chain(shorter(bytes)).collect()
+        }
+        Err(_) => simpler_bytes(bytes).collect(),
+    }
 }
 
 fn simpler_commands(command: Command) -> impl Iterator<Item = Command> {
