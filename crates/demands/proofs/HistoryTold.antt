@@ -1,8 +1,8 @@
--- Demand 3: the lamps tell the history. A device that was just set up agrees with someone who saw nothing yet, and what
--- he notes of each call agrees with it (proofs/CallsNoted.antt); so they agree after any calls.
+-- Demand 3: the lamps tell the history. A device that was just set up, or loaded, agrees with someone who saw nothing
+-- yet, and what he notes of each call agrees with it (proofs/CallsNoted.antt); so they agree after any calls.
 -- Assumes nothing.
 use Prim.Native.Nat.{ℕ, _+_, _≤_, _<_}
-use mathlib.Core.Path.{_≡_, ap, _∙_}
+use mathlib.Core.Path.{_≡_, refl, sym, ap, subst, _∙_}
 use mathlib.Core.Bool.{false}
 use mathlib.Core.List.{List, [], _∷_, _++_}
 use native.Mathlib.Nat.{zero-add, add-assoc}
@@ -18,17 +18,18 @@ use Rattle.record.proofs.LegalTold.{own-of-legal}
 use Rattle.record.proofs.OwnTold.{lamp-at}
 use Rattle.record.proofs.Started.{started-parts, started-lamp, set-up-legal, set-up-started}
 use Rattle.stream.proofs.LastBytes.{ends-unheld}
-use Rattle.demands.specs.Board.{ours}
+use Rattle.stored.proofs.FormsLoad.{form-loads}
+use Rattle.demands.specs.Board.{Given, ours, givenBy}
 use Rattle.demands.specs.Calls.{Call, after, run}
-use Rattle.demands.specs.History.{Event, Stage, steady, took, seen, history, reached, burningFrom, burning}
+use Rattle.demands.specs.History.{Stage, steady, took, seen, history, reached, burningFrom, burning}
 use Rattle.demands.specs.History.{stageAfter}
-use Rattle.demands.specs.Demand3.{Accepted, runOf, historyOf}
+use Rattle.demands.specs.Demand3.{Beginning, setsUp, loads, begunBy, Accepted}
 use Rattle.demands.proofs.Agrees.{Agrees, reached-append, burning-append, Then, agrees-none}
 use Rattle.demands.proofs.CallsNoted.{noted}
 
 -- ---- set-up
 
-module _ (w : Wanted) (h : Accepted ours w) where
+module _ (w : Wanted) (h : Accepted ours setsUp w) where
   abbrev fresh : Device
   fresh = setUp w .device
 
@@ -72,10 +73,23 @@ run-agrees (c ∷ cs) w g n stream d a =
     rw (reached-append w g es fs, burning-append w g es fs, ← add-assoc)
     (run-agrees cs w (reached w g es) (n + burningFrom w g es) now (after ours d c) (noted a c))
 
-module _ (w : Wanted) (cs : List Call) (h : Accepted ours w) where
-  abbrev known : List Event
-  known = historyOf ours w cs
+-- the load of a form is the set-up of its settings
+pub begins-alike : (b : Beginning) (w : Wanted) → Accepted ours b w → begunBy ours b w ≡ ours .set-up w
+begins-alike setsUp w h = refl
+begins-alike loads w h = ap givenBy (form-loads w (h .0))
 
-  pub history-told : (now : List ℕ) × Agrees w (stageAfter w known) (burning w known) now (runOf ours w cs)
+pub set-up-too : (b : Beginning) (w : Wanted) → Accepted ours b w → Accepted ours setsUp w
+set-up-too setsUp w h = h
+set-up-too loads w h = ap (λ (r : Given Device). r .number) (sym (begins-alike loads w h)) ∙ h .1
+
+module _ (b : Beginning) (w : Wanted) (cs : List Call) (h : Accepted ours b w) where
+  abbrev Told : Device → Type 0
+  Told d =
+      let known = history ours d [] cs in
+      (now : List ℕ) × Agrees w (stageAfter w known) (burning w known) now (run ours d cs)
+
+  pub history-told : Told (begunBy ours b w .device)
   history-told =
-      rw zero-add at (run-agrees cs w (steady false) 0 [] (setUp w .device) (agrees-started w h))
+      let fresh = agrees-started w (set-up-too b w h) in
+      subst Told (ap (λ (r : Given Device). r .device) (sym (begins-alike b w h)))
+      (rw zero-add at (run-agrees cs w (steady false) 0 [] (setUp w .device) fresh))

@@ -22,6 +22,7 @@ pub mod CallsNoted
 pub mod HistoryTold
 pub mod HoursTold
 pub mod Demand3
+pub mod BoardSwap
 pub mod Settled
 pub mod Samples
 pub mod WrongRefusalsFall

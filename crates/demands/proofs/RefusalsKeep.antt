@@ -8,6 +8,8 @@ use lib.ListN.{length}
 use Rattle.lines.specs.declared.command.Command.{Command}
 use Rattle.record.specs.declared.types.Device.{Device}
 use Rattle.record.proofs.Results.{fault-refusal, errors-refusal}
+use Rattle.stored.specs.Form.{storedBy}
+use Rattle.stored.proofs.Results.{refused-store-writes-nothing}
 use Rattle.clock.proofs.Results.{passed-refusal}
 use Rattle.device.specs.Calls.{Result, received, openedBy}
 use Rattle.device.proofs.Refusals.{Refused, receiving-refused, opening-refused, closing-refused}
@@ -45,3 +47,9 @@ refused-writer c secured random password m n =
     let bs = writtenCommand c secured random password (length m) .bytes in
     let none = refusal-writes-nothing c secured random password (length m) n in
     (ap length none, over-nothing bs m none)
+
+pub refused-store : (d : Device) (m : List ℕ) → (ours .store d m .number ≡ 0 → ⊥)
+    → (ours .store d m .length ≡ 0) × (ours .store d m .memory ≡ m)
+refused-store d m n =
+    let none = refused-store-writes-nothing d (length m) n in
+    (ap length none, over-nothing (storedBy d (length m) .bytes) m none)

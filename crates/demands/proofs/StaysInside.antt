@@ -11,6 +11,8 @@ use Rattle.lines.specs.Commands.{commandLine}
 use Rattle.lines.specs.declared.command.Command.{Command}
 use Rattle.lines.proofs.CommandLines.{command-length, line-length}
 use Rattle.record.specs.declared.types.Device.{Device}
+use Rattle.stored.specs.Form.{storedBy}
+use Rattle.stored.proofs.Results.{storing-by}
 use Rattle.device.specs.Receiving.{digestLong}
 use Rattle.device.specs.Calls.{longestReply, Result, received, openedBy}
 use Rattle.device.proofs.Cases.{received-by, opened-by}
@@ -72,3 +74,9 @@ module _ (c : Command) (secured : Bool) (random : ℕ) (password m : List ℕ) w
   writer-stays-inside =
       let bs = writtenCommand c secured random password (length m) .bytes in
       record { room = over-room bs m written-fits; fits = written-fits; later = over-later bs m }
+
+pub store-stays-inside : (d : Device) (m : List ℕ) → WroteInside m (ours .store d m)
+store-stays-inside d m =
+    let bs = storedBy d (length m) .bytes in
+    let fits = storing-by d (length m) (λ r. length (r .bytes) ≤ length m) (λ n some. omega arith) (λ h l. l) in
+    record { room = over-room bs m fits; fits = fits; later = over-later bs m }

@@ -20,20 +20,20 @@ use Rattle.controller.proofs.Cases.{written-by}
 use Rattle.controller.proofs.ReadsBack.{is-between, TakenAndRead}
 use Rattle.controller.proofs.WrittenReadBack.{written-reads-back, written-reads-back-secured}
 use Rattle.controller.proofs.GreetsBack.{greets-back as greeted-back}
-use Rattle.demands.specs.Board.{line, reply, wroteBy, ours}
+use Rattle.demands.specs.Board.{bytesWritten, reply, wroteBy, ours}
 use Rattle.demands.specs.Demand2.{BetweenLines, ReadBack}
 use Rattle.demands.proofs.LentMemory.{over-front}
 
 -- what is read of the lent paper is the line
-pub line-written : (w : WrittenAs) (m : List ℕ) → line (wroteBy w m) ≡ w .bytes
+pub line-written : (w : WrittenAs) (m : List ℕ) → bytesWritten (wroteBy w m) ≡ w .bytes
 line-written w m = over-front (w .bytes) m
 
 pub writes : (c : Command) (secured : Bool) (random : ℕ) (password m : List ℕ)
     → let w = ours .write c secured random password m in
-    w .number ≡ 0 → line w ≡ ledBy secured random password ++ commandLine c
+    w .number ≡ 0 → bytesWritten w ≡ ledBy secured random password ++ commandLine c
 writes c secured random password m =
     written-by c secured random password (length m)
-    (λ w. w .number ≡ 0 → line (wroteBy w m) ≡ ledBy secured random password ++ commandLine c)
+    (λ w. w .number ≡ 0 → bytesWritten (wroteBy w m) ≡ ledBy secured random password ++ commandLine c)
     (λ h e. absurd (omega arith)) (λ h w e. absurd (omega arith))
     (λ h w e. line-written (record { number = 0; bytes = ledBy secured random password ++ commandLine c }) m)
 
@@ -41,7 +41,7 @@ module _ (d : Device) (c : Command) (paper m : List ℕ) (writable : isCommand c
     (roomy : commandRoom ≤ length paper) (enough : replyRoom ≤ length m) where
   -- from the calls' results to the lent memory
   on-memory : (w : WrittenAs) → (w .number ≡ 0) × TakenAndRead d c (w .bytes) (received d (w .bytes) (length m))
-      → ReadBack ours d c (wroteBy w paper) (ours .receive d (line (wroteBy w paper)) m)
+      → ReadBack ours d c (wroteBy w paper) (ours .receive d (bytesWritten (wroteBy w paper)) m)
   on-memory w (number, back) =
       subst (λ (bs : List ℕ). ReadBack ours d c (wroteBy w paper) (ours .receive d bs m)) (sym (line-written w paper))
       (record {
@@ -53,7 +53,7 @@ module _ (d : Device) (c : Command) (paper m : List ℕ) (writable : isCommand c
       })
 
   pub reads-back : (random : ℕ) (password : List ℕ) → BetweenLines opened d
-      → let w = ours .write c false random password paper in ReadBack ours d c w (ours .receive d (line w) m)
+      → let w = ours .write c false random password paper in ReadBack ours d c w (ours .receive d (bytesWritten w) m)
   reads-back random password between =
       let empty = is-between d (between .legal) (between .unmarked) (between .none-held) in
       on-memory (writtenCommand c false random password (length paper))
@@ -62,7 +62,7 @@ module _ (d : Device) (c : Command) (paper m : List ℕ) (writable : isCommand c
 
   pub reads-back-secured : BetweenLines awaiting d
       → let w = ours .write c true (d .connection .random) (passwordOf (d .settings)) paper in
-      ReadBack ours d c w (ours .receive d (line w) m)
+      ReadBack ours d c w (ours .receive d (bytesWritten w) m)
   reads-back-secured between =
       let empty = is-between d (between .legal) (between .unmarked) (between .none-held) in
       on-memory (writtenCommand c true (d .connection .random) (passwordOf (d .settings)) (length paper))

@@ -1,4 +1,5 @@
--- A board: anything that answers the calls of 01. The demands are stated over it, so that wrong boards can be tried.
+-- A board: anything that answers the calls of 01 and of 02, L3. The demands are stated over it, so that wrong boards
+-- can be tried.
 --   Given R       what a call gives that is lent no memory: its number, and the record
 --   Lent R        what a call gives that is lent reply memory: its number, the bytes taken, the reply's length, the
 --                 memory as the call leaves it, and the record
@@ -18,6 +19,8 @@ use Rattle.record.specs.declared.types.Changed.{Changed}
 use Rattle.record.specs.Wanted.{Wanted}
 use Rattle.record.specs.SetUp.{setUp}
 use Rattle.record.specs.HostCalls.{faultSet, errorsSet}
+use Rattle.stored.specs.Form.{StoredAs, storedBy}
+use Rattle.stored.specs.Loading.{loaded}
 use Rattle.clock.specs.Passing.{passed}
 use Rattle.device.specs.Calls.{Result, openedBy, closedBy, received}
 use Rattle.controller.specs.Writing.{WrittenAs, writtenCommand}
@@ -39,14 +42,14 @@ pub record Lent (R : Type 0) : Type 0 where
 abbrev pub reply : {R : Type 0} → Lent R → List ℕ
 reply r = take (r .length) (r .memory)
 
--- what the controller's writer gives: it is lent memory, and has no record
+-- what the controller's writer and storing give: they are lent memory, and give no record
 pub record Wrote : Type 0 where
   pub number : ℕ
   pub length : ℕ
   pub memory : List ℕ
 
-abbrev pub line : Wrote → List ℕ
-line w = take (w .length) (w .memory)
+abbrev pub bytesWritten : Wrote → List ℕ
+bytesWritten w = take (w .length) (w .memory)
 
 -- memory is the last argument wherever it is lent
 pub record Board : Type 1 where
@@ -59,6 +62,8 @@ pub record Board : Type 1 where
   pub pass : Record → ℕ → Given Record
   pub set-fault : Record → Bool → Given Record
   pub set-errors : Record → List ℕ → Given Record
+  pub store : Record → List ℕ → Wrote
+  pub load : List ℕ → Given Record
   pub md5 : List ℕ → List ℕ
   pub write : Command → Bool → ℕ → List ℕ → List ℕ → Wrote
   pub read-reply : Command → List ℕ → ReadAs
@@ -83,6 +88,9 @@ lentBy r m = record {
 abbrev pub wroteBy : WrittenAs → List ℕ → Wrote
 wroteBy w m = record { number = w .number; length = length (w .bytes); memory = over (w .bytes) m }
 
+abbrev pub formBy : StoredAs → List ℕ → Wrote
+formBy s m = record { number = s .number; length = length (s .bytes); memory = over (s .bytes) m }
+
 abbrev pub ours : Board
 ours = record {
   Record = Device;
@@ -101,6 +109,10 @@ ours = record {
   set-fault = λ d mark. givenBy (faultSet d mark);
   -- record::host::set_errors
   set-errors = λ d digits. givenBy (errorsSet d digits);
+  -- stored::storing::store
+  store = λ d m. formBy (storedBy d (length m)) m;
+  -- stored::loading::load
+  load = λ s. givenBy (loaded s);
   -- digest::md5
   md5 = md5Of;
   -- controller::writing::write_command

@@ -5,6 +5,7 @@ use Rattle.numbers.specs.Computing.{computing as numbers}
 use Rattle.lines.specs.Computing.{computing as lines}
 use Rattle.answers.specs.Computing.{computing as answers}
 use Rattle.record.specs.Computing.{computing as records}
+use Rattle.stored.specs.Computing.{computing as stored}
 use Rattle.clock.specs.Computing.{computing as clock}
 use Rattle.meaning.specs.Computing.{computing as meaning}
 use Rattle.stream.specs.Computing.{computing as stream}
@@ -15,5 +16,5 @@ use Rattle.demands.specs.History.{powerSet, history, reached, burningFro
 
 unfoldable pub computing : Unit {0}
 unfolding
-    numbers lines answers records clock meaning stream device controller run powerSet history reached burningFrom
+    numbers lines answers records stored clock meaning stream device controller run powerSet history reached burningFrom
 computing = tt

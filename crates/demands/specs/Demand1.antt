@@ -4,7 +4,8 @@
 -- That a call ends is no field below: each call of a board is a function, and a Rattle function meets its contract only
 -- if it ends.
 -- TO BELIEVE IT, believe, and nothing else: the rows below, against 01's table, those of opening, closing and
--- receiving as device/specs/Calls has them, with `replyRoom` and `isShut`; what is legal and what is in range
+-- receiving as device/specs/Calls has them, with `replyRoom` and `isShut`, those of storing and loading as
+-- stored/specs/Form and Loading have them, against 02's order (L3); what is legal and what is in range
 -- (record/specs: Limits, Rules, Legal, SetUp, and `blank` of Record; lines/specs: Bytes, Inputs, Texts; utf8/specs:
 -- Utf8); the length 168 (`commandRoom` of controller/specs/Writing); for the readers, the forms of lines
 -- (lines/specs: Forms, Commands, Requests) and which parameter says what (answers/specs: Said, CanSay, Writings;
@@ -33,6 +34,8 @@ use Rattle.record.specs.Legal.{isLegal}
 use Rattle.record.specs.Record.{blank}
 use Rattle.record.specs.SetUp.{isInRange}
 use Rattle.record.specs.declared.types.Device.{Device}
+use Rattle.stored.specs.Form.{storingRows}
+use Rattle.stored.specs.Loading.{loadRows}
 use Rattle.device.specs.Calls.{receivingRows, openingRows, closingRows}
 use Rattle.controller.specs.Writing.{commandRoom, isWritable}
 use Rattle.controller.specs.Reading.{outcomeNumber}
@@ -117,6 +120,7 @@ pub record Demand1 (B : Board) : Type 0 where
   pub stays-inside : (d : B .Record) (c : Call) → StaysInside B d c
   pub writer-stays-inside : (c : Command) (secured : Bool) (random : ℕ) (password m : List ℕ)
       → WroteInside m (B .write c secured random password m)
+  pub store-stays-inside : (d : B .Record) (m : List ℕ) → WroteInside m (B .store d m)
   -- "A call that can't be served gives the one number that the table in document 01 lists for it"
   pub number-is-first : (d : B .Record) (c : Call) → numberOf B d c ≡ firstOf (rowsOf (B .shows d) c)
   pub set-up-number : (w : Wanted) → B .set-up w .number ≡ firstOf (setUpRows w)
@@ -125,17 +129,24 @@ pub record Demand1 (B : Board) : Type 0 where
   pub reader-number : (c : Command) (l : List ℕ) (allowed : Bool) → Allowed c (replyParameter l) allowed
       → outcomeNumber (B .read-reply c l .outcome) ≡ firstOf (readerRows c l allowed)
   pub greeting-number : (l : List ℕ) → greetingNumber (B .read-greeting l) ≡ firstOf (greetingRows l)
+  pub store-number : (d : B .Record) (m : List ℕ) → B .store d m .number ≡ firstOf (storingRows (B .shows d) (length m))
+  pub load-number : (s : List ℕ) → B .load s .number ≡ firstOf (loadRows s)
   -- "returns the device record it was given .., and writes no byte of the reply memory"
   pub refused-keeps : (d : B .Record) (c : Call) → (numberOf B d c ≡ 0 → ⊥)
       → (after B d c ≡ d) × WritesNothing B d c
   pub refused-writer-writes-nothing : (c : Command) (secured : Bool) (random : ℕ) (password m : List ℕ)
       → let w = B .write c secured random password m in
       (w .number ≡ 0 → ⊥) → (w .length ≡ 0) × (w .memory ≡ m)
+  pub refused-store-writes-nothing : (d : B .Record) (m : List ℕ) → (B .store d m .number ≡ 0 → ⊥)
+      → (B .store d m .length ≡ 0) × (B .store d m .memory ≡ m)
   pub refused-reader-means-nothing : (c : Command) (l : List ℕ) → (outcomeNumber (B .read-reply c l .outcome) ≡ 0 → ⊥)
       → B .read-reply c l .said ≡ nothing
   -- "(a refused set-up gives the blank record)", which is not legal; an accepted one is, and no call makes it otherwise
   pub refused-set-up-blank : (w : Wanted) → (B .set-up w .number ≡ 0 → ⊥) → B .shows (B .set-up w .device) ≡ blank
   pub blank-illegal : isLegal blank ≡ false
   pub set-up-legal : (w : Wanted) → B .set-up w .number ≡ 0 → isLegal (B .shows (B .set-up w .device)) ≡ true
+  -- 02, L3: so does a refused load, and an accepted one is legal
+  pub refused-load-blank : (s : List ℕ) → (B .load s .number ≡ 0 → ⊥) → B .shows (B .load s .device) ≡ blank
+  pub load-legal : (s : List ℕ) → B .load s .number ≡ 0 → isLegal (B .shows (B .load s .device)) ≡ true
   pub stays-legal : (d : B .Record) (c : Call) → isLegal (B .shows d) ≡ true
       → isLegal (B .shows (after B d c)) ≡ true

@@ -51,7 +51,7 @@ use Rattle.controller.specs.Writing.{commandRoom, ledBy}
 use Rattle.controller.specs.Reading.{meaning, LineSays}
 use Rattle.controller.specs.Greetings.{Exactly, greetedOn}
 use Rattle.controller.specs.declared.reading.Outcome.the-variants.{Means, Erra}
-use Rattle.demands.specs.Board.{Board, Lent, Wrote, reply, line}
+use Rattle.demands.specs.Board.{Board, Lent, Wrote, reply, bytesWritten}
 use Rattle.demands.specs.Calls.{Call}
 use Rattle.demands.specs.CallsDone.{OpenedAs, Leaves}
 use Rattle.demands.specs.Outsider.{openedWith, NeverMatched, NoSay}
@@ -142,18 +142,18 @@ pub record Demand2 (B : Board) : Type 0 where
   -- "for every command our writer makes": its line, led by the digest where one was asked for
   pub writes : (c : Command) (secured : Bool) (random : ℕ) (password m : List ℕ)
       → let w = B .write c secured random password m in
-      w .number ≡ 0 → line w ≡ ledBy secured random password ++ commandLine c
+      w .number ≡ 0 → bytesWritten w ≡ ledBy secured random password ++ commandLine c
   -- "On an open connection between lines, for every command our writer makes without a digest and in every legal state,
   -- what our reader, told the command, takes from the reply is what the projector meant"
   pub reads-back : (d : B .Record) (c : Command) (random : ℕ) (password paper m : List ℕ)
       → BetweenLines opened (B .shows d) → isCommand c ≡ true → commandRoom ≤ length paper → replyRoom ≤ length m
-      → let w = B .write c false random password paper in ReadBack B d c w (B .receive d (line w) m)
+      → let w = B .write c false random password paper in ReadBack B d c w (B .receive d (bytesWritten w) m)
   -- 01, "Connection": "its reading holds as well on an awaiting connection between lines, for a command led by the
   -- matching digest"
   pub reads-back-secured : (d : B .Record) (c : Command) (paper m : List ℕ)
       → BetweenLines awaiting (B .shows d) → isCommand c ≡ true → commandRoom ≤ length paper → replyRoom ≤ length m
       → let w = B .write c true (B .shows d .connection .random) (passwordOf (B .shows d .settings)) paper in
-      ReadBack B d c w (B .receive d (line w) m)
+      ReadBack B d c w (B .receive d (bytesWritten w) m)
   -- 02, L2: a name that the projector accepts is one that our reader accepts
   pub names-read : (w : Wanted) → B .set-up w .number ≡ 0
       → B .read-reply (Query Name) (ascii "%1NAME=" ++ w .name ++ ascii "\r") ≡ meaning (textIs (w .name))

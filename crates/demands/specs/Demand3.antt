@@ -3,11 +3,13 @@
 -- nothing, each lamp's stored seconds are its starting seconds plus every second the history puts in warm-up or
 -- power-on, stopped at 359,999,999; the hours answered are the whole hours in that."
 -- TO BELIEVE IT, believe, and nothing else: one second (clock/specs/Second), and what is legal (record/specs); what
--- someone outside sees of a history, and his own clock (History, here); the line of a command and the text of lamps
--- (lines/specs: Commands; answers/specs: Said; numbers/specs: Decimal); here Board, Calls, CallsDone, and
--- `BetweenLines` of Demand2, `meaning` of controller/specs/Reading.
---   Accepted B w        the board accepts the set-up w
---   historyOf B w cs    what someone outside sees of the calls cs since that set-up
+-- someone outside sees of a history, and his own clock (History, here); the stored form (stored/specs/Form); the line
+-- of a command and the text of lamps (lines/specs: Commands; answers/specs: Said; numbers/specs: Decimal); here Board,
+-- Calls, CallsDone, and `BetweenLines` of Demand2, `meaning` of controller/specs/Reading.
+--   Beginning           a history begins with a set-up, or with the load of a stored form (02, L3: "Loading is a fresh
+--                       set-up, so the history of demand 3 begins there with the stored seconds")
+--   Accepted B b w      the board accepts the settings w there
+--   historyOf B b w cs  what someone outside sees of the calls cs since then
 --   TimeAdds B          the adding law, which a clock that does nothing obeys too (WrongClocks)
 --   lampsThen w es      each lamp of the set-up as LAMP answers it after that history
 --   LampsTold B ls r    the reply r says the lamps ls, and the reader takes them from it
@@ -26,25 +28,37 @@ use Rattle.answers.specs.declared.answer.LampHours.{LampHours}
 use Rattle.record.specs.Limits.{opened}
 use Rattle.record.specs.Wanted.{Wanted}
 use Rattle.record.specs.Legal.{isLegal}
+use Rattle.record.specs.SetUp.{isSetUp}
+use Rattle.stored.specs.Form.{formOf}
 use Rattle.clock.specs.Second.{times, second}
 use Rattle.clock.specs.Passing.{secondsMost}
 use Rattle.device.specs.Calls.{replyRoom}
 use Rattle.controller.specs.Reading.{meaning}
-use Rattle.demands.specs.Board.{Board, reply}
+use Rattle.demands.specs.Board.{Board, Given, reply}
 use Rattle.demands.specs.Calls.{Call, run}
 use Rattle.demands.specs.CallsDone.{Leaves}
 use Rattle.demands.specs.Demand2.{BetweenLines}
 use Rattle.demands.specs.History.{Event, history, burning, stageAfter, isBurning, lampWith}
 
-module _ (B : Board) (w : Wanted) where
-  abbrev pub Accepted : Type 0
-  Accepted = B .set-up w .number ≡ 0
+pub data Beginning : Type 0 where
+  setsUp : Beginning
+  loads : Beginning
 
-  abbrev pub runOf : List Call → B .Record
-  runOf cs = run B (B .set-up w .device) cs
+module _ (B : Board) where
+  abbrev pub begunBy : Beginning → Wanted → Given (B .Record)
+  begunBy setsUp w = B .set-up w
+  begunBy loads w = B .load (formOf w)
 
-  abbrev pub historyOf : List Call → List Event
-  historyOf cs = history B (B .set-up w .device) [] cs
+  -- what loads is the form of settings that a set-up takes, and of no others (BoardSwap)
+  abbrev pub Accepted : Beginning → Wanted → Type 0
+  Accepted setsUp w = B .set-up w .number ≡ 0
+  Accepted loads w = (isSetUp w ≡ true) × (B .load (formOf w) .number ≡ 0)
+
+  abbrev pub runOf : Beginning → Wanted → List Call → B .Record
+  runOf b w cs = run B (begunBy b w .device) cs
+
+  abbrev pub historyOf : Beginning → Wanted → List Call → List Event
+  historyOf b w cs = history B (begunBy b w .device) [] cs
 
 abbrev pub lampThen : Wanted → List Event → ℕ → LampHours
 lampThen w es start = record { hours = lampWith (burning w es) start / 3600; lit = isBurning (stageAfter w es) }
@@ -73,12 +87,13 @@ pub record Demand3 (B : Board) : Type 0 where
   pub second-by-second : (d : B .Record) (n : ℕ) → Leaves B (B .pass d n) (times second n (B .shows d))
   -- "After any calls since set-up, refused ones counting as nothing, each lamp's stored seconds are its starting
   -- seconds plus every second the history puts in warm-up or power-on, stopped at 359,999,999"
-  pub lamps-tell-the-history : (w : Wanted) (cs : List Call) (place : ℕ) → Accepted B w → place < length (w .lamps)
-      → getD (B .shows (runOf B w cs) .own .lamps) place 0
-      ≡ lampWith (burning w (historyOf B w cs)) (getD (w .lamps) place 0)
+  pub lamps-tell-the-history : (b : Beginning) (w : Wanted) (cs : List Call) (place : ℕ) → Accepted B b w
+      → place < length (w .lamps)
+      → getD (B .shows (runOf B b w cs) .own .lamps) place 0
+      ≡ lampWith (burning w (historyOf B b w cs)) (getD (w .lamps) place 0)
   -- "the hours answered are the whole hours in that": LAMP, asked on an open connection between lines, the reply's
   -- bytes and what our reader takes from them
-  pub hours-told : (w : Wanted) (cs : List Call) (m : List ℕ) → Accepted B w → 1 ≤ length (w .lamps)
-      → BetweenLines opened (B .shows (runOf B w cs)) → replyRoom ≤ length m
-      → let r = B .receive (runOf B w cs) (commandLine (Query Lamp)) m in
-      LampsTold B (lampsThen w (historyOf B w cs)) (reply r)
+  pub hours-told : (b : Beginning) (w : Wanted) (cs : List Call) (m : List ℕ) → Accepted B b w
+      → 1 ≤ length (w .lamps) → BetweenLines opened (B .shows (runOf B b w cs)) → replyRoom ≤ length m
+      → let r = B .receive (runOf B b w cs) (commandLine (Query Lamp)) m in
+      LampsTold B (lampsThen w (historyOf B b w cs)) (reply r)

@@ -6,6 +6,7 @@ pub mod Outsider
 pub mod Demand1
 pub mod Demand2
 pub mod Demand3
+pub mod BoardSwap
 pub mod Settled
 pub mod OursBut
 pub mod WrongRefusals

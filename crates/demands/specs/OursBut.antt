@@ -26,6 +26,8 @@ module _ (set-up : Wanted → Given Device) (opening : Device → ℕ → List �
     pass = pass;
     set-fault = set-fault;
     set-errors = set-errors;
+    store = ours .store;
+    load = ours .load;
     md5 = ours .md5;
     write = ours .write;
     read-reply = read-reply;

@@ -3,6 +3,7 @@
 --   lentOpened r m, lentReceived r m     the record of the code, and the lent memory as the call leaves it; an opening
 --                                        takes no bytes
 --   wroteAs r m                          the same of the controller's writer
+--   wroteForm r m                        the same of storing
 --   givenAs n d                          a number, and the record where it lies
 --   readAs r                             the outcome, and what the answer says
 -- Assumes nothing.
@@ -10,6 +11,7 @@ use Prim.Native.Nat.{ℕ}
 use mathlib.Core.List.{List}
 use Rattle.answers.specs.Carried.{saidBy}
 use Rattle.record.specs.declared.types.Device.{Device}
+use Rattle.stored.specs.declared.storing.FormWritten.{FormWritten}
 use Rattle.device.specs.declared.calls.Opened.{Opened}
 use Rattle.device.specs.declared.calls.Received.{Received}
 use Rattle.controller.specs.Reading.{ReadAs}
@@ -37,6 +39,9 @@ lentReceived r m = record {
 
 abbrev pub wroteAs : Written → List ℕ → Wrote
 wroteAs r m = record { number = r .number; length = r .length; memory = m }
+
+abbrev pub wroteForm : FormWritten → List ℕ → Wrote
+wroteForm r m = record { number = r .number; length = r .length; memory = m }
 
 abbrev pub givenAs : ℕ → Device → Given Device
 givenAs n d = record { number = n; device = d }

@@ -9,6 +9,7 @@ pub mod Rules
 pub mod Spelt
 pub mod Calls
 pub mod OutOfRange
+pub mod InRange
 pub mod InputsTold
 pub mod SettingsTold
 pub mod OwnTold

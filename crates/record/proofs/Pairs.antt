@@ -14,7 +14,7 @@ use lib.Dec.{eqb}
 use borrow.Author.Tests.{eq-eqb, eqb-true}
 use Rattle.text.proofs.Choices.{both, both-left, both-right, by-not}
 use Rattle.lines.specs.Inputs.{isInputText}
-use Rattle.record.specs.Rules.{eachPair, isNone, isNewInput, isNamed, isInputs}
+use Rattle.record.specs.Rules.{eachPair, isNone, isNewInput, eachNamed, isInputs}
 use Rattle.record.proofs.Places.{two-left, one-left}
 use Rattle.record.proofs.Rules.{inputs-new}
 use Rattle.record.proofs.Sifted.{together}
@@ -63,15 +63,15 @@ module _ (f : ℕ → ℕ → Bool) (s : List ℕ) where
     all-paired h = ap (λ (b : Bool). ok && b) (left h) ∙ sym (p .rest)
 
 -- inputs that are new name inputs
-pub new-named : (s : List ℕ) → eachPair isNewInput s ≡ true → isNamed s ≡ true
-unfolding isNamed eachPair
+pub new-named : (s : List ℕ) → eachPair isNewInput s ≡ true → eachNamed s ≡ true
+unfolding eachNamed eachPair
 new-named [] h = refl
 new-named (a ∷ []) h = h
 new-named (a ∷ b ∷ s) h =
     both (both-left (isInputText a b) (isNone a b s) (both-left (isNewInput a b s) (eachPair isNewInput s) h))
     (new-named s (both-right (isNewInput a b s) (eachPair isNewInput s) h))
 
-pub inputs-unnamed : (s : List ℕ) → isNamed s ≡ false → isInputs s ≡ false
+pub inputs-unnamed : (s : List ℕ) → eachNamed s ≡ false → isInputs s ≡ false
 inputs-unnamed s e = by-not (isInputs s) (λ h.
     let n = new-named s (inputs-new s h) in
     let z : _≡_ {A = ℕ} 0 1 = cc in omega arith)

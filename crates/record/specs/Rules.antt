@@ -4,7 +4,7 @@
 --   eachPair f s         s is pairs, and each pair passes the test f, which also sees what follows it
 --   isNone a b s         the input a b is none of the inputs s: each of them is another (isOther)
 --   isNewInput a b s     the characters a b name an input, which none of the later ones s repeats
---   isNamed s            s is pairs, each of which names an input
+--   eachNamed s          s is pairs, each of which names an input
 --   inputPlace a b       the place of the input a b, at which the code marks it
 --   isInputs s           1 to 32 inputs, two characters each, all different
 --   isLamp x             a lamp's seconds are at most the limit
@@ -47,8 +47,8 @@ isNone a b s = eachPair (λ x y later. isOther a b x y) s
 abbrev pub isNewInput : ℕ → ℕ → List ℕ → Bool
 isNewInput a b later = isInputText a b && isNone a b later
 
-unfoldable pub isNamed : List ℕ → Bool
-isNamed s = eachPair (λ a b later. isInputText a b) s
+unfoldable pub eachNamed : List ℕ → Bool
+eachNamed s = eachPair (λ a b later. isInputText a b) s
 
 -- among the 45 inputs that there are, five types of nine numbers
 abbrev pub inputPlace : ℕ → ℕ → ℕ

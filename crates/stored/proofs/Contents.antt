@@ -10,10 +10,10 @@ use Rattle.lines.specs.Bytes.{_at_}
 use Rattle.record.specs.Limits.{lampsMost}
 use Rattle.record.specs.Wanted.{wantedOf}
 use Rattle.record.specs.Record.{blank, refused}
-use Rattle.record.specs.SetUp.{isSetUp, setUp}
+use Rattle.record.specs.SetUp.{isInRange, setUp}
 use Rattle.record.specs.declared.out_of_range.Setting.the-variants.{Lamps}
 use Rattle.record.proofs.Rules.{lamps-few}
-use Rattle.record.proofs.OutOfRange.{each-in-range}
+use Rattle.record.proofs.InRange.{in-range-each}
 use Rattle.record.proofs.Calls.{set-up-refused}
 use Rattle.stored.specs.Loading.{between, numberIn, secondsIn, settingsAt}
 use Rattle.stored.specs.declared.layout.Places.{Places}
@@ -24,10 +24,10 @@ module _ (s : List ℕ) (p : Places) where
   unfolding settingsAt
   too-many-lamps l =
       set-up-refused (settingsAt s p)
-      (by-not (isSetUp (settingsAt s p))
+      (by-not (isInRange (settingsAt s p))
       (λ h. omega (
         arith,
-        lamps-few _ (each-in-range (settingsAt s p) h Lamps),
+        lamps-few _ (in-range-each (settingsAt s p) h Lamps),
         read-many (s at (p .lamps)) (drop (p .lamps + 1) s),
       )))
 

@@ -31,7 +31,7 @@ hex s = pairs (ascii s)
 -- the name is 裁断, the room where cloth is cut
 abbrev cuttingRoom : Wanted
 cuttingRoom =
-    wantedOf (hex "E8A381E696AD") (ascii "Kunimi") [] (ascii "Room 2") (ascii "shears8") (ascii "113159")
+    wantedOf (hex "E8A381E696AD") (ascii "Kunimi") [] (ascii "Room 2") (ascii "shears12") (ascii "113159")
     (3600 ∷ lampLimit ∷ []) 20 600
 
 abbrev printed : List ℕ
@@ -41,7 +41,7 @@ printed =
     ++ hex "06" ++ ascii "Kunimi"
     ++ hex "00"
     ++ hex "06" ++ ascii "Room 2"
-    ++ hex "07" ++ ascii "shears8"
+    ++ hex "08" ++ ascii "shears12"
     ++ hex "03" ++ ascii "113159"
     ++ hex "02" ++ hex "00000E10" ++ hex "157529FF"
     ++ hex "0014" ++ hex "0258"
@@ -77,7 +77,8 @@ each-refused = refl
 abbrev widest : Wanted
 widest =
     wantedOf (replicate 64 (code "N")) (replicate 32 (code "M")) (replicate 32 (code "O")) (replicate 32 (code "I"))
-    (replicate 32 (code "p")) (ascii "11121314151617181921222324252627") (replicate 8 lampLimit) 600 600
+    (replicate 32 (code "p")) (ascii "1112131415161718192122232425262728293132333435363738394142434445")
+    (replicate 8 lampLimit) 600 600
 
 pub most-reached : (loaded (formOf widest) .number ≡ 0) × (length (formOf widest) ≡ formMost)
 unfolding computing record-computing

@@ -9,11 +9,11 @@ use native.Mathlib.Omega.{arith}
 use lib.ListN.{length, take}
 use borrow.Author.Tests.{le-leb}
 use Rattle.text.proofs.Choices.{both}
-use Rattle.lines.specs.Texts.{isInfo}
+use Rattle.lines.specs.Texts.{isInfo, isPassword}
 use Rattle.lines.proofs.TextsTold.{name-long, info-long, password-long}
 use Rattle.record.specs.Limits.{textRoom, inputRoom, lampsMost, stretchMost}
 use Rattle.record.specs.Wanted.{Wanted, wantedOf}
-use Rattle.record.specs.Rules.{isStretch, isInputs, isLamps}
+use Rattle.record.specs.Rules.{isLongEnough, isStretch, isInputs, isLamps}
 use Rattle.record.specs.Record.{inRoom, started, accepted}
 use Rattle.record.specs.Legal.{isLegal}
 use Rattle.record.specs.SetUp.{isSettingInRange, isSetUp, setUp}
@@ -21,13 +21,13 @@ use Rattle.record.specs.declared.types.Device.{Device}
 use Rattle.record.specs.declared.out_of_range.Setting.{Setting}
 use Rattle.record.specs.declared.out_of_range.Setting.the-variants.{Name, Maker, Model, Other, Password, Inputs}
 use Rattle.record.specs.declared.out_of_range.Setting.the-variants.{Lamps, WarmUp, Cooling}
-use Rattle.record.specs.declared.out_of_range.MaybeSetting.the-variants.{NoSetting}
-use Rattle.record.proofs.Kept.{filled-take}
+use Rattle.record.proofs.Kept.{kept-length, filled-take}
 use Rattle.record.proofs.Rules.{inputs-few, lamps-few}
 use Rattle.record.proofs.SettingsTold.{StretchTold}
 use Rattle.record.proofs.LegalTold.{settings-of-legal, own-of-legal}
-use Rattle.record.proofs.OutOfRange.{each-in-range, holding-told, none-in-range}
-use Rattle.record.proofs.Calls.{set-up-accepted}
+use Rattle.record.proofs.OutOfRange.{each-in-range}
+use Rattle.record.proofs.InRange.{in-range-shown}
+use Rattle.record.proofs.Calls.{set-up-shown, set-up-accepted}
 use Rattle.record.proofs.Started.{started-parts, inputs-halved}
 use Rattle.stored.specs.Form.{formOf, storedOf}
 use Rattle.stored.specs.Loading.{loaded}
@@ -50,7 +50,9 @@ module _ (d : Device) (h : isLegal d ≡ true) where
 
   pub stored-in-range : isSetUp (storedOf d) ≡ true
   stored-in-range =
-      none-in-range (storedOf d) (holding-told (isSettingInRange (storedOf d)) NoSetting in-range)
+      let told = settings-of-legal d h in
+      let long = ap isLongEnough (kept-length textRoom isPassword _ _ (told .password)) ∙ told .long-enough in
+      set-up-shown (storedOf d) (in-range-shown (storedOf d) in-range) long
 
   pub stored-loads : loaded (formOf (storedOf d)) ≡ accepted (started (storedOf d))
   stored-loads = form-loads (storedOf d) stored-in-range ∙ set-up-accepted (storedOf d) stored-in-range

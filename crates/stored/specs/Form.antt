@@ -53,9 +53,9 @@ formOf w =
     ++ textSection (w .password) ++ section (length (w .inputs) / 2) (w .inputs)
     ++ section (length (w .lamps)) (secondsBytes (w .lamps)) ++ highestFirst 2 (w .warm) ++ highestFirst 2 (w .cool))
 
--- a version; a name of 64 bytes; three texts and a password of 32; 16 inputs; 8 lamps; W and C
+-- a version; a name of 64 bytes; three texts and a password of 32; 32 inputs; 8 lamps; W and C
 abbrev pub formMost : ℕ
-formMost = 268
+formMost = 300
 
 abbrev pub textStored : Text → List ℕ
 textStored t = take (t .len) (t .bytes)

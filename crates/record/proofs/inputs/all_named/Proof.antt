@@ -5,7 +5,7 @@ use native.Mathlib.Omega.{arith}
 use lib.ListN.{length}
 use borrow.Author.Needs.{needs}
 use Rattle.lines.specs.Inputs.{isInputText}
-use Rattle.record.specs.Rules.{isNamed}
+use Rattle.record.specs.Rules.{eachNamed}
 use Rattle.record.proofs.Pairs.{Paired, none-paired, one-paired, all-paired}
 use Rattle.record.proofs.inputs.all_named.Statement.{statement}
 use Rattle.record.proofs.inputs.all_named.Tie as tie
@@ -24,7 +24,7 @@ again c =
     rw (c .is-input-text .ensures) (one-paired isInputText _ p there)
 
 ends : tie.Need-returns Inv μ
-unfolding isNamed
+unfolding eachNamed
 ends c = all-paired isInputText _ (c .before .loop .inv) (omega arith)
 
 pub all-named-spec : {M : Type 1} → statement M
