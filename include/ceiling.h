@@ -43,20 +43,22 @@ extern "C" {
 #endif
 
 /* The number that a call gives: PJ_SERVED, or the first of the others that applies, in this order. Below, each call
-   says with which it refuses. With 1 to 5 the record that was given comes back (from pj_set_up and pj_load, with any
+   says with which it refuses. With 1 to 9 the record that was given comes back (from pj_set_up and pj_load, with any
    number that is not 0, the blank record, all zero, which is not legal), counts and lengths are 0, and no byte of the
-   lent memory is written. With PJ_SERVED a
-   reply fills the start of the reply memory for its length, and every later byte there is as it was. */
+   lent memory is written. With PJ_SERVED a reply fills the start of the reply memory for its length, and every later
+   byte there is as it was. */
 enum pj_number {
     PJ_SERVED = 0,
-    PJ_NOT_LEGAL = 1,           /* the device record is not legal (pj_legal) */
-    PJ_NO_ROOM = 2,             /* the lent reply memory is under PJ_REPLY_ROOM bytes, for pj_write PJ_COMMAND_ROOM, for
-                                   pj_store shorter than the form */
-    PJ_OUT_OF_RANGE = 3,        /* a setting, an error digit, a command or a password is out of its range, two tables
-                                   cannot be compared, or the jobs, rigs or lists of a day are out of theirs */
+    PJ_NOT_LEGAL = 1,           /* the device record is not legal (pj_legal), or the panel's record is not */
+    PJ_NO_ROOM = 2,             /* the lent reply memory is under PJ_REPLY_ROOM bytes, for pj_write and pj_panel_command
+                                   PJ_COMMAND_ROOM, for pj_store shorter than the form */
+    PJ_OUT_OF_RANGE = 3,        /* a setting, an error digit, a command or a password is out of its range, a panel has
+                                   no such projector or no room for one more, two tables cannot be compared, or the
+                                   jobs, rigs or lists of a day are out of theirs */
     PJ_NOT_CONNECTED = 4,       /* receiving or closing on a closed connection */
     PJ_CONNECTED = 5,           /* opening a connection that is not closed */
     PJ_SHORT_PASSWORD = 8,      /* a set-up's password has 1 to 7 characters, and nothing is out of its range */
+    PJ_NOT_READY = 9,           /* a panel's command before the projector's greeting, or over another command */
     PJ_NOT_A_LINE = 10,         /* what was read is not a greeting or reply line */
     PJ_OTHER_COMMAND = 11,      /* it is a reply to another command */
     PJ_NOT_ALLOWED = 12,        /* it is a reply to the command, with a parameter that is not allowed there */
@@ -74,8 +76,11 @@ enum pj_limit {
     PJ_INPUTS_READ_MOST = 32,   /* of a reply that is read */
     PJ_LAMPS_MOST = 8,
     PJ_LAMP_MOST = 359999999,   /* seconds of a lamp: 99,999 hours and 3,599 seconds */
+    PJ_HOURS_MOST = 99999,      /* hours of a lamp, as a reply tells them */
     PJ_WARM_COOL_MOST = 600,    /* seconds of warm-up, and of cooling */
     PJ_WAIT_MOST = 30,          /* seconds: at this age an awaiting or failed connection is closed */
+    PJ_PANEL_MOST = 8,          /* projectors of a panel */
+    PJ_STRAYS_MOST = 65535,     /* the count of a projector's stray lines stops here */
     PJ_TABLE_MOST = 64,         /* places of a table of lamp seconds */
     PJ_JOBS_MOST = 64,          /* of a cutting day */
     PJ_RIGS_MOST = 8,
@@ -368,6 +373,90 @@ typedef struct {                            /* what a kind does not use is zero 
    PJ_NOT_ALLOWED. */
 pj_reading pj_read_reply(pj_command c, const uint8_t *line, size_t len);
 
+/* The workroom panel. It drives up to PJ_PANEL_MOST projectors, each over a connection of its own that the host makes:
+   the host collects each line to its CR and hands it in with the number of the projector that it came from, from 0 in
+   the order in which they were added. The panel keeps a record, pj_panel, as the projector keeps pj_device: store what
+   comes back over the one you had.
+
+   The panel writes commands and reads lines as pj_write, pj_read_greeting and pj_read_reply do. One command is under
+   way at a time for each projector. A line that is late, foreign or malformed is a stray: it is counted, and changes
+   nothing else. */
+
+enum pj_awaited {                           /* the greeting that a projector has sent */
+    PJ_AWAITED_GREETING = 0,                /* none yet: a greeting is awaited, and any other line is malformed */
+    PJ_AWAITED_OPEN = 1,                    /* PJLINK 0 */
+    PJ_AWAITED_SECURED = 2                  /* PJLINK 1 */
+};
+
+typedef struct {                            /* one projector of a panel */
+    pj_text password;                       /* 0 to PJ_PASSWORD_MOST ASCII letters and digits */
+    uint8_t greeting;                       /* enum pj_awaited */
+    uint32_t random;                        /* of a greeting that is PJ_AWAITED_SECURED, else 0 */
+    bool led;                               /* the digest was sent since that greeting; false with any other */
+    bool under_way;                         /* a command was sent, and its reply is awaited; false without a greeting */
+    pj_command command;                     /* that command, as it was given; else all three 0 */
+    bool power_known, input_known, lamps_known;
+    uint8_t power;                          /* enum pj_power; 0 where it is not known */
+    uint8_t input_type, input_number;       /* 1 to 5 and 1 to 9; both 0 where the input is not known */
+    size_t lamp_count;                      /* 1 to PJ_LAMPS_MOST; 0 where the lamps are not known */
+    uint32_t hours[PJ_LAMPS_MOST];          /* at most PJ_HOURS_MOST; 0 past the count */
+    bool lit[PJ_LAMPS_MOST];                /* false past the count */
+    uint32_t strays;                        /* at most PJ_STRAYS_MOST */
+} pj_entry;
+
+typedef struct {
+    size_t count;                           /* of projectors */
+    pj_entry entries[PJ_PANEL_MOST];        /* all zero past the count */
+} pj_panel;                                 /* legal where it is as said here, unused room zero as everywhere */
+
+typedef struct {
+    uint32_t number;
+    pj_panel panel;
+} pj_panel_changed;
+
+typedef struct {
+    uint32_t number;
+    size_t length;                          /* of the line that was written, with its CR */
+    pj_panel panel;
+} pj_panel_sent;
+
+/* Makes the panel of no projector, all zero. Refuses nothing. */
+CEILING_KEEP
+pj_panel_changed pj_panel_none(void);
+
+/* Adds a projector, the last so far: its greeting is awaited, nothing of it is known, and it has no strays. The
+   password is the one that the projector was set up with, of length 0 where it has none; short ones are taken too.
+   Refuses with PJ_NOT_LEGAL, then with PJ_OUT_OF_RANGE a password that is not 0 to PJ_PASSWORD_MOST ASCII letters and
+   digits, and a projector more than PJ_PANEL_MOST. */
+CEILING_KEEP
+pj_panel_changed pj_panel_add(pj_panel p, const uint8_t *password, size_t password_len);
+
+/* Writes the command's line, to be sent to the projector; the command is then under way. The line of the first command
+   after a greeting that is PJ_AWAITED_SECURED is led by the digest of that greeting's random number and the
+   projector's password, and no later one is.
+   Refuses with PJ_NOT_LEGAL, PJ_NO_ROOM (under PJ_COMMAND_ROOM bytes), with PJ_OUT_OF_RANGE a projector that there is
+   not or what is no command, and with PJ_NOT_READY a command before the greeting, or while another is under way. */
+CEILING_KEEP
+pj_panel_sent pj_panel_command(pj_panel p, size_t projector, pj_command c, uint8_t *out, size_t out_len);
+
+/* Takes a line that came from the projector, with its CR.
+   - Until its greeting: pj_read_greeting is asked. PJLINK 0 and PJLINK 1 are the greeting; any other line, PJLINK ERRA
+     too, is malformed.
+   - With no command under way: the line is late, whatever it is.
+   - With one: pj_read_reply is asked. A line that it refuses with PJ_NOT_A_LINE or PJ_NOT_ALLOWED is malformed (a
+     second greeting is), one with PJ_OTHER_COMMAND foreign; the command stays under way. PJLINK ERRA ends it, makes
+     power, input and lamps unknown, and a new greeting is awaited. Any other reply ends it: the power, the input or the
+     lamps that it tells are now known and shown, and a reply that tells none of them (OK, ERR1 to ERR4) changes none.
+   Refuses with PJ_NOT_LEGAL, then with PJ_OUT_OF_RANGE a projector that there is not. A stray is not refused. */
+CEILING_KEEP
+pj_panel_changed pj_panel_line(pj_panel p, size_t projector, const uint8_t *line, size_t len);
+
+/* Tells the panel that the connection to the projector is gone: a command under way ends, and a new greeting is
+   awaited. What is known of power, input and lamps stays, and so does the count of strays.
+   Refuses with PJ_NOT_LEGAL, then with PJ_OUT_OF_RANGE a projector that there is not. */
+CEILING_KEEP
+pj_panel_changed pj_panel_lost(pj_panel p, size_t projector);
+
 /* Service. */
 
 typedef struct {
@@ -454,6 +543,17 @@ CEILING_IS(sizeof(pj_greeting) == 12 && offsetof(pj_greeting, kind) == 4 && offs
 CEILING_IS(sizeof(pj_reading) == 184 && offsetof(pj_reading, kind) == 4 && offsetof(pj_reading, first) == 5);
 CEILING_IS(offsetof(pj_reading, second) == 6 && offsetof(pj_reading, count) == 8 && offsetof(pj_reading, hours) == 16);
 CEILING_IS(offsetof(pj_reading, lit) == 48 && offsetof(pj_reading, inputs) == 56 && offsetof(pj_reading, text) == 120);
+CEILING_IS(sizeof(pj_entry) == 152 && offsetof(pj_entry, greeting) == 72 && offsetof(pj_entry, random) == 76);
+CEILING_IS(offsetof(pj_entry, led) == 80 && offsetof(pj_entry, under_way) == 81 && offsetof(pj_entry, command) == 82);
+CEILING_IS(offsetof(pj_entry, power_known) == 85 && offsetof(pj_entry, input_known) == 86);
+CEILING_IS(offsetof(pj_entry, lamps_known) == 87 && offsetof(pj_entry, power) == 88);
+CEILING_IS(offsetof(pj_entry, input_type) == 89 && offsetof(pj_entry, input_number) == 90);
+CEILING_IS(offsetof(pj_entry, lamp_count) == 96 && offsetof(pj_entry, hours) == 104 && offsetof(pj_entry, lit) == 136);
+CEILING_IS(offsetof(pj_entry, strays) == 144);
+CEILING_IS(sizeof(pj_panel) == 1224 && offsetof(pj_panel, entries) == 8);
+CEILING_IS(sizeof(pj_panel_changed) == 1232 && offsetof(pj_panel_changed, panel) == 8);
+CEILING_IS(sizeof(pj_panel_sent) == 1240 && offsetof(pj_panel_sent, length) == 8);
+CEILING_IS(offsetof(pj_panel_sent, panel) == 16);
 CEILING_IS(sizeof(pj_compared) == 16 && offsetof(pj_compared, backwards) == 4 && offsetof(pj_compared, place) == 8);
 CEILING_IS(sizeof(pj_verdict) == 24 && offsetof(pj_verdict, rule) == 4 && offsetof(pj_verdict, first) == 8);
 CEILING_IS(offsetof(pj_verdict, second) == 16);
