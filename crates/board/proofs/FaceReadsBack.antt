@@ -21,13 +21,13 @@ use Rattle.controller.specs.Greetings.{readGreeting, greetedOn}
 use Rattle.controller.proofs.ReadsBack.{TakenAndRead}
 use Rattle.controller.proofs.WrittenReadBack.{written-reads-back, written-reads-back-secured}
 use Rattle.controller.proofs.GreetsBack.{greets-back}
-use Rattle.board.specs.Commands.{commandOf}
-use Rattle.board.specs.Readings.{flatGreeting, saidFlat, flat}
+use Rattle.codes.specs.Commands.{commandOf}
+use Rattle.codes.specs.Readings.{flatGreeting, saidFlat, flat}
 use Rattle.board.specs.Face.{writtenBy, readBy}
-use Rattle.board.specs.declared.codes.Coded.{Coded}
-use Rattle.board.specs.declared.codes.MaybeCommand.{MaybeCommand}
-use Rattle.board.specs.declared.codes.MaybeCommand.the-variants.{CommandIs}
-use Rattle.board.proofs.CodesBack.{command-writable}
+use Rattle.codes.specs.declared.command.Coded.{Coded}
+use Rattle.codes.specs.declared.command.MaybeCommand.{MaybeCommand}
+use Rattle.codes.specs.declared.command.MaybeCommand.the-variants.{CommandIs}
+use Rattle.codes.proofs.CodesBack.{command-writable}
 
 pub record Told (d : Device) (m : MaybeCommand) (c : Command) (w : WrittenAs) (r : Result Device) : Type 0 where
   pub written : w .number ≡ 0

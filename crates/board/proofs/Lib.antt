@@ -1,5 +1,3 @@
-pub mod Flattening
-pub mod CodesBack
 pub mod Refusals
 pub mod FaceReadsBack
 pub mod OneResult

@@ -18,15 +18,15 @@ use Rattle.day.specs.Plans.{planOf, rigsWritten}
 use Rattle.day.specs.declared.check.Verdict.{Verdict}
 use Rattle.day.specs.declared.plan.Plan.{Plan}
 use Rattle.day.proofs.InNumbers.{verdict-by-numbers, plan-by-numbers}
-use Rattle.board.specs.Commands.{commandOf}
-use Rattle.board.specs.Readings.{flatGreeting}
+use Rattle.codes.specs.Commands.{commandOf}
+use Rattle.codes.specs.Readings.{flatGreeting}
 use Rattle.board.specs.Face.{writtenBy, readBy}
 use Rattle.board.specs.Days.{flatVerdict, flatPlan}
-use Rattle.board.specs.declared.codes.Coded.{Coded}
+use Rattle.codes.specs.declared.command.Coded.{Coded}
 use Rattle.board.specs.declared.days.FlatVerdict.{FlatVerdict}
 use Rattle.board.specs.declared.days.FlatPlan.{FlatPlan}
-use Rattle.board.specs.declared.readings.FlatGreeting.{FlatGreeting}
-use Rattle.board.specs.declared.readings.FlatReading.{FlatReading}
+use Rattle.codes.specs.declared.readings.FlatGreeting.{FlatGreeting}
+use Rattle.codes.specs.declared.readings.FlatReading.{FlatReading}
 
 -- out is the lent memory
 module _ (k : Coded) (secured : Bool) (random : ℕ) (password out : List ℕ) where

@@ -20,12 +20,12 @@ use Rattle.controller.specs.declared.reading.Outcome.{Outcome}
 use Rattle.controller.specs.declared.reading.Outcome.the-variants.{Means, Erra, NotALine, OtherCommand, NotAllowed}
 use Rattle.controller.proofs.Cases.{reply-by}
 use Rattle.controller.proofs.Refusals.{refusal-writes-nothing, written-number}
-use Rattle.board.specs.Commands.{commandOf}
-use Rattle.board.specs.Readings.{meaningless, saidFlat, flatAs, flat}
+use Rattle.codes.specs.Commands.{commandOf}
+use Rattle.codes.specs.Readings.{meaningless, saidFlat, flatAs, flat}
 use Rattle.board.specs.Face.{noneWritten, writtenBy, readBy}
-use Rattle.board.specs.declared.codes.Coded.{Coded}
-use Rattle.board.specs.declared.codes.MaybeCommand.{MaybeCommand}
-use Rattle.board.specs.declared.codes.MaybeCommand.the-variants.{CommandIs, NoCommand}
+use Rattle.codes.specs.declared.command.Coded.{Coded}
+use Rattle.codes.specs.declared.command.MaybeCommand.{MaybeCommand}
+use Rattle.codes.specs.declared.command.MaybeCommand.the-variants.{CommandIs, NoCommand}
 
 pub none-bytes : (room : ℕ) → noneWritten room .bytes ≡ []
 unfolding noneWritten

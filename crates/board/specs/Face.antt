@@ -10,10 +10,10 @@ use lib.Dec.{ltb}
 use Rattle.text.specs.Words.{if_then_else_}
 use Rattle.controller.specs.Writing.{WrittenAs, nothingWritten, commandRoom, writtenCommand}
 use Rattle.controller.specs.Reading.{readReply}
-use Rattle.board.specs.Readings.{meaningless, flat}
-use Rattle.board.specs.declared.codes.MaybeCommand.{MaybeCommand}
-use Rattle.board.specs.declared.codes.MaybeCommand.the-variants.{CommandIs, NoCommand}
-use Rattle.board.specs.declared.readings.FlatReading.{FlatReading}
+use Rattle.codes.specs.Readings.{meaningless, flat}
+use Rattle.codes.specs.declared.command.MaybeCommand.{MaybeCommand}
+use Rattle.codes.specs.declared.command.MaybeCommand.the-variants.{CommandIs, NoCommand}
+use Rattle.codes.specs.declared.readings.FlatReading.{FlatReading}
 
 unfoldable pub noneWritten : ℕ → WrittenAs
 noneWritten room = if ltb room commandRoom then nothingWritten 2 else nothingWritten 3

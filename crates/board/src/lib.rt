@@ -1,12 +1,9 @@
 // The face that a host links, in C (include/ceiling.h): thin calls over the proved crates, none with a precondition.
-pub mod codes;
 pub mod days;
 pub mod forms;
 pub mod lamps;
-mod lists;
 pub mod projector;
 pub mod reader;
-pub mod readings;
 pub mod sums;
 pub mod time;
 pub mod which;

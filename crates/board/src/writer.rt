@@ -1,14 +1,14 @@
 // The controller's writer.
-use crate::codes;
-use crate::codes::Coded;
-use crate::codes::MaybeCommand;
+use codes::command;
+use codes::command::Coded;
+use codes::command::MaybeCommand;
 use controller::writing;
 use controller::writing::Written;
 ghost use mathlib.Core.Path.{_≡_};
 ghost use lib.ListN.{length};
 ghost use Rattle.text.specs.Words.{over};
 ghost use Rattle.controller.specs.Writing.{toldWritten};
-ghost use Rattle.board.specs.Commands.{commandOf};
+ghost use Rattle.codes.specs.Commands.{commandOf};
 ghost use Rattle.board.specs.Face.{noneWritten, writtenBy};
 
 fn none_written(room: usize) -> Written
@@ -40,7 +40,7 @@ pub extern "C" fn pj_write(
     ensures { λ _. ⌜ now (out .exit) ≡ over (writtenBy (commandOf k) secured random (now (password .entry))
         (length (now (out .entry))) .bytes) (now (out .entry)) ⌝ }
 {
-    let named = codes::command_of(k);
+    let named = command::command_of(k);
     match named {
         MaybeCommand::CommandIs(c) => writing::write_command(c, secured, random, password, out),
         MaybeCommand::NoCommand => none_written(out.len()),

@@ -2,7 +2,7 @@
 -- Assumes nothing.
 use mathlib.Core.Path.{ap, _∙_}
 use borrow.Author.Needs.{needs}
-use Rattle.board.specs.Readings.{flatGreeting}
+use Rattle.codes.specs.Readings.{flatGreeting}
 use Rattle.board.proofs.reader.pj_read_greeting.Statement.{statement}
 use Rattle.board.proofs.reader.pj_read_greeting.Tie as tie
 

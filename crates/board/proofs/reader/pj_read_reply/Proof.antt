@@ -9,10 +9,10 @@ use Rattle.answers.specs.Carried.{saidBy}
 use Rattle.controller.specs.Reading.{readReply}
 use Rattle.controller.specs.declared.reading.Reading.{Reading}
 use Rattle.controller.proofs.ReadingsSaid.{reading-said}
-use Rattle.board.specs.Commands.{commandOf}
-use Rattle.board.specs.Readings.{flatAs}
+use Rattle.codes.specs.Commands.{commandOf}
+use Rattle.codes.specs.Readings.{flatAs}
 use Rattle.board.specs.Face.{readBy}
-use Rattle.board.specs.declared.codes.MaybeCommand.{MaybeCommand}
+use Rattle.codes.specs.declared.command.MaybeCommand.{MaybeCommand}
 use Rattle.board.proofs.reader.pj_read_reply.Statement.{statement}
 use Rattle.board.proofs.reader.pj_read_reply.Tie as tie
 

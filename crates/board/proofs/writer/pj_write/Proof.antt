@@ -8,9 +8,9 @@ use borrow.Author.Needs.{needs}
 use Rattle.text.specs.Words.{over}
 use Rattle.text.proofs.Carried.{carried}
 use Rattle.controller.specs.Writing.{WrittenAs, toldWritten}
-use Rattle.board.specs.Commands.{commandOf}
+use Rattle.codes.specs.Commands.{commandOf}
 use Rattle.board.specs.Face.{writtenBy}
-use Rattle.board.specs.declared.codes.MaybeCommand.{MaybeCommand}
+use Rattle.codes.specs.declared.command.MaybeCommand.{MaybeCommand}
 use Rattle.board.proofs.Refusals.{none-bytes}
 use Rattle.board.proofs.writer.pj_write.Statement.{statement}
 use Rattle.board.proofs.writer.pj_write.Tie as tie
