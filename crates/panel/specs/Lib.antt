@@ -1,0 +1,4 @@
+pub mod Entries
+pub mod Stepping
+pub mod LegalPanels
+pub mod PanelCalls
