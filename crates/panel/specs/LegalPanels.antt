@@ -4,6 +4,7 @@
 --                     with a greeting, and one that the writer takes
 --   isPowerShown, isInputShown, isLampsShown     what is known is in the reader's range, what is not is zero
 --   isEntry e         the entry is legal: a password of 0 to 32 letters and digits, and strays to their stop
+--   isEntries es      eight entries, each legal
 --   isUnused e        nothing is kept of it: with isEntry, all zero (proofs/Unused)
 --   isPanel p         up to eight projectors, and the entries past them unused
 -- Assumes nothing.
@@ -82,7 +83,9 @@ isUnused e =
     eqb (e .password .len) 0 && eqb (e .greeting) ungreeted && not (e .«power_known») && not (e .«input_known»)
     && not (e .«lamps_known») && eqb (e .strays) 0
 
+unfoldable pub isEntries : List Entry → Bool
+isEntries es = eqb (length es) panelMost && every isEntry es
+
 unfoldable pub isPanel : Panel → Bool
 isPanel p =
-    leb (p .count) panelMost && eqb (length (p .entries)) panelMost && every isEntry (p .entries)
-    && every isUnused (drop (p .count) (p .entries))
+    leb (p .count) panelMost && isEntries (p .entries) && every isUnused (drop (p .count) (p .entries))

@@ -9,7 +9,8 @@
 --   lostEntry e         the connection is gone (docs/DECISIONS.md): as after ERRA, but the readings stay
 --   sentEntry e k       the command k was sent
 --   isUnready e         "A command before the greeting or over another"
---   lineSent e m room   what is sent of a command: the digest leads the first one after a secured greeting
+--   commandSent e c room     what is sent of the command c: the digest leads the first one after a secured greeting
+--   lineSent e m room        the same of a command by its code; nothing of none
 -- Lines are read by the controller's own readers, readGreeting and readReply, and written by its writer.
 -- Assumes nothing.
 use Prim.Native.Nat.{ℕ, _+_, min}
@@ -17,6 +18,7 @@ use mathlib.Core.Bool.{Bool, not, _||_}
 use mathlib.Core.List.{List, []}
 use lib.Dec.{eqb}
 use Rattle.text.specs.Words.{if_then_else_}
+use Rattle.lines.specs.declared.command.Command.{Command}
 use Rattle.answers.specs.Said.{Said}
 use Rattle.controller.specs.Greetings.{readGreeting}
 use Rattle.controller.specs.Reading.{ReadAs, readReply}
@@ -29,8 +31,9 @@ use Rattle.codes.specs.Commands.{commandOf}
 use Rattle.codes.specs.declared.command.Coded.{Coded}
 use Rattle.codes.specs.declared.command.MaybeCommand.{MaybeCommand}
 use Rattle.codes.specs.declared.command.MaybeCommand.the-variants.{CommandIs, NoCommand}
-use Rattle.panel.specs.Entries.{Talk, talkOf, shownOf, passwordIn, entryOf, ungreeted, greetedOpen, greetedSecured}
-use Rattle.panel.specs.Entries.{noTalk, greetedBy, leadsNext, sentOn, restedOn, nothingShown, showing}
+use Rattle.panel.specs.Entries.{Talk, Shown, talkOf, shownOf, passwordIn, entryOf, ungreeted, greetedOpen}
+use Rattle.panel.specs.Entries.{greetedSecured, noTalk, greetedBy, leadsNext, sentOn, restedOn, nothingShown}
+use Rattle.panel.specs.Entries.{showing}
 use Rattle.panel.specs.declared.types.Entry.{Entry}
 
 abbrev pub straysMost : ℕ
@@ -41,6 +44,9 @@ strayed e = entryOf (e .password) (talkOf e) (shownOf e) (min straysMost (e .str
 
 abbrev pub withTalk : Entry → Talk → Entry
 withTalk e t = entryOf (e .password) t (shownOf e) (e .strays)
+
+abbrev pub withShown : Entry → Shown → Entry
+withShown e s = entryOf (e .password) (talkOf e) s (e .strays)
 
 abbrev pub answeredEntry : Entry → Said → Entry
 answeredEntry e m = entryOf (e .password) (restedOn (talkOf e)) (showing (shownOf e) m) (e .strays)
@@ -84,6 +90,9 @@ heardLine e l =
 abbrev pub isUnready : Entry → Bool
 isUnready e = eqb (e .greeting) ungreeted || e .«under_way»
 
-unfoldable pub lineSent : Entry → MaybeCommand → ℕ → List ℕ
-lineSent e (CommandIs c) room = writtenCommand c (leadsNext (talkOf e)) (e .random) (passwordIn e) room .bytes
+unfoldable pub commandSent : Entry → Command → ℕ → List ℕ
+commandSent e c room = writtenCommand c (leadsNext (talkOf e)) (e .random) (passwordIn e) room .bytes
+
+abbrev pub lineSent : Entry → MaybeCommand → ℕ → List ℕ
+lineSent e (CommandIs c) room = commandSent e c room
 lineSent e NoCommand room = []

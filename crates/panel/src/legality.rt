@@ -1,0 +1,205 @@
+// The legality of the panel, a function a part.
+use crate::types::Entry;
+use crate::types::GREETED_SECURED;
+use crate::types::HOURS_MOST;
+use crate::types::LAMPS_MOST;
+use crate::types::PANEL_MOST;
+use crate::types::Panel;
+use crate::types::STRAYS_MOST;
+use crate::types::UNGREETED;
+use codes::command;
+use codes::command::Coded;
+use codes::command::MaybeCommand;
+use lines::texts;
+use record::types::TEXT_ROOM;
+use record::types::Text;
+ghost use mathlib.Core.Path.{_≡_};
+ghost use mathlib.Core.Bool.{not};
+ghost use lib.ListN.{drop};
+ghost use Rattle.text.specs.Scans.{every};
+ghost use Rattle.lines.specs.Texts.{isPassword};
+ghost use Rattle.record.specs.Legal.{isZero, fillsRoom, fillsTextRoom};
+ghost use Rattle.answers.specs.Carried.{lampsCarried};
+ghost use Rattle.codes.specs.Commands.{commandOf};
+ghost use Rattle.panel.specs.Entries.{talkOf, shownOf};
+ghost use Rattle.panel.specs.LegalPanels.{isNamed, isCommandKept, isTalk, isPowerShown, isInputShown, isLampCount};
+ghost use Rattle.panel.specs.LegalPanels.{isHours, isLitRoom, isLampsShown, isShown, isEntry, isEntries, isUnused};
+ghost use Rattle.panel.specs.LegalPanels.{isPanel};
+
+// The room from n on is unused.
+fn zeros_from(s: &[u8], n: usize) -> bool
+    ensures { λ r. ⌜ r ≡ every isZero (drop n (now (s .entry))) ⌝ }
+{
+    let mut ok = true;
+    let mut i = n;
+    while i < s.len() {
+        ok = ok & (s[i] == 0);
+        i += 1;
+    }
+    ok
+}
+
+// 0 to 32 letters and digits, in their room: those that the controller's writer takes.
+fn password_ok(t: Text) -> bool
+    ensures { λ r. ⌜ r ≡ fillsTextRoom isPassword t ⌝ }
+{
+    let bytes = t.bytes;
+    let len = t.len;
+    if TEXT_ROOM < len {
+        return false;
+    }
+    zeros_from(&bytes, len) & texts::is_password(&bytes[0..len])
+}
+
+pub fn is_named(k: Coded) -> bool
+    ensures { λ r. ⌜ r ≡ isNamed (commandOf k) ⌝ }
+{
+    let named = command::command_of(k);
+    match named {
+        MaybeCommand::CommandIs(_) => true,
+        MaybeCommand::NoCommand => false,
+    }
+}
+
+// A command under way only after a greeting, and one that the writer takes; else none.
+fn command_ok(e: Entry) -> bool
+    ensures { λ r. ⌜ r ≡ isCommandKept (talkOf e) ⌝ }
+{
+    let k = e.command;
+    if e.under_way {
+        return (e.greeting != UNGREETED) & is_named(k);
+    }
+    (k.code == 0) & (k.first == 0) & (k.second == 0)
+}
+
+fn talk_ok(e: Entry) -> bool
+    ensures { λ r. ⌜ r ≡ isTalk (talkOf e) ⌝ }
+{
+    (e.greeting <= GREETED_SECURED)
+        & ((e.greeting == GREETED_SECURED) | ((e.random == 0) & !e.led))
+        & command_ok(e)
+}
+
+fn power_ok(known: bool, power: u8) -> bool
+    ensures { λ r. ⌜ r ≡ isPowerShown known power ⌝ }
+{
+    if known {
+        return power <= 3;
+    }
+    power == 0
+}
+
+fn input_ok(known: bool, source: u8, number: u8) -> bool
+    ensures { λ r. ⌜ r ≡ isInputShown known source number ⌝ }
+{
+    if known {
+        return (1 <= source) & (source <= 5) & (1 <= number) & (number <= 9);
+    }
+    (source == 0) & (number == 0)
+}
+
+fn lamp_count_ok(known: bool, count: usize) -> bool
+    ensures { λ r. ⌜ r ≡ isLampCount known count ⌝ }
+{
+    if known {
+        return (1 <= count) & (count <= LAMPS_MOST);
+    }
+    count == 0
+}
+
+fn hours_ok(hours: [u32; LAMPS_MOST], count: usize) -> bool
+    ensures { λ r. ⌜ r ≡ fillsRoom lampsCarried isHours hours count ⌝ }
+{
+    if LAMPS_MOST < count {
+        return false;
+    }
+    let mut ok = true;
+    let mut i = 0;
+    while i < LAMPS_MOST {
+        let used = i < count;
+        ok = ok & ((used & (hours[i] <= HOURS_MOST)) | (!used & (hours[i] == 0)));
+        i += 1;
+    }
+    ok
+}
+
+fn lit_ok(lit: [bool; LAMPS_MOST], count: usize) -> bool
+    ensures { λ r. ⌜ r ≡ isLitRoom lit count ⌝ }
+{
+    let mut ok = true;
+    let mut i = count;
+    while i < LAMPS_MOST {
+        ok = ok & !lit[i];
+        i += 1;
+    }
+    ok
+}
+
+fn lamps_ok(e: Entry) -> bool
+    ensures { λ r. ⌜ r ≡ isLampsShown (e .«lamps_known») (e .«lamp_count») (e .hours) (e .lit) ⌝ }
+{
+    let count = e.lamp_count;
+    let hours = e.hours;
+    let lit = e.lit;
+    lamp_count_ok(e.lamps_known, count) & hours_ok(hours, count) & lit_ok(lit, count)
+}
+
+fn shown_ok(e: Entry) -> bool
+    ensures { λ r. ⌜ r ≡ isShown (shownOf e) ⌝ }
+{
+    power_ok(e.power_known, e.power)
+        & input_ok(e.input_known, e.input_type, e.input_number)
+        & lamps_ok(e)
+}
+
+pub fn entry_ok(e: Entry) -> bool
+    ensures { λ r. ⌜ r ≡ isEntry e ⌝ }
+{
+    password_ok(e.password) & talk_ok(e) & shown_ok(e) & (e.strays <= STRAYS_MOST)
+}
+
+// Nothing is kept in the entry.
+fn is_unused(e: Entry) -> bool
+    ensures { λ r. ⌜ r ≡ isUnused e ⌝ }
+{
+    (e.password.len == 0)
+        & (e.greeting == UNGREETED)
+        & !e.power_known
+        & !e.input_known
+        & !e.lamps_known
+        & (e.strays == 0)
+}
+
+fn entries_ok(entries: [Entry; PANEL_MOST]) -> bool
+    ensures { λ r. ⌜ r ≡ isEntries entries ⌝ }
+{
+    let mut ok = true;
+    let mut i = 0;
+    while i < PANEL_MOST {
+        let e = entries[i];
+        ok = ok & entry_ok(e);
+        i += 1;
+    }
+    ok
+}
+
+fn unused_from(entries: [Entry; PANEL_MOST], count: usize) -> bool
+    ensures { λ r. ⌜ r ≡ every isUnused (drop count entries) ⌝ }
+{
+    let mut ok = true;
+    let mut i = count;
+    while i < PANEL_MOST {
+        let e = entries[i];
+        ok = ok & is_unused(e);
+        i += 1;
+    }
+    ok
+}
+
+pub fn legal(p: Panel) -> bool
+    ensures { λ r. ⌜ r ≡ isPanel p ⌝ }
+{
+    let count = p.count;
+    let entries = p.entries;
+    (count <= PANEL_MOST) & entries_ok(entries) & unused_from(entries, count)
+}
