@@ -1,3 +1,10 @@
 pub mod Tails
 pub mod PanelsTold
+pub mod TalksTold
 pub mod Cases
+pub mod StepsByTable
+pub mod OnlyItsEntry
+pub mod Refusals
+pub mod OneResult
+pub mod ShownLegal
+pub mod PanelsLegal

@@ -2,3 +2,4 @@ pub mod Entries
 pub mod Stepping
 pub mod LegalPanels
 pub mod PanelCalls
+pub mod StepTable
