@@ -8,3 +8,5 @@ pub mod Refusals
 pub mod OneResult
 pub mod ShownLegal
 pub mod PanelsLegal
+pub mod ReadingsShown
+pub mod DigestLeads

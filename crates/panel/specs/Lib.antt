@@ -3,3 +3,4 @@ pub mod Stepping
 pub mod LegalPanels
 pub mod PanelCalls
 pub mod StepTable
+pub mod Talks
