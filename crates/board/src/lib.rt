@@ -7,4 +7,5 @@ pub mod reader;
 pub mod sums;
 pub mod time;
 pub mod which;
+pub mod workroom;
 pub mod writer;

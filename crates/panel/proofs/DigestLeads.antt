@@ -1,5 +1,5 @@
--- THE DIGEST leads the first command after a secured greeting, and no other: whatever is asked for, whatever lines come,
--- of the commands that are sent until a new greeting is awaited. After an open greeting it leads none.
+-- THE DIGEST leads the first command after a secured greeting, and no other: whatever is asked for, whatever lines
+-- come, of the commands that are sent until a new greeting is awaited. After an open greeting it leads none.
 -- Assumes nothing.
 use Prim.Native.Nat.{ℕ, _≤_}
 use mathlib.Core.Path.{_≡_, refl, sym, ap, subst, _∙_}

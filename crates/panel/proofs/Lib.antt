@@ -10,3 +10,4 @@ pub mod ShownLegal
 pub mod PanelsLegal
 pub mod ReadingsShown
 pub mod DigestLeads
+pub mod Unused

@@ -26,7 +26,8 @@ use Rattle.controller.specs.declared.reading.Outcome.the-variants.{Means}
 use Rattle.controller.proofs.ReadsSound.{reads-sound}
 use Rattle.codes.specs.Commands.{commandOf}
 use Rattle.codes.specs.declared.command.Coded.{Coded}
-use Rattle.panel.specs.Entries.{Talk, Shown, talkOf, shownOf, entryOf, ungreeted, showing, freshEntry, blankEntry}
+use Rattle.panel.specs.Entries.{Talk, Shown, talkOf, shownOf, entryOf, ungreeted, freshEntry, blankEntry}
+use Rattle.panel.specs.Showing.{showing}
 use Rattle.panel.specs.Stepping.{straysMost, strayed, withTalk, answeredEntry, erraEntry, lostEntry, sentEntry}
 use Rattle.panel.specs.Stepping.{heardLine, isUnready}
 use Rattle.panel.specs.LegalPanels.{panelMost, isNamed, isTalk, isShown, isEntry, isUnused, isPanel}
@@ -111,7 +112,8 @@ fresh-legal s h =
 pub blank-legal : isEntry blankEntry ≡ true
 blank-legal =
     entry-legal _ (record {
-      password = kept-shown textRoom isPassword _ 0 (nothing-kept textRoom isPassword (password-within [] (omega arith)));
+      password = kept-shown textRoom isPassword _ 0
+          (nothing-kept textRoom isPassword (password-within [] (omega arith)));
       talk = no-talk-legal;
       shown = nothing-shown-legal;
       strays = omega arith;

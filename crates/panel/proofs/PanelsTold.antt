@@ -53,7 +53,8 @@ module _ (e : Entry) where
   -- its password is in its room, and one that the writer takes
   module _ (legal : isEntry e ≡ true) where
     pub password-fits : e .password .len ≤ textRoom
-    password-fits = kept-told textRoom isPassword (e .password .bytes) (e .password .len) (entry-told legal .password) .inside
+    password-fits =
+        kept-told textRoom isPassword (e .password .bytes) (e .password .len) (entry-told legal .password) .inside
 
     pub password-legal : isPassword (passwordIn e) ≡ true
     password-legal =

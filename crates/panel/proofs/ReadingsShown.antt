@@ -11,7 +11,8 @@ use Rattle.lines.specs.declared.command.Command.{Command}
 use Rattle.answers.specs.Said.{Said, okay, refused}
 use Rattle.controller.specs.Reading.{meaning, readReply}
 use Rattle.codes.specs.declared.command.Coded.{Coded}
-use Rattle.panel.specs.Entries.{Shown, talkOf, shownOf, nothingShown, showing, freshEntry}
+use Rattle.panel.specs.Entries.{Shown, talkOf, shownOf, nothingShown, freshEntry}
+use Rattle.panel.specs.Showing.{showing}
 use Rattle.panel.specs.Stepping.{strayed, answeredEntry, lostEntry, sentEntry, heardLine}
 use Rattle.panel.specs.LegalPanels.{isEntry}
 use Rattle.panel.specs.StepTable.{UnderWay, Stray, StepTo, greets-open, greets-secured, strays, answers, refuses}

@@ -1,5 +1,5 @@
--- A number other than 0 leaves the panel that was given and writes nothing; and the number of each call is the first row
--- of its table that applies.
+-- A number other than 0 leaves the panel that was given and writes nothing; and the number of each call is the first
+-- row of its table that applies.
 -- Assumes nothing.
 use Prim.Native.Nat.{ℕ}
 use mathlib.Core.Path.{_≡_, refl}

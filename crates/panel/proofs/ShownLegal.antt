@@ -32,7 +32,8 @@ use Rattle.answers.specs.declared.answer.Power.the-variants.{Off, On, Cooling, 
 use Rattle.answers.specs.declared.answer.LampHours.{LampHours}
 use Rattle.codes.specs.Commands.{sourceNumber}
 use Rattle.codes.specs.Readings.{filledTo, hoursOf, litOf, powerNumber}
-use Rattle.panel.specs.Entries.{Shown, nothingShown, showing}
+use Rattle.panel.specs.Entries.{Shown, nothingShown}
+use Rattle.panel.specs.Showing.{showing}
 use Rattle.panel.specs.LegalPanels.{isPowerShown, isInputShown, isLampCount, isHours, isLitRoom, isLampsShown}
 use Rattle.panel.specs.LegalPanels.{isShown}
 
@@ -112,8 +113,8 @@ hours-shown hs h e =
     ∙ kept-shown lampsCarried isHours _ (length hs) (filled-kept lampsCarried isHours hs h e)
 
 lamps-shown : (ls : List LampHours) → 1 ≤ length ls → length ls ≤ lampsCarried → every isLampHours ls ≡ true
-    → isLampsShown true (length ls) (filledTo lampsCarried 0 (map hoursOf ls)) (filledTo lampsCarried false (map litOf ls))
-    ≡ true
+    → isLampsShown true (length ls) (filledTo lampsCarried 0 (map hoursOf ls))
+    (filledTo lampsCarried false (map litOf ls)) ≡ true
 unfolding isLampsShown isLampCount
 lamps-shown ls low high e =
     let told : length (map hoursOf ls) ≡ length ls = length-map ls hoursOf in

@@ -1,7 +1,7 @@
 -- What the panel keeps of a projector (02, L13: "each with its own password, greeting, one command under way, and last
 -- known power, input and lamps", and "a per-projector count" of strays), in its parts. What is not known or not under
 -- way is zero.
---   Talk                 where the talk with it stands: its greeting, whether the digest was sent, the command under way
+--   Talk                 where the talk with it stands: its greeting, whether the digest was sent, its command
 --   Shown                what is shown of it: power, input and lamps, each known or not
 --   talkOf e, shownOf e, passwordIn e     these parts of the entry e, and its password
 --   entryOf t l s n      the entry of a password, a talk, what is shown and a count of strays
@@ -11,22 +11,18 @@
 --   restedOn t           no command is under way
 --   leadsNext t          the next command is the first after a secured greeting, so the digest leads it
 --   nothingShown         all is unknown
---   showing s m          what was said is shown: a power, an input or lamps; anything else changes nothing
 --   freshEntry s         a projector just added, with the password s
 --   blankEntry           all zero
 -- Assumes nothing.
 use Prim.Native.Nat.{ℕ}
 use mathlib.Core.Bool.{Bool, true, false, not, _&&_}
-use mathlib.Core.List.{List, [], map}
-use lib.ListN.{length, take, replicate}
+use mathlib.Core.List.{List}
+use lib.ListN.{take, replicate}
 use lib.Dec.{eqb}
 use Rattle.record.specs.Record.{zeros, textOf, blankText}
 use Rattle.record.specs.declared.types.Text.{Text}
-use Rattle.answers.specs.Said.{Said, okay, refused, powerIs, chosenIs, mutesAre, errorsAre, lampsAre, inputsAre}
-use Rattle.answers.specs.Said.{textIs, classIs1, nothing}
 use Rattle.answers.specs.Carried.{lampsCarried}
-use Rattle.codes.specs.Commands.{coded, sourceNumber}
-use Rattle.codes.specs.Readings.{filledTo, hoursOf, litOf, powerNumber}
+use Rattle.codes.specs.Commands.{coded}
 use Rattle.codes.specs.declared.command.Coded.{Coded}
 use Rattle.panel.specs.declared.types.Entry.{Entry}
 
@@ -149,60 +145,6 @@ nothingShown = record {
   hours = replicate lampsCarried 0;
   lit = replicate lampsCarried false;
 }
-
-module _ (s : Shown) where
-  abbrev pub withPowerShown : ℕ → Shown
-  withPowerShown p = record {
-    powerKnown = true;
-    inputKnown = s .inputKnown;
-    lampsKnown = s .lampsKnown;
-    power = p;
-    inputType = s .inputType;
-    inputNumber = s .inputNumber;
-    lampCount = s .lampCount;
-    hours = s .hours;
-    lit = s .lit;
-  }
-
-  abbrev pub withInputShown : (type number : ℕ) → Shown
-  withInputShown type number = record {
-    powerKnown = s .powerKnown;
-    inputKnown = true;
-    lampsKnown = s .lampsKnown;
-    power = s .power;
-    inputType = type;
-    inputNumber = number;
-    lampCount = s .lampCount;
-    hours = s .hours;
-    lit = s .lit;
-  }
-
-  abbrev pub withLampsShown : (count : ℕ) (hours : List ℕ) (lit : List Bool) → Shown
-  withLampsShown count hours lit = record {
-    powerKnown = s .powerKnown;
-    inputKnown = s .inputKnown;
-    lampsKnown = true;
-    power = s .power;
-    inputType = s .inputType;
-    inputNumber = s .inputNumber;
-    lampCount = count;
-    hours = hours;
-    lit = lit;
-  }
-
-  abbrev pub showing : Said → Shown
-  showing (powerIs p) = withPowerShown (powerNumber p)
-  showing (chosenIs i) = withInputShown (sourceNumber (i .source)) (i .number)
-  showing (lampsAre ls) = withLampsShown (length ls) (filledTo lampsCarried 0 (map hoursOf ls))
-      (filledTo lampsCarried false (map litOf ls))
-  showing okay = s
-  showing (refused n) = s
-  showing (mutesAre video audio) = s
-  showing (errorsAre ds) = s
-  showing (inputsAre is) = s
-  showing (textIs t) = s
-  showing classIs1 = s
-  showing nothing = s
 
 abbrev pub freshEntry : List ℕ → Entry
 freshEntry s = entryOf (textOf s) noTalk nothingShown 0

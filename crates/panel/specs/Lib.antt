@@ -1,4 +1,5 @@
 pub mod Entries
+pub mod Showing
 pub mod Stepping
 pub mod LegalPanels
 pub mod PanelCalls

@@ -2,10 +2,10 @@
 --   strayed e           "A late, foreign or malformed reply changes nothing but a per-projector count of such lines,
 --                       stopped at 65,535."
 --   greetedAs e g       "Until a greeting is accepted, any other line is malformed": the ERRA line too
---   heardLine e l         "after it, a line with no command under way is late": whatever the line is
---   heardAs e o m       "A malformed or foreign line leaves the command under way; any accepted reply ends it, and an OK
---                       or error changes no reading; ERRA ends it, makes that projector's readings unknown and awaits
---                       a new greeting." A line that the reader answers with 10 or 12 is malformed, with 11 foreign.
+--   heardLine e l       "after it, a line with no command under way is late": whatever the line is
+--   heardAs e o m       "A malformed or foreign line leaves the command under way; any accepted reply ends it, and an
+--                       OK or error changes no reading; ERRA ends it, makes that projector's readings unknown and
+--                       awaits a new greeting." What the reader answers with 10 or 12 is malformed, with 11 foreign.
 --   lostEntry e         the connection is gone (docs/DECISIONS.md): as after ERRA, but the readings stay
 --   sentEntry e k       the command k was sent
 --   isUnready e         "A command before the greeting or over another"
@@ -33,7 +33,7 @@ use Rattle.codes.specs.declared.command.MaybeCommand.{MaybeCommand}
 use Rattle.codes.specs.declared.command.MaybeCommand.the-variants.{CommandIs, NoCommand}
 use Rattle.panel.specs.Entries.{Talk, Shown, talkOf, shownOf, passwordIn, entryOf, ungreeted, greetedOpen}
 use Rattle.panel.specs.Entries.{greetedSecured, noTalk, greetedBy, leadsNext, sentOn, restedOn, nothingShown}
-use Rattle.panel.specs.Entries.{showing}
+use Rattle.panel.specs.Showing.{showing}
 use Rattle.panel.specs.declared.types.Entry.{Entry}
 
 abbrev pub straysMost : ℕ

@@ -1,10 +1,8 @@
 // The panel's calls: each tests the panel, finds the projector, and works on its entry alone.
+use crate::entries;
 use crate::legality;
 use crate::sending;
 use crate::step;
-use crate::types::Entry;
-use crate::types::LAMPS_MOST;
-use crate::types::NO_COMMAND;
 use crate::types::PANEL_MOST;
 use crate::types::Panel;
 use crate::types::PanelChanged;
@@ -13,84 +11,23 @@ use codes::command;
 use codes::command::Coded;
 use codes::command::MaybeCommand;
 use lines::texts;
-use record::types::TEXT_ROOM;
 use record::types::Text;
 ghost use mathlib.Core.Path.{_≡_};
-ghost use Prim.Native.Nat.{_<_, _≤_};
-ghost use lib.ListN.{length, getD};
+ghost use lib.ListN.{length};
 ghost use Rattle.text.specs.Words.{over};
-ghost use Rattle.record.specs.Record.{textOf};
-ghost use Rattle.record.specs.Limits.{textRoom};
-ghost use Rattle.panel.specs.Entries.{entryOf, noTalk, nothingShown, blankEntry};
-ghost use Rattle.panel.specs.LegalPanels.{panelMost};
-ghost use Rattle.panel.specs.PanelCalls.{panelMade, noPanel, withEntry, addedTo, commanded};
-ghost use Rattle.panel.specs.PanelCalls.{steppedAt, lostAt, toldPanel, toldSent};
-
-fn text_of(s: &[u8]) -> Text
-    requires { ⌜ length (now s) ≤ textRoom ⌝ }
-    ensures { λ r. ⌜ r ≡ textOf (now (s .entry)) ⌝ }
-{
-    let mut bytes = [0u8; TEXT_ROOM];
-    text::put(&mut bytes, 0, s);
-    Text {
-        len: s.len(),
-        bytes,
-    }
-}
-
-// A projector of which nothing is known, with that password.
-fn entry_of(password: Text) -> Entry
-    ensures { λ r. ⌜ r ≡ entryOf password noTalk nothingShown 0 ⌝ }
-{
-    Entry {
-        password,
-        greeting: 0,
-        random: 0,
-        led: false,
-        under_way: false,
-        command: NO_COMMAND,
-        power_known: false,
-        input_known: false,
-        lamps_known: false,
-        power: 0,
-        input_type: 0,
-        input_number: 0,
-        lamp_count: 0,
-        hours: [0; LAMPS_MOST],
-        lit: [false; LAMPS_MOST],
-        strays: 0,
-    }
-}
+ghost use Rattle.panel.specs.PanelCalls.{panelMade, noPanel, addedTo, commanded, steppedAt, lostAt};
+ghost use Rattle.panel.specs.PanelCalls.{toldPanel, toldSent};
 
 // The panel of no projector.
 pub fn none() -> PanelChanged
     ensures { λ r. ⌜ r ≡ toldPanel (panelMade noPanel) ⌝ }
 {
-    let blank = entry_of(Text::EMPTY);
+    let blank = entries::entry_of(Text::EMPTY);
     let panel = Panel {
         count: 0,
         entries: [blank; PANEL_MOST],
     };
     PanelChanged { number: 0, panel }
-}
-
-fn with_entry(p: Panel, projector: usize, e: Entry) -> Panel
-    requires { ⌜ projector < panelMost ⌝ }
-    ensures { λ r. ⌜ r ≡ withEntry p projector e ⌝ }
-{
-    let mut entries = p.entries;
-    entries[projector] = e;
-    Panel {
-        count: p.count,
-        entries,
-    }
-}
-
-fn entry_in(entries: [Entry; PANEL_MOST], projector: usize) -> Entry
-    requires { ⌜ projector < panelMost ⌝ }
-    ensures { λ r. ⌜ r ≡ getD entries projector blankEntry ⌝ }
-{
-    entries[projector]
 }
 
 // A projector more: 1, then 3 for a password out of range or a ninth projector.
@@ -116,8 +53,8 @@ pub fn add(p: Panel, password: &[u8]) -> PanelChanged
             panel: p,
         };
     }
-    let fresh = entry_of(text_of(password));
-    let mut panel = with_entry(p, count, fresh);
+    let fresh = entries::entry_of(entries::text_of(password));
+    let mut panel = entries::with_entry(p, count, fresh);
     panel.count = count + 1;
     PanelChanged { number: 0, panel }
 }
@@ -158,7 +95,7 @@ pub fn send(p: Panel, projector: usize, k: Coded, out: &mut [u8]) -> PanelSent
         };
     };
     let entries = p.entries;
-    let e = entry_in(entries, projector);
+    let e = entries::entry_in(entries, projector);
     if sending::is_unready(e) {
         return PanelSent {
             number: 9,
@@ -167,7 +104,7 @@ pub fn send(p: Panel, projector: usize, k: Coded, out: &mut [u8]) -> PanelSent
         };
     }
     let length = sending::put_line(e, c, out);
-    let panel = with_entry(p, projector, sending::sent(e, k));
+    let panel = entries::with_entry(p, projector, sending::sent(e, k));
     PanelSent {
         number: 0,
         length,
@@ -192,8 +129,8 @@ pub fn line(p: Panel, projector: usize, line: &[u8]) -> PanelChanged
         };
     }
     let entries = p.entries;
-    let e = entry_in(entries, projector);
-    let panel = with_entry(p, projector, step::step(e, line));
+    let e = entries::entry_in(entries, projector);
+    let panel = entries::with_entry(p, projector, step::step(e, line));
     PanelChanged { number: 0, panel }
 }
 
@@ -214,7 +151,7 @@ pub fn lost(p: Panel, projector: usize) -> PanelChanged
         };
     }
     let entries = p.entries;
-    let e = entry_in(entries, projector);
-    let panel = with_entry(p, projector, step::lose(e));
+    let e = entries::entry_in(entries, projector);
+    let panel = entries::with_entry(p, projector, step::lose(e));
     PanelChanged { number: 0, panel }
 }

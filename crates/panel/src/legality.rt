@@ -1,8 +1,7 @@
 // The legality of the panel, a function a part.
+use crate::ranges;
 use crate::types::Entry;
 use crate::types::GREETED_SECURED;
-use crate::types::HOURS_MOST;
-use crate::types::LAMPS_MOST;
 use crate::types::PANEL_MOST;
 use crate::types::Panel;
 use crate::types::STRAYS_MOST;
@@ -14,16 +13,13 @@ use lines::texts;
 use record::types::TEXT_ROOM;
 use record::types::Text;
 ghost use mathlib.Core.Path.{_≡_};
-ghost use mathlib.Core.Bool.{not};
 ghost use lib.ListN.{drop};
 ghost use Rattle.text.specs.Scans.{every};
 ghost use Rattle.lines.specs.Texts.{isPassword};
-ghost use Rattle.record.specs.Legal.{isZero, fillsRoom, fillsTextRoom};
-ghost use Rattle.answers.specs.Carried.{lampsCarried};
+ghost use Rattle.record.specs.Legal.{isZero, fillsTextRoom};
 ghost use Rattle.codes.specs.Commands.{commandOf};
-ghost use Rattle.panel.specs.Entries.{talkOf, shownOf};
-ghost use Rattle.panel.specs.LegalPanels.{isNamed, isCommandKept, isTalk, isPowerShown, isInputShown, isLampCount};
-ghost use Rattle.panel.specs.LegalPanels.{isHours, isLitRoom, isLampsShown, isShown, isEntry, isEntries, isUnused};
+ghost use Rattle.panel.specs.Entries.{talkOf};
+ghost use Rattle.panel.specs.LegalPanels.{isNamed, isCommandKept, isTalk, isEntry, isEntries, isUnused};
 ghost use Rattle.panel.specs.LegalPanels.{isPanel};
 
 // The room from n on is unused.
@@ -51,7 +47,7 @@ fn password_ok(t: Text) -> bool
     zeros_from(&bytes, len) & texts::is_password(&bytes[0..len])
 }
 
-pub fn is_named(k: Coded) -> bool
+fn is_named(k: Coded) -> bool
     ensures { λ r. ⌜ r ≡ isNamed (commandOf k) ⌝ }
 {
     let named = command::command_of(k);
@@ -80,82 +76,10 @@ fn talk_ok(e: Entry) -> bool
         & command_ok(e)
 }
 
-fn power_ok(known: bool, power: u8) -> bool
-    ensures { λ r. ⌜ r ≡ isPowerShown known power ⌝ }
-{
-    if known {
-        return power <= 3;
-    }
-    power == 0
-}
-
-fn input_ok(known: bool, source: u8, number: u8) -> bool
-    ensures { λ r. ⌜ r ≡ isInputShown known source number ⌝ }
-{
-    if known {
-        return (1 <= source) & (source <= 5) & (1 <= number) & (number <= 9);
-    }
-    (source == 0) & (number == 0)
-}
-
-fn lamp_count_ok(known: bool, count: usize) -> bool
-    ensures { λ r. ⌜ r ≡ isLampCount known count ⌝ }
-{
-    if known {
-        return (1 <= count) & (count <= LAMPS_MOST);
-    }
-    count == 0
-}
-
-fn hours_ok(hours: [u32; LAMPS_MOST], count: usize) -> bool
-    ensures { λ r. ⌜ r ≡ fillsRoom lampsCarried isHours hours count ⌝ }
-{
-    if LAMPS_MOST < count {
-        return false;
-    }
-    let mut ok = true;
-    let mut i = 0;
-    while i < LAMPS_MOST {
-        let used = i < count;
-        ok = ok & ((used & (hours[i] <= HOURS_MOST)) | (!used & (hours[i] == 0)));
-        i += 1;
-    }
-    ok
-}
-
-fn lit_ok(lit: [bool; LAMPS_MOST], count: usize) -> bool
-    ensures { λ r. ⌜ r ≡ isLitRoom lit count ⌝ }
-{
-    let mut ok = true;
-    let mut i = count;
-    while i < LAMPS_MOST {
-        ok = ok & !lit[i];
-        i += 1;
-    }
-    ok
-}
-
-fn lamps_ok(e: Entry) -> bool
-    ensures { λ r. ⌜ r ≡ isLampsShown (e .«lamps_known») (e .«lamp_count») (e .hours) (e .lit) ⌝ }
-{
-    let count = e.lamp_count;
-    let hours = e.hours;
-    let lit = e.lit;
-    lamp_count_ok(e.lamps_known, count) & hours_ok(hours, count) & lit_ok(lit, count)
-}
-
-fn shown_ok(e: Entry) -> bool
-    ensures { λ r. ⌜ r ≡ isShown (shownOf e) ⌝ }
-{
-    power_ok(e.power_known, e.power)
-        & input_ok(e.input_known, e.input_type, e.input_number)
-        & lamps_ok(e)
-}
-
-pub fn entry_ok(e: Entry) -> bool
+fn entry_ok(e: Entry) -> bool
     ensures { λ r. ⌜ r ≡ isEntry e ⌝ }
 {
-    password_ok(e.password) & talk_ok(e) & shown_ok(e) & (e.strays <= STRAYS_MOST)
+    password_ok(e.password) & talk_ok(e) & ranges::shown_ok(e) & (e.strays <= STRAYS_MOST)
 }
 
 // Nothing is kept in the entry.

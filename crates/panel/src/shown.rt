@@ -13,7 +13,8 @@ ghost use Prim.Native.Nat.{min};
 ghost use lib.ListN.{take};
 ghost use Rattle.answers.specs.Said.{powerIs, chosenIs, lampsAre};
 ghost use Rattle.answers.specs.Carried.{saidBy, lampsCarried};
-ghost use Rattle.panel.specs.Entries.{shownOf, nothingShown, showing};
+ghost use Rattle.panel.specs.Entries.{shownOf, nothingShown};
+ghost use Rattle.panel.specs.Showing.{showing};
 ghost use Rattle.panel.specs.Stepping.{withShown};
 
 pub fn show_nothing(e: Entry) -> Entry

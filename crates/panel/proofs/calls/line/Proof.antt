@@ -1,4 +1,4 @@
--- `panel::calls::line` meets its contract: each `return` is one row of the table, or the step on its entry is stored back.
+-- `panel::calls::line` meets its contract: each `return` is one row of the table, or what the step gives is stored.
 -- Assumes nothing.
 use Prim.Native.Nat.{ℕ, _<_}
 use mathlib.Core.Path.{_≡_, sym, ap, _∙_}

@@ -1,4 +1,4 @@
--- `panel::calls::lost` meets its contract: each `return` is one row of the table, or its entry without a talk is stored back.
+-- `panel::calls::lost` meets its contract: each `return` is one row of the table, or an entry without a talk is stored.
 -- Assumes nothing.
 use Prim.Native.Nat.{ℕ, _<_}
 use mathlib.Core.Path.{_≡_, sym, ap, _∙_}

@@ -1,5 +1,5 @@
--- `panel::calls::send` meets its contract: each `return` is one row of the table, or the line is written and the command
--- kept as under way.
+-- `panel::calls::send` meets its contract: each `return` is one row of the table, or the line is written and the
+-- command kept as under way.
 -- Assumes nothing.
 use Prim.Native.Nat.{ℕ, _≤_, _<_}
 use mathlib.Core.Path.{_≡_, refl, sym, ap, subst, _∙_}
@@ -160,7 +160,8 @@ sends c =
     let ready : isUnready (entryAt p i) ≡ false
     = sym (tested .before .is-unready .ensures ∙ ap isUnready (found entry)) ∙ tested .if4 .left in
     let line = ap (λ (e : Entry). commandSent e command room) (found entry)
-    ∙ ap (λ (m : MaybeCommand). lineSent (entryAt p i) m room) (sym (stands (asked entry) (arm entry .named .given .1))) in
+    ∙ ap (λ (m : MaybeCommand). lineSent (entryAt p i) m room)
+    (sym (stands (asked entry) (arm entry .named .given .1))) in
     let panel = c .with-entry .ensures
     ∙ ap (withEntry p i) (sent .sent .ensures ∙ ap (λ (e : Entry). sentEntry e k) (found entry)) in
     let result : _≡_ {A = PanelSent} _ _ = λ j. record {

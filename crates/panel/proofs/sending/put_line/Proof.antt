@@ -1,5 +1,5 @@
--- `panel::sending::put_line` meets its contract: the controller's writer is lent the password, and told whether the digest
--- leads.
+-- `panel::sending::put_line` meets its contract: the controller's writer is lent the password, and told whether the
+-- digest leads.
 -- Assumes nothing.
 use Prim.Native.Nat.{ℕ, _-_}
 use mathlib.Core.Path.{_≡_, refl, ap, _∙_}

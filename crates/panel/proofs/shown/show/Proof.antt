@@ -6,7 +6,8 @@ use Rattle.answers.specs.Said.{Said}
 use Rattle.answers.specs.Carried.{saidAs, saidBy}
 use Rattle.answers.specs.declared.answer.Kind.{Kind}
 use Rattle.answers.proofs.Counts.{said-of-kind}
-use Rattle.panel.specs.Entries.{shownOf, showing}
+use Rattle.panel.specs.Entries.{shownOf}
+use Rattle.panel.specs.Showing.{showing}
 use Rattle.panel.specs.Stepping.{withShown}
 use Rattle.panel.specs.declared.types.Entry.{Entry}
 use Rattle.panel.proofs.shown.show.Statement.{statement}

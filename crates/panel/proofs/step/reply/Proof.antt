@@ -14,7 +14,8 @@ use Rattle.answers.specs.Carried.{saidBy}
 use Rattle.controller.specs.declared.reading.Outcome.{Outcome}
 use Rattle.controller.specs.declared.reading.Outcome.the-variants.{Means, Erra, NotALine, OtherCommand, NotAllowed}
 use Rattle.controller.proofs.reading.Outcome as told
-use Rattle.panel.specs.Entries.{shownOf, showing}
+use Rattle.panel.specs.Entries.{shownOf}
+use Rattle.panel.specs.Showing.{showing}
 use Rattle.panel.specs.Stepping.{strayed, withShown, heardAs}
 use Rattle.panel.specs.declared.types.Entry.{Entry}
 use Rattle.panel.proofs.step.reply.Statement.{statement}

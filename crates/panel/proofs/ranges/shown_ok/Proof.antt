@@ -1,9 +1,9 @@
--- `panel::legality::shown_ok` meets its contract: the tests are the definition's, in its order.
+-- `panel::ranges::shown_ok` meets its contract: the tests are the definition's, in its order.
 -- Assumes nothing.
 use borrow.Author.Needs.{needs}
 use Rattle.panel.specs.LegalPanels.{isShown}
-use Rattle.panel.proofs.legality.shown_ok.Statement.{statement}
-use Rattle.panel.proofs.legality.shown_ok.Tie as tie
+use Rattle.panel.proofs.ranges.shown_ok.Statement.{statement}
+use Rattle.panel.proofs.ranges.shown_ok.Tie as tie
 
 decided : tie.Need-returns
 unfolding isShown

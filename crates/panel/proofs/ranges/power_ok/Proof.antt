@@ -1,8 +1,8 @@
--- `panel::legality::power_ok` meets its contract: whether it is known picks the case.
+-- `panel::ranges::power_ok` meets its contract: whether it is known picks the case.
 -- Assumes nothing.
 use Rattle.panel.specs.LegalPanels.{isPowerShown}
-use Rattle.panel.proofs.legality.power_ok.Statement.{statement}
-use Rattle.panel.proofs.legality.power_ok.Tie as tie
+use Rattle.panel.proofs.ranges.power_ok.Statement.{statement}
+use Rattle.panel.proofs.ranges.power_ok.Tie as tie
 
 pub power-ok-spec : {M : Type 1} → statement M
 unfolding isPowerShown

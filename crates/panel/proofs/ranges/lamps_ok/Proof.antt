@@ -1,9 +1,9 @@
--- `panel::legality::lamps_ok` meets its contract: the tests are the definition's, in its order.
+-- `panel::ranges::lamps_ok` meets its contract: the tests are the definition's, in its order.
 -- Assumes nothing.
 use borrow.Author.Needs.{needs}
 use Rattle.panel.specs.LegalPanels.{isLampsShown}
-use Rattle.panel.proofs.legality.lamps_ok.Statement.{statement}
-use Rattle.panel.proofs.legality.lamps_ok.Tie as tie
+use Rattle.panel.proofs.ranges.lamps_ok.Statement.{statement}
+use Rattle.panel.proofs.ranges.lamps_ok.Tie as tie
 
 decided : tie.Need-returns
 unfolding isLampsShown

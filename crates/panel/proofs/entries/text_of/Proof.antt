@@ -1,4 +1,4 @@
--- `panel::calls::text_of` meets its contract: the text stands at the start of a cleared room.
+-- `panel::entries::text_of` meets its contract: the text stands at the start of a cleared room.
 -- Assumes nothing.
 use Prim.Native.Nat.{ℕ}
 use mathlib.Core.Path.{ap, _∙_}
@@ -8,8 +8,8 @@ use borrow.Author.Needs.{needs}
 use Rattle.record.specs.Limits.{textRoom}
 use Rattle.record.specs.declared.types.Text.{Text}
 use Rattle.record.proofs.Filled.{room-filled}
-use Rattle.panel.proofs.calls.text_of.Statement.{statement}
-use Rattle.panel.proofs.calls.text_of.Tie as tie
+use Rattle.panel.proofs.entries.text_of.Statement.{statement}
+use Rattle.panel.proofs.entries.text_of.Tie as tie
 
 stored : tie.Need-returns
 stored c =

@@ -1,4 +1,4 @@
--- `panel::calls::entry_in` meets its contract: there is an entry at that place.
+-- `panel::entries::entry_in` meets its contract: there is an entry at that place.
 -- Assumes nothing.
 use mathlib.Core.Path.{_≡_}
 use native.Mathlib.Omega.{arith}
@@ -6,8 +6,8 @@ use lib.ListN.{length}
 use borrow.Author.Needs.{needs}
 use Rattle.panel.specs.LegalPanels.{panelMost}
 use Rattle.panel.proofs.Tails.{getD-any}
-use Rattle.panel.proofs.calls.entry_in.Statement.{statement}
-use Rattle.panel.proofs.calls.entry_in.Tie as tie
+use Rattle.panel.proofs.entries.entry_in.Statement.{statement}
+use Rattle.panel.proofs.entries.entry_in.Tie as tie
 
 long : (c : tie.Start) → length (c .args .t1) ≡ panelMost
 long c = search needs

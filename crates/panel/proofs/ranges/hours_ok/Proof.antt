@@ -1,4 +1,4 @@
--- `panel::legality::hours_ok` meets its contract: the answer so far is whether each lamp passed has hours that a reply
+-- `panel::ranges::hours_ok` meets its contract: the answer so far is whether each lamp passed has hours that a reply
 -- can tell where it is used, and none where not.
 -- Assumes nothing.
 use Prim.Native.Nat.{_-_}
@@ -14,8 +14,8 @@ use Rattle.record.proofs.Sifted.{Sifted, none-sifted, one-sifted, all-sifted, k
 use Rattle.answers.specs.Carried.{lampsCarried}
 use Rattle.answers.specs.CanSay.{hoursMost}
 use Rattle.panel.specs.LegalPanels.{isHours}
-use Rattle.panel.proofs.legality.hours_ok.Statement.{statement}
-use Rattle.panel.proofs.legality.hours_ok.Tie as tie
+use Rattle.panel.proofs.ranges.hours_ok.Statement.{statement}
+use Rattle.panel.proofs.ranges.hours_ok.Tie as tie
 
 abbrev Inv : tie.InvT-loop
 Inv count hours ok₀ i₀ ok i = Sifted (atMost hoursMost) isZero hours count i ok

@@ -1,4 +1,4 @@
--- `panel::legality::lit_ok` meets its contract: the answer so far is whether no lamp passed is lit, from the count on.
+-- `panel::ranges::lit_ok` meets its contract: the answer so far is whether no lamp passed is lit, from the count on.
 -- Assumes nothing.
 use Prim.Native.Nat.{_-_}
 use mathlib.Core.Path.{_≡_, refl, _∙_}
@@ -10,8 +10,8 @@ use borrow.Author.Tests.{eq-eqb}
 use Rattle.answers.specs.Carried.{lampsCarried}
 use Rattle.panel.specs.LegalPanels.{isLitRoom}
 use Rattle.panel.proofs.Tails.{TestedFrom, none-tested, one-tested, all-tested}
-use Rattle.panel.proofs.legality.lit_ok.Statement.{statement}
-use Rattle.panel.proofs.legality.lit_ok.Tie as tie
+use Rattle.panel.proofs.ranges.lit_ok.Statement.{statement}
+use Rattle.panel.proofs.ranges.lit_ok.Tie as tie
 
 abbrev Inv : tie.InvT-loop
 Inv count lit ok₀ i₀ ok i = TestedFrom not lit count i ok
