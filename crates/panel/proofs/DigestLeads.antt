@@ -15,7 +15,7 @@ use Rattle.digest.specs.Hex.{leadingDigest}
 use Rattle.lines.specs.Commands.{isCommand, commandLine}
 use Rattle.lines.specs.declared.command.Command.{Command}
 use Rattle.answers.specs.Said.{Said}
-use Rattle.controller.specs.Writing.{WrittenAs, commandRoom}
+use Rattle.controller.specs.Writing.{WrittenAs, commandRoom, writtenCommand}
 use Rattle.controller.specs.Reading.{readReply}
 use Rattle.controller.specs.declared.reading.Outcome.{Outcome}
 use Rattle.controller.specs.declared.reading.Outcome.the-variants.{Means, Erra, NotALine, OtherCommand, NotAllowed}
@@ -34,7 +34,12 @@ use Rattle.panel.specs.declared.types.Entry.{Entry}
 use Rattle.panel.proofs.PanelsTold.{password-legal}
 use Rattle.panel.proofs.StepsByTable.{step-by}
 
--- the line that is sent
+-- the line that is sent is what the controller's writer gives
+pub sent-written : (e : Entry) (c : Command) (room : ℕ) → commandSent e c room
+    ≡ writtenCommand c (leadsNext (talkOf e)) (e .random) (passwordIn e) room .bytes
+unfolding commandSent
+sent-written e c room = refl
+
 module _ (e : Entry) (legal : isEntry e ≡ true) (k : Coded) (c : Command) (named : commandOf k ≡ CommandIs c)
     (room : ℕ) (enough : commandRoom ≤ room) where
   pub sent-led : leadsNext (talkOf e) ≡ true

@@ -11,3 +11,4 @@ pub mod PanelsLegal
 pub mod ReadingsShown
 pub mod DigestLeads
 pub mod Unused
+pub mod Examples

@@ -67,9 +67,6 @@ module _ (e : Entry) (l : List ℕ) where
   not-greeting Refused n = refl
   not-greeting NotAGreeting n = refl
 
-  abbrev isNumber : Outcome → ℕ → Type 0
-  isNumber o n = outcomeNumber o ≡ n
-
   numbered : (o : Outcome) (m : Said) (n : ℕ) → (n ≡ 0 → ⊥) → outcomeNumber o ≡ n → heardAs e o m ≡ strayed e
   numbered Means m n z h = absurd (z (sym h))
   numbered Erra m n z h = absurd (z (sym h))
@@ -77,7 +74,7 @@ module _ (e : Entry) (l : List ℕ) where
   numbered OtherCommand m n z h = refl
   numbered NotAllowed m n z h = refl
 
-  stray-steps : Stray e l → heardLine e l ≡ strayed e
+  pub stray-steps : Stray e l → heardLine e l ≡ strayed e
   stray-steps (ungreeted-malformed g n) = step-greets g ∙ not-greeting (readGreeting l) n
   stray-steps (late g w) = step-late g w
   stray-steps (malformed c u n) =
