@@ -3,9 +3,8 @@
 -- Assumes nothing.
 use Prim.Native.Nat.{ℕ, _≤_, _<_}
 use mathlib.Core.Path.{_≡_, refl, ap, _∙_}
-use mathlib.Core.Bool.{Bool, true, false, not}
+use mathlib.Core.Bool.{true, false, not}
 use mathlib.Core.List.{List}
-use lib.Dec.{leb}
 use borrow.Author.Tests.{leb-false, lt-leb, le-leb, ltb-false, le-ltb, not-false}
 use Rattle.text.specs.Rows.{byRows}
 use Rattle.text.proofs.ByRows.{by-rows, rows-done}

@@ -10,9 +10,9 @@ use lib.Dec.{eqb}
 use borrow.Author.Tests.{eqb-false, eq-eqb}
 use Rattle.text.specs.Words.{if_then_else_}
 use Rattle.text.specs.Scans.{every}
-use Rattle.text.proofs.Choices.{if-yes, if-no, if-by, both, both-left, both-right}
+use Rattle.text.proofs.Choices.{if-yes, if-by, both}
 use Rattle.digest.specs.Hex.{leadingDigest}
-use Rattle.lines.specs.Commands.{isCommand, commandLine}
+use Rattle.lines.specs.Commands.{commandLine}
 use Rattle.lines.specs.declared.command.Command.{Command}
 use Rattle.answers.specs.Said.{Said}
 use Rattle.controller.specs.Writing.{WrittenAs, commandRoom, writtenCommand}
@@ -29,7 +29,7 @@ use Rattle.panel.specs.Entries.{Talk, talkOf, passwordIn, ungreeted, gre
 use Rattle.panel.specs.Entries.{greetedBy, isSecuredTalk, sentOn}
 use Rattle.panel.specs.Stepping.{withTalk, lostEntry, sentEntry, heardAs, repliedTo, heardLine, commandSent}
 use Rattle.panel.specs.LegalPanels.{isEntry}
-use Rattle.panel.specs.Talks.{Happens, sends, hears, loses, isSent, afterIt, ledInTalk, isFirstLed}
+use Rattle.panel.specs.Talks.{Happens, sends, hears, loses, isSent, ledInTalk, isFirstLed}
 use Rattle.panel.specs.declared.types.Entry.{Entry}
 use Rattle.panel.proofs.PanelsTold.{password-legal}
 use Rattle.panel.proofs.StepsByTable.{step-by}

@@ -2,13 +2,13 @@
 -- stood there stands there, and no projector comes or goes. So too for a command and for a connection that is gone; a
 -- projector more leaves the others as they were.
 -- Assumes nothing.
-use Prim.Native.Nat.{ℕ, _<_}
+use Prim.Native.Nat.{ℕ}
 use mathlib.Core.Path.{_≡_, refl}
 use mathlib.Core.List.{List}
 use lib.Seq.{getD-set-other}
 use Rattle.codes.specs.declared.command.Coded.{Coded}
 use Rattle.panel.specs.Entries.{blankEntry}
-use Rattle.panel.specs.PanelCalls.{PanelAs, entryAt, withEntry, addedTo, commanded, steppedAt, lostAt}
+use Rattle.panel.specs.PanelCalls.{entryAt, withEntry, addedTo, commanded, steppedAt, lostAt}
 use Rattle.panel.specs.declared.types.Entry.{Entry}
 use Rattle.panel.specs.declared.types.Panel.{Panel}
 use Rattle.panel.proofs.Cases.{added-by, commanded-by, stepped-by, lost-by}

@@ -1,34 +1,28 @@
 -- A legal panel stays legal, whatever call is made and whatever line comes.
 -- Assumes nothing.
-use Prim.Native.Nat.{ℕ, zero, suc, _+_, _≤_, _<_, min}
+use Prim.Native.Nat.{ℕ, zero, suc, _<_}
 use mathlib.Core.Path.{_≡_, refl, sym, ap, subst, _∙_}
-use mathlib.Core.Bool.{Bool, true, false, not, _&&_, _||_}
+use mathlib.Core.Bool.{Bool, true, false, _||_}
 use mathlib.Core.List.{List, [], _∷_}
 use native.Mathlib.Omega.{arith}
 use native.Mathlib.Numerals.{add-one}
 use lib.ListN.{length, getD, set, drop, replicate, length-set, length-replicate}
 use lib.Seq.{drop-cons, drop-set-lt}
-use lib.Dec.{eqb}
-use borrow.Author.Tests.{ne-eqb, eqb-false}
 use Rattle.text.specs.Scans.{every}
-use Rattle.text.proofs.Choices.{both, both-left, both-right, by-not}
+use Rattle.text.proofs.Choices.{both, both-left, both-right}
 use Rattle.lines.specs.Texts.{isPassword}
-use Rattle.lines.specs.declared.command.Command.{Command}
 use Rattle.lines.proofs.TextsTold.{password-long}
 use Rattle.lines.proofs.WithinLength.{password-within}
 use Rattle.record.specs.Limits.{textRoom}
-use Rattle.record.specs.Record.{textOf}
-use Rattle.record.specs.Legal.{fillsTextRoom}
 use Rattle.record.proofs.Kept.{kept-shown, filled-kept, nothing-kept}
-use Rattle.answers.specs.Said.{Said}
-use Rattle.controller.specs.Reading.{ReadAs, meaning, readReply}
+use Rattle.controller.specs.Reading.{ReadAs, readReply}
 use Rattle.controller.specs.declared.reading.Outcome.the-variants.{Means}
 use Rattle.controller.proofs.ReadsSound.{reads-sound}
 use Rattle.codes.specs.Commands.{commandOf}
 use Rattle.codes.specs.declared.command.Coded.{Coded}
-use Rattle.panel.specs.Entries.{Talk, Shown, talkOf, shownOf, entryOf, ungreeted, freshEntry, blankEntry}
+use Rattle.panel.specs.Entries.{Talk, Shown, talkOf, shownOf, entryOf, freshEntry, blankEntry}
 use Rattle.panel.specs.Showing.{showing}
-use Rattle.panel.specs.Stepping.{straysMost, strayed, withTalk, answeredEntry, erraEntry, lostEntry, sentEntry}
+use Rattle.panel.specs.Stepping.{strayed, withTalk, lostEntry, sentEntry}
 use Rattle.panel.specs.Stepping.{heardLine, isUnready}
 use Rattle.panel.specs.LegalPanels.{panelMost, isNamed, isTalk, isShown, isEntry, isUnused, isPanel}
 use Rattle.panel.specs.PanelCalls.{PanelAs, noPanel, entryAt, withEntry, grownBy, addedTo, commanded, steppedAt}
@@ -41,7 +35,7 @@ use Rattle.panel.proofs.PanelsTold.{entry-at-legal}
 use Rattle.panel.proofs.TalksTold.{rested-legal, sent-legal, no-talk-legal, open-legal, secured-legal}
 use Rattle.panel.proofs.ShownLegal.{said-shown, nothing-shown-legal}
 use Rattle.panel.proofs.StepsByTable.{steps-by-the-table}
-use Rattle.panel.proofs.Cases.{Refusals, added-by, commanded-by, stepped-by, lost-by}
+use Rattle.panel.proofs.Cases.{added-by, commanded-by, stepped-by, lost-by}
 
 -- lists
 first-no : (a b : Bool) → (a || b) ≡ false → a ≡ false

@@ -3,8 +3,8 @@
 -- changes no reading.
 -- Assumes nothing.
 use Prim.Native.Nat.{ℕ}
-use mathlib.Core.Path.{_≡_, refl, sym, ap, subst, _∙_}
-use mathlib.Core.Bool.{Bool, true}
+use mathlib.Core.Path.{_≡_, refl, ap}
+use mathlib.Core.Bool.{true}
 use mathlib.Core.List.{List}
 use Rattle.lines.specs.Forms.{erraLine}
 use Rattle.lines.specs.declared.command.Command.{Command}
@@ -13,7 +13,7 @@ use Rattle.controller.specs.Reading.{meaning, readReply}
 use Rattle.codes.specs.declared.command.Coded.{Coded}
 use Rattle.panel.specs.Entries.{Shown, talkOf, shownOf, nothingShown, freshEntry}
 use Rattle.panel.specs.Showing.{showing}
-use Rattle.panel.specs.Stepping.{strayed, answeredEntry, lostEntry, sentEntry, heardLine}
+use Rattle.panel.specs.Stepping.{answeredEntry, lostEntry, sentEntry, heardLine}
 use Rattle.panel.specs.LegalPanels.{isEntry}
 use Rattle.panel.specs.StepTable.{UnderWay, Stray, StepTo, greets-open, greets-secured, strays, answers, refuses}
 use Rattle.panel.specs.declared.types.Entry.{Entry}

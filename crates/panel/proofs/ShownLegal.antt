@@ -4,24 +4,21 @@
 use Prim.Native.Nat.{ℕ, zero, suc, _+_, _≤_}
 use mathlib.Core.Path.{_≡_, refl, sym, ap, _∙_}
 use mathlib.Core.Bool.{Bool, true, false, not, _&&_}
-use mathlib.Core.List.{List, [], _∷_, _++_, map}
+use mathlib.Core.List.{List, [], _++_, map}
 use native.Mathlib.Omega.{arith}
 use lib.ListN.{length, drop, replicate, length-append, length-drop, length-map, length-replicate}
-use lib.Seq.{sets, sets-eq, drop-append-seam}
-use lib.Dec.{leb, eqb}
-use borrow.Author.Tests.{le-leb, eq-eqb, leb-true}
+use lib.Seq.{sets-eq, drop-append-seam}
+use lib.Dec.{leb}
+use borrow.Author.Tests.{le-leb, eq-eqb}
 use Rattle.text.specs.Scans.{every}
 use Rattle.text.proofs.Choices.{both, both-left, both-right}
 use Rattle.text.proofs.Scanning.{every-map}
-use Rattle.lines.specs.Inputs.{isInput}
 use Rattle.lines.specs.declared.input.Source.{Source}
 use Rattle.lines.specs.declared.input.Source.the-variants.{Rgb, Video, Digital, Storage, Network}
-use Rattle.lines.specs.declared.input.Input.{Input}
 use Rattle.lines.specs.declared.command.Command.{Command}
 use Rattle.record.specs.Rules.{atMost}
-use Rattle.record.specs.Record.{zeros}
 use Rattle.record.specs.Legal.{fillsRoom}
-use Rattle.record.proofs.Kept.{Kept, kept-shown, filled-kept}
+use Rattle.record.proofs.Kept.{kept-shown, filled-kept}
 use Rattle.record.proofs.Filled.{room-filled}
 use Rattle.answers.specs.Said.{Said}
 use Rattle.answers.specs.Carried.{lampsCarried}

@@ -2,19 +2,17 @@
 -- one that the step gives, so that it gives one.
 -- Assumes nothing.
 use Prim.Native.Nat.{ℕ}
-use mathlib.Core.Path.{_≡_, refl, sym, ap, subst, _∙_}
-use mathlib.Core.Bool.{Bool, true, false, not, false≢true}
+use mathlib.Core.Path.{_≡_, refl, sym, ap, _∙_}
+use mathlib.Core.Bool.{true, false, not, false≢true}
 use mathlib.Core.List.{List}
 use native.Mathlib.Omega.{arith}
 use lib.Dec.{eqb}
 use borrow.Author.Tests.{eqb-true, eqb-false, eq-eqb, ne-eqb, not-true, not-false}
-use Rattle.text.specs.Words.{if_then_else_}
-use Rattle.text.proofs.Choices.{if-yes, if-no, if-by, both-left, both-right}
-use Rattle.lines.specs.Forms.{erraLine}
+use Rattle.text.proofs.Choices.{if-yes, if-no, if-by}
 use Rattle.lines.specs.declared.command.Command.{Command}
 use Rattle.answers.specs.Said.{Said}
 use Rattle.controller.specs.Greetings.{readGreeting}
-use Rattle.controller.specs.Reading.{ReadAs, meaning, without, readReply, outcomeNumber}
+use Rattle.controller.specs.Reading.{ReadAs, readReply, outcomeNumber}
 use Rattle.controller.specs.declared.greeting.Greeting.{Greeting}
 use Rattle.controller.specs.declared.greeting.Greeting.the-variants.{Open, Secured, Refused, NotAGreeting}
 use Rattle.controller.specs.declared.reading.Outcome.{Outcome}
@@ -24,7 +22,7 @@ use Rattle.controller.proofs.ReadsSound.{erra-exactly}
 use Rattle.codes.specs.Commands.{commandOf}
 use Rattle.codes.specs.declared.command.MaybeCommand.{MaybeCommand}
 use Rattle.codes.specs.declared.command.MaybeCommand.the-variants.{CommandIs, NoCommand}
-use Rattle.panel.specs.Entries.{ungreeted, talkOf}
+use Rattle.panel.specs.Entries.{ungreeted}
 use Rattle.panel.specs.Stepping.{strayed, greetedAs, heardAs, heardBy, repliedTo, heardLine}
 use Rattle.panel.specs.LegalPanels.{isNamed, isEntry}
 use Rattle.panel.specs.StepTable.{isGreeting, UnderWay, Stray, ungreeted-malformed, late, malformed, foreign}

@@ -13,7 +13,7 @@ use Rattle.text.specs.Scans.{every}
 use Rattle.text.proofs.Choices.{both, both-left, both-right, alike}
 use Rattle.text.proofs.Scanning.{no-more}
 use Rattle.record.specs.Legal.{isZero, fillsRoom}
-use Rattle.record.proofs.Kept.{Kept, kept-told, kept-shown}
+use Rattle.record.proofs.Kept.{kept-told, kept-shown}
 
 together : (p q r : Bool) → (p && (q && r)) ≡ ((p && q) && r)
 together true q r = refl

@@ -1,18 +1,16 @@
 -- What a legal talk tells, and how one is shown.
 --   TalkTold t      the parts of isTalk
 -- Assumes nothing.
-use Prim.Native.Nat.{ℕ, _≤_}
+use Prim.Native.Nat.{ℕ}
 use mathlib.Core.Path.{_≡_, refl, sym, ap, _∙_}
 use mathlib.Core.Bool.{Bool, true, false, not, _&&_, _||_}
 use lib.Dec.{leb, eqb}
-use borrow.Author.Tests.{leb-true, le-leb}
-use Rattle.text.specs.Words.{if_then_else_}
-use Rattle.text.proofs.Choices.{if-yes, if-no, both, both-left, both-right}
+use Rattle.text.proofs.Choices.{if-yes, both, both-left, both-right}
 use Rattle.codes.specs.Commands.{commandOf}
 use Rattle.codes.specs.declared.command.Coded.{Coded}
 use Rattle.panel.specs.Entries.{Talk, talkOf, ungreeted, greetedOpen, greetedSecured, isSecuredTalk, greetedBy}
 use Rattle.panel.specs.Entries.{noTalk, sentOn, restedOn}
-use Rattle.panel.specs.LegalPanels.{isNamed, isNoneCoded, isCommandKept, isTalk, isEntry}
+use Rattle.panel.specs.LegalPanels.{isNamed, isCommandKept, isTalk, isEntry}
 use Rattle.panel.specs.declared.types.Entry.{Entry}
 use Rattle.panel.proofs.PanelsTold.{entry-told}
 

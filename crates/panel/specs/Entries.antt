@@ -19,7 +19,7 @@ use mathlib.Core.Bool.{Bool, true, false, not, _&&_}
 use mathlib.Core.List.{List}
 use lib.ListN.{take, replicate}
 use lib.Dec.{eqb}
-use Rattle.record.specs.Record.{zeros, textOf, blankText}
+use Rattle.record.specs.Record.{textOf, blankText}
 use Rattle.record.specs.declared.types.Text.{Text}
 use Rattle.answers.specs.Carried.{lampsCarried}
 use Rattle.codes.specs.Commands.{coded}

@@ -9,7 +9,6 @@ use Rattle.text.proofs.Choices.{if-yes}
 use Rattle.panel.specs.Stepping.{lostEntry}
 use Rattle.panel.specs.LegalPanels.{panelMost, isPanel}
 use Rattle.panel.specs.PanelCalls.{panelMade, withEntry, lostAt, toldPanel}
-use Rattle.panel.specs.declared.types.Entry.{Entry}
 use Rattle.panel.specs.declared.types.Panel.{Panel}
 use Rattle.panel.proofs.PanelsTold.{place-below}
 use Rattle.panel.proofs.Cases.{projector-none, lost-done}

@@ -1,12 +1,9 @@
 -- `panel::step::step` meets its contract: each `return` is one case of `heardLine`.
 -- Assumes nothing.
-use Prim.Native.Nat.{ℕ}
 use mathlib.Core.Path.{_≡_, sym, ap, _∙_}
-use mathlib.Core.List.{List}
 use borrow.Author.Needs.{needs}
 use borrow.Author.Tests.{eq-eqb, ne-eqb}
 use Rattle.text.proofs.Choices.{if-yes, if-no}
-use Rattle.answers.specs.Said.{Said}
 use Rattle.answers.specs.Carried.{saidBy}
 use Rattle.controller.specs.Reading.{readReply}
 use Rattle.controller.specs.declared.reading.Reading.{Reading}
