@@ -8,7 +8,4 @@ pub mod Refusals
 pub mod OneResult
 pub mod ShownLegal
 pub mod PanelsLegal
-pub mod ReadingsShown
-pub mod DigestLeads
-pub mod Unused
-pub mod Examples
+pub mod LinesSent

@@ -8,3 +8,4 @@ pub mod CollectedOn
 pub mod LegalLines
 pub mod LinesSpelt
 pub mod LastBytes
+pub mod WholeParts

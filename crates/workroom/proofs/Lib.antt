@@ -1,0 +1,4 @@
+pub mod Cuts
+pub mod EntriesStep
+pub mod PanelDemand
+pub mod CommandsAnswered
