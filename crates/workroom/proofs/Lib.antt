@@ -2,3 +2,8 @@ pub mod Cuts
 pub mod EntriesStep
 pub mod PanelDemand
 pub mod CommandsAnswered
+pub mod RepliesShown
+pub mod Connecting
+pub mod ShowsWhatWasMeant
+pub mod Samples
+pub mod WrongPanelsFall

@@ -1,0 +1,160 @@
+-- A command on a joined connection: the reply comes back, is accepted, and what the device meant is shown; a code that
+-- stands for no command leaves all as it was.
+-- Assumes nothing.
+use Prim.Native.Nat.{ℕ}
+use mathlib.Core.Path.{_≡_, refl, sym, ap, subst, _∙_}
+use mathlib.Core.Bool.{Bool, true, false, not, _&&_, false≢true}
+use mathlib.Core.List.{List}
+use lib.ListN.{length}
+use lib.Dec.{eqb}
+use borrow.Author.Tests.{ne-eqb}
+use Rattle.text.proofs.Choices.{if-yes, if-no}
+use Rattle.lines.specs.declared.command.Command.{Command}
+use Rattle.lines.specs.declared.request.Request.the-variants.{Asks}
+use Rattle.answers.specs.Said.{Said}
+use Rattle.record.specs.Limits.{opened}
+use Rattle.record.specs.Legal.{isLegal}
+use Rattle.record.specs.declared.types.Device.{Device}
+use Rattle.stream.specs.Machine.{Out}
+use Rattle.meaning.specs.Meaning.{meant, done}
+use Rattle.device.specs.Receiving.{turned}
+use Rattle.device.specs.Calls.{Result, replyRoom, withParts, received}
+use Rattle.device.proofs.CommandsReceived.{replyTo, commandResult}
+use Rattle.device.proofs.Legal.{receiving-legal}
+use Rattle.controller.specs.Writing.{commandRoom}
+use Rattle.codes.specs.Commands.{commandOf}
+use Rattle.codes.specs.declared.command.Coded.{Coded}
+use Rattle.codes.specs.declared.command.MaybeCommand.{MaybeCommand}
+use Rattle.codes.specs.declared.command.MaybeCommand.the-variants.{CommandIs, NoCommand}
+use Rattle.panel.specs.Entries.{talkOf, shownOf, passwordIn, isSecuredTalk, leadsNext, showing}
+use Rattle.panel.specs.Stepping.{answeredEntry, sentEntry, heardLine}
+use Rattle.panel.specs.LegalPanels.{isNamed}
+use Rattle.panel.specs.StepTable.{UnderWay, answers}
+use Rattle.panel.specs.PanelCalls.{PanelAs, entryAt, sentAt, commanded, steppedAt}
+use Rattle.panel.specs.declared.types.Entry.{Entry}
+use Rattle.panel.specs.declared.types.Panel.{Panel}
+use Rattle.panel.proofs.Cases.{commanded-by, commanded-done}
+use Rattle.panel.proofs.StepsByTable.{row-steps}
+use Rattle.workroom.specs.AnyPanel.{oursPanel}
+use Rattle.workroom.specs.Workroom.{Workroom, roomOf, asks, handedThere, answeredBack, askedAs, happened}
+use Rattle.workroom.specs.MeantThrough.{saidTo, doneFor}
+use Rattle.workroom.specs.ShowsWhatWasMeant.{both-open, ourEntry, Joined, ShownAs}
+use Rattle.workroom.specs.PanelDemand.{Served}
+use Rattle.workroom.proofs.Cuts.{handed-in-cuts}
+use Rattle.workroom.proofs.EntriesStep.{entry-sent, sent-served, entry-heard, heard-served, line-delivered}
+use Rattle.workroom.proofs.CommandsAnswered.{fit-greeted, fit-live, joined-served, can-command, command-taken}
+use Rattle.workroom.proofs.CommandsAnswered.{told-back}
+
+-- nothing leads what follows a first command
+none-leads : (s : Bool) → (s && not s) ≡ false
+none-leads true = refl
+none-leads false = refl
+
+module _ (i : ℕ) (w : Workroom) (j : Joined i w) where
+  abbrev entry : Entry
+  entry = ourEntry i w
+
+  abbrev device : Device
+  device = w .device
+
+  module _ (k : Coded) (c : Command) (is : commandOf k ≡ CommandIs c) (there back : List ℕ) where
+    abbrev told : Said
+    told = meant (device .settings) (device .own) (Asks c)
+
+    abbrev sending : PanelAs
+    sending = commanded (w .panel) i k commandRoom
+
+    abbrev left : Device
+    left = withParts device (done (device .settings) (device .own) (Asks c)) (turned (device .connection) opened)
+
+    done-sending : sending ≡ sentAt (w .panel) i k commandRoom
+    done-sending = commanded-done (w .panel) i k commandRoom (can-command i w j k c is)
+
+    result : received device (sending .line) replyRoom ≡ commandResult device c (length (sending .line))
+    result =
+        subst (λ (r : PanelAs). received device (r .line) replyRoom ≡ commandResult device c (length (r .line)))
+        (sym done-sending) (command-taken i w j k c is)
+
+    comes-back : handedThere device there (sending .line) ≡ record { state = left; reply = replyTo c told }
+    comes-back =
+        handed-in-cuts device there (sending .line) (j .acquainted .device) (fit-live (j .fit))
+        (ap (λ (r : Result Device). r .taken) result)
+        ∙ ap {B = Out Device} (λ (r : Result Device). record { state = r .device; reply = r .reply }) result
+
+    abbrev after : Panel
+    after = steppedAt (sending .panel) i (replyTo c told) .panel
+
+    asked-so : happened oursPanel i w (asks k there back) ≡ roomOf after left
+    asked-so =
+        let number : eqb (sending .number) 0 ≡ true = ap (λ (r : PanelAs). eqb (r .number) 0) done-sending in
+        if-yes _ _ number
+        ∙ ap (answeredBack oursPanel i (sending .panel) back) comes-back
+        ∙ ap (λ (p : Panel). roomOf p left) (line-delivered i (sending .panel) back _ _)
+
+    sent-there : Served (sending .panel) i
+    sent-there = sent-served (w .panel) i (joined-served i w j) k commandRoom
+
+    entry-then : entryAt after i ≡ answeredEntry (sentEntry entry k) told
+    entry-then =
+        let asked : UnderWay (sentEntry entry k) c
+        = record { greeted = fit-greeted (j .fit); waits = refl; asked = is } in
+        entry-heard (sending .panel) i sent-there (replyTo c told)
+        ∙ ap (λ (e : Entry). heardLine e (replyTo c told))
+        (entry-sent (w .panel) i (joined-served i w j) k commandRoom (can-command i w j k c is))
+        ∙ row-steps (sentEntry entry k) (replyTo c told) (answers c told asked (told-back i w j k c is))
+
+    left-legal : isLegal left ≡ true
+    left-legal =
+        ap (λ (r : Result Device). isLegal (r .device)) (sym result)
+        ∙ receiving-legal device (j .acquainted .device) (sending .line) replyRoom
+
+    joined-then : Joined i (roomOf after left)
+    joined-then =
+        let there = heard-served (sending .panel) i sent-there (replyTo c told) in
+        record {
+          acquainted = record {
+            panel = there .legal;
+            there = there .there;
+            device = left-legal;
+            password = ap passwordIn entry-then ∙ j .acquainted .password;
+          };
+          between = refl;
+          rests = ap (λ (e : Entry). e .«under_way») entry-then;
+          fit = both-open refl
+              (λ none. fit-greeted (j .fit) (sym (ap (λ (e : Entry). e .greeting) entry-then) ∙ none))
+              (ap (λ (e : Entry). leadsNext (talkOf e)) entry-then ∙ none-leads (isSecuredTalk (talkOf entry)));
+        }
+
+    reply-shown : ShownAs i w (showing (shownOf entry) told) (left .own) (happened oursPanel i w (asks k there back))
+    reply-shown =
+        subst (ShownAs i w (showing (shownOf entry) told) (left .own)) (sym asked-so)
+        (record {
+          shows = ap (λ (e : Entry). shownOf e) entry-then;
+          strays = ap (λ (e : Entry). e .strays) entry-then;
+          settings = refl;
+          does = refl;
+          joined = joined-then;
+        })
+
+  pub as-it-was : ShownAs i w (shownOf entry) (device .own) w
+  as-it-was = record { shows = refl; strays = refl; settings = refl; does = refl; joined = j }
+
+  -- of a code that stands for nothing nothing is sent
+  refused-so : (k : Coded) (there back : List ℕ) → commandOf k ≡ NoCommand
+      → happened oursPanel i w (asks k there back) ≡ w
+  refused-so k there back none =
+      commanded-by (w .panel) i k commandRoom (λ r. askedAs oursPanel i r device there back ≡ w)
+      (λ n other. if-no _ _ (ne-eqb n 0 other))
+      (λ can. absurd (false≢true (sym (ap isNamed none) ∙ can .named)))
+
+  pub command-shown : (k : Coded) (there back : List ℕ)
+      → ShownAs i w (showing (shownOf entry) (saidTo (device .settings) (device .own) (commandOf k)))
+      (doneFor (device .settings) (device .own) (commandOf k)) (happened oursPanel i w (asks k there back))
+  command-shown k there back = by (commandOf k) refl
+    where
+      by : (m : MaybeCommand) → commandOf k ≡ m
+          → ShownAs i w (showing (shownOf entry) (saidTo (device .settings) (device .own) m))
+          (doneFor (device .settings) (device .own) m) (happened oursPanel i w (asks k there back))
+      by (CommandIs c) is = reply-shown k c is there back
+      by NoCommand none =
+          subst (ShownAs i w (shownOf entry) (device .own)) (sym (refused-so k there back none)) as-it-was
