@@ -3,6 +3,7 @@ pub mod EntriesStep
 pub mod PanelDemand
 pub mod CommandsAnswered
 pub mod RepliesShown
+pub mod Beginning
 pub mod Connecting
 pub mod ShowsWhatWasMeant
 pub mod Samples

@@ -36,6 +36,7 @@ use Rattle.workroom.specs.MeantThrough.{saidAt, ownAt, shownThrough, own
 use Rattle.workroom.specs.ShowsWhatWasMeant.{Fit, both-open, both-secured, ourEntry, Joined, KeptUp, AllKeptUp}
 use Rattle.workroom.specs.ShowsWhatWasMeant.{ShownAs, ShowsWhatWasMeant}
 use Rattle.workroom.proofs.RepliesShown.{as-it-was, command-shown}
+use Rattle.workroom.proofs.Beginning.{added-apart}
 use Rattle.workroom.proofs.Connecting.{greeted-joined, stays-connected, parted-apart}
 
 -- a connection that is not closed of age still fits
@@ -153,6 +154,7 @@ module _ (i : ℕ) where
 
 pub the-panel-shows-what-was-meant : ShowsWhatWasMeant oursPanel
 the-panel-shows-what-was-meant = record {
+  begins = added-apart;
   joins = λ i w random back apart word. greeted-joined i w apart back random word;
   shows = λ i w h j kept. shown-then i w j h kept;
   shows-through = all-shown;

@@ -15,6 +15,7 @@
 --   KeptUp i w h       the connection does not close of age; what is called another projector is another
 --   ShownAs i w v o x  in the workroom x, which was w, v is shown and the own part is o; no stray was counted, and it is
 --                      joined
+--   BegunAs i w, PartedAs i w x     nothing was heard yet; the connection is gone: what was shown stays, and they are apart
 -- Assumes nothing.
 use Prim.Native.Nat.{ℕ, _<_, _^_}
 use mathlib.Core.Path.{_≡_}
@@ -24,16 +25,19 @@ use Rattle.record.specs.Limits.{shut, awaiting, opened}
 use Rattle.record.specs.Legal.{isLegal}
 use Rattle.record.specs.declared.types.Own.{Own}
 use Rattle.record.specs.declared.types.Connection.{Connection}
+use Rattle.record.specs.declared.types.Device.{Device}
 use Rattle.clock.specs.Passing.{passed}
 use Rattle.stream.specs.Collecting.{emptyLine}
 use Rattle.device.specs.Receiving.{passwordOf}
 use Rattle.device.specs.Calls.{isShut}
-use Rattle.panel.specs.Entries.{Talk, Shown, talkOf, shownOf, passwordIn, ungreeted, leadsNext, showing}
+use Rattle.panel.specs.Entries.{Talk, Shown, talkOf, shownOf, passwordIn, ungreeted, leadsNext, nothingShown}
+use Rattle.panel.specs.Entries.{showing}
 use Rattle.panel.specs.LegalPanels.{isPanel}
 use Rattle.panel.specs.PanelCalls.{entryAt}
 use Rattle.panel.specs.declared.types.Entry.{Entry}
+use Rattle.panel.specs.declared.types.Panel.{Panel}
 use Rattle.workroom.specs.AnyPanel.{AnyPanel}
-use Rattle.workroom.specs.Workroom.{Workroom, Happens, connects, asks, waits, asks-another, hears-another}
+use Rattle.workroom.specs.Workroom.{Workroom, roomOf, Happens, connects, asks, waits, asks-another, hears-another}
 use Rattle.workroom.specs.Workroom.{happened, allHappened, parted}
 use Rattle.workroom.specs.MeantThrough.{saidAt, ownAt, shownThrough, ownThrough}
 
@@ -88,7 +92,16 @@ module _ (i : ℕ) where
     pub does : x .device .own ≡ w .device .own
     pub apart : Apart x
 
+  pub record BegunAs (w : Workroom) : Type 0 where
+    pub shows : shownOf (ourEntry w) ≡ nothingShown
+    pub strays : ourEntry w .strays ≡ 0
+    pub apart : Apart w
+
 pub record ShowsWhatWasMeant (P : AnyPanel) : Type 0 where
+  -- a projector just added, with the password of a device whose connection is closed: "unknown at first"
+  pub begins : (p : Panel) (s : List ℕ) (d : Device) → P .add p s .number ≡ 0 → isLegal d ≡ true
+      → d .connection .phase ≡ shut → passwordOf (d .settings) ≡ s
+      → BegunAs (p .count) (roomOf (P .add p s .panel) d)
   -- the device greets, with or without security, and they are joined; nothing else is shown yet
   pub joins : (i : ℕ) (w : Workroom) (random : ℕ) (back : List ℕ) → Apart i w → random < 2 ^ 32
       → ShownAs i w (shownOf (ourEntry i w)) (w .device .own) (happened P i w (connects random back))
