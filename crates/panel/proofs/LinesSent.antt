@@ -6,7 +6,6 @@ use mathlib.Core.Path.{_≡_, refl, ap}
 use mathlib.Core.Bool.{Bool, true, false, not, _||_}
 use mathlib.Core.List.{_++_}
 use Rattle.text.proofs.Choices.{both}
-use Rattle.lines.specs.Texts.{isPassword}
 use Rattle.lines.specs.Commands.{isCommand, commandLine}
 use Rattle.lines.specs.declared.command.Command.{Command}
 use Rattle.controller.specs.Writing.{WrittenAs, commandRoom, ledBy}

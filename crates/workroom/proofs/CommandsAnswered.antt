@@ -35,7 +35,6 @@ use Rattle.codes.proofs.CodesBack.{command-writable}
 use Rattle.panel.specs.Entries.{Talk, talkOf, passwordIn, ungreeted, leadsNext}
 use Rattle.panel.specs.Stepping.{isUnready, lineSent}
 use Rattle.panel.specs.LegalPanels.{isNamed}
-use Rattle.panel.specs.PanelCalls.{entryAt}
 use Rattle.panel.specs.declared.types.Entry.{Entry}
 use Rattle.panel.proofs.Cases.{Commands}
 use Rattle.panel.proofs.LinesSent.{line-sent}

@@ -17,15 +17,15 @@ use Rattle.record.proofs.LegalTold.{legal-settings, legal-own, legal-by-parts}
 use Rattle.record.proofs.Spelt.{closed-spelt}
 use Rattle.stream.specs.Collecting.{emptyLine}
 use Rattle.device.specs.Receiving.{begunIn, passwordOf}
-use Rattle.device.specs.Calls.{Result, replyRoom, isShut, withParts, openedBy, closedBy}
+use Rattle.device.specs.Calls.{Result, replyRoom, isShut, withParts, closedBy}
 use Rattle.device.proofs.Cases.{opened-by, opened-greeted, greeted-by, closed-by, closed-made}
 use Rattle.device.proofs.Legal.{greeted-legal, closing-legal}
 use Rattle.device.proofs.Untouched.{closing-keeps-settings, closing-keeps-own}
 use Rattle.controller.specs.Greetings.{readGreeting}
 use Rattle.controller.proofs.GreetsBack.{open-heard, secured-heard}
 use Rattle.panel.specs.Entries.{Talk, talkOf, shownOf, passwordIn, greetedOpen, greetedSecured, greetedBy}
-use Rattle.panel.specs.Stepping.{withTalk, greetedAs, lostEntry}
-use Rattle.panel.specs.PanelCalls.{entryAt, steppedAt, lostAt}
+use Rattle.panel.specs.Stepping.{withTalk, greetedAs}
+use Rattle.panel.specs.PanelCalls.{entryAt, steppedAt}
 use Rattle.panel.specs.declared.types.Entry.{Entry}
 use Rattle.panel.specs.declared.types.Panel.{Panel}
 use Rattle.panel.proofs.StepsByTable.{step-greets}
@@ -89,8 +89,8 @@ module _ (i : ℕ) (w : Workroom) where
 
     -- by whether there is a password
     abbrev JoinsBy : List ℕ → Connection → Type 0
-    JoinsBy g c = isConnection c ≡ true
-        → ShownAs i w (shownOf entry) (device .own) (roomOf (delivered oursPanel i (w .panel) back g) (with-connection c))
+    JoinsBy g c = isConnection c ≡ true → ShownAs i w (shownOf entry) (device .own)
+        (roomOf (delivered oursPanel i (w .panel) back g) (with-connection c))
 
     abbrev then : Connection → Panel → Workroom
     then c p = roomOf p (with-connection c)
@@ -112,7 +112,8 @@ module _ (i : ℕ) (w : Workroom) where
     pub greeted-joined : (r : ℕ) → r < 2 ^ 32
         → ShownAs i w (shownOf entry) (device .own) (happened oursPanel i w (connects r back))
     greeted-joined r word =
-        subst (λ (q : Result Device). ShownAs i w (shownOf entry) (device .own) (connectedAs oursPanel i (w .panel) back q))
+        subst (λ (q : Result Device). ShownAs i w (shownOf entry) (device .own)
+        (connectedAs oursPanel i (w .panel) back q))
         (sym (opened-greeted device r replyRoom (known .device) (omega arith)
         (eq-eqb (device .connection .phase) shut (apart .closed))))
         (greeted-by (device .settings) r JoinsBy (secured-joins r word) (open-joins r)

@@ -2,7 +2,7 @@
 -- leaves the same in any cuts.
 -- Assumes nothing.
 use Prim.Native.Nat.{ℕ}
-use mathlib.Core.Path.{_≡_, refl, sym, ap, _∙_}
+use mathlib.Core.Path.{_≡_, sym, ap, _∙_}
 use mathlib.Core.Bool.{true, false}
 use mathlib.Core.List.{List, [], _∷_, _++_, append-nil}
 use native.Mathlib.Omega.{arith}
@@ -10,7 +10,7 @@ use lib.ListN.{length, take, drop, take-append-drop}
 use lib.Seq.{take-append-seam, drop-append-seam}
 use Rattle.record.specs.Legal.{isLegal}
 use Rattle.record.specs.declared.types.Device.{Device}
-use Rattle.stream.specs.Machine.{Out, uncut}
+use Rattle.stream.specs.Machine.{uncut}
 use Rattle.stream.proofs.WholeParts.{uncut-none, uncut-more, handed-whole}
 use Rattle.device.specs.Calls.{replyRoom, isShut, received}
 use Rattle.device.proofs.SameCuts.{receives, received-however-cut}

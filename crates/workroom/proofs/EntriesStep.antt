@@ -3,7 +3,7 @@
 use Prim.Native.Nat.{ℕ, _<_}
 use mathlib.Core.Path.{_≡_, ap, _∙_}
 use mathlib.Core.Bool.{true}
-use mathlib.Core.List.{List, [], _∷_}
+use mathlib.Core.List.{List, _∷_}
 use native.Mathlib.Omega.{arith}
 use lib.ListN.{length}
 use lib.Seq.{getD-set-same}
@@ -16,7 +16,7 @@ use Rattle.panel.specs.declared.types.Entry.{Entry}
 use Rattle.panel.specs.declared.types.Panel.{Panel}
 use Rattle.panel.proofs.PanelsTold.{panel-told, entry-at-legal}
 use Rattle.panel.proofs.PanelsLegal.{commanded-stays-legal, stepped-stays-legal, lost-stays-legal}
-use Rattle.panel.proofs.OnlyItsEntry.{OnlyAt, command-touches-its-entry, step-touches-its-entry, loss-touches-its-entry}
+use Rattle.panel.proofs.OnlyItsEntry.{command-touches-its-entry, step-touches-its-entry, loss-touches-its-entry}
 use Rattle.panel.proofs.Cases.{Commands, commanded-done, stepped-done, lost-done}
 use Rattle.workroom.specs.AnyPanel.{oursPanel}
 use Rattle.workroom.specs.Workroom.{delivered}
@@ -35,10 +35,6 @@ module _ (p : Panel) (i : ℕ) (served : Served p i) where
 
   pub still-served : (q : Panel) → isPanel q ≡ true → q .count ≡ p .count → Served q i
   still-served q legal same = record { legal = legal; there = let here = served .there in omega arith }
-
-  -- the panel after a call, and its entry there
-  abbrev PlacedBy : PanelAs → Entry → Type 0
-  PlacedBy r e = entryAt (r .panel) i ≡ e
 
   pub entry-sent : (k : Coded) (room : ℕ) → Commands p i k room
       → entryAt (commanded p i k room .panel) i ≡ sentEntry (entryAt p i) k

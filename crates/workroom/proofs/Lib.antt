@@ -5,6 +5,8 @@ pub mod CommandsAnswered
 pub mod RepliesShown
 pub mod Beginning
 pub mod Connecting
+pub mod AllShown
+pub mod StaysOpen
 pub mod ShowsWhatWasMeant
 pub mod Samples
 pub mod WrongPanelsFall

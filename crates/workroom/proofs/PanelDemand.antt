@@ -1,7 +1,7 @@
--- Our panel does what 02, L13 asks of one: by the table of what each kind of line does (`StepTo` of panel), which a legal
--- entry steps by.
+-- Our panel does what 02, L13 asks of one: by the table of what each kind of line does (`StepTo` of panel), which a
+-- legal entry steps by.
 -- Assumes nothing.
-use Prim.Native.Nat.{ℕ, _+_, min}
+use Prim.Native.Nat.{ℕ}
 use mathlib.Core.Path.{_≡_, refl, sym, ap, subst, _∙_}
 use mathlib.Core.List.{List}
 use Rattle.panel.specs.Entries.{talkOf, shownOf}
@@ -14,9 +14,6 @@ use Rattle.panel.proofs.StepsByTable.{row-steps, steps-by-the-table}
 use Rattle.workroom.specs.AnyPanel.{oursPanel}
 use Rattle.workroom.specs.PanelDemand.{Served, PartsAre, ShownBy, stays-shown, by-reply, by-erra, PanelDemand}
 use Rattle.workroom.proofs.EntriesStep.{entry-legal-there, entry-heard}
-
-abbrev AsIn : Entry → Entry → Type 0
-AsIn e f = PartsAre f e (talkOf f) (shownOf f) (f .strays)
 
 module _ (p : Panel) (i : ℕ) (l : List ℕ) (served : Served p i) where
   abbrev before : Entry

@@ -147,6 +147,26 @@ module _ (i : ℕ) (w : Workroom) (j : Joined i w) where
       (λ n other. if-no _ _ (ne-eqb n 0 other))
       (λ can. absurd (false≢true (sym (ap isNamed none) ∙ can .named)))
 
+  -- once something was asked the connection is open, and an open one stays so
+  pub asked-open : (k : Coded) (there back : List ℕ) → isNamed (commandOf k) ≡ true
+      → happened oursPanel i w (asks k there back) .device .connection .phase ≡ opened
+  asked-open k there back named = by (commandOf k) refl
+    where
+      by : (m : MaybeCommand) → commandOf k ≡ m
+          → happened oursPanel i w (asks k there back) .device .connection .phase ≡ opened
+      by (CommandIs c) is = ap (λ (x : Workroom). x .device .connection .phase) (asked-so k c is there back)
+      by NoCommand none = absurd (false≢true (sym (ap isNamed none) ∙ named))
+
+  pub open-asked : (k : Coded) (there back : List ℕ) → device .connection .phase ≡ opened
+      → happened oursPanel i w (asks k there back) .device .connection .phase ≡ opened
+  open-asked k there back stands = by (commandOf k) refl
+    where
+      by : (m : MaybeCommand) → commandOf k ≡ m
+          → happened oursPanel i w (asks k there back) .device .connection .phase ≡ opened
+      by (CommandIs c) is = asked-open k there back (ap isNamed is)
+      by NoCommand none =
+          ap (λ (x : Workroom). x .device .connection .phase) (refused-so k there back none) ∙ stands
+
   pub command-shown : (k : Coded) (there back : List ℕ)
       → ShownAs i w (showing (shownOf entry) (saidTo (device .settings) (device .own) (commandOf k)))
       (doneFor (device .settings) (device .own) (commandOf k)) (happened oursPanel i w (asks k there back))

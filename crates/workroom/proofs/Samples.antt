@@ -1,21 +1,29 @@
 -- A panel of one projector, on which the wrong panels fall: open, without a password, its power shown as on.
 --   asked strays     LAMP is asked of it
 --   resting strays   nothing is
+--   workroom         it, resting, with a device that is off, opened and without a password
 -- Assumes nothing.
 use Prim.Native.Nat.{ℕ}
-use mathlib.Core.Path.{_≡_, refl}
-use mathlib.Core.List.{List, [], _∷_}
+use mathlib.Core.Path.{refl}
+use mathlib.Core.List.{[], _∷_}
 use native.Mathlib.Omega.{arith}
 use lib.ListN.{replicate}
+use Rattle.text.specs.Words.{ascii}
 use Rattle.lines.specs.declared.command.Command.the-variants.{Query}
 use Rattle.lines.specs.declared.command.Body.the-variants.{Lamp}
-use Rattle.record.specs.Record.{textOf}
+use Rattle.record.specs.Limits.{opened}
+use Rattle.record.specs.Record.{textOf, started}
+use Rattle.record.specs.declared.types.Device.{Device}
+use Rattle.device.specs.Receiving.{begunIn}
+use Rattle.device.specs.Calls.{withParts}
 use Rattle.codes.specs.Commands.{codeOf}
 use Rattle.panel.specs.Entries.{Talk, entryOf, greetedOpen, greetedBy, sentOn, nothingShown, withPowerShown, blankEntry}
 use Rattle.panel.specs.StepTable.{UnderWay}
 use Rattle.panel.specs.PanelCalls.{entryAt}
 use Rattle.panel.specs.declared.types.Entry.{Entry}
 use Rattle.panel.specs.declared.types.Panel.{Panel}
+use Rattle.workroom.specs.Workroom.{Workroom, roomOf}
+use Rattle.workroom.specs.ShowsWhatWasMeant.{both-open, Joined}
 use Rattle.workroom.specs.PanelDemand.{Served}
 use Rattle.workroom.specs.Computing.{computing}
 
@@ -49,3 +57,28 @@ asked-served = record { legal = refl; there = omega arith }
 pub lamps-asked : UnderWay (entryAt (asked 0) 0) (Query Lamp)
 unfolding computing
 lamps-asked = record { greeted = λ none. omega arith; waits = refl; asked = refl }
+
+abbrev opening : Device
+opening = started (record {
+  name = [];
+  maker = [];
+  model = [];
+  other = [];
+  password = [];
+  inputs = ascii "11";
+  lamps = 0 ∷ [];
+  warm = 20;
+  cool = 60;
+})
+
+abbrev pub workroom : Workroom
+workroom = roomOf (resting 0) (withParts opening (opening .own) (begunIn opened 0))
+
+pub workroom-joined : Joined 0 workroom
+unfolding computing
+workroom-joined = record {
+  acquainted = record { panel = refl; there = omega arith; device = refl; password = refl };
+  between = refl;
+  rests = refl;
+  fit = both-open refl (λ none. omega arith) refl;
+}

@@ -2,22 +2,23 @@
 -- Assumes nothing.
 use Prim.Native.Nat.{ℕ}
 use mathlib.Core.Path.{_≡_, refl, ap}
-use mathlib.Core.List.{List}
+use mathlib.Core.List.{List, []}
 use native.Mathlib.Omega.{arith}
 use Rattle.text.specs.Words.{ascii}
-use Rattle.lines.specs.Forms.{erraLine}
 use Rattle.lines.specs.declared.command.Command.the-variants.{Query}
-use Rattle.lines.specs.declared.command.Body.the-variants.{Lamp}
-use Rattle.codes.specs.Commands.{bit}
+use Rattle.lines.specs.declared.command.Body.the-variants.{Powr, Lamp}
+use Rattle.codes.specs.Commands.{bit, codeOf}
 use Rattle.panel.specs.Entries.{Talk, Shown}
 use Rattle.panel.specs.StepTable.{Stray, late, malformed, foreign}
 use Rattle.panel.specs.PanelCalls.{entryAt}
-use Rattle.workroom.specs.AnyPanel.{AnyPanel}
-use Rattle.workroom.specs.PanelDemand.{PanelDemand, OnlyCounted, afterLine}
+use Rattle.workroom.specs.Workroom.{asks}
+use Rattle.workroom.specs.ShowsWhatWasMeant.{ShowsWhatWasMeant}
+use Rattle.workroom.specs.PanelDemand.{PanelDemand}
 use Rattle.workroom.specs.WrongPanels.{takesForeign, endsOnMalformed, keepsAfterErra, strayCountWraps, showsLate}
-use Rattle.workroom.specs.WrongPanels.{countsNothing}
+use Rattle.workroom.specs.WrongPanels.{countsNothing, showsNoReply}
 use Rattle.workroom.specs.Computing.{computing}
 use Rattle.workroom.proofs.Samples.{resting, asked, resting-served, full-served, asked-served, lamps-asked}
+use Rattle.workroom.proofs.Samples.{workroom, workroom-joined}
 
 abbrev powerOff : List ℕ
 powerOff = ascii "%1POWR=0\r"
@@ -58,7 +59,8 @@ ends-on-malformed-falls h =
 pub keeps-after-erra-falls : PanelDemand keepsAfterErra → ⊥
 unfolding computing
 keeps-after-erra-falls h =
-    let e : _≡_ {A = ℕ} 1 0 = ap powerShown (h .erra-forgets (asked 0) 0 (Query Lamp) asked-served lamps-asked .shows) in
+    let e : _≡_ {A = ℕ} 1 0
+    = ap powerShown (h .erra-forgets (asked 0) 0 (Query Lamp) asked-served lamps-asked .shows) in
     absurd (omega arith)
 
 -- the 65,536th stray
@@ -82,4 +84,12 @@ pub counts-nothing-falls : PanelDemand countsNothing → ⊥
 unfolding computing
 counts-nothing-falls h =
     let e : _≡_ {A = ℕ} 0 1 = h .strays-counted (resting 0) 0 powerOff resting-served (late-line 0 powerOff) .counts in
+    absurd (omega arith)
+
+-- POWR is asked of a device that is off: the power that is shown afterwards
+pub shows-no-reply-falls : ShowsWhatWasMeant showsNoReply → ⊥
+unfolding computing
+shows-no-reply-falls h =
+    let e : _≡_ {A = ℕ} 1 0
+    = ap powerShown (h .shows 0 workroom (asks (codeOf (Query Powr)) [] []) workroom-joined tt .shows) in
     absurd (omega arith)

@@ -1,8 +1,8 @@
 -- A panel: anything that answers the calls on the panel record that 02, L13 speaks of. What is asked of one is stated
 -- over it, so that wrong panels can be tried.
---   AnyPanel       `add p s`: a projector more, with the password s; `command p i k room`: the command k to the projector
---                  i, with so much memory for its line; `hear p i l`: the line l from the projector i; `lose p i`: its
---                  connection is gone
+--   AnyPanel       `add p s`: a projector more, with the password s; `command p i k room`: the command k to the
+--                  projector i, with so much memory for its line; `hear p i l`: the line l from the projector i;
+--                  `lose p i`: its connection is gone
 --   oursPanel      our calls: beside each, the function whose contract says this very definition
 --   oursHearing f  our panel, with f in the place of the step
 -- Assumes nothing.

@@ -9,8 +9,8 @@
 --   EndedBy e m f      the command is ended, and m is shown
 --   ForgotIn e f       the command is ended, all is unknown, a new greeting is awaited
 --   Greeted e t f      the greeting is accepted, t is where the talk stands now
---   ShownBy e l f      what f shows is what e showed, or the line l was an accepted reply and f shows what it says, or it
---                      was the ERRA line and f shows nothing
+--   ShownBy e l f      what f shows is what e showed, or the line l was an accepted reply and f shows what it says, or
+--                      it was the ERRA line and f shows nothing
 -- Assumes nothing.
 use Prim.Native.Nat.{ℕ, _+_, _<_, min}
 use mathlib.Core.Path.{_≡_}
@@ -70,8 +70,8 @@ module _ (P : AnyPanel) where
     pub strays-counted : (p : Panel) (i : ℕ) (l : List ℕ) → Served p i → Stray (entryAt p i) l
         → OnlyCounted (entryAt p i) (afterLine p i l)
     -- "any accepted reply ends it, and an OK or error changes no reading"
-    pub replies-shown : (p : Panel) (i : ℕ) (l : List ℕ) (c : Command) (m : Said) → Served p i → UnderWay (entryAt p i) c
-        → readReply c l ≡ meaning m
+    pub replies-shown : (p : Panel) (i : ℕ) (l : List ℕ) (c : Command) (m : Said) → Served p i
+        → UnderWay (entryAt p i) c → readReply c l ≡ meaning m
         → EndedBy (entryAt p i) m (afterLine p i l)
     -- "ERRA ends it, makes that projector's readings unknown and awaits a new greeting"
     pub erra-forgets : (p : Panel) (i : ℕ) (c : Command) → Served p i → UnderWay (entryAt p i) c

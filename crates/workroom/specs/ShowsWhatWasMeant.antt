@@ -1,5 +1,5 @@
--- THE PANEL SHOWS WHAT THE PROJECTOR MEANT (02, L13, joined with 01's projector). A projector of the panel is one of our
--- devices, joined to it by a connection; any commands, in any order, with any seconds between and every reply
+-- THE PANEL SHOWS WHAT THE PROJECTOR MEANT (02, L13, joined with 01's projector). A projector of the panel is one of
+-- our devices, joined to it by a connection; any commands, in any order, with any seconds between and every reply
 -- delivered, in whatever cuts. After each reply what is shown of its power, input and lamps is what was shown before,
 -- and on it what the device meant when it answered, open or secured: so after all of them it is what the tables of
 -- `meaning` and `clock` make of the same commands and seconds.
@@ -10,18 +10,20 @@
 -- MeantThrough.
 --   Acquainted i w     a legal panel that has the projector i, a legal device, one password
 --   Apart i w          no greeting is accepted, and the device's connection is closed
---   Fit t c            the panel's talk t and the connection c: open on both sides, or the digest is awaited and will lead
+--   Fit t c            the panel's talk t and the connection c: open on both sides, or the digest is awaited and will
+--                      lead
 --   Joined i w         on a connection, between lines, with no command under way
---   KeptUp i w h       the connection does not close of age; what is called another projector is another
---   ShownAs i w v o x  in the workroom x, which was w, v is shown and the own part is o; no stray was counted, and it is
---                      joined
---   BegunAs i w, PartedAs i w x     nothing was heard yet; the connection is gone: what was shown stays, and they are apart
+--   KeptUp i w h       the connection does not close of age; what is called another projector is another (`IsOther`)
+--   ShownAs i w v o x  in the workroom x, which was w, v is shown and the own part is o; no stray was counted, and it
+--                      is joined
+--   BegunAs i w        nothing was heard yet
+--   PartedAs i w x     the connection is gone: what was shown stays, and they are apart
 -- Assumes nothing.
-use Prim.Native.Nat.{ℕ, _<_, _^_}
+use Prim.Native.Nat.{ℕ, _+_, _<_, _^_}
 use mathlib.Core.Path.{_≡_}
 use mathlib.Core.Bool.{true, false}
 use mathlib.Core.List.{List, [], _∷_}
-use Rattle.record.specs.Limits.{shut, awaiting, opened}
+use Rattle.record.specs.Limits.{ageEnd, shut, awaiting, opened}
 use Rattle.record.specs.Legal.{isLegal}
 use Rattle.record.specs.declared.types.Own.{Own}
 use Rattle.record.specs.declared.types.Connection.{Connection}
@@ -30,9 +32,11 @@ use Rattle.clock.specs.Passing.{passed}
 use Rattle.stream.specs.Collecting.{emptyLine}
 use Rattle.device.specs.Receiving.{passwordOf}
 use Rattle.device.specs.Calls.{isShut}
+use Rattle.codes.specs.Commands.{commandOf}
+use Rattle.codes.specs.declared.command.Coded.{Coded}
 use Rattle.panel.specs.Entries.{Talk, Shown, talkOf, shownOf, passwordIn, ungreeted, leadsNext, nothingShown}
 use Rattle.panel.specs.Entries.{showing}
-use Rattle.panel.specs.LegalPanels.{isPanel}
+use Rattle.panel.specs.LegalPanels.{isNamed, isPanel}
 use Rattle.panel.specs.PanelCalls.{entryAt}
 use Rattle.panel.specs.declared.types.Entry.{Entry}
 use Rattle.panel.specs.declared.types.Panel.{Panel}
@@ -78,6 +82,18 @@ module _ (i : ℕ) where
   AllKeptUp P w [] = Unit {0}
   AllKeptUp P w (h ∷ hs) = KeptUp w h × AllKeptUp P (happened P i w h) hs
 
+  -- the same of what is called another alone
+  abbrev pub IsOther : Happens → Type 0
+  IsOther (connects random back) = Unit {0}
+  IsOther (asks k there back) = Unit {0}
+  IsOther (waits n) = Unit {0}
+  IsOther (asks-another j k) = j ≡ i → ⊥
+  IsOther (hears-another j l) = j ≡ i → ⊥
+
+  abbrev pub AllOther : List Happens → Type 0
+  AllOther [] = Unit {0}
+  AllOther (h ∷ hs) = IsOther h × AllOther hs
+
   pub record ShownAs (w : Workroom) (shown : Shown) (own : Own) (x : Workroom) : Type 0 where
     pub shows : shownOf (ourEntry x) ≡ shown
     pub strays : ourEntry x .strays ≡ ourEntry w .strays
@@ -115,5 +131,17 @@ pub record ShowsWhatWasMeant (P : AnyPanel) : Type 0 where
       → let s = w .device .settings in
       let o = w .device .own in
       ShownAs i w (shownThrough s o (shownOf (ourEntry i w)) hs) (ownThrough s o hs) (allHappened P i w hs)
+  -- a connection that is open, as it is once anything was asked on it, never closes of age: then the commands and the
+  -- seconds may be any
+  pub stays-open : (i : ℕ) (w : Workroom) (hs : List Happens) → Joined i w → w .device .connection .phase ≡ opened
+      → AllOther i hs
+      → AllKeptUp i P w hs
+  pub asking-opens : (i : ℕ) (w : Workroom) (k : Coded) (there back : List ℕ) → Joined i w
+      → isNamed (commandOf k) ≡ true
+      → happened P i w (asks k there back) .device .connection .phase ≡ opened
+  -- and one whose digest is awaited does not close before its age is 30 seconds
+  pub stays-awaited : (i : ℕ) (w : Workroom) (n : ℕ) → Joined i w → w .device .connection .phase ≡ awaiting
+      → w .device .connection .age + n < ageEnd
+      → KeptUp i w (waits n)
   -- a connection that is gone, however it stood, can be made again, and the readings stay till then
   pub parts : (i : ℕ) (w : Workroom) → Acquainted i w → PartedAs i w (parted P i w)

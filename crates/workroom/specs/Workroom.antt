@@ -3,8 +3,9 @@
 --                       part. `uncut` joins them again, and no cutting is left out (proofs/Cuts)
 --   Workroom            the panel, and the device
 --   connects r back     the device opens with the random number r; its greeting comes back in the cuts `back`
---   asks k there back   the panel sends the command k: its line comes there in the cuts `there`, each part handed on until
---                       it is taken; the reply comes back in the cuts `back`. Of a refused command nothing is sent
+--   asks k there back   the panel sends the command k: its line comes there in the cuts `there`, each part handed on
+--                       until it is taken; the reply comes back in the cuts `back`. Of a refused command nothing is
+--                       sent
 --   waits n             n seconds pass on the device
 --   asks-another j k, hears-another j l     the same panel sends to its projector j, and hears any line from it
 --   happened P i w h, allHappened P i w hs     the workroom after this, on the panel P whose projector i is the device

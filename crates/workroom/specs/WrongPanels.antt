@@ -3,11 +3,10 @@
 --   hearingAs f      ours, but where a command is under way f takes the reading of the line
 -- Assumes nothing.
 use Prim.Native.Nat.{ℕ, _+_}
-use mathlib.Core.Bool.{not, _||_}
+use mathlib.Core.Bool.{not}
 use mathlib.Core.List.{List}
 use lib.Dec.{eqb}
 use Rattle.text.specs.Words.{if_then_else_}
-use Rattle.lines.specs.declared.command.Command.{Command}
 use Rattle.lines.specs.declared.command.Command.the-variants.{Query}
 use Rattle.lines.specs.declared.command.Body.the-variants.{Powr}
 use Rattle.answers.specs.Said.{Said}
@@ -84,3 +83,14 @@ showsLate = steppingBy (λ e l. if not (isUnready e) then heardBy e (readReply (
 -- counts nothing
 abbrev pub countsNothing : AnyPanel
 countsNothing = steppingBy (λ e l. if not (isUnready e) then e else heardLine e l)
+
+-- accepts a reply, and shows nothing of it
+abbrev unshown : Entry → Outcome → Said → Entry
+unshown e Means m = withTalk e (restedOn (talkOf e))
+unshown e Erra m = erraEntry e
+unshown e NotALine m = strayed e
+unshown e OtherCommand m = strayed e
+unshown e NotAllowed m = strayed e
+
+abbrev pub showsNoReply : AnyPanel
+showsNoReply = hearingAs (λ e l r. unshown e (r .outcome) (r .said))
