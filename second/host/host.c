@@ -86,6 +86,37 @@ static void put_changed(pj_changed c) {
     put_device(c.device);
 }
 
+/* The panel. */
+
+#define EACH_OF_ENTRY(DO, e)                                                                                           \
+    EACH_TEXT(DO, (e).password)                                                                                        \
+    DO((e).greeting) DO((e).random) DO((e).led) DO((e).under_way)                                                      \
+    DO((e).command.code) DO((e).command.first) DO((e).command.second)                                                  \
+    DO((e).power_known) DO((e).input_known) DO((e).lamps_known)                                                        \
+    DO((e).power) DO((e).input_type) DO((e).input_number)                                                              \
+    DO((e).lamp_count) DO((e).hours) DO((e).lit) DO((e).strays)
+
+static pj_panel get_panel(void) {
+    pj_panel p;
+    GET(p.count);
+    for (size_t i = 0; i < PJ_PANEL_MOST; i++) {
+        EACH_OF_ENTRY(GET_ONE, p.entries[i])
+    }
+    return p;
+}
+
+static void put_panel(pj_panel p) {
+    PUT(p.count);
+    for (size_t i = 0; i < PJ_PANEL_MOST; i++) {
+        EACH_OF_ENTRY(PUT_ONE, p.entries[i])
+    }
+}
+
+static void put_panel_changed(pj_panel_changed c) {
+    PUT(c.number);
+    put_panel(c.panel);
+}
+
 static pj_command get_command(void) {
     pj_command c;
     GET(c.code);
@@ -215,6 +246,40 @@ static void read_reply(void) {
     PUT(r.text);
 }
 
+static void add_to_panel(void) {
+    pj_panel p = get_panel();
+    slice password = get_slice();
+    put_panel_changed(pj_panel_add(p, password.at, password.n));
+}
+
+static void command_of_panel(void) {
+    pj_panel p = get_panel();
+    size_t projector;
+    GET(projector);
+    pj_command c = get_command();
+    slice out = get_slice();
+    pj_panel_sent s = pj_panel_command(p, projector, c, out.at, out.n);
+    PUT(s.number);
+    PUT(s.length);
+    put_panel(s.panel);
+    put_slice(out);
+}
+
+static void line_to_panel(void) {
+    pj_panel p = get_panel();
+    size_t projector;
+    GET(projector);
+    slice line = get_slice();
+    put_panel_changed(pj_panel_line(p, projector, line.at, line.n));
+}
+
+static void lost_to_panel(void) {
+    pj_panel p = get_panel();
+    size_t projector;
+    GET(projector);
+    put_panel_changed(pj_panel_lost(p, projector));
+}
+
 static void compare_lamps(void) {
     size_t earlier = get_words(words[0]), later = get_words(words[1]), n;
     GET(n);
@@ -273,6 +338,11 @@ static void make_call(void) {
     case 16: set_up(true); break;
     case 17: store(d); break;
     case 18: load(); break;
+    case 19: put_panel_changed(pj_panel_none()); break;
+    case 20: add_to_panel(); break;
+    case 21: command_of_panel(); break;
+    case 22: line_to_panel(); break;
+    case 23: lost_to_panel(); break;
     default: exit(EXIT_FAILURE);
     }
 }

@@ -81,6 +81,10 @@ mod tests {
             ("pj_write", "!2 !3"),
             ("pj_read_greeting", "!10"),
             ("pj_read_reply", "!3 !10 !11 !12"),
+            ("pj_panel_add", "served !1 !3"),
+            ("pj_panel_command", "led !1 !2 !3 !9"),
+            ("pj_panel_line", "!1 !3 ERRA late shown ended"),
+            ("pj_panel_lost", "served !1 !3"),
             ("pj_compare_lamps", "!3 none back"),
             ("pj_plan_day", "!3 planned unplanned"),
         ] {
@@ -96,5 +100,9 @@ mod tests {
         (0..=9).for_each(|place| assert!(told(place) >= 100, "setting {place}: {}", told(place)));
         ["PJLINK 0", "PJLINK 1"].iter().for_each(|greeting| assert!(run.met.times("pj_open", greeting) >= 100));
         assert!(run.met.times("pj_receive", "PJLINK E") >= 100);
+        assert!(run.met.times("pj_panel_command", "not led") >= 100);
+        for kind in ["PJLINK 0", "PJLINK 1", "before the greeting", "malformed or foreign", "not counted any more"] {
+            assert!(run.met.times("pj_panel_line", kind) >= 100, "{kind}");
+        }
     }
 }

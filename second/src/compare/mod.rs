@@ -2,12 +2,17 @@
 
 pub mod days;
 pub mod every_form;
+pub mod every_panel;
 pub mod forms;
 pub mod histories;
 pub mod inputs;
 pub mod lines;
 pub mod messages;
 pub mod names;
+pub mod panel_lines;
+pub mod panel_records;
+pub mod panel_shrink;
+pub mod panels;
 pub mod passwords;
 pub mod random;
 pub mod records;
@@ -18,7 +23,7 @@ pub mod shrink;
 pub mod tables;
 pub mod tally;
 
-use crate::face::{Act, Answer, Device, Lent, Side};
+use crate::face::{Act, Answer, Device, Lent, PanelCall, Side};
 use crate::reference::side::Second;
 use random::Random;
 use report::Difference;
@@ -28,7 +33,7 @@ use tally::Tally;
 type Compared = Result<(), Box<Difference>>;
 
 /// A run has at least so many comparisons.
-pub const ENOUGH: usize = 310_000;
+pub const ENOUGH: usize = 400_000;
 
 /// So many rounds come before what leaves nothing to chance, so that most differences are found early.
 const FIRST_ROUNDS: usize = 8;
@@ -73,6 +78,7 @@ impl<'a, B: Side> Run<'a, B> {
         self.every_form()?;
         self.every_password()?;
         self.every_input()?;
+        self.every_panel()?;
         while self.agreed < ENOUGH {
             self.round()?;
         }
@@ -170,6 +176,24 @@ impl<'a, B: Side> Run<'a, B> {
         all.into_iter().try_for_each(|(device, act)| self.compare_call(device, act))
     }
 
+    fn every_panel(&mut self) -> Compared {
+        every_panel::calls(&mut self.random).into_iter().try_for_each(|act| self.compare_call(Device::BLANK, act))
+    }
+
+    /// A panel at work; then calls on panels in every state, legal and damaged.
+    fn panels(&mut self) -> Compared {
+        for act in panels::history(&mut self.random) {
+            self.compare_call(Device::BLANK, act)?;
+        }
+        for _ in 0..8 {
+            for panel in [panel_records::legal(&mut self.random), panel_records::damaged(&mut self.random)] {
+                let act = panels::any_act(&mut self.random, &panel);
+                self.compare_call(Device::BLANK, Act::Panel(Box::new(PanelCall { panel, act })))?;
+            }
+        }
+        Ok(())
+    }
+
     /// Stored forms in which everything is damaged, memory of every length for them; long ones last.
     fn every_form(&mut self) -> Compared {
         for (device, act) in every_form::stores(&mut self.random) {
@@ -245,7 +269,7 @@ impl<'a, B: Side> Run<'a, B> {
             let name = names::any(&mut self.random);
             self.name(name)?;
         }
-        Ok(())
+        self.panels()
     }
 
     /// A stream, handed to the board in random cuts, to the second program whole.

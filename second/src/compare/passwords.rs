@@ -5,7 +5,7 @@ use super::{forms, records, setups};
 use crate::face::{Act, Command, Device, Lent};
 
 /// Every length up to one too many: letters and digits; then with another character at the start, within or at the end.
-fn every(random: &mut Random) -> Vec<Vec<u8>> {
+pub fn every(random: &mut Random) -> Vec<Vec<u8>> {
     let mut all = Vec::new();
     for length in 0..=33 {
         let good = random.letters_or_digits(length);

@@ -149,7 +149,7 @@ pub fn set_text(text: &mut Text, bytes: &[u8]) {
     text.bytes[..text.len].copy_from_slice(&bytes[..text.len]);
 }
 
-fn text(random: &mut Random, text: &mut Text) {
+pub fn text(random: &mut Random, text: &mut Text) {
     match random.below(4) {
         0 => text.len = count(random, text.len, 64),
         1 => text.len = count(random, text.len, 32),
@@ -167,7 +167,7 @@ fn text(random: &mut Random, text: &mut Text) {
 }
 
 /// Beside itself, at its limit, past its array, or so large that twice or eight times it is small again.
-fn count(random: &mut Random, count: usize, limit: usize) -> usize {
+pub fn count(random: &mut Random, count: usize, limit: usize) -> usize {
     match random.below(4) {
         0 => random.pick(&[0, 1, limit, limit + 1]),
         1 => random.pick(&[count.wrapping_add(1), count.saturating_sub(1)]),
@@ -188,7 +188,7 @@ fn random_size(count: usize) -> usize {
     count.wrapping_mul(0x0101_0101_0101_0101)
 }
 
-fn code(random: &mut Random) -> u8 {
+pub fn code(random: &mut Random) -> u8 {
     let any = random.byte();
     random.pick(&[0, 1, 2, 3, 4, 5, 128, 255, any])
 }

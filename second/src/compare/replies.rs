@@ -24,7 +24,7 @@ pub fn write(random: &mut Random) -> Act {
 }
 
 /// Mostly a command; the sets as often as all queries together.
-fn command(random: &mut Random) -> Command {
+pub fn command(random: &mut Random) -> Command {
     let any = [random.byte(), random.byte(), random.byte()];
     let code = match random.below(16) {
         0 => random.pick(&[14, 15, 255, any[0]]),
@@ -42,6 +42,10 @@ fn command(random: &mut Random) -> Command {
 }
 
 pub fn read_greeting(random: &mut Random) -> Act {
+    Act::ReadGreeting { line: greeting_line(random) }
+}
+
+pub fn greeting_line(random: &mut Random) -> Vec<u8> {
     let digits = format!("{:08x}", random.word()).into_bytes();
     let mut line = match random.below(6) {
         0 => b"PJLINK 0\r".to_vec(),
@@ -55,11 +59,16 @@ pub fn read_greeting(random: &mut Random) -> Act {
     if random.one_in(3) {
         random.damage(&mut line);
     }
-    Act::ReadGreeting { line }
+    line
 }
 
 pub fn read_reply(random: &mut Random) -> Act {
     let command = command(random);
+    Act::ReadReply { command, line: reply_line(random, command) }
+}
+
+/// A reply to this command, at times to another, and at times damaged.
+pub fn reply_line(random: &mut Random, command: Command) -> Vec<u8> {
     let code = if random.one_in(12) { random.below(14) } else { usize::from(command.code.min(13)) };
     let mut line = match random.below(40) {
         0 => b"PJLINK ERRA\r".to_vec(),
@@ -75,7 +84,7 @@ pub fn read_reply(random: &mut Random) -> Act {
     if random.one_in(100) {
         line = vec![line.first().copied().unwrap_or(b'%'); random.below(400)];
     }
-    Act::ReadReply { command, line }
+    line
 }
 
 /// The reply that tells a name, read by the controller that asked for it.

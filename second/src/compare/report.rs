@@ -2,7 +2,7 @@
 
 use super::Case;
 use crate::face::fields::{Fields, quoted};
-use crate::face::{Act, Answer, Device};
+use crate::face::{Act, Answer, Device, Panel, PanelAct, PanelCall};
 use std::fmt;
 
 pub struct Difference {
@@ -18,13 +18,13 @@ impl fmt::Display for Difference {
     fn fmt(&self, f: &mut fmt::Formatter) -> fmt::Result {
         writeln!(f, "the two programs differ at call {} of {}:", self.place + 1, self.case.acts.len())?;
         if self.case.start != Device::BLANK {
-            writeln!(f, "  from the record {}", record(&self.case.start))?;
+            writeln!(f, "  from the record {}", record(&self.case.start, &Device::BLANK))?;
         }
         for act in &self.case.acts[..=self.place] {
             writeln!(f, "  {}", call(act))?;
         }
         if self.place > 0 {
-            writeln!(f, "  which is lent the record {}", record(&self.device))?;
+            writeln!(f, "  which is lent the record {}", record(&self.device, &Device::BLANK))?;
         }
         for ((field, expected), (_, given)) in self.expected.fields().iter().zip(self.given.fields()) {
             if *expected != given {
@@ -36,9 +36,8 @@ impl fmt::Display for Difference {
 }
 
 /// The fields of a record that are not zero.
-fn record(device: &Device) -> String {
-    let zero = Device::BLANK.fields();
-    let fields = device.fields().into_iter().zip(zero).filter(|(field, zero)| field != zero);
+fn record<T: Fields>(record: &T, zero: &T) -> String {
+    let fields = record.fields().into_iter().zip(zero.fields()).filter(|(field, zero)| field != zero);
     let said: Vec<String> = fields.map(|((name, value), _)| format!("{name} = {value}")).collect();
     if said.is_empty() { "of zeros".to_string() } else { said.join(", ") }
 }
@@ -81,10 +80,24 @@ fn call(act: &Act) -> String {
         Act::ReadReply { command: c, line } => {
             format!("pj_read_reply(code {} {} {}, {})", c.code, c.first, c.second, quoted(line))
         }
+        Act::Panel(call) => panel_call(call),
         Act::CompareLamps { earlier, later, lent } => {
             format!("pj_compare_lamps({earlier:?}, {later:?}, {} places)", lent.len())
         }
         Act::CheckDay { day, rigs } => format!("pj_check_day({day:?}, rigs {rigs:?})"),
         Act::PlanDay { day, lent } => format!("pj_plan_day({day:?}, {})", memory(lent)),
     }
+}
+
+fn panel_call(call: &PanelCall) -> String {
+    let said = match &call.act {
+        PanelAct::None => return "pj_panel_none()".to_string(),
+        PanelAct::Add { password } => format!("pj_panel_add({})", quoted(password)),
+        PanelAct::Command { projector, command: c, lent } => {
+            format!("pj_panel_command({projector}, code {} {} {}, {})", c.code, c.first, c.second, memory(lent))
+        }
+        PanelAct::Line { projector, line } => format!("pj_panel_line({projector}, {})", quoted(line)),
+        PanelAct::Lost { projector } => format!("pj_panel_lost({projector})"),
+    };
+    format!("{said}, lent the panel {}", record(&call.panel, &Panel::NONE))
 }

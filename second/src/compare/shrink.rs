@@ -1,6 +1,6 @@
 //! From a case on which the two programs differ to the smallest that still shows it.
 
-use super::{Case, days, forms, tables};
+use super::{Case, days, forms, panel_shrink, tables};
 use crate::face::wire::Wire;
 use crate::face::{Act, Command, Device, Lent};
 use crate::reference::form;
@@ -28,7 +28,7 @@ impl Smaller for Case {
     /// Fewer calls first, then a simpler record to start from, then simpler calls.
     fn smaller(&self) -> impl Iterator<Item = Case> {
         let fewer = shorter(&self.acts).filter(|acts| !acts.is_empty()).map(|acts| Case { start: self.start, acts });
-        let records = zeroed(&self.start).chain(plainer_records(&self.start));
+        let records = zeroed(&self.start, &[360, 72, 36, 8, 4, 1]).chain(plainer_records(&self.start));
         let simpler_acts = (0..self.acts.len()).flat_map(move |place| {
             simpler(&self.acts[place]).into_iter().map(move |act| {
                 let mut acts = self.acts.clone();
@@ -57,16 +57,16 @@ fn stretches(length: usize, mut sizes: Vec<usize>) -> impl Iterator<Item = (usiz
     sizes.flat_map(move |size| (0..length).step_by(size).map(move |first| (first, (first + size).min(length))))
 }
 
-/// The record with a stretch of its fields set to zero: all, the texts, one text, part of one, a count, a number, a
-/// byte.
-fn zeroed(device: &Device) -> impl Iterator<Item = Device> {
+/// The record with a stretch of its fields set to zero: all of it, then of these sizes. Of a device they are the texts,
+/// one text, part of one, a count, a number, a byte.
+pub fn zeroed<T: Wire>(record: &T, sizes: &[usize]) -> impl Iterator<Item = T> {
     let mut bytes = Vec::new();
-    device.put(&mut bytes);
+    record.put(&mut bytes);
     let length = bytes.len();
-    stretches(length, vec![length, 360, 72, 36, 8, 4, 1]).filter_map(move |(first, end)| {
+    stretches(length, [&[length], sizes].concat()).filter_map(move |(first, end)| {
         let mut fewer = bytes.clone();
         fewer[first..end].fill(0);
-        (fewer != bytes).then(|| Device::get(&mut fewer.as_slice()))
+        (fewer != bytes).then(|| T::get(&mut fewer.as_slice()))
     })
 }
 
@@ -157,6 +157,7 @@ fn simpler(act: &Act) -> Vec<Act> {
             let commands = simpler_commands(*command).map(|command| Act::ReadReply { command, line: line.clone() });
             commands.chain(simpler_bytes(line).map(|line| Act::ReadReply { command: *command, line })).collect()
         }
+        Act::Panel(call) => panel_shrink::simpler(call).into_iter().map(|call| Act::Panel(Box::new(call))).collect(),
         Act::CompareLamps { earlier, later, lent } => tables::simpler(earlier, later, lent),
         Act::CheckDay { day, rigs } => {
             days::simpler(day, rigs).into_iter().map(|(day, rigs)| Act::CheckDay { day, rigs }).collect()
@@ -196,13 +197,13 @@ fn simpler_forms(bytes: &[u8]) -> Vec<Vec<u8>> {
     }
 }
 
-fn simpler_commands(command: Command) -> impl Iterator<Item = Command> {
+pub fn simpler_commands(command: Command) -> impl Iterator<Item = Command> {
     let plainer = [Command { first: 0, ..command }, Command { second: 0, ..command }, Command { code: 0, ..command }];
     plainer.into_iter().filter(move |&plainer| plainer != command)
 }
 
 /// Shorter ones, then ones with a stretch of plain bytes, then upper case.
-fn simpler_bytes(bytes: &[u8]) -> impl Iterator<Item = Vec<u8>> {
+pub fn simpler_bytes(bytes: &[u8]) -> impl Iterator<Item = Vec<u8>> {
     let plainer = halves(bytes.len()).map(|(first, end)| {
         let mut plainer = bytes.to_vec();
         plainer[first..end].fill(b'0');
@@ -213,7 +214,7 @@ fn simpler_bytes(bytes: &[u8]) -> impl Iterator<Item = Vec<u8>> {
 }
 
 /// Memory of zeros, as long as before or just long enough.
-fn memories(lent: &[u8]) -> impl Iterator<Item = Vec<u8>> {
+pub fn memories(lent: &[u8]) -> impl Iterator<Item = Vec<u8>> {
     let lengths = [0, 136, 168, lent.len()].into_iter().filter(|&length| length <= lent.len());
     lengths.map(|length| vec![0; length]).filter(move |simpler| simpler != lent)
 }

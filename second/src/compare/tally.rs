@@ -1,7 +1,7 @@
 //! What a run met: how often each call gave each number, and each kind of reply or reading. A comparison that only ever
 //! saw refusals would say nothing.
 
-use crate::face::{Act, Answer};
+use crate::face::{Act, Answer, Panel, PanelAct, PanelCall};
 use std::collections::BTreeMap;
 use std::fmt;
 
@@ -53,6 +53,13 @@ fn call(act: &Act) -> &'static str {
         Act::Write { .. } => "pj_write",
         Act::ReadGreeting { .. } => "pj_read_greeting",
         Act::ReadReply { .. } => "pj_read_reply",
+        Act::Panel(call) => match call.act {
+            PanelAct::None => "pj_panel_none",
+            PanelAct::Add { .. } => "pj_panel_add",
+            PanelAct::Command { .. } => "pj_panel_command",
+            PanelAct::Line { .. } => "pj_panel_line",
+            PanelAct::Lost { .. } => "pj_panel_lost",
+        },
         Act::CompareLamps { .. } => "pj_compare_lamps",
         Act::CheckDay { .. } => "pj_check_day",
         Act::PlanDay { .. } => "pj_plan_day",
@@ -72,9 +79,34 @@ fn kind(act: &Act, answer: &Answer) -> String {
         Answer::Written(written, _) => refusal_or(written.number, &format!("{} bytes", written.length)),
         Answer::Greeting(greeting) => refusal_or(greeting.number, &format!("kind {}", greeting.kind)),
         Answer::Reading(reading) => refusal_or(reading.number, &format!("kind {}", reading.kind)),
+        Answer::PanelChanged(changed) if changed.number == 0 => panel_kind(act, &changed.panel).to_string(),
+        Answer::PanelChanged(changed) => refusal_or(changed.number, ""),
+        Answer::PanelSent(sent, _) => refusal_or(sent.number, if sent.length > LED { "led" } else { "not led" }),
         Answer::Compared(compared, _) => refusal_or(compared.number, if compared.backwards { "back" } else { "none" }),
         Answer::Verdict(verdict) => refusal_or(verdict.number, &format!("rule {}", verdict.rule)),
         Answer::Plan(plan, _) => refusal_or(plan.number, if plan.planned { "planned" } else { "unplanned" }),
+    }
+}
+
+/// A line of at least so many bytes is led by a digest.
+const LED: usize = 32;
+
+/// What a line did: greeted, ended the command, told what is now shown, or was a stray, and when.
+fn panel_kind(act: &Act, after: &Panel) -> &'static str {
+    let Act::Panel(call) = act else { return "served" };
+    let PanelCall { panel, act: PanelAct::Line { projector, .. } } = &**call else { return "served" };
+    let (before, after) = (&panel.entries[*projector], &after.entries[*projector]);
+    let readings = |entry: &crate::face::Entry| (entry.power, entry.input_type, entry.input_number, entry.hours);
+    match (before.greeting, after.greeting) {
+        _ if before == after => "not counted any more",
+        (0, 0) => "before the greeting",
+        (0, 1) => "PJLINK 0",
+        (0, _) => "PJLINK 1",
+        (_, 0) => "ERRA",
+        _ if !before.under_way => "late",
+        _ if after.under_way => "malformed or foreign",
+        _ if readings(before) != readings(after) => "shown",
+        _ => "ended",
     }
 }
 

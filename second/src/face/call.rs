@@ -1,7 +1,8 @@
 //! A call of the face with what it is lent, and all that it gives: the same two for both programs.
 
 use super::{
-    Changed, Command, Compared, Day, Device, Digest, Greeting, Opened, Plan, Reading, Received, Verdict, Written,
+    Changed, Command, Compared, Day, Device, Digest, Greeting, Opened, PanelCall, PanelChanged, PanelSent, Plan,
+    Reading, Received, Verdict, Written,
 };
 
 /// A call, all but the record that some of them are lent. `lent` is the reply memory with what it holds beforehand.
@@ -60,6 +61,7 @@ pub enum Act {
         command: Command,
         line: Vec<u8>,
     },
+    Panel(Box<PanelCall>),
     CompareLamps {
         earlier: Vec<u32>,
         later: Vec<u32>,
@@ -103,6 +105,8 @@ pub enum Answer {
     Written(Written, Vec<u8>),
     Greeting(Greeting),
     Reading(Reading),
+    PanelChanged(Box<PanelChanged>),
+    PanelSent(Box<PanelSent>, Vec<u8>),
     Compared(Compared, Vec<i64>),
     Verdict(Verdict),
     Plan(Plan, Vec<u8>),

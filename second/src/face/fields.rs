@@ -2,8 +2,8 @@
 
 use super::wire::Wire;
 use super::{
-    Answer, Changed, Command, Compared, Connection, Device, Digest, Greeting, Line, Opened, Own, Plan, Reading,
-    Received, Settings, Text, Verdict, Written,
+    Answer, Changed, Command, Compared, Connection, Device, Digest, Entry, Greeting, Line, Opened, Own, Panel,
+    PanelChanged, PanelSent, Plan, Reading, Received, Settings, Text, Verdict, Written,
 };
 
 /// A value's fields, as (path, value) in their order.
@@ -53,6 +53,13 @@ records! {
     Written { number, length }
     Greeting { number, kind, random }
     Reading { number, kind, first, second, count, hours, lit, inputs, text }
+    Entry {
+        password, greeting, random, led, under_way, command, power_known, input_known, lamps_known, power, input_type,
+        input_number, lamp_count, hours, lit, strays
+    }
+    Panel { count, entries }
+    PanelChanged { number, panel }
+    PanelSent { number, length, panel }
     Compared { number, backwards, place }
     Verdict { number, rule, first, second }
     Plan { number, planned, job }
@@ -89,6 +96,12 @@ impl Fields for [u32; 8] {
 impl Fields for [bool; 8] {
     fn list(&self, path: &str, into: &mut Vec<(String, String)>) {
         into.push((path.to_string(), format!("{self:?}")));
+    }
+}
+
+impl Fields for [Entry; 8] {
+    fn list(&self, path: &str, into: &mut Vec<(String, String)>) {
+        self.iter().enumerate().for_each(|(place, entry)| entry.list(&format!("{path}[{place}]"), into));
     }
 }
 
@@ -136,6 +149,11 @@ impl Fields for Answer {
             }
             Answer::Greeting(greeting) => greeting.list(path, into),
             Answer::Reading(reading) => reading.list(path, into),
+            Answer::PanelChanged(changed) => changed.list(path, into),
+            Answer::PanelSent(sent, memory) => {
+                sent.list(path, into);
+                lent(memory, into);
+            }
             Answer::Compared(compared, places) => {
                 compared.list(path, into);
                 into.push(("lent places".into(), format!("{places:?}")));

@@ -3,7 +3,7 @@
 use super::{
     Act, Answer, Changed, Command, Compared, Device, Digest, Greeting, Lent, Opened, Reading, Received, Side, Written,
 };
-use super::{days, swap};
+use super::{days, swap, workroom};
 
 #[link(name = "board", kind = "static")]
 unsafe extern "C" {
@@ -206,6 +206,7 @@ impl Side for Board {
             Act::HandOn { .. } => unreachable!("not one call"),
             Act::ReadGreeting { line } => Answer::Greeting(read_greeting(line)),
             Act::ReadReply { command, line } => Answer::Reading(read_reply(*command, line)),
+            Act::Panel(call) => workroom::answer(call),
             Act::CompareLamps { earlier, later, lent } => {
                 let mut out = lent.clone();
                 Answer::Compared(compare_lamps(earlier, later, &mut out), out)

@@ -5,10 +5,12 @@
 
 mod call;
 pub mod fields;
+mod panel;
 mod service;
 pub mod wire;
 
 pub use call::{Act, Answer, Lent, Side};
+pub use panel::{Entry, Panel, PanelAct, PanelCall, PanelChanged, PanelSent};
 pub use service::{Compared, Day, Plan, Verdict};
 
 #[cfg(board = "apart")]
@@ -24,6 +26,8 @@ pub mod linked;
 pub use linked::Board;
 #[cfg(board = "linked")]
 pub mod swap;
+#[cfg(board = "linked")]
+pub mod workroom;
 
 #[cfg(board = "missing")]
 mod missing;

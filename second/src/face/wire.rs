@@ -1,7 +1,7 @@
 //! How calls and answers go to a process and back: every field in its order, numbers with their lowest byte first, a
 //! `size_t` as eight bytes, a slice after its length. `host/host.c` is the other end.
 
-use super::{Act, Answer, Day, Lent};
+use super::{Act, Answer, Day, Lent, PanelAct, PanelCall};
 
 pub trait Wire {
     fn put(&self, out: &mut Vec<u8>);
@@ -151,6 +151,7 @@ pub fn put_act(act: &Act, out: &mut Vec<u8>) {
             command.put(out);
             line.put(out);
         }
+        Act::Panel(call) => put_panel_call(call, out),
         Act::CompareLamps { earlier, later, lent } => {
             13u8.put(out);
             earlier.put(out);
@@ -177,6 +178,33 @@ fn put_settings(lent: &Lent, out: &mut Vec<u8>) {
     lent.lamps.put(out);
     lent.warm.put(out);
     lent.cool.put(out);
+}
+
+/// The panel stands after the call's number; of none, nothing does.
+fn put_panel_call(call: &PanelCall, out: &mut Vec<u8>) {
+    let number: u8 = match call.act {
+        PanelAct::None => return 19u8.put(out),
+        PanelAct::Add { .. } => 20,
+        PanelAct::Command { .. } => 21,
+        PanelAct::Line { .. } => 22,
+        PanelAct::Lost { .. } => 23,
+    };
+    number.put(out);
+    call.panel.put(out);
+    match &call.act {
+        PanelAct::None => (),
+        PanelAct::Add { password } => password.put(out),
+        PanelAct::Command { projector, command, lent } => {
+            projector.put(out);
+            command.put(out);
+            lent.put(out);
+        }
+        PanelAct::Line { projector, line } => {
+            projector.put(out);
+            line.put(out);
+        }
+        PanelAct::Lost { projector } => projector.put(out),
+    }
 }
 
 fn put_day(day: &Day, out: &mut Vec<u8>) {
@@ -207,6 +235,10 @@ pub fn get_answer(act: &Act, from: &mut &[u8]) -> Answer {
         Act::Store { .. } | Act::Write { .. } => Answer::Written(Wire::get(from), Wire::get(from)),
         Act::ReadGreeting { .. } => Answer::Greeting(Wire::get(from)),
         Act::ReadReply { .. } => Answer::Reading(Wire::get(from)),
+        Act::Panel(call) if matches!(call.act, PanelAct::Command { .. }) => {
+            Answer::PanelSent(Box::new(Wire::get(from)), Wire::get(from))
+        }
+        Act::Panel(_) => Answer::PanelChanged(Box::new(Wire::get(from))),
         Act::CompareLamps { .. } => Answer::Compared(Wire::get(from), Wire::get(from)),
         Act::CheckDay { .. } => Answer::Verdict(Wire::get(from)),
         Act::PlanDay { .. } => Answer::Plan(Wire::get(from), Wire::get(from)),

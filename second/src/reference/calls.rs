@@ -10,7 +10,7 @@ use crate::face;
 
 /// "lent memory under 136 bytes (projector), 168 (controller writer)".
 const PROJECTOR_ROOM: usize = 136;
-const WRITER_ROOM: usize = 168;
+pub(super) const WRITER_ROOM: usize = 168;
 
 pub(super) const NOT_LEGAL: u32 = 1;
 pub(super) const ROOM_SHORT: u32 = 2;

@@ -1,7 +1,8 @@
 //! Document 01's rules and 02's changes, written plainly. Every rule has the document's words beside it.
 //!
-//! `calls` has the calls that a host makes, with the numbers they give; `swap` (L3), `service` (L10) and `days` (L12)
-//! those that 02 adds; the other files have what they mean, `utf8` what L2 says of names, `form` L3's bytes.
+//! `calls` has the calls that a host makes, with the numbers they give; `swap` (L3), `service` (L10), `days` (L12) and
+//! `panel` (L13) those that 02 adds; the other files have what they mean, `utf8` what L2 says of names, `form` L3's
+//! bytes.
 //! `rules` holds the deliberate mistakes that `second wrong` switches on, one at a time; none is on otherwise.
 
 pub mod calls;
@@ -13,6 +14,7 @@ pub mod days;
 pub mod flatten;
 pub mod form;
 pub mod md5;
+pub mod panel;
 pub mod record;
 pub mod replies;
 pub mod rules;

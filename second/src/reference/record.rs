@@ -59,7 +59,7 @@ impl Projector {
 }
 
 /// The part of an array that its count says is in use. "unused room is zero".
-fn part_in_use<T: Copy + Default + PartialEq>(room: &[T], count: usize, most: usize) -> Option<Vec<T>> {
+pub(super) fn part_in_use<T: Copy + Default + PartialEq>(room: &[T], count: usize, most: usize) -> Option<Vec<T>> {
     if count > most {
         return None;
     }
@@ -68,7 +68,7 @@ fn part_in_use<T: Copy + Default + PartialEq>(room: &[T], count: usize, most: us
     clean.then(|| used.to_vec())
 }
 
-fn read_text(text: &face::Text) -> Option<Vec<u8>> {
+pub(super) fn read_text(text: &face::Text) -> Option<Vec<u8>> {
     part_in_use(&text.bytes, text.len, LONGEST_NAME)
 }
 
@@ -131,7 +131,7 @@ fn read_line(line: &face::Line, longest: usize) -> Option<Line> {
     }
 }
 
-fn write_text(bytes: &[u8], text: &mut face::Text) {
+pub(super) fn write_text(bytes: &[u8], text: &mut face::Text) {
     text.len = bytes.len();
     text.bytes[..bytes.len()].copy_from_slice(bytes);
 }

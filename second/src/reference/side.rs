@@ -1,7 +1,7 @@
 //! The second program as one of the two that are compared.
 
-use super::{calls, days, service, swap};
-use crate::face::{Act, Answer, Device, Side};
+use super::{calls, days, panel, service, swap};
+use crate::face::{Act, Answer, Device, PanelAct, PanelCall, Side};
 
 pub struct Second;
 
@@ -40,6 +40,7 @@ impl Side for Second {
             Act::HandOn { .. } => unreachable!("not one call"),
             Act::ReadGreeting { line } => Answer::Greeting(calls::read_greeting(line)),
             Act::ReadReply { command, line } => Answer::Reading(calls::read_reply(*command, line)),
+            Act::Panel(call) => on_panel(call),
             Act::CompareLamps { earlier, later, lent } => {
                 let mut out = lent.clone();
                 Answer::Compared(service::compare_lamps(earlier, later, &mut out), out)
@@ -51,4 +52,20 @@ impl Side for Second {
             }
         }
     }
+}
+
+fn on_panel(call: &PanelCall) -> Answer {
+    let panel = &call.panel;
+    let changed = match &call.act {
+        PanelAct::None => panel::calls::none(),
+        PanelAct::Add { password } => panel::calls::add(panel, password),
+        PanelAct::Command { projector, command, lent } => {
+            let mut out = lent.clone();
+            let sent = panel::calls::command(panel, *projector, *command, &mut out);
+            return Answer::PanelSent(Box::new(sent), out);
+        }
+        PanelAct::Line { projector, line } => panel::calls::line(panel, *projector, line),
+        PanelAct::Lost { projector } => panel::calls::lost(panel, *projector),
+    };
+    Answer::PanelChanged(Box::new(changed))
 }
