@@ -23,8 +23,8 @@
 #include <stdint.h>
 
 /* The version of this face. It moves with each landing that moves a struct or a call; docs/landings/README.md says what
-   moved. A host that was written for one version can ask for it: #if CEILING_FACE != 6 .. #error. */
-#define CEILING_FACE 6
+   moved. A host that was written for one version can ask for it: #if CEILING_FACE != 7 .. #error. */
+#define CEILING_FACE 7
 
 /* What stands before a call whose result has the record in it: a compiler warns where such a result is dropped. */
 #if defined(__cplusplus) && __cplusplus >= 201703L || defined(__STDC_VERSION__) && __STDC_VERSION__ >= 202311L

@@ -8,4 +8,8 @@ pub mod Refusals
 pub mod OneResult
 pub mod ShownLegal
 pub mod PanelsLegal
+pub mod ReadingsShown
+pub mod DigestLeads
+pub mod Unused
 pub mod LinesSent
+pub mod Examples

@@ -4,4 +4,5 @@ pub mod Stepping
 pub mod LegalPanels
 pub mod PanelCalls
 pub mod StepTable
+pub mod Talks
 pub mod Computing

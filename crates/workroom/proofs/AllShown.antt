@@ -22,7 +22,8 @@ use Rattle.clock.proofs.ConnectionsAge.{connection-then}
 use Rattle.clock.proofs.InOneGo.{parts-pass}
 use Rattle.clock.proofs.TimeLegal.{passed-legal}
 use Rattle.device.specs.Calls.{isShut}
-use Rattle.panel.specs.Entries.{Talk, Shown, talkOf, shownOf, passwordIn, showing}
+use Rattle.panel.specs.Entries.{Talk, Shown, talkOf, shownOf, passwordIn}
+use Rattle.panel.specs.Showing.{showing}
 use Rattle.panel.specs.LegalPanels.{isPanel}
 use Rattle.panel.specs.PanelCalls.{entryAt}
 use Rattle.panel.specs.declared.types.Entry.{Entry}
@@ -30,7 +31,8 @@ use Rattle.panel.specs.declared.types.Panel.{Panel}
 use Rattle.panel.proofs.OnlyItsEntry.{OnlyAt, step-touches-its-entry, command-touches-its-entry}
 use Rattle.panel.proofs.PanelsLegal.{commanded-stays-legal, stepped-stays-legal}
 use Rattle.workroom.specs.AnyPanel.{oursPanel}
-use Rattle.workroom.specs.Workroom.{Workroom, roomOf, Happens, connects, asks, waits, asks-another, hears-another}
+use Rattle.workroom.specs.Workroom.{Workroom, roomOf}
+use Rattle.workroom.specs.Workroom.{RoomMove, connects, asks, waits, asks-another, hears-another}
 use Rattle.workroom.specs.Workroom.{happened, allHappened}
 use Rattle.workroom.specs.MeantThrough.{saidAt, ownAt, shownThrough, ownThrough}
 use Rattle.workroom.specs.ShowsWhatWasMeant.{Fit, both-open, both-secured, ourEntry, Joined, KeptUp, AllKeptUp}
@@ -118,7 +120,7 @@ module _ (i : ℕ) (w : Workroom) (j : Joined i w) where
         };
       }
 
-  pub shown-then : (h : Happens) → KeptUp i w h
+  pub shown-then : (h : RoomMove) → KeptUp i w h
       → ShownAs i w (showing (shownOf entry) (saidAt (device .settings) (device .own) h))
       (ownAt (device .settings) (device .own) h) (happened oursPanel i w h)
   shown-then (connects random back) kept =
@@ -134,10 +136,10 @@ module _ (i : ℕ) (w : Workroom) (j : Joined i w) where
 
 -- one after the other
 module _ (i : ℕ) where
-  abbrev Through : Workroom → Settings → Own → Shown → List Happens → Workroom → Type 0
+  abbrev Through : Workroom → Settings → Own → Shown → List RoomMove → Workroom → Type 0
   Through w s o v hs x = ShownAs i w (shownThrough s o v hs) (ownThrough s o hs) x
 
-  pub all-shown : (w : Workroom) (hs : List Happens) → Joined i w → AllKeptUp i oursPanel w hs
+  pub all-shown : (w : Workroom) (hs : List RoomMove) → Joined i w → AllKeptUp i oursPanel w hs
       → Through w (w .device .settings) (w .device .own) (shownOf (ourEntry i w)) hs (allHappened oursPanel i w hs)
   all-shown w [] j kept = as-it-was i w j
   all-shown w (h ∷ hs) j kept =

@@ -26,7 +26,8 @@ use Rattle.codes.specs.Commands.{commandOf}
 use Rattle.codes.specs.declared.command.Coded.{Coded}
 use Rattle.codes.specs.declared.command.MaybeCommand.{MaybeCommand}
 use Rattle.codes.specs.declared.command.MaybeCommand.the-variants.{CommandIs, NoCommand}
-use Rattle.panel.specs.Entries.{talkOf, shownOf, passwordIn, isSecuredTalk, leadsNext, showing}
+use Rattle.panel.specs.Entries.{talkOf, shownOf, passwordIn, isSecuredTalk, leadsNext}
+use Rattle.panel.specs.Showing.{showing}
 use Rattle.panel.specs.Stepping.{answeredEntry, sentEntry, heardLine}
 use Rattle.panel.specs.LegalPanels.{isNamed}
 use Rattle.panel.specs.StepTable.{UnderWay, answers}

@@ -17,7 +17,8 @@ use Rattle.record.specs.declared.types.Device.{Device}
 use Rattle.device.specs.Receiving.{begunIn}
 use Rattle.device.specs.Calls.{withParts}
 use Rattle.codes.specs.Commands.{codeOf}
-use Rattle.panel.specs.Entries.{Talk, entryOf, greetedOpen, greetedBy, sentOn, nothingShown, withPowerShown, blankEntry}
+use Rattle.panel.specs.Entries.{Talk, entryOf, greetedOpen, greetedBy, sentOn, nothingShown, blankEntry}
+use Rattle.panel.specs.Showing.{withPowerShown}
 use Rattle.panel.specs.StepTable.{UnderWay}
 use Rattle.panel.specs.PanelCalls.{entryAt}
 use Rattle.panel.specs.declared.types.Entry.{Entry}

@@ -16,7 +16,7 @@ use Rattle.clock.proofs.InOneGo.{parts-pass}
 use Rattle.clock.proofs.Untouched.{passed-leaves}
 use Rattle.device.specs.Calls.{isShut}
 use Rattle.workroom.specs.AnyPanel.{oursPanel}
-use Rattle.workroom.specs.Workroom.{Workroom, Happens, connects, asks, waits, asks-another, hears-another}
+use Rattle.workroom.specs.Workroom.{Workroom, RoomMove, connects, asks, waits, asks-another, hears-another}
 use Rattle.workroom.specs.Workroom.{happened}
 use Rattle.workroom.specs.ShowsWhatWasMeant.{Joined, KeptUp, AllKeptUp}
 use Rattle.workroom.specs.ShowsWhatWasMeant.{IsOther, AllOther}
@@ -33,21 +33,21 @@ module _ (i : ℕ) where
       → passed (w .device) n .device .connection ≡ w .device .connection
   open-waits w n stands = passed-leaves (w .device) n .connection (ap isTimed stands)
 
-  open-kept-up : (w : Workroom) (h : Happens) → phase w ≡ opened → IsOther i h → KeptUp i w h
+  open-kept-up : (w : Workroom) (h : RoomMove) → phase w ≡ opened → IsOther i h → KeptUp i w h
   open-kept-up w (connects random back) stands other = tt
   open-kept-up w (asks k there back) stands other = tt
   open-kept-up w (waits n) stands other = ap isShut (open-waits w n stands) ∙ ap (λ (p : ℕ). eqb p shut) stands
   open-kept-up w (asks-another k c) stands other = other
   open-kept-up w (hears-another k l) stands other = other
 
-  still-open : (w : Workroom) (h : Happens) → Joined i w → phase w ≡ opened → phase (happened oursPanel i w h) ≡ opened
+  still-open : (w : Workroom) (h : RoomMove) → Joined i w → phase w ≡ opened → phase (happened oursPanel i w h) ≡ opened
   still-open w (connects random back) j stands = ap phase (stays-connected i w j random back) ∙ stands
   still-open w (asks k there back) j stands = open-asked i w j k there back stands
   still-open w (waits n) j stands = ap (λ (c : Connection). c .phase) (open-waits w n stands) ∙ stands
   still-open w (asks-another k c) j stands = stands
   still-open w (hears-another k l) j stands = stands
 
-  pub open-throughout : (w : Workroom) (hs : List Happens) → Joined i w → phase w ≡ opened → AllOther i hs
+  pub open-throughout : (w : Workroom) (hs : List RoomMove) → Joined i w → phase w ≡ opened → AllOther i hs
       → AllKeptUp i oursPanel w hs
   open-throughout w [] j stands others = tt
   open-throughout w (h ∷ hs) j stands others =

@@ -16,8 +16,9 @@ use Rattle.meaning.specs.Meaning.{meant, done}
 use Rattle.codes.specs.Commands.{commandOf}
 use Rattle.codes.specs.declared.command.MaybeCommand.{MaybeCommand}
 use Rattle.codes.specs.declared.command.MaybeCommand.the-variants.{CommandIs, NoCommand}
-use Rattle.panel.specs.Entries.{Shown, showing}
-use Rattle.workroom.specs.Workroom.{Happens, connects, asks, waits, asks-another, hears-another}
+use Rattle.panel.specs.Entries.{Shown}
+use Rattle.panel.specs.Showing.{showing}
+use Rattle.workroom.specs.Workroom.{RoomMove, connects, asks, waits, asks-another, hears-another}
 
 module _ (s : Settings) where
   -- a code that stands for no command is refused by the panel
@@ -29,24 +30,24 @@ module _ (s : Settings) where
   doneFor o (CommandIs c) = done s o (Asks c)
   doneFor o NoCommand = o
 
-  abbrev pub saidAt : Own → Happens → Said
+  abbrev pub saidAt : Own → RoomMove → Said
   saidAt o (asks k there back) = saidTo o (commandOf k)
   saidAt o (connects random back) = nothing
   saidAt o (waits n) = nothing
   saidAt o (asks-another j k) = nothing
   saidAt o (hears-another j l) = nothing
 
-  abbrev pub ownAt : Own → Happens → Own
+  abbrev pub ownAt : Own → RoomMove → Own
   ownAt o (asks k there back) = doneFor o (commandOf k)
   ownAt o (waits n) = times (ownSecond s) n o
   ownAt o (connects random back) = o
   ownAt o (asks-another j k) = o
   ownAt o (hears-another j l) = o
 
-  abbrev pub shownThrough : Own → Shown → List Happens → Shown
+  abbrev pub shownThrough : Own → Shown → List RoomMove → Shown
   shownThrough o v [] = v
   shownThrough o v (h ∷ hs) = shownThrough (ownAt o h) (showing v (saidAt o h)) hs
 
-  abbrev pub ownThrough : Own → List Happens → Own
+  abbrev pub ownThrough : Own → List RoomMove → Own
   ownThrough o [] = o
   ownThrough o (h ∷ hs) = ownThrough (ownAt o h) hs

@@ -2,7 +2,7 @@
 -- has, whatever line comes. Which lines are late, foreign or malformed is `Stray` of panel/specs/StepTable, by the
 -- reader's own numbers; what a line says is what the controller's readers take from it.
 -- TO BELIEVE IT, believe, and nothing else: the readers (controller/specs: Reading, Greetings), the codes
--- (codes/specs/Commands), an entry's parts and what is shown (panel/specs/Entries), `UnderWay` and `Stray`
+-- (codes/specs/Commands), an entry's parts and what is shown (panel/specs: Entries, Showing), `UnderWay` and `Stray`
 -- (panel/specs/StepTable), a legal panel (panel/specs/LegalPanels); here AnyPanel.
 --   Served p i         the panel is legal and has the projector i
 --   OnlyCounted e f    e and f differ in the count of strays alone, which is one more, or has stopped
@@ -23,7 +23,8 @@ use Rattle.controller.specs.Greetings.{readGreeting}
 use Rattle.controller.specs.Reading.{meaning, readReply}
 use Rattle.controller.specs.declared.greeting.Greeting.the-variants.{Open, Secured}
 use Rattle.panel.specs.Entries.{Talk, Shown, talkOf, shownOf, ungreeted, greetedOpen, greetedSecured, greetedBy, noTalk}
-use Rattle.panel.specs.Entries.{restedOn, nothingShown, showing}
+use Rattle.panel.specs.Entries.{restedOn, nothingShown}
+use Rattle.panel.specs.Showing.{showing}
 use Rattle.panel.specs.LegalPanels.{isPanel}
 use Rattle.panel.specs.StepTable.{UnderWay, Stray}
 use Rattle.panel.specs.PanelCalls.{entryAt}

@@ -5,7 +5,7 @@
 -- `meaning` and `clock` make of the same commands and seconds.
 -- TO BELIEVE IT, believe, and nothing else: what is meant and done (meaning/specs), what a second does (clock/specs/
 -- Second), the codes of the commands (codes/specs/Commands), what is shown of what was said (`showing` of
--- panel/specs/Entries), the records (record/specs, panel/specs: Entries, LegalPanels), a stream in cuts
+-- panel/specs/Showing), the records (record/specs, panel/specs: Entries, LegalPanels), a stream in cuts
 -- (stream/specs/Machine), the device's calls (device/specs/Calls) as demand 2 has them; here AnyPanel, Workroom and
 -- MeantThrough.
 --   Acquainted i w     a legal panel that has the projector i, a legal device, one password
@@ -35,13 +35,14 @@ use Rattle.device.specs.Calls.{isShut}
 use Rattle.codes.specs.Commands.{commandOf}
 use Rattle.codes.specs.declared.command.Coded.{Coded}
 use Rattle.panel.specs.Entries.{Talk, Shown, talkOf, shownOf, passwordIn, ungreeted, leadsNext, nothingShown}
-use Rattle.panel.specs.Entries.{showing}
+use Rattle.panel.specs.Showing.{showing}
 use Rattle.panel.specs.LegalPanels.{isNamed, isPanel}
 use Rattle.panel.specs.PanelCalls.{entryAt}
 use Rattle.panel.specs.declared.types.Entry.{Entry}
 use Rattle.panel.specs.declared.types.Panel.{Panel}
 use Rattle.workroom.specs.AnyPanel.{AnyPanel}
-use Rattle.workroom.specs.Workroom.{Workroom, roomOf, Happens, connects, asks, waits, asks-another, hears-another}
+use Rattle.workroom.specs.Workroom.{Workroom, roomOf}
+use Rattle.workroom.specs.Workroom.{RoomMove, connects, asks, waits, asks-another, hears-another}
 use Rattle.workroom.specs.Workroom.{happened, allHappened, parted}
 use Rattle.workroom.specs.MeantThrough.{saidAt, ownAt, shownThrough, ownThrough}
 
@@ -71,26 +72,26 @@ module _ (i : ℕ) where
     pub rests : ourEntry w .«under_way» ≡ false
     pub fit : Fit (talkOf (ourEntry w)) (w .device .connection)
 
-  abbrev pub KeptUp : Workroom → Happens → Type 0
+  abbrev pub KeptUp : Workroom → RoomMove → Type 0
   KeptUp w (connects random back) = Unit {0}
   KeptUp w (asks k there back) = Unit {0}
   KeptUp w (waits n) = isShut (passed (w .device) n .device .connection) ≡ false
   KeptUp w (asks-another j k) = j ≡ i → ⊥
   KeptUp w (hears-another j l) = j ≡ i → ⊥
 
-  abbrev pub AllKeptUp : AnyPanel → Workroom → List Happens → Type 0
+  abbrev pub AllKeptUp : AnyPanel → Workroom → List RoomMove → Type 0
   AllKeptUp P w [] = Unit {0}
   AllKeptUp P w (h ∷ hs) = KeptUp w h × AllKeptUp P (happened P i w h) hs
 
   -- the same of what is called another alone
-  abbrev pub IsOther : Happens → Type 0
+  abbrev pub IsOther : RoomMove → Type 0
   IsOther (connects random back) = Unit {0}
   IsOther (asks k there back) = Unit {0}
   IsOther (waits n) = Unit {0}
   IsOther (asks-another j k) = j ≡ i → ⊥
   IsOther (hears-another j l) = j ≡ i → ⊥
 
-  abbrev pub AllOther : List Happens → Type 0
+  abbrev pub AllOther : List RoomMove → Type 0
   AllOther [] = Unit {0}
   AllOther (h ∷ hs) = IsOther h × AllOther hs
 
@@ -122,18 +123,18 @@ pub record ShowsWhatWasMeant (P : AnyPanel) : Type 0 where
   pub joins : (i : ℕ) (w : Workroom) (random : ℕ) (back : List ℕ) → Apart i w → random < 2 ^ 32
       → ShownAs i w (shownOf (ourEntry i w)) (w .device .own) (happened P i w (connects random back))
   -- "after each accepted reply": every reply of the device is accepted, shows what was meant, and ends its command
-  pub shows : (i : ℕ) (w : Workroom) (h : Happens) → Joined i w → KeptUp i w h
+  pub shows : (i : ℕ) (w : Workroom) (h : RoomMove) → Joined i w → KeptUp i w h
       → let s = w .device .settings in
       let o = w .device .own in
       ShownAs i w (showing (shownOf (ourEntry i w)) (saidAt s o h)) (ownAt s o h) (happened P i w h)
   -- and so over all that happens
-  pub shows-through : (i : ℕ) (w : Workroom) (hs : List Happens) → Joined i w → AllKeptUp i P w hs
+  pub shows-through : (i : ℕ) (w : Workroom) (hs : List RoomMove) → Joined i w → AllKeptUp i P w hs
       → let s = w .device .settings in
       let o = w .device .own in
       ShownAs i w (shownThrough s o (shownOf (ourEntry i w)) hs) (ownThrough s o hs) (allHappened P i w hs)
   -- a connection that is open, as it is once anything was asked on it, never closes of age: then the commands and the
   -- seconds may be any
-  pub stays-open : (i : ℕ) (w : Workroom) (hs : List Happens) → Joined i w → w .device .connection .phase ≡ opened
+  pub stays-open : (i : ℕ) (w : Workroom) (hs : List RoomMove) → Joined i w → w .device .connection .phase ≡ opened
       → AllOther i hs
       → AllKeptUp i P w hs
   pub asking-opens : (i : ℕ) (w : Workroom) (k : Coded) (there back : List ℕ) → Joined i w

@@ -38,12 +38,12 @@ pub record Workroom : Type 0 where
 abbrev pub roomOf : Panel → Device → Workroom
 roomOf p d = record { panel = p; device = d }
 
-pub data Happens : Type 0 where
-  connects : (random : ℕ) (back : List ℕ) → Happens
-  asks : (k : Coded) (there back : List ℕ) → Happens
-  waits : (seconds : ℕ) → Happens
-  asks-another : (j : ℕ) (k : Coded) → Happens
-  hears-another : (j : ℕ) (l : List ℕ) → Happens
+pub data RoomMove : Type 0 where
+  connects : (random : ℕ) (back : List ℕ) → RoomMove
+  asks : (k : Coded) (there back : List ℕ) → RoomMove
+  waits : (seconds : ℕ) → RoomMove
+  asks-another : (j : ℕ) (k : Coded) → RoomMove
+  hears-another : (j : ℕ) (l : List ℕ) → RoomMove
 
 -- receiving, with room for every reply
 abbrev pub tookAs : Result Device → Took Device
@@ -69,14 +69,14 @@ module _ (P : AnyPanel) (i : ℕ) where
   abbrev pub connectedAs : Panel → List ℕ → Result Device → Workroom
   connectedAs p back r = roomOf (delivered p back (r .reply)) (r .device)
 
-  abbrev pub happened : Workroom → Happens → Workroom
+  abbrev pub happened : Workroom → RoomMove → Workroom
   happened w (connects random back) = connectedAs (w .panel) back (openedBy (w .device) random replyRoom)
   happened w (asks k there back) = askedAs (P .command (w .panel) i k commandRoom) (w .device) there back
   happened w (waits n) = roomOf (w .panel) (passed (w .device) n .device)
   happened w (asks-another j k) = roomOf (P .command (w .panel) j k commandRoom .panel) (w .device)
   happened w (hears-another j l) = roomOf (P .hear (w .panel) j l .panel) (w .device)
 
-  abbrev pub allHappened : Workroom → List Happens → Workroom
+  abbrev pub allHappened : Workroom → List RoomMove → Workroom
   allHappened w [] = w
   allHappened w (h ∷ hs) = allHappened (happened w h) hs
 

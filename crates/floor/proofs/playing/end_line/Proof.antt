@@ -52,7 +52,8 @@ may-print c κs =
 returns : tie.Need-returns
 returns c =
     let called = c .before .before in
-    let least = called .before .before .before .before in
+    let printed = called .before .before in
+    let least = printed .before .before in
     let said = least .before .before .before in
     let a = start said .args in
     let from = least .least .result in

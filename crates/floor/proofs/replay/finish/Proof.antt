@@ -38,7 +38,8 @@ tells : tie.Need-returns-2
 unfolding endedAt
 tells c =
     let called = let known = c .before .before .before in known .before .before in
-    let accepted = called .before .before .before .before in
+    let lent = called .before .before in
+    let accepted = lent .before .before in
     let asked = accepted .before in
     let closed = called .close-and-tell .ensures in
     let made : _≡_ {A = Stepped} _ _ = λ i. record {

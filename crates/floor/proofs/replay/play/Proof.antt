@@ -47,7 +47,8 @@ plays : tie.Need-returns-2
 unfolding stepped
 plays c =
     let called = let known = c .before .before .before in known .before .before in
-    let accepted = called .before .before .before .before in
+    let lent = called .before .before in
+    let accepted = lent .before .before in
     let asked = accepted .before in
     let played = called .play-on .ensures in
     let told : _≡_ {A = Stepped} _ _ = λ i. record {
