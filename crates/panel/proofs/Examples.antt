@@ -1,14 +1,17 @@
 -- Lines that 02's sentences leave to be read (docs/DECISIONS.md), each a stray: the ERRA line before a greeting, the
 -- ERRA line and a second greeting with no command under way, and a second greeting with one.
 -- Assumes nothing.
-use Prim.Native.Nat.{ℕ}
+use Prim.Native.Nat.{ℕ, _-_}
 use mathlib.Core.Path.{_≡_, refl, ap}
-use mathlib.Core.Bool.{false}
+use mathlib.Core.Bool.{Bool, true, false, _&&_}
 use mathlib.Core.List.{List}
-use Rattle.text.specs.Words.{ascii}
+use lib.ListN.{length}
+use lib.Dec.{leb}
+use Rattle.text.specs.Words.{_is_}
 use Rattle.text.specs.Scans.{sameBy, itself}
 use Rattle.lines.specs.Computing.{computing as lines}
-use Rattle.lines.specs.Forms.{erraLine, greetingOpen, isReplyForm}
+use Rattle.lines.specs.Bytes.{_at_, noCr}
+use Rattle.lines.specs.Forms.{erraLine, greetingOpen, greetingSecured, replyMost, isReplyForm, replyParameter}
 use Rattle.lines.specs.declared.command.Command.{Command}
 use Rattle.controller.specs.Reading.{ReadAs, outcomeNumber}
 use Rattle.controller.proofs.Cases.{reply-unformed, greeting-refused}
@@ -17,6 +20,11 @@ use Rattle.panel.specs.Stepping.{strayed, heardLine}
 use Rattle.panel.specs.StepTable.{isGreeting, UnderWay, ungreeted-malformed, malformed}
 use Rattle.panel.specs.declared.types.Entry.{Entry}
 use Rattle.panel.proofs.StepsByTable.{stray-steps, step-late}
+
+-- a line that is not headed is no reply, whatever its length and its end
+unheaded : (long ends plain : Bool) → (long && false && ends && plain) ≡ false
+unheaded true ends plain = refl
+unheaded false ends plain = refl
 
 module _ (e : Entry) where
   pub erra-before-greeting : e .greeting ≡ ungreeted → heardLine e erraLine ≡ strayed e
@@ -42,6 +50,10 @@ module _ (e : Entry) where
     unfolding lines
     greeting-malformed = unformed-strays greetingOpen refl refl
 
-    pub secured-greeting-malformed : heardLine e (ascii "PJLINK 1 498e4a67\r") ≡ strayed e
+    -- whatever its random number
+    pub secured-greeting-malformed : (digits : List ℕ) → heardLine e (greetingSecured digits) ≡ strayed e
     unfolding lines
-    secured-greeting-malformed = unformed-strays (ascii "PJLINK 1 498e4a67\r") refl refl
+    secured-greeting-malformed digits =
+        let l = greetingSecured digits in
+        unformed-strays l refl
+        (unheaded (leb 8 (length l) && leb (length l) replyMost) (l at (length l - 1) is "\r") (noCr (replyParameter l)))
