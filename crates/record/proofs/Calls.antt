@@ -11,7 +11,7 @@ use borrow.Author.Tests.{not-false}
 use Rattle.text.proofs.Choices.{if-by, both, both-left, both-right}
 use Rattle.record.specs.Wanted.{Wanted}
 use Rattle.record.specs.Rules.{isLongEnough, isErrors}
-use Rattle.record.specs.Record.{closed, settingsOf, startOwn, started, blank, accepted, refused}
+use Rattle.record.specs.Record.{allClosed, settingsOf, startOwn, started, blank, accepted, refused}
 use Rattle.record.specs.Legal.{isLegal}
 use Rattle.record.specs.SetUp.{isInRange, isSetUp, setUp}
 use Rattle.record.specs.Updates.{withOwn, withFault, withErrors}
@@ -52,11 +52,12 @@ module _ (w : Wanted) where
   set-up-accepted h = rw (set-up-ranged h, set-up-long h)
 
   -- the started device, from its parts
-  pub set-up-made : {s : Settings} {o : Own} {c : Connection} → isSetUp w ≡ true → s ≡ settingsOf w
-      → o ≡ startOwn (w .lamps) → c ≡ closed → accepted (record { settings = s; own = o; connection = c }) ≡ setUp w
+  pub set-up-made : {s : Settings} {o : Own} {cs : List Connection} → isSetUp w ≡ true
+      → s ≡ settingsOf w → o ≡ startOwn (w .lamps) → cs ≡ allClosed
+      → accepted (record { settings = s; own = o; connections = cs }) ≡ setUp w
   unfolding started
   set-up-made h e f g =
-      (λ j. accepted (record { settings = e j; own = f j; connection = g j })) ∙ sym (set-up-accepted h)
+      (λ j. accepted (record { settings = e j; own = f j; connections = g j })) ∙ sym (set-up-accepted h)
 
   pub set-up-by : (P : Changed → Type 0) → P (refused 3 blank) → P (refused 8 blank)
       → (isSetUp w ≡ true → P (accepted (started w))) → P (setUp w)

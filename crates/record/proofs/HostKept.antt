@@ -10,14 +10,14 @@ use Rattle.record.specs.HostCalls.{faultSet, errorsSet}
 use Rattle.record.specs.declared.types.Own.{Own}
 use Rattle.record.specs.declared.types.Device.{Device}
 use Rattle.record.proofs.OwnTold.{OwnTold, own-shown}
-use Rattle.record.proofs.LegalTold.{legal-settings, legal-connection, own-of-legal, legal-by-parts}
+use Rattle.record.proofs.LegalTold.{legal-settings, legal-connections, own-of-legal, legal-by-parts}
 use Rattle.record.proofs.Calls.{fault-set-by, errors-set-by}
 
 module _ (d : Device) (h : isLegal d ≡ true) where
   -- another own part that is legal under the same settings
   pub with-own-legal : (o : Own) → OwnTold (d .settings) o → isLegal (withOwn d o) ≡ true
   with-own-legal o t =
-      legal-by-parts (withOwn d o) (legal-settings d h) (own-shown (d .settings) o t) (legal-connection d h)
+      legal-by-parts (withOwn d o) (legal-settings d h) (own-shown (d .settings) o t) (legal-connections d h)
 
   pub fault-legal : (m : Bool) → isLegal (faultSet d m .device) ≡ true
   fault-legal m =

@@ -14,7 +14,9 @@ pub mod InputsTold
 pub mod SettingsTold
 pub mod OwnTold
 pub mod ConnectionTold
+pub mod ConnectionsTold
 pub mod LegalTold
+pub mod LowestShut
 pub mod Started
 pub mod HostKept
 pub mod Results

@@ -3,7 +3,8 @@
 -- Assumes nothing.
 use mathlib.Core.Path.{_≡_, refl}
 use mathlib.Core.Bool.{false}
-use Rattle.record.specs.Limits.{inputRoom, lineRoom}
+use lib.ListN.{replicate}
+use Rattle.record.specs.Limits.{inputRoom, lineRoom, placesCount}
 use Rattle.record.specs.Record.{zeros, closed, blankText, blankOwn, blank}
 use Rattle.record.specs.declared.types.Connection.{Connection}
 
@@ -33,7 +34,7 @@ pub blank-spelt : blank ≡ record {
     cool = 0;
   };
   own = blankOwn;
-  connection = closedFields;
+  connections = replicate placesCount closedFields;
 }
 unfolding blank closed
 blank-spelt = refl

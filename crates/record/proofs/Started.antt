@@ -9,11 +9,12 @@ use lib.ListN.{length, getD, drop, List·getD-append}
 use borrow.Author.Tests.{le-leb}
 use Rattle.text.proofs.Choices.{both, by-not}
 use Rattle.lines.specs.Texts.{isName, isInfo}
-use Rattle.record.specs.Limits.{textRoom, inputRoom, lampsMost}
+use Rattle.record.specs.Limits.{textRoom, inputRoom, lampsMost, placesCount}
 use Rattle.record.specs.Wanted.{Wanted}
 use Rattle.record.specs.Rules.{isSetUpPassword, isNewInput, isInputs, isLamps, isErrors}
-use Rattle.record.specs.Record.{zeros, inRoom, closed, settingsOf, startOwn, started, blank}
+use Rattle.record.specs.Record.{zeros, inRoom, closed, allClosed, settingsOf, startOwn, started, blank}
 use Rattle.record.specs.Legal.{fillsRoom, isSettings, isOwn, isLegal}
+use Rattle.record.specs.Places.{connectionAt}
 use Rattle.record.specs.SetUp.{isSettingInRange, isSetUp, setUp}
 use Rattle.record.specs.declared.out_of_range.Setting.{Setting}
 use Rattle.record.specs.declared.out_of_range.Setting.the-variants.{Name, Maker, Model, Other, Password, Inputs}
@@ -23,7 +24,7 @@ use Rattle.record.proofs.Rules.{set-up-password-shown, inputs-some, inp
 use Rattle.record.proofs.Places.{pairs-even}
 use Rattle.record.proofs.Kept.{filled-kept, kept-shown}
 use Rattle.record.proofs.OwnTold.{own-shown, off-left}
-use Rattle.record.proofs.ConnectionTold.{closed-legal}
+use Rattle.record.proofs.ConnectionsTold.{all-closed-legal, all-closed-at}
 use Rattle.record.proofs.LegalTold.{legal-by-parts, settings-of-legal}
 use Rattle.record.proofs.SettingsTold.{input-count-low}
 use Rattle.record.proofs.Calls.{set-up-long, set-up-by}
@@ -86,7 +87,7 @@ module _ (w : Wanted) where
 
     pub started-legal : isLegal (started w) ≡ true
     unfolding started
-    started-legal = legal-by-parts (started w) settings-legal own-legal closed-legal
+    started-legal = legal-by-parts (started w) settings-legal own-legal all-closed-legal
 
   -- the lamps' starting seconds, place by place
   pub started-lamp : (k : ℕ) → k < length (w .lamps) → getD (started w .own .lamps) k 0 ≡ getD (w .lamps) k 0
@@ -94,9 +95,14 @@ module _ (w : Wanted) where
   started-lamp k l = List·getD-append (w .lamps) (drop (length (w .lamps)) (zeros lampsMost)) 0 k l
 
   -- the started device, part by part
-  pub started-parts : started w ≡ record { settings = settingsOf w; own = startOwn (w .lamps); connection = closed }
+  pub started-parts : started w ≡ record { settings = settingsOf w; own = startOwn (w .lamps); connections = allClosed }
   unfolding started
   started-parts = refl
+
+  -- at each place there is the closed connection
+  pub started-closed : (p : ℕ) → p < placesCount → connectionAt (started w) p ≡ closed
+  unfolding started
+  started-closed p there = all-closed-at p there
 
   -- an accepted set-up is legal, and gives the started device
   pub set-up-legal : setUp w .number ≡ 0 → isLegal (setUp w .device) ≡ true

@@ -5,12 +5,13 @@ use Rattle.lines.specs.Computing.{computing as lines}
 use Rattle.record.specs.Rules.{isSetUpPassword, eachPair, isNone, isInputs, isLamps, isErrors}
 use Rattle.record.specs.Record.{inRoom, closed, started, blank}
 use Rattle.record.specs.Legal.{isClear, fillsRoom, isSettings, isLeft, isOwn}
-use Rattle.record.specs.Legal.{isAge, heldMost, isHeld, isConnection, isLegal}
+use Rattle.record.specs.Legal.{isAge, heldMost, isHeld, isConnection, isConnections, isLegal}
+use Rattle.record.specs.Places.{lowestShut}
 use Rattle.record.specs.SetUp.{isInRange, isSetUp, setUp}
 use Rattle.record.specs.HostCalls.{faultSet, errorsSet}
 
 unfoldable pub computing : Unit {0}
 unfolding
     lines isSetUpPassword eachPair isNone isInputs isLamps isErrors inRoom closed started blank isClear fillsRoom
-    isSettings isLeft isOwn isAge heldMost isHeld isConnection isLegal isInRange isSetUp setUp faultSet errorsSet
+    isSettings isLeft isOwn isAge heldMost isHeld isConnection isConnections isLegal isInRange isSetUp setUp lowestShut faultSet errorsSet
 computing = tt

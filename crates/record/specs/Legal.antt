@@ -1,5 +1,5 @@
 -- A legal record (01, "Set-up", last paragraph), a definition a part: settings alone, the own part with the settings,
--- the connection alone. An array of a record is a list of any length here, so each part says its arrays' lengths.
+-- each connection alone. An array of a record is a list of any length here, so each part says its arrays' lengths.
 --   isClear s n               s has n places and more, and zero at each place from n on: its unused room
 --   fillsRoom room rule s n      the array s has that room; its first n places follow the rule, the rest is zero
 --   fillsTextRoom rule t         a text follows the rule
@@ -11,6 +11,7 @@
 --   heldMost phase            the most collected bytes: 167 while awaiting, 135 while open, none otherwise
 --   isHeld phase mark n       n bytes may be collected: none under the overlong mark, which stands in those phases only
 --   isConnection c            the connection is legal
+--   isConnections cs          a connection at each place, each legal (02, L5)
 --   isLegal d                 the record is
 -- Assumes nothing.
 use Prim.Native.Nat.{ℕ, _*_}
@@ -23,8 +24,8 @@ use Rattle.text.specs.Scans.{every}
 use Rattle.lines.specs.Bytes.{noCr}
 use Rattle.lines.specs.Texts.{isName, isInfo}
 use Rattle.lines.specs.Forms.{commandMost}
-use Rattle.record.specs.Limits.{textRoom, inputRoom, lampsMost, lineRoom, ageEnd, cooling, warming, isPower}
-use Rattle.record.specs.Limits.{shut, awaiting, opened, failed, isPhase}
+use Rattle.record.specs.Limits.{textRoom, inputRoom, lampsMost, lineRoom, ageEnd, placesCount, cooling, warming}
+use Rattle.record.specs.Limits.{shut, awaiting, opened, failed, isPower, isPhase}
 use Rattle.record.specs.Rules.{isSetUpPassword, isInputs, isLamps, isStretch, isErrors}
 use Rattle.record.specs.declared.types.Text.{Text}
 use Rattle.record.specs.declared.types.Settings.{Settings}
@@ -86,5 +87,8 @@ isConnection c =
     && (not (eqb (c .phase) shut) || eqb (c .random) 0)
     && isHeld (c .phase) (c .line .overlong) (c .line .held)
 
+unfoldable pub isConnections : List Connection → Bool
+isConnections cs = eqb (length cs) placesCount && every isConnection cs
+
 unfoldable pub isLegal : Device → Bool
-isLegal d = isSettings (d .settings) && isOwn (d .settings) (d .own) && isConnection (d .connection)
+isLegal d = isSettings (d .settings) && isOwn (d .settings) (d .own) && isConnections (d .connections)

@@ -4,6 +4,7 @@ pub mod Updates
 pub mod Record
 pub mod Rules
 pub mod Legal
+pub mod Places
 pub mod SetUp
 pub mod OutOfRange
 pub mod HostCalls

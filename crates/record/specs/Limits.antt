@@ -3,6 +3,7 @@
 --   passwordLeast                a password that secures has this many characters and more (02, L9)
 --   lampLimit                    a lamp's seconds stop here: 99,999 hours and 3,599 seconds
 --   stretchMost                  warm-up and cooling last 1 to this many seconds
+--   placesCount                  so many controllers are connected at once (02, L5)
 --   ageEnd                       an awaiting or failed connection closes when its age reaches this
 --   off, on, cooling, warming    the power, as POWR answers it: isPower p says that p is one of them
 --   isLit power                  warm-up or on: the lamps burn
@@ -48,6 +49,9 @@ errorMost = 2
 -- a digest of 32 bytes and a line of 135
 abbrev pub lineRoom : ℕ
 lineRoom = 167
+
+abbrev pub placesCount : ℕ
+placesCount = 4
 
 abbrev pub ageEnd : ℕ
 ageEnd = 30

@@ -3,6 +3,7 @@
 --   inRoom n s           s at the start of a room of n, and zeros after it
 --   textOf s             the text s in its room
 --   closed               the closed connection: age 0, random number 0, no collected bytes, no overlong mark
+--   allClosed            every place closed (02, L5)
 --   blank                the blank record, all zero
 --   settingsOf w         the settings that set-up keeps
 --   blankOwn             off, both mutes off, the first input, no fault, error status 000000: all zero
@@ -16,7 +17,7 @@ use mathlib.Core.Bool.{false}
 use mathlib.Core.List.{List}
 use lib.ListN.{length, replicate}
 use Rattle.text.specs.Words.{over}
-use Rattle.record.specs.Limits.{textRoom, inputRoom, lampsMost, lineRoom, errorsCount, off, shut}
+use Rattle.record.specs.Limits.{textRoom, inputRoom, lampsMost, lineRoom, errorsCount, placesCount, off, shut}
 use Rattle.record.specs.Wanted.{Wanted}
 use Rattle.record.specs.Updates.{withSeconds}
 use Rattle.record.specs.declared.types.Text.{Text}
@@ -42,6 +43,9 @@ closed = record {
   random = 0;
   line = record { overlong = false; held = 0; bytes = zeros lineRoom };
 }
+
+abbrev pub allClosed : List Connection
+allClosed = replicate placesCount closed
 
 abbrev pub settingsOf : Wanted → Settings
 settingsOf w = record {
@@ -73,7 +77,7 @@ abbrev pub startOwn : List ℕ → Own
 startOwn lamps = withSeconds blankOwn (inRoom lampsMost lamps)
 
 unfoldable pub started : Wanted → Device
-started w = record { settings = settingsOf w; own = startOwn (w .lamps); connection = closed }
+started w = record { settings = settingsOf w; own = startOwn (w .lamps); connections = allClosed }
 
 abbrev pub blankText : Text
 blankText = record { len = 0; bytes = zeros textRoom }
@@ -93,7 +97,7 @@ blank = record {
     cool = 0;
   };
   own = blankOwn;
-  connection = closed;
+  connections = allClosed;
 }
 
 abbrev pub accepted : Device → Changed

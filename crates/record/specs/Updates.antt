@@ -53,4 +53,4 @@ abbrev pub withLine : Connection → Line → Connection
 withLine c l = record { phase = c .phase; age = c .age; random = c .random; line = l }
 
 abbrev pub withOwn : Device → Own → Device
-withOwn d o = record { settings = d .settings; own = o; connection = d .connection }
+withOwn d o = record { settings = d .settings; own = o; connections = d .connections }

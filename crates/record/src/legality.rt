@@ -1,5 +1,5 @@
 // The legality of the whole record: a factor a part.
-use crate::connection;
+use crate::connections;
 use crate::own;
 use crate::settings;
 use crate::types::Device;
@@ -9,7 +9,8 @@ ghost use Rattle.record.specs.Legal.{isLegal};
 pub fn legal(d: Device) -> bool
     ensures { λ r. ⌜ r ≡ isLegal d ⌝ }
 {
+    let connections = d.connections;
     settings::settings_ok(d.settings)
         & own::own_ok(d.settings, d.own)
-        & connection::connection_ok(d.connection)
+        & connections::connections_ok(connections)
 }

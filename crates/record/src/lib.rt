@@ -1,5 +1,6 @@
 // The device record of the projector: what it holds, when it is legal, set-up, and the host's two calls.
 pub mod connection;
+pub mod connections;
 mod fill;
 pub mod host;
 mod inputs;

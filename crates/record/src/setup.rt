@@ -5,6 +5,7 @@ use crate::settings;
 use crate::types::Changed;
 use crate::types::Connection;
 use crate::types::Device;
+use crate::types::PLACES;
 use crate::types::Settings;
 ghost use mathlib.Core.Path.{_≡_};
 ghost use mathlib.Core.Bool.{true};
@@ -103,11 +104,10 @@ pub fn set_up(
         cool,
     );
     let own = fill::start_own(lamps);
-    let connection = Connection::CLOSED;
     let device = Device {
         settings: kept,
         own,
-        connection,
+        connections: [Connection::CLOSED; PLACES],
     };
     Changed { number: 0, device }
 }

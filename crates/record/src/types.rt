@@ -15,6 +15,9 @@ pub const LINE_ROOM: usize = 167;
 
 pub const ERRORS: usize = 6;
 
+// Controllers that are connected at once (02, L5).
+pub const PLACES: usize = 4;
+
 // A text in its room. Here and in every array: what is not used is zero.
 #[repr(C)]
 pub struct Text {
@@ -70,7 +73,7 @@ pub struct Connection {
 pub struct Device {
     pub settings: Settings,
     pub own: Own,
-    pub connection: Connection,
+    pub connections: [Connection; PLACES],
 }
 
 // What set-up, the host's two calls, closing and passing time give.
@@ -130,6 +133,6 @@ impl Device {
             cool: 0,
         },
         own: Own::BLANK,
-        connection: Connection::CLOSED,
+        connections: [Connection::CLOSED; PLACES],
     };
 }

@@ -9,7 +9,7 @@ use Rattle.record.proofs.legality.legal.Tie as tie
 decided : tie.Need-returns
 unfolding isLegal
 decided c =
-    (λ j. c .before .before .settings-ok .ensures j && c .before .own-ok .ensures j && c .connection-ok .ensures j)
+    (λ j. c .before .before .settings-ok .ensures j && c .before .own-ok .ensures j && c .connections-ok .ensures j)
 
 pub legal-spec : {M : Type 1} → statement M
 legal-spec = tie.close (tie.spec (λ c κs. search needs) (λ c κs. search needs) (λ c κs. search needs) decided)
