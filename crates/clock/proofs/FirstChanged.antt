@@ -3,7 +3,7 @@
 -- Assumes nothing.
 use Prim.Native.Nat.{ℕ, zero, suc, _≤_, _<_}
 use mathlib.Core.Path.{_≡_, refl, ap}
-use mathlib.Core.List.{List, [], _∷_}
+use mathlib.Core.List.{List, [], _∷_, map}
 use native.Mathlib.Omega.{arith}
 use lib.ListN.{length, getD, set}
 use Rattle.clock.specs.Second.{firstChanged}
@@ -52,6 +52,13 @@ module _ {A : Type 0} where
   all-changed (suc n) zero f (x ∷ l) h g = absurd (omega arith)
   all-changed (suc n) (suc m) f (x ∷ l) h g =
       ap (λ (t : List A). f x ∷ t) (all-changed n m f l (omega arith) (omega arith))
+
+  pub all-mapped : (n : ℕ) (f : A → A) (l : List A) → length l ≤ n → firstChanged n f l ≡ map f l
+  unfolding firstChanged
+  all-mapped zero f [] h = refl
+  all-mapped zero f (x ∷ l) h = absurd (omega arith)
+  all-mapped (suc n) f [] h = refl
+  all-mapped (suc n) f (x ∷ l) h = ap (λ (t : List A). f x ∷ t) (all-mapped n f l (omega arith))
 
   pub none-changed : (n : ℕ) (f : A → A) (l : List A) → ((x : A) → f x ≡ x) → firstChanged n f l ≡ l
   unfolding firstChanged

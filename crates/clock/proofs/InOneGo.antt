@@ -1,19 +1,23 @@
--- n seconds in one go: the closed forms are n times one second, for the own part and so for the device.
+-- n seconds in one go: the closed forms are n times one second, for the own part, each connection, and so the device.
 -- Assumes nothing.
 use Prim.Native.Nat.{ℕ, zero, suc}
 use mathlib.Core.Path.{_≡_, refl, sym, ap, _∙_}
 use mathlib.Core.Bool.{Bool, true, false}
-use mathlib.Core.List.{List}
+use mathlib.Core.List.{List, [], _∷_, map, map-map}
+use lib.ListN.{getD}
 use Rattle.text.specs.Words.{if_then_else_}
 use Rattle.text.proofs.Choices.{if-all}
 use Rattle.record.specs.Limits.{isLit}
 use Rattle.record.specs.Updates.{withPower, withSeconds}
 use Rattle.record.specs.declared.types.Settings.{Settings}
 use Rattle.record.specs.declared.types.Own.{Own}
+use Rattle.record.specs.Places.{noConnection, connectionAt}
+use Rattle.record.specs.declared.types.Connection.{Connection}
 use Rattle.record.specs.declared.types.Device.{Device}
-use Rattle.clock.specs.Second.{times, firstChanged, oneMore, lampsSecond, ownSecond, second}
+use Rattle.clock.specs.Second.{times, firstChanged, oneMore, lampsSecond, ownSecond, connectionSecond, second}
 use Rattle.clock.specs.After.{powerAfter, lampsAfter, ownAfter, partsAfter}
 use Rattle.clock.proofs.FirstChanged.{none-changed, twice-changed}
+use Rattle.clock.proofs.ConnectionsAge.{untimed-stays}
 use Rattle.clock.proofs.PowerTurns.{power-none, left-none, power-more, left-more, lit-throughout}
 
 lamps-none : (power count : ℕ) (l : List ℕ) → lampsAfter 0 power count l ≡ l
@@ -57,5 +61,28 @@ module _ (s : Settings) (o : Own) where
 -- the parts pass their seconds each for itself
 pub parts-pass : (n : ℕ) (d : Device) → times second n d ≡ partsAfter n d
 unfolding times second
-parts-pass zero d = refl
-parts-pass (suc n) d = ap second (parts-pass n d)
+parts-pass zero d =
+    (λ i. record { settings = d .settings; own = d .own; connections = sym (map-itself (d .connections)) i })
+  where
+    map-itself : (cs : List Connection) → map (times connectionSecond 0) cs ≡ cs
+    map-itself [] = refl
+    map-itself (c ∷ cs) = ap (λ (t : List Connection). c ∷ t) (map-itself cs)
+parts-pass (suc n) d =
+    ap second (parts-pass n d)
+    ∙ (λ i. record {
+      settings = d .settings;
+      own = times (ownSecond (d .settings)) (suc n) (d .own);
+      connections = map-map connectionSecond (times connectionSecond n) (d .connections) i;
+    })
+
+-- so at each place the connection passes its own
+pub place-passes : (n : ℕ) (d : Device) (p : ℕ)
+    → connectionAt (times second n d) p ≡ times connectionSecond n (connectionAt d p)
+place-passes n d p =
+    ap (λ (e : Device). connectionAt e p) (parts-pass n d) ∙ mapped (d .connections) p
+  where
+    mapped : (cs : List Connection) (k : ℕ)
+        → getD (map (times connectionSecond n) cs) k noConnection ≡ times connectionSecond n (getD cs k noConnection)
+    mapped [] k = sym (untimed-stays n noConnection refl)
+    mapped (c ∷ cs) zero = refl
+    mapped (c ∷ cs) (suc k) = mapped cs k

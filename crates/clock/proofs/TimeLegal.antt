@@ -1,19 +1,20 @@
--- A legal record stays legal as time passes: its settings stay, and a second keeps the own part and the connection
--- legal.
+-- A legal record stays legal as time passes: its settings stay, and a second keeps the own part and each
+-- connection legal.
 -- Assumes nothing.
 use Prim.Native.Nat.{ℕ, _+_, _-_, _≤_, _<_}
 use mathlib.Core.Path.{_≡_, refl, sym, ap, _∙_}
 use mathlib.Core.Bool.{true}
 use mathlib.Core.List.{List}
 use native.Mathlib.Omega.{arith}
-use lib.ListN.{length, getD}
+use lib.ListN.{length, getD, length-map}
 use lib.Dec.{ltb, eqb}
 use borrow.Author.Tests.{ltb-true, eqb-true, eqb-false}
 use Rattle.text.specs.Words.{if_then_else_}
 use Rattle.text.proofs.Choices.{if-all, if-by}
+use Rattle.text.proofs.Scanning.{every-map}
 use Rattle.record.specs.Limits.{lampsMost, lampLimit, ageEnd, off, on, cooling, warming, isLit}
 use Rattle.record.specs.Rules.{isLamps}
-use Rattle.record.specs.Legal.{isLeft, isTimed, isLegal}
+use Rattle.record.specs.Legal.{isLeft, isTimed, isConnection, isLegal}
 use Rattle.record.specs.Record.{closed}
 use Rattle.record.specs.declared.types.Settings.{Settings}
 use Rattle.record.specs.declared.types.Own.{Own}
@@ -23,7 +24,8 @@ use Rattle.record.proofs.Kept.{Kept, kept-zero}
 use Rattle.record.proofs.OwnTold.{OwnTold, own-shown, lamp-at, lamps-shown, LeftTold, in-warm-up, in-cooling, when-on}
 use Rattle.record.proofs.OwnTold.{when-off, left-told, warming-left, cooling-left, on-left, off-left}
 use Rattle.record.proofs.ConnectionTold.{ConnectionTold, connection-told, connection-shown, closed-legal, timed-age}
-use Rattle.record.proofs.LegalTold.{legal-settings, own-of-legal, connection-of-legal, legal-by-parts}
+use Rattle.record.proofs.ConnectionsTold.{connections-shown, connections-each}
+use Rattle.record.proofs.LegalTold.{legal-settings, own-of-legal, legal-connections, legal-places, legal-by-parts}
 use Rattle.clock.specs.Second.{times, firstChanged, settledPower, oneMore, lampsSecond, leftSecond}
 use Rattle.clock.specs.Second.{powerSecond, ownSecond, connectionSecond, second}
 use Rattle.clock.specs.Passing.{passed}
@@ -99,13 +101,19 @@ connection-second-kept c t =
     (λ l. connection-told closed closed-legal))
     (λ e. t)
 
+connection-second-legal : (c : Connection) → isConnection c ≡ true → isConnection (connectionSecond c) ≡ true
+connection-second-legal c h = connection-shown _ (connection-second-kept c (connection-told c h))
+
 -- the record
 pub second-legal : (d : Device) → isLegal d ≡ true → isLegal (second d) ≡ true
 unfolding second
 second-legal d h =
     legal-by-parts (second d) (legal-settings d h)
     (own-shown (d .settings) _ (own-second-kept (d .settings) (d .own) (own-of-legal d h)))
-    (connection-shown _ (connection-second-kept (d .connection) (connection-of-legal d h)))
+    (connections-shown _
+    (length-map (d .connections) connectionSecond ∙ legal-places d h)
+    (every-map isConnection isConnection connectionSecond connection-second-legal (d .connections)
+    (connections-each (d .connections) (legal-connections d h))))
 
 pub time-legal : (n : ℕ) (d : Device) → isLegal d ≡ true → isLegal (times second n d) ≡ true
 time-legal n d h = times-keeps (λ (x : Device). isLegal x ≡ true) second second-legal n d h

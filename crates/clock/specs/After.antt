@@ -8,7 +8,7 @@
 -- Assumes nothing.
 use Prim.Native.Nat.{ℕ, _+_, _-_, min}
 use mathlib.Core.Bool.{Bool, _&&_}
-use mathlib.Core.List.{List}
+use mathlib.Core.List.{List, map}
 use lib.Dec.{leb}
 use Rattle.text.specs.Words.{if_then_else_}
 use Rattle.record.specs.Limits.{lampLimit, isLit, isBetween}
@@ -39,5 +39,5 @@ abbrev pub partsAfter : ℕ → Device → Device
 partsAfter n d = record {
   settings = d .settings;
   own = times (ownSecond (d .settings)) n (d .own);
-  connection = times connectionSecond n (d .connection);
+  connections = map (times connectionSecond n) (d .connections);
 }

@@ -1,4 +1,4 @@
--- One second (01, "Time"), as a second of the projector's own part and a second of the connection.
+-- One second (01, "Time"), as a second of the projector's own part and one of each connection (02, L5: one clock).
 --   times f n x              f applied n times to x
 --   firstChanged n f l       the list l, its first n elements changed by f
 --   oneMore x                a burning lamp gains one second, stopped at the limit
@@ -9,7 +9,7 @@
 -- Assumes nothing.
 use Prim.Native.Nat.{ℕ, zero, suc, _+_, _-_}
 use mathlib.Core.Bool.{_&&_}
-use mathlib.Core.List.{List, [], _∷_}
+use mathlib.Core.List.{List, [], _∷_, map}
 use lib.Dec.{ltb, eqb}
 use Rattle.text.specs.Words.{if_then_else_}
 use Rattle.record.specs.Limits.{lampLimit, ageEnd, off, on, warming, isLit, isBetween}
@@ -61,5 +61,5 @@ unfoldable pub second : Device → Device
 second d = record {
   settings = d .settings;
   own = ownSecond (d .settings) (d .own);
-  connection = connectionSecond (d .connection);
+  connections = map connectionSecond (d .connections);
 }

@@ -1,6 +1,6 @@
 // What `pass` does with a record that is legal, by the same promise. A caller that has tested its record once and keeps
 // it legal calls this, as `floor` does; a host calls those of `pass`, which ask for nothing.
-use crate::connection;
+use crate::connections;
 use crate::own;
 use record::types::Changed;
 use record::types::Device;
@@ -14,9 +14,10 @@ pub fn pass(d: Device, n: u32) -> Changed
     ensures { λ r. ⌜ r ≡ passed d n ⌝ }
 {
     let own = own::own_after(d.settings, d.own, n);
-    let connection = connection::connection_after(d.connection, n);
+    let connections = d.connections;
+    let connections = connections::connections_after(connections, n);
     let mut device = d;
     device.own = own;
-    device.connection = connection;
+    device.connections = connections;
     Changed { number: 0, device }
 }

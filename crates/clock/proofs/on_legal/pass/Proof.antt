@@ -15,13 +15,13 @@ use Rattle.clock.proofs.on_legal.pass.Tie as tie
 made : tie.Need-returns
 unfolding passed
 made c =
-    let own = c .before in
+    let own = c .before .before in
     let start = own .before in
     let d = start .args .d in
     let parts : _≡_ {A = Device} _ _ = λ i. record {
       settings = d .settings;
       own = own .own-after .ensures i;
-      connection = c .connection-after .ensures i;
+      connections = c .connections-after .ensures i;
     } in
     ap accepted (parts ∙ sym (parts-pass (start .args .n) d)) ∙ sym (if-no _ _ (ap not (start .pre)))
 
