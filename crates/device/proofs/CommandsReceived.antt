@@ -2,9 +2,9 @@
 -- written, its line is taken whole, the reply says what the command means, and the record is what the command does to
 -- it. On an open connection, and on an awaiting one behind the matching digest, which is open afterwards.
 --   replyTo k m                  the reply that says m to the command k
---   commandResult d k n          the result of receiving it where n bytes are taken
+--   commandResult d p k n        the result of receiving it at place p where n bytes are taken
 -- Assumes nothing.
-use Prim.Native.Nat.{ℕ, _+_, _≤_}
+use Prim.Native.Nat.{ℕ, _+_, _≤_, _<_}
 use mathlib.Core.Path.{_≡_, sym, ap, _∙_}
 use mathlib.Core.Bool.{true, false}
 use mathlib.Core.List.{List, [], _++_, append-assoc}
@@ -22,8 +22,10 @@ use Rattle.lines.specs.declared.request.Request.the-variants.{Asks}
 use Rattle.lines.proofs.Characters.{no-cr-each}
 use Rattle.lines.proofs.CommandLines.{command-length, command-no-cr}
 use Rattle.answers.specs.Said.{Said, saidBytes}
-use Rattle.record.specs.Limits.{shut, awaiting, opened}
+use Rattle.record.specs.Limits.{placesCount, shut, awaiting, opened}
 use Rattle.record.specs.Legal.{isTimed, isLegal}
+use Rattle.record.specs.Places.{connectionAt, withPlace}
+use Rattle.record.specs.declared.types.Connection.{Connection}
 use Rattle.record.specs.declared.types.Device.{Device}
 use Rattle.record.proofs.LegalTold.{legal-connection}
 use Rattle.record.proofs.ConnectionTold.{connection-told, age-untimed}
@@ -31,7 +33,7 @@ use Rattle.stream.specs.Collecting.{emptyLine}
 use Rattle.meaning.specs.Meaning.{meant, done}
 use Rattle.device.specs.Answering.{Answered, lineAnswer}
 use Rattle.device.specs.Receiving.{turned, spoken, digestLong, passwordOf, takenIn}
-use Rattle.device.specs.Calls.{Result, replyRoom, withParts, acceptedTaken, received}
+use Rattle.device.specs.Calls.{Result, replyRoom, acceptedTaken, received}
 use Rattle.device.proofs.Cases.{received-taken}
 use Rattle.device.proofs.Legal.{line-legal}
 use Rattle.stream.proofs.LegalLines.{between-lines}
@@ -40,54 +42,54 @@ use Rattle.device.proofs.WholeLines.{open-line-taken, matching-line-tak
 abbrev pub replyTo : Command → Said → List ℕ
 replyTo k m = ascii "%1" ++ bodyText (bodyOf k) ++ ascii "=" ++ saidBytes m ++ ascii "\r"
 
-abbrev pub commandResult : Device → Command → ℕ → Result Device
-commandResult d k n = record {
+abbrev pub commandResult : Device → ℕ → Command → ℕ → Result Device
+commandResult d p k n = record {
   number = 0;
   taken = n;
   reply = replyTo k (meant (d .settings) (d .own) (Asks k));
-  device = withParts d (done (d .settings) (d .own) (Asks k)) (turned (d .connection) opened);
+  device = withPlace d (done (d .settings) (d .own) (Asks k)) p (turned (connectionAt d p) opened);
 }
 
 plain-text : (k : Command) → every notCr (commandText k) ≡ true
 plain-text k = no-cr-each (commandText k) (command-no-cr k)
 
-module _ (d : Device) (room : ℕ) (legal : isLegal d ≡ true) (enough : replyRoom ≤ room)
-    (unmarked : d .connection .line .overlong ≡ false) (none : d .connection .line .held ≡ 0)
-    (k : Command) (writable : isCommand k ≡ true) where
-  empty : d .connection .line ≡ emptyLine
-  empty =
-      between-lines (d .connection .phase) (d .connection .line)
-      (line-legal (d .connection) (legal-connection d legal)) unmarked none
+module _ (d : Device) (p : ℕ) (there : p < placesCount) (room : ℕ) (legal : isLegal d ≡ true)
+    (enough : replyRoom ≤ room) (unmarked : connectionAt d p .line .overlong ≡ false)
+    (none : connectionAt d p .line .held ≡ 0) (k : Command) (writable : isCommand k ≡ true) where
+  abbrev c : Connection
+  c = connectionAt d p
+
+  empty : c .line ≡ emptyLine
+  empty = between-lines (c .phase) (c .line) (line-legal c (legal-connection d legal p there)) unmarked none
 
   -- an open connection stays as it was
-  pub open-again : d .connection .phase ≡ opened → turned (d .connection) opened ≡ d .connection
+  pub open-again : c .phase ≡ opened → turned c opened ≡ c
   open-again phase =
-      let c = d .connection in
-      let known = connection-told c (legal-connection d legal) in
+      let known = connection-told c (legal-connection d legal p there) in
       let young : c .age ≡ 0 = age-untimed (c .phase) (c .age) (ap isTimed phase) (known .age) in
       (λ i. record { phase = sym phase i; age = sym young i; random = c .random; line = sym empty i })
 
   abbrev spokenAfter : ℕ → Answered → Result Device
-  spokenAfter n a = acceptedTaken d (record { ended = spoken (d .connection) a; taken = n })
+  spokenAfter n a = acceptedTaken d p (record { ended = spoken c a; taken = n })
 
-  answers : (n m : ℕ) → n ≡ m → spokenAfter n (lineAnswer (d .settings) (d .own) (commandText k)) ≡ commandResult d k m
+  answers : (n m : ℕ) → n ≡ m → spokenAfter n (lineAnswer (d .settings) (d .own) (commandText k)) ≡ commandResult d p k m
   answers n m e = (λ i. spokenAfter (e i) (command-answered (d .settings) (d .own) k writable i))
 
-  pub command-received : d .connection .phase ≡ opened
-      → received d (commandLine k) room ≡ commandResult d k (length (commandLine k))
+  pub command-received : c .phase ≡ opened
+      → received d p (commandLine k) room ≡ commandResult d p k (length (commandLine k))
   command-received phase =
       let short = command-length k in
-      received-taken d (commandLine k) room legal enough (ap (λ (p : ℕ). eqb p shut) phase)
-      ∙ ap (acceptedTaken d)
-      (open-line-taken (d .settings) (d .own) (d .connection) empty [] (commandText k) phase (omega arith)
+      received-taken d p (commandLine k) room legal enough there (ap (λ (q : ℕ). eqb q shut) phase)
+      ∙ ap (acceptedTaken d p)
+      (open-line-taken (d .settings) (d .own) c empty [] (commandText k) phase (omega arith)
       (plain-text k))
       ∙ answers (length (commandText k) + 1) (length (commandLine k)) (sym (length-append (commandText k) (ascii "\r")))
 
   abbrev pub digest : List ℕ
-  digest = leadingDigest (d .connection .random) (passwordOf (d .settings))
+  digest = leadingDigest (c .random) (passwordOf (d .settings))
 
-  pub command-received-secured : d .connection .phase ≡ awaiting
-      → received d (digest ++ commandLine k) room ≡ commandResult d k (length (digest ++ commandLine k))
+  pub command-received-secured : c .phase ≡ awaiting
+      → received d p (digest ++ commandLine k) room ≡ commandResult d p k (length (digest ++ commandLine k))
   command-received-secured phase =
       let short = command-length k in
       let count : digestLong + length (commandText k) + 1 ≡ length (digest ++ commandLine k)
@@ -95,12 +97,12 @@ module _ (d : Device) (room : ℕ) (legal : isLegal d ≡ true) (enough : replyR
         arith,
         length-append digest (commandLine k),
         length-append (commandText k) (ascii "\r"),
-        leading-digest-length (d .connection .random) (passwordOf (d .settings)),
+        leading-digest-length (c .random) (passwordOf (d .settings)),
       ) in
-      received-taken d (digest ++ commandLine k) room legal enough (ap (λ (p : ℕ). eqb p shut) phase)
-      ∙ ap (λ (bs : List ℕ). acceptedTaken d (takenIn (d .settings) (d .own) (d .connection) bs))
+      received-taken d p (digest ++ commandLine k) room legal enough there (ap (λ (q : ℕ). eqb q shut) phase)
+      ∙ ap (λ (bs : List ℕ). acceptedTaken d p (takenIn (d .settings) (d .own) c bs))
       (sym (append-assoc digest (commandText k) (ascii "\r")))
-      ∙ ap (acceptedTaken d)
-      (matching-line-taken (d .settings) (d .own) (d .connection) empty [] (commandText k) phase (omega arith)
+      ∙ ap (acceptedTaken d p)
+      (matching-line-taken (d .settings) (d .own) c empty [] (commandText k) phase (omega arith)
       (plain-text k))
       ∙ answers (digestLong + length (commandText k) + 1) (length (digest ++ commandLine k)) count

@@ -14,6 +14,7 @@ use Rattle.text.proofs.Choices.{if-all}
 use Rattle.lines.specs.Bytes.{notCr}
 use Rattle.record.specs.Limits.{failed}
 use Rattle.record.specs.Legal.{heldMost}
+use Rattle.record.specs.Places.{connectionAt}
 use Rattle.record.specs.declared.types.Settings.{Settings}
 use Rattle.record.specs.declared.types.Own.{Own}
 use Rattle.record.specs.declared.types.Connection.{Connection}
@@ -58,7 +59,7 @@ module _ (s : Settings) (o : Own) (c : Connection) where
       ap (takenOf s o c) (gathered-none most (c .line))
       ∙ ap {B = Taken} (λ (k : Connection). record { ended = noReply o k; taken = 0 }) keeps-itself
 
-pub received-within : (d : Device) (bs : List ℕ) (room : ℕ) → received d bs room .taken ≤ length bs
-received-within d bs room =
-    received-by d bs room (λ r. r .taken ≤ length bs) (λ n z. omega arith)
-    (λ h s c. taken-within (d .settings) (d .own) (d .connection) bs)
+pub received-within : (d : Device) (p : ℕ) (bs : List ℕ) (room : ℕ) → received d p bs room .taken ≤ length bs
+received-within d p bs room =
+    received-by d p bs room (λ r. r .taken ≤ length bs) (λ n z. omega arith)
+    (λ h s t c. taken-within (d .settings) (d .own) (connectionAt d p) bs)

@@ -6,7 +6,7 @@
 --   Tells s o w r k e          that, the lamps kept, and what the connection e holds then
 -- Assumes nothing.
 use Prim.Native.Nat.{ℕ, _+_}
-use mathlib.Core.Path.{_≡_, refl, sym, ap, _∙_}
+use mathlib.Core.Path.{_≡_, refl, sym, ap, subst, _∙_}
 use mathlib.Core.Bool.{Bool, true, false, _||_}
 use mathlib.Core.List.{List, [], _∷_, _++_, append-assoc, append-nil}
 use native.Mathlib.Omega.{arith}
@@ -24,11 +24,13 @@ use Rattle.answers.specs.Said.{okay}
 use Rattle.record.specs.Limits.{shut, awaiting, opened, failed}
 use Rattle.record.specs.Legal.{isCollecting, heldMost, isConnection}
 use Rattle.record.specs.Record.{closed}
+use Rattle.record.specs.Places.{connectionAt}
 use Rattle.record.specs.declared.types.Settings.{Settings}
 use Rattle.record.specs.declared.types.Own.{Own}
 use Rattle.record.specs.declared.types.Connection.{Connection}
 use Rattle.record.specs.declared.types.Device.{Device}
-use Rattle.record.proofs.LegalTold.{legal-connection}
+use Rattle.record.proofs.LegalTold.{legal-connection, legal-places}
+use Rattle.record.proofs.ConnectionsTold.{placed-here, placed-either}
 use Rattle.record.proofs.ConnectionTold.{closed-holds-none, connection-told, held-within, held-most-none}
 use Rattle.stream.specs.declared.Gathered.{Gathered}
 use Rattle.stream.specs.Collecting.{lineText, emptyLine, gathered}
@@ -37,7 +39,7 @@ use Rattle.device.specs.Receiving.{Taken, digestLong, lineEnded, keeping
 use Rattle.device.specs.Calls.{Result, received, greeted, openedBy, closedBy}
 use Rattle.device.proofs.Cases.{received-by, opened-by, closed-by, ended-by, taken-by}
 use Rattle.device.proofs.Legal.{collecting, line-legal}
-use Rattle.device.proofs.Untouched.{taken-keeps}
+use Rattle.device.proofs.Untouched.{taken-keeps, receiving-keeps-others}
 use Rattle.stream.proofs.LinesSpelt.{empty-held}
 use Rattle.stream.proofs.LastBytes.{Ends, ends-with, ends-trans, ends-unheld, gathered-ends, taken-with-cr}
 use Rattle.device.proofs.PowerLines.{isPowerOkay, powerLine, PowerEffect, quiet, sets, line-effect}
@@ -150,34 +152,49 @@ module _ (s : Settings) (o : Own) (c : Connection) (bs : List ℕ) (legal : isCo
       (λ none lamps. record { effect = stays refl refl refl; lamps = lamps; last = part-last live }) kept
 
 -- receiving, on any input: refused, it takes nothing and leaves the record
-pub received-tells : (d : Device) (bs : List ℕ) (room : ℕ) → let r = received d bs room in
-    Tells (d .settings) (d .own) (lineText (d .connection .line) ++ take (r .taken) bs) (r .reply) (r .device .own)
-    (r .device .connection)
-received-tells d bs room =
-    let held = lineText (d .connection .line) in
+pub received-tells : (d : Device) (p : ℕ) (bs : List ℕ) (room : ℕ) → let r = received d p bs room in
+    Tells (d .settings) (d .own) (lineText (connectionAt d p .line) ++ take (r .taken) bs) (r .reply) (r .device .own)
+    (connectionAt (r .device) p)
+received-tells d p bs room =
+    let here = connectionAt d p in
+    let held = lineText (here .line) in
     let Told : Result Device → Type 0 = λ r.
-    Tells (d .settings) (d .own) (held ++ take (r .taken) bs) (r .reply) (r .device .own) (r .device .connection) in
-    let nothing : Tells (d .settings) (d .own) (held ++ []) [] (d .own) (d .connection) = record {
+    Tells (d .settings) (d .own) (held ++ take (r .taken) bs) (r .reply) (r .device .own) (connectionAt (r .device) p) in
+    let nothing : Tells (d .settings) (d .own) (held ++ []) [] (d .own) here = record {
       effect = stays refl refl refl;
       lamps = refl;
       last = record { before = []; split = append-nil held };
     } in
-    received-by d bs room Told (λ n z. nothing)
-    (λ h s c. taken-tells (d .settings) (d .own) (d .connection) bs (legal-connection d h)
-    (eqb-false (d .connection .phase) shut c))
+    received-by d p bs room Told (λ n z. nothing)
+    (λ h s t c. let took = takenIn (d .settings) (d .own) here bs in
+    subst (Tells (d .settings) (d .own) (held ++ take (took .taken) bs) (took .ended .reply) (took .ended .own))
+    (sym (placed-here d (legal-places d h) p t (took .ended .own) (took .ended .connection)))
+    (taken-tells (d .settings) (d .own) here bs (legal-connection d h p t) (eqb-false (here .phase) shut c)))
 
--- opening and closing leave a connection that holds nothing, or as it was
-abbrev held : Device → List ℕ
-held d = lineText (d .connection .line)
+-- at each place opening and closing leave a connection that holds nothing, or as it was
+abbrev held : Connection → List ℕ
+held c = lineText (c .line)
 
-module _ (d : Device) (w : List ℕ) (known : Ends w (held d)) where
-  pub opening-tells : (r room : ℕ) → Ends w (held (openedBy d r room .device))
+module _ (d : Device) (q : ℕ) (w : List ℕ) (known : Ends w (held (connectionAt d q))) where
+  abbrev EndsIt : Connection → Type 0
+  EndsIt c = Ends w (held c)
+
+  abbrev Ending : Result Device → Type 0
+  Ending k = EndsIt (connectionAt (k .device) q)
+
+  pub opening-tells : (r room : ℕ) → Ends w (held (connectionAt (openedBy d r room .device) q))
   unfolding greeted
   opening-tells r room =
-      opened-by d r room (λ q. Ends w (held (q .device))) (λ n z. known)
-      (λ h s c. ends-unheld w emptyLine empty-held)
+      opened-by d r room Ending (λ n z. known)
+      (λ h s c. placed-either EndsIt d (d .own) _ _ q (ends-unheld w emptyLine empty-held) known)
 
-  pub closing-tells : Ends w (held (closedBy d .device))
-  closing-tells =
-      closed-by d (λ q. Ends w (held (q .device))) (λ n z. known)
-      (λ h c. ends-unheld w (closed .line) closed-holds-none)
+  pub closing-tells : (p : ℕ) → Ends w (held (connectionAt (closedBy d p .device) q))
+  closing-tells p =
+      closed-by d p Ending (λ n z. known)
+      (λ h t c. placed-either EndsIt d (d .own) p _ q (ends-unheld w (closed .line) closed-holds-none) known)
+
+  -- what another place receives does not touch it
+  pub receiving-elsewhere-tells : (p : ℕ) (bs : List ℕ) (room : ℕ) → (q ≡ p → ⊥)
+      → Ends w (held (connectionAt (received d p bs room .device) q))
+  receiving-elsewhere-tells p bs room other =
+      subst EndsIt (sym (receiving-keeps-others d p bs room q other)) known

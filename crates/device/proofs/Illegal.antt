@@ -12,17 +12,17 @@ use Rattle.device.specs.Calls.{Result, refusedBy, received, openedBy, cl
 use Rattle.device.proofs.Legal.{receiving-legal, opening-legal, closing-legal}
 
 module _ (d : Device) where
-  pub received-illegal : (bs : List ℕ) (room : ℕ) → isLegal d ≡ false → received d bs room ≡ refusedBy 1 d
+  pub received-illegal : (p : ℕ) (bs : List ℕ) (room : ℕ) → isLegal d ≡ false → received d p bs room ≡ refusedBy 1 d
   unfolding received
-  received-illegal bs room h = if-yes _ _ (ap not h)
+  received-illegal p bs room h = if-yes _ _ (ap not h)
 
   pub opened-illegal : (r room : ℕ) → isLegal d ≡ false → openedBy d r room ≡ refusedBy 1 d
   unfolding openedBy
   opened-illegal r room h = if-yes _ _ (ap not h)
 
-  pub closed-illegal : isLegal d ≡ false → closedBy d ≡ refusedBy 1 d
+  pub closed-illegal : (p : ℕ) → isLegal d ≡ false → closedBy d p ≡ refusedBy 1 d
   unfolding closedBy
-  closed-illegal h = if-yes _ _ (ap not h)
+  closed-illegal p h = if-yes _ _ (ap not h)
 
   same-legality : (r : Result Device) → (isLegal d ≡ true → isLegal (r .device) ≡ true)
       → (isLegal d ≡ false → r ≡ refusedBy 1 d) → isLegal (r .device) ≡ isLegal d
@@ -32,13 +32,13 @@ module _ (d : Device) where
       by true h = stays h ∙ sym h
       by false h = ap (λ (x : Result Device). isLegal (x .device)) (same h)
 
-  pub received-legality : (bs : List ℕ) (room : ℕ) → isLegal (received d bs room .device) ≡ isLegal d
-  received-legality bs room =
-      same-legality (received d bs room) (λ h. receiving-legal d h bs room) (received-illegal bs room)
+  pub received-legality : (p : ℕ) (bs : List ℕ) (room : ℕ) → isLegal (received d p bs room .device) ≡ isLegal d
+  received-legality p bs room =
+      same-legality (received d p bs room) (λ h. receiving-legal d h p bs room) (received-illegal p bs room)
 
   pub opened-legality : (r room : ℕ) → isLegal (openedBy d r room .device) ≡ isLegal d
   opened-legality r room =
       same-legality (openedBy d r room) (λ h. opening-legal d h r room) (opened-illegal r room)
 
-  pub closed-legality : isLegal (closedBy d .device) ≡ isLegal d
-  closed-legality = same-legality (closedBy d) (λ h. closing-legal d h) closed-illegal
+  pub closed-legality : (p : ℕ) → isLegal (closedBy d p .device) ≡ isLegal d
+  closed-legality p = same-legality (closedBy d p) (λ h. closing-legal d h p) (closed-illegal p)

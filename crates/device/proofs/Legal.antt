@@ -12,12 +12,15 @@ use Rattle.lines.specs.Forms.{isCommandForm}
 use Rattle.record.specs.Limits.{shut, awaiting, opened, failed}
 use Rattle.record.specs.Updates.{withLine}
 use Rattle.record.specs.Legal.{isCollecting, isSettings, isOwn, isConnection, isLegal}
+use Rattle.record.specs.Places.{connectionAt, withPlace}
 use Rattle.record.specs.declared.types.Settings.{Settings}
 use Rattle.record.specs.declared.types.Own.{Own}
 use Rattle.record.specs.declared.types.Line.{Line}
 use Rattle.record.specs.declared.types.Connection.{Connection}
 use Rattle.record.specs.declared.types.Device.{Device}
-use Rattle.record.proofs.LegalTold.{legal-settings, legal-own, legal-connection, legal-by-parts}
+use Rattle.record.proofs.LegalTold.{legal-settings, legal-own, legal-connections, legal-connection}
+use Rattle.record.proofs.LegalTold.{legal-by-parts}
+use Rattle.record.proofs.ConnectionsTold.{placed-legal}
 use Rattle.record.proofs.ConnectionTold.{ConnectionTold, connection-told, connection-shown, zero-age, closed-legal}
 use Rattle.stream.proofs.LegalLines.{LegalLine, empty-legal, gathered-legal}
 use Rattle.meaning.proofs.Done.{done-legal}
@@ -110,21 +113,25 @@ module _ (d : Device) (legal : isLegal d ≡ true) where
   abbrev LegalAfter : Result Device → Type 0
   LegalAfter r = isLegal (r .device) ≡ true
 
-  pub receiving-legal : (bs : List ℕ) (room : ℕ) → isLegal (received d bs room .device) ≡ true
-  receiving-legal bs room =
-      let settings = legal-settings d legal in
-      received-by d bs room LegalAfter (λ n z. legal)
-      (λ h s c. legal-by-parts _ settings
-      (taken-own-legal (d .settings) (d .own) settings (legal-own d legal) (d .connection) bs)
-      (taken-connection-legal (d .settings) (d .own) (d .connection) (legal-connection d legal) bs
-      (eqb-false (d .connection .phase) shut c)))
+  -- the device with a legal own part, and a legal connection at a place
+  placed : (o : Own) (p : ℕ) (c : Connection) → isOwn (d .settings) o ≡ true → isConnection c ≡ true
+      → isLegal (withPlace d o p c) ≡ true
+  placed o p c own one =
+      legal-by-parts (withPlace d o p c) (legal-settings d legal) own
+      (placed-legal (d .connections) (legal-connections d legal) p c one)
+
+  pub receiving-legal : (p : ℕ) (bs : List ℕ) (room : ℕ) → isLegal (received d p bs room .device) ≡ true
+  receiving-legal p bs room =
+      received-by d p bs room LegalAfter (λ n z. legal)
+      (λ h s t c. let k = connectionAt d p in
+      placed _ p _ (taken-own-legal (d .settings) (d .own) (legal-settings d legal) (legal-own d legal) k bs)
+      (taken-connection-legal (d .settings) (d .own) k (legal-connection d legal p t) bs (eqb-false (k .phase) shut c)))
 
   pub opening-legal : (r room : ℕ) → isLegal (openedBy d r room .device) ≡ true
   opening-legal r room =
       opened-by d r room LegalAfter (λ n z. legal)
-      (λ h s c. legal-by-parts _ (legal-settings d legal) (legal-own d legal) (greeted-legal (d .settings) r))
+      (λ h s c. placed _ _ _ (legal-own d legal) (greeted-legal (d .settings) r))
 
-  pub closing-legal : isLegal (closedBy d .device) ≡ true
-  closing-legal =
-      closed-by d LegalAfter (λ n z. legal)
-      (λ h c. legal-by-parts _ (legal-settings d legal) (legal-own d legal) closed-legal)
+  pub closing-legal : (p : ℕ) → isLegal (closedBy d p .device) ≡ true
+  closing-legal p =
+      closed-by d p LegalAfter (λ n z. legal) (λ h t c. placed _ p _ (legal-own d legal) closed-legal)

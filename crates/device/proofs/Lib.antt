@@ -19,5 +19,6 @@ pub mod LinesReceived
 pub mod PowerRequests
 pub mod PowerLines
 pub mod Histories
+mod Opening
 mod Used
 mod Written

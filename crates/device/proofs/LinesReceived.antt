@@ -1,7 +1,7 @@
 -- Any line, from any controller, handed on whole to a legal projector between lines (01, "Connection"): on an open
 -- connection it is answered, past 135 bytes swallowed; behind the matching digest it is answered on an awaiting one,
 -- which is open afterwards.
---   lineResult d a n     the result where the line is answered a and n bytes are taken
+--   lineResult d p a n     the result at place p where the line is answered a and n bytes are taken
 -- Assumes nothing.
 use Prim.Native.Nat.{ℕ, _+_, _≤_, _<_}
 use Prim.Native.Char.{code}
@@ -17,8 +17,9 @@ use Rattle.digest.specs.Hex.{leadingDigest}
 use Rattle.lines.specs.Bytes.{notCr, noCr}
 use Rattle.lines.specs.Forms.{commandMost}
 use Rattle.lines.proofs.Characters.{no-cr-each}
-use Rattle.record.specs.Limits.{shut, awaiting, opened}
+use Rattle.record.specs.Limits.{placesCount, shut, awaiting, opened}
 use Rattle.record.specs.Legal.{heldMost, isLegal}
+use Rattle.record.specs.Places.{connectionAt}
 use Rattle.record.specs.declared.types.Settings.{Settings}
 use Rattle.record.specs.declared.types.Own.{Own}
 use Rattle.record.specs.declared.types.Connection.{Connection}
@@ -58,45 +59,46 @@ module _ (s : Settings) (o : Own) (c : Connection) (empty : c .line ≡ emptyLin
       ∙ ap {B = Taken} (λ (e : Ended). record { ended = e; taken = length xs + 1 })
       (ended-overlong s o c overlongLine phase overlong-marked)
 
-abbrev pub lineResult : Device → Answered → ℕ → Result Device
-lineResult d a n = acceptedTaken d (record { ended = spoken (d .connection) a; taken = n })
+abbrev pub lineResult : Device → ℕ → Answered → ℕ → Result Device
+lineResult d p a n = acceptedTaken d p (record { ended = spoken (connectionAt d p) a; taken = n })
 
-module _ (d : Device) (room : ℕ) (legal : isLegal d ≡ true) (enough : replyRoom ≤ room)
-    (unmarked : d .connection .line .overlong ≡ false) (none : d .connection .line .held ≡ 0)
-    (l : List ℕ) (plain : noCr l ≡ true) where
-  empty : d .connection .line ≡ emptyLine
-  empty =
-      between-lines (d .connection .phase) (d .connection .line)
-      (line-legal (d .connection) (legal-connection d legal)) unmarked none
+module _ (d : Device) (p : ℕ) (there : p < placesCount) (room : ℕ) (legal : isLegal d ≡ true)
+    (enough : replyRoom ≤ room) (unmarked : connectionAt d p .line .overlong ≡ false)
+    (none : connectionAt d p .line .held ≡ 0) (l : List ℕ) (plain : noCr l ≡ true) where
+  abbrev c : Connection
+  c = connectionAt d p
+
+  empty : c .line ≡ emptyLine
+  empty = between-lines (c .phase) (c .line) (line-legal c (legal-connection d legal p there)) unmarked none
 
   plainly : every notCr l ≡ true
   plainly = no-cr-each l plain
 
-  module _ (phase : d .connection .phase ≡ opened) where
-    open-takes : received d (l ++ ascii "\r") room
-        ≡ acceptedTaken d (takenIn (d .settings) (d .own) (d .connection) (l ++ ascii "\r"))
-    open-takes = received-taken d (l ++ ascii "\r") room legal enough (ap (λ (p : ℕ). eqb p shut) phase)
+  module _ (phase : c .phase ≡ opened) where
+    open-takes : received d p (l ++ ascii "\r") room
+        ≡ acceptedTaken d p (takenIn (d .settings) (d .own) c (l ++ ascii "\r"))
+    open-takes = received-taken d p (l ++ ascii "\r") room legal enough there (ap (λ (q : ℕ). eqb q shut) phase)
 
     pub line-received : length l ≤ commandMost
-        → received d (l ++ ascii "\r") room ≡ lineResult d (lineAnswer (d .settings) (d .own) l) (length l + 1)
+        → received d p (l ++ ascii "\r") room ≡ lineResult d p (lineAnswer (d .settings) (d .own) l) (length l + 1)
     line-received short =
         open-takes
-        ∙ ap (acceptedTaken d) (open-line-taken (d .settings) (d .own) (d .connection) empty [] l phase short plainly)
+        ∙ ap (acceptedTaken d p) (open-line-taken (d .settings) (d .own) c empty [] l phase short plainly)
 
     pub overlong-line-received : commandMost < length l
-        → received d (l ++ ascii "\r") room ≡ lineResult d (swallowed (d .own)) (length l + 1)
+        → received d p (l ++ ascii "\r") room ≡ lineResult d p (swallowed (d .own)) (length l + 1)
     overlong-line-received long =
         open-takes
-        ∙ ap (acceptedTaken d)
-        (overlong-line-taken (d .settings) (d .own) (d .connection) empty phase l [] long plainly)
+        ∙ ap (acceptedTaken d p)
+        (overlong-line-taken (d .settings) (d .own) c empty phase l [] long plainly)
 
   abbrev digest : List ℕ
-  digest = leadingDigest (d .connection .random) (passwordOf (d .settings))
+  digest = leadingDigest (c .random) (passwordOf (d .settings))
 
-  pub led-line-received : d .connection .phase ≡ awaiting → length l ≤ commandMost
-      → received d (digest ++ l ++ ascii "\r") room
-      ≡ lineResult d (lineAnswer (d .settings) (d .own) l) (digestLong + length l + 1)
+  pub led-line-received : c .phase ≡ awaiting → length l ≤ commandMost
+      → received d p (digest ++ l ++ ascii "\r") room
+      ≡ lineResult d p (lineAnswer (d .settings) (d .own) l) (digestLong + length l + 1)
   led-line-received phase short =
-      received-taken d (digest ++ l ++ ascii "\r") room legal enough (ap (λ (p : ℕ). eqb p shut) phase)
-      ∙ ap (acceptedTaken d)
-      (matching-line-taken (d .settings) (d .own) (d .connection) empty [] l phase short plainly)
+      received-taken d p (digest ++ l ++ ascii "\r") room legal enough there (ap (λ (q : ℕ). eqb q shut) phase)
+      ∙ ap (acceptedTaken d p)
+      (matching-line-taken (d .settings) (d .own) c empty [] l phase short plainly)

@@ -14,14 +14,14 @@ number r = r .number
 
 module _ (d : Device) where
   module _ (room : ℕ) where
-    pub received-number : (bs : List ℕ) → received d bs room .number ≡ firstOf (receivingRows d room)
+    pub received-number : (p : ℕ) (bs : List ℕ) → received d p bs room .number ≡ firstOf (receivingRows d p room)
     unfolding received
-    received-number bs = rows-number (λ n. refusedBy n d) _ number (λ n. refl) refl (receivingRows d room)
+    received-number p bs = rows-number (λ n. refusedBy n d) _ number (λ n. refl) refl (receivingRows d p room)
 
     pub opened-number : (r : ℕ) → openedBy d r room .number ≡ firstOf (openingRows d room)
     unfolding openedBy
     opened-number r = rows-number (λ n. refusedBy n d) _ number (λ n. refl) refl (openingRows d room)
 
-  pub closed-number : closedBy d .number ≡ firstOf (closingRows d)
+  pub closed-number : (p : ℕ) → closedBy d p .number ≡ firstOf (closingRows d p)
   unfolding closedBy
-  closed-number = rows-number (λ n. refusedBy n d) _ number (λ n. refl) refl (closingRows d)
+  closed-number p = rows-number (λ n. refusedBy n d) _ number (λ n. refl) refl (closingRows d p)

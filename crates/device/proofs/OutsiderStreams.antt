@@ -2,7 +2,7 @@
 -- bytes are cut: until the connection closes he gets the refusal line once his first line ends, and nothing else
 -- (demand 2: "a first line without the matching digest yields the refusal line only").
 -- Assumes nothing.
-use Prim.Native.Nat.{ℕ, _≤_}
+use Prim.Native.Nat.{ℕ, _≤_, _<_}
 use Prim.Native.Char.{code}
 use mathlib.Core.Path.{_≡_, refl, sym, ap, subst, _∙_}
 use mathlib.Core.Bool.{Bool, true, false, false≢true}
@@ -11,13 +11,16 @@ use native.Mathlib.Omega.{arith}
 use lib.Dec.{eqb}
 use Rattle.text.specs.Words.{if_then_else_, _is_}
 use Rattle.lines.specs.Forms.{erraLine}
-use Rattle.record.specs.Limits.{shut, awaiting, failed}
+use Rattle.record.specs.Limits.{placesCount, shut, awaiting, failed}
 use Rattle.record.specs.Updates.{withLine}
 use Rattle.record.specs.Legal.{heldMost, isLegal}
+use Rattle.record.specs.Places.{connectionAt}
 use Rattle.record.specs.declared.types.Settings.{Settings}
 use Rattle.record.specs.declared.types.Own.{Own}
 use Rattle.record.specs.declared.types.Connection.{Connection}
 use Rattle.record.specs.declared.types.Device.{Device}
+use Rattle.record.proofs.LegalTold.{legal-places}
+use Rattle.record.proofs.ConnectionsTold.{placed-here, placed-elsewhere}
 use Rattle.stream.specs.declared.Gathered.{Gathered}
 use Rattle.stream.specs.Collecting.{collected, gathered}
 use Rattle.stream.specs.Machine.{Out, unanswered, replyThen, runOver, handedParts, uncut}
@@ -26,7 +29,7 @@ use Rattle.device.specs.Calls.{replyRoom}
 use Rattle.device.proofs.Cases.{keeping-none, keeping-line}
 use Rattle.device.proofs.Outsiders.{Unmatched, mismatch-refused, failed-ignores-line}
 use Rattle.device.proofs.ReceivingAsMachine.{State, stateOf, leaves, collects, ends}
-use Rattle.device.proofs.SameCuts.{deviceOf, partsOf, receives, received-as-run}
+use Rattle.device.proofs.SameCuts.{deviceAt, partsAt, receives, received-as-run}
 use Rattle.stream.proofs.LinesSpelt.{later, gathered-none, gathered-more, run-none, run-more}
 use Rattle.stream.proofs.SameHoweverCut.{outThrough}
 
@@ -126,37 +129,47 @@ module _ (s : Settings) where
       (first-step m b bs (b is "\r") p unmatched (λ k. outsider-run (stateOf (m .own) (withLine c l)) bs p k))
 
 -- the calls, however the stream is cut
-module _ (room : ℕ) (enough : replyRoom ≤ room) (d : Device) (legal : isLegal d ≡ true)
-    (waits : d .connection .phase ≡ awaiting) (ps : List (List ℕ))
-    (unmatched : Unmatched (d .settings) (d .connection) (uncut ps)) where
+module _ (room : ℕ) (enough : replyRoom ≤ room) (p : ℕ) (there : p < placesCount) (d : Device)
+    (legal : isLegal d ≡ true) (waits : connectionAt d p .phase ≡ awaiting) (ps : List (List ℕ))
+    (unmatched : Unmatched (d .settings) (connectionAt d p) (uncut ps)) where
   abbrev all : Out Device
-  all = handedParts (receives room) d ps
+  all = handedParts (receives room p) d ps
 
-  as-run : all ≡ outThrough (deviceOf (d .settings)) (ran (d .settings) (partsOf d) (uncut ps))
-  as-run = received-as-run room enough d legal (ap (λ (p : ℕ). eqb p shut) waits) ps
+  abbrev ends-in : Out State
+  ends-in = ran (d .settings) (partsAt d p) (uncut ps)
 
-  pub outsider-stream-keeps-own : handedParts (receives room) d ps .state .own ≡ d .own
-  outsider-stream-keeps-own =
-      ap (λ (o : Out Device). o .state .own) as-run
-      ∙ outsider-run (d .settings) (partsOf d) (uncut ps) waits unmatched .own
+  as-run : all ≡ outThrough (deviceAt d p) ends-in
+  as-run = received-as-run room enough p there d legal (ap (λ (k : ℕ). eqb k shut) waits) ps
 
-  pub outsider-stream-refused : handedParts (receives room) d ps .reply
-      ≡ refusalOf (firstLine (d .connection) (uncut ps))
-  outsider-stream-refused =
-      ap (λ (o : Out Device). o .reply) as-run
-      ∙ outsider-run (d .settings) (partsOf d) (uncut ps) waits unmatched .reply
+  fruitless : Fruitless (d .own) (firstLine (connectionAt d p) (uncut ps)) ends-in
+  fruitless = outsider-run (d .settings) (partsAt d p) (uncut ps) waits unmatched
 
-  pub outsider-stream-keeps-settings : handedParts (receives room) d ps .state .settings ≡ d .settings
+  pub outsider-stream-keeps-own : handedParts (receives room p) d ps .state .own ≡ d .own
+  outsider-stream-keeps-own = ap (λ (o : Out Device). o .state .own) as-run ∙ fruitless .own
+
+  pub outsider-stream-refused : handedParts (receives room p) d ps .reply
+      ≡ refusalOf (firstLine (connectionAt d p) (uncut ps))
+  outsider-stream-refused = ap (λ (o : Out Device). o .reply) as-run ∙ fruitless .reply
+
+  pub outsider-stream-keeps-settings : handedParts (receives room p) d ps .state .settings ≡ d .settings
   outsider-stream-keeps-settings = ap (λ (o : Out Device). o .state .settings) as-run
 
-  -- once his first line ended, the connection has failed
-  module _ (cr : firstLine (d .connection) (uncut ps) .ended ≡ true) where
-    pub outsider-stream-fails : handedParts (receives room) d ps .state .connection .phase ≡ failed
-    outsider-stream-fails =
-        ap (λ (o : Out Device). o .state .connection .phase) as-run
-        ∙ outsider-run (d .settings) (partsOf d) (uncut ps) waits unmatched .fails cr
+  -- every other place is as it was
+  pub outsider-stream-keeps-others : (q : ℕ) → (q ≡ p → ⊥)
+      → connectionAt (handedParts (receives room p) d ps .state) q ≡ connectionAt d q
+  outsider-stream-keeps-others q other =
+      ap (λ (o : Out Device). connectionAt (o .state) q) as-run
+      ∙ placed-elsewhere d (ends-in .state .own) p (ends-in .state .connection) q other
 
-    pub outsider-stream-age : handedParts (receives room) d ps .state .connection .age ≡ 0
-    outsider-stream-age =
-        ap (λ (o : Out Device). o .state .connection .age) as-run
-        ∙ outsider-run (d .settings) (partsOf d) (uncut ps) waits unmatched .age cr
+  here : connectionAt (all .state) p ≡ ends-in .state .connection
+  here =
+      ap (λ (o : Out Device). connectionAt (o .state) p) as-run
+      ∙ placed-here d (legal-places d legal) p there (ends-in .state .own) (ends-in .state .connection)
+
+  -- once his first line ended, the connection has failed
+  module _ (cr : firstLine (connectionAt d p) (uncut ps) .ended ≡ true) where
+    pub outsider-stream-fails : connectionAt (handedParts (receives room p) d ps .state) p .phase ≡ failed
+    outsider-stream-fails = ap (λ (c : Connection). c .phase) here ∙ fruitless .fails cr
+
+    pub outsider-stream-age : connectionAt (handedParts (receives room p) d ps .state) p .age ≡ 0
+    outsider-stream-age = ap (λ (c : Connection). c .age) here ∙ fruitless .age cr

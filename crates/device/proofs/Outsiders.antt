@@ -14,6 +14,8 @@ use Rattle.record.specs.declared.types.Own.{Own}
 use Rattle.record.specs.declared.types.Line.{Line}
 use Rattle.record.specs.declared.types.Connection.{Connection}
 use Rattle.record.specs.declared.types.Device.{Device}
+use Rattle.record.specs.Places.{connectionAt, withPlace}
+use Rattle.record.proofs.ConnectionsTold.{placed-itself}
 use Rattle.stream.specs.Collecting.{emptyLine, gathered}
 use Rattle.device.specs.Receiving.{Ended, isMatch, noReply, lineEnded, takenIn}
 use Rattle.device.specs.Calls.{received}
@@ -58,22 +60,24 @@ module _ (s : Settings) (o : Own) (c : Connection) where
         taken-by s o c bs (λ t. t .ended ≡ noReply o c) (λ e. failed-ignores-line _)
         (λ e. ap (noReply o) (keeping-none c _ phase))
 
-module _ (d : Device) (bs : List ℕ) (room : ℕ) where
-  pub outsider-keeps-own : d .connection .phase ≡ awaiting → Unmatched (d .settings) (d .connection) bs
-      → received d bs room .device .own ≡ d .own
-  outsider-keeps-own p n =
-      received-by d bs room (λ r. r .device .own ≡ d .own) (λ n z. refl)
-      (λ h s c. unmatched-keeps-own (d .settings) (d .own) (d .connection) p bs n)
+module _ (d : Device) (p : ℕ) (bs : List ℕ) (room : ℕ) where
+  abbrev here : Connection
+  here = connectionAt d p
 
-  module _ (phase : d .connection .phase ≡ failed) where
-    pub failed-keeps-record : received d bs room .device ≡ d
+  pub outsider-keeps-own : here .phase ≡ awaiting → Unmatched (d .settings) here bs
+      → received d p bs room .device .own ≡ d .own
+  outsider-keeps-own waits n =
+      received-by d p bs room (λ r. r .device .own ≡ d .own) (λ n z. refl)
+      (λ h s t c. unmatched-keeps-own (d .settings) (d .own) here waits bs n)
+
+  module _ (phase : here .phase ≡ failed) where
+    pub failed-keeps-record : received d p bs room .device ≡ d
     failed-keeps-record =
-        received-by d bs room (λ r. r .device ≡ d) (λ n z. refl)
-        (λ h s c. ap {B = Device}
-        (λ (e : Ended). record { settings = d .settings; own = e .own; connection = e .connection })
-        (failed-ignores (d .settings) (d .own) (d .connection) phase bs))
+        received-by d p bs room (λ r. r .device ≡ d) (λ n z. refl)
+        (λ h s t c. ap {B = Device} (λ (e : Ended). withPlace d (e .own) p (e .connection))
+        (failed-ignores (d .settings) (d .own) here phase bs) ∙ placed-itself d p)
 
-    pub failed-never-replies : received d bs room .reply ≡ []
+    pub failed-never-replies : received d p bs room .reply ≡ []
     failed-never-replies =
-        received-by d bs room (λ r. r .reply ≡ []) (λ n z. refl)
-        (λ h s c. ap (λ (e : Ended). e .reply) (failed-ignores (d .settings) (d .own) (d .connection) phase bs))
+        received-by d p bs room (λ r. r .reply ≡ []) (λ n z. refl)
+        (λ h s t c. ap (λ (e : Ended). e .reply) (failed-ignores (d .settings) (d .own) here phase bs))

@@ -13,6 +13,7 @@ use Rattle.digest.specs.Hex.{hexDigits}
 use Rattle.digest.proofs.Laws.{hex-digits-length}
 use Rattle.lines.specs.Forms.{isCommandForm}
 use Rattle.record.specs.Legal.{isSettings, isOwn}
+use Rattle.record.specs.Places.{connectionAt}
 use Rattle.record.specs.declared.types.Settings.{Settings}
 use Rattle.record.specs.declared.types.Own.{Own}
 use Rattle.record.specs.declared.types.Line.{Line}
@@ -57,10 +58,10 @@ greeting-short s r =
 
 module _ (d : Device) where
   -- on any input, refused or not
-  pub receiving-short : (bs : List ℕ) (room : ℕ) → length (received d bs room .reply) ≤ longestReply
-  receiving-short bs room =
-      received-by d bs room (λ r. length (r .reply) ≤ longestReply) (λ n z. omega arith)
-      (λ h s c. taken-short (d .settings) (d .own) (legal-settings d h) (legal-own d h) (d .connection) bs)
+  pub receiving-short : (p : ℕ) (bs : List ℕ) (room : ℕ) → length (received d p bs room .reply) ≤ longestReply
+  receiving-short p bs room =
+      received-by d p bs room (λ r. length (r .reply) ≤ longestReply) (λ n z. omega arith)
+      (λ h s t c. taken-short (d .settings) (d .own) (legal-settings d h) (legal-own d h) (connectionAt d p) bs)
 
   pub opening-short : (r room : ℕ) → length (openedBy d r room .reply) ≤ longestGreeting
   opening-short r room =

@@ -2,8 +2,8 @@
 -- Assumes nothing.
 use Rattle.device.specs.Answering.{lineAnswer}
 use Rattle.device.specs.Receiving.{isMatch, lineEnded, keepingLine, takenIn}
-use Rattle.device.specs.Calls.{received, greeting, greeted, openedBy, closedBy}
+use Rattle.device.specs.Calls.{received, greeting, greeted, openedBy, placeTaken, closedBy}
 
 unfoldable pub computing : Unit {0}
-unfolding lineAnswer isMatch lineEnded keepingLine takenIn received greeting greeted openedBy closedBy
+unfolding lineAnswer isMatch lineEnded keepingLine takenIn received greeting greeted openedBy placeTaken closedBy
 computing = tt

@@ -6,12 +6,14 @@ use record::types::Device;
 ghost use mathlib.Core.Path.{_≡_};
 ghost use lib.ListN.{length};
 ghost use Rattle.text.specs.Words.{over};
-ghost use Rattle.device.specs.Calls.{received, openedBy, closedBy, toldReceived, toldOpened, toldChanged};
+ghost use Rattle.device.specs.Calls.{received, openedBy, placeTaken, closedBy};
+ghost use Rattle.device.specs.Calls.{toldReceived, toldOpened, toldChanged};
 
 #[repr(C)]
 pub struct Opened {
     pub number: u32,
     pub length: usize,
+    pub place: usize,
     pub device: Device,
 }
 
@@ -23,10 +25,10 @@ pub struct Received {
     pub device: Device,
 }
 
-// Bytes from the network: 1, 2 and 4 in that order, even for no bytes.
-pub fn receive(d: Device, bytes: &[u8], out: &mut [u8]) -> Received
-    ensures { λ r. ⌜ r ≡ toldReceived (received d (now (bytes .entry)) (length (now (out .entry)))) ⌝ }
-    ensures { λ _. ⌜ now (out .exit) ≡ over (received d (now (bytes .entry)) (length (now (out .entry))) .reply)
+// Bytes from the network at a place: 1, 2, 3 and 4 in that order, even for no bytes.
+pub fn receive(d: Device, place: usize, bytes: &[u8], out: &mut [u8]) -> Received
+    ensures { λ r. ⌜ r ≡ toldReceived (received d place (now (bytes .entry)) (length (now (out .entry)))) ⌝ }
+    ensures { λ _. ⌜ now (out .exit) ≡ over (received d place (now (bytes .entry)) (length (now (out .entry))) .reply)
         (now (out .entry)) ⌝ }
 {
     if !legality::legal(d) {
@@ -37,12 +39,13 @@ pub fn receive(d: Device, bytes: &[u8], out: &mut [u8]) -> Received
             device: d,
         };
     }
-    on_legal::receive(d, bytes, out)
+    on_legal::receive(d, place, bytes, out)
 }
 
-// A new connection, with the random number that the host lends: 1, 2 and 5 in that order.
+// A new connection, with the random number that the host lends: 1, 2 and 6 in that order.
 pub fn open(d: Device, random: u32, out: &mut [u8]) -> Opened
-    ensures { λ r. ⌜ r ≡ toldOpened (openedBy d random (length (now (out .entry)))) ⌝ }
+    ensures { λ r. ⌜ r ≡ toldOpened (placeTaken d (length (now (out .entry))))
+        (openedBy d random (length (now (out .entry)))) ⌝ }
     ensures { λ _. ⌜ now (out .exit) ≡ over (openedBy d random (length (now (out .entry))) .reply)
         (now (out .entry)) ⌝ }
 {
@@ -50,15 +53,16 @@ pub fn open(d: Device, random: u32, out: &mut [u8]) -> Opened
         return Opened {
             number: 1,
             length: 0,
+            place: 0,
             device: d,
         };
     }
     on_legal::open(d, random, out)
 }
 
-// The connection closed: 1 and 4 in that order.
-pub fn close(d: Device) -> Changed
-    ensures { λ r. ⌜ r ≡ toldChanged (closedBy d) ⌝ }
+// The connection at a place closed: 1, 3 and 4 in that order.
+pub fn close(d: Device, place: usize) -> Changed
+    ensures { λ r. ⌜ r ≡ toldChanged (closedBy d place) ⌝ }
 {
     if !legality::legal(d) {
         return Changed {
@@ -66,5 +70,5 @@ pub fn close(d: Device) -> Changed
             device: d,
         };
     }
-    on_legal::close(d)
+    on_legal::close(d, place)
 }

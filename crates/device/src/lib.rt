@@ -2,4 +2,5 @@
 mod answering;
 pub mod calls;
 pub mod on_legal;
+mod places;
 pub mod receiving;

@@ -1,7 +1,10 @@
 // What each of `calls` does with a record that is legal, by the same promise. A caller that has tested its record once
 // and keeps it legal calls these, as `floor` does; a host calls those of `calls`, which ask for nothing.
+//
+// Each has one record, changed where it lies, and one end: the compiler then copies it in and out, and once each.
 use crate::calls::Opened;
 use crate::calls::Received;
+use crate::places;
 use crate::receiving;
 use record::connection::AWAITING;
 use record::connection::OPENED;
@@ -9,7 +12,7 @@ use record::connection::SHUT;
 use record::types::Changed;
 use record::types::Connection;
 use record::types::Device;
-use record::types::Own;
+use record::types::PLACES;
 use record::types::Settings;
 ghost use mathlib.Core.Path.{_≡_};
 ghost use mathlib.Core.Bool.{true};
@@ -17,47 +20,42 @@ ghost use Prim.Native.Nat.{_≤_};
 ghost use lib.ListN.{length};
 ghost use Rattle.text.specs.Words.{over};
 ghost use Rattle.record.specs.Legal.{isLegal};
-ghost use Rattle.device.specs.Calls.{received, openedBy, closedBy, greeting, greeted, withParts};
+ghost use Rattle.device.specs.Calls.{received, openedBy, placeTaken, closedBy, greeting, greeted};
 ghost use Rattle.device.specs.Calls.{toldReceived, toldOpened, toldChanged};
 
-fn with_parts(d: Device, own: Own, connection: Connection) -> Device
-    ensures { λ r. ⌜ r ≡ withParts d own connection ⌝ }
-{
-    let mut next = d;
-    next.own = own;
-    next.connection = connection;
-    next
-}
-
-// Bytes from the network: 2 and 4 in that order, even for no bytes.
-pub fn receive(d: Device, bytes: &[u8], out: &mut [u8]) -> Received
+// Bytes from the network at a place: 2, 3 and 4 in that order, even for no bytes.
+pub fn receive(d: Device, place: usize, bytes: &[u8], out: &mut [u8]) -> Received
     requires { ⌜ isLegal d ≡ true ⌝ }
-    ensures { λ r. ⌜ r ≡ toldReceived (received d (now (bytes .entry)) (length (now (out .entry)))) ⌝ }
-    ensures { λ _. ⌜ now (out .exit) ≡ over (received d (now (bytes .entry)) (length (now (out .entry))) .reply)
+    ensures { λ r. ⌜ r ≡ toldReceived (received d place (now (bytes .entry)) (length (now (out .entry)))) ⌝ }
+    ensures { λ _. ⌜ now (out .exit) ≡ over (received d place (now (bytes .entry)) (length (now (out .entry))) .reply)
         (now (out .entry)) ⌝ }
 {
+    let mut device = d;
+    let mut number = 0;
+    let mut taken = 0;
+    let mut length = 0;
     if out.len() < 136 {
-        return Received {
-            number: 2,
-            taken: 0,
-            length: 0,
-            device: d,
-        };
+        number = 2;
+    } else if PLACES <= place {
+        number = 3;
+    } else {
+        let connection = device.connections[place];
+        if connection.phase == SHUT {
+            number = 4;
+        } else {
+            let took = receiving::take_in(device.settings, device.own, connection, bytes, out);
+            let own = took.own;
+            let next = took.connection;
+            device.own = own;
+            device.connections[place] = next;
+            taken = took.taken;
+            length = took.length;
+        }
     }
-    if d.connection.phase == SHUT {
-        return Received {
-            number: 4,
-            taken: 0,
-            length: 0,
-            device: d,
-        };
-    }
-    let took = receiving::take_in(d.settings, d.own, d.connection, bytes, out);
-    let device = with_parts(d, took.own, took.connection);
     Received {
-        number: 0,
-        taken: took.taken,
-        length: took.length,
+        number,
+        taken,
+        length,
         device,
     }
 }
@@ -93,51 +91,56 @@ fn greeted_connection(s: Settings, random: u32) -> Connection
     next
 }
 
-// A new connection, with the random number that the host lends: 2 and 5 in that order.
+// A new connection at the lowest closed place, with the random number that the host lends: 2 and 6 in that order.
 pub fn open(d: Device, random: u32, out: &mut [u8]) -> Opened
     requires { ⌜ isLegal d ≡ true ⌝ }
-    ensures { λ r. ⌜ r ≡ toldOpened (openedBy d random (length (now (out .entry)))) ⌝ }
+    ensures { λ r. ⌜ r ≡ toldOpened (placeTaken d (length (now (out .entry))))
+        (openedBy d random (length (now (out .entry)))) ⌝ }
     ensures { λ _. ⌜ now (out .exit) ≡ over (openedBy d random (length (now (out .entry))) .reply)
         (now (out .entry)) ⌝ }
 {
-    if out.len() < 136 {
-        return Opened {
-            number: 2,
-            length: 0,
-            device: d,
-        };
-    }
-    if d.connection.phase != SHUT {
-        return Opened {
-            number: 5,
-            length: 0,
-            device: d,
-        };
-    }
-    let length = put_greeting(d.settings, random, out);
-    let connection = greeted_connection(d.settings, random);
     let mut device = d;
-    device.connection = connection;
+    let mut number = 0;
+    let mut length = 0;
+    let mut place = 0;
+    if out.len() < 136 {
+        number = 2;
+    } else {
+        let connections = device.connections;
+        let lowest = places::lowest_shut(connections);
+        if PLACES <= lowest {
+            number = 6;
+        } else {
+            length = put_greeting(device.settings, random, out);
+            let connection = greeted_connection(device.settings, random);
+            device.connections[lowest] = connection;
+            place = lowest;
+        }
+    }
     Opened {
-        number: 0,
+        number,
         length,
+        place,
         device,
     }
 }
 
-// The connection closed: 4 where it is.
-pub fn close(d: Device) -> Changed
+// The connection at a place closed: 3 and 4 in that order.
+pub fn close(d: Device, place: usize) -> Changed
     requires { ⌜ isLegal d ≡ true ⌝ }
-    ensures { λ r. ⌜ r ≡ toldChanged (closedBy d) ⌝ }
+    ensures { λ r. ⌜ r ≡ toldChanged (closedBy d place) ⌝ }
 {
-    if d.connection.phase == SHUT {
-        return Changed {
-            number: 4,
-            device: d,
-        };
-    }
-    let closed = Connection::CLOSED;
     let mut device = d;
-    device.connection = closed;
-    Changed { number: 0, device }
+    let mut number = 0;
+    if PLACES <= place {
+        number = 3;
+    } else {
+        let connection = device.connections[place];
+        if connection.phase == SHUT {
+            number = 4;
+        } else {
+            device.connections[place] = Connection::CLOSED;
+        }
+    }
+    Changed { number, device }
 }

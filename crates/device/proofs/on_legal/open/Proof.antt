@@ -1,62 +1,80 @@
--- `device::on_legal::open` meets its contract: each `return` is one row of the table, past the first.
+-- `device::on_legal::open` meets its contract: each way to the end is one row of the table, past the first.
 -- Assumes nothing.
-use Prim.Native.Nat.{ℕ}
-use mathlib.Core.Path.{_≡_, refl, ap, _∙_}
-use mathlib.Core.Bool.{not}
-use mathlib.Core.List.{List}
+use Prim.Native.Nat.{ℕ, _<_}
+use mathlib.Core.Path.{_≡_, refl, sym, ap, subst, _∙_}
+use lib.Dec.{leb}
 use lib.ListN.{length}
-use borrow.Author.Tests.{eq-eqb, ne-eqb, lt-ltb, le-ltb}
+use borrow.Author.Tests.{lt-ltb, le-ltb, le-leb}
 use borrow.Author.Needs.{needs}
-use Rattle.record.specs.declared.types.Device.{Device}
-use Rattle.text.proofs.Carried.{carried}
-use Rattle.text.proofs.Choices.{if-yes, if-no}
-use Rattle.device.specs.Calls.{Result, withParts, toldOpened, openedBy}
+use Rattle.record.specs.Limits.{placesCount}
+use Rattle.record.specs.Places.{withPlace}
 use Rattle.device.specs.declared.calls.Opened.{Opened}
-use Rattle.device.proofs.Cases.{opened-greeted}
+use Rattle.device.proofs.Cases.{opens-short, opens-full, opened-greeted, opened-lowest}
+use Rattle.device.proofs.Opening.{opening-carried}
 use Rattle.device.proofs.on_legal.open.Statement.{statement}
 use Rattle.device.proofs.on_legal.open.Tie as tie
 
-abbrev replyOf : Result Device → List ℕ
-replyOf r = r .reply
+-- past the test of the memory
+module _ (c : tie.Else1) where
+  abbrev start : tie.Start
+  start = c .before .before
 
 short : tie.Need-returns
-unfolding openedBy
 short c =
     let from = c .before .before in
-    carried toldOpened replyOf (from .args .out .now)
-    (if-no _ _ (ap not (from .pre)) ∙ if-yes _ _ (lt-ltb _ _ (c .if1 .taken))) refl refl
+    let d = from .args .d in
+    let out = from .args .out .now in
+    opening-carried d (from .args .random) (length out) out
+    (opens-short d (from .args .random) (length out) (from .pre) (lt-ltb _ _ (c .if1 .taken))) refl refl
 
-not-closed : tie.Need-returns-2
-unfolding openedBy
-not-closed c =
-    let roomy = c .before .before in
-    let from = roomy .before .before in
-    carried toldOpened replyOf (from .args .out .now)
-    (if-no _ _ (ap not (from .pre)) ∙ if-no _ _ (le-ltb _ _ (roomy .if1 .left))
-    ∙ if-yes _ _ (ap not (ne-eqb _ _ (c .if2 .taken))))
+none-closed : tie.Need-returns-2
+none-closed c =
+    let low = c .before in
+    let roomy = low .before .before in
+    let from = start roomy in
+    let d = from .args .d in
+    let out = from .args .out .now in
+    opening-carried d (from .args .random) (length out) out
+    (opens-full d (from .args .random) (length out) (from .pre) (le-ltb _ _ (roomy .if1 .left))
+    (ap (leb placesCount) (sym (low .lowest-shut .ensures)) ∙ le-leb _ _ (c .if2 .taken)))
     refl refl
 
+-- past the test of the places
+module _ (c : tie.Else2) where
+  abbrev found : tie.After-lowest-shut
+  found = c .before
+
+  abbrev enough : tie.Else1
+  enough = c .before .before .before
+
 may-greet : tie.Need-put-greeting-requires
-may-greet c κs = let roomy = c .before .before .before in roomy .if1 .left
+may-greet c κs = enough (c .before .before) .if1 .left
 
 greets : tie.Need-returns-3
 greets c =
-    let put = c .before .before .before in
-    let free = put .before .before in
-    let roomy = free .before .before in
-    let from = roomy .before .before in
+    let put = let c2 = c .before .before in c2 .before .before in
+    let free = put .before .before .before in
+    let roomy = enough free in
+    let from = start roomy in
     let d = from .args .d in
+    let out = from .args .out .now in
+    let e = found free .lowest-shut .ensures in
+    let there = subst (λ (k : ℕ). k < placesCount) e (free .if2 .left) in
     let result : _≡_ {A = Opened} _ _ = λ i. record {
       number = 0;
       length = put .put-greeting .ensures .0 i;
-      device = withParts d (d .own) (c .greeted-connection .ensures i);
+      place = e i;
+      device = withPlace d (d .own) (e i) (c .greeted-connection .ensures i);
     } in
-    carried toldOpened replyOf (from .args .out .now)
-    (opened-greeted d (from .args .random) (length (from .args .out .now)) (from .pre) (roomy .if1 .left)
-    (eq-eqb _ _ (free .if2 .left)))
+    opening-carried d (from .args .random) (length out) out (
+      opened-lowest d (from .args .random) (length out) (from .pre) (roomy .if1 .left) there,
+      opened-greeted d (from .args .random) (length out) (from .pre) (roomy .if1 .left) there,
+    )
     result (put .put-greeting .ensures .1)
 
 pub open-spec : {M : Type 1} → statement M
 open-spec =
     tie.close
-    (tie.spec short not-closed may-greet (λ c κs. search needs) (λ c. search needs) greets)
+    (tie.spec
+    (λ c κs. search needs) may-greet (λ c κs. search needs) (λ c. search needs) (λ c. search needs) short none-closed
+    (λ c. search needs) greets)
