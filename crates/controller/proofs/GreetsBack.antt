@@ -1,7 +1,7 @@
 -- What the greeting reader takes from the opening reply is what opening did; and it takes each greeting and the ERRA
 -- line for what it is, and no other line for one of them (01, "Controller": "nothing more").
---   GreetedBack d r q     the result q of opening with the random number r: number 0, the record with its connection
---                         greeted, and the reply read as what the connection now is
+--   GreetedBack d r p q     the result q of opening with the random number r, which reports the place p: number 0, the
+--                           record with a connection greeted there, and the reply read as what that connection now is
 -- Assumes nothing.
 use Prim.Native.Nat.{ℕ, _^_, _≤_, _<_}
 use mathlib.Core.Path.{_≡_, refl, sym, ap, subst, _∙_}
@@ -10,18 +10,21 @@ use mathlib.Core.List.{List, map-id}
 use native.Mathlib.Nat.{pow-le-pow-right}
 use native.Mathlib.Omega.{arith}
 use lib.ListN.{length, take, drop, length-take}
-use borrow.Author.Tests.{eq-eqb}
 use Rattle.text.specs.Scans.{sameBy, itself}
 use Rattle.text.proofs.Sameness.{same-is, turned-same}
 use Rattle.digest.specs.Hex.{hexDigits}
 use Rattle.digest.proofs.Laws.{hex-value-back, hex-value-below}
 use Rattle.lines.specs.Forms.{erraLine, greetingOpen, greetingSecured}
-use Rattle.record.specs.Limits.{shut}
+use Rattle.record.specs.Limits.{placesCount}
 use Rattle.record.specs.Legal.{isLegal}
 use Rattle.record.specs.declared.types.Settings.{Settings}
+use Rattle.record.specs.Places.{connectionAt, withPlace, lowestShut}
+use Rattle.record.specs.declared.types.Connection.{Connection}
 use Rattle.record.specs.declared.types.Device.{Device}
-use Rattle.device.specs.Calls.{Result, replyRoom, withParts, greeting, greeted, openedBy}
-use Rattle.device.proofs.Cases.{opened-greeted, greeted-by}
+use Rattle.record.proofs.LegalTold.{legal-places}
+use Rattle.record.proofs.ConnectionsTold.{placed-here}
+use Rattle.device.specs.Calls.{Result, replyRoom, greeting, greeted, openedBy, placeTaken}
+use Rattle.device.proofs.Cases.{opened-greeted, opened-lowest, greeted-by}
 use Rattle.controller.specs.Greetings.{greets, randomIn, readGreeting, Exactly, greetedOn, greetingNumber}
 use Rattle.controller.specs.declared.greeting.Greeting.the-variants.{Open, Secured, Refused, NotAGreeting}
 use Rattle.controller.proofs.Cases.{greeting-by, greeting-secured}
@@ -76,24 +79,30 @@ heard-exactly l =
     refl
 
 -- opening
-pub record GreetedBack (d : Device) (r : ℕ) (q : Result Device) : Type 0 where
+pub record GreetedBack (d : Device) (r p : ℕ) (q : Result Device) : Type 0 where
   pub number : q .number ≡ 0
-  pub device : q .device ≡ withParts d (d .own) (greeted (d .settings) r)
-  pub random : q .device .connection .random ≡ r
-  pub heard : readGreeting (q .reply) ≡ greetedOn (q .device .connection)
+  pub place : p < placesCount
+  pub device : q .device ≡ withPlace d (d .own) p (greeted (d .settings) r)
+  pub random : connectionAt (q .device) p .random ≡ r
+  pub heard : readGreeting (q .reply) ≡ greetedOn (connectionAt (q .device) p)
 
 greeting-heard : (s : Settings) (r : ℕ) → r < 2 ^ 32 → readGreeting (greeting s r) ≡ greetedOn (greeted s r)
 greeting-heard s r word =
     greeted-by s r (λ g c. readGreeting g ≡ greetedOn c) (secured-heard r word) open-heard
 
-pub greets-back : (d : Device) (r room : ℕ) → isLegal d ≡ true → d .connection .phase ≡ shut → replyRoom ≤ room
-    → r < 2 ^ 32
-    → GreetedBack d r (openedBy d r room)
-greets-back d r room legal closed enough word =
-    subst (GreetedBack d r) (sym (opened-greeted d r room legal enough (eq-eqb (d .connection .phase) shut closed)))
+pub greets-back : (d : Device) (r room : ℕ) → isLegal d ≡ true → lowestShut (d .connections) < placesCount
+    → replyRoom ≤ room → r < 2 ^ 32
+    → GreetedBack d r (placeTaken d room) (openedBy d r room)
+greets-back d r room legal free enough word =
+    let p = lowestShut (d .connections) in
+    let s = d .settings in
+    let here = placed-here d (legal-places d legal) p free (d .own) (greeted s r) in
+    subst (λ (k : ℕ). GreetedBack d r k (openedBy d r room)) (sym (opened-lowest d r room legal enough free))
+    (subst (GreetedBack d r p) (sym (opened-greeted d r room legal enough free))
     (record {
       number = refl;
+      place = free;
       device = refl;
-      random = greeted-by (d .settings) r (λ g c. c .random ≡ r) refl refl;
-      heard = greeting-heard (d .settings) r word;
-    })
+      random = ap (λ (c : Connection). c .random) here ∙ greeted-by s r (λ g c. c .random ≡ r) refl refl;
+      heard = greeting-heard s r word ∙ sym (ap greetedOn here);
+    }))

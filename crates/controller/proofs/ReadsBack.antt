@@ -1,9 +1,9 @@
 -- THE LAW: for a legal projector on a connection between lines, what the reader takes from the reply to a command's
 -- line is what the projector meant (01, "Controller").
---   TakenAndRead d c bs r    the result r of receiving bs: number 0, exactly bs taken, the record as the command leaves
+--   TakenAndRead d p c bs r    the result r of receiving bs at place p: number 0, exactly bs taken, the record as the command leaves
 --                            it on a connection open between lines with the random number kept, the reply read as meant
 -- Assumes nothing.
-use Prim.Native.Nat.{ℕ, _+_, _≤_}
+use Prim.Native.Nat.{ℕ, _+_, _≤_, _<_}
 use mathlib.Core.Path.{_≡_, refl, sym, ap, subst, _∙_}
 use mathlib.Core.Bool.{true, false}
 use mathlib.Core.List.{List, [], _++_, append-assoc}
@@ -29,8 +29,10 @@ use Rattle.answers.specs.Reading.{readParameter}
 use Rattle.answers.specs.CanSay.{CanSay, done as does, refuses, power, input, mutes, errors, lamps, inputs}
 use Rattle.answers.specs.CanSay.{name, maker, model, other, class-1}
 use Rattle.answers.proofs.ReadsBack.{reads-back as parameter-reads-back}
-use Rattle.record.specs.Limits.{shut, awaiting, opened}
+use Rattle.record.specs.Limits.{placesCount, shut, awaiting, opened}
 use Rattle.record.specs.Legal.{isLegal}
+use Rattle.record.specs.Places.{connectionAt, withPlace}
+use Rattle.record.specs.declared.types.Connection.{Connection}
 use Rattle.record.specs.declared.types.Device.{Device}
 use Rattle.record.proofs.LegalTold.{legal-settings, legal-own, legal-connection}
 use Rattle.stream.specs.Collecting.{emptyLine}
@@ -38,7 +40,7 @@ use Rattle.meaning.specs.Meaning.{meant, done}
 use Rattle.meaning.proofs.CanBeSaid.{meant-fits, meant-can-be-said}
 use Rattle.device.specs.Answering.{Answered, lineAnswer}
 use Rattle.device.specs.Receiving.{Taken, turned, spoken, passwordOf, digestLong}
-use Rattle.device.specs.Calls.{Result, replyRoom, withParts, acceptedTaken, received}
+use Rattle.device.specs.Calls.{Result, replyRoom, acceptedTaken, received}
 use Rattle.device.proofs.Cases.{takes, received-taken}
 use Rattle.device.proofs.Legal.{line-legal}
 use Rattle.stream.proofs.LegalLines.{between-lines}
@@ -49,17 +51,17 @@ use Rattle.controller.specs.declared.reading.Outcome.the-variants.{Means
 use Rattle.controller.proofs.Cases.{reply-said}
 
 -- 01's "between lines", no collected bytes and no overlong mark, is what the laws ask of the line
-pub is-between : (d : Device) → isLegal d ≡ true → d .connection .line .overlong ≡ false
-    → d .connection .line .held ≡ 0
-    → d .connection .line ≡ emptyLine
-is-between d legal unmarked none =
-    between-lines (d .connection .phase) (d .connection .line)
-    (line-legal (d .connection) (legal-connection d legal)) unmarked none
+pub is-between : (d : Device) (p : ℕ) → p < placesCount → isLegal d ≡ true
+    → connectionAt d p .line .overlong ≡ false → connectionAt d p .line .held ≡ 0
+    → connectionAt d p .line ≡ emptyLine
+is-between d p there legal unmarked none =
+    let k = connectionAt d p in
+    between-lines (k .phase) (k .line) (line-legal k (legal-connection d legal p there)) unmarked none
 
-pub record TakenAndRead (d : Device) (c : Command) (bs : List ℕ) (r : Result Device) : Type 0 where
+pub record TakenAndRead (d : Device) (p : ℕ) (c : Command) (bs : List ℕ) (r : Result Device) : Type 0 where
   pub number : r .number ≡ 0
   pub taken : r .taken ≡ length bs
-  pub device : r .device ≡ withParts d (done (d .settings) (d .own) (Asks c)) (turned (d .connection) opened)
+  pub device : r .device ≡ withPlace d (done (d .settings) (d .own) (Asks c)) p (turned (connectionAt d p) opened)
   pub said : readReply c (r .reply) ≡ meaning (meant (d .settings) (d .own) (Asks c))
 
 -- every answer that a command can have means something
@@ -106,8 +108,11 @@ module _ (c : Command) {m : Said} (can : CanSay c m) (short : length (saidBytes 
       (sym (body-spelt (bodyOf c) .long))
       ∙ spelled-read
 
-module _ (d : Device) (legal : isLegal d ≡ true) (between : d .connection .line ≡ emptyLine)
-    (c : Command) (writable : isCommand c ≡ true) (room : ℕ) (enough : replyRoom ≤ room) where
+module _ (d : Device) (p : ℕ) (there : p < placesCount) (legal : isLegal d ≡ true)
+    (between : connectionAt d p .line ≡ emptyLine) (c : Command) (writable : isCommand c ≡ true) (room : ℕ) (enough : replyRoom ≤ room) where
+  abbrev here : Connection
+  here = connectionAt d p
+
   abbrev told : Said
   told = meant (d .settings) (d .own) (Asks c)
 
@@ -127,44 +132,44 @@ module _ (d : Device) (legal : isLegal d ≡ true) (between : d .connection .lin
 
   -- what is left to show: the bytes are taken as the command's line
   abbrev takenAs : Answered → ℕ → Taken
-  takenAs a n = record { ended = spoken (d .connection) a; taken = n }
+  takenAs a n = record { ended = spoken here a; taken = n }
 
   abbrev lineAnswered : Answered
   lineAnswered = lineAnswer (d .settings) (d .own) (commandText c)
 
-  read-back : (bs : List ℕ) → eqb (d .connection .phase) shut ≡ false → takes d bs ≡ takenAs lineAnswered (length bs)
-      → TakenAndRead d c bs (received d bs room)
+  read-back : (bs : List ℕ) → eqb (here .phase) shut ≡ false → takes d p bs ≡ takenAs lineAnswered (length bs)
+      → TakenAndRead d p c bs (received d p bs room)
   read-back bs listens takes-it =
       let answers = command-answered (d .settings) (d .own) c writable in
-      let result : received d bs room ≡ acceptedTaken d (takenAs answer (length bs))
-      = received-taken d bs room legal enough listens
-      ∙ ap (acceptedTaken d) (takes-it ∙ ap (λ (a : Answered). takenAs a (length bs)) answers) in
-      subst (TakenAndRead d c bs) (sym result)
+      let result : received d p bs room ≡ acceptedTaken d p (takenAs answer (length bs))
+      = received-taken d p bs room legal enough there listens
+      ∙ ap (acceptedTaken d p) (takes-it ∙ ap (λ (a : Answered). takenAs a (length bs)) answers) in
+      subst (TakenAndRead d p c bs) (sym result)
       (record { number = refl; taken = refl; device = refl; said = answer-read })
 
   plain-line : every notCr (commandText c) ≡ true
   plain-line = no-cr-each (commandText c) (command-no-cr c)
 
-  pub reads-back : d .connection .phase ≡ opened → TakenAndRead d c (commandLine c) (received d (commandLine c) room)
+  pub reads-back : here .phase ≡ opened → TakenAndRead d p c (commandLine c) (received d p (commandLine c) room)
   reads-back phase =
       let short = command-length c in
-      read-back (commandLine c) (ap (λ (p : ℕ). eqb p shut) phase)
-      (open-line-taken (d .settings) (d .own) (d .connection) between [] (commandText c) phase (omega arith) plain-line
+      read-back (commandLine c) (ap (λ (q : ℕ). eqb q shut) phase)
+      (open-line-taken (d .settings) (d .own) here between [] (commandText c) phase (omega arith) plain-line
       ∙ ap (takenAs lineAnswered) (sym (line-length c)))
 
   abbrev ledLine : List ℕ
-  ledLine = leadingDigest (d .connection .random) (passwordOf (d .settings)) ++ commandLine c
+  ledLine = leadingDigest (here .random) (passwordOf (d .settings)) ++ commandLine c
 
-  pub reads-back-secured : d .connection .phase ≡ awaiting → TakenAndRead d c ledLine (received d ledLine room)
+  pub reads-back-secured : here .phase ≡ awaiting → TakenAndRead d p c ledLine (received d p ledLine room)
   reads-back-secured phase =
       let short = command-length c in
-      let digest = leadingDigest (d .connection .random) (passwordOf (d .settings)) in
-      let digest-long = leading-digest-length (d .connection .random) (passwordOf (d .settings)) in
+      let digest = leadingDigest (here .random) (passwordOf (d .settings)) in
+      let digest-long = leading-digest-length (here .random) (passwordOf (d .settings)) in
       let long = line-length c in
       let all-long = length-append digest (commandLine c) in
       let count : digestLong + length (commandText c) + 1 ≡ length ledLine = omega arith in
-      read-back ledLine (ap (λ (p : ℕ). eqb p shut) phase)
-      (ap (takes d) (sym (append-assoc digest (commandText c) (ascii "\r")))
-      ∙ matching-line-taken (d .settings) (d .own) (d .connection) between [] (commandText c) phase (omega arith)
+      read-back ledLine (ap (λ (q : ℕ). eqb q shut) phase)
+      (ap (takes d p) (sym (append-assoc digest (commandText c) (ascii "\r")))
+      ∙ matching-line-taken (d .settings) (d .own) here between [] (commandText c) phase (omega arith)
       plain-line
       ∙ ap (takenAs lineAnswered) count)
