@@ -1,12 +1,12 @@
 -- The invariant of demand 3's history: the outsider's clock shows the device's power and seconds left, his count is in
--- every lamp, and the bytes that the device holds are the last of his stream.
+-- every lamp, and the bytes that the device holds at a place are the last of his stream there.
 --   powerOf g, leftOf g        the power and the seconds left that the stage g shows
 --   Shows g o                  the own part o has them
 --   Agrees w g n stream d      the stage g, the count n and the stream agree with the device d, set up with w
 --   Then w g n es stream d     so they do after the events es
 -- Assumes nothing.
 use Prim.Native.Nat.{ℕ, zero, suc, _+_, _-_, _≤_, _<_}
-use mathlib.Core.Path.{_≡_, refl, sym, ap, _∙_}
+use mathlib.Core.Path.{_≡_, refl, sym, ap, subst, _∙_}
 use mathlib.Core.Bool.{Bool, true, false, false≢true}
 use mathlib.Core.List.{List, [], _∷_, _++_}
 use mathlib.Core.Logic.{⊎-elim}
@@ -22,7 +22,9 @@ use Rattle.record.specs.Legal.{isLegal}
 use Rattle.record.specs.Record.{closed, settingsOf}
 use Rattle.record.specs.declared.types.Settings.{Settings}
 use Rattle.record.specs.declared.types.Own.{Own}
+use Rattle.record.specs.Places.{connectionAt}
 use Rattle.record.specs.declared.types.Line.{Line}
+use Rattle.record.specs.declared.types.Connection.{Connection}
 use Rattle.record.specs.declared.types.Device.{Device}
 use Rattle.record.proofs.ConnectionTold.{closed-holds-none}
 use Rattle.record.proofs.LegalTold.{own-of-legal}
@@ -30,7 +32,7 @@ use Rattle.record.proofs.OwnTold.{LeftTold, in-warm-up, in-cooling, when-on, wh
 use Rattle.clock.specs.Second.{times, ownSecond, second}
 use Rattle.clock.specs.After.{lampAfter}
 use Rattle.clock.proofs.ConnectionsAge.{line-then}
-use Rattle.clock.proofs.InOneGo.{parts-pass}
+use Rattle.clock.proofs.InOneGo.{parts-pass, place-passes}
 use Rattle.clock.proofs.LampsByPlace.{lamp-after}
 use Rattle.clock.proofs.PowerByTime.{PowerThen, the-same-as, settled-lasts, warm-up-lasts, warm-up-ends}
 use Rattle.clock.proofs.PowerByTime.{cooling-lasts, cooling-ends}
@@ -38,7 +40,7 @@ use Rattle.clock.proofs.TimeAdds.{no-seconds, seconds-add}
 use Rattle.clock.proofs.TimeLegal.{time-legal}
 use Rattle.stream.specs.Collecting.{lineText}
 use Rattle.stream.proofs.LastBytes.{Ends, ends-unheld}
-use Rattle.demands.specs.History.{Event, switched, aSecond, Stage, steady, towards, next, isBurning, burns}
+use Rattle.demands.specs.History.{Streams, Event, switched, aSecond, Stage, steady, towards, next, isBurning, burns}
 use Rattle.demands.specs.History.{reached, burningFrom, lampWith}
 
 abbrev pub powerOf : Stage → ℕ
@@ -54,13 +56,13 @@ leftOf (towards is-on n) = n
 abbrev pub Shows : Stage → Own → Type 0
 Shows g o = PowerThen (powerOf g) (leftOf g) o
 
-pub record Agrees (w : Wanted) (g : Stage) (n : ℕ) (stream : List ℕ) (d : Device) : Type 0 where
+pub record Agrees (w : Wanted) (g : Stage) (n : ℕ) (stream : Streams) (d : Device) : Type 0 where
   pub settings : d .settings ≡ settingsOf w
   pub power : d .own .power ≡ powerOf g
   pub left : d .own .left ≡ leftOf g
   pub lamps : (place : ℕ) → place < length (w .lamps)
       → getD (d .own .lamps) place 0 ≡ lampWith n (getD (w .lamps) place 0)
-  pub last : Ends stream (lineText (d .connection .line))
+  pub last : (q : ℕ) → Ends (stream q) (lineText (connectionAt d q .line))
 
 pub lit-shown : (g : Stage) → isLit (powerOf g) ≡ isBurning g
 lit-shown (steady true) = refl
@@ -114,7 +116,7 @@ lamp-second (steady false) n x = omega arith
 lamp-second (towards true k) n x = omega arith
 lamp-second (towards false k) n x = omega arith
 
-module _ {w : Wanted} {g : Stage} {n : ℕ} {stream : List ℕ} {d : Device} (a : Agrees w g n stream d)
+module _ {w : Wanted} {g : Stage} {n : ℕ} {stream : Streams} {d : Device} (a : Agrees w g n stream d)
     (legal : isLegal d ≡ true) where
   abbrev shown : Shows (next w g aSecond) (times (ownSecond (d .settings)) 1 (d .own))
   shown =
@@ -128,17 +130,18 @@ module _ {w : Wanted} {g : Stage} {n : ℕ} {stream : List ℕ} {d : Device} (a 
     lamps = λ place inside.
         lamp-after 1 d place legal (rw (a .settings) inside)
         ∙ rw (a .power, a .lamps place inside) (lamp-second g n (getD (w .lamps) place 0));
-    last = rw (parts-pass 1 d)
-        (line-then (λ (l : Line). Ends stream (lineText l)) (ends-unheld stream (closed .line) closed-holds-none) 1
-        (d .connection) (a .last));
+    last = λ q.
+        subst (λ (c : Connection). Ends (stream q) (lineText (c .line))) (sym (place-passes 1 d q))
+        (line-then (λ (l : Line). Ends (stream q) (lineText l))
+        (ends-unheld (stream q) (closed .line) closed-holds-none) 1 (connectionAt d q) (a .last q));
   }
 
 -- ---- a call that leaves the lamps
 
-module _ {w : Wanted} {g : Stage} {n : ℕ} {stream : List ℕ} {d : Device} (a : Agrees w g n stream d) where
-  pub agrees-at : (h : Stage) (now : List ℕ) (e : Device) → e .settings ≡ d .settings → e .own .power ≡ powerOf h
-      → e .own .left ≡ leftOf h → e .own .lamps ≡ d .own .lamps → Ends now (lineText (e .connection .line))
-      → Agrees w h n now e
+module _ {w : Wanted} {g : Stage} {n : ℕ} {stream : Streams} {d : Device} (a : Agrees w g n stream d) where
+  pub agrees-at : (h : Stage) (now : Streams) (e : Device) → e .settings ≡ d .settings → e .own .power ≡ powerOf h
+      → e .own .left ≡ leftOf h → e .own .lamps ≡ d .own .lamps
+      → ((q : ℕ) → Ends (now q) (lineText (connectionAt e q .line))) → Agrees w h n now e
   agrees-at h now e s p l m last = record {
     settings = s ∙ a .settings;
     power = p;
@@ -161,10 +164,10 @@ unfolding reached burningFrom
 burning-append w g [] fs = rw zero-add
 burning-append w g (e ∷ es) fs = rw (burning-append w (next w g e) es fs) (omega arith)
 
-abbrev pub Then : Wanted → Stage → ℕ → List Event → List ℕ → Device → Type 0
+abbrev pub Then : Wanted → Stage → ℕ → List Event → Streams → Device → Type 0
 Then w g n es stream d = Agrees w (reached w g es) (n + burningFrom w g es) stream d
 
-module _ {w : Wanted} {stream : List ℕ} {d : Device} where
+module _ {w : Wanted} {stream : Streams} {d : Device} where
   pub agrees-none : {g : Stage} {n : ℕ} → Agrees w g n stream d → Then w g n [] stream d
   unfolding reached burningFrom
   agrees-none a = rw add-zero a
@@ -175,7 +178,7 @@ module _ {w : Wanted} {stream : List ℕ} {d : Device} where
   unfolding reached burningFrom
   agrees-switched wanted g {n} a = rw (add-zero n) a
 
-pub agrees-seconds : (k : ℕ) {w : Wanted} {g : Stage} {n : ℕ} {stream : List ℕ} {d : Device} → isLegal d ≡ true
+pub agrees-seconds : (k : ℕ) {w : Wanted} {g : Stage} {n : ℕ} {stream : Streams} {d : Device} → isLegal d ≡ true
     → Agrees w g n stream d → Then w g n (replicate k aSecond) stream (times second k d)
 unfolding reached burningFrom
 agrees-seconds zero {w} {g} {n} {stream} {d} legal a = rw (no-seconds d) (agrees-none a)

@@ -24,7 +24,7 @@ use Rattle.stored.proofs.OneForm.{Bytes, stored-again, forms-apart}
 use Rattle.demands.specs.Board.{Given, ours, givenBy, bytesWritten}
 use Rattle.demands.specs.Calls.{Call, run}
 use Rattle.demands.specs.History.{Event, switched, aSecond, Stage, steady, towards, next, burns, burningFrom}
-use Rattle.demands.specs.History.{history, burning, stageAfter, lampWith}
+use Rattle.demands.specs.History.{noStreams, history, burning, stageAfter, lampWith}
 use Rattle.demands.specs.Demand3.{Beginning, setsUp, Accepted, runOf, historyOf}
 use Rattle.demands.specs.BoardSwap.{LoadsAs, BoardSwap}
 use Rattle.demands.proofs.LentMemory.{over-front}
@@ -108,16 +108,16 @@ module _ (b : Beginning) (w : Wanted) (cs es : List Call) (m : List ℕ) (place 
   abbrev GoesOn : Device → Type 0
   GoesOn new =
       getD (run ours new es .own .lamps) place 0
-      ≡ lampWith (burning w (historyOf ours b w cs) + burning w (history ours new [] es)) (getD (w .lamps) place 0)
+      ≡ lampWith (burning w (historyOf ours b w cs) + burning w (history ours new noStreams es)) (getD (w .lamps) place 0)
 
   on-the-new : GoesOn (ours .set-up kept .device)
   on-the-new =
       let fresh = ours .set-up kept .device in
       let accepted = ap (λ (r : Given Device). r .number) (sym (loaded-so .fresh)) ∙ loaded-so .accepted in
       let burnt = burning w (historyOf ours b w cs) in
-      let more = burning w (history ours fresh [] es) in
+      let more = burning w (history ours fresh noStreams es) in
       let alike = burning-alike kept w (ap (λ (s : Settings). s .warm) (known .settings))
-      (ap (λ (s : Settings). s .cool) (known .settings)) (steady false) (history ours fresh [] es) in
+      (ap (λ (s : Settings). s .cool) (known .settings)) (steady false) (history ours fresh noStreams es) in
       history-told setsUp kept es accepted .1 .lamps place kept-many
       ∙ (λ i. lampWith (alike i) ((kept-lamp ∙ known .lamps place inside) i))
       ∙ lamp-goes-on burnt more (getD (w .lamps) place 0)

@@ -9,12 +9,13 @@ use lib.ListN.{length}
 use Rattle.record.specs.Wanted.{Wanted}
 use Rattle.record.specs.Record.{closed, started}
 use Rattle.record.specs.Updates.{withOwn, withFault, withErrors}
+use Rattle.record.specs.Places.{withPlace}
 use Rattle.record.specs.declared.types.Changed.{Changed}
 use Rattle.record.specs.declared.types.Device.{Device}
 use Rattle.record.proofs.Calls.{fault-set-by, errors-set-by}
 use Rattle.record.proofs.Started.{set-up-started}
-use Rattle.device.specs.Calls.{Result, greeting, withParts}
-use Rattle.device.proofs.Cases.{opened-by, closed-by}
+use Rattle.device.specs.Calls.{Result, greeting}
+use Rattle.device.proofs.Cases.{opened-placed-by, closed-by}
 use Rattle.demands.specs.Board.{ours, lentBy, givenBy, closedAs}
 use Rattle.demands.specs.CallsDone.{OpenedAs, Leaves}
 use Rattle.demands.proofs.LentMemory.{over-front}
@@ -24,16 +25,16 @@ set-up-shows w accepted = set-up-started w accepted
 
 module _ (d : Device) where
   pub opens : (random : ℕ) (m : List ℕ) → ours .opening d random m .number ≡ 0
-      → OpenedAs ours d random (ours .opening d random m)
+      → OpenedAs ours d random (ours .place-opened d random m) (ours .opening d random m)
   opens random m =
-      opened-by d random (length m)
-      (λ (r : Result Device). r .number ≡ 0 → OpenedAs ours d random (lentBy r m)) (λ n z e. absurd (z e))
-      (λ h k c e. record { replied = over-front (greeting (d .settings) random) m; device = refl })
+      opened-placed-by d random (length m)
+      (λ p r. r .number ≡ 0 → OpenedAs ours d random p (lentBy r m)) (λ n z e. absurd (z e))
+      (λ h k c e. record { replied = over-front (greeting (d .settings) random) m; lowest = refl; device = refl })
 
-  pub closes : Leaves ours (ours .closing d) (withParts d (d .own) closed)
-  closes =
-      closed-by d (λ (r : Result Device). Leaves ours (closedAs r) (withParts d (d .own) closed))
-      (λ n z e. absurd (z e)) (λ h c e. refl)
+  pub closes : (p : ℕ) → Leaves ours (ours .closing d p) (withPlace d (d .own) p closed)
+  closes p =
+      closed-by d p (λ (r : Result Device). Leaves ours (closedAs r) (withPlace d (d .own) p closed))
+      (λ n z e. absurd (z e)) (λ h t c e. refl)
 
   pub marks : (fault : Bool) → Leaves ours (ours .set-fault d fault) (withOwn d (withFault (d .own) fault))
   marks fault =

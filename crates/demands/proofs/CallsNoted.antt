@@ -2,25 +2,29 @@
 --   Noted a c      so it is of the call c, where what he knew before agreed with the device
 -- Assumes nothing.
 use Prim.Native.Nat.{ℕ}
-use mathlib.Core.Path.{_≡_, refl, sym, ap, _∙_}
+use mathlib.Core.Path.{_≡_, refl, sym, ap, subst, _∙_}
 use mathlib.Core.Bool.{Bool, true, false, false≢true}
-use mathlib.Core.List.{List, [], _++_, append-nil}
+use mathlib.Core.List.{List, [], _++_}
 use native.Mathlib.Omega.{arith}
 use lib.ListN.{length, take, drop, replicate}
 use lib.Seq.{take-append-seam}
 use lib.Dec.{eqb}
-use borrow.Author.Tests.{ne-eqb}
+use borrow.Author.Tests.{eqb-true, eqb-false, eq-eqb, ne-eqb}
 use Rattle.text.specs.Words.{if_then_else_}
+use Rattle.text.proofs.Choices.{if-yes}
 use Rattle.lines.specs.declared.command.Command.the-variants.{PowerSet}
 use Rattle.lines.specs.declared.request.Request.the-variants.{Asks}
 use Rattle.answers.specs.Said.{okay}
 use Rattle.record.specs.Limits.{isBetween}
 use Rattle.record.specs.Wanted.{Wanted}
+use Rattle.record.specs.Places.{connectionAt}
 use Rattle.record.specs.declared.types.Settings.{Settings}
 use Rattle.record.specs.declared.types.Own.{Own}
+use Rattle.record.specs.declared.types.Connection.{Connection}
 use Rattle.record.specs.declared.types.Changed.{Changed}
 use Rattle.record.specs.declared.types.Device.{Device}
 use Rattle.record.proofs.Calls.{fault-set-by, errors-set-by}
+use Rattle.record.proofs.ConnectionsTold.{placed-elsewhere}
 use Rattle.clock.proofs.Cases.{passed-by}
 use Rattle.meaning.specs.Meaning.{meant, done}
 use Rattle.meaning.proofs.PowerSets.{power-set-only, on-when-off, on-otherwise, off-when-on, off-otherwise}
@@ -35,7 +39,8 @@ use Rattle.device.proofs.Untouched.{opening-keeps-settings, opening-keeps-own, 
 use Rattle.device.proofs.Untouched.{closing-keeps-own}
 use Rattle.demands.specs.Board.{ours, lentBy, reply}
 use Rattle.demands.specs.Calls.{Call, opens, closes, receives, passes, marks, reports, after}
-use Rattle.demands.specs.History.{switched, aSecond, Stage, steady, towards, next, powerSet, took, seen}
+use Rattle.demands.specs.History.{switched, aSecond, Stage, steady, towards, next, powerSet}
+use Rattle.demands.specs.History.{Streams, goingOnAt, streamsAfter, seen}
 use Rattle.demands.proofs.PowerSetsSeen.{set-seen, none-seen}
 use Rattle.demands.proofs.Agrees.{powerOf, leftOf, Shows, Agrees, agrees-at, Then, agrees-none}
 use Rattle.demands.proofs.Agrees.{agrees-switched, agrees-seconds}
@@ -55,64 +60,82 @@ module _ (w : Wanted) (s : Settings) (o : Own) (warm : s .warm ≡ w .warm) (coo
   turned (towards false n) wanted p l m =
       absurd (false≢true (sym (power-set-only s o wanted m .1) ∙ ap isBetween p))
 
-module _ {w : Wanted} {g : Stage} {n : ℕ} {stream : List ℕ} {d : Device} (a : Agrees w g n stream d) where
+module _ {w : Wanted} {g : Stage} {n : ℕ} {stream : Streams} {d : Device} (a : Agrees w g n stream d) where
   -- ---- receiving
 
-  abbrev Seen : List ℕ → List ℕ → Device → Type 0
-  Seen now answer e = Then w g n (powerSet now answer) now e
+  abbrev Seen : Streams → ℕ → List ℕ → Device → Type 0
+  Seen now p answer e = Then w g n (powerSet (now p) answer) now e
 
-  module _ (now answer : List ℕ) (e : Device) (settings : e .settings ≡ d .settings) where
-    by-effect : e .own .lamps ≡ d .own .lamps → Ends now (lineText (e .connection .line))
-        → StreamEffect (d .settings) (d .own) now answer (e .own) → Seen now answer e
-    by-effect m last (stays other p l) =
-        rw (none-seen now answer other) (agrees-none (agrees-at a g now e settings (p ∙ a .power) (l ∙ a .left) m last))
-    by-effect m last (turns b1 b2 b3 b4 wanted powr line said passed own) =
+  module _ (now : Streams) (p : ℕ) (answer : List ℕ) (e : Device) (settings : e .settings ≡ d .settings)
+      (last : (q : ℕ) → Ends (now q) (lineText (connectionAt e q .line))) where
+    by-effect : e .own .lamps ≡ d .own .lamps → StreamEffect (d .settings) (d .own) (now p) answer (e .own)
+        → Seen now p answer e
+    by-effect m (stays other k l) =
+        rw (none-seen (now p) answer other)
+        (agrees-none (agrees-at a g now e settings (k ∙ a .power) (l ∙ a .left) m last))
+    by-effect m (turns b1 b2 b3 b4 wanted powr line said passed own) =
         let yes = ap isPowerOkay said ∙ okay-reply b1 b2 b3 b4 powr in
         let warm = ap (λ (s : Settings). s .warm) (a .settings) in
         let cool = ap (λ (s : Settings). s .cool) (a .settings) in
         let shows : Shows (next w g (switched wanted)) (done (d .settings) (d .own) (Asks (PowerSet wanted)))
         = turned w (d .settings) (d .own) warm cool g wanted (a .power) (a .left) passed in
-        rw (set-seen b1 b2 b3 b4 powr now answer yes wanted line)
+        rw (set-seen b1 b2 b3 b4 powr (now p) answer yes wanted line)
         (agrees-switched wanted g
         (agrees-at a (next w g (switched wanted)) now e settings (ap (λ (k : Own). k .power) own ∙ shows .power)
         (ap (λ (k : Own). k .left) own ∙ shows .left) m last))
 
-  abbrev Told : List ℕ → Result Device → Type 0
-  Told bs r =
-      Tells (d .settings) (d .own) (lineText (d .connection .line) ++ take (r .taken) bs) (r .reply) (r .device .own)
-      (r .device .connection)
+  module _ (p : ℕ) (bs m : List ℕ) where
+    abbrev Told : Result Device → Type 0
+    Told r =
+        Tells (d .settings) (d .own) (lineText (connectionAt d p .line) ++ take (r .taken) bs) (r .reply)
+        (r .device .own) (connectionAt (r .device) p)
 
-  -- the reply is read off the lent memory
-  handed : (bs m : List ℕ) (r : Result Device) → r .device .settings ≡ d .settings → Told bs r
-      → Seen (stream ++ take (r .taken) bs) (reply (lentBy r m)) (r .device)
-  handed bs m r settings t =
-      let now = stream ++ take (r .taken) bs in
-      let told = tells-on (d .settings) (d .own) (a .last) (take (r .taken) bs) t in
-      rw (take-append-seam (r .reply) (drop (length (r .reply)) m))
-      (by-effect now (r .reply) (r .device) settings (told .lamps) (told .last) (told .effect))
+    -- what is held at each place ends its stream
+    going-on : (r : Result Device) → ((q : ℕ) → (q ≡ p → ⊥) → connectionAt (r .device) q ≡ connectionAt d q)
+        → Ends (stream p ++ take (r .taken) bs) (lineText (connectionAt (r .device) p .line))
+        → (q : ℕ) (t : Bool) → eqb q p ≡ t
+        → Ends (if t then stream q ++ take (r .taken) bs else stream q) (lineText (connectionAt (r .device) q .line))
+    going-on r others last q true e =
+        subst (λ (k : ℕ). Ends (stream k ++ take (r .taken) bs) (lineText (connectionAt (r .device) k .line)))
+        (sym (eqb-true q p e)) last
+    going-on r others last q false e =
+        subst (λ (c : Connection). Ends (stream q) (lineText (c .line))) (sym (others q (eqb-false q p e))) (a .last q)
+
+    -- the reply is read off the lent memory; at every other place all is as it was
+    handed : (r : Result Device) → r .device .settings ≡ d .settings
+        → ((q : ℕ) → (q ≡ p → ⊥) → connectionAt (r .device) q ≡ connectionAt d q) → Told r
+        → Seen (goingOnAt stream p (take (r .taken) bs)) p (reply (lentBy r m)) (r .device)
+    handed r settings others t =
+        let more = take (r .taken) bs in
+        let told = tells-on (d .settings) (d .own) (a .last p) more t in
+        let here : goingOnAt stream p more p ≡ stream p ++ more = if-yes _ _ (eq-eqb p p refl) in
+        rw (take-append-seam (r .reply) (drop (length (r .reply)) m))
+        (by-effect (goingOnAt stream p more) p (r .reply) (r .device) settings (λ q. going-on r others (told .last) q (eqb q p) refl)
+        (told .lamps)
+        (subst (λ (k : List ℕ). StreamEffect (d .settings) (d .own) k (r .reply) (r .device .own)) (sym here)
+        (told .effect)))
 
   -- ---- any call
 
   -- one that takes nothing and tells nothing
   abbrev Quiet : Device → Type 0
-  Quiet e = Then w g n [] (stream ++ []) e
+  Quiet e = Then w g n [] stream e
 
   quiet : (e : Device) → e .settings ≡ d .settings → e .own .power ≡ d .own .power → e .own .left ≡ d .own .left
-      → e .own .lamps ≡ d .own .lamps → Ends stream (lineText (e .connection .line)) → Quiet e
-  quiet e s p l m last =
-      agrees-none (agrees-at a g (stream ++ []) e s (p ∙ a .power) (l ∙ a .left) m (rw append-nil last))
+      → e .own .lamps ≡ d .own .lamps → ((q : ℕ) → Ends (stream q) (lineText (connectionAt e q .line))) → Quiet e
+  quiet e s p l m last = agrees-none (agrees-at a g stream e s (p ∙ a .power) (l ∙ a .left) m last)
 
   kept : Quiet d
   kept = quiet d refl refl refl refl (a .last)
 
-  -- one that changes the connection at most
+  -- one that changes connections at most
   reconnected : (e : Device) → e .settings ≡ d .settings → e .own ≡ d .own
-      → Ends stream (lineText (e .connection .line)) → Quiet e
+      → ((q : ℕ) → Ends (stream q) (lineText (connectionAt e q .line))) → Quiet e
   reconnected e s o last =
       quiet e s (ap (λ (k : Own). k .power) o) (ap (λ (k : Own). k .left) o) (ap (λ (k : Own). k .lamps) o) last
 
   abbrev pub Noted : Call → Type 0
-  Noted c = Then w g n (seen ours d (stream ++ took ours d c) c) (stream ++ took ours d c) (after ours d c)
+  Noted c = Then w g n (seen ours d (streamsAfter ours d stream c) c) (streamsAfter ours d stream c) (after ours d c)
 
   abbrev QuietBy : Changed → Type 0
   QuietBy r = Quiet (r .device)
@@ -120,23 +143,26 @@ module _ {w : Wanted} {g : Stage} {n : ℕ} {stream : List ℕ} {d : Device} (a 
   pub noted : (c : Call) → Noted c
   noted (opens random m) =
       reconnected (openedBy d random (length m) .device) (opening-keeps-settings d random (length m))
-      (opening-keeps-own d random (length m)) (opening-tells d stream (a .last) random (length m))
-  noted closes =
-      reconnected (closedBy d .device) (closing-keeps-settings d) (closing-keeps-own d)
-      (closing-tells d stream (a .last))
+      (opening-keeps-own d random (length m))
+      (λ q. opening-tells d q (stream q) (a .last q) random (length m))
+  noted (closes p) =
+      reconnected (closedBy d p .device) (closing-keeps-settings d p) (closing-keeps-own d p)
+      (λ q. closing-tells d q (stream q) (a .last q) p)
   noted (marks fault) =
       fault-set-by d QuietBy fault kept (λ legal. quiet _ refl refl refl refl (a .last))
   noted (reports errors) =
       errors-set-by d QuietBy errors kept kept (λ legal right. quiet _ refl refl refl refl (a .last))
-  noted (passes k) = passed-by Passed d k (λ illegal. kept) (λ legal. rw append-nil (agrees-seconds k legal a))
+  noted (passes k) = passed-by Passed d k (λ illegal. kept) (λ legal. agrees-seconds k legal a)
     where
       Passed : Changed → Type 0
-      Passed r = Then w g n (if eqb (r .number) 0 then replicate k aSecond else []) (stream ++ []) (r .device)
-  noted (receives bs m) =
-      received-by d bs (length m) (λ r. Told bs r → Received r) (λ n z t. rw (ne-eqb n 0 z) kept)
-      (λ h s c t. handed bs m (acceptedTaken d (takes d bs)) refl t) (received-tells d bs (length m))
+      Passed r = Then w g n (if eqb (r .number) 0 then replicate k aSecond else []) stream (r .device)
+  noted (receives p bs m) =
+      received-by d p bs (length m) (λ r. Told p bs m r → Received r) (λ n z t. rw (ne-eqb n 0 z) kept)
+      (λ h s i c t. handed p bs m (acceptedTaken d p (takes d p bs)) refl
+      (λ q other. placed-elsewhere d (d .own) p _ q other) t)
+      (received-tells d p bs (length m))
     where
       Received : Result Device → Type 0
       Received r =
-          let now = stream ++ (if eqb (r .number) 0 then take (r .taken) bs else []) in
-          Then w g n (if eqb (r .number) 0 then powerSet now (reply (lentBy r m)) else []) now (r .device)
+          let now = if eqb (r .number) 0 then goingOnAt stream p (take (r .taken) bs) else stream in
+          Then w g n (if eqb (r .number) 0 then powerSet (now p) (reply (lentBy r m)) else []) now (r .device)

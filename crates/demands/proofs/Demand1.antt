@@ -4,6 +4,7 @@ use lib.ListN.{length}
 use Rattle.record.proofs.Results.{set-up-refusal}
 use Rattle.record.proofs.Started.{blank-illegal, set-up-legal}
 use Rattle.stored.proofs.Results.{storing-number, loading-number, refused-load-blank, accepted-legal}
+use Rattle.device.proofs.Refusals.{opening-refused-place}
 use Rattle.controller.proofs.Refusals.{number-means-nothing}
 use Rattle.demands.specs.Board.{ours}
 use Rattle.demands.specs.Demand1.{Demand1}
@@ -26,6 +27,7 @@ ours-1 = record {
   store-number = λ d m. storing-number d (length m);
   load-number = loading-number;
   refused-keeps = refused-keeps;
+  refused-opening-place = λ d random m. opening-refused-place d random (length m);
   refused-writer-writes-nothing = refused-writer;
   refused-store-writes-nothing = refused-store;
   refused-reader-means-nothing = number-means-nothing;

@@ -11,27 +11,29 @@ use Rattle.demands.proofs.LinesAnswered.{line-answered, led-line-answer
 use Rattle.demands.proofs.CutsOnBoards.{same-however-cut}
 use Rattle.demands.proofs.NamesRead.{names-read}
 use Rattle.demands.proofs.OutsidersRefused.{outsider-refused}
-use Rattle.demands.proofs.OutsiderHasNoSay.{outsider-has-no-say}
+use Rattle.demands.proofs.OutsiderHasNoSay.{outsider-has-no-say, outsiders-have-no-say}
+use Rattle.demands.proofs.OthersUntouched.{others-untouched}
 use Rattle.demands.proofs.CallsLeave.{set-up-shows, opens, closes, marks, reports}
 use Rattle.demands.proofs.WrittenAndRead.{writes, reads-back, reads-back-secured, greets-back}
 
 pub ours-2 : Demand2 ours
 ours-2 = record {
   digest = λ s. refl;
-  answers = λ d l m between plain enough. line-answered d l m plain enough between;
-  answers-led = λ d l m between plain short enough. led-line-answered d l m plain enough between short;
-  reply-short = λ d bs m. receiving-short d bs (length m);
+  answers = λ d p l m between plain enough. line-answered d p l m plain enough between;
+  answers-led = λ d p l m between plain short enough. led-line-answered d p l m plain enough between short;
+  reply-short = λ d p bs m. receiving-short d p bs (length m);
   reads-what-is-said = means-what-was-written;
   what-is-said-is-read = what-was-written-is-meant;
   erra-exactly = erra-exactly;
   writes = writes;
-  reads-back = λ d c random password paper m between writable roomy enough.
-      reads-back d c paper m writable roomy enough random password between;
-  reads-back-secured = λ d c paper m between writable roomy enough.
-      reads-back-secured d c paper m writable roomy enough between;
+  reads-back = λ d p c random password paper m between writable roomy enough.
+      reads-back d p c paper m writable roomy enough random password between;
+  reads-back-secured = λ d p c paper m between writable roomy enough.
+      reads-back-secured d p c paper m writable roomy enough between;
   names-read = names-read;
   outsider-refused = outsider-refused;
-  outsider-has-no-say = λ d random m cs secured. outsider-has-no-say d random m secured cs;
+  outsider-has-no-say = λ d p cs legal secured. outsider-has-no-say d cs legal secured p;
+  outsiders-have-no-say = outsiders-have-no-say;
   set-up-shows = set-up-shows;
   opens = opens;
   closes = closes;
@@ -40,4 +42,5 @@ ours-2 = record {
   greets-back = greets-back;
   greeting-is = heard-exactly;
   same-however-cut = same-however-cut;
+  others-untouched = others-untouched;
 }

@@ -18,6 +18,6 @@ ours-3 = record {
   second-by-second = λ d n. passed-by (λ (r : Changed). Leaves ours (givenBy r) (times second n d)) d n
       (λ h e. absurd (omega arith)) (λ h e. refl);
   lamps-tell-the-history = λ b w cs place accepted inside. history-told b w cs accepted .1 .lamps place inside;
-  hours-told = λ b w cs m accepted some between enough.
+  hours-told = λ b w cs p m accepted some between enough.
       hours-told w (historyOf ours b w cs) (history-told b w cs accepted .1) between m some enough;
 }

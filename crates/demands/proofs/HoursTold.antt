@@ -22,7 +22,7 @@ use Rattle.device.proofs.CommandsReceived.{replyTo, command-received}
 use Rattle.controller.specs.Reading.{meaning, readReply}
 use Rattle.controller.proofs.ReadsBack.{is-between, reads-back}
 use Rattle.demands.specs.Board.{ours, reply}
-use Rattle.demands.specs.History.{Event, isBurning, burning, stageAfter}
+use Rattle.demands.specs.History.{Streams, Event, isBurning, burning, stageAfter}
 use Rattle.demands.specs.Demand2.{BetweenLines}
 use Rattle.demands.specs.Demand3.{lampThen, lampsThen, LampsTold}
 use Rattle.demands.proofs.LentMemory.{over-front}
@@ -37,8 +37,8 @@ alike-by-place f g [] (y ∷ m) long h = absurd (omega arith)
 alike-by-place f g (x ∷ l) (y ∷ m) long h =
     ap₂ _∷_ (h 0 (omega arith)) (alike-by-place f g l m (omega arith) (λ place inside. h (suc place) (omega arith)))
 
-module _ (w : Wanted) (es : List Event) {stream : List ℕ} {d : Device}
-    (a : Agrees w (stageAfter w es) (burning w es) stream d) (between : BetweenLines opened d) where
+module _ (w : Wanted) (es : List Event) {stream : Streams} {d : Device}
+    (a : Agrees w (stageAfter w es) (burning w es) stream d) {p : ℕ} (between : BetweenLines opened d p) where
   count : d .settings .«lamp_count» ≡ length (w .lamps)
   count = ap (λ (s : Settings). s .«lamp_count») (a .settings)
 
@@ -57,12 +57,12 @@ module _ (w : Wanted) (es : List Event) {stream : List ℕ} {d : Device}
       (omega (arith, kept .long, kept .inside, count)) lamp-same)
 
   pub hours-told : (m : List ℕ) → 1 ≤ length (w .lamps) → replyRoom ≤ length m
-      → LampsTold ours (lampsThen w es) (reply (ours .receive d (commandLine (Query Lamp)) m))
+      → LampsTold ours (lampsThen w es) (reply (ours .receive d p (commandLine (Query Lamp)) m))
   hours-told m some enough =
-      let result = received d (commandLine (Query Lamp)) (length m) in
-      let line = is-between d (between .legal) (between .unmarked) (between .none-held) in
-      let back = reads-back d (between .legal) line (Query Lamp) refl (length m) enough (between .in-phase) in
-      let said = command-received d (length m) (between .legal) enough (between .unmarked) (between .none-held)
+      let result = received d p (commandLine (Query Lamp)) (length m) in
+      let line = is-between d p (between .there) (between .legal) (between .unmarked) (between .none-held) in
+      let back = reads-back d p (between .there) (between .legal) line (Query Lamp) refl (length m) enough (between .in-phase) in
+      let said = command-received d p (between .there) (length m) (between .legal) enough (between .unmarked) (between .none-held)
       (Query Lamp) refl (between .in-phase) in
       let lamps = lamps-answered (d .settings) (d .own) (omega (arith, count)) ∙ ap lampsAre lamps-same in
       let seam = over-front (result .reply) m in

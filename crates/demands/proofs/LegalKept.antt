@@ -13,8 +13,8 @@ use Rattle.demands.specs.Calls.{Call, opens, closes, receives, passes, m
 
 pub stays-legal : (d : Device) (c : Call) → isLegal d ≡ true → isLegal (after ours d c) ≡ true
 stays-legal d (opens random m) h = opening-legal d h random (length m)
-stays-legal d closes h = closing-legal d h
-stays-legal d (receives bs m) h = receiving-legal d h bs (length m)
+stays-legal d (closes p) h = closing-legal d h p
+stays-legal d (receives p bs m) h = receiving-legal d h p bs (length m)
 stays-legal d (passes n) h = passed-legal d n h
 stays-legal d (marks fault) h = fault-legal d h fault
 stays-legal d (reports errors) h = errors-legal d h errors

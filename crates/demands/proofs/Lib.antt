@@ -11,7 +11,9 @@ pub mod CallsLeave
 pub mod FirstLinesSeen
 pub mod Sessions
 pub mod HostCallsDo
+pub mod PlacesStand
 pub mod OutsiderHasNoSay
+pub mod OthersUntouched
 pub mod RandomKept
 pub mod WrittenAndRead
 pub mod NamesRead

@@ -1,183 +1,169 @@
--- Demand 2: who never sends the matching digest has no say, over any calls. His session stands as proofs/Sessions.antt
--- says, and the device goes on beside another one that only the passes and the host's calls reach: both have the same
--- settings and own part at each moment.
---   Beside settings s d e      the device d, with the session s, goes on beside the device e
+-- Demand 2: who never sends the matching digest has no say, over any calls, whoever makes them. Each place stands as
+-- proofs/PlacesStand.antt says; and where that holds of every place, the device goes on beside another one that only the
+-- passes and the host's calls reach: both have the same settings and own part at each moment.
+--   Beside settings d e      the legal devices d and e have these settings, and the same own part
 -- Assumes nothing.
-use Prim.Native.Nat.{ℕ}
-use mathlib.Core.Path.{_≡_, refl, sym, ap, subst, _∙_}
-use mathlib.Core.Bool.{true, false}
-use mathlib.Core.List.{List, [], _∷_, _++_}
-use lib.ListN.{length, take}
-use lib.Dec.{eqb}
-use borrow.Author.Tests.{eqb-false, ne-eqb}
-use Rattle.text.specs.Words.{if_then_else_}
-use Rattle.record.specs.Limits.{shut}
+use Prim.Native.Nat.{ℕ, _<_}
+use mathlib.Core.Path.{_≡_, refl, sym, ap, _∙_}
+use mathlib.Core.Bool.{true}
+use mathlib.Core.List.{List, [], _∷_}
+use lib.ListN.{length}
+use borrow.Author.Tests.{eq-eqb}
+use Rattle.record.specs.Limits.{placesCount}
 use Rattle.record.specs.Legal.{isLegal}
+use Rattle.record.specs.Places.{connectionAt, isShut}
 use Rattle.record.specs.declared.types.Settings.{Settings}
 use Rattle.record.specs.declared.types.Device.{Device}
 use Rattle.device.specs.Receiving.{passwordOf}
-use Rattle.device.specs.Calls.{Result, acceptedTaken, isSecured, greeted}
-use Rattle.device.proofs.Cases.{takes, received-by, opened-by, closed-by, opened-greeted, secured-greeted}
-use Rattle.device.proofs.Legal.{opening-legal}
-use Rattle.demands.specs.Board.{ours, lentBy}
+use Rattle.device.specs.Calls.{Result, isSecured}
+use Rattle.device.proofs.Cases.{received-by}
+use Rattle.device.proofs.Untouched.{opening-keeps-settings, opening-keeps-own, closing-keeps-settings}
+use Rattle.device.proofs.Untouched.{closing-keeps-own, receiving-keeps-settings}
+use Rattle.demands.specs.Board.{ours}
 use Rattle.demands.specs.Calls.{Call, opens, closes, receives, passes, marks, reports, after, run}
-use Rattle.demands.specs.Outsider.{Session, openedWith, goesOn, noted, sessionAfter, isMatched, NeverMatched}
-use Rattle.demands.specs.Outsider.{hostCalls, NoSay}
-use Rattle.demands.proofs.LentMemory.{over-front}
+use Rattle.demands.specs.Outsider.{Session, unopened, noted, sessionAfter, NeverMatched, hostCalls}
+use Rattle.demands.specs.Outsider.{KeptThere, NoSay, HostsAlone}
 use Rattle.demands.proofs.LegalKept.{stays-legal}
-use Rattle.demands.proofs.Sessions.{Standing, awaits, nothing-yet, answered-so, closed-stands, heard, stands-on}
+use Rattle.demands.proofs.Sessions.{answered-so}
 use Rattle.demands.proofs.HostCallsDo.{turnedBy, HostDoes, time-does, fault-does, errors-do}
+use Rattle.demands.proofs.PlacesStand.{Stands, goes, stands-after, unopened-stands}
 
-pub record Beside (settings : Settings) (s : Session) (d e : Device) : Type 0 where
+-- ---- one place
+
+module _ (settings : Settings) (p : ℕ) (secured : isSecured settings ≡ true) where
+  kept-there : (cs : List Call) (s : Session) (d : Device) → Stands settings p s d
+      → NeverMatched ours p (passwordOf settings) d s cs → KeptThere ours p d cs
+  kept-there [] s d b never = tt
+  kept-there (c ∷ cs) s d b never =
+      let g = goes settings p secured s d b c (never .0) in (
+        λ e. record { settings = g .settings; own = g .kept e },
+        kept-there cs (noted ours p d s c) (after ours d c) (stands-after settings p secured s d b c g) (never .1),
+      )
+
+  stands-then : (cs : List Call) (s : Session) (d : Device) → Stands settings p s d
+      → NeverMatched ours p (passwordOf settings) d s cs
+      → Stands settings p (sessionAfter ours p d s cs) (run ours d cs)
+  unfolding run
+  stands-then [] s d b never = b
+  stands-then (c ∷ cs) s d b never =
+      let g = goes settings p secured s d b c (never .0) in
+      stands-then cs (noted ours p d s c) (after ours d c) (stands-after settings p secured s d b c g) (never .1)
+
+-- ---- every place
+
+pub record Beside (settings : Settings) (d e : Device) : Type 0 where
   pub legal : isLegal d ≡ true
   pub legal-beside : isLegal e ≡ true
   pub settings-kept : d .settings ≡ settings
   pub settings-beside : e .settings ≡ settings
   pub own : d .own ≡ e .own
-  pub standing : Standing s (d .connection)
 
-module _ (settings : Settings) where
-  -- ---- the passes and the host's calls, which reach both
-
-  both-go-on : (c : Call) (s : Session) (d e : Device) → Beside settings s d e
-      → HostDoes c s d (after ours d c) → HostDoes c s e (after ours e c)
-      → Beside settings s (after ours d c) (after ours e c)
-  both-go-on c s d e b one other = record {
+module _ (settings : Settings) (secured : isSecured settings ≡ true) where
+  -- the passes and the host's calls reach both
+  both-go-on : (c : Call) (d e : Device) → Beside settings d e → HostDoes c d (after ours d c)
+      → HostDoes c e (after ours e c) → Beside settings (after ours d c) (after ours e c)
+  both-go-on c d e b one other = record {
     legal = stays-legal d c (b .legal);
     legal-beside = stays-legal e c (b .legal-beside);
     settings-kept = one .settings ∙ b .settings-kept;
     settings-beside = other .settings ∙ b .settings-beside;
     own = one .own ∙ (λ i. turnedBy c ((b .settings-kept ∙ sym (b .settings-beside)) i) (b .own i)) ∙ sym (other .own);
-    standing = one .standing (b .standing);
   }
 
-  -- ---- the calls on the connection, which reach one
-
-  -- the own part and the settings stay
-  alone : (c : Call) (s next : Session) (d e : Device) → Beside settings s d e
-      → after ours d c .settings ≡ d .settings → after ours d c .own ≡ d .own
-      → Standing next (after ours d c .connection) → Beside settings next (after ours d c) e
-  alone c s next d e b same own stands = record {
+  -- the calls on a connection reach one, and leave its settings and own part
+  alone : (c : Call) (d e : Device) → Beside settings d e → after ours d c .settings ≡ d .settings
+      → after ours d c .own ≡ d .own → Beside settings (after ours d c) e
+  alone c d e b same own = record {
     legal = stays-legal d c (b .legal);
     legal-beside = b .legal-beside;
     settings-kept = same ∙ b .settings-kept;
     settings-beside = b .settings-beside;
     own = own ∙ b .own;
-    standing = stands;
   }
 
-  module _ (secured : isSecured settings ≡ true) (s : Session) (d e : Device) (b : Beside settings s d e) where
-    abbrev Goes : Session → Device → Type 0
-    Goes next x = (x .settings ≡ d .settings) × ((x .own ≡ d .own) × Standing next (x .connection))
+  -- what is known of every place at each moment
+  abbrev AllStand : (ℕ → Session) → Device → Type 0
+  AllStand ss d = (p : ℕ) → p < placesCount → Stands settings p (ss p) d
 
-    stays : Goes s d
-    stays = (refl, (refl, b .standing))
+  abbrev NoneMatched : (ℕ → Session) → Device → List Call → Type 0
+  NoneMatched ss d cs = (p : ℕ) → p < placesCount → NeverMatched ours p (passwordOf settings) d (ss p) cs
 
-    greeted-stands : (random : ℕ) → Standing (openedWith random) (greeted (d .settings) random)
-    greeted-stands random =
-        subst (Standing (openedWith random))
-        (sym (ap (λ (k : Settings). greeted k random) (b .settings-kept) ∙ secured-greeted settings random secured))
-        (awaits refl refl refl (sym nothing-yet) refl)
+  module _ (c : Call) (cs : List Call) (ss : ℕ → Session) (d : Device) (stand : AllStand ss d)
+      (never : NoneMatched ss d (c ∷ cs)) where
+    abbrev then : ℕ → Session
+    then p = noted ours p d (ss p) c
 
-    opening-goes : (random : ℕ) (m : List ℕ) → Goes (noted ours d s (opens random m)) (after ours d (opens random m))
-    opening-goes random m =
-        opened-by d random (length m)
-        (λ (r : Result Device). Goes (if eqb (r .number) 0 then openedWith random else s) (r .device))
-        (λ n z. rw (ne-eqb n 0 z) stays) (λ h k c. (refl, (refl, greeted-stands random)))
+    all-after : AllStand then (after ours d c)
+    all-after p there =
+        let b = stand p there in
+        stands-after settings p secured (ss p) d b c (goes settings p secured (ss p) d b c (never p there .0))
 
-    closing-goes : Goes s (after ours d closes)
-    closing-goes =
-        closed-by d (λ (r : Result Device). Goes s (r .device)) (λ n z. stays)
-        (λ h c. (refl, (refl, closed-stands s (answered-so (b .standing)))))
+    never-later : NoneMatched then (after ours d c) cs
+    never-later p there = never p there .1
 
-    receiving-goes : (bs m : List ℕ) → isMatched (passwordOf settings) (noted ours d s (receives bs m)) ≡ false
-        → Goes (noted ours d s (receives bs m)) (after ours d (receives bs m))
-    receiving-goes bs m =
-        received-by d bs (length m)
-        (λ (r : Result Device). let next = if eqb (r .number) 0 then goesOn s bs (lentBy r m) else s in
-        isMatched (passwordOf settings) next ≡ false → Goes next (r .device))
-        (λ n z. rw (ne-eqb n 0 z) (λ u. stays))
-        (λ h k c.
-        let t = takes d bs in
-        let told : heard s bs t ≡ goesOn s bs (lentBy (acceptedTaken d t) m)
-        = ap (λ (answer : List ℕ). record {
-          random = s .random;
-          taken = s .taken ++ take (t .taken) bs;
-          replied = s .replied ++ answer;
-        }) (sym (over-front (t .ended .reply) m)) in
-        subst (λ (next : Session). isMatched (passwordOf settings) next ≡ false
-        → Goes next (acceptedTaken d t .device)) told (λ unmatched.
-        let password = ap passwordOf (b .settings-kept) in
-        let on = stands-on (d .settings) (d .own) (d .connection) s bs (eqb-false (d .connection .phase) shut c)
-        (b .standing) (rw password unmatched) in
-        (refl, (on .own, on .standing))))
+  -- what is received leaves the own part: refused, or at a place that was never matched
+  received-keeps-own : (q : ℕ) (bs m : List ℕ) (cs : List Call) (ss : ℕ → Session) (d : Device) → AllStand ss d
+      → NoneMatched ss d (receives q bs m ∷ cs) → after ours d (receives q bs m) .own ≡ d .own
+  received-keeps-own q bs m cs ss d stand never =
+      received-by d q bs (length m)
+      (λ (r : Result Device). (q < placesCount → r .device .own ≡ d .own) → r .device .own ≡ d .own)
+      (λ n z there. refl) (λ h k there c kept. kept there)
+      (λ there.
+      goes settings q secured (ss q) d (stand q there) (receives q bs m) (never q there .0) .kept (eq-eqb q q refl))
 
-    goes-alone : (c : Call) (next : Session) → Goes next (after ours d c) → Beside settings next (after ours d c) e
-    goes-alone c next g = alone c s next d e b (g .0) (g .1 .0) (g .1 .1)
+  runs-beside : (cs : List Call) (ss : ℕ → Session) (d e : Device) → Beside settings d e → AllStand ss d
+      → NoneMatched ss d cs → Beside settings (run ours d cs) (run ours e (hostCalls cs))
+  unfolding run
+  runs-beside [] ss d e b stand never = b
+  runs-beside (opens random m ∷ cs) ss d e b stand never =
+      let c = opens random m in
+      runs-beside cs (then c cs ss d stand never) (after ours d c) e
+      (alone c d e b (opening-keeps-settings d random (length m)) (opening-keeps-own d random (length m)))
+      (all-after c cs ss d stand never) (never-later c cs ss d stand never)
+  runs-beside (closes q ∷ cs) ss d e b stand never =
+      let c = closes q in
+      runs-beside cs (then c cs ss d stand never) (after ours d c) e
+      (alone c d e b (closing-keeps-settings d q) (closing-keeps-own d q))
+      (all-after c cs ss d stand never) (never-later c cs ss d stand never)
+  runs-beside (receives q bs m ∷ cs) ss d e b stand never =
+      let c = receives q bs m in
+      runs-beside cs (then c cs ss d stand never) (after ours d c) e
+      (alone c d e b (receiving-keeps-settings d q bs (length m)) (received-keeps-own q bs m cs ss d stand never))
+      (all-after c cs ss d stand never) (never-later c cs ss d stand never)
+  runs-beside (passes n ∷ cs) ss d e b stand never =
+      let c = passes n in
+      runs-beside cs (then c cs ss d stand never) (after ours d c) (after ours e c)
+      (both-go-on c d e b (time-does n d (b .legal)) (time-does n e (b .legal-beside)))
+      (all-after c cs ss d stand never) (never-later c cs ss d stand never)
+  runs-beside (marks fault ∷ cs) ss d e b stand never =
+      let c = marks fault in
+      runs-beside cs (then c cs ss d stand never) (after ours d c) (after ours e c)
+      (both-go-on c d e b (fault-does fault d (b .legal)) (fault-does fault e (b .legal-beside)))
+      (all-after c cs ss d stand never) (never-later c cs ss d stand never)
+  runs-beside (reports errors ∷ cs) ss d e b stand never =
+      let c = reports errors in
+      runs-beside cs (then c cs ss d stand never) (after ours d c) (after ours e c)
+      (both-go-on c d e b (errors-do errors d (b .legal)) (errors-do errors e (b .legal-beside)))
+      (all-after c cs ss d stand never) (never-later c cs ss d stand never)
 
-  -- ---- any calls
+-- ---- from places that are closed
 
-  module _ (secured : isSecured settings ≡ true) where
-    pub runs-beside : (cs : List Call) (s : Session) (d e : Device) → Beside settings s d e
-        → NeverMatched ours (passwordOf settings) d s cs
-        → Beside settings (sessionAfter ours d s cs) (run ours d cs) (run ours e (hostCalls cs))
-    unfolding run
-    runs-beside [] s d e b u = b
-    runs-beside (opens random m ∷ cs) s d e b u =
-        let next = noted ours d s (opens random m) in
-        runs-beside cs next (after ours d (opens random m)) e
-        (goes-alone secured s d e b (opens random m) next (opening-goes secured s d e b random m)) (u .1)
-    runs-beside (closes ∷ cs) s d e b u =
-        runs-beside cs s (after ours d closes) e (goes-alone secured s d e b closes s (closing-goes secured s d e b))
-        (u .1)
-    runs-beside (receives bs m ∷ cs) s d e b u =
-        let next = noted ours d s (receives bs m) in
-        runs-beside cs next (after ours d (receives bs m)) e
-        (goes-alone secured s d e b (receives bs m) next (receiving-goes secured s d e b bs m (u .0))) (u .1)
-    runs-beside (passes n ∷ cs) s d e b u =
-        runs-beside cs s (after ours d (passes n)) (after ours e (passes n))
-        (both-go-on (passes n) s d e b (time-does s n d (b .legal)) (time-does s n e (b .legal-beside))) (u .1)
-    runs-beside (marks fault ∷ cs) s d e b u =
-        runs-beside cs s (after ours d (marks fault)) (after ours e (marks fault))
-        (both-go-on (marks fault) s d e b (fault-does s fault d (b .legal)) (fault-does s fault e (b .legal-beside)))
-        (u .1)
-    runs-beside (reports errors ∷ cs) s d e b u =
-        runs-beside cs s (after ours d (reports errors)) (after ours e (reports errors))
-        (both-go-on (reports errors) s d e b (errors-do s errors d (b .legal)) (errors-do s errors e (b .legal-beside)))
-        (u .1)
-
--- ---- from an accepted opening
-
-module _ (d : Device) (random : ℕ) (m : List ℕ) (secured : isSecured (d .settings) ≡ true) where
-  abbrev fresh : Device
-  fresh = ours .opening d random m .device
-
-  opened-beside : ours .opening d random m .number ≡ 0 → Beside (d .settings) (openedWith random) fresh fresh
-  opened-beside =
-      opened-by d random (length m)
-      (λ (r : Result Device). r .number ≡ 0 → Beside (d .settings) (openedWith random) (r .device) (r .device))
-      (λ n z e. absurd (z e))
-      (λ h k c e.
-      let legal = ap (λ (r : Result Device). isLegal (r .device)) (sym (opened-greeted d random (length m) h k c))
-      ∙ opening-legal d h random (length m) in
+module _ (d : Device) (cs : List Call) (legal : isLegal d ≡ true) (secured : isSecured (d .settings) ≡ true) where
+  pub outsider-has-no-say : (p : ℕ) → isShut (connectionAt d p) ≡ true
+      → NeverMatched ours p (passwordOf (d .settings)) d unopened cs → NoSay ours p d unopened cs
+  outsider-has-no-say p free never =
+      let b = unopened-stands d p legal free in
       record {
-        legal = legal;
-        legal-beside = legal;
-        settings-kept = refl;
-        settings-beside = refl;
-        own = refl;
-        standing = subst (Standing (openedWith random)) (sym (secured-greeted (d .settings) random secured))
-            (awaits refl refl refl (sym nothing-yet) refl);
-      })
-
-  pub outsider-has-no-say : (cs : List Call) → ours .opening d random m .number ≡ 0
-      → NeverMatched ours (passwordOf (d .settings)) fresh (openedWith random) cs
-      → NoSay ours fresh (openedWith random) cs
-  outsider-has-no-say cs accepted never =
-      let b = opened-beside accepted in
-      let end = runs-beside (d .settings) secured cs (openedWith random) fresh fresh b never in
-      record {
-        settings = end .settings-kept ∙ sym (b .settings-kept);
-        own = end .own;
-        answers = answered-so (end .standing);
+        kept = kept-there (d .settings) p secured cs unopened d b never;
+        answers = answered-so (stands-then (d .settings) p secured cs unopened d b never .standing);
       }
+
+  pub outsiders-have-no-say : ((p : ℕ) → p < placesCount → isShut (connectionAt d p) ≡ true)
+      → ((p : ℕ) → p < placesCount → NeverMatched ours p (passwordOf (d .settings)) d unopened cs)
+      → HostsAlone ours d cs
+  outsiders-have-no-say free never =
+      let start : Beside (d .settings) d d
+      = record { legal = legal; legal-beside = legal; settings-kept = refl; settings-beside = refl; own = refl } in
+      let end = runs-beside (d .settings) secured cs (λ p. unopened) d d start
+      (λ p there. unopened-stands d p legal (free p there)) never in
+      record { settings = end .settings-kept; own = end .own }

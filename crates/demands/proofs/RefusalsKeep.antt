@@ -32,10 +32,10 @@ pub refused-keeps : (d : Device) (c : Call) → (numberOf ours d c ≡ 0 → ⊥
 refused-keeps d (opens random m) n =
     let h = opening-refused d random (length m) n in
     (h .device, lent-untouched d (openedBy d random (length m)) m h)
-refused-keeps d (receives bs m) n =
-    let h = receiving-refused d bs (length m) n in
-    (h .device, lent-untouched d (received d bs (length m)) m h)
-refused-keeps d closes n = (closing-refused d n .device, tt)
+refused-keeps d (receives p bs m) n =
+    let h = receiving-refused d p bs (length m) n in
+    (h .device, lent-untouched d (received d p bs (length m)) m h)
+refused-keeps d (closes p) n = (closing-refused d p n .device, tt)
 refused-keeps d (passes k) n = (passed-refusal d k n, tt)
 refused-keeps d (marks fault) n = (fault-refusal d fault n, tt)
 refused-keeps d (reports errors) n = (errors-refusal d errors n, tt)

@@ -1,7 +1,8 @@
--- 01's sample device, opened, on which the wrong boards fall; and the longest reply, which 32 inputs reach (02, L11).
+-- 01's sample device, opened at place 0, on which the wrong boards fall; and the longest reply, which 32 inputs reach (02, L11).
 -- Assumes nothing.
 use mathlib.Core.Path.{_≡_, refl}
 use mathlib.Core.List.{[], _∷_}
+use native.Mathlib.Omega.{arith}
 use Rattle.text.specs.Words.{ascii}
 use Rattle.record.specs.Limits.{opened}
 use Rattle.record.specs.Wanted.{Wanted, wantedOf}
@@ -16,9 +17,9 @@ use Rattle.demands.specs.Computing.{computing}
 abbrev pub openedSample : Device
 openedSample = ours .opening (ours .set-up sample .device) 0 memory .device
 
-pub ready : BetweenLines opened openedSample
+pub ready : BetweenLines opened openedSample 0
 unfolding computing
-ready = record { legal = refl; in-phase = refl; unmarked = refl; none-held = refl }
+ready = record { legal = refl; there = omega arith; in-phase = refl; unmarked = refl; none-held = refl }
 
 -- the new switch box, off and open
 abbrev sockets : Wanted
@@ -28,6 +29,6 @@ sockets =
 abbrev openedSockets : Device
 openedSockets = ours .opening (ours .set-up sockets .device) 0 memory .device
 
-pub longest-reply-reached : ours .receive openedSockets (ascii "%1INST ?\r") memory .length ≡ longestReply
+pub longest-reply-reached : ours .receive openedSockets 0 (ascii "%1INST ?\r") memory .length ≡ longestReply
 unfolding computing
 longest-reply-reached = refl

@@ -33,11 +33,11 @@ module _ (d : Device) (m : List ℕ) where
   abbrev Fits : Result Device → Type 0
   Fits r = length (r .reply) ≤ length m
 
-  received-fits : (bs : List ℕ) → Fits (received d bs (length m))
-  received-fits bs =
-      received-by d bs (length m) (λ r. length (r .reply) ≤ longestReply → Fits r) (λ n z short. omega arith)
-      (λ h s c short. omega arith)
-      (receiving-short d bs (length m))
+  received-fits : (p : ℕ) (bs : List ℕ) → Fits (received d p bs (length m))
+  received-fits p bs =
+      received-by d p bs (length m) (λ r. length (r .reply) ≤ longestReply → Fits r) (λ n z short. omega arith)
+      (λ h s t c short. omega arith)
+      (receiving-short d p bs (length m))
 
   opened-fits : (random : ℕ) → Fits (openedBy d random (length m))
   opened-fits random =
@@ -50,9 +50,9 @@ module _ (d : Device) (m : List ℕ) where
 
 pub stays-inside : (d : Device) (c : Call) → StaysInside ours d c
 stays-inside d (opens random m) = lent-inside d m (openedBy d random (length m)) (opened-fits d m random)
-stays-inside d (receives bs m) =
-    (lent-inside d m (received d bs (length m)) (received-fits d m bs), received-within d bs (length m))
-stays-inside d closes = tt
+stays-inside d (receives p bs m) =
+    (lent-inside d m (received d p bs (length m)) (received-fits d m p bs), received-within d p bs (length m))
+stays-inside d (closes p) = tt
 stays-inside d (passes n) = tt
 stays-inside d (marks fault) = tt
 stays-inside d (reports errors) = tt

@@ -36,8 +36,8 @@ unless false = refl
 
 pub number-is-first : (d : Device) (c : Call) → numberOf ours d c ≡ firstOf (rowsOf d c)
 number-is-first d (opens random m) = opened-number d (length m) random
-number-is-first d closes = closed-number d
-number-is-first d (receives bs m) = received-number d (length m) bs
+number-is-first d (closes p) = closed-number d p
+number-is-first d (receives p bs m) = received-number d (length m) p bs
 number-is-first d (passes n) = passed-number d n ∙ unless (isLegal d)
 number-is-first d (marks fault) = fault-number d fault
 number-is-first d (reports errors) = errors-number d errors

@@ -9,7 +9,7 @@ use Rattle.text.specs.Words.{over}
 use Rattle.lines.specs.declared.command.Command.{Command}
 use Rattle.answers.specs.Said.{Said}
 use Rattle.record.specs.declared.types.Device.{Device}
-use Rattle.device.specs.Calls.{openedBy, toldOpened}
+use Rattle.device.specs.Calls.{openedBy, placeTaken, toldOpened}
 use Rattle.device.proofs.Cases.{opened-by}
 use Rattle.controller.specs.Reading.{readingOf}
 use Rattle.controller.proofs.ReadingsSaid.{reading-said}
@@ -24,7 +24,7 @@ module _ (d : Device) (random : ℕ) (m : List ℕ) where
 
   pub opening-lent :
       let o = openedBy d random (length m) in
-      lentOpened (toldOpened o) (over (o .reply) m) ≡ ours .opening d random m
+      lentOpened (toldOpened (placeTaken d (length m)) o) (over (o .reply) m) ≡ ours .opening d random m
   opening-lent =
       let o = openedBy d random (length m) in
       ap

@@ -2,15 +2,19 @@
 -- Assumes nothing.
 use Prim.Native.Nat.{ℕ, _^_, _≤_, _<_}
 use mathlib.Core.Path.{_≡_, sym, ap, subst, _∙_}
-use mathlib.Core.Bool.{Bool, true, false}
+use mathlib.Core.Bool.{Bool, true, false, false≢true}
 use mathlib.Core.List.{List, _++_}
+use mathlib.Core.Logic.{⊎-elim}
 use native.Mathlib.Omega.{arith}
 use lib.ListN.{length}
+use Rattle.text.proofs.Orders.{le-or-lt}
 use Rattle.lines.specs.Commands.{isCommand, commandLine}
 use Rattle.lines.specs.declared.command.Command.{Command}
-use Rattle.record.specs.Limits.{shut, awaiting, opened}
+use Rattle.record.specs.Limits.{placesCount, awaiting, opened}
 use Rattle.record.specs.Legal.{isLegal}
+use Rattle.record.specs.Places.{connectionAt, isShut, lowestShut}
 use Rattle.record.specs.declared.types.Device.{Device}
+use Rattle.record.proofs.LowestShut.{below-lowest}
 use Rattle.device.specs.Receiving.{passwordOf}
 use Rattle.device.specs.Calls.{replyRoom, received, openedBy}
 use Rattle.controller.specs.Writing.{WrittenAs, commandRoom, ledBy, writtenCommand}
@@ -37,42 +41,47 @@ writes c secured random password m =
     (λ h e. absurd (omega arith)) (λ h w e. absurd (omega arith))
     (λ h w e. line-written (record { number = 0; bytes = ledBy secured random password ++ commandLine c }) m)
 
-module _ (d : Device) (c : Command) (paper m : List ℕ) (writable : isCommand c ≡ true)
+module _ (d : Device) (p : ℕ) (c : Command) (paper m : List ℕ) (writable : isCommand c ≡ true)
     (roomy : commandRoom ≤ length paper) (enough : replyRoom ≤ length m) where
   -- from the calls' results to the lent memory
-  on-memory : (w : WrittenAs) → (w .number ≡ 0) × TakenAndRead d c (w .bytes) (received d (w .bytes) (length m))
-      → ReadBack ours d c (wroteBy w paper) (ours .receive d (bytesWritten (wroteBy w paper)) m)
+  on-memory : (w : WrittenAs) → (w .number ≡ 0) × TakenAndRead d p c (w .bytes) (received d p (w .bytes) (length m))
+      → ReadBack ours d p c (wroteBy w paper) (ours .receive d p (bytesWritten (wroteBy w paper)) m)
   on-memory w (number, back) =
-      subst (λ (bs : List ℕ). ReadBack ours d c (wroteBy w paper) (ours .receive d bs m)) (sym (line-written w paper))
+      subst (λ (bs : List ℕ). ReadBack ours d p c (wroteBy w paper) (ours .receive d p bs m)) (sym (line-written w paper))
       (record {
         wrote = number;
         number = back .number;
         taken = back .taken;
-        read = ap (readReply c) (over-front (received d (w .bytes) (length m) .reply) m) ∙ back .said;
+        read = ap (readReply c) (over-front (received d p (w .bytes) (length m) .reply) m) ∙ back .said;
         device = back .device;
       })
 
-  pub reads-back : (random : ℕ) (password : List ℕ) → BetweenLines opened d
-      → let w = ours .write c false random password paper in ReadBack ours d c w (ours .receive d (bytesWritten w) m)
+  pub reads-back : (random : ℕ) (password : List ℕ) → BetweenLines opened d p
+      → let w = ours .write c false random password paper in ReadBack ours d p c w (ours .receive d p (bytesWritten w) m)
   reads-back random password between =
-      let empty = is-between d (between .legal) (between .unmarked) (between .none-held) in
+      let empty = is-between d p (between .there) (between .legal) (between .unmarked) (between .none-held) in
       on-memory (writtenCommand c false random password (length paper))
-      (written-reads-back d (between .legal) empty c writable (length m) enough (length paper) roomy
+      (written-reads-back d p (between .there) (between .legal) empty c writable (length m) enough (length paper) roomy
       (between .in-phase) random password)
 
-  pub reads-back-secured : BetweenLines awaiting d
-      → let w = ours .write c true (d .connection .random) (passwordOf (d .settings)) paper in
-      ReadBack ours d c w (ours .receive d (bytesWritten w) m)
+  pub reads-back-secured : BetweenLines awaiting d p
+      → let w = ours .write c true (connectionAt d p .random) (passwordOf (d .settings)) paper in
+      ReadBack ours d p c w (ours .receive d p (bytesWritten w) m)
   reads-back-secured between =
-      let empty = is-between d (between .legal) (between .unmarked) (between .none-held) in
-      on-memory (writtenCommand c true (d .connection .random) (passwordOf (d .settings)) (length paper))
-      (written-reads-back-secured d (between .legal) empty c writable (length m) enough (length paper) roomy
+      let empty = is-between d p (between .there) (between .legal) (between .unmarked) (between .none-held) in
+      on-memory (writtenCommand c true (connectionAt d p .random) (passwordOf (d .settings)) (length paper))
+      (written-reads-back-secured d p (between .there) (between .legal) empty c writable (length m) enough (length paper) roomy
       (between .in-phase))
 
 pub greets-back : (d : Device) (random : ℕ) (m : List ℕ) → isLegal d ≡ true
-    → d .connection .phase ≡ shut → replyRoom ≤ length m → random < 2 ^ 32
+    → (q : ℕ) → q < placesCount → isShut (connectionAt d q) ≡ true → replyRoom ≤ length m → random < 2 ^ 32
     → let r = ours .opening d random m in
-    (r .number ≡ 0) × (ours .read-greeting (reply r) ≡ greetedOn (r .device .connection))
-greets-back d random m legal closed enough word =
-    let back = greeted-back d random (length m) legal closed enough word in
+    let p = ours .place-opened d random m in
+    (r .number ≡ 0) × (ours .read-greeting (reply r) ≡ greetedOn (connectionAt (r .device) p))
+greets-back d random m legal q there closed enough word =
+    let cs = d .connections in
+    let low : lowestShut cs ≤ q
+    = ⊎-elim (λ (h : lowestShut cs ≤ q). h)
+    (λ (h : q < lowestShut cs). absurd (false≢true (sym (below-lowest cs q h) ∙ closed))) (le-or-lt (lowestShut cs) q) in
+    let back = greeted-back d random (length m) legal (omega arith) enough word in
     (back .number, ap readGreeting (over-front (openedBy d random (length m) .reply) m) ∙ back .heard)

@@ -12,10 +12,11 @@ use Rattle.text.specs.Scans.{sameBy, itself}
 use Rattle.text.proofs.Scanning.{long-differs}
 use Rattle.digest.specs.Hex.{leadingDigest}
 use Rattle.digest.proofs.Laws.{leading-digest-length}
+use Rattle.record.specs.Places.{connectionAt}
 use Rattle.record.specs.declared.types.Device.{Device}
 use Rattle.device.specs.Receiving.{digestLong}
 use Rattle.demands.specs.Board.{ours}
-use Rattle.demands.specs.Calls.{Call, passes}
+use Rattle.demands.specs.Calls.{Call, opens, passes}
 use Rattle.demands.specs.Demand2.{Demand2}
 use Rattle.demands.specs.Settled.{memory, says}
 use Rattle.demands.specs.WrongDoors.{securedSample, forgetsPassword, ignoresPassword, greetsWithZero, timeOpens}
@@ -38,14 +39,14 @@ forgets-password-falls h =
 pub ignores-password-falls : Demand2 ignoresPassword → ⊥
 unfolding computing
 ignores-password-falls h =
-    let e : _≡_ {A = ℕ} 2 1 = ap (λ (d : Device). d .connection .phase) (h .opens secured 7 memory refl .device) in
+    let e : _≡_ {A = ℕ} 2 1 = ap (λ (d : Device). connectionAt d 0 .phase) (h .opens secured 7 memory refl .device) in
     absurd (omega arith)
 
 -- the number that the connection keeps
 pub greets-with-zero-falls : Demand2 greetsWithZero → ⊥
 unfolding computing
 greets-with-zero-falls h =
-    let e : _≡_ {A = ℕ} 0 7 = ap (λ (d : Device). d .connection .random) (h .opens secured 7 memory refl .device) in
+    let e : _≡_ {A = ℕ} 0 7 = ap (λ (d : Device). connectionAt d 0 .random) (h .opens secured 7 memory refl .device) in
     absurd (omega arith)
 
 -- ---- the outsider, who powers on
@@ -57,23 +58,23 @@ short-unled random password l short =
     long-differs itself l (leadingDigest random password)
     (λ e. omega (arith, leading-digest-length random password))
 
--- the power that he leaves, and the one that a second alone leaves
+-- the power that he leaves, and the one that he found
 pub time-opens-falls : Demand2 timeOpens → ⊥
 unfolding computing
 time-opens-falls h =
-    let calls : List Call = passes 1 ∷ says "%1POWR 1" ∷ [] in
-    let out = h .outsider-has-no-say secured 7 memory calls refl refl
-    (refl, (short-unled 7 (ascii "JBMIAProjectorLink") (ascii "%1POWR 1") (omega arith), tt)) in
-    let e : _≡_ {A = ℕ} 3 0 = ap (λ o. o .power) (out .own) in
+    let calls : List Call = opens 7 memory ∷ passes 1 ∷ says "%1POWR 1" ∷ [] in
+    let out = h .outsider-has-no-say secured 0 calls refl refl refl
+    (refl, (refl, (short-unled 7 (ascii "JBMIAProjectorLink") (ascii "%1POWR 1") (omega arith), tt))) in
+    let e : _≡_ {A = ℕ} 3 0 = ap (λ o. o .power) (out .kept .1 .1 .0 refl .own) in
     absurd (omega arith)
 
 pub failed-answers-falls : Demand2 failedAnswers → ⊥
 unfolding computing
 failed-answers-falls h =
-    let calls : List Call = says "x" ∷ passes 1 ∷ says "%1POWR 1" ∷ [] in
+    let calls : List Call = opens 7 memory ∷ says "x" ∷ passes 1 ∷ says "%1POWR 1" ∷ [] in
     let unled = short-unled 7 (ascii "JBMIAProjectorLink") (ascii "x") (omega arith) in
-    let out = h .outsider-has-no-say secured 7 memory calls refl refl (unled, (unled, (unled, tt))) in
-    let e : _≡_ {A = ℕ} 3 0 = ap (λ o. o .power) (out .own) in
+    let out = h .outsider-has-no-say secured 0 calls refl refl refl (refl, (unled, (unled, (unled, tt)))) in
+    let e : _≡_ {A = ℕ} 3 0 = ap (λ o. o .power) (out .kept .1 .1 .1 .0 refl .own) in
     absurd (omega arith)
 
 -- ---- calls that do nothing
@@ -82,7 +83,7 @@ failed-answers-falls h =
 pub never-closes-falls : Demand2 neverCloses → ⊥
 unfolding computing
 never-closes-falls h =
-    let e : _≡_ {A = ℕ} 2 0 = ap (λ (d : Device). d .connection .phase) (h .closes openedSample refl) in
+    let e : _≡_ {A = ℕ} 2 0 = ap (λ (d : Device). connectionAt d 0 .phase) (h .closes openedSample 0 refl) in
     absurd (omega arith)
 
 pub hides-faults-falls : Demand2 hidesFaults → ⊥

@@ -24,11 +24,11 @@ use Rattle.demands.specs.WrongLines.{forgetsAtNothing, othersNameless}
 use Rattle.demands.specs.Computing.{computing}
 use Rattle.demands.proofs.Samples.{openedSample, ready}
 
-module _ (B : Board) (h : Demand2 B) (d : B .Record) (between : BetweenLines opened (B .shows d)) where
-  queried : AnsweredAs B d (withCr "%1powr ?") (answerTo (B .shows d) (ascii "%1powr ?"))
-      (B .receive d (withCr "%1powr ?") memory)
+module _ (B : Board) (h : Demand2 B) (d : B .Record) (between : BetweenLines opened (B .shows d) 0) where
+  queried : AnsweredAs B d 0 (withCr "%1powr ?") (answerTo (B .shows d) (ascii "%1powr ?"))
+      (B .receive d 0 (withCr "%1powr ?") memory)
   unfolding computing
-  queried = h .answers d (ascii "%1powr ?") memory between refl (omega arith)
+  queried = h .answers d 0 (ascii "%1powr ?") memory between refl (omega arith)
 
 -- the reply's length; the right one is `%1powr=0` and CR
 pub drops-all-falls : Demand2 dropsAll → ⊥
@@ -70,7 +70,7 @@ forgets-at-nothing-falls h =
     let parts : List (List ℕ) = ascii "%1POWR" ∷ [] ∷ withCr " ?" ∷ [] in
     let whole : List (List ℕ) = withCr "%1POWR ?" ∷ [] in
     let e : _≡_ {A = ℕ} 0 9 = ap (λ (o : Out Device). length (o .reply))
-    (h .same-however-cut openedSample memory parts whole refl refl (omega arith) refl) in
+    (h .same-however-cut openedSample 0 memory parts whole refl (omega arith) refl (omega arith) refl) in
     absurd (omega arith)
 
 -- the text that is read of another maker's reply

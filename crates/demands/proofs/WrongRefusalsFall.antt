@@ -7,6 +7,7 @@ use mathlib.Core.List.{List}
 use native.Mathlib.Omega.{arith}
 use lib.ListN.{replicate}
 use Rattle.lines.specs.Bytes.{_at_}
+use Rattle.record.specs.Places.{connectionAt}
 use Rattle.record.specs.declared.types.Device.{Device}
 use Rattle.demands.specs.Calls.{receives}
 use Rattle.demands.specs.Demand1.{Demand1}
@@ -22,7 +23,7 @@ short = replicate 135 0
 pub writes-first-falls : Demand1 writesFirst → ⊥
 unfolding computing
 writes-first-falls h =
-    let kept = h .refused-keeps openedSample (receives (withCr "%1POWR ?") short) (λ e. omega arith) in
+    let kept = h .refused-keeps openedSample (receives 0 (withCr "%1POWR ?") short) (λ e. omega arith) in
     let e : _≡_ {A = ℕ} 37 0 = ap (λ (bs : List ℕ). bs at 0) (kept .1 .memory) in
     absurd (omega arith)
 
@@ -30,6 +31,6 @@ writes-first-falls h =
 pub changes-refused-falls : Demand1 changesRefused → ⊥
 unfolding computing
 changes-refused-falls h =
-    let kept = h .refused-keeps openedSample (receives (withCr "%1POWR ?") short) (λ e. omega arith) in
-    let e : _≡_ {A = ℕ} 0 2 = ap (λ (d : Device). d .connection .phase) (kept .0) in
+    let kept = h .refused-keeps openedSample (receives 0 (withCr "%1POWR ?") short) (λ e. omega arith) in
+    let e : _≡_ {A = ℕ} 0 2 = ap (λ (d : Device). connectionAt d 0 .phase) (kept .0) in
     absurd (omega arith)

@@ -1,5 +1,5 @@
--- A board: anything that answers the calls of 01 and of 02, L3. The demands are stated over it, so that wrong boards
--- can be tried.
+-- A board: anything that answers the calls of 01 and of 02, L3, with four places for controllers (02, L5). The demands
+-- are stated over it, so that wrong boards can be tried.
 --   Given R       what a call gives that is lent no memory: its number, and the record
 --   Lent R        what a call gives that is lent reply memory: its number, the bytes taken, the reply's length, the
 --                 memory as the call leaves it, and the record
@@ -22,7 +22,7 @@ use Rattle.record.specs.HostCalls.{faultSet, errorsSet}
 use Rattle.stored.specs.Form.{StoredAs, storedBy}
 use Rattle.stored.specs.Loading.{loaded}
 use Rattle.clock.specs.Passing.{passed}
-use Rattle.device.specs.Calls.{Result, openedBy, closedBy, received}
+use Rattle.device.specs.Calls.{Result, openedBy, placeTaken, closedBy, received}
 use Rattle.controller.specs.Writing.{WrittenAs, writtenCommand}
 use Rattle.controller.specs.Reading.{ReadAs, readReply}
 use Rattle.controller.specs.Greetings.{readGreeting}
@@ -51,14 +51,16 @@ pub record Wrote : Type 0 where
 abbrev pub bytesWritten : Wrote → List ℕ
 bytesWritten w = take (w .length) (w .memory)
 
--- memory is the last argument wherever it is lent
+-- memory is the last argument wherever it is lent; closing and receiving are at a place
 pub record Board : Type 1 where
   pub Record : Type 0
   pub shows : Record → Device
   pub set-up : Wanted → Given Record
   pub opening : Record → ℕ → List ℕ → Lent Record
-  pub closing : Record → Given Record
-  pub receive : Record → List ℕ → List ℕ → Lent Record
+  -- what an opening tells beside that: the place
+  pub place-opened : Record → ℕ → List ℕ → ℕ
+  pub closing : Record → ℕ → Given Record
+  pub receive : Record → ℕ → List ℕ → List ℕ → Lent Record
   pub pass : Record → ℕ → Given Record
   pub set-fault : Record → Bool → Given Record
   pub set-errors : Record → List ℕ → Given Record
@@ -99,10 +101,11 @@ ours = record {
   set-up = λ w. givenBy (setUp w);
   -- device::calls::open
   opening = λ d random m. lentBy (openedBy d random (length m)) m;
+  place-opened = λ d random m. placeTaken d (length m);
   -- device::calls::close
-  closing = λ d. closedAs (closedBy d);
+  closing = λ d p. closedAs (closedBy d p);
   -- device::calls::receive
-  receive = λ d bs m. lentBy (received d bs (length m)) m;
+  receive = λ d p bs m. lentBy (received d p bs (length m)) m;
   -- clock::pass::pass, and where the record lies clock::pass::pass_in_place
   pass = λ d n. givenBy (passed d n);
   -- record::host::set_fault

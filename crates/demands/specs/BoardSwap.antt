@@ -7,7 +7,7 @@
 use Prim.Native.Nat.{ℕ, _+_, _<_}
 use mathlib.Core.Path.{_≡_}
 use mathlib.Core.Bool.{true}
-use mathlib.Core.List.{List, []}
+use mathlib.Core.List.{List}
 use lib.ListN.{length, getD}
 use Rattle.text.specs.Scans.{every}
 use Rattle.record.specs.Wanted.{Wanted}
@@ -15,7 +15,7 @@ use Rattle.record.specs.Rules.{atMost}
 use Rattle.stored.specs.Form.{formOf, storedOf}
 use Rattle.demands.specs.Board.{Board, bytesWritten}
 use Rattle.demands.specs.Calls.{Call, run}
-use Rattle.demands.specs.History.{history, burning, lampWith}
+use Rattle.demands.specs.History.{noStreams, history, burning, lampWith}
 use Rattle.demands.specs.Demand3.{Beginning, Accepted, runOf, historyOf}
 
 pub record LoadsAs (B : Board) (s : List ℕ) (w : Wanted) : Type 0 where
@@ -42,4 +42,4 @@ pub record BoardSwap (B : Board) : Type 0 where
       let new = B .load (bytesWritten (B .store old m)) .device in
       B .store old m .number ≡ 0
       → getD (B .shows (run B new es) .own .lamps) place 0
-      ≡ lampWith (burning w (historyOf B b w cs) + burning w (history B new [] es)) (getD (w .lamps) place 0)
+      ≡ lampWith (burning w (historyOf B b w cs) + burning w (history B new noStreams es)) (getD (w .lamps) place 0)

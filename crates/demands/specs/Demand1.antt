@@ -4,7 +4,8 @@
 -- That a call ends is no field below: each call of a board is a function, and a Rattle function meets its contract only
 -- if it ends.
 -- TO BELIEVE IT, believe, and nothing else: the rows below, against 01's table, those of opening, closing and
--- receiving as device/specs/Calls has them, with `replyRoom` and `isShut`, those of storing and loading as
+-- receiving as device/specs/Calls has them, with `replyRoom` and `isNoPlace`, and `isShut`, `connectionAt`, `lowestShut`
+-- of record/specs/Places (02, L5), those of storing and loading as
 -- stored/specs/Form and Loading have them, against 02's order (L3); what is legal and what is in range
 -- (record/specs: Limits, Rules, Legal, SetUp, and `blank` of Record; lines/specs: Bytes, Inputs, Texts; utf8/specs:
 -- Utf8); the length 168 (`commandRoom` of controller/specs/Writing); for the readers, the forms of lines
@@ -50,8 +51,8 @@ isIllegal d = not (isLegal d)
 
 abbrev pub rowsOf : Device → Call → List Row
 rowsOf d (opens random m) = openingRows d (length m)
-rowsOf d closes = closingRows d
-rowsOf d (receives bs m) = receivingRows d (length m)
+rowsOf d (closes p) = closingRows d p
+rowsOf d (receives p bs m) = receivingRows d p (length m)
 rowsOf d (passes n) = (1 when isIllegal d) ∷ []
 rowsOf d (marks fault) = (1 when isIllegal d) ∷ []
 rowsOf d (reports errors) = (1 when isIllegal d) ∷ (3 when not (isErrors errors)) ∷ []
@@ -98,17 +99,17 @@ pub record Untouched (R : Type 0) (m : List ℕ) (r : Lent R) : Type 0 where
 module _ (B : Board) where
   abbrev pub StaysInside : B .Record → Call → Type 0
   StaysInside d (opens random m) = Inside (B .Record) m (B .opening d random m)
-  StaysInside d (receives bs m) =
-      Inside (B .Record) m (B .receive d bs m) × (B .receive d bs m .taken ≤ length bs)
-  StaysInside d closes = Unit {0}
+  StaysInside d (receives p bs m) =
+      Inside (B .Record) m (B .receive d p bs m) × (B .receive d p bs m .taken ≤ length bs)
+  StaysInside d (closes p) = Unit {0}
   StaysInside d (passes n) = Unit {0}
   StaysInside d (marks fault) = Unit {0}
   StaysInside d (reports errors) = Unit {0}
 
   abbrev pub WritesNothing : B .Record → Call → Type 0
   WritesNothing d (opens random m) = Untouched (B .Record) m (B .opening d random m)
-  WritesNothing d (receives bs m) = Untouched (B .Record) m (B .receive d bs m)
-  WritesNothing d closes = Unit {0}
+  WritesNothing d (receives p bs m) = Untouched (B .Record) m (B .receive d p bs m)
+  WritesNothing d (closes p) = Unit {0}
   WritesNothing d (passes n) = Unit {0}
   WritesNothing d (marks fault) = Unit {0}
   WritesNothing d (reports errors) = Unit {0}
@@ -134,6 +135,9 @@ pub record Demand1 (B : Board) : Type 0 where
   -- "returns the device record it was given .., and writes no byte of the reply memory"
   pub refused-keeps : (d : B .Record) (c : Call) → (numberOf B d c ≡ 0 → ⊥)
       → (after B d c ≡ d) × WritesNothing B d c
+  -- 02, L5: a refused opening tells no place but 0
+  pub refused-opening-place : (d : B .Record) (random : ℕ) (m : List ℕ) → (B .opening d random m .number ≡ 0 → ⊥)
+      → B .place-opened d random m ≡ 0
   pub refused-writer-writes-nothing : (c : Command) (secured : Bool) (random : ℕ) (password m : List ℕ)
       → let w = B .write c secured random password m in
       (w .number ≡ 0 → ⊥) → (w .length ≡ 0) × (w .memory ≡ m)

@@ -8,14 +8,16 @@
 -- requests (lines/specs; for names also utf8/specs/Utf8); what an answer is and which bytes say it (answers/specs:
 -- Said, CanSay, Writings); what a reading means and a greeting is (controller/specs: `meaning`, `LineSays` of
 -- Reading, `Exactly`, `greetedOn` of Greetings); what is meant and done (meaning/specs); how a line is answered and a
--- connection greeted (device/specs: Answering, `isLedBy` of Receiving, and `greeting`, `greeted`, `withParts` of
--- Calls); the record (record/specs); a stream in cuts (stream/specs/Machine); here Board, Calls, CallsDone, Outsider.
---   BetweenLines phase d     legal, in that phase, no collected bytes and no overlong mark
---   ReadBack B d c w r       the command c, written as w and received as r, is read as it was meant and done
---   isLed d l                the line l starts with the matching digest and is not overlong
---   RefusalOnly B d out      the refusal line was replied and nothing else; settings and own part stay, the connection
---                            has failed
---   handedOn B m d ps        the parts ps of a stream, each handed on until it is taken, the memory m lent each time
+-- connection greeted (device/specs: Answering, `isLedBy` of Receiving, and `greeting`, `greeted` of Calls); the record (record/specs); a stream in cuts (stream/specs/Machine); here Board, Calls, CallsDone, Outsider.
+-- 02, L5: "Demand 2 holds place by place": what is said of a connection is said of that at any place p, whatever the
+-- other places hold.
+--   BetweenLines phase d p   legal, at place p in that phase, no collected bytes and no overlong mark
+--   ReadBack B d p c w r     the command c, written as w and received as r, is read as it was meant and done
+--   isLed d p l              the line l starts with the matching digest and is not overlong
+--   RefusalOnly B d p out    the refusal line was replied and nothing else; settings, own part and other places stay,
+--                            the connection has failed
+--   handedOn B m p d ps      the parts ps of a stream, each handed on until it is taken, the memory m lent each time
+--   Elsewhere B d c q        the call c is not at place q
 -- Assumes nothing.
 use Prim.Native.Nat.{ℕ, _≤_, _<_, _^_}
 use mathlib.Core.Path.{_≡_}
@@ -35,34 +37,36 @@ use Rattle.lines.specs.declared.command.Command.{Command}
 use Rattle.lines.specs.declared.command.Command.the-variants.{Query}
 use Rattle.lines.specs.declared.request.Request.the-variants.{Asks}
 use Rattle.answers.specs.Said.{Said, textIs}
-use Rattle.record.specs.Limits.{shut, awaiting, opened, failed}
+use Rattle.record.specs.Limits.{placesCount, awaiting, opened, failed}
 use Rattle.record.specs.Wanted.{Wanted}
 use Rattle.record.specs.Legal.{isLegal}
 use Rattle.record.specs.Record.{closed, started}
 use Rattle.record.specs.Updates.{withOwn, withFault, withErrors}
+use Rattle.record.specs.Places.{connectionAt, withPlace, isShut}
 use Rattle.record.specs.declared.types.Device.{Device}
 use Rattle.record.specs.declared.types.Connection.{Connection}
 use Rattle.meaning.specs.Meaning.{meant, done}
 use Rattle.stream.specs.Machine.{Out, Took, handedParts, uncut}
 use Rattle.device.specs.Answering.{Answered, lineAnswer, swallowed}
 use Rattle.device.specs.Receiving.{turned, passwordOf, isLedBy}
-use Rattle.device.specs.Calls.{longestReply, replyRoom, isShut, isSecured, withParts}
+use Rattle.device.specs.Calls.{longestReply, replyRoom, isSecured}
 use Rattle.controller.specs.Writing.{commandRoom, ledBy}
 use Rattle.controller.specs.Reading.{meaning, LineSays}
 use Rattle.controller.specs.Greetings.{Exactly, greetedOn}
 use Rattle.controller.specs.declared.reading.Outcome.the-variants.{Means, Erra}
 use Rattle.demands.specs.Board.{Board, Lent, Wrote, reply, bytesWritten}
-use Rattle.demands.specs.Calls.{Call}
+use Rattle.demands.specs.Calls.{Call, opens, closes, receives, passes, marks, reports, after}
 use Rattle.demands.specs.CallsDone.{OpenedAs, Leaves}
-use Rattle.demands.specs.Outsider.{openedWith, NeverMatched, NoSay}
+use Rattle.demands.specs.Outsider.{unopened, NeverMatched, NoSay, HostsAlone}
 
 -- ---- a connection between lines
 
-pub record BetweenLines (phase : ℕ) (d : Device) : Type 0 where
+pub record BetweenLines (phase : ℕ) (d : Device) (p : ℕ) : Type 0 where
   pub legal : isLegal d ≡ true
-  pub in-phase : d .connection .phase ≡ phase
-  pub unmarked : d .connection .line .overlong ≡ false
-  pub none-held : d .connection .line .held ≡ 0
+  pub there : p < placesCount
+  pub in-phase : connectionAt d p .phase ≡ phase
+  pub unmarked : connectionAt d p .line .overlong ≡ false
+  pub none-held : connectionAt d p .line .held ≡ 0
 
 -- open and between lines, the random number kept
 abbrev pub openAgain : Connection → Connection
@@ -71,21 +75,21 @@ openAgain c = turned c opened
 -- ---- what is read of the reply to a command
 
 module _ (B : Board) where
-  pub record ReadBack (d : B .Record) (c : Command) (w : Wrote) (r : Lent (B .Record)) : Type 0 where
+  pub record ReadBack (d : B .Record) (p : ℕ) (c : Command) (w : Wrote) (r : Lent (B .Record)) : Type 0 where
     pub wrote : w .number ≡ 0
     pub number : r .number ≡ 0
     pub taken : r .taken ≡ w .length
     pub read : B .read-reply c (reply r) ≡ meaning (meant (B .shows d .settings) (B .shows d .own) (Asks c))
     pub device : B .shows (r .device)
-        ≡ withParts (B .shows d) (done (B .shows d .settings) (B .shows d .own) (Asks c))
-        (openAgain (B .shows d .connection))
+        ≡ withPlace (B .shows d) (done (B .shows d .settings) (B .shows d .own) (Asks c)) p
+        (openAgain (connectionAt (B .shows d) p))
 
   -- ---- any line, from any controller: what it is answered by 01's tables, and what it leaves
-  pub record AnsweredAs (d : B .Record) (bs : List ℕ) (a : Answered) (r : Lent (B .Record)) : Type 0 where
+  pub record AnsweredAs (d : B .Record) (p : ℕ) (bs : List ℕ) (a : Answered) (r : Lent (B .Record)) : Type 0 where
     pub number : r .number ≡ 0
     pub taken : r .taken ≡ length bs
     pub replied : reply r ≡ a .reply
-    pub device : B .shows (r .device) ≡ withParts (B .shows d) (a .own) (openAgain (B .shows d .connection))
+    pub device : B .shows (r .device) ≡ withPlace (B .shows d) (a .own) p (openAgain (connectionAt (B .shows d) p))
 
 -- a line of more than 135 bytes is swallowed
 abbrev pub answerTo : Device → List ℕ → Answered
@@ -93,29 +97,42 @@ answerTo d l = if leb (length l) commandMost then lineAnswer (d .settings) (d .o
 
 -- ---- the digest
 
-abbrev pub digestFor : Device → List ℕ
-digestFor d = leadingDigest (d .connection .random) (passwordOf (d .settings))
+abbrev pub digestFor : Device → ℕ → List ℕ
+digestFor d p = leadingDigest (connectionAt d p .random) (passwordOf (d .settings))
 
-abbrev pub isLed : Device → List ℕ → Bool
-isLed d l = isLedBy (d .connection .random) (passwordOf (d .settings)) l
+abbrev pub isLed : Device → ℕ → List ℕ → Bool
+isLed d p l = isLedBy (connectionAt d p .random) (passwordOf (d .settings)) l
 
 -- ---- a stream in cuts
 
-abbrev pub callOn : (B : Board) → List ℕ → B .Record → List ℕ → Took (B .Record)
-callOn B m d bs =
-    let r = B .receive d bs m in
+abbrev pub callOn : (B : Board) → List ℕ → ℕ → B .Record → List ℕ → Took (B .Record)
+callOn B m p d bs =
+    let r = B .receive d p bs m in
     record { taken = r .taken; state = r .device; reply = reply r }
 
-abbrev pub handedOn : (B : Board) → List ℕ → B .Record → List (List ℕ) → Out (B .Record)
-handedOn B m d ps = handedParts (callOn B m) d ps
+abbrev pub handedOn : (B : Board) → List ℕ → ℕ → B .Record → List (List ℕ) → Out (B .Record)
+handedOn B m p d ps = handedParts (callOn B m p) d ps
+
+-- ---- the other places
+
+-- the call c is not at place q: closing and receiving name another place, opening takes another one, the host's calls
+-- name none; time passes for every place
+abbrev pub Elsewhere : (B : Board) → B .Record → Call → ℕ → Type 0
+Elsewhere B d (opens random m) q = q ≡ B .place-opened d random m → ⊥
+Elsewhere B d (closes p) q = q ≡ p → ⊥
+Elsewhere B d (receives p bs m) q = q ≡ p → ⊥
+Elsewhere B d (passes n) q = ⊥
+Elsewhere B d (marks fault) q = Unit {0}
+Elsewhere B d (reports errors) q = Unit {0}
 
 -- what someone without the password gets, and leaves as it was
-pub record RefusalOnly (B : Board) (d : B .Record) (out : Out (B .Record)) : Type 0 where
+pub record RefusalOnly (B : Board) (d : B .Record) (p : ℕ) (out : Out (B .Record)) : Type 0 where
   pub refusal : out .reply ≡ erraLine
   pub settings : B .shows (out .state) .settings ≡ B .shows d .settings
   pub own : B .shows (out .state) .own ≡ B .shows d .own
-  pub phase : B .shows (out .state) .connection .phase ≡ failed
-  pub age : B .shows (out .state) .connection .age ≡ 0
+  pub phase : connectionAt (B .shows (out .state)) p .phase ≡ failed
+  pub age : connectionAt (B .shows (out .state)) p .age ≡ 0
+  pub others : (q : ℕ) → (q ≡ p → ⊥) → connectionAt (B .shows (out .state)) q ≡ connectionAt (B .shows d) q
 
 -- ---- the demand
 
@@ -124,15 +141,15 @@ pub record Demand2 (B : Board) : Type 0 where
   pub digest : (s : List ℕ) → B .md5 s ≡ md5Of s
   -- "The projector's lines .. are those of PJLink Class 1": any line of any controller, on an open connection and
   -- behind the matching digest, is answered as 01's tables say
-  pub answers : (d : B .Record) (l m : List ℕ) → BetweenLines opened (B .shows d) → noCr l ≡ true
+  pub answers : (d : B .Record) (p : ℕ) (l m : List ℕ) → BetweenLines opened (B .shows d) p → noCr l ≡ true
       → replyRoom ≤ length m
-      → let bs = l ++ ascii "\r" in AnsweredAs B d bs (answerTo (B .shows d) l) (B .receive d bs m)
-  pub answers-led : (d : B .Record) (l m : List ℕ) → BetweenLines awaiting (B .shows d) → noCr l ≡ true
+      → let bs = l ++ ascii "\r" in AnsweredAs B d p bs (answerTo (B .shows d) l) (B .receive d p bs m)
+  pub answers-led : (d : B .Record) (p : ℕ) (l m : List ℕ) → BetweenLines awaiting (B .shows d) p → noCr l ≡ true
       → length l ≤ commandMost → replyRoom ≤ length m
-      → let bs = digestFor (B .shows d) ++ l ++ ascii "\r" in
-      AnsweredAs B d bs (answerTo (B .shows d) l) (B .receive d bs m)
+      → let bs = digestFor (B .shows d) p ++ l ++ ascii "\r" in
+      AnsweredAs B d p bs (answerTo (B .shows d) l) (B .receive d p bs m)
   -- 02, L11: "the longest reply is 103 and 01's 72 is amended"
-  pub reply-short : (d : B .Record) (bs m : List ℕ) → B .receive d bs m .length ≤ longestReply
+  pub reply-short : (d : B .Record) (p : ℕ) (bs m : List ℕ) → B .receive d p bs m .length ≤ longestReply
   -- "and the controller's reading of them": whatever line comes, what is read was said by it, and what it says is read;
   -- the ERRA line and no other is read as such
   pub reads-what-is-said : (c : Command) (l : List ℕ) → B .read-reply c l .outcome ≡ Means
@@ -145,48 +162,60 @@ pub record Demand2 (B : Board) : Type 0 where
       w .number ≡ 0 → bytesWritten w ≡ ledBy secured random password ++ commandLine c
   -- "On an open connection between lines, for every command our writer makes without a digest and in every legal state,
   -- what our reader, told the command, takes from the reply is what the projector meant"
-  pub reads-back : (d : B .Record) (c : Command) (random : ℕ) (password paper m : List ℕ)
-      → BetweenLines opened (B .shows d) → isCommand c ≡ true → commandRoom ≤ length paper → replyRoom ≤ length m
-      → let w = B .write c false random password paper in ReadBack B d c w (B .receive d (bytesWritten w) m)
+  pub reads-back : (d : B .Record) (p : ℕ) (c : Command) (random : ℕ) (password paper m : List ℕ)
+      → BetweenLines opened (B .shows d) p → isCommand c ≡ true → commandRoom ≤ length paper → replyRoom ≤ length m
+      → let w = B .write c false random password paper in ReadBack B d p c w (B .receive d p (bytesWritten w) m)
   -- 01, "Connection": "its reading holds as well on an awaiting connection between lines, for a command led by the
   -- matching digest"
-  pub reads-back-secured : (d : B .Record) (c : Command) (paper m : List ℕ)
-      → BetweenLines awaiting (B .shows d) → isCommand c ≡ true → commandRoom ≤ length paper → replyRoom ≤ length m
-      → let w = B .write c true (B .shows d .connection .random) (passwordOf (B .shows d .settings)) paper in
-      ReadBack B d c w (B .receive d (bytesWritten w) m)
+  pub reads-back-secured : (d : B .Record) (p : ℕ) (c : Command) (paper m : List ℕ)
+      → BetweenLines awaiting (B .shows d) p → isCommand c ≡ true → commandRoom ≤ length paper → replyRoom ≤ length m
+      → let w = B .write c true (connectionAt (B .shows d) p .random) (passwordOf (B .shows d .settings)) paper in
+      ReadBack B d p c w (B .receive d p (bytesWritten w) m)
   -- 02, L2: a name that the projector accepts is one that our reader accepts
   pub names-read : (w : Wanted) → B .set-up w .number ≡ 0
       → B .read-reply (Query Name) (ascii "%1NAME=" ++ w .name ++ ascii "\r") ≡ meaning (textIs (w .name))
   -- "On a secured connection a first line without the matching digest yields the refusal line only; power, input, mutes
   -- and lamps stay": whatever follows it, and however it all is cut
-  pub outsider-refused : (d : B .Record) (l more m : List ℕ) (ps : List (List ℕ))
-      → BetweenLines awaiting (B .shows d) → noCr l ≡ true → isLed (B .shows d) l ≡ false → replyRoom ≤ length m
+  pub outsider-refused : (d : B .Record) (p : ℕ) (l more m : List ℕ) (ps : List (List ℕ))
+      → BetweenLines awaiting (B .shows d) p → noCr l ≡ true → isLed (B .shows d) p l ≡ false → replyRoom ≤ length m
       → uncut ps ≡ l ++ ascii "\r" ++ more
-      → RefusalOnly B d (handedOn B m d ps)
-  -- and over any calls: from any accepted opening of a device with a password, so long as no first line of a connection
-  -- is led by the digest of its opening's number
-  pub outsider-has-no-say : (d : B .Record) (random : ℕ) (m : List ℕ) (cs : List Call)
-      → isSecured (B .shows d .settings) ≡ true → B .opening d random m .number ≡ 0
-      → let e = B .opening d random m .device in
-      NeverMatched B (passwordOf (B .shows d .settings)) e (openedWith random) cs
-      → NoSay B e (openedWith random) cs
+      → RefusalOnly B d p (handedOn B m p d ps)
+  -- and over any calls, whoever else makes them: at a place that starts closed on a device with a password, so long as
+  -- no first line of a connection there is led by the digest of its opening's number
+  pub outsider-has-no-say : (d : B .Record) (p : ℕ) (cs : List Call) → isLegal (B .shows d) ≡ true
+      → isSecured (B .shows d .settings) ≡ true → isShut (connectionAt (B .shows d) p) ≡ true
+      → NeverMatched B p (passwordOf (B .shows d .settings)) d unopened cs
+      → NoSay B p d unopened cs
+  -- and where that holds of every place, the own part is what time and the host's calls make of it
+  pub outsiders-have-no-say : (d : B .Record) (cs : List Call) → isLegal (B .shows d) ≡ true
+      → isSecured (B .shows d .settings) ≡ true
+      → ((p : ℕ) → p < placesCount → isShut (connectionAt (B .shows d) p) ≡ true)
+      → ((p : ℕ) → p < placesCount → NeverMatched B p (passwordOf (B .shows d .settings)) d unopened cs)
+      → HostsAlone B d cs
   -- 01, "Set-up", "Connection" and "Time": what the other calls leave, where they are accepted
   pub set-up-shows : (w : Wanted) → Leaves B (B .set-up w) (started w)
   pub opens : (d : B .Record) (random : ℕ) (m : List ℕ) → B .opening d random m .number ≡ 0
-      → OpenedAs B d random (B .opening d random m)
-  pub closes : (d : B .Record) → Leaves B (B .closing d) (withParts (B .shows d) (B .shows d .own) closed)
+      → OpenedAs B d random (B .place-opened d random m) (B .opening d random m)
+  pub closes : (d : B .Record) (p : ℕ)
+      → Leaves B (B .closing d p) (withPlace (B .shows d) (B .shows d .own) p closed)
   pub marks : (d : B .Record) (fault : Bool)
       → Leaves B (B .set-fault d fault) (withOwn (B .shows d) (withFault (B .shows d .own) fault))
   pub reports : (d : B .Record) (errors : List ℕ)
       → Leaves B (B .set-errors d errors) (withOwn (B .shows d) (withErrors (B .shows d .own) errors))
-  -- what the greeting reader takes from the opening reply is what opening did; it takes no other line for a greeting
+  -- what the greeting reader takes from the opening reply is what opening did, where some place is closed; it takes no
+  -- other line for a greeting
   pub greets-back : (d : B .Record) (random : ℕ) (m : List ℕ) → isLegal (B .shows d) ≡ true
-      → B .shows d .connection .phase ≡ shut → replyRoom ≤ length m → random < 2 ^ 32
+      → (q : ℕ) → q < placesCount → isShut (connectionAt (B .shows d) q) ≡ true → replyRoom ≤ length m
+      → random < 2 ^ 32
       → let r = B .opening d random m in
-      (r .number ≡ 0) × (B .read-greeting (reply r) ≡ greetedOn (B .shows (r .device) .connection))
+      let p = B .place-opened d random m in
+      (r .number ≡ 0) × (B .read-greeting (reply r) ≡ greetedOn (connectionAt (B .shows (r .device)) p))
   pub greeting-is : (l : List ℕ) → Exactly l (B .read-greeting l)
   -- 01, "Connection": "Handed on until all is taken, with no time between, a stream gives the same reply bytes and end
   -- state however it is cut"
-  pub same-however-cut : (d : B .Record) (m : List ℕ) (ps qs : List (List ℕ)) → isLegal (B .shows d) ≡ true
-      → isShut (B .shows d .connection) ≡ false → replyRoom ≤ length m → uncut ps ≡ uncut qs
-      → handedOn B m d ps ≡ handedOn B m d qs
+  pub same-however-cut : (d : B .Record) (p : ℕ) (m : List ℕ) (ps qs : List (List ℕ)) → isLegal (B .shows d) ≡ true
+      → p < placesCount → isShut (connectionAt (B .shows d) p) ≡ false → replyRoom ≤ length m → uncut ps ≡ uncut qs
+      → handedOn B m p d ps ≡ handedOn B m p d qs
+  -- 02, L5: "One place's bytes never touch another's connection"
+  pub others-untouched : (d : B .Record) (c : Call) (q : ℕ) → Elsewhere B d c q
+      → connectionAt (B .shows (after B d c)) q ≡ connectionAt (B .shows d) q

@@ -17,7 +17,7 @@
 use Prim.Native.Nat.{ℕ, _+_, _/_, _≤_, _<_}
 use mathlib.Core.Path.{_≡_}
 use mathlib.Core.Bool.{true}
-use mathlib.Core.List.{List, [], _++_, map}
+use mathlib.Core.List.{List, _++_, map}
 use lib.ListN.{length, getD}
 use Rattle.text.specs.Words.{ascii}
 use Rattle.lines.specs.Commands.{commandLine}
@@ -38,7 +38,7 @@ use Rattle.demands.specs.Board.{Board, Given, reply}
 use Rattle.demands.specs.Calls.{Call, run}
 use Rattle.demands.specs.CallsDone.{Leaves}
 use Rattle.demands.specs.Demand2.{BetweenLines}
-use Rattle.demands.specs.History.{Event, history, burning, stageAfter, isBurning, lampWith}
+use Rattle.demands.specs.History.{Event, noStreams, history, burning, stageAfter, isBurning, lampWith}
 
 pub data Beginning : Type 0 where
   setsUp : Beginning
@@ -58,7 +58,7 @@ module _ (B : Board) where
   runOf b w cs = run B (begunBy b w .device) cs
 
   abbrev pub historyOf : Beginning → Wanted → List Call → List Event
-  historyOf b w cs = history B (begunBy b w .device) [] cs
+  historyOf b w cs = history B (begunBy b w .device) noStreams cs
 
 abbrev pub lampThen : Wanted → List Event → ℕ → LampHours
 lampThen w es start = record { hours = lampWith (burning w es) start / 3600; lit = isBurning (stageAfter w es) }
@@ -86,14 +86,15 @@ pub record Demand3 (B : Board) : Type 0 where
   -- 01, "Time": "The meaning is a definition of one second, applied n times"
   pub second-by-second : (d : B .Record) (n : ℕ) → Leaves B (B .pass d n) (times second n (B .shows d))
   -- "After any calls since set-up, refused ones counting as nothing, each lamp's stored seconds are its starting
-  -- seconds plus every second the history puts in warm-up or power-on, stopped at 359,999,999"
+  -- seconds plus every second the history puts in warm-up or power-on, stopped at 359,999,999"; 02, L5: "the history is
+  -- the accepted calls of all places in the order made"
   pub lamps-tell-the-history : (b : Beginning) (w : Wanted) (cs : List Call) (place : ℕ) → Accepted B b w
       → place < length (w .lamps)
       → getD (B .shows (runOf B b w cs) .own .lamps) place 0
       ≡ lampWith (burning w (historyOf B b w cs)) (getD (w .lamps) place 0)
-  -- "the hours answered are the whole hours in that": LAMP, asked on an open connection between lines, the reply's
-  -- bytes and what our reader takes from them
-  pub hours-told : (b : Beginning) (w : Wanted) (cs : List Call) (m : List ℕ) → Accepted B b w
-      → 1 ≤ length (w .lamps) → BetweenLines opened (B .shows (runOf B b w cs)) → replyRoom ≤ length m
-      → let r = B .receive (runOf B b w cs) (commandLine (Query Lamp)) m in
+  -- "the hours answered are the whole hours in that": LAMP, asked at any place on an open connection between lines, the
+  -- reply's bytes and what our reader takes from them
+  pub hours-told : (b : Beginning) (w : Wanted) (cs : List Call) (p : ℕ) (m : List ℕ) → Accepted B b w
+      → 1 ≤ length (w .lamps) → BetweenLines opened (B .shows (runOf B b w cs)) p → replyRoom ≤ length m
+      → let r = B .receive (runOf B b w cs) p (commandLine (Query Lamp)) m in
       LampsTold B (lampsThen w (historyOf B b w cs)) (reply r)

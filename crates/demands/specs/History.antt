@@ -1,8 +1,10 @@
 -- Demand 3's history (01, "Time"): what someone outside knows who sees the bytes handed over, the numbers, the counts
 -- and the replies, and never a record.
---   the stream            all bytes that were taken so far, in one row: no phases, no digests, no limits
+--   Streams               for each place all bytes that were taken there so far, in one row: no phases, no digests, no
+--                         limits, and no connections, though a place may be closed and opened again (02, L5)
 --   powerSet s r          a power set was answered OK: the reply r says so, and the stream s ends in its line
---   history B d s cs      the power sets answered OK and the seconds passed; a refused call counts as nothing
+--   history B d w cs      the power sets answered OK, at whatever place, and the seconds passed, in the order made; a
+--                         refused call counts as nothing
 --   Stage                 the outsider's own clock, which starts off: steady, or on the way there for so many seconds
 --   burning w es          the seconds of a history that lie in warm-up or power-on
 --   lampWith n start      a lamp's seconds: what it started with and what it burnt, stopped at 359,999,999
@@ -43,29 +45,40 @@ powerSet stream answer =
     else if stream ends-in "%1POWR 0\r" then switched false ∷ []
     else []
 
+abbrev pub Streams : Type 0
+Streams = ℕ → List ℕ
+
+abbrev pub noStreams : Streams
+noStreams q = []
+
+-- place p's stream goes on by these bytes, and no other one does
+abbrev pub goingOnAt : Streams → ℕ → List ℕ → Streams
+goingOnAt w p bs q = if eqb q p then w q ++ bs else w q
+
 module _ (B : Board) where
-  -- the bytes that a call took
-  abbrev pub took : B .Record → Call → List ℕ
-  took d (receives bs m) = if eqb (B .receive d bs m .number) 0 then take (B .receive d bs m .taken) bs else []
-  took d (opens random m) = []
-  took d closes = []
-  took d (passes n) = []
-  took d (marks fault) = []
-  took d (reports errors) = []
+  -- the streams with the bytes that a call took
+  abbrev pub streamsAfter : B .Record → Streams → Call → Streams
+  streamsAfter d w (receives p bs m) =
+      if eqb (B .receive d p bs m .number) 0 then goingOnAt w p (take (B .receive d p bs m .taken) bs) else w
+  streamsAfter d w (opens random m) = w
+  streamsAfter d w (closes p) = w
+  streamsAfter d w (passes n) = w
+  streamsAfter d w (marks fault) = w
+  streamsAfter d w (reports errors) = w
 
-  -- what a call tells; the bytes that it took are in the stream already
-  abbrev pub seen : B .Record → List ℕ → Call → List Event
-  seen d stream (receives bs m) =
-      if eqb (B .receive d bs m .number) 0 then powerSet stream (reply (B .receive d bs m)) else []
-  seen d stream (passes n) = if eqb (B .pass d n .number) 0 then replicate n aSecond else []
-  seen d stream (opens random m) = []
-  seen d stream closes = []
-  seen d stream (marks fault) = []
-  seen d stream (reports errors) = []
+  -- what a call tells; the bytes that it took are in its place's stream already
+  abbrev pub seen : B .Record → Streams → Call → List Event
+  seen d w (receives p bs m) =
+      if eqb (B .receive d p bs m .number) 0 then powerSet (w p) (reply (B .receive d p bs m)) else []
+  seen d w (passes n) = if eqb (B .pass d n .number) 0 then replicate n aSecond else []
+  seen d w (opens random m) = []
+  seen d w (closes p) = []
+  seen d w (marks fault) = []
+  seen d w (reports errors) = []
 
-  unfoldable pub history : B .Record → List ℕ → List Call → List Event
-  history d stream [] = []
-  history d stream (c ∷ cs) = seen d (stream ++ took d c) c ++ history (after B d c) (stream ++ took d c) cs
+  unfoldable pub history : B .Record → Streams → List Call → List Event
+  history d w [] = []
+  history d w (c ∷ cs) = seen d (streamsAfter d w c) c ++ history (after B d c) (streamsAfter d w c) cs
 
 -- ---- his clock
 

@@ -12,7 +12,7 @@ use Rattle.controller.specs.Reading.{ReadAs}
 use Rattle.demands.specs.Board.{Board, Given, Lent, ours}
 
 module _ (set-up : Wanted → Given Device) (opening : Device → ℕ → List ℕ → Lent Device)
-    (closing : Device → Given Device) (receive : Device → List ℕ → List ℕ → Lent Device)
+    (closing : Device → ℕ → Given Device) (receive : Device → ℕ → List ℕ → List ℕ → Lent Device)
     (pass : Device → ℕ → Given Device) (set-fault : Device → Bool → Given Device)
     (set-errors : Device → List ℕ → Given Device) (read-reply : Command → List ℕ → ReadAs) where
   abbrev pub oursBut : Board
@@ -21,6 +21,7 @@ module _ (set-up : Wanted → Given Device) (opening : Device → ℕ → List �
     shows = λ d. d;
     set-up = set-up;
     opening = opening;
+    place-opened = ours .place-opened;
     closing = closing;
     receive = receive;
     pass = pass;
@@ -44,12 +45,12 @@ butOpening f =
     oursBut (ours .set-up) f (ours .closing) (ours .receive) (ours .pass) (ours .set-fault) (ours .set-errors)
     (ours .read-reply)
 
-abbrev pub butClosing : (Device → Given Device) → Board
+abbrev pub butClosing : (Device → ℕ → Given Device) → Board
 butClosing f =
     oursBut (ours .set-up) (ours .opening) f (ours .receive) (ours .pass) (ours .set-fault) (ours .set-errors)
     (ours .read-reply)
 
-abbrev pub butReceive : (Device → List ℕ → List ℕ → Lent Device) → Board
+abbrev pub butReceive : (Device → ℕ → List ℕ → List ℕ → Lent Device) → Board
 butReceive f =
     oursBut (ours .set-up) (ours .opening) (ours .closing) f (ours .pass) (ours .set-fault) (ours .set-errors)
     (ours .read-reply)

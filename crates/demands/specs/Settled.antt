@@ -1,5 +1,5 @@
 -- 01, "Lines that settle it", as one statement over the list. The device is W = 20, C = 60, one lamp at 0 s, input 11,
--- texts empty, no password, its connection opened; each row is a line, its answer, and the calls before it.
+-- texts empty, no password, a connection opened; each row is a line, its answer, and the calls before it.
 --   t gives u after cs      the line t is answered u, after the calls cs
 --   Settles B               every row holds of the board B
 -- Assumes nothing.
@@ -34,7 +34,7 @@ abbrev pub withCr : String → List ℕ
 withCr t = ascii t ++ ascii "\r"
 
 abbrev pub says : String → Call
-says t = receives (withCr t) memory
+says t = receives 0 (withCr t) memory
 
 abbrev pub rounds : ℕ → List Call → List Call
 rounds zero cs = []
@@ -72,7 +72,7 @@ module _ (B : Board) where
   abbrev pub Holds : SettledLine → Type 0
   Holds row =
       let d = run B (B .set-up sample .device) (opens 0 memory ∷ row .before) in
-      reply (B .receive d (withCr (row .said)) memory) ≡ withCr (row .answer)
+      reply (B .receive d 0 (withCr (row .said)) memory) ≡ withCr (row .answer)
 
   abbrev pub All : List SettledLine → Type 0
   All [] = Unit {0}

@@ -26,8 +26,8 @@ wholeHours before now =
     if goesDark before now then havingLamps now (map (λ s. s / 3600 * 3600) (now .own .lamps)) else now
 
 abbrev pub dropsPartHour : Board
-dropsPartHour = butReceive (λ d bs m.
-    let r = ours .receive d bs m in
+dropsPartHour = butReceive (λ d p bs m.
+    let r = ours .receive d p bs m in
     record {
       number = r .number;
       taken = r .taken;
@@ -62,8 +62,9 @@ firstOnly = record {
   shows = λ b. b .0;
   set-up = λ w. record { number = ours .set-up w .number; device = (ours .set-up w .device, false) };
   opening = λ b random m. markedLent b (ours .opening (b .0) random m);
-  closing = λ b. marked b (ours .closing (b .0));
-  receive = λ b bs m. markedLent b (ours .receive (b .0) bs m);
+  place-opened = λ b random m. ours .place-opened (b .0) random m;
+  closing = λ b p. marked b (ours .closing (b .0) p);
+  receive = λ b p bs m. markedLent b (ours .receive (b .0) p bs m);
   pass = λ b n. marked b (ours .pass (b .0) n);
   set-fault = λ b mark. marked b (ours .set-fault (b .0) mark);
   set-errors = λ b digits. marked b (ours .set-errors (b .0) digits);

@@ -11,8 +11,9 @@ use Rattle.lines.specs.Forms.{greetingOpen}
 use Rattle.record.specs.Limits.{awaiting, opened, failed}
 use Rattle.record.specs.Wanted.{Wanted, withPassword}
 use Rattle.record.specs.declared.types.Device.{Device}
+use Rattle.record.specs.Places.{connectionAt, withPlace}
 use Rattle.device.specs.Receiving.{turned}
-use Rattle.device.specs.Calls.{Result, openedBy, withParts}
+use Rattle.device.specs.Calls.{Result, openedBy, placeTaken}
 use Rattle.demands.specs.Board.{Board, ours, lentBy}
 use Rattle.demands.specs.Settled.{sample}
 use Rattle.demands.specs.OursBut.{butSetUp, butOpening, butClosing, butPass, butFault, butErrors}
@@ -23,28 +24,29 @@ securedSample = withPassword (ascii "JBMIAProjectorLink") sample
 abbrev pub forgetsPassword : Board
 forgetsPassword = butSetUp (λ w. ours .set-up (withPassword [] w))
 
--- the device with its connection open, whatever it was
-abbrev letIn : Device → Device
-letIn d = withParts d (d .own) (turned (d .connection) opened)
+-- the device with the connection at place p open, whatever it was
+abbrev letIn : Device → ℕ → Device
+letIn d p = withPlace d (d .own) p (turned (connectionAt d p) opened)
 
 -- `PJLINK 0`, password or not
-abbrev openly : Result Device → Result Device
-openly r =
-    if eqb (r .number) 0 then record { number = 0; taken = 0; reply = greetingOpen; device = letIn (r .device) } else r
+abbrev openly : ℕ → Result Device → Result Device
+openly p r =
+    if eqb (r .number) 0 then record { number = 0; taken = 0; reply = greetingOpen; device = letIn (r .device) p } else r
 
 abbrev pub ignoresPassword : Board
-ignoresPassword = butOpening (λ d random m. lentBy (openly (openedBy d random (length m))) m)
+ignoresPassword =
+    butOpening (λ d random m. lentBy (openly (placeTaken d (length m)) (openedBy d random (length m))) m)
 
 abbrev pub greetsWithZero : Board
 greetsWithZero = butOpening (λ d random m. ours .opening d 0 m)
 
--- time lets those in whose connection is in this phase
+-- time lets him in at place 0 whose connection is in this phase
 abbrev timeLetsIn : ℕ → Board
 timeLetsIn phase = butPass (λ d n.
     let r = ours .pass d n in
     record {
       number = r .number;
-      device = if eqb (r .device .connection .phase) phase then letIn (r .device) else r .device;
+      device = if eqb (connectionAt (r .device) 0 .phase) phase then letIn (r .device) 0 else r .device;
     })
 
 abbrev pub timeOpens : Board
@@ -55,7 +57,7 @@ abbrev pub failedAnswers : Board
 failedAnswers = timeLetsIn failed
 
 abbrev pub neverCloses : Board
-neverCloses = butClosing (λ d. record { number = ours .closing d .number; device = d })
+neverCloses = butClosing (λ d p. record { number = ours .closing d p .number; device = d })
 
 abbrev pub hidesFaults : Board
 hidesFaults = butFault (λ d mark. record { number = ours .set-fault d mark .number; device = d })

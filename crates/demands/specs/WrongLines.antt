@@ -17,7 +17,8 @@ use Rattle.record.specs.Updates.{withLine}
 use Rattle.record.specs.Record.{blank}
 use Rattle.record.specs.declared.types.Device.{Device}
 use Rattle.stream.specs.Collecting.{emptyLine}
-use Rattle.device.specs.Calls.{refusedBy, withParts}
+use Rattle.record.specs.Places.{connectionAt, withPlace}
+use Rattle.device.specs.Calls.{refusedBy}
 use Rattle.controller.specs.Reading.{ReadAs, meaning, without, readReply}
 use Rattle.controller.specs.declared.reading.Outcome.{Outcome}
 use Rattle.controller.specs.declared.reading.Outcome.the-variants.{Means, Erra, NotALine, OtherCommand, NotAllowed}
@@ -27,7 +28,7 @@ use Rattle.demands.specs.OursBut.{butReceive, butReader}
 -- takes every byte, and says this to them
 abbrev alwaysReplying : (List ℕ → List ℕ) → Board
 alwaysReplying answer =
-    butReceive (λ d bs m. lentBy (record { number = 0; taken = length bs; reply = answer bs; device = d }) m)
+    butReceive (λ d p bs m. lentBy (record { number = 0; taken = length bs; reply = answer bs; device = d }) m)
 
 abbrev pub dropsAll : Board
 dropsAll = alwaysReplying (λ bs. [])
@@ -45,8 +46,9 @@ refusesAll = record {
   shows = λ d. d;
   set-up = λ w. refusedGiven 3 blank;
   opening = λ d random m. lentBy (refusedBy 1 d) m;
-  closing = refusedGiven 1;
-  receive = λ d bs m. lentBy (refusedBy 1 d) m;
+  place-opened = λ d random m. 0;
+  closing = λ d p. refusedGiven 1 d;
+  receive = λ d p bs m. lentBy (refusedBy 1 d) m;
   pass = λ d n. refusedGiven 1 d;
   set-fault = λ d mark. refusedGiven 1 d;
   set-errors = λ d digits. refusedGiven 1 d;
@@ -60,7 +62,7 @@ refusesAll = record {
 
 -- our receiving, with its result changed
 abbrev retelling : (Lent Device → Lent Device) → Board
-retelling change = butReceive (λ d bs m. change (ours .receive d bs m))
+retelling change = butReceive (λ d p bs m. change (ours .receive d p bs m))
 
 abbrev pub madeUpLength : Board
 madeUpLength = retelling (λ r. record {
@@ -91,11 +93,11 @@ upperCases = retelling (λ r. record {
 })
 
 -- forgets the collected bytes where it is handed none
-abbrev forgetful : Device → List ℕ → List ℕ → Lent Device
-forgetful d [] m =
-    let none = withParts d (d .own) (withLine (d .connection) emptyLine) in
+abbrev forgetful : Device → ℕ → List ℕ → List ℕ → Lent Device
+forgetful d p [] m =
+    let none = withPlace d (d .own) p (withLine (connectionAt d p) emptyLine) in
     lentBy (record { number = 0; taken = 0; reply = []; device = none }) m
-forgetful d (b ∷ bs) m = ours .receive d (b ∷ bs) m
+forgetful d p (b ∷ bs) m = ours .receive d p (b ∷ bs) m
 
 abbrev pub forgetsAtNothing : Board
 forgetsAtNothing = butReceive forgetful

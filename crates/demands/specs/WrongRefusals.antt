@@ -3,14 +3,14 @@
 use lib.Dec.{eqb}
 use Rattle.text.specs.Words.{ascii, over, if_then_else_}
 use Rattle.record.specs.Record.{closed}
-use Rattle.device.specs.Calls.{withParts}
+use Rattle.record.specs.Places.{withPlace}
 use Rattle.demands.specs.Board.{Board, ours}
 use Rattle.demands.specs.OursBut.{butReceive}
 
 -- writes the start of a reply before it refuses
 abbrev pub writesFirst : Board
-writesFirst = butReceive (λ d bs m.
-    let r = ours .receive d bs m in
+writesFirst = butReceive (λ d p bs m.
+    let r = ours .receive d p bs m in
     record {
       number = r .number;
       taken = r .taken;
@@ -21,12 +21,12 @@ writesFirst = butReceive (λ d bs m.
 
 -- closes the connection where it refuses
 abbrev pub changesRefused : Board
-changesRefused = butReceive (λ d bs m.
-    let r = ours .receive d bs m in
+changesRefused = butReceive (λ d p bs m.
+    let r = ours .receive d p bs m in
     record {
       number = r .number;
       taken = r .taken;
       length = r .length;
       memory = r .memory;
-      device = if eqb (r .number) 0 then r .device else withParts d (d .own) closed;
+      device = if eqb (r .number) 0 then r .device else withPlace d (d .own) p closed;
     })

@@ -1,4 +1,4 @@
-// `ours`'s set-up, opening, closing, receiving, fault mark and error digits.
+// `ours`'s set-up, opening with its place, closing, receiving, fault mark and error digits.
 use device::calls;
 use device::calls::Opened;
 use device::calls::Received;
@@ -49,20 +49,22 @@ pub fn set_up(
 
 pub fn opening(d: Device, random: u32, out: &mut [u8]) -> Opened
     ensures { λ r. ⌜ lentOpened r (now (out .exit)) ≡ ours .opening d random (now (out .entry)) ⌝ }
+    ensures { λ r. ⌜ r .place ≡ ours .place-opened d random (now (out .entry)) ⌝ }
 {
     calls::open(d, random, out)
 }
 
-pub fn closing(d: Device) -> Changed
-    ensures { λ r. ⌜ givenBy r ≡ ours .closing d ⌝ }
+pub fn closing(d: Device, place: usize) -> Changed
+    ensures { λ r. ⌜ givenBy r ≡ ours .closing d place ⌝ }
 {
-    calls::close(d)
+    calls::close(d, place)
 }
 
-pub fn receive(d: Device, bytes: &[u8], out: &mut [u8]) -> Received
-    ensures { λ r. ⌜ lentReceived r (now (out .exit)) ≡ ours .receive d (now (bytes .entry)) (now (out .entry)) ⌝ }
+pub fn receive(d: Device, place: usize, bytes: &[u8], out: &mut [u8]) -> Received
+    ensures { λ r.
+        ⌜ lentReceived r (now (out .exit)) ≡ ours .receive d place (now (bytes .entry)) (now (out .entry)) ⌝ }
 {
-    calls::receive(d, bytes, out)
+    calls::receive(d, place, bytes, out)
 }
 
 pub fn set_fault(d: Device, mark: bool) -> Changed
