@@ -24,6 +24,9 @@ pub mod CallsNoted
 pub mod HistoryTold
 pub mod HoursTold
 pub mod Demand3
+mod LinesTaken
+mod AloneCalls
+pub mod Interleaved
 pub mod BoardSwap
 pub mod Settled
 pub mod Samples
@@ -31,4 +34,5 @@ pub mod WrongRefusalsFall
 pub mod WrongLinesFall
 pub mod WrongDoorsFall
 pub mod WrongClocksFall
+pub mod WrongPlacesFall
 pub mod Tied

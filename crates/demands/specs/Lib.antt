@@ -6,6 +6,7 @@ pub mod Outsider
 pub mod Demand1
 pub mod Demand2
 pub mod Demand3
+pub mod Interleaved
 pub mod BoardSwap
 pub mod Settled
 pub mod OursBut
@@ -13,5 +14,6 @@ pub mod WrongRefusals
 pub mod WrongLines
 pub mod WrongDoors
 pub mod WrongClocks
+pub mod WrongPlaces
 pub mod Computing
 pub mod Tied
