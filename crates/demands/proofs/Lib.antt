@@ -14,6 +14,17 @@ pub mod HostCallsDo
 pub mod PlacesStand
 pub mod OutsiderHasNoSay
 pub mod OthersUntouched
+pub mod UnheardPlace
+pub mod UnheardOutside
+pub mod UnheardLowest
+pub mod UnheardBoth
+pub mod UnheardHost
+pub mod UnheardOpening
+pub mod UnheardElsewhere
+pub mod Unheard
+pub mod UnheardMoments
+pub mod UnheardRuns
+pub mod UnheardSamples
 pub mod RandomKept
 pub mod WrittenAndRead
 pub mod NamesRead
@@ -33,6 +44,7 @@ pub mod Samples
 pub mod WrongRefusalsFall
 pub mod WrongLinesFall
 pub mod WrongDoorsFall
+pub mod WrongOutsidersFall
 pub mod WrongClocksFall
 pub mod WrongPlacesFall
 pub mod Tied

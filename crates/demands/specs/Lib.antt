@@ -3,6 +3,7 @@ pub mod Calls
 pub mod History
 pub mod CallsDone
 pub mod Outsider
+pub mod Unheard
 pub mod Demand1
 pub mod Demand2
 pub mod Demand3
@@ -13,6 +14,7 @@ pub mod OursBut
 pub mod WrongRefusals
 pub mod WrongLines
 pub mod WrongDoors
+pub mod WrongOutsiders
 pub mod WrongClocks
 pub mod WrongPlaces
 pub mod Computing

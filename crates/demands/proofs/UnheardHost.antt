@@ -1,0 +1,64 @@
+-- Two records that are the same but for place p (02, L6): time and the host's two calls give the same from both, and
+-- leave them so.
+-- Assumes nothing.
+use Prim.Native.Nat.{ℕ}
+use mathlib.Core.Path.{_≡_, refl, sym, ap, _∙_}
+use mathlib.Core.Bool.{Bool, true, false}
+use mathlib.Core.List.{List}
+use Rattle.record.specs.Legal.{isLegal}
+use Rattle.record.specs.Rules.{isErrors}
+use Rattle.record.specs.Updates.{withOwn, withFault, withErrors}
+use Rattle.record.specs.HostCalls.{faultSet, errorsSet}
+use Rattle.record.specs.declared.types.Own.{Own}
+use Rattle.record.specs.declared.types.Changed.{Changed}
+use Rattle.record.specs.declared.types.Device.{Device}
+use Rattle.record.proofs.Calls.{fault-accepted, errors-wrong, errors-accepted}
+use Rattle.clock.specs.Second.{times, ownSecond, connectionSecond, second}
+use Rattle.clock.specs.Passing.{passed}
+use Rattle.clock.proofs.Cases.{passed-accepted}
+use Rattle.clock.proofs.InOneGo.{parts-pass, place-passes}
+use Rattle.demands.specs.Board.{ours, givenBy}
+use Rattle.demands.specs.Unheard.{SameElsewhere, gaveNumber}
+
+module _ (p : ℕ) (d e : Device) (same : SameElsewhere ours p d e) (legal-d : isLegal d ≡ true)
+    (legal-e : isLegal e ≡ true) where
+  abbrev pub ChangedAlike : Changed → Changed → Type 0
+  ChangedAlike r u =
+      (gaveNumber (givenBy r) ≡ gaveNumber (givenBy u)) × SameElsewhere ours p (r .device) (u .device)
+
+  time-same : (n : ℕ) → SameElsewhere ours p (times second n d) (times second n e)
+  time-same n = record {
+    device = record {
+      settings = ap (λ (x : Device). x .settings) (parts-pass n e) ∙ same .device .settings
+          ∙ sym (ap (λ (x : Device). x .settings) (parts-pass n d));
+      own = ap (λ (x : Device). x .own) (parts-pass n e)
+          ∙ (λ i. times (ownSecond (same .device .settings i)) n (same .device .own i))
+          ∙ sym (ap (λ (x : Device). x .own) (parts-pass n d));
+    };
+    others = λ q other. place-passes n e q ∙ ap (times connectionSecond n) (same .others q other)
+        ∙ sym (place-passes n d q);
+  }
+
+  pub passed-alike : (n : ℕ) → ChangedAlike (passed d n) (passed e n)
+  passed-alike n = rw (passed-accepted d n legal-d, passed-accepted e n legal-e) (refl, time-same n)
+
+  owns-same : (f : Own → Own) → SameElsewhere ours p (withOwn d (f (d .own))) (withOwn e (f (e .own)))
+  owns-same f = record {
+    device = record { settings = same .device .settings; own = ap f (same .device .own) };
+    others = same .others;
+  }
+
+  pub marked-alike : (fault : Bool) → ChangedAlike (faultSet d fault) (faultSet e fault)
+  marked-alike fault =
+      rw (fault-accepted d fault legal-d, fault-accepted e fault legal-e)
+      (refl, owns-same (λ (o : Own). withFault o fault))
+
+  pub reported-alike : (errors : List ℕ) → ChangedAlike (errorsSet d errors) (errorsSet e errors)
+  reported-alike errors = by-digits (isErrors errors) refl
+    where
+      by-digits : (t : Bool) → isErrors errors ≡ t → ChangedAlike (errorsSet d errors) (errorsSet e errors)
+      by-digits true right =
+          rw (errors-accepted d errors legal-d right, errors-accepted e errors legal-e right)
+          (refl, owns-same (λ (o : Own). withErrors o errors))
+      by-digits false wrong =
+          rw (errors-wrong d errors legal-d wrong, errors-wrong e errors legal-e wrong) (refl, same)
