@@ -23,8 +23,8 @@
 #include <stdint.h>
 
 /* The version of this face. It moves with each landing that moves a struct or a call; docs/landings/README.md says what
-   moved. A host that was written for one version can ask for it: #if CEILING_FACE != 7 .. #error. */
-#define CEILING_FACE 7
+   moved. A host that was written for one version can ask for it: #if CEILING_FACE != 8 .. #error. */
+#define CEILING_FACE 8
 
 /* What stands before a call whose result has the record in it: a compiler warns where such a result is dropped. */
 #if defined(__cplusplus) && __cplusplus >= 201703L || defined(__STDC_VERSION__) && __STDC_VERSION__ >= 202311L
@@ -53,10 +53,12 @@ enum pj_number {
     PJ_NO_ROOM = 2,             /* the lent reply memory is under PJ_REPLY_ROOM bytes, for pj_write and pj_panel_command
                                    PJ_COMMAND_ROOM, for pj_store shorter than the form */
     PJ_OUT_OF_RANGE = 3,        /* a setting, an error digit, a command or a password is out of its range, a panel has
-                                   no such projector or no room for one more, two tables cannot be compared, or the
-                                   jobs, rigs or lists of a day are out of theirs */
-    PJ_NOT_CONNECTED = 4,       /* receiving or closing on a closed connection */
-    PJ_CONNECTED = 5,           /* opening a connection that is not closed */
+                                   no such projector or no room for one more, there is no such place for a
+                                   controller, two tables cannot be compared, or the jobs, rigs or lists of a day are
+                                   out of theirs */
+    PJ_NOT_CONNECTED = 4,       /* receiving or closing at a place whose connection is closed */
+    PJ_CONNECTED = 5,           /* of the program replay alone: the log opens a connection that is not closed */
+    PJ_NO_PLACE = 6,            /* opening where every place has a connection that is not closed */
     PJ_SHORT_PASSWORD = 8,      /* a set-up's password has 1 to 7 characters, and nothing is out of its range */
     PJ_NOT_READY = 9,           /* a panel's command before the projector's greeting, or over another command */
     PJ_NOT_A_LINE = 10,         /* what was read is not a greeting or reply line */
@@ -78,6 +80,7 @@ enum pj_limit {
     PJ_LAMP_MOST = 359999999,   /* seconds of a lamp: 99,999 hours and 3,599 seconds */
     PJ_HOURS_MOST = 99999,      /* hours of a lamp, as a reply tells them */
     PJ_WARM_COOL_MOST = 600,    /* seconds of warm-up, and of cooling */
+    PJ_PLACES = 4,              /* controllers that are connected at once */
     PJ_WAIT_MOST = 30,          /* seconds: at this age an awaiting or failed connection is closed */
     PJ_PANEL_MOST = 8,          /* projectors of a panel */
     PJ_STRAYS_MOST = 65535,     /* the count of a projector's stray lines stops here */
@@ -94,8 +97,8 @@ enum pj_limit {
     PJ_FORM_MOST = 300          /* bytes of the longest stored form: room for pj_store with every record */
 };
 
-enum pj_phase {                 /* of the connection */
-    PJ_PHASE_CLOSED = 0,        /* there is none: the host closes its socket */
+enum pj_phase {                 /* of a connection */
+    PJ_PHASE_CLOSED = 0,        /* there is none: the place is free, and the host closes its socket */
     PJ_PHASE_AWAITING = 1,      /* greeted; the first line, led by the digest, has not come */
     PJ_PHASE_OPEN = 2,          /* commands are served */
     PJ_PHASE_FAILED = 3         /* the digest did not match: what comes is ignored */
@@ -130,7 +133,7 @@ typedef struct {                            /* what is collected of a line */
     uint8_t bytes[PJ_LINE_ROOM];
 } pj_line;
 
-typedef struct {
+typedef struct {                            /* what a controller has for itself at its place */
     uint8_t phase;                          /* enum pj_phase */
     uint32_t age, random;
     pj_line line;
@@ -147,8 +150,8 @@ typedef struct {
 
 typedef struct {
     pj_settings settings;
-    pj_own own;
-    pj_connection connection;
+    pj_own own;                             /* what all controllers share */
+    pj_connection connections[PJ_PLACES];   /* one a place: the host keeps one socket a place */
 } pj_device;
 
 typedef struct {
@@ -159,6 +162,7 @@ typedef struct {
 typedef struct {
     uint32_t number;
     size_t length;                          /* of the reply */
+    size_t place;                           /* where it was opened; 0 with a refusal */
     pj_device device;
 } pj_opened;
 
@@ -170,7 +174,7 @@ typedef struct {
 
 /* The projector. */
 
-/* Makes the record of a projector that is off, with its connection closed. This comes first, and once after each
+/* Makes the record of a projector that is off, with every place closed. This comes first, and once after each
    start of the board.
    - Texts: the name to PJ_NAME_MOST bytes, maker, model and other information to PJ_INFO_MOST, each byte 0x20 to
      0xFF; none of them is exactly ERR1, ERR2, ERR3 or ERR4. The name is well-formed UTF-8 too (RFC 3629): no overlong
@@ -211,30 +215,33 @@ uint32_t pj_which_setting(const uint8_t *name, size_t name_len, const uint8_t *m
                           const uint8_t *password, size_t password_len, const uint8_t *inputs, size_t inputs_len,
                           const uint32_t *lamps, size_t lamp_count, uint32_t warm, uint32_t cool);
 
-/* Opens the connection where a controller has connected; the reply is the greeting, and the host sends it. The
-   random number has to be unpredictable: draw it anew for each connection from the system's source. Where it can be
-   foreseen, or comes again, a digest that was overheard lets an outsider in. Without a password any number will do.
-   Refuses with PJ_NOT_LEGAL, PJ_NO_ROOM or PJ_CONNECTED. */
+/* Opens a connection where a controller has connected, at the lowest place that is closed, and tells the place: the
+   host names it in every later call for that socket. The reply is the greeting, and the host sends it. The random
+   number has to be unpredictable: draw it anew for each connection from the system's source. Where it can be foreseen,
+   or comes again, a digest that was overheard lets an outsider in. Without a password any number will do.
+   Refuses with PJ_NOT_LEGAL, PJ_NO_ROOM or PJ_NO_PLACE. */
 CEILING_KEEP
 pj_opened pj_open(pj_device d, uint32_t random, uint8_t *out, size_t out_len);
 
-/* Closes the connection: the peer has gone, or the host ends it. What was collected of a line is dropped.
-   Refuses with PJ_NOT_LEGAL or PJ_NOT_CONNECTED. */
+/* Closes the connection at a place: the peer has gone, or the host ends it. What was collected of a line is dropped,
+   and the place is free. No other place is touched.
+   Refuses with PJ_NOT_LEGAL, PJ_OUT_OF_RANGE (a place of PJ_PLACES or more) or PJ_NOT_CONNECTED. */
 CEILING_KEEP
-pj_changed pj_close(pj_device d);
+pj_changed pj_close(pj_device d, size_t place);
 
-/* Hands in bytes from the network, in whatever cuts they come, and serves the line that they end. It takes the bytes
-   up to and including the first CR, or all where there is none: the host sends the reply, if there is one, and calls
-   again with the rest until all are taken.
-   Refuses with PJ_NOT_LEGAL, PJ_NO_ROOM or PJ_NOT_CONNECTED, also where no bytes are handed in. */
+/* Hands in bytes from the network at a place, in whatever cuts they come, and serves the line that they end. It takes
+   the bytes up to and including the first CR, or all where there is none: the host sends the reply, if there is one,
+   to that place's peer, and calls again with the rest until all are taken. No other place's connection is touched.
+   Refuses with PJ_NOT_LEGAL, PJ_NO_ROOM, PJ_OUT_OF_RANGE (a place of PJ_PLACES or more) or PJ_NOT_CONNECTED, also where
+   no bytes are handed in. */
 CEILING_KEEP
-pj_received pj_receive(pj_device d, const uint8_t *bytes, size_t len, uint8_t *out, size_t out_len);
+pj_received pj_receive(pj_device d, size_t place, const uint8_t *bytes, size_t len, uint8_t *out, size_t out_len);
 
-/* Lets seconds pass, any number at once: lamps burn, warm-up and cooling end, and a connection that is awaiting or
-   failed is closed when its age reaches PJ_WAIT_MOST seconds. Nothing is sent for that: where connection.phase is
-   PJ_PHASE_CLOSED afterwards, the host closes the socket. An open connection never times out, so an idle peer holds
-   it until the host calls pj_close. Count the seconds by a clock that nobody sets (CLOCK_MONOTONIC), and keep what
-   is left of a second for the next call.
+/* Lets seconds pass, any number at once, for the projector and each of its places: lamps burn, warm-up and cooling end,
+   and a connection that is awaiting or failed is closed when its age reaches PJ_WAIT_MOST seconds. Nothing is sent for
+   that: where connections[place].phase is PJ_PHASE_CLOSED afterwards, the host closes that place's socket. An open
+   connection never times out, so an idle peer holds its place until the host calls pj_close. Count the seconds by a
+   clock that nobody sets (CLOCK_MONOTONIC), and keep what is left of a second for the next call.
    Refuses with PJ_NOT_LEGAL. */
 CEILING_KEEP
 pj_changed pj_pass(pj_device d, uint32_t seconds);
@@ -269,13 +276,13 @@ typedef struct {
 } pj_written;
 
 /* Writes the stored form of the record to the start of the lent memory: its settings, and each lamp's seconds as they
-   are now. Power, mutes, faults and the connection are not stored. Store at every stop, and as often as own.lamps would
+   are now. Power, mutes, faults and connections are not stored. Store at every stop, and as often as own.lamps would
    be saved.
    Refuses with PJ_NOT_LEGAL, then with PJ_NO_ROOM memory shorter than this form; PJ_FORM_MOST bytes always suffice. */
 pj_written pj_store(pj_device d, uint8_t *out, size_t out_len);
 
 /* Makes the record of the projector whose stored form is lent: pj_set_up with the settings and the lamps' seconds in
-   it, so off, with its connection closed. The bytes are the form's, all of them and no others.
+   it, so off, with every place closed. The bytes are the form's, all of them and no others.
    Refuses with PJ_OTHER_VERSION, PJ_CUT_SHORT, PJ_LEFT_OVER or PJ_CONTENTS. */
 CEILING_KEEP
 pj_changed pj_load(const uint8_t *bytes, size_t len);
@@ -531,10 +538,11 @@ CEILING_IS(offsetof(pj_connection, random) == 8 && offsetof(pj_connection, line)
 CEILING_IS(sizeof(pj_own) == 64 && offsetof(pj_own, left) == 4 && offsetof(pj_own, chosen) == 8);
 CEILING_IS(offsetof(pj_own, video_muted) == 16 && offsetof(pj_own, audio_muted) == 17 && offsetof(pj_own, fault) == 18);
 CEILING_IS(offsetof(pj_own, errors) == 19 && offsetof(pj_own, lamps) == 28);
-CEILING_IS(sizeof(pj_device) == 712 && offsetof(pj_device, own) == 448 && offsetof(pj_device, connection) == 512);
-CEILING_IS(sizeof(pj_changed) == 720 && offsetof(pj_changed, device) == 8);
-CEILING_IS(sizeof(pj_opened) == 728 && offsetof(pj_opened, length) == 8 && offsetof(pj_opened, device) == 16);
-CEILING_IS(sizeof(pj_received) == 736 && offsetof(pj_received, taken) == 8);
+CEILING_IS(sizeof(pj_device) == 1312 && offsetof(pj_device, own) == 448 && offsetof(pj_device, connections) == 512);
+CEILING_IS(sizeof(pj_changed) == 1320 && offsetof(pj_changed, device) == 8);
+CEILING_IS(sizeof(pj_opened) == 1336 && offsetof(pj_opened, length) == 8 && offsetof(pj_opened, place) == 16);
+CEILING_IS(offsetof(pj_opened, device) == 24);
+CEILING_IS(sizeof(pj_received) == 1336 && offsetof(pj_received, taken) == 8);
 CEILING_IS(offsetof(pj_received, length) == 16 && offsetof(pj_received, device) == 24);
 CEILING_IS(sizeof(pj_digest) == 16);
 CEILING_IS(sizeof(pj_command) == 3 && offsetof(pj_command, first) == 1 && offsetof(pj_command, second) == 2);

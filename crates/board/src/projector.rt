@@ -14,7 +14,8 @@ ghost use Rattle.record.specs.Legal.{isLegal};
 ghost use Rattle.record.specs.Wanted.{wantedOf};
 ghost use Rattle.record.specs.SetUp.{setUp};
 ghost use Rattle.record.specs.HostCalls.{faultSet, errorsSet};
-ghost use Rattle.device.specs.Calls.{received, openedBy, closedBy, toldReceived, toldOpened, toldChanged};
+ghost use Rattle.device.specs.Calls.{received, openedBy, placeTaken, closedBy};
+ghost use Rattle.device.specs.Calls.{toldReceived, toldOpened, toldChanged};
 
 #[no_mangle]
 pub extern "C" fn pj_set_up(
@@ -47,7 +48,8 @@ pub extern "C" fn pj_set_up(
 
 #[no_mangle]
 pub extern "C" fn pj_open(d: Device, random: u32, out: &mut [u8]) -> Opened
-    ensures { λ r. ⌜ r ≡ toldOpened (openedBy d random (length (now (out .entry)))) ⌝ }
+    ensures { λ r. ⌜ r ≡ toldOpened (placeTaken d (length (now (out .entry))))
+        (openedBy d random (length (now (out .entry)))) ⌝ }
     ensures { λ _. ⌜ now (out .exit) ≡ over (openedBy d random (length (now (out .entry))) .reply)
         (now (out .entry)) ⌝ }
 {
@@ -55,19 +57,19 @@ pub extern "C" fn pj_open(d: Device, random: u32, out: &mut [u8]) -> Opened
 }
 
 #[no_mangle]
-pub extern "C" fn pj_close(d: Device) -> Changed
-    ensures { λ r. ⌜ r ≡ toldChanged (closedBy d) ⌝ }
+pub extern "C" fn pj_close(d: Device, place: usize) -> Changed
+    ensures { λ r. ⌜ r ≡ toldChanged (closedBy d place) ⌝ }
 {
-    calls::close(d)
+    calls::close(d, place)
 }
 
 #[no_mangle]
-pub extern "C" fn pj_receive(d: Device, bytes: &[u8], out: &mut [u8]) -> Received
-    ensures { λ r. ⌜ r ≡ toldReceived (received d (now (bytes .entry)) (length (now (out .entry)))) ⌝ }
-    ensures { λ _. ⌜ now (out .exit) ≡ over (received d (now (bytes .entry)) (length (now (out .entry))) .reply)
+pub extern "C" fn pj_receive(d: Device, place: usize, bytes: &[u8], out: &mut [u8]) -> Received
+    ensures { λ r. ⌜ r ≡ toldReceived (received d place (now (bytes .entry)) (length (now (out .entry)))) ⌝ }
+    ensures { λ _. ⌜ now (out .exit) ≡ over (received d place (now (bytes .entry)) (length (now (out .entry))) .reply)
         (now (out .entry)) ⌝ }
 {
-    calls::receive(d, bytes, out)
+    calls::receive(d, place, bytes, out)
 }
 
 #[no_mangle]
