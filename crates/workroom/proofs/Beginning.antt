@@ -1,5 +1,5 @@
--- A projector just added, with the password of a device whose connection is closed, is apart from it, and nothing is
--- shown of it.
+-- A projector just added, with the password of a device that has a free place, is apart from it, and nothing is shown
+-- of it.
 -- Assumes nothing.
 use Prim.Native.Nat.{ℕ, _<_}
 use mathlib.Core.Path.{_≡_, sym, ap, _∙_}
@@ -10,8 +10,9 @@ use lib.ListN.{length}
 use lib.Seq.{getD-set-same}
 use Rattle.lines.specs.Texts.{isPassword}
 use Rattle.lines.proofs.TextsTold.{password-long}
-use Rattle.record.specs.Limits.{shut, textRoom}
+use Rattle.record.specs.Limits.{placesCount, textRoom}
 use Rattle.record.specs.Legal.{isLegal}
+use Rattle.record.specs.Places.{lowestShut}
 use Rattle.record.specs.declared.types.Device.{Device}
 use Rattle.record.proofs.Kept.{filled-take}
 use Rattle.device.specs.Receiving.{passwordOf}
@@ -28,7 +29,7 @@ use Rattle.workroom.specs.ShowsWhatWasMeant.{BegunAs}
 
 module _ (p : Panel) (s : List ℕ) (d : Device) where
   abbrev Begun : PanelAs → Type 0
-  Begun r = r .number ≡ 0 → isLegal d ≡ true → d .connection .phase ≡ shut → passwordOf (d .settings) ≡ s
+  Begun r = r .number ≡ 0 → isLegal d ≡ true → lowestShut (d .connections) < placesCount → passwordOf (d .settings) ≡ s
       → BegunAs (p .count) (roomOf (r .panel) d)
 
   module _ (legal : isPanel p ≡ true) (word : isPassword s ≡ true) (free : p .count < panelMost) where
@@ -50,7 +51,7 @@ module _ (p : Panel) (s : List ℕ) (d : Device) where
   pub added-apart : Begun (addedTo p s)
   added-apart =
       added-by p s Begun (λ n other zero. absurd (other zero))
-      (λ legal word free zero known closed same.
+      (λ legal word free zero known place same.
       let last = placed-last legal word free in
       record {
         shows = ap (λ (e : Entry). shownOf e) last;
@@ -63,6 +64,6 @@ module _ (p : Panel) (s : List ℕ) (d : Device) where
             password = ap passwordIn last ∙ own-word legal word free ∙ sym same;
           };
           waiting = ap (λ (e : Entry). e .greeting) last;
-          closed = closed;
+          free = place;
         };
       })

@@ -14,6 +14,7 @@ use Rattle.lines.specs.declared.command.Command.{Command}
 use Rattle.lines.specs.declared.request.Request.the-variants.{Asks}
 use Rattle.answers.specs.Said.{Said}
 use Rattle.record.specs.Limits.{shut}
+use Rattle.record.specs.Places.{connectionAt, isShut}
 use Rattle.record.specs.declared.types.Line.{Line}
 use Rattle.record.specs.declared.types.Connection.{Connection}
 use Rattle.record.specs.declared.types.Device.{Device}
@@ -22,7 +23,7 @@ use Rattle.stream.proofs.LinesSpelt.{empty-spelt}
 use Rattle.meaning.specs.Meaning.{meant}
 use Rattle.meaning.proofs.CanBeSaid.{meant-fits, meant-can-be-said}
 use Rattle.device.specs.Receiving.{passwordOf}
-use Rattle.device.specs.Calls.{replyRoom, isShut, received}
+use Rattle.device.specs.Calls.{replyRoom, received}
 use Rattle.device.proofs.CommandsReceived.{replyTo, commandResult, command-received, command-received-secured}
 use Rattle.controller.specs.Writing.{commandRoom, ledBy}
 use Rattle.controller.specs.Reading.{meaning, readReply}
@@ -52,12 +53,15 @@ pub fit-live : {t : Talk} {c : Connection} → Fit t c → isShut c ≡ false
 fit-live (both-open phase greeted later) = ap (λ (p : ℕ). eqb p shut) phase
 fit-live (both-secured phase greeted first same) = ap (λ (p : ℕ). eqb p shut) phase
 
-module _ (i : ℕ) (w : Workroom) (j : Joined i w) where
+module _ (i p : ℕ) (w : Workroom) (j : Joined i p w) where
   abbrev entry : Entry
   entry = ourEntry i w
 
   abbrev device : Device
   device = w .device
+
+  abbrev connection : Connection
+  connection = connectionAt device p
 
   pub joined-served : Served (w .panel) i
   joined-served = record { legal = j .acquainted .panel; there = j .acquainted .there }
@@ -94,12 +98,12 @@ module _ (i : ℕ) (w : Workroom) (j : Joined i w) where
 
     -- how the device takes a line
     abbrev Answers : List ℕ → Type 0
-    Answers l = received device l replyRoom ≡ commandResult device c (length l)
+    Answers l = received device p l replyRoom ≡ commandResult device p c (length l)
 
-    unmarked : device .connection .line .overlong ≡ false
+    unmarked : connection .line .overlong ≡ false
     unmarked = ap (λ (l : Line). l .overlong) (j .between ∙ empty-spelt)
 
-    none-held : device .connection .line .held ≡ 0
+    none-held : connection .line .held ≡ 0
     none-held = ap (λ (l : Line). l .held) (j .between ∙ empty-spelt)
 
     led-alike : (led : Bool) → leadsNext (talkOf entry) ≡ led → {random : ℕ} → entry .random ≡ random
@@ -107,14 +111,15 @@ module _ (i : ℕ) (w : Workroom) (j : Joined i w) where
     led-alike led e same =
         spelt ∙ (λ n. ledBy (e n) (same n) (j .acquainted .password n) ++ commandLine c)
 
-    taken-by-fit : Fit (talkOf entry) (device .connection) → Answers sent
+    taken-by-fit : Fit (talkOf entry) connection → Answers sent
     taken-by-fit (both-open phase greeted later) =
         subst Answers (sym (led-alike false later refl))
-        (command-received device replyRoom (j .acquainted .device) (omega arith) unmarked none-held c writable phase)
+        (command-received device p (j .place) replyRoom (j .acquainted .device) (omega arith) unmarked none-held c
+        writable phase)
     taken-by-fit (both-secured phase greeted first same) =
         subst Answers (sym (led-alike true first same))
-        (command-received-secured device replyRoom (j .acquainted .device) (omega arith) unmarked none-held c writable
-        phase)
+        (command-received-secured device p (j .place) replyRoom (j .acquainted .device) (omega arith) unmarked none-held
+        c writable phase)
 
     pub command-taken : Answers sent
     command-taken = taken-by-fit (j .fit)

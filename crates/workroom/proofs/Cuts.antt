@@ -1,18 +1,20 @@
 -- Parts that were cut are joined again, and every list of parts is such a cutting. A line that one call takes whole
 -- leaves the same in any cuts.
 -- Assumes nothing.
-use Prim.Native.Nat.{ℕ}
+use Prim.Native.Nat.{ℕ, _<_}
 use mathlib.Core.Path.{_≡_, sym, ap, _∙_}
 use mathlib.Core.Bool.{true, false}
 use mathlib.Core.List.{List, [], _∷_, _++_, append-nil}
 use native.Mathlib.Omega.{arith}
 use lib.ListN.{length, take, drop, take-append-drop}
 use lib.Seq.{take-append-seam, drop-append-seam}
+use Rattle.record.specs.Limits.{placesCount}
 use Rattle.record.specs.Legal.{isLegal}
+use Rattle.record.specs.Places.{connectionAt, isShut}
 use Rattle.record.specs.declared.types.Device.{Device}
 use Rattle.stream.specs.Machine.{uncut}
 use Rattle.stream.proofs.WholeParts.{uncut-none, uncut-more, handed-whole}
-use Rattle.device.specs.Calls.{replyRoom, isShut, received}
+use Rattle.device.specs.Calls.{replyRoom, received}
 use Rattle.device.proofs.SameCuts.{receives, received-however-cut}
 use Rattle.workroom.specs.Workroom.{cutAt, handedThere}
 
@@ -39,10 +41,11 @@ every-cutting p (q ∷ ps) =
     ∙ (λ i. take-append-seam p rest i ∷ cutAt (lengthsOf q ps) (drop-append-seam p rest i))
     ∙ ap (λ (qs : List (List ℕ)). p ∷ qs) (every-cutting q ps)
 
-pub handed-in-cuts : (d : Device) (there l : List ℕ) → isLegal d ≡ true → isShut (d .connection) ≡ false
-    → let r = received d l replyRoom in
-    r .taken ≡ length l → handedThere d there l ≡ record { state = r .device; reply = r .reply }
-handed-in-cuts d there l legal live all =
-    received-however-cut replyRoom (omega arith) d legal live (cutAt there l) (l ∷ [])
+pub handed-in-cuts : (d : Device) (p : ℕ) (there l : List ℕ) → p < placesCount → isLegal d ≡ true
+    → isShut (connectionAt d p) ≡ false
+    → let r = received d p l replyRoom in
+    r .taken ≡ length l → handedThere d p there l ≡ record { state = r .device; reply = r .reply }
+handed-in-cuts d p there l place legal live all =
+    received-however-cut replyRoom (omega arith) p place d legal live (cutAt there l) (l ∷ [])
     (cuts-join there l ∙ sym (one-part l))
-    ∙ handed-whole (receives replyRoom) d l all
+    ∙ handed-whole (receives replyRoom p) d l all

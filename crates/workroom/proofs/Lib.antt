@@ -6,6 +6,7 @@ pub mod RepliesShown
 pub mod Beginning
 pub mod Connecting
 pub mod AllShown
+pub mod OthersAside
 pub mod StaysOpen
 pub mod ShowsWhatWasMeant
 pub mod Samples

@@ -14,11 +14,15 @@ use Rattle.lines.specs.declared.request.Request.the-variants.{Asks}
 use Rattle.answers.specs.Said.{Said}
 use Rattle.record.specs.Limits.{opened}
 use Rattle.record.specs.Legal.{isLegal}
+use Rattle.record.specs.Places.{connectionAt, withPlace}
+use Rattle.record.specs.declared.types.Connection.{Connection}
 use Rattle.record.specs.declared.types.Device.{Device}
+use Rattle.record.proofs.LegalTold.{legal-places}
+use Rattle.record.proofs.ConnectionsTold.{placed-here}
 use Rattle.stream.specs.Machine.{Out}
 use Rattle.meaning.specs.Meaning.{meant, done}
 use Rattle.device.specs.Receiving.{turned}
-use Rattle.device.specs.Calls.{Result, replyRoom, withParts, received}
+use Rattle.device.specs.Calls.{Result, replyRoom, received}
 use Rattle.device.proofs.CommandsReceived.{replyTo, commandResult}
 use Rattle.device.proofs.Legal.{receiving-legal}
 use Rattle.controller.specs.Writing.{commandRoom}
@@ -39,7 +43,7 @@ use Rattle.panel.proofs.StepsByTable.{row-steps}
 use Rattle.workroom.specs.AnyPanel.{oursPanel}
 use Rattle.workroom.specs.Workroom.{Workroom, roomOf, asks, handedThere, answeredBack, askedAs, happened}
 use Rattle.workroom.specs.MeantThrough.{saidTo, doneFor}
-use Rattle.workroom.specs.ShowsWhatWasMeant.{both-open, ourEntry, Joined, ShownAs}
+use Rattle.workroom.specs.ShowsWhatWasMeant.{both-open, ourEntry, ourConnection, Joined, ShownAs}
 use Rattle.workroom.specs.PanelDemand.{Served}
 use Rattle.workroom.proofs.Cuts.{handed-in-cuts}
 use Rattle.workroom.proofs.EntriesStep.{entry-sent, sent-served, entry-heard, heard-served, line-delivered}
@@ -51,7 +55,7 @@ none-leads : (s : Bool) → (s && not s) ≡ false
 none-leads true = refl
 none-leads false = refl
 
-module _ (i : ℕ) (w : Workroom) (j : Joined i w) where
+module _ (i p : ℕ) (w : Workroom) (j : Joined i p w) where
   abbrev entry : Entry
   entry = ourEntry i w
 
@@ -66,26 +70,26 @@ module _ (i : ℕ) (w : Workroom) (j : Joined i w) where
     sending = commanded (w .panel) i k commandRoom
 
     abbrev left : Device
-    left = withParts device (done (device .settings) (device .own) (Asks c)) (turned (device .connection) opened)
+    left = withPlace device (done (device .settings) (device .own) (Asks c)) p (turned (connectionAt device p) opened)
 
     done-sending : sending ≡ sentAt (w .panel) i k commandRoom
-    done-sending = commanded-done (w .panel) i k commandRoom (can-command i w j k c is)
+    done-sending = commanded-done (w .panel) i k commandRoom (can-command i p w j k c is)
 
-    result : received device (sending .line) replyRoom ≡ commandResult device c (length (sending .line))
+    result : received device p (sending .line) replyRoom ≡ commandResult device p c (length (sending .line))
     result =
-        subst (λ (r : PanelAs). received device (r .line) replyRoom ≡ commandResult device c (length (r .line)))
-        (sym done-sending) (command-taken i w j k c is)
+        subst (λ (r : PanelAs). received device p (r .line) replyRoom ≡ commandResult device p c (length (r .line)))
+        (sym done-sending) (command-taken i p w j k c is)
 
-    comes-back : handedThere device there (sending .line) ≡ record { state = left; reply = replyTo c told }
+    comes-back : handedThere device p there (sending .line) ≡ record { state = left; reply = replyTo c told }
     comes-back =
-        handed-in-cuts device there (sending .line) (j .acquainted .device) (fit-live (j .fit))
+        handed-in-cuts device p there (sending .line) (j .place) (j .acquainted .device) (fit-live (j .fit))
         (ap (λ (r : Result Device). r .taken) result)
         ∙ ap {B = Out Device} (λ (r : Result Device). record { state = r .device; reply = r .reply }) result
 
     abbrev after : Panel
     after = steppedAt (sending .panel) i (replyTo c told) .panel
 
-    asked-so : happened oursPanel i w (asks k there back) ≡ roomOf after left
+    asked-so : happened oursPanel i p w (asks k there back) ≡ roomOf after left
     asked-so =
         let number : eqb (sending .number) 0 ≡ true = ap (λ (r : PanelAs). eqb (r .number) 0) done-sending in
         if-yes _ _ number
@@ -93,7 +97,7 @@ module _ (i : ℕ) (w : Workroom) (j : Joined i w) where
         ∙ ap (λ (p : Panel). roomOf p left) (line-delivered i (sending .panel) back _ _)
 
     sent-there : Served (sending .panel) i
-    sent-there = sent-served (w .panel) i (joined-served i w j) k commandRoom
+    sent-there = sent-served (w .panel) i (joined-served i p w j) k commandRoom
 
     entry-then : entryAt after i ≡ answeredEntry (sentEntry entry k) told
     entry-then =
@@ -101,15 +105,18 @@ module _ (i : ℕ) (w : Workroom) (j : Joined i w) where
         = record { greeted = fit-greeted (j .fit); waits = refl; asked = is } in
         entry-heard (sending .panel) i sent-there (replyTo c told)
         ∙ ap (λ (e : Entry). heardLine e (replyTo c told))
-        (entry-sent (w .panel) i (joined-served i w j) k commandRoom (can-command i w j k c is))
-        ∙ row-steps (sentEntry entry k) (replyTo c told) (answers c told asked (told-back i w j k c is))
+        (entry-sent (w .panel) i (joined-served i p w j) k commandRoom (can-command i p w j k c is))
+        ∙ row-steps (sentEntry entry k) (replyTo c told) (answers c told asked (told-back i p w j k c is))
+
+    stands : connectionAt left p ≡ turned (connectionAt device p) opened
+    stands = placed-here device (legal-places device (j .acquainted .device)) p (j .place) (left .own) _
 
     left-legal : isLegal left ≡ true
     left-legal =
         ap (λ (r : Result Device). isLegal (r .device)) (sym result)
-        ∙ receiving-legal device (j .acquainted .device) (sending .line) replyRoom
+        ∙ receiving-legal device (j .acquainted .device) p (sending .line) replyRoom
 
-    joined-then : Joined i (roomOf after left)
+    joined-then : Joined i p (roomOf after left)
     joined-then =
         let there = heard-served (sending .panel) i sent-there (replyTo c told) in
         record {
@@ -119,16 +126,18 @@ module _ (i : ℕ) (w : Workroom) (j : Joined i w) where
             device = left-legal;
             password = ap passwordIn entry-then ∙ j .acquainted .password;
           };
-          between = refl;
+          place = j .place;
+          between = ap (λ (k : Connection). k .line) stands;
           rests = ap (λ (e : Entry). e .«under_way») entry-then;
-          fit = both-open refl
+          fit = both-open (ap (λ (k : Connection). k .phase) stands)
               (λ none. fit-greeted (j .fit) (sym (ap (λ (e : Entry). e .greeting) entry-then) ∙ none))
               (ap (λ (e : Entry). leadsNext (talkOf e)) entry-then ∙ none-leads (isSecuredTalk (talkOf entry)));
         }
 
-    reply-shown : ShownAs i w (showing (shownOf entry) told) (left .own) (happened oursPanel i w (asks k there back))
+    reply-shown : ShownAs i p w (showing (shownOf entry) told) (left .own)
+        (happened oursPanel i p w (asks k there back))
     reply-shown =
-        subst (ShownAs i w (showing (shownOf entry) told) (left .own)) (sym asked-so)
+        subst (ShownAs i p w (showing (shownOf entry) told) (left .own)) (sym asked-so)
         (record {
           shows = ap (λ (e : Entry). shownOf e) entry-then;
           strays = ap (λ (e : Entry). e .strays) entry-then;
@@ -137,45 +146,46 @@ module _ (i : ℕ) (w : Workroom) (j : Joined i w) where
           joined = joined-then;
         })
 
-  pub as-it-was : ShownAs i w (shownOf entry) (device .own) w
+  pub as-it-was : ShownAs i p w (shownOf entry) (device .own) w
   as-it-was = record { shows = refl; strays = refl; settings = refl; does = refl; joined = j }
 
   -- of a code that stands for nothing nothing is sent
   refused-so : (k : Coded) (there back : List ℕ) → commandOf k ≡ NoCommand
-      → happened oursPanel i w (asks k there back) ≡ w
+      → happened oursPanel i p w (asks k there back) ≡ w
   refused-so k there back none =
-      commanded-by (w .panel) i k commandRoom (λ r. askedAs oursPanel i r device there back ≡ w)
+      commanded-by (w .panel) i k commandRoom (λ r. askedAs oursPanel i p r device there back ≡ w)
       (λ n other. if-no _ _ (ne-eqb n 0 other))
       (λ can. absurd (false≢true (sym (ap isNamed none) ∙ can .named)))
 
   -- once something was asked the connection is open, and an open one stays so
   pub asked-open : (k : Coded) (there back : List ℕ) → isNamed (commandOf k) ≡ true
-      → happened oursPanel i w (asks k there back) .device .connection .phase ≡ opened
+      → ourConnection p (happened oursPanel i p w (asks k there back)) .phase ≡ opened
   asked-open k there back named = by (commandOf k) refl
     where
       by : (m : MaybeCommand) → commandOf k ≡ m
-          → happened oursPanel i w (asks k there back) .device .connection .phase ≡ opened
-      by (CommandIs c) is = ap (λ (x : Workroom). x .device .connection .phase) (asked-so k c is there back)
+          → ourConnection p (happened oursPanel i p w (asks k there back)) .phase ≡ opened
+      by (CommandIs c) is = ap (λ (x : Workroom). ourConnection p x .phase) (asked-so k c is there back)
+          ∙ ap (λ (q : Connection). q .phase) (stands k c is there back)
       by NoCommand none = absurd (false≢true (sym (ap isNamed none) ∙ named))
 
-  pub open-asked : (k : Coded) (there back : List ℕ) → device .connection .phase ≡ opened
-      → happened oursPanel i w (asks k there back) .device .connection .phase ≡ opened
+  pub open-asked : (k : Coded) (there back : List ℕ) → connectionAt device p .phase ≡ opened
+      → ourConnection p (happened oursPanel i p w (asks k there back)) .phase ≡ opened
   open-asked k there back stands = by (commandOf k) refl
     where
       by : (m : MaybeCommand) → commandOf k ≡ m
-          → happened oursPanel i w (asks k there back) .device .connection .phase ≡ opened
+          → ourConnection p (happened oursPanel i p w (asks k there back)) .phase ≡ opened
       by (CommandIs c) is = asked-open k there back (ap isNamed is)
       by NoCommand none =
-          ap (λ (x : Workroom). x .device .connection .phase) (refused-so k there back none) ∙ stands
+          ap (λ (x : Workroom). ourConnection p x .phase) (refused-so k there back none) ∙ stands
 
   pub command-shown : (k : Coded) (there back : List ℕ)
-      → ShownAs i w (showing (shownOf entry) (saidTo (device .settings) (device .own) (commandOf k)))
-      (doneFor (device .settings) (device .own) (commandOf k)) (happened oursPanel i w (asks k there back))
+      → ShownAs i p w (showing (shownOf entry) (saidTo (device .settings) (device .own) (commandOf k)))
+      (doneFor (device .settings) (device .own) (commandOf k)) (happened oursPanel i p w (asks k there back))
   command-shown k there back = by (commandOf k) refl
     where
       by : (m : MaybeCommand) → commandOf k ≡ m
-          → ShownAs i w (showing (shownOf entry) (saidTo (device .settings) (device .own) m))
-          (doneFor (device .settings) (device .own) m) (happened oursPanel i w (asks k there back))
+          → ShownAs i p w (showing (shownOf entry) (saidTo (device .settings) (device .own) m))
+          (doneFor (device .settings) (device .own) m) (happened oursPanel i p w (asks k there back))
       by (CommandIs c) is = reply-shown k c is there back
       by NoCommand none =
-          subst (ShownAs i w (shownOf entry) (device .own)) (sym (refused-so k there back none)) as-it-was
+          subst (ShownAs i p w (shownOf entry) (device .own)) (sym (refused-so k there back none)) as-it-was

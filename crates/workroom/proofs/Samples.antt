@@ -1,7 +1,7 @@
 -- A panel of one projector, on which the wrong panels fall: open, without a password, its power shown as on.
 --   asked strays     LAMP is asked of it
 --   resting strays   nothing is
---   workroom         it, resting, with a device that is off, opened and without a password
+--   workroom         it, resting, with a device that is off, without a password and opened at place 0
 -- Assumes nothing.
 use Prim.Native.Nat.{ℕ}
 use mathlib.Core.Path.{refl}
@@ -13,9 +13,9 @@ use Rattle.lines.specs.declared.command.Command.the-variants.{Query}
 use Rattle.lines.specs.declared.command.Body.the-variants.{Lamp}
 use Rattle.record.specs.Limits.{opened}
 use Rattle.record.specs.Record.{textOf, started}
+use Rattle.record.specs.Places.{withPlace}
 use Rattle.record.specs.declared.types.Device.{Device}
 use Rattle.device.specs.Receiving.{begunIn}
-use Rattle.device.specs.Calls.{withParts}
 use Rattle.codes.specs.Commands.{codeOf}
 use Rattle.panel.specs.Entries.{Talk, entryOf, greetedOpen, greetedBy, sentOn, nothingShown, blankEntry}
 use Rattle.panel.specs.Showing.{withPowerShown}
@@ -73,12 +73,13 @@ opening = started (record {
 })
 
 abbrev pub workroom : Workroom
-workroom = roomOf (resting 0) (withParts opening (opening .own) (begunIn opened 0))
+workroom = roomOf (resting 0) (withPlace opening (opening .own) 0 (begunIn opened 0))
 
-pub workroom-joined : Joined 0 workroom
+pub workroom-joined : Joined 0 0 workroom
 unfolding computing
 workroom-joined = record {
   acquainted = record { panel = refl; there = omega arith; device = refl; password = refl };
+  place = omega arith;
   between = refl;
   rests = refl;
   fit = both-open refl (λ none. omega arith) refl;

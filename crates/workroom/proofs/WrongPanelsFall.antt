@@ -91,5 +91,5 @@ pub shows-no-reply-falls : ShowsWhatWasMeant showsNoReply → ⊥
 unfolding computing
 shows-no-reply-falls h =
     let e : _≡_ {A = ℕ} 1 0
-    = ap powerShown (h .shows 0 workroom (asks (codeOf (Query Powr)) [] []) workroom-joined tt .shows) in
+    = ap powerShown (h .shows 0 0 workroom (asks (codeOf (Query Powr)) [] []) workroom-joined tt .shows) in
     absurd (omega arith)

@@ -2,7 +2,8 @@
 -- byte, no line, no connection and no panel.
 --   saidAt s o h          what the projector with the settings s and the own part o means by its reply; where there is
 --                         none, nothing is said
---   ownAt s o h           its own part afterwards: what the command does, or the seconds that passed
+--   ownAt s o h           its own part afterwards: what the command does, or the seconds that passed; after what others
+--                         did it is as they left it
 --   shownThrough s o v hs     what was shown, v, and on it all that was said, one after the other (`showing` of panel)
 --   ownThrough s o hs     its own part after all of it
 -- Assumes nothing.
@@ -18,7 +19,7 @@ use Rattle.codes.specs.declared.command.MaybeCommand.{MaybeCommand}
 use Rattle.codes.specs.declared.command.MaybeCommand.the-variants.{CommandIs, NoCommand}
 use Rattle.panel.specs.Entries.{Shown}
 use Rattle.panel.specs.Showing.{showing}
-use Rattle.workroom.specs.Workroom.{RoomMove, connects, asks, waits, asks-another, hears-another}
+use Rattle.workroom.specs.Workroom.{RoomMove, asks, waits, asks-another, hears-another, meanwhile}
 
 module _ (s : Settings) where
   -- a code that stands for no command is refused by the panel
@@ -32,17 +33,17 @@ module _ (s : Settings) where
 
   abbrev pub saidAt : Own → RoomMove → Said
   saidAt o (asks k there back) = saidTo o (commandOf k)
-  saidAt o (connects random back) = nothing
   saidAt o (waits n) = nothing
   saidAt o (asks-another j k) = nothing
   saidAt o (hears-another j l) = nothing
+  saidAt o (meanwhile d) = nothing
 
   abbrev pub ownAt : Own → RoomMove → Own
   ownAt o (asks k there back) = doneFor o (commandOf k)
   ownAt o (waits n) = times (ownSecond s) n o
-  ownAt o (connects random back) = o
   ownAt o (asks-another j k) = o
   ownAt o (hears-another j l) = o
+  ownAt o (meanwhile d) = d .own
 
   abbrev pub shownThrough : Own → Shown → List RoomMove → Shown
   shownThrough o v [] = v
