@@ -19,35 +19,44 @@ fn write_line(mark: &[u8], line: &[u8]) {
     write(b"\n");
 }
 
-// The projector as 01 sets it up, its connection open.
-fn fresh() -> Device {
+// A projector, and the place at which its controller is connected.
+struct Connected {
+    place: usize,
+    device: Device,
+}
+
+fn at_place(place: usize, device: Device) -> Connected {
+    Connected { place, device }
+}
+
+// The projector as 01 sets it up, its controller connected.
+fn fresh() -> Connected {
     let lamps = [0u32; 1];
     let started = setup::set_up(b"", b"", b"", b"", b"", b"11", &lamps, 20, 60);
     let mut memory = [0u8; 136];
     let opened = calls::open(started.device, 0, &mut memory);
-    opened.device
+    at_place(opened.place, opened.device)
 }
 
-fn send(d: Device, line: &[u8]) -> Device {
+fn send(c: Connected, line: &[u8]) -> Connected {
     let mut memory = [0u8; 136];
-    let received = calls::receive(d, line, &mut memory);
+    let received = calls::receive(c.device, c.place, line, &mut memory);
     write_line(b"> ", line);
     let length = received.length;
     if length <= 136 {
         write_line(b"< ", &memory[0..length]);
     }
-    received.device
+    at_place(c.place, received.device)
 }
 
-fn wait(d: Device, seconds: u32) -> Device {
-    let passed = clock::pass::pass(d, seconds);
-    passed.device
+fn wait(c: Connected, seconds: u32) -> Connected {
+    let passed = clock::pass::pass(c.device, seconds);
+    at_place(c.place, passed.device)
 }
 
 // One line to a projector that was never on.
 fn ask_off(line: &[u8]) {
-    let d = fresh();
-    let _after = send(d, line);
+    let _after = send(fresh(), line);
 }
 
 // One line after power-on and so many seconds.
@@ -58,19 +67,19 @@ fn ask_after(seconds: u32, title: &[u8], line: &[u8]) {
 }
 
 // Power-on, 2,400 s, power-off, 60 s.
-fn one_round(d: Device) -> Device {
-    let on = wait(send(d, b"%1POWR 1\r"), 2400);
+fn one_round(c: Connected) -> Connected {
+    let on = wait(send(c, b"%1POWR 1\r"), 2400);
     wait(send(on, b"%1POWR 0\r"), 60)
 }
 
-fn nine_rounds() -> Device {
-    let mut d = fresh();
+fn nine_rounds() -> Connected {
+    let mut c = fresh();
     let mut round: u32 = 0;
     while round < 9 {
-        d = one_round(d);
+        c = one_round(c);
         round += 1;
     }
-    d
+    c
 }
 
 fn main() {

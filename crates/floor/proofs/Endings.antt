@@ -20,7 +20,8 @@ use Rattle.log.specs.declared.Says.{Says}
 use Rattle.log.specs.declared.Says.the-variants.{Opens, Receives, Passes, Closes, NoSuch}
 use Rattle.log.proofs.Endings.{mark-unformed, mark-refused, mark-silent, mark-replied}
 use Rattle.floor.specs.Events.{eventOf}
-use Rattle.floor.specs.Playing.{did, outcome, shown}
+use Rattle.floor.specs.Playing.{logPlace, did, outcome, shown}
+use Rattle.floor.proofs.LogOpenings.{log-opened-by}
 
 -- a refusal has no reply, and a line of no such form has none
 pub record Plain (formed : Bool) (r : Result Device) : Type 0 where
@@ -32,10 +33,12 @@ formed-plain r h = record { unformed = λ e. absurd (false≢true (sym e)); refu
 
 pub did-plain : (d : Device) (says : Says) (bs : List ℕ) → Plain (isFormed says) (did d (eventOf says bs))
 unfolding did
-did-plain d (Opens x) bs = formed-plain _ (λ n. opening-refused d x replyRoom n .reply)
-did-plain d Receives bs = formed-plain _ (λ n. receiving-refused d bs replyRoom n .reply)
+did-plain d (Opens x) bs =
+    formed-plain _ (log-opened-by d x (λ r. (r .number ≡ 0 → ⊥) → r .reply ≡ []) (λ n z e. refl)
+    (λ h c n. opening-refused d x replyRoom n .reply))
+did-plain d Receives bs = formed-plain _ (λ n. receiving-refused d logPlace bs replyRoom n .reply)
 did-plain d (Passes n) bs = formed-plain _ (λ n. refl)
-did-plain d Closes bs = formed-plain _ (λ n. closing-refused d n .reply)
+did-plain d Closes bs = formed-plain _ (λ n. closing-refused d logPlace n .reply)
 did-plain d NoSuch bs = record { unformed = λ e. refl; refused = λ n. refl }
 
 none : (s : List ℕ) → length s ≡ 0 → s ≡ []

@@ -13,36 +13,40 @@ use Rattle.clock.proofs.TimeLegal.{passed-legality}
 use Rattle.clock.proofs.Untouched.{passed-leaves}
 use Rattle.device.specs.Calls.{refusedBy, replyRoom}
 use Rattle.device.proofs.Untouched.{receiving-keeps-settings, opening-keeps-settings, closing-keeps-settings}
-use Rattle.device.proofs.Illegal.{received-illegal, opened-illegal, closed-illegal}
+use Rattle.device.proofs.Illegal.{received-illegal, closed-illegal}
 use Rattle.device.proofs.Illegal.{received-legality, opened-legality, closed-legality}
 use Rattle.log.specs.declared.Says.{Says}
 use Rattle.log.specs.declared.Says.the-variants.{Opens, Receives, Passes, Closes, NoSuch}
 use Rattle.log.specs.Ending.{isFormed}
 use Rattle.floor.specs.Events.{LogEvent, opens, receives, passes, closes, noSuch, eventOf}
-use Rattle.floor.specs.Playing.{changedTo, did}
+use Rattle.floor.specs.Playing.{changedTo, logPlace, did}
+use Rattle.floor.proofs.LogOpenings.{log-opened-by, log-opened-illegal}
 
 module _ (d : Device) where
   pub did-settings : (e : LogEvent) → did d e .device .settings ≡ d .settings
   unfolding did
-  did-settings (opens r) = opening-keeps-settings d r replyRoom
-  did-settings (receives bs) = receiving-keeps-settings d bs replyRoom
+  did-settings (opens r) =
+      log-opened-by d r (λ q. q .device .settings ≡ d .settings) (λ n z. refl)
+      (λ h c. opening-keeps-settings d r replyRoom)
+  did-settings (receives bs) = receiving-keeps-settings d logPlace bs replyRoom
   did-settings (passes n) = passed-leaves d n .settings
-  did-settings closes = closing-keeps-settings d
+  did-settings closes = closing-keeps-settings d logPlace
   did-settings noSuch = refl
 
   pub did-legality : (e : LogEvent) → isLegal (did d e .device) ≡ isLegal d
   unfolding did
-  did-legality (opens r) = opened-legality d r replyRoom
-  did-legality (receives bs) = received-legality d bs replyRoom
+  did-legality (opens r) =
+      log-opened-by d r (λ q. isLegal (q .device) ≡ isLegal d) (λ n z. refl) (λ h c. opened-legality d r replyRoom)
+  did-legality (receives bs) = received-legality d logPlace bs replyRoom
   did-legality (passes n) = passed-legality d n
-  did-legality closes = closed-legality d
+  did-legality closes = closed-legality d logPlace
   did-legality noSuch = refl
 
   pub did-illegal : (says : Says) (bs : List ℕ) → isLegal d ≡ false
       → did d (eventOf says bs) ≡ refusedBy (if isFormed says then 1 else 0) d
   unfolding did
-  did-illegal (Opens r) bs h = opened-illegal d r replyRoom h
-  did-illegal Receives bs h = received-illegal d bs replyRoom h
+  did-illegal (Opens r) bs h = log-opened-illegal d r h
+  did-illegal Receives bs h = received-illegal d logPlace bs replyRoom h
   did-illegal (Passes n) bs h = ap changedTo (passed-illegal d n h)
-  did-illegal Closes bs h = closed-illegal d h
+  did-illegal Closes bs h = closed-illegal d logPlace h
   did-illegal NoSuch bs h = refl

@@ -4,6 +4,7 @@ mod Printing
 mod PartsPut
 mod KeptText
 mod EventsLeave
+mod Driven
 mod LinesPlayed
 mod LoopPlayed
 mod Refusals
@@ -14,5 +15,7 @@ mod Replayed
 mod Accepted
 mod LinesCounted
 pub mod WholeLog
+pub mod LogOpenings
+pub mod OnePlace
 pub mod LastLine
 pub mod Counted

@@ -1,7 +1,7 @@
 -- A printed line, as the code puts it together: the number and a space, a reply that loses its CR, and an ending.
 -- Assumes nothing.
 use Prim.Native.Nat.{ℕ, suc, _+_, _-_, _≤_}
-use mathlib.Core.Path.{_≡_, sym, ap, _∙_}
+use mathlib.Core.Path.{_≡_, refl, sym, ap, _∙_}
 use mathlib.Core.Bool.{Bool, true, not}
 use mathlib.Core.List.{List, [], _∷_, _++_, append-nil, append-assoc}
 use native.Mathlib.Omega.{arith}
@@ -18,9 +18,10 @@ use Rattle.device.specs.Calls.{Result, replyRoom}
 use Rattle.floor.specs.declared.event.Called.{Called}
 use Rattle.log.specs.Ending.{isFormed, ending}
 use Rattle.log.specs.declared.Says.{Says}
+use Rattle.log.specs.declared.Says.the-variants.{Opens, Receives, Passes, Closes, NoSuch}
 use Rattle.floor.specs.Events.{eventOf}
 use Rattle.floor.specs.Playing.{did, outcome, shown, printed}
-use Rattle.floor.specs.Told.{calledOf, PrintedAs}
+use Rattle.floor.specs.Told.{calledOf, secondsOf, PrintedAs}
 use Rattle.floor.proofs.Endings.{did-plain, bare, ending-by, shown-formed, shown-unformed}
 
 -- an ending after no reply, and one in the place of a reply's last byte
@@ -55,6 +56,14 @@ module _ (l text reply end : List ℕ) (some : length reply ≡ 0 → ⊥) (ends
       ∙ sym (sets-append l 0 (text ++ kept) (lost ∷ [])) in
       (λ i. sets (stored i) (place i) end) ∙ overwritten before (0 + length (text ++ kept)) lost end ends
       ∙ sets-append l 0 (text ++ kept) end ∙ ap (sets l 0) (append-assoc text kept end)
+
+-- the seconds are the line's, whatever it would have received
+seconds-said : (says : Says) (bs : List ℕ) → secondsOf (eventOf says []) ≡ secondsOf (eventOf says bs)
+seconds-said (Opens x) bs = refl
+seconds-said Receives bs = refl
+seconds-said (Passes n) bs = refl
+seconds-said Closes bs = refl
+seconds-said NoSuch bs = refl
 
 -- all of it
 module _ (n : ℕ) (d : Device) (says : Says) (bs : List ℕ) where
@@ -144,14 +153,18 @@ module _ (n : ℕ) (d : Device) (says : Says) (bs : List ℕ) where
             tail-fits (length out - at) (omega (arith, p .fits)) (omega (arith, p .room)),
           )
 
-      pub line-printed : {end : ℕ} {m : List ℕ} → end ≡ last + length (ending f (c .number) (c .length))
-          → m ≡ sets left last (ending f (c .number) (c .length))
-          → PrintedAs n d (eventOf says bs) out (record { length = end; device = c .device }) m
-      line-printed {end} e q =
+      pub line-printed : {end seconds : ℕ} {m : List ℕ} → end ≡ last + length (ending f (c .number) (c .length))
+          → m ≡ sets left last (ending f (c .number) (c .length)) → seconds ≡ secondsOf (eventOf says [])
+          → PrintedAs n d (eventOf says bs) out (record { length = end; seconds = seconds; device = c .device }) m
+      line-printed {end} e q passes =
           let all = printed n (eventOf says bs) result in
           let whole : end ≡ length all = omega (arith, e, ap length same-end, place, printed-long) in
           record {
-            returned = (λ i. record { length = whole i; device = gave i .device });
+            returned = (λ i. record {
+              length = whole i;
+              seconds = (passes ∙ seconds-said says bs) i;
+              device = gave i .device;
+            });
             stored = q ∙ (λ i. sets (p .stored i) (place i) (same-end i)) ∙ printed-stored out
                 ∙ sets-over all out (omega (arith, whole, e, ending-fits, p .long));
           }

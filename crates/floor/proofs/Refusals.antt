@@ -15,7 +15,7 @@ use Rattle.floor.specs.Reading.{Reading}
 use Rattle.floor.specs.Calls.{refusal, CanPlay, Step, giving}
 
 -- neither side of a disjunction that fails holds
-neither : (a b : Bool) → (a || b) ≡ false → (a ≡ false) × (b ≡ false)
+pub neither : (a b : Bool) → (a || b) ≡ false → (a ≡ false) × (b ≡ false)
 neither true b e = (cc, cc)
 neither false b e = (refl, e)
 

@@ -14,7 +14,7 @@
 --   lfMissing k         how many LF a log lacks that ends there: one where a line has begun
 --   endOfInput s        what the end of the input does to a line that has begun: it is played
 --   logFinished s       that, and the last line printed
---   fresh m             before a log: 01's sample set-up, its connection closed, no line played, m the lent memory
+--   fresh m             before a log: 01's sample set-up, every place closed, no line played, m the lent memory
 -- Assumes nothing.
 use Prim.Native.Nat.{ℕ, suc, _+_, _-_}
 use Prim.Native.Char.{code}

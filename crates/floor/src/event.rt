@@ -2,18 +2,23 @@
 use device::on_legal;
 use log::Says;
 use log::ending;
+use record::connection::SHUT;
 use record::types::Device;
 ghost use mathlib.Core.Path.{_≡_};
 ghost use mathlib.Core.Bool.{true};
+ghost use mathlib.Core.List.{[]};
 ghost use Prim.Native.Nat.{_+_, _-_, _^_, _≤_, _<_};
 ghost use lib.ListN.{length};
 ghost use Rattle.text.specs.Words.{over};
 ghost use Rattle.record.specs.Legal.{isLegal};
 ghost use Rattle.device.specs.Calls.{replyRoom};
 ghost use Rattle.floor.specs.Events.{eventOf};
-ghost use Rattle.floor.specs.Playing.{did};
+ghost use Rattle.floor.specs.Playing.{openedInLog, did};
 ghost use Rattle.floor.specs.Reading.{printRoom};
-ghost use Rattle.floor.specs.Told.{calledOf, calledWith, PrintedAs};
+ghost use Rattle.floor.specs.Told.{calledOf, calledWith, secondsOf, PrintedAs};
+
+// The place that a log drives (02, L5).
+pub const PLACE: usize = 0;
 
 // What a call gave: its number, the length of its reply, the record.
 pub struct Called {
@@ -22,9 +27,10 @@ pub struct Called {
     pub device: Device,
 }
 
-// What is left of a line: the length of what was printed, the record.
+// What is left of a line: the length of what was printed, the seconds that it let pass, the record.
 pub struct Printed {
     pub length: usize,
+    pub seconds: u32,
     pub device: Device,
 }
 
@@ -38,6 +44,20 @@ fn gave(number: u32, length: usize, device: Device) -> Called
     }
 }
 
+// Opening at that place: 5 where it is not closed. Else it is the lowest closed place, which the device takes.
+fn open_legal(d: Device, random: u32, out: &mut [u8]) -> Called
+    requires { ⌜ replyRoom ≤ length (now out) ⌝ }
+    requires { ⌜ isLegal d ≡ true ⌝ }
+    ensures { λ r. ⌜ r ≡ calledOf (openedInLog d random) ⌝ }
+    ensures { λ _. ⌜ now (out .exit) ≡ over (openedInLog d random .reply) (now (out .entry)) ⌝ }
+{
+    if d.connections[PLACE].phase != SHUT {
+        return gave(5, 0, d);
+    }
+    let opened = on_legal::open(d, random, out);
+    gave(opened.number, opened.length, opened.device)
+}
+
 // The event that a line says, on a legal record; a text is lent with its CR.
 fn call_legal(d: Device, says: Says, bytes: &[u8], out: &mut [u8]) -> Called
     requires { ⌜ replyRoom ≤ length (now out) ⌝ }
@@ -46,12 +66,9 @@ fn call_legal(d: Device, says: Says, bytes: &[u8], out: &mut [u8]) -> Called
     ensures { λ _. ⌜ now (out .exit) ≡ over (did d (eventOf says (now (bytes .entry))) .reply) (now (out .entry)) ⌝ }
 {
     match says {
-        Says::Opens(random) => {
-            let opened = on_legal::open(d, random, out);
-            gave(opened.number, opened.length, opened.device)
-        }
+        Says::Opens(random) => open_legal(d, random, out),
         Says::Receives => {
-            let received = on_legal::receive(d, bytes, out);
+            let received = on_legal::receive(d, PLACE, bytes, out);
             gave(received.number, received.length, received.device)
         }
         Says::Passes(seconds) => {
@@ -59,7 +76,7 @@ fn call_legal(d: Device, says: Says, bytes: &[u8], out: &mut [u8]) -> Called
             gave(passed.number, 0, passed.device)
         }
         Says::Closes => {
-            let closed = on_legal::close(d);
+            let closed = on_legal::close(d, PLACE);
             gave(closed.number, 0, closed.device)
         }
         Says::NoSuch => gave(0, 0, d),
@@ -93,6 +110,18 @@ fn last_place(at: usize, replied: usize) -> usize
     at + (replied - 1)
 }
 
+fn seconds_of(says: Says) -> u32
+    ensures { λ r. ⌜ r ≡ secondsOf (eventOf says []) ⌝ }
+{
+    match says {
+        Says::Opens(_) => 0,
+        Says::Receives => 0,
+        Says::Passes(seconds) => seconds,
+        Says::Closes => 0,
+        Says::NoSuch => 0,
+    }
+}
+
 // A line's event, and its printed line from the start of the lent memory.
 pub fn print(
     legal: bool,
@@ -121,6 +150,7 @@ pub fn print(
     let device = called.device;
     Printed {
         length: end,
+        seconds: seconds_of(says),
         device,
     }
 }

@@ -2,5 +2,6 @@
 mod closing;
 pub mod event;
 pub mod gather;
+mod moving;
 mod playing;
 pub mod replay;

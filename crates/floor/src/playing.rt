@@ -3,6 +3,7 @@ use crate::event;
 use crate::event::Printed;
 use crate::gather;
 use crate::gather::Begun;
+use crate::moving;
 use crate::replay::Floor;
 use log::Says;
 use record::types::Device;
@@ -12,7 +13,7 @@ ghost use lib.ListN.{length};
 ghost use Rattle.stream.specs.Machine.{tookBytes};
 ghost use Rattle.floor.specs.Reading.{printRoom, keptOf, keptSaid, keptEvent, lineAfter, ended, lineTaken};
 ghost use Rattle.floor.specs.Reading.{playedIn};
-ghost use Rattle.floor.specs.Told.{PrintedAs};
+ghost use Rattle.floor.specs.Told.{PrintedAs, Drives};
 ghost use Rattle.floor.specs.Calls.{readingIn, readingWith, CanPlay, TakenAs};
 
 pub const PRINT_ROOM: usize = 157;
@@ -68,12 +69,19 @@ pub struct Taken {
     pub floor: Floor,
 }
 
+// What was taken of one line, and the seconds that it let pass.
+pub struct Played {
+    pub seconds: u32,
+    pub took: Taken,
+}
+
 // The same, with the state that it leaves.
-fn play_kept(legal: bool, f: Floor, k: Begun, line: &mut [u8], out: &mut [u8]) -> Taken
+fn play_kept(legal: bool, f: Floor, k: Begun, line: &mut [u8], out: &mut [u8]) -> Played
     requires { ⌜ CanPlay legal (f .device) (k .held) (f .number) 1 (length (now line)) printRoom
         (length (now out)) ⌝ }
     ensures { λ r. ⌜ TakenAs (tookBytes 0 (ended (readingWith f k (now (line .entry))))) (now (out .entry))
-        r (now (line .exit)) (now (out .exit)) ⌝ }
+        (r .took) (now (line .exit)) (now (out .exit)) ⌝ }
+    ensures { λ r. ⌜ Drives legal (r .seconds) (f .device) (r .took .floor .device) ⌝ }
 {
     let device = f.device;
     let printed = end_line(legal, device, f.number + 1, k, line, out);
@@ -84,19 +92,24 @@ fn play_kept(legal: bool, f: Floor, k: Begun, line: &mut [u8], out: &mut [u8]) -
         number: f.number + 1,
         begun: nothing,
     };
-    Taken {
+    let took = Taken {
         taken: 0,
         length: printed.length,
         floor,
+    };
+    Played {
+        seconds: printed.seconds,
+        took,
     }
 }
 
 // The bytes up to and including the first LF, or all.
-fn take_line(legal: bool, f: Floor, line: &mut [u8], bytes: &[u8], out: &mut [u8]) -> Taken
+fn take_line(legal: bool, f: Floor, line: &mut [u8], bytes: &[u8], out: &mut [u8]) -> Played
     requires { ⌜ CanPlay legal (f .device) (f .begun .held) (f .number) 1 (length (now line)) printRoom
         (length (now out)) ⌝ }
     ensures { λ r. ⌜ TakenAs (lineTaken (readingIn f (now (line .entry))) (now (bytes .entry))) (now (out .entry))
-        r (now (line .exit)) (now (out .exit)) ⌝ }
+        (r .took) (now (line .exit)) (now (out .exit)) ⌝ }
+    ensures { λ r. ⌜ Drives legal (r .seconds) (f .device) (r .took .floor .device) ⌝ }
 {
     let kept = f.begun;
     let gathered = gather::gather(kept, line, bytes);
@@ -105,36 +118,23 @@ fn take_line(legal: bool, f: Floor, line: &mut [u8], bytes: &[u8], out: &mut [u8
     if !gathered.ended {
         let mut floor = f;
         floor.begun = begun;
-        return Taken {
+        let took = Taken {
             taken: before,
             length: 0,
             floor,
         };
+        return Played { seconds: 0, took };
     }
     let played = play_kept(legal, f, begun, line, out);
-    let floor = played.floor;
-    Taken {
+    let floor = played.took.floor;
+    let took = Taken {
         taken: before + 1,
-        length: played.length,
+        length: played.took.length,
         floor,
-    }
-}
-
-// `to`, where its settings are those of `from`: they stay where they are, and only the rest of the record is copied.
-fn moved(from: Floor, to: Floor) -> Floor
-    requires { ⌜ from .device .settings ≡ to .device .settings ⌝ }
-    ensures { λ r. ⌜ r ≡ to ⌝ }
-{
-    let own = to.device.own;
-    let connection = to.device.connection;
-    let begun = to.begun;
-    let mut device = from.device;
-    device.own = own;
-    device.connection = connection;
-    Floor {
-        device,
-        number: to.number,
-        begun,
+    };
+    Played {
+        seconds: played.seconds,
+        took,
     }
 }
 
@@ -150,9 +150,12 @@ pub fn play_on(legal: bool, f: Floor, line: &mut [u8], bytes: &[u8], out: &mut [
     let mut used = 0;
     while at < bytes.len() {
         let t = take_line(legal, floor, line, &bytes[at..], &mut out[used..]);
-        at += t.taken;
-        used += t.length;
-        floor = moved(floor, t.floor);
+        at += t.took.taken;
+        used += t.took.length;
+        if legal & (1 <= t.seconds) {
+            floor = moving::aged(floor, t.seconds);
+        }
+        floor = moving::moved(floor, t.took.floor);
         if out.len() - used < PRINT_ROOM {
             return Taken {
                 taken: at,

@@ -31,7 +31,7 @@ pub struct Stepped {
     pub floor: Floor,
 }
 
-// Before a log: 01's sample set-up, its connection closed.
+// Before a log: 01's sample set-up, every place closed.
 pub fn start() -> Floor
     ensures { λ r. ⌜ r ≡ floorOf (fresh []) ⌝ }
 {

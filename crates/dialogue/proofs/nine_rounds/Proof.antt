@@ -7,10 +7,10 @@ use Rattle.dialogue.proofs.nine_rounds.Statement.{statement}
 use Rattle.dialogue.proofs.nine_rounds.Tie as tie
 
 abbrev Inv : tie.InvT-loop
-Inv d₀ round₀ d round = round ≤ 9
+Inv c₀ round₀ c round = round ≤ 9
 
 abbrev μ : tie.MeasureT-loop
-μ d₀ round₀ d round = 9 - round
+μ c₀ round₀ c round = 9 - round
 
 pub nine-rounds-spec : {M : Type 1} → statement M
 nine-rounds-spec =

@@ -10,15 +10,14 @@ use Rattle.text.specs.Words.{over}
 use Rattle.text.proofs.Carried.{carried}
 use Rattle.record.specs.declared.types.Device.{Device}
 use Rattle.record.specs.declared.types.Changed.{Changed}
-use Rattle.device.specs.declared.calls.Opened.{Opened}
 use Rattle.device.specs.declared.calls.Received.{Received}
 use Rattle.device.specs.Calls.{Result}
 use Rattle.floor.specs.declared.event.Called.{Called}
 use Rattle.log.specs.declared.Says.{Says}
 use Rattle.floor.specs.Events.{eventOf}
-use Rattle.floor.specs.Playing.{did}
+use Rattle.floor.specs.Playing.{logPlace, did}
 use Rattle.floor.specs.Told.{calledOf}
-use Rattle.device.proofs.EnoughRoom.{opened-room, received-room, closing-quiet}
+use Rattle.device.proofs.EnoughRoom.{received-room, closing-quiet}
 use Rattle.floor.proofs.event.call_legal.Statement.{statement}
 use Rattle.floor.proofs.event.call_legal.Tie as tie
 
@@ -30,9 +29,6 @@ module _ (start : tie.Start) where
   same : {says : Says} → start .args .says ≡ says → asked start (start .args .says) ≡ asked start says
   same e = ap (asked start) e
 
-abbrev byOpening : Opened → Called
-byOpening o = record { number = o .number; length = o .length; device = o .device }
-
 abbrev byReceiving : Received → Called
 byReceiving r = record { number = r .number; length = r .length; device = r .device }
 
@@ -42,14 +38,11 @@ byChange c = record { number = c .number; length = 0; device = c .device }
 opening : tie.Need-returns
 unfolding did
 opening c =
-    let called = c .before .before .before in
+    let called = c .before .before in
     let arm = called .before .before .before in
     let start = let shared = arm .before .before in shared .before .before in
-    let out = now (start .args .out) in
-    let given = arm .says .given in
-    carried calledOf (λ (r : Result Device). r .reply) out
-    (same start (given .1) ∙ opened-room (start .args .d) (length out) (start .pre .0) _)
-    (c .gave .ensures ∙ ap byOpening (called .«open» .ensures .0)) (called .«open» .ensures .1)
+    carried calledOf (λ (r : Result Device). r .reply) (now (start .args .out)) (same start (arm .says .given .1))
+    (called .open-legal .ensures .0) (called .open-legal .ensures .1)
 
 receiving : tie.Need-returns-2
 unfolding did
@@ -60,8 +53,8 @@ receiving c =
     let out = now (start .args .out) in
     carried calledOf (λ (r : Result Device). r .reply) out
     (same start (arm .enum-told .given .1)
-    ∙ received-room (start .args .d) (length out) (start .pre .0) (start .args .bytes .now))
-    (c .gave2 .ensures ∙ ap byReceiving (called .receive .ensures .0)) (called .receive .ensures .1)
+    ∙ received-room (start .args .d) (length out) (start .pre .0) logPlace (start .args .bytes .now))
+    (c .gave .ensures ∙ ap byReceiving (called .receive .ensures .0)) (called .receive .ensures .1)
 
 passing : tie.Need-returns-3
 unfolding did
@@ -70,7 +63,7 @@ passing c =
     let arm = called .before .before in
     let start = let shared = arm .before .before in shared .before .before in
     carried calledOf (λ (r : Result Device). r .reply) (now (start .args .out)) (same start (arm .says2 .given .1))
-    (c .gave3 .ensures ∙ ap byChange (called .pass .ensures)) refl
+    (c .gave2 .ensures ∙ ap byChange (called .pass .ensures)) refl
 
 closing : tie.Need-returns-4
 unfolding did
@@ -79,14 +72,14 @@ closing c =
     let arm = called .before in
     let start = let shared = arm .before .before in shared .before .before in
     let d = start .args .d in
-    let none = sym (closing-quiet d) in
+    let none = sym (closing-quiet d logPlace) in
     let told : _≡_ {A = Called} _ _ = λ i. record {
       number = called .close .ensures i .number;
       length = length (none i);
       device = called .close .ensures i .device;
     } in
     carried calledOf (λ (r : Result Device). r .reply) (now (start .args .out))
-    (same start (arm .enum-told2 .given .1)) (c .gave4 .ensures ∙ told)
+    (same start (arm .enum-told2 .given .1)) (c .gave3 .ensures ∙ told)
     (ap (λ (r : List ℕ). over r (now (start .args .out))) none)
 
 nothing : tie.Need-returns-5
@@ -95,12 +88,12 @@ nothing c =
     let arm = c .before in
     let start = let shared = arm .before .before in shared .before .before in
     carried calledOf (λ (r : Result Device). r .reply) (now (start .args .out))
-    (same start (arm .enum-told3 .given .1)) (c .gave5 .ensures) refl
+    (same start (arm .enum-told3 .given .1)) (c .gave4 .ensures) refl
 
-open-legal : tie.Need-open-requires
+open-legal : tie.Need-open-legal-requires
 open-legal c κs =
     let arm = c .before .before in
-    (let shared = arm .before .before in shared .before .before) .pre .1
+    (let shared = arm .before .before in shared .before .before) .pre
 
 receive-legal : tie.Need-receive-requires
 receive-legal c κs =
@@ -121,7 +114,6 @@ call-legal-spec =
     (tie.spec
     (λ c. search needs)
     open-legal
-    (λ c κs. search needs)
     (λ c. search needs)
     receive-legal
     (λ c κs. search needs)

@@ -134,15 +134,18 @@ end-fits c κs =
     (c .before .before .last-place .ensures)
 
 same : tie.Need-same-length
-same c = let put = c .before .before .before in put .put-ending .kept .0 ∙ replied (called (put .before)) .long
+same c =
+    let put = let known = c .before .before in known .before .before in
+    put .put-ending .kept .0 ∙ replied (called (put .before)) .long
 
 returns : tie.Need-returns
 returns c =
-    let put = c .before .before .before in
+    let put = let known = c .before .before in known .before .before in
     let formed = put .before in
     let k = called formed in
     line-printed _ _ _ _ _ (replied k) (k .call .ensures .0) (formed .is-formed .ensures)
     (formed .before .before .last-place .ensures) (put .put-ending .ensures .0) (put .put-ending .ensures .1)
+    (c .seconds-of .ensures)
 
 pub print-spec : {M : Type 1} → statement M
 print-spec =
@@ -159,5 +162,6 @@ print-spec =
     last-fits
     (λ c κs. search needs)
     end-fits
+    (λ c κs. search needs)
     same
     returns)

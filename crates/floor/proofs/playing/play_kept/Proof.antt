@@ -6,6 +6,7 @@ use native.Mathlib.Omega.{arith}
 use borrow.Author.Needs.{needs}
 use Rattle.floor.specs.declared.playing.Taken.{Taken}
 use Rattle.floor.specs.Reading.{nothingBegun, ended}
+use Rattle.floor.proofs.Driven.{printed-drives}
 use Rattle.floor.proofs.playing.play_kept.Statement.{statement}
 use Rattle.floor.proofs.playing.play_kept.Tie as tie
 
@@ -35,7 +36,7 @@ module _ (c : tie.After-end-line) where
 abbrev called : tie.After-struct-known2 → tie.After-end-line
 called c = let known = c .before .before .before in known .before .before .before
 
-number-again : tie.Need-add-t11
+number-again : tie.Need-add-t12
 number-again c = omega (arith, begun (called c) .pre .counted)
 
 plays : tie.Need-returns
@@ -52,7 +53,10 @@ plays c =
         begun = nothingBegun;
       };
     } in
-    record { returned = told; line = line .end-line .ensures .1; printed = printed .stored }
+    let can = begun line .pre in (
+      record { returned = told; line = line .end-line .ensures .1; printed = printed .stored },
+      printed-drives (begun line .args .f .device) _ _ (can .tested) (printed .returned),
+    )
 
 pub play-kept-spec : {M : Type 1} → statement M
 play-kept-spec =

@@ -1,14 +1,19 @@
 -- `floor::playing::play_on` meets its contract: line after line is played, and what was printed stands in memory.
 -- Assumes nothing.
 use Prim.Native.Nat.{ℕ, _-_, _≤_, _+_}
-use mathlib.Core.Path.{_≡_, sym}
+use mathlib.Core.Path.{_≡_, sym, _∙_}
+use mathlib.Core.Logic.{⊎-elim}
 use mathlib.Core.List.{List}
 use native.Mathlib.Omega.{arith}
 use lib.ListN.{length}
 use denote.Ref.{now}
 use borrow.Author.Needs.{needs}
+use Rattle.text.proofs.Choices.{both-left}
+use Rattle.floor.specs.declared.playing.Played.{Played}
 use Rattle.floor.specs.Reading.{Reading, printRoom}
 use Rattle.floor.specs.Calls.{readingIn}
+use Rattle.floor.specs.Told.{Drives}
+use Rattle.floor.proofs.Driven.{aged-moves, unaged-moves}
 use Rattle.floor.proofs.PartsPut.{leftFrom}
 use Rattle.floor.proofs.LoopPlayed.{PlayedTo, Turn, none-played, memory-long, can-take, turn-told, all-played}
 use Rattle.floor.proofs.playing.play_on.Statement.{statement}
@@ -75,9 +80,9 @@ module _ (c : tie.After-take-line Inv μ) where
   part-left = c .take-line .last .1 .1 .1 .1 .0
 
   told : Turn (begun turn) (bytes turn) (lent turn) (reading turn) (turn .loop .at) (turn .loop .used)
-      (c .take-line .result) line-left (leftFrom (turn .loop .out) (turn .loop .used) part-left)
+      (c .take-line .result .took) line-left (leftFrom (turn .loop .out) (turn .loop .used) part-left)
   told =
-      turn-told (begun turn) (bytes turn) (lent turn) (played turn) (test .loop-test .taken) (c .take-line .ensures)
+      turn-told (begun turn) (bytes turn) (lent turn) (played turn) (test .loop-test .taken) (c .take-line .ensures .0)
       (c .take-line .kept .1 .1 .1 .1 .0)
 
 at-fits : tie.Need-add-at Inv μ
@@ -90,22 +95,46 @@ used-fits c =
     let called = let known = c .before .before .before in known .before .before .before in
     omega (arith, told called .fits, start (turn called) .good)
 
-same-settings : tie.Need-moved-requires Inv μ
-same-settings c κs =
-    let called = let known = c .before .before .before in known .before .before .before in
-    sym (told called .settings)
+-- past the line: the place before the test of its seconds
+module _ (c : tie.After-struct-known3 Inv μ) where
+  abbrev taken : tie.After-take-line Inv μ
+  taken = let known = c .before .before .before in let lines = known .before .before in lines .before .before
 
--- past the line: the place before the test
+  abbrev line : Played
+  line = taken .take-line .result
+
+  drives : Drives (start (turn taken) .args .legal) (line .seconds) (turn taken .loop .floor .device)
+      (line .took .floor .device)
+  drives = taken .take-line .ensures .1
+
+still-legal : tie.Need-aged-requires Inv μ
+still-legal c κs =
+    let t = turn (taken (c .before)) in
+    played t .legality ∙ sym (start t .pre .tested) ∙ both-left _ _ (c .if1 .taken)
+
+moves : tie.Need-moved-requires Inv μ
+moves c κs =
+    let called = taken (c .before) in
+    let t = turn called in
+    let to = called .take-line .result .took .floor .device in
+    ⊎-elim
+    (λ w. aged-moves (start t .args .legal) _ (t .loop .floor) to (drives (c .before)) (told called .settings)
+    (w .0 .taken) (w .2 ∙ w .1 .ensures))
+    (λ w. unaged-moves (start t .args .legal) _ (t .loop .floor) to (drives (c .before)) (told called .settings)
+    (w .0 .left) (w .1))
+    (c .if1 .came)
+
+-- past the line: the place before the test of the room
 abbrev before-test : tie.After-moved Inv μ → tie.After-take-line Inv μ
-before-test c = let known = c .before .before .before in let lines = known .before .before in lines .before .before
+before-test c = taken (c .before .before)
 
-room-left : tie.Need-sub-if1 Inv μ
+room-left : tie.Need-sub-if2 Inv μ
 room-left c = let called = before-test c in omega (arith, told called .fits, told called .long)
 
 no-room : tie.Need-returns Inv μ
 no-room c =
     let called = before-test (c .before) in
-    told called .stops (c .before .moved .ensures) (omega (arith, c .if1 .taken, told called .long))
+    told called .stops (c .before .moved .ensures) (omega (arith, c .if2 .taken, told called .long))
 
 falls : tie.Need-loop-less Inv μ
 falls c =
@@ -115,7 +144,7 @@ falls c =
 again : tie.Need-loop-again Inv μ
 again c =
     let called = before-test (c .before) in
-    told called .goes-on (c .before .moved .ensures) (omega (arith, c .if1 .left, told called .long))
+    told called .goes-on (c .before .moved .ensures) (omega (arith, c .if2 .left, told called .long))
 
 all-taken : tie.Need-returns-2 Inv μ
 all-taken c = let t = c .before in all-played (begun t) (bytes t) (lent t) (played t) (c .loop-test .left)
@@ -136,7 +165,8 @@ play-on-spec =
     line-lent
     at-fits
     used-fits
-    same-settings
+    still-legal
+    moves
     room-left
     (λ c. told (before-test (c .before)) .line-long)
     (λ c. told (before-test (c .before)) .long)

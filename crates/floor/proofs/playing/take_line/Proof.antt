@@ -21,6 +21,7 @@ use Rattle.floor.specs.Calls.{readingIn, readingWith, TakenAs}
 use Rattle.floor.proofs.Gathering.{line-in-memory}
 use Rattle.floor.proofs.LinesPlayed.{line-gathers}
 use Rattle.floor.proofs.Carrying.{carry}
+use Rattle.floor.proofs.Driven.{none-pass, itself-kept}
 use Rattle.floor.proofs.playing.take_line.Statement.{statement}
 use Rattle.floor.proofs.playing.take_line.Tie as tie
 
@@ -61,9 +62,12 @@ part c =
         begun = got .gather .ensures .0 i .begun;
       };
     } in
-    carry (out s) {t = tookBytes (upTo-lf got .before) (unanswered (whole got))}
-    (line-gathers (begun got) (bytes got) ∙ if-no _ _ none)
-    (record { returned = told; line = got .gather .ensures .1; printed = refl })
+    let d = s .args .f .device in (
+      carry (out s) {t = tookBytes (upTo-lf got .before) (unanswered (whole got))}
+          (line-gathers (begun got) (bytes got) ∙ if-no _ _ none)
+          (record { returned = told; line = got .gather .ensures .1; printed = refl }),
+      none-pass d (s .args .legal) d (itself-kept d),
+    )
 
 -- LF came
 module _ (c : tie.Else1) where
@@ -101,13 +105,13 @@ module _ (c : tie.After-play-kept) where
   abbrev out-left : List ℕ
   out-left = c .play-kept .last .1 .1 .1 .1 .0
 
-  played : TakenAs (tookBytes 0 (ended (whole gets))) (out (start gets)) (c .play-kept .result) line-left out-left
+  played : TakenAs (tookBytes 0 (ended (whole gets))) (out (start gets)) (c .play-kept .result .took) line-left out-left
   played =
       let f = start gets .args .f in
       let state : readingWith f (gets .gather .result .begun) (gets .gather .last .1 .0) ≡ whole gets = λ i.
       readingWith f (gets .gather .ensures .0 i .begun) (gets .gather .ensures .1 i) in
-      subst (λ (r : Reading). TakenAs (tookBytes 0 (ended r)) (out (start gets)) (c .play-kept .result) line-left
-      out-left) state (c .play-kept .ensures)
+      subst (λ (r : Reading). TakenAs (tookBytes 0 (ended r)) (out (start gets)) (c .play-kept .result .took) line-left
+      out-left) state (c .play-kept .ensures .0)
 
   counts : gets .gather .result .before + 1 ≡ upTo-lf gets .before + 1
   counts = ap (λ (g : Gathered). g .before + 1) (gets .gather .ensures .0)
@@ -115,7 +119,7 @@ module _ (c : tie.After-play-kept) where
 abbrev after-line : tie.After-floor → tie.After-play-kept
 after-line c = let known = c .before .before .before in known .before .before
 
-count-fits : tie.Need-add-t20
+count-fits : tie.Need-add-t22
 count-fits c =
     let p = after-line c in
     let got = gets p in
@@ -130,10 +134,12 @@ line-taken c =
       taken = counts p i;
       length = played p .returned i .length;
       floor = played p .returned i .floor;
-    } in
-    carry (out (start got)) {t = tookBytes (upTo-lf got .before + 1) (ended (whole got))}
-    (line-gathers (begun got) (bytes got) ∙ if-yes _ _ (ends (ended-line p)))
-    (record { returned = told; line = played p .line; printed = played p .printed })
+    } in (
+      carry (out (start got)) {t = tookBytes (upTo-lf got .before + 1) (ended (whole got))}
+          (line-gathers (begun got) (bytes got) ∙ if-yes _ _ (ends (ended-line p)))
+          (record { returned = told; line = played p .line; printed = played p .printed }),
+      p .play-kept .ensures .1,
+    )
 
 gather-lent : tie.Need-gather-requires
 gather-lent c κs =
