@@ -1,7 +1,8 @@
 /* A host: it keeps one projector, feeds it bytes in odd cuts as a network would, lets time pass, and asks as a
-   controller; service compares two tables of lamp seconds, the board is swapped, and a cutting day is planned and
-   checked. Every number that a call gives is tested before anything else of its result is used. What it must print, by
-   the rules of documents 01 and 02, is in host.stdout. */
+   controller; service compares two tables of lamp seconds, the board is swapped, four controllers are connected at
+   once, and a cutting day is planned and checked. Every number that a call gives is tested before anything else of its
+   result is used. What it must print, by the rules of documents 01 and 02, is in host.stdout: `0 < LINE` is a reply to
+   the controller at place 0. */
 #include <stdio.h>
 #include <stdlib.h>
 #include <string.h>
@@ -21,44 +22,44 @@ static void served(uint32_t number, const char *call) {
     exit(1);
 }
 
-/* Hands bytes on in cuts of 1, 2, 3, .. until all are taken, and prints each reply without its CR. Gives the length of
-   the last reply, 0 where the last call wrote none. */
-static size_t feed(const uint8_t *bytes, size_t len) {
+/* Hands bytes on at a place in cuts of 1, 2, 3, .. until all are taken, and prints each reply without its CR. Gives the
+   length of the last reply, 0 where the last call wrote none. */
+static size_t feed(size_t place, const uint8_t *bytes, size_t len) {
     size_t length = 0;
     for (size_t cut = 1; len > 0; cut++) {
-        pj_received r = pj_receive(device, bytes, cut < len ? cut : len, reply, sizeof reply);
+        pj_received r = pj_receive(device, place, bytes, cut < len ? cut : len, reply, sizeof reply);
         served(r.number, "pj_receive");
         device = r.device;
         bytes += r.taken;
         len -= r.taken;
         length = r.length;
-        if (length > 0) printf("< %.*s\n", (int)length - 1, (const char *)reply);
+        if (length > 0) printf("%zu < %.*s\n", place, (int)length - 1, (const char *)reply);
     }
     return length;
 }
 
 /* A controller's command, and what it reads of the reply. */
-static pj_reading ask(uint8_t code, uint8_t first) {
+static pj_reading ask(size_t place, uint8_t code, uint8_t first) {
     uint8_t line[PJ_COMMAND_ROOM];
     pj_command command = {code, first, 0};
     pj_written w = pj_write(command, false, 0, TEXT(""), line, sizeof line);
     served(w.number, "pj_write");
-    pj_reading r = pj_read_reply(command, reply, feed(line, w.length));
+    pj_reading r = pj_read_reply(command, reply, feed(place, line, w.length));
     served(r.number, "pj_read_reply");
     return r;
 }
 
 /* The command was carried out. */
-static void set(uint8_t code, uint8_t first) {
-    if (ask(code, first).kind == PJ_READ_OK) return;
+static void set(size_t place, uint8_t code, uint8_t first) {
+    if (ask(place, code, first).kind == PJ_READ_OK) return;
     printf("not OK\n");
     exit(1);
 }
 
 static void pass(uint32_t seconds) { served(pj_pass_in_place(&device, seconds), "pj_pass_in_place"); }
 
-static void print_lamps(void) {
-    pj_reading told = ask(PJ_LAMP, 0);
+static void print_lamps(size_t place) {
+    pj_reading told = ask(place, PJ_LAMP, 0);
     for (size_t i = 0; i < told.count; i++) printf("lamp %zu: %u h, lit %d\n", i, (unsigned)told.hours[i], told.lit[i]);
 }
 
@@ -86,28 +87,29 @@ static void one_projector(void) {
     pj_opened opened = pj_open(device, 0x498e4a67, reply, sizeof reply);
     served(opened.number, "pj_open");
     device = opened.device;
+    size_t place = opened.place; /* what the host names in every later call for this controller */
     pj_greeting greeting = pj_read_greeting(reply, opened.length);
     served(greeting.number, "pj_read_greeting");
-    printf("greeting: kind %d, random %08x\n", greeting.kind, (unsigned)greeting.random);
+    printf("greeting at place %zu: kind %d, random %08x\n", place, greeting.kind, (unsigned)greeting.random);
 
     /* the digest that the specification prints for this random number and password, then three lines at once */
-    feed(TEXT("5d8409bc1c3fa39749434aa3a5c38682%1POWR 1\r%1powr ?\r%1NAME ?\r"));
+    feed(place, TEXT("5d8409bc1c3fa39749434aa3a5c38682%1POWR 1\r%1powr ?\r%1NAME ?\r"));
     pass(19);
-    printf("after 19 s: warm-up %d\n", ask(PJ_POWR_ASK, 0).first == PJ_POWER_WARM_UP);
+    printf("after 19 s: warm-up %d\n", ask(place, PJ_POWR_ASK, 0).first == PJ_POWER_WARM_UP);
     pass(1);
-    printf("after 20 s: on %d\n", ask(PJ_POWR_ASK, 0).first == PJ_POWER_ON);
+    printf("after 20 s: on %d\n", ask(place, PJ_POWR_ASK, 0).first == PJ_POWER_ON);
     pass(2380);
 
     /* the other eight of nine sessions of forty minutes: six hours in all */
     for (int session = 1; session < 9; session++) {
-        set(PJ_POWR_SET, 0);
+        set(place, PJ_POWR_SET, 0);
         pass(60);
-        set(PJ_POWR_SET, 1);
+        set(place, PJ_POWR_SET, 1);
         pj_changed passed = pj_pass(device, 2400); /* the same by value */
         served(passed.number, "pj_pass");
         device = passed.device;
     }
-    print_lamps();
+    print_lamps(place);
 
     /* the reply of a hired projector that pads a lamp's hours with zeros */
     pj_command lamp = {PJ_LAMP, 0, 0};
@@ -125,12 +127,12 @@ static void one_projector(void) {
     printf("gained: %lld s, %lld s, backwards at %zu\n", (long long)gained[0], (long long)gained[1], c.place);
 
     /* a refusal: the number alone says something, and the record and the reply memory are as they were */
-    pj_opened again = pj_open(device, 0, reply, sizeof reply);
-    printf("open again: refused %d\n", again.number == PJ_CONNECTED);
-    pj_changed closed = pj_close(device);
+    pj_changed closed = pj_close(device, place + 1);
+    printf("close where nobody is: refused %d\n", closed.number == PJ_NOT_CONNECTED);
+    closed = pj_close(device, place);
     served(closed.number, "pj_close");
     device = closed.device;
-    printf("close: phase %d\n", device.connection.phase);
+    printf("close: phase %d\n", device.connections[place].phase);
 }
 
 /* The board is swapped: what the old one stores, the new one loads, and the lamps' seconds go on from there. */
@@ -153,9 +155,62 @@ static void board_swap(void) {
     pj_opened opened = pj_open(device, 0x498e4a67, reply, sizeof reply);
     served(opened.number, "pj_open");
     device = opened.device;
-    feed(TEXT("5d8409bc1c3fa39749434aa3a5c38682%1POWR 1\r"));
+    feed(opened.place, TEXT("5d8409bc1c3fa39749434aa3a5c38682%1POWR 1\r"));
     pass(1800);
-    print_lamps();
+    print_lamps(opened.place);
+}
+
+/* Who is connected at each place, NULL where nobody is: a host with a network keeps a socket here. */
+static const char *peers[PJ_PLACES];
+
+/* A controller connects. Where there is no place for it, the host closes the socket that it has just accepted. */
+static void comes(const char *who) {
+    pj_opened opened = pj_open(device, 0x498e4a67, reply, sizeof reply);
+    if (opened.number == PJ_NO_PLACE) {
+        printf("%s: no place\n", who);
+        return;
+    }
+    served(opened.number, "pj_open");
+    device = opened.device;
+    peers[opened.place] = who;
+    printf("%s: place %zu\n", who, opened.place);
+}
+
+/* Time passes, and the host closes the sockets of the places that it closed. */
+static void wait_for(uint32_t seconds) {
+    pass(seconds);
+    for (size_t place = 0; place < PJ_PLACES; place++) {
+        if (peers[place] == NULL || device.connections[place].phase != PJ_PHASE_CLOSED) continue;
+        printf("%s at place %zu: timed out\n", peers[place], place);
+        peers[place] = NULL;
+    }
+}
+
+/* The panel is at place 0 since the board was swapped; the projector is on, and its first input is shown. */
+static void four_controllers(void) {
+    peers[0] = "panel";
+    comes("tablet");
+    comes("phone");
+    comes("spare");
+    comes("one more");
+
+    /* half a line from the tablet, a whole one from the panel, the other half: neither sees the other's bytes */
+    feed(1, TEXT("5d8409bc1c3fa39749434aa3a5c38682%1INPT 3"));
+    feed(0, TEXT("%1INPT ?\r"));
+    feed(1, TEXT("2\r"));
+    feed(0, TEXT("%1INPT ?\r"));
+
+    /* the phone has no password: it is refused, and nothing else is changed by it */
+    wait_for(10);
+    feed(2, TEXT("%1POWR 0\r"));
+    printf("on still: %d\n", ask(0, PJ_POWR_ASK, 0).first == PJ_POWER_ON);
+
+    /* the spare never sends its digest, and the phone has failed: each is out 30 seconds after that began */
+    wait_for(20);
+    comes("second tablet");
+    wait_for(10);
+    comes("second phone");
+    printf("at the places: %s, %s, %s, %s\n", peers[0], peers[1], peers[2], peers[3]);
 }
 
 static void one_day(void) {
@@ -188,6 +243,7 @@ static void one_day(void) {
 int main(void) {
     one_projector();
     board_swap();
+    four_controllers();
     one_day();
     return 0;
 }

@@ -13,6 +13,7 @@
 #define LIST(a) (a), sizeof(a) / sizeof *(a)
 
 static pj_device devices[2];
+static size_t places[2];            /* the panel's place at each */
 static pj_panel panel;
 static uint8_t line[PJ_REPLY_ROOM]; /* the last line that a projector wrote */
 
@@ -66,6 +67,7 @@ static void connect_to(size_t projector) {
     pj_opened o = pj_open(devices[projector], 0x498e4a67, line, sizeof line);
     served(o.number, "pj_open");
     devices[projector] = o.device;
+    places[projector] = o.place;
     comes(projector, line, o.length);
 }
 
@@ -77,7 +79,7 @@ static size_t go(size_t projector, uint8_t code, uint8_t first, uint8_t second) 
     served(s.number, "pj_panel_command");
     panel = s.panel;
     printf("%zu > %.*s\n", projector, (int)s.length - 1, (const char *)sent);
-    pj_received r = pj_receive(devices[projector], sent, s.length, line, sizeof line);
+    pj_received r = pj_receive(devices[projector], places[projector], sent, s.length, line, sizeof line);
     served(r.number, "pj_receive");
     devices[projector] = r.device;
     return r.length;

@@ -7,9 +7,10 @@
    free one. The password is that of the environment, PJLINK_PASSWORD, of eight characters or more; none, or an empty
    one, is no security.
 
-   One controller is answered at a time. The next one waits, unanswered, until the one before has gone: what that one
-   sent is read to its end first. So whoever hangs up and connects again at once is greeted. As the record never times
-   an open connection out, the host ends one that got no reply for IDLE seconds, or it would be held for ever. */
+   Four controllers are answered at a time: the host keeps a socket for each of the record's places. Before it takes a
+   new one it reads what the others have sent, to see who has gone; so whoever hangs up and connects again at once is
+   greeted. A fifth is hung up on at once. As the record never times an open connection out, the host ends one that got
+   no reply for IDLE seconds, or its place would be held for ever. */
 #define _DEFAULT_SOURCE
 #include <errno.h>
 #include <fcntl.h>
@@ -28,9 +29,11 @@
 #define TEXT(s) (const uint8_t *)(s), strlen(s)
 
 static pj_device device;
-static int peer = -1;     /* the controller's socket; -1: none, and the record's connection is closed */
-static uint64_t passed;   /* the clock's milliseconds that the record knows of: whole seconds from the start */
-static uint64_t answered; /* the clock's milliseconds at the last greeting or reply */
+static uint64_t passed; /* the clock's milliseconds that the record knows of: whole seconds from the start */
+static struct {
+    int socket;         /* the controller's at this place; -1: none, and the record's connection there is closed */
+    uint64_t answered;  /* the clock's milliseconds at the last greeting or reply */
+} peers[PJ_PLACES];
 
 static void die(const char *what) {
     perror(what);
@@ -50,15 +53,15 @@ static uint64_t milliseconds(void) {
     return (uint64_t)t.tv_sec * 1000 + (uint64_t)t.tv_nsec / 1000000;
 }
 
-/* Ends the connection on both sides: in the record, where time has not closed it already, and on the network. */
-static void hang_up(void) {
-    if (device.connection.phase != PJ_PHASE_CLOSED) {
-        pj_changed closed = pj_close(device);
+/* Ends a connection on both sides: in the record, where time has not closed it already, and on the network. */
+static void hang_up(size_t place) {
+    if (device.connections[place].phase != PJ_PHASE_CLOSED) {
+        pj_changed closed = pj_close(device, place);
         served(closed.number, "pj_close");
         device = closed.device;
     }
-    close(peer);
-    peer = -1;
+    close(peers[place].socket);
+    peers[place].socket = -1;
 }
 
 /* Whole seconds, as they pass; what is left of one counts next time. A real board saves device.own.lamps here from time
@@ -69,45 +72,63 @@ static void pass_time(void) {
     served(pj_pass_in_place(&device, (uint32_t)seconds), "pj_pass_in_place");
 }
 
-/* The socket follows the record: time closes an awaiting or failed connection, and an open one is ours to end. */
+/* The sockets follow the record: time closes an awaiting or failed connection, and an open one is ours to end. */
 static void keep_up(unsigned long idle) {
-    if (peer < 0) return;
-    if (device.connection.phase == PJ_PHASE_CLOSED || milliseconds() - answered >= idle * 1000) hang_up();
+    for (size_t place = 0; place < PJ_PLACES; place++) {
+        if (peers[place].socket < 0) continue;
+        bool closed = device.connections[place].phase == PJ_PHASE_CLOSED;
+        if (closed || milliseconds() - peers[place].answered >= idle * 1000) hang_up(place);
+    }
 }
 
 /* Sends all of a reply. Who does not read his replies until no more can be sent is hung up on. */
-static void answer(const uint8_t *reply, size_t length) {
-    answered = milliseconds();
-    if (send(peer, reply, length, MSG_NOSIGNAL | MSG_DONTWAIT) != (ssize_t)length) hang_up();
+static void answer(size_t place, const uint8_t *reply, size_t length) {
+    peers[place].answered = milliseconds();
+    ssize_t sent = send(peers[place].socket, reply, length, MSG_NOSIGNAL | MSG_DONTWAIT);
+    if (sent != (ssize_t)length) hang_up(place);
 }
 
+/* Takes a new controller to the lowest closed place. Where there is none, its socket is closed, and that is all. */
 static void greet(int listener) {
     uint8_t reply[PJ_REPLY_ROOM];
     uint32_t random;
-    peer = accept(listener, NULL, NULL);
+    int peer = accept(listener, NULL, NULL);
     if (peer < 0) return; /* it has gone again */
     if (getrandom(&random, sizeof random, 0) != (ssize_t)sizeof random) die("getrandom");
     pj_opened opened = pj_open(device, random, reply, sizeof reply);
-    served(opened.number, "pj_open");
-    device = opened.device;
-    answer(reply, opened.length);
-}
-
-/* What has come, in whatever cuts: handed on until all is taken. */
-static void serve(void) {
-    uint8_t bytes[4096], reply[PJ_REPLY_ROOM];
-    ssize_t got = recv(peer, bytes, sizeof bytes, MSG_DONTWAIT);
-    if (got < 0 && (errno == EAGAIN || errno == EWOULDBLOCK || errno == EINTR)) return;
-    if (got <= 0) {
-        hang_up();
+    if (opened.number == PJ_NO_PLACE) {
+        close(peer);
         return;
     }
-    for (size_t at = 0; peer >= 0 && at < (size_t)got;) {
-        pj_received r = pj_receive(device, bytes + at, (size_t)got - at, reply, sizeof reply);
+    served(opened.number, "pj_open");
+    device = opened.device;
+    peers[opened.place].socket = peer;
+    answer(opened.place, reply, opened.length);
+}
+
+/* What has come at a place, in whatever cuts: handed on until all is taken. Gives whether there may be more. */
+static bool serve(size_t place) {
+    uint8_t bytes[4096], reply[PJ_REPLY_ROOM];
+    ssize_t got = recv(peers[place].socket, bytes, sizeof bytes, MSG_DONTWAIT);
+    if (got < 0 && (errno == EAGAIN || errno == EWOULDBLOCK || errno == EINTR)) return false;
+    if (got <= 0) {
+        hang_up(place);
+        return false;
+    }
+    for (size_t at = 0; peers[place].socket >= 0 && at < (size_t)got;) {
+        pj_received r = pj_receive(device, place, bytes + at, (size_t)got - at, reply, sizeof reply);
         served(r.number, "pj_receive");
         device = r.device;
         at += r.taken;
-        if (r.length > 0) answer(reply, r.length);
+        if (r.length > 0) answer(place, reply, r.length);
+    }
+    return peers[place].socket >= 0;
+}
+
+/* Everybody is served, one after the other, and nobody for so long that the others wait. */
+static void serve_all(void) {
+    for (size_t place = 0; place < PJ_PLACES; place++) {
+        for (int turn = 0; turn < 64 && peers[place].socket >= 0 && serve(place);) turn++;
     }
 }
 
@@ -151,14 +172,17 @@ int main(int argc, char **argv) {
     device = made.device;
 
     int listener = listen_at(argc > 2 ? argv[2] : "127.0.0.1", argc > 1 ? argv[1] : "4352");
+    for (size_t place = 0; place < PJ_PLACES; place++) peers[place].socket = -1;
     for (passed = milliseconds();;) {
-        struct pollfd waiting = {peer < 0 ? listener : peer, POLLIN, 0};
-        int ready = poll(&waiting, 1, (int)(1000 - (milliseconds() - passed) % 1000));
+        struct pollfd waiting[PJ_PLACES + 1] = {{listener, POLLIN, 0}};
+        for (size_t place = 0; place < PJ_PLACES; place++) /* poll passes over a socket of -1 */
+            waiting[place + 1] = (struct pollfd){peers[place].socket, POLLIN, 0};
+        int ready = poll(waiting, PJ_PLACES + 1, (int)(1000 - (milliseconds() - passed) % 1000));
         if (ready < 0 && errno != EINTR) die("poll");
         pass_time();
         keep_up(idle);
         if (ready <= 0) continue;
-        if (peer < 0) greet(listener);
-        else serve();
+        serve_all();
+        if (waiting[0].revents != 0) greet(listener);
     }
 }

@@ -1,6 +1,6 @@
 /* How deep each call of libboard.a reaches into the stack: the stack below is painted, the call made, and the lowest
    byte that lost its paint is looked for. What a caller in C keeps for the call is in it: the record by value, the
-   result's room and a copy, about 2,100 bytes where a record goes both ways. */
+   result's room and a copy, about 4,000 bytes where a record goes both ways. */
 #include <stdio.h>
 #include <string.h>
 
@@ -53,13 +53,13 @@ CALL(call_which_setting, {
                             TEXT("11213141"), lamps, 8, 600, 600);
 })
 CALL(call_open, { device = pj_open(device, 0x498e4a67, out, sizeof out).device; })
-CALL(call_receive, { device = pj_receive(device, TEXT(line), out, sizeof out).device; })
+CALL(call_receive, { device = pj_receive(device, 0, TEXT(line), out, sizeof out).device; })
 CALL(call_pass, { device = pj_pass(device, 4294967295u).device; })
 CALL(call_pass_in_place, { sink = pj_pass_in_place(&device, 1); })
 CALL(call_set_fault, { device = pj_set_fault(device, true).device; })
 CALL(call_set_errors, { device = pj_set_errors(device, message, 6).device; })
 CALL(call_legal, { sink = pj_legal(device); })
-CALL(call_close, { device = pj_close(device).device; })
+CALL(call_close, { device = pj_close(device, 0).device; })
 CALL(call_md5, { sink = pj_md5(message, sizeof message).bytes[0]; })
 CALL(call_write, { sink = (uint32_t)pj_write(command, true, 7, TEXT("panel123"), out, sizeof out).length; })
 CALL(call_read_greeting, { sink = pj_read_greeting(TEXT("PJLINK 1 498e4a67\r")).random; })

@@ -1,6 +1,6 @@
 //! What is measured: each piece of work, done by the archive, by the second program and, for MD5, by plain C.
 
-use second::face::{Command, Device, Lent, Reading, linked};
+use second::face::{Command, Connection, Device, Lent, Reading, linked};
 use second::reference::{calls, service};
 use std::hint::black_box;
 
@@ -30,6 +30,10 @@ unsafe extern "C" {
 
 pub const LARGE: usize = 64 << 20;
 
+/// Where the controller is that is measured. Where a work's name says nothing else, nobody is at the other three places,
+/// so that it can be held against an archive from before there were four.
+const PLACE: usize = 0;
+
 pub fn all() -> Vec<Work> {
     let mut all = Vec::new();
     let mut add = |name, by_c, prepare: Box<dyn Fn() -> Run>| all.push(Work { name, by_c, bar: bar(name), prepare });
@@ -41,12 +45,17 @@ pub fn all() -> Vec<Work> {
     add("pj_receive, a line led by its digest", false, Box::new(|| receiving(opened(b"panel123"), &led_by_digest())));
     add("pj_receive, one byte", false, Box::new(|| receiving(opened(b""), b"%")));
     add("pj_receive, one byte, short texts", false, Box::new(|| receiving(short(), b"%")));
+    add("pj_receive, one byte, four lines full", false, Box::new(|| receiving(full(134), b"%")));
+    add("pj_receive, %1LAMP ?, others' lines full", false, Box::new(|| receiving(full(0), b"%1LAMP ?\r")));
     add("pj_receive, 4,096 bytes of lines, handed on", false, Box::new(|| handing_on(opened(b""))));
     add("pj_pass, n = 1", false, Box::new(|| passing(warming(), 1)));
     add("pj_pass, n = 1, short texts", false, Box::new(|| passing(short(), 1)));
+    add("pj_pass, n = 1, four lines full", false, Box::new(|| passing(full(135), 1)));
     add("pj_pass, n = 4,294,967,295", false, Box::new(|| passing(warming(), u32::MAX)));
     add("pj_pass_in_place, n = 1", false, Box::new(|| passing_in_place(warming(), 1)));
+    add("pj_pass_in_place, n = 1, four lines full", false, Box::new(|| passing_in_place(full(135), 1)));
     add("pj_legal", false, Box::new(|| legality(opened(b""))));
+    add("pj_legal, four lines full", false, Box::new(|| legality(full(135))));
     add("pj_legal, short texts", false, Box::new(|| legality(short())));
     add("pj_legal, a name of 21 Japanese characters", false, Box::new(|| legality(japanese())));
     add("pj_read_reply, longest LAMP", false, Box::new(|| reading(7, "LAMP", &["99999 1"; 8].join(" "))));
@@ -109,6 +118,25 @@ fn made(lent: Lent) -> Device {
     calls::open(&fresh.device, 0x498e_4a67, &mut [0; 136]).device
 }
 
+/// At its limits with every place taken: so many bytes held at the place that is measured, which is open, and at the
+/// others, which await their digest, as many as there may be.
+fn full(held: usize) -> Device {
+    let mut device = opened(b"");
+    let place = device.connections[PLACE];
+    for connection in &mut device.connections {
+        *connection = place;
+        connection.phase = 1;
+        connection.line.held = 167;
+        connection.line.bytes.fill(b'a');
+    }
+    let mut line = place.line;
+    line.held = held;
+    line.bytes[..held].fill(b'%');
+    device.connections[PLACE] = Connection { line, ..place };
+    assert!(calls::legal(&device));
+    device
+}
+
 /// Everything moves: warm-up with 600 seconds left, and an awaiting connection.
 fn warming() -> Device {
     let mut device = opened(b"panel123");
@@ -144,8 +172,8 @@ fn receiving(device: Device, bytes: &[u8]) -> Run {
         let (device, bytes) = (black_box(&device), black_box(&bytes));
         let mut out = [0; 136];
         let received = match by {
-            By::Board => linked::receive(*device, bytes, &mut out),
-            _ => calls::receive(device, bytes, &mut out),
+            By::Board => linked::receive(*device, PLACE, bytes, &mut out),
+            _ => calls::receive(device, PLACE, bytes, &mut out),
         };
         black_box((&received, &out));
     })
@@ -160,8 +188,8 @@ fn handing_on(device: Device) -> Run {
         while !rest.is_empty() {
             let mut out = [0; 136];
             let received = match by {
-                By::Board => linked::receive(device, rest, &mut out),
-                _ => calls::receive(&device, rest, &mut out),
+                By::Board => linked::receive(device, PLACE, rest, &mut out),
+                _ => calls::receive(&device, PLACE, rest, &mut out),
             };
             device = received.device;
             rest = &rest[received.taken..];

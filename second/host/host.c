@@ -54,7 +54,7 @@ static void put_slice(slice s) {
 }
 
 #define EACH_TEXT(DO, t) DO((t).len) DO((t).bytes)
-#define EACH_FIELD(DO, d)                                                                                              \
+#define EACH_SHARED(DO, d)                                                                                             \
     EACH_TEXT(DO, (d).settings.name)                                                                                   \
     EACH_TEXT(DO, (d).settings.maker)                                                                                  \
     EACH_TEXT(DO, (d).settings.model)                                                                                  \
@@ -64,21 +64,27 @@ static void put_slice(slice s) {
     DO((d).settings.warm) DO((d).settings.cool)                                                                        \
     DO((d).own.power) DO((d).own.left) DO((d).own.chosen)                                                              \
     DO((d).own.video_muted) DO((d).own.audio_muted) DO((d).own.fault)                                                  \
-    DO((d).own.errors) DO((d).own.lamps)                                                                               \
-    DO((d).connection.phase) DO((d).connection.age) DO((d).connection.random)                                          \
-    DO((d).connection.line.overlong) DO((d).connection.line.held) DO((d).connection.line.bytes)
+    DO((d).own.errors) DO((d).own.lamps)
+#define EACH_OF_CONNECTION(DO, c)                                                                                      \
+    DO((c).phase) DO((c).age) DO((c).random) DO((c).line.overlong) DO((c).line.held) DO((c).line.bytes)
 
 #define GET_ONE(field) GET(field);
 #define PUT_ONE(field) PUT(field);
 
 static pj_device get_device(void) {
     pj_device d;
-    EACH_FIELD(GET_ONE, d)
+    EACH_SHARED(GET_ONE, d)
+    for (size_t i = 0; i < PJ_PLACES; i++) {
+        EACH_OF_CONNECTION(GET_ONE, d.connections[i])
+    }
     return d;
 }
 
 static void put_device(pj_device d) {
-    EACH_FIELD(PUT_ONE, d)
+    EACH_SHARED(PUT_ONE, d)
+    for (size_t i = 0; i < PJ_PLACES; i++) {
+        EACH_OF_CONNECTION(PUT_ONE, d.connections[i])
+    }
 }
 
 static void put_changed(pj_changed c) {
@@ -149,13 +155,22 @@ static void open_connection(pj_device d) {
     pj_opened o = pj_open(d, random, out.at, out.n);
     PUT(o.number);
     PUT(o.length);
+    PUT(o.place);
     put_device(o.device);
     put_slice(out);
 }
 
+static void close_connection(pj_device d) {
+    size_t place;
+    GET(place);
+    put_changed(pj_close(d, place));
+}
+
 static void receive(pj_device d) {
+    size_t place;
+    GET(place);
     slice bytes = get_slice(), out = get_slice();
-    pj_received r = pj_receive(d, bytes.at, bytes.n, out.at, out.n);
+    pj_received r = pj_receive(d, place, bytes.at, bytes.n, out.at, out.n);
     PUT(r.number);
     PUT(r.taken);
     PUT(r.length);
@@ -321,7 +336,7 @@ static void make_call(void) {
     switch (which) {
     case 0: set_up(false); break;
     case 1: open_connection(d); break;
-    case 2: put_changed(pj_close(d)); break;
+    case 2: close_connection(d); break;
     case 3: receive(d); break;
     case 4: pass(d, false); break;
     case 5: pass(d, true); break;

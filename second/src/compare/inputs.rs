@@ -31,8 +31,7 @@ fn told(inputs: &[u8]) -> Act {
 }
 
 fn in_a_record(random: &mut Random, inputs: &[u8]) -> Vec<(Device, Act)> {
-    let mut device = records::between_lines(random);
-    device.connection.phase = 2;
+    let (mut device, place) = records::open_between_lines(random);
     device.own.power = 1;
     device.own.left = 0;
     device.own.fault = false;
@@ -41,13 +40,13 @@ fn in_a_record(random: &mut Random, inputs: &[u8]) -> Vec<(Device, Act)> {
     device.settings.inputs = [0; 64];
     device.settings.inputs[..inputs.len()].copy_from_slice(inputs);
     let mut asked = |device: Device, line: &[u8]| {
-        let act = Act::Receive { bytes: [line, b"\r"].concat(), lent: random.memory(136) };
+        let act = Act::Receive { place, bytes: [line, b"\r"].concat(), lent: random.memory(136) };
         (device, act)
     };
     let mut all = vec![asked(device, b"%1INST ?"), asked(device, b"%1INPT 59")];
-    for (place, input) in inputs.chunks_exact(2).enumerate() {
+    for (listed, input) in inputs.chunks_exact(2).enumerate() {
         all.push(asked(device, &[b"%1INPT ", input].concat()));
-        device.own.chosen = place;
+        device.own.chosen = listed;
         all.push(asked(device, b"%1INPT ?"));
     }
     device.own.chosen = inputs.len() / 2;
@@ -83,12 +82,12 @@ mod tests {
     fn the_longest_reply_is_103() {
         let fresh = calls::set_up(&Lent { password: Vec::new(), ..with(32) }).device;
         let opened = calls::open(&fresh, 0, &mut [0; 136]).device;
-        assert_eq!(calls::receive(&opened, b"%1INST ?\r", &mut [0; 136]).length, 7 + 95 + 1);
+        assert_eq!(calls::receive(&opened, 0, b"%1INST ?\r", &mut [0; 136]).length, 7 + 95 + 1);
         let mut random = Random::new(1);
         for _ in 0..50_000 {
-            let device = records::between_lines(&mut random);
-            let line = lines::line(&mut random, &device);
-            assert!(calls::receive(&device, &line, &mut [0; 136]).length <= 103);
+            let (device, place) = records::between_lines(&mut random);
+            let line = lines::line(&mut random, &device, place);
+            assert!(calls::receive(&device, place, &line, &mut [0; 136]).length <= 103);
         }
     }
 

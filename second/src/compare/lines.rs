@@ -1,15 +1,15 @@
 //! What arrives on a connection: lines well-formed and damaged, led by digests right and wrong.
 
 use super::random::Random;
-use crate::face::Device;
+use crate::face::{Device, PLACES};
 use crate::reference::commands::BODIES;
 use crate::reference::connection::leading_digest;
 
-/// A line for this device's connection, with its CR more often than not.
-pub fn line(random: &mut Random, device: &Device) -> Vec<u8> {
+/// A line for this device's connection at a place, with its CR more often than not.
+pub fn line(random: &mut Random, device: &Device, place: usize) -> Vec<u8> {
     let mut line = Vec::new();
-    if device.connection.phase == 1 || random.one_in(30) {
-        line = digest(random, device);
+    if device.connections[place].phase == 1 || random.one_in(30) {
+        line = digest(random, device, place);
     }
     line.extend(command_line(random, device));
     if random.one_in(20) {
@@ -22,10 +22,10 @@ pub fn line(random: &mut Random, device: &Device) -> Vec<u8> {
 }
 
 /// Lines one after another, and what they may be mixed with.
-pub fn stream(random: &mut Random, device: &Device) -> Vec<u8> {
+pub fn stream(random: &mut Random, device: &Device, place: usize) -> Vec<u8> {
     let mut bytes = Vec::new();
     for _ in 0..random.from_to(1, 6) {
-        bytes.extend(line(random, device));
+        bytes.extend(line(random, device, place));
         if random.one_in(8) {
             bytes.extend(random.pick(&[&b"\r"[..], b"\n", b"\r\r", b"\r\n", b"%1"]));
         }
@@ -33,10 +33,11 @@ pub fn stream(random: &mut Random, device: &Device) -> Vec<u8> {
     bytes
 }
 
-/// Right, wrong by one character, in upper case, cut, too long, none.
-fn digest(random: &mut Random, device: &Device) -> Vec<u8> {
+/// Right, wrong by one character, in upper case, cut, too long, none; or another place's.
+fn digest(random: &mut Random, device: &Device, place: usize) -> Vec<u8> {
     let password = &device.settings.password;
-    let right = leading_digest(device.connection.random, &password.bytes[..password.len.min(64)]);
+    let place = if random.one_in(8) { random.below(PLACES) } else { place };
+    let right = leading_digest(device.connections[place].random, &password.bytes[..password.len.min(64)]);
     let mut digest = right.to_vec();
     let place = random.below(32);
     match random.below(12) {

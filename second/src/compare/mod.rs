@@ -1,8 +1,10 @@
 //! The comparison: the same calls on the same inputs in both programs, every number, count, record field and lent byte.
 
+pub mod controllers;
 pub mod days;
 pub mod every_form;
 pub mod every_panel;
+pub mod every_place;
 pub mod forms;
 pub mod histories;
 pub mod inputs;
@@ -23,7 +25,7 @@ pub mod shrink;
 pub mod tables;
 pub mod tally;
 
-use crate::face::{Act, Answer, Device, Lent, PanelCall, Side};
+use crate::face::{Act, Answer, Device, Lent, PLACES, PanelCall, Side};
 use crate::reference::side::Second;
 use random::Random;
 use report::Difference;
@@ -33,7 +35,7 @@ use tally::Tally;
 type Compared = Result<(), Box<Difference>>;
 
 /// A run has at least so many comparisons.
-pub const ENOUGH: usize = 400_000;
+pub const ENOUGH: usize = 500_000;
 
 /// So many rounds come before what leaves nothing to chance, so that most differences are found early.
 const FIRST_ROUNDS: usize = 8;
@@ -79,6 +81,7 @@ impl<'a, B: Side> Run<'a, B> {
         self.every_password()?;
         self.every_input()?;
         self.every_panel()?;
+        self.every_place()?;
         while self.agreed < ENOUGH {
             self.round()?;
         }
@@ -108,9 +111,11 @@ impl<'a, B: Side> Run<'a, B> {
             let mut device = records::legal(&mut self.random);
             device.own.power = code;
             self.compare_call(device, Act::Legal)?;
-            let mut device = records::legal(&mut self.random);
-            device.connection.phase = code;
-            self.compare_call(device, Act::Legal)?;
+            for place in 0..PLACES {
+                let mut device = records::legal(&mut self.random);
+                device.connections[place].phase = code;
+                self.compare_call(device, Act::Legal)?;
+            }
             for place in 0..6 {
                 let mut device = records::legal(&mut self.random);
                 device.own.errors[place] = code;
@@ -135,10 +140,9 @@ impl<'a, B: Side> Run<'a, B> {
                 let mut line = b"%1".to_vec();
                 line.extend((0..4).map(|i| if cases >> i & 1 == 1 { name[i].to_ascii_lowercase() } else { name[i] }));
                 line.extend(b" ?\r");
-                let mut device = records::between_lines(&mut self.random);
-                device.connection.phase = 2;
+                let (device, place) = records::open_between_lines(&mut self.random);
                 let lent = self.random.memory(136);
-                self.compare_call(device, Act::Receive { bytes: line, lent })?;
+                self.compare_call(device, Act::Receive { place, bytes: line, lent })?;
             }
         }
         Ok(())
@@ -180,6 +184,10 @@ impl<'a, B: Side> Run<'a, B> {
         every_panel::calls(&mut self.random).into_iter().try_for_each(|act| self.compare_call(Device::BLANK, act))
     }
 
+    fn every_place(&mut self) -> Compared {
+        every_place::cases(&mut self.random).into_iter().try_for_each(|case| self.compare(case))
+    }
+
     /// A panel at work; then calls on panels in every state, legal and damaged.
     fn panels(&mut self) -> Compared {
         for act in panels::history(&mut self.random) {
@@ -210,19 +218,20 @@ impl<'a, B: Side> Run<'a, B> {
         self.compare_call(Device::BLANK, Act::SetUp(lent.clone()))?;
         self.compare_call(Device::BLANK, Act::Load { bytes: forms::of(&lent) })?;
         self.compare_call(Device::BLANK, Act::WhichSetting(lent))?;
-        let mut device = records::between_lines(&mut self.random);
-        device.connection.phase = 2;
+        let (mut device, place) = records::open_between_lines(&mut self.random);
         records::rename(&mut device, &name);
         self.compare_call(device, Act::Legal)?;
-        let asked = Act::Receive { bytes: b"%1NAME ?\r".to_vec(), lent: self.random.memory(136) };
+        let asked = Act::Receive { place, bytes: b"%1NAME ?\r".to_vec(), lent: self.random.memory(136) };
         self.compare_call(device, asked)?;
         self.compare_call(Device::BLANK, replies::named(&name))
     }
 
     /// A little of everything, so that a difference of any kind is found early.
     fn round(&mut self) -> Compared {
-        let history = histories::history(&mut self.random);
-        self.compare(history)?;
+        for history in [histories::history, controllers::history] {
+            let case = history(&mut self.random);
+            self.compare(case)?;
+        }
         for field in 0..records::FIELDS {
             let mut device = records::legal(&mut self.random);
             records::damage(&mut self.random, &mut device, field);
@@ -257,15 +266,17 @@ impl<'a, B: Side> Run<'a, B> {
             self.compare_call(Device::BLANK, act)?;
         }
         for _ in 0..24 {
-            let device = records::between_lines(&mut self.random);
-            let bytes = lines::line(&mut self.random, &device);
+            let (device, place) = records::between_lines(&mut self.random);
+            let bytes = lines::line(&mut self.random, &device, place);
             let lent = self.random.memory(136);
-            self.compare_call(device, Act::Receive { bytes, lent })?;
+            self.compare_call(device, Act::Receive { place, bytes, lent })?;
             let act = replies::read_reply(&mut self.random);
             self.compare_call(Device::BLANK, act)?;
         }
         for _ in 0..4 {
             self.stream()?;
+            let (device, act) = controllers::interleaved(&mut self.random);
+            self.compare_call(device, act)?;
             let name = names::any(&mut self.random);
             self.name(name)?;
         }
@@ -276,14 +287,15 @@ impl<'a, B: Side> Run<'a, B> {
     fn stream(&mut self) -> Compared {
         let random = &mut self.random;
         let device = records::legal(random);
-        let bytes = lines::stream(random, &device);
+        let place = random.below(PLACES);
+        let bytes = lines::stream(random, &device, place);
         let pieces = random.pick(&[1, 2, 5, 20]);
         let mut cuts: Vec<usize> = (0..pieces).map(|_| random.below(bytes.len() + 1)).collect();
         if random.one_in(8) {
             cuts = (0..bytes.len()).collect();
         }
         cuts.sort_unstable();
-        self.compare_call(device, Act::HandOn { bytes, cuts })
+        self.compare_call(device, Act::HandOn { place, bytes, cuts })
     }
 }
 

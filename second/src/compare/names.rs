@@ -256,7 +256,7 @@ mod tests {
                 assert_eq!((reading.count, &reading.text[..name.len()]), (name.len(), &name[..]));
                 let opened = calls::open(&set_up.device, 0, &mut [0; 136]).device;
                 let mut memory = [0; 136];
-                let received = calls::receive(&opened, b"%1NAME ?\r", &mut memory);
+                let received = calls::receive(&opened, 0, b"%1NAME ?\r", &mut memory);
                 assert_eq!(calls::read_reply(ASKS_NAME, &memory[..received.length]), reading);
             } else {
                 assert_eq!(set_up.device, Device::BLANK);

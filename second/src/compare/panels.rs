@@ -27,7 +27,7 @@ fn followed(random: &mut Random) -> Vec<PanelCall> {
     let mut panel = Panel::NONE;
     let mut far = Vec::new();
     for _ in 0..random.pick(&[1, 1, 2, 2, 3, 8]) {
-        let device = Device { connection: Device::BLANK.connection, ..records::legal(random) };
+        let device = Device { connections: Device::BLANK.connections, ..records::legal(random) };
         let password = password_for(random, &device);
         far.push(Far { device, on_its_way: Vec::new() });
         after(&mut calls, &mut panel, PanelAct::Add { password });
@@ -75,14 +75,14 @@ impl Far {
             self.call(&Act::Pass { seconds });
         }
         if !line.is_empty() {
-            let act = Act::Receive { bytes: line.to_vec(), lent: vec![0; 136] };
+            let act = Act::Receive { place: 0, bytes: line.to_vec(), lent: vec![0; 136] };
             self.on_its_way = self.call(&act);
         }
     }
 
     /// A new connection, and its greeting.
     fn greeting(&mut self, random: &mut Random) -> Vec<u8> {
-        self.call(&Act::Close);
+        self.call(&Act::Close { place: 0 });
         self.call(&Act::Open { random: histories::any_random(random), lent: vec![0; 136] })
     }
 

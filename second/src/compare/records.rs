@@ -2,7 +2,7 @@
 
 use super::random::Random;
 use super::{lines, names, setups};
-use crate::face::{Device, Text};
+use crate::face::{Connection, Device, PLACES, Text};
 use crate::reference::calls;
 use crate::reference::rules::unmistaken;
 
@@ -22,17 +22,34 @@ pub fn legal(random: &mut Random) -> Device {
     own.audio_muted = random.one_in(2);
     own.fault = random.one_in(8);
     own.errors = std::array::from_fn(|_| random.below(3) as u8);
-    connect(random, &mut device);
+    let alone = random.below(PLACES);
+    let temper = random.below(4);
+    for place in 0..PLACES {
+        match temper {
+            0 if place != alone => (),
+            1 => connect_as(random, &mut device, place, &[1, 2, 2, 3]),
+            _ => connect_as(random, &mut device, place, &[0, 1, 1, 2, 2, 2, 3]),
+        }
+    }
     device
 }
 
-/// A legal record on whose connection a whole line may come next.
-pub fn between_lines(random: &mut Random) -> Device {
+/// A legal record, and a place on whose connection a whole line may come next.
+pub fn between_lines(random: &mut Random) -> (Device, usize) {
     let mut device = legal(random);
-    device.connection = Device::BLANK.connection;
-    device.connection.phase = if device.settings.password.len > 0 && random.one_in(2) { 1 } else { 2 };
-    device.connection.random = random.word();
-    device
+    let place = random.below(PLACES);
+    let connection = &mut device.connections[place];
+    *connection = Connection::CLOSED;
+    connection.phase = if device.settings.password.len > 0 && random.one_in(2) { 1 } else { 2 };
+    connection.random = random.word();
+    (device, place)
+}
+
+/// A legal record that is on, and a place at which commands are served.
+pub fn open_between_lines(random: &mut Random) -> (Device, usize) {
+    let (mut device, place) = between_lines(random);
+    device.connections[place].phase = 2;
+    (device, place)
 }
 
 fn seconds_left(random: &mut Random, most: u32) -> u32 {
@@ -40,23 +57,26 @@ fn seconds_left(random: &mut Random, most: u32) -> u32 {
     random.pick(&[1, most, any])
 }
 
-fn connect(random: &mut Random, device: &mut Device) {
-    let phase = random.pick(&[0, 1, 1, 2, 2, 2, 3]);
-    device.connection.phase = phase;
+/// A legal connection at a place, in one of these phases.
+pub fn connect_as(random: &mut Random, device: &mut Device, place: usize, phases: &[u8]) {
+    let phase = random.pick(phases);
+    let connection = &mut device.connections[place];
+    *connection = Connection::CLOSED;
+    connection.phase = phase;
     if phase == 1 || phase == 3 {
-        device.connection.age = random.pick(&[0, 1, 15, 28, 29]);
+        connection.age = random.pick(&[0, 1, 15, 28, 29]);
     }
     if phase != 0 {
-        device.connection.random = random.word();
+        connection.random = random.word();
     }
     if phase == 1 || phase == 2 {
-        collect(random, device);
+        collect(random, device, place);
     }
 }
 
 /// The start of a line, or anything, up to the limit; or the mark.
-fn collect(random: &mut Random, device: &mut Device) {
-    let most = if device.connection.phase == 1 { 167 } else { 135 };
+fn collect(random: &mut Random, device: &mut Device, place: usize) {
+    let most = if device.connections[place].phase == 1 { 167 } else { 135 };
     let mut bytes = match random.below(8) {
         0..=3 => Vec::new(),
         4 => {
@@ -64,14 +84,14 @@ fn collect(random: &mut Random, device: &mut Device) {
             random.bytes_from(0, most - short)
         }
         _ => {
-            let line = lines::line(random, device);
+            let line = lines::line(random, device, place);
             let length = random.below(line.len() + 1);
             line[..length].to_vec()
         }
     };
     bytes.retain(|&b| b != b'\r');
     bytes.truncate(most);
-    let line = &mut device.connection.line;
+    let line = &mut device.connections[place].line;
     line.overlong = bytes.is_empty() && random.one_in(4);
     line.held = bytes.len();
     line.bytes[..bytes.len()].copy_from_slice(&bytes);
@@ -87,14 +107,15 @@ pub fn damaged(random: &mut Random) -> Device {
     device
 }
 
-/// How many fields `damage` knows.
-pub const FIELDS: usize = 24;
+/// How many fields `damage` knows: those of settings and own part, then those of each place's connection.
+pub const FIELDS: usize = SHARED + PLACES * OF_A_PLACE;
+const SHARED: usize = 16;
+const OF_A_PLACE: usize = 8;
 
 /// Replaces one field, of those that a record has, in their order.
 pub fn damage(random: &mut Random, device: &mut Device, field: usize) {
     let settings = &mut device.settings;
     let own = &mut device.own;
-    let connection = &mut device.connection;
     match field {
         0 if random.one_in(2) => {
             let name = names::any(random);
@@ -123,13 +144,22 @@ pub fn damage(random: &mut Random, device: &mut Device, field: usize) {
         13 => own.chosen = count(random, own.chosen, settings.input_count),
         14 => own.errors[random.below(6)] = code(random),
         15 => own.lamps[random.below(8)] = random.pick(&[0, 1, 359_999_999, 360_000_000, u32::MAX]),
-        16 => connection.phase = code(random),
-        17 => connection.age = random.pick(&[0, 1, 29, 30, 31, u32::MAX]),
-        18 => connection.random = random.pick(&[0, 1, u32::MAX]),
-        19 => connection.line.overlong = !connection.line.overlong,
-        20 => connection.line.held = count(random, connection.line.held, 167),
-        21 => connection.line.held = count(random, connection.line.held, 135),
-        22 => connection.line.bytes[random.below(167)] = random.pick(b"\r\x00\n1"),
+        _ => {
+            let (place, field) = ((field - SHARED) / OF_A_PLACE, (field - SHARED) % OF_A_PLACE);
+            damage_connection(random, &mut device.connections[place], field);
+        }
+    }
+}
+
+fn damage_connection(random: &mut Random, connection: &mut Connection, field: usize) {
+    match field {
+        0 => connection.phase = code(random),
+        1 => connection.age = random.pick(&[0, 1, 29, 30, 31, u32::MAX]),
+        2 => connection.random = random.pick(&[0, 1, u32::MAX]),
+        3 => connection.line.overlong = !connection.line.overlong,
+        4 => connection.line.held = count(random, connection.line.held, 167),
+        5 => connection.line.held = count(random, connection.line.held, 135),
+        6 => connection.line.bytes[random.below(167)] = random.pick(b"\r\x00\n1"),
         _ => {
             let held = connection.line.held.clamp(1, 167);
             connection.line.bytes[random.below(held)] = b'\r';

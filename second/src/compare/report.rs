@@ -55,10 +55,14 @@ fn call(act: &Act) -> String {
             format!("{name}({}, lamps {:?}, warm {}, cool {})", texts.join(", "), lent.lamps, lent.warm, lent.cool)
         }
         Act::Open { random, lent } => format!("pj_open({random:#010x}, {})", memory(lent)),
-        Act::Close => "pj_close()".to_string(),
-        Act::Receive { bytes, lent } => format!("pj_receive({}, {})", quoted(bytes), memory(lent)),
-        Act::HandOn { bytes, cuts } => {
-            format!("the stream {} handed to pj_receive in the cuts {cuts:?}", quoted(bytes))
+        Act::Close { place } => format!("pj_close({place})"),
+        Act::Receive { place, bytes, lent } => format!("pj_receive({place}, {}, {})", quoted(bytes), memory(lent)),
+        Act::HandOn { place, bytes, cuts } => {
+            format!("the stream {} handed to pj_receive at place {place} in the cuts {cuts:?}", quoted(bytes))
+        }
+        Act::Interleave { parts } => {
+            let parts: Vec<String> = parts.iter().map(|(place, bytes)| format!("{place} {}", quoted(bytes))).collect();
+            format!("parts of streams handed to pj_receive, each at its place: {}", parts.join(", "))
         }
         Act::Pass { seconds } => format!("pj_pass({seconds})"),
         Act::PassInPlace { seconds } => format!("pj_pass_in_place({seconds})"),

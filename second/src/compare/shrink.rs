@@ -2,7 +2,7 @@
 
 use super::{Case, days, forms, panel_shrink, tables};
 use crate::face::wire::Wire;
-use crate::face::{Act, Command, Device, Lent};
+use crate::face::{Act, Command, Connection, Device, Lent, PLACES};
 use crate::reference::form;
 use crate::reference::rules::unmistaken;
 
@@ -70,7 +70,7 @@ pub fn zeroed<T: Wire>(record: &T, sizes: &[usize]) -> impl Iterator<Item = T> {
     })
 }
 
-/// The record with one input, one lamp fewer, or a lower number.
+/// The record with one input, one lamp fewer, a place closed or between lines, or a lower number.
 fn plainer_records(device: &Device) -> impl Iterator<Item = Device> {
     let mut all = Vec::new();
     let mut change = |change: &dyn Fn(&mut Device)| {
@@ -108,6 +108,10 @@ fn plainer_records(device: &Device) -> impl Iterator<Item = Device> {
     for lower in lower(device.settings.cool) {
         change(&|d| (d.settings.cool, d.own.left) = (lower, d.own.left.min(lower)));
     }
+    for place in 0..PLACES {
+        change(&|d| d.connections[place] = Connection::CLOSED);
+        change(&|d| d.connections[place].line = Connection::CLOSED.line);
+    }
     lower(device.own.left).for_each(|left| change(&|d| d.own.left = left));
     all.into_iter()
 }
@@ -121,13 +125,31 @@ fn simpler(act: &Act) -> Vec<Act> {
             let numbers = lower(*random).map(|random| Act::Open { random, lent: lent.clone() });
             numbers.chain(memories(lent).map(|lent| Act::Open { random: *random, lent })).collect()
         }
-        Act::Receive { bytes, lent } => {
-            let simpler = simpler_bytes(bytes).map(|bytes| Act::Receive { bytes, lent: lent.clone() });
-            simpler.chain(memories(lent).map(|lent| Act::Receive { bytes: bytes.clone(), lent })).collect()
+        Act::Close { place } => lower_places(*place).map(|place| Act::Close { place }).collect(),
+        Act::Receive { place, bytes, lent } => {
+            let receive =
+                |place, bytes: &[u8], lent: &[u8]| Act::Receive { place, bytes: bytes.to_vec(), lent: lent.to_vec() };
+            let lower = lower_places(*place).map(|place| receive(place, bytes, lent));
+            let simpler = simpler_bytes(bytes).map(|bytes| receive(*place, &bytes, lent));
+            let memories = memories(lent).map(|lent| receive(*place, bytes, &lent));
+            lower.chain(simpler).chain(memories).collect()
         }
-        Act::HandOn { bytes, cuts } => {
-            let simpler = simpler_bytes(bytes).map(|bytes| Act::HandOn { bytes, cuts: cuts.clone() });
-            simpler.chain(shorter(cuts).map(|cuts| Act::HandOn { bytes: bytes.clone(), cuts })).collect()
+        Act::HandOn { place, bytes, cuts } => {
+            let simpler = simpler_bytes(bytes).map(|bytes| (*place, bytes, cuts.clone()));
+            let fewer = shorter(cuts).map(|cuts| (*place, bytes.clone(), cuts));
+            let all =
+                simpler.chain(fewer).chain(lower_places(*place).map(|place| (place, bytes.clone(), cuts.clone())));
+            all.map(|(place, bytes, cuts)| Act::HandOn { place, bytes, cuts }).collect()
+        }
+        Act::Interleave { parts } => {
+            let simpler_parts = (0..parts.len()).flat_map(|at| {
+                simpler_bytes(&parts[at].1).map(move |bytes| {
+                    let mut simpler = parts.clone();
+                    simpler[at].1 = bytes;
+                    simpler
+                })
+            });
+            shorter(parts).chain(simpler_parts).map(|parts| Act::Interleave { parts }).collect()
         }
         Act::Pass { seconds } => lower(*seconds).map(|seconds| Act::Pass { seconds }).collect(),
         Act::PassInPlace { seconds } => {
@@ -165,8 +187,13 @@ fn simpler(act: &Act) -> Vec<Act> {
         Act::PlanDay { day, lent } => {
             days::simpler(day, lent).into_iter().map(|(day, lent)| Act::PlanDay { day, lent }).collect()
         }
-        Act::Close | Act::SetFault { .. } | Act::Legal => Vec::new(),
+        Act::SetFault { .. } | Act::Legal => Vec::new(),
     }
+}
+
+/// Place 0, the place before, 4 for those that there are not.
+fn lower_places(place: usize) -> impl Iterator<Item = usize> {
+    [0, PLACES, place.wrapping_sub(1)].into_iter().filter(move |&lower| lower < place)
 }
 
 fn simpler_set_ups(lent: &Lent) -> Vec<Lent> {

@@ -1,7 +1,7 @@
 //! What a run met: how often each call gave each number, and each kind of reply or reading. A comparison that only ever
 //! saw refusals would say nothing.
 
-use crate::face::{Act, Answer, Panel, PanelAct, PanelCall};
+use crate::face::{Act, Answer, PLACES, Panel, PanelAct, PanelCall};
 use std::collections::BTreeMap;
 use std::fmt;
 
@@ -11,6 +11,10 @@ pub struct Tally(BTreeMap<(&'static str, String), usize>);
 impl Tally {
     pub fn count(&mut self, act: &Act, answer: &Answer) {
         *self.0.entry((call(act), kind(act, answer))).or_default() += 1;
+        if let Some((call, place)) = place(act, answer) {
+            let said = if place < PLACES { place.to_string() } else { "none".to_string() };
+            *self.0.entry((call, said)).or_default() += 1;
+        }
     }
 
     pub fn times(&self, call: &str, kind: &str) -> usize {
@@ -39,9 +43,10 @@ fn call(act: &Act) -> &'static str {
         Act::SetUp(_) => "pj_set_up",
         Act::WhichSetting(_) => "pj_which_setting",
         Act::Open { .. } => "pj_open",
-        Act::Close => "pj_close",
+        Act::Close { .. } => "pj_close",
         Act::Receive { .. } => "pj_receive",
         Act::HandOn { .. } => "streams in cuts",
+        Act::Interleave { .. } => "streams at four places",
         Act::Pass { .. } => "pj_pass",
         Act::PassInPlace { .. } => "pj_pass_in_place",
         Act::SetFault { .. } => "pj_set_fault",
@@ -66,10 +71,21 @@ fn call(act: &Act) -> &'static str {
     }
 }
 
+/// The place of a call, where it names one or tells of one.
+fn place(act: &Act, answer: &Answer) -> Option<(&'static str, usize)> {
+    match (act, answer) {
+        (Act::Close { place }, _) => Some(("place that pj_close names", *place)),
+        (Act::Receive { place, .. }, _) => Some(("place that pj_receive names", *place)),
+        (_, Answer::Opened(opened, _)) if opened.number == 0 => Some(("place that pj_open tells", opened.place)),
+        _ => None,
+    }
+}
+
 /// A refusal's number; else what the reply or the reading is.
 fn kind(act: &Act, answer: &Answer) -> String {
     match answer {
         Answer::Changed(changed) | Answer::HandedOn(changed, _) => refusal_or(changed.number, "served"),
+        Answer::Interleaved(..) => "served".to_string(),
         Answer::Setting(place) => format!("setting {place}"),
         Answer::Opened(opened, out) => refusal_or(opened.number, &reply(&out[..opened.length])),
         Answer::Received(received, out) => refusal_or(received.number, &reply(&out[..received.length])),

@@ -14,16 +14,26 @@ pub enum Act {
         random: u32,
         lent: Vec<u8>,
     },
-    Close,
+    Close {
+        place: usize,
+    },
     Receive {
+        place: usize,
         bytes: Vec<u8>,
         lent: Vec<u8>,
     },
     /// Not one call: a stream, handed on until all is taken. The board is handed it in these cuts, the second program
     /// whole: 01 says that the reply bytes and the end state are the same.
     HandOn {
+        place: usize,
         bytes: Vec<u8>,
         cuts: Vec<usize>,
+    },
+    /// Not one call: parts of streams, each at its place, in turn. The board is handed them as they come, the second
+    /// program each line whole, when its CR comes, and last what is left of each: 02, L5, says that "one place's bytes
+    /// never touch another's connection".
+    Interleave {
+        parts: Vec<(usize, Vec<u8>)>,
     },
     Pass {
         seconds: u32,
@@ -100,6 +110,8 @@ pub enum Answer {
     Received(Received, Vec<u8>),
     /// The last number and record, and all reply bytes.
     HandedOn(Changed, Vec<u8>),
+    /// The last record; place by place, the last number and all reply bytes.
+    Interleaved(Box<Device>, Vec<(u32, Vec<u8>)>),
     Legal(bool),
     Digest(Digest),
     Written(Written, Vec<u8>),
@@ -120,46 +132,8 @@ impl Answer {
             Answer::Opened(opened, _) => Some(&opened.device),
             Answer::Received(received, _) => Some(&received.device),
             Answer::HandedOn(changed, _) => Some(&changed.device),
+            Answer::Interleaved(device, _) => Some(device),
             _ => None,
         }
-    }
-}
-
-/// One of the two programs.
-pub trait Side {
-    /// Any call but `HandOn`.
-    fn call(&mut self, device: &Device, act: &Act) -> Answer;
-
-    /// Whether a stream is handed on in the cuts that are asked for, or whole.
-    fn cuts(&self) -> bool;
-
-    fn answer(&mut self, device: &Device, act: &Act) -> Answer {
-        match act {
-            Act::HandOn { bytes, cuts } if self.cuts() => self.hand_on(device, bytes, cuts),
-            Act::HandOn { bytes, .. } => self.hand_on(device, bytes, &[]),
-            _ => self.call(device, act),
-        }
-    }
-
-    /// 01: "Handed on until all is taken, with no time between, a stream gives the same reply bytes and end state
-    /// however it is cut."
-    fn hand_on(&mut self, device: &Device, bytes: &[u8], cuts: &[usize]) -> Answer {
-        let mut last = Changed { number: 0, device: *device };
-        let mut replies = Vec::new();
-        let mut first = 0;
-        for end in cuts.iter().copied().chain([bytes.len()]) {
-            let end = end.clamp(first, bytes.len());
-            while first < end {
-                let act = Act::Receive { bytes: bytes[first..end].to_vec(), lent: vec![0; 136] };
-                let Answer::Received(received, memory) = self.call(&last.device, &act) else { unreachable!() };
-                last = Changed { number: received.number, device: received.device };
-                replies.extend_from_slice(&memory[..received.length.min(memory.len())]);
-                if received.taken == 0 {
-                    return Answer::HandedOn(last, replies);
-                }
-                first += received.taken;
-            }
-        }
-        Answer::HandedOn(last, replies)
     }
 }

@@ -2,7 +2,7 @@
 
 use super::wire::Wire;
 use super::{
-    Answer, Changed, Command, Compared, Connection, Device, Digest, Entry, Greeting, Line, Opened, Own, Panel,
+    Answer, Changed, Command, Compared, Connection, Device, Digest, Entry, Greeting, Line, Opened, Own, PLACES, Panel,
     PanelChanged, PanelSent, Plan, Reading, Received, Settings, Text, Verdict, Written,
 };
 
@@ -44,9 +44,9 @@ records! {
     Own { power, left, chosen, video_muted, audio_muted, fault, errors, lamps }
     Line { overlong, held, bytes }
     Connection { phase, age, random, line }
-    Device { settings, own, connection }
+    Device { settings, own, connections }
     Changed { number, device }
-    Opened { number, length, device }
+    Opened { number, length, place, device }
     Received { number, taken, length, device }
     Digest { bytes }
     Command { code, first, second }
@@ -99,6 +99,12 @@ impl Fields for [bool; 8] {
     }
 }
 
+impl Fields for [Connection; PLACES] {
+    fn list(&self, path: &str, into: &mut Vec<(String, String)>) {
+        self.iter().enumerate().for_each(|(place, connection)| connection.list(&format!("{path}[{place}]"), into));
+    }
+}
+
 impl Fields for [Entry; 8] {
     fn list(&self, path: &str, into: &mut Vec<(String, String)>) {
         self.iter().enumerate().for_each(|(place, entry)| entry.list(&format!("{path}[{place}]"), into));
@@ -140,6 +146,13 @@ impl Fields for Answer {
             Answer::HandedOn(changed, replies) => {
                 changed.list(path, into);
                 into.push(("reply bytes".into(), quoted(replies)));
+            }
+            Answer::Interleaved(device, told) => {
+                device.list("device", into);
+                for (place, (number, replies)) in told.iter().enumerate() {
+                    into.push((format!("number at place {place}"), number.to_string()));
+                    into.push((format!("reply bytes at place {place}"), quoted(replies)));
+                }
             }
             Answer::Legal(legal) => into.push(("legal".into(), legal.to_string())),
             Answer::Digest(digest) => digest.list(path, into),

@@ -46,8 +46,15 @@ unsafe extern "C" {
         cool: u32,
     ) -> u32;
     fn pj_open(device: Device, random: u32, out: *mut u8, out_length: usize) -> Opened;
-    fn pj_close(device: Device) -> Changed;
-    fn pj_receive(device: Device, bytes: *const u8, length: usize, out: *mut u8, out_length: usize) -> Received;
+    fn pj_close(device: Device, place: usize) -> Changed;
+    fn pj_receive(
+        device: Device,
+        place: usize,
+        bytes: *const u8,
+        length: usize,
+        out: *mut u8,
+        out_length: usize,
+    ) -> Received;
     fn pj_pass(device: Device, seconds: u32) -> Changed;
     fn pj_pass_in_place(device: *mut Device, seconds: u32) -> u32;
     fn pj_set_fault(device: Device, mark: bool) -> Changed;
@@ -108,12 +115,12 @@ pub fn open(device: Device, random: u32, out: &mut [u8]) -> Opened {
     unsafe { pj_open(device, random, out.as_mut_ptr(), out.len()) }
 }
 
-pub fn close(device: Device) -> Changed {
-    unsafe { pj_close(device) }
+pub fn close(device: Device, place: usize) -> Changed {
+    unsafe { pj_close(device, place) }
 }
 
-pub fn receive(device: Device, bytes: &[u8], out: &mut [u8]) -> Received {
-    unsafe { pj_receive(device, bytes.as_ptr(), bytes.len(), out.as_mut_ptr(), out.len()) }
+pub fn receive(device: Device, place: usize, bytes: &[u8], out: &mut [u8]) -> Received {
+    unsafe { pj_receive(device, place, bytes.as_ptr(), bytes.len(), out.as_mut_ptr(), out.len()) }
 }
 
 pub fn pass(device: Device, seconds: u32) -> Changed {
@@ -179,10 +186,10 @@ impl Side for Board {
                 let mut out = lent.clone();
                 Answer::Opened(open(device, *random, &mut out), out)
             }
-            Act::Close => Answer::Changed(close(device)),
-            Act::Receive { bytes, lent } => {
+            Act::Close { place } => Answer::Changed(close(device, *place)),
+            Act::Receive { place, bytes, lent } => {
                 let mut out = lent.clone();
-                Answer::Received(receive(device, bytes, &mut out), out)
+                Answer::Received(receive(device, *place, bytes, &mut out), out)
             }
             Act::Pass { seconds } => Answer::Changed(pass(device, *seconds)),
             Act::PassInPlace { seconds } => {
@@ -203,7 +210,7 @@ impl Side for Board {
                 let mut out = lent.clone();
                 Answer::Written(write(*command, *secured, *random, password, &mut out), out)
             }
-            Act::HandOn { .. } => unreachable!("not one call"),
+            Act::HandOn { .. } | Act::Interleave { .. } => unreachable!("not one call"),
             Act::ReadGreeting { line } => Answer::Greeting(read_greeting(line)),
             Act::ReadReply { command, line } => Answer::Reading(read_reply(*command, line)),
             Act::Panel(call) => workroom::answer(call),

@@ -5,11 +5,13 @@
 
 mod call;
 pub mod fields;
+mod hand_on;
 mod panel;
 mod service;
 pub mod wire;
 
-pub use call::{Act, Answer, Lent, Side};
+pub use call::{Act, Answer, Lent};
+pub use hand_on::Side;
 pub use panel::{Entry, Panel, PanelAct, PanelCall, PanelChanged, PanelSent};
 pub use service::{Compared, Day, Plan, Verdict};
 
@@ -86,12 +88,15 @@ pub struct Connection {
     pub line: Line,
 }
 
+/// 02, L5: so many controllers are connected at once.
+pub const PLACES: usize = 4;
+
 #[repr(C)]
 #[derive(Clone, Copy, PartialEq, Eq, Debug)]
 pub struct Device {
     pub settings: Settings,
     pub own: Own,
-    pub connection: Connection,
+    pub connections: [Connection; PLACES],
 }
 
 #[repr(C)]
@@ -106,6 +111,7 @@ pub struct Changed {
 pub struct Opened {
     pub number: u32,
     pub length: usize,
+    pub place: usize,
     pub device: Device,
 }
 
@@ -167,6 +173,11 @@ impl Text {
     pub const EMPTY: Text = Text { len: 0, bytes: [0; 64] };
 }
 
+impl Connection {
+    pub const CLOSED: Connection =
+        Connection { phase: 0, age: 0, random: 0, line: Line { overlong: false, held: 0, bytes: [0; 167] } };
+}
+
 impl Device {
     /// 01, "The numbers a call gives": "the blank record, all zero (not legal, having no input)".
     pub const BLANK: Device = Device {
@@ -192,12 +203,7 @@ impl Device {
             errors: [0; 6],
             lamps: [0; 8],
         },
-        connection: Connection {
-            phase: 0,
-            age: 0,
-            random: 0,
-            line: Line { overlong: false, held: 0, bytes: [0; 167] },
-        },
+        connections: [Connection::CLOSED; PLACES],
     };
 }
 

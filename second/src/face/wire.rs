@@ -98,13 +98,17 @@ pub fn put_act(act: &Act, out: &mut Vec<u8>) {
             random.put(out);
             lent.put(out);
         }
-        Act::Close => 2u8.put(out),
-        Act::Receive { bytes, lent } => {
+        Act::Close { place } => {
+            2u8.put(out);
+            place.put(out);
+        }
+        Act::Receive { place, bytes, lent } => {
             3u8.put(out);
+            place.put(out);
             bytes.put(out);
             lent.put(out);
         }
-        Act::HandOn { .. } => unreachable!("not one call"),
+        Act::HandOn { .. } | Act::Interleave { .. } => unreachable!("not one call"),
         Act::Pass { seconds } => {
             4u8.put(out);
             seconds.put(out);
@@ -220,7 +224,7 @@ fn put_day(day: &Day, out: &mut Vec<u8>) {
 pub fn get_answer(act: &Act, from: &mut &[u8]) -> Answer {
     match act {
         Act::SetUp(_)
-        | Act::Close
+        | Act::Close { .. }
         | Act::Pass { .. }
         | Act::PassInPlace { .. }
         | Act::SetFault { .. }
@@ -229,7 +233,7 @@ pub fn get_answer(act: &Act, from: &mut &[u8]) -> Answer {
         Act::WhichSetting(_) => Answer::Setting(Wire::get(from)),
         Act::Open { .. } => Answer::Opened(Wire::get(from), Wire::get(from)),
         Act::Receive { .. } => Answer::Received(Wire::get(from), Wire::get(from)),
-        Act::HandOn { .. } => unreachable!("not one call"),
+        Act::HandOn { .. } | Act::Interleave { .. } => unreachable!("not one call"),
         Act::Legal => Answer::Legal(Wire::get(from)),
         Act::Digest { .. } => Answer::Digest(Wire::get(from)),
         Act::Store { .. } | Act::Write { .. } => Answer::Written(Wire::get(from), Wire::get(from)),

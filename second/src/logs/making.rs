@@ -5,8 +5,8 @@ use crate::compare::lines;
 use crate::compare::random::Random;
 use crate::reference::set_up::LAMP_LIMIT;
 use crate::reference::text::{CR, LF, eight_hex_digits};
-use crate::reference::{Connection, Power, Projector};
-use crate::replay::{LONGEST, event, play, sample};
+use crate::reference::{Power, Projector};
+use crate::replay::{LONGEST, PLACE, event, play, sample};
 
 /// How often a log has what: one line in so many.
 struct Temper {
@@ -80,7 +80,7 @@ fn line(random: &mut Random, projector: &Projector, temper: &Temper) -> Vec<u8> 
 }
 
 fn good(random: &mut Random, projector: &Projector, temper: &Temper) -> Vec<u8> {
-    let closed = projector.connection == Connection::Closed;
+    let closed = projector.is_closed(PLACE);
     match random.below(20) {
         0..=7 if closed => open(random),
         8 | 9 if closed => b"X".to_vec(),
@@ -109,7 +109,7 @@ fn text(random: &mut Random, projector: &Projector) -> Vec<u8> {
         }
         7 => padded(random, b"%1CLSS ?"),
         _ => {
-            let mut line = lines::line(random, &projector.record());
+            let mut line = lines::line(random, &projector.record(), PLACE);
             if line.ends_with(&[CR]) {
                 line.pop();
             }

@@ -2,21 +2,23 @@
 //! meet." A refused call gives the record it was given, counts 0, and writes no byte.
 
 use super::controller::{self, Command};
+pub use super::places::{close, open, receive};
 use super::replies;
 use super::rules::{Mistake, made};
 use super::set_up::{self, SetUp, are_lamps, inputs_of, is_short};
-use super::{Connection, Projector, md5};
+use super::{Projector, md5};
 use crate::face;
 
 /// "lent memory under 136 bytes (projector), 168 (controller writer)".
-const PROJECTOR_ROOM: usize = 136;
+pub(super) const PROJECTOR_ROOM: usize = 136;
 pub(super) const WRITER_ROOM: usize = 168;
 
 pub(super) const NOT_LEGAL: u32 = 1;
 pub(super) const ROOM_SHORT: u32 = 2;
 pub(super) const OUT_OF_RANGE: u32 = 3;
-const IS_CLOSED: u32 = 4;
-const NOT_CLOSED: u32 = 5;
+pub(super) const IS_CLOSED: u32 = 4;
+/// 02, L5: "new number 6, tested where 5 stands".
+pub(super) const NO_PLACE: u32 = 6;
 const SHORT_PASSWORD: u32 = 8;
 
 /// The password's place among the settings.
@@ -74,55 +76,6 @@ pub fn which_setting(lent: &face::Lent) -> u32 {
     let last = wrong.iter().rposition(|&wrong| wrong);
     let told = if made(Mistake::LastSettingTold) { last } else { first };
     told.map_or(0, |place| place as u32 + 1)
-}
-
-/// The projector that a record stands for, if there is also room for a reply; else the number of the first check that
-/// fails.
-fn ready(device: &face::Device, out: &[u8]) -> Result<Projector, u32> {
-    if out.len() < PROJECTOR_ROOM && made(Mistake::RoomBeforeLegality) {
-        return Err(ROOM_SHORT);
-    }
-    let projector = Projector::read(device).ok_or(NOT_LEGAL)?;
-    if out.len() < PROJECTOR_ROOM { Err(ROOM_SHORT) } else { Ok(projector) }
-}
-
-pub fn open(device: &face::Device, random: u32, out: &mut [u8]) -> face::Opened {
-    let refused = |number| face::Opened { number, length: 0, device: *device };
-    let mut projector = match ready(device, out) {
-        Ok(projector) => projector,
-        Err(number) => return refused(number),
-    };
-    if projector.connection != Connection::Closed {
-        return refused(NOT_CLOSED);
-    }
-    let reply = projector.open(random);
-    out[..reply.len()].copy_from_slice(&reply);
-    face::Opened { number: 0, length: reply.len(), device: projector.record() }
-}
-
-pub fn close(device: &face::Device) -> face::Changed {
-    let Some(mut projector) = Projector::read(device) else {
-        return face::Changed { number: NOT_LEGAL, device: *device };
-    };
-    if projector.connection == Connection::Closed {
-        return face::Changed { number: IS_CLOSED, device: *device };
-    }
-    projector.connection = Connection::Closed;
-    face::Changed { number: 0, device: projector.record() }
-}
-
-pub fn receive(device: &face::Device, bytes: &[u8], out: &mut [u8]) -> face::Received {
-    let refused = |number| face::Received { number, taken: 0, length: 0, device: *device };
-    let mut projector = match ready(device, out) {
-        Ok(projector) => projector,
-        Err(number) => return refused(number),
-    };
-    if projector.connection == Connection::Closed {
-        return refused(IS_CLOSED);
-    }
-    let (taken, reply) = projector.receive(bytes);
-    out[..reply.len()].copy_from_slice(&reply);
-    face::Received { number: 0, taken, length: reply.len(), device: projector.record() }
 }
 
 /// A call that has a legal record as its only condition.

@@ -4,6 +4,7 @@ use super::record::CLOSING_AGE;
 use super::rules::{Mistake, made};
 use super::set_up::LAMP_LIMIT;
 use super::{Connection, Power, Projector};
+use crate::face::PLACES;
 
 impl Projector {
     /// Seconds one at a time while anything but lamps moves; then only lamps gain, all that is left at once.
@@ -21,8 +22,9 @@ impl Projector {
     /// Whether a second changes more than lamps.
     fn moves(&self) -> bool {
         let power_moves = matches!(self.power, Power::WarmUp(_) | Power::Cooling(_));
-        let connection_moves = matches!(self.connection, Connection::Awaiting { .. } | Connection::Failed { .. });
-        power_moves || connection_moves
+        let ages =
+            |connection: &Connection| matches!(connection, Connection::Awaiting { .. } | Connection::Failed { .. });
+        power_moves || self.connections.iter().any(ages)
     }
 
     fn one_second(&mut self) {
@@ -50,21 +52,31 @@ impl Projector {
 
     /// "stopped at 359,999,999".
     fn burn(&mut self, seconds: u32) {
+        let often = if made(Mistake::TimePassesAtEachPlace) { self.taken().max(1) as u32 } else { 1 };
+        let seconds = seconds.saturating_mul(often);
         for lamp in &mut self.lamps {
             let stopped = lamp.saturating_add(seconds).min(LAMP_LIMIT);
             *lamp = if made(Mistake::LampNotStopped) { lamp.wrapping_add(seconds) } else { stopped };
         }
     }
 
-    /// "Awaiting and failed age by one", and "Awaiting or failed, it closes when its age reaches 30 seconds".
+    /// "Awaiting and failed age by one", each place's connection by itself.
     fn age_by_one(&mut self) {
-        let closing_age = if made(Mistake::ClosesAt31) { CLOSING_AGE + 1 } else { CLOSING_AGE };
-        if let Connection::Awaiting { age, .. } | Connection::Failed { age, .. } = &mut self.connection {
-            *age += 1;
-            if *age == closing_age {
-                self.connection = Connection::Closed;
-            }
+        let aged = if made(Mistake::OnlyPlaceZeroAges) { 1 } else { PLACES };
+        let closed = self.connections[..aged].iter_mut().filter_map(Connection::age_by_one).count();
+        if closed > 0 && made(Mistake::TimeClosesAll) {
+            self.connections.fill(Connection::Closed);
         }
+    }
+}
+
+impl Connection {
+    /// "Awaiting or failed, it closes when its age reaches 30 seconds." Something exactly if it did.
+    fn age_by_one(&mut self) -> Option<()> {
+        let closing_age = if made(Mistake::ClosesAt31) { CLOSING_AGE + 1 } else { CLOSING_AGE };
+        let (Connection::Awaiting { age, .. } | Connection::Failed { age, .. }) = self else { return None };
+        *age += 1;
+        (*age == closing_age).then(|| *self = Connection::Closed)
     }
 }
 

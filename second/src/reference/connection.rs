@@ -16,38 +16,51 @@ pub fn leading_digest(random: u32, password: &[u8]) -> [u8; 32] {
 }
 
 impl Projector {
-    /// What opening a closed connection writes. "Either way the random number is kept until closing."
-    pub fn open(&mut self, random: u32) -> Vec<u8> {
+    /// What opening a closed place writes. "Either way the random number is kept until closing."
+    pub fn open(&mut self, place: usize, random: u32) -> Vec<u8> {
+        if made(Mistake::RandomShared) {
+            self.connections.iter_mut().for_each(|connection| connection.draw(random));
+        }
         if self.set_up.password.is_empty() {
             let random = if made(Mistake::RandomDropped) { 0 } else { random };
-            self.connection = Connection::Open { random, line: Line::empty() };
+            self.connections[place] = Connection::Open { random, line: Line::empty() };
             b"PJLINK 0\r".to_vec()
         } else {
-            self.connection = Connection::Awaiting { age: 0, random, line: Line::empty() };
+            self.connections[place] = Connection::Awaiting { age: 0, random, line: Line::empty() };
             [b"PJLINK 1 ", &eight_hex_digits(random)[..], b"\r"].concat()
         }
     }
 
     /// "Receiving takes bytes up to and including the first CR, or all of them if none, and reports how many it took."
-    /// The second part of the result is the reply, empty where none is due.
-    pub fn receive(&mut self, bytes: &[u8]) -> (usize, Vec<u8>) {
-        for (place, &byte) in bytes.iter().enumerate() {
+    /// The second part of the result is the reply, empty where none is due. 02, L5: "One place's bytes never touch
+    /// another's connection."
+    pub fn receive(&mut self, place: usize, bytes: &[u8]) -> (usize, Vec<u8>) {
+        for (at, &byte) in bytes.iter().enumerate() {
             if byte == CR || (byte == LF && made(Mistake::LineFeedEndsALine)) {
-                return (place + 1, self.end_of_line());
+                return (at + 1, self.end_of_line(place));
             }
-            self.connection.collect(byte);
+            match &mut self.connections {
+                all if made(Mistake::LineShared) => all.iter_mut().for_each(|connection| connection.collect(byte)),
+                all => all[place].collect(byte),
+            }
         }
         (bytes.len(), Vec::new())
     }
 
-    fn end_of_line(&mut self) -> Vec<u8> {
-        match self.connection.clone() {
+    fn end_of_line(&mut self, place: usize) -> Vec<u8> {
+        match self.connections[place].clone() {
             // "A failed connection takes bytes by the same rule and ignores them."
             Connection::Failed { .. } if made(Mistake::FailedAnswers) => ERRA_LINE.to_vec(),
             Connection::Closed | Connection::Failed { .. } => Vec::new(),
-            Connection::Awaiting { random, line, .. } => self.first_line(random, line),
+            Connection::Awaiting { random, line, .. } => self.first_line(place, random, line),
             Connection::Open { random, line } => {
-                self.connection = Connection::Open { random, line: Line::empty() };
+                self.connections[place] = Connection::Open { random, line: Line::empty() };
+                if made(Mistake::MarkOfAnother) && self.connections.iter().any(Connection::is_overlong) {
+                    return Vec::new();
+                }
+                if made(Mistake::AnswersWhereAllAreOpen) && self.connections.iter().any(Connection::is_not_open) {
+                    return Vec::new();
+                }
                 self.answer_line(&line)
             }
         }
@@ -56,15 +69,30 @@ impl Projector {
     /// "the first 32 bytes are compared exactly with the lowercase hex digest .. Equal, and the line at most 167 bytes
     /// before CR: the connection is open and the rest is treated as a line. Otherwise, shorter or overlong lines
     /// included: the reply is `PJLINK ERRA` and CR, the connection has failed, age 0."
-    fn first_line(&mut self, random: u32, line: Line) -> Vec<u8> {
-        let wanted = leading_digest(random, &self.set_up.password);
-        match line {
-            Line::Collected(bytes) if bytes.len() >= 32 && matches(&bytes[..32], &wanted) => {
-                self.connection = Connection::Open { random, line: Line::empty() };
-                self.answer_line(&Line::Collected(bytes[32..].to_vec()))
+    fn first_line(&mut self, place: usize, random: u32, line: Line) -> Vec<u8> {
+        let wanted = match self.connections[0] {
+            Connection::Awaiting { random, .. } if made(Mistake::RandomOfPlaceZero) => random,
+            _ => random,
+        };
+        let wanted = leading_digest(wanted, &self.set_up.password);
+        let opened = match line {
+            Line::Collected(bytes) if bytes.len() >= 32 && matches(&bytes[..32], &wanted) => Some(bytes[32..].to_vec()),
+            _ => None,
+        };
+        if made(Mistake::OthersFollow) {
+            self.connections.iter_mut().for_each(|connection| connection.follow(opened.is_some()));
+        }
+        match opened {
+            Some(rest) => {
+                self.connections[place] = Connection::Open { random, line: Line::empty() };
+                self.answer_line(&Line::Collected(rest))
             }
-            _ => {
-                self.connection = Connection::Failed { age: 0, random };
+            None => {
+                self.connections[place] = Connection::Failed { age: 0, random };
+                if made(Mistake::ErraClosesOthers) {
+                    let others = self.connections.iter_mut().enumerate().filter(|(other, _)| *other != place);
+                    others.for_each(|(_, connection)| *connection = Connection::Closed);
+                }
                 ERRA_LINE.to_vec()
             }
         }
@@ -100,6 +128,37 @@ impl Connection {
                 bytes.push(byte);
             }
         }
+    }
+}
+
+/// What a mistake does to the other places, or sees in them.
+impl Connection {
+    fn draw(&mut self, other: u32) {
+        let (Connection::Awaiting { random, .. } | Connection::Open { random, .. } | Connection::Failed { random, .. }) =
+            self
+        else {
+            return;
+        };
+        *random = other;
+    }
+
+    fn follow(&mut self, opened: bool) {
+        let Connection::Awaiting { random, .. } = *self else { return };
+        *self = match opened {
+            true => Connection::Open { random, line: Line::empty() },
+            false => Connection::Failed { age: 0, random },
+        };
+    }
+
+    fn is_overlong(&self) -> bool {
+        matches!(
+            self,
+            Connection::Awaiting { line: Line::Overlong, .. } | Connection::Open { line: Line::Overlong, .. }
+        )
+    }
+
+    fn is_not_open(&self) -> bool {
+        matches!(self, Connection::Awaiting { .. } | Connection::Failed { .. })
     }
 }
 

@@ -1,7 +1,7 @@
 //! Document 01's rules and 02's changes, written plainly. Every rule has the document's words beside it.
 //!
-//! `calls` has the calls that a host makes, with the numbers they give; `swap` (L3), `service` (L10), `days` (L12) and
-//! `panel` (L13) those that 02 adds; the other files have what they mean, `utf8` what L2 says of names, `form` L3's
+//! `calls` has the calls that a host makes, with the numbers they give, `places` those of a controller's place (L5);
+//! `swap` (L3), `service` (L10), `days` (L12) and `panel` (L13) have those that 02 adds; the other files have what they mean, `utf8` what L2 says of names, `form` L3's
 //! bytes.
 //! `rules` holds the deliberate mistakes that `second wrong` switches on, one at a time; none is on otherwise.
 
@@ -13,8 +13,11 @@ pub mod controller;
 pub mod days;
 pub mod flatten;
 pub mod form;
+#[cfg(test)]
+mod four;
 pub mod md5;
 pub mod panel;
+pub mod places;
 pub mod record;
 pub mod replies;
 pub mod rules;
@@ -31,6 +34,7 @@ pub mod swap;
 pub mod text;
 pub mod utf8;
 
+use crate::face::PLACES;
 use set_up::SetUp;
 
 /// A projector in a legal state. What a record can say and 01 forbids has no form here.
@@ -47,7 +51,8 @@ pub struct Projector {
     pub errors: [u8; 6],
     /// Stored seconds, lamp by lamp.
     pub lamps: Vec<u32>,
-    pub connection: Connection,
+    /// Place by place.
+    pub connections: [Connection; PLACES],
 }
 
 /// Warm-up and cooling carry the seconds left.

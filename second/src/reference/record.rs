@@ -4,7 +4,7 @@ use super::rules::{Mistake, made};
 use super::set_up::{LONGEST_NAME, MOST_INPUTS, MOST_LAMPS, SetUp, are_lamps, inputs_of, is_text};
 use super::text::CR;
 use super::{Connection, Line, Power, Projector};
-use crate::face;
+use crate::face::{self, PLACES};
 
 /// "collected bytes .. are at most 167 while awaiting and 135 while open".
 pub const LONGEST_AWAITED: usize = 167;
@@ -15,7 +15,7 @@ pub const CLOSING_AGE: u32 = 30;
 impl Projector {
     /// The projector that a record stands for; nothing exactly if the record is not legal.
     pub fn read(record: &face::Device) -> Option<Projector> {
-        let face::Device { settings, own, connection } = record;
+        let face::Device { settings, own, connections } = record;
         let set_up = read_set_up(settings)?;
         let lamps = part_in_use(&own.lamps, settings.lamp_count, MOST_LAMPS)?;
         let power = read_power(own, &set_up)?;
@@ -33,7 +33,7 @@ impl Projector {
             fault: own.fault,
             errors: own.errors,
             lamps,
-            connection: read_connection(connection)?,
+            connections: read_connections(connections)?,
         })
     }
 
@@ -53,7 +53,9 @@ impl Projector {
         own.fault = self.fault;
         own.errors = self.errors;
         own.lamps[..self.lamps.len()].copy_from_slice(&self.lamps);
-        write_connection(&self.connection, &mut record.connection);
+        for (connection, room) in self.connections.iter().zip(&mut record.connections) {
+            write_connection(connection, room);
+        }
         record
     }
 }
@@ -104,6 +106,24 @@ fn read_power(own: &face::Own, set_up: &SetUp) -> Option<Power> {
         (3, left) if (1..=set_up.warm).contains(&left) => Some(Power::WarmUp(left)),
         _ => None,
     }
+}
+
+/// 02, L5: "The record is legal if each place's part is."
+fn read_connections(connections: &[face::Connection; PLACES]) -> Option<[Connection; PLACES]> {
+    let tested = match () {
+        _ if made(Mistake::OnlyPlaceZeroTested) => 1,
+        _ if made(Mistake::LastPlaceNotTested) => PLACES - 1,
+        _ => PLACES,
+    };
+    let mut read = [const { Connection::Closed }; PLACES];
+    for (place, connection) in connections.iter().enumerate() {
+        match read_connection(connection) {
+            Some(connection) => read[place] = connection,
+            None if place < tested => return None,
+            None => (),
+        }
+    }
+    Some(read)
 }
 
 /// "age is 0 to 29 while awaiting or failed, else 0; the random number is 0 while closed; collected bytes hold no CR,

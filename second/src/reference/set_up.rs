@@ -3,7 +3,7 @@
 use super::rules::{Mistake, made};
 use super::text::{Input, all_letters_or_digits};
 use super::{Connection, Power, Projector, utf8};
-use crate::face;
+use crate::face::{self, PLACES};
 
 pub const LONGEST_NAME: usize = 64;
 pub const LONGEST_INFORMATION: usize = 32;
@@ -55,7 +55,7 @@ impl SetUp {
             fault: false,
             errors: [0; 6],
             lamps,
-            connection: Connection::Closed,
+            connections: [const { Connection::Closed }; PLACES],
         }
     }
 }

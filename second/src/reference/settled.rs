@@ -5,12 +5,12 @@ use crate::replay::sample;
 
 fn opened() -> Projector {
     let mut projector = sample();
-    assert_eq!(projector.open(0), b"PJLINK 0\r");
+    assert_eq!(projector.open(0, 0), b"PJLINK 0\r");
     projector
 }
 
 fn answers(projector: &mut Projector, line: &str, reply: &str) {
-    let (taken, given) = projector.receive(format!("{line}\r").as_bytes());
+    let (taken, given) = projector.receive(0, format!("{line}\r").as_bytes());
     assert_eq!(taken, line.len() + 1);
     assert_eq!(String::from_utf8(given).unwrap(), format!("{reply}\r"));
 }

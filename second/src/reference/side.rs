@@ -18,10 +18,10 @@ impl Side for Second {
                 let mut out = lent.clone();
                 Answer::Opened(calls::open(device, *random, &mut out), out)
             }
-            Act::Close => Answer::Changed(calls::close(device)),
-            Act::Receive { bytes, lent } => {
+            Act::Close { place } => Answer::Changed(calls::close(device, *place)),
+            Act::Receive { place, bytes, lent } => {
                 let mut out = lent.clone();
-                Answer::Received(calls::receive(device, bytes, &mut out), out)
+                Answer::Received(calls::receive(device, *place, bytes, &mut out), out)
             }
             Act::Pass { seconds } | Act::PassInPlace { seconds } => Answer::Changed(calls::pass(device, *seconds)),
             Act::SetFault { mark } => Answer::Changed(calls::set_fault(device, *mark)),
@@ -37,7 +37,7 @@ impl Side for Second {
                 let mut out = lent.clone();
                 Answer::Written(calls::write(*command, *secured, *random, password, &mut out), out)
             }
-            Act::HandOn { .. } => unreachable!("not one call"),
+            Act::HandOn { .. } | Act::Interleave { .. } => unreachable!("not one call"),
             Act::ReadGreeting { line } => Answer::Greeting(calls::read_greeting(line)),
             Act::ReadReply { command, line } => Answer::Reading(calls::read_reply(*command, line)),
             Act::Panel(call) => on_panel(call),

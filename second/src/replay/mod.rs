@@ -1,12 +1,16 @@
 //! 02, L1: a log from the floor, played on 01's sample set-up (W 20, C 60, one lamp at 0 s, input 11, texts empty, no
-//! password, connection closed). `mistakes` has the deliberate ones.
+//! password, every place closed). `mistakes` has the deliberate ones.
 
 pub mod mistakes;
 
+use crate::reference::Projector;
+use crate::reference::places::NOT_CLOSED;
 use crate::reference::set_up::SetUp;
 use crate::reference::text::{CR, Input, LF, hex_number};
-use crate::reference::{Connection, Projector};
 use std::io::{self, BufRead, Write};
+
+/// 02, L5: "L1's log drives place 0 only, and a second `O` there still prints `! 5`, by the program's own test."
+pub const PLACE: usize = 0;
 
 /// "over 4,096 bytes prints its number, a space and `?` and changes nothing".
 pub const LONGEST: usize = 4096;
@@ -52,22 +56,22 @@ fn seconds(digits: &[u8]) -> Option<u32> {
 type Play = fn(&mut Projector, Event) -> Outcome;
 
 pub fn play(projector: &mut Projector, event: Event) -> Outcome {
-    let closed = projector.connection == Connection::Closed;
+    let closed = projector.is_closed(PLACE);
     match event {
-        Event::Open(_) if !closed => Outcome::Refused(5),
-        Event::Open(random) => Outcome::Reply(projector.open(random)),
+        Event::Open(_) if !closed => Outcome::Refused(NOT_CLOSED),
+        Event::Open(random) => Outcome::Reply(projector.open(PLACE, random)),
         Event::Receive(_) | Event::Close if closed => Outcome::Refused(4),
         Event::Receive(text) => {
             let mut line = text.to_vec();
             line.push(CR);
-            Outcome::Reply(projector.receive(&line).1)
+            Outcome::Reply(projector.receive(PLACE, &line).1)
         }
         Event::Pass(seconds) => {
             projector.pass(seconds);
             Outcome::Reply(Vec::new())
         }
         Event::Close => {
-            projector.connection = Connection::Closed;
+            projector.close(PLACE);
             Outcome::Reply(Vec::new())
         }
     }

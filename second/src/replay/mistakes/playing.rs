@@ -1,9 +1,9 @@
 //! Mistakes in what an event does, and in what is printed.
 
 use super::Wrong::{self, Call, Ends, Plays, Prints};
+use crate::reference::Projector;
 use crate::reference::rules::Mistake;
-use crate::reference::{Connection, Projector};
-use crate::replay::{Event, Outcome, play, sample};
+use crate::replay::{Event, Outcome, PLACE, play, sample};
 
 pub const PLAYING: &[(&str, Wrong)] = &[
     // "`O`, a space and eight lowercase hex digits opens"
@@ -11,7 +11,7 @@ pub const PLAYING: &[(&str, Wrong)] = &[
         "a second O opens again",
         Plays(|projector, event| {
             if let Event::Open(_) = event {
-                projector.connection = Connection::Closed;
+                projector.close(PLACE);
             }
             play(projector, event)
         }),
@@ -20,7 +20,7 @@ pub const PLAYING: &[(&str, Wrong)] = &[
         "a second O closes, though it is refused",
         Plays(|projector, event| match event {
             Event::Open(_) if !is_closed(projector) => {
-                projector.connection = Connection::Closed;
+                projector.close(PLACE);
                 Outcome::Refused(5)
             }
             _ => play(projector, event),
@@ -30,6 +30,23 @@ pub const PLAYING: &[(&str, Wrong)] = &[
         "a second O is refused with 4",
         Plays(|projector, event| match event {
             Event::Open(_) if !is_closed(projector) => Outcome::Refused(4),
+            _ => play(projector, event),
+        }),
+    ),
+    (
+        "a second O is refused with 6",
+        Plays(|projector, event| match event {
+            Event::Open(_) if !is_closed(projector) => Outcome::Refused(6),
+            _ => play(projector, event),
+        }),
+    ),
+    (
+        "a second O opens the next place, till none is left",
+        Plays(|projector, event| match event {
+            Event::Open(random) => match (0..4).find(|&place| projector.is_closed(place)) {
+                Some(place) => Outcome::Reply(projector.open(place, random)),
+                None => Outcome::Refused(6),
+            },
             _ => play(projector, event),
         }),
     ),
@@ -46,7 +63,7 @@ pub const PLAYING: &[(&str, Wrong)] = &[
     (
         "no CR follows the text",
         Plays(|projector, event| match event {
-            Event::Receive(text) if !is_closed(projector) => Outcome::Reply(projector.receive(text).1),
+            Event::Receive(text) if !is_closed(projector) => Outcome::Reply(projector.receive(PLACE, text).1),
             _ => play(projector, event),
         }),
     ),
@@ -70,7 +87,7 @@ pub const PLAYING: &[(&str, Wrong)] = &[
         Plays(|projector, event| {
             let outcome = play(projector, event);
             if let Event::Pass(30..) = event {
-                projector.connection = Connection::Closed;
+                projector.close(PLACE);
             }
             outcome
         }),
@@ -112,5 +129,5 @@ fn nothing() -> Outcome {
 }
 
 fn is_closed(projector: &Projector) -> bool {
-    projector.connection == Connection::Closed
+    projector.is_closed(PLACE)
 }
