@@ -1,26 +1,38 @@
 -- The calls by their cases: what each gives by the tests that decide it, and what holds of a result because it holds in
 -- every case.
 -- Assumes nothing.
-use Prim.Native.Nat.{ℕ}
-use mathlib.Core.Path.{_≡_, sym, _∙_}
-use mathlib.Core.Bool.{Bool, true, false, not}
+use Prim.Native.Nat.{ℕ, _<_}
+use mathlib.Core.Path.{_≡_, refl, sym, ap, _∙_}
+use mathlib.Core.Bool.{Bool, true, false, false≢true, not, _||_}
 use mathlib.Core.List.{List}
-use lib.ListN.{length}
+use lib.ListN.{length, set}
+use lib.Dec.{eqb}
 use native.Mathlib.Omega.{arith}
-use borrow.Author.Tests.{not-false}
-use Rattle.text.proofs.Choices.{if-by, both, both-left, both-right}
+use borrow.Author.Tests.{not-false, leb-false, lt-leb, eqb-true, eq-eqb}
+use Rattle.text.proofs.ByRows.{by-rows, rows-done}
+use Rattle.text.proofs.Choices.{if-yes, if-no, if-by, both, both-left, both-right}
+use Rattle.record.specs.Limits.{off}
 use Rattle.record.specs.Wanted.{Wanted}
 use Rattle.record.specs.Rules.{isLongEnough, isErrors}
 use Rattle.record.specs.Record.{allClosed, settingsOf, startOwn, started, blank, accepted, refused}
 use Rattle.record.specs.Legal.{isLegal}
 use Rattle.record.specs.SetUp.{isInRange, isSetUp, setUp}
-use Rattle.record.specs.Updates.{withOwn, withFault, withErrors}
-use Rattle.record.specs.HostCalls.{faultSet, errorsSet}
+use Rattle.record.specs.Updates.{withOwn, withFault, withErrors, withMarks}
+use Rattle.record.specs.HostCalls.{faultSet, errorsSet, isNoLamp, isNoneLeft, markRows, markSet}
 use Rattle.record.specs.declared.types.Settings.{Settings}
 use Rattle.record.specs.declared.types.Own.{Own}
 use Rattle.record.specs.declared.types.Connection.{Connection}
 use Rattle.record.specs.declared.types.Device.{Device}
 use Rattle.record.specs.declared.types.Changed.{Changed}
+
+-- neither of two tests holds
+neither-left : (a b : Bool) → (a || b) ≡ false → a ≡ false
+neither-left false b e = refl
+neither-left true b e = e
+
+neither-right : (a b : Bool) → (a || b) ≡ false → b ≡ false
+neither-right false b e = e
+neither-right true b e = absurd (false≢true (sym e))
 
 module _ (w : Wanted) where
   abbrev long : Bool
@@ -108,3 +120,54 @@ module _ (d : Device) where
       if-by P (not (isLegal d)) (λ h. illegal)
       (λ h. if-by P (not (isErrors ds)) (λ k. wrong)
       (λ k. accept (not-false (isLegal d) h) (not-false (isErrors ds) k)))
+
+  -- a mark: refused, or one at least is left and the power is off
+  pub mark-set-by : (P : Changed → Type 0) (k : ℕ) (m : Bool) → ((n : ℕ) → (n ≡ 0 → ⊥) → P (refused n d))
+      → (isLegal d ≡ true → k < d .settings .«lamp_count» → isNoneLeft (set (d .own .enabled) k m) ≡ false
+      → d .own .power ≡ off → P (accepted (withOwn d (withMarks (d .own) (set (d .own .enabled) k m)))))
+      → P (markSet d k m)
+  unfolding markSet
+  mark-set-by P k m refuse accept =
+      by-rows (λ n. refused n d) _ P refuse (markRows d k m) refl
+      (λ none. accept (not-false (isLegal d) (none .0))
+      (leb-false (d .settings .«lamp_count») k
+      (neither-left (isNoLamp d k) (isNoneLeft (set (d .own .enabled) k m)) (none .1 .0)))
+      (neither-right (isNoLamp d k) (isNoneLeft (set (d .own .enabled) k m)) (none .1 .0))
+      (eqb-true (d .own .power) off (not-false (eqb (d .own .power) off) (none .1 .1 .0))))
+
+  -- the row that applies
+  module _ (k : ℕ) (m : Bool) where
+    pub mark-not-legal : isLegal d ≡ false → markSet d k m ≡ refused 1 d
+    unfolding markSet
+    mark-not-legal h = if-yes _ _ (ap not h)
+
+    module _ (legal : isLegal d ≡ true) where
+      pub mark-nowhere : isNoLamp d k ≡ true → markSet d k m ≡ refused 3 d
+      unfolding markSet
+      mark-nowhere e =
+          if-no _ _ (ap not legal)
+          ∙ if-yes _ _ (ap (λ (t : Bool). t || isNoneLeft (set (d .own .enabled) k m)) e)
+
+      module _ (there : isNoLamp d k ≡ false) where
+        pub mark-last : isNoneLeft (set (d .own .enabled) k m) ≡ true → markSet d k m ≡ refused 3 d
+        unfolding markSet
+        mark-last e = if-no _ _ (ap not legal) ∙ if-yes _ _ ((λ i. there i || e i))
+
+        pub mark-not-off : isNoneLeft (set (d .own .enabled) k m) ≡ false → eqb (d .own .power) off ≡ false
+            → markSet d k m ≡ refused 7 d
+        unfolding markSet
+        mark-not-off e p =
+            if-no _ _ (ap not legal) ∙ if-no _ _ ((λ i. there i || e i)) ∙ if-yes _ _ (ap not p)
+
+  pub mark-accepted : (k : ℕ) (m : Bool) → isLegal d ≡ true → k < d .settings .«lamp_count»
+      → isNoneLeft (set (d .own .enabled) k m) ≡ false → d .own .power ≡ off
+      → markSet d k m ≡ accepted (withOwn d (withMarks (d .own) (set (d .own .enabled) k m)))
+  unfolding markSet
+  mark-accepted k m legal inside left idle =
+      rows-done (λ n. refused n d) _ (markRows d k m) (
+        ap not legal,
+        (
+          (λ i. lt-leb (d .settings .«lamp_count») k inside i || left i),
+          (ap not (eq-eqb (d .own .power) off idle), tt),
+        ),
+      )

@@ -3,6 +3,8 @@ pub mod Places
 pub mod Sifted
 pub mod Pairs
 pub mod Marks
+pub mod MarksTold
+pub mod Tested
 pub mod Kept
 pub mod Filled
 pub mod Rules

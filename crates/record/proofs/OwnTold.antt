@@ -1,5 +1,5 @@
 -- What a legal own part tells, and how it is shown (the crates above never open `isOwn` or `isLeft`).
---   OwnTold s o      error digits, lamps, seconds left, the chosen input
+--   OwnTold s o      error digits, lamps and their marks, seconds left, the chosen input
 -- Assumes nothing.
 use Prim.Native.Nat.{ℕ, _≤_, _<_}
 use mathlib.Core.Path.{_≡_, refl, sym, ap, _∙_}
@@ -15,7 +15,7 @@ use borrow.Author.Tests.{leb-true, le-leb, ltb-true, lt-ltb, eqb-true, eqb-false
 use Rattle.text.proofs.Scanning.{every-at, every-by-place}
 use Rattle.text.proofs.Choices.{both, both-left, both-right, if-by}
 use Rattle.record.specs.Limits.{lampsMost, lampLimit, errorsCount, errorMost, off, on, cooling, warming, isPower}
-use Rattle.record.specs.Rules.{atMost, isLamp, isLamps, isErrors}
+use Rattle.record.specs.Rules.{atMost, isLamp, isLamps, isMarks, isErrors}
 use Rattle.record.specs.Legal.{fillsRoom, isLeft, isOwn}
 use Rattle.record.specs.declared.types.Settings.{Settings}
 use Rattle.record.specs.declared.types.Own.{Own}
@@ -25,6 +25,7 @@ use Rattle.record.proofs.Rules.{errors-long, errors-within, lamps-withi
 pub record OwnTold (s : Settings) (o : Own) : Type 0 where
   pub errors : isErrors (o .errors) ≡ true
   pub lamps : Kept lampsMost isLamps (o .lamps) (s .«lamp_count»)
+  pub marks : isMarks (s .«lamp_count») (o .enabled) ≡ true
   pub left : isLeft (o .power) (o .left) (s .warm) (s .cool) ≡ true
   pub chosen : o .chosen < s .«input_count»
 
@@ -32,26 +33,32 @@ module _ (s : Settings) (o : Own) where
   abbrev lamps-ok : Bool
   lamps-ok = fillsRoom lampsMost isLamps (o .lamps) (s .«lamp_count»)
 
+  abbrev marks-ok : Bool
+  marks-ok = isMarks (s .«lamp_count») (o .enabled)
+
   abbrev left-ok : Bool
   left-ok = isLeft (o .power) (o .left) (s .warm) (s .cool)
 
   pub own-told : isOwn s o ≡ true → OwnTold s o
   unfolding isOwn
   own-told h =
-      let h3 = both-left (isErrors (o .errors) && lamps-ok && left-ok) (ltb (o .chosen) (s .«input_count»)) h in
-      let h2 = both-left (isErrors (o .errors) && lamps-ok) left-ok h3 in
+      let first = isErrors (o .errors) in
+      let h4 = both-left (first && lamps-ok && marks-ok && left-ok) (ltb (o .chosen) (s .«input_count»)) h in
+      let h3 = both-left (first && lamps-ok && marks-ok) left-ok h4 in
+      let h2 = both-left (first && lamps-ok) marks-ok h3 in
       record {
-        errors = both-left (isErrors (o .errors)) lamps-ok h2;
-        lamps = kept-told lampsMost isLamps _ _ (both-right (isErrors (o .errors)) lamps-ok h2);
-        left = both-right (isErrors (o .errors) && lamps-ok) left-ok h3;
+        errors = both-left first lamps-ok h2;
+        lamps = kept-told lampsMost isLamps _ _ (both-right first lamps-ok h2);
+        marks = both-right (first && lamps-ok) marks-ok h3;
+        left = both-right (first && lamps-ok && marks-ok) left-ok h4;
         chosen = ltb-true (o .chosen) (s .«input_count»)
-            (both-right (isErrors (o .errors) && lamps-ok && left-ok) (ltb (o .chosen) (s .«input_count»)) h);
+            (both-right (first && lamps-ok && marks-ok && left-ok) (ltb (o .chosen) (s .«input_count»)) h);
       }
 
   pub own-shown : OwnTold s o → isOwn s o ≡ true
   unfolding isOwn
   own-shown t =
-      both (both (both (t .errors) (kept-shown lampsMost isLamps _ _ (t .lamps))) (t .left))
+      both (both (both (both (t .errors) (kept-shown lampsMost isLamps _ _ (t .lamps))) (t .marks)) (t .left))
       (lt-ltb (o .chosen) (s .«input_count») (t .chosen))
 
   module _ (t : OwnTold s o) where

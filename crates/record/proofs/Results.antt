@@ -6,19 +6,22 @@ use mathlib.Core.Path.{_≡_, refl, sym, _∙_}
 use mathlib.Core.Bool.{Bool, true, false, not}
 use mathlib.Core.List.{List}
 use native.Mathlib.Omega.{arith}
-use lib.ListN.{length}
+use lib.ListN.{length, set}
 use Rattle.text.specs.Words.{if_then_else_}
+use Rattle.text.specs.Rows.{firstOf}
+use Rattle.text.proofs.ByRows.{rows-number}
 use Rattle.text.proofs.Choices.{if-yes, if-no, if-by}
 use Rattle.text.proofs.OneResult.{one-result}
 use Rattle.record.specs.Wanted.{Wanted}
 use Rattle.record.specs.Rules.{isLongEnough, isErrors}
-use Rattle.record.specs.Record.{blank}
+use Rattle.record.specs.Record.{blank, accepted, refused}
+use Rattle.record.specs.Updates.{withOwn, withMarks}
 use Rattle.record.specs.Legal.{isLegal}
 use Rattle.record.specs.SetUp.{isInRange, setUp}
-use Rattle.record.specs.HostCalls.{faultSet, errorsSet}
+use Rattle.record.specs.HostCalls.{faultSet, errorsSet, markRows, markSet}
 use Rattle.record.specs.declared.types.Device.{Device}
 use Rattle.record.specs.declared.types.Changed.{Changed}
-use Rattle.record.proofs.Calls.{set-up-by, fault-set-by, errors-set-by}
+use Rattle.record.proofs.Calls.{set-up-by, fault-set-by, errors-set-by, mark-set-by}
 
 module _ (w : Wanted) where
   abbrev out : Bool
@@ -96,3 +99,16 @@ module _ (d : Device) where
 
   pub errors-one : (ds : List ℕ) {r q : Changed} → r ≡ errorsSet d ds → q ≡ errorsSet d ds → r ≡ q
   errors-one ds e f = one-result e f
+
+  pub mark-number : (k : ℕ) (m : Bool) → markSet d k m .number ≡ firstOf (markRows d k m)
+  unfolding markSet
+  mark-number k m =
+      rows-number (λ n. refused n d) (accepted (withOwn d (withMarks (d .own) (set (d .own .enabled) k m))))
+      (λ (r : Changed). r .number) (λ n. refl) refl (markRows d k m)
+
+  pub mark-refusal : (k : ℕ) (m : Bool) → (markSet d k m .number ≡ 0 → ⊥) → markSet d k m .device ≡ d
+  mark-refusal k m =
+      mark-set-by d (λ r. (r .number ≡ 0 → ⊥) → r .device ≡ d) k m (λ n z e. refl) (λ h i l p n. absurd (n refl))
+
+  pub mark-one : (k : ℕ) (m : Bool) {r q : Changed} → r ≡ markSet d k m → q ≡ markSet d k m → r ≡ q
+  mark-one k m e f = one-result e f

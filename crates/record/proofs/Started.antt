@@ -12,7 +12,7 @@ use Rattle.lines.specs.Texts.{isName, isInfo}
 use Rattle.record.specs.Limits.{textRoom, inputRoom, lampsMost, placesCount}
 use Rattle.record.specs.Wanted.{Wanted}
 use Rattle.record.specs.Rules.{isSetUpPassword, isNewInput, isInputs, isLamps, isErrors}
-use Rattle.record.specs.Record.{zeros, inRoom, closed, allClosed, settingsOf, startOwn, started, blank}
+use Rattle.record.specs.Record.{zeros, inRoom, closed, allClosed, allMarks, settingsOf, startOwn, started, blank}
 use Rattle.record.specs.Legal.{fillsRoom, isSettings, isOwn, isLegal}
 use Rattle.record.specs.Places.{connectionAt}
 use Rattle.record.specs.SetUp.{isSettingInRange, isSetUp, setUp}
@@ -24,6 +24,7 @@ use Rattle.record.proofs.Rules.{set-up-password-shown, inputs-some, inp
 use Rattle.record.proofs.Places.{pairs-even}
 use Rattle.record.proofs.Kept.{filled-kept, kept-shown}
 use Rattle.record.proofs.OwnTold.{own-shown, off-left}
+use Rattle.record.proofs.MarksTold.{all-marks-legal}
 use Rattle.record.proofs.ConnectionsTold.{all-closed-legal, all-closed-at}
 use Rattle.record.proofs.LegalTold.{legal-by-parts, settings-of-legal}
 use Rattle.record.proofs.SettingsTold.{input-count-low}
@@ -81,6 +82,7 @@ module _ (w : Wanted) where
     own-legal = own-shown _ (startOwn (w .lamps)) (record {
       errors = refl;
       lamps = filled-kept lampsMost isLamps (w .lamps) (lamps-few (w .lamps) (met Lamps)) (met Lamps);
+      marks = all-marks-legal (length (w .lamps)) (lamps-few (w .lamps) (met Lamps));
       left = off-left (w .warm) (w .cool);
       chosen = omega (arith, inputs-some (w .inputs) (met Inputs));
     })
@@ -93,6 +95,11 @@ module _ (w : Wanted) where
   pub started-lamp : (k : ℕ) → k < length (w .lamps) → getD (started w .own .lamps) k 0 ≡ getD (w .lamps) k 0
   unfolding started inRoom
   started-lamp k l = List·getD-append (w .lamps) (drop (length (w .lamps)) (zeros lampsMost)) 0 k l
+
+  -- each lamp is enabled (02, L8)
+  pub started-marks : started w .own .enabled ≡ allMarks (length (w .lamps))
+  unfolding started
+  started-marks = refl
 
   -- the started device, part by part
   pub started-parts : started w ≡ record { settings = settingsOf w; own = startOwn (w .lamps); connections = allClosed }

@@ -26,7 +26,7 @@ use Rattle.lines.specs.Texts.{isName, isInfo}
 use Rattle.lines.specs.Forms.{commandMost}
 use Rattle.record.specs.Limits.{textRoom, inputRoom, lampsMost, lineRoom, ageEnd, placesCount, cooling, warming}
 use Rattle.record.specs.Limits.{shut, awaiting, opened, failed, isPower, isPhase}
-use Rattle.record.specs.Rules.{isSetUpPassword, isInputs, isLamps, isStretch, isErrors}
+use Rattle.record.specs.Rules.{isSetUpPassword, isInputs, isLamps, isMarks, isStretch, isErrors}
 use Rattle.record.specs.declared.types.Text.{Text}
 use Rattle.record.specs.declared.types.Settings.{Settings}
 use Rattle.record.specs.declared.types.Own.{Own}
@@ -62,7 +62,7 @@ isLeft power left warm cool =
 unfoldable pub isOwn : Settings → Own → Bool
 isOwn s o =
     isErrors (o .errors) && fillsRoom lampsMost isLamps (o .lamps) (s .«lamp_count»)
-    && isLeft (o .power) (o .left) (s .warm) (s .cool)
+    && isMarks (s .«lamp_count») (o .enabled) && isLeft (o .power) (o .left) (s .warm) (s .cool)
     && ltb (o .chosen) (s .«input_count»)
 
 abbrev pub isTimed : ℕ → Bool

@@ -6,20 +6,21 @@
 --   allClosed            every place closed (02, L5)
 --   blank                the blank record, all zero
 --   settingsOf w         the settings that set-up keeps
---   blankOwn             off, both mutes off, the first input, no fault, error status 000000: all zero
---   startOwn lamps       the same, with the lamps' starting seconds
+--   allMarks n           the enabled marks of n lamps, all set (02, L8)
+--   blankOwn             off, both mutes off, the first input, no fault, error status 000000, no mark: all zero
+--   startOwn lamps       the same, with the lamps' starting seconds, each lamp enabled
 --   started w            the device that an accepted set-up gives
 --   accepted d           the number 0 and the record d
 --   refused n d          the number n and the record that was given
 -- Assumes nothing.
-use Prim.Native.Nat.{ℕ, _/_}
-use mathlib.Core.Bool.{false}
-use mathlib.Core.List.{List}
+use Prim.Native.Nat.{ℕ, _-_, _/_}
+use mathlib.Core.Bool.{Bool, true, false}
+use mathlib.Core.List.{List, _++_}
 use lib.ListN.{length, replicate}
 use Rattle.text.specs.Words.{over}
 use Rattle.record.specs.Limits.{textRoom, inputRoom, lampsMost, lineRoom, errorsCount, placesCount, off, shut}
 use Rattle.record.specs.Wanted.{Wanted}
-use Rattle.record.specs.Updates.{withSeconds}
+use Rattle.record.specs.Updates.{withSeconds, withMarks}
 use Rattle.record.specs.declared.types.Text.{Text}
 use Rattle.record.specs.declared.types.Settings.{Settings}
 use Rattle.record.specs.declared.types.Own.{Own}
@@ -71,10 +72,14 @@ blankOwn = record {
   fault = false;
   errors = zeros errorsCount;
   lamps = zeros lampsMost;
+  enabled = replicate lampsMost false;
 }
 
+unfoldable pub allMarks : ℕ → List Bool
+allMarks n = replicate n true ++ replicate (lampsMost - n) false
+
 abbrev pub startOwn : List ℕ → Own
-startOwn lamps = withSeconds blankOwn (inRoom lampsMost lamps)
+startOwn lamps = withMarks (withSeconds blankOwn (inRoom lampsMost lamps)) (allMarks (length lamps))
 
 unfoldable pub started : Wanted → Device
 started w = record { settings = settingsOf w; own = startOwn (w .lamps); connections = allClosed }

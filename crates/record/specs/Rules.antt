@@ -9,6 +9,7 @@
 --   isInputs s           1 to 32 inputs, two characters each, all different
 --   isLamp x             a lamp's seconds are at most the limit
 --   isLamps xs           0 to 8 lamps
+--   isMarks n ms         the enabled marks of n lamps (02, L8): none past them, and one at least where there are lamps
 --   isStretch n          1 to 600 seconds, of warm-up or of cooling
 --   isErrors ds          six error digits, each 0 to 2
 -- Assumes nothing.
@@ -16,7 +17,7 @@ use Prim.Native.Nat.{ℕ, _+_, _-_, _*_}
 use Prim.Native.Char.{code}
 use mathlib.Core.Bool.{Bool, true, false, not, _&&_, _||_}
 use mathlib.Core.List.{List, [], _∷_}
-use lib.ListN.{length}
+use lib.ListN.{length, drop}
 use lib.Dec.{leb, eqb}
 use Rattle.text.specs.Scans.{every}
 use Rattle.lines.specs.Inputs.{isInputText}
@@ -62,6 +63,9 @@ isLamp x = atMost lampLimit x
 
 unfoldable pub isLamps : List ℕ → Bool
 isLamps xs = leb (length xs) lampsMost && every isLamp xs
+
+unfoldable pub isMarks : ℕ → List Bool → Bool
+isMarks n ms = eqb (length ms) lampsMost && every not (drop n ms) && (eqb n 0 || not (every not ms))
 
 abbrev pub isStretch : ℕ → Bool
 isStretch n = leb 1 n && leb n stretchMost

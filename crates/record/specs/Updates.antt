@@ -3,7 +3,7 @@
 --   withPower o power left      the power, with so many seconds left of warm-up or cooling
 --   withChosen o place          the place of the chosen input;    withMutes o video audio     both mutes
 --   withFault o mark            the fault mark;                   withErrors o digits         the error digits
---   withSeconds o s             the lamps' seconds
+--   withSeconds o s             the lamps' seconds;               withMarks o ms              their marks (02, L8)
 --   aged c age, withLine c l    the connection at that age; with that line
 --   withOwn d o                 the device with that own part
 -- Assumes nothing.
@@ -15,8 +15,9 @@ use Rattle.record.specs.declared.types.Line.{Line}
 use Rattle.record.specs.declared.types.Connection.{Connection}
 use Rattle.record.specs.declared.types.Device.{Device}
 
-abbrev ownOf : (power left chosen : ℕ) (video audio fault : Bool) (errors lamps : List ℕ) → Own
-ownOf power left chosen video audio fault errors lamps = record {
+abbrev ownOf : (power left chosen : ℕ) (video audio fault : Bool) (errors lamps : List ℕ)
+    (enabled : List Bool) → Own
+ownOf power left chosen video audio fault errors lamps enabled = record {
   power = power;
   left = left;
   chosen = chosen;
@@ -25,26 +26,36 @@ ownOf power left chosen video audio fault errors lamps = record {
   fault = fault;
   errors = errors;
   lamps = lamps;
+  enabled = enabled;
 }
 
 module _ (o : Own) where
   abbrev pub withPower : (power left : ℕ) → Own
-  withPower p n = ownOf p n (o .chosen) (o .«video_muted») (o .«audio_muted») (o .fault) (o .errors) (o .lamps)
+  withPower p n =
+      ownOf p n (o .chosen) (o .«video_muted») (o .«audio_muted») (o .fault) (o .errors) (o .lamps) (o .enabled)
 
   abbrev pub withChosen : (place : ℕ) → Own
-  withChosen k = ownOf (o .power) (o .left) k (o .«video_muted») (o .«audio_muted») (o .fault) (o .errors) (o .lamps)
+  withChosen k =
+      ownOf (o .power) (o .left) k (o .«video_muted») (o .«audio_muted») (o .fault) (o .errors) (o .lamps) (o .enabled)
 
   abbrev pub withMutes : (video audio : Bool) → Own
-  withMutes v a = ownOf (o .power) (o .left) (o .chosen) v a (o .fault) (o .errors) (o .lamps)
+  withMutes v a = ownOf (o .power) (o .left) (o .chosen) v a (o .fault) (o .errors) (o .lamps) (o .enabled)
 
   abbrev pub withFault : (mark : Bool) → Own
-  withFault m = ownOf (o .power) (o .left) (o .chosen) (o .«video_muted») (o .«audio_muted») m (o .errors) (o .lamps)
+  withFault m =
+      ownOf (o .power) (o .left) (o .chosen) (o .«video_muted») (o .«audio_muted») m (o .errors) (o .lamps) (o .enabled)
 
   abbrev pub withErrors : (digits : List ℕ) → Own
-  withErrors ds = ownOf (o .power) (o .left) (o .chosen) (o .«video_muted») (o .«audio_muted») (o .fault) ds (o .lamps)
+  withErrors ds =
+      ownOf (o .power) (o .left) (o .chosen) (o .«video_muted») (o .«audio_muted») (o .fault) ds (o .lamps) (o .enabled)
 
   abbrev pub withSeconds : List ℕ → Own
-  withSeconds s = ownOf (o .power) (o .left) (o .chosen) (o .«video_muted») (o .«audio_muted») (o .fault) (o .errors) s
+  withSeconds s =
+      ownOf (o .power) (o .left) (o .chosen) (o .«video_muted») (o .«audio_muted») (o .fault) (o .errors) s (o .enabled)
+
+  abbrev pub withMarks : List Bool → Own
+  withMarks ms =
+      ownOf (o .power) (o .left) (o .chosen) (o .«video_muted») (o .«audio_muted») (o .fault) (o .errors) (o .lamps) ms
 
 abbrev pub aged : Connection → ℕ → Connection
 aged c age = record { phase = c .phase; age = age; random = c .random; line = c .line }

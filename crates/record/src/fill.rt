@@ -8,7 +8,7 @@ ghost use mathlib.Core.Path.{_≡_};
 ghost use Prim.Native.Nat.{_≤_};
 ghost use lib.ListN.{length};
 ghost use Rattle.record.specs.Limits.{textRoom, inputRoom, lampsMost};
-ghost use Rattle.record.specs.Record.{inRoom, textOf, startOwn};
+ghost use Rattle.record.specs.Record.{inRoom, textOf, allMarks, startOwn};
 
 pub fn text_of(s: &[u8]) -> Text
     requires { ⌜ length (now s) ≤ textRoom ⌝ }
@@ -44,14 +44,30 @@ pub fn lamp_room(s: &[u32]) -> [u32; LAMPS_MOST]
     list
 }
 
-// Off, both mutes off, the first input, no fault, error status 000000, and the lamps' starting seconds.
+// Each of so many lamps is enabled (02, L8).
+pub fn mark_room(count: usize) -> [bool; LAMPS_MOST]
+    requires { ⌜ count ≤ lampsMost ⌝ }
+    ensures { λ r. ⌜ r ≡ allMarks count ⌝ }
+{
+    let mut list = [false; LAMPS_MOST];
+    let mut i = 0;
+    while i < count {
+        list[i] = true;
+        i += 1;
+    }
+    list
+}
+
+// Off, both mutes off, the first input, no fault, error status 000000, and the lamps' starting seconds, each enabled.
 pub fn start_own(lamps: &[u32]) -> Own
     requires { ⌜ length (now lamps) ≤ lampsMost ⌝ }
     ensures { λ r. ⌜ r ≡ startOwn (now (lamps .entry)) ⌝ }
 {
     let seconds = lamp_room(lamps);
+    let marks = mark_room(lamps.len());
     let blank = Own::BLANK;
     let mut start = blank;
     start.lamps = seconds;
+    start.enabled = marks;
     start
 }

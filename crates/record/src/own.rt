@@ -5,8 +5,11 @@ use crate::types::LAMPS_MOST;
 use crate::types::Own;
 use crate::types::Settings;
 ghost use mathlib.Core.Path.{_≡_};
+ghost use mathlib.Core.Bool.{not};
+ghost use lib.ListN.{drop};
+ghost use Rattle.text.specs.Scans.{every};
 ghost use Rattle.record.specs.Limits.{lampsMost, isLit, isBetween};
-ghost use Rattle.record.specs.Rules.{isLamps, isErrors};
+ghost use Rattle.record.specs.Rules.{isLamps, isMarks, isErrors};
 ghost use Rattle.record.specs.Legal.{fillsRoom, isLeft, isOwn};
 
 // 99,999 hours and 3,599 seconds.
@@ -53,6 +56,26 @@ fn lamp_list_ok(list: [u32; LAMPS_MOST], count: usize) -> bool
     scan::numbers_within(&list[count..], 0) & lamps_ok(&list[0..count])
 }
 
+// No lamp is enabled from this place on.
+pub fn none_marked(marks: [bool; LAMPS_MOST], from: usize) -> bool
+    ensures { λ r. ⌜ r ≡ every not (drop from marks) ⌝ }
+{
+    let mut none = true;
+    let mut i = from;
+    while i < LAMPS_MOST {
+        none = none & !marks[i];
+        i += 1;
+    }
+    none
+}
+
+// None past the lamps, and one at least where there are lamps (02, L8).
+fn marks_ok(marks: [bool; LAMPS_MOST], count: usize) -> bool
+    ensures { λ r. ⌜ r ≡ isMarks count marks ⌝ }
+{
+    none_marked(marks, count) & ((count == 0) | !none_marked(marks, 0))
+}
+
 // Six error digits, each 0 to 2.
 pub fn errors_ok(s: &[u8]) -> bool
     ensures { λ r. ⌜ r ≡ isErrors (now (s .entry)) ⌝ }
@@ -84,8 +107,10 @@ pub fn own_ok(s: Settings, o: Own) -> bool
 {
     let errors = o.errors;
     let lamps = o.lamps;
+    let enabled = o.enabled;
     error_list_ok(errors)
         & lamp_list_ok(lamps, s.lamp_count)
+        & marks_ok(enabled, s.lamp_count)
         & left_ok(o.power, o.left, s.warm, s.cool)
         & (o.chosen < s.input_count)
 }

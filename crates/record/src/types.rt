@@ -51,6 +51,7 @@ pub struct Own {
     pub fault: bool,
     pub errors: [u8; ERRORS],
     pub lamps: [u32; LAMPS_MOST],
+    pub enabled: [bool; LAMPS_MOST],
 }
 
 // What is collected of a line.
@@ -76,7 +77,7 @@ pub struct Device {
     pub connections: [Connection; PLACES],
 }
 
-// What set-up, the host's two calls, closing and passing time give.
+// What set-up, the host's three calls, closing and passing time give.
 #[repr(C)]
 pub struct Changed {
     pub number: u32,
@@ -90,7 +91,7 @@ impl Text {
     };
 }
 
-// All zero: off, both mutes off, the first input, no fault, error status 000000.
+// All zero: off, both mutes off, the first input, no fault, error status 000000, no lamp enabled.
 impl Own {
     pub const BLANK: Own = Own {
         power: 0,
@@ -101,6 +102,7 @@ impl Own {
         fault: false,
         errors: [0; ERRORS],
         lamps: [0; LAMPS_MOST],
+        enabled: [false; LAMPS_MOST],
     };
 }
 

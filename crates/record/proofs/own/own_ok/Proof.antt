@@ -9,7 +9,16 @@ decided : tie.Need-returns
 unfolding isOwn
 decided c =
     let left = c .before .before in
-    rw (left .left-ok .ensures, left .before .lamp-list-ok .ensures, left .before .before .error-list-ok .ensures)
+    let marks = left .before in
+    let lamps = marks .before in
+    rw (
+      left .left-ok .ensures,
+      marks .marks-ok .ensures,
+      lamps .lamp-list-ok .ensures,
+      lamps .before .error-list-ok .ensures,
+    )
 
 pub own-ok-spec : {M : Type 1} → statement M
-own-ok-spec = tie.close (tie.spec (λ c κs. search needs) (λ c κs. search needs) (λ c κs. search needs) decided)
+own-ok-spec =
+    tie.close
+    (tie.spec (λ c κs. search needs) (λ c κs. search needs) (λ c κs. search needs) (λ c κs. search needs) decided)
