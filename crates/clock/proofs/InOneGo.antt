@@ -14,35 +14,36 @@ use Rattle.record.specs.declared.types.Own.{Own}
 use Rattle.record.specs.Places.{noConnection, connectionAt}
 use Rattle.record.specs.declared.types.Connection.{Connection}
 use Rattle.record.specs.declared.types.Device.{Device}
-use Rattle.clock.specs.Second.{times, firstChanged, oneMore, lampsSecond, ownSecond, connectionSecond, second}
+use Rattle.clock.specs.Second.{times, changedWhere, oneMore, lampsSecond, marksIn, ownSecond}
+use Rattle.clock.specs.Second.{connectionSecond, second}
 use Rattle.clock.specs.After.{powerAfter, lampsAfter, ownAfter, partsAfter}
-use Rattle.clock.proofs.FirstChanged.{none-changed, twice-changed}
+use Rattle.clock.proofs.ChangedWhere.{where-same, where-twice}
 use Rattle.clock.proofs.ConnectionsAge.{untimed-stays}
 use Rattle.clock.proofs.PowerTurns.{power-none, left-none, power-more, left-more, lit-throughout}
 
-lamps-none : (power count : ℕ) (l : List ℕ) → lampsAfter 0 power count l ≡ l
+lamps-none : (power : ℕ) (ms : List Bool) (l : List ℕ) → lampsAfter 0 power ms l ≡ l
 unfolding lampsAfter times
-lamps-none power count l =
-    if-all (λ (x : List ℕ). x ≡ l) (isLit power) (none-changed count (times oneMore 0) l (λ x. refl)) refl
+lamps-none power ms l =
+    if-all (λ (x : List ℕ). x ≡ l) (isLit power) (where-same (times oneMore 0) (λ x. refl) ms l) refl
 
 -- one second of the lamps, and n of them, where they burn or not
-abbrev burns-on : ℕ → Bool → List ℕ → List ℕ
-burns-on count lit l = if lit then firstChanged count oneMore l else l
+abbrev burns-on : List Bool → Bool → List ℕ → List ℕ
+burns-on ms lit l = if lit then changedWhere oneMore ms l else l
 
-module _ (count : ℕ) (l : List ℕ) where
+module _ (ms : List Bool) (l : List ℕ) where
   abbrev burnt : ℕ → Bool → List ℕ
-  burnt n lit = if lit then firstChanged count (times oneMore n) l else l
+  burnt n lit = if lit then changedWhere (times oneMore n) ms l else l
 
-  burnt-more : (n : ℕ) (lit : Bool) → burns-on count lit (burnt n lit) ≡ burnt (suc n) lit
+  burnt-more : (n : ℕ) (lit : Bool) → burns-on ms lit (burnt n lit) ≡ burnt (suc n) lit
   unfolding times
-  burnt-more n true = twice-changed count oneMore (times oneMore n) l
+  burnt-more n true = where-twice oneMore (times oneMore n) ms l
   burnt-more n false = refl
 
   lamps-more : (n power left : ℕ)
-      → lampsSecond (powerAfter n power left) count (lampsAfter n power count l) ≡ lampsAfter (suc n) power count l
+      → lampsSecond (powerAfter n power left) ms (lampsAfter n power ms l) ≡ lampsAfter (suc n) power ms l
   unfolding lampsAfter lampsSecond
   lamps-more n power left =
-      ap (λ (lit : Bool). burns-on count lit (burnt n (isLit power))) (lit-throughout n power left)
+      ap (λ (lit : Bool). burns-on ms lit (burnt n (isLit power))) (lit-throughout n power left)
       ∙ burnt-more n (isLit power)
 
 module _ (s : Settings) (o : Own) where
@@ -51,12 +52,12 @@ module _ (s : Settings) (o : Own) where
   own-in-one-go zero =
       sym (λ i.
       withSeconds (withPower o (power-none (o .power) (o .left) i) (left-none (o .power) (o .left) i))
-      (lamps-none (o .power) (s .«lamp_count») (o .lamps) i))
+      (lamps-none (o .power) (marksIn s o) (o .lamps) i))
   own-in-one-go (suc n) =
       ap (ownSecond s) (own-in-one-go n)
       ∙ (λ i.
       withSeconds (withPower o (power-more n (o .power) (o .left) i) (left-more n (o .power) (o .left) i))
-      (lamps-more (s .«lamp_count») (o .lamps) n (o .power) (o .left) i))
+      (lamps-more (marksIn s o) (o .lamps) n (o .power) (o .left) i))
 
 -- the parts pass their seconds each for itself
 pub parts-pass : (n : ℕ) (d : Device) → times second n d ≡ partsAfter n d

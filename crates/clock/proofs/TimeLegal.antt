@@ -3,10 +3,10 @@
 -- Assumes nothing.
 use Prim.Native.Nat.{ℕ, _+_, _-_, _≤_, _<_}
 use mathlib.Core.Path.{_≡_, refl, sym, ap, _∙_}
-use mathlib.Core.Bool.{true}
+use mathlib.Core.Bool.{Bool, true, false}
 use mathlib.Core.List.{List}
 use native.Mathlib.Omega.{arith}
-use lib.ListN.{length, getD, length-map}
+use lib.ListN.{length, getD, length-map, length-take, List·getD-eq-default}
 use lib.Dec.{ltb, eqb}
 use borrow.Author.Tests.{ltb-true, eqb-true, eqb-false}
 use Rattle.text.specs.Words.{if_then_else_}
@@ -26,11 +26,11 @@ use Rattle.record.proofs.OwnTold.{when-off, left-told, warming-left, cooling-le
 use Rattle.record.proofs.ConnectionTold.{ConnectionTold, connection-told, connection-shown, closed-legal, timed-age}
 use Rattle.record.proofs.ConnectionsTold.{connections-shown, connections-each}
 use Rattle.record.proofs.LegalTold.{legal-settings, own-of-legal, legal-connections, legal-places, legal-by-parts}
-use Rattle.clock.specs.Second.{times, firstChanged, settledPower, oneMore, lampsSecond, leftSecond}
-use Rattle.clock.specs.Second.{powerSecond, ownSecond, connectionSecond, second}
+use Rattle.clock.specs.Second.{times, changedWhere, settledPower, oneMore, lampsSecond, leftSecond}
+use Rattle.clock.specs.Second.{powerSecond, marksIn, ownSecond, connectionSecond, second}
 use Rattle.clock.specs.Passing.{passed}
 use Rattle.clock.proofs.Repeated.{times-keeps}
-use Rattle.clock.proofs.FirstChanged.{changed-length, changed-at, kept-at}
+use Rattle.clock.proofs.ChangedWhere.{where-length, where-at, where-unmarked}
 use Rattle.clock.proofs.Cases.{passed-by}
 
 -- seconds left: one fewer of them, and at 0 the power turns
@@ -62,17 +62,28 @@ module _ (s : Settings) (o : Own) (t : OwnTold s o) where
   abbrev count : ℕ
   count = s .«lamp_count»
 
-  burnt-kept : Kept lampsMost isLamps (firstChanged count oneMore (o .lamps)) count
+  abbrev marks : List Bool
+  marks = marksIn s o
+
+  -- past the lamps there is no mark
+  none-past : (k : ℕ) → count ≤ k → getD marks k false ≡ false
+  none-past k h =
+      List·getD-eq-default marks false (omega (arith, length-take count (o .enabled)))
+
+  burnt-kept : Kept lampsMost isLamps (changedWhere oneMore marks (o .lamps)) count
   burnt-kept =
-      lamps-shown _ count (changed-length count oneMore (o .lamps) ∙ t .lamps .long) (t .lamps .inside)
+      lamps-shown _ count (where-length oneMore marks (o .lamps) ∙ t .lamps .long) (t .lamps .inside)
       (λ k h.
       let inside : k < length (o .lamps) = omega (arith, t .lamps .long, t .lamps .inside) in
-      let gained = changed-at count oneMore (o .lamps) 0 k h inside in
-      let one = one-within (getD (o .lamps) k 0) (lamp-at s o t k h) in
-      omega (arith, gained, one))
-      (λ k h. kept-at count oneMore (o .lamps) 0 k h ∙ kept-zero lampsMost isLamps _ _ (t .lamps) k h)
+      let x = getD (o .lamps) k 0 in
+      let gained = where-at oneMore marks (o .lamps) 0 k inside in
+      let within : (if getD marks k false then oneMore x else x) ≤ lampLimit
+      = if-all (λ (y : ℕ). y ≤ lampLimit) (getD marks k false) (one-within x (lamp-at s o t k h)) (lamp-at s o t k h) in
+      omega (arith, gained, within))
+      (λ k h.
+      where-unmarked oneMore marks (o .lamps) 0 k (none-past k h) ∙ kept-zero lampsMost isLamps _ _ (t .lamps) k h)
 
-  lamps-kept : Kept lampsMost isLamps (lampsSecond (o .power) count (o .lamps)) count
+  lamps-kept : Kept lampsMost isLamps (lampsSecond (o .power) marks (o .lamps)) count
   unfolding lampsSecond
   lamps-kept = if-all (λ (l : List ℕ). Kept lampsMost isLamps l count) (isLit (o .power)) burnt-kept (t .lamps)
 
@@ -81,6 +92,7 @@ module _ (s : Settings) (o : Own) (t : OwnTold s o) where
   own-second-kept = record {
     errors = t .errors;
     lamps = lamps-kept;
+    marks = t .marks;
     left = left-kept _ _ _ _ (left-told (o .power) (o .left) (s .warm) (s .cool) (t .left));
     chosen = t .chosen;
   }

@@ -8,7 +8,9 @@ use record::types::LAMPS_MOST;
 use record::types::Own;
 use record::types::Settings;
 ghost use mathlib.Core.Path.{_≡_};
-ghost use Rattle.clock.specs.Second.{settledPower, oneMore, firstChanged, ownSecond, times};
+ghost use lib.ListN.{take};
+ghost use Rattle.text.specs.Words.{if_then_else_};
+ghost use Rattle.clock.specs.Second.{settledPower, oneMore, changedWhere, ownSecond, times};
 ghost use Rattle.clock.specs.After.{powerAfter, leftAfter, lampsAfter};
 
 fn settled_power(power: u8) -> u8
@@ -51,8 +53,23 @@ fn lamp_after(seconds: u32, n: u32) -> u32
     seconds + n
 }
 
-fn burnt(lamps: [u32; LAMPS_MOST], count: usize, n: u32) -> [u32; LAMPS_MOST]
-    ensures { λ r. ⌜ r ≡ firstChanged count (times oneMore n) lamps ⌝ }
+// One that burns if it is enabled (02, L8).
+fn lamp_if(mark: bool, seconds: u32, n: u32) -> u32
+    ensures { λ r. ⌜ r ≡ (if mark then times oneMore n seconds else seconds) ⌝ }
+{
+    if mark {
+        return lamp_after(seconds, n);
+    }
+    seconds
+}
+
+fn burnt(
+    lamps: [u32; LAMPS_MOST],
+    enabled: [bool; LAMPS_MOST],
+    count: usize,
+    n: u32,
+) -> [u32; LAMPS_MOST]
+    ensures { λ r. ⌜ r ≡ changedWhere (times oneMore n) (take count enabled) lamps ⌝ }
 {
     let mut after = lamps;
     let mut k = 0;
@@ -60,17 +77,23 @@ fn burnt(lamps: [u32; LAMPS_MOST], count: usize, n: u32) -> [u32; LAMPS_MOST]
         if count <= k {
             return after;
         }
-        after[k] = lamp_after(lamps[k], n);
+        after[k] = lamp_if(enabled[k], lamps[k], n);
         k += 1;
     }
     after
 }
 
-fn lamps_after(power: u8, lamps: [u32; LAMPS_MOST], count: usize, n: u32) -> [u32; LAMPS_MOST]
-    ensures { λ r. ⌜ r ≡ lampsAfter n power count lamps ⌝ }
+fn lamps_after(
+    power: u8,
+    lamps: [u32; LAMPS_MOST],
+    enabled: [bool; LAMPS_MOST],
+    count: usize,
+    n: u32,
+) -> [u32; LAMPS_MOST]
+    ensures { λ r. ⌜ r ≡ lampsAfter n power (take count enabled) lamps ⌝ }
 {
     if own::is_lit(power) {
-        return burnt(lamps, count, n);
+        return burnt(lamps, enabled, count, n);
     }
     lamps
 }
@@ -79,7 +102,8 @@ pub fn own_after(s: Settings, o: Own, n: u32) -> Own
     ensures { λ r. ⌜ r ≡ times (ownSecond s) n o ⌝ }
 {
     let lamps = o.lamps;
-    let lamps = lamps_after(o.power, lamps, s.lamp_count, n);
+    let enabled = o.enabled;
+    let lamps = lamps_after(o.power, lamps, enabled, s.lamp_count, n);
     let power = power_after(o.power, o.left, n);
     let left = left_after(o.power, o.left, n);
     let mut after = o;

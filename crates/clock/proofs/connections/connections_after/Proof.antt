@@ -2,7 +2,7 @@
 -- stand as they were.
 -- Assumes nothing.
 use Prim.Native.Nat.{ℕ, _-_, _≤_}
-use mathlib.Core.Path.{_≡_, refl, sym, ap, _∙_}
+use mathlib.Core.Path.{_≡_, sym, ap, _∙_}
 use mathlib.Core.List.{List}
 use native.Mathlib.Numerals.{add-one}
 use native.Mathlib.Omega.{arith}
@@ -11,8 +11,8 @@ use borrow.Author.Needs.{needs}
 use Rattle.record.specs.Limits.{placesCount}
 use Rattle.record.specs.Places.{noConnection}
 use Rattle.record.specs.declared.types.Connection.{Connection}
-use Rattle.clock.specs.Second.{times, connectionSecond, firstChanged}
-use Rattle.clock.proofs.FirstChanged.{one-more-changed, all-mapped}
+use Rattle.clock.specs.Second.{times, connectionSecond}
+use Rattle.clock.proofs.FirstChanged.{firstChanged, none-changed, one-more-changed, all-mapped}
 use Rattle.clock.proofs.connections.connections_after.Statement.{statement}
 use Rattle.clock.proofs.connections.connections_after.Tie as tie
 
@@ -27,8 +27,7 @@ abbrev μ : tie.MeasureT-loop
 μ n connections after₀ place₀ after place = placesCount - place
 
 enters : tie.Need-loop-holds Inv μ
-unfolding firstChanged
-enters c = record { inside = omega arith; first = refl }
+enters c = record { inside = omega arith; first = sym (none-changed _ _) }
 
 again : tie.Need-loop-again Inv μ
 again c =

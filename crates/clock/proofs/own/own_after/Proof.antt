@@ -12,7 +12,7 @@ made : tie.Need-returns
 made c =
     let power = c .before in
     let lamps = power .before in
-    let start = lamps .before .before in
+    let start = lamps .before .before .before in
     let args = start .args in
     _∙_ {b = ownAfter (args .s) (args .o) (args .n)}
     (λ i.

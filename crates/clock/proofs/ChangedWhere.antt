@@ -1,0 +1,73 @@
+-- A list changed where marks are set: how many there are, what stands at each place, the loop that changes them one after
+-- the other, and two changes as one.
+-- Assumes nothing.
+use Prim.Native.Nat.{ℕ, zero, suc, _+_, _<_}
+use mathlib.Core.Path.{_≡_, refl, sym, ap, ap₂, _∙_}
+use mathlib.Core.Bool.{Bool, true, false}
+use mathlib.Core.List.{List, [], _∷_}
+use native.Mathlib.Numerals.{add-one}
+use native.Mathlib.Omega.{arith}
+use lib.ListN.{length, getD, set, take}
+use Rattle.text.specs.Words.{if_then_else_}
+use Rattle.text.proofs.Choices.{if-no}
+use Rattle.clock.specs.Second.{changedWhere}
+
+module _ {A : Type 0} (f : A → A) where
+  pub where-length : (ms : List Bool) (l : List A) → length (changedWhere f ms l) ≡ length l
+  unfolding changedWhere
+  where-length [] l = refl
+  where-length (m ∷ ms) [] = refl
+  where-length (m ∷ ms) (x ∷ l) = ap suc (where-length ms l)
+
+  -- past the marks nothing changes
+  pub where-at : (ms : List Bool) (l : List A) (d : A) (k : ℕ) → k < length l
+      → getD (changedWhere f ms l) k d ≡ (if getD ms k false then f (getD l k d) else getD l k d)
+  unfolding changedWhere
+  where-at [] l d k h = refl
+  where-at (m ∷ ms) [] d k h = absurd (omega arith)
+  where-at (m ∷ ms) (x ∷ l) d zero h = refl
+  where-at (m ∷ ms) (x ∷ l) d (suc k) h = where-at ms l d k (omega arith)
+
+  pub where-unmarked : (ms : List Bool) (l : List A) (d : A) (k : ℕ) → getD ms k false ≡ false
+      → getD (changedWhere f ms l) k d ≡ getD l k d
+  unfolding changedWhere
+  where-unmarked [] l d k e = refl
+  where-unmarked (m ∷ ms) [] d k e = refl
+  where-unmarked (m ∷ ms) (x ∷ l) d zero e = if-no (f x) x e
+  where-unmarked (m ∷ ms) (x ∷ l) d (suc k) e = where-unmarked ms l d k e
+
+  pub where-none : (l : List A) → changedWhere f [] l ≡ l
+  unfolding changedWhere
+  where-none l = refl
+
+  one-more : (ms : List Bool) (l : List A) (d : A) (k : ℕ) → k < length ms → k < length l
+      → set (changedWhere f (take k ms) l) k (if getD ms k false then f (getD l k d) else getD l k d)
+      ≡ changedWhere f (take (suc k) ms) l
+  unfolding changedWhere
+  one-more [] l d k h g = absurd (omega arith)
+  one-more (m ∷ ms) [] d k h g = absurd (omega arith)
+  one-more (m ∷ ms) (x ∷ l) d zero h g = refl
+  one-more (m ∷ ms) (x ∷ l) d (suc k) h g =
+      ap (λ (t : List A). (if m then f x else x) ∷ t) (one-more ms l d k (omega arith) (omega arith))
+
+  pub one-more-where : (ms : List Bool) (l : List A) (d : A) (k : ℕ) → k < length ms → k < length l
+      → set (changedWhere f (take k ms) l) k (if getD ms k false then f (getD l k d) else getD l k d)
+      ≡ changedWhere f (take (k + 1) ms) l
+  one-more-where ms l d k h g =
+      one-more ms l d k h g ∙ ap (λ (j : ℕ). changedWhere f (take j ms) l) (sym (add-one k))
+
+  -- what changes nothing
+  pub where-same : ((x : A) → f x ≡ x) → (ms : List Bool) (l : List A) → changedWhere f ms l ≡ l
+  unfolding changedWhere
+  where-same e [] l = refl
+  where-same e (m ∷ ms) [] = refl
+  where-same e (true ∷ ms) (x ∷ l) = ap₂ _∷_ (e x) (where-same e ms l)
+  where-same e (false ∷ ms) (x ∷ l) = ap (λ (t : List A). x ∷ t) (where-same e ms l)
+
+pub where-twice : {A : Type 0} (f g : A → A) (ms : List Bool) (l : List A)
+    → changedWhere f ms (changedWhere g ms l) ≡ changedWhere (λ x. f (g x)) ms l
+unfolding changedWhere
+where-twice f g [] l = refl
+where-twice f g (m ∷ ms) [] = refl
+where-twice {A} f g (true ∷ ms) (x ∷ l) = ap (λ (t : List A). f (g x) ∷ t) (where-twice f g ms l)
+where-twice {A} f g (false ∷ ms) (x ∷ l) = ap (λ (t : List A). x ∷ t) (where-twice f g ms l)
