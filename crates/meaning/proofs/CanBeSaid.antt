@@ -38,6 +38,7 @@ use Rattle.record.proofs.SettingsTold.{SettingsTold, settings-told, input-count
 use Rattle.record.proofs.OwnTold.{OwnTold, own-told}
 use Rattle.meaning.specs.SetUpInputs.{noInput, inputOrNone, pairsOf, inputsOf}
 use Rattle.meaning.specs.Rules.{isUndefined, isUnlisted}
+use Rattle.meaning.proofs.LampsSaid.{said-length, each-said}
 use Rattle.meaning.specs.Meaning.{chosenOf, lampSaid, lampsOf, tableAnswer, meant}
 use Rattle.meaning.proofs.InputsByPlace.{inputs-counted, input-in-use}
 use Rattle.meaning.proofs.Cases.{Passes, meant-by}
@@ -87,7 +88,7 @@ module _ (s : Settings) (o : Own) (settings : isSettings s ≡ true) (own : isOw
 
   lamps-many : length (lampsOf s o) ≡ s .«lamp_count»
   lamps-many =
-      length-map (take (s .«lamp_count») (o .lamps)) (lampSaid (isLit (o .power)))
+      said-length (isLit (o .power)) (o .enabled) (take (s .«lamp_count») (o .lamps))
       ∙ kept-length lampsMost isLamps _ _ (kept .lamps)
 
   told-can-be-said : (c : Command) → isUndefined s (Asks c) ≡ false → CanSay c (tableAnswer s o c)
@@ -101,8 +102,8 @@ module _ (s : Settings) (o : Own) (settings : isSettings s ≡ true) (own : isOw
   told-can-be-said (Query Lamp) e =
       let some = eqb-false (s .«lamp_count») 0 e in
       lamps (lampsOf s o) (omega (arith, lamps-many, some)) (omega (arith, lamps-many, set-up .lamps))
-      (every-map isLamp isLampHours (lampSaid (isLit (o .power))) (lamp-hours (isLit (o .power)))
-      (take (s .«lamp_count») (o .lamps)) (lamps-within _ (kept .lamps .follows)))
+      (each-said (isLit (o .power)) isLamp isLampHours lamp-hours (o .enabled) (take (s .«lamp_count») (o .lamps))
+      (lamps-within _ (kept .lamps .follows)))
   told-can-be-said (Query Inst) e =
       inputs (inputsOf s) (omega (arith, inputs-number s set-up, input-count-low s set-up))
       (omega (arith, inputs-number s set-up, input-count-high s set-up)) (listed-inputs s set-up)

@@ -1,6 +1,6 @@
 -- What a request does: it leaves lamps, fault and errors as they are, does nothing unless it is answered OK, and leaves
 -- a legal projector legal.
---   Keeps o k      k has the lamps, the fault mark and the errors of o
+--   Keeps o k      k has the lamps and their marks, the fault mark and the errors of o
 -- Assumes nothing.
 use Prim.Native.Nat.{ℕ, _<_}
 use mathlib.Core.Path.{_≡_, refl}
@@ -29,28 +29,29 @@ use Rattle.meaning.proofs.Cases.{decided-by, done-by}
 
 pub record Keeps (o k : Own) : Type 0 where
   pub lamps : k .lamps ≡ o .lamps
+  pub marks : k .enabled ≡ o .enabled
   pub fault : k .fault ≡ o .fault
   pub errors : k .errors ≡ o .errors
 
 all-kept : {o : Own} → Keeps o o
-all-kept = record { lamps = refl; fault = refl; errors = refl }
+all-kept = record { lamps = refl; marks = refl; fault = refl; errors = refl }
 
 module _ (s : Settings) (o : Own) where
   power-keeps : (wanted : Bool) → Keeps o (afterPower s o wanted)
   unfolding afterPower
   power-keeps wanted =
-      if-all (Keeps o) (wanted && eqb (o .power) off) (record { lamps = refl; fault = refl; errors = refl })
-      (if-all (Keeps o) (not wanted && eqb (o .power) on) (record { lamps = refl; fault = refl; errors = refl })
+      if-all (Keeps o) (wanted && eqb (o .power) off) (record { lamps = refl; marks = refl; fault = refl; errors = refl })
+      (if-all (Keeps o) (not wanted && eqb (o .power) on) (record { lamps = refl; marks = refl; fault = refl; errors = refl })
       all-kept)
 
   mute-keeps : (half : Half) (wanted : Bool) → Keeps o (afterMute o half wanted)
-  mute-keeps VideoHalf wanted = record { lamps = refl; fault = refl; errors = refl }
-  mute-keeps AudioHalf wanted = record { lamps = refl; fault = refl; errors = refl }
-  mute-keeps BothHalves wanted = record { lamps = refl; fault = refl; errors = refl }
+  mute-keeps VideoHalf wanted = record { lamps = refl; marks = refl; fault = refl; errors = refl }
+  mute-keeps AudioHalf wanted = record { lamps = refl; marks = refl; fault = refl; errors = refl }
+  mute-keeps BothHalves wanted = record { lamps = refl; marks = refl; fault = refl; errors = refl }
 
   after-keeps : (r : Request) → Keeps o (carriedOut s o r)
   after-keeps (Asks (PowerSet wanted)) = power-keeps wanted
-  after-keeps (Asks (InputSet i)) = record { lamps = refl; fault = refl; errors = refl }
+  after-keeps (Asks (InputSet i)) = record { lamps = refl; marks = refl; fault = refl; errors = refl }
   after-keeps (Asks (MuteSet half wanted)) = mute-keeps half wanted
   after-keeps (Asks (Query b)) = all-kept
   after-keeps (Unlisted b) = all-kept
@@ -84,7 +85,7 @@ module _ (s : Settings) (o : Own) where
         → isOwn s (withPower o power left) ≡ true
     with-power-legal power left h =
         own-shown s (withPower o power left)
-        (record { errors = kept .errors; lamps = kept .lamps; left = h; chosen = kept .chosen })
+        (record { errors = kept .errors; lamps = kept .lamps; marks = kept .marks; left = h; chosen = kept .chosen })
 
     power-legal : (wanted : Bool) → isOwn s (afterPower s o wanted) ≡ true
     unfolding afterPower
@@ -98,12 +99,12 @@ module _ (s : Settings) (o : Own) where
     chosen-legal : (place : ℕ) → place < s .«input_count» → isOwn s (withChosen o place) ≡ true
     chosen-legal place h =
         own-shown s (withChosen o place)
-        (record { errors = kept .errors; lamps = kept .lamps; left = kept .left; chosen = h })
+        (record { errors = kept .errors; lamps = kept .lamps; marks = kept .marks; left = kept .left; chosen = h })
 
     mutes-legal : (video audio : Bool) → isOwn s (withMutes o video audio) ≡ true
     mutes-legal video audio =
         own-shown s (withMutes o video audio)
-        (record { errors = kept .errors; lamps = kept .lamps; left = kept .left; chosen = kept .chosen })
+        (record { errors = kept .errors; lamps = kept .lamps; marks = kept .marks; left = kept .left; chosen = kept .chosen })
 
     mute-legal : (half : Half) (wanted : Bool) → isOwn s (afterMute o half wanted) ≡ true
     mute-legal VideoHalf wanted = mutes-legal wanted (o .«audio_muted»)

@@ -1,8 +1,9 @@
--- LAMP: at each lamp's place, its seconds divided by 3,600, rounded down, and whether it is lit.
+-- LAMP: at each lamp's place, its seconds divided by 3,600, rounded down, and whether it is lit: enabled, in warm-up
+-- or power-on (02, L8).
 -- Assumes nothing.
-use Prim.Native.Nat.{ℕ, zero, suc, _<_, _≤_}
+use Prim.Native.Nat.{ℕ, _<_, _≤_}
 use mathlib.Core.Path.{_≡_, refl, ap, _∙_}
-use mathlib.Core.List.{List, [], _∷_, map}
+use mathlib.Core.Bool.{false, _&&_}
 use native.Mathlib.Omega.{arith}
 use lib.ListN.{length, getD, take, length-take}
 use lib.Seq.{getD-take}
@@ -16,13 +17,8 @@ use Rattle.record.specs.Limits.{isLit}
 use Rattle.record.specs.declared.types.Settings.{Settings}
 use Rattle.record.specs.declared.types.Own.{Own}
 use Rattle.meaning.specs.Meaning.{lampSaid, lampsOf, meant}
+use Rattle.meaning.proofs.LampsSaid.{said-at}
 use Rattle.meaning.proofs.Cases.{meant-passed}
-
-turned-at : {A B : Type 0} (f : A → B) (l : List A) (k : ℕ) (d : A) (e : B) → k < length l
-    → getD (map f l) k e ≡ f (getD l k d)
-turned-at f [] k d e h = absurd (omega arith)
-turned-at f (x ∷ l) zero d e h = refl
-turned-at f (x ∷ l) (suc k) d e h = turned-at f l k d e (omega arith)
 
 module _ (s : Settings) (o : Own) where
   -- neither the fault mark nor the power keeps LAMP from its answer
@@ -32,8 +28,10 @@ module _ (s : Settings) (o : Own) where
       (record { defined = ne-eqb (s .«lamp_count») 0 (omega arith); listed = refl; sound = refl; timely = refl })
 
   pub lamp-told : (k : ℕ) (d : LampHours) → k < s .«lamp_count» → k < length (o .lamps)
-      → getD (lampsOf s o) k d ≡ lampSaid (isLit (o .power)) (getD (o .lamps) k 0)
+      → getD (lampsOf s o) k d
+      ≡ lampSaid (isLit (o .power) && getD (o .enabled) k false) (getD (o .lamps) k 0)
   lamp-told k d h l =
-      let seconds = take (s .«lamp_count») (o .lamps) in
-      turned-at (lampSaid (isLit (o .power))) seconds k 0 d (omega (arith, length-take (s .«lamp_count») (o .lamps)))
-      ∙ ap (lampSaid (isLit (o .power))) (getD-take (s .«lamp_count») (o .lamps) k 0 h)
+      let lit = isLit (o .power) in
+      said-at lit (o .enabled) (take (s .«lamp_count») (o .lamps)) k d
+      (omega (arith, length-take (s .«lamp_count») (o .lamps)))
+      ∙ ap (lampSaid (lit && getD (o .enabled) k false)) (getD-take (s .«lamp_count») (o .lamps) k 0 h)

@@ -6,6 +6,7 @@ pub mod Done
 pub mod HalvesStay
 pub mod PowerSets
 pub mod InputSets
+pub mod LampsSaid
 pub mod LampsTold
 pub mod Results
 pub mod Settled

@@ -8,8 +8,8 @@
 --   decided s o r         both, the answer as it is carried
 -- Assumes nothing.
 use Prim.Native.Nat.{ℕ, _/_}
-use mathlib.Core.Bool.{Bool, not, _&&_, _||_}
-use mathlib.Core.List.{List, map}
+use mathlib.Core.Bool.{Bool, false, not, _&&_, _||_}
+use mathlib.Core.List.{List, [], _∷_}
 use lib.ListN.{take, getD}
 use lib.Dec.{eqb}
 use Rattle.text.specs.Words.{if_then_else_}
@@ -53,8 +53,14 @@ chosenOf s o = getD (inputsOf s) (o .chosen) noInput
 abbrev pub lampSaid : Bool → ℕ → LampHours
 lampSaid lit seconds = record { hours = seconds / 3600; lit = lit }
 
+-- only an enabled lamp shows as lit (02, L8)
+unfoldable pub lampsSaid : Bool → List Bool → List ℕ → List LampHours
+lampsSaid lit marks [] = []
+lampsSaid lit [] (x ∷ xs) = lampSaid false x ∷ lampsSaid lit [] xs
+lampsSaid lit (m ∷ marks) (x ∷ xs) = lampSaid (lit && m) x ∷ lampsSaid lit marks xs
+
 abbrev pub lampsOf : Settings → Own → List LampHours
-lampsOf s o = map (lampSaid (isLit (o .power))) (take (s .«lamp_count») (o .lamps))
+lampsOf s o = lampsSaid (isLit (o .power)) (o .enabled) (take (s .«lamp_count») (o .lamps))
 
 abbrev pub textSaid : Text → Said
 textSaid t = textIs (take (t .len) (t .bytes))

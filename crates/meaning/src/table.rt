@@ -18,14 +18,13 @@ use record::types::Settings;
 use record::types::TEXT_ROOM;
 use record::types::Text;
 ghost use mathlib.Core.Path.{_≡_};
-ghost use mathlib.Core.List.{map};
 ghost use Prim.Native.Nat.{_≤_};
 ghost use lib.ListN.{length, take};
 ghost use Rattle.answers.specs.Said.{powerIs, chosenIs, errorsAre, lampsAre, inputsAre, textIs};
 ghost use Rattle.answers.specs.Carried.{answerOf};
 ghost use Rattle.record.specs.Limits.{textRoom};
 ghost use Rattle.meaning.specs.SetUpInputs.{inputsOf};
-ghost use Rattle.meaning.specs.Meaning.{powerSaid, chosenOf, lampSaid, lampsOf, textSaid, queried, tableAnswer};
+ghost use Rattle.meaning.specs.Meaning.{powerSaid, chosenOf, lampsSaid, lampsOf, textSaid, queried, tableAnswer};
 
 const HOUR: u32 = 3600;
 
@@ -64,8 +63,13 @@ fn told_errors(o: Own) -> Answer
     answer::of_text(Kind::Errors, digits)
 }
 
-fn lamps_said(seconds: [u32; LAMPS_MOST], count: usize, lit: bool) -> Answer
-    ensures { λ r. ⌜ r ≡ answerOf (lampsAre (map (lampSaid lit) (take count seconds))) ⌝ }
+fn lamps_said(
+    seconds: [u32; LAMPS_MOST],
+    marks: [bool; LAMPS_MOST],
+    count: usize,
+    lit: bool,
+) -> Answer
+    ensures { λ r. ⌜ r ≡ answerOf (lampsAre (lampsSaid lit marks (take count seconds))) ⌝ }
 {
     let mut lamps = [NO_LAMP; LAMPS_MOST];
     let mut k = 0;
@@ -75,7 +79,7 @@ fn lamps_said(seconds: [u32; LAMPS_MOST], count: usize, lit: bool) -> Answer
         }
         lamps[k] = LampHours {
             hours: seconds[k] / HOUR,
-            lit,
+            lit: lit & marks[k],
         };
         k += 1;
     }
@@ -86,7 +90,8 @@ fn told_lamps(s: Settings, o: Own) -> Answer
     ensures { λ r. ⌜ r ≡ answerOf (lampsAre (lampsOf s o)) ⌝ }
 {
     let seconds = o.lamps;
-    lamps_said(seconds, s.lamp_count, own::is_lit(o.power))
+    let marks = o.enabled;
+    lamps_said(seconds, marks, s.lamp_count, own::is_lit(o.power))
 }
 
 fn told_inputs(s: Settings) -> Answer
