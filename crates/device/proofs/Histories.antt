@@ -3,7 +3,7 @@
 -- leaves power, seconds left and lamps as they were, with a reply that is not `%1POWR=OK`, or it is the power set that
 -- stands at the end of the stream, answered OK and carried out.
 --   StreamEffect s o w r k     the stream w, replied to by r, leaves the own part k of o
---   Tells s o w r k e          that, the lamps kept, and what the connection e holds then
+--   Tells s o w r k e          that, the lamps and their marks kept, and what the connection e holds then
 -- Assumes nothing.
 use Prim.Native.Nat.{ℕ, _+_}
 use mathlib.Core.Path.{_≡_, refl, sym, ap, subst, _∙_}
@@ -35,6 +35,7 @@ use Rattle.record.proofs.ConnectionTold.{closed-holds-none, connection-told, he
 use Rattle.stream.specs.declared.Gathered.{Gathered}
 use Rattle.stream.specs.Collecting.{lineText, emptyLine, gathered}
 use Rattle.meaning.specs.Meaning.{meant, done}
+use Rattle.meaning.proofs.Done.{Keeps}
 use Rattle.device.specs.Receiving.{Taken, digestLong, lineEnded, keepingLine, takenIn}
 use Rattle.device.specs.Calls.{Result, received, greeted, openedBy, closedBy}
 use Rattle.device.proofs.Cases.{received-by, opened-by, closed-by, ended-by, taken-by}
@@ -61,6 +62,7 @@ in-stream s o {w} {l} {r} {k} e (sets a b c d wanted powr spelt reply said own) 
 pub record Tells (s : Settings) (o : Own) (stream reply : List ℕ) (k : Own) (e : Connection) : Type 0 where
   pub effect : StreamEffect s o stream reply k
   pub lamps : k .lamps ≡ o .lamps
+  pub marks : k .enabled ≡ o .enabled
   pub last : Ends stream (lineText (e .line))
 
 -- an outsider's stream, which ends in what the connection held, goes on by what is taken
@@ -74,6 +76,7 @@ module _ (s : Settings) (o : Own) {w h : List ℕ} (known : Ends w h) (x : List 
   tells-on t = record {
     effect = effect-on (t .effect);
     lamps = t .lamps;
+    marks = t .marks;
     last = ends-trans (ends-with x known) (t .last);
   }
 
@@ -145,11 +148,12 @@ module _ (s : Settings) (o : Own) (c : Connection) (bs : List ℕ) (legal : isCo
 
   pub taken-tells : (c .phase ≡ shut → ⊥) → TellsOf (takenIn s o c bs)
   taken-tells live =
-      let kept = taken-keeps s o c bs .lamps in
-      let Told : Taken → Type 0 = λ t. t .ended .own .lamps ≡ o .lamps → TellsOf t in
+      let Told : Taken → Type 0 = λ t. Keeps o (t .ended .own) → TellsOf t in
       taken-by s o c bs Told
-      (λ cr lamps. record { effect = line-told cr; lamps = lamps; last = line-last cr })
-      (λ none lamps. record { effect = stays refl refl refl; lamps = lamps; last = part-last live }) kept
+      (λ cr kept. record { effect = line-told cr; lamps = kept .lamps; marks = kept .marks; last = line-last cr })
+      (λ none kept.
+      record { effect = stays refl refl refl; lamps = kept .lamps; marks = kept .marks; last = part-last live })
+      (taken-keeps s o c bs)
 
 -- receiving, on any input: refused, it takes nothing and leaves the record
 pub received-tells : (d : Device) (p : ℕ) (bs : List ℕ) (room : ℕ) → let r = received d p bs room in
@@ -163,6 +167,7 @@ received-tells d p bs room =
     let nothing : Tells (d .settings) (d .own) (held ++ []) [] (d .own) here = record {
       effect = stays refl refl refl;
       lamps = refl;
+      marks = refl;
       last = record { before = []; split = append-nil held };
     } in
     received-by d p bs room Told (λ n z. nothing)

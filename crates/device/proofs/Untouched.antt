@@ -1,5 +1,5 @@
--- Receiving changes nothing of the settings, the lamps, the fault mark and the error digits; opening and closing change
--- nothing but the connection; and each leaves every other place's connection as it was.
+-- Receiving changes nothing of the settings, the lamps and their marks, the fault mark and the error digits; opening and
+-- closing change nothing but the connection; and each leaves every other place's connection as it was.
 -- Assumes nothing.
 use Prim.Native.Nat.{ℕ}
 use mathlib.Core.Path.{_≡_, refl}
@@ -20,7 +20,7 @@ use Rattle.device.specs.Calls.{received, openedBy, placeTaken, closedBy}
 use Rattle.device.proofs.Cases.{received-by, opened-by, opened-placed-by, closed-by, ended-by, taken-by}
 
 itself-kept : (o : Own) → Keeps o o
-itself-kept o = record { lamps = refl; fault = refl; errors = refl }
+itself-kept o = record { lamps = refl; marks = refl; fault = refl; errors = refl }
 
 module _ (s : Settings) (o : Own) where
   pub answered-keeps : (l : List ℕ) → Keeps o (lineAnswer s o l .own)

@@ -55,7 +55,8 @@ isNoPlace p = leb placesCount p
 
 abbrev pub receivingRows : Device → ℕ → ℕ → List Row
 receivingRows d p room =
-    (1 when not (isLegal d)) ∷ (2 when ltb room replyRoom) ∷ (3 when isNoPlace p) ∷ (4 when isShut (connectionAt d p)) ∷ []
+    (1 when not (isLegal d)) ∷ (2 when ltb room replyRoom) ∷ (3 when isNoPlace p)
+    ∷ (4 when isShut (connectionAt d p)) ∷ []
 
 abbrev pub openingRows : Device → ℕ → List Row
 openingRows d room =

@@ -1,5 +1,4 @@
--- A loop that tests the places of a list from n on, and never leaves early; and a room whose unused places it tests.
---   TestedFrom f s n i ok      the loop has come to i, and ok is the answer for what it passed
+-- A room whose unused places a loop tests; and what stands at a place.
 -- Assumes nothing.
 use Prim.Native.Nat.{ℕ, zero, suc, _+_, _<_, _≤_}
 use mathlib.Core.Path.{_≡_, refl, sym, ap, _∙_}
@@ -14,26 +13,6 @@ use Rattle.text.proofs.Choices.{both, both-left, both-right, alike}
 use Rattle.text.proofs.Scanning.{no-more}
 use Rattle.record.specs.Legal.{isZero, fillsRoom}
 use Rattle.record.proofs.Kept.{kept-told, kept-shown}
-
-together : (p q r : Bool) → (p && (q && r)) ≡ ((p && q) && r)
-together true q r = refl
-together false q r = refl
-
-module _ {A : Type 0} (f : A → Bool) (s : List A) (n : ℕ) where
-  pub record TestedFrom (i : ℕ) (ok : Bool) : Type 0 where
-    pub rest : every f (drop n s) ≡ (ok && every f (drop i s))
-
-  pub none-tested : TestedFrom n true
-  none-tested = record { rest = refl }
-
-  module _ {i : ℕ} {ok : Bool} (p : TestedFrom i ok) where
-    pub one-tested : (d : A) {x : Bool} → i < length s → x ≡ f (getD s i d) → TestedFrom (i + 1) (ok && x)
-    one-tested d {x} h e = record {
-      rest = p .rest ∙ rw (add-one, drop-cons s i d, ← e) (together ok x (every f (drop (suc i) s)));
-    }
-
-    pub all-tested : length s ≤ i → ok ≡ every f (drop n s)
-    all-tested h = sym (p .rest ∙ ap (λ (r : List A). ok && every f r) (drop-of-length-le s h) ∙ no-more ok)
 
 -- what `getD` says past the end is of no account before it
 pub getD-any : {A : Type 0} (l : List A) (i : ℕ) (a b : A) → i < length l → getD l i a ≡ getD l i b

@@ -6,7 +6,7 @@ use native.Mathlib.Omega.{arith}
 use lib.ListN.{length}
 use borrow.Author.Needs.{needs}
 use Rattle.panel.specs.LegalPanels.{panelMost, isUnused}
-use Rattle.panel.proofs.Tails.{TestedFrom, none-tested, one-tested, all-tested}
+use Rattle.record.proofs.Tested.{TestedFrom, none-tested, one-tested, all-tested}
 use Rattle.panel.proofs.legality.unused_from.Statement.{statement}
 use Rattle.panel.proofs.legality.unused_from.Tie as tie
 

@@ -5,7 +5,7 @@ use mathlib.Core.Path.{refl}
 use lib.ListN.{length}
 use borrow.Author.Needs.{needs}
 use Rattle.record.specs.Legal.{isZero}
-use Rattle.panel.proofs.Tails.{TestedFrom, none-tested, one-tested, all-tested}
+use Rattle.record.proofs.Tested.{TestedFrom, none-tested, one-tested, all-tested}
 use Rattle.panel.proofs.legality.zeros_from.Statement.{statement}
 use Rattle.panel.proofs.legality.zeros_from.Tie as tie
 

@@ -9,7 +9,7 @@ use borrow.Author.Needs.{needs}
 use borrow.Author.Tests.{eq-eqb}
 use Rattle.answers.specs.Carried.{lampsCarried}
 use Rattle.panel.specs.LegalPanels.{isLitRoom}
-use Rattle.panel.proofs.Tails.{TestedFrom, none-tested, one-tested, all-tested}
+use Rattle.record.proofs.Tested.{TestedFrom, none-tested, one-tested, all-tested}
 use Rattle.panel.proofs.ranges.lit_ok.Statement.{statement}
 use Rattle.panel.proofs.ranges.lit_ok.Tie as tie
 
