@@ -1,23 +1,25 @@
--- Wherever a form is cut, it is cut short (02, L3): what is left of it has its counts as far as they go, and past its
--- end none, so that what it says of its end lies past its end too.
+-- Wherever a form of either version is cut, it is cut short (02, L3): what is left of it has its counts as far as they
+-- go, and past its end none, so that what it says of its end lies past its end too.
 -- Assumes nothing.
 use Prim.Native.Nat.{ℕ, zero, suc, _+_, _*_, _≤_, _<_}
 use mathlib.Core.Path.{_≡_, refl, sym, ap, _∙_}
-use mathlib.Core.Bool.{true, false}
+use mathlib.Core.Bool.{Bool, true, false}
 use mathlib.Core.List.{List, [], _∷_}
 use mathlib.Core.Logic.{_⊎_, ⊎-elim, inl, inr}
 use native.Mathlib.Omega.{arith}
 use lib.ListN.{length, take}
 use lib.Seq.{getD-take, length-take-le}
+use lib.Dec.{eqb}
 use Rattle.text.proofs.Orders.{le-or-lt}
 use Rattle.lines.specs.Bytes.{_at_}
 use Rattle.record.specs.Wanted.{Wanted}
 use Rattle.record.specs.SetUp.{isSetUp}
 use Rattle.record.specs.declared.types.Changed.{Changed}
-use Rattle.stored.specs.Form.{formOf}
-use Rattle.stored.specs.Loading.{isOtherVersion, placesOf, formEnd, loaded}
-use Rattle.stored.proofs.Walked.{walked}
+use Rattle.stored.specs.Form.{formVersion, oldVersion, marksSection, formWith, formOf, oldFormOf}
+use Rattle.stored.specs.Loading.{isOld, isOtherVersion, marksLong, placesOf, formEnd, loaded}
+use Rattle.stored.proofs.Walked.{no-marks-long, some-marks-long, walked}
 use Rattle.stored.proofs.Cases.{loaded-cut}
+use Rattle.stored.proofs.Versions.{HasMarks, old-has-none, new-has}
 use Rattle.stored.proofs.FormsLoad.{form-ends, form-ours}
 
 -- a place of the cut bytes is the place of the whole, or past the cut
@@ -43,6 +45,25 @@ module _ (s : List ℕ) (k : ℕ) where
   next-text : (p r p′ r′ : ℕ) → p′ ≡ p + 1 + (s at p) → r′ ≡ r + 1 + (take k s at r) → Reached p r → Reached p′ r′
   next-text p r p′ r′ f g = next 1 p r p′ r′ (omega arith) (omega arith)
 
+  -- the marks: none in the old version, whose first byte is there unless all is cut
+  next-marks : (p r p′ r′ : ℕ) → 1 ≤ r → p′ ≡ p + marksLong s p → r′ ≡ r + marksLong (take k s) r → Reached p r
+      → Reached p′ r′
+  next-marks p r p′ r′ some f g reached =
+      ⊎-elim (λ (none : k ≤ 0). inr (omega arith)) (λ (l : 0 < k). by (isOld s) refl (same-version l)) (le-or-lt k 0)
+    where
+      same-version : 0 < k → isOld (take k s) ≡ isOld s
+      same-version l = ap (λ (v : ℕ). eqb v oldVersion) (getD-take k s 0 0 l)
+
+      by : (o : Bool) → isOld s ≡ o → isOld (take k s) ≡ isOld s → Reached p′ r′
+      by true e same =
+          let whole = no-marks-long s p e in
+          let cut = no-marks-long (take k s) r (same ∙ e) in
+          ⊎-elim (λ (h : p ≡ r). inl (omega arith)) (λ (h : k < r). inr (omega arith)) reached
+      by false e same =
+          let whole = some-marks-long s p e in
+          let cut = some-marks-long (take k s) r (same ∙ e) in
+          next-text p r p′ r′ (omega arith) (omega arith) reached
+
   pub cut-ends-later : k < formEnd s → k < formEnd (take k s)
   cut-ends-later l =
       let p = placesOf s in
@@ -55,7 +76,8 @@ module _ (s : List ℕ) (k : ℕ) where
       let password = next-text (p .other) (r .other) (p .password) (r .password) (f .password) (g .password) other in
       let inputs = next-text (p .password) (r .password) (p .inputs) (r .inputs) (f .inputs) (g .inputs) password in
       let lamps = next 2 (p .inputs) (r .inputs) (p .lamps) (r .lamps) (f .lamps) (g .lamps) inputs in
-      let warm = next 4 (p .lamps) (r .lamps) (p .warm) (r .warm) (f .warm) (g .warm) lamps in
+      let marks = next 4 (p .lamps) (r .lamps) (p .marks) (r .marks) (f .marks) (g .marks) lamps in
+      let warm = next-marks (p .marks) (r .marks) (p .warm) (r .warm) (omega (arith, g .marks)) (f .warm) (g .warm) marks in
       ⊎-elim (λ (e : p .warm ≡ r .warm). omega (arith, f .end, g .end)) (λ (e : k < r .warm). omega (arith, g .end))
       warm
 
@@ -65,11 +87,19 @@ cut-version zero s v = refl
 cut-version (suc k) [] v = refl
 cut-version (suc k) (x ∷ s) v = v
 
-pub cut-is-cut-short : (w : Wanted) → isSetUp w ≡ true → (k : ℕ) → k < length (formOf w)
-    → loaded (take k (formOf w)) .number ≡ 21
-cut-is-cut-short w ok k l =
-    let s = formOf w in
-    let long : length (take k s) ≡ k = length-take-le k s (omega arith) in
-    let later = cut-ends-later s k (omega (arith, form-ends w ok)) in
-    ap (λ (c : Changed). c .number)
-    (loaded-cut (take k s) (cut-version k s (form-ours w ok)) (omega arith))
+module _ (v : ℕ) (marks : List ℕ) (has : HasMarks v marks) (w : Wanted) (ok : isSetUp w ≡ true) where
+  cut-short : (k : ℕ) → k < length (formWith v marks w) → loaded (take k (formWith v marks w)) .number ≡ 21
+  cut-short k l =
+      let s = formWith v marks w in
+      let long : length (take k s) ≡ k = length-take-le k s (omega arith) in
+      let later = cut-ends-later s k (omega (arith, form-ends v marks has w ok)) in
+      ap (λ (c : Changed). c .number)
+      (loaded-cut (take k s) (cut-version k s (form-ours v marks has w ok)) (omega arith))
+
+module _ (w : Wanted) (ok : isSetUp w ≡ true) where
+  pub cut-is-cut-short : (ms : List Bool) (k : ℕ) → k < length (formOf w ms)
+      → loaded (take k (formOf w ms)) .number ≡ 21
+  cut-is-cut-short ms = cut-short formVersion (marksSection ms) (new-has ms) w ok
+
+  pub cut-is-cut-short-old : (k : ℕ) → k < length (oldFormOf w) → loaded (take k (oldFormOf w)) .number ≡ 21
+  cut-is-cut-short-old = cut-short oldVersion [] old-has-none w ok

@@ -3,9 +3,9 @@
 use Prim.Native.Nat.{ℕ, _+_, _*_, _/_, _≤_}
 use mathlib.Core.Path.{_≡_}
 use mathlib.Core.Bool.{true}
-use mathlib.Core.List.{List, _∷_, _++_, append-assoc}
+use mathlib.Core.List.{List, _∷_, _++_, map, append-assoc}
 use native.Mathlib.Omega.{arith}
-use lib.ListN.{length, length-append}
+use lib.ListN.{length, length-append, length-map}
 use Rattle.lines.specs.Texts.{isName, isInfo, isPassword}
 use Rattle.record.specs.Limits.{textRoom, inputRoom, lampsMost}
 use Rattle.record.specs.Wanted.{Wanted}
@@ -16,23 +16,25 @@ use Rattle.record.specs.declared.types.Device.{Device}
 use Rattle.record.proofs.Kept.{kept-length}
 use Rattle.record.proofs.SettingsTold.{SettingsTold}
 use Rattle.record.proofs.LegalTold.{settings-of-legal, own-of-legal}
-use Rattle.stored.specs.Form.{formVersion, highestFirst, section, textSection, secondsBytes, formOf}
-use Rattle.stored.specs.Form.{storedOf}
+use Rattle.stored.specs.Form.{formVersion, highestFirst, section, textSection, secondsBytes, markByte}
+use Rattle.stored.specs.Form.{marksSection, formWith, storedOf, marksStored, storedForm}
 use Rattle.stored.proofs.HighestFirst.{highest-length}
 use Rattle.stored.proofs.Seconds.{seconds-long}
+use Rattle.stored.proofs.MarkBytes.{front-many}
 
 abbrev textsLong : Wanted → ℕ
 textsLong w = length (w .name) + length (w .maker) + length (w .model) + length (w .other) + length (w .password)
 
-pub form-long : (w : Wanted) → length (formOf w) ≡ 12 + textsLong w + length (w .inputs) + 4 * length (w .lamps)
-unfolding formOf
-form-long w =
+pub form-long : (v : ℕ) (marks : List ℕ) (w : Wanted)
+    → length (formWith v marks w) ≡ 12 + textsLong w + length (w .inputs) + 4 * length (w .lamps) + length marks
+unfolding formWith
+form-long v marks w =
     simp length-append
     (omega (arith, highest-length 2 (w .warm), highest-length 2 (w .cool), seconds-long (w .lamps)))
 
-regroup : (v : ℕ) (a b c d e f g h i : List ℕ)
-    → v ∷ (a ++ b ++ c ++ d ++ e ++ f ++ g ++ h ++ i) ≡ (v ∷ (a ++ b ++ c ++ d ++ e)) ++ (f ++ g ++ h ++ i)
-regroup v a b c d e f g h i = simp append-assoc
+regroup : (v : ℕ) (a b c d e f g h i j : List ℕ)
+    → v ∷ (a ++ b ++ c ++ d ++ e ++ f ++ g ++ h ++ i ++ j) ≡ (v ∷ (a ++ b ++ c ++ d ++ e)) ++ (f ++ g ++ h ++ i ++ j)
+regroup v a b c d e f g h i j = simp append-assoc
 
 -- what legal settings are at most
 pub record Sized (s : Settings) : Type 0 where
@@ -59,6 +61,7 @@ abbrev pub listsPart : Device → List ℕ
 listsPart d =
     section (d .settings .«input_count») (storedOf d .inputs)
     ++ section (d .settings .«lamp_count») (secondsBytes (storedOf d .lamps))
+    ++ section (d .settings .«lamp_count») (map markByte (marksStored d))
     ++ highestFirst 2 (d .settings .warm) ++ highestFirst 2 (d .settings .cool)
 
 module _ (d : Device) (h : isLegal d ≡ true) where
@@ -70,6 +73,7 @@ module _ (d : Device) (h : isLegal d ≡ true) where
     pub password : length (storedOf d .password) ≡ d .settings .password .len
     pub inputs : length (storedOf d .inputs) ≡ 2 * d .settings .«input_count»
     pub lamps : length (storedOf d .lamps) ≡ d .settings .«lamp_count»
+    pub marks : length (marksStored d) ≡ d .settings .«lamp_count»
 
   pub stored-long : StoredLong
   stored-long =
@@ -82,20 +86,29 @@ module _ (d : Device) (h : isLegal d ≡ true) where
         password = kept-length textRoom isPassword _ _ (t .password);
         inputs = kept-length inputRoom isInputs _ _ (t .inputs);
         lamps = kept-length lampsMost isLamps _ _ (own-of-legal d h .lamps);
+        marks = front-many _ _ (own-of-legal d h .marks) (t .lamps);
       }
 
-  pub stored-form : formOf (storedOf d) ≡ textsPart d ++ listsPart d
-  unfolding formOf
+  pub stored-form : storedForm d ≡ textsPart d ++ listsPart d
+  unfolding formWith
   stored-form =
       let half : length (storedOf d .inputs) / 2 ≡ d .settings .«input_count» = omega (arith, stored-long .inputs) in
-      rw (half, stored-long .lamps)
+      rw (half, stored-long .lamps, stored-long .marks)
       (regroup formVersion (textSection (storedOf d .name)) (textSection (storedOf d .maker))
       (textSection (storedOf d .model)) (textSection (storedOf d .other)) (textSection (storedOf d .password))
       (section (d .settings .«input_count») (storedOf d .inputs))
-      (section (d .settings .«lamp_count») (secondsBytes (storedOf d .lamps))) (highestFirst 2 (d .settings .warm))
+      (section (d .settings .«lamp_count») (secondsBytes (storedOf d .lamps)))
+      (section (d .settings .«lamp_count») (map markByte (marksStored d))) (highestFirst 2 (d .settings .warm))
       (highestFirst 2 (d .settings .cool)))
 
   pub texts-long : length (textsPart d)
       ≡ 6 + (d .settings .name .len + d .settings .maker .len + d .settings .model .len + d .settings .other .len
       + d .settings .password .len)
   texts-long = let l = stored-long in simp length-append (omega arith)
+
+  pub stored-form-long : length (storedForm d)
+      ≡ 13 + (d .settings .name .len + d .settings .maker .len + d .settings .model .len + d .settings .other .len
+      + d .settings .password .len) + 2 * d .settings .«input_count» + 5 * d .settings .«lamp_count»
+  stored-form-long =
+      let l = stored-long in
+      omega (arith, form-long formVersion (marksSection (marksStored d)) (storedOf d), length-map (marksStored d) markByte)

@@ -1,42 +1,125 @@
--- What was stored loads (02, L3): the form of settings that set-up takes is loaded as their set-up; what follows a form
+-- What was stored loads (02, L3 and L8): the form of settings that set-up takes, with marks of their lamps, is loaded as
+-- their set-up with these marks; the old version's as their set-up, in which each lamp is enabled; what follows a form
 -- is left over.
 -- Assumes nothing.
 use Prim.Native.Nat.{ℕ, _+_}
 use mathlib.Core.Path.{_≡_, sym, ap, subst, _∙_}
-use mathlib.Core.Bool.{true, false}
-use mathlib.Core.List.{List, [], _∷_, _++_, append-nil}
+use mathlib.Core.Bool.{Bool, true, false}
+use mathlib.Core.List.{List, [], _∷_, _++_, map, append-nil}
 use native.Mathlib.Omega.{arith}
-use lib.ListN.{length}
+use lib.ListN.{length, length-map}
+use lib.Dec.{eqb}
+use Rattle.text.specs.Scans.{every}
+use Rattle.text.proofs.Choices.{both, both-right}
+use Rattle.lines.specs.Bytes.{_at_}
 use Rattle.record.specs.Wanted.{Wanted}
+use Rattle.record.specs.Record.{started, accepted}
 use Rattle.record.specs.SetUp.{isSetUp, setUp}
-use Rattle.stored.specs.Form.{formOf}
-use Rattle.stored.specs.Loading.{isOtherVersion, formEnd, settingsIn}
-use Rattle.stored.specs.Loading.{loaded}
+use Rattle.record.specs.declared.types.Changed.{Changed}
+use Rattle.record.proofs.Calls.{set-up-accepted}
+use Rattle.stored.specs.Form.{formVersion, oldVersion, markByte, marksSection, formWith, formOf, oldFormOf}
+use Rattle.stored.specs.Loading.{isOld, isOtherVersion, placesOf, formEnd, between, settingsIn}
+use Rattle.stored.specs.Loading.{markBytesIn, isMarkByte, isMarked, marksRead, isMarksOf, areMarks, startedWith, loaded}
+use Rattle.stored.proofs.MarkBytes.{marks-back, marks-are-bytes}
+use Rattle.stored.proofs.Sections.{items-read}
+use Rattle.stored.proofs.Contents.{new-bytes, old-are-marks, old-started}
+use Rattle.stored.proofs.Cases.{loaded-over, loaded-by-marks}
+use Rattle.stored.proofs.Results.{accepted-told}
+use Rattle.stored.proofs.Versions.{HasMarks, old-has-none, new-has}
 use Rattle.stored.proofs.FormsRead.{settings-read, ends-there, ours}
-use Rattle.stored.proofs.Cases.{loaded-over, loaded-made}
+use Rattle.stored.proofs.FormsRead.{version-read, at-marks, marks-end}
 
-module _ (w : Wanted) (ok : isSetUp w ≡ true) where
-  alone : formOf w ++ [] ≡ formOf w
-  alone = append-nil (formOf w)
+-- of either version
+module _ (v : ℕ) (marks : List ℕ) (has : HasMarks v marks) (w : Wanted) (ok : isSetUp w ≡ true) where
+  abbrev s : List ℕ
+  s = formWith v marks w
 
-  pub form-read : settingsIn (formOf w) ≡ w
-  form-read = ap settingsIn (sym alone) ∙ settings-read w ok []
+  alone : s ++ [] ≡ s
+  alone = append-nil s
 
-  pub form-ends : formEnd (formOf w) ≡ length (formOf w)
+  pub form-read : settingsIn s ≡ w
+  form-read = ap settingsIn (sym alone) ∙ settings-read v marks has w ok []
+
+  pub form-ends : formEnd s ≡ length s
   form-ends =
-      let e = subst (λ (l : List ℕ). formEnd l + 0 ≡ length l) alone (ends-there w ok []) in
+      let e = subst (λ (l : List ℕ). formEnd l + 0 ≡ length l) alone (ends-there v marks has w ok []) in
       omega arith
 
-  pub form-ours : isOtherVersion (formOf w) ≡ false
-  form-ours = ap isOtherVersion (sym alone) ∙ ours w ok []
+  pub form-ours : isOtherVersion s ≡ false
+  form-ours = ap isOtherVersion (sym alone) ∙ ours v marks has w ok []
 
-  pub form-loads : loaded (formOf w) ≡ setUp w
-  form-loads =
-      loaded-made (formOf w) form-ours (omega (arith, form-ends)) (omega (arith, form-ends)) (ap isSetUp form-read ∙ ok)
-      ∙ ap setUp form-read
+  pub form-version : s at 0 ≡ v
+  form-version = ap (λ (l : List ℕ). l at 0) (sym alone) ∙ version-read v marks has w ok []
 
-  pub more-is-left-over : (x : ℕ) (xs : List ℕ) → loaded (formOf w ++ x ∷ xs) .number ≡ 22
-  more-is-left-over x xs =
-      let e = ends-there w ok (x ∷ xs) in
-      ap (λ c. c .number)
-      (loaded-over (formOf w ++ x ∷ xs) (ours w ok (x ∷ xs)) (omega arith) (omega arith))
+  can-set-up : isSetUp (settingsIn s) ≡ true
+  can-set-up = ap isSetUp form-read ∙ ok
+
+  made : areMarks (length (settingsIn s .lamps)) (markBytesIn s) ≡ true
+      → loaded s ≡ accepted (startedWith (settingsIn s) (marksRead s))
+  made = loaded-by-marks s form-ours (omega (arith, form-ends)) (omega (arith, form-ends)) can-set-up
+
+  over : (x : ℕ) (xs : List ℕ) → loaded (s ++ x ∷ xs) .number ≡ 22
+  over x xs =
+      let e = ends-there v marks has w ok (x ∷ xs) in
+      ap (λ (c : Changed). c .number)
+      (loaded-over (s ++ x ∷ xs) (ours v marks has w ok (x ∷ xs)) (omega arith) (omega arith))
+
+module _ (w : Wanted) (ok : isSetUp w ≡ true) where
+  module _ (ms : List Bool) where
+    pub more-is-left-over : (x : ℕ) (xs : List ℕ) → loaded (formOf w ms ++ x ∷ xs) .number ≡ 22
+    more-is-left-over = over formVersion (marksSection ms) (new-has ms) w ok
+
+    abbrev newest : List ℕ
+    newest = formOf w ms
+
+    not-old : isOld newest ≡ false
+    not-old = ap (λ (v : ℕ). eqb v oldVersion) (form-version formVersion (marksSection ms) (new-has ms) w ok)
+
+    bytes-read : markBytesIn newest ≡ map markByte ms
+    bytes-read =
+        let q = placesOf (newest ++ []) in
+        let front = at-marks formVersion (marksSection ms) (new-has ms) w ok [] in
+        let end = marks-end formVersion (marksSection ms) (new-has ms) w ok [] in
+        let many = length-map ms markByte in
+        new-bytes newest not-old
+        ∙ ap (λ (l : List ℕ). between (placesOf l .marks + 1) (placesOf l .warm) l) (sym (append-nil newest))
+        ∙ items-read (newest ++ []) (q .marks) (length ms) (map markByte ms) _ front (q .warm) (omega arith)
+
+    marks-read : marksRead newest ≡ ms
+    marks-read = ap (map isMarked) bytes-read ∙ marks-back ms
+
+    abbrev these : Wanted → List ℕ → Bool
+    these k bytes = areMarks (length (k .lamps)) bytes
+
+    same : these (settingsIn newest) (markBytesIn newest) ≡ these w (map markByte ms)
+    same = (λ i. these (form-read formVersion (marksSection ms) (new-has ms) w ok i) (bytes-read i))
+
+    pub form-loads : isMarksOf (length (w .lamps)) ms ≡ true → loaded (formOf w ms) ≡ accepted (startedWith w ms)
+    form-loads h =
+        let read = form-read formVersion (marksSection ms) (new-has ms) w ok in
+        made formVersion (marksSection ms) (new-has ms) w ok
+        (same ∙ both (marks-are-bytes ms) (ap (isMarksOf (length (w .lamps))) (marks-back ms) ∙ h))
+        ∙ (λ i. accepted (startedWith (read i) (marks-read i)))
+
+    -- and with no other marks
+    pub form-marks : loaded (formOf w ms) .number ≡ 0 → isMarksOf (length (w .lamps)) ms ≡ true
+    form-marks e =
+        let n = length (w .lamps) in
+        let bytes = map markByte ms in
+        ap (isMarksOf n) (sym (marks-back ms))
+        ∙ both-right (every isMarkByte bytes) (isMarksOf n (map isMarked bytes))
+        (sym same ∙ accepted-told newest e .marks)
+
+  pub more-is-left-over-old : (x : ℕ) (xs : List ℕ) → loaded (oldFormOf w ++ x ∷ xs) .number ≡ 22
+  more-is-left-over-old = over oldVersion [] old-has-none w ok
+
+  pub old-form-loads : loaded (oldFormOf w) ≡ setUp w
+  old-form-loads =
+      let s = oldFormOf w in
+      let read = form-read oldVersion [] old-has-none w ok in
+      let old : isOld s ≡ true = ap (λ (v : ℕ). eqb v oldVersion) (form-version oldVersion [] old-has-none w ok) in
+      let can = ap isSetUp read ∙ ok in
+      made oldVersion [] old-has-none w ok (old-are-marks s old can)
+      ∙ ap accepted (old-started s old can)
+      ∙ ap (λ (k : Wanted). accepted (started k)) read
+      ∙ sym (set-up-accepted w ok)

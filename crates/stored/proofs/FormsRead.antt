@@ -1,10 +1,10 @@
--- A form is read back (02, L3): by its counts it ends where it ends, whatever follows it, and has the settings of which
--- it is the form.
+-- A form is read back (02, L3 and L8), of either version: by its counts it ends where it ends, whatever follows it, and
+-- has the settings of which it is the form, and its marks.
 -- Assumes nothing.
-use Prim.Native.Nat.{ℕ, suc, _+_, _*_, _/_, _^_, _≤_, _<_}
+use Prim.Native.Nat.{ℕ, _+_, _*_, _/_, _≤_}
 use mathlib.Core.Path.{_≡_, refl, sym, ap, _∙_}
 use mathlib.Core.Bool.{true, false}
-use mathlib.Core.List.{List, [], _∷_, _++_, append-assoc}
+use mathlib.Core.List.{List, _∷_, _++_, append-assoc}
 use native.Mathlib.Omega.{arith}
 use lib.ListN.{length, getD, take, drop, length-drop, length-append}
 use lib.Seq.{take-at, drop-at, drop-drop}
@@ -21,44 +21,27 @@ use Rattle.record.proofs.Rules.{lamps-within}
 use Rattle.record.proofs.OutOfRange.{each-in-range}
 use Rattle.record.proofs.SettingsTold.{stretch-told}
 use Rattle.record.proofs.Started.{inputs-halved}
-use Rattle.stored.specs.Form.{formVersion, highestFirst, section, textSection, secondsBytes, formOf}
+use Rattle.stored.specs.Form.{highestFirst, section, textSection, secondsBytes, formWith}
 use Rattle.stored.specs.Loading.{isOtherVersion, placesOf, Walked, formEnd, numberIn, secondsIn, settingsIn}
-use Rattle.stored.specs.Loading.{between}
 use Rattle.stored.specs.declared.layout.Places.{Places}
 use Rattle.stored.proofs.HighestFirst.{highest-length, highest-back}
-use Rattle.stored.proofs.Seconds.{seconds-long}
+use Rattle.stored.proofs.Seconds.{seconds-long, seconds-back}
 use Rattle.stored.proofs.Walked.{walked}
-use Rattle.stored.proofs.Sections.{count-read, items-from, items-read, rest-read}
+use Rattle.stored.proofs.Sections.{count-read, items-from, items-read, rest-read, text-read, text-rest}
+use Rattle.stored.proofs.Versions.{HasMarks}
 use Rattle.stored.proofs.Contents.{settings-lent}
 
--- seconds that fit four bytes, read back
-seconds-back : (xs t : List ℕ) → ((i : ℕ) → i < length xs → getD xs i 0 < 256 ^ 4)
-    → secondsIn (length xs) (secondsBytes xs ++ t) ≡ xs
-unfolding secondsIn secondsBytes
-seconds-back [] t h = refl
-seconds-back (x ∷ xs) t h =
-    let four = highestFirst 4 x in
-    let whole : four ++ secondsBytes xs ++ t ≡ four ++ (secondsBytes xs ++ t)
-    = append-assoc four (secondsBytes xs) t in
-    let long = highest-length 4 x in
-    (λ i.
-    (ap (λ (l : List ℕ). numberIn (take 4 l)) whole ∙ ap numberIn (take-at four _ 4 long)
-    ∙ highest-back 4 x (h 0 (omega arith))) i
-    ∷ (ap (λ (l : List ℕ). secondsIn (length xs) (drop 4 l)) whole
-    ∙ ap (secondsIn (length xs)) (drop-at four _ 4 long)
-    ∙ seconds-back xs t (λ i l. h (suc i) (omega arith))) i)
-
-in-turn : (v : ℕ) (a b c d e f g h i t : List ℕ) → (v ∷ (a ++ b ++ c ++ d ++ e ++ f ++ g ++ h ++ i)) ++ t
-    ≡ v ∷ (a ++ (b ++ (c ++ (d ++ (e ++ (f ++ (g ++ (h ++ (i ++ t)))))))))
-in-turn v a b c d e f g h i t = simp append-assoc
+in-turn : (v : ℕ) (a b c d e f g h i j t : List ℕ) → (v ∷ (a ++ b ++ c ++ d ++ e ++ f ++ g ++ h ++ i ++ j)) ++ t
+    ≡ v ∷ (a ++ (b ++ (c ++ (d ++ (e ++ (f ++ (g ++ (h ++ (i ++ (j ++ t))))))))))
+in-turn v a b c d e f g h i j t = simp append-assoc
 
 -- the form of w, and what more follows it
-module _ (w : Wanted) (ok : isSetUp w ≡ true) (more : List ℕ) where
+module _ (v : ℕ) (marks : List ℕ) (has : HasMarks v marks) (w : Wanted) (ok : isSetUp w ≡ true) (more : List ℕ) where
   met : (s : Setting) → isSettingInRange w s ≡ true
   met = each-in-range w ok
 
   abbrev s : List ℕ
-  s = formOf w ++ more
+  s = formWith v marks w ++ more
 
   abbrev q : Places
   q = placesOf s
@@ -73,8 +56,11 @@ module _ (w : Wanted) (ok : isSetUp w ≡ true) (more : List ℕ) where
   abbrev from-warm : List ℕ
   from-warm = highestFirst 2 (w .warm) ++ from-cool
 
+  abbrev from-marks : List ℕ
+  from-marks = marks ++ from-warm
+
   abbrev from-lamps : List ℕ
-  from-lamps = section (length (w .lamps)) (secondsBytes (w .lamps)) ++ from-warm
+  from-lamps = section (length (w .lamps)) (secondsBytes (w .lamps)) ++ from-marks
 
   abbrev from-inputs : List ℕ
   from-inputs = section (length (w .inputs) / 2) (w .inputs) ++ from-lamps
@@ -91,41 +77,31 @@ module _ (w : Wanted) (ok : isSetUp w ≡ true) (more : List ℕ) where
   abbrev from-maker : List ℕ
   from-maker = textSection (w .maker) ++ from-model
 
-  whole : s ≡ formVersion ∷ (textSection (w .name) ++ from-maker)
-  unfolding formOf
+  whole : s ≡ v ∷ (textSection (w .name) ++ from-maker)
+  unfolding formWith
   whole =
-      in-turn formVersion (textSection (w .name)) (textSection (w .maker)) (textSection (w .model))
+      in-turn v (textSection (w .name)) (textSection (w .maker)) (textSection (w .model))
       (textSection (w .other)) (textSection (w .password)) (section (length (w .inputs) / 2) (w .inputs))
-      (section (length (w .lamps)) (secondsBytes (w .lamps))) (highestFirst 2 (w .warm)) (highestFirst 2 (w .cool)) more
+      (section (length (w .lamps)) (secondsBytes (w .lamps))) marks (highestFirst 2 (w .warm)) (highestFirst 2 (w .cool))
+      more
 
   at-name : drop 1 s ≡ length (w .name) ∷ (w .name ++ from-maker)
   at-name = ap (drop 1) whole
 
-  -- a text between two places, and what is left after it
-  module _ (p r : ℕ) (t rest : List ℕ) (h : drop p s ≡ length t ∷ (t ++ rest)) (e : r ≡ p + 1 + (s at p)) where
-    text-end : r ≡ p + 1 + length t
-    text-end = e ∙ ap (λ (n : ℕ). p + 1 + n) (count-read s p (length t) t rest h)
-
-    text-read : between (p + 1) r s ≡ t
-    text-read = items-read s p (length t) t rest h r text-end
-
-    text-rest : drop r s ≡ rest
-    text-rest = rest-read s p (length t) t rest h r text-end
-
   at-maker : drop (q .maker) s ≡ from-maker
-  at-maker = text-rest 1 (q .maker) (w .name) from-maker at-name (places .maker)
+  at-maker = text-rest s 1 (q .maker) (w .name) from-maker at-name (places .maker)
 
   at-model : drop (q .model) s ≡ from-model
-  at-model = text-rest (q .maker) (q .model) (w .maker) from-model at-maker (places .model)
+  at-model = text-rest s (q .maker) (q .model) (w .maker) from-model at-maker (places .model)
 
   at-other : drop (q .other) s ≡ from-other
-  at-other = text-rest (q .model) (q .other) (w .model) from-other at-model (places .other)
+  at-other = text-rest s (q .model) (q .other) (w .model) from-other at-model (places .other)
 
   at-password : drop (q .password) s ≡ from-password
-  at-password = text-rest (q .other) (q .password) (w .other) from-password at-other (places .password)
+  at-password = text-rest s (q .other) (q .password) (w .other) from-password at-other (places .password)
 
   at-inputs : drop (q .inputs) s ≡ from-inputs
-  at-inputs = text-rest (q .password) (q .inputs) (w .password) from-inputs at-password (places .inputs)
+  at-inputs = text-rest s (q .password) (q .inputs) (w .password) from-inputs at-password (places .inputs)
 
   inputs-end : q .lamps ≡ q .inputs + 1 + length (w .inputs)
   inputs-end =
@@ -137,16 +113,29 @@ module _ (w : Wanted) (ok : isSetUp w ≡ true) (more : List ℕ) where
   at-lamps = rest-read s (q .inputs) _ (w .inputs) from-lamps at-inputs (q .lamps) inputs-end
 
   lamps-count : s at (q .lamps) ≡ length (w .lamps)
-  lamps-count = count-read s (q .lamps) _ (secondsBytes (w .lamps)) from-warm at-lamps
+  lamps-count = count-read s (q .lamps) _ (secondsBytes (w .lamps)) from-marks at-lamps
 
-  lamps-end : q .warm ≡ q .lamps + 1 + length (secondsBytes (w .lamps))
+  lamps-end : q .marks ≡ q .lamps + 1 + length (secondsBytes (w .lamps))
   lamps-end =
-      places .warm
+      places .marks
       ∙ ap (λ (n : ℕ). q .lamps + 1 + 4 * n) lamps-count
       ∙ ap (λ (n : ℕ). q .lamps + 1 + n) (sym (seconds-long (w .lamps)))
 
+  pub at-marks : drop (q .marks) s ≡ marks ++ from-warm
+  at-marks = rest-read s (q .lamps) _ (secondsBytes (w .lamps)) from-marks at-lamps (q .marks) lamps-end
+
+  pub version-read : s at 0 ≡ v
+  version-read = ap (λ (l : List ℕ). l at 0) whole
+
+  pub marks-end : q .warm ≡ q .marks + length marks
+  marks-end = places .warm ∙ ap (λ (n : ℕ). q .marks + n) (has .long s version-read (q .marks) from-warm at-marks)
+
   at-warm : drop (q .warm) s ≡ from-warm
-  at-warm = rest-read s (q .lamps) _ (secondsBytes (w .lamps)) from-warm at-lamps (q .warm) lamps-end
+  at-warm =
+      ap (λ (k : ℕ). drop k s) marks-end
+      ∙ sym (drop-drop (length marks) (q .marks) s)
+      ∙ ap (drop (length marks)) at-marks
+      ∙ drop-at marks from-warm (length marks) refl
 
   at-cool : drop (q .warm + 2) s ≡ from-cool
   at-cool =
@@ -161,8 +150,8 @@ module _ (w : Wanted) (ok : isSetUp w ≡ true) (more : List ℕ) where
   lamps-read : secondsIn (s at (q .lamps)) (drop (q .lamps + 1) s) ≡ w .lamps
   lamps-read =
       (λ i. secondsIn (lamps-count i)
-      (items-from s (q .lamps) _ (secondsBytes (w .lamps)) from-warm at-lamps i))
-      ∙ seconds-back (w .lamps) from-warm
+      (items-from s (q .lamps) _ (secondsBytes (w .lamps)) from-marks at-lamps i))
+      ∙ seconds-back (w .lamps) from-marks
       (λ i l.
       let within = leb-true (getD (w .lamps) i 0) lampLimit
       (every-at isLamp (w .lamps) 0 (lamps-within (w .lamps) (met Lamps)) i l) in
@@ -182,11 +171,11 @@ module _ (w : Wanted) (ok : isSetUp w ≡ true) (more : List ℕ) where
   settings-read =
       sym (settings-lent s q refl refl refl)
       ∙ (λ i. wantedOf
-      (text-read 1 (q .maker) (w .name) from-maker at-name (places .maker) i)
-      (text-read (q .maker) (q .model) (w .maker) from-model at-maker (places .model) i)
-      (text-read (q .model) (q .other) (w .model) from-other at-model (places .other) i)
-      (text-read (q .other) (q .password) (w .other) from-password at-other (places .password) i)
-      (text-read (q .password) (q .inputs) (w .password) from-inputs at-password (places .inputs) i)
+      (text-read s 1 (q .maker) (w .name) from-maker at-name (places .maker) i)
+      (text-read s (q .maker) (q .model) (w .maker) from-model at-maker (places .model) i)
+      (text-read s (q .model) (q .other) (w .model) from-other at-model (places .other) i)
+      (text-read s (q .other) (q .password) (w .other) from-password at-other (places .password) i)
+      (text-read s (q .password) (q .inputs) (w .password) from-inputs at-password (places .inputs) i)
       (items-read s (q .inputs) _ (w .inputs) from-lamps at-inputs (q .lamps) inputs-end i)
       (lamps-read i) (warm-read i) (cool-read i))
 
@@ -206,4 +195,4 @@ module _ (w : Wanted) (ok : isSetUp w ≡ true) (more : List ℕ) where
       )
 
   pub ours : isOtherVersion s ≡ false
-  ours = ap isOtherVersion whole
+  ours = ap isOtherVersion whole ∙ has .known

@@ -1,19 +1,20 @@
--- A stored form printed by hand from 02, L3: two lamps, three inputs, a name in Japanese; stored and loaded by
--- computing, and refused with each number of the reader.
+-- A stored form of each version, printed by hand from 02, L3 and L8: two lamps, three inputs, a name in Japanese; stored
+-- and loaded by computing, and refused with each number of the reader.
 -- Assumes nothing.
 use Prim.Native.Nat.{ℕ, _+_, _-_, _*_}
 use Prim.Native.String.{String}
 use Prim.Native.Char.{code}
 use mathlib.Core.Path.{_≡_, refl}
+use mathlib.Core.Bool.{Bool, true, false}
 use mathlib.Core.List.{List, [], _∷_, _++_, map}
-use lib.ListN.{length, take, replicate}
+use lib.ListN.{length, take, drop, replicate}
 use Rattle.text.specs.Words.{ascii, if_then_else_, _from_to_}
 use Rattle.record.specs.Limits.{lampLimit}
 use Rattle.record.specs.Wanted.{Wanted, wantedOf, withPassword}
 use Rattle.record.specs.Record.{zeros, started, accepted}
 use Rattle.record.specs.Computing.{computing as record-computing}
-use Rattle.stored.specs.Form.{formOf, formMost}
-use Rattle.stored.specs.Loading.{loaded}
+use Rattle.stored.specs.Form.{formVersion, formWith, formOf, oldFormOf, formMost}
+use Rattle.stored.specs.Loading.{startedWith, loaded}
 use Rattle.stored.specs.Computing.{computing}
 
 -- bytes by their hexadecimal digits, two each
@@ -34,44 +35,78 @@ cuttingRoom =
     wantedOf (hex "E8A381E696AD") (ascii "Kunimi") [] (ascii "Room 2") (ascii "shears12") (ascii "113159")
     (3600 ∷ lampLimit ∷ []) 20 600
 
-abbrev printed : List ℕ
-printed =
-    hex "01"
-    ++ hex "06" ++ hex "E8A381E696AD"
+-- the second lamp is not enabled
+abbrev onlyFirst : List Bool
+onlyFirst = true ∷ false ∷ []
+
+abbrev untilMarks : List ℕ
+untilMarks =
+    hex "06" ++ hex "E8A381E696AD"
     ++ hex "06" ++ ascii "Kunimi"
     ++ hex "00"
     ++ hex "06" ++ ascii "Room 2"
     ++ hex "08" ++ ascii "shears12"
     ++ hex "03" ++ ascii "113159"
     ++ hex "02" ++ hex "00000E10" ++ hex "157529FF"
-    ++ hex "0014" ++ hex "0258"
 
-pub printed-stored : formOf cuttingRoom ≡ printed
+abbrev printed : List ℕ
+printed = hex "02" ++ untilMarks ++ hex "02" ++ hex "0100" ++ hex "0014" ++ hex "0258"
+
+pub printed-stored : formOf cuttingRoom onlyFirst ≡ printed
 unfolding computing
 printed-stored = refl
 
-pub printed-loaded : loaded printed ≡ accepted (started cuttingRoom)
+pub printed-loaded : loaded printed ≡ accepted (startedWith cuttingRoom onlyFirst)
 unfolding computing record-computing
 printed-loaded = refl
+
+-- version 1, as boards wrote it before
+abbrev oldPrinted : List ℕ
+oldPrinted = hex "01" ++ untilMarks ++ hex "0014" ++ hex "0258"
+
+pub old-printed : oldFormOf cuttingRoom ≡ oldPrinted
+unfolding computing
+old-printed = refl
+
+pub old-printed-loaded : loaded oldPrinted ≡ accepted (started cuttingRoom)
+unfolding computing record-computing
+old-printed-loaded = refl
 
 abbrev numberOn : List ℕ → ℕ
 numberOn s = loaded s .number
 
 -- a password that 01 does not allow; one lamp too many, all its bytes there
 abbrev spaced : List ℕ
-spaced = formOf (withPassword (ascii "she ars") cuttingRoom)
+spaced = formOf (withPassword (ascii "she ars") cuttingRoom) onlyFirst
 
 abbrev nineLamps : List ℕ
-nineLamps = formOf (wantedOf [] [] [] [] [] (ascii "11") (zeros 9) 20 60)
+nineLamps = formOf (wantedOf [] [] [] [] [] (ascii "11") (zeros 9) 20 60) (replicate 9 true)
 
 -- no byte; another version, cut short or not; cut short after the version, in the name, before the last byte, under
 -- contents that are not legal; left over, after such contents too; contents
 pub each-refused : map numberOn
-    ([] ∷ hex "00" ∷ hex "02" ∷ (hex "02" ++ printed) ∷ hex "01" ∷ hex "0106E8" ∷ take 50 printed ∷ take 49 spaced
-    ∷ take 49 nineLamps ∷ (printed ++ hex "00") ∷ (spaced ++ hex "0A") ∷ spaced ∷ nineLamps ∷ [])
+    ([] ∷ hex "00" ∷ hex "03" ∷ (hex "03" ++ printed) ∷ hex "02" ∷ hex "0206E8" ∷ take 54 printed ∷ take 53 spaced
+    ∷ take 59 nineLamps ∷ (printed ++ hex "00") ∷ (spaced ++ hex "0A") ∷ spaced ∷ nineLamps ∷ [])
     ≡ 21 ∷ 20 ∷ 20 ∷ 20 ∷ 21 ∷ 21 ∷ 21 ∷ 21 ∷ 21 ∷ 22 ∷ 22 ∷ 23 ∷ 23 ∷ []
 unfolding computing record-computing
 each-refused = refl
+
+-- version 1: cut short, left over; the marks that version 2 has are left over in it, and W and C are no marks
+pub each-old-refused : map numberOn
+    (hex "01" ∷ take 51 oldPrinted ∷ (oldPrinted ++ hex "00") ∷ (hex "01" ++ drop 1 printed)
+    ∷ (hex "02" ++ drop 1 oldPrinted) ∷ [])
+    ≡ 21 ∷ 21 ∷ 22 ∷ 22 ∷ 21 ∷ []
+unfolding computing record-computing
+each-old-refused = refl
+
+-- marks: one too few, one too many, a byte that is none, none set; no lamp, and so no mark
+pub each-marked : map numberOn
+    (formOf cuttingRoom (true ∷ []) ∷ formOf cuttingRoom (true ∷ true ∷ true ∷ [])
+    ∷ formWith formVersion (hex "020102") cuttingRoom ∷ formOf cuttingRoom (false ∷ false ∷ [])
+    ∷ formOf (wantedOf [] [] [] [] [] (ascii "11") [] 20 60) [] ∷ [])
+    ≡ 23 ∷ 23 ∷ 23 ∷ 23 ∷ 0 ∷ []
+unfolding computing record-computing
+each-marked = refl
 
 -- the longest form there is: every text, the inputs and the lamps as many as 01 allows
 abbrev widest : Wanted
@@ -80,6 +115,9 @@ widest =
     (replicate 32 (code "p")) (ascii "1112131415161718192122232425262728293132333435363738394142434445")
     (replicate 8 lampLimit) 600 600
 
-pub most-reached : (loaded (formOf widest) .number ≡ 0) × (length (formOf widest) ≡ formMost)
+abbrev widestForm : List ℕ
+widestForm = formOf widest (replicate 8 true)
+
+pub most-reached : (loaded widestForm .number ≡ 0) × (length widestForm ≡ formMost)
 unfolding computing record-computing
 most-reached = (refl, refl)

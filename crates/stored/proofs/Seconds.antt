@@ -1,13 +1,13 @@
 -- The lamps' seconds, four bytes each: how long, one lamp more, lamp by lamp.
 --   SecondsPut lent p xs n out i      the loop that writes n of the seconds xs from the place p on has come to i
 -- Assumes nothing.
-use Prim.Native.Nat.{ℕ, zero, suc, _+_, _*_, _≤_, _<_}
+use Prim.Native.Nat.{ℕ, zero, suc, _+_, _*_, _^_, _≤_, _<_}
 use mathlib.Core.Path.{_≡_, refl, sym, ap, _∙_}
 use mathlib.Core.List.{List, [], _∷_, _++_, append-assoc, append-nil}
 use native.Mathlib.Numerals.{add-one}
 use native.Mathlib.Omega.{arith}
 use lib.ListN.{length, getD, take, drop, length-append}
-use lib.Seq.{sets, length-sets, take-suc, length-take-le, drop-drop}
+use lib.Seq.{sets, length-sets, take-suc, take-at, drop-at, length-take-le, drop-drop}
 use Rattle.text.proofs.Stores.{sets-then}
 use Rattle.record.specs.Limits.{lampsMost}
 use Rattle.record.specs.Rules.{isLamps}
@@ -15,7 +15,7 @@ use Rattle.record.specs.Record.{inRoom}
 use Rattle.record.proofs.Kept.{filled-take}
 use Rattle.stored.specs.Form.{highestFirst, secondsBytes}
 use Rattle.stored.specs.Loading.{numberIn, secondsIn}
-use Rattle.stored.proofs.HighestFirst.{highest-length}
+use Rattle.stored.proofs.HighestFirst.{highest-length, highest-back}
 
 pub seconds-long : (xs : List ℕ) → length (secondsBytes xs) ≡ 4 * length xs
 unfolding secondsBytes
@@ -53,6 +53,23 @@ read-at (suc n) s (suc i) h =
     let next : 4 + 4 * i ≡ 4 * suc i = omega arith in
     read-at n (drop 4 s) i (omega arith)
     ∙ ap (λ (l : List ℕ). numberIn (take 4 l)) (drop-drop (4 * i) 4 s ∙ ap (λ (k : ℕ). drop k s) next)
+
+-- seconds that fit four bytes, read back
+pub seconds-back : (xs t : List ℕ) → ((i : ℕ) → i < length xs → getD xs i 0 < 256 ^ 4)
+    → secondsIn (length xs) (secondsBytes xs ++ t) ≡ xs
+unfolding secondsIn secondsBytes
+seconds-back [] t h = refl
+seconds-back (x ∷ xs) t h =
+    let four = highestFirst 4 x in
+    let whole : four ++ secondsBytes xs ++ t ≡ four ++ (secondsBytes xs ++ t)
+    = append-assoc four (secondsBytes xs) t in
+    let long = highest-length 4 x in
+    (λ i.
+    (ap (λ (l : List ℕ). numberIn (take 4 l)) whole ∙ ap numberIn (take-at four _ 4 long)
+    ∙ highest-back 4 x (h 0 (omega arith))) i
+    ∷ (ap (λ (l : List ℕ). secondsIn (length xs) (drop 4 l)) whole
+    ∙ ap (secondsIn (length xs)) (drop-at four _ 4 long)
+    ∙ seconds-back xs t (λ i l. h (suc i) (omega arith))) i)
 
 -- as the code reads them back from a room
 pub room-read : (n : ℕ) (s : List ℕ) → n ≤ lampsMost → take n (inRoom lampsMost (secondsIn n s)) ≡ secondsIn n s

@@ -1,6 +1,6 @@
 -- A section in bytes: read from where its count stands, and put together again from what was read.
 -- Assumes nothing.
-use Prim.Native.Nat.{ℕ, _+_, _-_, _≤_}
+use Prim.Native.Nat.{ℕ, suc, _+_, _-_, _≤_}
 use mathlib.Core.Path.{_≡_, sym, ap, _∙_}
 use mathlib.Core.List.{List, _∷_, _++_}
 use native.Mathlib.Nat.{add-zero}
@@ -34,6 +34,17 @@ module _ (s : List ℕ) (p : ℕ) (n : ℕ) (items rest : List ℕ) (h : drop p 
         ∙ ap (drop (length items)) items-from
         ∙ drop-append-seam items rest
 
+-- a text between two places, and what is left after it
+module _ (s : List ℕ) (p r : ℕ) (t rest : List ℕ) (h : drop p s ≡ length t ∷ (t ++ rest)) (e : r ≡ p + 1 + (s at p)) where
+  text-end : r ≡ p + 1 + length t
+  text-end = e ∙ ap (λ (n : ℕ). p + 1 + n) (count-read s p (length t) t rest h)
+
+  pub text-read : between (p + 1) r s ≡ t
+  text-read = items-read s p (length t) t rest h r text-end
+
+  pub text-rest : drop r s ≡ rest
+  text-rest = rest-read s p (length t) t rest h r text-end
+
 -- what stands between two places, and what is left from the first on
 module _ (s : List ℕ) (a b : ℕ) (l : a ≤ b) (h : b ≤ length s) where
   pub between-long : length (between a b s) ≡ b - a
@@ -51,3 +62,11 @@ section-whole s p q l h =
     drop-cons s p 0 (omega arith)
     ∙ ap (λ (k : ℕ). (s at p) ∷ drop k s) (sym (add-one p))
     ∙ ap (λ (r : List ℕ). (s at p) ∷ r) (cut-at s (p + 1) q l h)
+
+-- its count and its items, with nothing after them
+pub section-between : (s : List ℕ) (p q : ℕ) → p + 1 ≤ q → q ≤ length s
+    → between p q s ≡ (s at p) ∷ between (p + 1) q s
+section-between s p q l h =
+    let more : q - p ≡ suc (q - (p + 1)) = omega arith in
+    (λ i. take (more i) (drop-cons s p 0 (omega arith) i))
+    ∙ ap (λ (k : ℕ). (s at p) ∷ take (q - (p + 1)) (drop k s)) (sym (add-one p))

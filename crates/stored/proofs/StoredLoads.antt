@@ -1,22 +1,24 @@
--- A board swap (02, L3): what a legal record stores loads as the fresh set-up of its settings and of its lamps' seconds
--- as they are, with the number 0. What is stored of a fresh set-up is what it was set up with.
+-- A board swap (02, L3 and L8): what a legal record stores loads as the fresh set-up of its settings and of its lamps'
+-- seconds as they are, each lamp with its mark, with the number 0. What is stored of a fresh set-up is what it was set up
+-- with.
 -- Assumes nothing.
 use Prim.Native.Nat.{ℕ, _≤_}
-use mathlib.Core.Path.{_≡_, ap, _∙_}
-use mathlib.Core.Bool.{true}
+use mathlib.Core.Path.{_≡_, sym, ap, _∙_}
+use mathlib.Core.Bool.{Bool, true}
 use mathlib.Core.List.{List}
 use native.Mathlib.Omega.{arith}
 use lib.ListN.{length, take}
-use borrow.Author.Tests.{le-leb}
+use borrow.Author.Tests.{eq-eqb, le-leb}
 use Rattle.text.proofs.Choices.{both}
 use Rattle.lines.specs.Texts.{isInfo, isPassword}
 use Rattle.lines.proofs.TextsTold.{name-long, info-long, password-long}
 use Rattle.record.specs.Limits.{textRoom, inputRoom, lampsMost, stretchMost}
 use Rattle.record.specs.Wanted.{Wanted, wantedOf}
-use Rattle.record.specs.Rules.{isLongEnough, isStretch, isInputs, isLamps}
+use Rattle.record.specs.Rules.{isLongEnough, isStretch, isInputs, isLamps, isMarks}
+use Rattle.record.specs.Updates.{withOwn, withMarks}
 use Rattle.record.specs.Record.{inRoom, started, accepted}
 use Rattle.record.specs.Legal.{isLegal}
-use Rattle.record.specs.SetUp.{isSettingInRange, isSetUp, setUp}
+use Rattle.record.specs.SetUp.{isSettingInRange, isSetUp}
 use Rattle.record.specs.declared.types.Device.{Device}
 use Rattle.record.specs.declared.out_of_range.Setting.{Setting}
 use Rattle.record.specs.declared.out_of_range.Setting.the-variants.{Name, Maker, Model, Other, Password, Inputs}
@@ -27,10 +29,12 @@ use Rattle.record.proofs.SettingsTold.{StretchTold}
 use Rattle.record.proofs.LegalTold.{settings-of-legal, own-of-legal}
 use Rattle.record.proofs.OutOfRange.{each-in-range}
 use Rattle.record.proofs.InRange.{in-range-shown}
-use Rattle.record.proofs.Calls.{set-up-shown, set-up-accepted}
+use Rattle.record.proofs.Calls.{set-up-shown}
 use Rattle.record.proofs.Started.{started-parts, inputs-halved}
-use Rattle.stored.specs.Form.{formOf, storedOf}
-use Rattle.stored.specs.Loading.{loaded}
+use Rattle.stored.specs.Form.{storedOf, marksStored, storedForm}
+use Rattle.stored.specs.Loading.{markRoom, isMarksOf, startedWith, loaded}
+use Rattle.stored.proofs.MarkBytes.{room-again, room-front}
+use Rattle.stored.proofs.FormLong.{stored-long}
 use Rattle.stored.proofs.FormsLoad.{form-loads}
 
 in-stretch : (n : ℕ) → StretchTold n → isStretch n ≡ true
@@ -54,11 +58,32 @@ module _ (d : Device) (h : isLegal d ≡ true) where
       let long = ap isLongEnough (kept-length textRoom isPassword _ _ (told .password)) ∙ told .long-enough in
       set-up-shown (storedOf d) (in-range-shown (storedOf d) in-range) long
 
-  pub stored-loads : loaded (formOf (storedOf d)) ≡ accepted (started (storedOf d))
-  stored-loads = form-loads (storedOf d) stored-in-range ∙ set-up-accepted (storedOf d) stored-in-range
+  abbrev many : ℕ
+  many = d .settings .«lamp_count»
 
-  pub stored-sets-up : loaded (formOf (storedOf d)) ≡ setUp (storedOf d)
-  stored-sets-up = form-loads (storedOf d) stored-in-range
+  legal-marks : isMarks many (d .own .enabled) ≡ true
+  legal-marks = own-of-legal d h .marks
+
+  -- each mark as it was
+  pub stored-marks-kept : markRoom (marksStored d) ≡ d .own .enabled
+  stored-marks-kept = room-again many (d .own .enabled) legal-marks (settings-of-legal d h .lamps)
+
+  pub stored-marks : isMarksOf (length (storedOf d .lamps)) (marksStored d) ≡ true
+  stored-marks =
+      let lamps = stored-long d h .lamps in
+      both (eq-eqb (length (marksStored d)) (length (storedOf d .lamps)) (stored-long d h .marks ∙ sym lamps))
+      ((λ i. isMarks (lamps i) (stored-marks-kept i)) ∙ legal-marks)
+
+  pub stored-loads : loaded (storedForm d) ≡ accepted (startedWith (storedOf d) (marksStored d))
+  stored-loads = form-loads (storedOf d) stored-in-range (marksStored d) stored-marks
+
+  -- in the words of the record
+  pub stored-loads-as : loaded (storedForm d)
+      ≡ accepted (withOwn (started (storedOf d)) (withMarks (started (storedOf d) .own) (d .own .enabled)))
+  stored-loads-as =
+      stored-loads
+      ∙ ap (λ (ms : List Bool). accepted
+      (withOwn (started (storedOf d)) (withMarks (started (storedOf d) .own) ms))) stored-marks-kept
 
 module _ (w : Wanted) (ok : isSetUp w ≡ true) where
   met : (s : Setting) → isSettingInRange w s ≡ true
@@ -83,3 +108,10 @@ module _ (w : Wanted) (ok : isSetUp w ≡ true) where
       ∙ filled-take inputRoom isInputs (w .inputs) (inputs-few (w .inputs) (met Inputs))) i)
       (filled-take lampsMost isLamps (w .lamps) (lamps-few (w .lamps) (met Lamps)) i)
       (w .warm) (w .cool))
+
+  -- and the marks that a load gave it
+  pub started-marks-stored : (ms : List Bool) → length ms ≡ length (w .lamps) → marksStored (startedWith w ms) ≡ ms
+  started-marks-stored ms many =
+      ap (λ (d : Device). take (d .settings .«lamp_count») (markRoom ms)) (started-parts w)
+      ∙ ap (λ (n : ℕ). take n (markRoom ms)) (sym many)
+      ∙ room-front ms

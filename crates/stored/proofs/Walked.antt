@@ -1,11 +1,14 @@
--- The places of a form, each by the one before it: what has them has the form's places.
+-- The places of a form, each by the one before it: what has them has the form's places; and the length of the marks, by
+-- the version (02, L8).
 -- Assumes nothing.
 use Prim.Native.Nat.{ℕ, _+_, _*_}
 use mathlib.Core.Path.{_≡_, refl, sym, ap, subst, _∙_}
+use mathlib.Core.Bool.{true, false}
 use mathlib.Core.List.{List}
 use native.Mathlib.Omega.{arith}
+use Rattle.text.proofs.Choices.{if-yes, if-no}
 use Rattle.lines.specs.Bytes.{_at_}
-use Rattle.stored.specs.Loading.{sectionEnd, placesOf, Walked}
+use Rattle.stored.specs.Loading.{isOld, sectionEnd, marksLong, placesOf, Walked}
 use Rattle.stored.specs.declared.layout.Places.{Places}
 
 module _ (s : List ℕ) where
@@ -16,6 +19,15 @@ module _ (s : List ℕ) where
   text-ends : (k q : ℕ) → q ≡ k + 1 + (s at k) → q ≡ sectionEnd s 1 k
   text-ends k q e = ends 1 k q (omega arith)
 
+  module _ (p : ℕ) where
+    pub no-marks-long : isOld s ≡ true → marksLong s p ≡ 0
+    unfolding marksLong
+    no-marks-long o = if-yes _ _ o
+
+    pub some-marks-long : isOld s ≡ false → marksLong s p ≡ 1 + (s at p)
+    unfolding marksLong
+    some-marks-long o = if-no _ _ o
+
   pub walked-one : (p : Places) → Walked s p → p ≡ placesOf s
   unfolding placesOf
   walked-one p w =
@@ -25,7 +37,8 @@ module _ (s : List ℕ) where
       let password = text-ends (p .other) (p .password) (w .password) ∙ ap (sectionEnd s 1) other in
       let inputs = text-ends (p .password) (p .inputs) (w .inputs) ∙ ap (sectionEnd s 1) password in
       let lamps = ends 2 (p .inputs) (p .lamps) (w .lamps) ∙ ap (sectionEnd s 2) inputs in
-      let warm = ends 4 (p .lamps) (p .warm) (w .warm) ∙ ap (sectionEnd s 4) lamps in
+      let marks = ends 4 (p .lamps) (p .marks) (w .marks) ∙ ap (sectionEnd s 4) lamps in
+      let warm = w .warm ∙ ap (λ (k : ℕ). k + marksLong s k) marks in
       (λ i. record {
         maker = maker i;
         model = model i;
@@ -33,6 +46,7 @@ module _ (s : List ℕ) where
         password = password i;
         inputs = inputs i;
         lamps = lamps i;
+        marks = marks i;
         warm = warm i;
         end = (w .end ∙ ap (λ (k : ℕ). k + 4) warm) i;
       })
@@ -46,6 +60,7 @@ module _ (s : List ℕ) where
     password = omega arith;
     inputs = omega arith;
     lamps = refl;
+    marks = refl;
     warm = refl;
     end = refl;
   }

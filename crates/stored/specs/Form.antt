@@ -1,15 +1,22 @@
--- The stored form (02, L3): "the version byte 1, then sections in a fixed order, each after its count (of bytes, inputs
+-- The stored form (02, L3): "the version byte .., then sections in a fixed order, each after its count (of bytes, inputs
 -- or lamps) in one byte: name, maker, model, other, password, inputs (two ASCII digits each), lamps (seconds as four
--- bytes); last W and C as two bytes each; all highest first".
---   formVersion               the version byte
+-- bytes); last W and C as two bytes each; all highest first". Version 2 has "a section of marks, one byte 0 or 1 each,
+-- after the lamps .. Each version has one form; the newest is written" (02, L8).
+--   formVersion               the version byte of the newest form;    oldVersion    of the one before, which still loads
 --   highestFirst n x          the number x in n bytes
 --   section count items       a section: its count, then what is counted
 --   textSection s             of a text, whose items are its bytes
 --   secondsBytes xs           the seconds of each lamp, four bytes a lamp
---   formOf w                  the form of the settings w
+--   markByte m                the byte of a lamp's enabled mark
+--   marksSection ms           the section of the marks ms
+--   formWith v marks w        a form of the settings w: of the version v, which has those bytes between the lamps and W
+--   formOf w ms               the newest form: of the settings w, the lamps with the marks ms
+--   oldFormOf w               version 1's form of the settings w
 --   formMost                  no form is longer
 --   textStored t              what is stored of a text: the bytes that it has
 --   storedOf d                what is stored of a record: its settings, and each lamp's seconds as they are now
+--   marksStored d             and each lamp's mark
+--   storedForm d              the form of both
 --   StoredAs                  what storing gives: its number, and the bytes from the start of the lent memory
 --   nothingStored n           a refusal: the number n, and no bytes
 --   storingRows d room        when it is refused, and with which number: memory is short by this form's own length
@@ -17,8 +24,8 @@
 --   toldStored                the same as the code returns it
 -- Assumes nothing.
 use Prim.Native.Nat.{ℕ, _*_, _/_}
-use mathlib.Core.Bool.{not}
-use mathlib.Core.List.{List, [], _∷_, _++_}
+use mathlib.Core.Bool.{Bool, true, false, not}
+use mathlib.Core.List.{List, [], _∷_, _++_, map}
 use lib.ListN.{length, take}
 use lib.Dec.{ltb}
 use Rattle.text.specs.Scans.{itself}
@@ -31,7 +38,10 @@ use Rattle.record.specs.declared.types.Device.{Device}
 use Rattle.stored.specs.declared.storing.FormWritten.{FormWritten}
 
 abbrev pub formVersion : ℕ
-formVersion = 1
+formVersion = 2
+
+abbrev pub oldVersion : ℕ
+oldVersion = 1
 
 unfoldable pub highestFirst : ℕ → ℕ → List ℕ
 highestFirst n x = lowDigits 256 itself n x
@@ -46,16 +56,30 @@ unfoldable pub secondsBytes : List ℕ → List ℕ
 secondsBytes [] = []
 secondsBytes (x ∷ xs) = highestFirst 4 x ++ secondsBytes xs
 
-unfoldable pub formOf : Wanted → List ℕ
-formOf w =
-    formVersion
+abbrev pub markByte : Bool → ℕ
+markByte false = 0
+markByte true = 1
+
+abbrev pub marksSection : List Bool → List ℕ
+marksSection ms = section (length ms) (map markByte ms)
+
+unfoldable pub formWith : ℕ → List ℕ → Wanted → List ℕ
+formWith version marks w =
+    version
     ∷ (textSection (w .name) ++ textSection (w .maker) ++ textSection (w .model) ++ textSection (w .other)
     ++ textSection (w .password) ++ section (length (w .inputs) / 2) (w .inputs)
-    ++ section (length (w .lamps)) (secondsBytes (w .lamps)) ++ highestFirst 2 (w .warm) ++ highestFirst 2 (w .cool))
+    ++ section (length (w .lamps)) (secondsBytes (w .lamps)) ++ marks
+    ++ highestFirst 2 (w .warm) ++ highestFirst 2 (w .cool))
 
--- a version; a name of 64 bytes; three texts and a password of 32; 32 inputs; 8 lamps; W and C
+abbrev pub formOf : Wanted → List Bool → List ℕ
+formOf w ms = formWith formVersion (marksSection ms) w
+
+abbrev pub oldFormOf : Wanted → List ℕ
+oldFormOf w = formWith oldVersion [] w
+
+-- a version; a name of 64 bytes; three texts and a password of 32; 32 inputs; 8 lamps and their marks; W and C
 abbrev pub formMost : ℕ
-formMost = 300
+formMost = 309
 
 abbrev pub textStored : Text → List ℕ
 textStored t = take (t .len) (t .bytes)
@@ -73,6 +97,12 @@ storedOf d = record {
   cool = d .settings .cool;
 }
 
+abbrev pub marksStored : Device → List Bool
+marksStored d = take (d .settings .«lamp_count») (d .own .enabled)
+
+abbrev pub storedForm : Device → List ℕ
+storedForm d = formOf (storedOf d) (marksStored d)
+
 pub record StoredAs : Type 0 where
   pub number : ℕ
   pub bytes : List ℕ
@@ -81,10 +111,10 @@ abbrev pub nothingStored : ℕ → StoredAs
 nothingStored n = record { number = n; bytes = [] }
 
 abbrev pub storingRows : Device → ℕ → List Row
-storingRows d room = (1 when not (isLegal d)) ∷ (2 when ltb room (length (formOf (storedOf d)))) ∷ []
+storingRows d room = (1 when not (isLegal d)) ∷ (2 when ltb room (length (storedForm d))) ∷ []
 
 unfoldable pub storedBy : Device → ℕ → StoredAs
-storedBy d room = byRows (storingRows d room) nothingStored (record { number = 0; bytes = formOf (storedOf d) })
+storedBy d room = byRows (storingRows d room) nothingStored (record { number = 0; bytes = storedForm d })
 
 abbrev pub toldStored : StoredAs → FormWritten
 toldStored s = record { number = s .number; length = length (s .bytes) }

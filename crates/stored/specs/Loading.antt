@@ -1,10 +1,13 @@
 -- Loading a stored form (02, L3): "The reader answers new numbers 20 (unknown version), 21 (cut short), 22 (bytes left
 -- over), 23 (contents not legal by 01), tested in that order; empty input is 21. .. A refused load gives the blank
--- record. .. Loading is a fresh set-up". A form says by its counts where it ends, so the counts alone decide 21 and 22;
--- the contents are looked at last.
+-- record. .. Loading is a fresh set-up"; with the marks "as the form has them", and "version 1 loads with all set"
+-- (02, L8). A form says by its version and its counts where it ends, so these alone decide 21 and 22; the contents are
+-- looked at last.
+--   isOld s                   the version is the one without marks
 --   isOtherVersion s          there is a first byte, and it is another version's
 --   sectionEnd s width p      where the section ends whose count stands at p, of items of so many bytes each; past the
 --                             end of s there is no count, and 0 is read: what begins there ends later still
+--   marksLong s p             how long the section of marks is whose count stands at p: the old version has none
 --   placesOf s                where each section's count stands, by the counts before it; then W; then the form's end
 --   Walked s p                p are these places, each said by the one before it
 --   formEnd s                 the form's end
@@ -12,32 +15,51 @@
 --   numberIn s                the number that the bytes s are, highest first
 --   secondsIn n s             the first n numbers of four bytes in s
 --   settingsAt s p            the settings that stand at the places p;    settingsIn s    at those that s says
+--   marksAt s p               the bytes of the marks there, each 1 where the version has none;    markBytesIn s
+--   isMarkByte b              it is 0 or 1;    isMarked b    it is 1: the lamp is enabled
+--   marksRead s                 the marks in s
+--   markRoom ms               the marks ms in their room: none past them
+--   isMarksOf n ms            ms are marks of n lamps: one a lamp, and legal in their room
+--   areMarks n bytes          the bytes are such marks
+--   startedWith w ms          the device that a set-up of w gives, the lamps with the marks ms
+--   isContents s              the settings in s can be set up, and the marks are those of their lamps
 --   loadRows s                when a load is refused, and with which number
---   loaded s                  refused with the blank record, or the set-up of the settings in s
+--   loaded s                  refused with the blank record, or the set-up of the settings in s with the marks in s
 -- Assumes nothing.
 use Prim.Native.Nat.{ℕ, zero, suc, _+_, _-_, _*_}
 use mathlib.Core.Path.{_≡_}
-use mathlib.Core.Bool.{Bool, false, not}
-use mathlib.Core.List.{List, [], _∷_}
-use lib.ListN.{length, take, drop}
+use mathlib.Core.Bool.{Bool, false, not, _&&_}
+use mathlib.Core.List.{List, [], _∷_, _++_, map}
+use lib.ListN.{length, take, drop, replicate}
 use lib.Dec.{ltb, eqb}
-use Rattle.text.specs.Scans.{itself}
+use Rattle.text.specs.Words.{if_then_else_}
+use Rattle.text.specs.Scans.{itself, every}
 use Rattle.text.specs.Bases.{valueIn}
 use Rattle.text.specs.Rows.{Row, _when_, byRows}
 use Rattle.lines.specs.Bytes.{_at_}
+use Rattle.record.specs.Limits.{lampsMost}
 use Rattle.record.specs.Wanted.{Wanted, wantedOf}
-use Rattle.record.specs.Record.{blank, refused}
-use Rattle.record.specs.SetUp.{isSetUp, setUp}
+use Rattle.record.specs.Rules.{atMost, isMarks}
+use Rattle.record.specs.Updates.{withOwn, withMarks}
+use Rattle.record.specs.Record.{started, blank, accepted, refused}
+use Rattle.record.specs.SetUp.{isSetUp}
+use Rattle.record.specs.declared.types.Device.{Device}
 use Rattle.record.specs.declared.types.Changed.{Changed}
-use Rattle.stored.specs.Form.{formVersion}
+use Rattle.stored.specs.Form.{formVersion, oldVersion}
 use Rattle.stored.specs.declared.layout.Places.{Places}
+
+abbrev pub isOld : List ℕ → Bool
+isOld s = eqb (s at 0) oldVersion
 
 abbrev pub isOtherVersion : List ℕ → Bool
 isOtherVersion [] = false
-isOtherVersion (v ∷ s) = not (eqb v formVersion)
+isOtherVersion (v ∷ s) = not (eqb v formVersion) && not (eqb v oldVersion)
 
 unfoldable pub sectionEnd : List ℕ → ℕ → ℕ → ℕ
 sectionEnd s width p = p + 1 + width * (s at p)
+
+unfoldable pub marksLong : List ℕ → ℕ → ℕ
+marksLong s p = if isOld s then 0 else 1 + (s at p)
 
 -- the name's count stands after the version
 unfoldable pub placesOf : List ℕ → Places
@@ -48,7 +70,8 @@ placesOf s =
     let password = sectionEnd s 1 other in
     let inputs = sectionEnd s 1 password in
     let lamps = sectionEnd s 2 inputs in
-    let warm = sectionEnd s 4 lamps in
+    let marks = sectionEnd s 4 lamps in
+    let warm = marks + marksLong s marks in
     record {
       maker = maker;
       model = model;
@@ -56,6 +79,7 @@ placesOf s =
       password = password;
       inputs = inputs;
       lamps = lamps;
+      marks = marks;
       warm = warm;
       end = warm + 4;
     }
@@ -67,7 +91,8 @@ pub record Walked (s : List ℕ) (p : Places) : Type 0 where
   pub password : p .password ≡ p .other + 1 + (s at (p .other))
   pub inputs : p .inputs ≡ p .password + 1 + (s at (p .password))
   pub lamps : p .lamps ≡ p .inputs + 1 + 2 * (s at (p .inputs))
-  pub warm : p .warm ≡ p .lamps + 1 + 4 * (s at (p .lamps))
+  pub marks : p .marks ≡ p .lamps + 1 + 4 * (s at (p .lamps))
+  pub warm : p .warm ≡ p .marks + marksLong s (p .marks)
   pub end : p .end ≡ p .warm + 4
 
 abbrev pub formEnd : List ℕ → ℕ
@@ -94,10 +119,40 @@ settingsAt s p =
 abbrev pub settingsIn : List ℕ → Wanted
 settingsIn s = settingsAt s (placesOf s)
 
+unfoldable pub marksAt : List ℕ → Places → List ℕ
+marksAt s p = if isOld s then replicate (s at (p .lamps)) 1 else between (p .marks + 1) (p .warm) s
+
+abbrev pub markBytesIn : List ℕ → List ℕ
+markBytesIn s = marksAt s (placesOf s)
+
+abbrev pub isMarkByte : ℕ → Bool
+isMarkByte b = atMost 1 b
+
+abbrev pub isMarked : ℕ → Bool
+isMarked b = eqb b 1
+
+abbrev pub marksRead : List ℕ → List Bool
+marksRead s = map isMarked (markBytesIn s)
+
+unfoldable pub markRoom : List Bool → List Bool
+markRoom ms = ms ++ replicate (lampsMost - length ms) false
+
+abbrev pub isMarksOf : ℕ → List Bool → Bool
+isMarksOf n ms = eqb (length ms) n && isMarks n (markRoom ms)
+
+abbrev pub areMarks : ℕ → List ℕ → Bool
+areMarks n bytes = every isMarkByte bytes && isMarksOf n (map isMarked bytes)
+
+abbrev pub startedWith : Wanted → List Bool → Device
+startedWith w ms = withOwn (started w) (withMarks (started w .own) (markRoom ms))
+
+abbrev pub isContents : List ℕ → Bool
+isContents s = isSetUp (settingsIn s) && areMarks (length (settingsIn s .lamps)) (markBytesIn s)
+
 abbrev pub loadRows : List ℕ → List Row
 loadRows s =
     (20 when isOtherVersion s) ∷ (21 when ltb (length s) (formEnd s)) ∷ (22 when ltb (formEnd s) (length s))
-    ∷ (23 when not (isSetUp (settingsIn s))) ∷ []
+    ∷ (23 when not (isContents s)) ∷ []
 
 unfoldable pub loaded : List ℕ → Changed
-loaded s = byRows (loadRows s) (λ n. refused n blank) (setUp (settingsIn s))
+loaded s = byRows (loadRows s) (λ n. refused n blank) (accepted (startedWith (settingsIn s) (marksRead s)))

@@ -1,4 +1,4 @@
-// Storing a record (02, L3): its settings, and each lamp's seconds as they are now.
+// Storing a record (02, L3 and L8): its settings, each lamp's seconds as they are now, and its enabled mark.
 use crate::numbers;
 use record::legality;
 use record::types::Device;
@@ -7,7 +7,7 @@ use record::types::Settings;
 use record::types::Text;
 ghost use mathlib.Core.Path.{_≡_};
 ghost use mathlib.Core.Bool.{true};
-ghost use mathlib.Core.List.{_∷_, _++_};
+ghost use mathlib.Core.List.{_∷_, _++_, map};
 ghost use Prim.Native.Nat.{_+_, _*_, _≤_};
 ghost use lib.ListN.{length, take};
 ghost use lib.Seq.{sets};
@@ -15,7 +15,7 @@ ghost use Rattle.text.specs.Words.{over};
 ghost use Rattle.record.specs.Limits.{textRoom, lampsMost};
 ghost use Rattle.record.specs.Legal.{isSettings, isLegal};
 ghost use Rattle.stored.specs.Form.{formVersion, highestFirst, section, textSection, secondsBytes, textStored};
-ghost use Rattle.stored.specs.Form.{storedOf, formOf, storedBy, toldStored};
+ghost use Rattle.stored.specs.Form.{markByte, storedForm, storedBy, toldStored};
 
 #[repr(C)]
 pub struct FormWritten {
@@ -23,7 +23,8 @@ pub struct FormWritten {
     pub length: usize,
 }
 
-pub const VERSION: u8 = 1;
+// The newest, which is written (02, L8).
+pub const VERSION: u8 = 2;
 
 // A section: its count, then what is counted.
 fn put_section(out: &mut [u8], p: usize, count: u8, items: &[u8])
@@ -61,14 +62,36 @@ fn put_seconds(out: &mut [u8], p: usize, lamps: [u32; LAMPS_MOST], n: usize)
     }
 }
 
+fn mark_byte(mark: bool) -> u8
+    ensures { λ r. ⌜ r ≡ markByte mark ⌝ }
+{
+    if mark {
+        return 1;
+    }
+    0
+}
+
+// The marks of the first n lamps.
+fn put_marks(out: &mut [u8], p: usize, marks: [bool; LAMPS_MOST], n: usize)
+    requires { ⌜ n ≤ lampsMost ⌝ }
+    requires { ⌜ p + n ≤ length (now out) ⌝ }
+    ensures { λ _. ⌜ now (out .exit) ≡ sets (now (out .entry)) p (map markByte (take n marks)) ⌝ }
+{
+    let mut i = 0;
+    while i < n {
+        out[p + i] = mark_byte(marks[i]);
+        i += 1;
+    }
+}
+
 // The length of the form of a legal record.
 fn form_length(d: Device) -> usize
     requires { ⌜ isLegal d ≡ true ⌝ }
-    ensures { λ r. ⌜ r ≡ length (formOf (storedOf d)) ⌝ }
+    ensures { λ r. ⌜ r ≡ length (storedForm d) ⌝ }
 {
     let s = d.settings;
     let texts = s.name.len + s.maker.len + s.model.len + s.other.len + s.password.len;
-    12 + texts + 2 * s.input_count + 4 * s.lamp_count
+    13 + texts + 2 * s.input_count + 5 * s.lamp_count
 }
 
 // The version and the texts. Returns the place after them.
@@ -90,13 +113,20 @@ fn put_texts(out: &mut [u8], s: Settings) -> usize
     put_text(out, password, s.password)
 }
 
-// The inputs, the lamps, W and C.
-fn put_lists(out: &mut [u8], p: usize, s: Settings, lamps: [u32; LAMPS_MOST])
+// The inputs, the lamps, their marks, W and C.
+fn put_lists(
+    out: &mut [u8],
+    p: usize,
+    s: Settings,
+    lamps: [u32; LAMPS_MOST],
+    marks: [bool; LAMPS_MOST],
+)
     requires { ⌜ isSettings s ≡ true ⌝ }
-    requires { ⌜ p + 6 + 2 * s .«input_count» + 4 * s .«lamp_count» ≤ length (now out) ⌝ }
+    requires { ⌜ p + 7 + 2 * s .«input_count» + 5 * s .«lamp_count» ≤ length (now out) ⌝ }
     ensures { λ _. ⌜ now (out .exit) ≡ sets (now (out .entry)) p (section (s .«input_count»)
         (take (2 * s .«input_count») (s .inputs)) ++ section (s .«lamp_count»)
-        (secondsBytes (take (s .«lamp_count») lamps)) ++ highestFirst 2 (s .warm) ++ highestFirst 2 (s .cool)) ⌝ }
+        (secondsBytes (take (s .«lamp_count») lamps)) ++ section (s .«lamp_count»)
+        (map markByte (take (s .«lamp_count») marks)) ++ highestFirst 2 (s .warm) ++ highestFirst 2 (s .cool)) ⌝ }
 {
     let list = s.inputs;
     let count = s.input_count;
@@ -107,7 +137,10 @@ fn put_lists(out: &mut [u8], p: usize, s: Settings, lamps: [u32; LAMPS_MOST])
     let lead = [n as u8];
     text::put(out, place, &lead);
     put_seconds(out, place + 1, lamps, n);
-    let warm = place + 1 + 4 * n;
+    let next = place + 1 + 4 * n;
+    text::put(out, next, &lead);
+    put_marks(out, next + 1, marks, n);
+    let warm = next + 1 + n;
     numbers::put_two(out, warm, s.warm);
     numbers::put_two(out, warm + 2, s.cool);
 }
@@ -115,14 +148,15 @@ fn put_lists(out: &mut [u8], p: usize, s: Settings, lamps: [u32; LAMPS_MOST])
 // The form of a legal record from the start of memory that has room for it.
 fn put_form(out: &mut [u8], d: Device)
     requires { ⌜ isLegal d ≡ true ⌝ }
-    requires { ⌜ length (formOf (storedOf d)) ≤ length (now out) ⌝ }
-    ensures { λ _. ⌜ now (out .exit) ≡ over (formOf (storedOf d)) (now (out .entry)) ⌝ }
+    requires { ⌜ length (storedForm d) ≤ length (now out) ⌝ }
+    ensures { λ _. ⌜ now (out .exit) ≡ over (storedForm d) (now (out .entry)) ⌝ }
 {
     let settings = d.settings;
     let own = d.own;
     let lamps = own.lamps;
+    let marks = own.enabled;
     let lists = put_texts(out, settings);
-    put_lists(out, lists, settings, lamps);
+    put_lists(out, lists, settings, lamps, marks);
 }
 
 // 1 for a record that is not legal, then 2 for memory shorter than the form.

@@ -8,7 +8,8 @@ use Rattle.stored.proofs.layout.walk.Tie as tie
 
 walks : tie.Need-returns
 walks c =
-    let inputs = c .before in
+    let lamps = c .before in
+    let inputs = lamps .before in
     let password = inputs .before in
     let other = password .before in
     let model = other .before in
@@ -22,7 +23,8 @@ walks c =
       password = omega (arith, other .count-at4 .ensures .0);
       inputs = omega (arith, password .count-at5 .ensures .0);
       lamps = omega (arith, inputs .count-at6 .ensures .0);
-      warm = omega (arith, c .count-at7 .ensures .0);
+      marks = omega (arith, lamps .count-at7 .ensures .0);
+      warm = omega (arith, c .marks-long .ensures .0);
       end = search needs;
     })
 
@@ -51,6 +53,8 @@ walk-spec =
     (λ c. search needs)
     (λ c κs. search needs)
     (λ c. search needs)
+    (λ c. search needs)
+    (λ c κs. search needs)
     (λ c. search needs)
     (λ c. search needs)
     walks)

@@ -1,6 +1,6 @@
 -- `stored::loading::load` meets its contract: each `return` is one case of `loaded`.
 -- Assumes nothing.
-use Prim.Native.Nat.{ℕ, _≤_}
+use Prim.Native.Nat.{ℕ, _+_, _≤_}
 use mathlib.Core.Path.{_≡_, sym, ap, _∙_}
 use mathlib.Core.Bool.{false}
 use mathlib.Core.List.{List}
@@ -8,10 +8,11 @@ use native.Mathlib.Omega.{arith}
 use lib.ListN.{length}
 use borrow.Author.Needs.{needs}
 use Rattle.record.specs.SetUp.{setUp}
-use Rattle.stored.specs.Loading.{isOtherVersion, formEnd, settingsAt, settingsIn}
+use Rattle.stored.specs.Loading.{isOld, isOtherVersion, formEnd, between, settingsAt, settingsIn}
 use Rattle.stored.specs.declared.layout.Places.{Places}
-use Rattle.stored.proofs.Walked.{walked-by}
-use Rattle.stored.proofs.Cases.{loaded-other, loaded-cut, loaded-over, loaded-refused, loaded-done}
+use Rattle.stored.proofs.Walked.{some-marks-long, walked-by}
+use Rattle.stored.proofs.Cases.{loaded-other, loaded-cut, loaded-over, loaded-refused, set-up-is-legal}
+use Rattle.stored.proofs.Cases.{loaded-old, markedBy, loaded-new}
 use Rattle.stored.proofs.loading.load.Statement.{statement}
 use Rattle.stored.proofs.loading.load.Tie as tie
 
@@ -77,10 +78,56 @@ wrong c =
     (loaded-refused (lent (places made)) (ours (places made)) (uncut made) (whole made) (gave made)
     (tested .if4 .taken))
 
-done : tie.Need-returns-5
-done c =
-    let made = c .before .before in
-    loaded-done (lent (places made)) (ours (places made)) (uncut made) (whole made) (gave made) (c .if4 .left)
+old : tie.Need-returns-5
+old c =
+    let asked = c .before in
+    let fit = asked .before in
+    let made = fit .before .before in
+    loaded-old (lent (places made)) (ours (places made)) (uncut made) (whole made) (gave made) (fit .if4 .left)
+    (sym (asked .is-old .ensures) ∙ c .if5 .taken)
+
+-- past the last test the form has marks
+module _ (c : tie.Else5) where
+  abbrev fit : tie.Else4
+  fit = c .before .before
+
+  abbrev made : tie.After-set-up-at
+  made = fit .before .before
+
+  not-old : isOld (lent (places made)) ≡ false
+  not-old = sym (c .before .is-old .ensures) ∙ c .if5 .left
+
+  abbrev found : Places
+  found = places made .walk .result
+
+  apart : found .marks + 1 ≤ found .warm
+  apart =
+      omega (
+        arith,
+        walked-by (lent (places made)) (places made .walk .ensures) .warm,
+        some-marks-long (lent (places made)) (found .marks) not-old,
+      )
+
+  inside : found .warm ≤ length (lent (places made))
+  inside =
+      omega (arith, walked-by (lent (places made)) (places made .walk .ensures) .end, third made .before .if2 .left)
+
+legal : tie.Need-enabled-requires
+legal c κs =
+    let past = c .before in
+    let set-up = made past in
+    set-up-is-legal (lent (places set-up)) (ours (places set-up)) (uncut set-up) (whole set-up) (gave set-up)
+    (fit past .if4 .left)
+
+new : tie.Need-returns-6
+new c =
+    let past = c .before .before in
+    let set-up = made past in
+    let s = lent (places set-up) in
+    c .enabled .ensures
+    ∙ ap (λ (p : Places). markedBy (set-up .set-up-at .result .device) (between (p .marks + 1) (p .warm) s))
+    (places set-up .walk .ensures)
+    ∙ loaded-new s (ours (places set-up)) (uncut set-up) (whole set-up) (gave set-up) (fit past .if4 .left) (not-old past)
 
 pub load-spec : {M : Type 1} → statement M
 load-spec =
@@ -97,4 +144,11 @@ load-spec =
     (λ c κs. (walked-by _ (c .before .before .walk .ensures), search needs))
     (λ c κs. search needs)
     wrong
-    done)
+    (λ c κs. search needs)
+    old
+    (λ c. omega (arith, apart c, inside c))
+    (λ c. apart c)
+    (λ c. omega (arith, apart c, inside c))
+    (λ c. inside c)
+    legal
+    new)

@@ -2,8 +2,7 @@
 -- Assumes nothing.
 use native.Mathlib.Omega.{arith}
 use Rattle.record.proofs.LegalTold.{settings-of-legal}
-use Rattle.stored.specs.Form.{storedOf}
-use Rattle.stored.proofs.FormLong.{Sized, sized, stored-long, form-long}
+use Rattle.stored.proofs.FormLong.{Sized, sized, stored-form-long}
 use Rattle.stored.proofs.storing.form_length.Statement.{statement}
 use Rattle.stored.proofs.storing.form_length.Tie as tie
 
@@ -16,8 +15,7 @@ start3 c = let first = c .before .before in first .before .before
 whole : tie.Need-returns
 whole c =
     let start = start3 (c .before .before .before) in
-    let long = stored-long (start .args .d) (start .pre) in
-    omega (arith, form-long (storedOf (start .args .d)))
+    omega (arith, stored-form-long (start .args .d) (start .pre))
 
 pub form-length-spec : {M : Type 1} → statement M
 form-length-spec =

@@ -9,13 +9,13 @@ use borrow.Author.Needs.{needs}
 use Rattle.text.proofs.Stores.{sets-then, sets-over}
 use Rattle.record.specs.Legal.{isSettings}
 use Rattle.record.proofs.LegalTold.{legal-settings}
-use Rattle.stored.specs.Form.{storedOf, formOf}
-use Rattle.stored.proofs.FormLong.{stored-long, form-long, textsPart, listsPart, texts-long, stored-form}
+use Rattle.stored.specs.Form.{storedForm}
+use Rattle.stored.proofs.FormLong.{textsPart, listsPart, texts-long, stored-form, stored-form-long}
 use Rattle.stored.proofs.storing.put_form.Statement.{statement}
 use Rattle.stored.proofs.storing.put_form.Tie as tie
 
 abbrev at-texts : tie.After-put-texts-arg → tie.Start
-at-texts c = let own = c .before .before in own .before .before .before
+at-texts c = let own = c .before .before .before in own .before .before .before
 
 legal : (c : tie.Start) → isSettings (c .args .d .settings) ≡ true
 legal c = legal-settings (c .args .d) (c .pre .0)
@@ -23,19 +23,17 @@ legal c = legal-settings (c .args .d) (c .pre .0)
 texts-fit : tie.Need-put-texts-requires
 texts-fit c κs =
     let start = at-texts c in
-    let long = stored-long (start .args .d) (start .pre .0) in
-    (legal start, omega (arith, start .pre .1, form-long (storedOf (start .args .d))))
+    (legal start, omega (arith, start .pre .1, stored-form-long (start .args .d) (start .pre .0)))
 
 lists-fit : tie.Need-put-lists-requires
 lists-fit c κs =
     let texts = c .before .before .before in
-    let start = at-texts (texts .before) in
-    let long = stored-long (start .args .d) (start .pre .0) in (
+    let start = at-texts (texts .before) in (
       legal start,
       omega (
         arith,
         start .pre .1,
-        form-long (storedOf (start .args .d)),
+        stored-form-long (start .args .d) (start .pre .0),
         texts .put-texts .ensures .0,
         texts .put-texts .kept .0,
       ),
@@ -53,7 +51,7 @@ stored c =
     ∙ sets-then out 0 (textsPart d) (listsPart d) (texts .put-texts .ensures .1)
     (texts .put-texts .ensures .0 ∙ sym (texts-long d h) ∙ sym (zero-add _))
     ∙ ap (sets out 0) (sym (stored-form d h))
-    ∙ sets-over (formOf (storedOf d)) out (start .pre .1)
+    ∙ sets-over (storedForm d) out (start .pre .1)
 
 pub put-form-spec : {M : Type 1} → statement M
 put-form-spec =

@@ -1,0 +1,172 @@
+-- Bytes that load are their version's form of what stands in them (02, L3 and L8): each section, written again, is the
+-- bytes from which it was read.
+-- Assumes nothing.
+use Prim.Native.Nat.{ℕ, _+_, _-_, _*_, _/_, _≤_}
+use mathlib.Core.Path.{_≡_, refl, sym, ap, _∙_}
+use mathlib.Core.Bool.{Bool, true, false, false≢true, not, _&&_}
+use mathlib.Core.List.{List, [], _∷_, _++_, map, append-assoc}
+use native.Mathlib.Omega.{arith}
+use lib.ListN.{length, take, drop, length-drop, length-map, take-append-drop}
+use lib.Seq.{take-all, drop-drop}
+use lib.Dec.{eqb}
+use borrow.Author.Tests.{eqb-true, not-false}
+use Rattle.lines.specs.Bytes.{_at_}
+use Rattle.record.specs.Wanted.{Wanted}
+use Rattle.stored.specs.Form.{formVersion, oldVersion, highestFirst, section, textSection, secondsBytes, markByte}
+use Rattle.stored.specs.Form.{formWith, formOf, oldFormOf}
+use Rattle.stored.specs.Loading.{isOld, isOtherVersion, placesOf, Walked, between, secondsIn}
+use Rattle.stored.specs.Loading.{settingsAt, settingsIn, markBytesIn, isMarked, marksRead}
+use Rattle.stored.specs.declared.layout.Places.{Places}
+use Rattle.stored.proofs.Seconds.{read-many}
+use Rattle.stored.proofs.MarkBytes.{marks-again, marks-told}
+use Rattle.stored.proofs.Walked.{no-marks-long, some-marks-long, walked}
+use Rattle.stored.proofs.Contents.{new-bytes}
+use Rattle.stored.proofs.Sections.{between-long, cut-at, section-whole, section-between}
+use Rattle.stored.proofs.Results.{Accepted}
+use Rattle.stored.proofs.BytesAgain.{Bytes, drop-bytes, number-again, seconds-again}
+
+version-then : (s : List ℕ) → 1 ≤ length s → s ≡ (s at 0) ∷ drop 1 s
+version-then [] l = absurd (omega arith)
+version-then (x ∷ s) l = refl
+
+newest-version : (s : List ℕ) → isOtherVersion s ≡ false → 1 ≤ length s → isOld s ≡ false → s at 0 ≡ formVersion
+newest-version [] v l o = absurd (omega arith)
+newest-version (x ∷ s) v l o =
+    eqb-true x formVersion (not-false (eqb x formVersion) (one-left-is (eqb x formVersion) (eqb x oldVersion) v o))
+  where
+    one-left-is : (a b : Bool) → (not a && not b) ≡ false → b ≡ false → not a ≡ false
+    one-left-is true b e f = refl
+    one-left-is false true e f = absurd (false≢true (sym f))
+    one-left-is false false e f = e
+
+in-turn : (v : ℕ) (a b c d e f g h i j : List ℕ)
+    → v ∷ (a ++ (b ++ (c ++ (d ++ (e ++ (f ++ (g ++ (h ++ (i ++ j)))))))))
+    ≡ v ∷ (a ++ b ++ c ++ d ++ e ++ f ++ g ++ h ++ i ++ j)
+in-turn v a b c d e f g h i j = simp append-assoc
+
+module _ (s : List ℕ) (b : Bytes s) (a : Accepted s) where
+  abbrev q : Places
+  q = placesOf s
+
+  abbrev w : Wanted
+  w = settingsIn s
+
+  places : Walked s q
+  places = walked s
+
+  -- a text that stands between two places, with its count again
+  text-again : (p r : ℕ) → r ≡ p + 1 + (s at p) → r ≤ length s
+      → drop p s ≡ textSection (between (p + 1) r s) ++ drop r s
+  text-again p r e l =
+      let long : length (between (p + 1) r s) ≡ s at p = between-long s (p + 1) r (omega arith) l ∙ omega arith in
+      section-whole s p r (omega arith) l ∙ ap (λ (n : ℕ). n ∷ (between (p + 1) r s ++ drop r s)) (sym long)
+
+  inputs-again : drop (q .inputs) s
+      ≡ section (length (between (q .inputs + 1) (q .lamps) s) / 2) (between (q .inputs + 1) (q .lamps) s)
+      ++ drop (q .lamps) s
+  inputs-again =
+      let order = places in
+      let end = a .uncut in
+      let long = between-long s (q .inputs + 1) (q .lamps) (omega arith) (omega arith) in
+      let half : length (between (q .inputs + 1) (q .lamps) s) / 2 ≡ s at (q .inputs) = omega arith in
+      section-whole s (q .inputs) (q .lamps) (omega arith) (omega arith)
+      ∙ ap (λ (n : ℕ). n ∷ (between (q .inputs + 1) (q .lamps) s ++ drop (q .lamps) s)) (sym half)
+
+  lamps-again : drop (q .lamps) s ≡ section (length (w .lamps)) (secondsBytes (w .lamps)) ++ drop (q .marks) s
+  unfolding settingsAt
+  lamps-again =
+      let order = places in
+      let end = a .uncut in
+      let n = s at (q .lamps) in
+      let t = drop (q .lamps + 1) s in
+      let long = length-drop (q .lamps + 1) s in
+      let four : 4 * n ≡ q .marks - (q .lamps + 1) = omega arith in
+      let bytes : secondsBytes (secondsIn n t) ≡ between (q .lamps + 1) (q .marks) s
+      = seconds-again n t (omega arith) (drop-bytes (q .lamps + 1) s b) ∙ ap (λ (k : ℕ). take k t) four in
+      section-whole s (q .lamps) (q .marks) (omega arith) (omega arith)
+      ∙ (λ i. sym (read-many n t) i ∷ (sym bytes i ++ drop (q .marks) s))
+
+  -- what the version has between the lamps and W
+  abbrev marks : List ℕ
+  marks = between (q .marks) (q .warm) s
+
+  marks-then : drop (q .marks) s ≡ marks ++ drop (q .warm) s
+  marks-then =
+      let order = places in
+      let end = a .uncut in
+      cut-at s (q .marks) (q .warm) (omega arith) (omega arith)
+
+  warm-again : drop (q .warm) s ≡ highestFirst 2 (w .warm) ++ drop (q .warm + 2) s
+  unfolding settingsAt
+  warm-again =
+      let order = places in
+      let end = a .uncut in
+      let t = drop (q .warm) s in
+      let long = length-drop (q .warm) s in
+      sym (take-append-drop 2 t)
+      ∙ (λ i. sym (number-again 2 t (omega arith) (drop-bytes (q .warm) s b)) i ++ drop-drop 2 (q .warm) s i)
+
+  cool-again : drop (q .warm + 2) s ≡ highestFirst 2 (w .cool)
+  unfolding settingsAt
+  cool-again =
+      let order = places in
+      let end = a .uncut in
+      let last = a .whole in
+      let t = drop (q .warm + 2) s in
+      let long = length-drop (q .warm + 2) s in
+      sym (take-all 2 t (omega arith)) ∙ sym (number-again 2 t (omega arith) (drop-bytes (q .warm + 2) s b))
+
+  -- all sections, one after the other
+  pub form-again : formWith (s at 0) marks w ≡ s
+  unfolding formWith settingsAt
+  form-again =
+      let order = places in
+      let end = a .uncut in
+      let texts = w in
+      sym
+      (version-then s (omega arith)
+      ∙ ap (λ (l : List ℕ). (s at 0) ∷ l)
+      (text-again 1 (q .maker) (order .maker) (omega arith)
+      ∙ ap (λ (l : List ℕ). textSection (w .name) ++ l)
+      (text-again (q .maker) (q .model) (order .model) (omega arith)
+      ∙ ap (λ (l : List ℕ). textSection (w .maker) ++ l)
+      (text-again (q .model) (q .other) (order .other) (omega arith)
+      ∙ ap (λ (l : List ℕ). textSection (w .model) ++ l)
+      (text-again (q .other) (q .password) (order .password) (omega arith)
+      ∙ ap (λ (l : List ℕ). textSection (w .other) ++ l)
+      (text-again (q .password) (q .inputs) (order .inputs) (omega arith)
+      ∙ ap (λ (l : List ℕ). textSection (w .password) ++ l)
+      (inputs-again
+      ∙ ap (λ (l : List ℕ). section (length (w .inputs) / 2) (w .inputs) ++ l)
+      (lamps-again
+      ∙ ap (λ (l : List ℕ). section (length (w .lamps)) (secondsBytes (w .lamps)) ++ l)
+      (marks-then
+      ∙ ap (λ (l : List ℕ). marks ++ l)
+      (warm-again ∙ ap (λ (l : List ℕ). highestFirst 2 (w .warm) ++ l) cool-again)))))))))
+      ∙ in-turn (s at 0) (textSection (w .name)) (textSection (w .maker)) (textSection (w .model))
+      (textSection (w .other)) (textSection (w .password)) (section (length (w .inputs) / 2) (w .inputs))
+      (section (length (w .lamps)) (secondsBytes (w .lamps))) marks (highestFirst 2 (w .warm))
+      (highestFirst 2 (w .cool)))
+
+  pub old-again : isOld s ≡ true → oldFormOf w ≡ s
+  old-again o =
+      let version = eqb-true (s at 0) oldVersion o in
+      let none : q .warm - q .marks ≡ 0
+      = omega (arith, places .warm, no-marks-long s (q .marks) o) in
+      (λ i. formWith (sym version i) (sym (ap (λ (n : ℕ). take n (drop (q .marks) s)) none) i) w) ∙ form-again
+
+  pub newest-again : isOld s ≡ false → formOf w (marksRead s) ≡ s
+  newest-again o =
+      let order = places in
+      let end = a .uncut in
+      let told = marks-told _ (markBytesIn s) (a .marks) in
+      let long = some-marks-long s (q .marks) o in
+      let version = newest-version s (a .version) (omega arith) o in
+      let items = between (q .marks + 1) (q .warm) s in
+      let read : map markByte (marksRead s) ≡ items = marks-again (markBytesIn s) (told .each) ∙ new-bytes s o in
+      let many : length (marksRead s) ≡ s at (q .marks)
+      = length-map (markBytesIn s) isMarked ∙ ap length (new-bytes s o)
+      ∙ between-long s (q .marks + 1) (q .warm) (omega arith) (omega arith) ∙ omega arith in
+      let count : between (q .marks) (q .warm) s ≡ (s at (q .marks)) ∷ items
+      = section-between s (q .marks) (q .warm) (omega arith) (omega arith) in
+      (λ i. formWith (sym version i) (((λ j. many j ∷ read j) ∙ sym count) i) w) ∙ form-again
