@@ -2,30 +2,35 @@
 -- Assumes nothing.
 use Prim.Native.Nat.{ℕ, _+_, _<_}
 use mathlib.Core.Path.{_≡_, refl, sym, ap, subst, _∙_}
-use mathlib.Core.Bool.{true, false}
+use mathlib.Core.Bool.{Bool, true, false}
 use mathlib.Core.List.{List, [], _∷_}
 use native.Mathlib.Omega.{arith}
 use lib.ListN.{length, getD}
-use lib.Seq.{getD-take, length-take-le}
+use lib.Seq.{getD-take, length-take-le, ext-getD}
 use borrow.Author.Tests.{leb-true}
 use Rattle.text.specs.Scans.{every}
 use Rattle.text.proofs.Scanning.{every-at}
 use Rattle.record.specs.Wanted.{Wanted}
 use Rattle.record.specs.Rules.{atMost}
+use Rattle.record.specs.Legal.{isLegal}
+use Rattle.record.specs.Record.{accepted}
 use Rattle.record.specs.declared.types.Settings.{Settings}
 use Rattle.record.specs.declared.types.Device.{Device}
 use Rattle.record.specs.declared.types.Changed.{Changed}
 use Rattle.record.proofs.LegalTold.{own-of-legal}
-use Rattle.record.proofs.Calls.{set-up-accepted}
-use Rattle.stored.specs.Form.{formOf, storedOf, storedBy}
+use Rattle.record.proofs.MarksTold.{marks-long}
+use Rattle.stored.specs.Form.{storedOf, marksStored, storedForm, storedBy}
+use Rattle.stored.specs.Loading.{startedWith, loaded}
 use Rattle.stored.proofs.Results.{stored-told}
-use Rattle.stored.proofs.StoredLoads.{stored-in-range, stored-sets-up}
-use Rattle.stored.proofs.OneForm.{Bytes, stored-again, forms-apart}
-use Rattle.demands.specs.Board.{Given, ours, givenBy, bytesWritten}
+use Rattle.stored.proofs.StoredLoads.{stored-in-range, stored-loads as form-again}
+use Rattle.stored.proofs.FormsLoad.{old-form-loads}
+use Rattle.stored.proofs.BytesAgain.{Bytes}
+use Rattle.stored.proofs.OneForm.{stored-again, forms-apart}
+use Rattle.demands.specs.Board.{ours, givenBy, bytesWritten}
 use Rattle.demands.specs.Calls.{Call, run}
-use Rattle.demands.specs.History.{Event, switched, aSecond, Stage, steady, towards, next, burns, burningFrom}
-use Rattle.demands.specs.History.{noStreams, history, burning, stageAfter, lampWith}
-use Rattle.demands.specs.Demand3.{Beginning, setsUp, Accepted, runOf, historyOf}
+use Rattle.demands.specs.History.{Event, switched, aSecond, markSwitched, Stage, steady, towards, next, marksNext}
+use Rattle.demands.specs.History.{noStreams, history, marksAfter, burns, burningFrom, burning, stageAfter, lampWith}
+use Rattle.demands.specs.Demand3.{Beginning, loads, startMarks, Accepted, runOf, historyOf}
 use Rattle.demands.specs.BoardSwap.{LoadsAs, BoardSwap}
 use Rattle.demands.proofs.LentMemory.{over-front}
 use Rattle.demands.proofs.Agrees.{Agrees}
@@ -48,29 +53,27 @@ module _ (v w : Wanted) (warm : v .warm ≡ w .warm) (cool : v .cool ≡ w .cool
   next-alike (towards on n) (switched wanted) = refl
   next-alike (steady on) aSecond = refl
   next-alike (towards on n) aSecond = refl
+  next-alike (steady on) (markSwitched lamp mark) = refl
+  next-alike (towards on n) (markSwitched lamp mark) = refl
 
-  burning-alike : (g : Stage) (es : List Event) → burningFrom v g es ≡ burningFrom w g es
+  burning-alike : (g : Stage) (ms : List Bool) (k : ℕ) (es : List Event) → burningFrom v g ms k es ≡ burningFrom w g ms k es
   unfolding burningFrom
-  burning-alike g [] = refl
-  burning-alike g (e ∷ es) =
-      ap (λ (k : Stage). burns g e + burningFrom v k es) (next-alike g e)
-      ∙ ap (λ (n : ℕ). burns g e + n) (burning-alike (next w g e) es)
+  burning-alike g ms k [] = refl
+  burning-alike g ms k (e ∷ es) =
+      ap (λ (h : Stage). burns g ms k e + burningFrom v h (marksNext ms e) k es) (next-alike g e)
+      ∙ ap (λ (n : ℕ). burns g ms k e + n) (burning-alike (next w g e) (marksNext ms e) k es)
 
 module _ (d : Device) (m : List ℕ) (h : storedBy d (length m) .number ≡ 0) where
-  form-stored : bytesWritten (ours .store d m) ≡ formOf (storedOf d)
+  form-stored : bytesWritten (ours .store d m) ≡ storedForm d
   form-stored = over-front (storedBy d (length m) .bytes) m ∙ stored-told d (length m) h .form
 
-  stored-loads : LoadsAs ours (bytesWritten (ours .store d m)) (storedOf d)
+  loads-again : loaded (storedForm d) ≡ accepted (startedWith (storedOf d) (marksStored d))
+  loads-again = form-again d (stored-told d (length m) h .legal)
+
+  stored-loads : LoadsAs ours (bytesWritten (ours .store d m)) (storedOf d) (marksStored d)
   stored-loads =
-      let legal = stored-told d (length m) h .legal in
-      let takes = stored-in-range d legal in
-      let same : ours .load (bytesWritten (ours .store d m)) ≡ ours .set-up (storedOf d)
-      = ap (ours .load) form-stored ∙ ap givenBy (stored-sets-up d legal) in
-      record {
-        accepted = ap (λ (r : Given Device). r .number) same
-            ∙ ap (λ (r : Changed). r .number) (set-up-accepted (storedOf d) takes);
-        fresh = same;
-      }
+      let same = ap loaded form-stored ∙ loads-again in
+      record { accepted = ap (λ (r : Changed). r .number) same; fresh = ap (λ (r : Changed). r .device) same }
 
 module _ (b : Beginning) (w : Wanted) (cs es : List Call) (m : List ℕ) (place : ℕ) (h : Accepted ours b w)
     (inside : place < length (w .lamps)) (stored : ours .store (runOf ours b w cs) m .number ≡ 0) where
@@ -80,13 +83,16 @@ module _ (b : Beginning) (w : Wanted) (cs es : List Call) (m : List ℕ) (place 
   abbrev kept : Wanted
   kept = storedOf old
 
-  loaded-so : LoadsAs ours (bytesWritten (ours .store old m)) kept
-  loaded-so = stored-loads old m stored
-
   -- what was known on the old board
-  known : Agrees w (stageAfter w (historyOf ours b w cs)) (burning w (historyOf ours b w cs))
+  abbrev es-old : List Event
+  es-old = historyOf ours b w cs
+
+  known : Agrees w (stageAfter w es-old) (marksAfter (startMarks b w) es-old) (λ k. burning w (startMarks b w) k es-old)
       (history-told b w cs h .0) old
   known = history-told b w cs h .1
+
+  legal : isLegal old ≡ true
+  legal = stored-told old (length m) stored .legal
 
   count : old .settings .«lamp_count» ≡ length (w .lamps)
   count = ap (λ (s : Settings). s .«lamp_count») (known .settings)
@@ -96,7 +102,7 @@ module _ (b : Beginning) (w : Wanted) (cs es : List Call) (m : List ℕ) (place 
 
   kept-many : place < length (kept .lamps)
   kept-many =
-      let held = own-of-legal old (stored-told old (length m) stored .legal) .lamps in
+      let held = own-of-legal old legal .lamps in
       omega (
         arith,
         count,
@@ -105,31 +111,49 @@ module _ (b : Beginning) (w : Wanted) (cs es : List Call) (m : List ℕ) (place 
         length-take-le (old .settings .«lamp_count») (old .own .lamps) (omega (arith, held .long, held .inside)),
       )
 
-  abbrev GoesOn : Device → Type 0
-  GoesOn new =
+  -- the marks that are stored are those of the history
+  kept-marks : marksStored old ≡ marksAfter (startMarks b w) es-old
+  kept-marks =
+      let own = own-of-legal old legal in
+      let long = marks-long (old .settings .«lamp_count») (old .own .enabled) (own .marks) in
+      let many : length (marksStored old) ≡ length (w .lamps)
+      = length-take-le (old .settings .«lamp_count») (old .own .enabled) (omega (arith, long, own .lamps .inside)) ∙ count in
+      ext-getD false _ _ (many ∙ sym (known .marks-long))
+      (λ k inside.
+      getD-take (old .settings .«lamp_count») (old .own .enabled) k false (omega (arith, many, count))
+      ∙ known .marks k (omega (arith, many)))
+
+  abbrev GoesOn : List ℕ → Type 0
+  GoesOn form =
+      let new = ours .load form .device in
       getD (run ours new es .own .lamps) place 0
-      ≡ lampWith (burning w (historyOf ours b w cs) + burning w (history ours new noStreams es)) (getD (w .lamps) place 0)
+      ≡ lampWith
+      (burning w (startMarks b w) place es-old
+      + burning w (marksAfter (startMarks b w) es-old) place (history ours new noStreams es))
+      (getD (w .lamps) place 0)
 
-  on-the-new : GoesOn (ours .set-up kept .device)
+  on-the-new : GoesOn (storedForm old)
   on-the-new =
-      let fresh = ours .set-up kept .device in
-      let accepted = ap (λ (r : Given Device). r .number) (sym (loaded-so .fresh)) ∙ loaded-so .accepted in
-      let burnt = burning w (historyOf ours b w cs) in
-      let more = burning w (history ours fresh noStreams es) in
+      let accepted-so : Accepted ours (loads (marksStored old)) kept
+      = (stored-in-range old legal, ap (λ (r : Changed). r .number) (loads-again old m stored)) in
+      let more = historyOf ours (loads (marksStored old)) kept es in
       let alike = burning-alike kept w (ap (λ (s : Settings). s .warm) (known .settings))
-      (ap (λ (s : Settings). s .cool) (known .settings)) (steady false) (history ours fresh noStreams es) in
-      history-told setsUp kept es accepted .1 .lamps place kept-many
-      ∙ (λ i. lampWith (alike i) ((kept-lamp ∙ known .lamps place inside) i))
-      ∙ lamp-goes-on burnt more (getD (w .lamps) place 0)
+      (ap (λ (s : Settings). s .cool) (known .settings)) (steady false) (marksStored old) place more in
+      let same = alike ∙ ap (λ (ms : List Bool). burning w ms place more) kept-marks in
+      history-told (loads (marksStored old)) kept es accepted-so .1 .lamps place kept-many
+      ∙ (λ i. lampWith (same i) ((kept-lamp ∙ known .lamps place inside) i))
+      ∙ lamp-goes-on (burning w (startMarks b w) place es-old)
+      (burning w (marksAfter (startMarks b w) es-old) place more) (getD (w .lamps) place 0)
 
-  hours-go-on : GoesOn (ours .load (bytesWritten (ours .store old m)) .device)
-  hours-go-on = subst GoesOn (ap (λ (r : Given Device). r .device) (sym (loaded-so .fresh))) on-the-new
+  hours-go-on : GoesOn (bytesWritten (ours .store old m))
+  hours-go-on = subst GoesOn (sym (form-stored old m stored)) on-the-new
 
 pub ours-swap : BoardSwap ours
 ours-swap = record {
   form-stored = form-stored;
   stored-loads = stored-loads;
-  stored-again = λ s b h. stored-again s (bytes-kept s b) h;
-  one-form = λ s t a b g h e. forms-apart s t (bytes-kept s a) (bytes-kept t b) g h e;
+  old-form-sets-up = λ w h. ap givenBy (old-form-loads w h);
+  stored-again = λ s b new h. stored-again s (bytes-kept s b) h new;
+  one-form = λ s t a b g h v e. forms-apart s t (bytes-kept s a) (bytes-kept t b) g h v e;
   hours-go-on = hours-go-on;
 }

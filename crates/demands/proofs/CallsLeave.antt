@@ -1,18 +1,18 @@
--- Demand 2: what set-up, opening, closing and the host's two calls leave, where they are accepted.
+-- Demand 2: what set-up, opening, closing and the host's calls leave, where they are accepted.
 -- Assumes nothing.
 use Prim.Native.Nat.{ℕ}
 use mathlib.Core.Path.{_≡_, refl}
 use mathlib.Core.Bool.{Bool}
 use mathlib.Core.List.{List}
 use native.Mathlib.Omega.{arith}
-use lib.ListN.{length}
+use lib.ListN.{length, set}
 use Rattle.record.specs.Wanted.{Wanted}
 use Rattle.record.specs.Record.{closed, started}
-use Rattle.record.specs.Updates.{withOwn, withFault, withErrors}
+use Rattle.record.specs.Updates.{withOwn, withFault, withErrors, withMarks}
 use Rattle.record.specs.Places.{withPlace}
 use Rattle.record.specs.declared.types.Changed.{Changed}
 use Rattle.record.specs.declared.types.Device.{Device}
-use Rattle.record.proofs.Calls.{fault-set-by, errors-set-by}
+use Rattle.record.proofs.Calls.{fault-set-by, errors-set-by, mark-set-by}
 use Rattle.record.proofs.Started.{set-up-started}
 use Rattle.device.specs.Calls.{Result, greeting}
 use Rattle.device.proofs.Cases.{opened-placed-by, closed-by}
@@ -45,3 +45,11 @@ module _ (d : Device) where
   reports errors =
       errors-set-by d (λ (r : Changed). Leaves ours (givenBy r) (withOwn d (withErrors (d .own) errors))) errors
       (λ e. absurd (omega arith)) (λ e. absurd (omega arith)) (λ h k e. refl)
+
+  pub enables : (lamp : ℕ) (mark : Bool)
+      → Leaves ours (ours .set-mark d lamp mark) (withOwn d (withMarks (d .own) (set (d .own .enabled) lamp mark)))
+  enables lamp mark =
+      mark-set-by d
+      (λ (r : Changed).
+      Leaves ours (givenBy r) (withOwn d (withMarks (d .own) (set (d .own .enabled) lamp mark)))) lamp mark
+      (λ n z e. absurd (z e)) (λ h i l p e. refl)

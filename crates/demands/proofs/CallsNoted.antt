@@ -4,7 +4,7 @@
 use Prim.Native.Nat.{ℕ}
 use mathlib.Core.Path.{_≡_, refl, sym, ap, subst, _∙_}
 use mathlib.Core.Bool.{Bool, true, false, false≢true}
-use mathlib.Core.List.{List, [], _++_}
+use mathlib.Core.List.{List, [], _∷_, _++_}
 use native.Mathlib.Omega.{arith}
 use lib.ListN.{length, take, drop, replicate}
 use lib.Seq.{take-append-seam}
@@ -23,7 +23,9 @@ use Rattle.record.specs.declared.types.Own.{Own}
 use Rattle.record.specs.declared.types.Connection.{Connection}
 use Rattle.record.specs.declared.types.Changed.{Changed}
 use Rattle.record.specs.declared.types.Device.{Device}
-use Rattle.record.proofs.Calls.{fault-set-by, errors-set-by}
+use Rattle.record.proofs.Calls.{fault-set-by, errors-set-by, mark-set-by}
+use Rattle.record.proofs.LegalTold.{own-of-legal}
+use Rattle.record.proofs.MarksTold.{marks-long}
 use Rattle.record.proofs.ConnectionsTold.{placed-elsewhere}
 use Rattle.clock.proofs.Cases.{passed-by}
 use Rattle.meaning.specs.Meaning.{meant, done}
@@ -38,12 +40,12 @@ use Rattle.device.proofs.PowerLines.{isPowerOkay, okay-reply}
 use Rattle.device.proofs.Untouched.{opening-keeps-settings, opening-keeps-own, closing-keeps-settings}
 use Rattle.device.proofs.Untouched.{closing-keeps-own}
 use Rattle.demands.specs.Board.{ours, lentBy, reply}
-use Rattle.demands.specs.Calls.{Call, opens, closes, receives, passes, marks, reports, after}
-use Rattle.demands.specs.History.{switched, aSecond, Stage, steady, towards, next, powerSet}
+use Rattle.demands.specs.Calls.{Call, opens, closes, receives, passes, marks, reports, enables, after}
+use Rattle.demands.specs.History.{switched, aSecond, markSwitched, Stage, steady, towards, next, powerSet}
 use Rattle.demands.specs.History.{Streams, goingOnAt, streamsAfter, seen}
 use Rattle.demands.proofs.PowerSetsSeen.{set-seen, none-seen}
-use Rattle.demands.proofs.Agrees.{powerOf, leftOf, Shows, Agrees, agrees-at, Then, agrees-none}
-use Rattle.demands.proofs.Agrees.{agrees-switched, agrees-seconds}
+use Rattle.demands.proofs.Agrees.{powerOf, leftOf, Shows, Agrees, agrees-at, remarked}
+use Rattle.demands.proofs.AgreesThen.{Then, agrees-none, agrees-switched, agrees-seconds, agrees-marked}
 
 -- ---- a power set that was answered OK
 
@@ -60,20 +62,22 @@ module _ (w : Wanted) (s : Settings) (o : Own) (warm : s .warm ≡ w .warm) (coo
   turned (towards false n) wanted p l m =
       absurd (false≢true (sym (power-set-only s o wanted m .1) ∙ ap isBetween p))
 
-module _ {w : Wanted} {g : Stage} {n : ℕ} {stream : Streams} {d : Device} (a : Agrees w g n stream d) where
+module _ {w : Wanted} {g : Stage} {ms : List Bool} {n : ℕ → ℕ} {stream : Streams} {d : Device}
+    (a : Agrees w g ms n stream d) where
   -- ---- receiving
 
   abbrev Seen : Streams → ℕ → List ℕ → Device → Type 0
-  Seen now p answer e = Then w g n (powerSet (now p) answer) now e
+  Seen now p answer e = Then w g ms n (powerSet (now p) answer) now e
 
   module _ (now : Streams) (p : ℕ) (answer : List ℕ) (e : Device) (settings : e .settings ≡ d .settings)
       (last : (q : ℕ) → Ends (now q) (lineText (connectionAt e q .line))) where
-    by-effect : e .own .lamps ≡ d .own .lamps → StreamEffect (d .settings) (d .own) (now p) answer (e .own)
+    by-effect : e .own .lamps ≡ d .own .lamps → e .own .enabled ≡ d .own .enabled
+        → StreamEffect (d .settings) (d .own) (now p) answer (e .own)
         → Seen now p answer e
-    by-effect m (stays other k l) =
+    by-effect m same (stays other k l) =
         rw (none-seen (now p) answer other)
-        (agrees-none (agrees-at a g now e settings (k ∙ a .power) (l ∙ a .left) m last))
-    by-effect m (turns b1 b2 b3 b4 wanted powr line said passed own) =
+        (agrees-none (agrees-at a g now e settings (k ∙ a .power) (l ∙ a .left) m same last))
+    by-effect m same (turns b1 b2 b3 b4 wanted powr line said passed own) =
         let yes = ap isPowerOkay said ∙ okay-reply b1 b2 b3 b4 powr in
         let warm = ap (λ (s : Settings). s .warm) (a .settings) in
         let cool = ap (λ (s : Settings). s .cool) (a .settings) in
@@ -82,7 +86,7 @@ module _ {w : Wanted} {g : Stage} {n : ℕ} {stream : Streams} {d : Device} (a :
         rw (set-seen b1 b2 b3 b4 powr (now p) answer yes wanted line)
         (agrees-switched wanted g
         (agrees-at a (next w g (switched wanted)) now e settings (ap (λ (k : Own). k .power) own ∙ shows .power)
-        (ap (λ (k : Own). k .left) own ∙ shows .left) m last))
+        (ap (λ (k : Own). k .left) own ∙ shows .left) m same last))
 
   module _ (p : ℕ) (bs m : List ℕ) where
     abbrev Told : Result Device → Type 0
@@ -111,7 +115,7 @@ module _ {w : Wanted} {g : Stage} {n : ℕ} {stream : Streams} {d : Device} (a :
         let here : goingOnAt stream p more p ≡ stream p ++ more = if-yes _ _ (eq-eqb p p refl) in
         rw (take-append-seam (r .reply) (drop (length (r .reply)) m))
         (by-effect (goingOnAt stream p more) p (r .reply) (r .device) settings (λ q. going-on r others (told .last) q (eqb q p) refl)
-        (told .lamps)
+        (told .lamps) (told .marks)
         (subst (λ (k : List ℕ). StreamEffect (d .settings) (d .own) k (r .reply) (r .device .own)) (sym here)
         (told .effect)))
 
@@ -119,23 +123,25 @@ module _ {w : Wanted} {g : Stage} {n : ℕ} {stream : Streams} {d : Device} (a :
 
   -- one that takes nothing and tells nothing
   abbrev Quiet : Device → Type 0
-  Quiet e = Then w g n [] stream e
+  Quiet e = Then w g ms n [] stream e
 
   quiet : (e : Device) → e .settings ≡ d .settings → e .own .power ≡ d .own .power → e .own .left ≡ d .own .left
-      → e .own .lamps ≡ d .own .lamps → ((q : ℕ) → Ends (stream q) (lineText (connectionAt e q .line))) → Quiet e
-  quiet e s p l m last = agrees-none (agrees-at a g stream e s (p ∙ a .power) (l ∙ a .left) m last)
+      → e .own .lamps ≡ d .own .lamps → e .own .enabled ≡ d .own .enabled
+      → ((q : ℕ) → Ends (stream q) (lineText (connectionAt e q .line))) → Quiet e
+  quiet e s p l m same last = agrees-none (agrees-at a g stream e s (p ∙ a .power) (l ∙ a .left) m same last)
 
   kept : Quiet d
-  kept = quiet d refl refl refl refl (a .last)
+  kept = quiet d refl refl refl refl refl (a .last)
 
   -- one that changes connections at most
   reconnected : (e : Device) → e .settings ≡ d .settings → e .own ≡ d .own
       → ((q : ℕ) → Ends (stream q) (lineText (connectionAt e q .line))) → Quiet e
   reconnected e s o last =
-      quiet e s (ap (λ (k : Own). k .power) o) (ap (λ (k : Own). k .left) o) (ap (λ (k : Own). k .lamps) o) last
+      quiet e s (ap (λ (k : Own). k .power) o) (ap (λ (k : Own). k .left) o) (ap (λ (k : Own). k .lamps) o)
+      (ap (λ (k : Own). k .enabled) o) last
 
   abbrev pub Noted : Call → Type 0
-  Noted c = Then w g n (seen ours d (streamsAfter ours d stream c) c) (streamsAfter ours d stream c) (after ours d c)
+  Noted c = Then w g ms n (seen ours d (streamsAfter ours d stream c) c) (streamsAfter ours d stream c) (after ours d c)
 
   abbrev QuietBy : Changed → Type 0
   QuietBy r = Quiet (r .device)
@@ -149,13 +155,30 @@ module _ {w : Wanted} {g : Stage} {n : ℕ} {stream : Streams} {d : Device} (a :
       reconnected (closedBy d p .device) (closing-keeps-settings d p) (closing-keeps-own d p)
       (λ q. closing-tells d q (stream q) (a .last q) p)
   noted (marks fault) =
-      fault-set-by d QuietBy fault kept (λ legal. quiet _ refl refl refl refl (a .last))
+      fault-set-by d QuietBy fault kept (λ legal. quiet _ refl refl refl refl refl (a .last))
   noted (reports errors) =
-      errors-set-by d QuietBy errors kept kept (λ legal right. quiet _ refl refl refl refl (a .last))
+      errors-set-by d QuietBy errors kept kept (λ legal right. quiet _ refl refl refl refl refl (a .last))
+  noted (enables lamp mark) =
+      mark-set-by d Enabled lamp mark (λ n z. rw (ne-eqb n 0 z) kept)
+      (λ legal there left idle.
+      let own = own-of-legal d legal in
+      let count : d .settings .«lamp_count» ≡ length (w .lamps)
+      = ap (λ (s : Settings). s .«lamp_count») (a .settings) in
+      let room = marks-long (d .settings .«lamp_count») (d .own .enabled) (own .marks) in
+      agrees-marked ms lamp mark g (mark-still g)
+      (remarked a lamp mark (omega (arith, count)) (omega (arith, room, own .lamps .inside))))
+    where
+      Enabled : Changed → Type 0
+      Enabled r =
+          Then w g ms n (if eqb (r .number) 0 then markSwitched lamp mark ∷ [] else []) stream (r .device)
+
+      mark-still : (h : Stage) → next w h (markSwitched lamp mark) ≡ h
+      mark-still (steady on) = refl
+      mark-still (towards on k) = refl
   noted (passes k) = passed-by Passed d k (λ illegal. kept) (λ legal. agrees-seconds k legal a)
     where
       Passed : Changed → Type 0
-      Passed r = Then w g n (if eqb (r .number) 0 then replicate k aSecond else []) stream (r .device)
+      Passed r = Then w g ms n (if eqb (r .number) 0 then replicate k aSecond else []) stream (r .device)
   noted (receives p bs m) =
       received-by d p bs (length m) (λ r. Told p bs m r → Received r) (λ n z t. rw (ne-eqb n 0 z) kept)
       (λ h s i c t. handed p bs m (acceptedTaken d p (takes d p bs)) refl
@@ -165,4 +188,4 @@ module _ {w : Wanted} {g : Stage} {n : ℕ} {stream : Streams} {d : Device} (a :
       Received : Result Device → Type 0
       Received r =
           let now = if eqb (r .number) 0 then goingOnAt stream p (take (r .taken) bs) else stream in
-          Then w g n (if eqb (r .number) 0 then powerSet (now p) (reply (lentBy r m)) else []) now (r .device)
+          Then w g ms n (if eqb (r .number) 0 then powerSet (now p) (reply (lentBy r m)) else []) now (r .device)

@@ -13,7 +13,7 @@ use Rattle.demands.proofs.NamesRead.{names-read}
 use Rattle.demands.proofs.OutsidersRefused.{outsider-refused}
 use Rattle.demands.proofs.OutsiderHasNoSay.{outsider-has-no-say, outsiders-have-no-say}
 use Rattle.demands.proofs.OthersUntouched.{others-untouched}
-use Rattle.demands.proofs.CallsLeave.{set-up-shows, opens, closes, marks, reports}
+use Rattle.demands.proofs.CallsLeave.{set-up-shows, opens, closes, marks, reports, enables}
 use Rattle.demands.proofs.WrittenAndRead.{writes, reads-back, reads-back-secured, greets-back}
 
 pub ours-2 : Demand2 ours
@@ -39,6 +39,7 @@ ours-2 = record {
   closes = closes;
   marks = marks;
   reports = reports;
+  enables = enables;
   greets-back = greets-back;
   greeting-is = heard-exactly;
   same-however-cut = same-however-cut;

@@ -16,7 +16,7 @@ use Rattle.record.specs.Places.{connectionAt, isShut}
 use Rattle.record.specs.declared.types.Settings.{Settings}
 use Rattle.record.specs.declared.types.Connection.{Connection}
 use Rattle.record.specs.declared.types.Device.{Device}
-use Rattle.record.proofs.Calls.{fault-set-by, errors-set-by}
+use Rattle.record.proofs.Calls.{fault-set-by, errors-set-by, mark-set-by}
 use Rattle.record.proofs.LegalTold.{legal-places, connection-of-legal}
 use Rattle.record.proofs.ConnectionsTold.{placed-here}
 use Rattle.clock.proofs.Cases.{passed-by}
@@ -27,7 +27,7 @@ use Rattle.device.proofs.ReceivingAsMachine.{asCall}
 use Rattle.device.proofs.Untouched.{receiving-keeps-settings, receiving-keeps-others, opening-keeps-settings}
 use Rattle.device.proofs.Untouched.{closing-keeps-settings}
 use Rattle.demands.specs.Board.{ours, reply}
-use Rattle.demands.specs.Calls.{Call, opens, closes, receives, passes, marks, reports, after, run}
+use Rattle.demands.specs.Calls.{Call, opens, closes, receives, passes, marks, reports, enables, after, run}
 use Rattle.demands.specs.Interleaved.{Heard, heardNothing, seenOf, heardIn, heard, ByBytes, ByBytesOnly, Alone}
 use Rattle.demands.specs.Interleaved.{aloneAt, aloneOf, toFirstCr, SeenAlone, Interleaved}
 use Rattle.demands.proofs.LentMemory.{over-front}
@@ -44,6 +44,8 @@ settings-kept d (passes n) =
 settings-kept d (marks fault) = fault-set-by d (λ r. r .device .settings ≡ d .settings) fault refl (λ l. refl)
 settings-kept d (reports errors) =
     errors-set-by d (λ r. r .device .settings ≡ d .settings) errors refl refl (λ l e. refl)
+settings-kept d (enables lamp mark) =
+    mark-set-by d (λ r. r .device .settings ≡ d .settings) lamp mark (λ n z. refl) (λ h i l p. refl)
 
 module _ (q : ℕ) (d : Device) where
   abbrev HeardThere : Heard → Connection → Type 0
@@ -98,6 +100,7 @@ module _ (q : ℕ) (d : Device) where
   one-call (passes n) h = untouched h
   one-call (marks fault) h = untouched h
   one-call (reports errors) h = untouched h
+  one-call (enables lamp mark) h = untouched h
 
 module _ (q : ℕ) where
   all-calls : (d : Device) (cs : List Call) → ByBytesOnly ours q d cs

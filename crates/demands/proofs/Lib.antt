@@ -31,9 +31,11 @@ pub mod NamesRead
 pub mod Demand2
 pub mod PowerSetsSeen
 pub mod Agrees
+pub mod AgreesThen
 pub mod CallsNoted
 pub mod HistoryTold
 pub mod HoursTold
+pub mod FleetAdds
 pub mod Demand3
 mod LinesTaken
 mod AloneCalls
@@ -47,4 +49,5 @@ pub mod WrongDoorsFall
 pub mod WrongOutsidersFall
 pub mod WrongClocksFall
 pub mod WrongPlacesFall
+pub mod WrongLampsFall
 pub mod Tied

@@ -6,10 +6,10 @@ use lib.ListN.{length}
 use Rattle.record.specs.Places.{connectionAt}
 use Rattle.record.specs.declared.types.Changed.{Changed}
 use Rattle.record.specs.declared.types.Device.{Device}
-use Rattle.record.proofs.Calls.{fault-set-by, errors-set-by}
+use Rattle.record.proofs.Calls.{fault-set-by, errors-set-by, mark-set-by}
 use Rattle.device.proofs.Untouched.{receiving-keeps-others, opening-keeps-others, closing-keeps-others}
 use Rattle.demands.specs.Board.{ours}
-use Rattle.demands.specs.Calls.{Call, opens, closes, receives, passes, marks, reports, after}
+use Rattle.demands.specs.Calls.{Call, opens, closes, receives, passes, marks, reports, enables, after}
 use Rattle.demands.specs.Demand2.{Elsewhere}
 
 pub others-untouched : (d : Device) (c : Call) (q : ℕ) → Elsewhere ours d c q
@@ -22,3 +22,6 @@ others-untouched d (marks fault) q other =
     fault-set-by d (λ (r : Changed). connectionAt (r .device) q ≡ connectionAt d q) fault refl (λ h. refl)
 others-untouched d (reports errors) q other =
     errors-set-by d (λ (r : Changed). connectionAt (r .device) q ≡ connectionAt d q) errors refl refl (λ h k. refl)
+others-untouched d (enables lamp mark) q other =
+    mark-set-by d (λ (r : Changed). connectionAt (r .device) q ≡ connectionAt d q) lamp mark (λ n z. refl)
+    (λ h i l p. refl)

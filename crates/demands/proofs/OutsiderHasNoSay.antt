@@ -20,12 +20,12 @@ use Rattle.device.proofs.Cases.{received-by}
 use Rattle.device.proofs.Untouched.{opening-keeps-settings, opening-keeps-own, closing-keeps-settings}
 use Rattle.device.proofs.Untouched.{closing-keeps-own, receiving-keeps-settings}
 use Rattle.demands.specs.Board.{ours}
-use Rattle.demands.specs.Calls.{Call, opens, closes, receives, passes, marks, reports, after, run}
+use Rattle.demands.specs.Calls.{Call, opens, closes, receives, passes, marks, reports, enables, after, run}
 use Rattle.demands.specs.Outsider.{Session, unopened, noted, sessionAfter, NeverMatched, hostCalls}
 use Rattle.demands.specs.Outsider.{KeptThere, NoSay, HostsAlone}
 use Rattle.demands.proofs.LegalKept.{stays-legal}
 use Rattle.demands.proofs.Sessions.{answered-so}
-use Rattle.demands.proofs.HostCallsDo.{turnedBy, HostDoes, time-does, fault-does, errors-do}
+use Rattle.demands.proofs.HostCallsDo.{turnedBy, HostDoes, time-does, fault-does, errors-do, mark-does}
 use Rattle.demands.proofs.PlacesStand.{Stands, goes, stands-after, unopened-stands}
 
 -- ---- one place
@@ -144,6 +144,11 @@ module _ (settings : Settings) (secured : isSecured settings ≡ true) where
       let c = reports errors in
       runs-beside cs (then c cs ss d stand never) (after ours d c) (after ours e c)
       (both-go-on c d e b (errors-do errors d (b .legal)) (errors-do errors e (b .legal-beside)))
+      (all-after c cs ss d stand never) (never-later c cs ss d stand never)
+  runs-beside (enables lamp mark ∷ cs) ss d e b stand never =
+      let c = enables lamp mark in
+      runs-beside cs (then c cs ss d stand never) (after ours d c) (after ours e c)
+      (both-go-on c d e b (mark-does lamp mark d (b .legal)) (mark-does lamp mark e (b .legal-beside)))
       (all-after c cs ss d stand never) (never-later c cs ss d stand never)
 
 -- ---- from places that are closed

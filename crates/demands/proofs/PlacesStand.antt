@@ -24,14 +24,14 @@ use Rattle.device.specs.Calls.{Result, acceptedTaken, isSecured, greeted, recei
 use Rattle.device.proofs.Cases.{takes, received-by, opened-placed-by, closed-by, secured-greeted}
 use Rattle.device.proofs.Untouched.{receiving-keeps-settings, opening-keeps-settings, closing-keeps-settings}
 use Rattle.demands.specs.Board.{ours, lentBy}
-use Rattle.demands.specs.Calls.{Call, opens, closes, receives, passes, marks, reports, after}
+use Rattle.demands.specs.Calls.{Call, opens, closes, receives, passes, marks, reports, enables, after}
 use Rattle.demands.specs.Outsider.{Session, openedWith, unopened, goesOn, noted, isMatched}
 use Rattle.demands.specs.Outsider.{isReceivedAt, silence}
 use Rattle.demands.proofs.LentMemory.{over-front}
 use Rattle.demands.proofs.LegalKept.{stays-legal}
 use Rattle.demands.proofs.Sessions.{Standing, is-closed, awaits, nothing-yet, answered-so, closed-stands, heard}
 use Rattle.demands.proofs.Sessions.{stands-on}
-use Rattle.demands.proofs.HostCallsDo.{HostDoes, time-does, fault-does, errors-do}
+use Rattle.demands.proofs.HostCallsDo.{HostDoes, time-does, fault-does, errors-do, mark-does}
 
 pub record Stands (settings : Settings) (p : ℕ) (s : Session) (d : Device) : Type 0 where
   pub legal : isLegal d ≡ true
@@ -187,6 +187,7 @@ module _ (settings : Settings) (p : ℕ) (secured : isSecured settings ≡ true)
   goes (passes n) unmatched = host-goes (passes n) refl refl (time-does n d (b .legal))
   goes (marks fault) unmatched = host-goes (marks fault) refl refl (fault-does fault d (b .legal))
   goes (reports errors) unmatched = host-goes (reports errors) refl refl (errors-do errors d (b .legal))
+  goes (enables lamp mark) unmatched = host-goes (enables lamp mark) refl refl (mark-does lamp mark d (b .legal))
 
   pub stands-after : (c : Call) → Goes p s c d → Stands settings p (noted ours p d s c) (after ours d c)
   stands-after c g = record {

@@ -23,7 +23,7 @@ use Rattle.record.specs.declared.types.Device.{Device}
 use Rattle.record.proofs.Spelt.{closed-spelt}
 use Rattle.record.proofs.LegalTold.{legal-places}
 use Rattle.record.proofs.ConnectionsTold.{placed-elsewhere, placed-either}
-use Rattle.record.proofs.Calls.{fault-set-by, errors-set-by}
+use Rattle.record.proofs.Calls.{fault-set-by, errors-set-by, mark-set-by}
 use Rattle.clock.specs.Second.{times, connectionSecond}
 use Rattle.clock.proofs.Cases.{passed-by}
 use Rattle.clock.proofs.ConnectionsAge.{connection-then}
@@ -34,7 +34,7 @@ use Rattle.device.proofs.Cases.{takes, received-by, opened-by, closed-by, ended
 use Rattle.device.proofs.Cases.{taken-by}
 use Rattle.record.proofs.LowestShut.{lowest-is-shut}
 use Rattle.demands.specs.Board.{ours}
-use Rattle.demands.specs.Calls.{Call, opens, closes, receives, passes, marks, reports, after}
+use Rattle.demands.specs.Calls.{Call, opens, closes, receives, passes, marks, reports, enables, after}
 
 abbrev pub ClosedOr : ℕ → Connection → Type 0
 ClosedOr random c = (c .phase ≡ shut) ⊎ (c .random ≡ random)
@@ -105,3 +105,5 @@ module _ (d : Device) (p : ℕ) (live : connectionAt d p .phase ≡ shut → ⊥
       fault-set-by d (λ (r : Changed). Keeps (r .device)) fault stays (λ h. stays)
   random-kept (reports errors) =
       errors-set-by d (λ (r : Changed). Keeps (r .device)) errors stays stays (λ h k. stays)
+  random-kept (enables lamp mark) =
+      mark-set-by d (λ (r : Changed). Keeps (r .device)) lamp mark (λ n z. stays) (λ h i l k. stays)

@@ -7,7 +7,7 @@ use mathlib.Core.List.{List}
 use lib.ListN.{length}
 use Rattle.lines.specs.declared.command.Command.{Command}
 use Rattle.record.specs.declared.types.Device.{Device}
-use Rattle.record.proofs.Results.{fault-refusal, errors-refusal}
+use Rattle.record.proofs.Results.{fault-refusal, errors-refusal, mark-refusal}
 use Rattle.stored.specs.Form.{storedBy}
 use Rattle.stored.proofs.Results.{refused-store-writes-nothing}
 use Rattle.clock.proofs.Results.{passed-refusal}
@@ -16,7 +16,7 @@ use Rattle.device.proofs.Refusals.{Refused, receiving-refused, opening-refused,
 use Rattle.controller.specs.Writing.{writtenCommand}
 use Rattle.controller.proofs.Refusals.{refusal-writes-nothing}
 use Rattle.demands.specs.Board.{lentBy, ours}
-use Rattle.demands.specs.Calls.{Call, opens, closes, receives, passes, marks, reports, after, numberOf}
+use Rattle.demands.specs.Calls.{Call, opens, closes, receives, passes, marks, reports, enables, after, numberOf}
 use Rattle.demands.specs.Demand1.{Untouched, WritesNothing}
 use Rattle.demands.proofs.LentMemory.{over-nothing}
 
@@ -39,6 +39,7 @@ refused-keeps d (closes p) n = (closing-refused d p n .device, tt)
 refused-keeps d (passes k) n = (passed-refusal d k n, tt)
 refused-keeps d (marks fault) n = (fault-refusal d fault n, tt)
 refused-keeps d (reports errors) n = (errors-refusal d errors n, tt)
+refused-keeps d (enables lamp mark) n = (mark-refusal d lamp mark n, tt)
 
 pub refused-writer : (c : Command) (secured : Bool) (random : ℕ) (password m : List ℕ)
     → let w = ours .write c secured random password m in

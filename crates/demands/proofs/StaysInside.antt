@@ -21,7 +21,7 @@ use Rattle.device.proofs.Short.{longestGreeting, receiving-short, opening-short
 use Rattle.controller.specs.Writing.{ledBy, writtenCommand}
 use Rattle.controller.proofs.Cases.{written-by}
 use Rattle.demands.specs.Board.{lentBy, ours}
-use Rattle.demands.specs.Calls.{Call, opens, closes, receives, passes, marks, reports}
+use Rattle.demands.specs.Calls.{Call, opens, closes, receives, passes, marks, reports, enables}
 use Rattle.demands.specs.Demand1.{Inside, WroteInside, StaysInside}
 use Rattle.demands.proofs.LentMemory.{over-later, over-room}
 
@@ -56,6 +56,7 @@ stays-inside d (closes p) = tt
 stays-inside d (passes n) = tt
 stays-inside d (marks fault) = tt
 stays-inside d (reports errors) = tt
+stays-inside d (enables lamp mark) = tt
 
 module _ (c : Command) (secured : Bool) (random : ℕ) (password m : List ℕ) where
   written-fits : length (writtenCommand c secured random password (length m) .bytes) ≤ length m

@@ -17,7 +17,7 @@ use Rattle.answers.specs.Writings.{Allowed}
 use Rattle.record.specs.Wanted.{Wanted}
 use Rattle.record.specs.Legal.{isLegal}
 use Rattle.record.specs.declared.types.Device.{Device}
-use Rattle.record.proofs.Results.{set-up-number as set-up-table, fault-number, errors-number}
+use Rattle.record.proofs.Results.{set-up-number as set-up-table, fault-number, errors-number, mark-number}
 use Rattle.clock.proofs.Results.{passed-number}
 use Rattle.device.proofs.Numbers.{received-number, opened-number, closed-number}
 use Rattle.controller.specs.Reading.{outcomeNumber}
@@ -27,7 +27,7 @@ use Rattle.controller.proofs.Refusals.{written-number}
 use Rattle.controller.proofs.ReadsSound.{outcome-is-first}
 use Rattle.controller.proofs.Cases.{greeting-open, greeting-refused, greeting-secured, greeting-none}
 use Rattle.demands.specs.Board.{ours}
-use Rattle.demands.specs.Calls.{Call, opens, closes, receives, passes, marks, reports, numberOf}
+use Rattle.demands.specs.Calls.{Call, opens, closes, receives, passes, marks, reports, enables, numberOf}
 use Rattle.demands.specs.Demand1.{rowsOf, setUpRows, writerRows, readerRows, greetingRows}
 
 unless : (legal : Bool) → _≡_ {A = ℕ} (if legal then 0 else 1) (if not legal then 1 else 0)
@@ -41,6 +41,7 @@ number-is-first d (receives p bs m) = received-number d (length m) p bs
 number-is-first d (passes n) = passed-number d n ∙ unless (isLegal d)
 number-is-first d (marks fault) = fault-number d fault
 number-is-first d (reports errors) = errors-number d errors
+number-is-first d (enables lamp mark) = mark-number d lamp mark
 
 pub set-up-number : (w : Wanted) → ours .set-up w .number ≡ firstOf (setUpRows w)
 set-up-number = set-up-table

@@ -10,7 +10,7 @@ use Rattle.text.specs.Words.{if_then_else_}
 use Rattle.record.specs.declared.types.Device.{Device}
 use Rattle.device.specs.Receiving.{passwordOf}
 use Rattle.demands.specs.Board.{ours}
-use Rattle.demands.specs.Calls.{Call, opens, closes, receives, passes, marks, reports, after, run}
+use Rattle.demands.specs.Calls.{Call, opens, closes, receives, passes, marks, reports, enables, after, run}
 use Rattle.demands.specs.Outsider.{Session, unopened, noted, isMatched, NeverMatched}
 use Rattle.demands.specs.Unheard.{Alike, same-call, other-bytes, AllAlike, no-calls, one-more, opensNone, phaseAt}
 use Rattle.demands.specs.Unheard.{QuietOnceApart, Gave, gaveBy, isAtPlace, SameElsewhere, HeardAlike}
@@ -69,6 +69,7 @@ module _ (p : ℕ) (password : List ℕ) (s t : Session) (d e : Device) (same : 
   his-step (passes n) at u v = absurd (false≢true at)
   his-step (marks fault) at u v = absurd (false≢true at)
   his-step (reports errors) at u v = absurd (false≢true at)
+  his-step (enables lamp mark) at u v = absurd (false≢true at)
 
   step : {a b : Call} (cs : List Call) → Alike p a b
       → ((phaseAt ours p d ≡ phaseAt ours p e → ⊥) → opensNone (a ∷ cs) ≡ true)

@@ -20,9 +20,9 @@ use Rattle.device.specs.Calls.{made, received, receivingRows, closedBy, closing
 use Rattle.device.proofs.Cases.{takes, received-by, received-taken, closed-by, closed-made}
 use Rattle.device.proofs.Numbers.{received-number, closed-number}
 use Rattle.demands.specs.Board.{ours, closedAs, lentBy}
-use Rattle.demands.specs.Calls.{Call, opens, closes, receives, passes, marks, reports, after}
+use Rattle.demands.specs.Calls.{Call, opens, closes, receives, passes, marks, reports, enables, after}
 use Rattle.demands.specs.Unheard.{SameElsewhere, gaveLent, gaveNumber, gaveBy, phaseAt, isAtPlace, opensNone}
-use Rattle.demands.proofs.UnheardHost.{passed-alike, marked-alike, reported-alike}
+use Rattle.demands.proofs.UnheardHost.{passed-alike, marked-alike, reported-alike, enabled-alike}
 use Rattle.demands.proofs.UnheardBoth.{there-same, placed-same, LentAlike, refused-alike}
 use Rattle.demands.proofs.UnheardOpening.{opened-alike}
 
@@ -116,3 +116,5 @@ module _ (p : ℕ) (d e : Device) (same : SameElsewhere ours p d e) (legal-d : i
       let both = marked-alike p d e same legal-d legal-e fault in record { got = both .0; left = both .1 }
   alike-elsewhere (reports errors) cs at quiet =
       let both = reported-alike p d e same legal-d legal-e errors in record { got = both .0; left = both .1 }
+  alike-elsewhere (enables lamp mark) cs at quiet =
+      let both = enabled-alike p d e same legal-d legal-e lamp mark in record { got = both .0; left = both .1 }

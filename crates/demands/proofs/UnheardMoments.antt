@@ -10,7 +10,7 @@ use Rattle.record.specs.Wanted.{Wanted}
 use Rattle.device.specs.Receiving.{passwordOf}
 use Rattle.device.specs.Calls.{isSecured}
 use Rattle.demands.specs.Board.{Board}
-use Rattle.demands.specs.Calls.{Call, opens, closes, receives, passes, marks, reports, after}
+use Rattle.demands.specs.Calls.{Call, opens, closes, receives, passes, marks, reports, enables, after}
 use Rattle.demands.specs.Outsider.{Session, unopened, noted, NeverMatched}
 use Rattle.demands.specs.Unheard.{AllAlike, no-calls, one-more, opensNone, QuietOnceApart, HeardAlike, Unheard}
 
@@ -28,6 +28,7 @@ none-before (suc n) (receives p bs m ∷ cs) h = none-before n cs h
 none-before (suc n) (passes seconds ∷ cs) h = none-before n cs h
 none-before (suc n) (marks fault ∷ cs) h = none-before n cs h
 none-before (suc n) (reports errors ∷ cs) h = none-before n cs h
+none-before (suc n) (enables lamp mark ∷ cs) h = none-before n cs h
 
 none-after : (c : Call) (cs : List Call) → opensNone (c ∷ cs) ≡ true → opensNone cs ≡ true
 none-after (opens random m) cs h = absurd (false≢true h)
@@ -36,6 +37,7 @@ none-after (receives p bs m) cs h = h
 none-after (passes seconds) cs h = h
 none-after (marks fault) cs h = h
 none-after (reports errors) cs h = h
+none-after (enables lamp mark) cs h = h
 
 module _ (B : Board) (p : ℕ) where
   never-before : (password : List ℕ) (n : ℕ) (d : B .Record) (s : Session) (cs : List Call)

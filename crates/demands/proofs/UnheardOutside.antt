@@ -17,8 +17,8 @@ use Rattle.record.specs.declared.types.Connection.{Connection}
 use Rattle.record.specs.declared.types.Changed.{Changed}
 use Rattle.record.specs.declared.types.Device.{Device}
 use Rattle.record.proofs.Spelt.{closed-spelt}
-use Rattle.record.proofs.Calls.{fault-set-by, errors-set-by}
-use Rattle.record.proofs.HostKept.{fault-legal, errors-legal}
+use Rattle.record.proofs.Calls.{fault-set-by, errors-set-by, mark-set-by}
+use Rattle.record.proofs.HostKept.{fault-legal, errors-legal, mark-legal}
 use Rattle.record.proofs.Started.{set-up-legal, set-up-started, started-parts}
 use Rattle.clock.proofs.TimeLegal.{passed-legal}
 use Rattle.clock.proofs.Untouched.{passed-leaves}
@@ -28,7 +28,7 @@ use Rattle.device.proofs.Legal.{receiving-legal, opening-legal, closing-legal}
 use Rattle.device.proofs.Untouched.{receiving-keeps-settings, opening-keeps-settings, closing-keeps-settings}
 use Rattle.device.proofs.Untouched.{receiving-keeps-others, closing-keeps-others, closing-keeps-own}
 use Rattle.demands.specs.Board.{ours}
-use Rattle.demands.specs.Calls.{Call, opens, closes, receives, passes, marks, reports, after}
+use Rattle.demands.specs.Calls.{Call, opens, closes, receives, passes, marks, reports, enables, after}
 use Rattle.demands.specs.Outsider.{Session, unopened, noted, isMatched, silence}
 use Rattle.demands.specs.Unheard.{SameElsewhere}
 use Rattle.demands.proofs.Sessions.{Standing, is-closed}
@@ -44,6 +44,8 @@ settings-stay d (marks fault) =
     fault-set-by d (λ (r : Changed). r .device .settings ≡ d .settings) fault refl (λ h. refl)
 settings-stay d (reports errors) =
     errors-set-by d (λ (r : Changed). r .device .settings ≡ d .settings) errors refl refl (λ h k. refl)
+settings-stay d (enables lamp mark) =
+    mark-set-by d (λ (r : Changed). r .device .settings ≡ d .settings) lamp mark (λ n z. refl) (λ h i l p. refl)
 
 module _ (p : ℕ) (s : Session) (d : Device) (out : Outside p s d) where
   -- ---- any call
@@ -82,6 +84,10 @@ module _ (p : ℕ) (s : Session) (d : Device) (out : Outside p s d) where
       goes-on (reports errors) (errors-legal d (out .legal) errors)
       (errors-set-by d (λ (r : Changed). Standing s (connectionAt (r .device) p)) errors (out .standing)
       (out .standing) (λ h k. out .standing))
+  outside-after (enables lamp mark) u =
+      goes-on (enables lamp mark) (mark-legal d (out .legal) lamp mark)
+      (mark-set-by d (λ (r : Changed). Standing s (connectionAt (r .device) p)) lamp mark (λ n z. out .standing)
+      (λ h i l k. out .standing))
 
   -- ---- the calls at his place touch nothing else
 

@@ -9,7 +9,7 @@ use lib.ListN.{getD}
 use Rattle.demands.specs.Board.{Board}
 use Rattle.demands.specs.Calls.{Call, opens}
 use Rattle.demands.specs.History.{burning, lampWith}
-use Rattle.demands.specs.Demand3.{Demand3, TimeAdds, setsUp, Accepted, runOf, historyOf}
+use Rattle.demands.specs.Demand3.{Demand3, TimeAdds, setsUp, allEnabled, Accepted, runOf, historyOf}
 use Rattle.demands.specs.Settled.{sample, memory, nineSessions}
 use Rattle.demands.specs.WrongClocks.{stillClock, firstOnly, dropsPartHour}
 use Rattle.demands.specs.Computing.{computing}
@@ -20,7 +20,7 @@ sessions = opens 0 memory ∷ nineSessions
 module _ (B : Board) (h : Demand3 B) (accepted : Accepted B setsUp sample) where
   -- what the demand says of the one lamp
   told : getD (B .shows (runOf B setsUp sample sessions) .own .lamps) 0 0
-      ≡ lampWith (burning sample (historyOf B setsUp sample sessions)) 0
+      ≡ lampWith (burning sample (allEnabled sample) 0 (historyOf B setsUp sample sessions)) 0
   told = h .lamps-tell-the-history setsUp sample sessions 0 accepted (omega arith)
 
 -- stored, and burnt: its power stays in warm-up, so one set is answered OK and every second burns

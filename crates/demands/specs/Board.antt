@@ -1,5 +1,5 @@
--- A board: anything that answers the calls of 01 and of 02, L3, with four places for controllers (02, L5). The demands
--- are stated over it, so that wrong boards can be tried.
+-- A board: anything that answers the calls of 01 and of 02, L3 and L8, with four places for controllers (02, L5). The
+-- demands are stated over it, so that wrong boards can be tried.
 --   Given R       what a call gives that is lent no memory: its number, and the record
 --   Lent R        what a call gives that is lent reply memory: its number, the bytes taken, the reply's length, the
 --                 memory as the call leaves it, and the record
@@ -18,7 +18,7 @@ use Rattle.record.specs.declared.types.Device.{Device}
 use Rattle.record.specs.declared.types.Changed.{Changed}
 use Rattle.record.specs.Wanted.{Wanted}
 use Rattle.record.specs.SetUp.{setUp}
-use Rattle.record.specs.HostCalls.{faultSet, errorsSet}
+use Rattle.record.specs.HostCalls.{faultSet, errorsSet, markSet}
 use Rattle.stored.specs.Form.{StoredAs, storedBy}
 use Rattle.stored.specs.Loading.{loaded}
 use Rattle.clock.specs.Passing.{passed}
@@ -64,6 +64,7 @@ pub record Board : Type 1 where
   pub pass : Record → ℕ → Given Record
   pub set-fault : Record → Bool → Given Record
   pub set-errors : Record → List ℕ → Given Record
+  pub set-mark : Record → ℕ → Bool → Given Record
   pub store : Record → List ℕ → Wrote
   pub load : List ℕ → Given Record
   pub md5 : List ℕ → List ℕ
@@ -112,6 +113,8 @@ ours = record {
   set-fault = λ d mark. givenBy (faultSet d mark);
   -- record::host::set_errors
   set-errors = λ d digits. givenBy (errorsSet d digits);
+  -- record::host::set_mark
+  set-mark = λ d lamp mark. givenBy (markSet d lamp mark);
   -- stored::storing::store
   store = λ d m. formBy (storedBy d (length m)) m;
   -- stored::loading::load

@@ -17,6 +17,7 @@ pub data Call : Type 0 where
   passes : (seconds : ℕ) → Call
   marks : (fault : Bool) → Call
   reports : (errors : List ℕ) → Call
+  enables : (lamp : ℕ) (mark : Bool) → Call
 
 module _ (B : Board) where
   abbrev pub after : B .Record → Call → B .Record
@@ -26,6 +27,7 @@ module _ (B : Board) where
   after d (passes n) = B .pass d n .device
   after d (marks fault) = B .set-fault d fault .device
   after d (reports errors) = B .set-errors d errors .device
+  after d (enables lamp mark) = B .set-mark d lamp mark .device
 
   abbrev pub numberOf : B .Record → Call → ℕ
   numberOf d (opens random m) = B .opening d random m .number
@@ -34,6 +36,7 @@ module _ (B : Board) where
   numberOf d (passes n) = B .pass d n .number
   numberOf d (marks fault) = B .set-fault d fault .number
   numberOf d (reports errors) = B .set-errors d errors .number
+  numberOf d (enables lamp mark) = B .set-mark d lamp mark .number
 
   unfoldable pub run : B .Record → List Call → B .Record
   run d [] = d

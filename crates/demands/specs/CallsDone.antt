@@ -1,5 +1,5 @@
 -- What an accepted call leaves, whole (01, "Set-up", "Connection" and "Time"): set-up, opening, closing and the host's
--- two calls. Receiving is in Demand2, passing time in Demand3.
+-- calls. Receiving is in Demand2, passing time in Demand3.
 --   OpenedAs B d random p r   the greeting that the password and the lent number give was replied; p is the lowest
 --                             closed place (02, L5), and the connection there keeps that number and awaits the digest
 --                             exactly where there is a password; nothing else changed

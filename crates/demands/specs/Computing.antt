@@ -12,9 +12,10 @@ use Rattle.stream.specs.Computing.{computing as stream}
 use Rattle.device.specs.Computing.{computing as device}
 use Rattle.controller.specs.Computing.{computing as controller}
 use Rattle.demands.specs.Calls.{run}
-use Rattle.demands.specs.History.{powerSet, history, reached, burningFrom}
+use Rattle.demands.specs.History.{powerSet, history, marksAfter, reached, burningFrom}
 
 unfoldable pub computing : Unit {0}
 unfolding
-    numbers lines answers records stored clock meaning stream device controller run powerSet history reached burningFrom
+    numbers lines answers records stored clock meaning stream device controller run powerSet history marksAfter reached
+    burningFrom
 computing = tt

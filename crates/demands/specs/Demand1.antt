@@ -4,11 +4,11 @@
 -- That a call ends is no field below: each call of a board is a function, and a Rattle function meets its contract only
 -- if it ends.
 -- TO BELIEVE IT, believe, and nothing else: the rows below, against 01's table, those of opening, closing and
--- receiving as device/specs/Calls has them, with `replyRoom` and `isNoPlace`, and `isShut`, `connectionAt`, `lowestShut`
--- of record/specs/Places (02, L5), those of storing and loading as
--- stored/specs/Form and Loading have them, against 02's order (L3); what is legal and what is in range
--- (record/specs: Limits, Rules, Legal, SetUp, and `blank` of Record; lines/specs: Bytes, Inputs, Texts; utf8/specs:
--- Utf8); the length 168 (`commandRoom` of controller/specs/Writing); for the readers, the forms of lines
+-- receiving as device/specs/Calls has them, those of a mark as record/specs/HostCalls has them (02, L8), with
+-- `replyRoom` and `isNoPlace`, and `isShut`, `connectionAt`, `lowestShut` of record/specs/Places (02, L5), those of
+-- storing and loading as stored/specs/Form and Loading have them, against 02's order (L3); what is legal and what is in
+-- range (record/specs: Limits, Rules, Legal, SetUp, and `blank` of Record; lines/specs: Bytes, Inputs, Texts;
+-- utf8/specs: Utf8); the length 168 (`commandRoom` of controller/specs/Writing); for the readers, the forms of lines
 -- (lines/specs: Forms, Commands, Requests) and which parameter says what (answers/specs: Said, CanSay, Writings;
 -- `greets`, `randomIn` of controller/specs/Greetings); here Board and Calls.
 --   rowsOf d c          the rows that the call c can meet, in the table's order; so for set-up, writer and readers
@@ -33,6 +33,7 @@ use Rattle.record.specs.Wanted.{Wanted}
 use Rattle.record.specs.Rules.{isLongEnough, isErrors}
 use Rattle.record.specs.Legal.{isLegal}
 use Rattle.record.specs.Record.{blank}
+use Rattle.record.specs.HostCalls.{markRows}
 use Rattle.record.specs.SetUp.{isInRange}
 use Rattle.record.specs.declared.types.Device.{Device}
 use Rattle.stored.specs.Form.{storingRows}
@@ -42,7 +43,7 @@ use Rattle.controller.specs.Writing.{commandRoom, isWritable}
 use Rattle.controller.specs.Reading.{outcomeNumber}
 use Rattle.controller.specs.Greetings.{greets, randomIn, greetingNumber}
 use Rattle.demands.specs.Board.{Board, Lent, Wrote}
-use Rattle.demands.specs.Calls.{Call, opens, closes, receives, passes, marks, reports, after, numberOf}
+use Rattle.demands.specs.Calls.{Call, opens, closes, receives, passes, marks, reports, enables, after, numberOf}
 
 -- ---- the table of numbers
 
@@ -56,6 +57,7 @@ rowsOf d (receives p bs m) = receivingRows d p (length m)
 rowsOf d (passes n) = (1 when isIllegal d) ∷ []
 rowsOf d (marks fault) = (1 when isIllegal d) ∷ []
 rowsOf d (reports errors) = (1 when isIllegal d) ∷ (3 when not (isErrors errors)) ∷ []
+rowsOf d (enables lamp mark) = markRows d lamp mark
 
 -- 02, L9: 8 after every 3
 abbrev pub setUpRows : Wanted → List Row
@@ -105,6 +107,7 @@ module _ (B : Board) where
   StaysInside d (passes n) = Unit {0}
   StaysInside d (marks fault) = Unit {0}
   StaysInside d (reports errors) = Unit {0}
+  StaysInside d (enables lamp mark) = Unit {0}
 
   abbrev pub WritesNothing : B .Record → Call → Type 0
   WritesNothing d (opens random m) = Untouched (B .Record) m (B .opening d random m)
@@ -113,6 +116,7 @@ module _ (B : Board) where
   WritesNothing d (passes n) = Unit {0}
   WritesNothing d (marks fault) = Unit {0}
   WritesNothing d (reports errors) = Unit {0}
+  WritesNothing d (enables lamp mark) = Unit {0}
 
 -- ---- the demand
 

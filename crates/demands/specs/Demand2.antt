@@ -8,9 +8,9 @@
 -- requests (lines/specs; for names also utf8/specs/Utf8); what an answer is and which bytes say it (answers/specs:
 -- Said, CanSay, Writings); what a reading means and a greeting is (controller/specs: `meaning`, `LineSays` of
 -- Reading, `Exactly`, `greetedOn` of Greetings); what is meant and done (meaning/specs); how a line is answered and a
--- connection greeted (device/specs: Answering, `isLedBy` of Receiving, and `greeting`, `greeted` of Calls); the record (record/specs); a stream in cuts (stream/specs/Machine); here Board, Calls, CallsDone, Outsider.
--- 02, L5: "Demand 2 holds place by place": what is said of a connection is said of that at any place p, whatever the
--- other places hold.
+-- connection greeted (device/specs: Answering, `isLedBy` of Receiving, and `greeting`, `greeted` of Calls); the record
+-- (record/specs); a stream in cuts (stream/specs/Machine); here Board, Calls, CallsDone, Outsider. 02, L5: "Demand 2
+-- holds place by place": what is said of a connection is said of that at any place p, whatever the other places hold.
 --   BetweenLines phase d p   legal, at place p in that phase, no collected bytes and no overlong mark
 --   ReadBack B d p c w r     the command c, written as w and received as r, is read as it was meant and done
 --   isLed d p l              the line l starts with the matching digest and is not overlong
@@ -24,7 +24,7 @@ use mathlib.Core.Path.{_≡_}
 use mathlib.Core.Bool.{Bool, true, false}
 use mathlib.Core.List.{List, _++_}
 use mathlib.Core.Logic.{_↔_}
-use lib.ListN.{length}
+use lib.ListN.{length, set}
 use lib.Dec.{leb}
 use Rattle.text.specs.Words.{ascii, if_then_else_}
 use Rattle.digest.specs.Md5.{md5Of}
@@ -41,7 +41,7 @@ use Rattle.record.specs.Limits.{placesCount, awaiting, opened, failed}
 use Rattle.record.specs.Wanted.{Wanted}
 use Rattle.record.specs.Legal.{isLegal}
 use Rattle.record.specs.Record.{closed, started}
-use Rattle.record.specs.Updates.{withOwn, withFault, withErrors}
+use Rattle.record.specs.Updates.{withOwn, withFault, withErrors, withMarks}
 use Rattle.record.specs.Places.{connectionAt, withPlace, isShut}
 use Rattle.record.specs.declared.types.Device.{Device}
 use Rattle.record.specs.declared.types.Connection.{Connection}
@@ -55,7 +55,7 @@ use Rattle.controller.specs.Reading.{meaning, LineSays}
 use Rattle.controller.specs.Greetings.{Exactly, greetedOn}
 use Rattle.controller.specs.declared.reading.Outcome.the-variants.{Means, Erra}
 use Rattle.demands.specs.Board.{Board, Lent, Wrote, reply, bytesWritten}
-use Rattle.demands.specs.Calls.{Call, opens, closes, receives, passes, marks, reports, after}
+use Rattle.demands.specs.Calls.{Call, opens, closes, receives, passes, marks, reports, enables, after}
 use Rattle.demands.specs.CallsDone.{OpenedAs, Leaves}
 use Rattle.demands.specs.Outsider.{unopened, NeverMatched, NoSay, HostsAlone}
 
@@ -124,6 +124,7 @@ Elsewhere B d (receives p bs m) q = q ≡ p → ⊥
 Elsewhere B d (passes n) q = ⊥
 Elsewhere B d (marks fault) q = Unit {0}
 Elsewhere B d (reports errors) q = Unit {0}
+Elsewhere B d (enables lamp mark) q = Unit {0}
 
 -- what someone without the password gets, and leaves as it was
 pub record RefusalOnly (B : Board) (d : B .Record) (p : ℕ) (out : Out (B .Record)) : Type 0 where
@@ -202,6 +203,10 @@ pub record Demand2 (B : Board) : Type 0 where
       → Leaves B (B .set-fault d fault) (withOwn (B .shows d) (withFault (B .shows d .own) fault))
   pub reports : (d : B .Record) (errors : List ℕ)
       → Leaves B (B .set-errors d errors) (withOwn (B .shows d) (withErrors (B .shows d .own) errors))
+  -- 02, L8: the lamp's mark, and nothing else
+  pub enables : (d : B .Record) (lamp : ℕ) (mark : Bool)
+      → Leaves B (B .set-mark d lamp mark)
+      (withOwn (B .shows d) (withMarks (B .shows d .own) (set (B .shows d .own .enabled) lamp mark)))
   -- what the greeting reader takes from the opening reply is what opening did, where some place is closed; it takes no
   -- other line for a greeting
   pub greets-back : (d : B .Record) (random : ℕ) (m : List ℕ) → isLegal (B .shows d) ≡ true

@@ -7,29 +7,32 @@
 -- of a command and the text of lamps (lines/specs: Commands; answers/specs: Said; numbers/specs: Decimal); here Board,
 -- Calls, CallsDone, and `BetweenLines` of Demand2, `meaning` of controller/specs/Reading.
 --   Beginning           a history begins with a set-up, or with the load of a stored form (02, L3: "Loading is a fresh
---                       set-up, so the history of demand 3 begins there with the stored seconds")
+--                       set-up, so the history of demand 3 begins there with the stored seconds"), of the newest
+--                       version with its marks, or of the one before (02, L8)
+--   startMarks b w      the marks that it begins with: all set, or "after a load, as the form has them"
 --   Accepted B b w      the board accepts the settings w there
 --   historyOf B b w cs  what someone outside sees of the calls cs since then
 --   TimeAdds B          the adding law, which a clock that does nothing obeys too (WrongClocks)
---   lampsThen w es      each lamp of the set-up as LAMP answers it after that history
+--   lampsThen w ms es   each lamp of the set-up as LAMP answers it after that history
+--   burntByMarks ..     the seconds of burning, each counted once for each mark that stood
 --   LampsTold B ls r    the reply r says the lamps ls, and the reader takes them from it
 -- Assumes nothing.
-use Prim.Native.Nat.{ℕ, _+_, _/_, _≤_, _<_}
+use Prim.Native.Nat.{ℕ, zero, suc, _+_, _-_, _/_, _≤_, _<_}
 use mathlib.Core.Path.{_≡_}
-use mathlib.Core.Bool.{true}
-use mathlib.Core.List.{List, _++_, map}
-use lib.ListN.{length, getD}
-use Rattle.text.specs.Words.{ascii}
+use mathlib.Core.Bool.{Bool, true, false, _&&_}
+use mathlib.Core.List.{List, [], _∷_, _++_}
+use lib.ListN.{length, getD, set, replicate}
+use Rattle.text.specs.Words.{ascii, if_then_else_}
 use Rattle.lines.specs.Commands.{commandLine}
 use Rattle.lines.specs.declared.command.Command.the-variants.{Query}
 use Rattle.lines.specs.declared.command.Body.the-variants.{Lamp}
 use Rattle.answers.specs.Said.{lampsAre, saidBytes}
 use Rattle.answers.specs.declared.answer.LampHours.{LampHours}
-use Rattle.record.specs.Limits.{opened}
+use Rattle.record.specs.Limits.{lampLimit, opened}
 use Rattle.record.specs.Wanted.{Wanted}
 use Rattle.record.specs.Legal.{isLegal}
 use Rattle.record.specs.SetUp.{isSetUp}
-use Rattle.stored.specs.Form.{formOf}
+use Rattle.stored.specs.Form.{formOf, oldFormOf}
 use Rattle.clock.specs.Second.{times, second}
 use Rattle.clock.specs.Passing.{secondsMost}
 use Rattle.device.specs.Calls.{replyRoom}
@@ -38,21 +41,33 @@ use Rattle.demands.specs.Board.{Board, Given, reply}
 use Rattle.demands.specs.Calls.{Call, run}
 use Rattle.demands.specs.CallsDone.{Leaves}
 use Rattle.demands.specs.Demand2.{BetweenLines}
-use Rattle.demands.specs.History.{Event, noStreams, history, burning, stageAfter, isBurning, lampWith}
+use Rattle.demands.specs.History.{Event, switched, aSecond, markSwitched, noStreams, history, Stage, steady, next}
+use Rattle.demands.specs.History.{marksAfter, burning, stageAfter, isBurning, lampWith}
 
 pub data Beginning : Type 0 where
   setsUp : Beginning
-  loads : Beginning
+  loads : (marks : List Bool) → Beginning
+  loadsOld : Beginning
+
+abbrev pub allEnabled : Wanted → List Bool
+allEnabled w = replicate (length (w .lamps)) true
+
+abbrev pub startMarks : Beginning → Wanted → List Bool
+startMarks setsUp w = allEnabled w
+startMarks (loads ms) w = ms
+startMarks loadsOld w = allEnabled w
 
 module _ (B : Board) where
   abbrev pub begunBy : Beginning → Wanted → Given (B .Record)
   begunBy setsUp w = B .set-up w
-  begunBy loads w = B .load (formOf w)
+  begunBy (loads ms) w = B .load (formOf w ms)
+  begunBy loadsOld w = B .load (oldFormOf w)
 
   -- what loads is the form of settings that a set-up takes, and of no others (BoardSwap)
   abbrev pub Accepted : Beginning → Wanted → Type 0
   Accepted setsUp w = B .set-up w .number ≡ 0
-  Accepted loads w = (isSetUp w ≡ true) × (B .load (formOf w) .number ≡ 0)
+  Accepted (loads ms) w = (isSetUp w ≡ true) × (B .load (formOf w ms) .number ≡ 0)
+  Accepted loadsOld w = (isSetUp w ≡ true) × (B .load (oldFormOf w) .number ≡ 0)
 
   abbrev pub runOf : Beginning → Wanted → List Call → B .Record
   runOf b w cs = run B (begunBy b w .device) cs
@@ -60,11 +75,35 @@ module _ (B : Board) where
   abbrev pub historyOf : Beginning → Wanted → List Call → List Event
   historyOf b w cs = history B (begunBy b w .device) noStreams cs
 
-abbrev pub lampThen : Wanted → List Event → ℕ → LampHours
-lampThen w es start = record { hours = lampWith (burning w es) start / 3600; lit = isBurning (stageAfter w es) }
+-- the lamp at place k, which started with so many seconds
+abbrev pub lampThen : Wanted → List Bool → List Event → ℕ → ℕ → LampHours
+lampThen w ms es k start = record {
+  hours = lampWith (burning w ms k es) start / 3600;
+  lit = isBurning (stageAfter w es) && getD (marksAfter ms es) k false;
+}
 
-abbrev pub lampsThen : Wanted → List Event → List LampHours
-lampsThen w es = map (lampThen w es) (w .lamps)
+abbrev pub eachPlace : {A : Type 0} → (ℕ → ℕ → A) → ℕ → List ℕ → List A
+eachPlace f k [] = []
+eachPlace f k (x ∷ xs) = f k x ∷ eachPlace f (suc k) xs
+
+abbrev pub lampsThen : Wanted → List Bool → List Event → List LampHours
+lampsThen w ms es = eachPlace (lampThen w ms es) 0 (w .lamps)
+
+-- the fleet's question (02, L8): the seconds of burning, each counted once for each mark that stood
+abbrev pub countSet : List Bool → ℕ
+countSet [] = 0
+countSet (m ∷ ms) = (if m then 1 else 0) + countSet ms
+
+unfoldable pub burntByMarks : Wanted → Stage → List Bool → List Event → ℕ
+burntByMarks w g ms [] = 0
+burntByMarks w g ms (aSecond ∷ es) = (if isBurning g then countSet ms else 0) + burntByMarks w (next w g aSecond) ms es
+burntByMarks w g ms (switched wanted ∷ es) = burntByMarks w (next w g (switched wanted)) ms es
+burntByMarks w g ms (markSwitched lamp mark ∷ es) =
+    burntByMarks w (next w g (markSwitched lamp mark)) (set ms lamp mark) es
+
+abbrev pub sumOf : ℕ → (ℕ → ℕ) → ℕ
+sumOf zero f = 0
+sumOf (suc n) f = sumOf n f + f n
 
 -- `%1LAMP=` and, joined by spaces, each lamp's hours in decimal digits, a space and 1 or 0
 abbrev pub lampLine : List LampHours → List ℕ
@@ -91,10 +130,17 @@ pub record Demand3 (B : Board) : Type 0 where
   pub lamps-tell-the-history : (b : Beginning) (w : Wanted) (cs : List Call) (place : ℕ) → Accepted B b w
       → place < length (w .lamps)
       → getD (B .shows (runOf B b w cs) .own .lamps) place 0
-      ≡ lampWith (burning w (historyOf B b w cs)) (getD (w .lamps) place 0)
+      ≡ lampWith (burning w (startMarks b w) place (historyOf B b w cs)) (getD (w .lamps) place 0)
+  -- 02, L8: while no lamp reaches the limit, the sum over the lamps of the seconds gained is the seconds of burning,
+  -- each counted once for each mark that stood
+  pub fleet-adds-up : (b : Beginning) (w : Wanted) (cs : List Call) → Accepted B b w
+      → ((k : ℕ) → k < length (w .lamps)
+      → getD (w .lamps) k 0 + burning w (startMarks b w) k (historyOf B b w cs) ≤ lampLimit)
+      → sumOf (length (w .lamps)) (λ k. getD (B .shows (runOf B b w cs) .own .lamps) k 0 - getD (w .lamps) k 0)
+      ≡ burntByMarks w (steady false) (startMarks b w) (historyOf B b w cs)
   -- "the hours answered are the whole hours in that": LAMP, asked at any place on an open connection between lines, the
   -- reply's bytes and what our reader takes from them
   pub hours-told : (b : Beginning) (w : Wanted) (cs : List Call) (p : ℕ) (m : List ℕ) → Accepted B b w
       → 1 ≤ length (w .lamps) → BetweenLines opened (B .shows (runOf B b w cs)) p → replyRoom ≤ length m
       → let r = B .receive (runOf B b w cs) p (commandLine (Query Lamp)) m in
-      LampsTold B (lampsThen w (historyOf B b w cs)) (reply r)
+      LampsTold B (lampsThen w (startMarks b w) (historyOf B b w cs)) (reply r)

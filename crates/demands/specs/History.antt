@@ -3,17 +3,19 @@
 --   Streams               for each place all bytes that were taken there so far, in one row: no phases, no digests, no
 --                         limits, and no connections, though a place may be closed and opened again (02, L5)
 --   powerSet s r          a power set was answered OK: the reply r says so, and the stream s ends in its line
---   history B d w cs      the power sets answered OK, at whatever place, and the seconds passed, in the order made; a
---                         refused call counts as nothing
+--   history B d w cs      the power sets answered OK, at whatever place, the seconds passed and the marks set, in the
+--                         order made; a refused call counts as nothing
 --   Stage                 the outsider's own clock, which starts off: steady, or on the way there for so many seconds
---   burning w es          the seconds of a history that lie in warm-up or power-on
+--   marksAfter ms es      his marks, one a lamp: those it began with, and the mark calls that gave 0 (02, L8)
+--   burning w ms k es     the seconds of a history that lie in warm-up or power-on with the mark of the lamp at place k
+--                         set, where it began with the marks ms
 --   lampWith n start      a lamp's seconds: what it started with and what it burnt, stopped at 359,999,999
 -- Assumes nothing.
 use Prim.Native.Nat.{ℕ, _+_, _-_, min}
 use Prim.Native.String.{String}
-use mathlib.Core.Bool.{Bool, true, false, not}
+use mathlib.Core.Bool.{Bool, true, false, not, _&&_}
 use mathlib.Core.List.{List, [], _∷_, _++_}
-use lib.ListN.{length, take, drop, replicate}
+use lib.ListN.{length, take, drop, replicate, getD, set}
 use lib.Dec.{leb, eqb}
 use Rattle.text.specs.Words.{ascii, if_then_else_}
 use Rattle.text.specs.Scans.{sameBy}
@@ -21,7 +23,7 @@ use Rattle.lines.specs.Bytes.{upperOf}
 use Rattle.record.specs.Limits.{lampLimit}
 use Rattle.record.specs.Wanted.{Wanted}
 use Rattle.demands.specs.Board.{Board, reply}
-use Rattle.demands.specs.Calls.{Call, opens, closes, receives, passes, marks, reports, after}
+use Rattle.demands.specs.Calls.{Call, opens, closes, receives, passes, marks, reports, enables, after}
 
 infix 40 _says_
 infix 40 _ends-in_
@@ -37,6 +39,7 @@ bs ends-in t = drop (length bs - length (ascii t)) bs says t
 pub data Event : Type 0 where
   switched : (wanted : Bool) → Event
   aSecond : Event
+  markSwitched : (lamp : ℕ) (mark : Bool) → Event
 
 unfoldable pub powerSet : List ℕ → List ℕ → List Event
 powerSet stream answer =
@@ -65,6 +68,7 @@ module _ (B : Board) where
   streamsAfter d w (passes n) = w
   streamsAfter d w (marks fault) = w
   streamsAfter d w (reports errors) = w
+  streamsAfter d w (enables lamp mark) = w
 
   -- what a call tells; the bytes that it took are in its place's stream already
   abbrev pub seen : B .Record → Streams → Call → List Event
@@ -75,6 +79,7 @@ module _ (B : Board) where
   seen d w (closes p) = []
   seen d w (marks fault) = []
   seen d w (reports errors) = []
+  seen d w (enables lamp mark) = if eqb (B .set-mark d lamp mark .number) 0 then markSwitched lamp mark ∷ [] else []
 
   unfoldable pub history : B .Record → Streams → List Call → List Event
   history d w [] = []
@@ -95,26 +100,40 @@ next w (steady false) (switched false) = steady false
 next w (towards on n) (switched wanted) = towards on n
 next w (steady on) aSecond = steady on
 next w (towards on n) aSecond = if leb n 1 then steady on else towards on (n - 1)
+next w (steady on) (markSwitched lamp mark) = steady on
+next w (towards on n) (markSwitched lamp mark) = towards on n
+
+-- his marks, one a lamp
+abbrev pub marksNext : List Bool → Event → List Bool
+marksNext ms (markSwitched lamp mark) = set ms lamp mark
+marksNext ms (switched wanted) = ms
+marksNext ms aSecond = ms
+
+unfoldable pub marksAfter : List Bool → List Event → List Bool
+marksAfter ms [] = ms
+marksAfter ms (e ∷ es) = marksAfter (marksNext ms e) es
 
 -- lamps burn in power-on and on the way there
 abbrev pub isBurning : Stage → Bool
 isBurning (steady on) = on
 isBurning (towards on n) = on
 
-abbrev pub burns : Stage → Event → ℕ
-burns g (switched wanted) = 0
-burns g aSecond = if isBurning g then 1 else 0
+-- the lamp at place k, if its mark is set (02, L8)
+abbrev pub burns : Stage → List Bool → ℕ → Event → ℕ
+burns g ms k (switched wanted) = 0
+burns g ms k aSecond = if isBurning g && getD ms k false then 1 else 0
+burns g ms k (markSwitched lamp mark) = 0
 
 unfoldable pub reached : Wanted → Stage → List Event → Stage
 reached w g [] = g
 reached w g (e ∷ es) = reached w (next w g e) es
 
-unfoldable pub burningFrom : Wanted → Stage → List Event → ℕ
-burningFrom w g [] = 0
-burningFrom w g (e ∷ es) = burns g e + burningFrom w (next w g e) es
+unfoldable pub burningFrom : Wanted → Stage → List Bool → ℕ → List Event → ℕ
+burningFrom w g ms k [] = 0
+burningFrom w g ms k (e ∷ es) = burns g ms k e + burningFrom w (next w g e) (marksNext ms e) k es
 
-abbrev pub burning : Wanted → List Event → ℕ
-burning w es = burningFrom w (steady false) es
+abbrev pub burning : Wanted → List Bool → ℕ → List Event → ℕ
+burning w ms k es = burningFrom w (steady false) ms k es
 
 -- a device starts off
 abbrev pub stageAfter : Wanted → List Event → Stage

@@ -34,7 +34,7 @@ use Rattle.stream.specs.Collecting.{collected}
 use Rattle.device.specs.Receiving.{lineEnded, keepingLine}
 use Rattle.device.specs.Calls.{replyRoom}
 use Rattle.demands.specs.Board.{Board, reply}
-use Rattle.demands.specs.Calls.{Call, opens, closes, receives, passes, marks, reports, after, run}
+use Rattle.demands.specs.Calls.{Call, opens, closes, receives, passes, marks, reports, enables, after, run}
 
 -- ---- what is seen at a place
 
@@ -67,6 +67,7 @@ module _ (B : Board) (q : ℕ) where
   heardIn d (passes n) = heardNothing
   heardIn d (marks fault) = heardNothing
   heardIn d (reports errors) = heardNothing
+  heardIn d (enables lamp mark) = heardNothing
 
   unfoldable pub heard : B .Record → List Call → Heard
   heard d [] = heardNothing
@@ -82,6 +83,7 @@ module _ (B : Board) (q : ℕ) where
   ByBytes d (passes n) = LeavesIt d (passes n)
   ByBytes d (marks fault) = LeavesIt d (marks fault)
   ByBytes d (reports errors) = LeavesIt d (reports errors)
+  ByBytes d (enables lamp mark) = LeavesIt d (enables lamp mark)
 
   abbrev pub ByBytesOnly : B .Record → List Call → Type 0
   ByBytesOnly d [] = Unit {0}

@@ -17,5 +17,6 @@ pub mod WrongDoors
 pub mod WrongOutsiders
 pub mod WrongClocks
 pub mod WrongPlaces
+pub mod WrongLamps
 pub mod Computing
 pub mod Tied

@@ -27,6 +27,7 @@ module _ (set-up : Wanted → Given Device) (opening : Device → ℕ → List �
     pass = pass;
     set-fault = set-fault;
     set-errors = set-errors;
+    set-mark = ours .set-mark;
     store = ours .store;
     load = ours .load;
     md5 = ours .md5;

@@ -1,6 +1,6 @@
 -- Someone who does not know the password (demand 2: "without the matching digest" he gets "the refusal line only"),
--- at one place, over any calls of everybody (02, L5). Said of the bytes taken and of the replies, as demand 3's outsider
--- sees them: no phase of a connection is named here.
+-- at one place, over any calls of everybody (02, L5). Said of the bytes taken and of the replies, as demand 3's
+-- outsider sees them: no phase of a connection is named here.
 --   Session                  what is seen of a connection since it was opened: the random number that this opening was
 --                            lent, the bytes taken since, and the replies to received bytes
 --   unopened                 what is seen of a place that was not opened yet
@@ -10,7 +10,7 @@
 --   firstLine bs             the bytes before the first CR
 --   isMatched password s     the session's first line has ended, and is led by the digest of the session's number
 --   NeverMatched             at no moment of the calls is the session matched
---   hostCalls cs             the passes and the host's two calls among cs: what no connection has a say in
+--   hostCalls cs             the passes and the host's calls among cs: what no connection has a say in
 --   RefusalAtMost bs         nothing, or the refusal line once
 --   KeptThere B p d cs       at no moment of the calls does what place p receives change the settings or the own part
 --   NoSay B p d s cs         that, and the session at place p was answered the refusal line at most
@@ -28,7 +28,7 @@ use Rattle.lines.specs.Bytes.{noCr}
 use Rattle.lines.specs.Forms.{erraLine}
 use Rattle.device.specs.Receiving.{isLedBy}
 use Rattle.demands.specs.Board.{Board, Lent, reply}
-use Rattle.demands.specs.Calls.{Call, opens, closes, receives, passes, marks, reports, after, run}
+use Rattle.demands.specs.Calls.{Call, opens, closes, receives, passes, marks, reports, enables, after, run}
 
 -- ---- what is seen of a connection
 
@@ -61,6 +61,7 @@ module _ (B : Board) (p : ℕ) where
   noted d s (passes n) = s
   noted d s (marks fault) = s
   noted d s (reports errors) = s
+  noted d s (enables lamp mark) = s
 
   abbrev pub sessionAfter : B .Record → Session → List Call → Session
   sessionAfter d s [] = s
@@ -90,6 +91,7 @@ hostCalls (receives p bs m ∷ cs) = hostCalls cs
 hostCalls (passes n ∷ cs) = passes n ∷ hostCalls cs
 hostCalls (marks fault ∷ cs) = marks fault ∷ hostCalls cs
 hostCalls (reports errors ∷ cs) = reports errors ∷ hostCalls cs
+hostCalls (enables lamp mark ∷ cs) = enables lamp mark ∷ hostCalls cs
 
 pub data RefusalAtMost : List ℕ → Type 0 where
   silence : RefusalAtMost []
@@ -102,6 +104,7 @@ isReceivedAt p (closes q) = false
 isReceivedAt p (passes n) = false
 isReceivedAt p (marks fault) = false
 isReceivedAt p (reports errors) = false
+isReceivedAt p (enables lamp mark) = false
 
 pub record SameDevicePart (B : Board) (d e : B .Record) : Type 0 where
   pub settings : B .shows e .settings ≡ B .shows d .settings

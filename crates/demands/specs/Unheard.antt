@@ -14,6 +14,11 @@
 --   SameElsewhere B p d e          the device part, and every other place's connection, are the same
 --   Unheard B                      the request
 -- What holds at the end of every two such runs holds at every moment: what came before is two such runs.
+-- So someone on the network without the password can do nothing to the projector but take up places: each for 30 seconds,
+-- and for 30 more from a refused line on. Against that a host can close whoever stays silent (closing at a place is its
+-- own call), or keep strangers off the network.
+-- TO BELIEVE IT, believe, and nothing else: what a password is (`isSecured` of device/specs/Calls), when a first line
+-- matches (`NeverMatched` of Outsider), and here Board and Calls.
 -- Assumes nothing.
 use Prim.Native.Nat.{ℕ}
 use mathlib.Core.Path.{_≡_}
@@ -26,7 +31,7 @@ use Rattle.record.specs.Places.{connectionAt}
 use Rattle.device.specs.Receiving.{passwordOf}
 use Rattle.device.specs.Calls.{isSecured}
 use Rattle.demands.specs.Board.{Board, Given, Lent}
-use Rattle.demands.specs.Calls.{Call, opens, closes, receives, passes, marks, reports, after, run}
+use Rattle.demands.specs.Calls.{Call, opens, closes, receives, passes, marks, reports, enables, after, run}
 use Rattle.demands.specs.Outsider.{unopened, NeverMatched, SameDevicePart}
 
 -- ---- the two runs
@@ -47,6 +52,7 @@ opensNone (receives p bs m ∷ cs) = opensNone cs
 opensNone (passes n ∷ cs) = opensNone cs
 opensNone (marks fault ∷ cs) = opensNone cs
 opensNone (reports errors ∷ cs) = opensNone cs
+opensNone (enables lamp mark ∷ cs) = opensNone cs
 
 abbrev pub phaseAt : (B : Board) → ℕ → B .Record → ℕ
 phaseAt B p d = connectionAt (B .shows d) p .phase
@@ -89,6 +95,7 @@ module _ (B : Board) where
   gaveBy d (passes n) = gaveNumber (B .pass d n)
   gaveBy d (marks fault) = gaveNumber (B .set-fault d fault)
   gaveBy d (reports errors) = gaveNumber (B .set-errors d errors)
+  gaveBy d (enables lamp mark) = gaveNumber (B .set-mark d lamp mark)
 
 abbrev pub isAtPlace : ℕ → Call → Bool
 isAtPlace p (closes q) = eqb q p
@@ -97,6 +104,7 @@ isAtPlace p (opens random m) = false
 isAtPlace p (passes n) = false
 isAtPlace p (marks fault) = false
 isAtPlace p (reports errors) = false
+isAtPlace p (enables lamp mark) = false
 
 abbrev pub othersGot : (B : Board) → ℕ → B .Record → List Call → List Gave
 othersGot B p d [] = []

@@ -68,6 +68,7 @@ firstOnly = record {
   pass = λ b n. marked b (ours .pass (b .0) n);
   set-fault = λ b mark. marked b (ours .set-fault (b .0) mark);
   set-errors = λ b digits. marked b (ours .set-errors (b .0) digits);
+  set-mark = λ b lamp mark. marked b (ours .set-mark (b .0) lamp mark);
   store = λ b m. ours .store (b .0) m;
   load = λ s. record { number = ours .load s .number; device = (ours .load s .device, false) };
   md5 = ours .md5;

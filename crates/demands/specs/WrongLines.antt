@@ -52,6 +52,7 @@ refusesAll = record {
   pass = λ d n. refusedGiven 1 d;
   set-fault = λ d mark. refusedGiven 1 d;
   set-errors = λ d digits. refusedGiven 1 d;
+  set-mark = λ d lamp mark. refusedGiven 1 d;
   store = λ d m. record { number = 1; length = 0; memory = m };
   load = λ s. refusedGiven 23 blank;
   md5 = ours .md5;

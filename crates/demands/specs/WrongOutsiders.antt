@@ -89,6 +89,7 @@ refusesElsewhere = record {
   pass = λ b n. stillOwing b (ours .pass (b .0) n);
   set-fault = λ b mark. stillOwing b (ours .set-fault (b .0) mark);
   set-errors = λ b digits. stillOwing b (ours .set-errors (b .0) digits);
+  set-mark = λ b lamp mark. stillOwing b (ours .set-mark (b .0) lamp mark);
   store = λ b m. ours .store (b .0) m;
   load = λ s. record { number = ours .load s .number; device = (ours .load s .device, placesCount) };
   md5 = ours .md5;

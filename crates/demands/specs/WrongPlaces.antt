@@ -39,6 +39,7 @@ module _ (X : Type 0) (x : X) (receive : Device × X → ℕ → List ℕ → Li
     pass = λ b n. givenBeside (b .1) (ours .pass (b .0) n);
     set-fault = λ b mark. givenBeside (b .1) (ours .set-fault (b .0) mark);
     set-errors = λ b digits. givenBeside (b .1) (ours .set-errors (b .0) digits);
+    set-mark = λ b lamp mark. givenBeside (b .1) (ours .set-mark (b .0) lamp mark);
     store = λ b m. ours .store (b .0) m;
     load = λ s. givenBeside x (ours .load s);
     md5 = ours .md5;

@@ -1,4 +1,4 @@
-// `ours`'s set-up, opening with its place, closing, receiving, fault mark and error digits.
+// `ours`'s set-up, opening with its place, closing, receiving, fault mark, error digits and lamps' marks.
 use device::calls;
 use device::calls::Opened;
 use device::calls::Received;
@@ -77,4 +77,10 @@ pub fn set_errors(d: Device, digits: &[u8]) -> Changed
     ensures { λ r. ⌜ givenBy r ≡ ours .set-errors d (now (digits .entry)) ⌝ }
 {
     host::set_errors(d, digits)
+}
+
+pub fn set_mark(d: Device, lamp: usize, mark: bool) -> Changed
+    ensures { λ r. ⌜ givenBy r ≡ ours .set-mark d lamp mark ⌝ }
+{
+    host::set_mark(d, lamp, mark)
 }
