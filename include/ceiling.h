@@ -23,8 +23,8 @@
 #include <stdint.h>
 
 /* The version of this face. It moves with each landing that moves a struct or a call; docs/landings/README.md says what
-   moved. A host that was written for one version can ask for it: #if CEILING_FACE != 8 .. #error. */
-#define CEILING_FACE 8
+   moved. A host that was written for one version can ask for it: #if CEILING_FACE != 9 .. #error. */
+#define CEILING_FACE 9
 
 /* What stands before a call whose result has the record in it: a compiler warns where such a result is dropped. */
 #if defined(__cplusplus) && __cplusplus >= 201703L || defined(__STDC_VERSION__) && __STDC_VERSION__ >= 202311L
@@ -54,11 +54,12 @@ enum pj_number {
                                    PJ_COMMAND_ROOM, for pj_store shorter than the form */
     PJ_OUT_OF_RANGE = 3,        /* a setting, an error digit, a command or a password is out of its range, a panel has
                                    no such projector or no room for one more, there is no such place for a
-                                   controller, two tables cannot be compared, or the jobs, rigs or lists of a day are
-                                   out of theirs */
+                                   controller, there is no such lamp or its mark is the last, two tables cannot be
+                                   compared, or the jobs, rigs or lists of a day are out of theirs */
     PJ_NOT_CONNECTED = 4,       /* receiving or closing at a place whose connection is closed */
     PJ_CONNECTED = 5,           /* of the program replay alone: the log opens a connection that is not closed */
     PJ_NO_PLACE = 6,            /* opening where every place has a connection that is not closed */
+    PJ_NOT_OFF = 7,             /* setting or clearing a lamp's mark while the power is not off */
     PJ_SHORT_PASSWORD = 8,      /* a set-up's password has 1 to 7 characters, and nothing is out of its range */
     PJ_NOT_READY = 9,           /* a panel's command before the projector's greeting, or over another command */
     PJ_NOT_A_LINE = 10,         /* what was read is not a greeting or reply line */
@@ -67,7 +68,8 @@ enum pj_number {
     PJ_OTHER_VERSION = 20,      /* a stored form whose version byte is not known */
     PJ_CUT_SHORT = 21,          /* it ends before the form does; no bytes at all are that too */
     PJ_LEFT_OVER = 22,          /* bytes are left over after it */
-    PJ_CONTENTS = 23            /* it has contents that pj_set_up would refuse */
+    PJ_CONTENTS = 23            /* it has contents that pj_set_up would refuse, or marks that are not one for each lamp,
+                                   not 0 or 1, or none set where there are lamps */
 };
 
 enum pj_limit {
@@ -94,7 +96,7 @@ enum pj_limit {
     PJ_ERRORS = 6,              /* error digits */
     PJ_REPLY_ROOM = 136,        /* the least memory for pj_open and pj_receive; enough to collect any reply */
     PJ_COMMAND_ROOM = 168,      /* the least memory for pj_write */
-    PJ_FORM_MOST = 300          /* bytes of the longest stored form: room for pj_store with every record */
+    PJ_FORM_MOST = 309          /* bytes of the longest stored form: room for pj_store with every record */
 };
 
 enum pj_phase {                 /* of a connection */
@@ -146,6 +148,8 @@ typedef struct {
     bool video_muted, audio_muted, fault;
     uint8_t errors[PJ_ERRORS];              /* numbers 0 to 2: fan, lamp, temperature, cover, filter, other */
     uint32_t lamps[PJ_LAMPS_MOST];          /* seconds */
+    bool enabled[PJ_LAMPS_MOST];            /* each lamp's mark: without it the lamp stays dark; at least one is set
+                                               where there are lamps, and none past them */
 } pj_own;
 
 typedef struct {
@@ -184,7 +188,7 @@ typedef struct {
      STORAGE, NETWORK) and a number '1' to '9'; inputs_len counts the characters. The first one is chosen.
    - Lamps: 0 to PJ_LAMPS_MOST, with the seconds that each has burnt, at most PJ_LAMP_MOST. The archive keeps
      nothing: a host saves own.lamps where a loss of power leaves them (every minute, say) and hands them in here at
-     the next start.
+     the next start. Each lamp's mark is set: a host that had cleared some clears them again, by pj_set_mark.
    - Warm-up and cooling: 1 to PJ_WARM_COOL_MOST seconds each.
    Refuses a password of 1 to 7 letters and digits with PJ_SHORT_PASSWORD where all else is in range, and before that
    anything else with PJ_OUT_OF_RANGE; pj_which_setting tells which it was. */
@@ -237,11 +241,11 @@ pj_changed pj_close(pj_device d, size_t place);
 CEILING_KEEP
 pj_received pj_receive(pj_device d, size_t place, const uint8_t *bytes, size_t len, uint8_t *out, size_t out_len);
 
-/* Lets seconds pass, any number at once, for the projector and each of its places: lamps burn, warm-up and cooling end,
-   and a connection that is awaiting or failed is closed when its age reaches PJ_WAIT_MOST seconds. Nothing is sent for
-   that: where connections[place].phase is PJ_PHASE_CLOSED afterwards, the host closes that place's socket. An open
-   connection never times out, so an idle peer holds its place until the host calls pj_close. Count the seconds by a
-   clock that nobody sets (CLOCK_MONOTONIC), and keep what is left of a second for the next call.
+/* Lets seconds pass, any number at once, for the projector and each of its places: enabled lamps burn, warm-up and
+   cooling end, and a connection that is awaiting or failed is closed when its age reaches PJ_WAIT_MOST seconds. Nothing
+   is sent for that: where connections[place].phase is PJ_PHASE_CLOSED afterwards, the host closes that place's socket.
+   An open connection never times out, so an idle peer holds its place until the host calls pj_close. Count the seconds
+   by a clock that nobody sets (CLOCK_MONOTONIC), and keep what is left of a second for the next call.
    Refuses with PJ_NOT_LEGAL. */
 CEILING_KEEP
 pj_changed pj_pass(pj_device d, uint32_t seconds);
@@ -261,28 +265,39 @@ pj_changed pj_set_fault(pj_device d, bool mark);
 CEILING_KEEP
 pj_changed pj_set_errors(pj_device d, const uint8_t *digits, size_t count);
 
+/* Sets or clears a lamp's mark, and nothing else: lamps are numbered from 0. In warm-up and power-on only a lamp with
+   its mark gains seconds and shows as lit. Setting a mark that is set, or clearing one that is clear, is served and
+   changes nothing.
+   Refuses with PJ_NOT_LEGAL, then with PJ_OUT_OF_RANGE a lamp that there is not and clearing the last mark that is
+   set, then with PJ_NOT_OFF where the power is not off: in warm-up, power-on and cooling. */
+CEILING_KEEP
+pj_changed pj_set_mark(pj_device d, size_t lamp, bool enabled);
+
 /* Tells whether the record is one that the other calls serve. Every record that a call gave with PJ_SERVED is; this
    is for one that was stored elsewhere, and may have been damaged. Refuses nothing. */
 bool pj_legal(pj_device d);
 
-/* The stored form: settings that survive a board swap. It is bytes, the same on every processor: the version byte 1,
-   then seven sections, each after its count in one byte: name, maker, model, other information and password (count of
-   bytes), inputs (count of inputs, two ASCII digits each), lamps (count of lamps, the seconds of each as four bytes);
-   last warm-up and cooling as two bytes each. Every number has its highest byte first. One set-up has one form. */
+/* The stored form: settings that survive a board swap. It is bytes, the same on every processor: the version byte 2,
+   then eight sections, each after its count in one byte: name, maker, model, other information and password (count of
+   bytes), inputs (count of inputs, two ASCII digits each), lamps (count of lamps, the seconds of each as four bytes),
+   marks (count of lamps again, 0 or 1 for each as one byte); last warm-up and cooling as two bytes each. Every number
+   has its highest byte first. One set-up with its marks has one form. Version 1 is the same without the marks: it is
+   read still, and not written any more. */
 
 typedef struct {
     uint32_t number;
     size_t length;                          /* of what was written: of a line with its CR */
 } pj_written;
 
-/* Writes the stored form of the record to the start of the lent memory: its settings, and each lamp's seconds as they
-   are now. Power, mutes, faults and connections are not stored. Store at every stop, and as often as own.lamps would
-   be saved.
+/* Writes the stored form of the record, of version 2, to the start of the lent memory: its settings, and each lamp's
+   seconds and mark as they are now. Power, mutes, faults and connections are not stored. Store at every stop, and as
+   often as own.lamps would be saved.
    Refuses with PJ_NOT_LEGAL, then with PJ_NO_ROOM memory shorter than this form; PJ_FORM_MOST bytes always suffice. */
 pj_written pj_store(pj_device d, uint8_t *out, size_t out_len);
 
 /* Makes the record of the projector whose stored form is lent: pj_set_up with the settings and the lamps' seconds in
-   it, so off, with every place closed. The bytes are the form's, all of them and no others.
+   it, so off, with every place closed; the marks are the form's, and all set where it is of version 1. The bytes are
+   the form's, all of them and no others.
    Refuses with PJ_OTHER_VERSION, PJ_CUT_SHORT, PJ_LEFT_OVER or PJ_CONTENTS. */
 CEILING_KEEP
 pj_changed pj_load(const uint8_t *bytes, size_t len);
@@ -535,14 +550,14 @@ CEILING_IS(offsetof(pj_settings, cool) == 444);
 CEILING_IS(sizeof(pj_line) == 184 && offsetof(pj_line, held) == 8 && offsetof(pj_line, bytes) == 16);
 CEILING_IS(sizeof(pj_connection) == 200 && offsetof(pj_connection, age) == 4);
 CEILING_IS(offsetof(pj_connection, random) == 8 && offsetof(pj_connection, line) == 16);
-CEILING_IS(sizeof(pj_own) == 64 && offsetof(pj_own, left) == 4 && offsetof(pj_own, chosen) == 8);
+CEILING_IS(sizeof(pj_own) == 72 && offsetof(pj_own, left) == 4 && offsetof(pj_own, chosen) == 8);
 CEILING_IS(offsetof(pj_own, video_muted) == 16 && offsetof(pj_own, audio_muted) == 17 && offsetof(pj_own, fault) == 18);
-CEILING_IS(offsetof(pj_own, errors) == 19 && offsetof(pj_own, lamps) == 28);
-CEILING_IS(sizeof(pj_device) == 1312 && offsetof(pj_device, own) == 448 && offsetof(pj_device, connections) == 512);
-CEILING_IS(sizeof(pj_changed) == 1320 && offsetof(pj_changed, device) == 8);
-CEILING_IS(sizeof(pj_opened) == 1336 && offsetof(pj_opened, length) == 8 && offsetof(pj_opened, place) == 16);
+CEILING_IS(offsetof(pj_own, errors) == 19 && offsetof(pj_own, lamps) == 28 && offsetof(pj_own, enabled) == 60);
+CEILING_IS(sizeof(pj_device) == 1320 && offsetof(pj_device, own) == 448 && offsetof(pj_device, connections) == 520);
+CEILING_IS(sizeof(pj_changed) == 1328 && offsetof(pj_changed, device) == 8);
+CEILING_IS(sizeof(pj_opened) == 1344 && offsetof(pj_opened, length) == 8 && offsetof(pj_opened, place) == 16);
 CEILING_IS(offsetof(pj_opened, device) == 24);
-CEILING_IS(sizeof(pj_received) == 1336 && offsetof(pj_received, taken) == 8);
+CEILING_IS(sizeof(pj_received) == 1344 && offsetof(pj_received, taken) == 8);
 CEILING_IS(offsetof(pj_received, length) == 16 && offsetof(pj_received, device) == 24);
 CEILING_IS(sizeof(pj_digest) == 16);
 CEILING_IS(sizeof(pj_command) == 3 && offsetof(pj_command, first) == 1 && offsetof(pj_command, second) == 2);

@@ -13,7 +13,7 @@ ghost use Rattle.text.specs.Words.{over};
 ghost use Rattle.record.specs.Legal.{isLegal};
 ghost use Rattle.record.specs.Wanted.{wantedOf};
 ghost use Rattle.record.specs.SetUp.{setUp};
-ghost use Rattle.record.specs.HostCalls.{faultSet, errorsSet};
+ghost use Rattle.record.specs.HostCalls.{faultSet, errorsSet, markSet};
 ghost use Rattle.device.specs.Calls.{received, openedBy, placeTaken, closedBy};
 ghost use Rattle.device.specs.Calls.{toldReceived, toldOpened, toldChanged};
 
@@ -84,6 +84,13 @@ pub extern "C" fn pj_set_errors(d: Device, digits: &[u8]) -> Changed
     ensures { λ r. ⌜ r ≡ errorsSet d (now (digits .entry)) ⌝ }
 {
     host::set_errors(d, digits)
+}
+
+#[no_mangle]
+pub extern "C" fn pj_set_mark(d: Device, lamp: usize, enabled: bool) -> Changed
+    ensures { λ r. ⌜ r ≡ markSet d lamp enabled ⌝ }
+{
+    host::set_mark(d, lamp, enabled)
 }
 
 #[no_mangle]

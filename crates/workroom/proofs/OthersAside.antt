@@ -11,8 +11,8 @@ use Rattle.record.specs.Places.{connectionAt, isShut, lowestShut}
 use Rattle.record.specs.declared.types.Device.{Device}
 use Rattle.record.proofs.LegalTold.{legal-places}
 use Rattle.record.proofs.ConnectionsTold.{placed-elsewhere}
-use Rattle.record.proofs.Calls.{fault-set-by, errors-set-by}
-use Rattle.record.proofs.HostKept.{fault-legal, errors-legal}
+use Rattle.record.proofs.Calls.{fault-set-by, errors-set-by, mark-set-by}
+use Rattle.record.proofs.HostKept.{fault-legal, errors-legal, mark-legal}
 use Rattle.device.specs.Calls.{openedBy}
 use Rattle.device.proofs.Cases.{opened-by}
 use Rattle.device.proofs.Legal.{receiving-legal, opening-legal, closing-legal}
@@ -62,5 +62,11 @@ module _ (p : ℕ) (d : Device) (legal : isLegal d ≡ true) where
       device = errors-legal d legal digits;
       connection = errors-set-by d (λ r. connectionAt (r .device) p ≡ connectionAt d p) digits refl refl
           (λ known six. refl);
+    };
+    marks = λ lamp mark. record {
+      settings = mark-set-by d (λ r. r .device .settings ≡ d .settings) lamp mark (λ n z. refl) (λ h i l k. refl);
+      device = mark-legal d legal lamp mark;
+      connection = mark-set-by d (λ r. connectionAt (r .device) p ≡ connectionAt d p) lamp mark (λ n z. refl)
+          (λ h i l k. refl);
     };
   }

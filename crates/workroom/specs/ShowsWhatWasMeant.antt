@@ -30,7 +30,7 @@ use mathlib.Core.List.{List, [], _∷_}
 use Rattle.record.specs.Limits.{placesCount, ageEnd, awaiting, opened}
 use Rattle.record.specs.Legal.{isLegal}
 use Rattle.record.specs.Places.{connectionAt, isShut, lowestShut}
-use Rattle.record.specs.HostCalls.{faultSet, errorsSet}
+use Rattle.record.specs.HostCalls.{faultSet, errorsSet, markSet}
 use Rattle.record.specs.declared.types.Own.{Own}
 use Rattle.record.specs.declared.types.Connection.{Connection}
 use Rattle.record.specs.declared.types.Device.{Device}
@@ -140,6 +140,7 @@ pub record OthersAside (p : ℕ) (d : Device) : Type 0 where
   pub opening : (random room : ℕ) → isShut (connectionAt d p) ≡ false → Aside p d (openedBy d random room .device)
   pub fault : (mark : Bool) → Aside p d (faultSet d mark .device)
   pub errors : (digits : List ℕ) → Aside p d (errorsSet d digits .device)
+  pub marks : (lamp : ℕ) (mark : Bool) → Aside p d (markSet d lamp mark .device)
 
 pub record ShowsWhatWasMeant (P : AnyPanel) : Type 0 where
   -- a projector just added, with the password of a device that has a free place: "unknown at first"
