@@ -1,6 +1,6 @@
 /* A host: it keeps one projector, feeds it bytes in odd cuts as a network would, lets time pass, and asks as a
    controller; service compares two tables of lamp seconds, the board is swapped, four controllers are connected at
-   once, and a cutting day is planned and checked. Every number that a call gives is tested before anything else of its
+   once, one lamp burns while the other rests, and a cutting day is planned and checked. Every number that a call gives is tested before anything else of its
    result is used. What it must print, by the rules of documents 01 and 02, is in host.stdout: `0 < LINE` is a reply to
    the controller at place 0. */
 #include <stdio.h>
@@ -213,6 +213,30 @@ static void four_controllers(void) {
     printf("at the places: %s, %s, %s, %s\n", peers[0], peers[1], peers[2], peers[3]);
 }
 
+/* One lamp burns and the other rests. Which, the host says while the power is off. */
+static void one_lamp(void) {
+    set(0, PJ_POWR_SET, 0);
+    pj_changed marked = pj_set_mark(device, 1, false);
+    printf("while cooling: refused %d\n", marked.number == PJ_NOT_OFF);
+    wait_for(60);
+    marked = pj_set_mark(device, 1, false);
+    served(marked.number, "pj_set_mark");
+    device = marked.device;
+    printf("the last mark: refused %d\n", pj_set_mark(device, 0, false).number == PJ_OUT_OF_RANGE);
+    set(0, PJ_POWR_SET, 1);
+    pass(3560);
+    print_lamps(0);
+    printf("burnt: %u s, %u s\n", (unsigned)device.own.lamps[0], (unsigned)device.own.lamps[1]);
+
+    /* the marks are in the stored form, and loaded with it */
+    uint8_t form[PJ_FORM_MOST];
+    pj_written stored = pj_store(device, form, sizeof form);
+    served(stored.number, "pj_store");
+    pj_changed loaded = pj_load(form, stored.length);
+    served(loaded.number, "pj_load");
+    printf("loaded: marks %d %d\n", loaded.device.own.enabled[0], loaded.device.own.enabled[1]);
+}
+
 static void one_day(void) {
     /* three jobs, of which the first two overlap, on two rigs; the last may use rig 0 alone (bit 0) */
     const uint32_t starts[] = {600, 1200, 9000}, lengths[] = {3600, 1800, 7200};
@@ -244,6 +268,7 @@ int main(void) {
     one_projector();
     board_swap();
     four_controllers();
+    one_lamp();
     one_day();
     return 0;
 }

@@ -58,6 +58,7 @@ CALL(call_pass, { device = pj_pass(device, 4294967295u).device; })
 CALL(call_pass_in_place, { sink = pj_pass_in_place(&device, 1); })
 CALL(call_set_fault, { device = pj_set_fault(device, true).device; })
 CALL(call_set_errors, { device = pj_set_errors(device, message, 6).device; })
+CALL(call_set_mark, { device = pj_set_mark(device, 1, false).device; })
 CALL(call_legal, { sink = pj_legal(device); })
 CALL(call_close, { device = pj_close(device, 0).device; })
 CALL(call_md5, { sink = pj_md5(message, sizeof message).bytes[0]; })
@@ -89,6 +90,7 @@ int main(void) {
     device = pj_open(device, 1, out, sizeof out).device;
     line = "%1LAMP ?\r";
     measure("pj_receive, %1LAMP ?", call_receive);
+    measure("pj_set_mark", call_set_mark); /* while it is off */
     line = "%1POWR 1\r";
     measure("pj_receive, %1POWR 1", call_receive);
     device = pj_pass(device, 600).device;

@@ -64,7 +64,7 @@ static void put_slice(slice s) {
     DO((d).settings.warm) DO((d).settings.cool)                                                                        \
     DO((d).own.power) DO((d).own.left) DO((d).own.chosen)                                                              \
     DO((d).own.video_muted) DO((d).own.audio_muted) DO((d).own.fault)                                                  \
-    DO((d).own.errors) DO((d).own.lamps)
+    DO((d).own.errors) DO((d).own.lamps) DO((d).own.enabled)
 #define EACH_OF_CONNECTION(DO, c)                                                                                      \
     DO((c).phase) DO((c).age) DO((c).random) DO((c).line.overlong) DO((c).line.held) DO((c).line.bytes)
 
@@ -199,6 +199,14 @@ static void set_fault(pj_device d) {
 static void set_errors(pj_device d) {
     slice digits = get_slice();
     put_changed(pj_set_errors(d, digits.at, digits.n));
+}
+
+static void set_mark(pj_device d) {
+    size_t lamp;
+    bool enabled;
+    GET(lamp);
+    GET(enabled);
+    put_changed(pj_set_mark(d, lamp, enabled));
 }
 
 static void legal(pj_device d) {
@@ -358,6 +366,7 @@ static void make_call(void) {
     case 21: command_of_panel(); break;
     case 22: line_to_panel(); break;
     case 23: lost_to_panel(); break;
+    case 24: set_mark(d); break;
     default: exit(EXIT_FAILURE);
     }
 }

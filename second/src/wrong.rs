@@ -72,6 +72,7 @@ mod tests {
             ("pj_pass_in_place", "served !1"),
             ("pj_set_fault", "served !1"),
             ("pj_set_errors", "served !1 !3"),
+            ("pj_set_mark", "served !1 !3 !7"),
             ("pj_legal", "true false"),
             ("pj_store", "served !1 !2"),
             ("pj_load", "served !20 !21 !22 !23"),

@@ -19,6 +19,7 @@ pub fn history(random: &mut Random) -> Case {
             1 => Act::Close { place: random.below(PLACES) },
             2 | 3 => Act::Pass { seconds: random.pick(&[1, 1, 2, 14, 15, 28, 29, 30, 31, 600]) },
             4 => Act::PassInPlace { seconds: random.pick(&[1, 2, 29, 30, 600, 3600]) },
+            5 if random.one_in(3) => Act::SetMark { lamp: random.below(4), enabled: random.one_in(2) },
             5 if random.one_in(2) => Act::SetFault { mark: random.one_in(3) },
             5 => Act::SetErrors { digits: error_digits(random) },
             6 => histories::act(random, &device),

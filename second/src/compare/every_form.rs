@@ -1,6 +1,6 @@
 //! Stored forms (02, L3) that leave nothing to chance. `forms` has the random ones.
 
-use super::forms::{common, least, most, of};
+use super::forms::{common, least, most, of, old};
 use super::random::Random;
 use super::setups::all_inputs;
 use crate::face::{Act, Device, Lent};
@@ -8,12 +8,11 @@ use crate::reference::calls;
 use crate::reference::rules::unmistaken;
 use crate::reference::set_up::LAMP_LIMIT;
 
-/// Of three forms: each byte replaced, each prefix, bytes left over, each version. Then each count with all that it
+/// Of three forms, in both versions: each byte replaced, each prefix, bytes left over, each version. Then each count with all that it
 /// counts, each character of an input, numbers at their edges.
 pub fn loads(random: &mut Random) -> Vec<Vec<u8>> {
     let mut all = vec![Vec::new()];
-    for lent in [least(), common(), most()] {
-        let form = of(&lent);
+    for form in [least(), common(), most()].iter().flat_map(|lent| [of(lent), old(lent)]) {
         (0..=form.len()).for_each(|end| all.push(form[..end].to_vec()));
         for place in 0..form.len() {
             all.extend(other_bytes(form[place]).into_iter().map(|byte| with_byte(&form, place, byte)));
@@ -115,8 +114,10 @@ pub fn long_loads(random: &mut Random) -> Vec<Vec<u8>> {
     vec![
         [of(&common()), rubbish.clone()].concat(),
         [&[1], &rubbish[..]].concat(),
+        [&[2], &rubbish[..]].concat(),
         rubbish,
         [&[1], &vec![0xFF; length][..]].concat(),
+        [&[2], &vec![0xFF; length][..]].concat(),
         vec![1; length],
         vec![0; length],
     ]

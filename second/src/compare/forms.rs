@@ -4,7 +4,7 @@
 use super::random::Random;
 use super::{records, setups};
 use crate::face::{Act, Device, Lent};
-use crate::reference::form::{LONGEST, written};
+use crate::reference::form::{LONGEST, Stored, written};
 use crate::reference::rules::unmistaken;
 use crate::reference::set_up::{LAMP_LIMIT, MOST_INPUTS};
 use crate::reference::swap;
@@ -12,12 +12,23 @@ use crate::reference::swap;
 /// Enough memory for every form.
 pub const ROOM: usize = LONGEST;
 
-/// The sections of a form: how many there are, and what one of each one's count takes.
-const SIZES: [usize; 7] = [1, 1, 1, 1, 1, 2, 4];
+/// The sections of a form: how many there are, and what one of each one's count takes. The last, the marks, are not in
+/// version 1.
+const SIZES: [usize; 8] = [1, 1, 1, 1, 1, 2, 4, 1];
 
-/// The form of settings, legal or not, whatever mistake is made.
+/// The form of settings, legal or not, with every mark set, whatever mistake is made.
 pub fn of(lent: &Lent) -> Vec<u8> {
-    unmistaken(|| written(lent))
+    marked(lent, &vec![1; lent.lamps.len()])
+}
+
+/// With these bytes for marks, legal or not.
+pub fn marked(lent: &Lent, marks: &[u8]) -> Vec<u8> {
+    unmistaken(|| written(&Stored { lent: lent.clone(), marks: Some(marks.to_vec()) }))
+}
+
+/// Of version 1, which has no marks.
+pub fn old(lent: &Lent) -> Vec<u8> {
+    unmistaken(|| written(&Stored { lent: lent.clone(), marks: None }))
 }
 
 /// The shortest form that there is.
@@ -58,7 +69,8 @@ pub fn most() -> Lent {
 /// Where the counts of a form stand, as far as it goes.
 fn counts(form: &[u8]) -> Vec<usize> {
     let mut places = vec![1];
-    for size in SIZES {
+    let sections = if form.first() == Some(&1) { 7 } else { 8 };
+    for size in &SIZES[..sections] {
         let here = places[places.len() - 1];
         match form.get(here) {
             Some(&count) if here + 1 < form.len() => places.push(here + 1 + size * usize::from(count)),
@@ -97,7 +109,7 @@ pub fn load(random: &mut Random, device: &Device) -> Act {
         Some(own) if !random.one_in(4) => own,
         _ => of(&setups::any(random)),
     };
-    match random.below(20) {
+    match random.below(24) {
         0..=6 => (),
         7 => bytes = of(&setups::any(random)),
         8 => random.damage(&mut bytes),
@@ -108,9 +120,9 @@ pub fn load(random: &mut Random, device: &Device) -> Act {
             bytes.extend(random.bytes_from(0, length));
         }
         12 | 13 => change_count(random, &mut bytes),
-        14 => bytes[0] = random.pick(&[0, 2, 3, 4, 49, 129, 255]),
+        14 => bytes[0] = random.pick(&[0, 1, 3, 4, 50, 130, 255]),
         15 => {
-            bytes[0] = random.pick(&[0, 2, 255]);
+            bytes[0] = random.pick(&[0, 1, 3, 255]);
             random.damage(&mut bytes);
         }
         16 => bytes = rubbish(random),
@@ -124,12 +136,37 @@ pub fn load(random: &mut Random, device: &Device) -> Act {
             bytes = of(&Lent { cool: random.pick(&[0, 601, 256]), ..wrong });
             bytes.push(random.byte());
         }
+        19..=21 => bytes = any_marks(random),
         _ => {
             let place = random.below(bytes.len());
             bytes[place] = random.byte();
         }
     }
     Act::Load { bytes }
+}
+
+/// Marks of any kind, as many as lamps or nearly; or a form of version 1, as it is or with something wrong.
+fn any_marks(random: &mut Random) -> Vec<u8> {
+    let lent = if random.one_in(3) { setups::any(random) } else { setups::legal(random) };
+    if random.one_in(3) {
+        let mut bytes = old(&lent);
+        if random.one_in(2) {
+            random.damage(&mut bytes);
+        }
+        return bytes;
+    }
+    let highest = random.pick(&[0, 1, 1, 1, 2, 255]);
+    let mut marks: Vec<u8> = lent.lamps.iter().map(|_| random.from_to(0, highest) as u8).collect();
+    match random.below(8) {
+        0 => drop(marks.pop()),
+        1 => marks.push(1),
+        _ => (),
+    }
+    let mut bytes = marked(&lent, &marks);
+    if random.one_in(6) {
+        bytes.truncate(bytes.len() - random.from_to(1, 6));
+    }
+    bytes
 }
 
 /// One count that is not what stands after it.
@@ -142,11 +179,11 @@ fn change_count(random: &mut Random, form: &mut [u8]) {
 
 /// Bytes of several lengths, mostly with a version that is known.
 fn rubbish(random: &mut Random) -> Vec<u8> {
-    let length = random.pick(&[1, 2, 7, 13, 14, 15, 60, 268, 299, 300, 301, 1000, 2817, 4096]);
+    let length = random.pick(&[1, 2, 7, 14, 15, 16, 60, 268, 308, 309, 310, 1000, 2817, 4096]);
     let highest = random.pick(&[0, 3, 40, 255]);
     let mut bytes: Vec<u8> = (0..length).map(|_| random.from_to(0, highest) as u8).collect();
     if !random.one_in(4) {
-        bytes[0] = 1;
+        bytes[0] = random.pick(&[1, 2]);
     }
     bytes
 }

@@ -28,6 +28,9 @@ pub fn act(random: &mut Random, device: &Device) -> Act {
     if random.one_in([2, 3, 4, 6, 12][taken]) {
         return Act::Open { random: any_random(random), lent: random.reply_memory(136) };
     }
+    if random.one_in(if device.own.power == 0 { 8 } else { 64 }) {
+        return Act::SetMark { lamp: lamp(random, device), enabled: random.one_in(2) };
+    }
     let place = place(random, device);
     let here = place.min(PLACES - 1);
     match random.below(32) {
@@ -53,6 +56,15 @@ pub fn act(random: &mut Random, device: &Device) -> Act {
             Act::Receive { place, bytes, lent: random.memory(136) }
         }
         _ => Act::Receive { place, bytes: lines::line(random, device, here), lent: random.reply_memory(136) },
+    }
+}
+
+/// One that there is, more often than not.
+fn lamp(random: &mut Random, device: &Device) -> usize {
+    match random.below(10) {
+        0 => random.pick(NO_PLACES),
+        1 => random.below(10),
+        _ => random.below(device.settings.lamp_count.clamp(1, 8)),
     }
 }
 

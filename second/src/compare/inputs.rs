@@ -98,9 +98,9 @@ mod tests {
         for (count, section) in
             [(16, &b"\x1011121314151617181921222324252627"[..]), (17, b"\x111112131415161718192122232425262728")]
         {
-            let form = forms::of(&with(count));
+            let form = forms::old(&with(count));
             assert_eq!(&form[before..form.len() - after], section);
-            assert_eq!(form[..before], forms::of(&with(1))[..before]);
+            assert_eq!(form[..before], forms::old(&with(1))[..before]);
             assert_eq!(form[0], 1);
         }
     }

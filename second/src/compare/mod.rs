@@ -3,6 +3,7 @@
 pub mod controllers;
 pub mod days;
 pub mod every_form;
+pub mod every_mark;
 pub mod every_panel;
 pub mod every_place;
 pub mod forms;
@@ -82,6 +83,7 @@ impl<'a, B: Side> Run<'a, B> {
         self.every_input()?;
         self.every_panel()?;
         self.every_place()?;
+        self.every_mark()?;
         while self.agreed < ENOUGH {
             self.round()?;
         }
@@ -182,6 +184,10 @@ impl<'a, B: Side> Run<'a, B> {
 
     fn every_panel(&mut self) -> Compared {
         every_panel::calls(&mut self.random).into_iter().try_for_each(|act| self.compare_call(Device::BLANK, act))
+    }
+
+    fn every_mark(&mut self) -> Compared {
+        every_mark::cases(&mut self.random).into_iter().try_for_each(|case| self.compare(case))
     }
 
     fn every_place(&mut self) -> Compared {

@@ -22,6 +22,11 @@ pub fn legal(random: &mut Random) -> Device {
     own.audio_muted = random.one_in(2);
     own.fault = random.one_in(8);
     own.errors = std::array::from_fn(|_| random.below(3) as u8);
+    if device.settings.lamp_count > 0 && random.one_in(2) {
+        let kept = random.below(device.settings.lamp_count);
+        let marks = &mut own.enabled[..device.settings.lamp_count];
+        marks.iter_mut().enumerate().for_each(|(lamp, mark)| *mark = lamp == kept || random.one_in(2));
+    }
     let alone = random.below(PLACES);
     let temper = random.below(4);
     for place in 0..PLACES {
@@ -109,7 +114,7 @@ pub fn damaged(random: &mut Random) -> Device {
 
 /// How many fields `damage` knows: those of settings and own part, then those of each place's connection.
 pub const FIELDS: usize = SHARED + PLACES * OF_A_PLACE;
-const SHARED: usize = 16;
+const SHARED: usize = 18;
 const OF_A_PLACE: usize = 8;
 
 /// Replaces one field, of those that a record has, in their order.
@@ -144,6 +149,11 @@ pub fn damage(random: &mut Random, device: &mut Device, field: usize) {
         13 => own.chosen = count(random, own.chosen, settings.input_count),
         14 => own.errors[random.below(6)] = code(random),
         15 => own.lamps[random.below(8)] = random.pick(&[0, 1, 359_999_999, 360_000_000, u32::MAX]),
+        16 => {
+            let lamp = random.below(8);
+            own.enabled[lamp] = !own.enabled[lamp];
+        }
+        17 => own.enabled = [random.one_in(4); 8],
         _ => {
             let (place, field) = ((field - SHARED) / OF_A_PLACE, (field - SHARED) % OF_A_PLACE);
             damage_connection(random, &mut device.connections[place], field);

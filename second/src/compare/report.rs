@@ -68,6 +68,7 @@ fn call(act: &Act) -> String {
         Act::PassInPlace { seconds } => format!("pj_pass_in_place({seconds})"),
         Act::SetFault { mark } => format!("pj_set_fault({mark})"),
         Act::SetErrors { digits } => format!("pj_set_errors({digits:?})"),
+        Act::SetMark { lamp, enabled } => format!("pj_set_mark({lamp}, {enabled})"),
         Act::Legal => "pj_legal()".to_string(),
         Act::Store { lent } => format!("pj_store({})", memory(lent)),
         Act::Load { bytes } => format!("pj_load({})", quoted(bytes)),

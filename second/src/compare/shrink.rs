@@ -95,9 +95,15 @@ fn plainer_records(device: &Device) -> impl Iterator<Item = Device> {
         let fewer = d.settings.lamp_count.saturating_sub(1).min(7);
         d.settings.lamp_count = fewer;
         d.own.lamps[fewer] = 0;
+        d.own.enabled[fewer] = false;
     });
+    change(&|d| (0..8).for_each(|lamp| d.own.enabled[lamp] = lamp < d.settings.lamp_count));
     if device.own.lamps[0] == 0 {
         change(&|d| d.own.lamps.rotate_left(1));
+        change(&|d| {
+            d.own.lamps.rotate_left(1);
+            d.own.enabled.rotate_left(1);
+        });
     }
     for place in 0..8 {
         lower(device.own.lamps[place]).for_each(|seconds| change(&|d| d.own.lamps[place] = seconds));
@@ -155,6 +161,9 @@ fn simpler(act: &Act) -> Vec<Act> {
         Act::PassInPlace { seconds } => {
             let by_value = Act::Pass { seconds: *seconds };
             [by_value].into_iter().chain(lower(*seconds).map(|seconds| Act::PassInPlace { seconds })).collect()
+        }
+        Act::SetMark { lamp, enabled } => {
+            lower_places(*lamp).map(|lamp| Act::SetMark { lamp, enabled: *enabled }).collect()
         }
         Act::SetErrors { digits } => simpler_bytes(digits).map(|digits| Act::SetErrors { digits }).collect(),
         Act::Store { lent } => memories(lent).map(|lent| Act::Store { lent }).collect(),
@@ -216,9 +225,18 @@ fn simpler_set_ups(lent: &Lent) -> Vec<Lent> {
 /// The form of simpler settings, with what is left over after it, or shorter bytes; of what is no form, simpler bytes.
 fn simpler_forms(bytes: &[u8]) -> Vec<Vec<u8>> {
     match unmistaken(|| form::read(bytes)) {
-        Ok((lent, left_over)) => {
-            let simpler = simpler_set_ups(&lent).into_iter().map(|lent| [&forms::of(&lent)[..], left_over].concat());
+        Ok((form::Stored { lent, marks: None }, left_over)) => {
+            let simpler = simpler_set_ups(&lent).into_iter().map(|lent| [&forms::old(&lent)[..], left_over].concat());
             simpler.chain(shorter(bytes)).collect()
+        }
+        Ok((form::Stored { lent, marks: Some(marks) }, left_over)) => {
+            let form = |lent: &Lent, marks: &[u8]| [&forms::marked(lent, marks)[..], left_over].concat();
+            let fewer = |lent: &Lent| marks[..marks.len().min(lent.lamps.len())].to_vec();
+            let simpler = simpler_set_ups(&lent).into_iter().flat_map(|lent| {
+                let fewer = form(&lent, &fewer(&lent));
+                [fewer, form(&lent, &marks)]
+            });
+            simpler.chain(shorter(&marks).map(|marks| form(&lent, &marks))).chain(shorter(bytes)).collect()
         }
         Err(_) => simpler_bytes(bytes).collect(),
     }

@@ -51,6 +51,7 @@ fn call(act: &Act) -> &'static str {
         Act::PassInPlace { .. } => "pj_pass_in_place",
         Act::SetFault { .. } => "pj_set_fault",
         Act::SetErrors { .. } => "pj_set_errors",
+        Act::SetMark { .. } => "pj_set_mark",
         Act::Legal => "pj_legal",
         Act::Store { .. } => "pj_store",
         Act::Load { .. } => "pj_load",

@@ -47,6 +47,10 @@ pub enum Act {
     SetErrors {
         digits: Vec<u8>,
     },
+    SetMark {
+        lamp: usize,
+        enabled: bool,
+    },
     Legal,
     Store {
         lent: Vec<u8>,

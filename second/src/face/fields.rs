@@ -41,7 +41,7 @@ macro_rules! records {
 records! {
     Text { len, bytes }
     Settings { name, maker, model, other, password, input_count, inputs, lamp_count, warm, cool }
-    Own { power, left, chosen, video_muted, audio_muted, fault, errors, lamps }
+    Own { power, left, chosen, video_muted, audio_muted, fault, errors, lamps, enabled }
     Line { overlong, held, bytes }
     Connection { phase, age, random, line }
     Device { settings, own, connections }

@@ -59,6 +59,7 @@ unsafe extern "C" {
     fn pj_pass_in_place(device: *mut Device, seconds: u32) -> u32;
     fn pj_set_fault(device: Device, mark: bool) -> Changed;
     fn pj_set_errors(device: Device, digits: *const u8, length: usize) -> Changed;
+    fn pj_set_mark(device: Device, lamp: usize, enabled: bool) -> Changed;
     fn pj_legal(device: Device) -> bool;
     fn pj_md5(bytes: *const u8, length: usize) -> Digest;
     fn pj_write(
@@ -139,6 +140,10 @@ pub fn set_errors(device: Device, digits: &[u8]) -> Changed {
     unsafe { pj_set_errors(device, digits.as_ptr(), digits.len()) }
 }
 
+pub fn set_mark(device: Device, lamp: usize, enabled: bool) -> Changed {
+    unsafe { pj_set_mark(device, lamp, enabled) }
+}
+
 pub fn legal(device: Device) -> bool {
     unsafe { pj_legal(device) }
 }
@@ -199,6 +204,7 @@ impl Side for Board {
             }
             Act::SetFault { mark } => Answer::Changed(set_fault(device, *mark)),
             Act::SetErrors { digits } => Answer::Changed(set_errors(device, digits)),
+            Act::SetMark { lamp, enabled } => Answer::Changed(set_mark(device, *lamp, *enabled)),
             Act::Legal => Answer::Legal(legal(device)),
             Act::Store { lent } => {
                 let mut out = lent.clone();

@@ -69,6 +69,7 @@ pub struct Own {
     pub fault: bool,
     pub errors: [u8; 6],
     pub lamps: [u32; 8],
+    pub enabled: [bool; 8],
 }
 
 #[repr(C)]
@@ -202,6 +203,7 @@ impl Device {
             fault: false,
             errors: [0; 6],
             lamps: [0; 8],
+            enabled: [false; 8],
         },
         connections: [Connection::CLOSED; PLACES],
     };

@@ -125,6 +125,11 @@ pub fn put_act(act: &Act, out: &mut Vec<u8>) {
             7u8.put(out);
             digits.put(out);
         }
+        Act::SetMark { lamp, enabled } => {
+            24u8.put(out);
+            lamp.put(out);
+            enabled.put(out);
+        }
         Act::Legal => 8u8.put(out),
         Act::Store { lent } => {
             17u8.put(out);
@@ -229,6 +234,7 @@ pub fn get_answer(act: &Act, from: &mut &[u8]) -> Answer {
         | Act::PassInPlace { .. }
         | Act::SetFault { .. }
         | Act::SetErrors { .. }
+        | Act::SetMark { .. }
         | Act::Load { .. } => Answer::Changed(Wire::get(from)),
         Act::WhichSetting(_) => Answer::Setting(Wire::get(from)),
         Act::Open { .. } => Answer::Opened(Wire::get(from), Wire::get(from)),

@@ -40,7 +40,7 @@ impl Projector {
         self.age_by_one();
     }
 
-    /// "Warm-up or on: every lamp gains one". "The fault mark changes none of this."
+    /// "Warm-up or on: every lamp gains one"; by 02, L8, "each enabled lamp". "The fault mark changes none of this."
     fn burns(&self) -> bool {
         match self.power {
             _ if self.fault && made(Mistake::FaultStopsTime) => false,
@@ -54,7 +54,18 @@ impl Projector {
     fn burn(&mut self, seconds: u32) {
         let often = if made(Mistake::TimePassesAtEachPlace) { self.taken().max(1) as u32 } else { 1 };
         let seconds = seconds.saturating_mul(often);
-        for lamp in &mut self.lamps {
+        let warm_up = matches!(self.power, Power::WarmUp(_));
+        let first = self.enabled.iter().position(|&enabled| enabled);
+        for (place, lamp) in self.lamps.iter_mut().enumerate() {
+            let burns = match () {
+                _ if made(Mistake::EveryLampBurns) => true,
+                _ if made(Mistake::EveryLampWarmsUp) && warm_up => true,
+                _ if made(Mistake::OneLampBurns) => Some(place) == first,
+                _ => self.enabled[place],
+            };
+            if !burns {
+                continue;
+            }
             let stopped = lamp.saturating_add(seconds).min(LAMP_LIMIT);
             *lamp = if made(Mistake::LampNotStopped) { lamp.wrapping_add(seconds) } else { stopped };
         }

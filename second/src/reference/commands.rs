@@ -162,7 +162,7 @@ impl Projector {
                 (false, false) => b"30".to_vec(),
             },
             Body::Erst => self.errors.iter().map(|digit| b'0' + digit).collect(),
-            Body::Lamp => joined_by_spaces(self.lamps.iter().map(|&seconds| self.lamp_answer(seconds))),
+            Body::Lamp => joined_by_spaces(self.told_lamps().map(|lamp| self.lamp_answer(lamp))),
             Body::Inst => {
                 let most = if made(Mistake::SixteenAnswered) { 16 } else { MOST_INPUTS };
                 let inputs = self.set_up.inputs.iter().take(most);
@@ -186,11 +186,18 @@ impl Projector {
         }
     }
 
-    /// "hours, space, 1 (lit) in warm-up or on, else 0". "Hours are seconds divided by 3,600, rounded down; the hours are
+    /// Every lamp, with its mark or without.
+    fn told_lamps(&self) -> impl Iterator<Item = usize> {
+        (0..self.lamps.len()).filter(|&lamp| self.enabled[lamp] || !made(Mistake::UnmarkedLeftOut))
+    }
+
+    /// "hours, space, 1 (lit) in warm-up or on, else 0"; 02, L8: "Only enabled lamps .. show as lit." "Hours are seconds divided by 3,600, rounded down; the hours are
     /// written most significant digit first, no leading zeros."
-    fn lamp_answer(&self, seconds: u32) -> Vec<u8> {
+    fn lamp_answer(&self, lamp: usize) -> Vec<u8> {
+        let seconds = self.lamps[lamp];
         let hours = if made(Mistake::HoursRoundedUp) { seconds.div_ceil(3600) } else { seconds / 3600 };
-        let lit = matches!(self.power, Power::WarmUp(_) | Power::On);
+        let enabled = self.enabled[lamp] || made(Mistake::EveryLampLit);
+        let lit = enabled && matches!(self.power, Power::WarmUp(_) | Power::On);
         let width = if made(Mistake::HoursPadded) { 5 } else { 1 };
         format!("{hours:0width$} {}", u8::from(lit)).into_bytes()
     }

@@ -1,12 +1,16 @@
 //! 02, L3: settings that survive a board swap. "The form is the version byte 1, then sections in a fixed order, each
 //! after its count (of bytes, inputs or lamps) in one byte: name, maker, model, other, password, inputs (two ASCII
-//! digits each), lamps (seconds as four bytes); last W and C as two bytes each; all highest first."
+//! digits each), lamps (seconds as four bytes); last W and C as two bytes each; all highest first." By L8 it "becomes
+//! version 2 with a section of marks, one byte 0 or 1 each, after the lamps; version 1 loads with all set. Each version
+//! has one form; the newest is written."
 
 use super::rules::{Mistake, made};
 use super::set_up::{LONGEST_INFORMATION, LONGEST_NAME, LONGEST_PASSWORD, MOST_INPUTS, MOST_LAMPS, in_range};
 use crate::face;
 
-const VERSION: u8 = 1;
+/// The version without marks, and the one with them.
+const OLD: u8 = 1;
+const NEWEST: u8 = 2;
 /// What one of a section's count takes.
 const BYTE: usize = 1;
 const INPUT: usize = 2;
@@ -19,28 +23,56 @@ pub const CUT_SHORT: u32 = 21;
 pub const LEFT_OVER: u32 = 22;
 pub const CONTENTS: u32 = 23;
 
-/// The version, seven counts, one input, W and C; and with every section as long as 01 allows.
-pub const SHORTEST: usize = 1 + 7 + INPUT + 4;
+/// The version, eight counts, one input, W and C; and with every section as long as 01 allows.
+pub const SHORTEST: usize = 1 + 8 + INPUT + 4;
 pub const LONGEST: usize = SHORTEST - INPUT
     + LONGEST_NAME
     + 3 * LONGEST_INFORMATION
     + LONGEST_PASSWORD
     + INPUT * MOST_INPUTS
-    + LAMP * MOST_LAMPS;
+    + LAMP * MOST_LAMPS
+    + MOST_LAMPS;
 
-/// The form of settings; of ones that no set-up takes, what would stand in their form.
-pub fn written(lent: &face::Lent) -> Vec<u8> {
+/// What stands in a form: what a set-up would be lent, and in version 2 the bytes of its marks.
+#[derive(Clone, PartialEq, Eq, Debug, Default)]
+pub struct Stored {
+    pub lent: face::Lent,
+    pub marks: Option<Vec<u8>>,
+}
+
+/// The form of settings and marks; of ones that no set-up takes, what would stand in their form.
+pub fn written(stored: &Stored) -> Vec<u8> {
+    let Stored { lent, marks } = stored;
+    let marks = marks.as_ref().filter(|marks| !(made(Mistake::OldWritten) && marks.iter().all(|&mark| mark == 1)));
     let lamps: Vec<u8> = lent.lamps.iter().flat_map(|&seconds| highest_first(seconds, LAMP)).collect();
-    let mut form = vec![VERSION];
+    let mut form = vec![if marks.is_some() { NEWEST } else { OLD }];
     for text in [&lent.name, &lent.maker, &lent.model, &lent.other, &lent.password] {
         put_section(&mut form, text, BYTE);
     }
     put_section(&mut form, &lent.inputs, INPUT);
+    let before = made(Mistake::MarksBeforeLamps);
+    if let Some(marks) = marks.filter(|_| before) {
+        put_marks(&mut form, marks);
+    }
     put_section(&mut form, &lamps, LAMP);
+    if let Some(marks) = marks.filter(|_| !before && !made(Mistake::MarksLast)) {
+        put_marks(&mut form, marks);
+    }
     let (first, last) = if made(Mistake::CoolFirst) { (lent.cool, lent.warm) } else { (lent.warm, lent.cool) };
     form.extend(highest_first(first, 2));
     form.extend(highest_first(last, 2));
+    if let Some(marks) = marks.filter(|_| made(Mistake::MarksLast)) {
+        put_marks(&mut form, marks);
+    }
     form
+}
+
+fn put_marks(form: &mut Vec<u8>, marks: &[u8]) {
+    if made(Mistake::MarksInBits) {
+        let bits = marks.iter().enumerate().fold(0, |bits, (lamp, &mark)| bits | (mark & 1) << (lamp % 8));
+        return form.extend([1, bits]);
+    }
+    put_section(form, marks, BYTE);
 }
 
 fn put_section(form: &mut Vec<u8>, bytes: &[u8], size: usize) {
@@ -58,42 +90,71 @@ fn highest_first(number: u32, count: usize) -> Vec<u8> {
     bytes
 }
 
-/// The settings of a form, whatever they are, and the bytes left over after it. "empty input is 21".
-pub fn read(bytes: &[u8]) -> Result<(face::Lent, &[u8]), u32> {
+/// What stands in a form, whatever it is, and the bytes left over after it. "empty input is 21".
+pub fn read(bytes: &[u8]) -> Result<(Stored, &[u8]), u32> {
     let Some((&version, rest)) = bytes.split_first() else {
         return Err(if made(Mistake::EmptyIsOtherVersion) { OTHER_VERSION } else { CUT_SHORT });
     };
-    if version == VERSION || (version == 0 && made(Mistake::VersionZeroTaken)) {
-        return read_sections(rest);
+    match version {
+        OLD if made(Mistake::OldRefused) => Err(OTHER_VERSION),
+        OLD => read_sections(rest, made(Mistake::OldHasMarks)),
+        NEWEST => read_sections(rest, true),
+        0 if made(Mistake::VersionZeroTaken) => read_sections(rest, true),
+        3 if made(Mistake::VersionThreeTaken) => read_sections(rest, true),
+        _ if made(Mistake::VersionLast) && read_sections(rest, true).is_err() => Err(CUT_SHORT),
+        _ => Err(OTHER_VERSION),
     }
-    let cut = made(Mistake::VersionLast) && read_sections(rest).is_err();
-    Err(if cut { CUT_SHORT } else { OTHER_VERSION })
 }
 
-fn read_sections(mut rest: &[u8]) -> Result<(face::Lent, &[u8]), u32> {
-    let mut lent = face::Lent::default();
-    match fill(&mut lent, &mut rest) {
-        Ok(()) => Ok((lent, rest)),
-        Err(_) if made(Mistake::ContentsBeforeEnd) && is_wrong_so_far(&lent) => Err(CONTENTS),
+fn read_sections(mut rest: &[u8], marked: bool) -> Result<(Stored, &[u8]), u32> {
+    let mut stored = Stored::default();
+    match fill(&mut stored, &mut rest, marked) {
+        Ok(()) => Ok((stored, rest)),
+        Err(_) if made(Mistake::ContentsBeforeEnd) && is_wrong_so_far(&stored.lent) => Err(CONTENTS),
         Err(number) => Err(number),
     }
 }
 
 /// The sections in their order, as far as they go.
-fn fill(lent: &mut face::Lent, rest: &mut &[u8]) -> Result<(), u32> {
+fn fill(stored: &mut Stored, rest: &mut &[u8], marked: bool) -> Result<(), u32> {
+    let Stored { lent, marks } = stored;
     lent.name = section(rest, BYTE, LONGEST_NAME)?.to_vec();
     lent.maker = section(rest, BYTE, LONGEST_INFORMATION)?.to_vec();
     lent.model = section(rest, BYTE, LONGEST_INFORMATION)?.to_vec();
     lent.other = section(rest, BYTE, LONGEST_INFORMATION)?.to_vec();
     lent.password = section(rest, BYTE, LONGEST_PASSWORD)?.to_vec();
     lent.inputs = section(rest, INPUT, MOST_INPUTS)?.to_vec();
+    if marked && made(Mistake::MarksBeforeLamps) {
+        *marks = Some(section(rest, BYTE, MOST_LAMPS)?.to_vec());
+    }
     lent.lamps = section(rest, LAMP, MOST_LAMPS)?.chunks(LAMP).map(number).collect();
+    if marked && !made(Mistake::MarksBeforeLamps) && !made(Mistake::MarksLast) {
+        *marks = Some(marks_section(rest, lent.lamps.len())?);
+    }
     lent.warm = number(take(rest, 2)?);
     lent.cool = number(take(rest, 2)?);
+    if marked && made(Mistake::MarksLast) {
+        *marks = Some(section(rest, BYTE, MOST_LAMPS)?.to_vec());
+    }
     if made(Mistake::CoolFirst) {
         (lent.warm, lent.cool) = (lent.cool, lent.warm);
     }
     Ok(())
+}
+
+/// As every section: its own count says how many there are.
+fn marks_section(rest: &mut &[u8], lamps: usize) -> Result<Vec<u8>, u32> {
+    if made(Mistake::MarksNotCounted) {
+        return Ok(take(rest, lamps)?.to_vec());
+    }
+    if made(Mistake::MarksCountBeforeEnd) && rest.first().is_some_and(|&count| usize::from(count) != lamps) {
+        return Err(CONTENTS);
+    }
+    let marks = section(rest, BYTE, MOST_LAMPS)?.to_vec();
+    if made(Mistake::MarksInBits) {
+        return Ok((0..lamps).map(|lamp| marks.first().unwrap_or(&0) >> (lamp % 8) & 1).collect());
+    }
+    Ok(marks)
 }
 
 /// A section after its count. What 01 allows at most does not matter before all of the form is read.

@@ -1,7 +1,7 @@
 //! Document 01's rules and 02's changes, written plainly. Every rule has the document's words beside it.
 //!
 //! `calls` has the calls that a host makes, with the numbers they give, `places` those of a controller's place (L5);
-//! `swap` (L3), `service` (L10), `days` (L12) and `panel` (L13) have those that 02 adds; the other files have what they mean, `utf8` what L2 says of names, `form` L3's
+//! `swap` (L3), `marks` (L8), `service` (L10), `days` (L12) and `panel` (L13) have those that 02 adds; the other files have what they mean, `utf8` what L2 says of names, `form` L3's
 //! bytes.
 //! `rules` holds the deliberate mistakes that `second wrong` switches on, one at a time; none is on otherwise.
 
@@ -15,6 +15,9 @@ pub mod flatten;
 pub mod form;
 #[cfg(test)]
 mod four;
+#[cfg(test)]
+mod marked;
+pub mod marks;
 pub mod md5;
 pub mod panel;
 pub mod places;
@@ -51,6 +54,8 @@ pub struct Projector {
     pub errors: [u8; 6],
     /// Stored seconds, lamp by lamp.
     pub lamps: Vec<u32>,
+    /// 02, L8: "Each lamp gets an enabled mark". As many as there are lamps.
+    pub enabled: Vec<bool>,
     /// Place by place.
     pub connections: [Connection; PLACES],
 }

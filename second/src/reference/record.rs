@@ -18,6 +18,7 @@ impl Projector {
         let face::Device { settings, own, connections } = record;
         let set_up = read_set_up(settings)?;
         let lamps = part_in_use(&own.lamps, settings.lamp_count, MOST_LAMPS)?;
+        let enabled = read_marks(own, lamps.len())?;
         let power = read_power(own, &set_up)?;
         let chosen_is_listed = own.chosen < set_up.inputs.len();
         let errors_are_digits = own.errors.iter().all(|&digit| digit <= 2);
@@ -33,6 +34,7 @@ impl Projector {
             fault: own.fault,
             errors: own.errors,
             lamps,
+            enabled,
             connections: read_connections(connections)?,
         })
     }
@@ -53,6 +55,7 @@ impl Projector {
         own.fault = self.fault;
         own.errors = self.errors;
         own.lamps[..self.lamps.len()].copy_from_slice(&self.lamps);
+        own.enabled[..self.enabled.len()].copy_from_slice(&self.enabled);
         for (connection, room) in self.connections.iter().zip(&mut record.connections) {
             write_connection(connection, room);
         }
@@ -95,6 +98,17 @@ fn read_set_up(settings: &face::Settings) -> Option<SetUp> {
     }
     let kept = made(Mistake::RecordKeepsShort) && set_up.is_in_range();
     (kept || set_up.is_legal()).then_some(set_up)
+}
+
+/// 02, L8: "A legal record now includes the marks, at least one set if there are lamps"; one past the lamps is not set.
+fn read_marks(own: &face::Own, lamps: usize) -> Option<Vec<bool>> {
+    let marks = match part_in_use(&own.enabled, lamps, MOST_LAMPS) {
+        None if made(Mistake::MarksPastLamps) => own.enabled[..lamps].to_vec(),
+        marks => marks?,
+    };
+    let needed = lamps > 0 || made(Mistake::NoLampsNeedAMark);
+    let missing = needed && !marks.contains(&true) && !made(Mistake::NoMarkIsLegal);
+    (!missing).then_some(marks)
 }
 
 /// "seconds left are 1 to W in warm-up, 1 to C in cooling, else 0".

@@ -152,6 +152,7 @@ mod tests {
     #[test]
     fn own_hours_are_read_back() {
         let mut projector = sample();
+        projector.enabled = vec![true; 8];
         for first in (0..100_000).step_by(8) {
             let hours: Vec<u32> = (first..first + 8).collect();
             projector.lamps = hours.iter().map(|hours| 3600 * hours + first % 3600).collect();

@@ -45,6 +45,7 @@ impl SetUp {
     }
 
     /// "A device starts off, with both mutes off, the first input, no fault, error status 000000, connection closed."
+    /// 02, L8: the marks are "all" set "at first".
     pub fn fresh(self, lamps: Vec<u32>) -> Projector {
         Projector {
             set_up: self,
@@ -54,10 +55,15 @@ impl SetUp {
             audio_muted: false,
             fault: false,
             errors: [0; 6],
+            enabled: fresh_marks(lamps.len()),
             lamps,
             connections: [const { Connection::Closed }; PLACES],
         }
     }
+}
+
+fn fresh_marks(lamps: usize) -> Vec<bool> {
+    (0..lamps).map(|lamp| lamp == 0 || !made(Mistake::FirstMarkAlone)).collect()
 }
 
 /// "Every byte is 0x20 to 0xFF. No text is exactly ERR1, ERR2, ERR3 or ERR4". 01's words for the texts: name, maker,

@@ -1,6 +1,6 @@
 //! The second program as one of the two that are compared.
 
-use super::{calls, days, panel, service, swap};
+use super::{calls, days, marks, panel, service, swap};
 use crate::face::{Act, Answer, Device, PanelAct, PanelCall, Side};
 
 pub struct Second;
@@ -26,6 +26,7 @@ impl Side for Second {
             Act::Pass { seconds } | Act::PassInPlace { seconds } => Answer::Changed(calls::pass(device, *seconds)),
             Act::SetFault { mark } => Answer::Changed(calls::set_fault(device, *mark)),
             Act::SetErrors { digits } => Answer::Changed(calls::set_errors(device, digits)),
+            Act::SetMark { lamp, enabled } => Answer::Changed(marks::set_mark(device, *lamp, *enabled)),
             Act::Legal => Answer::Legal(calls::legal(device)),
             Act::Store { lent } => {
                 let mut out = lent.clone();

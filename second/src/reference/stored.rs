@@ -1,7 +1,7 @@
 //! 02, L3, in a form written out by hand, and what is said of every form.
 
 use super::form::{LONGEST, SHORTEST};
-use super::{calls, swap};
+use super::{calls, form, swap};
 use crate::compare::random::Random;
 use crate::compare::{forms, records};
 use crate::face::{Changed, Device, Lent};
@@ -9,7 +9,7 @@ use crate::face::{Changed, Device, Lent};
 /// Two lamps, three inputs and a name in Japanese, byte by byte from the document.
 #[rustfmt::skip]
 const BY_HAND: &[u8] = &[
-    1,                                                                          // "the version byte 1"
+    2,                                                                          // "version 2"
     11, 0xE8, 0xA3, 0x81, 0xE6, 0x96, 0xAD, 0xE5, 0x8F, 0xB0, 0x20, 0x33,       // "name": 裁断台 3
     5, 0x6D, 0x61, 0x6B, 0x65, 0x72,                                            // "maker": maker
     2, 0x4D, 0x37,                                                              // "model": M7
@@ -17,7 +17,22 @@ const BY_HAND: &[u8] = &[
     8, 0x53, 0x63, 0x68, 0x6E, 0x69, 0x74, 0x74, 0x38,                          // "password": Schnitt8
     3, 0x31, 0x31, 0x33, 0x32, 0x35, 0x39,                                      // "inputs": 11, 32, 59
     2, 0x00, 0x00, 0x0E, 0x10, 0x15, 0x75, 0x29, 0xFF,                          // "lamps": 3,600 and 359,999,999
+    2, 0x01, 0x01,                                                              // "marks": both set
     0x00, 0x14, 0x02, 0x58,                                                     // "last W and C": 20 and 600
+];
+
+/// The same in version 1, as boards wrote it before L8.
+#[rustfmt::skip]
+const OLD: &[u8] = &[
+    1,                                                                          // "the version byte 1"
+    11, 0xE8, 0xA3, 0x81, 0xE6, 0x96, 0xAD, 0xE5, 0x8F, 0xB0, 0x20, 0x33,
+    5, 0x6D, 0x61, 0x6B, 0x65, 0x72,
+    2, 0x4D, 0x37,
+    0,
+    8, 0x53, 0x63, 0x68, 0x6E, 0x69, 0x74, 0x74, 0x38,
+    3, 0x31, 0x31, 0x33, 0x32, 0x35, 0x39,
+    2, 0x00, 0x00, 0x0E, 0x10, 0x15, 0x75, 0x29, 0xFF,
+    0x00, 0x14, 0x02, 0x58,
 ];
 
 fn by_hand() -> Lent {
@@ -56,6 +71,37 @@ fn by_hand_is_loaded_and_stored() {
     assert_eq!(stored(&calls::set_up(&by_hand()).device), BY_HAND);
 }
 
+/// 02, L8: "version 1 loads with all set. Each version has one form; the newest is written."
+#[test]
+fn the_old_version_is_loaded_and_the_newest_stored() {
+    assert_eq!(swap::load(OLD), calls::set_up(&by_hand()));
+    assert_eq!(stored(&swap::load(OLD).device), BY_HAND);
+    (0..OLD.len()).for_each(|end| assert_eq!(number(&OLD[..end]), 21));
+    assert_eq!(number(&[OLD, b"\0"].concat()), 22);
+    let as_newest = [b"\x02", &OLD[1..]].concat();
+    assert_eq!(number(&as_newest), 21, "W's first byte counts no marks, and C is cut short");
+    let as_old = [b"\x01", &BY_HAND[1..]].concat();
+    assert_eq!(number(&as_old), 22, "the count of marks and the marks are W and half of C");
+}
+
+/// "one byte 0 or 1 each", one for each lamp, "at least one set if there are lamps".
+#[test]
+fn marks_of_a_form() {
+    let with = |marks: &[u8]| forms::marked(&by_hand(), marks);
+    for (marks, enabled) in [([1, 1], [true, true]), ([1, 0], [true, false]), ([0, 1], [false, true])] {
+        let loaded = swap::load(&with(&marks));
+        assert_eq!((loaded.number, &loaded.device.own.enabled[..3]), (0, &[enabled[0], enabled[1], false][..]));
+        assert_eq!(stored(&loaded.device), with(&marks));
+    }
+    for marks in [&[0, 0][..], &[2, 1], &[1, 255], &[], &[1], &[1, 1, 0], &[1, 1, 1]] {
+        assert_eq!(number(&with(marks)), 23);
+        assert_eq!(number(&[&with(marks)[..], b"\0"].concat()), 22);
+        assert_eq!(number(&with(marks)[..with(marks).len() - 1]), 21);
+    }
+    assert_eq!(number(&forms::marked(&Lent { lamps: Vec::new(), ..by_hand() }, &[])), 0);
+    assert_eq!(number(&forms::marked(&Lent { lamps: Vec::new(), ..by_hand() }, &[1])), 23);
+}
+
 /// An hour of warm-up and power-on on the old board; the second lamp is at its limit already.
 #[test]
 fn hours_go_on_after_a_swap() {
@@ -73,7 +119,7 @@ fn hours_go_on_after_a_swap() {
 #[test]
 fn numbers_of_the_reader() {
     assert_eq!(number(b""), 21);
-    (0..=255).filter(|&version| version != 1).for_each(|version| assert_eq!(number(&[version]), 20));
+    (0..=255).filter(|version| ![1, 2].contains(version)).for_each(|version| assert_eq!(number(&[version]), 20));
     (0..BY_HAND.len()).for_each(|end| assert_eq!(number(&BY_HAND[..end]), 21));
     assert_eq!(number(&[BY_HAND, b"\0"].concat()), 22);
     let mut wrong = BY_HAND.to_vec();
@@ -81,7 +127,7 @@ fn numbers_of_the_reader() {
     assert_eq!(number(&wrong), 23, "not UTF-8");
     assert_eq!(number(&wrong[..wrong.len() - 1]), 21);
     assert_eq!(number(&[&wrong[..], b"\0"].concat()), 22);
-    wrong[0] = 2;
+    wrong[0] = 3;
     assert_eq!(number(&wrong[..wrong.len() - 1]), 20);
     assert_eq!(number(&[&wrong[..], b"\0"].concat()), 20);
 }
@@ -100,7 +146,7 @@ fn numbers_of_the_writer() {
 /// `PJ_FORM_MOST` is the longest.
 #[test]
 fn lengths_of_forms() {
-    assert_eq!((SHORTEST, LONGEST), (14, 300));
+    assert_eq!((SHORTEST, LONGEST), (15, 309));
     assert_eq!(stored(&calls::set_up(&forms::least()).device).len(), SHORTEST);
     assert_eq!(stored(&calls::set_up(&forms::most()).device).len(), LONGEST);
 }
@@ -114,22 +160,26 @@ fn a_stored_record_loads_as_a_fresh_set_up() {
         let swapped = swap::load(&stored(&device));
         let mut fresh = Device { settings: device.settings, ..Device::BLANK };
         fresh.own.lamps = device.own.lamps;
+        fresh.own.enabled = device.own.enabled;
         assert_eq!(swapped, Changed { number: 0, device: fresh });
     }
 }
 
-/// "One set-up has one form": what loads is what its record stores.
+/// "Each version has one form": what loads is what its record stores, or that in version 1.
 #[test]
 fn what_loads_is_the_one_form() {
     let mut random = Random::new(2);
-    let mut loaded = 0;
+    let (mut loaded, mut old) = (0, 0);
     for _ in 0..100_000 {
         let device = records::legal(&mut random);
         let crate::face::Act::Load { bytes } = forms::load(&mut random, &device) else { unreachable!() };
         if number(&bytes) == 0 {
             loaded += 1;
-            assert_eq!(stored(&swap::load(&bytes).device), bytes);
+            let stored = stored(&swap::load(&bytes).device);
+            let (read, _) = form::read(&stored).expect("what is stored is a form");
+            old += usize::from(bytes[0] == 1);
+            assert_eq!(bytes, if bytes[0] == 1 { forms::old(&read.lent) } else { stored });
         }
     }
-    assert!(loaded > 10_000, "{loaded}");
+    assert!(loaded > 10_000 && old > 1_000, "{loaded}, {old}");
 }

@@ -1,7 +1,7 @@
 //! 02, L3: the calls on the stored form, which `form` lays out.
 
 use super::calls::{NOT_LEGAL, ROOM_SHORT, accepted};
-use super::form::{CONTENTS, LEFT_OVER, LONGEST, SHORTEST, read, written};
+use super::form::{CONTENTS, LEFT_OVER, LONGEST, SHORTEST, Stored, read, written};
 use super::rules::{Mistake, made};
 use super::set_up::{LAMP_LIMIT, LONGEST_NAME, is_password, is_short, is_text};
 use super::{Power, Projector};
@@ -14,7 +14,7 @@ pub fn store(device: &face::Device, out: &mut [u8]) -> face::Written {
         let room_first = made(Mistake::FormRoomFirst) && out.len() < SHORTEST;
         return refused(if room_first { ROOM_SHORT } else { NOT_LEGAL });
     };
-    let form = written(&settings(&projector));
+    let form = written(&Stored { lent: settings(&projector), marks: Some(marks(&projector)) });
     let least = if made(Mistake::RoomForTheLongest) { LONGEST } else { form.len() };
     if out.len() < least {
         return refused(ROOM_SHORT);
@@ -30,7 +30,7 @@ pub fn store(device: &face::Device, out: &mut [u8]) -> face::Written {
 /// the blank record."
 pub fn load(bytes: &[u8]) -> face::Changed {
     let refused = |number| face::Changed { number, device: face::Device::BLANK };
-    let (lent, left_over) = match read(bytes) {
+    let (Stored { lent, marks }, left_over) = match read(bytes) {
         Ok(read) => read,
         Err(number) => return refused(number),
     };
@@ -38,7 +38,12 @@ pub fn load(bytes: &[u8]) -> face::Changed {
     if kept_out && left_over.is_empty() {
         return refused(CONTENTS);
     }
+    let lamps = lent.lamps.len();
     let fresh = accepted(&lent).or_else(|number| taken_by_mistake(lent).ok_or(number));
+    let fresh = fresh.and_then(|mut fresh| {
+        fresh.enabled = loaded_marks(marks, lamps)?;
+        Ok(fresh)
+    });
     if !left_over.is_empty() && !made(Mistake::LeftOverTaken) {
         return match fresh {
             Err(_) if made(Mistake::ContentsBeforeLeftOver) => refused(CONTENTS),
@@ -60,6 +65,25 @@ pub fn load(bytes: &[u8]) -> face::Changed {
     }
 }
 
+/// 02, L8: the marks are, "after a load, as the form has them"; "version 1 loads with all set". "one byte 0 or 1 each",
+/// as many as lamps, "at least one set if there are lamps"; else 23.
+fn loaded_marks(marks: Option<Vec<u8>>, lamps: usize) -> Result<Vec<bool>, u32> {
+    let Some(mut marks) = marks else {
+        return Ok((0..lamps).map(|lamp| lamp == 0 || !made(Mistake::OldSetsTheFirst)).collect());
+    };
+    if (marks.len() < lamps && made(Mistake::FewerMarksTaken)) || (marks.len() > lamps && made(Mistake::MoreMarksTaken))
+    {
+        marks.resize(lamps, 0);
+    }
+    let are_bits = marks.iter().all(|&mark| mark <= 1) || made(Mistake::AnyByteMarks);
+    let mut enabled: Vec<bool> = marks.iter().map(|&mark| mark != 0).collect();
+    if made(Mistake::LoadSetsAll) || (made(Mistake::NoMarkLoadsAsAll) && !enabled.contains(&true)) {
+        enabled.fill(true);
+    }
+    let some_set = lamps == 0 || enabled.contains(&true) || made(Mistake::NoMarkLoads);
+    if marks.len() == lamps && are_bits && some_set { Ok(enabled) } else { Err(CONTENTS) }
+}
+
 /// No rule takes these; a mistake does.
 fn taken_by_mistake(mut lent: face::Lent) -> Option<Projector> {
     if made(Mistake::LoadedLampsStopped) {
@@ -79,6 +103,11 @@ fn taken_by_mistake(mut lent: face::Lent) -> Option<Projector> {
         return Some(fresh);
     }
     None
+}
+
+/// Each lamp's mark as it is now.
+fn marks(projector: &Projector) -> Vec<u8> {
+    projector.enabled.iter().map(|&enabled| u8::from(enabled || made(Mistake::MarksNotStored))).collect()
 }
 
 /// What a set-up would be lent for this projector now: its settings, and "each lamp's seconds as they are now".
