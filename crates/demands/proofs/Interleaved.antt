@@ -3,7 +3,7 @@
 -- it.
 -- Assumes nothing.
 use Prim.Native.Nat.{ℕ, _≤_, _<_}
-use mathlib.Core.Path.{_≡_, refl, sym, ap, subst, _∙_}
+use mathlib.Core.Path.{_≡_, sym, ap, subst, _∙_}
 use mathlib.Core.Bool.{true, false}
 use mathlib.Core.List.{List, [], _∷_, append-nil}
 use lib.ListN.{length, take}
@@ -16,36 +16,19 @@ use Rattle.record.specs.Places.{connectionAt, isShut}
 use Rattle.record.specs.declared.types.Settings.{Settings}
 use Rattle.record.specs.declared.types.Connection.{Connection}
 use Rattle.record.specs.declared.types.Device.{Device}
-use Rattle.record.proofs.Calls.{fault-set-by, errors-set-by, mark-set-by}
 use Rattle.record.proofs.LegalTold.{legal-places, connection-of-legal}
 use Rattle.record.proofs.ConnectionsTold.{placed-here}
-use Rattle.clock.proofs.Cases.{passed-by}
-use Rattle.clock.proofs.InOneGo.{parts-pass}
 use Rattle.device.specs.Calls.{Result, replyRoom, received}
 use Rattle.device.proofs.Cases.{received-by, received-taken, takes}
 use Rattle.device.proofs.ReceivingAsMachine.{asCall}
-use Rattle.device.proofs.Untouched.{receiving-keeps-settings, receiving-keeps-others, opening-keeps-settings}
-use Rattle.device.proofs.Untouched.{closing-keeps-settings}
+use Rattle.device.proofs.Untouched.{receiving-keeps-others}
 use Rattle.demands.specs.Board.{ours, reply}
 use Rattle.demands.specs.Calls.{Call, opens, closes, receives, passes, marks, reports, enables, after, run}
 use Rattle.demands.specs.Interleaved.{Heard, heardNothing, seenOf, heardIn, heard, ByBytes, ByBytesOnly, Alone}
 use Rattle.demands.specs.Interleaved.{aloneAt, aloneOf, toFirstCr, SeenAlone, Interleaved}
 use Rattle.demands.proofs.LentMemory.{over-front}
+use Rattle.demands.proofs.UnheardOutside.{settings-stay}
 use Rattle.demands.proofs.AloneCalls.{OneCall, Hears, hears-nothing, hears-none, hears-then, taking-heard}
-
--- no call changes the settings
-settings-kept : (d : Device) (c : Call) → after ours d c .settings ≡ d .settings
-settings-kept d (opens random m) = opening-keeps-settings d random (length m)
-settings-kept d (closes p) = closing-keeps-settings d p
-settings-kept d (receives p bs m) = receiving-keeps-settings d p bs (length m)
-settings-kept d (passes n) =
-    passed-by (λ r. r .device .settings ≡ d .settings) d n (λ h. refl)
-    (λ h. ap (λ (e : Device). e .settings) (parts-pass n d))
-settings-kept d (marks fault) = fault-set-by d (λ r. r .device .settings ≡ d .settings) fault refl (λ l. refl)
-settings-kept d (reports errors) =
-    errors-set-by d (λ r. r .device .settings ≡ d .settings) errors refl refl (λ l e. refl)
-settings-kept d (enables lamp mark) =
-    mark-set-by d (λ r. r .device .settings ≡ d .settings) lamp mark (λ n z. refl) (λ h i l p. refl)
 
 module _ (q : ℕ) (d : Device) where
   abbrev HeardThere : Heard → Connection → Type 0
@@ -111,7 +94,7 @@ module _ (q : ℕ) where
       let e = after ours d c in
       hears-then (d .settings) (one-call q d c h)
       (subst (λ (s : Settings). Hears s (connectionAt e q) (heard ours q e cs) (connectionAt (run ours e cs) q))
-      (settings-kept d c) (all-calls e cs hs))
+      (settings-stay d c) (all-calls e cs hs))
 
   module _ (d : Device) (cs : List Call) (h : ByBytesOnly ours q d cs) where
     abbrev end : Connection
