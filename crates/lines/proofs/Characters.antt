@@ -3,7 +3,7 @@
 use Prim.Native.Nat.{ℕ, _≤_}
 use Prim.Native.Char.{Char, code}
 use mathlib.Core.Path.{_≡_, refl, sym, ap, _∙_}
-use mathlib.Core.Bool.{Bool, true, false, not}
+use mathlib.Core.Bool.{Bool, true, false, not, _||_}
 use mathlib.Core.List.{List}
 use lib.Dec.{leb}
 use borrow.Author.Tests.{eqb-true, leb-true}
@@ -18,6 +18,11 @@ in-range b l h e = (
   leb-true (code l) b (both-left (leb (code l) b) (leb b (code h)) e),
   leb-true b (code h) (both-right (leb (code l) b) (leb b (code h)) e),
 )
+
+-- one of two tests holds
+pub either-by : {P : Type 0} (t u : Bool) → (t || u) ≡ true → (t ≡ true → P) → (u ≡ true → P) → P
+either-by true u e p q = p refl
+either-by false u e p q = q e
 
 pub no-cr-of : (s : List ℕ) → every notCr s ≡ true → noCr s ≡ true
 unfolding noCr

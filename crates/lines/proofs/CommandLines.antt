@@ -1,44 +1,56 @@
--- A command's line: spelt from the four letters of its body and the bytes of its parameter, it has the form and gives
--- both back; no byte of it but the last is CR.
+-- A command's line: spelt from its class, the four letters of its body and the bytes of its parameter, it has the form
+-- for a set-up of that class or a higher one, and for no lower one, and gives all three back; no byte of it but the
+-- last is CR.
 -- Assumes nothing.
-use Prim.Native.Nat.{ℕ, _+_, _≤_}
+use Prim.Native.Nat.{ℕ, zero, suc, _+_, _≤_, _<_}
 use Prim.Native.Char.{code}
 use mathlib.Core.Path.{_≡_, refl, sym, ap, _∙_}
 use mathlib.Core.Bool.{Bool, true, false, not, _&&_}
-use mathlib.Core.List.{List, _++_}
+use mathlib.Core.List.{List, _∷_, _++_}
 use native.Mathlib.Omega.{arith}
 use lib.ListN.{length, length-append}
 use lib.Dec.{leb}
-use borrow.Author.Tests.{leb-true, le-leb, ne-eqb}
+use borrow.Author.Tests.{leb-true, le-leb, lt-leb, ne-eqb}
 use Rattle.text.specs.Words.{ascii}
 use Rattle.text.specs.Scans.{every}
 use Rattle.text.proofs.Choices.{both, both-left}
 use Rattle.text.proofs.Scanning.{every-append, every-implies}
 use Rattle.lines.specs.Bytes.{_at_, isAlnum, notCr, noCr}
-use Rattle.lines.specs.Inputs.{sourceDigit, numberDigit}
-use Rattle.lines.specs.Commands.{bodyText, bodyOf, switchDigit, halfDigit, parameterOf, commandText}
-use Rattle.lines.specs.Commands.{commandLine}
-use Rattle.lines.specs.Forms.{headBody, commandMost, isCommandForm, commandParameter}
+use Rattle.lines.specs.Sources.{numberCharacter}
+use Rattle.lines.specs.Inputs.{sourceDigit, inputText}
+use Rattle.lines.specs.Commands.{bodyText, bodyOf, commandClass, classDigit, switchDigit, halfDigit, parameterOf}
+use Rattle.lines.specs.Commands.{commandText, commandLine}
+use Rattle.lines.specs.Forms.{headBody, commandMost, isHeaded, takesClass, isCommandForm, commandParameter}
+use Rattle.lines.specs.Forms.{lineClass}
+use Rattle.lines.specs.declared.input.Input.{Input}
 use Rattle.lines.specs.declared.input.Source.{Source}
-use Rattle.lines.specs.declared.input.Source.the-variants.{Rgb, Video, Digital, Storage, Network}
+use Rattle.lines.specs.declared.input.Source.the-variants.{Rgb, Video, Digital, Storage, Network, Internal}
 use Rattle.lines.specs.declared.command.Half.{Half}
 use Rattle.lines.specs.declared.command.Half.the-variants.{VideoHalf, AudioHalf, BothHalves}
 use Rattle.lines.specs.declared.command.Command.{Command}
-use Rattle.lines.specs.declared.command.Command.the-variants.{PowerSet, InputSet, MuteSet, Query}
+use Rattle.lines.specs.declared.command.Command.the-variants.{PowerSet, InputSet, MuteSet, InputSet2, FreezeSet}
+use Rattle.lines.specs.declared.command.Command.the-variants.{VolumeStep, NameQuery, Query}
 use Rattle.lines.proofs.Characters.{alnum-not-cr}
-use Rattle.lines.proofs.Bodies.{four, body-spelt}
+use Rattle.lines.proofs.NumbersReadBack.{number-alnum}
+use Rattle.lines.proofs.Bodies.{four, body-spelt, class-is}
 use Rattle.lines.proofs.RepliesReadBack.{headed}
 
-pub spelt : (c : Command) {s p : List ℕ} → s ≡ bodyText (bodyOf c) → p ≡ parameterOf c
-    → ascii "%1" ++ four s ++ ascii " " ++ p ++ ascii "\r" ≡ commandLine c
-spelt c e f =
-    (λ i. ascii "%1" ++ four (e i) ++ ascii " " ++ f i ++ ascii "\r")
-    ∙ ap (λ (s : List ℕ). ascii "%1" ++ s ++ ascii " " ++ parameterOf c ++ ascii "\r") (body-spelt (bodyOf c) .long)
+pub spelt : (c : Command) {h : ℕ} {s p : List ℕ} → h ≡ classDigit (commandClass c) → s ≡ bodyText (bodyOf c)
+    → p ≡ parameterOf c
+    → ascii "%" ++ (h ∷ four s) ++ ascii " " ++ p ++ ascii "\r" ≡ commandLine c
+spelt c k e f =
+    (λ i. ascii "%" ++ (k i ∷ four (e i)) ++ ascii " " ++ f i ++ ascii "\r")
+    ∙ ap (λ (s : List ℕ). ascii "%" ++ (classDigit (commandClass c) ∷ s) ++ ascii " " ++ parameterOf c ++ ascii "\r")
+    (body-spelt (bodyOf c) .long)
 
-parameter-short : (c : Command) → length (parameterOf c) ≤ 2
+parameter-short : (c : Command) → length (parameterOf c) ≤ 3
 parameter-short (PowerSet on) = omega arith
 parameter-short (InputSet i) = omega arith
 parameter-short (MuteSet h on) = omega arith
+parameter-short (InputSet2 i) = omega arith
+parameter-short (FreezeSet on) = omega arith
+parameter-short (VolumeStep v up) = omega arith
+parameter-short (NameQuery i) = omega arith
 parameter-short (Query b) = omega arith
 
 switch-not-cr : (on : Bool) → notCr (switchDigit on) ≡ true
@@ -56,20 +68,45 @@ source-not-cr Video = refl
 source-not-cr Digital = refl
 source-not-cr Storage = refl
 source-not-cr Network = refl
+source-not-cr Internal = refl
+
+input-no-cr : (i : Input) → every notCr (inputText i) ≡ true
+input-no-cr i =
+    both (source-not-cr (i .source)) (both (alnum-not-cr (numberCharacter (i .number)) (number-alnum (i .number))) refl)
 
 parameter-no-cr : (c : Command) → every notCr (parameterOf c) ≡ true
 parameter-no-cr (PowerSet on) = both (switch-not-cr on) refl
-parameter-no-cr (InputSet i) = both (source-not-cr (i .source))
-    (both (ap not (ne-eqb (numberDigit (i .number)) (code "\r") (omega arith))) refl)
+parameter-no-cr (InputSet i) = input-no-cr i
 parameter-no-cr (MuteSet h on) = both (half-not-cr h) (both (switch-not-cr on) refl)
+parameter-no-cr (InputSet2 i) = input-no-cr i
+parameter-no-cr (FreezeSet on) = both (switch-not-cr on) refl
+parameter-no-cr (VolumeStep v up) = both (switch-not-cr up) refl
+parameter-no-cr (NameQuery i) = input-no-cr i
 parameter-no-cr (Query b) = refl
 
+-- what is so of 1 and of 2
+pub one-or-two : (P : ℕ → Type 0) (n : ℕ) → 1 ≤ n → n ≤ 2 → P 1 → P 2 → P n
+one-or-two P zero l h p q = absurd (omega arith)
+one-or-two P (suc zero) l h p q = p
+one-or-two P (suc (suc zero)) l h p q = q
+one-or-two P (suc (suc (suc n))) l h p q = absurd (omega arith)
+
+-- a set-up takes the lines of its own class and of a lower one
+pub taken-by-class : (k j : ℕ) → 1 ≤ k → k ≤ 2 → 1 ≤ j → j ≤ 2 → takesClass k (classDigit j) ≡ leb j k
+taken-by-class k j lk hk lj hj =
+    one-or-two (λ n. takesClass n (classDigit j) ≡ leb j n) k lk hk
+    (one-or-two (λ m. takesClass 1 (classDigit m) ≡ leb m 1) j lj hj refl refl)
+    (one-or-two (λ m. takesClass 2 (classDigit m) ≡ leb m 2) j lj hj refl refl)
+
 module _ (c : Command) where
+  abbrev h : ℕ
+  h = classDigit (commandClass c)
+
   abbrev spelled : List ℕ
-  spelled = ascii "%1" ++ four (bodyText (bodyOf c)) ++ ascii " " ++ parameterOf c
+  spelled = ascii "%" ++ (h ∷ four (bodyText (bodyOf c))) ++ ascii " " ++ parameterOf c
 
   text : commandText c ≡ spelled
-  text = ap (λ (s : List ℕ). ascii "%1" ++ s ++ ascii " " ++ parameterOf c) (sym (body-spelt (bodyOf c) .long))
+  text = ap (λ (s : List ℕ). ascii "%" ++ (h ∷ s) ++ ascii " " ++ parameterOf c) (sym (body-spelt (bodyOf c) .long))
 
   abbrev body : List ℕ
   body = bodyText (bodyOf c)
@@ -83,7 +120,10 @@ module _ (c : Command) where
   pub command-parameter : commandParameter (commandText c) ≡ parameterOf c
   command-parameter = ap commandParameter text
 
-  pub command-length : length (commandText c) ≤ 9
+  pub command-class : lineClass (commandText c) ≡ commandClass c
+  command-class = omega arith
+
+  pub command-length : length (commandText c) ≤ 10
   command-length =
       let short = parameter-short c in
       let same : length (commandText c) ≡ length spelled = ap length text in
@@ -92,31 +132,46 @@ module _ (c : Command) where
   pub line-length : length (commandLine c) ≡ length (commandText c) + 1
   line-length = length-append (commandText c) (ascii "\r")
 
-  pub line-at-most-10 : length (commandLine c) ≤ 10
-  line-at-most-10 =
+  pub line-at-most-11 : length (commandLine c) ≤ 11
+  line-at-most-11 =
       let long = line-length in
       let short = command-length in
       omega arith
 
-  pub command-form : isCommandForm (commandText c) ≡ true
-  unfolding isCommandForm
-  command-form =
-      let short = parameter-short c in
-      ap isCommandForm text
-      ∙ both (both (le-leb 7 (length spelled) (omega arith)) (le-leb (length spelled) commandMost (omega arith)))
-      (headed (body at 0) (body at 1) (body at 2) (body at 3) letters (code " ") (parameterOf c))
+  module _ (k : ℕ) (low : 1 ≤ k) (high : k ≤ 2) where
+    pub form-by-class : isCommandForm k (commandText c) ≡ leb (commandClass c) k
+    unfolding isCommandForm
+    form-by-class =
+        let short = parameter-short c in
+        let class = class-is (bodyOf c) in
+        let from = le-leb 7 (length spelled) (omega arith) in
+        let most = le-leb (length spelled) commandMost (omega arith) in
+        let head = headed (body at 0) (body at 1) (body at 2) (body at 3) letters h (code " ") (parameterOf c) in
+        let taken = taken-by-class k (commandClass c) low high (class .0) (class .1) in
+        ap (isCommandForm k) text ∙ (λ i. from i && most i && head i && taken i)
+
+    pub command-form : commandClass c ≤ k → isCommandForm k (commandText c) ≡ true
+    command-form h = form-by-class ∙ le-leb (commandClass c) k h
+
+    -- a command of a higher class than the set-up's is swallowed
+    pub command-of-higher-class : k < commandClass c → isCommandForm k (commandText c) ≡ false
+    command-of-higher-class h = form-by-class ∙ lt-leb (commandClass c) k h
 
   pub command-no-cr : noCr (commandText c) ≡ true
   unfolding noCr
   command-no-cr =
+      let class = class-is (bodyOf c) in
+      let digit : notCr h ≡ true = ap not (ne-eqb h (code "\r") (omega arith)) in
       ap (every notCr) text
-      ∙ every-append notCr (ascii "%1" ++ four body ++ ascii " ") (parameterOf c)
-      (every-append notCr (four body) (ascii " ") (every-implies isAlnum notCr alnum-not-cr (four body) letters) refl)
+      ∙ every-append notCr (ascii "%" ++ (h ∷ four body) ++ ascii " ") (parameterOf c)
+      (both digit
+      (every-append notCr (four body) (ascii " ") (every-implies isAlnum notCr alnum-not-cr (four body) letters) refl))
       (parameter-no-cr c)
 
 -- a line of the form has its head
-pub form-long : (l : List ℕ) → isCommandForm l ≡ true → 7 ≤ length l
+pub form-long : (k : ℕ) (l : List ℕ) → isCommandForm k l ≡ true → 7 ≤ length l
 unfolding isCommandForm
-form-long l e =
+form-long k l e =
+    let sized = leb 7 (length l) && leb (length l) commandMost in
     leb-true 7 (length l)
-    (both-left (leb 7 (length l)) _ (both-left (leb 7 (length l) && leb (length l) commandMost) _ e))
+    (both-left (leb 7 (length l)) _ (both-left sized _ (both-left (sized && isHeaded (code " ") l) _ e)))

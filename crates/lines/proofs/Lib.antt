@@ -3,6 +3,7 @@ pub mod Refusals
 pub mod TextsTold
 pub mod WithinLength
 pub mod Characters
+pub mod NumbersReadBack
 pub mod InputsReadBack
 pub mod SourcesFollowed
 pub mod Bodies

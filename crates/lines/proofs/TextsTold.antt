@@ -11,8 +11,8 @@ use Rattle.text.specs.Scans.{every}
 use Rattle.utf8.specs.Utf8.{isUtf8}
 use Rattle.text.proofs.Choices.{both-left, both-right}
 use Rattle.lines.specs.Bytes.{isAlnum}
-use Rattle.lines.specs.Texts.{isRefusal, refusalOf, isTextByte, isText, isName, isInfo, isPassword}
-use Rattle.lines.specs.Texts.{nameMost, infoMost, passwordMost}
+use Rattle.lines.specs.Texts.{isRefusal, refusalOf, isTextByte, isText, isName, isInfo, isInputName}
+use Rattle.lines.specs.Texts.{isPassword, nameMost, infoMost, inputNameMost, passwordMost}
 
 module _ (s : List ℕ) where
   text-long : (n : ℕ) → isText n s ≡ true → length s ≤ n
@@ -36,6 +36,9 @@ module _ (s : List ℕ) where
 
   pub info-long : isInfo s ≡ true → length s ≤ infoMost
   info-long h = text-long infoMost h
+
+  pub input-name-long : isInputName s ≡ true → length s ≤ inputNameMost
+  input-name-long h = text-long inputNameMost h
 
   pub password-long : isPassword s ≡ true → length s ≤ passwordMost
   unfolding isPassword

@@ -3,7 +3,8 @@
 --   refusalOf s       its digit; 0 for any other bytes
 --   isText n s        0 to n bytes, each 0x20 to 0xFF, and no refusal: a reader couldn't tell it from one
 --   isName s          the rule of the name: such a text of at most 64 bytes, in well-formed UTF-8 (02, L2)
---   isInfo s          the rule of maker, model and other information
+--   isInfo s          the rule of maker, model, other information, serial number and version (02, L14)
+--   isInputName s     the rule of an input's name (02, L14)
 --   isPassword s      0 to 32 ASCII letters and digits
 -- 000 narrows INF1, INF2 and INFO to 0x20 to 0x7E; 01's rule stands for every text.
 -- Assumes nothing.
@@ -36,6 +37,9 @@ nameMost = 64
 abbrev pub infoMost : ℕ
 infoMost = 32
 
+abbrev pub inputNameMost : ℕ
+inputNameMost = 128
+
 abbrev pub passwordMost : ℕ
 passwordMost = 32
 
@@ -44,6 +48,9 @@ isName s = isText nameMost s && isUtf8 s
 
 abbrev pub isInfo : List ℕ → Bool
 isInfo s = isText infoMost s
+
+abbrev pub isInputName : List ℕ → Bool
+isInputName s = isText inputNameMost s
 
 unfoldable pub isPassword : List ℕ → Bool
 isPassword s = leb (length s) passwordMost && every isAlnum s

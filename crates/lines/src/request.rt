@@ -1,4 +1,4 @@
-// What a received body and parameter ask for (01, "Commands").
+// What a received class, body and parameter ask for (01, "Commands"; 02, L14).
 use crate::body;
 use crate::body::Sets;
 use crate::byte;
@@ -6,12 +6,16 @@ use crate::command;
 use crate::command::Body;
 use crate::command::Command;
 use crate::command::Half;
+use crate::command::Volume;
 use crate::input;
 use crate::input::MaybeInput;
 ghost use mathlib.Core.Path.{_≡_};
+ghost use mathlib.Core.Bool.{true, false};
 ghost use mathlib.Core.List.{[], _∷_};
-ghost use Rattle.lines.specs.Requests.{isBody, bodyNamed, isQuestion, powerAsked, inputAsked, halfNamed};
-ghost use Rattle.lines.specs.Requests.{muteAsked, setAsked, askedOf, requestOf};
+ghost use Rattle.lines.specs.Inputs.{inputOf};
+ghost use Rattle.lines.specs.Requests.{isBody, bodyNamed, isQuestion, switchAsked, inputAsked, nameAsked};
+ghost use Rattle.lines.specs.Requests.{halfNamed, muteAsked, setAsked, askedOf, requestOf};
+ghost use Rattle.lines.specs.declared.command.Command.the-variants.{InputSet, InputSet2, VolumeStep};
 
 pub enum MaybeBody {
     BodyIs(Body),
@@ -24,8 +28,8 @@ pub enum Request {
     UnknownBody,
 }
 
-// Every body, in the order of 01's table.
-const BODIES: [Body; 11] = [
+// Every body, in the table's order.
+const BODIES: [Body; 19] = [
     Body::Powr,
     Body::Inpt,
     Body::Avmt,
@@ -37,26 +41,36 @@ const BODIES: [Body; 11] = [
     Body::Inf2,
     Body::Info,
     Body::Clss,
+    Body::Frez,
+    Body::Svol,
+    Body::Mvol,
+    Body::Snum,
+    Body::Sver,
+    Body::Innm,
+    Body::Inpt2,
+    Body::Inst2,
 ];
 
-// Whether four bytes name the body, whatever their case.
-pub fn is_body(a: u8, b: u8, c: u8, d: u8, body: Body) -> bool
-    ensures { λ r. ⌜ r ≡ isBody (a ∷ b ∷ c ∷ d ∷ []) body ⌝ }
+// Whether four bytes name the body in a line of Class k, whatever their case.
+pub fn is_body(k: u8, a: u8, b: u8, c: u8, d: u8, body: Body) -> bool
+    ensures { λ r. ⌜ r ≡ isBody k (a ∷ b ∷ c ∷ d ∷ []) body ⌝ }
 {
-    let t = command::body_text(body);
-    (byte::upper(a) == t[0])
-        & ((byte::upper(b) == t[1]) & ((byte::upper(c) == t[2]) & (byte::upper(d) == t[3])))
+    let row = body::row_of(body);
+    let t = row.letters;
+    (k == row.class)
+        & ((byte::upper(a) == t[0])
+            & ((byte::upper(b) == t[1]) & ((byte::upper(c) == t[2]) & (byte::upper(d) == t[3]))))
 }
 
-// The body that four bytes name, whatever their case.
-pub fn body_named(a: u8, b: u8, c: u8, d: u8) -> MaybeBody
-    ensures { λ r. ⌜ r ≡ bodyNamed (a ∷ b ∷ c ∷ d ∷ []) ⌝ }
+// The body that four bytes name in a line of Class k, whatever their case.
+pub fn body_named(k: u8, a: u8, b: u8, c: u8, d: u8) -> MaybeBody
+    ensures { λ r. ⌜ r ≡ bodyNamed k (a ∷ b ∷ c ∷ d ∷ []) ⌝ }
 {
     let bodies = BODIES;
     let mut i = 0;
-    while i < 11 {
+    while i < 19 {
         let body = bodies[i];
-        if is_body(a, b, c, d, body) {
+        if is_body(k, a, b, c, d, body) {
             return MaybeBody::BodyIs(body);
         }
         i += 1;
@@ -73,29 +87,54 @@ fn is_question(p: &[u8]) -> bool
     p[0] == b'?'
 }
 
-fn power_asked(p: &[u8]) -> Request
-    ensures { λ r. ⌜ r ≡ powerAsked (now (p .entry)) ⌝ }
+// The digit 0 asks `off`, 1 asks `on`.
+fn switch_asked(b: Body, off: Command, on: Command, p: &[u8]) -> Request
+    ensures { λ r. ⌜ r ≡ switchAsked b off on (now (p .entry)) ⌝ }
 {
     if p.len() != 1 {
-        return Request::Unlisted(Body::Powr);
+        return Request::Unlisted(b);
     }
-    let x = p[0];
-    if !((b'0' <= x) & (x <= b'1')) {
-        return Request::Unlisted(Body::Powr);
+    match p[0] {
+        b'0' => Request::Asks(off),
+        b'1' => Request::Asks(on),
+        _ => Request::Unlisted(b),
     }
-    Request::Asks(Command::PowerSet(x == b'1'))
 }
 
-fn input_asked(p: &[u8]) -> Request
-    ensures { λ r. ⌜ r ≡ inputAsked (now (p .entry)) ⌝ }
+fn input_asked(b: Body, p: &[u8]) -> Request
+    ensures { λ r. ⌜ r ≡ inputAsked InputSet b (inputOf (now (p .entry))) ⌝ }
 {
-    if p.len() != 2 {
-        return Request::Unlisted(Body::Inpt);
-    }
-    let read = input::read_input(p[0], p[1]);
+    let read = input::input_of(p);
     match read {
         MaybeInput::InputIs(i) => Request::Asks(Command::InputSet(i)),
-        MaybeInput::NoInput => Request::Unlisted(Body::Inpt),
+        MaybeInput::NoInput => Request::Unlisted(b),
+    }
+}
+
+fn input2_asked(b: Body, p: &[u8]) -> Request
+    ensures { λ r. ⌜ r ≡ inputAsked InputSet2 b (inputOf (now (p .entry))) ⌝ }
+{
+    let read = input::input_of(p);
+    match read {
+        MaybeInput::InputIs(i) => Request::Asks(Command::InputSet2(i)),
+        MaybeInput::NoInput => Request::Unlisted(b),
+    }
+}
+
+// `?` and the input that is asked for.
+fn name_asked(b: Body, p: &[u8]) -> Request
+    ensures { λ r. ⌜ r ≡ nameAsked b (now (p .entry)) ⌝ }
+{
+    if p.len() == 0 {
+        return Request::Unlisted(b);
+    }
+    if p[0] != b'?' {
+        return Request::Unlisted(b);
+    }
+    let read = input::input_of(&p[1..]);
+    match read {
+        MaybeInput::InputIs(i) => Request::Asks(Command::NameQuery(i)),
+        MaybeInput::NoInput => Request::Unlisted(b),
     }
 }
 
@@ -123,14 +162,30 @@ fn mute_asked(p: &[u8]) -> Request
     Request::Asks(Command::MuteSet(half_named(x), y == b'1'))
 }
 
+fn step_asked(b: Body, v: Volume, p: &[u8]) -> Request
+    ensures { λ r. ⌜ r ≡ switchAsked b (VolumeStep v false) (VolumeStep v true) (now (p .entry)) ⌝ }
+{
+    switch_asked(
+        b,
+        Command::VolumeStep(v, false),
+        Command::VolumeStep(v, true),
+        p,
+    )
+}
+
 fn set_asked(b: Body, p: &[u8]) -> Request
     ensures { λ r. ⌜ r ≡ setAsked b (now (p .entry)) ⌝ }
 {
     let set = body::row_of(b).set;
     match set {
-        Sets::SetsPower => power_asked(p),
-        Sets::SetsInput => input_asked(p),
+        Sets::SetsPower => switch_asked(b, Command::PowerSet(false), Command::PowerSet(true), p),
+        Sets::SetsInput => input_asked(b, p),
         Sets::SetsMute => mute_asked(p),
+        Sets::SetsInput2 => input2_asked(b, p),
+        Sets::SetsFreeze => switch_asked(b, Command::FreezeSet(false), Command::FreezeSet(true), p),
+        Sets::StepsSpeaker => step_asked(b, Volume::Speaker, p),
+        Sets::StepsMicrophone => step_asked(b, Volume::Microphone, p),
+        Sets::NamesInput => name_asked(b, p),
         Sets::QueryOnly => Request::Unlisted(b),
     }
 }
@@ -138,17 +193,17 @@ fn set_asked(b: Body, p: &[u8]) -> Request
 fn asked_of(b: Body, p: &[u8]) -> Request
     ensures { λ r. ⌜ r ≡ askedOf b (now (p .entry)) ⌝ }
 {
-    if is_question(p) {
+    if body::has_query(b) & is_question(p) {
         return Request::Asks(Command::Query(b));
     }
     set_asked(b, p)
 }
 
-// What the body a b c d with the parameter p asks for.
-pub fn request_of(a: u8, b: u8, c: u8, d: u8, p: &[u8]) -> Request
-    ensures { λ r. ⌜ r ≡ requestOf (a ∷ b ∷ c ∷ d ∷ []) (now (p .entry)) ⌝ }
+// What the body a b c d with the parameter p asks for in a line of Class k.
+pub fn request_of(k: u8, a: u8, b: u8, c: u8, d: u8, p: &[u8]) -> Request
+    ensures { λ r. ⌜ r ≡ requestOf k (a ∷ b ∷ c ∷ d ∷ []) (now (p .entry)) ⌝ }
 {
-    let named = body_named(a, b, c, d);
+    let named = body_named(k, a, b, c, d);
     match named {
         MaybeBody::BodyIs(body) => asked_of(body, p),
         MaybeBody::NoBody => Request::UnknownBody,

@@ -16,12 +16,13 @@ use Rattle.lines.proofs.form.is_reply_form.Tie as tie
 formed : tie.Need-returns-3
 unfolding isReplyForm
 formed c =
-    let headed = c .before .before .before in
+    let classed = c .before .before .before in
+    let headed = classed .before .before in
     let long = headed .before .before in
     let l = long .before .before .args .l .now in
     let parameter : length l - 1 - 7 ≡ length l - 8 = omega arith in
     simp (le-leb _ _ (long .if1 .left), le-leb _ _ (headed .before .if2 .left))
-    (λ i. headed .is-headed .ensures i && l at (length l - 1) is "\r"
+    (λ i. headed .is-headed .ensures i && classed .is-class-digit .ensures i && l at (length l - 1) is "\r"
     && (c .no-cr .ensures ∙ ap (λ n. noCr (take n (drop 7 l))) parameter) i)
 
 pub is-reply-form-spec : {M : Type 1} → statement M
@@ -31,8 +32,8 @@ is-reply-form-spec =
     (tie.spec
     (λ c. simp (lt-leb _ _ (c .if1 .taken)))
     (λ c. simp (le-leb _ _ (c .before .if1 .left), lt-leb _ _ (c .if2 .taken)))
-    (λ c. search needs)
-    (λ c κs. search needs)
+    (λ c. search needs) (λ c κs. search needs)
+    (λ c. search needs) (λ c κs. search needs)
     (λ c. search needs)
     (λ c. search needs)
     (λ c. search needs)

@@ -10,10 +10,10 @@ use Rattle.lines.proofs.request.body_named.Statement.{statement}
 use Rattle.lines.proofs.request.body_named.Tie as tie
 
 abbrev Inv : tie.InvT-loop
-Inv a b c d all i₀ i = Sought (a ∷ b ∷ c ∷ d ∷ []) i
+Inv k a b c d all i₀ i = Sought k (a ∷ b ∷ c ∷ d ∷ []) i
 
 abbrev μ : tie.MeasureT-loop
-μ a b c d all i₀ i = 11 - i
+μ k a b c d all i₀ i = 19 - i
 
 pub body-named-spec : {M : Type 1} → statement M
 body-named-spec =
@@ -21,13 +21,13 @@ body-named-spec =
     (tie.spec
     Inv
     μ
-    (λ c. none-sought _)
+    (λ c. none-sought _ _)
     (λ c. search needs)
     (λ c κs. search needs)
-    (λ c. sym (body-is-named _ _ (sym (c .before .is-body .ensures) ∙ c .if1 .taken)))
+    (λ c. sym (body-is-named _ _ _ (sym (c .before .is-body .ensures) ∙ c .if1 .taken)))
     (λ c. search needs)
     (λ c. search needs)
     (λ c.
     let turn = c .before .before .before in
-    one-sought _ _ (turn .before .loop .inv) (turn .loop-test .taken) (c .before .is-body .ensures) (c .if1 .left))
-    (λ c. all-sought _ (c .before .loop .inv) (c .loop-test .left)))
+    one-sought _ _ _ (turn .before .loop .inv) (turn .loop-test .taken) (c .before .is-body .ensures) (c .if1 .left))
+    (λ c. all-sought _ _ (c .before .loop .inv) (c .loop-test .left)))
