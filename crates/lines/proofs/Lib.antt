@@ -11,5 +11,6 @@ pub mod CommandLines
 pub mod CommandsAskedBack
 pub mod FormsSpelt
 pub mod PowerAsked
+pub mod ClassOneKept
 pub mod RepliesReadBack
 mod Examples

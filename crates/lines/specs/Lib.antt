@@ -5,5 +5,6 @@ pub mod Bodies
 pub mod Texts
 pub mod Commands
 pub mod Requests
+pub mod ClassOne
 pub mod Forms
 pub mod Computing
