@@ -16,22 +16,19 @@ use Rattle.text.specs.Scans.{every}
 use Rattle.text.proofs.Choices.{both, both-left}
 use Rattle.text.proofs.Scanning.{every-append, every-implies}
 use Rattle.lines.specs.Bytes.{_at_, isAlnum, notCr, noCr}
-use Rattle.lines.specs.Sources.{numberCharacter}
-use Rattle.lines.specs.Inputs.{sourceDigit, inputText}
+use Rattle.lines.specs.Inputs.{inputText}
 use Rattle.lines.specs.Commands.{bodyText, bodyOf, commandClass, classDigit, switchDigit, halfDigit, parameterOf}
 use Rattle.lines.specs.Commands.{commandText, commandLine}
 use Rattle.lines.specs.Forms.{headBody, commandMost, isHeaded, takesClass, isCommandForm, commandParameter}
 use Rattle.lines.specs.Forms.{lineClass}
 use Rattle.lines.specs.declared.input.Input.{Input}
-use Rattle.lines.specs.declared.input.Source.{Source}
-use Rattle.lines.specs.declared.input.Source.the-variants.{Rgb, Video, Digital, Storage, Network, Internal}
 use Rattle.lines.specs.declared.command.Half.{Half}
 use Rattle.lines.specs.declared.command.Half.the-variants.{VideoHalf, AudioHalf, BothHalves}
 use Rattle.lines.specs.declared.command.Command.{Command}
 use Rattle.lines.specs.declared.command.Command.the-variants.{PowerSet, InputSet, MuteSet, InputSet2, FreezeSet}
 use Rattle.lines.specs.declared.command.Command.the-variants.{VolumeStep, NameQuery, Query}
 use Rattle.lines.proofs.Characters.{alnum-not-cr}
-use Rattle.lines.proofs.NumbersReadBack.{number-alnum}
+use Rattle.lines.proofs.InputsReadBack.{input-alnum}
 use Rattle.lines.proofs.Bodies.{four, body-spelt, class-is}
 use Rattle.lines.proofs.RepliesReadBack.{headed}
 
@@ -62,17 +59,8 @@ half-not-cr VideoHalf = refl
 half-not-cr AudioHalf = refl
 half-not-cr BothHalves = refl
 
-source-not-cr : (s : Source) → notCr (sourceDigit s) ≡ true
-source-not-cr Rgb = refl
-source-not-cr Video = refl
-source-not-cr Digital = refl
-source-not-cr Storage = refl
-source-not-cr Network = refl
-source-not-cr Internal = refl
-
 input-no-cr : (i : Input) → every notCr (inputText i) ≡ true
-input-no-cr i =
-    both (source-not-cr (i .source)) (both (alnum-not-cr (numberCharacter (i .number)) (number-alnum (i .number))) refl)
+input-no-cr i = every-implies isAlnum notCr alnum-not-cr (inputText i) (input-alnum i)
 
 parameter-no-cr : (c : Command) → every notCr (parameterOf c) ≡ true
 parameter-no-cr (PowerSet on) = both (switch-not-cr on) refl

@@ -5,12 +5,15 @@ use Prim.Native.Nat.{ℕ, _≤_}
 use Prim.Native.Char.{code}
 use mathlib.Core.Path.{_≡_, refl, sym, ap, _∙_}
 use mathlib.Core.Bool.{Bool, true, _||_}
-use mathlib.Core.List.{[], _∷_}
+use mathlib.Core.List.{List, [], _∷_}
 use native.Mathlib.Omega.{arith}
+use lib.ListN.{length}
 use lib.Dec.{leb, eqb}
 use borrow.Author.Tests.{eqb-true, eqb-false, leb-true, le-leb}
 use Rattle.text.specs.Words.{_is_, _from_to_}
+use Rattle.text.specs.Scans.{every}
 use Rattle.text.proofs.Choices.{if-yes, if-by, both, both-left, both-right}
+use Rattle.lines.specs.Bytes.{_at_, isAlnum}
 use Rattle.lines.specs.Sources.{isNumberCharacter, numberFor, numberCharacter}
 use Rattle.lines.specs.Inputs.{isInputText, sourceNamed, inputNamed, readInput, inputOf, isInput, sourceDigit}
 use Rattle.lines.specs.Inputs.{inputText}
@@ -19,23 +22,29 @@ use Rattle.lines.specs.declared.input.Source.the-variants.{Rgb, Video, D
 use Rattle.lines.specs.declared.input.Input.{Input}
 use Rattle.lines.specs.declared.input.MaybeInput.{MaybeInput}
 use Rattle.lines.specs.declared.input.MaybeInput.the-variants.{InputIs, NoInput}
+use Rattle.lines.proofs.ByPlaces.{by-places}
 use Rattle.lines.proofs.Characters.{in-range}
 use Rattle.lines.proofs.NumbersReadBack.{number-is-character, number-back, number-low, number-high}
-use Rattle.lines.proofs.NumbersReadBack.{character-back}
+use Rattle.lines.proofs.NumbersReadBack.{character-back, number-alnum}
 
--- a source's character is one of the six, and names it
+-- a source's character is one of the six, a digit, and names it
 pub record SourceTold (s : Source) : Type 0 where
   pub listed : (sourceDigit s from "1" to "6") ≡ true
+  pub alnum : isAlnum (sourceDigit s) ≡ true
   pub back : sourceNamed (sourceDigit s) ≡ s
 
 pub source-told : (s : Source) → SourceTold s
 unfolding sourceNamed
-source-told Rgb = record { listed = refl; back = refl }
-source-told Video = record { listed = refl; back = refl }
-source-told Digital = record { listed = refl; back = refl }
-source-told Storage = record { listed = refl; back = refl }
-source-told Network = record { listed = refl; back = refl }
-source-told Internal = record { listed = refl; back = refl }
+source-told Rgb = record { listed = refl; alnum = refl; back = refl }
+source-told Video = record { listed = refl; alnum = refl; back = refl }
+source-told Digital = record { listed = refl; alnum = refl; back = refl }
+source-told Storage = record { listed = refl; alnum = refl; back = refl }
+source-told Network = record { listed = refl; alnum = refl; back = refl }
+source-told Internal = record { listed = refl; alnum = refl; back = refl }
+
+-- its characters are a letter or digit each, whatever the number
+pub input-alnum : (i : Input) → every isAlnum (inputText i) ≡ true
+input-alnum i = both (source-told (i .source) .alnum) (both (number-alnum (i .number)) refl)
 
 module _ (i : Input) (legal : isInput i ≡ true) where
   low : 1 ≤ i .number
@@ -107,3 +116,17 @@ pub read-input-by : (P : MaybeInput → Type 0) (a b : ℕ) → (isInputText 2 a
     → P (readInput a b)
 unfolding readInput
 read-input-by P a b named none = if-by P (isInputText 2 a b) named (λ e. none)
+
+-- what a word is read as, by whether it is the text of an input
+pub input-of-by : (Q : MaybeInput → Type 0) (w : List ℕ)
+    → ((i : Input) → isInput i ≡ true → w ≡ inputText i → Q (InputIs i))
+    → Q NoInput
+    → Q (inputOf w)
+unfolding inputOf
+input-of-by Q w named unnamed =
+    if-by Q (eqb (length w) 2)
+    (λ two. read-input-by Q (w at 0) (w at 1)
+    (λ e. named _ (named-is-input 2 (w at 0) (w at 1) e)
+    (by-places 2 w (eqb-true (length w) 2 two) ∙ sym (named-text 2 (w at 0) (w at 1) e)))
+    unnamed)
+    (λ e. unnamed)
