@@ -26,14 +26,28 @@ module _ (d : Device) (h : isLegal d ≡ true) where
       let t = own-of-legal d h in
       fault-set-by d (λ r. isLegal (r .device) ≡ true) m h
       (λ l. with-own-legal (withFault (d .own) m)
-      (record { errors = t .errors; lamps = t .lamps; marks = t .marks; left = t .left; chosen = t .chosen }))
+      (record {
+        errors = t .errors;
+        lamps = t .lamps;
+        marks = t .marks;
+        left = t .left;
+        chosen = t .chosen;
+        volumes = t .volumes;
+      }))
 
   pub errors-legal : (ds : List ℕ) → isLegal (errorsSet d ds .device) ≡ true
   errors-legal ds =
       let t = own-of-legal d h in
       errors-set-by d (λ r. isLegal (r .device) ≡ true) ds h h
       (λ l e. with-own-legal (withErrors (d .own) ds)
-      (record { errors = e; lamps = t .lamps; marks = t .marks; left = t .left; chosen = t .chosen }))
+      (record {
+        errors = e;
+        lamps = t .lamps;
+        marks = t .marks;
+        left = t .left;
+        chosen = t .chosen;
+        volumes = t .volumes;
+      }))
 
   pub mark-legal : (k : ℕ) (m : Bool) → isLegal (markSet d k m .device) ≡ true
   mark-legal k m =
@@ -46,4 +60,5 @@ module _ (d : Device) (h : isLegal d ≡ true) where
         marks = marked-legal (d .settings .«lamp_count») (d .own .enabled) k m (t .marks) inside left;
         left = t .left;
         chosen = t .chosen;
+        volumes = t .volumes;
       }))

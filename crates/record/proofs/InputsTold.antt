@@ -16,23 +16,23 @@ use Rattle.record.specs.Rules.{isOther, isNone, isNewInput, isInputs}
 use Rattle.record.proofs.Rules.{inputs-new}
 use Rattle.record.proofs.Places.{pair-at}
 
-module _ (s : List ℕ) (h : isInputs s ≡ true) where
+module _ (c : ℕ) (s : List ℕ) (h : isInputs c s ≡ true) where
   abbrev none-later : ℕ → Bool
   none-later k = isNone (s at (2 * k)) (s at (2 * k + 1)) (drop (2 * k + 2) s)
 
-  new-at : (k : ℕ) → 2 * k + 1 < length s → isNewInput (s at (2 * k)) (s at (2 * k + 1)) (drop (2 * k + 2) s) ≡ true
-  new-at k l = pair-at isNewInput s (inputs-new s h) k l
+  new-at : (k : ℕ) → 2 * k + 1 < length s → isNewInput c (s at (2 * k)) (s at (2 * k + 1)) (drop (2 * k + 2) s) ≡ true
+  new-at k l = pair-at (isNewInput c) s (inputs-new c s h) k l
 
-  pub input-named : (k : ℕ) → 2 * k + 1 < length s → isInputText (s at (2 * k)) (s at (2 * k + 1)) ≡ true
+  pub input-named : (k : ℕ) → 2 * k + 1 < length s → isInputText c (s at (2 * k)) (s at (2 * k + 1)) ≡ true
   input-named k l =
-      both-left (isInputText (s at (2 * k)) (s at (2 * k + 1))) (none-later k) (new-at k l)
+      both-left (isInputText c (s at (2 * k)) (s at (2 * k + 1))) (none-later k) (new-at k l)
 
   module _ (j k : ℕ) (first : j < k) (l : 2 * k + 1 < length s) where
     abbrev place : ℕ
     place = k - j - 1
 
     none : none-later j ≡ true
-    none = both-right (isInputText (s at (2 * j)) (s at (2 * j + 1))) (none-later j) (new-at j (omega arith))
+    none = both-right (isInputText c (s at (2 * j)) (s at (2 * j + 1))) (none-later j) (new-at j (omega arith))
 
     other : not (eqb (s at (2 * k)) (s at (2 * j)) && eqb (s at (2 * k + 1)) (s at (2 * j + 1))) ≡ true
     unfolding isNone

@@ -13,6 +13,8 @@ pub mod Calls
 pub mod OutOfRange
 pub mod InRange
 pub mod InputsTold
+pub mod NamesTold
+pub mod CutNames
 pub mod SettingsTold
 pub mod OwnTold
 pub mod ConnectionTold

@@ -18,7 +18,7 @@ use Rattle.record.specs.SetUp.{settingsInOrder, isSettingInRange, isInRa
 use Rattle.record.specs.OutOfRange.{settingPlace, firstFailing, firstOutOfRange, SettingHolds}
 use Rattle.record.specs.declared.out_of_range.Setting.{Setting}
 use Rattle.record.specs.declared.out_of_range.Setting.the-variants.{Name, Maker, Model, Other, Password, Inputs}
-use Rattle.record.specs.declared.out_of_range.Setting.the-variants.{Lamps, WarmUp, Cooling}
+use Rattle.record.specs.declared.out_of_range.Setting.the-variants.{Lamps, WarmUp, Cooling, Serial, Version, Names}
 use Rattle.record.specs.declared.out_of_range.MaybeSetting.{MaybeSetting}
 use Rattle.record.specs.declared.out_of_range.MaybeSetting.the-variants.{SettingIs, NoSetting}
 use Rattle.record.proofs.Calls.{set-up-ranged}
@@ -35,7 +35,10 @@ settingAt n =
     else if eqb n 6 then Inputs
     else if eqb n 7 then Lamps
     else if eqb n 8 then WarmUp
-    else Cooling
+    else if eqb n 9 then Cooling
+    else if eqb n 10 then Serial
+    else if eqb n 11 then Version
+    else Names
 
 setting-back : (s : Setting) → settingAt (settingPlace s) ≡ s
 unfolding settingAt
@@ -48,11 +51,14 @@ setting-back Inputs = refl
 setting-back Lamps = refl
 setting-back WarmUp = refl
 setting-back Cooling = refl
+setting-back Serial = refl
+setting-back Version = refl
+setting-back Names = refl
 
 pub one-setting-place : (s t : Setting) → settingPlace s ≡ settingPlace t → s ≡ t
 one-setting-place s t e = sym (setting-back s) ∙ ap settingAt e ∙ setting-back t
 
-pub setting-place-within : (s : Setting) → (1 ≤ settingPlace s) × (settingPlace s ≤ 9)
+pub setting-place-within : (s : Setting) → (1 ≤ settingPlace s) × (settingPlace s ≤ 12)
 setting-place-within Name = (omega arith, omega arith)
 setting-place-within Maker = (omega arith, omega arith)
 setting-place-within Model = (omega arith, omega arith)
@@ -62,13 +68,17 @@ setting-place-within Inputs = (omega arith, omega arith)
 setting-place-within Lamps = (omega arith, omega arith)
 setting-place-within WarmUp = (omega arith, omega arith)
 setting-place-within Cooling = (omega arith, omega arith)
+setting-place-within Serial = (omega arith, omega arith)
+setting-place-within Version = (omega arith, omega arith)
+setting-place-within Names = (omega arith, omega arith)
 
 abbrev Stepped : ℕ → List Setting → Type 0
-Stepped k [] = k ≡ 10
+Stepped k [] = k ≡ 13
 Stepped k (s ∷ l) = (settingPlace s ≡ k) × Stepped (suc k) l
 
 in-order : Stepped 1 settingsInOrder
-in-order = (refl, (refl, (refl, (refl, (refl, (refl, (refl, (refl, (refl, refl)))))))))
+in-order =
+    (refl, (refl, (refl, (refl, (refl, (refl, (refl, (refl, (refl, (refl, (refl, (refl, refl))))))))))))
 
 -- ---- under any rules
 

@@ -1,5 +1,5 @@
 -- What a legal own part tells, and how it is shown (the crates above never open `isOwn` or `isLeft`).
---   OwnTold s o      error digits, lamps and their marks, seconds left, the chosen input
+--   OwnTold s o      error digits, lamps and their marks, seconds left, the chosen input, the volumes
 -- Assumes nothing.
 use Prim.Native.Nat.{ℕ, _≤_, _<_}
 use mathlib.Core.Path.{_≡_, refl, sym, ap, _∙_}
@@ -14,13 +14,19 @@ use lib.Dec.{leb, ltb, eqb}
 use borrow.Author.Tests.{leb-true, le-leb, ltb-true, lt-ltb, eqb-true, eqb-false}
 use Rattle.text.proofs.Scanning.{every-at, every-by-place}
 use Rattle.text.proofs.Choices.{both, both-left, both-right, if-by}
-use Rattle.record.specs.Limits.{lampsMost, lampLimit, errorsCount, errorMost, off, on, cooling, warming, isPower}
-use Rattle.record.specs.Rules.{atMost, isLamp, isLamps, isMarks, isErrors}
+use Rattle.record.specs.Limits.{lampsMost, lampLimit, volumeMost, errorsCount, errorMost}
+use Rattle.record.specs.Limits.{off, on, cooling, warming, isPower}
+use Rattle.record.specs.Rules.{atMost, isLamp, isLamps, isMarks, isErrors, isVolume}
+use Rattle.record.specs.Updates.{withFreeze, withVolumes}
 use Rattle.record.specs.Legal.{fillsRoom, isLeft, isOwn}
 use Rattle.record.specs.declared.types.Settings.{Settings}
 use Rattle.record.specs.declared.types.Own.{Own}
 use Rattle.record.proofs.Kept.{Kept, kept-told, kept-shown, kept-length, clear-by-place}
 use Rattle.record.proofs.Rules.{errors-long, errors-within, lamps-within}
+
+pub record VolumesTold (s m : ℕ) : Type 0 where
+  pub speaker : s ≤ volumeMost
+  pub microphone : m ≤ volumeMost
 
 pub record OwnTold (s : Settings) (o : Own) : Type 0 where
   pub errors : isErrors (o .errors) ≡ true
@@ -28,6 +34,7 @@ pub record OwnTold (s : Settings) (o : Own) : Type 0 where
   pub marks : isMarks (s .«lamp_count») (o .enabled) ≡ true
   pub left : isLeft (o .power) (o .left) (s .warm) (s .cool) ≡ true
   pub chosen : o .chosen < s .«input_count»
+  pub volumes : VolumesTold (o .speaker) (o .microphone)
 
 module _ (s : Settings) (o : Own) where
   abbrev lamps-ok : Bool
@@ -39,11 +46,22 @@ module _ (s : Settings) (o : Own) where
   abbrev left-ok : Bool
   left-ok = isLeft (o .power) (o .left) (s .warm) (s .cool)
 
+  abbrev to-left : Bool
+  to-left = isErrors (o .errors) && lamps-ok && marks-ok && left-ok
+
+  abbrev to-chosen : Bool
+  to-chosen = to-left && ltb (o .chosen) (s .«input_count»)
+
+  abbrev to-speaker : Bool
+  to-speaker = to-chosen && isVolume (o .speaker)
+
   pub own-told : isOwn s o ≡ true → OwnTold s o
   unfolding isOwn
   own-told h =
       let first = isErrors (o .errors) in
-      let h4 = both-left (first && lamps-ok && marks-ok && left-ok) (ltb (o .chosen) (s .«input_count»)) h in
+      let h6 = both-left to-speaker (isVolume (o .microphone)) h in
+      let h5 = both-left to-chosen (isVolume (o .speaker)) h6 in
+      let h4 = both-left to-left (ltb (o .chosen) (s .«input_count»)) h5 in
       let h3 = both-left (first && lamps-ok && marks-ok) left-ok h4 in
       let h2 = both-left (first && lamps-ok) marks-ok h3 in
       record {
@@ -52,16 +70,45 @@ module _ (s : Settings) (o : Own) where
         marks = both-right (first && lamps-ok) marks-ok h3;
         left = both-right (first && lamps-ok && marks-ok) left-ok h4;
         chosen = ltb-true (o .chosen) (s .«input_count»)
-            (both-right (first && lamps-ok && marks-ok && left-ok) (ltb (o .chosen) (s .«input_count»)) h);
+            (both-right to-left (ltb (o .chosen) (s .«input_count»)) h5);
+        volumes = record {
+          speaker = leb-true (o .speaker) volumeMost (both-right to-chosen (isVolume (o .speaker)) h6);
+          microphone = leb-true (o .microphone) volumeMost (both-right to-speaker (isVolume (o .microphone)) h);
+        };
       }
 
   pub own-shown : OwnTold s o → isOwn s o ≡ true
   unfolding isOwn
   own-shown t =
-      both (both (both (both (t .errors) (kept-shown lampsMost isLamps _ _ (t .lamps))) (t .marks)) (t .left))
-      (lt-ltb (o .chosen) (s .«input_count») (t .chosen))
+      both (both (both
+      (both (both (both (t .errors) (kept-shown lampsMost isLamps _ _ (t .lamps))) (t .marks)) (t .left))
+      (lt-ltb (o .chosen) (s .«input_count») (t .chosen)))
+      (le-leb (o .speaker) volumeMost (t .volumes .speaker)))
+      (le-leb (o .microphone) volumeMost (t .volumes .microphone))
 
   module _ (t : OwnTold s o) where
+    -- with another freeze mark, or other volumes (02, L14)
+    pub frozen-told : (m : Bool) → OwnTold s (withFreeze o m)
+    frozen-told m = record {
+      errors = t .errors;
+      lamps = t .lamps;
+      marks = t .marks;
+      left = t .left;
+      chosen = t .chosen;
+      volumes = t .volumes;
+    }
+
+    pub volumes-told : (speaker microphone : ℕ) → VolumesTold speaker microphone
+        → OwnTold s (withVolumes o speaker microphone)
+    volumes-told speaker microphone v = record {
+      errors = t .errors;
+      lamps = t .lamps;
+      marks = t .marks;
+      left = t .left;
+      chosen = t .chosen;
+      volumes = v;
+    }
+
     pub error-at : (k : ℕ) → k < errorsCount → getD (o .errors) k 0 ≤ errorMost
     error-at k l =
         leb-true (getD (o .errors) k 0) errorMost

@@ -63,15 +63,16 @@ module _ (f : ℕ → ℕ → Bool) (s : List ℕ) where
     all-paired h = ap (λ (b : Bool). ok && b) (left h) ∙ sym (p .rest)
 
 -- inputs that are new name inputs
-pub new-named : (s : List ℕ) → eachPair isNewInput s ≡ true → eachNamed s ≡ true
-unfolding eachNamed eachPair
-new-named [] h = refl
-new-named (a ∷ []) h = h
-new-named (a ∷ b ∷ s) h =
-    both (both-left (isInputText a b) (isNone a b s) (both-left (isNewInput a b s) (eachPair isNewInput s) h))
-    (new-named s (both-right (isNewInput a b s) (eachPair isNewInput s) h))
+module _ (k : ℕ) where
+  pub new-named : (s : List ℕ) → eachPair (isNewInput k) s ≡ true → eachNamed k s ≡ true
+  unfolding eachNamed eachPair
+  new-named [] h = refl
+  new-named (a ∷ []) h = h
+  new-named (a ∷ b ∷ s) h =
+      both (both-left (isInputText k a b) (isNone a b s) (both-left (isNewInput k a b s) (eachPair (isNewInput k) s) h))
+      (new-named s (both-right (isNewInput k a b s) (eachPair (isNewInput k) s) h))
 
-pub inputs-unnamed : (s : List ℕ) → eachNamed s ≡ false → isInputs s ≡ false
-inputs-unnamed s e = by-not (isInputs s) (λ h.
-    let n = new-named s (inputs-new s h) in
-    let z : _≡_ {A = ℕ} 0 1 = cc in omega arith)
+  pub inputs-unnamed : (s : List ℕ) → eachNamed k s ≡ false → isInputs k s ≡ false
+  inputs-unnamed s e = by-not (isInputs k s) (λ h.
+      let n = new-named s (inputs-new k s h) in
+      let z : _≡_ {A = ℕ} 0 1 = cc in omega arith)

@@ -4,8 +4,8 @@
 use mathlib.Core.Path.{_≡_, refl}
 use mathlib.Core.Bool.{false}
 use lib.ListN.{replicate}
-use Rattle.record.specs.Limits.{inputRoom, lineRoom, placesCount}
-use Rattle.record.specs.Record.{zeros, closed, blankText, blankOwn, blank}
+use Rattle.record.specs.Limits.{inputRoom, listedMost, lineRoom, placesCount}
+use Rattle.record.specs.Record.{zeros, closed, blankText, blankName, blankOwn, blank}
 use Rattle.record.specs.declared.types.Connection.{Connection}
 
 abbrev closedFields : Connection
@@ -32,6 +32,10 @@ pub blank-spelt : blank ≡ record {
     «lamp_count» = 0;
     warm = 0;
     cool = 0;
+    «class_number» = 0;
+    serial = blankText;
+    version = blankText;
+    names = replicate listedMost blankName;
   };
   own = blankOwn;
   connections = replicate placesCount closedFields;

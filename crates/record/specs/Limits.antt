@@ -2,6 +2,9 @@
 --   textRoom, listedMost, ..     the room of each array, and how much of it a set-up may use
 --   passwordLeast                a password that secures has this many characters and more (02, L9)
 --   lampLimit                    a lamp's seconds stop here: 99,999 hours and 3,599 seconds
+--   volumeMost, volumeStart      a volume is 0 to this; that of set-up (02, L14)
+--   isClass k                    there are two classes (02, L14)
+--   onlyIn2 k n                  what Class 2 alone has: n of it there, none in any other class
 --   stretchMost                  warm-up and cooling last 1 to this many seconds
 --   placesCount                  so many controllers are connected at once (02, L5)
 --   ageEnd                       an awaiting or failed connection closes when its age reaches this
@@ -13,6 +16,7 @@
 use Prim.Native.Nat.{ℕ, _*_}
 use mathlib.Core.Bool.{Bool, _||_}
 use lib.Dec.{leb, eqb}
+use Rattle.text.specs.Words.{if_then_else_}
 use Rattle.lines.specs.Texts.{nameMost}
 
 -- of the longest text
@@ -35,6 +39,18 @@ lampsMost = 8
 
 abbrev pub lampLimit : ℕ
 lampLimit = 359999999
+
+abbrev pub volumeMost : ℕ
+volumeMost = 20
+
+abbrev pub volumeStart : ℕ
+volumeStart = 10
+
+abbrev pub isClass : ℕ → Bool
+isClass k = eqb k 1 || eqb k 2
+
+abbrev pub onlyIn2 : ℕ → ℕ → ℕ
+onlyIn2 k n = if eqb k 2 then n else 0
 
 abbrev pub stretchMost : ℕ
 stretchMost = 600

@@ -19,7 +19,7 @@ use Rattle.record.specs.Rules.{isLongEnough}
 use Rattle.record.specs.SetUp.{settingsInOrder, isSettingInRange}
 use Rattle.record.specs.declared.out_of_range.Setting.{Setting}
 use Rattle.record.specs.declared.out_of_range.Setting.the-variants.{Name, Maker, Model, Other, Password, Inputs}
-use Rattle.record.specs.declared.out_of_range.Setting.the-variants.{Lamps, WarmUp, Cooling}
+use Rattle.record.specs.declared.out_of_range.Setting.the-variants.{Lamps, WarmUp, Cooling, Serial, Version, Names}
 use Rattle.record.specs.declared.out_of_range.MaybeSetting.{MaybeSetting}
 use Rattle.record.specs.declared.out_of_range.MaybeSetting.the-variants.{SettingIs, NoSetting}
 
@@ -33,6 +33,9 @@ settingPlace Inputs = 6
 settingPlace Lamps = 7
 settingPlace WarmUp = 8
 settingPlace Cooling = 9
+settingPlace Serial = 10
+settingPlace Version = 11
+settingPlace Names = 12
 
 unfoldable pub firstFailing : (Setting → Bool) → List Setting → MaybeSetting
 firstFailing f [] = NoSetting

@@ -1,5 +1,9 @@
 // What set-up keeps of the lent slices: each at the start of a cleared room (01, "Set-up").
+use crate::own::VOLUME_START;
+use crate::types::INPUT_NAME_MOST;
 use crate::types::INPUT_ROOM;
+use crate::types::INPUTS_MOST;
+use crate::types::InputName;
 use crate::types::LAMPS_MOST;
 use crate::types::Own;
 use crate::types::TEXT_ROOM;
@@ -7,8 +11,12 @@ use crate::types::Text;
 ghost use mathlib.Core.Path.{_≡_};
 ghost use Prim.Native.Nat.{_≤_};
 ghost use lib.ListN.{length};
-ghost use Rattle.record.specs.Limits.{textRoom, inputRoom, lampsMost};
-ghost use Rattle.record.specs.Record.{inRoom, textOf, allMarks, startOwn};
+ghost use mathlib.Core.Bool.{true};
+ghost use Rattle.lines.specs.Texts.{inputNameMost};
+ghost use Rattle.record.specs.Limits.{textRoom, inputRoom, listedMost, lampsMost};
+ghost use Rattle.record.specs.Wanted.{namesIn};
+ghost use Rattle.record.specs.Rules.{areNames};
+ghost use Rattle.record.specs.Record.{inRoom, textOf, nameOf, namesKept, allMarks, startOwn};
 
 pub fn text_of(s: &[u8]) -> Text
     requires { ⌜ length (now s) ≤ textRoom ⌝ }
@@ -20,6 +28,36 @@ pub fn text_of(s: &[u8]) -> Text
         len: s.len(),
         bytes,
     }
+}
+
+pub fn name_of(s: &[u8]) -> InputName
+    requires { ⌜ length (now s) ≤ inputNameMost ⌝ }
+    ensures { λ r. ⌜ r ≡ nameOf (now (s .entry)) ⌝ }
+{
+    let mut bytes = [0u8; INPUT_NAME_MOST];
+    text::put(&mut bytes, 0, s);
+    InputName {
+        len: s.len(),
+        bytes,
+    }
+}
+
+// So many names, one after the other in `bytes`, each of its length (02, L14).
+pub fn names_of(bytes: &[u8], lengths: &[usize], count: usize) -> [InputName; INPUTS_MOST]
+    requires { ⌜ areNames count (namesIn (now lengths) (now bytes)) ≡ true ⌝ }
+    requires { ⌜ count ≤ listedMost ⌝ }
+    ensures { λ r. ⌜ r ≡ namesKept (namesIn (now (lengths .entry)) (now (bytes .entry))) ⌝ }
+{
+    let mut list = [InputName::EMPTY; INPUTS_MOST];
+    let mut at = 0;
+    let mut i = 0;
+    while i < count {
+        let end = at + lengths[i];
+        list[i] = name_of(&bytes[at..end]);
+        at = end;
+        i += 1;
+    }
+    list
 }
 
 pub fn input_room(s: &[u8]) -> [u8; INPUT_ROOM]
@@ -58,7 +96,8 @@ pub fn mark_room(count: usize) -> [bool; LAMPS_MOST]
     list
 }
 
-// Off, both mutes off, the first input, no fault, error status 000000, and the lamps' starting seconds, each enabled.
+// Off, both mutes off, the first input, no fault, error status 000000, and the lamps' starting seconds, each enabled, and both volumes
+// half way.
 pub fn start_own(lamps: &[u32]) -> Own
     requires { ⌜ length (now lamps) ≤ lampsMost ⌝ }
     ensures { λ r. ⌜ r ≡ startOwn (now (lamps .entry)) ⌝ }
@@ -69,5 +108,7 @@ pub fn start_own(lamps: &[u32]) -> Own
     let mut start = blank;
     start.lamps = seconds;
     start.enabled = marks;
+    start.speaker = VOLUME_START;
+    start.microphone = VOLUME_START;
     start
 }

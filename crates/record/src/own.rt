@@ -9,13 +9,18 @@ ghost use mathlib.Core.Bool.{not};
 ghost use lib.ListN.{drop};
 ghost use Rattle.text.specs.Scans.{every};
 ghost use Rattle.record.specs.Limits.{lampsMost, isLit, isBetween};
-ghost use Rattle.record.specs.Rules.{isLamps, isMarks, isErrors};
+ghost use Rattle.record.specs.Rules.{isLamps, isMarks, isErrors, isVolume};
 ghost use Rattle.record.specs.Legal.{fillsRoom, isLeft, isOwn};
 
 // 99,999 hours and 3,599 seconds.
 pub const LAMP_LIMIT: u32 = 359_999_999;
 
 pub const ERROR_MOST: u8 = 2;
+
+// A volume's levels, and that of set-up (02, L14).
+pub const VOLUME_MOST: u8 = 20;
+
+pub const VOLUME_START: u8 = 10;
 
 // The power, as POWR answers it.
 pub const OFF: u8 = 0;
@@ -113,4 +118,6 @@ pub fn own_ok(s: Settings, o: Own) -> bool
         & marks_ok(enabled, s.lamp_count)
         & left_ok(o.power, o.left, s.warm, s.cool)
         & (o.chosen < s.input_count)
+        & (o.speaker <= VOLUME_MOST)
+        & (o.microphone <= VOLUME_MOST)
 }

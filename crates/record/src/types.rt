@@ -11,6 +11,9 @@ pub const PASSWORD_LEAST: usize = 8;
 
 pub const LAMPS_MOST: usize = 8;
 
+// Of an input's name (02, L14).
+pub const INPUT_NAME_MOST: usize = 128;
+
 pub const LINE_ROOM: usize = 167;
 
 pub const ERRORS: usize = 6;
@@ -25,7 +28,15 @@ pub struct Text {
     pub bytes: [u8; TEXT_ROOM],
 }
 
+// The name of an input in its room (02, L14).
+#[repr(C)]
+pub struct InputName {
+    pub len: usize,
+    pub bytes: [u8; INPUT_NAME_MOST],
+}
+
 // What set-up was given, but for the lamps' starting seconds. An input is two ASCII characters.
+// What Class 2 alone has, serial, version and a name for each input, is all zero in Class 1 (02, L14).
 #[repr(C)]
 pub struct Settings {
     pub name: Text,
@@ -38,6 +49,10 @@ pub struct Settings {
     pub lamp_count: usize,
     pub warm: u32,
     pub cool: u32,
+    pub class_number: u8,
+    pub serial: Text,
+    pub version: Text,
+    pub names: [InputName; INPUTS_MOST],
 }
 
 // The projector's own part, which no connection touches but by a command.
@@ -52,6 +67,9 @@ pub struct Own {
     pub errors: [u8; ERRORS],
     pub lamps: [u32; LAMPS_MOST],
     pub enabled: [bool; LAMPS_MOST],
+    pub frozen: bool,
+    pub speaker: u8,
+    pub microphone: u8,
 }
 
 // What is collected of a line.
@@ -91,7 +109,14 @@ impl Text {
     };
 }
 
-// All zero: off, both mutes off, the first input, no fault, error status 000000, no lamp enabled.
+impl InputName {
+    pub const EMPTY: InputName = InputName {
+        len: 0,
+        bytes: [0; INPUT_NAME_MOST],
+    };
+}
+
+// All zero: off, both mutes off, the first input, no fault, error status 000000, no lamp enabled, not frozen, no volume.
 impl Own {
     pub const BLANK: Own = Own {
         power: 0,
@@ -103,6 +128,9 @@ impl Own {
         errors: [0; ERRORS],
         lamps: [0; LAMPS_MOST],
         enabled: [false; LAMPS_MOST],
+        frozen: false,
+        speaker: 0,
+        microphone: 0,
     };
 }
 
@@ -133,6 +161,10 @@ impl Device {
             lamp_count: 0,
             warm: 0,
             cool: 0,
+            class_number: 0,
+            serial: Text::EMPTY,
+            version: Text::EMPTY,
+            names: [InputName::EMPTY; INPUTS_MOST],
         },
         own: Own::BLANK,
         connections: [Connection::CLOSED; PLACES],

@@ -11,21 +11,21 @@ use Rattle.record.proofs.inputs.all_named.Statement.{statement}
 use Rattle.record.proofs.inputs.all_named.Tie as tie
 
 abbrev Inv : tie.InvT-loop
-Inv s pairs ok₀ k₀ ok k = Paired isInputText s k ok
+Inv class s pairs ok₀ k₀ ok k = Paired (isInputText class) s k ok
 
 abbrev μ : tie.MeasureT-loop
-μ s pairs ok₀ k₀ ok k = pairs - k
+μ class s pairs ok₀ k₀ ok k = pairs - k
 
 again : tie.Need-loop-again Inv μ
 again c =
     let turn = let c3 = c .before .before .before in c3 .before in
     let p = turn .loop .inv in
     let there : 2 * turn .loop .k + 1 < length (turn .before .before .args .s .now) = omega arith in
-    rw (c .is-input-text .ensures) (one-paired isInputText _ p there)
+    rw (c .is-input-text .ensures) (one-paired (isInputText (turn .before .before .args .class)) _ p there)
 
 ends : tie.Need-returns Inv μ
 unfolding eachNamed
-ends c = all-paired isInputText _ (c .before .loop .inv) (omega arith)
+ends c = all-paired (isInputText (c .before .before .before .args .class)) _ (c .before .loop .inv) (omega arith)
 
 pub all-named-spec : {M : Type 1} → statement M
 all-named-spec =
@@ -33,7 +33,7 @@ all-named-spec =
     (tie.spec
     Inv
     μ
-    (λ c. none-paired isInputText _)
+    (λ c. none-paired (isInputText (c .before .args .class)) _)
     (λ c. omega arith)
     (λ c. omega arith)
     (λ c. omega arith)

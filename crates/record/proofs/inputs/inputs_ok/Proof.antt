@@ -14,14 +14,15 @@ use Rattle.record.proofs.inputs.inputs_ok.Statement.{statement}
 use Rattle.record.proofs.inputs.inputs_ok.Tie as tie
 
 unnamed : tie.Need-returns
-unnamed c = sym (inputs-unnamed _ (sym (c .before .all-named .ensures) ∙ not-true _ (c .if1 .taken)))
+unnamed c = sym (inputs-unnamed _ _ (sym (c .before .all-named .ensures) ∙ not-true _ (c .if1 .taken)))
 
 decided : tie.Need-returns-2
 unfolding isInputs
 decided c =
-    let tested = c .before .before in
+    let class = c .before in
+    let tested = class .before .before in
     let long = length (tested .before .before .args .s .now) in
-    (λ j. leb 2 long && leb long inputRoom && c .all-new .ensures j)
+    (λ j. class .is-class .ensures j && leb 2 long && leb long inputRoom && c .all-new .ensures j)
 
 pub inputs-ok-spec : {M : Type 1} → statement M
 inputs-ok-spec =
@@ -29,5 +30,6 @@ inputs-ok-spec =
     (tie.spec
     (λ c κs. search needs)
     unnamed
-    (λ c κs. sym (c .before .all-named .ensures) ∙ not-false _ (c .if1 .left))
+    (λ c κs. search needs)
+    (λ c κs. let passed = c .before in sym (passed .before .all-named .ensures) ∙ not-false _ (passed .if1 .left))
     decided)

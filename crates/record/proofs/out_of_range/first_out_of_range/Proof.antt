@@ -10,7 +10,7 @@ use mathlib.Core.List.{List, _∷_}
 use lib.ListN.{drop}
 use borrow.Author.Tests.{not-true, not-false}
 use borrow.Author.Needs.{needs}
-use Rattle.record.specs.Wanted.{wantedOf}
+use Rattle.record.specs.Wanted.{wantedIn, namesIn}
 use Rattle.record.specs.SetUp.{settingsInOrder, isSettingInRange}
 use Rattle.record.specs.OutOfRange.{firstFailing}
 use Rattle.record.specs.declared.out_of_range.Setting.{Setting}
@@ -30,14 +30,20 @@ module _ {told : Bool} (f : Setting → Bool) (s : Setting) (l : List Setting) (
 abbrev rule : tie.Start → Setting → Bool
 rule c =
     isSettingInRange
-    (wantedOf (c .args .name .now) (c .args .maker .now) (c .args .model .now) (c .args .other .now)
-    (c .args .password .now) (c .args .inputs .now) (c .args .lamps .now) (c .args .warm) (c .args .cool))
+    (wantedIn (c .args .class) (c .args .name .now) (c .args .maker .now) (c .args .model .now) (c .args .other .now)
+    (c .args .password .now) (c .args .inputs .now) (c .args .lamps .now) (c .args .warm) (c .args .cool)
+    (c .args .serial .now) (c .args .version .now) (namesIn (c .args .lengths .now) (c .args .names .now)))
 
 abbrev Left : tie.Start → ℕ → Type 0
 Left c n = firstFailing (rule c) settingsInOrder ≡ firstFailing (rule c) (drop n settingsInOrder)
 
 abbrev at1 : tie.Else1 → tie.Start
-at1 c = let c3 = c .before .before .before in let c6 = c3 .before .before .before in c6 .before .before .before
+at1 c =
+    let c3 = c .before .before .before in
+    let c6 = c3 .before .before .before in
+    let c9 = c6 .before .before .before in
+    let c12 = c9 .before .before .before in
+    c12 .before
 
 past1 : (c : tie.Else1) → Left (at1 c) 1
 past1 c = on _ _ _ (c .before .is-name .ensures) (c .if1 .left)
@@ -90,6 +96,24 @@ at9 c = at8 (c .before .before)
 past9 : (c : tie.Else9) → Left (at9 c) 9
 past9 c = past8 (c .before .before) ∙ on _ _ _ (c .before .stretch-ok2 .ensures) (c .if9 .left)
 
+abbrev at10 : tie.Else10 → tie.Start
+at10 c = at9 (c .before .before)
+
+past10 : (c : tie.Else10) → Left (at10 c) 10
+past10 c = past9 (c .before .before) ∙ on _ _ _ (c .before .info-fits .ensures) (c .if10 .left)
+
+abbrev at11 : tie.Else11 → tie.Start
+at11 c = at10 (c .before .before)
+
+past11 : (c : tie.Else11) → Left (at11 c) 11
+past11 c = past10 (c .before .before) ∙ on _ _ _ (c .before .info-fits2 .ensures) (c .if11 .left)
+
+abbrev at12 : tie.Else12 → tie.Start
+at12 c = at11 (c .before .before)
+
+past12 : (c : tie.Else12) → Left (at12 c) 12
+past12 c = past11 (c .before .before) ∙ on _ _ _ (c .before .names-fit .ensures) (c .if12 .left)
+
 pub first-out-of-range-spec : {M : Type 1} → statement M
 first-out-of-range-spec =
     tie.close
@@ -112,4 +136,10 @@ first-out-of-range-spec =
     (λ c. sym (past7 (c .before .before) ∙ out _ _ _ (c .before .stretch-ok .ensures) (c .if8 .taken)))
     (λ c κs. search needs)
     (λ c. sym (past8 (c .before .before) ∙ out _ _ _ (c .before .stretch-ok2 .ensures) (c .if9 .taken)))
-    (λ c. sym (past9 c ∙ no-settings-left _)))
+    (λ c κs. search needs)
+    (λ c. sym (past9 (c .before .before) ∙ out _ _ _ (c .before .info-fits .ensures) (c .if10 .taken)))
+    (λ c κs. search needs)
+    (λ c. sym (past10 (c .before .before) ∙ out _ _ _ (c .before .info-fits2 .ensures) (c .if11 .taken)))
+    (λ c κs. search needs)
+    (λ c. sym (past11 (c .before .before) ∙ out _ _ _ (c .before .names-fit .ensures) (c .if12 .taken)))
+    (λ c. sym (past12 c ∙ no-settings-left _)))

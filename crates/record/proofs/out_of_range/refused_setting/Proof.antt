@@ -1,17 +1,16 @@
--- `record::out_of_range::refused_setting` meets its contract: the first out of its range, or else a short password.
+-- `record::out_of_range::refused_setting` meets its contract: Class 1 with nothing in the rest.
 -- Assumes nothing.
-use mathlib.Core.Path.{_∙_}
 use borrow.Author.Needs.{needs}
-use Rattle.record.specs.OutOfRange.{orShort}
 use Rattle.record.proofs.out_of_range.refused_setting.Statement.{statement}
 use Rattle.record.proofs.out_of_range.refused_setting.Tie as tie
 
-told : tie.Need-returns
-told c =
-    let tested = c .before in
-    c .or-short .ensures
-    ∙ (λ j. orShort (tested .long-enough .ensures j) (tested .before .first-out-of-range .ensures j))
-
 pub refused-setting-spec : {M : Type 1} → statement M
 refused-setting-spec =
-    tie.close (tie.spec (λ c κs. search needs) (λ c κs. search needs) (λ c κs. search needs) told)
+    tie.close
+    (tie.spec
+    (λ c. search needs)
+    (λ c. search needs)
+    (λ c. search needs)
+    (λ c. search needs)
+    (λ c κs. search needs)
+    (λ c. c .refused-in .ensures))

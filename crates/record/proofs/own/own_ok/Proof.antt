@@ -8,7 +8,7 @@ use Rattle.record.proofs.own.own_ok.Tie as tie
 decided : tie.Need-returns
 unfolding isOwn
 decided c =
-    let left = c .before .before in
+    let left = let chosen = c .before .before in chosen .before .before in
     let marks = left .before in
     let lamps = marks .before in
     rw (

@@ -11,17 +11,19 @@ use Rattle.record.proofs.settings.settings_ok.Tie as tie
 decided : tie.Need-returns
 unfolding isSettings
 decided c =
-    let inputs = c .before .before .before in
+    let times = c .before in
+    let inputs = times .before .before .before in
     let other = inputs .before .before in
     let maker = other .before .before in
-    let start = maker .before .before .before in
+    let start = let copied = maker .before .before in copied .before .before in
     (λ j.
     maker .before .name-ok .ensures j && maker .text-ok .ensures j && other .before .text-ok2 .ensures j
     && other .text-ok3 .ensures j && inputs .before .password-ok .ensures j && inputs .input-list-ok .ensures j
-    && leb (start .args .s .«lamp_count») lampsMost && c .before .stretch-ok .ensures j && c .stretch-ok2 .ensures j)
+    && leb (start .args .s .«lamp_count») lampsMost && times .before .stretch-ok .ensures j && times .stretch-ok2 .ensures j
+    && c .rest-of-2-ok .ensures j)
 
 pub settings-ok-spec : {M : Type 1} → statement M
 settings-ok-spec =
     tie.close
     (tie.spec (λ c κs. search needs) (λ c κs. search needs) (λ c κs. search needs) (λ c κs. search needs)
-    (λ c κs. search needs) (λ c κs. search needs) (λ c κs. search needs) (λ c κs. search needs) decided)
+    (λ c κs. search needs) (λ c κs. search needs) (λ c κs. search needs) (λ c κs. search needs) (λ c κs. search needs) decided)

@@ -1,69 +1,16 @@
--- `record::setup::set_up` meets its contract: whether each setting is in its range, then whether the password is long
--- enough, picks the case; what passes fits its room.
+-- `record::setup::set_up` meets its contract: Class 1 with nothing in the rest.
 -- Assumes nothing.
-use mathlib.Core.Path.{_≡_, refl, sym, _∙_}
-use mathlib.Core.Bool.{true}
-use borrow.Author.Tests.{not-true, not-false}
 use borrow.Author.Needs.{needs}
-use Rattle.record.specs.Wanted.{Wanted, wantedOf}
-use Rattle.record.specs.Record.{closed}
-use Rattle.record.specs.SetUp.{isInRange, isSetUp}
-use Rattle.record.specs.declared.out_of_range.Setting.the-variants.{Lamps}
-use Rattle.record.proofs.Rules.{lamps-few}
-use Rattle.record.proofs.Calls.{set-up-shown, set-up-refused, set-up-short, set-up-made}
-use Rattle.record.proofs.OutOfRange.{each-in-range}
 use Rattle.record.proofs.setup.set_up.Statement.{statement}
 use Rattle.record.proofs.setup.set_up.Tie as tie
-
-module _ (c : tie.After-long-enough) where
-  abbrev given : tie.Start
-  given =
-      let c3 = c .before .before .before in
-      let c6 = c3 .before .before .before in
-      c6 .before .before .before
-
-  abbrev lent : Wanted
-  lent =
-      wantedOf (given .args .name .now) (given .args .maker .now) (given .args .model .now) (given .args .other .now)
-      (given .args .password .now) (given .args .inputs .now) (given .args .lamps .now) (given .args .warm)
-      (given .args .cool)
-
-ranged : (c : tie.Else1) → isInRange (lent (c .before)) ≡ true
-ranged c = sym (c .before .before .in-range .ensures) ∙ not-false _ (c .if1 .left)
-
-passes : (c : tie.Else2) → isSetUp (lent (c .before .before)) ≡ true
-passes c =
-    let tested = c .before .before in
-    set-up-shown (lent tested) (ranged (c .before)) (sym (tested .long-enough .ensures) ∙ not-false _ (c .if2 .left))
-
-out : tie.Need-returns
-out c =
-    let tested = c .before .before in
-    let no = sym (tested .before .in-range .ensures) ∙ not-true _ (c .before .if1 .taken) in
-    c .refuse .ensures ∙ sym (set-up-refused (lent tested) no)
-
-short : tie.Need-returns-2
-short c =
-    let passed = c .before .before in
-    let no = sym (passed .before .long-enough .ensures) ∙ not-true _ (c .before .if2 .taken) in
-    c .refuse2 .ensures ∙ sym (set-up-short (lent (passed .before)) (ranged passed) no)
-
-starts : tie.Need-returns-3
-unfolding closed
-starts c =
-    let made = c .before in
-    set-up-made _ (passes (made .before)) (made .settings-of .ensures) (c .start-own .ensures) refl
 
 pub set-up-spec : {M : Type 1} → statement M
 set-up-spec =
     tie.close
     (tie.spec
+    (λ c. search needs)
+    (λ c. search needs)
+    (λ c. search needs)
+    (λ c. search needs)
     (λ c κs. search needs)
-    (λ c κs. search needs)
-    (λ c κs. search needs)
-    out
-    (λ c κs. search needs)
-    short
-    (λ c κs. passes c)
-    (λ c κs. lamps-few _ (each-in-range _ (passes (c .before)) Lamps))
-    starts)
+    (λ c. c .set-up-in .ensures))
