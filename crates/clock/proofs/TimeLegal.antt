@@ -95,6 +95,7 @@ module _ (s : Settings) (o : Own) (t : OwnTold s o) where
     marks = t .marks;
     left = left-kept _ _ _ _ (left-told (o .power) (o .left) (s .warm) (s .cool) (t .left));
     chosen = t .chosen;
+    volumes = t .volumes;
   }
 
 -- the connection
