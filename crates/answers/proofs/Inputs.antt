@@ -1,62 +1,35 @@
--- Inputs: what is read as one was its two characters, and is read back from them; the loop over a list of them.
+-- Lists of inputs: what is read as one was its inputs' characters, and is read back from them; the loop over it.
 -- Assumes nothing.
 use Prim.Native.Nat.{ℕ, _-_, _≤_}
 use mathlib.Core.Path.{_≡_, refl, sym, ap, _∙_}
-use mathlib.Core.Bool.{true, not}
+use mathlib.Core.Bool.{true}
 use mathlib.Core.List.{List, [], _∷_, _++_}
-use native.Mathlib.Omega.{arith}
-use lib.ListN.{length, take, drop}
-use lib.Dec.{eqb}
-use borrow.Author.Tests.{eqb-true}
-use Rattle.text.proofs.Choices.{if-by, both}
-use Rattle.text.proofs.Scanning.{every-implies}
-use Rattle.numbers.specs.Decimal.{isDigit}
-use Rattle.numbers.proofs.Digits.{digit-isnt}
-use Rattle.lines.specs.Bytes.{_at_}
-use Rattle.lines.specs.Inputs.{isInput, inputText}
+use lib.ListN.{take, drop}
+use Rattle.text.proofs.Choices.{both}
+use Rattle.lines.specs.Inputs.{isInput, inputText, inputOf}
 use Rattle.lines.specs.declared.input.Input.{Input}
 use Rattle.lines.specs.declared.input.MaybeInput.{MaybeInput}
-use Rattle.lines.specs.declared.input.MaybeInput.the-variants.{InputIs, NoInput}
-use Rattle.lines.proofs.ByPlaces.{by-places}
-use Rattle.lines.proofs.InputsReadBack.{input-read-back, named-is-input, named-text, read-input-by}
+use Rattle.lines.proofs.InputsReadBack.{input-of-text, input-of-by}
 use Rattle.answers.specs.Lists.{no-more, one-more, wordsOf, wordsAfter, WordTo, all, _andThen_}
 use Rattle.answers.specs.Said.{inputsAre, nothing}
 use Rattle.answers.specs.Carried.{inputsCarried, noInputs, plainOf, ofInputs, answerOf}
-use Rattle.answers.specs.Reading.{inputOf, inputGot, inputsIn, listSays, readInputs}
+use Rattle.answers.specs.Reading.{inputGot, inputsIn, listSays, readInputs}
 use Rattle.answers.specs.declared.answer.Kind.the-variants.{Nothing}
 use Rattle.answers.specs.declared.answer.Answer.{Answer}
-use Rattle.answers.proofs.InputDigits.{input-digits}
-use Rattle.answers.proofs.Words.{notSpace, word-first}
+use Rattle.answers.proofs.InputCharacters.{input-unspaced}
+use Rattle.answers.proofs.Words.{word-first}
 use Rattle.answers.proofs.Spaced.{Only}
 use Rattle.answers.proofs.JoinedRead.{Reads, not-read, read, nothing-read, reads-then}
 use Rattle.answers.proofs.ReadLists.{AllRead, listed}
-
--- what a word is read as, by whether it is the text of an input
-pub input-by : (Q : MaybeInput → Type 0) (w : List ℕ)
-    → ((i : Input) → isInput i ≡ true → w ≡ inputText i → Q (InputIs i))
-    → Q NoInput
-    → Q (inputOf w)
-unfolding inputOf
-input-by Q w named unnamed =
-    if-by Q (eqb (length w) 2)
-    (λ two. read-input-by Q (w at 0) (w at 1)
-    (λ e. named _ (named-is-input (w at 0) (w at 1) e)
-    (by-places 2 w (eqb-true (length w) 2 two) ∙ sym (named-text (w at 0) (w at 1) e)))
-    unnamed)
-    (λ e. unnamed)
 
 pub inputs-read : (ws : List (List ℕ)) → Reads (Only inputText) isInput ws (inputsIn ws)
 inputs-read [] = nothing-read _ _
 inputs-read (w ∷ ws) =
     reads-then _ _ (w ∷ []) ws
-    (input-by (λ m. Reads (Only inputText) isInput (w ∷ []) (inputGot m)) w
+    (input-of-by (λ m. Reads (Only inputText) isInput (w ∷ []) (inputGot m)) w
     (λ i good text. read (i ∷ []) (both good refl) (one-more i [] w [] text no-more))
     not-read)
     (inputs-read ws)
-
-pub input-back : (i : Input) → isInput i ≡ true → inputOf (inputText i) ≡ InputIs i
-unfolding inputOf
-input-back i e = input-read-back i e
 
 pub inputs-back : (i : Input) → isInput i ≡ true → (u : List ℕ) → Only inputText i u → (t : List ℕ)
     (ws : List (List ℕ)) → wordsOf t ≡ [] ∷ ws
@@ -64,10 +37,8 @@ pub inputs-back : (i : Input) → isInput i ≡ true → (u : List ℕ) → Only
 inputs-back i e u text t ws h =
     ap (λ (l : List ℕ). inputsIn (wordsOf (l ++ t))) text
     ∙ ap inputsIn
-    (word-first (inputText i) t
-    (every-implies isDigit notSpace (λ b d. ap not (digit-isnt " " (omega arith) b d)) (inputText i) (input-digits i e))
-    h)
-    ∙ ap (λ (m : MaybeInput). inputGot m andThen inputsIn ws) (input-back i e)
+    (word-first (inputText i) t (input-unspaced i) h)
+    ∙ ap (λ (m : MaybeInput). inputGot m andThen inputsIn ws) (input-of-text i e)
 
 -- the loop: one input, and the end
 module _ (p : List ℕ) where

@@ -1,4 +1,4 @@
-mod InputDigits
+mod InputCharacters
 pub mod Inputs
 pub mod Lamps
 pub mod Mapped

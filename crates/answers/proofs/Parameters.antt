@@ -8,11 +8,11 @@ use native.Mathlib.Omega.{arith}
 use lib.ListN.{length}
 use borrow.Author.Tests.{eq-eqb, ne-eqb}
 use Rattle.text.specs.Words.{if_then_else_}
-use Rattle.lines.specs.Texts.{refusalOf, isInfo, nameMost}
-use Rattle.lines.proofs.TextsTold.{info-long}
+use Rattle.lines.specs.Texts.{refusalOf, isName, isInfo}
+use Rattle.lines.proofs.TextsTold.{name-long, info-long}
 use Rattle.lines.specs.declared.command.Command.{Command}
 use Rattle.answers.specs.Said.{Said, refused, textIs, nothing}
-use Rattle.answers.specs.Carried.{plainOf, answerOf}
+use Rattle.answers.specs.Carried.{textCarried, plainOf, answerOf}
 use Rattle.answers.specs.Reading.{_spells_, isRefusalTo, readValue, readParameter}
 use Rattle.answers.specs.declared.answer.Kind.{Kind}
 use Rattle.answers.specs.declared.answer.Kind.the-variants.{Nothing}
@@ -46,5 +46,8 @@ pub text-said : (p : List ℕ) {r : Answer} {t u : Bool} → r ≡ answerOf (if 
     → r ≡ answerOf (if u then textIs p else nothing)
 text-said p e f = e ∙ ap (λ (b : Bool). answerOf (if b then textIs p else nothing)) f
 
-pub room-for-info : (s : List ℕ) → isInfo s ≡ true → length s ≤ nameMost
+pub room-for-name : (s : List ℕ) → isName s ≡ true → length s ≤ textCarried
+room-for-name s e = omega (arith, name-long s e)
+
+pub room-for-info : (s : List ℕ) → isInfo s ≡ true → length s ≤ textCarried
 room-for-info s e = omega (arith, info-long s e)

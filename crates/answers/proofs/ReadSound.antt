@@ -15,15 +15,18 @@ use Rattle.text.proofs.Choices.{if-by, both-left, both-right}
 use Rattle.text.proofs.Sameness.{same-is}
 use Rattle.lines.specs.Bytes.{_at_}
 use Rattle.lines.specs.Inputs.{isInput, inputText}
-use Rattle.lines.specs.Texts.{refusalOf, isName, isInfo}
+use Rattle.lines.specs.Texts.{refusalOf, isName, isInfo, isInputName}
+use Rattle.lines.specs.declared.input.Input.{Input}
 use Rattle.lines.specs.declared.command.Command.{Command}
-use Rattle.lines.specs.declared.command.Command.the-variants.{PowerSet, InputSet, MuteSet, Query}
+use Rattle.lines.specs.declared.command.Command.the-variants.{PowerSet, InputSet, MuteSet, InputSet2, FreezeSet}
+use Rattle.lines.specs.declared.command.Command.the-variants.{VolumeStep, NameQuery, Query}
 use Rattle.lines.specs.declared.command.Body.{Body}
 use Rattle.lines.specs.declared.command.Body.the-variants.{Powr, Inpt, Avmt, Erst, Lamp, Inst, Name, Inf1, Inf2, Info}
-use Rattle.lines.specs.declared.command.Body.the-variants.{Clss}
+use Rattle.lines.specs.declared.command.Body.the-variants.{Clss, Frez, Svol, Mvol, Snum, Sver, Innm, Inpt2, Inst2}
 use Rattle.lines.proofs.ByPlaces.{by-places}
+use Rattle.lines.proofs.InputsReadBack.{input-of-by}
 use Rattle.lines.proofs.Refusals.{refusal-at-most-4, refusal-text}
-use Rattle.answers.specs.Said.{Said, lampsAre, inputsAre, textIs, nothing, saidBytes}
+use Rattle.answers.specs.Said.{Said, chosenIs, lampsAre, inputsAre, textIs, nothing, saidBytes}
 use Rattle.answers.specs.Carried.{lampsCarried, inputsCarried, errorsCarried}
 use Rattle.answers.specs.Lists.{all}
 use Rattle.answers.specs.Reading.{isSet, isRefusalTo, isErrorText, errorOf, lampsIn, inputsIn, listSays}
@@ -31,14 +34,15 @@ use Rattle.answers.specs.Reading.{chosenOr, powerNamed, readPower, readC
 use Rattle.answers.specs.Reading.{readErrors, readLamps, readInputs, readOk, readQueried, readValue}
 use Rattle.answers.specs.Reading.{readParameter}
 use Rattle.answers.specs.CanSay.{CanSay, done, refuses, power, input, mutes, errors, lamps, inputs, name, maker}
-use Rattle.answers.specs.CanSay.{model, other, class-1, isLampHours}
+use Rattle.answers.specs.CanSay.{model, other, class-is, freeze, serial, version, input-name, input-2, inputs-2}
+use Rattle.answers.specs.CanSay.{isLampHours}
 use Rattle.answers.specs.Writings.{WritesLamp, Writes, Says}
 use Rattle.answers.specs.declared.answer.Power.the-variants.{Off, On, Cooling, WarmUp}
 use Rattle.answers.proofs.Spaced.{Only, only-spaced}
 use Rattle.answers.proofs.JoinedRead.{words-by}
 use Rattle.answers.proofs.ErrorsRead.{errors-are}
 use Rattle.answers.proofs.LampsRead.{lamps-read}
-use Rattle.answers.proofs.Inputs.{input-by, inputs-read}
+use Rattle.answers.proofs.Inputs.{inputs-read}
 
 pub data CanRead (c : Command) (p : List ℕ) : Said → Type 0 where
   answer : {m : Said} → Says c m p → CanRead c p m
@@ -72,11 +76,11 @@ module _ (p : List ℕ) where
       (shown _ (power Cooling) (byte-is one)
       (shown _ (power WarmUp) (byte-is one) no-answer))))
 
-  chosen-sound : CanRead (Query Inpt) p (readChosen p)
+  chosen-sound : {c : Command} → ((i : Input) → isInput i ≡ true → CanSay c (chosenIs i)) → CanRead c p (readChosen p)
   unfolding saidBytes
-  chosen-sound =
-      input-by (λ m. CanRead (Query Inpt) p (chosenOr m)) p
-      (λ i good text. answer (record { can = input i good; written = text }))
+  chosen-sound {c} can =
+      input-of-by (λ m. CanRead c p (chosenOr m)) p
+      (λ i good text. answer (record { can = can i good; written = text }))
       no-answer
 
   mutes-sound : CanRead (Query Avmt) p (readMutes p)
@@ -110,33 +114,47 @@ module _ (p : List ℕ) where
       (λ x xs good text. list-sound lampsAre lampsCarried (x ∷ xs)
       (λ few. answer (record { can = lamps (x ∷ xs) (omega arith) few good; written = text })))
 
-  inputs-sound : CanRead (Query Inst) p (readInputs p)
+  inputs-sound : {b : Body}
+      → ((is : List Input) → 1 ≤ length is → length is ≤ inputsCarried → every isInput is ≡ true
+      → CanSay (Query b) (inputsAre is))
+      → CanRead (Query b) p (readInputs p)
   unfolding readInputs saidBytes
-  inputs-sound =
+  inputs-sound {b} can =
       words-by (Only inputText) isInput inputsIn inputs-read
-      (λ q. CanRead (Query Inst) p (listSays inputsAre inputsCarried q)) no-answer p
+      (λ q. CanRead (Query b) p (listSays inputsAre inputsCarried q)) no-answer p
       (λ x xs good text. list-sound inputsAre inputsCarried (x ∷ xs)
-      (λ few. answer (record { can = inputs (x ∷ xs) (omega arith) few good; written = cc (only-spaced text) })))
+      (λ few. answer (record { can = can (x ∷ xs) (omega arith) few good; written = cc (only-spaced text) })))
 
   -- the bytes themselves are the text
-  text-sound : {b : Body} (t : Bool) → (t ≡ true → CanSay (Query b) (textIs p))
-      → CanRead (Query b) p (if t then textIs p else nothing)
+  text-sound : {c : Command} (t : Bool) → (t ≡ true → CanSay c (textIs p))
+      → CanRead c p (if t then textIs p else nothing)
   unfolding saidBytes
   text-sound t can = guarded t (λ e. answer (record { can = can e; written = refl }))
 
 queried-sound : (b : Body) (p : List ℕ) → CanRead (Query b) p (readQueried b p)
 unfolding saidBytes
 queried-sound Powr p = power-sound p
-queried-sound Inpt p = chosen-sound p
+queried-sound Inpt p = chosen-sound p input
 queried-sound Avmt p = mutes-sound p
 queried-sound Erst p = errors-sound p
 queried-sound Lamp p = lamps-sound p
-queried-sound Inst p = inputs-sound p
+queried-sound Inst p = inputs-sound p inputs
 queried-sound Name p = text-sound p (isName p) (name p)
 queried-sound Inf1 p = text-sound p (isInfo p) (maker p)
 queried-sound Inf2 p = text-sound p (isInfo p) (model p)
 queried-sound Info p = text-sound p (isInfo p) (other p)
-queried-sound Clss p = shown _ class-1 (same-is p (ascii "1")) no-answer
+queried-sound Clss p =
+    shown _ (class-is 1 (omega arith) (omega arith)) (same-is p (ascii "1"))
+    (shown _ (class-is 2 (omega arith) (omega arith)) (same-is p (ascii "2")) no-answer)
+queried-sound Frez p =
+    shown _ (freeze true) (same-is p (ascii "1")) (shown _ (freeze false) (same-is p (ascii "0")) no-answer)
+queried-sound Svol p = no-answer
+queried-sound Mvol p = no-answer
+queried-sound Snum p = text-sound p (isInfo p) (serial p)
+queried-sound Sver p = text-sound p (isInfo p) (version p)
+queried-sound Innm p = text-sound p (isInputName p) (input-name p refl)
+queried-sound Inpt2 p = chosen-sound p input-2
+queried-sound Inst2 p = inputs-sound p inputs-2
 
 ok-sound : (c : Command) (p : List ℕ) → isSet c ≡ true → CanRead c p (readOk p)
 unfolding saidBytes
@@ -146,6 +164,10 @@ value-sound : (c : Command) (p : List ℕ) → CanRead c p (readValue c p)
 value-sound (PowerSet on) p = ok-sound (PowerSet on) p refl
 value-sound (InputSet i) p = ok-sound (InputSet i) p refl
 value-sound (MuteSet half on) p = ok-sound (MuteSet half on) p refl
+value-sound (InputSet2 i) p = ok-sound (InputSet2 i) p refl
+value-sound (FreezeSet on) p = ok-sound (FreezeSet on) p refl
+value-sound (VolumeStep v up) p = ok-sound (VolumeStep v up) p refl
+value-sound (NameQuery i) p = text-sound p (isInputName p) (input-name p refl)
 value-sound (Query b) p = queried-sound b p
 
 pub read-sound : (c : Command) (p : List ℕ) → CanRead c p (readParameter c p)

@@ -10,31 +10,40 @@ use native.Mathlib.Omega.{arith}
 use lib.ListN.{length, length-map}
 use Rattle.text.specs.Words.{ascii}
 use Rattle.text.specs.Scans.{every}
-use Rattle.text.proofs.Choices.{if-yes, both-left}
+use Rattle.text.proofs.Choices.{if-yes, if-no, both, both-left}
 use Rattle.numbers.specs.Decimal.{isDigit}
 use Rattle.numbers.proofs.Digits.{digit-to}
-use Rattle.lines.specs.Inputs.{isInput, inputText, numberDigit}
-use Rattle.lines.specs.Commands.{switchDigit}
-use Rattle.lines.specs.Texts.{refusalOf, nameMost, infoMost}
+use Rattle.lines.specs.Sources.{numberCharacter}
+use Rattle.lines.specs.Inputs.{isInput, sourceDigit, inputText, numberDigit}
+use Rattle.lines.specs.Commands.{bodyOf, switchDigit}
+use Rattle.lines.specs.Texts.{refusalOf, isInputName, nameMost, infoMost, inputNameMost}
 use Rattle.lines.specs.declared.input.Input.{Input}
 use Rattle.lines.specs.declared.command.Command.{Command}
-use Rattle.lines.specs.declared.command.Command.the-variants.{PowerSet, InputSet, MuteSet, Query}
+use Rattle.lines.specs.declared.command.Command.the-variants.{PowerSet, InputSet, MuteSet, InputSet2, FreezeSet}
+use Rattle.lines.specs.declared.command.Command.the-variants.{VolumeStep, NameQuery, Query}
+use Rattle.lines.specs.declared.command.Volume.the-variants.{Speaker, Microphone}
+use Rattle.lines.specs.declared.command.Body.{Body}
+use Rattle.lines.specs.declared.command.Body.the-variants.{Clss, Frez, Innm}
 use Rattle.answers.specs.Lists.{spaced, joined, SpacedBy, no-more, one-more}
 use Rattle.answers.specs.Said.{Said, okay, powerIs, mutesAre, lampsAre, inputsAre, lampText, powerText}
-use Rattle.answers.specs.Said.{mutesText, saidBytes}
+use Rattle.answers.specs.Said.{mutesText, saidBytes, chosenIs, textIs, classIs, freezeIs, nothing}
 use Rattle.answers.specs.Carried.{lampsCarried, inputsCarried}
-use Rattle.answers.specs.Reading.{isSet, chosenOr, lampsIn, inputsIn, powerNamed, readPower}
+use Rattle.answers.specs.Reading.{isSet, chosenOr, lampsIn, inputsIn, powerNamed, readPower, readOk}
+use Rattle.answers.specs.Reading.{readChosen, readQueried}
 use Rattle.answers.specs.Reading.{mutesNamed, readMutes, readLamps, readInputs, readValue, readParameter}
 use Rattle.answers.specs.CanSay.{CanSay, done, refuses, power, input, mutes, errors, lamps, inputs, name, maker}
-use Rattle.answers.specs.CanSay.{model, other, class-1, isLampHours}
+use Rattle.answers.specs.CanSay.{model, other, class-is, freeze, serial, version, input-name, input-2, inputs-2}
+use Rattle.answers.specs.CanSay.{isLampHours}
 use Rattle.answers.specs.Writings.{WritesLamp, Writes}
 use Rattle.answers.specs.declared.answer.Power.{Power}
 use Rattle.answers.specs.declared.answer.Power.the-variants.{Off, On, Cooling, WarmUp}
 use Rattle.answers.specs.declared.answer.LampHours.{LampHours}
 use Rattle.lines.proofs.TextsTold.{text-no-refusal, name-is-text}
 use Rattle.lines.proofs.Refusals.{first-not-E, not-four-no-refusal, refusal-back}
-use Rattle.answers.proofs.InputDigits.{input-digits}
-use Rattle.answers.proofs.Inputs.{input-back, inputs-back}
+use Rattle.lines.proofs.InputsReadBack.{input-of-text}
+use Rattle.lines.proofs.CommandLines.{one-or-two}
+use Rattle.answers.proofs.InputCharacters.{source-is-digit}
+use Rattle.answers.proofs.Inputs.{inputs-back}
 use Rattle.answers.proofs.LampsBack.{lamps-back, lamp-written}
 use Rattle.answers.proofs.ErrorsBack.{numbers-are-digits, errors-back}
 use Rattle.answers.proofs.Spaced.{Only, joined-by}
@@ -58,14 +67,39 @@ value c p z e = no-refusal c p (sym z) refl ∙ e
 by : (c : Command) {p q : List ℕ} {m : Said} → p ≡ q → readParameter c q ≡ m → readParameter c p ≡ m
 by c same e = ap (readParameter c) same ∙ e
 
-plain-back : (refusalOf (ascii "OK") ≡ 0) × (refusalOf (ascii "1") ≡ 0)
-plain-back = (not-four-no-refusal (ascii "OK") (λ e. omega arith), not-four-no-refusal (ascii "1") (λ e. omega arith))
+ok-no-refusal : refusalOf (ascii "OK") ≡ 0
+ok-no-refusal = not-four-no-refusal (ascii "OK") (λ e. omega arith)
 
 ok-back : (c : Command) → isSet c ≡ true → readValue c (ascii "OK") ≡ okay
-ok-back (PowerSet on) e = refl
-ok-back (InputSet i) e = refl
-ok-back (MuteSet half on) e = refl
-ok-back (Query b) e = cc
+ok-back c e = if-yes okay (readQueried (bodyOf c) (ascii "OK")) e
+
+-- an input's name is the answer to no set
+name-no-set : (c : Command) → bodyOf c ≡ Innm → isSet c ≡ false
+name-no-set (PowerSet on) e = cc
+name-no-set (InputSet i) e = cc
+name-no-set (MuteSet half on) e = cc
+name-no-set (InputSet2 i) e = cc
+name-no-set (FreezeSet on) e = cc
+name-no-set (VolumeStep Speaker up) e = cc
+name-no-set (VolumeStep Microphone up) e = cc
+name-no-set (NameQuery i) e = refl
+name-no-set (Query b) e = refl
+
+name-back : (c : Command) (s : List ℕ) → bodyOf c ≡ Innm → isInputName s ≡ true → readValue c s ≡ textIs s
+name-back c s b e =
+    if-no (readOk s) (readQueried (bodyOf c) s) (name-no-set c b)
+    ∙ ap (λ (x : Body). readQueried x s) b
+    ∙ if-yes (textIs s) nothing e
+
+class-back : (k : ℕ) → 1 ≤ k → k ≤ 2 → readParameter (Query Clss) (numberDigit k ∷ []) ≡ classIs k
+class-back k l h =
+    one-or-two (λ n. readParameter (Query Clss) (numberDigit n ∷ []) ≡ classIs n) k l h
+    (value (Query Clss) (ascii "1") (not-four-no-refusal (ascii "1") (λ e. omega arith)) refl)
+    (value (Query Clss) (ascii "2") (not-four-no-refusal (ascii "2") (λ e. omega arith)) refl)
+
+freeze-back : (on : Bool) → readParameter (Query Frez) (switchDigit on ∷ []) ≡ freezeIs on
+freeze-back true = value (Query Frez) (ascii "1") (not-four-no-refusal (ascii "1") (λ e. omega arith)) refl
+freeze-back false = value (Query Frez) (ascii "0") (not-four-no-refusal (ascii "0") (λ e. omega arith)) refl
 
 power-back : (p : Power) → (refusalOf (powerText p) ≡ 0) × (readPower (powerText p) ≡ powerIs p)
 unfolding readPower powerNamed
@@ -93,19 +127,28 @@ lamps-no-refusal (one-more x xs t s lamp rest) p e =
 inputs-no-refusal : (is : List Input) → 1 ≤ length is → every isInput is ≡ true → refusalOf (joined inputText is) ≡ 0
 inputs-no-refusal [] h e = absurd (omega arith)
 inputs-no-refusal (x ∷ xs) h e =
-    digit-first (inputText x) (spaced inputText xs) (omega arith)
-    (input-digits x (both-left (isInput x) (every isInput xs) e))
+    digit-first (sourceDigit (x .source) ∷ []) (numberCharacter (x .number) ∷ spaced inputText xs) (omega arith)
+    (both (source-is-digit (x .source)) refl)
+
+input-parameter-back : (i : Input) → isInput i ≡ true
+    → (refusalOf (inputText i) ≡ 0) × (readChosen (inputText i) ≡ chosenIs i)
+input-parameter-back i e = (not-four-no-refusal (inputText i) (λ q. omega arith), ap chosenOr (input-of-text i e))
+
+inputs-parameter-back : (is : List Input) → 1 ≤ length is → length is ≤ inputsCarried → every isInput is ≡ true
+    → readInputs (joined inputText is) ≡ inputsAre is
+unfolding readInputs
+inputs-parameter-back is l h e =
+    read-joined (Only inputText) isInput inputsIn refl inputs-back inputsAre inputsCarried is (joined inputText is)
+    (joined-by inputText isInput (λ x good. refl) is l e) h e
 
 -- from any writing of the answer
 pub written-back : {c : Command} {m : Said} → CanSay c m → (p : List ℕ) → Writes m p → readParameter c p ≡ m
-unfolding saidBytes readLamps readInputs
-written-back {c} (done s) p w = by _ w (value c (ascii "OK") (plain-back .0) (ok-back c s))
+unfolding saidBytes readLamps
+written-back {c} (done s) p w = by _ w (value c (ascii "OK") ok-no-refusal (ok-back c s))
 written-back {c} (refuses n l h t) p w = by _ w (allowed c _ (sym (refusal-back n l h)) (omega arith) t)
 written-back (power q) p w = by _ w (value _ (powerText q) (power-back q .0) (power-back q .1))
 written-back (input i e) p w =
-    by _ w
-    (value _ (inputText i) (digits-no-refusal (inputText i) (omega arith) (input-digits i e))
-    (ap chosenOr (input-back i e)))
+    by _ w (value _ (inputText i) (input-parameter-back i e .0) (input-parameter-back i e .1))
 written-back (mutes v a) p w = by _ w (value _ (mutesText v a) (mutes-back v a .0) (mutes-back v a .1))
 written-back (errors ds h e) p w =
     by _ w
@@ -116,15 +159,21 @@ written-back (lamps ls l h e) p w =
     value _ p (lamps-no-refusal w p refl)
     (read-joined WritesLamp isLampHours lampsIn refl (λ x good. lamps-back x) lampsAre lampsCarried ls p w h e)
 written-back (inputs is l h e) p w =
-    by _ w
-    (value _ (joined inputText is) (inputs-no-refusal is l e)
-    (read-joined (Only inputText) isInput inputsIn refl inputs-back inputsAre inputsCarried is (joined inputText is)
-    (joined-by inputText isInput (λ x good. refl) is l e) h e))
+    by _ w (value _ (joined inputText is) (inputs-no-refusal is l e) (inputs-parameter-back is l h e))
 written-back (name s e) p w = by _ w (value _ s (text-no-refusal nameMost s (name-is-text s e)) (if-yes _ _ e))
 written-back (maker s e) p w = by _ w (value _ s (text-no-refusal infoMost s e) (if-yes _ _ e))
 written-back (model s e) p w = by _ w (value _ s (text-no-refusal infoMost s e) (if-yes _ _ e))
 written-back (other s e) p w = by _ w (value _ s (text-no-refusal infoMost s e) (if-yes _ _ e))
-written-back class-1 p w = by _ w (value _ (ascii "1") (plain-back .1) refl)
+written-back (class-is k l h) p w = by _ w (class-back k l h)
+written-back (freeze on) p w = by _ w (freeze-back on)
+written-back (serial s e) p w = by _ w (value _ s (text-no-refusal infoMost s e) (if-yes _ _ e))
+written-back (version s e) p w = by _ w (value _ s (text-no-refusal infoMost s e) (if-yes _ _ e))
+written-back {c} (input-name s b e) p w =
+    by _ w (value c s (text-no-refusal inputNameMost s e) (name-back c s b e))
+written-back (input-2 i e) p w =
+    by _ w (value _ (inputText i) (input-parameter-back i e .0) (input-parameter-back i e .1))
+written-back (inputs-2 is l h e) p w =
+    by _ w (value _ (joined inputText is) (inputs-no-refusal is l e) (inputs-parameter-back is l h e))
 
 -- what a projector of ours writes is a writing
 pub said-is-written : {c : Command} {m : Said} → CanSay c m → Writes m (saidBytes m)
@@ -141,7 +190,13 @@ said-is-written (name s e) = refl
 said-is-written (maker s e) = refl
 said-is-written (model s e) = refl
 said-is-written (other s e) = refl
-said-is-written class-1 = refl
+said-is-written (class-is k l h) = refl
+said-is-written (freeze on) = refl
+said-is-written (serial s e) = refl
+said-is-written (version s e) = refl
+said-is-written (input-name s b e) = refl
+said-is-written (input-2 i e) = refl
+said-is-written (inputs-2 is l h e) = refl
 
 pub reads-back : {c : Command} {m : Said} → CanSay c m → readParameter c (saidBytes m) ≡ m
 reads-back {c} {m} can = written-back can (saidBytes m) (said-is-written can)

@@ -9,17 +9,16 @@ use lib.ListN.{length, take, drop, replicate, length-replicate, length-map, leng
 use lib.Seq.{sets, sets-eq, take-append-seam}
 use borrow.Author.Tests.{leb-true, eqb-true}
 use Rattle.lines.specs.Inputs.{inputText, numberDigit}
-use Rattle.lines.specs.Texts.{nameMost}
 use Rattle.answers.specs.Said.{Said, okay, refused, powerIs, chosenIs, mutesAre, errorsAre, lampsAre, inputsAre}
-use Rattle.answers.specs.Said.{textIs, classIs1, nothing, lampText, powerText, mutesText, saidBytes}
+use Rattle.answers.specs.Said.{textIs, classIs, freezeIs, nothing, lampText, powerText, mutesText, saidBytes}
 use Rattle.answers.specs.Said.{parameterMost}
 use Rattle.answers.specs.Carried.{lampsCarried, inputsCarried, errorsCarried, noText, answerOf, saidAs, saidBy}
-use Rattle.answers.specs.Carried.{isSayable}
+use Rattle.answers.specs.Carried.{textCarried, isSayable}
 use Rattle.answers.specs.declared.answer.Power.{Power}
 use Rattle.answers.specs.declared.answer.Power.the-variants.{Off, On, Cooling, WarmUp}
 use Rattle.answers.specs.declared.answer.Kind.{Kind}
 use Rattle.answers.specs.declared.answer.Kind.the-variants.{Ok, Refused, Powered, Chosen, Muted, Errors, Lamps}
-use Rattle.answers.specs.declared.answer.Kind.the-variants.{Inputs, Text, Class, Nothing}
+use Rattle.answers.specs.declared.answer.Kind.the-variants.{Inputs, Text, Class, Frozen, Nothing}
 use Rattle.answers.specs.declared.answer.Answer.{Answer}
 use Rattle.answers.proofs.Lamps.{lamp-short}
 use Rattle.answers.proofs.PutLists.{joined-any}
@@ -47,11 +46,12 @@ said-back (chosenIs i) e = refl
 said-back (mutesAre v a) e = refl
 said-back (errorsAre ds) e =
     let six : length ds ≡ errorsCarried = eqb-true (length ds) errorsCarried e in
-    ap errorsAre (ap (λ (k : ℕ). take k (sets noText 0 ds)) (sym six) ∙ taken 0 nameMost ds (omega arith))
+    ap errorsAre (ap (λ (k : ℕ). take k (sets noText 0 ds)) (sym six) ∙ taken 0 textCarried ds (omega arith))
 said-back (lampsAre ls) e = ap lampsAre (counted _ lampsCarried ls (leb-true (length ls) lampsCarried e))
 said-back (inputsAre is) e = ap inputsAre (counted _ inputsCarried is (leb-true (length is) inputsCarried e))
-said-back (textIs s) e = ap textIs (counted 0 nameMost s (leb-true (length s) nameMost e))
-said-back classIs1 e = refl
+said-back (textIs s) e = ap textIs (counted 0 textCarried s (leb-true (length s) textCarried e))
+said-back (classIs k) e = refl
+said-back (freezeIs on) e = refl
 said-back nothing e = refl
 
 pub power-within : (p : Power) → length (powerText p) ≤ 1
@@ -81,8 +81,9 @@ within (Lamps n) a =
 within (Inputs n) a =
     let is = take (min n inputsCarried) (a .inputs) in
     omega (arith, joined-any inputText 2 (λ x. omega arith) is, length-take (min n inputsCarried) (a .inputs))
-within (Text n) a = omega (arith, length-take (min n nameMost) (a .text))
-within Class a = omega arith
+within (Text n) a = omega (arith, length-take (min n textCarried) (a .text))
+within (Class k) a = omega arith
+within (Frozen on) a = omega arith
 within Nothing a = omega arith
 
 pub said-within : (a : Answer) → length (saidBytes (saidBy a)) ≤ parameterMost

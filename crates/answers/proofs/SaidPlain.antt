@@ -16,22 +16,24 @@ use Rattle.numbers.specs.Decimal.{digits, isDigit}
 use Rattle.numbers.proofs.Digits.{digits-at-most-5, digits-without, digit-isnt}
 use Rattle.lines.specs.Bytes.{notCr, noCr}
 use Rattle.lines.specs.Inputs.{isInput, inputText, numberDigit}
-use Rattle.lines.specs.Texts.{isTextByte, isText, nameMost, infoMost}
+use Rattle.lines.specs.Texts.{isTextByte, isText, nameMost, infoMost, inputNameMost}
 use Rattle.lines.specs.Commands.{switchDigit}
 use Rattle.lines.specs.declared.command.Command.{Command}
 use Rattle.lines.proofs.Characters.{no-cr-of}
-use Rattle.lines.proofs.TextsTold.{name-long, info-long}
+use Rattle.lines.proofs.TextsTold.{name-long, info-long, input-name-long}
 use Rattle.answers.specs.Said.{Said, okay, refused, powerIs, chosenIs, mutesAre, errorsAre, lampsAre, inputsAre}
-use Rattle.answers.specs.Said.{textIs, classIs1, nothing, lampText, powerText, mutesText, saidBytes}
+use Rattle.answers.specs.Said.{textIs, classIs, freezeIs, nothing, lampText, powerText, mutesText, saidBytes}
 use Rattle.answers.specs.Said.{parameterMost, saidMost, bytesMost}
-use Rattle.answers.specs.Carried.{lampsCarried, inputsCarried, errorsCarried, answerOf, saidBy, isSayable}
+use Rattle.answers.specs.Carried.{lampsCarried, inputsCarried, errorsCarried, textCarried, answerOf, saidBy}
+use Rattle.answers.specs.Carried.{isSayable}
 use Rattle.answers.specs.CanSay.{CanSay, done, refuses, power, input, mutes, errors, lamps, inputs, name, maker}
-use Rattle.answers.specs.CanSay.{model, other, class-1, hoursMost, isLampHours}
+use Rattle.answers.specs.CanSay.{model, other, class-is, freeze, serial, version, input-name, input-2, inputs-2}
+use Rattle.answers.specs.CanSay.{hoursMost, isLampHours}
 use Rattle.answers.specs.declared.answer.Power.{Power}
 use Rattle.answers.specs.declared.answer.Power.the-variants.{Off, On, Cooling, WarmUp}
 use Rattle.answers.specs.declared.answer.LampHours.{LampHours}
 use Rattle.lines.proofs.TextsTold.{text-bytes, name-is-text}
-use Rattle.answers.proofs.InputDigits.{input-digits}
+use Rattle.answers.proofs.InputCharacters.{input-no-cr}
 use Rattle.answers.proofs.ErrorsBack.{numbers-are-digits}
 use Rattle.answers.proofs.PutLists.{joined-long}
 use Rattle.answers.proofs.JoinedBack.{joined-every}
@@ -47,11 +49,17 @@ can-sayable (mutes v a) = refl
 can-sayable (errors ds h e) = eq-eqb (length ds) errorsCarried h
 can-sayable (lamps ls l h e) = le-leb (length ls) lampsCarried h
 can-sayable (inputs is l h e) = le-leb (length is) inputsCarried h
-can-sayable (name s e) = le-leb (length s) nameMost (name-long s e)
-can-sayable (maker s e) = le-leb (length s) nameMost (omega (arith, info-long s e))
-can-sayable (model s e) = le-leb (length s) nameMost (omega (arith, info-long s e))
-can-sayable (other s e) = le-leb (length s) nameMost (omega (arith, info-long s e))
-can-sayable class-1 = refl
+can-sayable (name s e) = le-leb (length s) textCarried (omega (arith, name-long s e))
+can-sayable (maker s e) = le-leb (length s) textCarried (omega (arith, info-long s e))
+can-sayable (model s e) = le-leb (length s) textCarried (omega (arith, info-long s e))
+can-sayable (other s e) = le-leb (length s) textCarried (omega (arith, info-long s e))
+can-sayable (class-is k l h) = refl
+can-sayable (freeze on) = refl
+can-sayable (serial s e) = le-leb (length s) textCarried (omega (arith, info-long s e))
+can-sayable (version s e) = le-leb (length s) textCarried (omega (arith, info-long s e))
+can-sayable (input-name s b e) = le-leb (length s) textCarried (input-name-long s e)
+can-sayable (input-2 i e) = refl
+can-sayable (inputs-2 is l h e) = le-leb (length is) inputsCarried h
 
 pub can-said-back : {c : Command} {m : Said} → CanSay c m → saidBy (answerOf m) ≡ m
 can-said-back {c} {m} w = said-back m (can-sayable w)
@@ -79,7 +87,13 @@ said-long (name s e) = omega arith
 said-long (maker s e) = omega arith
 said-long (model s e) = omega arith
 said-long (other s e) = omega arith
-said-long class-1 = omega arith
+said-long (class-is k l h) = omega arith
+said-long (freeze on) = omega arith
+said-long (serial s e) = omega arith
+said-long (version s e) = omega arith
+said-long (input-name s b e) = omega arith
+said-long (input-2 i e) = omega arith
+said-long (inputs-2 is l h e) = omega (arith, joined-long inputText isInput 2 (λ x f. omega arith) is e l)
 
 most-within : (m : Said) → isSayable m ≡ true → bytesMost m ≤ saidMost
 most-within okay e = omega arith
@@ -90,8 +104,9 @@ most-within (mutesAre v a) e = omega arith
 most-within (errorsAre ds) e = omega arith
 most-within (lampsAre ls) e = omega arith
 most-within (inputsAre is) e = omega (arith, leb-true (length is) inputsCarried e)
-most-within (textIs s) e = omega (arith, leb-true (length s) nameMost e)
-most-within classIs1 e = omega arith
+most-within (textIs s) e = omega (arith, leb-true (length s) textCarried e)
+most-within (classIs k) e = omega arith
+most-within (freezeIs on) e = omega arith
 most-within nothing e = omega arith
 
 pub said-most : {c : Command} {m : Said} → CanSay c m → length (saidBytes m) ≤ saidMost
@@ -132,17 +147,23 @@ unfolding saidBytes
 no-cr (done s) = refl
 no-cr (refuses n l h t) = rw (ne-eqb (numberDigit n) (code "\r") (omega arith))
 no-cr (power p) = power-no-cr p
-no-cr (input i e) = digits-no-cr (inputText i) (input-digits i e)
+no-cr (input i e) = input-no-cr i
 no-cr (mutes v a) = mutes-no-cr v a
 no-cr (errors ds h e) = digits-no-cr (map numberDigit ds) (numbers-are-digits ds)
 no-cr (lamps ls l h e) = joined-every lampText isLampHours notCr (λ x t. lamp-no-cr x) refl ls e
-no-cr (inputs is l h e) =
-    joined-every inputText isInput notCr (λ x t. digits-no-cr (inputText x) (input-digits x t)) refl is e
+no-cr (inputs is l h e) = joined-every inputText isInput notCr (λ x t. input-no-cr x) refl is e
 no-cr (name s e) = text-no-cr nameMost s (name-is-text s e)
 no-cr (maker s e) = text-no-cr infoMost s e
 no-cr (model s e) = text-no-cr infoMost s e
 no-cr (other s e) = text-no-cr infoMost s e
-no-cr class-1 = refl
+no-cr (class-is k l h) = rw (ne-eqb (numberDigit k) (code "\r") (omega arith))
+no-cr (freeze true) = refl
+no-cr (freeze false) = refl
+no-cr (serial s e) = text-no-cr infoMost s e
+no-cr (version s e) = text-no-cr infoMost s e
+no-cr (input-name s b e) = text-no-cr inputNameMost s e
+no-cr (input-2 i e) = input-no-cr i
+no-cr (inputs-2 is l h e) = joined-every inputText isInput notCr (λ x t. input-no-cr x) refl is e
 
 pub said-plain : {c : Command} {m : Said} → CanSay c m
     → (length (saidBytes m) ≤ parameterMost) × (noCr (saidBytes m) ≡ true)

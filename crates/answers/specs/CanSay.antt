@@ -1,4 +1,4 @@
--- Every answer that a command can have (01, "Commands" and "Controller").
+-- Every answer that a command can have (01, "Commands" and "Controller"; 02, L14).
 --   isLampHours l      hours that five digits can tell
 --   isErrorDigit d     0, 1 or 2
 --   CanSay c m         m is an answer to c
@@ -11,14 +11,15 @@ use lib.ListN.{length}
 use lib.Dec.{leb}
 use Rattle.text.specs.Scans.{every}
 use Rattle.lines.specs.Inputs.{isInput}
-use Rattle.lines.specs.Texts.{isName, isInfo}
+use Rattle.lines.specs.Texts.{isName, isInfo, isInputName}
+use Rattle.lines.specs.Commands.{bodyOf}
 use Rattle.lines.specs.declared.input.Input.{Input}
 use Rattle.lines.specs.declared.command.Command.{Command}
 use Rattle.lines.specs.declared.command.Command.the-variants.{Query}
 use Rattle.lines.specs.declared.command.Body.the-variants.{Powr, Inpt, Avmt, Erst, Lamp, Inst, Name, Inf1, Inf2, Info}
-use Rattle.lines.specs.declared.command.Body.the-variants.{Clss}
+use Rattle.lines.specs.declared.command.Body.the-variants.{Clss, Frez, Snum, Sver, Innm, Inpt2, Inst2}
 use Rattle.answers.specs.Said.{Said, okay, refused, powerIs, chosenIs, mutesAre, errorsAre, lampsAre, inputsAre}
-use Rattle.answers.specs.Said.{textIs, classIs1}
+use Rattle.answers.specs.Said.{textIs, classIs, freezeIs}
 use Rattle.answers.specs.Carried.{lampsCarried, inputsCarried, errorsCarried}
 use Rattle.answers.specs.Reading.{isSet, isRefusalTo}
 use Rattle.answers.specs.declared.answer.Power.{Power}
@@ -48,4 +49,11 @@ pub data CanSay : Command → Said → Type 0 where
   maker : (s : List ℕ) → isInfo s ≡ true → CanSay (Query Inf1) (textIs s)
   model : (s : List ℕ) → isInfo s ≡ true → CanSay (Query Inf2) (textIs s)
   other : (s : List ℕ) → isInfo s ≡ true → CanSay (Query Info) (textIs s)
-  class-1 : CanSay (Query Clss) classIs1
+  class-is : (k : ℕ) → 1 ≤ k → k ≤ 2 → CanSay (Query Clss) (classIs k)
+  freeze : (on : Bool) → CanSay (Query Frez) (freezeIs on)
+  serial : (s : List ℕ) → isInfo s ≡ true → CanSay (Query Snum) (textIs s)
+  version : (s : List ℕ) → isInfo s ≡ true → CanSay (Query Sver) (textIs s)
+  input-name : {c : Command} (s : List ℕ) → bodyOf c ≡ Innm → isInputName s ≡ true → CanSay c (textIs s)
+  input-2 : (i : Input) → isInput i ≡ true → CanSay (Query Inpt2) (chosenIs i)
+  inputs-2 : (is : List Input) → 1 ≤ length is → length is ≤ inputsCarried → every isInput is ≡ true
+      → CanSay (Query Inst2) (inputsAre is)

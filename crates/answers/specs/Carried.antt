@@ -2,6 +2,7 @@
 --   lampsCarried    so many lamps an answer carries at most, and inputsCarried inputs (01, "Controller": "INST allows 1
 --                   to 32 inputs, repeats included, LAMP 1 to 8 lamps"): what a set-up may have is record's to say
 --   errorsCarried   so many error digits it carries, where it carries any
+--   textCarried     so many bytes of a text: an input's name is the longest (02, L14)
 --   plainOf k       the answer of the kind k with nothing in its arrays
 --   answerOf m      what is said, in arrays from their start on; the rest of each is blank
 --   saidBy a        what an answer says: as many of its elements as it counts, and no more than an array has
@@ -13,15 +14,15 @@ use mathlib.Core.List.{List}
 use lib.ListN.{length, take, replicate}
 use lib.Seq.{sets}
 use lib.Dec.{leb, eqb}
-use Rattle.lines.specs.Texts.{nameMost}
+use Rattle.lines.specs.Texts.{inputNameMost}
 use Rattle.lines.specs.declared.input.Source.the-variants.{Rgb}
 use Rattle.lines.specs.declared.input.Input.{Input}
 use Rattle.answers.specs.Said.{Said, okay, refused, powerIs, chosenIs, mutesAre, errorsAre, lampsAre, inputsAre}
-use Rattle.answers.specs.Said.{textIs, classIs1, nothing}
+use Rattle.answers.specs.Said.{textIs, classIs, freezeIs, nothing}
 use Rattle.answers.specs.declared.answer.LampHours.{LampHours}
 use Rattle.answers.specs.declared.answer.Kind.{Kind}
 use Rattle.answers.specs.declared.answer.Kind.the-variants.{Ok, Refused, Powered, Chosen, Muted, Errors, Lamps}
-use Rattle.answers.specs.declared.answer.Kind.the-variants.{Inputs, Text, Class, Nothing}
+use Rattle.answers.specs.declared.answer.Kind.the-variants.{Inputs, Text, Class, Frozen, Nothing}
 use Rattle.answers.specs.declared.answer.Answer.{Answer}
 
 abbrev pub lampsCarried : ℕ
@@ -33,6 +34,9 @@ inputsCarried = 32
 abbrev pub errorsCarried : ℕ
 errorsCarried = 6
 
+abbrev pub textCarried : ℕ
+textCarried = inputNameMost
+
 abbrev pub noLamps : List LampHours
 noLamps = replicate lampsCarried (record { hours = 0; lit = false })
 
@@ -40,7 +44,7 @@ abbrev pub noInputs : List Input
 noInputs = replicate inputsCarried (record { source = Rgb; number = 0 })
 
 abbrev pub noText : List ℕ
-noText = replicate nameMost 0
+noText = replicate textCarried 0
 
 abbrev pub plainOf : Kind → Answer
 plainOf k = record { kind = k; lamps = noLamps; inputs = noInputs; text = noText }
@@ -64,7 +68,8 @@ answerOf (errorsAre ds) = ofText Errors (sets noText 0 ds)
 answerOf (lampsAre ls) = ofLamps (length ls) (sets noLamps 0 ls)
 answerOf (inputsAre is) = ofInputs (length is) (sets noInputs 0 is)
 answerOf (textIs s) = ofText (Text (length s)) (sets noText 0 s)
-answerOf classIs1 = plainOf Class
+answerOf (classIs k) = plainOf (Class k)
+answerOf (freezeIs on) = plainOf (Frozen on)
 answerOf nothing = plainOf Nothing
 
 abbrev pub saidAs : Kind → Answer → Said
@@ -76,8 +81,9 @@ saidAs (Muted video audio) a = mutesAre video audio
 saidAs Errors a = errorsAre (take errorsCarried (a .text))
 saidAs (Lamps n) a = lampsAre (take (min n lampsCarried) (a .lamps))
 saidAs (Inputs n) a = inputsAre (take (min n inputsCarried) (a .inputs))
-saidAs (Text n) a = textIs (take (min n nameMost) (a .text))
-saidAs Class a = classIs1
+saidAs (Text n) a = textIs (take (min n textCarried) (a .text))
+saidAs (Class k) a = classIs k
+saidAs (Frozen on) a = freezeIs on
 saidAs Nothing a = nothing
 
 unfoldable pub saidBy : Answer → Said
@@ -92,6 +98,7 @@ isSayable (mutesAre video audio) = true
 isSayable (errorsAre ds) = eqb (length ds) errorsCarried
 isSayable (lampsAre ls) = leb (length ls) lampsCarried
 isSayable (inputsAre is) = leb (length is) inputsCarried
-isSayable (textIs s) = leb (length s) nameMost
-isSayable classIs1 = true
+isSayable (textIs s) = leb (length s) textCarried
+isSayable (classIs k) = true
+isSayable (freezeIs on) = true
 isSayable nothing = true

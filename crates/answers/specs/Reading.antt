@@ -1,8 +1,9 @@
--- The parameter of a reply, read for the command that it answers (01, "Controller").
--- ERR1 to ERR4 are tested first, alike for every command: a set may have any of them, a query all but ERR2.
+-- The parameter of a reply, read for the command that it answers (01, "Controller"; 02, L14: the reader is not told the
+-- class of the set-up, and takes what either class answers).
+-- ERR1 to ERR4 are tested first, alike for every command: `?` may have all but ERR2, any other command all of them.
 --   p spells t             the bytes p are the text t
+--   hasOwnParameter c      the parameter of c is another than `?`, so that a projector may not know it
 --   isRefusalTo c n        ERRn is allowed in reply to c
---   inputOf w              the input that a word names: two characters
 --   lampOf hours lit       the lamp of two words: its hours, and 1 if it is lit, else 0
 --   inputsIn ws            the inputs of a list's words, one each
 --   lampsIn ws             the lamps of a list's words, two each
@@ -23,20 +24,21 @@ use Rattle.numbers.specs.Decimal.{readNumber}
 use Rattle.numbers.specs.declared.Number.{Number}
 use Rattle.numbers.specs.declared.Number.the-variants.{Value, NotANumber}
 use Rattle.lines.specs.Bytes.{_at_}
-use Rattle.lines.specs.Inputs.{readInput}
-use Rattle.lines.specs.Texts.{refusalOf, isName, isInfo}
+use Rattle.lines.specs.Inputs.{inputOf}
+use Rattle.lines.specs.Texts.{refusalOf, isName, isInfo, isInputName}
 use Rattle.lines.specs.Commands.{bodyOf}
 use Rattle.lines.specs.declared.input.Input.{Input}
 use Rattle.lines.specs.declared.input.MaybeInput.{MaybeInput}
 use Rattle.lines.specs.declared.input.MaybeInput.the-variants.{InputIs, NoInput}
 use Rattle.lines.specs.declared.command.Command.{Command}
-use Rattle.lines.specs.declared.command.Command.the-variants.{PowerSet, InputSet, MuteSet, Query}
+use Rattle.lines.specs.declared.command.Command.the-variants.{PowerSet, InputSet, MuteSet, InputSet2, FreezeSet}
+use Rattle.lines.specs.declared.command.Command.the-variants.{VolumeStep, NameQuery, Query}
 use Rattle.lines.specs.declared.command.Body.{Body}
 use Rattle.lines.specs.declared.command.Body.the-variants.{Powr, Inpt, Avmt, Erst, Lamp, Inst, Name, Inf1, Inf2, Info}
-use Rattle.lines.specs.declared.command.Body.the-variants.{Clss}
+use Rattle.lines.specs.declared.command.Body.the-variants.{Clss, Frez, Svol, Mvol, Snum, Sver, Innm, Inpt2, Inst2}
 use Rattle.answers.specs.Lists.{wordsOf, Got, none, all, _andThen_}
 use Rattle.answers.specs.Said.{Said, okay, refused, powerIs, chosenIs, mutesAre, errorsAre, lampsAre, inputsAre}
-use Rattle.answers.specs.Said.{textIs, classIs1, nothing}
+use Rattle.answers.specs.Said.{textIs, classIs, freezeIs, nothing}
 use Rattle.answers.specs.Carried.{lampsCarried, inputsCarried, errorsCarried}
 use Rattle.answers.specs.declared.answer.Power.the-variants.{Off, On, Cooling, WarmUp}
 use Rattle.answers.specs.declared.answer.LampHours.{LampHours}
@@ -64,9 +66,6 @@ readPower p = if eqb (length p) 1 then powerNamed (p at 0) else nothing
 abbrev pub chosenOr : MaybeInput → Said
 chosenOr (InputIs i) = chosenIs i
 chosenOr NoInput = nothing
-
-unfoldable pub inputOf : List ℕ → MaybeInput
-inputOf w = if eqb (length w) 2 then readInput (w at 0) (w at 1) else NoInput
 
 abbrev pub readChosen : List ℕ → Said
 readChosen p = chosenOr (inputOf p)
@@ -136,13 +135,23 @@ readName p = if isName p then textIs p else nothing
 abbrev pub readInfo : List ℕ → Said
 readInfo p = if isInfo p then textIs p else nothing
 
+abbrev pub readInputName : List ℕ → Said
+readInputName p = if isInputName p then textIs p else nothing
+
 abbrev pub readClass : List ℕ → Said
-readClass p = if p spells ascii "1" then classIs1 else nothing
+readClass p = if p spells ascii "1" then classIs 1 else if p spells ascii "2" then classIs 2 else nothing
+
+abbrev pub readFreeze : List ℕ → Said
+readFreeze p = if p spells ascii "1" then freezeIs true else if p spells ascii "0" then freezeIs false else nothing
 
 abbrev pub isSet : Command → Bool
 isSet (PowerSet on) = true
 isSet (InputSet i) = true
 isSet (MuteSet half on) = true
+isSet (InputSet2 i) = true
+isSet (FreezeSet on) = true
+isSet (VolumeStep v up) = true
+isSet (NameQuery i) = false
 isSet (Query b) = false
 
 abbrev pub readQueried : Body → List ℕ → Said
@@ -157,12 +166,30 @@ readQueried Inf1 p = readInfo p
 readQueried Inf2 p = readInfo p
 readQueried Info p = readInfo p
 readQueried Clss p = readClass p
+readQueried Frez p = readFreeze p
+readQueried Svol p = nothing
+readQueried Mvol p = nothing
+readQueried Snum p = readInfo p
+readQueried Sver p = readInfo p
+readQueried Innm p = readInputName p
+readQueried Inpt2 p = readChosen p
+readQueried Inst2 p = readInputs p
 
 abbrev pub readValue : Command → List ℕ → Said
 readValue c p = if isSet c then readOk p else readQueried (bodyOf c) p
 
+abbrev pub hasOwnParameter : Command → Bool
+hasOwnParameter (PowerSet on) = true
+hasOwnParameter (InputSet i) = true
+hasOwnParameter (MuteSet half on) = true
+hasOwnParameter (InputSet2 i) = true
+hasOwnParameter (FreezeSet on) = true
+hasOwnParameter (VolumeStep v up) = true
+hasOwnParameter (NameQuery i) = true
+hasOwnParameter (Query b) = false
+
 abbrev pub isRefusalTo : Command → ℕ → Bool
-isRefusalTo c n = isSet c || not (eqb n 2)
+isRefusalTo c n = hasOwnParameter c || not (eqb n 2)
 
 unfoldable pub readParameter : Command → List ℕ → Said
 readParameter c p =

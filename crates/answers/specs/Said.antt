@@ -1,13 +1,14 @@
--- What a projector can say, before any bytes, and the parameter that says it (01, "Commands"; 000, 2.5 and 4).
+-- What a projector can say, before any bytes, and the parameter that says it (01, "Commands"; 000, 2.5 and 4; 02, L14).
 --   Said               OK; ERRn; a power; a chosen input; the mutes of video and audio; six error digits; lamps;
---                      inputs; a text; class 1; or nothing: a parameter that is not allowed
+--                      inputs; a text; a class; whether the picture is frozen; or nothing: a parameter that is not
+--                      allowed
 --   powerText p        0 off, 1 on, 2 cooling, 3 warm-up: the characters, whatever hex 000 prints for the last two
 --   mutesText v a      11 video only, 21 audio only, 31 both, 30 neither
 --   lampText l         the hours, a space, 1 if lit, else 0
 --   saidBytes m        the parameter
 --   parameterMost      no parameter of a reply is longer
 --   bytesMost m        no answer of its kind has a longer one: 63 bytes for 8 lamps, 8 × 7 and 7 spaces (000 allows 65)
---   saidMost           no answer has a longer one: 95 bytes for 32 inputs, 32 × 2 and 31 spaces (02, L11)
+--   saidMost           no answer has a longer one: an input's name of 128 bytes (02, L14)
 -- Assumes nothing.
 use Prim.Native.Nat.{ℕ, _*_, _-_}
 use Prim.Native.Char.{code}
@@ -34,7 +35,8 @@ pub data Said : Type 0 where
   lampsAre : List LampHours → Said
   inputsAre : List Input → Said
   textIs : List ℕ → Said
-  classIs1 : Said
+  classIs : ℕ → Said
+  freezeIs : Bool → Said
   nothing : Said
 
 abbrev pub powerText : Power → List ℕ
@@ -65,14 +67,15 @@ saidBytes (errorsAre ds) = map numberDigit ds
 saidBytes (lampsAre ls) = joined lampText ls
 saidBytes (inputsAre is) = joined inputText is
 saidBytes (textIs s) = s
-saidBytes classIs1 = ascii "1"
+saidBytes (classIs k) = numberDigit k ∷ []
+saidBytes (freezeIs on) = switchDigit on ∷ []
 saidBytes nothing = []
 
 abbrev pub parameterMost : ℕ
 parameterMost = 128
 
 abbrev pub saidMost : ℕ
-saidMost = 95
+saidMost = 128
 
 abbrev pub bytesMost : Said → ℕ
 bytesMost okay = 2
@@ -84,5 +87,6 @@ bytesMost (errorsAre ds) = 6
 bytesMost (lampsAre ls) = 63
 bytesMost (inputsAre is) = 3 * length is - 1
 bytesMost (textIs s) = length s
-bytesMost classIs1 = 1
+bytesMost (classIs k) = 1
+bytesMost (freezeIs on) = 1
 bytesMost nothing = 0

@@ -1,6 +1,6 @@
 -- Which bytes say what (01, "Commands": the parameter of each answer; "Controller": "Sets allow OK and ERR1 to ERR4;
--- queries the values above or ERR1, ERR3, ERR4"). A relation, as lamps have more than one writing (02, L4): other
--- makers pad a lamp's hours with zeros, to five digits at most.
+-- queries the values above or ERR1, ERR3, ERR4"; 02, L14: a query that names an input also ERR2). A relation, as lamps
+-- have more than one writing (02, L4): other makers pad a lamp's hours with zeros, to five digits at most.
 --   WritesLamp l t     the bytes t are a writing of the lamp l: its hours in one to five digits, a space, 1 if lit,
 --                      else 0
 --   Writes m p         the bytes p are a writing of m: lamps, each in a writing of its own, joined by single spaces; of
@@ -18,7 +18,7 @@ use Rattle.lines.specs.Commands.{switchDigit}
 use Rattle.lines.specs.declared.command.Command.{Command}
 use Rattle.answers.specs.Lists.{SpacedBy}
 use Rattle.answers.specs.Said.{Said, okay, refused, powerIs, chosenIs, mutesAre, errorsAre, lampsAre, inputsAre}
-use Rattle.answers.specs.Said.{textIs, classIs1, nothing, saidBytes}
+use Rattle.answers.specs.Said.{textIs, classIs, freezeIs, nothing, saidBytes}
 use Rattle.answers.specs.CanSay.{CanSay}
 use Rattle.answers.specs.declared.answer.LampHours.{LampHours}
 
@@ -37,7 +37,8 @@ Writes (errorsAre ds) p = p ≡ saidBytes (errorsAre ds)
 Writes (lampsAre ls) p = SpacedBy WritesLamp ls (code " " ∷ p)
 Writes (inputsAre is) p = p ≡ saidBytes (inputsAre is)
 Writes (textIs s) p = p ≡ saidBytes (textIs s)
-Writes classIs1 p = p ≡ saidBytes classIs1
+Writes (classIs k) p = p ≡ saidBytes (classIs k)
+Writes (freezeIs on) p = p ≡ saidBytes (freezeIs on)
 Writes nothing p = p ≡ saidBytes nothing
 
 pub record Says (c : Command) (m : Said) (p : List ℕ) : Type 0 where

@@ -8,7 +8,7 @@ pub const LAMPS_MOST: usize = 8;
 
 pub const INPUTS_MOST: usize = 32;
 
-pub const TEXT_MOST: usize = 64;
+pub const TEXT_MOST: usize = 128;
 
 pub const ERRORS_COUNT: usize = 6;
 
@@ -25,7 +25,7 @@ pub struct LampHours {
 }
 
 // The mutes are of video and of audio. The counts are of the array's elements from its first on. The six error digits
-// stand in `text`, as numbers. Nothing is a parameter that is not allowed.
+// stand in `text`, as numbers. The class is 1 or 2. Nothing is a parameter that is not allowed.
 pub enum Kind {
     Ok,
     Refused(u8),
@@ -36,7 +36,8 @@ pub enum Kind {
     Lamps(usize),
     Inputs(usize),
     Text(usize),
-    Class,
+    Class(u8),
+    Frozen(bool),
     Nothing,
 }
 

@@ -15,7 +15,7 @@ ghost use Prim.Native.Nat.{_≤_};
 ghost use lib.ListN.{length};
 ghost use Rattle.answers.specs.Carried.{answerOf};
 ghost use Rattle.answers.specs.Lists.{WordTo};
-ghost use Rattle.answers.specs.Reading.{lampOf, inputOf, readLamps, readInputs};
+ghost use Rattle.answers.specs.Reading.{lampOf, readLamps, readInputs};
 
 pub enum MaybeLamp {
     LampIs(LampHours),
@@ -53,16 +53,6 @@ fn lamp_of(hours: &[u8], lit: &[u8]) -> MaybeLamp
     MaybeLamp::LampIs(LampHours { hours: n, lit: on })
 }
 
-// The input of one word.
-pub fn input_of(w: &[u8]) -> MaybeInput
-    ensures { λ r. ⌜ r ≡ inputOf (now (w .entry)) ⌝ }
-{
-    if w.len() != 2 {
-        return MaybeInput::NoInput;
-    }
-    input::read_input(w[0], w[1])
-}
-
 pub fn read_lamps(p: &[u8]) -> Answer
     ensures { λ r. ⌜ r ≡ answerOf (readLamps (now (p .entry))) ⌝ }
 {
@@ -98,7 +88,7 @@ pub fn read_inputs(p: &[u8]) -> Answer
     let mut at: usize = 0;
     while k < INPUTS_MOST {
         let end = word_end(p, at);
-        let found = input_of(&p[at..end]);
+        let found = input::input_of(&p[at..end]);
         let MaybeInput::InputIs(i) = found else {
             return answer::plain(Kind::Nothing);
         };

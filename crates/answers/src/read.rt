@@ -9,6 +9,7 @@ use crate::list;
 use lines::command;
 use lines::command::Body;
 use lines::command::Command;
+use lines::input;
 use lines::input::MaybeInput;
 use lines::texts;
 ghost use mathlib.Core.Path.{_≡_};
@@ -16,12 +17,12 @@ ghost use mathlib.Core.Bool.{true};
 ghost use Prim.Native.Nat.{_≤_};
 ghost use lib.ListN.{length};
 ghost use Rattle.text.specs.Words.{if_then_else_};
-ghost use Rattle.lines.specs.Texts.{nameMost};
 ghost use Rattle.answers.specs.Said.{textIs, nothing};
 ghost use Rattle.answers.specs.declared.answer.Kind.the-variants.{Nothing};
-ghost use Rattle.answers.specs.Carried.{plainOf, answerOf};
-ghost use Rattle.answers.specs.Reading.{_spells_, isSet, isRefusalTo, powerNamed, readPower, readChosen};
-ghost use Rattle.answers.specs.Reading.{mutesNamed, readMutes, readErrors, readQueried, readValue, readParameter};
+ghost use Rattle.answers.specs.Carried.{textCarried, plainOf, answerOf};
+ghost use Rattle.answers.specs.Reading.{_spells_, isSet, hasOwnParameter, isRefusalTo, powerNamed, readPower};
+ghost use Rattle.answers.specs.Reading.{readChosen, mutesNamed, readMutes, readErrors, readClass, readFreeze};
+ghost use Rattle.answers.specs.Reading.{readQueried, readValue, readParameter};
 
 // The kind k where p is exactly t.
 fn read_exactly(p: &[u8], t: &[u8], k: Kind) -> Kind
@@ -57,7 +58,7 @@ fn read_power(p: &[u8]) -> Kind
 fn read_chosen(p: &[u8]) -> Kind
     ensures { λ r. ⌜ plainOf r ≡ answerOf (readChosen (now (p .entry))) ⌝ }
 {
-    let found = list::input_of(p);
+    let found = input::input_of(p);
     match found {
         MaybeInput::InputIs(i) => Kind::Chosen(i),
         MaybeInput::NoInput => Kind::Nothing,
@@ -115,7 +116,7 @@ fn read_errors(p: &[u8]) -> Answer
 
 // The bytes of p as a text, where they are a legal one.
 fn text_if(legal: bool, p: &[u8]) -> Answer
-    requires { ⌜ (legal ≡ true → length (now p) ≤ nameMost) ⌝ }
+    requires { ⌜ (legal ≡ true → length (now p) ≤ textCarried) ⌝ }
     ensures { λ r. ⌜ r ≡ answerOf (if legal then textIs (now (p .entry)) else nothing) ⌝ }
 {
     if !legal {
@@ -124,6 +125,24 @@ fn text_if(legal: bool, p: &[u8]) -> Answer
     let mut kept = [0; TEXT_MOST];
     text::put(&mut kept, 0, p);
     answer::of_text(Kind::Text(p.len()), kept)
+}
+
+fn read_class(p: &[u8]) -> Kind
+    ensures { λ r. ⌜ plainOf r ≡ answerOf (readClass (now (p .entry))) ⌝ }
+{
+    if text::same(p, b"1") {
+        return Kind::Class(1);
+    }
+    read_exactly(p, b"2", Kind::Class(2))
+}
+
+fn read_freeze(p: &[u8]) -> Kind
+    ensures { λ r. ⌜ plainOf r ≡ answerOf (readFreeze (now (p .entry))) ⌝ }
+{
+    if text::same(p, b"1") {
+        return Kind::Frozen(true);
+    }
+    read_exactly(p, b"0", Kind::Frozen(false))
 }
 
 fn read_queried(b: Body, p: &[u8]) -> Answer
@@ -140,7 +159,15 @@ fn read_queried(b: Body, p: &[u8]) -> Answer
         Body::Inf1 => text_if(texts::is_info(p), p),
         Body::Inf2 => text_if(texts::is_info(p), p),
         Body::Info => text_if(texts::is_info(p), p),
-        Body::Clss => answer::plain(read_exactly(p, b"1", Kind::Class)),
+        Body::Clss => answer::plain(read_class(p)),
+        Body::Frez => answer::plain(read_freeze(p)),
+        Body::Svol => answer::plain(Kind::Nothing),
+        Body::Mvol => answer::plain(Kind::Nothing),
+        Body::Snum => text_if(texts::is_info(p), p),
+        Body::Sver => text_if(texts::is_info(p), p),
+        Body::Innm => text_if(texts::is_input_name(p), p),
+        Body::Inpt2 => answer::plain(read_chosen(p)),
+        Body::Inst2 => list::read_inputs(p),
     }
 }
 
@@ -151,6 +178,26 @@ fn is_set(c: Command) -> bool
         Command::PowerSet(_) => true,
         Command::InputSet(_) => true,
         Command::MuteSet(_, _) => true,
+        Command::InputSet2(_) => true,
+        Command::FreezeSet(_) => true,
+        Command::VolumeStep(_, _) => true,
+        Command::NameQuery(_) => false,
+        Command::Query(_) => false,
+    }
+}
+
+// Whether the command has another parameter than `?`, which a projector may not know.
+fn has_own_parameter(c: Command) -> bool
+    ensures { λ r. ⌜ r ≡ hasOwnParameter c ⌝ }
+{
+    match c {
+        Command::PowerSet(_) => true,
+        Command::InputSet(_) => true,
+        Command::MuteSet(_, _) => true,
+        Command::InputSet2(_) => true,
+        Command::FreezeSet(_) => true,
+        Command::VolumeStep(_, _) => true,
+        Command::NameQuery(_) => true,
         Command::Query(_) => false,
     }
 }
@@ -164,11 +211,11 @@ fn read_value(c: Command, p: &[u8]) -> Answer
     read_queried(command::body_of(c), p)
 }
 
-// Whether ERRn is allowed in reply to c: ERR2 is none to a query.
+// Whether ERRn is allowed in reply to c: ERR2 is none to `?`.
 fn is_refusal_to(c: Command, n: u8) -> bool
     ensures { λ r. ⌜ r ≡ isRefusalTo c n ⌝ }
 {
-    is_set(c) | (n != 2)
+    has_own_parameter(c) | (n != 2)
 }
 
 // What the parameter p says to the command c.

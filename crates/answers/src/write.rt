@@ -10,16 +10,15 @@ use crate::answer::TEXT_MOST;
 use lines::input;
 use lines::input::Input;
 ghost use mathlib.Core.Path.{_≡_};
-ghost use mathlib.Core.List.{map};
+ghost use mathlib.Core.List.{[], _∷_, map};
 ghost use Prim.Native.Nat.{_+_, _≤_, min};
 ghost use lib.ListN.{length, take};
 ghost use lib.Seq.{sets};
 ghost use Rattle.lines.specs.Inputs.{inputText, numberDigit};
 ghost use Rattle.lines.specs.Commands.{switchDigit};
-ghost use Rattle.lines.specs.Texts.{nameMost};
 ghost use Rattle.answers.specs.Lists.{gap, joined};
 ghost use Rattle.answers.specs.Said.{powerText, mutesText, refusalText, lampText, saidBytes, parameterMost};
-ghost use Rattle.answers.specs.Carried.{lampsCarried, inputsCarried, errorsCarried, saidBy};
+ghost use Rattle.answers.specs.Carried.{lampsCarried, inputsCarried, errorsCarried, textCarried, saidBy};
 
 fn least(n: usize, m: usize) -> usize
     ensures { λ r. ⌜ r ≡ min n m ⌝ }
@@ -47,11 +46,25 @@ fn power_text(p: Power) -> [u8; 1]
     }
 }
 
-fn input_text(i: Input) -> [u8; 2]
-    ensures { λ r. ⌜ r ≡ inputText i ⌝ }
+fn switch_digit(on: bool) -> u8
+    ensures { λ r. ⌜ r ≡ switchDigit on ⌝ }
 {
-    let source = i.source;
-    [input::source_digit(source), input::number_digit(i.number)]
+    if on {
+        return b'1';
+    }
+    b'0'
+}
+
+fn class_text(k: u8) -> [u8; 1]
+    ensures { λ r. ⌜ r ≡ numberDigit k ∷ [] ⌝ }
+{
+    [input::number_digit(k)]
+}
+
+fn freeze_text(on: bool) -> [u8; 1]
+    ensures { λ r. ⌜ r ≡ switchDigit on ∷ [] ⌝ }
+{
+    [switch_digit(on)]
 }
 
 fn mutes_text(video: bool, audio: bool) -> [u8; 2]
@@ -93,22 +106,13 @@ fn put_errors(out: &mut [u8], at: usize, errors: [u8; TEXT_MOST]) -> usize
     at + ERRORS_COUNT
 }
 
-fn lit_digit(lit: bool) -> u8
-    ensures { λ r. ⌜ r ≡ switchDigit lit ⌝ }
-{
-    if lit {
-        return b'1';
-    }
-    b'0'
-}
-
 fn put_lamp(out: &mut [u8], at: usize, l: LampHours) -> usize
     requires { ⌜ at + 12 ≤ length (now out) ⌝ }
     ensures { λ r. ⌜ r ≡ at + length (lampText l) ⌝ }
     ensures { λ _. ⌜ now (out .exit) ≡ sets (now (out .entry)) at (lampText l) ⌝ }
 {
     let p = numbers::put_number(out, at, l.hours);
-    put_all(out, p, &[b' ', lit_digit(l.lit)])
+    put_all(out, p, &[b' ', switch_digit(l.lit)])
 }
 
 // The space before the thing at the place i of a list; before the first there is none.
@@ -154,16 +158,16 @@ fn put_inputs(out: &mut [u8], at: usize, inputs: [Input; INPUTS_MOST], count: us
     let mut i = 0;
     while i < most {
         p = put_gap(out, p, i);
-        p = put_all(out, p, &input_text(inputs[i]));
+        p = put_all(out, p, &input::input_text(inputs[i]));
         i += 1;
     }
     p
 }
 
 fn put_text(out: &mut [u8], at: usize, kept: [u8; TEXT_MOST], count: usize) -> usize
-    requires { ⌜ at + nameMost ≤ length (now out) ⌝ }
-    ensures { λ r. ⌜ r ≡ at + length (take (min count nameMost) kept) ⌝ }
-    ensures { λ _. ⌜ now (out .exit) ≡ sets (now (out .entry)) at (take (min count nameMost) kept) ⌝ }
+    requires { ⌜ at + textCarried ≤ length (now out) ⌝ }
+    ensures { λ r. ⌜ r ≡ at + length (take (min count textCarried) kept) ⌝ }
+    ensures { λ _. ⌜ now (out .exit) ≡ sets (now (out .entry)) at (take (min count textCarried) kept) ⌝ }
 {
     let most = least(count, TEXT_MOST);
     put_all(out, at, &kept[..most])
@@ -180,7 +184,7 @@ pub fn put_answer(out: &mut [u8], at: usize, a: Answer) -> usize
         Kind::Ok => put_all(out, at, b"OK"),
         Kind::Refused(n) => put_all(out, at, &refusal_text(n)),
         Kind::Powered(p) => put_all(out, at, &power_text(p)),
-        Kind::Chosen(i) => put_all(out, at, &input_text(i)),
+        Kind::Chosen(i) => put_all(out, at, &input::input_text(i)),
         Kind::Muted(video, audio) => put_all(out, at, &mutes_text(video, audio)),
         Kind::Errors => {
             let errors = a.text;
@@ -198,7 +202,8 @@ pub fn put_answer(out: &mut [u8], at: usize, a: Answer) -> usize
             let kept = a.text;
             put_text(out, at, kept, n)
         }
-        Kind::Class => put_all(out, at, b"1"),
+        Kind::Class(n) => put_all(out, at, &class_text(n)),
+        Kind::Frozen(on) => put_all(out, at, &freeze_text(on)),
         Kind::Nothing => at,
     }
 }

@@ -1,4 +1,4 @@
--- `answers::read::is_refusal_to` meets its contract: ERR2 is the one that a query has not.
+-- `answers::read::is_refusal_to` meets its contract: ERR2 is the one that `?` has not.
 -- Assumes nothing.
 use mathlib.Core.Path.{ap}
 use mathlib.Core.Bool.{Bool, not, _||_}
@@ -12,4 +12,4 @@ is-refusal-to-spec =
     tie.close
     (tie.spec
     (λ c κs. search needs)
-    (λ c. ap (λ (t : Bool). t || not (eqb (c .before .args .n) 2)) (c .is-set .ensures)))
+    (λ c. ap (λ (t : Bool). t || not (eqb (c .before .args .n) 2)) (c .has-own-parameter .ensures)))

@@ -37,7 +37,8 @@ put-answer-spec =
     (λ c. search needs) (λ c κs. search needs)
     (λ c. search needs) (λ c κs. search needs)
     (λ c. search needs) (λ c κs. search needs)
-    (λ c. search needs) (λ c. search needs) (λ c κs. search needs)
+    (λ c. search needs) (λ c κs. search needs) (λ c. search needs) (λ c κs. search needs)
+    (λ c. search needs) (λ c κs. search needs) (λ c. search needs) (λ c κs. search needs)
     (λ c. search needs)
     (λ c. search needs)
     (λ c.
@@ -94,6 +95,13 @@ put-answer-spec =
     (λ c. search needs)
     (λ c.
     let put = c .before .before in
-    let told = put .before .before .before in
-    said (told .before .before .before) (told .enum-told3 .given .1) (put .put-all6 .ensures) refl)
-    (λ c. said (c .before .before .before) (c .enum-told4 .given .1) (omega arith, refl) refl))
+    let text = put .before .before in
+    let known = text .before .before .before in
+    said (known .before .before .before) (known .k8 .given .1) (put .put-all6 .ensures) (text .class-text .ensures))
+    (λ c. search needs)
+    (λ c.
+    let put = c .before .before in
+    let text = put .before .before in
+    let known = text .before .before .before in
+    said (known .before .before .before) (known .k9 .given .1) (put .put-all7 .ensures) (text .freeze-text .ensures))
+    (λ c. said (c .before .before .before) (c .enum-told3 .given .1) (omega arith, refl) refl))

@@ -32,4 +32,4 @@ put-lamp-spec =
     let hours = arg .before .before .before in
     let a = hours .before .before .before .args in
     lamp-put (a .l) (a .out .now) (a .at)
-    (hours .put-number .ensures) (lit .lit-digit .ensures) (rest .put-all .ensures)))
+    (hours .put-number .ensures) (lit .switch-digit .ensures) (rest .put-all .ensures)))
