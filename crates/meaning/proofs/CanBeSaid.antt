@@ -1,9 +1,9 @@
 -- Every answer of a legal projector is one that its command can have (`CanSay`), and so it fits a reply.
---   Fits m      m has room in the arrays and comes back out of them; its parameter has at most 95 bytes and no CR
+--   Fits m      m has room in the arrays and comes back out of them; its parameter has at most 128 bytes and no CR
 -- Assumes nothing.
 use Prim.Native.Nat.{ℕ, _+_, _*_, _/_, _<_, _≤_}
 use mathlib.Core.Path.{_≡_, refl, sym, ap, _∙_}
-use mathlib.Core.Bool.{Bool, true, false, _||_, false≢true}
+use mathlib.Core.Bool.{Bool, true, false, _||_, false≢true, or-true}
 use native.Mathlib.Omega.{arith}
 use lib.ListN.{length, getD, take, length-map}
 use borrow.Author.Tests.{leb-true, le-leb, eqb-false, not-false}
@@ -11,21 +11,22 @@ use Rattle.text.specs.Scans.{every}
 use Rattle.text.proofs.Scanning.{every-map, every-by-place}
 use Rattle.lines.specs.Bytes.{noCr}
 use Rattle.lines.specs.Inputs.{isInput}
-use Rattle.lines.specs.Bodies.{hasSet}
+use Rattle.lines.specs.Bodies.{hasParameters}
 use Rattle.lines.specs.declared.input.MaybeInput.{MaybeInput}
 use Rattle.lines.specs.declared.command.Body.the-variants.{Powr, Inpt, Avmt, Erst, Lamp, Inst, Name, Inf1, Inf2, Info}
-use Rattle.lines.specs.declared.command.Body.the-variants.{Clss}
+use Rattle.lines.specs.declared.command.Body.the-variants.{Clss, Frez, Svol, Mvol, Snum, Sver, Innm, Inpt2, Inst2}
 use Rattle.lines.specs.declared.command.Command.{Command}
 use Rattle.lines.specs.declared.command.Command.the-variants.{PowerSet, InputSet, MuteSet, Query}
+use Rattle.lines.specs.declared.command.Command.the-variants.{InputSet2, FreezeSet, VolumeStep, NameQuery}
 use Rattle.lines.specs.declared.request.Request.{Request}
 use Rattle.lines.specs.declared.request.Request.the-variants.{Asks, Unlisted, UnknownBody}
 use Rattle.lines.proofs.InputsReadBack.{named-is-input}
 use Rattle.lines.proofs.SourcesFollowed.{named-stands}
 use Rattle.answers.specs.Said.{Said, saidBytes, saidMost}
-use Rattle.answers.specs.Carried.{answerOf, saidBy, isSayable}
-use Rattle.answers.specs.Reading.{isSet, isRefusalTo}
+use Rattle.answers.specs.Carried.{inputsCarried, answerOf, saidBy, isSayable}
+use Rattle.answers.specs.Reading.{hasOwnParameter, isRefusalTo}
 use Rattle.answers.specs.CanSay.{CanSay, done, refuses, power, input, mutes, errors, lamps, inputs, name, maker, model}
-use Rattle.answers.specs.CanSay.{other, class-1, isLampHours}
+use Rattle.answers.specs.CanSay.{other, class-is, freeze, serial, version, input-name, input-2, inputs-2, isLampHours}
 use Rattle.answers.proofs.SaidPlain.{can-sayable, can-said-back, said-most, said-plain}
 use Rattle.record.specs.Limits.{inputRoom, lampsMost, lampLimit, isLit}
 use Rattle.record.specs.Rules.{isLamp, isLamps, isInputs}
@@ -35,18 +36,20 @@ use Rattle.record.specs.declared.types.Own.{Own}
 use Rattle.record.proofs.Kept.{kept-length}
 use Rattle.record.proofs.Rules.{errors-long, errors-within, lamps-within}
 use Rattle.record.proofs.SettingsTold.{SettingsTold, settings-told, input-count-low, input-count-high, input-at}
+use Rattle.record.proofs.SettingsTold.{serial-told, version-told, name-at}
 use Rattle.record.proofs.OwnTold.{OwnTold, own-told}
-use Rattle.meaning.specs.SetUpInputs.{noInput, inputOrNone, pairsOf, inputsOf}
+use Rattle.meaning.specs.SetUpInputs.{noInput, inputOrNone, pairsOf, inputsOf, placeOf}
 use Rattle.meaning.specs.Rules.{isUndefined, isUnlisted}
 use Rattle.meaning.proofs.LampsSaid.{said-length, each-said}
 use Rattle.meaning.specs.Meaning.{chosenOf, lampSaid, lampsOf, tableAnswer, meant}
 use Rattle.meaning.proofs.InputsByPlace.{inputs-counted, input-in-use}
+use Rattle.meaning.proofs.ClassKnown.{class-low, class-high}
 use Rattle.meaning.proofs.Cases.{Passes, meant-by}
 
 -- the inputs of a legal set-up
 module _ (s : Settings) (t : SettingsTold s) where
   pub inputs-number : length (inputsOf s) ≡ s .«input_count»
-  inputs-number = inputs-counted (pairsOf s) (s .«input_count») (kept-length inputRoom isInputs _ _ (t .inputs))
+  inputs-number = inputs-counted (pairsOf s) (s .«input_count») (kept-length inputRoom (isInputs (s .«class_number»)) _ _ (t .inputs))
 
   pub listed-input : (k : ℕ) → k < s .«input_count» → isInput (getD (inputsOf s) k noInput) ≡ true
   listed-input k h =
@@ -55,8 +58,8 @@ module _ (s : Settings) (t : SettingsTold s) where
       let b = getD (s .inputs) (2 * k + 1) 0 in
       let named = input-at s t k h in
       ap isInput (input-in-use (s .inputs) (s .«input_count») k h room noInput)
-      ∙ ap (λ (m : MaybeInput). isInput (inputOrNone m)) (named-stands a b named)
-      ∙ named-is-input a b named
+      ∙ ap (λ (m : MaybeInput). isInput (inputOrNone m)) (named-stands a b 2 named)
+      ∙ named-is-input 2 a b named
 
   pub listed-inputs : every isInput (inputsOf s) ≡ true
   listed-inputs =
@@ -66,18 +69,19 @@ module _ (s : Settings) (t : SettingsTold s) where
 lamp-hours : (lit : Bool) (x : ℕ) → isLamp x ≡ true → isLampHours (lampSaid lit x) ≡ true
 lamp-hours lit x e = le-leb (x / 3600) 99999 (omega (arith, leb-true x lampLimit e))
 
--- ERRn but ERR2 may refuse any command, ERR2 a set
-any-refused : (c : Command) → (isSet c || true) ≡ true
-any-refused (PowerSet wanted) = refl
-any-refused (InputSet i) = refl
-any-refused (MuteSet half wanted) = refl
-any-refused (Query b) = refl
+-- ERRn but ERR2 may refuse any command, ERR2 one with a parameter of its own
+any-refused : (c : Command) → (hasOwnParameter c || true) ≡ true
+any-refused c = or-true (hasOwnParameter c)
 
 set-refused : (s : Settings) (c : Command) → isUnlisted s c ≡ true → isRefusalTo c 2 ≡ true
 set-refused s (PowerSet wanted) e = refl
 set-refused s (InputSet i) e = refl
 set-refused s (MuteSet half wanted) e = refl
 set-refused s (Query b) e = e
+set-refused s (InputSet2 i) e = refl
+set-refused s (FreezeSet wanted) e = refl
+set-refused s (VolumeStep v up) e = refl
+set-refused s (NameQuery i) e = refl
 
 module _ (s : Settings) (o : Own) (settings : isSettings s ≡ true) (own : isOwn s o ≡ true) where
   abbrev set-up : SettingsTold s
@@ -91,12 +95,21 @@ module _ (s : Settings) (o : Own) (settings : isSettings s ≡ true) (own : isOw
       said-length (isLit (o .power)) (o .enabled) (take (s .«lamp_count») (o .lamps))
       ∙ kept-length lampsMost isLamps _ _ (kept .lamps)
 
+  chosen-is-input : isInput (chosenOf s o) ≡ true
+  chosen-is-input = listed-input s set-up (o .chosen) (kept .chosen)
+
+  inputs-some : 1 ≤ length (inputsOf s)
+  inputs-some = omega (arith, inputs-number s set-up, input-count-low s set-up)
+
+  inputs-few : length (inputsOf s) ≤ inputsCarried
+  inputs-few = omega (arith, inputs-number s set-up, input-count-high s set-up)
+
   told-can-be-said : (c : Command) → isUndefined s (Asks c) ≡ false → CanSay c (tableAnswer s o c)
   told-can-be-said (PowerSet wanted) e = done refl
   told-can-be-said (InputSet i) e = done refl
   told-can-be-said (MuteSet half wanted) e = done refl
   told-can-be-said (Query Powr) e = power _
-  told-can-be-said (Query Inpt) e = input (chosenOf s o) (listed-input s set-up (o .chosen) (kept .chosen))
+  told-can-be-said (Query Inpt) e = input (chosenOf s o) chosen-is-input
   told-can-be-said (Query Avmt) e = mutes _ _
   told-can-be-said (Query Erst) e = errors (o .errors) (errors-long _ (kept .errors)) (errors-within _ (kept .errors))
   told-can-be-said (Query Lamp) e =
@@ -104,14 +117,24 @@ module _ (s : Settings) (o : Own) (settings : isSettings s ≡ true) (own : isOw
       lamps (lampsOf s o) (omega (arith, lamps-many, some)) (omega (arith, lamps-many, set-up .lamps))
       (each-said (isLit (o .power)) isLamp isLampHours lamp-hours (o .enabled) (take (s .«lamp_count») (o .lamps))
       (lamps-within _ (kept .lamps .follows)))
-  told-can-be-said (Query Inst) e =
-      inputs (inputsOf s) (omega (arith, inputs-number s set-up, input-count-low s set-up))
-      (omega (arith, inputs-number s set-up, input-count-high s set-up)) (listed-inputs s set-up)
+  told-can-be-said (Query Inst) e = inputs (inputsOf s) inputs-some inputs-few (listed-inputs s set-up)
   told-can-be-said (Query Name) e = name _ (set-up .name .follows)
   told-can-be-said (Query Inf1) e = maker _ (set-up .maker .follows)
   told-can-be-said (Query Inf2) e = model _ (set-up .model .follows)
   told-can-be-said (Query Info) e = other _ (set-up .other .follows)
-  told-can-be-said (Query Clss) e = class-1
+  told-can-be-said (Query Clss) e = class-is _ (class-low s set-up) (class-high s set-up)
+  told-can-be-said (Query Frez) e = freeze _
+  told-can-be-said (Query Svol) e = absurd (false≢true (sym e))
+  told-can-be-said (Query Mvol) e = absurd (false≢true (sym e))
+  told-can-be-said (Query Snum) e = serial _ (serial-told s set-up)
+  told-can-be-said (Query Sver) e = version _ (version-told s set-up)
+  told-can-be-said (Query Innm) e = absurd (false≢true (sym e))
+  told-can-be-said (Query Inpt2) e = input-2 (chosenOf s o) chosen-is-input
+  told-can-be-said (Query Inst2) e = inputs-2 (inputsOf s) inputs-some inputs-few (listed-inputs s set-up)
+  told-can-be-said (InputSet2 i) e = done refl
+  told-can-be-said (FreezeSet wanted) e = done refl
+  told-can-be-said (VolumeStep v up) e = done refl
+  told-can-be-said (NameQuery i) e = input-name _ refl (name-at s set-up (placeOf s i) .follows)
 
   pub meant-can-be-said : (c : Command) → CanSay c (meant s o (Asks c))
   meant-can-be-said c =
@@ -138,7 +161,7 @@ module _ (s : Settings) (o : Own) (settings : isSettings s ≡ true) (own : isOw
   answer-can-be-said : (r : Request) → CanSay (commandOf r) (meant s o r)
   answer-can-be-said (Asks c) = meant-can-be-said c
   answer-can-be-said (Unlisted b) =
-      always-refused (Unlisted b) (λ p. false≢true (sym (p .listed) ∙ not-false (hasSet b) (p .defined)))
+      always-refused (Unlisted b) (λ p. false≢true (sym (p .listed) ∙ not-false (hasParameters b) (p .defined)))
   answer-can-be-said UnknownBody = always-refused UnknownBody (λ p. false≢true (sym (p .defined)))
 
 pub record Fits (m : Said) : Type 0 where

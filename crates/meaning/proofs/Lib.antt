@@ -1,6 +1,7 @@
 pub mod Filling
 pub mod InputsByPlace
 pub mod Cases
+pub mod ClassKnown
 pub mod CanBeSaid
 pub mod Done
 pub mod HalvesStay

@@ -10,7 +10,10 @@ use borrow.Author.Tests.{eqb-true, eq-eqb, ne-eqb}
 use Rattle.text.proofs.Choices.{if-by, if-yes, if-no}
 use Rattle.lines.specs.declared.command.Half.{Half}
 use Rattle.lines.specs.declared.command.Half.the-variants.{VideoHalf, AudioHalf, BothHalves}
+use Rattle.lines.specs.declared.command.Volume.{Volume}
+use Rattle.lines.specs.declared.command.Volume.the-variants.{Speaker, Microphone}
 use Rattle.lines.specs.declared.command.Command.the-variants.{PowerSet, InputSet, MuteSet, Query}
+use Rattle.lines.specs.declared.command.Command.the-variants.{InputSet2, FreezeSet, VolumeStep, NameQuery}
 use Rattle.lines.specs.declared.request.Request.{Request}
 use Rattle.lines.specs.declared.request.Request.the-variants.{Asks, Unlisted, UnknownBody}
 use Rattle.answers.specs.Said.{Said, okay, refused}
@@ -18,7 +21,7 @@ use Rattle.record.specs.Limits.{off, on, cooling, warming, isBetween}
 use Rattle.record.specs.Updates.{withPower}
 use Rattle.record.specs.declared.types.Settings.{Settings}
 use Rattle.record.specs.declared.types.Own.{Own}
-use Rattle.meaning.specs.Meaning.{afterPower, afterMute, requestAnswer, carriedOut, meant, done}
+use Rattle.meaning.specs.Meaning.{afterPower, afterMute, afterStep, requestAnswer, carriedOut, meant, done}
 use Rattle.meaning.proofs.Cases.{decided-by, meant-by, meant-passed}
 
 pub data PowerTurn (s : Settings) (o : Own) (r : Request) (m : Said) (k : Own) : Type 0 where
@@ -37,6 +40,10 @@ module _ (s : Settings) (o : Own) where
   muted AudioHalf wanted = stays refl refl
   muted BothHalves wanted = stays refl refl
 
+  volumed : (v : Volume) (up : Bool) {r : Request} {m : Said} → PowerTurn s o r m (afterStep o v up)
+  volumed Speaker up = stays refl refl
+  volumed Microphone up = stays refl refl
+
   turned : (r : Request) → PowerTurn s o r (requestAnswer s o r) (carriedOut s o r)
   unfolding afterPower
   turned (Asks (PowerSet true)) =
@@ -48,6 +55,10 @@ module _ (s : Settings) (o : Own) where
   turned (Asks (InputSet i)) = stays refl refl
   turned (Asks (MuteSet half wanted)) = muted half wanted
   turned (Asks (Query b)) = stays refl refl
+  turned (Asks (InputSet2 i)) = stays refl refl
+  turned (Asks (FreezeSet wanted)) = stays refl refl
+  turned (Asks (VolumeStep v up)) = volumed v up
+  turned (Asks (NameQuery i)) = stays refl refl
   turned (Unlisted b) = stays refl refl
   turned UnknownBody = stays refl refl
 

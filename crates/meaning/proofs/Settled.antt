@@ -11,7 +11,7 @@ use Rattle.lines.specs.declared.command.Command.the-variants.{PowerSet, InputSe
 use Rattle.lines.specs.declared.request.Request.{Request}
 use Rattle.lines.specs.declared.request.Request.the-variants.{Asks, Unlisted, UnknownBody}
 use Rattle.lines.specs.Computing.{computing as lines-computing}
-use Rattle.answers.specs.Said.{Said, okay, refused, lampsAre, classIs1}
+use Rattle.answers.specs.Said.{Said, okay, refused, lampsAre, classIs}
 use Rattle.record.specs.Limits.{warming, on}
 use Rattle.record.specs.Wanted.{wantedOf}
 use Rattle.record.specs.Updates.{withPower}
@@ -36,7 +36,7 @@ requests =
 
 -- POWR 1, POWR 2, ABCD x, NAME x, CLSS ?, INPT ?, INPT 12
 pub settled : map (meant settings own) requests
-    ≡ okay ∷ refused 2 ∷ refused 1 ∷ refused 1 ∷ classIs1 ∷ refused 3 ∷ refused 2 ∷ []
+    ≡ okay ∷ refused 2 ∷ refused 1 ∷ refused 1 ∷ classIs 1 ∷ refused 3 ∷ refused 2 ∷ []
 unfolding computing record-computing lines-computing
 settled = refl
 

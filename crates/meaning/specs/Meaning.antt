@@ -1,37 +1,44 @@
 -- What the projector answers to a request, and what the request does to it (01, "Commands").
 --   tableAnswer s o c     01's table: what a command that no rule refuses is answered
 --   afterCommand s o c    the own part after it
+--   inputNameOf s i            the name of the input i (02, L14)
+--   levelAfter up level      a volume one step up or down, which stops at the ends (02, L14)
 --   requestAnswer s o r, carriedOut s o r
 --                         the same of a request; one that is no command is always refused, so `nothing` is never said
 --   meant s o r           the answer to the request r
 --   done s o r            the own part after it
 --   decided s o r         both, the answer as it is carried
 -- Assumes nothing.
-use Prim.Native.Nat.{ℕ, _/_}
+use Prim.Native.Nat.{ℕ, _+_, _-_, _/_}
 use mathlib.Core.Bool.{Bool, false, not, _&&_, _||_}
 use mathlib.Core.List.{List, [], _∷_}
 use lib.ListN.{take, getD}
-use lib.Dec.{eqb}
+use lib.Dec.{ltb, eqb}
 use Rattle.text.specs.Words.{if_then_else_}
 use Rattle.lines.specs.declared.input.Input.{Input}
 use Rattle.lines.specs.declared.command.Body.{Body}
 use Rattle.lines.specs.declared.command.Body.the-variants.{Powr, Inpt, Avmt, Erst, Lamp, Inst, Name, Inf1, Inf2, Info}
-use Rattle.lines.specs.declared.command.Body.the-variants.{Clss}
+use Rattle.lines.specs.declared.command.Body.the-variants.{Clss, Frez, Svol, Mvol, Snum, Sver, Innm, Inpt2, Inst2}
 use Rattle.lines.specs.declared.command.Half.{Half}
 use Rattle.lines.specs.declared.command.Half.the-variants.{VideoHalf, AudioHalf, BothHalves}
+use Rattle.lines.specs.declared.command.Volume.{Volume}
+use Rattle.lines.specs.declared.command.Volume.the-variants.{Speaker, Microphone}
 use Rattle.lines.specs.declared.command.Command.{Command}
 use Rattle.lines.specs.declared.command.Command.the-variants.{PowerSet, InputSet, MuteSet, Query}
+use Rattle.lines.specs.declared.command.Command.the-variants.{InputSet2, FreezeSet, VolumeStep, NameQuery}
 use Rattle.lines.specs.declared.request.Request.{Request}
 use Rattle.lines.specs.declared.request.Request.the-variants.{Asks, Unlisted, UnknownBody}
 use Rattle.answers.specs.Said.{Said, okay, refused, powerIs, chosenIs, mutesAre, errorsAre, lampsAre, inputsAre}
-use Rattle.answers.specs.Said.{textIs, classIs1, nothing}
+use Rattle.answers.specs.Said.{textIs, classIs, freezeIs, nothing}
 use Rattle.answers.specs.Carried.{answerOf}
 use Rattle.answers.specs.declared.answer.Power.{Power}
 use Rattle.answers.specs.declared.answer.Power.the-variants.{Off, On, Cooling, WarmUp}
 use Rattle.answers.specs.declared.answer.LampHours.{LampHours}
-use Rattle.record.specs.Limits.{off, on, cooling, warming, isLit}
-use Rattle.record.specs.Updates.{withPower, withChosen, withMutes}
+use Rattle.record.specs.Limits.{off, on, cooling, warming, isLit, volumeMost}
+use Rattle.record.specs.Updates.{withPower, withChosen, withMutes, withFreeze, withVolumes}
+use Rattle.record.specs.Record.{blankName}
 use Rattle.record.specs.declared.types.Text.{Text}
+use Rattle.record.specs.declared.types.InputName.{InputName}
 use Rattle.record.specs.declared.types.Settings.{Settings}
 use Rattle.record.specs.declared.types.Own.{Own}
 use Rattle.meaning.specs.SetUpInputs.{noInput, inputsOf, placeOf}
@@ -65,6 +72,13 @@ lampsOf s o = lampsSaid (isLit (o .power)) (o .enabled) (take (s .«lamp_count»
 abbrev pub textSaid : Text → Said
 textSaid t = textIs (take (t .len) (t .bytes))
 
+abbrev pub nameBytes : InputName → List ℕ
+nameBytes n = take (n .len) (n .bytes)
+
+abbrev pub inputNameOf : Settings → Input → List ℕ
+inputNameOf s i = nameBytes (getD (s .names) (placeOf s i) blankName)
+
+-- a body without a query is never asked one (Rules, `isNoQuery`)
 abbrev pub queried : Settings → Own → Body → Said
 queried s o Powr = powerIs (powerSaid (o .power))
 queried s o Inpt = chosenIs (chosenOf s o)
@@ -76,7 +90,15 @@ queried s o Name = textSaid (s .name)
 queried s o Inf1 = textSaid (s .maker)
 queried s o Inf2 = textSaid (s .model)
 queried s o Info = textSaid (s .other)
-queried s o Clss = classIs1
+queried s o Clss = classIs (s .«class_number»)
+queried s o Frez = freezeIs (o .frozen)
+queried s o Svol = nothing
+queried s o Mvol = nothing
+queried s o Snum = textSaid (s .serial)
+queried s o Sver = textSaid (s .version)
+queried s o Innm = nothing
+queried s o Inpt2 = chosenIs (chosenOf s o)
+queried s o Inst2 = inputsAre (inputsOf s)
 
 -- a set that passes answers OK
 abbrev pub tableAnswer : Settings → Own → Command → Said
@@ -84,6 +106,10 @@ tableAnswer s o (PowerSet wanted) = okay
 tableAnswer s o (InputSet i) = okay
 tableAnswer s o (MuteSet half wanted) = okay
 tableAnswer s o (Query b) = queried s o b
+tableAnswer s o (InputSet2 i) = okay
+tableAnswer s o (FreezeSet wanted) = okay
+tableAnswer s o (VolumeStep v up) = okay
+tableAnswer s o (NameQuery i) = textIs (inputNameOf s i)
 
 abbrev pub requestAnswer : Settings → Own → Request → Said
 requestAnswer s o (Asks c) = tableAnswer s o c
@@ -103,11 +129,23 @@ afterMute o VideoHalf wanted = withMutes o wanted (o .«audio_muted»)
 afterMute o AudioHalf wanted = withMutes o (o .«video_muted») wanted
 afterMute o BothHalves wanted = withMutes o wanted wanted
 
+-- a step that can't go further leaves the level
+unfoldable pub levelAfter : Bool → ℕ → ℕ
+levelAfter up level = if up then (if ltb level volumeMost then level + 1 else level) else level - 1
+
+abbrev pub afterStep : Own → Volume → Bool → Own
+afterStep o Speaker up = withVolumes o (levelAfter up (o .speaker)) (o .microphone)
+afterStep o Microphone up = withVolumes o (o .speaker) (levelAfter up (o .microphone))
+
 abbrev pub afterCommand : Settings → Own → Command → Own
 afterCommand s o (PowerSet wanted) = afterPower s o wanted
 afterCommand s o (InputSet i) = withChosen o (placeOf s i)
 afterCommand s o (MuteSet half wanted) = afterMute o half wanted
 afterCommand s o (Query b) = o
+afterCommand s o (InputSet2 i) = withChosen o (placeOf s i)
+afterCommand s o (FreezeSet wanted) = withFreeze o wanted
+afterCommand s o (VolumeStep v up) = afterStep o v up
+afterCommand s o (NameQuery i) = o
 
 abbrev pub carriedOut : Settings → Own → Request → Own
 carriedOut s o (Asks c) = afterCommand s o c

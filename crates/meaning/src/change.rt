@@ -2,17 +2,19 @@
 use crate::inputs;
 use lines::command::Command;
 use lines::command::Half;
+use lines::command::Volume;
 use lines::input::Input;
 use record::own::COOLING;
 use record::own::OFF;
 use record::own::ON;
+use record::own::VOLUME_MOST;
 use record::own::WARMING;
 use record::types::Own;
 use record::types::Settings;
 ghost use mathlib.Core.Path.{_≡_};
-ghost use Rattle.record.specs.Updates.{withPower, withChosen, withMutes};
+ghost use Rattle.record.specs.Updates.{withPower, withChosen, withMutes, withFreeze, withVolumes};
 ghost use Rattle.meaning.specs.SetUpInputs.{placeOf};
-ghost use Rattle.meaning.specs.Meaning.{afterPower, afterMute, afterCommand};
+ghost use Rattle.meaning.specs.Meaning.{afterPower, afterMute, levelAfter, afterStep, afterCommand};
 
 fn with_power(o: Own, power: u8, left: u32) -> Own
     ensures { λ r. ⌜ r ≡ withPower o power left ⌝ }
@@ -63,6 +65,48 @@ fn after_mute(o: Own, half: Half, wanted: bool) -> Own
     }
 }
 
+fn with_freeze(o: Own, frozen: bool) -> Own
+    ensures { λ r. ⌜ r ≡ withFreeze o frozen ⌝ }
+{
+    let mut changed = o;
+    changed.frozen = frozen;
+    changed
+}
+
+fn with_volumes(o: Own, speaker: u8, microphone: u8) -> Own
+    ensures { λ r. ⌜ r ≡ withVolumes o speaker microphone ⌝ }
+{
+    let mut changed = o;
+    changed.speaker = speaker;
+    changed.microphone = microphone;
+    changed
+}
+
+// One step up or down, stopped at the ends (02, L14).
+fn step(up: bool, level: u8) -> u8
+    ensures { λ r. ⌜ r ≡ levelAfter up level ⌝ }
+{
+    if up {
+        if level < VOLUME_MOST {
+            return level + 1;
+        }
+        return level;
+    }
+    if level == 0 {
+        return 0;
+    }
+    level - 1
+}
+
+fn after_step(o: Own, v: Volume, up: bool) -> Own
+    ensures { λ r. ⌜ r ≡ afterStep o v up ⌝ }
+{
+    match v {
+        Volume::Speaker => with_volumes(o, step(up, o.speaker), o.microphone),
+        Volume::Microphone => with_volumes(o, o.speaker, step(up, o.microphone)),
+    }
+}
+
 pub fn after_command(s: Settings, o: Own, c: Command) -> Own
     ensures { λ r. ⌜ r ≡ afterCommand s o c ⌝ }
 {
@@ -71,5 +115,9 @@ pub fn after_command(s: Settings, o: Own, c: Command) -> Own
         Command::InputSet(i) => after_input(s, o, i),
         Command::MuteSet(half, wanted) => after_mute(o, half, wanted),
         Command::Query(_) => o,
+        Command::InputSet2(i) => after_input(s, o, i),
+        Command::FreezeSet(wanted) => with_freeze(o, wanted),
+        Command::VolumeStep(v, up) => after_step(o, v, up),
+        Command::NameQuery(_) => o,
     }
 }

@@ -9,8 +9,23 @@ use record::own::ON;
 use record::types::Own;
 use record::types::Settings;
 ghost use mathlib.Core.Path.{_≡_};
-ghost use Rattle.meaning.specs.Rules.{isUndefined, isUnlisted, isOutOfParameter, isFailure, isUntimely};
+ghost use Rattle.meaning.specs.Rules.{isNoQuery, isUndefined, isUnlisted, isOutOfParameter, isFailure, isUntimely};
 ghost use Rattle.meaning.specs.Rules.{isUnavailable};
+
+fn is_no_query(c: Command) -> bool
+    ensures { λ t. ⌜ t ≡ isNoQuery c ⌝ }
+{
+    match c {
+        Command::Query(b) => !body::row_of(b).asks,
+        Command::PowerSet(_) => false,
+        Command::InputSet(_) => false,
+        Command::MuteSet(_, _) => false,
+        Command::InputSet2(_) => false,
+        Command::FreezeSet(_) => false,
+        Command::VolumeStep(_, _) => false,
+        Command::NameQuery(_) => false,
+    }
+}
 
 // Rule 1.
 pub fn is_undefined(s: Settings, r: Request) -> bool
@@ -18,8 +33,10 @@ pub fn is_undefined(s: Settings, r: Request) -> bool
 {
     match r {
         Request::UnknownBody => true,
-        Request::Unlisted(b) => !body::has_set(b),
-        Request::Asks(c) => body::row_of(command::body_of(c)).lamps & (s.lamp_count == 0),
+        Request::Unlisted(b) => !body::has_parameters(b),
+        Request::Asks(c) => {
+            is_no_query(c) | (body::row_of(command::body_of(c)).lamps & (s.lamp_count == 0))
+        }
     }
 }
 
@@ -31,6 +48,10 @@ fn is_unlisted(s: Settings, c: Command) -> bool
         Command::InputSet(i) => !inputs::is_listed(s, i),
         Command::MuteSet(_, _) => false,
         Command::Query(_) => false,
+        Command::InputSet2(i) => !inputs::is_listed(s, i),
+        Command::FreezeSet(_) => false,
+        Command::VolumeStep(_, _) => false,
+        Command::NameQuery(i) => !inputs::is_listed(s, i),
     }
 }
 
@@ -40,7 +61,7 @@ pub fn is_out_of_parameter(s: Settings, r: Request) -> bool
 {
     match r {
         Request::UnknownBody => false,
-        Request::Unlisted(b) => body::has_set(b),
+        Request::Unlisted(b) => body::has_parameters(b),
         Request::Asks(c) => is_unlisted(s, c),
     }
 }
@@ -64,6 +85,10 @@ fn is_untimely(power: u8, c: Command) -> bool
         Command::InputSet(_) => power != ON,
         Command::MuteSet(_, _) => power != ON,
         Command::Query(b) => body::row_of(b).on & (power != ON),
+        Command::InputSet2(_) => power != ON,
+        Command::FreezeSet(_) => power != ON,
+        Command::VolumeStep(_, _) => power != ON,
+        Command::NameQuery(_) => false,
     }
 }
 

@@ -6,12 +6,17 @@ use answers::answer::Kind;
 use answers::answer::LampHours;
 use answers::answer::NO_LAMP;
 use answers::answer::Power;
+use answers::answer::TEXT_MOST;
 use lines::command::Body;
 use lines::command::Command;
+use lines::input::Input;
 use record::own;
 use record::own::COOLING;
 use record::own::OFF;
 use record::own::ON;
+use record::types::INPUT_NAME_MOST;
+use record::types::INPUTS_MOST;
+use record::types::InputName;
 use record::types::LAMPS_MOST;
 use record::types::Own;
 use record::types::Settings;
@@ -19,12 +24,13 @@ use record::types::TEXT_ROOM;
 use record::types::Text;
 ghost use mathlib.Core.Path.{_≡_};
 ghost use Prim.Native.Nat.{_≤_};
-ghost use lib.ListN.{length, take};
+ghost use lib.ListN.{length, take, getD};
 ghost use Rattle.answers.specs.Said.{powerIs, chosenIs, errorsAre, lampsAre, inputsAre, textIs};
-ghost use Rattle.answers.specs.Carried.{answerOf};
-ghost use Rattle.record.specs.Limits.{textRoom};
+ghost use Rattle.answers.specs.Carried.{textCarried, answerOf};
+ghost use Rattle.record.specs.Record.{blankName};
 ghost use Rattle.meaning.specs.SetUpInputs.{inputsOf};
-ghost use Rattle.meaning.specs.Meaning.{powerSaid, chosenOf, lampsSaid, lampsOf, textSaid, queried, tableAnswer};
+ghost use Rattle.meaning.specs.Meaning.{powerSaid, chosenOf, lampsSaid, lampsOf, textSaid, nameBytes, inputNameOf};
+ghost use Rattle.meaning.specs.Meaning.{queried, tableAnswer};
 
 const HOUR: u32 = 3600;
 
@@ -58,7 +64,7 @@ fn told_errors(o: Own) -> Answer
     ensures { λ r. ⌜ r ≡ answerOf (errorsAre (o .errors)) ⌝ }
 {
     let errors = o.errors;
-    let mut digits = [0; TEXT_ROOM];
+    let mut digits = [0; TEXT_MOST];
     text::put(&mut digits, 0, &errors);
     answer::of_text(Kind::Errors, digits)
 }
@@ -102,10 +108,10 @@ fn told_inputs(s: Settings) -> Answer
 }
 
 fn said_text(bytes: &[u8]) -> Answer
-    requires { ⌜ length (now bytes) ≤ textRoom ⌝ }
+    requires { ⌜ length (now bytes) ≤ textCarried ⌝ }
     ensures { λ r. ⌜ r ≡ answerOf (textIs (now (bytes .entry))) ⌝ }
 {
-    let mut kept = [0; TEXT_ROOM];
+    let mut kept = [0; TEXT_MOST];
     text::put(&mut kept, 0, bytes);
     answer::of_text(Kind::Text(bytes.len()), kept)
 }
@@ -119,6 +125,35 @@ fn told_text(t: Text) -> Answer
         return said_text(&bytes);
     }
     said_text(&bytes[0..len])
+}
+
+fn name_said(n: InputName) -> Answer
+    ensures { λ r. ⌜ r ≡ answerOf (textIs (nameBytes n)) ⌝ }
+{
+    let bytes = n.bytes;
+    let len = n.len;
+    if INPUT_NAME_MOST < len {
+        return said_text(&bytes);
+    }
+    said_text(&bytes[0..len])
+}
+
+// The name at a place; past the list there is none.
+fn name_at(names: [InputName; INPUTS_MOST], place: usize) -> Answer
+    ensures { λ r. ⌜ r ≡ answerOf (textIs (nameBytes (getD names place blankName))) ⌝ }
+{
+    if INPUTS_MOST <= place {
+        return said_text(b"");
+    }
+    let name = names[place];
+    name_said(name)
+}
+
+fn told_name(s: Settings, i: Input) -> Answer
+    ensures { λ r. ⌜ r ≡ answerOf (textIs (inputNameOf s i)) ⌝ }
+{
+    let names = s.names;
+    name_at(names, inputs::place_of(s, i))
 }
 
 fn queried(s: Settings, o: Own, b: Body) -> Answer
@@ -135,7 +170,15 @@ fn queried(s: Settings, o: Own, b: Body) -> Answer
         Body::Inf1 => told_text(s.maker),
         Body::Inf2 => told_text(s.model),
         Body::Info => told_text(s.other),
-        Body::Clss => answer::plain(Kind::Class),
+        Body::Clss => answer::plain(Kind::Class(s.class_number)),
+        Body::Frez => answer::plain(Kind::Frozen(o.frozen)),
+        Body::Svol => answer::plain(Kind::Nothing),
+        Body::Mvol => answer::plain(Kind::Nothing),
+        Body::Snum => told_text(s.serial),
+        Body::Sver => told_text(s.version),
+        Body::Innm => answer::plain(Kind::Nothing),
+        Body::Inpt2 => told_chosen(s, o),
+        Body::Inst2 => told_inputs(s),
     }
 }
 
@@ -147,5 +190,9 @@ pub fn table_answer(s: Settings, o: Own, c: Command) -> Answer
         Command::InputSet(_) => answer::plain(Kind::Ok),
         Command::MuteSet(_, _) => answer::plain(Kind::Ok),
         Command::Query(b) => queried(s, o, b),
+        Command::InputSet2(_) => answer::plain(Kind::Ok),
+        Command::FreezeSet(_) => answer::plain(Kind::Ok),
+        Command::VolumeStep(_, _) => answer::plain(Kind::Ok),
+        Command::NameQuery(i) => told_name(s, i),
     }
 }

@@ -9,7 +9,7 @@ use Rattle.meaning.proofs.rules.is_out_of_parameter.Tie as tie
 unlisted : tie.Need-returns-2
 unlisted c =
     let arm = c .before .before in
-    c .has-set .ensures ∙ ap (isOutOfParameter (arm .before .before .args .s)) (sym (arm .r .given .1))
+    c .has-parameters .ensures ∙ ap (isOutOfParameter (arm .before .before .args .s)) (sym (arm .r .given .1))
 
 asked : tie.Need-returns-3
 asked c =
@@ -25,6 +25,6 @@ is-out-of-parameter-spec =
     (λ c κs. search needs)
     (λ c. search needs)
     (λ c κs. search needs)
-    (λ c. search needs)
+    (λ c. ap (isOutOfParameter (c .before .before .args .s)) (sym (c .enum-told .given .1)))
     unlisted
     asked)
