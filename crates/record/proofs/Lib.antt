@@ -15,6 +15,7 @@ pub mod InRange
 pub mod InputsTold
 pub mod NamesTold
 pub mod CutNames
+pub mod NamesCopied
 pub mod SettingsTold
 pub mod OwnTold
 pub mod ConnectionTold

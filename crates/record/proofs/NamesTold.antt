@@ -6,7 +6,7 @@
 use Prim.Native.Nat.{ℕ, zero, suc, _-_, _≤_, _<_}
 use mathlib.Core.Path.{_≡_, refl, sym, ap, _∙_}
 use mathlib.Core.Bool.{Bool, true, _&&_}
-use mathlib.Core.List.{List, [], _∷_, _++_, map}
+use mathlib.Core.List.{List, [], _∷_, map}
 use mathlib.Core.Logic.{⊎-elim}
 use native.Mathlib.Omega.{arith}
 use lib.ListN.{length, getD, take, drop, replicate, length-append, length-replicate, take-append-drop}
@@ -117,7 +117,13 @@ module _ (ns : List (List ℕ)) (few : length ns ≤ listedMost) where
         ∙ none-named (listedMost - length ns);
   })
 
--- none are kept in an empty room, and one more at its place
+-- the first places have them
+pub names-first : (ns : List (List ℕ)) → take (length ns) (namesKept ns) ≡ map nameOf ns
+unfolding namesKept
+names-first ns =
+    take-at (map nameOf ns) (replicate (listedMost - length ns) blankName) (length ns) (as-many nameOf ns)
+
+-- none are kept in an empty room
 pub no-names : namesKept [] ≡ replicate listedMost blankName
 unfolding namesKept
 no-names = refl

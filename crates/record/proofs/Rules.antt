@@ -1,7 +1,6 @@
 -- What the rules of set-up tell of what follows them.
 -- Assumes nothing.
 use Prim.Native.Nat.{ℕ, _≤_, _<_}
-use Prim.Native.Char.{code}
 use mathlib.Core.Path.{_≡_, refl, sym, ap, _∙_}
 use mathlib.Core.Bool.{Bool, true, false, false≢true, not, _&&_, _||_}
 use mathlib.Core.Logic.{_⊎_, inl, inr, ⊎-elim}
@@ -9,15 +8,13 @@ use mathlib.Core.List.{List, []}
 use native.Mathlib.Omega.{arith}
 use lib.ListN.{length}
 use lib.Dec.{leb, eqb}
-use borrow.Author.Tests.{eqb-true, eq-eqb, leb-true, le-leb}
-use Rattle.text.specs.Words.{_from_to_}
+use borrow.Author.Tests.{eqb-true, eq-eqb, leb-true}
 use Rattle.text.specs.Scans.{every}
 use Rattle.text.proofs.Orders.{le-or-lt}
-use Rattle.text.proofs.Choices.{both, both-left, both-right, if-by, if-all, by-not}
+use Rattle.text.proofs.Choices.{both, both-left, both-right, if-all, by-not}
 use Rattle.lines.specs.Texts.{isRefusal, isText, isPassword, passwordMost, isInputName}
 use Rattle.lines.proofs.Refusals.{refusal-long}
 use Rattle.lines.proofs.WithinLength.{text-within, text-longer, password-longer}
-use Rattle.lines.specs.Inputs.{isInputText}
 use Rattle.record.specs.Limits.{inputRoom, lampsMost, errorsCount, errorMost, isClass, onlyIn2}
 use Rattle.record.specs.Rules.{isLongEnough, isSetUpPassword}
 use Rattle.record.specs.Rules.{atMost, eachPair, isNewInput, isInputs, isLamp, isLamps, isErrors}

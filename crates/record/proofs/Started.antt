@@ -9,7 +9,7 @@ use lib.ListN.{length, getD, drop, List·getD-append}
 use borrow.Author.Tests.{le-leb}
 use Rattle.text.proofs.Choices.{both, by-not}
 use Rattle.lines.specs.Texts.{isText, isName, isInfo, infoMost}
-use Rattle.record.specs.Limits.{textRoom, listedMost, inputRoom, lampsMost, placesCount, onlyIn2}
+use Rattle.record.specs.Limits.{textRoom, inputRoom, lampsMost, placesCount, onlyIn2}
 use Rattle.record.specs.Wanted.{Wanted}
 use Rattle.record.specs.Rules.{isSetUpPassword, isNewInput, isInputs, isLamps, isErrors}
 use Rattle.record.specs.Record.{zeros, inRoom, textOf, namesKept, closed, allClosed, allMarks, settingsOf}

@@ -71,9 +71,9 @@ fn refuse(number: u32) -> Changed
     Changed { number, device }
 }
 
-// 0 and the started device, or the blank record: with 3 where a setting is out of its range, then with 8 where the
-// password is too short.
-fn set_up_in(
+// Of either class: 0 and the started device, or the blank record, with 3 where a setting is out of its range, then with 8
+// where the password is too short.
+pub fn set_up_in(
     class: u8,
     name: &[u8],
     maker: &[u8],

@@ -6,8 +6,8 @@ use mathlib.Core.List.{List}
 use native.Mathlib.Omega.{arith}
 use lib.ListN.{length, getD}
 use borrow.Author.Needs.{needs}
-use Rattle.record.proofs.CutNames.{NamesCopied, no-name-copied, counted-there, name-ends, name-short}
-use Rattle.record.proofs.CutNames.{one-name-copied, all-names-copied}
+use Rattle.record.proofs.NamesCopied.{NamesCopied, no-name-copied, counted-there, name-ends, name-short}
+use Rattle.record.proofs.NamesCopied.{one-name-copied, all-names-copied}
 use Rattle.record.proofs.fill.names_of.Statement.{statement}
 use Rattle.record.proofs.fill.names_of.Tie as tie
 
