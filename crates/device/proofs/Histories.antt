@@ -6,6 +6,7 @@
 --   Tells s o w r k e          that, the lamps and their marks kept, and what the connection e holds then
 -- Assumes nothing.
 use Prim.Native.Nat.{ℕ, _+_}
+use Prim.Native.Char.{code}
 use mathlib.Core.Path.{_≡_, refl, sym, ap, subst, _∙_}
 use mathlib.Core.Bool.{Bool, true, false, _||_}
 use mathlib.Core.List.{List, [], _∷_, _++_, append-assoc, append-nil}
@@ -47,8 +48,8 @@ use Rattle.device.proofs.PowerLines.{isPowerOkay, powerLine, PowerEffec
 
 pub data StreamEffect (s : Settings) (o : Own) (stream reply : List ℕ) (k : Own) : Type 0 where
   stays : isPowerOkay reply ≡ false → k .power ≡ o .power → k .left ≡ o .left → StreamEffect s o stream reply k
-  turns : (a b c d : ℕ) (wanted : Bool) → isBody (a ∷ b ∷ c ∷ d ∷ []) Powr ≡ true
-      → Ends stream (powerLine a b c d wanted ++ ascii "\r") → reply ≡ replyLine a b c d (ascii "OK")
+  turns : (a b c d : ℕ) (wanted : Bool) → isBody 1 (a ∷ b ∷ c ∷ d ∷ []) Powr ≡ true
+      → Ends stream (powerLine a b c d wanted ++ ascii "\r") → reply ≡ replyLine (code "1") a b c d (ascii "OK")
       → meant s o (Asks (PowerSet wanted)) ≡ okay → k ≡ done s o (Asks (PowerSet wanted))
       → StreamEffect s o stream reply k
 

@@ -75,7 +75,7 @@ module _ (s : Settings) (o : Own) (settings : isSettings s ≡ true) (own : isOw
   pub answered-legal : (l : List ℕ) → isOwn s (lineAnswer s o l .own) ≡ true
   unfolding lineAnswer
   answered-legal l =
-      if-all (λ (a : Answered). isOwn s (a .own) ≡ true) (isCommandForm l)
+      if-all (λ (a : Answered). isOwn s (a .own) ≡ true) (isCommandForm (s .«class_number») l)
       (done-legal s o settings own (lineAsks l)) own
 
   module _ (c : Connection) where

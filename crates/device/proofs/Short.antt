@@ -1,4 +1,4 @@
--- No reply is longer than 103 bytes (02, L11): eight around a parameter of at most 95, 12 for the refused digest, at
+-- No reply is longer than 136 bytes (02, L14): eight around a parameter of at most 128, 12 for the refused digest, at
 -- most 18 for a greeting.
 -- Assumes nothing.
 use Prim.Native.Nat.{ℕ, _≤_}
@@ -37,7 +37,7 @@ module _ (s : Settings) (o : Own) (settings : isSettings s ≡ true) (own : isOw
   answered-short l =
       let p = saidBytes (meant s o (lineAsks l)) in
       let short : length p ≤ saidMost = meant-fits s o settings own (lineAsks l) .short in
-      if-all (λ (a : Answered). length (a .reply) ≤ longestReply) (isCommandForm l)
+      if-all (λ (a : Answered). length (a .reply) ≤ longestReply) (isCommandForm (s .«class_number») l)
       (omega (arith, length-append p (code "\r" ∷ []))) (omega arith)
 
   module _ (c : Connection) where

@@ -26,7 +26,7 @@ module _ (s : Settings) (o : Own) where
   pub answered-keeps : (l : List ℕ) → Keeps o (lineAnswer s o l .own)
   unfolding lineAnswer
   answered-keeps l =
-      if-all (λ (a : Answered). Keeps o (a .own)) (isCommandForm l) (done-keeps s o (lineAsks l)) (itself-kept o)
+      if-all (λ (a : Answered). Keeps o (a .own)) (isCommandForm (s .«class_number») l) (done-keeps s o (lineAsks l)) (itself-kept o)
 
   pub ended-keeps : (c : Connection) (l : Line) → Keeps o (lineEnded s o c l .own)
   ended-keeps c l =

@@ -2,7 +2,7 @@
 -- an open connection as it is, on an awaiting one behind the matching digest; and a command's line is answered what the
 -- command means.
 -- Assumes nothing.
-use Prim.Native.Nat.{ℕ, _+_, _≤_}
+use Prim.Native.Nat.{ℕ, _+_, _≤_, _<_}
 use Prim.Native.Char.{code}
 use mathlib.Core.Path.{_≡_, refl, ap, _∙_}
 use mathlib.Core.Bool.{true}
@@ -13,33 +13,36 @@ use lib.Seq.{take-at, drop-at}
 use borrow.Author.Tests.{le-leb}
 use Rattle.text.specs.Words.{ascii}
 use Rattle.text.specs.Scans.{every, itself}
-use Rattle.text.proofs.Choices.{both, if-yes}
+use Rattle.text.proofs.Choices.{both, if-yes, if-no}
 use Rattle.text.proofs.Scanning.{every-append}
 use Rattle.text.proofs.Sameness.{turned-same}
 use Rattle.digest.specs.Hex.{leadingDigest}
 use Rattle.digest.proofs.Laws.{leading-digest-length, hex-are-digits, digits-have-no-cr}
 use Rattle.lines.specs.Bytes.{notCr, noCr}
 use Rattle.lines.specs.Forms.{commandMost, headBody}
-use Rattle.lines.specs.Commands.{bodyText, bodyOf, isCommand, commandText}
+use Rattle.lines.specs.Commands.{bodyText, bodyOf, commandClass, classDigit, isCommand, commandText}
 use Rattle.lines.specs.Requests.{isBody, requestOf}
 use Rattle.lines.specs.declared.command.Command.{Command}
 use Rattle.lines.specs.declared.request.Request.the-variants.{Asks}
 use Rattle.lines.proofs.Bodies.{body-spelt}
-use Rattle.lines.proofs.CommandLines.{command-body, command-parameter, command-form}
+use Rattle.lines.proofs.CommandLines.{command-body, command-parameter, command-class, command-form}
+use Rattle.lines.proofs.CommandLines.{command-of-higher-class}
 use Rattle.lines.proofs.CommandsAskedBack.{command-asked-back}
 use Rattle.answers.specs.Said.{saidBytes}
 use Rattle.record.specs.Limits.{lineRoom, awaiting, opened}
 use Rattle.record.specs.Record.{inRoom}
-use Rattle.record.specs.Legal.{heldMost}
+use Rattle.record.specs.Legal.{heldMost, isSettings}
 use Rattle.record.specs.declared.types.Settings.{Settings}
 use Rattle.record.specs.declared.types.Own.{Own}
 use Rattle.record.specs.declared.types.Line.{Line}
 use Rattle.record.specs.declared.types.Connection.{Connection}
 use Rattle.record.proofs.Kept.{filled-take, room-first}
+use Rattle.record.proofs.SettingsTold.{SettingsTold, settings-told}
 use Rattle.record.proofs.ConnectionTold.{held-most-opened, held-most-awaiting}
 use Rattle.stream.specs.Collecting.{lineText, lineOf, emptyLine, gathered}
 use Rattle.stream.proofs.LinesCollected.{empty-is-none, line-gathered}
 use Rattle.meaning.specs.Meaning.{meant, done}
+use Rattle.meaning.proofs.ClassKnown.{class-low, class-high}
 use Rattle.device.specs.Answering.{lineAsks, replied, swallowed, lineAnswer}
 use Rattle.device.specs.Receiving.{Ended, Taken, spoken, isMatch, digestLong, passwordOf}
 use Rattle.device.specs.Receiving.{lineEnded, takenOf, takenIn}
@@ -114,23 +117,38 @@ module _ (s : Settings) (o : Own) (c : Connection) (empty : c .line ≡ emptyLin
         ∙ (λ i. record { ended = ended i; taken = long i + 1 })
 
 -- a command's line
-module _ (s : Settings) (o : Own) (k : Command) (writable : isCommand k ≡ true) where
-  command-asked : lineAsks (commandText k) ≡ Asks k
-  command-asked =
-      ap (requestOf (headBody (commandText k))) (command-parameter k)
-      ∙ command-asked-back k (headBody (commandText k)) writable
-      (ap (λ (h : List ℕ). isBody h (bodyOf k)) (command-body k) ∙ body-spelt (bodyOf k) .own)
+module _ (s : Settings) (o : Own) (settings : isSettings s ≡ true) (k : Command) where
+  abbrev known : SettingsTold s
+  known = settings-told s settings
 
-  -- the body as sent, what the command means, and what it does
-  pub command-answered : lineAnswer s o (commandText k) ≡ record {
-    own = done s o (Asks k);
-    reply = ascii "%1" ++ bodyText (bodyOf k) ++ ascii "=" ++ saidBytes (meant s o (Asks k)) ++ ascii "\r";
-  }
+  -- of a class higher than the set-up's: no form that it takes (02, L14)
+  pub higher-swallowed : s .«class_number» < commandClass k → lineAnswer s o (commandText k) ≡ swallowed o
   unfolding lineAnswer
-  command-answered =
-      if-yes (replied s o (commandText k)) (swallowed o) (command-form k)
-      ∙ (λ i. record {
-        own = done s o (command-asked i);
-        reply =
-            ascii "%1" ++ command-body k i ++ ascii "=" ++ saidBytes (meant s o (command-asked i)) ++ ascii "\r";
-      })
+  higher-swallowed higher =
+      if-no (replied s o (commandText k)) (swallowed o)
+      (command-of-higher-class k (s .«class_number») (class-low s known) (class-high s known) higher)
+
+  module _ (writable : isCommand k ≡ true) (within : commandClass k ≤ s .«class_number») where
+    command-asked : lineAsks (commandText k) ≡ Asks k
+    command-asked =
+        (λ i. requestOf (command-class k i) (headBody (commandText k)) (command-parameter k i))
+        ∙ command-asked-back k (headBody (commandText k)) writable
+        (ap (λ (h : List ℕ). isBody (commandClass k) h (bodyOf k)) (command-body k) ∙ body-spelt (bodyOf k) .own)
+
+    -- class and body as sent, what the command means, and what it does
+    pub command-answered : lineAnswer s o (commandText k) ≡ record {
+      own = done s o (Asks k);
+      reply =
+          ascii "%" ++ (classDigit (commandClass k) ∷ bodyText (bodyOf k)) ++ ascii "="
+          ++ saidBytes (meant s o (Asks k)) ++ ascii "\r";
+    }
+    unfolding lineAnswer
+    command-answered =
+        if-yes (replied s o (commandText k)) (swallowed o)
+        (command-form k (s .«class_number») (class-low s known) (class-high s known) within)
+        ∙ (λ i. record {
+          own = done s o (command-asked i);
+          reply =
+              ascii "%" ++ (classDigit (commandClass k) ∷ command-body k i) ++ ascii "="
+              ++ saidBytes (meant s o (command-asked i)) ++ ascii "\r";
+        })

@@ -1,15 +1,16 @@
 -- A line that is received on an open connection, without its CR (01, "Connection" and "Commands").
 --   Answered            what a line leaves: the projector's own part, and the reply's bytes (none, or a whole reply)
 --   lineAsks l          what the line asks for
---   lineAnswer s o l    a line of the form is answered: `%1`, the four body bytes as received, `=`, the parameter, CR;
---                       any other is swallowed, with no reply
+--   lineAnswer s o l    a line of the form is answered: `%`, the class and the four body bytes as received, `=`, the
+--                       parameter, CR; any other is swallowed, with no reply, and so is one of a class higher than the
+--                       set-up's (02, L14)
 -- Assumes nothing.
 use Prim.Native.Nat.{ℕ}
 use mathlib.Core.List.{List, []}
 use Rattle.text.specs.Words.{if_then_else_}
 use Rattle.lines.specs.Bytes.{_at_}
 use Rattle.lines.specs.Requests.{requestOf}
-use Rattle.lines.specs.Forms.{isCommandForm, headBody, commandParameter, replyLine}
+use Rattle.lines.specs.Forms.{isCommandForm, lineClass, headBody, commandParameter, replyLine}
 use Rattle.lines.specs.declared.request.Request.{Request}
 use Rattle.answers.specs.Said.{saidBytes}
 use Rattle.record.specs.declared.types.Settings.{Settings}
@@ -21,7 +22,7 @@ pub record Answered : Type 0 where
   pub reply : List ℕ
 
 abbrev pub lineAsks : List ℕ → Request
-lineAsks l = requestOf (headBody l) (commandParameter l)
+lineAsks l = requestOf (lineClass l) (headBody l) (commandParameter l)
 
 abbrev pub swallowed : Own → Answered
 swallowed o = record { own = o; reply = [] }
@@ -29,8 +30,8 @@ swallowed o = record { own = o; reply = [] }
 abbrev pub replied : Settings → Own → List ℕ → Answered
 replied s o l = record {
   own = done s o (lineAsks l);
-  reply = replyLine (l at 2) (l at 3) (l at 4) (l at 5) (saidBytes (meant s o (lineAsks l)));
+  reply = replyLine (l at 1) (l at 2) (l at 3) (l at 4) (l at 5) (saidBytes (meant s o (lineAsks l)));
 }
 
 unfoldable pub lineAnswer : Settings → Own → List ℕ → Answered
-lineAnswer s o l = if isCommandForm l then replied s o l else swallowed o
+lineAnswer s o l = if isCommandForm (s .«class_number») l then replied s o l else swallowed o

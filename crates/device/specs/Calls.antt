@@ -45,9 +45,9 @@ made d = record { number = 0; taken = 0; reply = []; device = d }
 abbrev pub replyRoom : ℕ
 replyRoom = replyMost
 
--- no reply is longer: 32 inputs, and eight around them (02, L11; 01's 72 was a name's)
+-- no reply is longer: an input's name, and eight around it (02, L14; 01's 72 was a projector's name)
 abbrev pub longestReply : ℕ
-longestReply = 103
+longestReply = 136
 
 -- there is no such place
 abbrev pub isNoPlace : ℕ → Bool

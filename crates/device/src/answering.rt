@@ -21,13 +21,13 @@ pub struct Spoken {
     pub length: usize,
 }
 
-// The reply to the body a b c d, from the start of the lent memory.
-fn put_reply(out: &mut [u8], a: u8, b: u8, c: u8, d: u8, answer: Answer) -> usize
+// The reply to the body a b c d under the class byte h, from the start of the lent memory.
+fn put_reply(out: &mut [u8], h: u8, a: u8, b: u8, c: u8, d: u8, answer: Answer) -> usize
     requires { ⌜ 136 ≤ length (now out) ⌝ }
-    ensures { λ r. ⌜ r ≡ length (replyLine a b c d (saidBytes (saidBy answer))) ⌝ }
-    ensures { λ _. ⌜ now (out .exit) ≡ over (replyLine a b c d (saidBytes (saidBy answer))) (now (out .entry)) ⌝ }
+    ensures { λ r. ⌜ r ≡ length (replyLine h a b c d (saidBytes (saidBy answer))) ⌝ }
+    ensures { λ _. ⌜ now (out .exit) ≡ over (replyLine h a b c d (saidBytes (saidBy answer))) (now (out .entry)) ⌝ }
 {
-    let head = [b'%', b'1', a, b, c, d, b'='];
+    let head = [b'%', h, a, b, c, d, b'='];
     text::put(out, 0, &head);
     let end = answers::write::put_answer(out, 7, answer);
     out[end] = b'\r';
@@ -40,16 +40,17 @@ pub fn answer_line(s: Settings, o: Own, l: &[u8], out: &mut [u8]) -> Spoken
     ensures { λ r. ⌜ r ≡ spokenOf (lineAnswer s o (now (l .entry))) ⌝ }
     ensures { λ _. ⌜ now (out .exit) ≡ over (lineAnswer s o (now (l .entry)) .reply) (now (out .entry)) ⌝ }
 {
-    if !form::is_command_form(l) {
+    if !form::is_command_form(s.class_number, l) {
         return Spoken { own: o, length: 0 };
     }
+    let h = l[1];
     let a = l[2];
     let b = l[3];
     let c = l[4];
     let d = l[5];
-    let r = request::request_of(a, b, c, d, &l[7..]);
+    let r = request::request_of(form::class_named(h), a, b, c, d, &l[7..]);
     let decided = meaning::decide(s, o, r);
     let own = decided.own;
-    let length = put_reply(out, a, b, c, d, decided.answer);
+    let length = put_reply(out, h, a, b, c, d, decided.answer);
     Spoken { own, length }
 }

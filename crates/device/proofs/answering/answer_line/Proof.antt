@@ -50,11 +50,11 @@ module _ (c : tie.Else1) where
   abbrev line : List ℕ
   line = start .args .l .now
 
-  formed : isCommandForm line ≡ true
+  formed : isCommandForm (start .args .s .«class_number») line ≡ true
   formed = sym (c .before .is-command-form .ensures) ∙ not-false (c .before .is-command-form .result) (c .if1 .left)
 
   long : 7 ≤ length line
-  long = form-long line formed
+  long = form-long (start .args .s .«class_number») line formed
 
   whole : take (length line - 7) (drop 7 line) ≡ drop 7 line
   whole = rest-whole line 7
@@ -62,13 +62,18 @@ module _ (c : tie.Else1) where
 -- what is decided
 module _ (c : tie.After-decide) where
   abbrev tested : tie.Else1
-  tested = let parts = c .before .before .before in let first = parts .before .before .before in first .before
+  tested =
+      let named = c .before .before .before in
+      let read = named .before .before .before in
+      let first = read .before .before in
+      first .before
 
   decision : c .decide .result ≡ decided (start tested .args .s) (start tested .args .o) (lineAsks (line tested))
   decision =
       c .decide .ensures
       ∙ ap (λ (r : Request). decided (start tested .args .s) (start tested .args .o) r)
-      (c .before .request-of .ensures ∙ ap (requestOf (headBody (line tested))) (whole tested))
+      (c .before .request-of .ensures
+      ∙ (λ i. requestOf (c .before .before .before .class-named .ensures i) (headBody (line tested)) (whole tested i)))
 
   said : saidBy (c .decide .result .answer)
       ≡ meant (start tested .args .s) (start tested .args .o) (lineAsks (line tested))
@@ -84,7 +89,7 @@ replies c =
     let made = put .before .before .before in
     let args = start (tested made) .args in
     let l = line (tested made) in
-    let bytes : Said → List ℕ = λ m. replyLine (l at 2) (l at 3) (l at 4) (l at 5) (saidBytes m) in
+    let bytes : Said → List ℕ = λ m. replyLine (l at 1) (l at 2) (l at 3) (l at 4) (l at 5) (saidBytes m) in
     let spoken : _≡_ {A = Spoken} _ (spokenOf (replied (args .s) (args .o) l)) = λ i. record {
       own = decision made i .own;
       length = (put .put-reply .ensures .0 ∙ ap (λ (m : Said). length (bytes m)) (said made)) i;
@@ -103,8 +108,10 @@ answer-line-spec =
     (λ c. omega (arith, long (c .before .before)))
     (λ c. omega (arith, long (c .before .before .before)))
     (λ c. let third = c .before in omega (arith, long (third .before .before .before)))
-    (λ c. let third = c .before in omega (arith, long (third .before .before .before)))
-    (λ c. let third = c .before in omega (arith, long (third .before .before .before)))
+    (λ c. let fourth = c .before .before in omega (arith, long (fourth .before .before .before)))
+    (λ c κs. search needs)
+    (λ c. let all = c .before .before .before in omega (arith, long (all .before .before .before)))
+    (λ c. let all = c .before .before .before in omega (arith, long (all .before .before .before)))
     (λ c. search needs)
     (λ c κs. search needs)
     (λ c κs. search needs)

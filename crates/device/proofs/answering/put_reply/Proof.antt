@@ -32,9 +32,9 @@ replied c =
     let written = c .before .before in
     let args = start written .args in
     let p = saidBytes (saidBy (args .answer)) in
-    let long = reply-long (args .a) (args .b) (args .c) (args .d) p in (
+    let long = reply-long (args .h) (args .a) (args .b) (args .c) (args .d) p in (
       ap (λ (n : ℕ). n + 1) (end written) ∙ sym long,
-      reply-written (args .a) (args .b) (args .c) (args .d) p (args .out .now) (start written .pre)
+      reply-written (args .h) (args .a) (args .b) (args .c) (args .d) p (args .out .now) (start written .pre)
           (said-within (args .answer))
           (begun written .put .ensures) (written .put-answer .ensures .1) (end written),
     )
