@@ -14,7 +14,7 @@ use Rattle.text.specs.Rows.{Row, byRows, NoneOf, isNumbered}
 use Rattle.text.proofs.ByRows.{by-rows, rows-done}
 use Rattle.text.proofs.Choices.{if-yes, if-no, if-by, both-left, both-right}
 use Rattle.digest.specs.Hex.{hexDigits}
-use Rattle.lines.specs.Forms.{greetingOpen, greetingSecured}
+use Rattle.lines.specs.Forms.{greetingOpen, greetingSecured, isCommandForm}
 use Rattle.record.specs.Limits.{placesCount, awaiting, opened, failed}
 use Rattle.record.specs.Updates.{withLine}
 use Rattle.record.specs.Legal.{isLegal, heldMost}
@@ -27,7 +27,7 @@ use Rattle.record.specs.declared.types.Connection.{Connection}
 use Rattle.record.specs.declared.types.Device.{Device}
 use Rattle.stream.specs.declared.Gathered.{Gathered}
 use Rattle.stream.specs.Collecting.{lineText, gathered}
-use Rattle.device.specs.Answering.{Answered, lineAnswer, swallowed}
+use Rattle.device.specs.Answering.{Answered, lineAnswer, replied, swallowed}
 use Rattle.device.specs.Receiving.{Ended, Taken, begunIn, isMatch, digestLong, noReply, spoken}
 use Rattle.device.specs.Receiving.{refusedDigest, lineEnded, keepingLine, takenIn}
 use Rattle.device.specs.Calls.{Result, refusedBy, made, replyRoom, isNoPlace, acceptedTaken}
@@ -173,6 +173,14 @@ module _ (d : Device) (p : ℕ) where
   unfolding closedBy
   closed-made legal there live =
       rows-done (λ n. refusedBy n d) _ (closingRows d p) (ap not legal, (lt-leb placesCount p there, (live, tt)))
+
+-- a line's answer, by its form
+pub answered-by : (s : Settings) (o : Own) (l : List ℕ) (P : Answered → Type 0)
+    → (isCommandForm (s .«class_number») l ≡ true → P (replied s o l))
+    → (isCommandForm (s .«class_number») l ≡ false → P (swallowed o))
+    → P (lineAnswer s o l)
+unfolding lineAnswer
+answered-by s o l P = if-by P (isCommandForm (s .«class_number») l)
 
 -- what CR does, by the phase and what the line is
 module _ (s : Settings) (o : Own) (c : Connection) (l : Line) where
