@@ -10,7 +10,7 @@ use mathlib.Core.List.{List}
 use lib.ListN.{length, take, drop}
 use lib.Seq.{take-append-seam}
 use Rattle.text.specs.Words.{over}
-use Rattle.lines.specs.Commands.{isCommand}
+use Rattle.lines.specs.Commands.{commandClass, isCommand}
 use Rattle.lines.specs.declared.command.Command.{Command}
 use Rattle.lines.specs.declared.request.Request.the-variants.{Asks}
 use Rattle.record.specs.Limits.{placesCount, awaiting, opened}
@@ -70,13 +70,14 @@ module _ (d : Device) (p : ℕ) (c : Command) (paper out : List ℕ) {w : Writte
       }
 
   module _ (there : p < placesCount) (legal : isLegal d ≡ true) (between : connectionAt d p .line ≡ emptyLine) (writable : isCommand c ≡ true)
+      (within : commandClass c ≤ d .settings .«class_number»)
       (roomy : commandRoom ≤ length paper) (enough : replyRoom ≤ length out) where
     pub calls-read-back : connectionAt d p .phase ≡ opened → (random : ℕ) (password : List ℕ)
         → Writes c false random password paper w m → Receives d p (take (w .length) m) out r n
         → x ≡ readingOf (readReply c (take (r .length) n))
         → CalledBack d p c w r x
     calls-read-back phase random password =
-        let through = written-reads-back d p there legal between c writable (length out) enough (length paper) roomy phase
+        let through = written-reads-back d p there legal between c writable within (length out) enough (length paper) roomy phase
         random password in
         called-back false random password (through .0) (through .1)
 
@@ -86,7 +87,7 @@ module _ (d : Device) (p : ℕ) (c : Command) (paper out : List ℕ) {w : Writte
         → x ≡ readingOf (readReply c (take (r .length) n))
         → CalledBack d p c w r x
     calls-read-back-secured phase =
-        let through = written-reads-back-secured d p there legal between c writable (length out) enough (length paper) roomy
+        let through = written-reads-back-secured d p there legal between c writable within (length out) enough (length paper) roomy
         phase in
         called-back true (connectionAt d p .random) (passwordOf (d .settings)) (through .0) (through .1)
 

@@ -12,7 +12,7 @@ use Rattle.text.proofs.Choices.{if-yes, if-no, if-by, both}
 use Rattle.text.proofs.Scanning.{long-differs}
 use Rattle.digest.specs.Hex.{leadingDigest, hexDigits}
 use Rattle.lines.specs.Texts.{isPassword}
-use Rattle.lines.specs.Commands.{isCommand, bodyOf, commandLine}
+use Rattle.lines.specs.Commands.{isCommand, bodyOf, commandClass, commandLine}
 use Rattle.lines.specs.Forms.{erraLine, greetingOpen, greetingSecured, isReplyForm, headBody, replyParameter}
 use Rattle.lines.specs.Requests.{isBody}
 use Rattle.lines.specs.declared.command.Command.{Command}
@@ -82,17 +82,17 @@ module _ (c : Command) (secured : Bool) (random : ℕ) (password : List ℕ) (ro
 module _ (c : Command) (l : List ℕ) where
   pub reply-by : (P : ReadAs → Type 0)
       → (sameBy itself l erraLine ≡ true → P (without Erra))
-      → (sameBy itself l erraLine ≡ false → isReplyForm l ≡ false → P (without NotALine))
-      → (isReplyForm l ≡ true → isBody (headBody l) (bodyOf c) ≡ false → P (without OtherCommand))
-      → (isReplyForm l ≡ true → isBody (headBody l) (bodyOf c) ≡ true
+      → (sameBy itself l erraLine ≡ false → isReplyForm (commandClass c) l ≡ false → P (without NotALine))
+      → (isReplyForm (commandClass c) l ≡ true → isBody (commandClass c) (headBody l) (bodyOf c) ≡ false → P (without OtherCommand))
+      → (isReplyForm (commandClass c) l ≡ true → isBody (commandClass c) (headBody l) (bodyOf c) ≡ true
       → P (saying (readParameter c (replyParameter l))))
       → P (readReply c l)
   unfolding readReply
   reply-by P erra unformed other said =
-      let named = isBody (headBody l) (bodyOf c) in
+      let named = isBody (commandClass c) (headBody l) (bodyOf c) in
       if-by P (sameBy itself l erraLine) erra (λ line.
-      if-by P (not (isReplyForm l)) (λ f. unformed line (not-true (isReplyForm l) f)) (λ f.
-      let formed = not-false (isReplyForm l) f in
+      if-by P (not (isReplyForm (commandClass c) l)) (λ f. unformed line (not-true (isReplyForm (commandClass c) l) f)) (λ f.
+      let formed = not-false (isReplyForm (commandClass c) l) f in
       if-by P (not named) (λ b. other formed (not-true named b)) (λ b. said formed (not-false named b))))
 
   pub reply-erra : sameBy itself l erraLine ≡ true → readReply c l ≡ without Erra
@@ -100,16 +100,16 @@ module _ (c : Command) (l : List ℕ) where
   reply-erra e = if-yes _ _ e
 
   module _ (line : sameBy itself l erraLine ≡ false) where
-    pub reply-unformed : isReplyForm l ≡ false → readReply c l ≡ without NotALine
+    pub reply-unformed : isReplyForm (commandClass c) l ≡ false → readReply c l ≡ without NotALine
     unfolding readReply
     reply-unformed f = if-no _ _ line ∙ if-yes _ _ (ap not f)
 
-    module _ (formed : isReplyForm l ≡ true) where
-      pub reply-other : isBody (headBody l) (bodyOf c) ≡ false → readReply c l ≡ without OtherCommand
+    module _ (formed : isReplyForm (commandClass c) l ≡ true) where
+      pub reply-other : isBody (commandClass c) (headBody l) (bodyOf c) ≡ false → readReply c l ≡ without OtherCommand
       unfolding readReply
       reply-other b = if-no _ _ line ∙ if-no _ _ (ap not formed) ∙ if-yes _ _ (ap not b)
 
-      pub reply-said : isBody (headBody l) (bodyOf c) ≡ true
+      pub reply-said : isBody (commandClass c) (headBody l) (bodyOf c) ≡ true
           → readReply c l ≡ saying (readParameter c (replyParameter l))
       unfolding readReply
       reply-said b = if-no _ _ line ∙ if-no _ _ (ap not formed) ∙ if-no _ _ (ap not b)

@@ -1,12 +1,13 @@
 -- THE LAW: for a legal projector on a connection between lines, what the reader takes from the reply to a command's
--- line is what the projector meant (01, "Controller").
+-- line is what the projector meant (01, "Controller"), for every command of a class no higher than the set-up's; a
+-- higher one gets no reply (02, L14).
 --   TakenAndRead d p c bs r    the result r of receiving bs at place p: number 0, exactly bs taken, the record as the command leaves
 --                            it on a connection open between lines with the random number kept, the reply read as meant
 -- Assumes nothing.
 use Prim.Native.Nat.{ℕ, _+_, _≤_, _<_}
 use mathlib.Core.Path.{_≡_, refl, sym, ap, subst, _∙_}
 use mathlib.Core.Bool.{true, false}
-use mathlib.Core.List.{List, [], _++_, append-assoc}
+use mathlib.Core.List.{List, [], _∷_, _++_, append-assoc}
 use native.Mathlib.Omega.{arith}
 use lib.ListN.{length, length-append}
 use lib.Dec.{eqb}
@@ -17,7 +18,7 @@ use Rattle.digest.proofs.Laws.{leading-digest-length}
 use Rattle.lines.specs.Bytes.{_at_, isAlnum, notCr, noCr}
 use Rattle.lines.specs.Forms.{replyLine}
 use Rattle.lines.specs.Requests.{isBody}
-use Rattle.lines.specs.Commands.{bodyText, bodyOf, isCommand, commandText, commandLine}
+use Rattle.lines.specs.Commands.{bodyText, bodyOf, commandClass, classDigit, isCommand, commandText, commandLine}
 use Rattle.lines.specs.declared.command.Command.{Command}
 use Rattle.lines.specs.declared.request.Request.the-variants.{Asks}
 use Rattle.lines.proofs.Bodies.{four, body-spelt}
@@ -27,7 +28,8 @@ use Rattle.lines.proofs.RepliesReadBack.{reply-not-erra, reply-form, reply-para
 use Rattle.answers.specs.Said.{Said, saidBytes}
 use Rattle.answers.specs.Reading.{readParameter}
 use Rattle.answers.specs.CanSay.{CanSay, done as does, refuses, power, input, mutes, errors, lamps, inputs}
-use Rattle.answers.specs.CanSay.{name, maker, model, other, class-1}
+use Rattle.answers.specs.CanSay.{name, maker, model, other, class-is, freeze, serial, version, input-name, input-2}
+use Rattle.answers.specs.CanSay.{inputs-2}
 use Rattle.answers.proofs.ReadsBack.{reads-back as parameter-reads-back}
 use Rattle.record.specs.Limits.{placesCount, shut, awaiting, opened}
 use Rattle.record.specs.Legal.{isLegal}
@@ -78,7 +80,13 @@ can-mean (name s e) = refl
 can-mean (maker s e) = refl
 can-mean (model s e) = refl
 can-mean (other s e) = refl
-can-mean class-1 = refl
+can-mean (class-is k l h) = refl
+can-mean (freeze on) = refl
+can-mean (serial s e) = refl
+can-mean (version s e) = refl
+can-mean (input-name s b e) = refl
+can-mean (input-2 i e) = refl
+can-mean (inputs-2 is l h e) = refl
 
 -- the reply to a command, by what it says
 module _ (c : Command) {m : Said} (can : CanSay c m) (short : length (saidBytes m) ≤ 128)
@@ -87,29 +95,31 @@ module _ (c : Command) {m : Said} (can : CanSay c m) (short : length (saidBytes 
   text = bodyText (bodyOf c)
 
   abbrev spelled : List ℕ
-  spelled = replyLine (text at 0) (text at 1) (text at 2) (text at 3) (saidBytes m)
+  spelled = replyLine (classDigit (commandClass c)) (text at 0) (text at 1) (text at 2) (text at 3) (saidBytes m)
 
   letters : every isAlnum (four text) ≡ true
   letters = ap (every isAlnum) (body-spelt (bodyOf c) .long) ∙ body-spelt (bodyOf c) .letters
 
   spelled-read : readReply c spelled ≡ meaning m
   spelled-read =
-      reply-said c spelled (reply-not-erra (text at 0) (text at 1) (text at 2) (text at 3) letters (saidBytes m))
-      (reply-form (text at 0) (text at 1) (text at 2) (text at 3) letters (saidBytes m) short plain)
-      (ap (λ (s : List ℕ). isBody s (bodyOf c)) (body-spelt (bodyOf c) .long) ∙ body-spelt (bodyOf c) .own)
+      reply-said c spelled
+      (reply-not-erra (text at 0) (text at 1) (text at 2) (text at 3) letters (classDigit (commandClass c)) (saidBytes m))
+      (reply-form (text at 0) (text at 1) (text at 2) (text at 3) letters (commandClass c) (saidBytes m) short plain)
+      (ap (λ (s : List ℕ). isBody (commandClass c) s (bodyOf c)) (body-spelt (bodyOf c) .long) ∙ body-spelt (bodyOf c) .own)
       ∙ ap (λ (p : List ℕ). saying (readParameter c p))
-      (reply-parameter (text at 0) (text at 1) (text at 2) (text at 3) letters (saidBytes m))
+      (reply-parameter (text at 0) (text at 1) (text at 2) (text at 3) letters (classDigit (commandClass c)) (saidBytes m))
       ∙ ap saying (parameter-reads-back can)
       ∙ ap {B = ReadAs} (λ (o : Outcome). record { outcome = o; said = m }) (can-mean can)
 
-  pub reply-read : readReply c (ascii "%1" ++ text ++ ascii "=" ++ saidBytes m ++ ascii "\r") ≡ meaning m
+  pub reply-read : readReply c (ascii "%" ++ (classDigit (commandClass c) ∷ text) ++ ascii "=" ++ saidBytes m ++ ascii "\r") ≡ meaning m
   reply-read =
-      ap (λ (s : List ℕ). readReply c (ascii "%1" ++ s ++ ascii "=" ++ saidBytes m ++ ascii "\r"))
+      ap (λ (s : List ℕ). readReply c (ascii "%" ++ (classDigit (commandClass c) ∷ s) ++ ascii "=" ++ saidBytes m ++ ascii "\r"))
       (sym (body-spelt (bodyOf c) .long))
       ∙ spelled-read
 
 module _ (d : Device) (p : ℕ) (there : p < placesCount) (legal : isLegal d ≡ true)
-    (between : connectionAt d p .line ≡ emptyLine) (c : Command) (writable : isCommand c ≡ true) (room : ℕ) (enough : replyRoom ≤ room) where
+    (between : connectionAt d p .line ≡ emptyLine) (c : Command) (writable : isCommand c ≡ true)
+    (within : commandClass c ≤ d .settings .«class_number») (room : ℕ) (enough : replyRoom ≤ room) where
   abbrev here : Connection
   here = connectionAt d p
 
@@ -119,7 +129,7 @@ module _ (d : Device) (p : ℕ) (there : p < placesCount) (legal : isLegal d ≡
   abbrev answer : Answered
   answer = record {
     own = done (d .settings) (d .own) (Asks c);
-    reply = ascii "%1" ++ bodyText (bodyOf c) ++ ascii "=" ++ saidBytes told ++ ascii "\r";
+    reply = ascii "%" ++ (classDigit (commandClass c) ∷ bodyText (bodyOf c)) ++ ascii "=" ++ saidBytes told ++ ascii "\r";
   }
 
   answer-read : readReply c (answer .reply) ≡ meaning told
@@ -140,7 +150,7 @@ module _ (d : Device) (p : ℕ) (there : p < placesCount) (legal : isLegal d ≡
   read-back : (bs : List ℕ) → eqb (here .phase) shut ≡ false → takes d p bs ≡ takenAs lineAnswered (length bs)
       → TakenAndRead d p c bs (received d p bs room)
   read-back bs listens takes-it =
-      let answers = command-answered (d .settings) (d .own) c writable in
+      let answers = command-answered (d .settings) (d .own) (legal-settings d legal) c writable within in
       let result : received d p bs room ≡ acceptedTaken d p (takenAs answer (length bs))
       = received-taken d p bs room legal enough there listens
       ∙ ap (acceptedTaken d p) (takes-it ∙ ap (λ (a : Answered). takenAs a (length bs)) answers) in

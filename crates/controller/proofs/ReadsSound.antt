@@ -13,7 +13,7 @@ use Rattle.text.proofs.Choices.{if-yes, if-no}
 use Rattle.text.proofs.Sameness.{same-is}
 use Rattle.lines.specs.Forms.{erraLine, isReplyForm, headBody, replyParameter}
 use Rattle.lines.specs.Requests.{isBody}
-use Rattle.lines.specs.Commands.{bodyOf}
+use Rattle.lines.specs.Commands.{bodyOf, commandClass}
 use Rattle.lines.specs.declared.command.Command.{Command}
 use Rattle.lines.proofs.RepliesReadBack.{form-not-erra}
 use Rattle.answers.specs.Said.{Said}
@@ -60,7 +60,7 @@ module _ (c : Command) where
 
   pub what-was-written-is-meant : (l : List ℕ) (m : Said) → LineSays c l m → readReply c l ≡ meaning m
   what-was-written-is-meant l m line =
-      reply-said c l (form-not-erra l (line .form)) (line .form) (line .body)
+      reply-said c l (form-not-erra (commandClass c) l (line .form)) (line .form) (line .body)
       ∙ ap saying (written-is-read c (replyParameter l) m (line .says))
       ∙ (λ i. record { outcome = can-mean (line .says .can) i; said = m })
 
@@ -85,8 +85,8 @@ module _ (c : Command) where
   abbrev firstOutcome : List ℕ → Bool → Outcome
   firstOutcome l allowed =
       if sameBy itself l erraLine then Erra
-      else if not (isReplyForm l) then NotALine
-      else if not (isBody (headBody l) (bodyOf c)) then OtherCommand
+      else if not (isReplyForm (commandClass c) l) then NotALine
+      else if not (isBody (commandClass c) (headBody l) (bodyOf c)) then OtherCommand
       else if not allowed then NotAllowed
       else Means
 
@@ -100,6 +100,6 @@ module _ (c : Command) where
   outcome-is-first l {t} allowed =
       reply-by c l (λ r. r .outcome ≡ firstOutcome l t) (λ e. sym (if-yes _ _ e))
       (λ e f. sym (if-no _ _ e ∙ if-yes _ _ (ap not f)))
-      (λ f b. sym (if-no _ _ (form-not-erra l f) ∙ if-no _ _ (ap not f) ∙ if-yes _ _ (ap not b)))
+      (λ f b. sym (if-no _ _ (form-not-erra (commandClass c) l f) ∙ if-no _ _ (ap not f) ∙ if-yes _ _ (ap not b)))
       (λ f b. allowed-outcome (replyParameter l) allowed
-      ∙ sym (if-no _ _ (form-not-erra l f) ∙ if-no _ _ (ap not f) ∙ if-no _ _ (ap not b)))
+      ∙ sym (if-no _ _ (form-not-erra (commandClass c) l f) ∙ if-no _ _ (ap not f) ∙ if-no _ _ (ap not b)))

@@ -12,7 +12,7 @@ use Rattle.text.proofs.Choices.{if-yes, if-no}
 use Rattle.lines.specs.Forms.{erraLine}
 use Rattle.lines.specs.declared.command.Command.{Command}
 use Rattle.answers.specs.Said.{Said, okay, refused, powerIs, chosenIs, mutesAre, errorsAre, lampsAre, inputsAre}
-use Rattle.answers.specs.Said.{textIs, classIs1, nothing}
+use Rattle.answers.specs.Said.{textIs, classIs, freezeIs, nothing}
 use Rattle.answers.specs.Carried.{plainOf, answerOf}
 use Rattle.answers.specs.declared.answer.Kind.the-variants.{Nothing}
 use Rattle.controller.specs.Writing.{commandRoom, isWritable, writtenCommand}
@@ -47,7 +47,8 @@ module _ (c : Command) where
   unsaid (lampsAre ls) n = absurd (n refl)
   unsaid (inputsAre is) n = absurd (n refl)
   unsaid (textIs s) n = absurd (n refl)
-  unsaid classIs1 n = absurd (n refl)
+  unsaid (classIs k) n = absurd (n refl)
+  unsaid (freezeIs on) n = absurd (n refl)
   unsaid nothing n = refl
 
   pub refusal-means-nothing : (l : List ℕ) → (readReply c l .outcome ≡ Means → ⊥) → readReply c l .said ≡ nothing

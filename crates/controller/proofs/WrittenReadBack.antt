@@ -5,7 +5,7 @@ use Prim.Native.Nat.{ℕ, _≤_, _<_}
 use mathlib.Core.Path.{_≡_, refl, sym, subst}
 use mathlib.Core.Bool.{true, false}
 use mathlib.Core.List.{List}
-use Rattle.lines.specs.Commands.{isCommand}
+use Rattle.lines.specs.Commands.{commandClass, isCommand}
 use Rattle.lines.specs.declared.command.Command.{Command}
 use Rattle.record.specs.Limits.{placesCount, awaiting, opened}
 use Rattle.record.specs.Legal.{isLegal}
@@ -21,7 +21,8 @@ use Rattle.controller.proofs.Cases.{written-plain, written-led}
 use Rattle.controller.proofs.ReadsBack.{TakenAndRead, reads-back, reads-back-secured}
 
 module _ (d : Device) (p : ℕ) (there : p < placesCount) (legal : isLegal d ≡ true)
-    (between : connectionAt d p .line ≡ emptyLine) (c : Command) (writable : isCommand c ≡ true) (room : ℕ) (enough : replyRoom ≤ room)
+    (between : connectionAt d p .line ≡ emptyLine) (c : Command) (writable : isCommand c ≡ true)
+    (within : commandClass c ≤ d .settings .«class_number») (room : ℕ) (enough : replyRoom ≤ room)
     (memory : ℕ) (lent : commandRoom ≤ memory) where
   -- what is written is no refusal, and is read back
   abbrev Through : WrittenAs → Type 0
@@ -31,7 +32,7 @@ module _ (d : Device) (p : ℕ) (there : p < placesCount) (legal : isLegal d ≡
       → Through (writtenCommand c false random password memory)
   written-reads-back phase random password =
       subst Through (sym (written-plain c false random password memory lent writable refl))
-      (refl, reads-back d p there legal between c writable room enough phase)
+      (refl, reads-back d p there legal between c writable within room enough phase)
 
   -- the device's own random number and password
   pub written-reads-back-secured : connectionAt d p .phase ≡ awaiting
@@ -41,4 +42,4 @@ module _ (d : Device) (p : ℕ) (there : p < placesCount) (legal : isLegal d ≡
       subst Through
       (sym (written-led c true (connectionAt d p .random) (passwordOf (d .settings)) memory lent writable refl
       (told .password .follows)))
-      (refl, reads-back-secured d p there legal between c writable room enough phase)
+      (refl, reads-back-secured d p there legal between c writable within room enough phase)

@@ -2,8 +2,8 @@
 --   ReadAs              what the reader gives: the outcome, and what is said (nothing unless the outcome is Means)
 --   outcomeNumber o     the number of an outcome in the table of 01
 --   meaning m           the reading that means m
---   readReply c l       what the line l, with its CR, says to the command c: the ERRA line, then the form, then the
---                       body, then the parameter
+--   readReply c l       what the line l, with its CR, says to the command c: the ERRA line, then the form of a reply of
+--                       the command's class (02, L14), then the body, then the parameter
 --   readingOf r         this as the code returns it
 --   LineSays c l m      the line l, with its CR, says m in reply to c: by its form, its body and its parameter
 -- Assumes nothing.
@@ -15,7 +15,7 @@ use Rattle.text.specs.Words.{if_then_else_}
 use Rattle.text.specs.Scans.{sameBy, itself}
 use Rattle.lines.specs.Forms.{erraLine, isReplyForm, headBody, replyParameter}
 use Rattle.lines.specs.Requests.{isBody}
-use Rattle.lines.specs.Commands.{bodyOf}
+use Rattle.lines.specs.Commands.{bodyOf, commandClass}
 use Rattle.lines.specs.declared.command.Command.{Command}
 use Rattle.answers.specs.Said.{Said, nothing}
 use Rattle.answers.specs.Carried.{answerOf}
@@ -23,7 +23,7 @@ use Rattle.answers.specs.Reading.{readParameter}
 use Rattle.answers.specs.Writings.{Says}
 use Rattle.answers.specs.declared.answer.Kind.{Kind}
 use Rattle.answers.specs.declared.answer.Kind.the-variants.{Ok, Refused, Powered, Chosen, Muted, Errors, Lamps, Inputs}
-use Rattle.answers.specs.declared.answer.Kind.the-variants.{Text, Class, Nothing}
+use Rattle.answers.specs.declared.answer.Kind.the-variants.{Text, Class, Frozen, Nothing}
 use Rattle.controller.specs.declared.reading.Outcome.{Outcome}
 use Rattle.controller.specs.declared.reading.Outcome.the-variants.{Means, Erra, NotALine, OtherCommand}
 use Rattle.controller.specs.declared.reading.Outcome.the-variants.{NotAllowed}
@@ -57,7 +57,8 @@ kindOutcome Errors = Means
 kindOutcome (Lamps n) = Means
 kindOutcome (Inputs n) = Means
 kindOutcome (Text n) = Means
-kindOutcome Class = Means
+kindOutcome (Class k) = Means
+kindOutcome (Frozen on) = Means
 kindOutcome Nothing = NotAllowed
 
 abbrev pub outcomeOf : Said → Outcome
@@ -69,8 +70,8 @@ saying m = record { outcome = outcomeOf m; said = m }
 unfoldable pub readReply : Command → List ℕ → ReadAs
 readReply c l =
     if sameBy itself l erraLine then without Erra
-    else if not (isReplyForm l) then without NotALine
-    else if not (isBody (headBody l) (bodyOf c)) then without OtherCommand
+    else if not (isReplyForm (commandClass c) l) then without NotALine
+    else if not (isBody (commandClass c) (headBody l) (bodyOf c)) then without OtherCommand
     else saying (readParameter c (replyParameter l))
 
 abbrev pub readingOf : ReadAs → Reading
@@ -78,6 +79,6 @@ readingOf r = record { outcome = r .outcome; answer = answerOf (r .said) }
 
 -- whoever reads it
 pub record LineSays (c : Command) (l : List ℕ) (m : Said) : Type 0 where
-  pub form : isReplyForm l ≡ true
-  pub body : isBody (headBody l) (bodyOf c) ≡ true
+  pub form : isReplyForm (commandClass c) l ≡ true
+  pub body : isBody (commandClass c) (headBody l) (bodyOf c) ≡ true
   pub says : Says c m (replyParameter l)

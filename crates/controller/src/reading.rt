@@ -37,7 +37,8 @@ fn outcome_of(k: Kind) -> Outcome
         Kind::Lamps(_) => Outcome::Means,
         Kind::Inputs(_) => Outcome::Means,
         Kind::Text(_) => Outcome::Means,
-        Kind::Class => Outcome::Means,
+        Kind::Class(_) => Outcome::Means,
+        Kind::Frozen(_) => Outcome::Means,
         Kind::Nothing => Outcome::NotAllowed,
     }
 }
@@ -58,10 +59,18 @@ pub fn read_reply(c: Command, line: &[u8]) -> Reading
     if text::same(line, b"PJLINK ERRA\r") {
         return meaningless(Outcome::Erra);
     }
-    if !form::is_reply_form(line) {
+    let class = command::command_class(c);
+    if !form::is_reply_form(class, line) {
         return meaningless(Outcome::NotALine);
     }
-    if !request::is_body(line[2], line[3], line[4], line[5], command::body_of(c)) {
+    if !request::is_body(
+        class,
+        line[2],
+        line[3],
+        line[4],
+        line[5],
+        command::body_of(c),
+    ) {
         return meaningless(Outcome::OtherCommand);
     }
     let last = line.len() - 1;

@@ -11,7 +11,7 @@ use borrow.Author.Needs.{needs}
 use Rattle.text.specs.Scans.{sameBy, itself}
 use Rattle.lines.specs.Forms.{erraLine, isReplyForm, headBody}
 use Rattle.lines.specs.Requests.{isBody}
-use Rattle.lines.specs.Commands.{bodyOf}
+use Rattle.lines.specs.Commands.{bodyOf, commandClass}
 use Rattle.answers.specs.Carried.{answerOf}
 use Rattle.answers.specs.Reading.{readParameter}
 use Rattle.answers.specs.declared.answer.Answer.{Answer}
@@ -43,21 +43,30 @@ module _ (c : tie.Else1) where
 unformed : tie.Need-returns-2
 unformed c =
     let tested = c .before .before in
-    let first = tested .before in
-    let no-form = sym (tested .is-reply-form .ensures) ∙ not-true _ (c .before .if2 .taken) in
+    let classed = tested .before in
+    let first = classed .before in
+    let l = line first in
+    let no-form = ap (λ (k : ℕ). isReplyForm k l) (sym (classed .command-class .ensures))
+    ∙ sym (tested .is-reply-form .ensures) ∙ not-true _ (c .before .if2 .taken) in
     c .meaningless2 .ensures
     ∙ ap readingOf (sym (reply-unformed (start first .args .c) (line first) (not-erra first) no-form))
 
 -- past the second it has the form
 module _ (c : tie.Else2) where
   abbrev first : tie.Else1
-  first = c .before .before
+  first = let classed = c .before .before in classed .before
 
-  has-form : isReplyForm (line first) ≡ true
-  has-form = sym (c .before .is-reply-form .ensures) ∙ not-false _ (c .if2 .left)
+  -- the class that was asked for
+  class : c .before .before .command-class .result ≡ commandClass (start first .args .c)
+  class = c .before .before .command-class .ensures
+
+  has-form : isReplyForm (commandClass (start first .args .c)) (line first) ≡ true
+  has-form =
+      ap (λ (k : ℕ). isReplyForm k (line first)) (sym class) ∙ sym (c .before .is-reply-form .ensures)
+      ∙ not-false _ (c .if2 .left)
 
   long : 8 ≤ length (line first)
-  long = reply-long (line first) has-form
+  long = reply-long _ (line first) has-form
 
 other : tie.Need-returns-3
 other c =
@@ -67,8 +76,8 @@ other c =
     let formed = read .before .before in
     let args = start (first formed) .args in
     let l = args .line .now in
-    let no-body : isBody (headBody l) (bodyOf (args .c)) ≡ false
-    = sym (tested .is-body .ensures ∙ ap (isBody (headBody l)) (named .body-of .ensures))
+    let no-body : isBody (commandClass (args .c)) (headBody l) (bodyOf (args .c)) ≡ false
+    = sym (tested .is-body .ensures ∙ (λ i. isBody (class formed i) (headBody l) (named .body-of .ensures i)))
     ∙ not-true _ (c .before .if3 .taken) in
     c .meaningless3 .ensures
     ∙ ap readingOf (sym (reply-other (args .c) l (not-erra (first formed)) (has-form formed) no-body))
@@ -90,8 +99,8 @@ said c =
     let formed = named third in
     let args = start (first formed) .args in
     let l = args .line .now in
-    let has-body : isBody (headBody l) (bodyOf (args .c)) ≡ true
-    = sym (tested .is-body .ensures ∙ ap (isBody (headBody l)) (body .body-of .ensures))
+    let has-body : isBody (commandClass (args .c)) (headBody l) (bodyOf (args .c)) ≡ true
+    = sym (tested .is-body .ensures ∙ (λ i. isBody (class formed i) (headBody l) (body .body-of .ensures i)))
     ∙ not-false _ (third .if3 .left) in
     let enough = long formed in
     let cut : length l - 1 - 7 ≡ length l - 8 = omega arith in
@@ -107,7 +116,7 @@ read-reply-spec =
     tie.close
     (tie.spec
     (λ c. search needs) (λ c κs. search needs) (λ c κs. search needs) erra
-    (λ c κs. search needs) (λ c κs. search needs) unformed
+    (λ c κs. search needs) (λ c κs. search needs) (λ c κs. search needs) unformed
     (λ c. let enough = long (c .before) in omega arith)
     (λ c. let enough = long (c .before .before) in omega arith)
     (λ c. let enough = long (c .before .before .before) in omega arith)

@@ -16,7 +16,7 @@ use Rattle.text.proofs.Carried.{carried}
 use Rattle.digest.specs.Hex.{leadingDigest}
 use Rattle.digest.proofs.Laws.{leading-digest-length}
 use Rattle.lines.specs.Commands.{isCommand, commandLine}
-use Rattle.lines.proofs.CommandLines.{line-at-most-10}
+use Rattle.lines.proofs.CommandLines.{line-at-most-11}
 use Rattle.controller.specs.Writing.{WrittenAs, toldWritten}
 use Rattle.controller.specs.declared.writing.Written.{Written}
 use Rattle.controller.proofs.Cases.{written-short, written-no-command, written-plain}
@@ -65,7 +65,7 @@ plain c =
     let args = start second .args in
     let out = args .out .now in
     let line = commandLine (args .c) in
-    let few = line-at-most-10 (args .c) in
+    let few = line-at-most-11 (args .c) in
     let enough = roomy second .if1 .left in
     let result : _≡_ {A = Written} _ _
     = λ i. record { number = 0; length = (put .put-command .ensures .0 ∙ zero-add (length line)) i } in
@@ -103,7 +103,7 @@ led c =
     let line = commandLine (args .c) in
     let digest = leadingDigest (args .random) password in
     let long = leading-digest-length (args .random) password in
-    let few = line-at-most-10 (args .c) in
+    let few = line-at-most-11 (args .c) in
     let enough = roomy second .if1 .left in
     let both-long = length-append digest line in
     let number : 32 + length line ≡ length (digest ++ line) = omega arith in
