@@ -12,9 +12,10 @@ use lib.Dec.{ltb}
 use borrow.Author.Tests.{ltb-true, ltb-false}
 use Rattle.text.proofs.Choices.{both-left, both-right}
 use Rattle.text.proofs.Stores.{sets-snoc}
-use Rattle.lines.specs.Inputs.{inputText, sourceDigit, numberDigit}
+use Rattle.lines.specs.Sources.{numberCharacter}
+use Rattle.lines.specs.Inputs.{inputText, sourceDigit}
 use Rattle.lines.specs.declared.input.Input.{Input}
-use Rattle.codes.specs.Readings.{filledTo, noBytes, characters}
+use Rattle.codes.specs.Readings.{filledTo, noCharacters, characters}
 
 -- the test of a turn: below the array's room, and below the count
 abbrev pub goesOn : ℕ → ℕ → ℕ → Bool
@@ -52,7 +53,7 @@ characters-long (x ∷ xs) = omega (arith, characters-long xs)
 -- one turn: two stores for one input more
 pub one-more-input : (l : List Input) (k : ℕ) (d : Input) {pairs : List ℕ} → k < length l
     → pairs ≡ filledTo 64 0 (characters (take k l))
-    → set (set pairs (2 * k) (sourceDigit (getD l k d .source))) (2 * k + 1) (numberDigit (getD l k d .number))
+    → set (set pairs (2 * k) (sourceDigit (getD l k d .source))) (2 * k + 1) (numberCharacter (getD l k d .number))
     ≡ filledTo 64 0 (characters (take (k + 1) l))
 one-more-input l k d {pairs} h e =
     let i = getD l k d in
@@ -61,9 +62,9 @@ one-more-input l k d {pairs} h e =
     let long : length before ≡ 2 * k
     = characters-long (take k l) ∙ ap (λ (j : ℕ). 2 * j) (length-take-le k l (omega arith)) in
     let first : set pairs (2 * k) a ≡ filledTo 64 0 (before ++ (a ∷ []))
-    = sets-snoc noBytes 0 before a e (omega arith) in
-    sets-snoc noBytes 0 (before ++ (a ∷ [])) (numberDigit (i .number)) first
+    = sets-snoc noCharacters 0 before a e (omega arith) in
+    sets-snoc noCharacters 0 (before ++ (a ∷ [])) (numberCharacter (i .number)) first
     (omega (arith, length-append before (a ∷ [])))
-    ∙ ap (filledTo 64 0) (append-assoc before (a ∷ []) (numberDigit (i .number) ∷ [])
+    ∙ ap (filledTo 64 0) (append-assoc before (a ∷ []) (numberCharacter (i .number) ∷ [])
     ∙ sym (characters-snoc (take k l) i)
     ∙ ap characters (sym (ap (λ (j : ℕ). take j l) (add-one k) ∙ take-suc l k d h)))

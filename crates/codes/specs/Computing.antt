@@ -1,7 +1,7 @@
 -- One name that opens this crate's definitions, for computing on concrete records only (01, "Lines that settle it").
 -- Assumes nothing.
-use Rattle.codes.specs.Commands.{powerCoded, sourceAt, inputCoded, halfAt, muteCoded, commandOf, usedOf}
+use Rattle.codes.specs.Commands.{switchCoded, sourceAt, inputCoded, halfAt, halfCoded, commandOf, usedOf}
 
 unfoldable pub computing : Unit {0}
-unfolding powerCoded sourceAt inputCoded halfAt muteCoded commandOf usedOf
+unfolding switchCoded sourceAt inputCoded halfAt halfCoded commandOf usedOf
 computing = tt

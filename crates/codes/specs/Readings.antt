@@ -1,6 +1,6 @@
 -- What the readers give as numbers (include/ceiling.h). What a kind does not use is zero.
 --   flatGreeting g     a greeting: kind 1 PJLINK 0, 2 PJLINK 1 with its random number, 3 ERRA
---   saidFlat m         what is said: kinds 1 to 10
+--   saidFlat m         what is said: kinds 1 to 10, and 12 a freeze (02, L14)
 --   flat r             what the reply reader gives: kind 11 is ERRA, kind 0 no meaning
 -- Assumes nothing.
 use Prim.Native.Nat.{ℕ}
@@ -11,7 +11,8 @@ use lib.Seq.{sets}
 use Rattle.lines.specs.Inputs.{inputText}
 use Rattle.lines.specs.declared.input.Input.{Input}
 use Rattle.answers.specs.Said.{Said, okay, refused, powerIs, chosenIs, mutesAre, errorsAre, lampsAre, inputsAre}
-use Rattle.answers.specs.Said.{textIs, classIs1, nothing}
+use Rattle.answers.specs.Said.{textIs, classIs, freezeIs, nothing}
+use Rattle.answers.specs.Carried.{textCarried}
 use Rattle.answers.specs.declared.answer.Power.{Power}
 use Rattle.answers.specs.declared.answer.Power.the-variants.{Off, On, Cooling, WarmUp}
 use Rattle.answers.specs.declared.answer.LampHours.{LampHours}
@@ -50,8 +51,11 @@ noHours = filledTo 8 0 []
 abbrev pub noneLit : List Bool
 noneLit = filledTo 8 false []
 
+abbrev pub noCharacters : List ℕ
+noCharacters = filledTo 64 0 []
+
 abbrev pub noBytes : List ℕ
-noBytes = filledTo 64 0 []
+noBytes = filledTo textCarried 0 []
 
 abbrev pub flatOf : (number kind first second count : ℕ) (hours : List ℕ) (lit : List Bool) (inputs text : List ℕ)
     → FlatReading
@@ -68,13 +72,13 @@ flatOf number kind first second count hours lit inputs text = record {
 }
 
 abbrev pub meaningless : ℕ → FlatReading
-meaningless n = flatOf n 0 0 0 0 noHours noneLit noBytes noBytes
+meaningless n = flatOf n 0 0 0 0 noHours noneLit noCharacters noBytes
 
 abbrev pub plain : (kind first second : ℕ) → FlatReading
-plain kind first second = flatOf 0 kind first second 0 noHours noneLit noBytes noBytes
+plain kind first second = flatOf 0 kind first second 0 noHours noneLit noCharacters noBytes
 
 abbrev pub withText : ℕ → List ℕ → FlatReading
-withText kind s = flatOf 0 kind 0 0 (length s) noHours noneLit noBytes (filledTo 64 0 s)
+withText kind s = flatOf 0 kind 0 0 (length s) noHours noneLit noCharacters (filledTo textCarried 0 s)
 
 abbrev pub hoursOf : LampHours → ℕ
 hoursOf l = l .hours
@@ -84,7 +88,7 @@ litOf l = l .lit
 
 abbrev pub withLamps : List LampHours → FlatReading
 withLamps ls =
-    flatOf 0 7 0 0 (length ls) (filledTo 8 0 (map hoursOf ls)) (filledTo 8 false (map litOf ls)) noBytes noBytes
+    flatOf 0 7 0 0 (length ls) (filledTo 8 0 (map hoursOf ls)) (filledTo 8 false (map litOf ls)) noCharacters noBytes
 
 -- two characters an input
 abbrev pub characters : List Input → List ℕ
@@ -110,7 +114,8 @@ saidFlat (errorsAre ds) = withText 6 ds
 saidFlat (lampsAre ls) = withLamps ls
 saidFlat (inputsAre is) = withInputs is
 saidFlat (textIs s) = withText 9 s
-saidFlat classIs1 = plain 10 1 0
+saidFlat (classIs k) = plain 10 k 0
+saidFlat (freezeIs on) = plain 12 (bit on) 0
 saidFlat nothing = meaningless (outcomeNumber NotAllowed)
 
 abbrev pub flatAs : Outcome → Said → FlatReading

@@ -2,10 +2,14 @@
 use lines::command::Body;
 use lines::command::Command;
 use lines::command::Half;
+use lines::command::Volume;
 use lines::input::Input;
 use lines::input::Source;
 ghost use mathlib.Core.Path.{_≡_};
-ghost use Rattle.codes.specs.Commands.{powerCoded, sourceAt, inputCoded, halfAt, muteCoded, commandOf};
+ghost use mathlib.Core.Bool.{true, false};
+ghost use lib.Dec.{eqb};
+ghost use Rattle.lines.specs.declared.command.Command.the-variants.{MuteSet, VolumeStep};
+ghost use Rattle.codes.specs.Commands.{switchCoded, sourceAt, inputAt, inputCoded, halfAt, halfCoded, commandOf};
 
 // `pj_command`. What a code does not use is passed over.
 #[repr(C)]
@@ -20,12 +24,13 @@ pub enum MaybeCommand {
     NoCommand,
 }
 
-fn power_set(on: u8) -> MaybeCommand
-    ensures { λ r. ⌜ r ≡ powerCoded on ⌝ }
+// The first command for 0, the second for 1.
+fn switch_set(n: u8, off: Command, on: Command) -> MaybeCommand
+    ensures { λ r. ⌜ r ≡ switchCoded off on n ⌝ }
 {
-    match on {
-        0 => MaybeCommand::CommandIs(Command::PowerSet(false)),
-        1 => MaybeCommand::CommandIs(Command::PowerSet(true)),
+    match n {
+        0 => MaybeCommand::CommandIs(off),
+        1 => MaybeCommand::CommandIs(on),
         _ => MaybeCommand::NoCommand,
     }
 }
@@ -38,19 +43,26 @@ fn source_at(n: u8) -> Source
         2 => Source::Video,
         3 => Source::Digital,
         4 => Source::Storage,
-        _ => Source::Network,
+        5 => Source::Network,
+        _ => Source::Internal,
     }
 }
 
-// A type 1 to 5 and a number 1 to 9.
-fn input_set(source: u8, number: u8) -> MaybeCommand
-    ensures { λ r. ⌜ r ≡ inputCoded source number ⌝ }
+fn input_at(source: u8, number: u8) -> Input
+    ensures { λ r. ⌜ r ≡ inputAt source number ⌝ }
 {
-    if !((1 <= source) & (source <= 5) & (1 <= number) & (number <= 9)) {
+    let source = source_at(source);
+    Input { source, number }
+}
+
+// The command, of a type 1 to 6 and a number 1 to 35.
+fn of_input(source: u8, number: u8, c: Command) -> MaybeCommand
+    ensures { λ r. ⌜ r ≡ inputCoded source number c ⌝ }
+{
+    if !((1 <= source) & (source <= 6) & (1 <= number) & (number <= 35)) {
         return MaybeCommand::NoCommand;
     }
-    let source = source_at(source);
-    MaybeCommand::CommandIs(Command::InputSet(Input { source, number }))
+    MaybeCommand::CommandIs(c)
 }
 
 fn half_at(n: u8) -> Half
@@ -65,7 +77,7 @@ fn half_at(n: u8) -> Half
 
 // 1 video, 2 audio, 3 both; 1 on, 0 off.
 fn mute_set(half: u8, on: u8) -> MaybeCommand
-    ensures { λ r. ⌜ r ≡ muteCoded half on ⌝ }
+    ensures { λ r. ⌜ r ≡ halfCoded half on (MuteSet (halfAt half) (eqb on 1)) ⌝ }
 {
     if !((1 <= half) & (half <= 3) & (on <= 1)) {
         return MaybeCommand::NoCommand;
@@ -73,17 +85,30 @@ fn mute_set(half: u8, on: u8) -> MaybeCommand
     MaybeCommand::CommandIs(Command::MuteSet(half_at(half), on == 1))
 }
 
+// 1 up, 0 down.
+fn step(n: u8, v: Volume) -> MaybeCommand
+    ensures { λ r. ⌜ r ≡ switchCoded (VolumeStep v false) (VolumeStep v true) n ⌝ }
+{
+    switch_set(
+        n,
+        Command::VolumeStep(v, false),
+        Command::VolumeStep(v, true),
+    )
+}
+
 pub fn command_of(k: Coded) -> MaybeCommand
     ensures { λ r. ⌜ r ≡ commandOf k ⌝ }
 {
     let code = k.code;
+    let n = k.first;
+    let input = input_at(n, k.second);
     match code {
         0 => MaybeCommand::CommandIs(Command::Query(Body::Powr)),
-        1 => power_set(k.first),
+        1 => switch_set(n, Command::PowerSet(false), Command::PowerSet(true)),
         2 => MaybeCommand::CommandIs(Command::Query(Body::Inpt)),
-        3 => input_set(k.first, k.second),
+        3 => of_input(n, k.second, Command::InputSet(input)),
         4 => MaybeCommand::CommandIs(Command::Query(Body::Avmt)),
-        5 => mute_set(k.first, k.second),
+        5 => mute_set(n, k.second),
         6 => MaybeCommand::CommandIs(Command::Query(Body::Erst)),
         7 => MaybeCommand::CommandIs(Command::Query(Body::Lamp)),
         8 => MaybeCommand::CommandIs(Command::Query(Body::Inst)),
@@ -92,6 +117,16 @@ pub fn command_of(k: Coded) -> MaybeCommand
         11 => MaybeCommand::CommandIs(Command::Query(Body::Inf2)),
         12 => MaybeCommand::CommandIs(Command::Query(Body::Info)),
         13 => MaybeCommand::CommandIs(Command::Query(Body::Clss)),
+        14 => MaybeCommand::CommandIs(Command::Query(Body::Frez)),
+        15 => switch_set(n, Command::FreezeSet(false), Command::FreezeSet(true)),
+        16 => step(n, Volume::Speaker),
+        17 => step(n, Volume::Microphone),
+        18 => MaybeCommand::CommandIs(Command::Query(Body::Snum)),
+        19 => MaybeCommand::CommandIs(Command::Query(Body::Sver)),
+        20 => of_input(n, k.second, Command::NameQuery(input)),
+        21 => MaybeCommand::CommandIs(Command::Query(Body::Inpt2)),
+        22 => of_input(n, k.second, Command::InputSet2(input)),
+        23 => MaybeCommand::CommandIs(Command::Query(Body::Inst2)),
         _ => MaybeCommand::NoCommand,
     }
 }

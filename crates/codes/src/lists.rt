@@ -11,12 +11,11 @@ use lines::input::Input;
 ghost use mathlib.Core.Path.{_≡_};
 ghost use Prim.Native.Nat.{_≤_, min};
 ghost use lib.ListN.{length, take};
-ghost use Rattle.lines.specs.Texts.{nameMost};
-ghost use Rattle.answers.specs.Carried.{lampsCarried, inputsCarried};
+ghost use Rattle.answers.specs.Carried.{textCarried, lampsCarried, inputsCarried};
 ghost use Rattle.codes.specs.Readings.{withText, withLamps, withInputs};
 
 fn with_text(kind: u8, s: &[u8]) -> FlatReading
-    requires { ⌜ length (now s) ≤ nameMost ⌝ }
+    requires { ⌜ length (now s) ≤ textCarried ⌝ }
     ensures { λ r. ⌜ r ≡ withText kind (now (s .entry)) ⌝ }
 {
     let mut text = [0u8; TEXT_MOST];
@@ -29,7 +28,7 @@ fn with_text(kind: u8, s: &[u8]) -> FlatReading
 
 // Here and below, a count past the array's end counts the whole array.
 pub fn text_of(kind: u8, text: [u8; TEXT_MOST], count: usize) -> FlatReading
-    ensures { λ r. ⌜ r ≡ withText kind (take (min count nameMost) text) ⌝ }
+    ensures { λ r. ⌜ r ≡ withText kind (take (min count textCarried) text) ⌝ }
 {
     if TEXT_MOST < count {
         return with_text(kind, &text);
@@ -65,7 +64,7 @@ pub fn inputs_of(inputs: [Input; INPUTS_MOST], count: usize) -> FlatReading
         let i = inputs[k];
         let source = i.source;
         pairs[2 * k] = input::source_digit(source);
-        pairs[2 * k + 1] = input::number_digit(i.number);
+        pairs[2 * k + 1] = input::number_character(i.number);
         k += 1;
     }
     let mut flat = readings::plain(8, 0, 0);

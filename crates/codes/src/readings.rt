@@ -115,6 +115,7 @@ pub fn source_number(s: Source) -> u8
         Source::Digital => 3,
         Source::Storage => 4,
         Source::Network => 5,
+        Source::Internal => 6,
     }
 }
 
@@ -152,7 +153,8 @@ fn said_flat(a: Answer) -> FlatReading
             lists::inputs_of(inputs, n)
         }
         Kind::Text(n) => lists::text_of(9, text, n),
-        Kind::Class => plain(10, 1, 0),
+        Kind::Class(k) => plain(10, k, 0),
+        Kind::Frozen(on) => plain(12, bit(on), 0),
         Kind::Nothing => meaningless(12),
     }
 }

@@ -5,7 +5,7 @@ use mathlib.Core.Bool.{Bool, _&&_}
 use lib.Dec.{leb}
 use borrow.Author.Tests.{not-true, not-false}
 use borrow.Author.Needs.{needs}
-use Rattle.codes.specs.Commands.{muteCoded}
+use Rattle.codes.specs.Commands.{halfCoded}
 use Rattle.codes.proofs.command.mute_set.Statement.{statement}
 use Rattle.codes.proofs.command.mute_set.Tie as tie
 
@@ -13,7 +13,7 @@ abbrev isListed : ℕ → ℕ → Bool
 isListed half on = leb 1 half && leb half 3 && leb on 1
 
 pub mute-set-spec : {M : Type 1} → statement M
-unfolding muteCoded
+unfolding halfCoded
 mute-set-spec =
     tie.close
     (tie.spec

@@ -15,5 +15,11 @@ source-at-spec =
     (λ c. ap sourceAt (sym (c .match .keys2)))
     (λ c. ap sourceAt (sym (c .match .keys3)))
     (λ c. ap sourceAt (sym (c .match .keys4)))
-    (λ c. let f = c .match .rest in simp
-    (ne-eqb _ _ (f .1), ne-eqb _ _ (f .0 .1), ne-eqb _ _ (f .0 .0 .1), ne-eqb _ _ (f .0 .0 .0 .1))))
+    (λ c. ap sourceAt (sym (c .match .keys5)))
+    (λ c. let f = c .match .rest in simp (
+      ne-eqb _ _ (f .1),
+      ne-eqb _ _ (f .0 .1),
+      ne-eqb _ _ (f .0 .0 .1),
+      ne-eqb _ _ (f .0 .0 .0 .1),
+      ne-eqb _ _ (f .0 .0 .0 .0 .1),
+    )))

@@ -45,7 +45,7 @@ again c =
     record {
       inside = omega arith;
       counted = omega arith;
-      stored = rw (source .source-digit .ensures, c .number-digit .ensures)
+      stored = rw (source .source-digit .ensures, c .number-character .ensures)
           (one-more-input inputs (turn .loop .k) _ (omega arith) (turn .loop .inv .stored));
     }
 

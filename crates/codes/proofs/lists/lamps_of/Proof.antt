@@ -11,7 +11,7 @@ use Rattle.answers.specs.Carried.{lampsCarried}
 use Rattle.answers.specs.declared.answer.LampHours.{LampHours}
 use Rattle.answers.proofs.Counts.{take-min}
 use Rattle.meaning.proofs.Filling.{Filled, none-filled, one-filled, one-more-turned}
-use Rattle.codes.specs.Readings.{noHours, noneLit, noBytes, flatOf, hoursOf, litOf, withLamps}
+use Rattle.codes.specs.Readings.{noHours, noneLit, noCharacters, noBytes, flatOf, hoursOf, litOf, withLamps}
 use Rattle.codes.proofs.Flattening.{in-room, in-count, all-passed}
 use Rattle.codes.proofs.lists.lamps_of.Statement.{statement}
 use Rattle.codes.proofs.lists.lamps_of.Tie as tie
@@ -60,7 +60,7 @@ ends c =
     ∙ sym (take-min count lampsCarried lamps size) in
     let counted = told .long ∙ length-map (take (turn .loop .k) lamps) hoursOf in
     rw (c .plain .ensures)
-    ((λ i. flatOf 0 7 0 0 (counted i) (told .stored i) (turn .loop .inv .shown .stored i) noBytes noBytes)
+    ((λ i. flatOf 0 7 0 0 (counted i) (told .stored i) (turn .loop .inv .shown .stored i) noCharacters noBytes)
     ∙ ap withLamps all)
 
 pub lamps-of-spec : {M : Type 1} → statement M

@@ -6,20 +6,20 @@ use native.Mathlib.Omega.{arith}
 use lib.ListN.{length, take}
 use lib.Seq.{take-all}
 use borrow.Author.Needs.{needs}
-use Rattle.lines.specs.Texts.{nameMost}
+use Rattle.answers.specs.Carried.{textCarried}
 use Rattle.answers.proofs.Counts.{take-min}
 use Rattle.codes.specs.Readings.{withText}
 use Rattle.codes.proofs.lists.text_of.Statement.{statement}
 use Rattle.codes.proofs.lists.text_of.Tie as tie
 
-long : (start : tie.Start) → length (start .args .t2) ≡ 64
+long : (start : tie.Start) → length (start .args .t2) ≡ textCarried
 long start = search needs
 
 module _ (start : tie.Start) where
   counted : withText (start .args .kind) (take (start .args .count) (start .args .t2))
-      ≡ withText (start .args .kind) (take (min (start .args .count) nameMost) (start .args .t2))
+      ≡ withText (start .args .kind) (take (min (start .args .count) textCarried) (start .args .t2))
   counted =
-      ap (withText (start .args .kind)) (sym (take-min (start .args .count) nameMost (start .args .t2) (long start)))
+      ap (withText (start .args .kind)) (sym (take-min (start .args .count) textCarried (start .args .t2) (long start)))
 
 whole : tie.Need-returns
 whole c =

@@ -35,6 +35,13 @@ errors c =
     let start = arm .before .before .before in
     c .text-of .ensures ∙ says start (arm .enum-told2 .given .1)
 
+freeze : tie.Need-returns-11
+freeze c =
+    let on = c .before in
+    let arm = on .before .before in
+    c .plain6 .ensures ∙ ap (λ (n : ℕ). plain 12 n 0) (on .bit3 .ensures)
+    ∙ says (arm .before .before .before) (arm .kind9 .given .1)
+
 pub said-flat-spec : {M : Type 1} → statement M
 said-flat-spec =
     tie.close
@@ -44,6 +51,7 @@ said-flat-spec =
     (λ c κs. search needs) (λ c κs. search needs) (λ c κs. search needs) (λ c. search needs) (λ c κs. search needs)
     (λ c. search needs) (λ c κs. search needs) (λ c. search needs) (λ c κs. search needs) (λ c. search needs)
     (λ c κs. search needs) (λ c. search needs) (λ c κs. search needs) (λ c. search needs) (λ c κs. search needs)
+    (λ c κs. search needs) (λ c. search needs) (λ c κs. search needs)
     (λ c. let arm = c .before in c .plain .ensures ∙ says (arm .before .before .before) (arm .enum-told .given .1))
     (λ c. let arm = c .before .before in c .plain2 .ensures ∙ says (arm .before .before .before) (arm .kind .given .1))
     power
@@ -61,7 +69,8 @@ said-flat-spec =
     (λ c.
     let arm = c .before .before in
     c .text-of2 .ensures ∙ says (arm .before .before .before) (arm .kind7 .given .1))
-    (λ c. let arm = c .before in c .plain5 .ensures ∙ says (arm .before .before .before) (arm .enum-told3 .given .1))
+    (λ c. let arm = c .before .before in c .plain5 .ensures ∙ says (arm .before .before .before) (arm .kind8 .given .1))
+    freeze
     (λ c.
     let arm = c .before in
-    c .meaningless .ensures ∙ says (arm .before .before .before) (arm .enum-told4 .given .1)))
+    c .meaningless .ensures ∙ says (arm .before .before .before) (arm .enum-told3 .given .1)))
