@@ -6,11 +6,12 @@ use mathlib.Core.Path.{_≡_, refl, ap}
 use mathlib.Core.Bool.{Bool, true, false, _&&_}
 use mathlib.Core.List.{List}
 use lib.ListN.{length}
-use lib.Dec.{leb}
+use lib.Dec.{leb, eqb}
 use Rattle.text.specs.Words.{_is_}
 use Rattle.text.specs.Scans.{sameBy, itself}
 use Rattle.lines.specs.Computing.{computing as lines}
 use Rattle.lines.specs.Bytes.{_at_, noCr}
+use Rattle.lines.specs.Commands.{commandClass, classDigit}
 use Rattle.lines.specs.Forms.{erraLine, greetingOpen, greetingSecured, replyMost, isReplyForm, replyParameter}
 use Rattle.lines.specs.declared.command.Command.{Command}
 use Rattle.controller.specs.Reading.{ReadAs, outcomeNumber}
@@ -21,10 +22,10 @@ use Rattle.panel.specs.StepTable.{isGreeting, UnderWay, ungreeted-malfor
 use Rattle.panel.specs.declared.types.Entry.{Entry}
 use Rattle.panel.proofs.StepsByTable.{stray-steps, step-late}
 
--- a line that is not headed is no reply, whatever its length and its end
-unheaded : (long ends plain : Bool) → (long && false && ends && plain) ≡ false
-unheaded true ends plain = refl
-unheaded false ends plain = refl
+-- a line that is not headed is no reply, whatever its length, its class and its end
+unheaded : (long class ends plain : Bool) → (long && false && class && ends && plain) ≡ false
+unheaded true class ends plain = refl
+unheaded false class ends plain = refl
 
 module _ (e : Entry) where
   pub erra-before-greeting : e .greeting ≡ ungreeted → heardLine e erraLine ≡ strayed e
@@ -40,7 +41,7 @@ module _ (e : Entry) where
 
   module _ (c : Command) (waits : UnderWay e c) where
     -- neither the ERRA line nor of a reply's form
-    pub unformed-strays : (l : List ℕ) → sameBy itself l erraLine ≡ false → isReplyForm l ≡ false
+    pub unformed-strays : (l : List ℕ) → sameBy itself l erraLine ≡ false → isReplyForm (commandClass c) l ≡ false
         → heardLine e l ≡ strayed e
     unformed-strays l line form =
         stray-steps e l
@@ -56,4 +57,5 @@ module _ (e : Entry) where
     secured-greeting-malformed digits =
         let l = greetingSecured digits in
         unformed-strays l refl
-        (unheaded (leb 8 (length l) && leb (length l) replyMost) (l at (length l - 1) is "\r") (noCr (replyParameter l)))
+        (unheaded (leb 8 (length l) && leb (length l) replyMost) (eqb (l at 1) (classDigit (commandClass c)))
+        (l at (length l - 1) is "\r") (noCr (replyParameter l)))

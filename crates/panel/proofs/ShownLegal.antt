@@ -13,17 +13,20 @@ use borrow.Author.Tests.{le-leb, eq-eqb}
 use Rattle.text.specs.Scans.{every}
 use Rattle.text.proofs.Choices.{both, both-left, both-right}
 use Rattle.text.proofs.Scanning.{every-map}
+use Rattle.lines.specs.Inputs.{isInput}
 use Rattle.lines.specs.declared.input.Source.{Source}
-use Rattle.lines.specs.declared.input.Source.the-variants.{Rgb, Video, Digital, Storage, Network}
+use Rattle.lines.specs.declared.input.Source.the-variants.{Rgb, Video, Digital, Storage, Network, Internal}
+use Rattle.lines.specs.declared.input.Input.{Input}
 use Rattle.lines.specs.declared.command.Command.{Command}
 use Rattle.record.specs.Rules.{atMost}
 use Rattle.record.specs.Legal.{fillsRoom}
 use Rattle.record.proofs.Kept.{kept-shown, filled-kept}
 use Rattle.record.proofs.Filled.{room-filled}
-use Rattle.answers.specs.Said.{Said}
+use Rattle.answers.specs.Said.{Said, chosenIs}
 use Rattle.answers.specs.Carried.{lampsCarried}
 use Rattle.answers.specs.CanSay.{CanSay, done, refuses, power, input, mutes, errors, lamps, inputs, name, maker}
-use Rattle.answers.specs.CanSay.{model, other, class-1, hoursMost, isLampHours}
+use Rattle.answers.specs.CanSay.{model, other, class-is, freeze, serial, version, input-name, input-2, inputs-2}
+use Rattle.answers.specs.CanSay.{hoursMost, isLampHours}
 use Rattle.answers.specs.declared.answer.Power.{Power}
 use Rattle.answers.specs.declared.answer.Power.the-variants.{Off, On, Cooling, WarmUp}
 use Rattle.answers.specs.declared.answer.LampHours.{LampHours}
@@ -65,13 +68,14 @@ power-shown On = refl
 power-shown Cooling = refl
 power-shown WarmUp = refl
 
-input-shown : (s : Source) (n : ℕ) → (leb 1 n && leb n 9) ≡ true → isInputShown true (sourceNumber s) n ≡ true
+input-shown : (s : Source) (n : ℕ) → (leb 1 n && leb n 35) ≡ true → isInputShown true (sourceNumber s) n ≡ true
 unfolding isInputShown
 input-shown Rgb n h = h
 input-shown Video n h = h
 input-shown Digital n h = h
 input-shown Storage n h = h
 input-shown Network n h = h
+input-shown Internal n h = h
 
 -- a cleared room that is filled from its start: its length, and what is left of it
 module _ {A : Type 0} (room : ℕ) (blank : A) (xs : List A) (fits : length xs ≤ room) where
@@ -124,14 +128,19 @@ lamps-shown ls low high e =
     (ap (λ (n : ℕ). fillsRoom lampsCarried isHours (filledTo lampsCarried 0 (map hoursOf ls)) n) (sym told) ∙ hours))
     (ap (isLitRoom (filledTo lampsCarried false (map litOf ls))) (sym marks) ∙ lit)
 
+-- a chosen input, asked for under either class
+chosen-shown : (s : Shown) (i : Input) → isInput i ≡ true → isShown s ≡ true → isShown (showing s (chosenIs i)) ≡ true
+chosen-shown s i e h =
+    let k = shown-told s h in
+    shown-legal _ (record { power = k .power; input = input-shown (i .source) (i .number) e; lamps = k .lamps })
+
 -- what is said in reply to a command
 pub said-shown : (s : Shown) {c : Command} {m : Said} → CanSay c m → isShown s ≡ true → isShown (showing s m) ≡ true
 said-shown s (power p) h =
     let k = shown-told s h in
     shown-legal _ (record { power = power-shown p; input = k .input; lamps = k .lamps })
-said-shown s (input i e) h =
-    let k = shown-told s h in
-    shown-legal _ (record { power = k .power; input = input-shown (i .source) (i .number) e; lamps = k .lamps })
+said-shown s (input i e) h = chosen-shown s i e h
+said-shown s (input-2 i e) h = chosen-shown s i e h
 said-shown s (lamps ls low high e) h =
     let k = shown-told s h in
     shown-legal _ (record { power = k .power; input = k .input; lamps = lamps-shown ls low high e })
@@ -144,7 +153,12 @@ said-shown s (name t e) h = h
 said-shown s (maker t e) h = h
 said-shown s (model t e) h = h
 said-shown s (other t e) h = h
-said-shown s class-1 h = h
+said-shown s (class-is k low high) h = h
+said-shown s (freeze on) h = h
+said-shown s (serial t e) h = h
+said-shown s (version t e) h = h
+said-shown s (input-name t b e) h = h
+said-shown s (inputs-2 is low high e) h = h
 
 pub nothing-shown-legal : isShown nothingShown ≡ true
 unfolding isShown isPowerShown isInputShown isLampsShown isLampCount isLitRoom

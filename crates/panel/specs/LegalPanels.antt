@@ -53,7 +53,7 @@ isPowerShown known power = if known then leb power 3 else eqb power 0
 
 unfoldable pub isInputShown : Bool → ℕ → ℕ → Bool
 isInputShown known type number =
-    if known then leb 1 type && leb type 5 && leb 1 number && leb number 9
+    if known then leb 1 type && leb type 6 && leb 1 number && leb number 35
     else eqb type 0 && eqb number 0
 
 unfoldable pub isLampCount : Bool → ℕ → Bool

@@ -8,7 +8,7 @@ use mathlib.Core.Bool.{Bool, true, false}
 use mathlib.Core.List.{List, map}
 use lib.ListN.{length}
 use Rattle.answers.specs.Said.{Said, okay, refused, powerIs, chosenIs, mutesAre, errorsAre, lampsAre, inputsAre}
-use Rattle.answers.specs.Said.{textIs, classIs1, nothing}
+use Rattle.answers.specs.Said.{textIs, classIs, freezeIs, nothing}
 use Rattle.answers.specs.Carried.{lampsCarried}
 use Rattle.codes.specs.Commands.{sourceNumber}
 use Rattle.codes.specs.Readings.{filledTo, hoursOf, litOf, powerNumber}
@@ -65,5 +65,6 @@ module _ (s : Shown) where
   showing (errorsAre ds) = s
   showing (inputsAre is) = s
   showing (textIs t) = s
-  showing classIs1 = s
+  showing (classIs k) = s
+  showing (freezeIs on) = s
   showing nothing = s

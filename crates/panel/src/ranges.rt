@@ -22,7 +22,7 @@ fn input_ok(known: bool, source: u8, number: u8) -> bool
     ensures { λ r. ⌜ r ≡ isInputShown known source number ⌝ }
 {
     if known {
-        return (1 <= source) & (source <= 5) & (1 <= number) & (number <= 9);
+        return (1 <= source) & (source <= 6) & (1 <= number) & (number <= 35);
     }
     (source == 0) & (number == 0)
 }

@@ -85,7 +85,8 @@ pub fn show(e: Entry, a: Answer) -> Entry
         Kind::Errors => e,
         Kind::Inputs(_) => e,
         Kind::Text(_) => e,
-        Kind::Class => e,
+        Kind::Class(_) => e,
+        Kind::Frozen(_) => e,
         Kind::Nothing => e,
     }
 }

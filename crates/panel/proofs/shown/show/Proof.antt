@@ -26,7 +26,7 @@ show-spec =
     (tie.spec
     (λ c. search needs) (λ c κs. search needs) (λ c. search needs) (λ c κs. search needs) (λ c. search needs)
     (λ c κs. search needs) (λ c. search needs) (λ c. search needs) (λ c. search needs) (λ c. search needs)
-    (λ c. search needs) (λ c. search needs) (λ c. search needs) (λ c. search needs)
+    (λ c. search needs) (λ c. search needs) (λ c. search needs) (λ c. search needs) (λ c. search needs)
     (λ c. let arm = c .before .before in c .show-power .ensures ∙ says (arm .before .before) (arm .kind .given .1))
     (λ c. let arm = c .before .before in c .show-input .ensures ∙ says (arm .before .before) (arm .kind2 .given .1))
     (λ c.
@@ -39,4 +39,5 @@ show-spec =
     (λ c. says (c .before .before) (c .enum-told5 .given .1))
     (λ c. says (c .before .before) (c .enum-told6 .given .1))
     (λ c. says (c .before .before) (c .enum-told7 .given .1))
-    (λ c. says (c .before .before) (c .enum-told8 .given .1)))
+    (λ c. says (c .before .before) (c .enum-told8 .given .1))
+    (λ c. says (c .before .before) (c .enum-told9 .given .1)))
