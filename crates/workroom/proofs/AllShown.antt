@@ -152,7 +152,7 @@ module _ (i p : ℕ) (w : Workroom) (j : Joined i p w) where
   pub shown-then : (h : RoomMove) → KeptUp i p w h
       → ShownAs i p w (showing (shownOf entry) (saidAt (device .settings) (device .own) h))
       (ownAt (device .settings) (device .own) h) (happened oursPanel i p w h)
-  shown-then (asks k there back) kept = command-shown i p w j k there back
+  shown-then (asks k there back) within = command-shown i p w j k there back within
   shown-then (waits n) live = time-keeps n live
   shown-then (asks-another k c) other =
       elsewhere _ k (commanded-stays-legal (w .panel) (j .acquainted .panel) k c _)

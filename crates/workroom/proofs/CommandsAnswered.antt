@@ -1,7 +1,8 @@
--- A command that the panel sends on a joined connection: its line is one that the device takes, open or behind the
--- digest, and the reply is read as what the device meant.
+-- A command that the panel sends on a joined connection: its line is one that the device takes whole, open or behind
+-- the digest. One of a class no higher than the device's is answered, and the reply is read as what the device meant;
+-- a higher one is swallowed (02, L14).
 -- Assumes nothing.
-use Prim.Native.Nat.{ℕ}
+use Prim.Native.Nat.{ℕ, _≤_, _<_}
 use mathlib.Core.Path.{_≡_, refl, sym, ap, subst, _∙_}
 use mathlib.Core.Bool.{Bool, true, false, _||_}
 use mathlib.Core.List.{List, _++_}
@@ -9,22 +10,26 @@ use native.Mathlib.Omega.{arith}
 use lib.ListN.{length}
 use lib.Dec.{eqb}
 use borrow.Author.Tests.{ne-eqb}
-use Rattle.lines.specs.Commands.{isCommand, commandLine}
+use Rattle.text.proofs.Choices.{if-yes}
+use Rattle.digest.specs.Hex.{leadingDigest}
+use Rattle.lines.specs.Commands.{commandClass, isCommand, commandLine}
 use Rattle.lines.specs.declared.command.Command.{Command}
 use Rattle.lines.specs.declared.request.Request.the-variants.{Asks}
 use Rattle.answers.specs.Said.{Said}
-use Rattle.record.specs.Limits.{shut}
+use Rattle.record.specs.Limits.{shut, awaiting, opened}
 use Rattle.record.specs.Places.{connectionAt, isShut}
 use Rattle.record.specs.declared.types.Line.{Line}
 use Rattle.record.specs.declared.types.Connection.{Connection}
 use Rattle.record.specs.declared.types.Device.{Device}
 use Rattle.record.proofs.LegalTold.{legal-settings, legal-own}
+use Rattle.stream.specs.Machine.{Out}
 use Rattle.stream.proofs.LinesSpelt.{empty-spelt}
 use Rattle.meaning.specs.Meaning.{meant}
 use Rattle.meaning.proofs.CanBeSaid.{meant-fits, meant-can-be-said}
 use Rattle.device.specs.Receiving.{passwordOf}
-use Rattle.device.specs.Calls.{replyRoom, received}
+use Rattle.device.specs.Calls.{Result, replyRoom, received}
 use Rattle.device.proofs.CommandsReceived.{replyTo, commandResult, command-received, command-received-secured}
+use Rattle.device.proofs.CommandsReceived.{swallowedAt, higher-received, higher-received-secured}
 use Rattle.controller.specs.Writing.{commandRoom, ledBy}
 use Rattle.controller.specs.Reading.{meaning, readReply}
 use Rattle.controller.proofs.ReadsBack.{reply-read}
@@ -37,11 +42,14 @@ use Rattle.panel.specs.Entries.{Talk, talkOf, passwordIn, ungreeted, leadsNext}
 use Rattle.panel.specs.Stepping.{isUnready, lineSent}
 use Rattle.panel.specs.LegalPanels.{isNamed}
 use Rattle.panel.specs.declared.types.Entry.{Entry}
-use Rattle.panel.proofs.Cases.{Commands}
+use Rattle.panel.specs.PanelCalls.{PanelAs, sentAt, commanded}
+use Rattle.panel.proofs.Cases.{Commands, commanded-done}
 use Rattle.panel.proofs.LinesSent.{line-sent}
-use Rattle.workroom.specs.Workroom.{Workroom}
+use Rattle.workroom.specs.AnyPanel.{oursPanel}
+use Rattle.workroom.specs.Workroom.{Workroom, roomOf, asks, handedThere, delivered, answeredBack, happened}
 use Rattle.workroom.specs.ShowsWhatWasMeant.{Fit, both-open, both-secured, ourEntry, Joined}
 use Rattle.workroom.specs.PanelDemand.{Served}
+use Rattle.workroom.proofs.Cuts.{handed-in-cuts}
 use Rattle.workroom.proofs.EntriesStep.{entry-legal-there}
 
 -- both sides that fit have a connection
@@ -97,8 +105,8 @@ module _ (i p : ℕ) (w : Workroom) (j : Joined i p w) where
         ∙ line-sent entry c commandRoom (entry-legal-there (w .panel) i joined-served) writable (omega arith)
 
     -- how the device takes a line
-    abbrev Answers : List ℕ → Type 0
-    Answers l = received device p l replyRoom ≡ commandResult device p c (length l)
+    abbrev Answers : (ℕ → Result Device) → List ℕ → Type 0
+    Answers r l = received device p l replyRoom ≡ r (length l)
 
     unmarked : connection .line .overlong ≡ false
     unmarked = ap (λ (l : Line). l .overlong) (j .between ∙ empty-spelt)
@@ -111,18 +119,56 @@ module _ (i p : ℕ) (w : Workroom) (j : Joined i p w) where
     led-alike led e same =
         spelt ∙ (λ n. ledBy (e n) (same n) (j .acquainted .password n) ++ commandLine c)
 
-    taken-by-fit : Fit (talkOf entry) connection → Answers sent
-    taken-by-fit (both-open phase greeted later) =
-        subst Answers (sym (led-alike false later refl))
-        (command-received device p (j .place) replyRoom (j .acquainted .device) (omega arith) unmarked none-held c
-        writable phase)
-    taken-by-fit (both-secured phase greeted first same) =
-        subst Answers (sym (led-alike true first same))
-        (command-received-secured device p (j .place) replyRoom (j .acquainted .device) (omega arith) unmarked none-held
-        c writable phase)
+    abbrev led-line : List ℕ
+    led-line = leadingDigest (connection .random) (passwordOf (device .settings)) ++ commandLine c
 
-    pub command-taken : Answers sent
-    command-taken = taken-by-fit (j .fit)
+    taken-by-fit : (r : ℕ → Result Device) → (connection .phase ≡ opened → Answers r (commandLine c))
+        → (connection .phase ≡ awaiting → Answers r led-line) → Fit (talkOf entry) connection → Answers r sent
+    taken-by-fit r plain led (both-open phase greeted later) =
+        subst (Answers r) (sym (led-alike false later refl)) (plain phase)
+    taken-by-fit r plain led (both-secured phase greeted first same) =
+        subst (Answers r) (sym (led-alike true first same)) (led phase)
+
+    pub command-taken : commandClass c ≤ device .settings .«class_number» → Answers (commandResult device p c) sent
+    command-taken within =
+        taken-by-fit (commandResult device p c)
+        (command-received device p (j .place) replyRoom (j .acquainted .device) (omega arith) unmarked none-held c
+        writable within)
+        (command-received-secured device p (j .place) replyRoom (j .acquainted .device) (omega arith) unmarked none-held
+        c writable within)
+        (j .fit)
+
+    pub higher-taken : device .settings .«class_number» < commandClass c → Answers (swallowedAt device p) sent
+    higher-taken higher =
+        taken-by-fit (swallowedAt device p)
+        (higher-received device p (j .place) replyRoom (j .acquainted .device) (omega arith) unmarked none-held c
+        higher)
+        (higher-received-secured device p (j .place) replyRoom (j .acquainted .device) (omega arith) unmarked none-held
+        c higher)
+        (j .fit)
+
+    abbrev pub sending : PanelAs
+    sending = commanded (w .panel) i k commandRoom
+
+    done-sending : sending ≡ sentAt (w .panel) i k commandRoom
+    done-sending = commanded-done (w .panel) i k commandRoom can-command
+
+    -- a line that is taken whole, and what comes back of it
+    module _ (r : ℕ → Result Device) (taken : Answers r sent) (whole : r (length sent) .taken ≡ length sent)
+        (there back : List ℕ) where
+      comes-back : handedThere device p there (sending .line)
+          ≡ record { state = r (length sent) .device; reply = r (length sent) .reply }
+      comes-back =
+          ap (λ (s : PanelAs). handedThere device p there (s .line)) done-sending
+          ∙ handed-in-cuts device p there sent (j .place) (j .acquainted .device) (fit-live (j .fit))
+          (ap (λ (t : Result Device). t .taken) taken ∙ whole)
+          ∙ ap {B = Out Device} (λ (t : Result Device). record { state = t .device; reply = t .reply }) taken
+
+      pub asked-as : happened oursPanel i p w (asks k there back)
+          ≡ roomOf (delivered oursPanel i (sending .panel) back (r (length sent) .reply)) (r (length sent) .device)
+      asked-as =
+          if-yes _ _ (ap (λ (s : PanelAs). eqb (s .number) 0) done-sending)
+          ∙ ap (answeredBack oursPanel i (sending .panel) back) comes-back
 
     pub told-back : readReply c (replyTo c told) ≡ meaning told
     told-back =

@@ -2,6 +2,7 @@ pub mod Cuts
 pub mod EntriesStep
 pub mod PanelDemand
 pub mod CommandsAnswered
+pub mod Unanswered
 pub mod RepliesShown
 pub mod Beginning
 pub mod Connecting

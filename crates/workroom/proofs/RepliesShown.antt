@@ -1,14 +1,15 @@
 -- A command on a joined connection: the reply comes back, is accepted, and what the device meant is shown; a code that
 -- stands for no command leaves all as it was.
 -- Assumes nothing.
-use Prim.Native.Nat.{ℕ}
+use Prim.Native.Nat.{ℕ, _≤_, _<_}
 use mathlib.Core.Path.{_≡_, refl, sym, ap, subst, _∙_}
 use mathlib.Core.Bool.{Bool, true, false, not, _&&_, false≢true}
+use mathlib.Core.Logic.{⊎-elim}
 use mathlib.Core.List.{List}
-use lib.ListN.{length}
-use lib.Dec.{eqb}
 use borrow.Author.Tests.{ne-eqb}
-use Rattle.text.proofs.Choices.{if-yes, if-no}
+use Rattle.text.proofs.Choices.{if-no}
+use Rattle.text.proofs.Orders.{le-or-lt}
+use Rattle.lines.specs.Commands.{commandClass}
 use Rattle.lines.specs.declared.command.Command.{Command}
 use Rattle.lines.specs.declared.request.Request.the-variants.{Asks}
 use Rattle.answers.specs.Said.{Said}
@@ -19,10 +20,9 @@ use Rattle.record.specs.declared.types.Connection.{Connection}
 use Rattle.record.specs.declared.types.Device.{Device}
 use Rattle.record.proofs.LegalTold.{legal-places}
 use Rattle.record.proofs.ConnectionsTold.{placed-here}
-use Rattle.stream.specs.Machine.{Out}
 use Rattle.meaning.specs.Meaning.{meant, done}
 use Rattle.device.specs.Receiving.{turned}
-use Rattle.device.specs.Calls.{Result, replyRoom, received}
+use Rattle.device.specs.Calls.{Result, replyRoom}
 use Rattle.device.proofs.CommandsReceived.{replyTo, commandResult}
 use Rattle.device.proofs.Legal.{receiving-legal}
 use Rattle.controller.specs.Writing.{commandRoom}
@@ -35,20 +35,20 @@ use Rattle.panel.specs.Showing.{showing}
 use Rattle.panel.specs.Stepping.{answeredEntry, sentEntry, heardLine}
 use Rattle.panel.specs.LegalPanels.{isNamed}
 use Rattle.panel.specs.StepTable.{UnderWay, answers}
-use Rattle.panel.specs.PanelCalls.{PanelAs, entryAt, sentAt, commanded, steppedAt}
+use Rattle.panel.specs.PanelCalls.{entryAt, steppedAt}
 use Rattle.panel.specs.declared.types.Entry.{Entry}
 use Rattle.panel.specs.declared.types.Panel.{Panel}
-use Rattle.panel.proofs.Cases.{commanded-by, commanded-done}
+use Rattle.panel.proofs.Cases.{commanded-by}
 use Rattle.panel.proofs.StepsByTable.{row-steps}
 use Rattle.workroom.specs.AnyPanel.{oursPanel}
-use Rattle.workroom.specs.Workroom.{Workroom, roomOf, asks, handedThere, answeredBack, askedAs, happened}
-use Rattle.workroom.specs.MeantThrough.{saidTo, doneFor}
+use Rattle.workroom.specs.Workroom.{Workroom, roomOf, asks, askedAs, happened}
+use Rattle.workroom.specs.MeantThrough.{saidTo, doneFor, IsWithin}
 use Rattle.workroom.specs.ShowsWhatWasMeant.{both-open, ourEntry, ourConnection, Joined, ShownAs}
 use Rattle.workroom.specs.PanelDemand.{Served}
-use Rattle.workroom.proofs.Cuts.{handed-in-cuts}
 use Rattle.workroom.proofs.EntriesStep.{entry-sent, sent-served, entry-heard, heard-served, line-delivered}
-use Rattle.workroom.proofs.CommandsAnswered.{fit-greeted, fit-live, joined-served, can-command, command-taken}
-use Rattle.workroom.proofs.CommandsAnswered.{told-back}
+use Rattle.workroom.proofs.CommandsAnswered.{fit-greeted, joined-served, can-command, command-taken, sending}
+use Rattle.workroom.proofs.CommandsAnswered.{asked-as, told-back}
+use Rattle.workroom.proofs.Unanswered.{swallowed-so, swallowed-stands}
 
 -- nothing leads what follows a first command
 none-leads : (s : Bool) → (s && not s) ≡ false
@@ -62,48 +62,33 @@ module _ (i p : ℕ) (w : Workroom) (j : Joined i p w) where
   abbrev device : Device
   device = w .device
 
-  module _ (k : Coded) (c : Command) (is : commandOf k ≡ CommandIs c) (there back : List ℕ) where
+  module _ (k : Coded) (c : Command) (is : commandOf k ≡ CommandIs c)
+      (within : commandClass c ≤ device .settings .«class_number») (there back : List ℕ) where
     abbrev told : Said
     told = meant (device .settings) (device .own) (Asks c)
-
-    abbrev sending : PanelAs
-    sending = commanded (w .panel) i k commandRoom
 
     abbrev left : Device
     left = withPlace device (done (device .settings) (device .own) (Asks c)) p (turned (connectionAt device p) opened)
 
-    done-sending : sending ≡ sentAt (w .panel) i k commandRoom
-    done-sending = commanded-done (w .panel) i k commandRoom (can-command i p w j k c is)
-
-    result : received device p (sending .line) replyRoom ≡ commandResult device p c (length (sending .line))
-    result =
-        subst (λ (r : PanelAs). received device p (r .line) replyRoom ≡ commandResult device p c (length (r .line)))
-        (sym done-sending) (command-taken i p w j k c is)
-
-    comes-back : handedThere device p there (sending .line) ≡ record { state = left; reply = replyTo c told }
-    comes-back =
-        handed-in-cuts device p there (sending .line) (j .place) (j .acquainted .device) (fit-live (j .fit))
-        (ap (λ (r : Result Device). r .taken) result)
-        ∙ ap {B = Out Device} (λ (r : Result Device). record { state = r .device; reply = r .reply }) result
+    abbrev sent : Panel
+    sent = sending i p w j k c is .panel
 
     abbrev after : Panel
-    after = steppedAt (sending .panel) i (replyTo c told) .panel
+    after = steppedAt sent i (replyTo c told) .panel
 
     asked-so : happened oursPanel i p w (asks k there back) ≡ roomOf after left
     asked-so =
-        let number : eqb (sending .number) 0 ≡ true = ap (λ (r : PanelAs). eqb (r .number) 0) done-sending in
-        if-yes _ _ number
-        ∙ ap (answeredBack oursPanel i (sending .panel) back) comes-back
-        ∙ ap (λ (p : Panel). roomOf p left) (line-delivered i (sending .panel) back _ _)
+        asked-as i p w j k c is (commandResult device p c) (command-taken i p w j k c is within) refl there back
+        ∙ ap (λ (q : Panel). roomOf q left) (line-delivered i sent back _ _)
 
-    sent-there : Served (sending .panel) i
+    sent-there : Served sent i
     sent-there = sent-served (w .panel) i (joined-served i p w j) k commandRoom
 
     entry-then : entryAt after i ≡ answeredEntry (sentEntry entry k) told
     entry-then =
         let asked : UnderWay (sentEntry entry k) c
         = record { greeted = fit-greeted (j .fit); waits = refl; asked = is } in
-        entry-heard (sending .panel) i sent-there (replyTo c told)
+        entry-heard sent i sent-there (replyTo c told)
         ∙ ap (λ (e : Entry). heardLine e (replyTo c told))
         (entry-sent (w .panel) i (joined-served i p w j) k commandRoom (can-command i p w j k c is))
         ∙ row-steps (sentEntry entry k) (replyTo c told) (answers c told asked (told-back i p w j k c is))
@@ -113,12 +98,12 @@ module _ (i p : ℕ) (w : Workroom) (j : Joined i p w) where
 
     left-legal : isLegal left ≡ true
     left-legal =
-        ap (λ (r : Result Device). isLegal (r .device)) (sym result)
-        ∙ receiving-legal device (j .acquainted .device) p (sending .line) replyRoom
+        ap (λ (r : Result Device). isLegal (r .device)) (sym (command-taken i p w j k c is within))
+        ∙ receiving-legal device (j .acquainted .device) p _ replyRoom
 
     joined-then : Joined i p (roomOf after left)
     joined-then =
-        let there = heard-served (sending .panel) i sent-there (replyTo c told) in
+        let there = heard-served sent i sent-there (replyTo c told) in
         record {
           acquainted = record {
             panel = there .legal;
@@ -157,15 +142,22 @@ module _ (i p : ℕ) (w : Workroom) (j : Joined i p w) where
       (λ n other. if-no _ _ (ne-eqb n 0 other))
       (λ can. absurd (false≢true (sym (ap isNamed none) ∙ can .named)))
 
-  -- once something was asked the connection is open, and an open one stays so
+  -- once something was asked the connection is open, answered or not, and an open one stays so
   pub asked-open : (k : Coded) (there back : List ℕ) → isNamed (commandOf k) ≡ true
       → ourConnection p (happened oursPanel i p w (asks k there back)) .phase ≡ opened
   asked-open k there back named = by (commandOf k) refl
     where
       by : (m : MaybeCommand) → commandOf k ≡ m
           → ourConnection p (happened oursPanel i p w (asks k there back)) .phase ≡ opened
-      by (CommandIs c) is = ap (λ (x : Workroom). ourConnection p x .phase) (asked-so k c is there back)
-          ∙ ap (λ (q : Connection). q .phase) (stands k c is there back)
+      by (CommandIs c) is =
+          ⊎-elim
+          (λ (within : commandClass c ≤ device .settings .«class_number»).
+          ap (λ (x : Workroom). ourConnection p x .phase) (asked-so k c is within there back)
+          ∙ ap (λ (q : Connection). q .phase) (stands k c is within there back))
+          (λ (higher : device .settings .«class_number» < commandClass c).
+          ap (λ (x : Workroom). ourConnection p x .phase) (swallowed-so i p w j k c is higher there back)
+          ∙ ap (λ (q : Connection). q .phase) (swallowed-stands i p w j k c is higher there back))
+          (le-or-lt (commandClass c) (device .settings .«class_number»))
       by NoCommand none = absurd (false≢true (sym (ap isNamed none) ∙ named))
 
   pub open-asked : (k : Coded) (there back : List ℕ) → connectionAt device p .phase ≡ opened
@@ -178,14 +170,14 @@ module _ (i p : ℕ) (w : Workroom) (j : Joined i p w) where
       by NoCommand none =
           ap (λ (x : Workroom). ourConnection p x .phase) (refused-so k there back none) ∙ stands
 
-  pub command-shown : (k : Coded) (there back : List ℕ)
+  pub command-shown : (k : Coded) (there back : List ℕ) → IsWithin (device .settings) (commandOf k)
       → ShownAs i p w (showing (shownOf entry) (saidTo (device .settings) (device .own) (commandOf k)))
       (doneFor (device .settings) (device .own) (commandOf k)) (happened oursPanel i p w (asks k there back))
   command-shown k there back = by (commandOf k) refl
     where
-      by : (m : MaybeCommand) → commandOf k ≡ m
+      by : (m : MaybeCommand) → commandOf k ≡ m → IsWithin (device .settings) m
           → ShownAs i p w (showing (shownOf entry) (saidTo (device .settings) (device .own) m))
           (doneFor (device .settings) (device .own) m) (happened oursPanel i p w (asks k there back))
-      by (CommandIs c) is = reply-shown k c is there back
-      by NoCommand none =
+      by (CommandIs c) is within = reply-shown k c is within there back
+      by NoCommand none within =
           subst (ShownAs i p w (shownOf entry) (device .own)) (sym (refused-so k there back none)) as-it-was

@@ -10,13 +10,14 @@ use native.Mathlib.Omega.{arith}
 use lib.ListN.{replicate}
 use Rattle.text.specs.Words.{ascii}
 use Rattle.lines.specs.declared.command.Command.the-variants.{Query}
-use Rattle.lines.specs.declared.command.Body.the-variants.{Lamp}
+use Rattle.lines.specs.declared.command.Body.the-variants.{Powr, Lamp}
 use Rattle.record.specs.Limits.{opened}
 use Rattle.record.specs.Record.{textOf, started}
+use Rattle.record.specs.Wanted.{wantedOf}
 use Rattle.record.specs.Places.{withPlace}
 use Rattle.record.specs.declared.types.Device.{Device}
 use Rattle.device.specs.Receiving.{begunIn}
-use Rattle.codes.specs.Commands.{codeOf}
+use Rattle.codes.specs.Commands.{codeOf, commandOf}
 use Rattle.panel.specs.Entries.{Talk, entryOf, greetedOpen, greetedBy, sentOn, nothingShown, blankEntry}
 use Rattle.panel.specs.Showing.{withPowerShown}
 use Rattle.panel.specs.StepTable.{UnderWay}
@@ -24,6 +25,7 @@ use Rattle.panel.specs.PanelCalls.{entryAt}
 use Rattle.panel.specs.declared.types.Entry.{Entry}
 use Rattle.panel.specs.declared.types.Panel.{Panel}
 use Rattle.workroom.specs.Workroom.{Workroom, roomOf}
+use Rattle.workroom.specs.MeantThrough.{IsWithin}
 use Rattle.workroom.specs.ShowsWhatWasMeant.{both-open, Joined}
 use Rattle.workroom.specs.PanelDemand.{Served}
 use Rattle.workroom.specs.Computing.{computing}
@@ -60,17 +62,7 @@ unfolding computing
 lamps-asked = record { greeted = λ none. omega arith; waits = refl; asked = refl }
 
 abbrev opening : Device
-opening = started (record {
-  name = [];
-  maker = [];
-  model = [];
-  other = [];
-  password = [];
-  inputs = ascii "11";
-  lamps = 0 ∷ [];
-  warm = 20;
-  cool = 60;
-})
+opening = started (wantedOf [] [] [] [] [] (ascii "11") (0 ∷ []) 20 60)
 
 abbrev pub workroom : Workroom
 workroom = roomOf (resting 0) (withPlace opening (opening .own) 0 (begunIn opened 0))
@@ -84,3 +76,7 @@ workroom-joined = record {
   rests = refl;
   fit = both-open refl (λ none. omega arith) refl;
 }
+
+pub powr-within : IsWithin (workroom .device .settings) (commandOf (codeOf (Query Powr)))
+unfolding computing
+powr-within = omega arith

@@ -35,7 +35,7 @@ module _ (i p : ℕ) where
   open-waits w n stands = passed-leaves (w .device) n .connection p (ap isTimed stands)
 
   open-kept-up : (w : Workroom) (h : RoomMove) → phase w ≡ opened → IsOther i p w h → KeptUp i p w h
-  open-kept-up w (asks k there back) stands other = tt
+  open-kept-up w (asks k there back) stands other = other
   open-kept-up w (waits n) stands other = ap isShut (open-waits w n stands) ∙ ap (λ (q : ℕ). eqb q shut) stands
   open-kept-up w (asks-another k c) stands other = other
   open-kept-up w (hears-another k l) stands other = other

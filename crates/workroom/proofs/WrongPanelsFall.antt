@@ -18,7 +18,7 @@ use Rattle.workroom.specs.WrongPanels.{takesForeign, endsOnMalformed, ke
 use Rattle.workroom.specs.WrongPanels.{countsNothing, showsNoReply}
 use Rattle.workroom.specs.Computing.{computing}
 use Rattle.workroom.proofs.Samples.{resting, asked, resting-served, full-served, asked-served, lamps-asked}
-use Rattle.workroom.proofs.Samples.{workroom, workroom-joined}
+use Rattle.workroom.proofs.Samples.{workroom, workroom-joined, powr-within}
 
 abbrev powerOff : List ℕ
 powerOff = ascii "%1POWR=0\r"
@@ -91,5 +91,5 @@ pub shows-no-reply-falls : ShowsWhatWasMeant showsNoReply → ⊥
 unfolding computing
 shows-no-reply-falls h =
     let e : _≡_ {A = ℕ} 1 0
-    = ap powerShown (h .shows 0 0 workroom (asks (codeOf (Query Powr)) [] []) workroom-joined tt .shows) in
+    = ap powerShown (h .shows 0 0 workroom (asks (codeOf (Query Powr)) [] []) workroom-joined powr-within .shows) in
     absurd (omega arith)

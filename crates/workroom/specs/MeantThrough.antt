@@ -6,8 +6,11 @@
 --                         did it is as they left it
 --   shownThrough s o v hs     what was shown, v, and on it all that was said, one after the other (`showing` of panel)
 --   ownThrough s o hs     its own part after all of it
+--   IsWithin s m          m is a command of a class no higher than that of the settings s (02, L14), or none
 -- Assumes nothing.
+use Prim.Native.Nat.{_≤_}
 use mathlib.Core.List.{List, [], _∷_}
+use Rattle.lines.specs.Commands.{commandClass}
 use Rattle.lines.specs.declared.request.Request.the-variants.{Asks}
 use Rattle.answers.specs.Said.{Said, nothing}
 use Rattle.record.specs.declared.types.Settings.{Settings}
@@ -30,6 +33,10 @@ module _ (s : Settings) where
   abbrev pub doneFor : Own → MaybeCommand → Own
   doneFor o (CommandIs c) = done s o (Asks c)
   doneFor o NoCommand = o
+
+  abbrev pub IsWithin : MaybeCommand → Type 0
+  IsWithin (CommandIs c) = commandClass c ≤ s .«class_number»
+  IsWithin NoCommand = Unit {0}
 
   abbrev pub saidAt : Own → RoomMove → Said
   saidAt o (asks k there back) = saidTo o (commandOf k)
