@@ -19,7 +19,7 @@ use Rattle.record.specs.declared.types.Device.{Device}
 use Rattle.record.specs.declared.types.Changed.{Changed}
 use Rattle.record.proofs.Calls.{set-up-accepted, set-up-in-range}
 use Rattle.record.proofs.Started.{started-parts, set-up-legal}
-use Rattle.stored.specs.Form.{formVersion, storedForm, nothingStored, storedBy}
+use Rattle.stored.specs.Form.{formVersion, markedVersion, storedForm, nothingStored, storedBy}
 use Rattle.stored.specs.Loading.{isOld, isOtherVersion, placesOf, formEnd, between, settingsIn, markBytesIn}
 use Rattle.stored.specs.Loading.{isMarked, marksRead, markRoom, areMarks, startedWith, isContents, loaded}
 use Rattle.stored.proofs.Contents.{new-bytes, old-are-marks, old-started}
@@ -30,7 +30,7 @@ no-version [] h = refl
 no-version (v ∷ s) h = absurd (omega arith)
 
 pub version-first : (s : List ℕ) → (length s ≡ 0 → ⊥)
-    → (not (eqb (s at 0) formVersion) && not (isOld s)) ≡ isOtherVersion s
+    → (not (eqb (s at 0) formVersion) && not (eqb (s at 0) markedVersion) && not (isOld s)) ≡ isOtherVersion s
 version-first [] h = absurd (h refl)
 version-first (v ∷ s) h = refl
 

@@ -1,27 +1,27 @@
--- Bytes that load are their version's form of what stands in them (02, L3 and L8): each section, written again, is the
+-- Bytes that load are their version's form of what stands in them (02, L3, L8 and L14): each section, written again, is the
 -- bytes from which it was read.
 -- Assumes nothing.
 use Prim.Native.Nat.{ℕ, _+_, _-_, _*_, _/_, _≤_}
 use mathlib.Core.Path.{_≡_, refl, sym, ap, _∙_}
-use mathlib.Core.Bool.{Bool, true, false, false≢true, not, _&&_}
+use mathlib.Core.Bool.{Bool, true, false}
 use mathlib.Core.List.{List, [], _∷_, _++_, map, append-assoc}
 use native.Mathlib.Omega.{arith}
 use lib.ListN.{length, take, drop, length-drop, length-map, take-append-drop}
-use lib.Seq.{take-all, drop-drop}
-use lib.Dec.{eqb}
-use borrow.Author.Tests.{eqb-true, not-false}
+use lib.Seq.{drop-drop}
+use Rattle.text.specs.Words.{if_then_else_}
 use Rattle.lines.specs.Bytes.{_at_}
 use Rattle.record.specs.Wanted.{Wanted}
-use Rattle.stored.specs.Form.{formVersion, oldVersion, highestFirst, section, textSection, secondsBytes, markByte}
-use Rattle.stored.specs.Form.{formWith, formOf, oldFormOf}
-use Rattle.stored.specs.Loading.{isOld, isOtherVersion, placesOf, Walked, between, secondsIn}
-use Rattle.stored.specs.Loading.{settingsAt, settingsIn, markBytesIn, isMarked, marksRead}
+use Rattle.stored.specs.Form.{highestFirst, section, textSection, secondsBytes, markByte, marksSection}
+use Rattle.stored.specs.Form.{textsOf2, classPart, formWith, versionForm}
+use Rattle.stored.specs.Loading.{isOld, hasClass, placesOf, Walked, between, secondsIn}
+use Rattle.stored.specs.Loading.{settingsWith, settingsAt, settingsIn, markBytesIn, isMarked, marksRead}
 use Rattle.stored.specs.declared.layout.Places.{Places}
 use Rattle.stored.proofs.Seconds.{read-many}
 use Rattle.stored.proofs.MarkBytes.{marks-again, marks-told}
 use Rattle.stored.proofs.Walked.{no-marks-long, some-marks-long, walked}
 use Rattle.stored.proofs.Contents.{new-bytes}
 use Rattle.stored.proofs.Sections.{between-long, cut-at, section-whole, section-between}
+use Rattle.stored.proofs.RestAgain.{rest-again}
 use Rattle.stored.proofs.Results.{Accepted}
 use Rattle.stored.proofs.BytesAgain.{Bytes, drop-bytes, number-again, seconds-again}
 
@@ -29,20 +29,10 @@ version-then : (s : List ℕ) → 1 ≤ length s → s ≡ (s at 0) ∷ drop 1 s
 version-then [] l = absurd (omega arith)
 version-then (x ∷ s) l = refl
 
-newest-version : (s : List ℕ) → isOtherVersion s ≡ false → 1 ≤ length s → isOld s ≡ false → s at 0 ≡ formVersion
-newest-version [] v l o = absurd (omega arith)
-newest-version (x ∷ s) v l o =
-    eqb-true x formVersion (not-false (eqb x formVersion) (one-left-is (eqb x formVersion) (eqb x oldVersion) v o))
-  where
-    one-left-is : (a b : Bool) → (not a && not b) ≡ false → b ≡ false → not a ≡ false
-    one-left-is true b e f = refl
-    one-left-is false true e f = absurd (false≢true (sym f))
-    one-left-is false false e f = e
-
-in-turn : (v : ℕ) (a b c d e f g h i j : List ℕ)
-    → v ∷ (a ++ (b ++ (c ++ (d ++ (e ++ (f ++ (g ++ (h ++ (i ++ j)))))))))
-    ≡ v ∷ (a ++ b ++ c ++ d ++ e ++ f ++ g ++ h ++ i ++ j)
-in-turn v a b c d e f g h i j = simp append-assoc
+in-turn : (v : ℕ) (a b c d e f g h i j k : List ℕ)
+    → v ∷ (a ++ (b ++ (c ++ (d ++ (e ++ (f ++ (g ++ (h ++ (i ++ (j ++ k))))))))))
+    ≡ v ∷ (a ++ b ++ c ++ d ++ e ++ f ++ g ++ h ++ i ++ j ++ k)
+in-turn v a b c d e f g h i j k = simp append-assoc
 
 module _ (s : List ℕ) (b : Bytes s) (a : Accepted s) where
   abbrev q : Places
@@ -73,7 +63,7 @@ module _ (s : List ℕ) (b : Bytes s) (a : Accepted s) where
       ∙ ap (λ (n : ℕ). n ∷ (between (q .inputs + 1) (q .lamps) s ++ drop (q .lamps) s)) (sym half)
 
   lamps-again : drop (q .lamps) s ≡ section (length (w .lamps)) (secondsBytes (w .lamps)) ++ drop (q .marks) s
-  unfolding settingsAt
+  unfolding settingsAt settingsWith
   lamps-again =
       let order = places in
       let end = a .uncut in
@@ -96,8 +86,12 @@ module _ (s : List ℕ) (b : Bytes s) (a : Accepted s) where
       let end = a .uncut in
       cut-at s (q .marks) (q .warm) (omega arith) (omega arith)
 
+  -- what the version has after C
+  abbrev rest : List ℕ
+  rest = drop (q .class) s
+
   warm-again : drop (q .warm) s ≡ highestFirst 2 (w .warm) ++ drop (q .warm + 2) s
-  unfolding settingsAt
+  unfolding settingsAt settingsWith
   warm-again =
       let order = places in
       let end = a .uncut in
@@ -106,19 +100,21 @@ module _ (s : List ℕ) (b : Bytes s) (a : Accepted s) where
       sym (take-append-drop 2 t)
       ∙ (λ i. sym (number-again 2 t (omega arith) (drop-bytes (q .warm) s b)) i ++ drop-drop 2 (q .warm) s i)
 
-  cool-again : drop (q .warm + 2) s ≡ highestFirst 2 (w .cool)
-  unfolding settingsAt
+  cool-again : drop (q .warm + 2) s ≡ highestFirst 2 (w .cool) ++ rest
+  unfolding settingsAt settingsWith
   cool-again =
       let order = places in
       let end = a .uncut in
-      let last = a .whole in
       let t = drop (q .warm + 2) s in
       let long = length-drop (q .warm + 2) s in
-      sym (take-all 2 t (omega arith)) ∙ sym (number-again 2 t (omega arith) (drop-bytes (q .warm + 2) s b))
+      let next : q .warm + 2 + 2 ≡ q .class = omega arith in
+      sym (take-append-drop 2 t)
+      ∙ (λ i. sym (number-again 2 t (omega arith) (drop-bytes (q .warm + 2) s b)) i
+      ++ (drop-drop 2 (q .warm + 2) s ∙ ap (λ (k : ℕ). drop k s) next) i)
 
   -- all sections, one after the other
-  pub form-again : formWith (s at 0) marks w ≡ s
-  unfolding formWith settingsAt
+  pub form-again : formWith (s at 0) marks rest w ≡ s
+  unfolding formWith settingsAt settingsWith
   form-again =
       let order = places in
       let end = a .uncut in
@@ -146,27 +142,31 @@ module _ (s : List ℕ) (b : Bytes s) (a : Accepted s) where
       ∙ in-turn (s at 0) (textSection (w .name)) (textSection (w .maker)) (textSection (w .model))
       (textSection (w .other)) (textSection (w .password)) (section (length (w .inputs) / 2) (w .inputs))
       (section (length (w .lamps)) (secondsBytes (w .lamps))) marks (highestFirst 2 (w .warm))
-      (highestFirst 2 (w .cool)))
+      (highestFirst 2 (w .cool)) rest)
 
-  pub old-again : isOld s ≡ true → oldFormOf w ≡ s
-  old-again o =
-      let version = eqb-true (s at 0) oldVersion o in
-      let none : q .warm - q .marks ≡ 0
-      = omega (arith, places .warm, no-marks-long s (q .marks) o) in
-      (λ i. formWith (sym version i) (sym (ap (λ (n : ℕ). take n (drop (q .marks) s)) none) i) w) ∙ form-again
+  -- the marks, and the class with its texts, are those that were read
+  marks-part : marks ≡ (if isOld s then [] else marksSection (marksRead s))
+  marks-part = by (isOld s) refl
+    where
+      by : (old : Bool) → isOld s ≡ old → marks ≡ (if old then [] else marksSection (marksRead s))
+      by true o =
+          let none : q .warm - q .marks ≡ 0 = omega (arith, places .warm, no-marks-long s (q .marks) o) in
+          ap (λ (n : ℕ). take n (drop (q .marks) s)) none
+      by false o =
+          let order = places in
+          let end = a .uncut in
+          let told = marks-told _ (markBytesIn s) (a .marks) in
+          let long = some-marks-long s (q .marks) o in
+          let items = between (q .marks + 1) (q .warm) s in
+          let read : map markByte (marksRead s) ≡ items = marks-again (markBytesIn s) (told .each) ∙ new-bytes s o in
+          let many : length (marksRead s) ≡ s at (q .marks)
+          = length-map (markBytesIn s) isMarked ∙ ap length (new-bytes s o)
+          ∙ between-long s (q .marks + 1) (q .warm) (omega arith) (omega arith) ∙ omega arith in
+          section-between s (q .marks) (q .warm) (omega arith) (omega arith) ∙ sym (λ j. many j ∷ read j)
 
-  pub newest-again : isOld s ≡ false → formOf w (marksRead s) ≡ s
-  newest-again o =
-      let order = places in
-      let end = a .uncut in
-      let told = marks-told _ (markBytesIn s) (a .marks) in
-      let long = some-marks-long s (q .marks) o in
-      let version = newest-version s (a .version) (omega arith) o in
-      let items = between (q .marks + 1) (q .warm) s in
-      let read : map markByte (marksRead s) ≡ items = marks-again (markBytesIn s) (told .each) ∙ new-bytes s o in
-      let many : length (marksRead s) ≡ s at (q .marks)
-      = length-map (markBytesIn s) isMarked ∙ ap length (new-bytes s o)
-      ∙ between-long s (q .marks + 1) (q .warm) (omega arith) (omega arith) ∙ omega arith in
-      let count : between (q .marks) (q .warm) s ≡ (s at (q .marks)) ∷ items
-      = section-between s (q .marks) (q .warm) (omega arith) (omega arith) in
-      (λ i. formWith (sym version i) (((λ j. many j ∷ read j) ∙ sym count) i) w) ∙ form-again
+  rest-part : rest ≡ (if hasClass s then classPart (w .class) (textsOf2 w) else [])
+  unfolding settingsAt settingsWith
+  rest-part = rest-again s (s at (q .inputs)) rest (omega (arith, length-drop (q .class) s, a .uncut, a .whole))
+
+  pub version-again : versionForm (s at 0) w (marksRead s) ≡ s
+  version-again = (λ i. formWith (s at 0) (sym marks-part i) (sym rest-part i) w) ∙ form-again

@@ -17,24 +17,26 @@ use Rattle.record.proofs.Kept.{kept-length}
 use Rattle.record.proofs.SettingsTold.{SettingsTold}
 use Rattle.record.proofs.LegalTold.{settings-of-legal, own-of-legal}
 use Rattle.stored.specs.Form.{formVersion, highestFirst, section, textSection, secondsBytes, markByte}
-use Rattle.stored.specs.Form.{marksSection, formWith, storedOf, marksStored, storedForm}
+use Rattle.stored.specs.Form.{marksSection, textsOf2, classPart, formWith, storedOf, marksStored, storedForm}
 use Rattle.stored.proofs.HighestFirst.{highest-length}
 use Rattle.stored.proofs.Seconds.{seconds-long}
 use Rattle.stored.proofs.MarkBytes.{front-many}
 
-abbrev textsLong : Wanted → ℕ
-textsLong w = length (w .name) + length (w .maker) + length (w .model) + length (w .other) + length (w .password)
+abbrev fiveLong : Wanted → ℕ
+fiveLong w = length (w .name) + length (w .maker) + length (w .model) + length (w .other) + length (w .password)
 
-pub form-long : (v : ℕ) (marks : List ℕ) (w : Wanted)
-    → length (formWith v marks w) ≡ 12 + textsLong w + length (w .inputs) + 4 * length (w .lamps) + length marks
+pub form-long : (v : ℕ) (marks rest : List ℕ) (w : Wanted)
+    → length (formWith v marks rest w)
+    ≡ 12 + fiveLong w + length (w .inputs) + 4 * length (w .lamps) + length marks + length rest
 unfolding formWith
-form-long v marks w =
+form-long v marks rest w =
     simp length-append
     (omega (arith, highest-length 2 (w .warm), highest-length 2 (w .cool), seconds-long (w .lamps)))
 
-regroup : (v : ℕ) (a b c d e f g h i j : List ℕ)
-    → v ∷ (a ++ b ++ c ++ d ++ e ++ f ++ g ++ h ++ i ++ j) ≡ (v ∷ (a ++ b ++ c ++ d ++ e)) ++ (f ++ g ++ h ++ i ++ j)
-regroup v a b c d e f g h i j = simp append-assoc
+regroup : (v : ℕ) (a b c d e f g h i j k : List ℕ)
+    → v ∷ (a ++ b ++ c ++ d ++ e ++ f ++ g ++ h ++ i ++ j ++ k)
+    ≡ (v ∷ (a ++ b ++ c ++ d ++ e)) ++ (f ++ g ++ h ++ i ++ j) ++ k
+regroup v a b c d e f g h i j k = simp append-assoc
 
 -- what legal settings are at most
 pub record Sized (s : Settings) : Type 0 where
@@ -50,7 +52,7 @@ sized s t = record {
   lamps = t .lamps;
 }
 
--- of a legal record: the form in the two parts that the code writes, with the counts that the record has
+-- of a legal record: the form in the three parts that the code writes, with the counts that the record has
 abbrev pub textsPart : Device → List ℕ
 textsPart d =
     formVersion
@@ -63,6 +65,9 @@ listsPart d =
     ++ section (d .settings .«lamp_count») (secondsBytes (storedOf d .lamps))
     ++ section (d .settings .«lamp_count») (map markByte (marksStored d))
     ++ highestFirst 2 (d .settings .warm) ++ highestFirst 2 (d .settings .cool)
+
+abbrev pub restPart : Device → List ℕ
+restPart d = classPart (storedOf d .class) (textsOf2 (storedOf d))
 
 module _ (d : Device) (h : isLegal d ≡ true) where
   pub record StoredLong : Type 0 where
@@ -84,12 +89,12 @@ module _ (d : Device) (h : isLegal d ≡ true) where
         model = kept-length textRoom isInfo _ _ (t .model);
         other = kept-length textRoom isInfo _ _ (t .other);
         password = kept-length textRoom isPassword _ _ (t .password);
-        inputs = kept-length inputRoom isInputs _ _ (t .inputs);
+        inputs = kept-length inputRoom (isInputs _) _ _ (t .inputs);
         lamps = kept-length lampsMost isLamps _ _ (own-of-legal d h .lamps);
         marks = front-many _ _ (own-of-legal d h .marks) (t .lamps);
       }
 
-  pub stored-form : storedForm d ≡ textsPart d ++ listsPart d
+  pub stored-form : storedForm d ≡ textsPart d ++ listsPart d ++ restPart d
   unfolding formWith
   stored-form =
       let half : length (storedOf d .inputs) / 2 ≡ d .settings .«input_count» = omega (arith, stored-long .inputs) in
@@ -99,16 +104,29 @@ module _ (d : Device) (h : isLegal d ≡ true) where
       (section (d .settings .«input_count») (storedOf d .inputs))
       (section (d .settings .«lamp_count») (secondsBytes (storedOf d .lamps)))
       (section (d .settings .«lamp_count») (map markByte (marksStored d))) (highestFirst 2 (d .settings .warm))
-      (highestFirst 2 (d .settings .cool)))
+      (highestFirst 2 (d .settings .cool)) (restPart d))
 
   pub texts-long : length (textsPart d)
       ≡ 6 + (d .settings .name .len + d .settings .maker .len + d .settings .model .len + d .settings .other .len
       + d .settings .password .len)
   texts-long = let l = stored-long in simp length-append (omega arith)
 
+  pub lists-long : length (listsPart d) ≡ 7 + 2 * d .settings .«input_count» + 5 * d .settings .«lamp_count»
+  lists-long =
+      let l = stored-long in
+      simp length-append
+      (omega (
+        arith,
+        highest-length 2 (d .settings .warm),
+        highest-length 2 (d .settings .cool),
+        seconds-long (storedOf d .lamps),
+        length-map (marksStored d) markByte,
+      ))
+
   pub stored-form-long : length (storedForm d)
       ≡ 13 + (d .settings .name .len + d .settings .maker .len + d .settings .model .len + d .settings .other .len
       + d .settings .password .len) + 2 * d .settings .«input_count» + 5 * d .settings .«lamp_count»
+      + length (restPart d)
   stored-form-long =
       let l = stored-long in
-      omega (arith, form-long formVersion (marksSection (marksStored d)) (storedOf d), length-map (marksStored d) markByte)
+      omega (arith, form-long formVersion (marksSection (marksStored d)) (restPart d) (storedOf d), length-map (marksStored d) markByte)

@@ -1,4 +1,4 @@
--- A form is read back (02, L3 and L8), of either version: by its counts it ends where it ends, whatever follows it, and
+-- A form is read back (02, L3, L8 and L14), of each version: by its counts it ends where it ends, whatever follows it, and
 -- has the settings of which it is the form, and its marks.
 -- Assumes nothing.
 use Prim.Native.Nat.{ℕ, _+_, _*_, _/_, _≤_}
@@ -12,7 +12,7 @@ use borrow.Author.Tests.{leb-true}
 use Rattle.text.proofs.Scanning.{every-at}
 use Rattle.lines.specs.Bytes.{_at_}
 use Rattle.record.specs.Limits.{lampLimit, stretchMost}
-use Rattle.record.specs.Wanted.{Wanted, wantedOf}
+use Rattle.record.specs.Wanted.{Wanted, wantedIn}
 use Rattle.record.specs.Rules.{isLamp}
 use Rattle.record.specs.SetUp.{isSettingInRange, isSetUp}
 use Rattle.record.specs.declared.out_of_range.Setting.{Setting}
@@ -22,26 +22,29 @@ use Rattle.record.proofs.OutOfRange.{each-in-range}
 use Rattle.record.proofs.SettingsTold.{stretch-told}
 use Rattle.record.proofs.Started.{inputs-halved}
 use Rattle.stored.specs.Form.{highestFirst, section, textSection, secondsBytes, formWith}
-use Rattle.stored.specs.Loading.{isOtherVersion, placesOf, Walked, formEnd, numberIn, secondsIn, settingsIn}
+use Rattle.stored.specs.Loading.{isOtherVersion, placesOf, Walked, formEnd, numberIn, secondsIn, classIn}
+use Rattle.stored.specs.Loading.{restLong, textsAfter, settingsWith, settingsBy, settingsIn}
 use Rattle.stored.specs.declared.layout.Places.{Places}
 use Rattle.stored.proofs.HighestFirst.{highest-length, highest-back}
 use Rattle.stored.proofs.Seconds.{seconds-long, seconds-back}
 use Rattle.stored.proofs.Walked.{walked}
 use Rattle.stored.proofs.Sections.{count-read, items-from, items-read, rest-read, text-read, text-rest}
 use Rattle.stored.proofs.Versions.{HasMarks}
-use Rattle.stored.proofs.Contents.{settings-lent}
+use Rattle.stored.proofs.Rest.{restTexts, rest-told, HasRest}
+use Rattle.stored.proofs.Contents.{settings-lent, settings-by}
 
-in-turn : (v : ℕ) (a b c d e f g h i j t : List ℕ) → (v ∷ (a ++ b ++ c ++ d ++ e ++ f ++ g ++ h ++ i ++ j)) ++ t
-    ≡ v ∷ (a ++ (b ++ (c ++ (d ++ (e ++ (f ++ (g ++ (h ++ (i ++ (j ++ t))))))))))
-in-turn v a b c d e f g h i j t = simp append-assoc
+in-turn : (v : ℕ) (a b c d e f g h i j k t : List ℕ) → (v ∷ (a ++ b ++ c ++ d ++ e ++ f ++ g ++ h ++ i ++ j ++ k)) ++ t
+    ≡ v ∷ (a ++ (b ++ (c ++ (d ++ (e ++ (f ++ (g ++ (h ++ (i ++ (j ++ (k ++ t)))))))))))
+in-turn v a b c d e f g h i j k t = simp append-assoc
 
 -- the form of w, and what more follows it
-module _ (v : ℕ) (marks : List ℕ) (has : HasMarks v marks) (w : Wanted) (ok : isSetUp w ≡ true) (more : List ℕ) where
+module _ (v : ℕ) (marks rest : List ℕ) (has : HasMarks v marks) (w : Wanted) (after : HasRest v rest w)
+    (ok : isSetUp w ≡ true) (more : List ℕ) where
   met : (s : Setting) → isSettingInRange w s ≡ true
   met = each-in-range w ok
 
   abbrev s : List ℕ
-  s = formWith v marks w ++ more
+  s = formWith v marks rest w ++ more
 
   abbrev q : Places
   q = placesOf s
@@ -50,8 +53,11 @@ module _ (v : ℕ) (marks : List ℕ) (has : HasMarks v marks) (w : Wanted) (ok 
   places = walked s
 
   -- what is left from each place on
+  abbrev from-class : List ℕ
+  from-class = rest ++ more
+
   abbrev from-cool : List ℕ
-  from-cool = highestFirst 2 (w .cool) ++ more
+  from-cool = highestFirst 2 (w .cool) ++ from-class
 
   abbrev from-warm : List ℕ
   from-warm = highestFirst 2 (w .warm) ++ from-cool
@@ -83,7 +89,7 @@ module _ (v : ℕ) (marks : List ℕ) (has : HasMarks v marks) (w : Wanted) (ok 
       in-turn v (textSection (w .name)) (textSection (w .maker)) (textSection (w .model))
       (textSection (w .other)) (textSection (w .password)) (section (length (w .inputs) / 2) (w .inputs))
       (section (length (w .lamps)) (secondsBytes (w .lamps))) marks (highestFirst 2 (w .warm)) (highestFirst 2 (w .cool))
-      more
+      rest more
 
   at-name : drop 1 s ≡ length (w .name) ∷ (w .name ++ from-maker)
   at-name = ap (drop 1) whole
@@ -107,7 +113,7 @@ module _ (v : ℕ) (marks : List ℕ) (has : HasMarks v marks) (w : Wanted) (ok 
   inputs-end =
       places .lamps
       ∙ ap (λ (n : ℕ). q .inputs + 1 + 2 * n) (count-read s (q .inputs) _ (w .inputs) from-lamps at-inputs)
-      ∙ ap (λ (n : ℕ). q .inputs + 1 + n) (inputs-halved (w .inputs) (met Inputs))
+      ∙ ap (λ (n : ℕ). q .inputs + 1 + n) (inputs-halved _ (w .inputs) (met Inputs))
 
   at-lamps : drop (q .lamps) s ≡ from-lamps
   at-lamps = rest-read s (q .inputs) _ (w .inputs) from-lamps at-inputs (q .lamps) inputs-end
@@ -143,6 +149,14 @@ module _ (v : ℕ) (marks : List ℕ) (has : HasMarks v marks) (w : Wanted) (ok 
       ∙ ap (drop 2) at-warm
       ∙ drop-at (highestFirst 2 (w .warm)) from-cool 2 (highest-length 2 (w .warm))
 
+  at-class : drop (q .class) s ≡ from-class
+  at-class =
+      let four : q .warm + 2 + 2 ≡ q .class = omega (arith, places .class) in
+      ap (λ (k : ℕ). drop k s) (sym four)
+      ∙ sym (drop-drop 2 (q .warm + 2) s)
+      ∙ ap (drop 2) at-cool
+      ∙ drop-at (highestFirst 2 (w .cool)) from-class 2 (highest-length 2 (w .cool))
+
   -- W, C and the lamps
   short : (n : ℕ) (t : List ℕ) → n ≤ stretchMost → numberIn (take 2 (highestFirst 2 n ++ t)) ≡ n
   short n t h = ap numberIn (take-at (highestFirst 2 n) t 2 (highest-length 2 n)) ∙ highest-back 2 n (omega arith)
@@ -165,33 +179,60 @@ module _ (v : ℕ) (marks : List ℕ) (has : HasMarks v marks) (w : Wanted) (ok 
   cool-read : numberIn (take 2 (drop (q .warm + 2) s)) ≡ w .cool
   cool-read =
       ap (λ (l : List ℕ). numberIn (take 2 l)) at-cool
-      ∙ short (w .cool) more (stretch-told (w .cool) (met Cooling) .high)
+      ∙ short (w .cool) from-class (stretch-told (w .cool) (met Cooling) .high)
+
+  -- the class and its texts
+  inputs-many : s at (q .inputs) ≡ length (w .inputs) / 2
+  inputs-many = count-read s (q .inputs) _ (w .inputs) from-lamps at-inputs
+
+  class-read : classIn s (drop (q .class) s) ≡ w .class
+  class-read = ap (classIn s) at-class ∙ after .class s more version-read
+
+  texts-read : textsAfter s (s at (q .inputs)) (drop (q .class) s) ≡ restTexts w
+  texts-read = (λ i. textsAfter s (inputs-many i) (at-class i)) ∙ after .texts s more version-read
 
   pub settings-read : settingsIn s ≡ w
   settings-read =
-      sym (settings-lent s q refl refl refl)
-      ∙ (λ i. wantedOf
+      let read = rest-told w ok in
+      settings-by s q
+      ∙ (λ i. settingsBy s q (class-read i) (texts-read i))
+      ∙ (λ i. settingsWith s q (w .class) (read .serial i) (read .version i) (read .names i))
+      ∙ sym (settings-lent s q (w .class) (w .serial) (w .version) (w .names) refl refl refl)
+      ∙ (λ i. wantedIn (w .class)
       (text-read s 1 (q .maker) (w .name) from-maker at-name (places .maker) i)
       (text-read s (q .maker) (q .model) (w .maker) from-model at-maker (places .model) i)
       (text-read s (q .model) (q .other) (w .model) from-other at-model (places .other) i)
       (text-read s (q .other) (q .password) (w .other) from-password at-other (places .password) i)
       (text-read s (q .password) (q .inputs) (w .password) from-inputs at-password (places .inputs) i)
       (items-read s (q .inputs) _ (w .inputs) from-lamps at-inputs (q .lamps) inputs-end i)
-      (lamps-read i) (warm-read i) (cool-read i))
+      (lamps-read i) (warm-read i) (cool-read i) (w .serial) (w .version) (w .names))
+
+  -- what follows C is there, if no byte
+  class-inside : q .class ≤ length s
+  class-inside =
+      omega (
+        arith,
+        places .class,
+        length-drop (q .warm) s,
+        ap length at-warm,
+        length-append (highestFirst 2 (w .warm)) from-cool,
+        length-append (highestFirst 2 (w .cool)) from-class,
+        highest-length 2 (w .warm),
+        highest-length 2 (w .cool),
+      )
 
   -- the form ends where its own bytes do
   pub ends-there : formEnd s + length more ≡ length s
   ends-there =
-      let left = ap length at-warm in
+      let long : restLong s (s at (q .inputs)) (drop (q .class) s) ≡ length rest =
+      (λ i. restLong s (inputs-many i) (at-class i)) ∙ after .long s more version-read in
       omega (
         arith,
-        places .end,
-        length-drop (q .warm) s,
-        ap length at-warm,
-        length-append (highestFirst 2 (w .warm)) from-cool,
-        length-append (highestFirst 2 (w .cool)) more,
-        highest-length 2 (w .warm),
-        highest-length 2 (w .cool),
+        long,
+        class-inside,
+        length-drop (q .class) s,
+        ap length at-class,
+        length-append rest more,
       )
 
   pub ours : isOtherVersion s ≡ false

@@ -3,12 +3,17 @@ pub mod Seconds
 pub mod MarkBytes
 pub mod MarksWritten
 pub mod Written
+pub mod Texts
+pub mod NamesWritten
 pub mod FormLong
 pub mod Walked
 pub mod Contents
 pub mod Cases
 pub mod Results
 pub mod Sections
+pub mod Joined
+pub mod Rest
+pub mod RestAgain
 pub mod Versions
 pub mod FormsRead
 pub mod FormsLoad

@@ -83,6 +83,7 @@ started-with-legal w ms ok h =
       marks = ap (λ (d : Device). isMarks (d .settings .«lamp_count») (markRoom ms)) (started-parts w) ∙ h;
       left = t .left;
       chosen = t .chosen;
+      volumes = t .volumes;
     })
 
 module _ (s : List ℕ) where

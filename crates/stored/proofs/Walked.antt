@@ -48,7 +48,7 @@ module _ (s : List ℕ) where
         lamps = lamps i;
         marks = marks i;
         warm = warm i;
-        end = (w .end ∙ ap (λ (k : ℕ). k + 4) warm) i;
+        class = (w .class ∙ ap (λ (k : ℕ). k + 4) warm) i;
       })
 
   pub walked : Walked s (placesOf s)
@@ -62,7 +62,7 @@ module _ (s : List ℕ) where
     lamps = refl;
     marks = refl;
     warm = refl;
-    end = refl;
+    class = refl;
   }
 
   pub walked-by : {p : Places} → p ≡ placesOf s → Walked s p

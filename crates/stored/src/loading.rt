@@ -1,13 +1,15 @@
 // Loading a stored form (02, L3 and L8): the version, then the layout, then the contents.
 use crate::layout;
+use crate::layout::MARKED_VERSION;
 use crate::layout::Places;
+use crate::layout::VERSION;
 use crate::numbers;
-use crate::storing::VERSION;
 use record::host;
 use record::own;
 use record::setup;
 use record::types::Changed;
 use record::types::Device;
+use record::types::INPUTS_MOST;
 use record::types::LAMPS_MOST;
 ghost use mathlib.Core.Path.{_≡_};
 ghost use mathlib.Core.Bool.{true};
@@ -16,13 +18,20 @@ ghost use Prim.Native.Nat.{_+_, _*_, _≤_};
 ghost use lib.ListN.{length, drop};
 ghost use Rattle.text.specs.Words.{if_then_else_};
 ghost use Rattle.text.specs.Scans.{every};
-ghost use Rattle.record.specs.Limits.{lampsMost};
+ghost use Rattle.record.specs.Limits.{listedMost, lampsMost};
+ghost use Rattle.lines.specs.Bytes.{_at_};
+ghost use Rattle.record.specs.Wanted.{namesIn};
 ghost use Rattle.record.specs.Updates.{withOwn, withMarks};
 ghost use Rattle.record.specs.Record.{inRoom, blank, accepted, refused};
 ghost use Rattle.record.specs.Legal.{isLegal};
 ghost use Rattle.record.specs.SetUp.{setUp};
-ghost use Rattle.stored.specs.Loading.{isOtherVersion, Walked, secondsIn, settingsAt, isMarkByte, isMarked};
+ghost use Rattle.stored.specs.Loading.{isOtherVersion, Walked, secondsIn, isMarkByte, isMarked};
+ghost use Rattle.stored.specs.Loading.{textsLong, textsIn, joinedTexts, joinedMost, endAt};
+ghost use Rattle.stored.specs.Loading.{settingsWith, settingsBy, settingsAt};
 ghost use Rattle.stored.specs.Loading.{markRoom, areMarks, loaded};
+
+// The bytes of so many texts at most, of 255 bytes each at most.
+const JOINED_MOST: usize = 255 * INPUTS_MOST;
 
 fn refusal(number: u32) -> Changed
     ensures { λ r. ⌜ r ≡ refused number blank ⌝ }
@@ -37,7 +46,7 @@ fn is_other_version(s: &[u8]) -> bool
     if s.len() == 0 {
         return false;
     }
-    (s[0] != VERSION) & !layout::is_old(s)
+    (s[0] != VERSION) & (s[0] != MARKED_VERSION) & !layout::is_old(s)
 }
 
 // The seconds of n lamps, from the place p on.
@@ -55,11 +64,20 @@ fn seconds_at(s: &[u8], p: usize, n: usize) -> [u32; LAMPS_MOST]
     list
 }
 
-// Set-up with what stands at the places: lamps that are too many are not copied.
-fn set_up_at(s: &[u8], p: Places) -> Changed
+// Set-up with what stands at the places, and with what is lent of Class 2: lamps that are too many are not copied.
+fn set_up_with(
+    s: &[u8],
+    p: Places,
+    class: u8,
+    serial: &[u8],
+    version: &[u8],
+    names: &[u8],
+    lengths: &[usize],
+) -> Changed
     requires { ⌜ Walked (now s) p ⌝ }
-    requires { ⌜ p .end ≤ length (now s) ⌝ }
-    ensures { λ r. ⌜ r ≡ setUp (settingsAt (now (s .entry)) p) ⌝ }
+    requires { ⌜ p .class ≤ length (now s) ⌝ }
+    ensures { λ r. ⌜ r ≡ setUp (settingsWith (now (s .entry)) p class (now (serial .entry)) (now (version .entry))
+        (namesIn (now (lengths .entry)) (now (names .entry)))) ⌝ }
 {
     let maker = p.maker;
     let model = p.model;
@@ -73,7 +91,8 @@ fn set_up_at(s: &[u8], p: Places) -> Changed
         return refusal(3);
     }
     let seconds = seconds_at(s, lamps + 1, n);
-    setup::set_up(
+    setup::set_up_in(
+        class,
         &s[2..maker],
         &s[maker + 1..model],
         &s[model + 1..other],
@@ -83,7 +102,96 @@ fn set_up_at(s: &[u8], p: Places) -> Changed
         &seconds[0..n],
         numbers::two_at(s, warm),
         numbers::two_at(s, warm + 2),
+        serial,
+        version,
+        names,
+        lengths,
     )
+}
+
+// The lengths of n texts from the place p on.
+fn lengths_at(s: &[u8], p: usize, n: usize) -> [usize; INPUTS_MOST]
+    requires { ⌜ n ≤ listedMost ⌝ }
+    requires { ⌜ p + textsLong n (drop p (now s)) ≤ length (now s) ⌝ }
+    ensures { λ r. ⌜ r ≡ inRoom listedMost (map length (textsIn n (drop p (now (s .entry))))) ⌝ }
+{
+    let mut list = [0usize; INPUTS_MOST];
+    let mut at = p;
+    let mut i = 0;
+    while i < n {
+        let count = layout::count_at(s, at);
+        list[i] = count;
+        at = at + 1 + count;
+        i += 1;
+    }
+    list
+}
+
+// The bytes of n texts from the place p on, without their counts.
+fn bytes_at(s: &[u8], p: usize, n: usize) -> [u8; JOINED_MOST]
+    requires { ⌜ n ≤ listedMost ⌝ }
+    requires { ⌜ p + textsLong n (drop p (now s)) ≤ length (now s) ⌝ }
+    ensures { λ r. ⌜ r ≡ inRoom joinedMost (joinedTexts (textsIn n (drop p (now (s .entry))))) ⌝ }
+{
+    let mut list = [0u8; JOINED_MOST];
+    let mut at = p;
+    let mut to = 0;
+    let mut i = 0;
+    while i < n {
+        let count = layout::count_at(s, at);
+        let end = at + 1 + count;
+        text::put(&mut list, to, &s[at + 1..end]);
+        at = end;
+        to += count;
+        i += 1;
+    }
+    list
+}
+
+// Set-up of Class 2: the texts stand after the class, the names last. Names that are too many are not copied.
+fn set_up_2_at(s: &[u8], p: Places) -> Changed
+    requires { ⌜ Walked (now s) p ⌝ }
+    requires { ⌜ p .class + 1 + textsLong (2 + (now s at (p .inputs))) (drop (p .class + 1) (now s)) ≤ length (now s) ⌝ }
+    requires { ⌜ p .class ≤ 65535 ⌝ }
+    ensures { λ r. ⌜ r ≡ setUp (settingsBy (now (s .entry)) p 2 (textsIn (2 + (now (s .entry) at (p .inputs)))
+        (drop (p .class + 1) (now (s .entry))))) ⌝ }
+{
+    let serial = p.class + 1;
+    let version = serial + 1 + layout::count_at(s, serial);
+    let names = version + 1 + layout::count_at(s, version);
+    let inputs = p.inputs;
+    let n = layout::count_at(s, inputs);
+    if INPUTS_MOST < n {
+        return refusal(3);
+    }
+    let lengths = lengths_at(s, names, n);
+    let bytes = bytes_at(s, names, n);
+    let total = layout::texts_long(s, names, n) - n;
+    set_up_with(
+        s,
+        p,
+        2,
+        &s[serial + 1..version],
+        &s[version + 1..names],
+        &bytes[0..total],
+        &lengths[0..n],
+    )
+}
+
+// Set-up with what stands at the places.
+fn set_up_at(s: &[u8], p: Places) -> Changed
+    requires { ⌜ Walked (now s) p ⌝ }
+    requires { ⌜ endAt (now s) p ≤ length (now s) ⌝ }
+    requires { ⌜ p .class ≤ 65535 ⌝ }
+    ensures { λ r. ⌜ r ≡ setUp (settingsAt (now (s .entry)) p) ⌝ }
+{
+    let class = layout::class_in(s, p.class);
+    if class == 2 {
+        return set_up_2_at(s, p);
+    }
+    let none = [0u8; 0];
+    let no_lengths = [0usize; 0];
+    set_up_with(s, p, class as u8, &none, &none, &none, &no_lengths)
 }
 
 // Each byte is a mark's.
@@ -145,9 +253,9 @@ pub fn load(s: &[u8]) -> Changed
         return refusal(20);
     }
     let p = layout::walk(s);
-    let end = p.end;
     let marks = p.marks;
     let warm = p.warm;
+    let end = p.class + layout::rest_long(s, layout::count_at(s, p.inputs), p.class);
     if s.len() < end {
         return refusal(21);
     }

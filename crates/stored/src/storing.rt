@@ -1,7 +1,10 @@
 // Storing a record (02, L3 and L8): its settings, each lamp's seconds as they are now, and its enabled mark.
+use crate::layout::VERSION;
 use crate::numbers;
 use record::legality;
 use record::types::Device;
+use record::types::INPUTS_MOST;
+use record::types::InputName;
 use record::types::LAMPS_MOST;
 use record::types::Settings;
 use record::types::Text;
@@ -12,19 +15,17 @@ ghost use Prim.Native.Nat.{_+_, _*_, _≤_};
 ghost use lib.ListN.{length, take};
 ghost use lib.Seq.{sets};
 ghost use Rattle.text.specs.Words.{over};
-ghost use Rattle.record.specs.Limits.{textRoom, lampsMost};
-ghost use Rattle.record.specs.Legal.{isSettings, isLegal};
+ghost use Rattle.lines.specs.Texts.{inputNameMost};
+ghost use Rattle.record.specs.Limits.{textRoom, listedMost, lampsMost, onlyIn2};
+ghost use Rattle.record.specs.Legal.{isNames, isSettings, isLegal};
 ghost use Rattle.stored.specs.Form.{formVersion, highestFirst, section, textSection, secondsBytes, textStored};
-ghost use Rattle.stored.specs.Form.{markByte, storedForm, storedBy, toldStored};
+ghost use Rattle.stored.specs.Form.{markByte, textsBytes, classPart, nameStored, storedForm, storedBy, toldStored};
 
 #[repr(C)]
 pub struct FormWritten {
     pub number: u32,
     pub length: usize,
 }
-
-// The newest, which is written (02, L8).
-pub const VERSION: u8 = 2;
 
 // A section: its count, then what is counted.
 fn put_section(out: &mut [u8], p: usize, count: u8, items: &[u8])
@@ -84,6 +85,103 @@ fn put_marks(out: &mut [u8], p: usize, marks: [bool; LAMPS_MOST], n: usize)
     }
 }
 
+// An input's name in its section. Returns the place after it.
+fn put_name(out: &mut [u8], p: usize, t: InputName) -> usize
+    requires { ⌜ t .len ≤ inputNameMost ⌝ }
+    requires { ⌜ p + 1 + t .len ≤ length (now out) ⌝ }
+    ensures { λ r. ⌜ r ≡ p + 1 + t .len ⌝ }
+    ensures { λ _. ⌜ now (out .exit) ≡ sets (now (out .entry)) p (textSection (nameStored t)) ⌝ }
+{
+    let bytes = t.bytes;
+    let len = t.len;
+    put_section(out, p, len as u8, &bytes[0..len]);
+    p + 1 + len
+}
+
+// How long the first n names are, each with its count.
+fn names_long(names: [InputName; INPUTS_MOST], n: usize) -> usize
+    requires { ⌜ n ≤ listedMost ⌝ }
+    requires { ⌜ isNames n names ≡ true ⌝ }
+    ensures { λ r. ⌜ r ≡ length (textsBytes (map nameStored (take n names))) ⌝ }
+    ensures { λ r. ⌜ r ≤ 129 * n ⌝ }
+{
+    let mut long = 0;
+    let mut i = 0;
+    while i < n {
+        let t = names[i];
+        long = long + 1 + t.len;
+        i += 1;
+    }
+    long
+}
+
+// The first n names, one after the other.
+fn put_names(out: &mut [u8], p: usize, names: [InputName; INPUTS_MOST], n: usize)
+    requires { ⌜ n ≤ listedMost ⌝ }
+    requires { ⌜ isNames n names ≡ true ⌝ }
+    requires { ⌜ p + length (textsBytes (map nameStored (take n names))) ≤ length (now out) ⌝ }
+    ensures { λ _. ⌜ now (out .exit) ≡ sets (now (out .entry)) p (textsBytes (map nameStored (take n names))) ⌝ }
+{
+    let mut at = p;
+    let mut i = 0;
+    while i < n {
+        let t = names[i];
+        at = put_name(out, at, t);
+        i += 1;
+    }
+}
+
+// How long the class is with what Class 2 alone has.
+fn rest_length(
+    class: u8,
+    n: usize,
+    serial: Text,
+    version: Text,
+    names: [InputName; INPUTS_MOST],
+) -> usize
+    requires { ⌜ isNames (onlyIn2 class n) names ≡ true ⌝ }
+    requires { ⌜ n ≤ listedMost ⌝ }
+    requires { ⌜ serial .len ≤ textRoom ⌝ }
+    requires { ⌜ version .len ≤ textRoom ⌝ }
+    ensures { λ r. ⌜ r ≡ length (classPart class (textStored serial ∷ textStored version
+        ∷ map nameStored (take (onlyIn2 class n) names))) ⌝ }
+    ensures { λ r. ⌜ r ≤ 4300 ⌝ }
+{
+    if class != 2 {
+        return 1;
+    }
+    3 + serial.len + version.len + names_long(names, n)
+}
+
+// The class, and what Class 2 alone has.
+fn put_rest(
+    out: &mut [u8],
+    p: usize,
+    class: u8,
+    n: usize,
+    serial: Text,
+    version: Text,
+    names: [InputName; INPUTS_MOST],
+)
+    requires { ⌜ isNames (onlyIn2 class n) names ≡ true ⌝ }
+    requires { ⌜ n ≤ listedMost ⌝ }
+    requires { ⌜ serial .len ≤ textRoom ⌝ }
+    requires { ⌜ version .len ≤ textRoom ⌝ }
+    requires { ⌜ p + length (classPart class (textStored serial ∷ textStored version
+        ∷ map nameStored (take (onlyIn2 class n) names))) ≤ length (now out) ⌝ }
+    ensures { λ _. ⌜ now (out .exit) ≡ sets (now (out .entry)) p (classPart class (textStored serial
+        ∷ textStored version ∷ map nameStored (take (onlyIn2 class n) names))) ⌝ }
+{
+    let lead = [class];
+    text::put(out, p, &lead);
+    if class != 2 {
+        return;
+    }
+    let place = put_text(out, p + 1, serial);
+    let first = put_text(out, place, version);
+    put_names(out, first, names, n);
+}
+
 // The length of the form of a legal record.
 fn form_length(d: Device) -> usize
     requires { ⌜ isLegal d ≡ true ⌝ }
@@ -91,7 +189,9 @@ fn form_length(d: Device) -> usize
 {
     let s = d.settings;
     let texts = s.name.len + s.maker.len + s.model.len + s.other.len + s.password.len;
-    13 + texts + 2 * s.input_count + 5 * s.lamp_count
+    let names = s.names;
+    let rest = rest_length(s.class_number, s.input_count, s.serial, s.version, names);
+    13 + texts + 2 * s.input_count + 5 * s.lamp_count + rest
 }
 
 // The version and the texts. Returns the place after them.
@@ -113,16 +213,17 @@ fn put_texts(out: &mut [u8], s: Settings) -> usize
     put_text(out, password, s.password)
 }
 
-// The inputs, the lamps, their marks, W and C.
+// The inputs, the lamps, their marks, W and C. Returns the place after them.
 fn put_lists(
     out: &mut [u8],
     p: usize,
     s: Settings,
     lamps: [u32; LAMPS_MOST],
     marks: [bool; LAMPS_MOST],
-)
+) -> usize
     requires { ⌜ isSettings s ≡ true ⌝ }
     requires { ⌜ p + 7 + 2 * s .«input_count» + 5 * s .«lamp_count» ≤ length (now out) ⌝ }
+    ensures { λ r. ⌜ r ≡ p + 7 + 2 * s .«input_count» + 5 * s .«lamp_count» ⌝ }
     ensures { λ _. ⌜ now (out .exit) ≡ sets (now (out .entry)) p (section (s .«input_count»)
         (take (2 * s .«input_count») (s .inputs)) ++ section (s .«lamp_count»)
         (secondsBytes (take (s .«lamp_count») lamps)) ++ section (s .«lamp_count»)
@@ -143,6 +244,7 @@ fn put_lists(
     let warm = next + 1 + n;
     numbers::put_two(out, warm, s.warm);
     numbers::put_two(out, warm + 2, s.cool);
+    warm + 4
 }
 
 // The form of a legal record from the start of memory that has room for it.
@@ -156,7 +258,17 @@ fn put_form(out: &mut [u8], d: Device)
     let lamps = own.lamps;
     let marks = own.enabled;
     let lists = put_texts(out, settings);
-    put_lists(out, lists, settings, lamps, marks);
+    let rest = put_lists(out, lists, settings, lamps, marks);
+    let names = settings.names;
+    put_rest(
+        out,
+        rest,
+        settings.class_number,
+        settings.input_count,
+        settings.serial,
+        settings.version,
+        names,
+    );
 }
 
 // 1 for a record that is not legal, then 2 for memory shorter than the form.

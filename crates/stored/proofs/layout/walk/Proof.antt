@@ -14,19 +14,31 @@ walks c =
     let other = password .before in
     let model = other .before in
     let maker = model .before in
-    let name = maker .before in
-    walked-one (name .before .before .args .s .now) _
-    (record {
-      maker = omega (arith, name .count-at .ensures .0);
-      model = omega (arith, maker .count-at2 .ensures .0);
-      other = omega (arith, model .count-at3 .ensures .0);
-      password = omega (arith, other .count-at4 .ensures .0);
-      inputs = omega (arith, password .count-at5 .ensures .0);
-      lamps = omega (arith, inputs .count-at6 .ensures .0);
-      marks = omega (arith, lamps .count-at7 .ensures .0);
-      warm = omega (arith, c .marks-long .ensures .0);
-      end = search needs;
-    })
+    let name = maker .before in (
+      walked-one (name .before .before .args .s .now) _
+          (record {
+            maker = omega (arith, name .count-at .ensures .0);
+            model = omega (arith, maker .count-at2 .ensures .0);
+            other = omega (arith, model .count-at3 .ensures .0);
+            password = omega (arith, other .count-at4 .ensures .0);
+            inputs = omega (arith, password .count-at5 .ensures .0);
+            lamps = omega (arith, inputs .count-at6 .ensures .0);
+            marks = omega (arith, lamps .count-at7 .ensures .0);
+            warm = omega (arith, c .marks-long .ensures .0);
+            class = search needs;
+          }),
+      omega (
+        arith,
+        name .count-at .ensures .1,
+        maker .count-at2 .ensures .1,
+        model .count-at3 .ensures .1,
+        other .count-at4 .ensures .1,
+        password .count-at5 .ensures .1,
+        inputs .count-at6 .ensures .1,
+        lamps .count-at7 .ensures .1,
+        c .marks-long .ensures .1,
+      ),
+    )
 
 pub walk-spec : {M : Type 1} → statement M
 walk-spec =

@@ -89,7 +89,14 @@ not-legal c =
     (sym (not-true _ (tested .if3 .taken))
     ∙ tested-own asked
     ∙ own-shown (d .settings) (marked start)
-    (record { errors = o .errors; lamps = o .lamps; marks = t .legal; left = o .left; chosen = o .chosen })))))
+    (record {
+      errors = o .errors;
+      lamps = o .lamps;
+      marks = t .legal;
+      left = o .left;
+      chosen = o .chosen;
+      volumes = o .volumes;
+    })))))
 
 done : tie.Need-returns-4
 done c =

@@ -5,10 +5,10 @@ use mathlib.Core.Path.{_≡_, sym, ap, _∙_}
 use mathlib.Core.Bool.{false}
 use mathlib.Core.List.{List}
 use native.Mathlib.Omega.{arith}
-use lib.ListN.{length}
+use lib.ListN.{length, drop}
 use borrow.Author.Needs.{needs}
 use Rattle.record.specs.SetUp.{setUp}
-use Rattle.stored.specs.Loading.{isOld, isOtherVersion, formEnd, between, settingsAt, settingsIn}
+use Rattle.stored.specs.Loading.{isOld, isOtherVersion, restLong, endAt, formEnd, between, settingsAt, settingsIn}
 use Rattle.stored.specs.declared.layout.Places.{Places}
 use Rattle.stored.proofs.Walked.{some-marks-long, walked-by}
 use Rattle.stored.proofs.Cases.{loaded-other, loaded-cut, loaded-over, loaded-refused, set-up-is-legal}
@@ -33,41 +33,60 @@ module _ (c : tie.After-walk) where
   ours : isOtherVersion lent ≡ false
   ours = sym (c .before .before .is-other-version .ensures) ∙ c .before .if1 .left
 
-  ends : c .walk .result .end ≡ formEnd lent
-  ends = ap (λ (p : Places). p .end) (c .walk .ensures)
+-- and so is the end
+module _ (c : tie.After-struct-known) where
+  abbrev walk : tie.After-walk
+  walk = c .before .before .before
+
+  abbrev bytes : List ℕ
+  bytes = lent walk
+
+  abbrev found : Places
+  found = walk .walk .result
+
+  ends : found .class + c .before .rest-long .result ≡ formEnd bytes
+  ends =
+      ap (λ (k : ℕ). found .class + k)
+      (c .before .rest-long .ensures .0
+      ∙ ap (λ (n : ℕ). restLong bytes n (drop (found .class) bytes)) (c .before .before .count-at .ensures .0))
+      ∙ ap (endAt bytes) (walk .walk .ensures .0)
 
 short : tie.Need-returns-2
 short c =
     let tested = c .before in
-    let places = tested .before in
-    c .refusal2 .ensures ∙ sym (loaded-cut (lent places) (ours places) (omega (arith, ends places, tested .if2 .taken)))
+    let known = tested .before in
+    c .refusal2 .ensures
+    ∙ sym (loaded-cut (bytes known) (ours (walk known)) (omega (arith, ends known, tested .if2 .taken)))
 
 longer : tie.Need-returns-3
 longer c =
     let tested = c .before in
     let second = tested .before in
-    let places = second .before in
+    let known = second .before in
     c .refusal3 .ensures
     ∙ sym
-    (loaded-over (lent places) (ours places) (omega (arith, ends places, second .if2 .left))
-    (omega (arith, ends places, tested .if3 .taken)))
+    (loaded-over (bytes known) (ours (walk known)) (omega (arith, ends known, second .if2 .left))
+    (omega (arith, ends known, tested .if3 .taken)))
 
 -- what set-up gave
 module _ (c : tie.After-set-up-at) where
   abbrev third : tie.Else3
   third = c .before
 
+  abbrev known : tie.After-struct-known
+  known = third .before .before
+
   abbrev places : tie.After-walk
-  places = third .before .before
+  places = walk known
 
   gave : c .set-up-at .result ≡ setUp (settingsIn (lent places))
-  gave = c .set-up-at .ensures ∙ ap (λ (p : Places). setUp (settingsAt (lent places) p)) (places .walk .ensures)
+  gave = c .set-up-at .ensures ∙ ap (λ (p : Places). setUp (settingsAt (lent places) p)) (places .walk .ensures .0)
 
   uncut : formEnd (lent places) ≤ length (lent places)
-  uncut = omega (arith, ends places, third .before .if2 .left)
+  uncut = omega (arith, ends known, third .before .if2 .left)
 
   whole : length (lent places) ≤ formEnd (lent places)
-  whole = omega (arith, ends places, third .if3 .left)
+  whole = omega (arith, ends known, third .if3 .left)
 
 wrong : tie.Need-returns-4
 wrong c =
@@ -97,20 +116,24 @@ module _ (c : tie.Else5) where
   not-old : isOld (lent (places made)) ≡ false
   not-old = sym (c .before .is-old .ensures) ∙ c .if5 .left
 
-  abbrev found : Places
-  found = places made .walk .result
+  abbrev parts : Places
+  parts = places made .walk .result
 
-  apart : found .marks + 1 ≤ found .warm
+  apart : parts .marks + 1 ≤ parts .warm
   apart =
       omega (
         arith,
-        walked-by (lent (places made)) (places made .walk .ensures) .warm,
-        some-marks-long (lent (places made)) (found .marks) not-old,
+        walked-by (lent (places made)) (places made .walk .ensures .0) .warm,
+        some-marks-long (lent (places made)) (parts .marks) not-old,
       )
 
-  inside : found .warm ≤ length (lent (places made))
+  inside : parts .warm ≤ length (lent (places made))
   inside =
-      omega (arith, walked-by (lent (places made)) (places made .walk .ensures) .end, third made .before .if2 .left)
+      omega (
+        arith,
+        walked-by (lent (places made)) (places made .walk .ensures .0) .class,
+        third made .before .if2 .left,
+      )
 
 legal : tie.Need-enabled-requires
 legal c κs =
@@ -126,8 +149,18 @@ new c =
     let s = lent (places set-up) in
     c .enabled .ensures
     ∙ ap (λ (p : Places). markedBy (set-up .set-up-at .result .device) (between (p .marks + 1) (p .warm) s))
-    (places set-up .walk .ensures)
+    (places set-up .walk .ensures .0)
     ∙ loaded-new s (ours (places set-up)) (uncut set-up) (whole set-up) (gave set-up) (fit past .if4 .left) (not-old past)
+
+set-up-fits : tie.Need-set-up-at-requires
+set-up-fits c κs =
+    let known = c .before .before in (
+      walked-by _ (walk known .walk .ensures .0),
+      (
+        omega (arith, ends known, ap (endAt (bytes known)) (walk known .walk .ensures .0), c .before .if2 .left),
+        walk known .walk .ensures .1,
+      ),
+    )
 
 pub load-spec : {M : Type 1} → statement M
 load-spec =
@@ -138,10 +171,13 @@ load-spec =
     other
     (λ c κs. search needs)
     (λ c κs. search needs)
+    (λ c κs. (c .count-at .ensures .1, c .before .walk .ensures .1))
+    (λ c. omega (arith, walk c .walk .ensures .1, c .before .rest-long .ensures .1))
+    (λ c κs. search needs)
     short
     (λ c κs. search needs)
     longer
-    (λ c κs. (walked-by _ (c .before .before .walk .ensures), search needs))
+    set-up-fits
     (λ c κs. search needs)
     wrong
     (λ c κs. search needs)

@@ -1,81 +1,86 @@
--- `stored::loading::set_up_at` meets its contract: each part is lent as it stands between its places.
+-- `stored::loading::set_up_at` meets its contract: in Class 2 there are texts after the class, else none.
 -- Assumes nothing.
-use Prim.Native.Nat.{ℕ, _+_}
-use mathlib.Core.Path.{sym, ap, _∙_}
+use Prim.Native.Nat.{ℕ}
+use mathlib.Core.Path.{_≡_, sym, ap, _∙_}
+use mathlib.Core.List.{List}
 use native.Mathlib.Omega.{arith}
-use lib.ListN.{take, drop}
+use lib.ListN.{drop}
 use borrow.Author.Needs.{needs}
-use Rattle.text.proofs.Parts.{first-part}
+use Rattle.lines.specs.Bytes.{_at_}
 use Rattle.record.specs.SetUp.{setUp}
-use Rattle.stored.specs.Loading.{secondsIn}
-use Rattle.stored.proofs.Seconds.{room-read}
-use Rattle.stored.proofs.Contents.{too-many-lamps, settings-lent}
+use Rattle.stored.specs.Loading.{classIn, settingsBy}
+use Rattle.stored.specs.declared.layout.Places.{Places}
+use Rattle.stored.proofs.Rest.{texts-in-2, long-in-2, no-texts-in-1}
+use Rattle.stored.proofs.Contents.{settings-by}
 use Rattle.stored.proofs.loading.set_up_at.Statement.{statement}
 use Rattle.stored.proofs.loading.set_up_at.Tie as tie
 
-too-many : tie.Need-returns
-too-many c =
-    let tested = c .before in
-    let counted = tested .before in
-    let args = counted .before .before .args in
-    c .refusal .ensures
-    ∙ sym
-    (too-many-lamps (args .s .now) (args .p) (omega (arith, counted .count-at .ensures .0, tested .if1 .taken)))
+module _ (c : tie.After-class-in) where
+  abbrev start : tie.Start
+  start = c .before .before
 
-made : tie.Need-returns-2
-made c =
-    let cool = c .before in
-    let warm = cool .before in
-    let lent = warm .before .before in
-    let seconds = let back = lent .before .before .before in let more = back .before .before .before in more .before in
-    let tested = seconds .before in
-    let counted = tested .before in
-    let args = counted .before .before .args in
-    let s = args .s .now in
-    let n = counted .count-at .result in
-    let lamps = first-part (seconds .seconds-at .result) n
-    ∙ ap (take n) (seconds .seconds-at .ensures)
-    ∙ room-read n (drop (args .p .lamps + 1) s) (tested .if1 .left)
-    ∙ ap (λ (k : ℕ). secondsIn k (drop (args .p .lamps + 1) s)) (counted .count-at .ensures .0) in
-    c .set-up .ensures ∙ ap setUp (settings-lent s (args .p) lamps (warm .two-at .ensures) (cool .two-at2 .ensures))
+  abbrev s : List ℕ
+  s = start .args .s .now
+
+  abbrev p : Places
+  p = start .args .p
+
+  class-is : c .class-in .result ≡ classIn s (drop (p .class) s)
+  class-is = c .class-in .ensures .0
+
+in-2 : tie.Need-returns
+in-2 c =
+    let tested = c .before in
+    let asked = tested .before in
+    let two = sym (class-is asked) ∙ tested .if1 .taken in
+    c .set-up-2-at .ensures
+    ∙ ap setUp
+    (sym
+    (settings-by (s asked) (p asked)
+    ∙ (λ i. settingsBy (s asked) (p asked) (two i)
+    (texts-in-2 (s asked) (s asked at (p asked .inputs)) (p asked .class) two i))))
+
+fits-2 : tie.Need-set-up-2-at-requires
+fits-2 c κs =
+    let asked = c .before in
+    let two = sym (class-is asked) ∙ c .if1 .taken in (
+      start asked .pre .0,
+      (
+        omega (arith, start asked .pre .1 .0, long-in-2 (s asked) (s asked at (p asked .inputs)) (p asked .class) two),
+        start asked .pre .1 .1,
+      ),
+    )
+
+in-1 : tie.Need-returns-2
+in-1 c =
+    let tested = let lent = c .before .before .before in lent .before .before in
+    let asked = tested .before in
+    let other : classIn (s asked) (drop (p asked .class) (s asked)) ≡ 2 → ⊥ =
+    λ e. tested .if1 .left (class-is asked ∙ e) in
+    c .set-up-with .ensures
+    ∙ ap setUp
+    (sym
+    (settings-by (s asked) (p asked)
+    ∙ (λ i. settingsBy (s asked) (p asked) (sym (class-is asked) i)
+    (no-texts-in-1 (s asked) (s asked at (p asked .inputs)) (p asked .class) other i))))
+
+fits-1 : tie.Need-set-up-with-requires
+fits-1 c κs =
+    let tested = let lent = c .before .before in lent .before .before in
+    let asked = tested .before in
+    (start asked .pre .0, omega (arith, start asked .pre .1 .0))
 
 pub set-up-at-spec : {M : Type 1} → statement M
 set-up-at-spec =
     tie.close
     (tie.spec
     (λ c κs. search needs)
-    (λ c κs. search needs)
-    too-many
-    (λ c. search needs)
-    (λ c κs. search needs)
+    fits-2
+    in-2
     (λ c. search needs)
     (λ c. search needs)
     (λ c. search needs)
     (λ c. search needs)
     (λ c. search needs)
-    (λ c. search needs)
-    (λ c. search needs)
-    (λ c. search needs)
-    (λ c. search needs)
-    (λ c. search needs)
-    (λ c. search needs)
-    (λ c. search needs)
-    (λ c. search needs)
-    (λ c. search needs)
-    (λ c. search needs)
-    (λ c. search needs)
-    (λ c. search needs)
-    (λ c. search needs)
-    (λ c. search needs)
-    (λ c. search needs)
-    (λ c. search needs)
-    (λ c. search needs)
-    (λ c. search needs)
-    (λ c. search needs)
-    (λ c. search needs)
-    (λ c. search needs)
-    (λ c κs. search needs)
-    (λ c. search needs)
-    (λ c κs. search needs)
-    (λ c κs. search needs)
-    made)
+    fits-1
+    in-1)

@@ -47,6 +47,18 @@ at-marks c =
     let seconds = let known = put .before .before .before in known .before .before in
     at-seconds (seconds .before)
 
+-- back from the end
+abbrev at-end : tie.After-slice-known8 → tie.Start
+at-end c =
+    let cool = c .before .before in
+    let warm = let arg = cool .before in arg .before .before .before in
+    let marks = let arg = warm .before in arg .before .before .before in
+    let again = let arg = marks .before in arg .before .before .before in
+    let seconds = let known = again .before .before .before in known .before .before in
+    let count = let arg = seconds .before in arg .before .before .before in
+    let inputs = let known = count .before .before .before in known .before .before in
+    at-inputs inputs
+
 with-counts : (n : ℕ) (a b c d e : List ℕ)
     → a ++ (n ∷ []) ++ b ++ (n ∷ []) ++ c ++ d ++ e ≡ a ++ (n ∷ b) ++ (n ∷ c) ++ d ++ e
 with-counts n a b c d e = simp append-assoc
@@ -67,7 +79,7 @@ stored c =
     let out : List ℕ = start .args .out .now in
     let p = start .args .p in
     let list = take (2 * s .«input_count») (s .inputs) in
-    let list-many : length list ≡ 2 * s .«input_count» = kept-length inputRoom isInputs _ _ (t .inputs) in
+    let list-many : length list ≡ 2 * s .«input_count» = kept-length inputRoom (isInputs _) _ _ (t .inputs) in
     let first : List ℕ = section (s .«input_count») list in
     let bytes : List ℕ = secondsBytes (take n (start .args .lamps)) in
     let bytes-many : length bytes ≡ 4 * n
@@ -91,9 +103,11 @@ stored c =
     let w5 = wrote-then out p w4 enabled {q = q + 1 + 4 * n + 1 + n} (marks .put-marks .ensures) (omega arith) in
     let w6 = wrote-then out p w5 (highestFirst 2 (s .warm)) {q = q + 1 + 4 * n + 1 + n + 2} (warm .put-two .ensures)
     (omega (arith, highest-length 2 (s .warm))) in
-    let w7 = wrote-then out p w6 (highestFirst 2 (s .cool)) (cool .put-two2 .ensures) refl in
-    w7 .bytes
-    ∙ ap (sets out p) (with-counts n first bytes enabled (highestFirst 2 (s .warm)) (highestFirst 2 (s .cool)))
+    let w7 = wrote-then out p w6 (highestFirst 2 (s .cool)) (cool .put-two2 .ensures) refl in (
+      omega arith,
+      w7 .bytes
+          ∙ ap (sets out p) (with-counts n first bytes enabled (highestFirst 2 (s .warm)) (highestFirst 2 (s .cool))),
+    )
 
 pub put-lists-spec : {M : Type 1} → statement M
 put-lists-spec =
@@ -126,5 +140,6 @@ put-lists-spec =
     (λ c κs. search needs)
     (λ c. search needs)
     (λ c κs. search needs)
+    (λ c. omega (arith, at-end c .pre .1, at-end c .good))
     (λ c. search needs)
     stored)
