@@ -1,12 +1,13 @@
 -- THE LAWS at the face: for every legal device, at every place between lines, whatever the other places hold, and for
--- every code that stands for a command, what is read of the reply to what was written is what the projector meant, in
--- the kinds and values of the header; and so for the greeting.
+-- every code that stands for a command of a class no higher than the device's (02, L14), what is read of the reply to
+-- what was written is what the projector meant, in the kinds and values of the header; and so for the greeting.
 --   Told d p m c w r     the writing w of m, which is the command c, and the receiving r of its bytes at place p
 -- Assumes nothing.
 use Prim.Native.Nat.{ℕ, _^_, _≤_, _<_}
 use mathlib.Core.Path.{_≡_, sym, ap, subst}
 use mathlib.Core.Bool.{true, false}
 use mathlib.Core.List.{List}
+use Rattle.lines.specs.Commands.{commandClass}
 use Rattle.lines.specs.declared.command.Command.{Command}
 use Rattle.lines.specs.declared.request.Request.the-variants.{Asks}
 use Rattle.record.specs.Limits.{placesCount, awaiting, opened}
@@ -37,8 +38,9 @@ pub record Told (d : Device) (p : ℕ) (m : MaybeCommand) (c : Command) (w : Wri
 
 module _ (d : Device) (p : ℕ) (there : p < placesCount) (legal : isLegal d ≡ true)
     (between : connectionAt d p .line ≡ emptyLine)
-    (k : Coded) (c : Command) (named : commandOf k ≡ CommandIs c) (room : ℕ) (enough : replyRoom ≤ room)
-    (memory : ℕ) (lent : commandRoom ≤ memory) where
+    (k : Coded) (c : Command) (named : commandOf k ≡ CommandIs c)
+    (within : commandClass c ≤ d .settings .«class_number»)
+    (room : ℕ) (enough : replyRoom ≤ room) (memory : ℕ) (lent : commandRoom ≤ memory) where
   -- of the command itself, and so of its code
   abbrev ToldBy : (MaybeCommand → WrittenAs) → MaybeCommand → Type 0
   ToldBy write m = Told d p m c (write m) (received d p (write m .bytes) room)
@@ -55,15 +57,16 @@ module _ (d : Device) (p : ℕ) (there : p < placesCount) (legal : isLegal d ≡
       → ToldBy (λ m. writtenBy m false random password memory) (commandOf k)
   face-reads-back phase random password =
       told (λ m. writtenBy m false random password memory)
-      (written-reads-back d p there legal between c (command-writable k c named) room enough memory lent phase random
-      password)
+      (written-reads-back d p there legal between c (command-writable k c named) within room enough memory lent phase
+      random password)
 
   -- with the device's own random number and password
   pub face-reads-back-secured : connectionAt d p .phase ≡ awaiting
       → ToldBy (λ m. writtenBy m true (connectionAt d p .random) (passwordOf (d .settings)) memory) (commandOf k)
   face-reads-back-secured phase =
       told (λ m. writtenBy m true (connectionAt d p .random) (passwordOf (d .settings)) memory)
-      (written-reads-back-secured d p there legal between c (command-writable k c named) room enough memory lent phase)
+      (written-reads-back-secured d p there legal between c (command-writable k c named) within room enough memory lent
+      phase)
 
 pub face-greets-back : (d : Device) (r room : ℕ) → isLegal d ≡ true → lowestShut (d .connections) < placesCount
     → replyRoom ≤ room → r < 2 ^ 32

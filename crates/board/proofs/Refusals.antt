@@ -12,7 +12,7 @@ use Rattle.text.proofs.Choices.{if-all, if-no}
 use Rattle.lines.specs.Forms.{replyParameter}
 use Rattle.lines.specs.declared.command.Command.{Command}
 use Rattle.answers.specs.Said.{Said, okay, refused, powerIs, chosenIs, mutesAre, errorsAre, lampsAre, inputsAre}
-use Rattle.answers.specs.Said.{textIs, classIs1, nothing}
+use Rattle.answers.specs.Said.{textIs, classIs, freezeIs, nothing}
 use Rattle.answers.specs.Reading.{readParameter}
 use Rattle.controller.specs.Writing.{WrittenAs, nothingWritten, commandRoom, isWritable}
 use Rattle.controller.specs.Reading.{outcomeNumber, saying, readReply}
@@ -75,7 +75,8 @@ said-or-none (errorsAre ds) n = absurd (n refl)
 said-or-none (lampsAre ls) n = absurd (n refl)
 said-or-none (inputsAre is) n = absurd (n refl)
 said-or-none (textIs s) n = absurd (n refl)
-said-or-none classIs1 n = absurd (n refl)
+said-or-none (classIs k) n = absurd (n refl)
+said-or-none (freezeIs on) n = absurd (n refl)
 said-or-none nothing n = refl
 
 flat-or-none : (o : Outcome) (m : Said) → (flatAs o m .number ≡ 0 → ⊥) → flatAs o m ≡ meaningless (flatAs o m .number)
@@ -101,7 +102,8 @@ saying-number (errorsAre ds) = refl
 saying-number (lampsAre ls) = refl
 saying-number (inputsAre is) = refl
 saying-number (textIs s) = refl
-saying-number classIs1 = refl
+saying-number (classIs k) = refl
+saying-number (freezeIs on) = refl
 saying-number nothing = refl
 
 pub read-number : (c : Command) (l : List ℕ) → readBy (CommandIs c) l .number ≡ outcomeNumber (readReply c l .outcome)

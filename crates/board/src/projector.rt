@@ -11,7 +11,7 @@ ghost use mathlib.Core.Path.{_≡_};
 ghost use lib.ListN.{length};
 ghost use Rattle.text.specs.Words.{over};
 ghost use Rattle.record.specs.Legal.{isLegal};
-ghost use Rattle.record.specs.Wanted.{wantedOf};
+ghost use Rattle.record.specs.Wanted.{wantedOf, wantedOf2, namesIn};
 ghost use Rattle.record.specs.SetUp.{setUp};
 ghost use Rattle.record.specs.HostCalls.{faultSet, errorsSet, markSet};
 ghost use Rattle.device.specs.Calls.{received, openedBy, placeTaken, closedBy};
@@ -43,6 +43,45 @@ pub extern "C" fn pj_set_up(
         lamps,
         warm,
         cool,
+    )
+}
+
+// Of Class 2 (02, L14): the names one after the other, each of its length.
+#[no_mangle]
+pub extern "C" fn pj_set_up_2(
+    name: &[u8],
+    maker: &[u8],
+    model: &[u8],
+    other: &[u8],
+    password: &[u8],
+    inputs: &[u8],
+    lamps: &[u32],
+    warm: u32,
+    cool: u32,
+    serial: &[u8],
+    version: &[u8],
+    names: &[u8],
+    lengths: &[usize],
+) -> Changed
+    ensures { λ r.
+        ⌜ r ≡ setUp (wantedOf2 (now (name .entry)) (now (maker .entry)) (now (model .entry)) (now (other .entry))
+        (now (password .entry)) (now (inputs .entry)) (now (lamps .entry)) warm cool (now (serial .entry))
+        (now (version .entry)) (namesIn (now (lengths .entry)) (now (names .entry)))) ⌝ }
+{
+    setup::set_up_2(
+        name,
+        maker,
+        model,
+        other,
+        password,
+        inputs,
+        lamps,
+        warm,
+        cool,
+        serial,
+        version,
+        names,
+        lengths,
     )
 }
 

@@ -20,6 +20,9 @@ fn place_of(s: Setting) -> u32
         Setting::Lamps => 7,
         Setting::WarmUp => 8,
         Setting::Cooling => 9,
+        Setting::Serial => 10,
+        Setting::Version => 11,
+        Setting::Names => 12,
     }
 }
 
