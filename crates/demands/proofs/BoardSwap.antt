@@ -7,8 +7,9 @@ use mathlib.Core.List.{List, [], _∷_}
 use native.Mathlib.Omega.{arith}
 use lib.ListN.{length, getD}
 use lib.Seq.{getD-take, length-take-le, ext-getD}
-use borrow.Author.Tests.{leb-true}
+use borrow.Author.Tests.{leb-true, eq-eqb}
 use Rattle.text.specs.Scans.{every}
+use Rattle.lines.specs.Bytes.{_at_}
 use Rattle.text.proofs.Scanning.{every-at}
 use Rattle.record.specs.Wanted.{Wanted}
 use Rattle.record.specs.Rules.{atMost}
@@ -19,18 +20,18 @@ use Rattle.record.specs.declared.types.Device.{Device}
 use Rattle.record.specs.declared.types.Changed.{Changed}
 use Rattle.record.proofs.LegalTold.{own-of-legal}
 use Rattle.record.proofs.MarksTold.{marks-long}
-use Rattle.stored.specs.Form.{storedOf, marksStored, storedForm, storedBy}
+use Rattle.stored.specs.Form.{formVersion, markedFormOf, storedOf, marksStored, storedForm, storedBy}
 use Rattle.stored.specs.Loading.{startedWith, loaded}
 use Rattle.stored.proofs.Results.{stored-told}
 use Rattle.stored.proofs.StoredLoads.{stored-in-range, stored-loads as form-again}
-use Rattle.stored.proofs.FormsLoad.{old-form-loads}
+use Rattle.stored.proofs.FormsLoad.{marked-form-loads, marked-form-marks, old-form-loads}
 use Rattle.stored.proofs.BytesAgain.{Bytes}
 use Rattle.stored.proofs.OneForm.{stored-again, forms-apart}
 use Rattle.demands.specs.Board.{ours, givenBy, bytesWritten}
 use Rattle.demands.specs.Calls.{Call, run}
 use Rattle.demands.specs.History.{Event, switched, aSecond, markSwitched, Stage, steady, towards, next, marksNext}
 use Rattle.demands.specs.History.{noStreams, history, marksAfter, burns, burningFrom, burning, stageAfter, lampWith}
-use Rattle.demands.specs.Demand3.{Beginning, loads, startMarks, Accepted, runOf, historyOf}
+use Rattle.demands.specs.Demand3.{Beginning, loads, IsClass1, startMarks, Accepted, runOf, historyOf}
 use Rattle.demands.specs.BoardSwap.{LoadsAs, BoardSwap}
 use Rattle.demands.proofs.LentMemory.{over-front}
 use Rattle.demands.proofs.Agrees.{Agrees}
@@ -148,12 +149,22 @@ module _ (b : Beginning) (w : Wanted) (cs es : List Call) (m : List ℕ) (place 
   hours-go-on : GoesOn (bytesWritten (ours .store old m))
   hours-go-on = subst GoesOn (sym (form-stored old m stored)) on-the-new
 
+-- ---- older versions (02, L14)
+
+marked-loads : (w : Wanted) (ms : List Bool) → IsClass1 w → ours .load (markedFormOf w ms) .number ≡ 0
+    → LoadsAs ours (markedFormOf w ms) w ms
+marked-loads w ms h e =
+    let marks = marked-form-marks w (h .set-up) (h .class-1) ms e in
+    let same = marked-form-loads w (h .set-up) (h .class-1) ms marks in
+    record { accepted = e; fresh = ap (λ (r : Changed). r .device) same }
+
 pub ours-swap : BoardSwap ours
 ours-swap = record {
   form-stored = form-stored;
   stored-loads = stored-loads;
-  old-form-sets-up = λ w h. ap givenBy (old-form-loads w h);
-  stored-again = λ s b new h. stored-again s (bytes-kept s b) h new;
+  old-form-sets-up = λ w h. ap givenBy (old-form-loads w (h .set-up) (h .class-1));
+  marked-form-loads = marked-loads;
+  stored-again = λ s b new h. stored-again s (bytes-kept s b) h (eq-eqb (s at 0) formVersion new);
   one-form = λ s t a b g h v e. forms-apart s t (bytes-kept s a) (bytes-kept t b) g h v e;
   hours-go-on = hours-go-on;
 }

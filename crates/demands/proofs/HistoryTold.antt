@@ -24,14 +24,14 @@ use Rattle.record.proofs.OwnTold.{lamp-at}
 use Rattle.record.proofs.Started.{started-legal, started-parts, started-lamp, set-up-started}
 use Rattle.stream.proofs.LastBytes.{ends-unheld}
 use Rattle.stored.specs.Loading.{startedWith}
-use Rattle.stored.proofs.FormsLoad.{form-loads, form-marks, old-form-loads}
+use Rattle.stored.proofs.FormsLoad.{form-loads, form-marks, marked-form-loads, marked-form-marks, old-form-loads}
 use Rattle.stored.proofs.Contents.{started-all}
 use Rattle.stored.proofs.MarkBytes.{mark-at}
 use Rattle.demands.specs.Board.{ours}
 use Rattle.demands.specs.Calls.{Call, after, run}
 use Rattle.demands.specs.History.{Streams, noStreams, Stage, steady, streamsAfter, seen, history, reached}
 use Rattle.demands.specs.History.{marksAfter, burningFrom, burning, stageAfter}
-use Rattle.demands.specs.Demand3.{Beginning, setsUp, loads, loadsOld, startMarks, begunBy, Accepted}
+use Rattle.demands.specs.Demand3.{Beginning, setsUp, loads, loadsMarked, loadsOld, startMarks, begunBy, Accepted}
 use Rattle.demands.proofs.Agrees.{Agrees, recounted}
 use Rattle.demands.proofs.AgreesThen.{reached-append, marks-append, burning-append, Then, agrees-none}
 use Rattle.demands.proofs.CallsNoted.{noted}
@@ -98,20 +98,30 @@ run-agrees (c ∷ cs) w g ms n stream d a =
 pub set-up-too : (b : Beginning) (w : Wanted) → Accepted ours b w → isSetUp w ≡ true
 set-up-too setsUp w h = set-up-in-range w h
 set-up-too (loads ms) w h = h .0
-set-up-too loadsOld w h = h .0
+set-up-too (loadsMarked ms) w h = h .0 .set-up
+set-up-too loadsOld w h = h .0 .set-up
 
 pub begins-so : (b : Beginning) (w : Wanted) → Accepted ours b w
     → begunBy ours b w .device ≡ startedWith w (startMarks b w)
 begins-so setsUp w h = set-up-started w h ∙ sym (started-all w (set-up-in-range w h))
 begins-so (loads ms) w h =
     ap (λ (r : Changed). r .device) (form-loads w (h .0) ms (form-marks w (h .0) ms (h .1)))
+begins-so (loadsMarked ms) w h =
+    let ok = h .0 .set-up in
+    let one = h .0 .class-1 in
+    ap (λ (r : Changed). r .device) (marked-form-loads w ok one ms (marked-form-marks w ok one ms (h .1)))
 begins-so loadsOld w h =
-    ap (λ (r : Changed). r .device) (old-form-loads w (h .0) ∙ set-up-accepted w (h .0)) ∙ sym (started-all w (h .0))
+    let ok = h .0 .set-up in
+    ap (λ (r : Changed). r .device) (old-form-loads w ok (h .0 .class-1) ∙ set-up-accepted w ok)
+    ∙ sym (started-all w ok)
 
 pub marks-many : (b : Beginning) (w : Wanted) → Accepted ours b w → length (startMarks b w) ≡ length (w .lamps)
 marks-many setsUp w h = length-replicate (length (w .lamps)) true
 marks-many (loads ms) w h =
     eqb-true (length ms) (length (w .lamps)) (both-left _ _ (form-marks w (h .0) ms (h .1)))
+marks-many (loadsMarked ms) w h =
+    eqb-true (length ms) (length (w .lamps))
+    (both-left _ _ (marked-form-marks w (h .0 .set-up) (h .0 .class-1) ms (h .1)))
 marks-many loadsOld w h = length-replicate (length (w .lamps)) true
 
 module _ (b : Beginning) (w : Wanted) (cs : List Call) (h : Accepted ours b w) where

@@ -5,6 +5,7 @@ use Prim.Native.Nat.{ℕ, zero, suc, _+_, _≤_, _<_}
 use mathlib.Core.Path.{_≡_, refl, sym, ap, _∙_}
 use mathlib.Core.Bool.{Bool, false, _&&_}
 use mathlib.Core.List.{List, [], _∷_}
+use mathlib.Core.Logic.{⊎-elim}
 use native.Mathlib.Nat.{add-zero, zero-add}
 use native.Mathlib.Omega.{arith}
 use lib.ListN.{length, take, getD, length-take}
@@ -18,7 +19,9 @@ use Rattle.record.specs.Limits.{opened, isLit}
 use Rattle.record.specs.Wanted.{Wanted}
 use Rattle.record.specs.declared.types.Settings.{Settings}
 use Rattle.record.specs.declared.types.Device.{Device}
-use Rattle.record.proofs.LegalTold.{own-of-legal}
+use Rattle.record.proofs.Rules.{class-one-of}
+use Rattle.record.proofs.SettingsTold.{settings-told, class-told}
+use Rattle.record.proofs.LegalTold.{legal-settings, own-of-legal}
 use Rattle.meaning.specs.Meaning.{lampSaid, lampsOf}
 use Rattle.meaning.proofs.LampsSaid.{said-length}
 use Rattle.meaning.proofs.LampsTold.{lamps-answered, lamp-told}
@@ -77,14 +80,22 @@ module _ (w : Wanted) (ms : List Bool) (es : List Event) {stream : Streams} {d :
       ext-getD none _ _ (many ∙ sym (each-length (lampThen w ms es) 0 (w .lamps)))
       (λ k inside. lamp-same k (omega (arith, many)))
 
+  -- LAMP is of Class 1, which every set-up takes (02, L14)
+  any-class : 1 ≤ d .settings .«class_number»
+  any-class =
+      let k = d .settings .«class_number» in
+      let told = settings-told (d .settings) (legal-settings d (between .legal)) in
+      ⊎-elim (λ (e : k ≡ 1). omega arith) (λ (e : k ≡ 2). omega arith) (class-one-of k (class-told (d .settings) told))
+
   pub hours-told : (m : List ℕ) → 1 ≤ length (w .lamps) → replyRoom ≤ length m
       → LampsTold ours (lampsThen w ms es) (reply (ours .receive d p (commandLine (Query Lamp)) m))
   hours-told m some enough =
       let result = received d p (commandLine (Query Lamp)) (length m) in
       let line = is-between d p (between .there) (between .legal) (between .unmarked) (between .none-held) in
-      let back = reads-back d p (between .there) (between .legal) line (Query Lamp) refl (length m) enough (between .in-phase) in
+      let back = reads-back d p (between .there) (between .legal) line (Query Lamp) refl any-class (length m) enough
+      (between .in-phase) in
       let said = command-received d p (between .there) (length m) (between .legal) enough (between .unmarked) (between .none-held)
-      (Query Lamp) refl (between .in-phase) in
+      (Query Lamp) refl any-class (between .in-phase) in
       let lamps = lamps-answered (d .settings) (d .own) (omega (arith, count)) ∙ ap lampsAre lamps-same in
       let seam = over-front (result .reply) m in
       record {

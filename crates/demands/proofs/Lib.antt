@@ -29,6 +29,8 @@ pub mod RandomKept
 pub mod WrittenAndRead
 pub mod NamesRead
 pub mod Demand2
+mod ClassOneShort
+pub mod ClassOne
 pub mod PowerSetsSeen
 pub mod Agrees
 pub mod AgreesThen
@@ -45,6 +47,7 @@ pub mod Settled
 pub mod Samples
 pub mod WrongRefusalsFall
 pub mod WrongLinesFall
+pub mod WrongClassesFall
 pub mod WrongDoorsFall
 pub mod WrongOutsidersFall
 pub mod WrongClocksFall

@@ -15,7 +15,7 @@ use Rattle.stream.proofs.LastBytes.{Ends}
 use Rattle.device.proofs.PowerLines.{isPowerOkay, powerLine, power-line-read, power-line-not-other}
 use Rattle.demands.specs.History.{switched, powerSet}
 
-module _ (a b c d : ℕ) (powr : isBody (a ∷ b ∷ c ∷ d ∷ []) Powr ≡ true) (stream reply : List ℕ)
+module _ (a b c d : ℕ) (powr : isBody 1 (a ∷ b ∷ c ∷ d ∷ []) Powr ≡ true) (stream reply : List ℕ)
     (okay : isPowerOkay reply ≡ true) where
   abbrev line : Bool → List ℕ
   line wanted = powerLine a b c d wanted ++ ascii "\r"

@@ -10,7 +10,7 @@ use Rattle.text.specs.Rows.{_when_, firstOf}
 use Rattle.text.proofs.Choices.{if-yes, if-no}
 use Rattle.text.specs.Scans.{sameBy, itself}
 use Rattle.lines.specs.Forms.{erraLine, greetingOpen, isReplyForm, headBody, replyParameter}
-use Rattle.lines.specs.Commands.{bodyOf}
+use Rattle.lines.specs.Commands.{bodyOf, commandClass}
 use Rattle.lines.specs.Requests.{isBody}
 use Rattle.lines.specs.declared.command.Command.{Command}
 use Rattle.answers.specs.Writings.{Allowed}
@@ -66,7 +66,8 @@ pub reader-number : (c : Command) (l : List ℕ) (allowed : Bool) → Allowed c 
     → outcomeNumber (ours .read-reply c l .outcome) ≡ firstOf (readerRows c l allowed)
 reader-number c l allowed said =
     ap outcomeNumber (outcome-is-first c l said)
-    ∙ by-tests (sameBy itself l erraLine) (isReplyForm l) (isBody (headBody l) (bodyOf c)) allowed
+    ∙ by-tests (sameBy itself l erraLine) (isReplyForm (commandClass c) l)
+    (isBody (commandClass c) (headBody l) (bodyOf c)) allowed
 
 module _ (l : List ℕ) where
   greeting-by-tests : (plain erra secured : Bool) → sameBy itself l greetingOpen ≡ plain

@@ -1,31 +1,37 @@
--- Demand 2: what the writer writes, and what the readers take from the projector's replies and greetings.
+-- Demand 2: what the writer writes, and what the readers take from the projector's replies and greetings; a command of
+-- a class higher than the set-up's is swallowed (02, L14).
 -- Assumes nothing.
 use Prim.Native.Nat.{ℕ, _^_, _≤_, _<_}
-use mathlib.Core.Path.{_≡_, sym, ap, subst, _∙_}
+use mathlib.Core.Path.{_≡_, refl, sym, ap, subst, _∙_}
 use mathlib.Core.Bool.{Bool, true, false, false≢true}
 use mathlib.Core.List.{List, _++_}
 use mathlib.Core.Logic.{⊎-elim}
 use native.Mathlib.Omega.{arith}
 use lib.ListN.{length}
 use Rattle.text.proofs.Orders.{le-or-lt}
+use Rattle.digest.specs.Hex.{leadingDigest}
 use Rattle.lines.specs.Commands.{isCommand, commandLine}
 use Rattle.lines.specs.declared.command.Command.{Command}
 use Rattle.record.specs.Limits.{placesCount, awaiting, opened}
 use Rattle.record.specs.Legal.{isLegal}
 use Rattle.record.specs.Places.{connectionAt, isShut, lowestShut}
 use Rattle.record.specs.declared.types.Device.{Device}
+use Rattle.record.proofs.LegalTold.{legal-settings}
+use Rattle.record.proofs.SettingsTold.{settings-told}
 use Rattle.record.proofs.LowestShut.{below-lowest}
+use Rattle.device.specs.Answering.{swallowed}
 use Rattle.device.specs.Receiving.{passwordOf}
-use Rattle.device.specs.Calls.{replyRoom, received, openedBy}
+use Rattle.device.specs.Calls.{Result, replyRoom, received, openedBy}
+use Rattle.device.proofs.CommandsReceived.{swallowedAt, higher-received, higher-received-secured}
 use Rattle.controller.specs.Writing.{WrittenAs, commandRoom, ledBy, writtenCommand}
 use Rattle.controller.specs.Reading.{readReply}
 use Rattle.controller.specs.Greetings.{readGreeting, greetedOn}
-use Rattle.controller.proofs.Cases.{written-by}
+use Rattle.controller.proofs.Cases.{written-by, written-plain, written-led}
 use Rattle.controller.proofs.ReadsBack.{is-between, TakenAndRead}
 use Rattle.controller.proofs.WrittenReadBack.{written-reads-back, written-reads-back-secured}
 use Rattle.controller.proofs.GreetsBack.{greets-back as greeted-back}
-use Rattle.demands.specs.Board.{bytesWritten, reply, wroteBy, ours}
-use Rattle.demands.specs.Demand2.{BetweenLines, ReadBack}
+use Rattle.demands.specs.Board.{bytesWritten, reply, lentBy, wroteBy, ours}
+use Rattle.demands.specs.Demand2.{BetweenLines, ReadBack, AnsweredAs, Swallowed, ByClass}
 use Rattle.demands.proofs.LentMemory.{over-front}
 
 -- what is read of the lent paper is the line
@@ -56,22 +62,57 @@ module _ (d : Device) (p : ℕ) (c : Command) (paper m : List ℕ) (writable : i
         device = back .device;
       })
 
+  -- of a class higher than the set-up's
+  abbrev Ignored : WrittenAs → Type 0
+  Ignored w = Swallowed ours d p (wroteBy w paper) (ours .receive d p (bytesWritten (wroteBy w paper)) m)
+
+  ignored : (bs : List ℕ) → received d p bs (length m) ≡ swallowedAt d p (length bs)
+      → Ignored (record { number = 0; bytes = bs })
+  ignored bs taken = record {
+    wrote = refl;
+    left =
+        subst (λ (l : List ℕ). AnsweredAs ours d p l (swallowed (d .own)) (ours .receive d p l m))
+        (sym (line-written (record { number = 0; bytes = bs }) paper))
+        (subst (λ (r : Result Device). AnsweredAs ours d p bs (swallowed (d .own)) (lentBy r m)) (sym taken)
+        (record { number = refl; taken = refl; replied = refl; device = refl }));
+  }
+
   pub reads-back : (random : ℕ) (password : List ℕ) → BetweenLines opened d p
-      → let w = ours .write c false random password paper in ReadBack ours d p c w (ours .receive d p (bytesWritten w) m)
+      → let w = ours .write c false random password paper in ByClass ours d p c w (ours .receive d p (bytesWritten w) m)
   reads-back random password between =
       let empty = is-between d p (between .there) (between .legal) (between .unmarked) (between .none-held) in
-      on-memory (writtenCommand c false random password (length paper))
-      (written-reads-back d p (between .there) (between .legal) empty c writable (length m) enough (length paper) roomy
-      (between .in-phase) random password)
+      record {
+        no-higher = λ within.
+            on-memory (writtenCommand c false random password (length paper))
+            (written-reads-back d p (between .there) (between .legal) empty c writable within (length m) enough
+            (length paper) roomy (between .in-phase) random password);
+        higher = λ higher.
+            subst Ignored (sym (written-plain c false random password (length paper) roomy writable refl))
+            (ignored (commandLine c)
+            (higher-received d p (between .there) (length m) (between .legal) enough (between .unmarked)
+            (between .none-held) c higher (between .in-phase)));
+      }
 
   pub reads-back-secured : BetweenLines awaiting d p
       → let w = ours .write c true (connectionAt d p .random) (passwordOf (d .settings)) paper in
-      ReadBack ours d p c w (ours .receive d p (bytesWritten w) m)
+      ByClass ours d p c w (ours .receive d p (bytesWritten w) m)
   reads-back-secured between =
+      let random = connectionAt d p .random in
+      let password = passwordOf (d .settings) in
       let empty = is-between d p (between .there) (between .legal) (between .unmarked) (between .none-held) in
-      on-memory (writtenCommand c true (connectionAt d p .random) (passwordOf (d .settings)) (length paper))
-      (written-reads-back-secured d p (between .there) (between .legal) empty c writable (length m) enough (length paper) roomy
-      (between .in-phase))
+      let told = settings-told (d .settings) (legal-settings d (between .legal)) in
+      record {
+        no-higher = λ within.
+            on-memory (writtenCommand c true random password (length paper))
+            (written-reads-back-secured d p (between .there) (between .legal) empty c writable within (length m) enough
+            (length paper) roomy (between .in-phase));
+        higher = λ higher.
+            subst Ignored
+            (sym (written-led c true random password (length paper) roomy writable refl (told .password .follows)))
+            (ignored (leadingDigest random password ++ commandLine c)
+            (higher-received-secured d p (between .there) (length m) (between .legal) enough (between .unmarked)
+            (between .none-held) c higher (between .in-phase)));
+      }
 
 pub greets-back : (d : Device) (random : ℕ) (m : List ℕ) → isLegal d ≡ true
     → (q : ℕ) → q < placesCount → isShut (connectionAt d q) ≡ true → replyRoom ≤ length m → random < 2 ^ 32

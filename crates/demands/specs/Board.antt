@@ -1,5 +1,5 @@
--- A board: anything that answers the calls of 01 and of 02, L3 and L8, with four places for controllers (02, L5). The
--- demands are stated over it, so that wrong boards can be tried.
+-- A board: anything that answers the calls of 01 and of 02, L3 and L8, with four places for controllers (02, L5), set
+-- up for Class 1 or Class 2 (02, L14). The demands are stated over it, so that wrong boards can be tried.
 --   Given R       what a call gives that is lent no memory: its number, and the record
 --   Lent R        what a call gives that is lent reply memory: its number, the bytes taken, the reply's length, the
 --                 memory as the call leaves it, and the record
@@ -98,7 +98,7 @@ abbrev pub ours : Board
 ours = record {
   Record = Device;
   shows = λ d. d;
-  -- record::setup::set_up
+  -- record::setup::set_up of Class 1, record::setup::set_up_2 of Class 2; what neither can be lent is out of range
   set-up = λ w. givenBy (setUp w);
   -- device::calls::open
   opening = λ d random m. lentBy (openedBy d random (length m)) m;

@@ -13,13 +13,12 @@ use Rattle.text.specs.Scans.{every}
 use Rattle.record.specs.Wanted.{Wanted}
 use Rattle.record.specs.Rules.{atMost}
 use Rattle.lines.specs.Bytes.{_at_}
-use Rattle.record.specs.SetUp.{isSetUp}
-use Rattle.stored.specs.Form.{oldFormOf, storedOf, marksStored, storedForm}
-use Rattle.stored.specs.Loading.{isOld, startedWith}
+use Rattle.stored.specs.Form.{formVersion, markedFormOf, oldFormOf, storedOf, marksStored, storedForm}
+use Rattle.stored.specs.Loading.{startedWith}
 use Rattle.demands.specs.Board.{Board, bytesWritten}
 use Rattle.demands.specs.Calls.{Call, run}
 use Rattle.demands.specs.History.{noStreams, history, marksAfter, burning, lampWith}
-use Rattle.demands.specs.Demand3.{Beginning, startMarks, Accepted, runOf, historyOf}
+use Rattle.demands.specs.Demand3.{Beginning, IsClass1, startMarks, Accepted, runOf, historyOf}
 
 pub record LoadsAs (B : Board) (s : List ℕ) (w : Wanted) (ms : List Bool) : Type 0 where
   pub accepted : B .load s .number ≡ 0
@@ -32,10 +31,13 @@ pub record BoardSwap (B : Board) : Type 0 where
   -- "Loading is a fresh set-up": of what was stored
   pub stored-loads : (d : B .Record) (m : List ℕ) → B .store d m .number ≡ 0
       → LoadsAs B (bytesWritten (B .store d m)) (storedOf (B .shows d)) (marksStored (B .shows d))
-  -- 02, L8: version 1 "loads with all set": it is the set-up of its settings
-  pub old-form-sets-up : (w : Wanted) → isSetUp w ≡ true → B .load (oldFormOf w) ≡ B .set-up w
+  -- 02, L8: version 1 "loads with all set": it is the set-up of its settings, which are of Class 1 (02, L14)
+  pub old-form-sets-up : (w : Wanted) → IsClass1 w → B .load (oldFormOf w) ≡ B .set-up w
+  -- 02, L14: version 2 loads "as Class 1", with its marks
+  pub marked-form-loads : (w : Wanted) (ms : List Bool) → IsClass1 w → B .load (markedFormOf w ms) .number ≡ 0
+      → LoadsAs B (markedFormOf w ms) w ms
   -- "One set-up has one form": what loads, stored again, is the same bytes, of the newest version
-  pub stored-again : (s : List ℕ) → every (atMost 255) s ≡ true → isOld s ≡ false → B .load s .number ≡ 0
+  pub stored-again : (s : List ℕ) → every (atMost 255) s ≡ true → s at 0 ≡ formVersion → B .load s .number ≡ 0
       → storedForm (B .shows (B .load s .device)) ≡ s
   -- "Each version has one form": no other bytes of that version load as that record
   pub one-form : (s t : List ℕ) → every (atMost 255) s ≡ true → every (atMost 255) t ≡ true → B .load s .number ≡ 0

@@ -24,7 +24,7 @@ use lib.Dec.{ltb}
 use Rattle.text.specs.Rows.{Row, _when_, firstOf}
 use Rattle.text.specs.Scans.{sameBy, itself}
 use Rattle.lines.specs.Forms.{erraLine, greetingOpen, isReplyForm, headBody, replyParameter}
-use Rattle.lines.specs.Commands.{bodyOf}
+use Rattle.lines.specs.Commands.{bodyOf, commandClass}
 use Rattle.lines.specs.Requests.{isBody}
 use Rattle.lines.specs.declared.command.Command.{Command}
 use Rattle.answers.specs.Said.{nothing}
@@ -70,11 +70,12 @@ writerRows c secured password m =
 abbrev isErra : List ℕ → Bool
 isErra l = sameBy itself l erraLine
 
--- the ERRA line is known before the form is tested; whether the parameter is allowed is what it says (`Allowed`)
+-- the ERRA line is known before the form is tested, which is that of the command's class (02, L14); whether the
+-- parameter is allowed is what it says (`Allowed`)
 abbrev pub readerRows : Command → List ℕ → Bool → List Row
 readerRows c l allowed =
-    (0 when isErra l) ∷ (10 when not (isReplyForm l)) ∷ (11 when not (isBody (headBody l) (bodyOf c)))
-    ∷ (12 when not allowed) ∷ []
+    (0 when isErra l) ∷ (10 when not (isReplyForm (commandClass c) l))
+    ∷ (11 when not (isBody (commandClass c) (headBody l) (bodyOf c))) ∷ (12 when not allowed) ∷ []
 
 -- the two greetings and the ERRA line
 abbrev pub greetingRows : List ℕ → List Row

@@ -11,8 +11,13 @@
 -- connection greeted (device/specs: Answering, `isLedBy` of Receiving, and `greeting`, `greeted` of Calls); the record
 -- (record/specs); a stream in cuts (stream/specs/Machine); here Board, Calls, CallsDone, Outsider. 02, L5: "Demand 2
 -- holds place by place": what is said of a connection is said of that at any place p, whatever the other places hold.
+-- 02, L14: lines, commands and set-ups are of Class 1 or Class 2, and all is said of both; that a Class 1 set-up is as
+-- it was before is in ClassOne.
 --   BetweenLines phase d p   legal, at place p in that phase, no collected bytes and no overlong mark
 --   ReadBack B d p c w r     the command c, written as w and received as r, is read as it was meant and done
+--   AnsweredAs B d p bs a r  the bytes bs were all taken, and answered a
+--   Swallowed B d p w r      what was written as w was all taken, with no reply, and changed nothing
+--   ByClass B d p c w r      read back where the class of the command c is no higher than the set-up's, else swallowed
 --   isLed d p l              the line l starts with the matching digest and is not overlong
 --   RefusalOnly B d p out    the refusal line was replied and nothing else; settings, own part and other places stay,
 --                            the connection has failed
@@ -31,7 +36,7 @@ use Rattle.digest.specs.Md5.{md5Of}
 use Rattle.digest.specs.Hex.{leadingDigest}
 use Rattle.lines.specs.Bytes.{noCr}
 use Rattle.lines.specs.Forms.{erraLine, commandMost}
-use Rattle.lines.specs.Commands.{isCommand, commandLine}
+use Rattle.lines.specs.Commands.{isCommand, commandClass, commandLine}
 use Rattle.lines.specs.declared.command.Body.the-variants.{Name}
 use Rattle.lines.specs.declared.command.Command.{Command}
 use Rattle.lines.specs.declared.command.Command.the-variants.{Query}
@@ -91,6 +96,18 @@ module _ (B : Board) where
     pub replied : reply r ≡ a .reply
     pub device : B .shows (r .device) ≡ withPlace (B .shows d) (a .own) p (openAgain (connectionAt (B .shows d) p))
 
+  -- ---- the class (02, L14)
+
+  pub record Swallowed (d : B .Record) (p : ℕ) (w : Wrote) (r : Lent (B .Record)) : Type 0 where
+    pub wrote : w .number ≡ 0
+    pub left : AnsweredAs d p (bytesWritten w) (swallowed (B .shows d .own)) r
+
+  -- "the reader returns what the projector meant, for every command of a class no higher than the set-up's; a higher
+  -- one gets no reply and changes nothing but what swallowing a line does"
+  pub record ByClass (d : B .Record) (p : ℕ) (c : Command) (w : Wrote) (r : Lent (B .Record)) : Type 0 where
+    pub no-higher : commandClass c ≤ B .shows d .settings .«class_number» → ReadBack d p c w r
+    pub higher : B .shows d .settings .«class_number» < commandClass c → Swallowed d p w r
+
 -- a line of more than 135 bytes is swallowed
 abbrev pub answerTo : Device → List ℕ → Answered
 answerTo d l = if leb (length l) commandMost then lineAnswer (d .settings) (d .own) l else swallowed (d .own)
@@ -140,8 +157,8 @@ pub record RefusalOnly (B : Board) (d : B .Record) (p : ℕ) (out : Out (B .Reco
 pub record Demand2 (B : Board) : Type 0 where
   -- "with the digest of RFC 1321"
   pub digest : (s : List ℕ) → B .md5 s ≡ md5Of s
-  -- "The projector's lines .. are those of PJLink Class 1": any line of any controller, on an open connection and
-  -- behind the matching digest, is answered as 01's tables say
+  -- "The projector's lines .. are those of PJLink Class 1", and of Class 2 (02, L14): any line of any controller, on an
+  -- open connection and behind the matching digest, is answered as 01's tables say
   pub answers : (d : B .Record) (p : ℕ) (l m : List ℕ) → BetweenLines opened (B .shows d) p → noCr l ≡ true
       → replyRoom ≤ length m
       → let bs = l ++ ascii "\r" in AnsweredAs B d p bs (answerTo (B .shows d) l) (B .receive d p bs m)
@@ -149,7 +166,7 @@ pub record Demand2 (B : Board) : Type 0 where
       → length l ≤ commandMost → replyRoom ≤ length m
       → let bs = digestFor (B .shows d) p ++ l ++ ascii "\r" in
       AnsweredAs B d p bs (answerTo (B .shows d) l) (B .receive d p bs m)
-  -- 02, L11: "the longest reply is 103 and 01's 72 is amended"
+  -- 02, L14: an input's name, and eight around it; L11's 103 holds of Class 1 (ClassOne)
   pub reply-short : (d : B .Record) (p : ℕ) (bs m : List ℕ) → B .receive d p bs m .length ≤ longestReply
   -- "and the controller's reading of them": whatever line comes, what is read was said by it, and what it says is read;
   -- the ERRA line and no other is read as such
@@ -162,16 +179,16 @@ pub record Demand2 (B : Board) : Type 0 where
       → let w = B .write c secured random password m in
       w .number ≡ 0 → bytesWritten w ≡ ledBy secured random password ++ commandLine c
   -- "On an open connection between lines, for every command our writer makes without a digest and in every legal state,
-  -- what our reader, told the command, takes from the reply is what the projector meant"
+  -- what our reader, told the command, takes from the reply is what the projector meant"; 02, L14: by its class
   pub reads-back : (d : B .Record) (p : ℕ) (c : Command) (random : ℕ) (password paper m : List ℕ)
       → BetweenLines opened (B .shows d) p → isCommand c ≡ true → commandRoom ≤ length paper → replyRoom ≤ length m
-      → let w = B .write c false random password paper in ReadBack B d p c w (B .receive d p (bytesWritten w) m)
+      → let w = B .write c false random password paper in ByClass B d p c w (B .receive d p (bytesWritten w) m)
   -- 01, "Connection": "its reading holds as well on an awaiting connection between lines, for a command led by the
   -- matching digest"
   pub reads-back-secured : (d : B .Record) (p : ℕ) (c : Command) (paper m : List ℕ)
       → BetweenLines awaiting (B .shows d) p → isCommand c ≡ true → commandRoom ≤ length paper → replyRoom ≤ length m
       → let w = B .write c true (connectionAt (B .shows d) p .random) (passwordOf (B .shows d .settings)) paper in
-      ReadBack B d p c w (B .receive d p (bytesWritten w) m)
+      ByClass B d p c w (B .receive d p (bytesWritten w) m)
   -- 02, L2: a name that the projector accepts is one that our reader accepts
   pub names-read : (w : Wanted) → B .set-up w .number ≡ 0
       → B .read-reply (Query Name) (ascii "%1NAME=" ++ w .name ++ ascii "\r") ≡ meaning (textIs (w .name))

@@ -8,7 +8,8 @@
 -- Calls, CallsDone, and `BetweenLines` of Demand2, `meaning` of controller/specs/Reading.
 --   Beginning           a history begins with a set-up, or with the load of a stored form (02, L3: "Loading is a fresh
 --                       set-up, so the history of demand 3 begins there with the stored seconds"), of the newest
---                       version with its marks, or of the one before (02, L8)
+--                       version with its marks, or of an older one, which loads as Class 1: version 2 with its marks
+--                       (02, L14), version 1 with none (02, L8)
 --   startMarks b w      the marks that it begins with: all set, or "after a load, as the form has them"
 --   Accepted B b w      the board accepts the settings w there
 --   historyOf B b w cs  what someone outside sees of the calls cs since then
@@ -32,7 +33,7 @@ use Rattle.record.specs.Limits.{lampLimit, opened}
 use Rattle.record.specs.Wanted.{Wanted}
 use Rattle.record.specs.Legal.{isLegal}
 use Rattle.record.specs.SetUp.{isSetUp}
-use Rattle.stored.specs.Form.{formOf, oldFormOf}
+use Rattle.stored.specs.Form.{formOf, markedFormOf, oldFormOf}
 use Rattle.clock.specs.Second.{times, second}
 use Rattle.clock.specs.Passing.{secondsMost}
 use Rattle.device.specs.Calls.{replyRoom}
@@ -47,6 +48,7 @@ use Rattle.demands.specs.History.{marksAfter, burning, stageAfter, isBur
 pub data Beginning : Type 0 where
   setsUp : Beginning
   loads : (marks : List Bool) → Beginning
+  loadsMarked : (marks : List Bool) → Beginning
   loadsOld : Beginning
 
 abbrev pub allEnabled : Wanted → List Bool
@@ -55,19 +57,27 @@ allEnabled w = replicate (length (w .lamps)) true
 abbrev pub startMarks : Beginning → Wanted → List Bool
 startMarks setsUp w = allEnabled w
 startMarks (loads ms) w = ms
+startMarks (loadsMarked ms) w = ms
 startMarks loadsOld w = allEnabled w
+
+-- the settings are those of a Class 1 set-up
+pub record IsClass1 (w : Wanted) : Type 0 where
+  pub set-up : isSetUp w ≡ true
+  pub class-1 : w .class ≡ 1
 
 module _ (B : Board) where
   abbrev pub begunBy : Beginning → Wanted → Given (B .Record)
   begunBy setsUp w = B .set-up w
   begunBy (loads ms) w = B .load (formOf w ms)
+  begunBy (loadsMarked ms) w = B .load (markedFormOf w ms)
   begunBy loadsOld w = B .load (oldFormOf w)
 
   -- what loads is the form of settings that a set-up takes, and of no others (BoardSwap)
   abbrev pub Accepted : Beginning → Wanted → Type 0
   Accepted setsUp w = B .set-up w .number ≡ 0
   Accepted (loads ms) w = (isSetUp w ≡ true) × (B .load (formOf w ms) .number ≡ 0)
-  Accepted loadsOld w = (isSetUp w ≡ true) × (B .load (oldFormOf w) .number ≡ 0)
+  Accepted (loadsMarked ms) w = IsClass1 w × (B .load (markedFormOf w ms) .number ≡ 0)
+  Accepted loadsOld w = IsClass1 w × (B .load (oldFormOf w) .number ≡ 0)
 
   abbrev pub runOf : Beginning → Wanted → List Call → B .Record
   runOf b w cs = run B (begunBy b w .device) cs

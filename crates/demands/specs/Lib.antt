@@ -6,6 +6,7 @@ pub mod Outsider
 pub mod Unheard
 pub mod Demand1
 pub mod Demand2
+pub mod ClassOne
 pub mod Demand3
 pub mod Interleaved
 pub mod BoardSwap
@@ -13,6 +14,7 @@ pub mod Settled
 pub mod OursBut
 pub mod WrongRefusals
 pub mod WrongLines
+pub mod WrongClasses
 pub mod WrongDoors
 pub mod WrongOutsiders
 pub mod WrongClocks

@@ -113,8 +113,8 @@ emptied NotAllowed = without NotAllowed
 
 abbrev readsOurNames : Command → List ℕ → ReadAs
 readsOurNames c l =
-    if isBody (headBody l) Name && not (sameBy itself (headBody l) (ascii "NAME")) then emptied (readReply c l .outcome)
-    else readReply c l
+    if isBody 1 (headBody l) Name && not (sameBy itself (headBody l) (ascii "NAME"))
+    then emptied (readReply c l .outcome) else readReply c l
 
 abbrev pub othersNameless : Board
 othersNameless = butReader readsOurNames

@@ -1,4 +1,5 @@
-// `ours`'s set-up, opening with its place, closing, receiving, fault mark, error digits and lamps' marks.
+// `ours`'s set-up of either class (02, L14), opening with its place, closing, receiving, fault mark, error digits and
+// lamps' marks.
 use device::calls;
 use device::calls::Opened;
 use device::calls::Received;
@@ -7,6 +8,7 @@ use record::setup;
 use record::types::Changed;
 use record::types::Device;
 ghost use mathlib.Core.Path.{_≡_};
+ghost use Rattle.record.specs.Wanted.{wantedOf, wantedOf2, namesIn};
 ghost use Rattle.demands.specs.Board.{ours, givenBy};
 ghost use Rattle.demands.specs.Tied.{lentOpened, lentReceived};
 
@@ -22,17 +24,8 @@ pub fn set_up(
     cool: u32,
 ) -> Changed
     ensures { λ r.
-        ⌜ givenBy r ≡ ours .set-up (record {
-          name = now (name .entry);
-          maker = now (maker .entry);
-          model = now (model .entry);
-          other = now (other .entry);
-          password = now (password .entry);
-          inputs = now (inputs .entry);
-          lamps = now (lamps .entry);
-          warm = warm;
-          cool = cool;
-        }) ⌝ }
+        ⌜ givenBy r ≡ ours .set-up (wantedOf (now (name .entry)) (now (maker .entry)) (now (model .entry))
+        (now (other .entry)) (now (password .entry)) (now (inputs .entry)) (now (lamps .entry)) warm cool) ⌝ }
 {
     setup::set_up(
         name,
@@ -44,6 +37,43 @@ pub fn set_up(
         lamps,
         warm,
         cool,
+    )
+}
+
+pub fn set_up_2(
+    name: &[u8],
+    maker: &[u8],
+    model: &[u8],
+    other: &[u8],
+    password: &[u8],
+    inputs: &[u8],
+    lamps: &[u32],
+    warm: u32,
+    cool: u32,
+    serial: &[u8],
+    version: &[u8],
+    names: &[u8],
+    lengths: &[usize],
+) -> Changed
+    ensures { λ r.
+        ⌜ givenBy r ≡ ours .set-up (wantedOf2 (now (name .entry)) (now (maker .entry)) (now (model .entry))
+        (now (other .entry)) (now (password .entry)) (now (inputs .entry)) (now (lamps .entry)) warm cool
+        (now (serial .entry)) (now (version .entry)) (namesIn (now (lengths .entry)) (now (names .entry)))) ⌝ }
+{
+    setup::set_up_2(
+        name,
+        maker,
+        model,
+        other,
+        password,
+        inputs,
+        lamps,
+        warm,
+        cool,
+        serial,
+        version,
+        names,
+        lengths,
     )
 }
 
