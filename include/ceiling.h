@@ -1,4 +1,5 @@
-/* The control software of a ceiling projector: PJLink Class 1, version 1.04, both sides, with the MD5 of RFC 1321.
+/* The control software of a ceiling projector: PJLink Class 1, version 1.04, and of Class 2 what document 02 asks for,
+   both sides, with the MD5 of RFC 1321.
 
    This declares what the archive libboard.a defines. `rt staticlib board` writes the archive for x86-64, whose calls
    are those of the System V calling convention for AMD64; `./archive` writes it for the processor at hand, on AArch64
@@ -23,8 +24,8 @@
 #include <stdint.h>
 
 /* The version of this face. It moves with each landing that moves a struct or a call; docs/landings/README.md says what
-   moved. A host that was written for one version can ask for it: #if CEILING_FACE != 9 .. #error. */
-#define CEILING_FACE 9
+   moved. A host that was written for one version can ask for it: #if CEILING_FACE != 10 .. #error. */
+#define CEILING_FACE 10
 
 /* What stands before a call whose result has the record in it: a compiler warns where such a result is dropped. */
 #if defined(__cplusplus) && __cplusplus >= 201703L || defined(__STDC_VERSION__) && __STDC_VERSION__ >= 202311L
@@ -43,10 +44,10 @@ extern "C" {
 #endif
 
 /* The number that a call gives: PJ_SERVED, or the first of the others that applies, in this order. Below, each call
-   says with which it refuses. With 1 to 9 the record that was given comes back (from pj_set_up and pj_load, with any
-   number that is not 0, the blank record, all zero, which is not legal), counts and lengths are 0, and no byte of the
-   lent memory is written. With PJ_SERVED a reply fills the start of the reply memory for its length, and every later
-   byte there is as it was. */
+   says with which it refuses. With 1 to 9 the record that was given comes back (from pj_set_up, pj_set_up_2 and
+   pj_load, with any number that is not 0, the blank record, all zero, which is not legal), counts and lengths are 0,
+   and no byte of the lent memory is written. With PJ_SERVED a reply fills the start of the reply memory for its length,
+   and every later byte there is as it was. */
 enum pj_number {
     PJ_SERVED = 0,
     PJ_NOT_LEGAL = 1,           /* the device record is not legal (pj_legal), or the panel's record is not */
@@ -62,19 +63,23 @@ enum pj_number {
     PJ_NOT_OFF = 7,             /* setting or clearing a lamp's mark while the power is not off */
     PJ_SHORT_PASSWORD = 8,      /* a set-up's password has 1 to 7 characters, and nothing is out of its range */
     PJ_NOT_READY = 9,           /* a panel's command before the projector's greeting, or over another command */
-    PJ_NOT_A_LINE = 10,         /* what was read is not a greeting or reply line */
+    PJ_NOT_A_LINE = 10,         /* what was read is not a greeting or reply line, or a reply of another class
+                                   than the command's */
     PJ_OTHER_COMMAND = 11,      /* it is a reply to another command */
     PJ_NOT_ALLOWED = 12,        /* it is a reply to the command, with a parameter that is not allowed there */
     PJ_OTHER_VERSION = 20,      /* a stored form whose version byte is not known */
     PJ_CUT_SHORT = 21,          /* it ends before the form does; no bytes at all are that too */
     PJ_LEFT_OVER = 22,          /* bytes are left over after it */
-    PJ_CONTENTS = 23            /* it has contents that pj_set_up would refuse, or marks that are not one for each lamp,
-                                   not 0 or 1, or none set where there are lamps */
+    PJ_CONTENTS = 23            /* it has contents that pj_set_up or, of Class 2, pj_set_up_2 would refuse, a class that
+                                   is neither, or marks that are not one for each lamp, not 0 or 1, or none set where
+                                   there are lamps */
 };
 
 enum pj_limit {
     PJ_NAME_MOST = 64,          /* bytes of the projector's name */
     PJ_INFO_MOST = 32,          /* bytes of maker, model and other information */
+    PJ_SERIAL_MOST = 32,        /* bytes of the serial number, and of the software version */
+    PJ_INPUT_NAME_MOST = 128,   /* bytes of an input's name */
     PJ_PASSWORD_MOST = 32,
     PJ_INPUTS_MOST = 32,        /* of a projector */
     PJ_INPUTS_READ_MOST = 32,   /* of a reply that is read */
@@ -82,6 +87,8 @@ enum pj_limit {
     PJ_LAMP_MOST = 359999999,   /* seconds of a lamp: 99,999 hours and 3,599 seconds */
     PJ_HOURS_MOST = 99999,      /* hours of a lamp, as a reply tells them */
     PJ_WARM_COOL_MOST = 600,    /* seconds of warm-up, and of cooling */
+    PJ_VOLUME_MOST = 20,        /* the loudest level; the lowest is 0 */
+    PJ_VOLUME_FIRST = 10,       /* the level at set-up */
     PJ_PLACES = 4,              /* controllers that are connected at once */
     PJ_WAIT_MOST = 30,          /* seconds: at this age an awaiting or failed connection is closed */
     PJ_PANEL_MOST = 8,          /* projectors of a panel */
@@ -92,11 +99,12 @@ enum pj_limit {
     PJ_DAY_SECONDS = 86400,     /* no job ends later */
 
     PJ_TEXT_ROOM = 64,          /* of the record: bytes of a text */
+    PJ_NAME_ROOM = 128,         /* of the record: bytes of an input's name; also of a text that is read */
     PJ_LINE_ROOM = 167,         /* of the record: bytes of a line that is being collected */
     PJ_ERRORS = 6,              /* error digits */
     PJ_REPLY_ROOM = 136,        /* the least memory for pj_open and pj_receive; enough to collect any reply */
     PJ_COMMAND_ROOM = 168,      /* the least memory for pj_write */
-    PJ_FORM_MOST = 309          /* bytes of the longest stored form: room for pj_store with every record */
+    PJ_FORM_MOST = 4504         /* bytes of the longest stored form: room for pj_store with every record */
 };
 
 enum pj_phase {                 /* of a connection */
@@ -121,12 +129,20 @@ typedef struct {
     uint8_t bytes[PJ_TEXT_ROOM];
 } pj_text;
 
+typedef struct {                            /* an input's name */
+    size_t len;
+    uint8_t bytes[PJ_NAME_ROOM];
+} pj_name;
+
 typedef struct {
     pj_text name, maker, model, other, password;
     size_t input_count;
-    uint8_t inputs[2 * PJ_INPUTS_MOST];     /* two ASCII characters an input: "11", "59" */
+    uint8_t inputs[2 * PJ_INPUTS_MOST];     /* two ASCII characters an input: "11", "59"; of Class 2 also "6A" */
     size_t lamp_count;
     uint32_t warm, cool;                    /* seconds */
+    uint8_t class_number;                   /* 1 or 2; what follows is all zero in Class 1 */
+    pj_text serial, version;                /* the serial number, and the version of the projector's software */
+    pj_name names[PJ_INPUTS_MOST];          /* one an input, in the inputs' order; all zero past the inputs */
 } pj_settings;
 
 typedef struct {                            /* what is collected of a line */
@@ -150,6 +166,9 @@ typedef struct {
     uint32_t lamps[PJ_LAMPS_MOST];          /* seconds */
     bool enabled[PJ_LAMPS_MOST];            /* each lamp's mark: without it the lamp stays dark; at least one is set
                                                where there are lamps, and none past them */
+    bool frozen;                            /* the picture stands still */
+    uint8_t speaker, microphone;            /* levels, 0 to PJ_VOLUME_MOST. As lines of Class 2 alone change these
+                                               three, in Class 1 they stay as they were at set-up */
 } pj_own;
 
 typedef struct {
@@ -178,8 +197,8 @@ typedef struct {
 
 /* The projector. */
 
-/* Makes the record of a projector that is off, with every place closed. This comes first, and once after each
-   start of the board.
+/* Makes the record of a Class 1 projector that is off, with every place closed. This, pj_set_up_2 or pj_load comes
+   first, and once after each start of the board.
    - Texts: the name to PJ_NAME_MOST bytes, maker, model and other information to PJ_INFO_MOST, each byte 0x20 to
      0xFF; none of them is exactly ERR1, ERR2, ERR3 or ERR4. The name is well-formed UTF-8 too (RFC 3629): no overlong
      form, no surrogate, nothing over U+10FFFF, and no character cut off at the end.
@@ -198,6 +217,41 @@ pj_changed pj_set_up(const uint8_t *name, size_t name_len, const uint8_t *maker,
                      const uint8_t *password, size_t password_len, const uint8_t *inputs, size_t inputs_len,
                      const uint32_t *lamps, size_t lamp_count, uint32_t warm, uint32_t cool);
 
+/* Makes the record of a Class 2 projector, as pj_set_up makes one of Class 1 but for what is said here. It answers
+   `%1` lines as one of Class 1 does, and CLSS with 2; and `%2` lines, which one of Class 1 swallows without a reply:
+
+       body   set                                      query                 answers
+       INPT   an input of the list                     ?                     the input that is chosen
+       INST                                            ?                     the inputs, as under `%1`
+       FREZ   0 off, 1 on                              ?                     0 or 1
+       SVOL   0 a step down, 1 a step up: speaker
+       MVOL   the same: microphone
+       SNUM                                            ?                     the serial number
+       SVER                                            ?                     the software version
+       INNM                                            ? and an input: ?31   the input's name
+
+   Every other body is ERR1 under `%2`, those of Class 1 too (CLSS, POWR, ..), and so is INST, SNUM or SVER with another
+   parameter than `?`. INPT, FREZ, SVOL, MVOL or INNM with a parameter that the table does not have is ERR2: so is
+   `SVOL ?`, as a level is not told. Then INPT, FREZ, SVOL and MVOL, set or query, are ERR4 under the fault mark, and
+   ERR3 unless the power is on. A level stops at 0 and at PJ_VOLUME_MOST, and a step that goes no further is OK too.
+   Nothing but FREZ changes the freeze, and nothing but a step a level: the host reads both off the record.
+   - Inputs: a type '1' to '6' (6 is INTERNAL) and a number '1' to '9' or a letter 'A' to 'Z', under `%1` too.
+   - The serial number and the software version: to PJ_SERIAL_MOST bytes each, by the rule for maker and model.
+   - A name for each input, in the inputs' order: the bytes of all of them one after the other, and the length of each.
+     A name has at most PJ_INPUT_NAME_MOST bytes, by the same rule; no UTF-8 is asked for. name_count counts names, and
+     names_len bytes.
+   The projector starts not frozen and with both levels at PJ_VOLUME_FIRST, as one of Class 1 does.
+   Refuses with PJ_OUT_OF_RANGE what pj_set_up would, but inputs by the rule above; a serial number, a software version
+   or a name that is out of its range; other than one name an input; lengths that do not add up to names_len. Then,
+   where all of that is in range, a password of 1 to 7 letters and digits with PJ_SHORT_PASSWORD. */
+CEILING_KEEP
+pj_changed pj_set_up_2(const uint8_t *name, size_t name_len, const uint8_t *maker, size_t maker_len,
+                       const uint8_t *model, size_t model_len, const uint8_t *other, size_t other_len,
+                       const uint8_t *password, size_t password_len, const uint8_t *inputs, size_t inputs_len,
+                       const uint32_t *lamps, size_t lamp_count, uint32_t warm, uint32_t cool,
+                       const uint8_t *serial, size_t serial_len, const uint8_t *version, size_t version_len,
+                       const uint8_t *names, size_t names_len, const size_t *name_lengths, size_t name_count);
+
 enum pj_setting {               /* in the order in which pj_set_up is lent them */
     PJ_SETTING_NONE = 0,        /* pj_set_up gives PJ_SERVED */
     PJ_SETTING_NAME = 1,
@@ -213,7 +267,8 @@ enum pj_setting {               /* in the order in which pj_set_up is lent them 
 
 /* Tells why pj_set_up refuses: of the same settings the first that is out of its range, an enum pj_setting. A password
    of 1 to 7 letters and digits is in range for that, and is told where nothing else is wrong: PJ_SETTING_PASSWORD where
-   pj_set_up gives PJ_SHORT_PASSWORD. It is PJ_SETTING_NONE exactly where pj_set_up gives PJ_SERVED. Refuses nothing. */
+   pj_set_up gives PJ_SHORT_PASSWORD. It is PJ_SETTING_NONE exactly where pj_set_up gives PJ_SERVED. It is for Class 1:
+   what pj_set_up_2 alone takes is out of range here. Refuses nothing. */
 uint32_t pj_which_setting(const uint8_t *name, size_t name_len, const uint8_t *maker, size_t maker_len,
                           const uint8_t *model, size_t model_len, const uint8_t *other, size_t other_len,
                           const uint8_t *password, size_t password_len, const uint8_t *inputs, size_t inputs_len,
@@ -254,7 +309,8 @@ pj_changed pj_pass(pj_device d, uint32_t seconds);
    Gives the number alone, PJ_SERVED or PJ_NOT_LEGAL. */
 uint32_t pj_pass_in_place(pj_device *d, uint32_t seconds);
 
-/* Replaces the fault mark, and nothing else: with it POWR, INPT and AVMT answer ERR4. Refuses with PJ_NOT_LEGAL. */
+/* Replaces the fault mark, and nothing else: with it POWR, INPT and AVMT answer ERR4, and in Class 2 FREZ, SVOL and
+   MVOL too. Refuses with PJ_NOT_LEGAL. */
 CEILING_KEEP
 pj_changed pj_set_fault(pj_device d, bool mark);
 
@@ -277,27 +333,30 @@ pj_changed pj_set_mark(pj_device d, size_t lamp, bool enabled);
    is for one that was stored elsewhere, and may have been damaged. Refuses nothing. */
 bool pj_legal(pj_device d);
 
-/* The stored form: settings that survive a board swap. It is bytes, the same on every processor: the version byte 2,
+/* The stored form: settings that survive a board swap. It is bytes, the same on every processor: the version byte 3,
    then eight sections, each after its count in one byte: name, maker, model, other information and password (count of
-   bytes), inputs (count of inputs, two ASCII digits each), lamps (count of lamps, the seconds of each as four bytes),
-   marks (count of lamps again, 0 or 1 for each as one byte); last warm-up and cooling as two bytes each. Every number
-   has its highest byte first. One set-up with its marks has one form. Version 1 is the same without the marks: it is
-   read still, and not written any more. */
+   bytes), inputs (count of inputs, two ASCII characters each), lamps (count of lamps, the seconds of each as four
+   bytes), marks (count of lamps again, 0 or 1 for each as one byte); then warm-up and cooling as two bytes each; then
+   the class as one byte, 1 or 2. In Class 1 that is the last, and so is a byte that is no class. In Class 2 the serial
+   number, the software version and a name for each of the inputs follow, each text after its count of bytes in one
+   byte; the names themselves are not counted again. Every number has its highest byte first. One set-up with its marks
+   has one form. Version 2 ends with the cooling, and version 1 is as version 2 without the marks: both are read still,
+   as Class 1, and not written any more. */
 
 typedef struct {
     uint32_t number;
     size_t length;                          /* of what was written: of a line with its CR */
 } pj_written;
 
-/* Writes the stored form of the record, of version 2, to the start of the lent memory: its settings, and each lamp's
-   seconds and mark as they are now. Power, mutes, faults and connections are not stored. Store at every stop, and as
-   often as own.lamps would be saved.
+/* Writes the stored form of the record, of version 3, to the start of the lent memory: its settings, and each lamp's
+   seconds and mark as they are now. Power, mutes, freeze, levels, faults and connections are not stored. Store at every
+   stop, and as often as own.lamps would be saved.
    Refuses with PJ_NOT_LEGAL, then with PJ_NO_ROOM memory shorter than this form; PJ_FORM_MOST bytes always suffice. */
 pj_written pj_store(pj_device d, uint8_t *out, size_t out_len);
 
-/* Makes the record of the projector whose stored form is lent: pj_set_up with the settings and the lamps' seconds in
-   it, so off, with every place closed; the marks are the form's, and all set where it is of version 1. The bytes are
-   the form's, all of them and no others.
+/* Makes the record of the projector whose stored form is lent: pj_set_up, or in Class 2 pj_set_up_2, with the settings
+   and the lamps' seconds in it, so off, with every place closed; the marks are the form's, and all set where it is of
+   version 1. Versions 1 and 2 are of Class 1. The bytes are the form's, all of them and no others.
    Refuses with PJ_OTHER_VERSION, PJ_CUT_SHORT, PJ_LEFT_OVER or PJ_CONTENTS. */
 CEILING_KEEP
 pj_changed pj_load(const uint8_t *bytes, size_t len);
@@ -318,7 +377,7 @@ enum pj_code {                              /* the codes of commands */
     PJ_POWR_ASK = 0,
     PJ_POWR_SET = 1,                        /* first: 0 off, 1 on */
     PJ_INPT_ASK = 2,
-    PJ_INPT_SET = 3,                        /* first: type 1 to 5, second: number 1 to 9 */
+    PJ_INPT_SET = 3,                        /* first: type 1 to 6, second: number 1 to 9, or 10 to 35 for A to Z */
     PJ_AVMT_ASK = 4,
     PJ_AVMT_SET = 5,                        /* first: 1 video, 2 audio, 3 both; second: 1 on, 0 off */
     PJ_ERST = 6,
@@ -328,7 +387,17 @@ enum pj_code {                              /* the codes of commands */
     PJ_INF1 = 10,                           /* maker */
     PJ_INF2 = 11,                           /* model */
     PJ_INFO = 12,                           /* other information */
-    PJ_CLSS = 13
+    PJ_CLSS = 13,
+    PJ_FREZ_ASK = 14,                       /* from here on of Class 2: a projector of Class 1 gives no reply */
+    PJ_FREZ_SET = 15,                       /* first: 0 off, 1 on */
+    PJ_SVOL = 16,                           /* the speaker's level; first: 0 a step down, 1 a step up */
+    PJ_MVOL = 17,                           /* the microphone's; first: the same */
+    PJ_SNUM = 18,                           /* serial number */
+    PJ_SVER = 19,                           /* software version */
+    PJ_INNM = 20,                           /* an input's name; first: type, second: number, as for PJ_INPT_SET */
+    PJ_INPT_ASK_2 = 21,                     /* INPT and INST under `%2`, which tell what they tell under `%1` */
+    PJ_INPT_SET_2 = 22,                     /* first: type, second: number, as for PJ_INPT_SET */
+    PJ_INST_2 = 23
 };
 
 typedef struct {                            /* numbers, not characters; what a code does not use is passed over */
@@ -340,6 +409,8 @@ typedef struct {                            /* numbers, not characters; what a c
    connection whose greeting was PJ_GREETING_SECURED, with the random number of that greeting, and for no later one:
    document 000 says (5.3) that a digest before later commands does no harm, but by 01's rule on the form of a line
    the projector swallows such a line, and no reply comes. We follow 01.
+   The writer does not know the projector's class: an input of type 6 or with a letter is written under `%1` too, and a
+   projector that does not list it answers ERR2. PJ_CLSS asks for the class.
    Refuses with PJ_NO_ROOM, then with PJ_OUT_OF_RANGE what is no command and, where `secured`, a password that is not
    0 to PJ_PASSWORD_MOST letters and digits; 1 to 7 are taken, since other projectors may have such a password. */
 pj_written pj_write(pj_command c, bool secured, uint32_t random, const uint8_t *password, size_t password_len,
@@ -368,14 +439,15 @@ enum pj_reading_kind {
     PJ_READ_OK = 1,
     PJ_READ_ERR = 2,                        /* first: n of ERRn, 1 to 4 */
     PJ_READ_POWER = 3,                      /* first: enum pj_power */
-    PJ_READ_INPUT = 4,                      /* first: type, second: number, as numbers */
+    PJ_READ_INPUT = 4,                      /* first: type, second: number, as numbers; 10 to 35 for A to Z */
     PJ_READ_MUTES = 5,                      /* first: video 0 or 1, second: audio 0 or 1 */
     PJ_READ_ERRORS = 6,                     /* text: six numbers 0 to 2, not characters; count 6 */
     PJ_READ_LAMPS = 7,                      /* count, hours, lit */
     PJ_READ_INPUTS = 8,                     /* count, inputs: two ASCII characters each */
     PJ_READ_TEXT = 9,                       /* count, text */
-    PJ_READ_CLASS = 10,                     /* first: 1 */
-    PJ_READ_ERRA = 11                       /* the digest was wrong, or was asked for and not sent */
+    PJ_READ_CLASS = 10,                     /* first: 1 or 2 */
+    PJ_READ_ERRA = 11,                      /* the digest was wrong, or was asked for and not sent */
+    PJ_READ_FREEZE = 12                     /* first: 0 or 1 */
 };
 
 typedef struct {                            /* what a kind does not use is zero */
@@ -385,12 +457,15 @@ typedef struct {                            /* what a kind does not use is zero 
     uint32_t hours[PJ_LAMPS_MOST];
     bool lit[PJ_LAMPS_MOST];
     uint8_t inputs[2 * PJ_INPUTS_READ_MOST];
-    uint8_t text[PJ_TEXT_ROOM];
+    uint8_t text[PJ_NAME_ROOM];
 } pj_reading;
 
 /* Reads what the reply to a command says. The host collects bytes up to and including the CR and lends them with the
    command that it sent. PJ_REPLY_ROOM bytes are enough: a reply that has no CR by then is none, and may be given up.
    A lamp's hours are read in one to five digits, zeros in front included, as other makers' projectors write them.
+   A reply begins with the command's own class, `%1` or `%2`, or it is PJ_NOT_A_LINE. The projector's class is not known
+   here: an input of type 6 or with a letter is read under `%1` too, and CLSS as 1 or 2. ERR2 is allowed where a command
+   sets something, and to PJ_INNM, since a projector may say it of an input that it does not have.
    Refuses what is no command with PJ_OUT_OF_RANGE, then the line with PJ_NOT_A_LINE, PJ_OTHER_COMMAND or
    PJ_NOT_ALLOWED. */
 pj_reading pj_read_reply(pj_command c, const uint8_t *line, size_t len);
@@ -419,7 +494,7 @@ typedef struct {                            /* one projector of a panel */
     pj_command command;                     /* that command, as it was given; else all three 0 */
     bool power_known, input_known, lamps_known;
     uint8_t power;                          /* enum pj_power; 0 where it is not known */
-    uint8_t input_type, input_number;       /* 1 to 5 and 1 to 9; both 0 where the input is not known */
+    uint8_t input_type, input_number;       /* 1 to 6 and 1 to 35; both 0 where the input is not known */
     size_t lamp_count;                      /* 1 to PJ_LAMPS_MOST; 0 where the lamps are not known */
     uint32_t hours[PJ_LAMPS_MOST];          /* at most PJ_HOURS_MOST; 0 past the count */
     bool lit[PJ_LAMPS_MOST];                /* false past the count */
@@ -467,8 +542,10 @@ pj_panel_sent pj_panel_command(pj_panel p, size_t projector, pj_command c, uint8
    - With no command under way: the line is late, whatever it is.
    - With one: pj_read_reply is asked. A line that it refuses with PJ_NOT_A_LINE or PJ_NOT_ALLOWED is malformed (a
      second greeting is), one with PJ_OTHER_COMMAND foreign; the command stays under way. PJLINK ERRA ends it, makes
-     power, input and lamps unknown, and a new greeting is awaited. Any other reply ends it: the power, the input or the
-     lamps that it tells are now known and shown, and a reply that tells none of them (OK, ERR1 to ERR4) changes none.
+     power, input and lamps unknown, and a new greeting is awaited. Any other reply ends it: the power, the input (under
+     `%1` or `%2`) or the lamps that it tells are now known and shown, and a reply that tells none of them (OK, ERR1 to
+     ERR4) changes none. To a command of Class 2 a projector of Class 1 gives no reply: it stays under way until
+     pj_panel_lost.
    Refuses with PJ_NOT_LEGAL, then with PJ_OUT_OF_RANGE a projector that there is not. A stray is not refused. */
 CEILING_KEEP
 pj_panel_changed pj_panel_line(pj_panel p, size_t projector, const uint8_t *line, size_t len);
@@ -542,28 +619,32 @@ pj_plan pj_plan_day(const uint32_t *starts, size_t starts_len, const uint32_t *l
 /* The layout that the archive has. */
 CEILING_IS(sizeof(bool) == 1 && sizeof(size_t) == 8);
 CEILING_IS(sizeof(pj_text) == 72 && offsetof(pj_text, bytes) == 8);
-CEILING_IS(sizeof(pj_settings) == 448 && offsetof(pj_settings, maker) == 72 && offsetof(pj_settings, model) == 144);
+CEILING_IS(sizeof(pj_name) == 136 && offsetof(pj_name, bytes) == 8);
+CEILING_IS(sizeof(pj_settings) == 4952 && offsetof(pj_settings, maker) == 72 && offsetof(pj_settings, model) == 144);
 CEILING_IS(offsetof(pj_settings, other) == 216 && offsetof(pj_settings, password) == 288);
 CEILING_IS(offsetof(pj_settings, input_count) == 360 && offsetof(pj_settings, inputs) == 368);
 CEILING_IS(offsetof(pj_settings, lamp_count) == 432 && offsetof(pj_settings, warm) == 440);
-CEILING_IS(offsetof(pj_settings, cool) == 444);
+CEILING_IS(offsetof(pj_settings, cool) == 444 && offsetof(pj_settings, class_number) == 448);
+CEILING_IS(offsetof(pj_settings, serial) == 456 && offsetof(pj_settings, version) == 528);
+CEILING_IS(offsetof(pj_settings, names) == 600);
 CEILING_IS(sizeof(pj_line) == 184 && offsetof(pj_line, held) == 8 && offsetof(pj_line, bytes) == 16);
 CEILING_IS(sizeof(pj_connection) == 200 && offsetof(pj_connection, age) == 4);
 CEILING_IS(offsetof(pj_connection, random) == 8 && offsetof(pj_connection, line) == 16);
 CEILING_IS(sizeof(pj_own) == 72 && offsetof(pj_own, left) == 4 && offsetof(pj_own, chosen) == 8);
 CEILING_IS(offsetof(pj_own, video_muted) == 16 && offsetof(pj_own, audio_muted) == 17 && offsetof(pj_own, fault) == 18);
 CEILING_IS(offsetof(pj_own, errors) == 19 && offsetof(pj_own, lamps) == 28 && offsetof(pj_own, enabled) == 60);
-CEILING_IS(sizeof(pj_device) == 1320 && offsetof(pj_device, own) == 448 && offsetof(pj_device, connections) == 520);
-CEILING_IS(sizeof(pj_changed) == 1328 && offsetof(pj_changed, device) == 8);
-CEILING_IS(sizeof(pj_opened) == 1344 && offsetof(pj_opened, length) == 8 && offsetof(pj_opened, place) == 16);
+CEILING_IS(offsetof(pj_own, frozen) == 68 && offsetof(pj_own, speaker) == 69 && offsetof(pj_own, microphone) == 70);
+CEILING_IS(sizeof(pj_device) == 5824 && offsetof(pj_device, own) == 4952 && offsetof(pj_device, connections) == 5024);
+CEILING_IS(sizeof(pj_changed) == 5832 && offsetof(pj_changed, device) == 8);
+CEILING_IS(sizeof(pj_opened) == 5848 && offsetof(pj_opened, length) == 8 && offsetof(pj_opened, place) == 16);
 CEILING_IS(offsetof(pj_opened, device) == 24);
-CEILING_IS(sizeof(pj_received) == 1344 && offsetof(pj_received, taken) == 8);
+CEILING_IS(sizeof(pj_received) == 5848 && offsetof(pj_received, taken) == 8);
 CEILING_IS(offsetof(pj_received, length) == 16 && offsetof(pj_received, device) == 24);
 CEILING_IS(sizeof(pj_digest) == 16);
 CEILING_IS(sizeof(pj_command) == 3 && offsetof(pj_command, first) == 1 && offsetof(pj_command, second) == 2);
 CEILING_IS(sizeof(pj_written) == 16 && offsetof(pj_written, length) == 8);
 CEILING_IS(sizeof(pj_greeting) == 12 && offsetof(pj_greeting, kind) == 4 && offsetof(pj_greeting, random) == 8);
-CEILING_IS(sizeof(pj_reading) == 184 && offsetof(pj_reading, kind) == 4 && offsetof(pj_reading, first) == 5);
+CEILING_IS(sizeof(pj_reading) == 248 && offsetof(pj_reading, kind) == 4 && offsetof(pj_reading, first) == 5);
 CEILING_IS(offsetof(pj_reading, second) == 6 && offsetof(pj_reading, count) == 8 && offsetof(pj_reading, hours) == 16);
 CEILING_IS(offsetof(pj_reading, lit) == 48 && offsetof(pj_reading, inputs) == 56 && offsetof(pj_reading, text) == 120);
 CEILING_IS(sizeof(pj_entry) == 152 && offsetof(pj_entry, greeting) == 72 && offsetof(pj_entry, random) == 76);
