@@ -13,6 +13,7 @@
 static uint8_t call[1 << 23], answer[1 << 16]; /* a message of megabytes, the largest answer */
 static uint32_t words[5][1 << 10];             /* lists of larger numbers are aligned */
 static int64_t differences[1 << 10];
+static size_t lengths[1 << 10];
 static size_t at, end;
 
 static void get(void *to, size_t n) {
@@ -61,10 +62,16 @@ static void put_slice(slice s) {
     EACH_TEXT(DO, (d).settings.other)                                                                                  \
     EACH_TEXT(DO, (d).settings.password)                                                                               \
     DO((d).settings.input_count) DO((d).settings.inputs) DO((d).settings.lamp_count)                                   \
-    DO((d).settings.warm) DO((d).settings.cool)                                                                        \
+    DO((d).settings.warm) DO((d).settings.cool) DO((d).settings.class_number)                                          \
+    EACH_TEXT(DO, (d).settings.serial)                                                                                 \
+    EACH_TEXT(DO, (d).settings.version)                                                                                \
+    for (size_t i = 0; i < PJ_INPUTS_MOST; i++) {                                                                      \
+        EACH_TEXT(DO, (d).settings.names[i])                                                                           \
+    }                                                                                                                  \
     DO((d).own.power) DO((d).own.left) DO((d).own.chosen)                                                              \
     DO((d).own.video_muted) DO((d).own.audio_muted) DO((d).own.fault)                                                  \
-    DO((d).own.errors) DO((d).own.lamps) DO((d).own.enabled)
+    DO((d).own.errors) DO((d).own.lamps) DO((d).own.enabled)                                                           \
+    DO((d).own.frozen) DO((d).own.speaker) DO((d).own.microphone)
 #define EACH_OF_CONNECTION(DO, c)                                                                                      \
     DO((c).phase) DO((c).age) DO((c).random) DO((c).line.overlong) DO((c).line.held) DO((c).line.bytes)
 
@@ -131,17 +138,27 @@ static pj_command get_command(void) {
     return c;
 }
 
-static void set_up(bool which) {
+enum set_up { SET_UP, SET_UP_2, WHICH_SETTING };
+
+static void set_up(enum set_up which) {
     slice name = get_slice(), maker = get_slice(), model = get_slice(), other = get_slice();
     slice password = get_slice(), inputs = get_slice();
     size_t lamps = get_words(words[0]);
     uint32_t warm, cool;
     GET(warm);
     GET(cool);
-    if (which) {
+    if (which == WHICH_SETTING) {
         uint32_t setting = pj_which_setting(name.at, name.n, maker.at, maker.n, model.at, model.n, other.at, other.n,
                                             password.at, password.n, inputs.at, inputs.n, words[0], lamps, warm, cool);
         PUT(setting);
+    } else if (which == SET_UP_2) {
+        slice serial = get_slice(), version = get_slice(), names = get_slice();
+        size_t n;
+        GET(n);
+        get(lengths, n * sizeof *lengths);
+        put_changed(pj_set_up_2(name.at, name.n, maker.at, maker.n, model.at, model.n, other.at, other.n, password.at,
+                                password.n, inputs.at, inputs.n, words[0], lamps, warm, cool, serial.at, serial.n,
+                                version.at, version.n, names.at, names.n, lengths, n));
     } else {
         put_changed(pj_set_up(name.at, name.n, maker.at, maker.n, model.at, model.n, other.at, other.n, password.at,
                               password.n, inputs.at, inputs.n, words[0], lamps, warm, cool));
@@ -342,7 +359,7 @@ static void make_call(void) {
     uint8_t which;
     GET(which);
     switch (which) {
-    case 0: set_up(false); break;
+    case 0: set_up(SET_UP); break;
     case 1: open_connection(d); break;
     case 2: close_connection(d); break;
     case 3: receive(d); break;
@@ -358,7 +375,7 @@ static void make_call(void) {
     case 13: compare_lamps(); break;
     case 14: cutting_day(false); break;
     case 15: cutting_day(true); break;
-    case 16: set_up(true); break;
+    case 16: set_up(WHICH_SETTING); break;
     case 17: store(d); break;
     case 18: load(); break;
     case 19: put_panel_changed(pj_panel_none()); break;
@@ -367,6 +384,7 @@ static void make_call(void) {
     case 22: line_to_panel(); break;
     case 23: lost_to_panel(); break;
     case 24: set_mark(d); break;
+    case 25: set_up(SET_UP_2); break;
     default: exit(EXIT_FAILURE);
     }
 }

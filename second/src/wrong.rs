@@ -67,6 +67,7 @@ mod tests {
         assert!(run.all().is_ok());
         for (call, kinds) in [
             ("pj_set_up", "served !3 !8"),
+            ("pj_set_up_2", "served !3 !8"),
             ("pj_close", "served !1 !3 !4"),
             ("pj_pass", "served !1"),
             ("pj_pass_in_place", "served !1"),
@@ -79,6 +80,7 @@ mod tests {
             ("pj_open", "!1 !2 !6"),
             ("pj_receive", "!1 !2 !3 !4 none OK ERR1 ERR2 ERR3 ERR4"),
             ("pj_receive", "POWR INPT AVMT ERST LAMP INST NAME INF1 INF2 INFO CLSS"),
+            ("pj_receive", "%2OK %2ERR1 %2ERR2 %2ERR3 %2ERR4 %2INPT %2INST %2FREZ %2SNUM %2SVER %2INNM"),
             ("place that pj_open tells", "0 1 2 3"),
             ("place that pj_close names", "0 1 2 3 none"),
             ("place that pj_receive names", "0 1 2 3 none"),
@@ -100,7 +102,7 @@ mod tests {
         let of_kind = |call, kind: usize| run.met.times(call, &format!("kind {kind}"));
         (1..=3).for_each(|kind| assert!(of_kind("pj_read_greeting", kind) >= 100, "greeting {kind}"));
         (0..=4).for_each(|rule| assert!(run.met.times("pj_check_day", &format!("rule {rule}")) >= 100, "rule {rule}"));
-        (1..=11).for_each(|kind| assert!(of_kind("pj_read_reply", kind) >= 100, "reading {kind}"));
+        (1..=12).for_each(|kind| assert!(of_kind("pj_read_reply", kind) >= 100, "reading {kind}"));
         let told = |place| run.met.times("pj_which_setting", &format!("setting {place}"));
         (0..=9).for_each(|place| assert!(told(place) >= 100, "setting {place}: {}", told(place)));
         ["PJLINK 0", "PJLINK 1"].iter().for_each(|greeting| assert!(run.met.times("pj_open", greeting) >= 100));

@@ -28,7 +28,7 @@ pub fn history(random: &mut Random) -> Case {
         device = after(&device, &act);
         acts.push(act);
     }
-    Case { start: Device::BLANK, acts }
+    Case::of(Device::BLANK, acts)
 }
 
 fn open(random: &mut Random) -> Act {

@@ -7,6 +7,7 @@ use crate::face::{Act, Device, Lent};
 use crate::reference::calls;
 use crate::reference::rules::unmistaken;
 use crate::reference::set_up::LAMP_LIMIT;
+use std::rc::Rc;
 
 pub fn cases(random: &mut Random) -> Vec<Case> {
     let mut all = every_pattern(random);
@@ -62,9 +63,10 @@ fn every_lamp(random: &mut Random) -> Vec<Case> {
         for bits in tried {
             let mut device = marked(lamps, power, bits);
             device.own.fault = random.one_in(4);
+            let device = Rc::new(device);
             for lamp in (0..=9).chain(NO_PLACES.iter().copied()) {
                 let acts = [false, true].map(|enabled| Act::SetMark { lamp, enabled });
-                all.extend(acts.map(|act| Case::one(device, act)));
+                all.extend(acts.map(|act| Case::one(device.clone(), act)));
             }
         }
     }
@@ -95,7 +97,7 @@ fn at_work() -> Vec<Case> {
             acts.extend([receive(b"%1POWR 0\r"), Act::SetMark { lamp: first, enabled: true }, receive(b"%1LAMP ?\r")]);
             acts.extend([Act::Pass { seconds: 600 }, Act::Store { lent: vec![0xA5; forms::ROOM] }]);
         }
-        all.push(Case { start: marked(lamps, 0, (1 << lamps) - 1), acts });
+        all.push(Case::of(marked(lamps, 0, (1 << lamps) - 1), acts));
     }
     all
 }

@@ -7,6 +7,7 @@ use crate::face::{Act, Connection, Device, Lent, Line, PLACES};
 use crate::reference::calls;
 use crate::reference::connection::leading_digest;
 use crate::reference::rules::unmistaken;
+use std::rc::Rc;
 
 const PASSWORD: &[u8] = b"Schnitt8";
 
@@ -63,8 +64,8 @@ fn every_number() -> impl Iterator<Item = usize> {
 fn every_phase(random: &mut Random) -> Vec<Case> {
     let mut all = Vec::new();
     for phases in 0..256 {
-        let device = in_phases(std::array::from_fn(|place| (phases >> (2 * place) & 3) as u8));
-        let mut one = |act| all.push(Case::one(device, act));
+        let device = Rc::new(in_phases(std::array::from_fn(|place| (phases >> (2 * place) & 3) as u8)));
+        let mut one = |act| all.push(Case::one(device.clone(), act));
         for length in [0, 135, 136, 137] {
             one(Act::Open { random: random.word(), lent: random.memory(length) });
         }
@@ -121,7 +122,8 @@ fn illegal_at_one_place(random: &mut Random) -> Vec<Case> {
         for illegal in illegal() {
             let mut device = records::legal(random);
             device.connections[place] = illegal;
-            let mut one = |act| all.push(Case::one(device, act));
+            let device = Rc::new(device);
+            let mut one = |act| all.push(Case::one(device.clone(), act));
             one(Act::Legal);
             one(Act::Open { random: 7, lent: vec![0xA5; 136] });
             one(Act::Open { random: 7, lent: vec![0xA5; 135] });
@@ -154,7 +156,7 @@ fn opened_again() -> Vec<Case> {
             acts.extend((0..PLACES).map(|place| receive(place, b"%1CLSS ?\r")));
             acts.push(Act::Pass { seconds: 30 });
             acts.extend((0..=4).map(|turn| open(20 + turn)));
-            all.push(Case { start: fresh(password), acts });
+            all.push(Case::of(fresh(password), acts));
             places.reverse();
         }
     }
@@ -180,7 +182,7 @@ fn half_lines() -> Vec<Case> {
                         receive(first, &one[end..]),
                         receive(second, &other[other_end..]),
                     ];
-                    all.push(Case { start: device, acts });
+                    all.push(Case::of(device, acts));
                 }
             }
         }
@@ -222,7 +224,7 @@ fn outsiders() -> Vec<Case> {
                     receive(inside, b"%1POWR ?\r"),
                 ];
                 acts.insert(turn, receive(outside, &line));
-                all.push(Case { start: in_phases([1; PLACES]), acts });
+                all.push(Case::of(in_phases([1; PLACES]), acts));
             }
         }
     }
@@ -241,7 +243,7 @@ fn timeouts() -> Vec<Case> {
                 device.own.power = 1;
                 for seconds in [0, 1, 2, 28, 29, 30, 31].map(|seconds: u32| seconds.saturating_sub(age)) {
                     let act = if place % 2 == 0 { Act::Pass { seconds } } else { Act::PassInPlace { seconds } };
-                    all.push(Case { start: device, acts: vec![act, receive(place, b"\r"), Act::Legal] });
+                    all.push(Case::of(device, vec![act, receive(place, b"\r"), Act::Legal]));
                 }
             }
         }

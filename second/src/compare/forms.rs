@@ -4,12 +4,12 @@
 use super::random::Random;
 use super::{records, setups};
 use crate::face::{Act, Device, Lent};
-use crate::reference::form::{LONGEST, Stored, written};
+use crate::reference::form::{self, LONGEST_MARKED as LONGEST, Stored, written};
 use crate::reference::rules::unmistaken;
 use crate::reference::set_up::{LAMP_LIMIT, MOST_INPUTS};
 use crate::reference::swap;
 
-/// Enough memory for every form.
+/// Enough memory for every form of version 2.
 pub const ROOM: usize = LONGEST;
 
 /// The sections of a form: how many there are, and what one of each one's count takes. The last, the marks, are not in
@@ -23,12 +23,12 @@ pub fn of(lent: &Lent) -> Vec<u8> {
 
 /// With these bytes for marks, legal or not.
 pub fn marked(lent: &Lent, marks: &[u8]) -> Vec<u8> {
-    unmistaken(|| written(&Stored { lent: lent.clone(), marks: Some(marks.to_vec()) }))
+    unmistaken(|| written(&Stored { lent: lent.clone(), marks: Some(marks.to_vec()), class: None }))
 }
 
 /// Of version 1, which has no marks.
 pub fn old(lent: &Lent) -> Vec<u8> {
-    unmistaken(|| written(&Stored { lent: lent.clone(), marks: None }))
+    unmistaken(|| written(&Stored { lent: lent.clone(), marks: None, class: None }))
 }
 
 /// The shortest form that there is.
@@ -89,15 +89,15 @@ pub fn store(random: &mut Random, device: &Device) -> Act {
         1 => random.below(taken),
         2 => random.pick(&[LONGEST - 1, LONGEST, LONGEST + 1, 136]),
         3 => taken - 1,
-        4 => random.from_to(taken, 2 * LONGEST),
+        4 => random.from_to(taken, taken.max(2 * LONGEST)),
         _ => taken,
     };
     Act::Store { lent: random.memory(length) }
 }
 
 /// The form of a record, if it is legal.
-fn stored(device: &Device) -> Option<Vec<u8>> {
-    let mut out = [0; LONGEST];
+pub fn stored(device: &Device) -> Option<Vec<u8>> {
+    let mut out = [0; form::LONGEST];
     let written = unmistaken(|| swap::store(device, &mut out));
     (written.number == 0).then(|| out[..written.length].to_vec())
 }

@@ -14,7 +14,7 @@ pub fn history(random: &mut Random) -> Case {
         device = after(&device, &act);
         acts.push(act);
     }
-    Case { start: Device::BLANK, acts }
+    Case::of(Device::BLANK, acts)
 }
 
 pub fn after(device: &Device, act: &Act) -> Device {

@@ -34,7 +34,7 @@ pub fn stream(random: &mut Random, device: &Device, place: usize) -> Vec<u8> {
 }
 
 /// Right, wrong by one character, in upper case, cut, too long, none; or another place's.
-fn digest(random: &mut Random, device: &Device, place: usize) -> Vec<u8> {
+pub fn digest(random: &mut Random, device: &Device, place: usize) -> Vec<u8> {
     let password = &device.settings.password;
     let place = if random.one_in(8) { random.below(PLACES) } else { place };
     let right = leading_digest(device.connections[place].random, &password.bytes[..password.len.min(64)]);
@@ -98,7 +98,7 @@ fn parameter(random: &mut Random, device: &Device, body: usize) -> Vec<u8> {
 }
 
 /// Around 128 bytes, the most that a line has.
-fn long_parameter(random: &mut Random) -> Vec<u8> {
+pub fn long_parameter(random: &mut Random) -> Vec<u8> {
     let length = random.pick(&[2, 95, 96, 126, 127, 128, 129, 130, 200]);
     let byte = random.pick(b"?a\n\xFF0");
     vec![byte; length]

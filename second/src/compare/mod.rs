@@ -1,5 +1,12 @@
 //! The comparison: the same calls on the same inputs in both programs, every number, count, record field and lent byte.
+//!
+//! The cases from before 02, L14, are made as they were, by the rules and the random numbers of then (`Rules::Before`), and
+//! compared by those of now; `before` holds that they are the same. Class 2 has its own, beside them.
 
+#[cfg(test)]
+mod before;
+pub mod class_2;
+pub mod class_2_shrink;
 pub mod controllers;
 pub mod days;
 pub mod every_form;
@@ -27,15 +34,17 @@ pub mod tables;
 pub mod tally;
 
 use crate::face::{Act, Answer, Device, Lent, PLACES, PanelCall, Side};
+use crate::reference::rules::Rules;
 use crate::reference::side::Second;
 use random::Random;
 use report::Difference;
+use std::rc::Rc;
 use tally::Tally;
 
 /// Nothing, or the smallest difference found.
 type Compared = Result<(), Box<Difference>>;
 
-/// A run has at least so many comparisons.
+/// A run has at least so many comparisons in the cases from before 02, L14, and as many rounds in Class 2.
 pub const ENOUGH: usize = 500_000;
 
 /// So many rounds come before what leaves nothing to chance, so that most differences are found early.
@@ -47,32 +56,68 @@ const TRIES: usize = 20_000;
 /// Calls from a record on, each lent the record that the last one returned; a call that returns none hands its own on.
 #[derive(Clone, PartialEq, Eq, Debug)]
 pub struct Case {
-    pub start: Device,
+    /// Shared by the cases that are made from one record.
+    pub start: Rc<Device>,
     pub acts: Vec<Act>,
 }
 
 impl Case {
-    fn one(device: Device, act: Act) -> Case {
-        Case { start: device, acts: vec![act] }
+    fn of(device: impl Into<Rc<Device>>, acts: Vec<Act>) -> Case {
+        Case { start: device.into(), acts }
+    }
+
+    fn one(device: impl Into<Rc<Device>>, act: Act) -> Case {
+        Case::of(device, vec![act])
     }
 }
 
 /// One run over one board: how many calls agreed so far, and what they gave.
 pub struct Run<'a, B: Side> {
     random: Random,
+    /// Of the cases in Class 2, so that they take nothing from the others.
+    random_2: Random,
+    /// What a case is compared by.
+    rules: Rules,
     board: &'a mut B,
     pub agreed: usize,
+    /// Of these, in the cases from before 02, L14.
+    agreed_before: usize,
     pub met: Tally,
 }
 
 impl<'a, B: Side> Run<'a, B> {
     pub fn new(seed: u64, board: &'a mut B) -> Run<'a, B> {
-        Run { random: Random::new(seed), board, agreed: 0, met: Tally::default() }
+        let (random, random_2) = (Random::new(seed), Random::new(!seed));
+        let (rules, met) = (Rules::Now, Tally::default());
+        Run { random, random_2, rules, board, agreed: 0, agreed_before: 0, met }
     }
 
     /// Everything, until enough comparisons agreed; or the smallest difference found.
     pub fn all(&mut self) -> Result<usize, Box<Difference>> {
-        (0..FIRST_ROUNDS).try_for_each(|_| self.round())?;
+        self.before(Run::first_rounds)?;
+        (0..FIRST_ROUNDS).try_for_each(|_| self.round_2())?;
+        self.before(Run::every)?;
+        self.every_2()?;
+        while self.agreed_before < ENOUGH {
+            self.before(Run::round)?;
+            self.round_2()?;
+        }
+        Ok(self.agreed)
+    }
+
+    /// Cases from before 02, L14, made by the rules of then.
+    fn before(&mut self, cases: impl FnOnce(&mut Self) -> Compared) -> Compared {
+        let agreed = self.agreed;
+        let compared = Rules::Before.by(|| cases(self));
+        self.agreed_before += self.agreed - agreed;
+        compared
+    }
+
+    fn first_rounds(&mut self) -> Compared {
+        (0..FIRST_ROUNDS).try_for_each(|_| self.round())
+    }
+
+    fn every(&mut self) -> Compared {
         self.every_code()?;
         self.every_body()?;
         self.messages()?;
@@ -83,14 +128,14 @@ impl<'a, B: Side> Run<'a, B> {
         self.every_input()?;
         self.every_panel()?;
         self.every_place()?;
-        self.every_mark()?;
-        while self.agreed < ENOUGH {
-            self.round()?;
-        }
-        Ok(self.agreed)
+        self.every_mark()
     }
 
     fn compare(&mut self, case: Case) -> Compared {
+        self.rules.by(|| self.compare_now(case))
+    }
+
+    fn compare_now(&mut self, case: Case) -> Compared {
         let (agreed, met) = (&mut self.agreed, &mut self.met);
         let count = |act: &Act, answer: &Answer| {
             *agreed += 1;
@@ -105,6 +150,10 @@ impl<'a, B: Side> Run<'a, B> {
 
     fn compare_call(&mut self, device: Device, act: Act) -> Compared {
         self.compare(Case::one(device, act))
+    }
+
+    fn compare_all(&mut self, calls: impl IntoIterator<Item = (Device, Act)>) -> Compared {
+        calls.into_iter().try_for_each(|(device, act)| self.compare_call(device, act))
     }
 
     /// Every value of every code that a byte holds, in a record and in a command.
@@ -196,12 +245,12 @@ impl<'a, B: Side> Run<'a, B> {
 
     /// A panel at work; then calls on panels in every state, legal and damaged.
     fn panels(&mut self) -> Compared {
-        for act in panels::history(&mut self.random) {
+        for act in panels::history(&mut self.random, panels::CLASS_1) {
             self.compare_call(Device::BLANK, act)?;
         }
         for _ in 0..8 {
             for panel in [panel_records::legal(&mut self.random), panel_records::damaged(&mut self.random)] {
-                let act = panels::any_act(&mut self.random, &panel);
+                let act = panels::any_act(&mut self.random, &panel, panels::CLASS_1);
                 self.compare_call(Device::BLANK, Act::Panel(Box::new(PanelCall { panel, act })))?;
             }
         }
@@ -307,7 +356,7 @@ impl<'a, B: Side> Run<'a, B> {
 
 /// Where the two programs first differ in this case, if they do; `agree` hears of each call before that.
 fn difference(case: &Case, board: &mut impl Side, mut agree: impl FnMut(&Act, &Answer)) -> Option<Difference> {
-    let mut device = case.start;
+    let mut device = *case.start;
     for (place, act) in case.acts.iter().enumerate() {
         let expected = Second.answer(&device, act);
         let given = board.answer(&device, act);

@@ -11,6 +11,17 @@ use crate::reference::side::Second;
 /// Most that are asked: power, input and lamps.
 const SHOWN: [u8; 3] = [0, 2, 7];
 
+/// What projectors, commands and replies are made by.
+#[derive(Clone, Copy)]
+pub struct Making {
+    pub device: fn(&mut Random) -> Device,
+    pub command: fn(&mut Random) -> Command,
+    pub reply_line: fn(&mut Random, Command) -> Vec<u8>,
+}
+
+pub const CLASS_1: Making =
+    Making { device: records::legal, command: replies::command, reply_line: replies::reply_line };
+
 /// A projector at the other end, and what of it is on its way to the panel.
 struct Far {
     device: Device,
@@ -18,16 +29,16 @@ struct Far {
 }
 
 /// Calls on one panel, each with the panel that the one before gave by the rules, whatever mistake is made.
-pub fn history(random: &mut Random) -> Vec<Act> {
-    unmistaken(|| followed(random)).into_iter().map(|call| Act::Panel(Box::new(call))).collect()
+pub fn history(random: &mut Random, making: Making) -> Vec<Act> {
+    unmistaken(|| followed(random, making)).into_iter().map(|call| Act::Panel(Box::new(call))).collect()
 }
 
-fn followed(random: &mut Random) -> Vec<PanelCall> {
+fn followed(random: &mut Random, making: Making) -> Vec<PanelCall> {
     let mut calls = vec![PanelCall { panel: Panel::NONE, act: PanelAct::None }];
     let mut panel = Panel::NONE;
     let mut far = Vec::new();
     for _ in 0..random.pick(&[1, 1, 2, 2, 3, 8]) {
-        let device = Device { connections: Device::BLANK.connections, ..records::legal(random) };
+        let device = Device { connections: Device::BLANK.connections, ..(making.device)(random) };
         let password = password_for(random, &device);
         far.push(Far { device, on_its_way: Vec::new() });
         after(&mut calls, &mut panel, PanelAct::Add { password });
@@ -37,7 +48,7 @@ fn followed(random: &mut Random) -> Vec<PanelCall> {
     }
     while calls.len() < 60 && !random.one_in(60) {
         let projector = random.below(far.len());
-        let act = act(random, &panel, projector, &mut far[projector]);
+        let act = act(random, &panel, projector, &mut far[projector], making);
         let sent = after(&mut calls, &mut panel, act);
         far[projector].hear(random, &sent);
     }
@@ -99,32 +110,32 @@ impl Far {
 }
 
 /// Mostly what comes next between the two; at times anything.
-fn act(random: &mut Random, panel: &Panel, projector: usize, far: &mut Far) -> PanelAct {
+fn act(random: &mut Random, panel: &Panel, projector: usize, far: &mut Far, making: Making) -> PanelAct {
     let entry = &panel.entries[projector];
     match random.below(24) {
-        0 => any_act(random, panel),
+        0 => any_act(random, panel, making),
         1 => PanelAct::Lost { projector },
-        2..=4 => PanelAct::Line { projector, line: any_line(random, entry) },
+        2..=4 => PanelAct::Line { projector, line: any_line(random, entry, making) },
         5 if !far.on_its_way.is_empty() => PanelAct::Line { projector, line: far.on_its_way.clone() },
         _ if entry.greeting == 0 => PanelAct::Line { projector, line: far.greeting(random) },
         _ if entry.under_way && !far.on_its_way.is_empty() && !random.one_in(3) => {
             PanelAct::Line { projector, line: std::mem::take(&mut far.on_its_way) }
         }
-        _ if entry.under_way => PanelAct::Line { projector, line: replies::reply_line(random, entry.command) },
-        _ => PanelAct::Command { projector, command: command(random), lent: random.reply_memory(168) },
+        _ if entry.under_way => PanelAct::Line { projector, line: (making.reply_line)(random, entry.command) },
+        _ => PanelAct::Command { projector, command: command(random, making), lent: random.reply_memory(168) },
     }
 }
 
 /// Any call, on any projector that there is or is not.
-pub fn any_act(random: &mut Random, panel: &Panel) -> PanelAct {
+pub fn any_act(random: &mut Random, panel: &Panel, making: Making) -> PanelAct {
     let there = random.below(panel.count.clamp(1, 8));
     let low = random.below(10);
     let projector = random.pick(&[there, there, there, there, low, 1 << 32, (1 << 32) + there, usize::MAX]);
     match random.below(8) {
         0 => PanelAct::Add { password: any_password(random) },
         1 => PanelAct::Lost { projector },
-        2..=3 => PanelAct::Command { projector, command: command(random), lent: random.reply_memory(168) },
-        _ => PanelAct::Line { projector, line: any_line(random, &panel.entries[there]) },
+        2..=3 => PanelAct::Command { projector, command: command(random, making), lent: random.reply_memory(168) },
+        _ => PanelAct::Line { projector, line: any_line(random, &panel.entries[there], making) },
     }
 }
 
@@ -137,22 +148,22 @@ pub fn any_password(random: &mut Random) -> Vec<u8> {
     password
 }
 
-fn command(random: &mut Random) -> Command {
+fn command(random: &mut Random, making: Making) -> Command {
     let asked = Command { code: random.pick(&SHOWN), first: random.byte(), second: random.byte() };
-    let any = replies::command(random);
+    let any = (making.command)(random);
     random.pick(&[asked, any])
 }
 
 /// A greeting, ERRA, a reply to what is under way or to something else, as a projector writes it or damaged.
-fn any_line(random: &mut Random, entry: &Entry) -> Vec<u8> {
+fn any_line(random: &mut Random, entry: &Entry, making: Making) -> Vec<u8> {
     match random.below(12) {
         0..=2 => replies::greeting_line(random),
         3..=4 => b"PJLINK ERRA\r".to_vec(),
-        5..=8 => replies::reply_line(random, entry.command),
+        5..=8 => (making.reply_line)(random, entry.command),
         9 => random.pick(&[&b""[..], b"\r", b"%1POWR=1", b"%1POWR=1\r\r", b"%2POWR=1\r", b"PJLINK ERRA"]).to_vec(),
         _ => {
-            let command = command(random);
-            replies::reply_line(random, command)
+            let command = command(random, making);
+            (making.reply_line)(random, command)
         }
     }
 }

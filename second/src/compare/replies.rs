@@ -8,7 +8,7 @@ use crate::reference::commands::BODIES;
 use std::collections::BTreeSet;
 
 /// The body of each command's code.
-const BODY: [usize; 14] = [0, 0, 1, 1, 2, 2, 3, 4, 5, 6, 7, 8, 9, 10];
+pub const BODY: [usize; 14] = [0, 0, 1, 1, 2, 2, 3, 4, 5, 6, 7, 8, 9, 10];
 
 pub fn write(random: &mut Random) -> Act {
     let length = random.length_to(32);
@@ -93,7 +93,7 @@ pub fn named(name: &[u8]) -> Act {
 }
 
 /// A parameter for a command of this code, mostly one that is allowed.
-fn parameter(random: &mut Random, code: usize) -> Vec<u8> {
+pub fn parameter(random: &mut Random, code: usize) -> Vec<u8> {
     if random.one_in(8) {
         return random
             .pick(&[&b"OK"[..], b"ok", b"ERR0", b"ERR1", b"ERR2", b"ERR3", b"ERR4", b"ERR5", b"ERRA"])
@@ -186,7 +186,7 @@ fn name(random: &mut Random) -> Vec<u8> {
 }
 
 /// Around the longest, with every byte from 0x20 and at times one below.
-fn text(random: &mut Random, longest: usize) -> Vec<u8> {
+pub fn text(random: &mut Random, longest: usize) -> Vec<u8> {
     let length = match random.below(8) {
         0 => longest + 1,
         1 => random.pick(&[127, 128, 129, 65, 33]),

@@ -2,7 +2,7 @@
 
 use super::Case;
 use crate::face::fields::{Fields, quoted};
-use crate::face::{Act, Answer, Device, Panel, PanelAct, PanelCall};
+use crate::face::{Act, Answer, Device, Lent2, Panel, PanelAct, PanelCall};
 use std::fmt;
 
 pub struct Difference {
@@ -17,8 +17,8 @@ pub struct Difference {
 impl fmt::Display for Difference {
     fn fmt(&self, f: &mut fmt::Formatter) -> fmt::Result {
         writeln!(f, "the two programs differ at call {} of {}:", self.place + 1, self.case.acts.len())?;
-        if self.case.start != Device::BLANK {
-            writeln!(f, "  from the record {}", record(&self.case.start, &Device::BLANK))?;
+        if *self.case.start != Device::BLANK {
+            writeln!(f, "  from the record {}", record(&*self.case.start, &Device::BLANK))?;
         }
         for act in &self.case.acts[..=self.place] {
             writeln!(f, "  {}", call(act))?;
@@ -53,6 +53,12 @@ fn call(act: &Act) -> String {
             let texts = [&lent.name, &lent.maker, &lent.model, &lent.other, &lent.password, &lent.inputs];
             let texts: Vec<String> = texts.iter().map(|text| quoted(text)).collect();
             format!("{name}({}, lamps {:?}, warm {}, cool {})", texts.join(", "), lent.lamps, lent.warm, lent.cool)
+        }
+        Act::SetUp2(lent) => {
+            let Lent2 { lent, serial, version, names, name_lengths } = &**lent;
+            let texts = [serial, version, names].map(|text| quoted(text)).join(", ");
+            let first = call(&Act::SetUp(lent.clone())).replacen("pj_set_up(", "pj_set_up_2(", 1);
+            format!("{}, {texts}, lengths {name_lengths:?})", first.trim_end_matches(')'))
         }
         Act::Open { random, lent } => format!("pj_open({random:#010x}, {})", memory(lent)),
         Act::Close { place } => format!("pj_close({place})"),

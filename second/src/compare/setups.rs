@@ -27,7 +27,7 @@ pub fn any(random: &mut Random) -> Lent {
     lent
 }
 
-fn text(random: &mut Random, longest: usize) -> Vec<u8> {
+pub fn text(random: &mut Random, longest: usize) -> Vec<u8> {
     let length = random.length_to(longest);
     match random.below(12) {
         0 => random.pick(&[&b"ERR5"[..], b"ERR0", b"err1", b"ERR", b"ERR11", b"OK", b"?"]).to_vec(),
@@ -79,7 +79,7 @@ fn seconds(random: &mut Random) -> u32 {
 }
 
 /// One setting that may now be out of its range.
-fn damage(random: &mut Random, lent: &mut Lent) {
+pub fn damage(random: &mut Random, lent: &mut Lent) {
     let which = random.below(5);
     let information = [&mut lent.name, &mut lent.maker, &mut lent.model, &mut lent.other, &mut lent.password];
     let [name, maker, model, other, password] = information;

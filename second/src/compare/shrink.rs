@@ -1,9 +1,9 @@
 //! From a case on which the two programs differ to the smallest that still shows it.
 
-use super::{Case, days, forms, panel_shrink, tables};
+use super::{Case, class_2_shrink, days, panel_shrink, tables};
 use crate::face::wire::Wire;
-use crate::face::{Act, Command, Connection, Device, Lent, PLACES};
-use crate::reference::form;
+use crate::face::{Act, Command, Connection, Device, Lent, Name, PLACES};
+use crate::reference::form::{self, Stored};
 use crate::reference::rules::unmistaken;
 
 /// What can be cut down.
@@ -27,16 +27,18 @@ pub fn smallest<T: Smaller>(mut case: T, tries: usize, mut differs: impl FnMut(&
 impl Smaller for Case {
     /// Fewer calls first, then a simpler record to start from, then simpler calls.
     fn smaller(&self) -> impl Iterator<Item = Case> {
-        let fewer = shorter(&self.acts).filter(|acts| !acts.is_empty()).map(|acts| Case { start: self.start, acts });
-        let records = zeroed(&self.start, &[360, 72, 36, 8, 4, 1]).chain(plainer_records(&self.start));
+        let fewer = shorter(&self.acts).filter(|acts| !acts.is_empty()).map(|acts| Case::of(self.start.clone(), acts));
+        let plainer = class_2_shrink::plainer_records(&self.start).into_iter();
+        let zeroed = zeroed(&*self.start, &[4360, 360, 72, 36, 8, 4, 1]);
+        let records = plainer.chain(zeroed).chain(plainer_records(&self.start));
         let simpler_acts = (0..self.acts.len()).flat_map(move |place| {
             simpler(&self.acts[place]).into_iter().map(move |act| {
                 let mut acts = self.acts.clone();
                 acts[place] = act;
-                Case { start: self.start, acts }
+                Case::of(self.start.clone(), acts)
             })
         });
-        fewer.chain(records.map(|start| Case { start, acts: self.acts.clone() })).chain(simpler_acts)
+        fewer.chain(records.map(|start| Case::of(start, self.acts.clone()))).chain(simpler_acts)
     }
 }
 
@@ -58,15 +60,18 @@ fn stretches(length: usize, mut sizes: Vec<usize>) -> impl Iterator<Item = (usiz
 }
 
 /// The record with a stretch of its fields set to zero: all of it, then of these sizes. Of a device they are the texts,
-/// one text, part of one, a count, a number, a byte.
+/// all names, one text, part of one, a count, a number, a byte.
 pub fn zeroed<T: Wire>(record: &T, sizes: &[usize]) -> impl Iterator<Item = T> {
     let mut bytes = Vec::new();
     record.put(&mut bytes);
     let length = bytes.len();
     stretches(length, [&[length], sizes].concat()).filter_map(move |(first, end)| {
-        let mut fewer = bytes.clone();
-        fewer[first..end].fill(0);
-        (fewer != bytes).then(|| T::get(&mut fewer.as_slice()))
+        let used = bytes[first..end].iter().any(|&byte| byte != 0);
+        used.then(|| {
+            let mut fewer = bytes.clone();
+            fewer[first..end].fill(0);
+            T::get(&mut fewer.as_slice())
+        })
     })
 }
 
@@ -87,6 +92,7 @@ fn plainer_records(device: &Device) -> impl Iterator<Item = Device> {
                 d.settings.input_count = inputs.len() / 2;
                 d.settings.inputs = [0; 64];
                 d.settings.inputs[..inputs.len()].copy_from_slice(inputs);
+                d.settings.names[inputs.len() / 2..].fill(Name::EMPTY);
                 d.own.chosen = d.own.chosen.min(inputs.len() / 2 - 1);
             });
         }
@@ -126,6 +132,10 @@ fn plainer_records(device: &Device) -> impl Iterator<Item = Device> {
 fn simpler(act: &Act) -> Vec<Act> {
     match act {
         Act::SetUp(lent) => simpler_set_ups(lent).into_iter().map(Act::SetUp).collect(),
+        Act::SetUp2(lent) => {
+            let simpler = class_2_shrink::simpler_set_ups(lent).into_iter();
+            simpler.map(|lent| Act::SetUp2(Box::new(lent))).collect()
+        }
         Act::WhichSetting(lent) => simpler_set_ups(lent).into_iter().map(Act::WhichSetting).collect(),
         Act::Open { random, lent } => {
             let numbers = lower(*random).map(|random| Act::Open { random, lent: lent.clone() });
@@ -205,7 +215,7 @@ fn lower_places(place: usize) -> impl Iterator<Item = usize> {
     [0, PLACES, place.wrapping_sub(1)].into_iter().filter(move |&lower| lower < place)
 }
 
-fn simpler_set_ups(lent: &Lent) -> Vec<Lent> {
+pub fn simpler_set_ups(lent: &Lent) -> Vec<Lent> {
     let mut all = Vec::new();
     macro_rules! shorten {
         ($($field:ident)*) => { $(
@@ -224,22 +234,20 @@ fn simpler_set_ups(lent: &Lent) -> Vec<Lent> {
 
 /// The form of simpler settings, with what is left over after it, or shorter bytes; of what is no form, simpler bytes.
 fn simpler_forms(bytes: &[u8]) -> Vec<Vec<u8>> {
-    match unmistaken(|| form::read(bytes)) {
-        Ok((form::Stored { lent, marks: None }, left_over)) => {
-            let simpler = simpler_set_ups(&lent).into_iter().map(|lent| [&forms::old(&lent)[..], left_over].concat());
-            simpler.chain(shorter(bytes)).collect()
+    let Ok((stored, left_over)) = unmistaken(|| form::read(bytes)) else { return simpler_bytes(bytes).collect() };
+    let of = |stored: &Stored| [&unmistaken(|| form::written(stored))[..], left_over].concat();
+    let with_lent = |lent| Stored { lent, ..stored.clone() };
+    let mut simpler: Vec<Stored> = class_2_shrink::simpler_classes(&stored);
+    for lent in simpler_set_ups(&stored.lent) {
+        let lamps = lent.lamps.len();
+        simpler.push(with_lent(lent.clone()));
+        if let Some(marks) = stored.marks.as_ref().filter(|marks| marks.len() > lamps) {
+            simpler.push(Stored { marks: Some(marks[..lamps].to_vec()), ..with_lent(lent) });
         }
-        Ok((form::Stored { lent, marks: Some(marks) }, left_over)) => {
-            let form = |lent: &Lent, marks: &[u8]| [&forms::marked(lent, marks)[..], left_over].concat();
-            let fewer = |lent: &Lent| marks[..marks.len().min(lent.lamps.len())].to_vec();
-            let simpler = simpler_set_ups(&lent).into_iter().flat_map(|lent| {
-                let fewer = form(&lent, &fewer(&lent));
-                [fewer, form(&lent, &marks)]
-            });
-            simpler.chain(shorter(&marks).map(|marks| form(&lent, &marks))).chain(shorter(bytes)).collect()
-        }
-        Err(_) => simpler_bytes(bytes).collect(),
     }
+    let marks = stored.marks.iter().flat_map(|marks| shorter(marks));
+    simpler.extend(marks.map(|marks| Stored { marks: Some(marks), ..stored.clone() }));
+    simpler.iter().map(of).chain(shorter(bytes)).collect()
 }
 
 pub fn simpler_commands(command: Command) -> impl Iterator<Item = Command> {

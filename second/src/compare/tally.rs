@@ -38,9 +38,10 @@ impl fmt::Display for Tally {
     }
 }
 
-fn call(act: &Act) -> &'static str {
+pub fn call(act: &Act) -> &'static str {
     match act {
         Act::SetUp(_) => "pj_set_up",
+        Act::SetUp2(_) => "pj_set_up_2",
         Act::WhichSetting(_) => "pj_which_setting",
         Act::Open { .. } => "pj_open",
         Act::Close { .. } => "pj_close",
@@ -131,13 +132,14 @@ fn refusal_or(number: u32, served: &str) -> String {
     if number == 0 { served.to_string() } else { format!("!{number}") }
 }
 
-/// The greeting, `OK` or the refusal of a reply line; of another, the body that it answers.
+/// The greeting, `OK` or the refusal of a reply line; of another, the body that it answers. In Class 2 after its header.
 fn reply(line: &[u8]) -> String {
     let text = String::from_utf8_lossy(line);
+    let class = if line.starts_with(b"%2") { "%2" } else { "" };
     match text.trim_end_matches('\r').split_once('=') {
         _ if line.is_empty() => "none".to_string(),
         None => text.chars().take(8).collect(),
-        Some((_, end @ ("OK" | "ERR1" | "ERR2" | "ERR3" | "ERR4"))) => end.to_string(),
-        Some((head, _)) => head[2..].to_uppercase(),
+        Some((_, end @ ("OK" | "ERR1" | "ERR2" | "ERR3" | "ERR4"))) => format!("{class}{end}"),
+        Some((head, _)) => format!("{class}{}", head[2..].to_uppercase()),
     }
 }

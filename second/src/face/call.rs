@@ -9,6 +9,7 @@ use super::{
 #[derive(Clone, PartialEq, Eq, Debug)]
 pub enum Act {
     SetUp(Lent),
+    SetUp2(Box<Lent2>),
     WhichSetting(Lent),
     Open {
         random: u32,
@@ -103,6 +104,16 @@ pub struct Lent {
     pub lamps: Vec<u32>,
     pub warm: u32,
     pub cool: u32,
+}
+
+/// What a set-up of Class 2 is lent: the bytes of all names one after the other, and the length of each.
+#[derive(Clone, PartialEq, Eq, Debug, Default)]
+pub struct Lent2 {
+    pub lent: Lent,
+    pub serial: Vec<u8>,
+    pub version: Vec<u8>,
+    pub names: Vec<u8>,
+    pub name_lengths: Vec<usize>,
 }
 
 /// What a call gives; where it was lent memory, the whole of that memory afterwards.

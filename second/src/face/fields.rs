@@ -2,8 +2,8 @@
 
 use super::wire::Wire;
 use super::{
-    Answer, Changed, Command, Compared, Connection, Device, Digest, Entry, Greeting, Line, Opened, Own, PLACES, Panel,
-    PanelChanged, PanelSent, Plan, Reading, Received, Settings, Text, Verdict, Written,
+    Answer, Changed, Command, Compared, Connection, Device, Digest, Entry, Greeting, Line, Name, Opened, Own, PLACES,
+    Panel, PanelChanged, PanelSent, Plan, Reading, Received, Settings, Text, Verdict, Written,
 };
 
 /// A value's fields, as (path, value) in their order.
@@ -40,8 +40,14 @@ macro_rules! records {
 
 records! {
     Text { len, bytes }
-    Settings { name, maker, model, other, password, input_count, inputs, lamp_count, warm, cool }
-    Own { power, left, chosen, video_muted, audio_muted, fault, errors, lamps, enabled }
+    Name { len, bytes }
+    Settings {
+        name, maker, model, other, password, input_count, inputs, lamp_count, warm, cool, class_number, serial, version,
+        names
+    }
+    Own {
+        power, left, chosen, video_muted, audio_muted, fault, errors, lamps, enabled, frozen, speaker, microphone
+    }
     Line { overlong, held, bytes }
     Connection { phase, age, random, line }
     Device { settings, own, connections }
@@ -96,6 +102,12 @@ impl Fields for [u32; 8] {
 impl Fields for [bool; 8] {
     fn list(&self, path: &str, into: &mut Vec<(String, String)>) {
         into.push((path.to_string(), format!("{self:?}")));
+    }
+}
+
+impl Fields for [Name; 32] {
+    fn list(&self, path: &str, into: &mut Vec<(String, String)>) {
+        self.iter().enumerate().for_each(|(place, name)| name.list(&format!("{path}[{place}]"), into));
     }
 }
 

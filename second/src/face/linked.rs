@@ -3,7 +3,7 @@
 use super::{
     Act, Answer, Changed, Command, Compared, Device, Digest, Greeting, Lent, Opened, Reading, Received, Side, Written,
 };
-use super::{days, swap, workroom};
+use super::{class_2, days, swap, workroom};
 
 #[link(name = "board", kind = "static")]
 unsafe extern "C" {
@@ -186,6 +186,7 @@ impl Side for Board {
         let device = *device;
         match act {
             Act::SetUp(lent) => Answer::Changed(set_up(lent)),
+            Act::SetUp2(lent) => Answer::Changed(class_2::set_up_2(lent)),
             Act::WhichSetting(lent) => Answer::Setting(which_setting(lent)),
             Act::Open { random, lent } => {
                 let mut out = lent.clone();

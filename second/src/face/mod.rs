@@ -10,7 +10,7 @@ mod panel;
 mod service;
 pub mod wire;
 
-pub use call::{Act, Answer, Lent};
+pub use call::{Act, Answer, Lent, Lent2};
 pub use hand_on::Side;
 pub use panel::{Entry, Panel, PanelAct, PanelCall, PanelChanged, PanelSent};
 pub use service::{Compared, Day, Plan, Verdict};
@@ -20,6 +20,8 @@ mod apart;
 #[cfg(board = "apart")]
 pub use apart::Board;
 
+#[cfg(board = "linked")]
+pub mod class_2;
 #[cfg(board = "linked")]
 pub mod days;
 #[cfg(board = "linked")]
@@ -43,6 +45,14 @@ pub struct Text {
     pub bytes: [u8; 64],
 }
 
+/// An input's name.
+#[repr(C)]
+#[derive(Clone, Copy, PartialEq, Eq, Debug)]
+pub struct Name {
+    pub len: usize,
+    pub bytes: [u8; 128],
+}
+
 #[repr(C)]
 #[derive(Clone, Copy, PartialEq, Eq, Debug)]
 pub struct Settings {
@@ -56,6 +66,10 @@ pub struct Settings {
     pub lamp_count: usize,
     pub warm: u32,
     pub cool: u32,
+    pub class_number: u8,
+    pub serial: Text,
+    pub version: Text,
+    pub names: [Name; 32],
 }
 
 #[repr(C)]
@@ -70,6 +84,9 @@ pub struct Own {
     pub errors: [u8; 6],
     pub lamps: [u32; 8],
     pub enabled: [bool; 8],
+    pub frozen: bool,
+    pub speaker: u8,
+    pub microphone: u8,
 }
 
 #[repr(C)]
@@ -132,7 +149,8 @@ pub struct Digest {
 }
 
 /// The codes are those of `include/ceiling.h`: 0 POWR ?, 1 POWR set, 2 INPT ?, 3 INPT set, 4 AVMT ?, 5 AVMT set, 6
-/// ERST, 7 LAMP, 8 INST, 9 NAME, 10 INF1, 11 INF2, 12 INFO, 13 CLSS.
+/// ERST, 7 LAMP, 8 INST, 9 NAME, 10 INF1, 11 INF2, 12 INFO, 13 CLSS; of Class 2, 14 FREZ ?, 15 FREZ set, 16 SVOL, 17
+/// MVOL, 18 SNUM, 19 SVER, 20 INNM, 21 INPT ?, 22 INPT set, 23 INST.
 #[repr(C)]
 #[derive(Clone, Copy, PartialEq, Eq, Debug)]
 pub struct Command {
@@ -167,11 +185,15 @@ pub struct Reading {
     pub hours: [u32; 8],
     pub lit: [bool; 8],
     pub inputs: [u8; 64],
-    pub text: [u8; 64],
+    pub text: [u8; 128],
 }
 
 impl Text {
     pub const EMPTY: Text = Text { len: 0, bytes: [0; 64] };
+}
+
+impl Name {
+    pub const EMPTY: Name = Name { len: 0, bytes: [0; 128] };
 }
 
 impl Connection {
@@ -193,6 +215,10 @@ impl Device {
             lamp_count: 0,
             warm: 0,
             cool: 0,
+            class_number: 0,
+            serial: Text::EMPTY,
+            version: Text::EMPTY,
+            names: [Name::EMPTY; 32],
         },
         own: Own {
             power: 0,
@@ -204,6 +230,9 @@ impl Device {
             errors: [0; 6],
             lamps: [0; 8],
             enabled: [false; 8],
+            frozen: false,
+            speaker: 0,
+            microphone: 0,
         },
         connections: [Connection::CLOSED; PLACES],
     };
@@ -221,7 +250,7 @@ impl Reading {
             hours: [0; 8],
             lit: [false; 8],
             inputs: [0; 64],
-            text: [0; 64],
+            text: [0; 128],
         }
     }
 }

@@ -1,7 +1,7 @@
 //! How calls and answers go to a process and back: every field in its order, numbers with their lowest byte first, a
 //! `size_t` as eight bytes, a slice after its length. `host/host.c` is the other end.
 
-use super::{Act, Answer, Day, Lent, PanelAct, PanelCall};
+use super::{Act, Answer, Day, Lent, Lent2, PanelAct, PanelCall};
 
 pub trait Wire {
     fn put(&self, out: &mut Vec<u8>);
@@ -88,6 +88,10 @@ pub fn put_act(act: &Act, out: &mut Vec<u8>) {
         Act::SetUp(lent) => {
             0u8.put(out);
             put_settings(lent, out);
+        }
+        Act::SetUp2(lent) => {
+            25u8.put(out);
+            put_settings_2(lent, out);
         }
         Act::WhichSetting(lent) => {
             16u8.put(out);
@@ -189,6 +193,14 @@ fn put_settings(lent: &Lent, out: &mut Vec<u8>) {
     lent.cool.put(out);
 }
 
+fn put_settings_2(lent: &Lent2, out: &mut Vec<u8>) {
+    put_settings(&lent.lent, out);
+    for text in [&lent.serial, &lent.version, &lent.names] {
+        text.put(out);
+    }
+    lent.name_lengths.put(out);
+}
+
 /// The panel stands after the call's number; of none, nothing does.
 fn put_panel_call(call: &PanelCall, out: &mut Vec<u8>) {
     let number: u8 = match call.act {
@@ -229,6 +241,7 @@ fn put_day(day: &Day, out: &mut Vec<u8>) {
 pub fn get_answer(act: &Act, from: &mut &[u8]) -> Answer {
     match act {
         Act::SetUp(_)
+        | Act::SetUp2(_)
         | Act::Close { .. }
         | Act::Pass { .. }
         | Act::PassInPlace { .. }

@@ -1,6 +1,7 @@
 //! The calls of a host, with 01's table of numbers: "Checks run in the order of the table; a call skips those it can't
 //! meet." A refused call gives the record it was given, counts 0, and writes no byte.
 
+use super::class::{Class, Texts, names_of};
 use super::controller::{self, Command};
 pub use super::places::{close, open, receive};
 use super::replies;
@@ -25,14 +26,41 @@ const SHORT_PASSWORD: u32 = 8;
 const PASSWORD: usize = 4;
 
 pub fn set_up(lent: &face::Lent) -> face::Changed {
-    match accepted(lent) {
+    given(accepted(lent, Class::One))
+}
+
+/// 02, L14, by the header: as `pj_set_up`, of Class 2. "other than one name an input; lengths that do not add up to
+/// names_len" are 3 too.
+pub fn set_up_2(lent: &face::Lent2) -> face::Changed {
+    let face::Lent2 { lent, serial, version, names, name_lengths } = lent;
+    let mut of_class_1 = set_up::in_range(lent);
+    of_class_1[PASSWORD + 1] = true;
+    if is_short(&lent.password) && made(Mistake::ShortBeforeTexts) && !of_class_1.contains(&false) {
+        return given(Err(SHORT_PASSWORD));
+    }
+    given(match names_of(names, name_lengths) {
+        Some(mut names) => {
+            let inputs = lent.inputs.len() / 2;
+            if (names.len() < inputs && made(Mistake::FewerNamesTaken))
+                || (names.len() > inputs && made(Mistake::MoreNamesTaken))
+            {
+                names.resize(inputs, Vec::new());
+            }
+            accepted(lent, Class::Two(Texts { serial: serial.clone(), version: version.clone(), names }))
+        }
+        None => Err(OUT_OF_RANGE),
+    })
+}
+
+fn given(accepted: Result<Projector, u32>) -> face::Changed {
+    match accepted {
         Ok(projector) => face::Changed { number: 0, device: projector.record() },
         Err(number) => face::Changed { number, device: face::Device::BLANK },
     }
 }
 
 /// The projector of a set-up; else 3, or 8 "after every 3 has been ruled out" (02, L9).
-pub(super) fn accepted(lent: &face::Lent) -> Result<Projector, u32> {
+pub(super) fn accepted(lent: &face::Lent, class: Class) -> Result<Projector, u32> {
     if is_short(&lent.password) && is_told_early(lent) {
         return Err(SHORT_PASSWORD);
     }
@@ -45,6 +73,7 @@ pub(super) fn accepted(lent: &face::Lent) -> Result<Projector, u32> {
         inputs: inputs_of(&lent.inputs).ok_or(OUT_OF_RANGE)?,
         warm: lent.warm,
         cool: lent.cool,
+        class,
     };
     if !(set_up.is_in_range() && are_lamps(&lent.lamps)) {
         return Err(OUT_OF_RANGE);

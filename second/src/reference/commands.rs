@@ -64,7 +64,7 @@ impl Projector {
         [b"%1", &echoed[..], b"=", &answered, b"\r"].concat()
     }
 
-    fn answered_parameter(&mut self, body: &[u8; 4], parameter: &[u8]) -> Vec<u8> {
+    pub(super) fn answered_parameter(&mut self, body: &[u8; 4], parameter: &[u8]) -> Vec<u8> {
         let error = |text: &[u8]| text.to_vec();
         let asks = parameter == b"?";
 
@@ -110,10 +110,9 @@ impl Projector {
             (Body::Powr, b"0") => Some(Set::Power(false)),
             (Body::Powr, b"1") => Some(Set::Power(true)),
             (Body::Inpt, _) => {
-                let most = if made(Mistake::SixteenListed) { 16 } else { MOST_INPUTS };
-                let mut inputs = self.set_up.inputs.iter().take(most);
-                let place = inputs.position(|input| input.characters() == parameter)?;
-                Some(Set::Input(place))
+                let is_old = |place: &usize| self.set_up.inputs[*place].is_of_class_1();
+                let listed = self.listed_input(parameter);
+                listed.filter(|place| is_old(place) || !made(Mistake::NewInputRefusedUnderOne)).map(Set::Input)
             }
             (Body::Avmt, [which @ b'1'..=b'3', turn @ b'0'..=b'1']) => {
                 let (first, other) = if made(Mistake::MutesSwapped) { (b'2', b'1') } else { (b'1', b'2') };
@@ -121,6 +120,14 @@ impl Projector {
             }
             _ => None,
         }
+    }
+
+    /// The place of the input that these two characters name.
+    pub(super) fn listed_input(&self, characters: &[u8]) -> Option<usize> {
+        let most = if made(Mistake::SixteenListed) { 16 } else { MOST_INPUTS };
+        let any_case = characters.to_ascii_uppercase();
+        let characters = if made(Mistake::LowerCaseAsked) { &any_case } else { characters };
+        self.set_up.inputs.iter().take(most).position(|input| input.characters() == characters)
     }
 
     /// "A set that passes answers OK. POWR 1 when off starts warm-up with W left; POWR 0 when on starts cooling with C
@@ -134,10 +141,15 @@ impl Projector {
                         self.chosen = 0;
                     }
                 }
-                (false, Power::On) => self.power = Power::Cooling(self.set_up.cool),
+                (false, Power::On) => {
+                    self.power = Power::Cooling(self.set_up.cool);
+                    if made(Mistake::FreezeEndsAtPowerOff) {
+                        self.frozen = false;
+                    }
+                }
                 _ => (),
             },
-            Set::Input(place) => self.chosen = place,
+            Set::Input(place) => self.choose(place),
             Set::Mute { video, audio, on } => {
                 if video {
                     self.video_muted = on;
@@ -153,7 +165,7 @@ impl Projector {
     fn query(&self, body: Body) -> Vec<u8> {
         match body {
             Body::Powr => vec![self.power_digit()],
-            Body::Inpt => self.set_up.inputs[self.chosen].characters().to_vec(),
+            Body::Inpt => self.chosen_answer(),
             // "11 video only, 21 audio only, 31 both, 30 neither"
             Body::Avmt => match (self.video_muted, self.audio_muted) {
                 (true, false) => b"11".to_vec(),
@@ -163,17 +175,37 @@ impl Projector {
             },
             Body::Erst => self.errors.iter().map(|digit| b'0' + digit).collect(),
             Body::Lamp => joined_by_spaces(self.told_lamps().map(|lamp| self.lamp_answer(lamp))),
-            Body::Inst => {
-                let most = if made(Mistake::SixteenAnswered) { 16 } else { MOST_INPUTS };
-                let inputs = self.set_up.inputs.iter().take(most);
-                joined_by_spaces(inputs.map(|input: &Input| input.characters().to_vec()))
+            Body::Inst if made(Mistake::OldInputsUnderOne) => {
+                let old = self.set_up.inputs.iter().filter(|input| input.is_of_class_1());
+                joined_by_spaces(old.map(|input| input.characters().to_vec()))
             }
+            Body::Inst => self.inputs_answer(),
             Body::Name => self.set_up.name.clone(),
             Body::Inf1 => self.set_up.maker.clone(),
             Body::Inf2 => self.set_up.model.clone(),
             Body::Info => self.set_up.other.clone(),
-            Body::Clss => b"1".to_vec(),
+            // 02, L14: "CLSS .. amended for Class 2 only"
+            Body::Clss if made(Mistake::ClassToldOne) => b"1".to_vec(),
+            Body::Clss => vec![b'0' + self.set_up.class.number()],
         }
+    }
+
+    pub(super) fn choose(&mut self, place: usize) {
+        self.chosen = place;
+        if made(Mistake::FreezeEndsWithInput) {
+            self.frozen = false;
+        }
+    }
+
+    pub(super) fn chosen_answer(&self) -> Vec<u8> {
+        self.set_up.inputs[self.chosen].characters().to_vec()
+    }
+
+    /// "inputs in set-up order, joined by spaces".
+    pub(super) fn inputs_answer(&self) -> Vec<u8> {
+        let most = if made(Mistake::SixteenAnswered) { 16 } else { MOST_INPUTS };
+        let inputs = self.set_up.inputs.iter().take(most);
+        joined_by_spaces(inputs.map(|input: &Input| input.characters().to_vec()))
     }
 
     /// "0 off, 1 on, 2 cooling, 3 warm-up".

@@ -1,5 +1,6 @@
 //! 01, "Connection".
 
+use super::class::{Class, Texts};
 use super::md5::{hex, md5};
 use super::record::{LONGEST_AWAITED, LONGEST_LINE};
 use super::rules::{Mistake, made};
@@ -99,12 +100,23 @@ impl Projector {
     }
 
     /// "An overlong line is swallowed to its CR, with no reply. So is one not of the form `%1`, four ASCII letters or
-    /// digits, a space, 0 to 128 bytes."
+    /// digits, a space, 0 to 128 bytes." 02, L14: "A Class 1 set-up .. drops `%2` lines"; in Class 2 they have the form.
     fn answer_line(&mut self, line: &Line) -> Vec<u8> {
         let Line::Collected(bytes) = line else { return Vec::new() };
         match bytes.as_slice() {
-            [b'%', b'1', a, b, c, d, b' ', parameter @ ..] if all_letters_or_digits(&[*a, *b, *c, *d]) => {
-                self.answer(&[*a, *b, *c, *d], parameter)
+            [b'%', class, a, b, c, d, b' ', parameter @ ..] if all_letters_or_digits(&[*a, *b, *c, *d]) => {
+                let body = &[*a, *b, *c, *d];
+                match (class, self.set_up.class.clone()) {
+                    (b'1', Class::Two(texts)) => self.answer_in_class_2(&texts, body, parameter),
+                    (b'1', Class::One) => self.answer(body, parameter),
+                    (b'2', Class::Two(_)) if made(Mistake::Class2DropsTwo) => Vec::new(),
+                    (b'2', Class::Two(texts)) => self.answer_2(&texts, body, parameter),
+                    (b'2', Class::One) if made(Mistake::Class1AnswersTwo) => {
+                        let texts = Texts { names: vec![Vec::new(); self.set_up.inputs.len()], ..Texts::default() };
+                        self.answer_2(&texts, body, parameter)
+                    }
+                    _ => Vec::new(),
+                }
             }
             _ => Vec::new(),
         }

@@ -31,8 +31,9 @@ impl Meaning {
                 reading
             }
             Meaning::Text(bytes) => with_text(of(9, 0, 0), bytes),
-            Meaning::Class => of(10, 1, 0),
+            Meaning::Class(number) => of(10, *number, 0),
             Meaning::Erra => of(11, 0, 0),
+            Meaning::Freeze(on) => of(12, u8::from(*on), 0),
         }
     }
 }

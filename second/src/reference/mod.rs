@@ -1,11 +1,15 @@
 //! Document 01's rules and 02's changes, written plainly. Every rule has the document's words beside it.
 //!
 //! `calls` has the calls that a host makes, with the numbers they give, `places` those of a controller's place (L5);
-//! `swap` (L3), `marks` (L8), `service` (L10), `days` (L12) and `panel` (L13) have those that 02 adds; the other files have what they mean, `utf8` what L2 says of names, `form` L3's
-//! bytes.
+//! `swap` (L3), `marks` (L8), `service` (L10), `days` (L12) and `panel` (L13) have those that 02 adds; the other files
+//! have what they mean, `utf8` what L2 says of names, `form` L3's bytes, `class` and `class_2` what L14 says of Class 2.
 //! `rules` holds the deliberate mistakes that `second wrong` switches on, one at a time; none is on otherwise.
 
 pub mod calls;
+pub mod class;
+pub mod class_2;
+#[cfg(test)]
+mod classed;
 pub mod clock;
 pub mod commands;
 pub mod connection;
@@ -38,6 +42,7 @@ pub mod text;
 pub mod utf8;
 
 use crate::face::PLACES;
+use class::Volume;
 use set_up::SetUp;
 
 /// A projector in a legal state. What a record can say and 01 forbids has no form here.
@@ -56,6 +61,10 @@ pub struct Projector {
     pub lamps: Vec<u32>,
     /// 02, L8: "Each lamp gets an enabled mark". As many as there are lamps.
     pub enabled: Vec<bool>,
+    /// 02, L14: "freeze, the volume steps".
+    pub frozen: bool,
+    pub speaker: Volume,
+    pub microphone: Volume,
     /// Place by place.
     pub connections: [Connection; PLACES],
 }

@@ -1,5 +1,6 @@
 //! 01, "A record is legal if ..": the record that a host keeps, read into a projector and written back.
 
+use super::class::{Class, LONGEST_INPUT_NAME, Texts, Volume};
 use super::rules::{Mistake, made};
 use super::set_up::{LONGEST_NAME, MOST_INPUTS, MOST_LAMPS, SetUp, are_lamps, inputs_of, is_text};
 use super::text::CR;
@@ -25,6 +26,9 @@ impl Projector {
         if !(are_lamps(&lamps) && chosen_is_listed && errors_are_digits) {
             return None;
         }
+        if own.frozen && set_up.class == Class::One && made(Mistake::FrozenInClass1Refused) {
+            return None;
+        }
         Some(Projector {
             set_up,
             power,
@@ -35,6 +39,9 @@ impl Projector {
             errors: own.errors,
             lamps,
             enabled,
+            frozen: own.frozen,
+            speaker: Volume::new(own.speaker)?,
+            microphone: Volume::new(own.microphone)?,
             connections: read_connections(connections)?,
         })
     }
@@ -56,6 +63,9 @@ impl Projector {
         own.errors = self.errors;
         own.lamps[..self.lamps.len()].copy_from_slice(&self.lamps);
         own.enabled[..self.enabled.len()].copy_from_slice(&self.enabled);
+        own.frozen = self.frozen;
+        own.speaker = self.speaker.level();
+        own.microphone = self.microphone.level();
         for (connection, room) in self.connections.iter().zip(&mut record.connections) {
             write_connection(connection, room);
         }
@@ -92,12 +102,47 @@ fn read_set_up(settings: &face::Settings) -> Option<SetUp> {
         inputs: inputs_of(&characters)?,
         warm: settings.warm,
         cool: settings.cool,
+        class: read_class(settings)?,
     };
     if made(Mistake::RecordKeepsOldNames) && is_text(&set_up.name, LONGEST_NAME) {
         return SetUp { name: Vec::new(), ..set_up.clone() }.is_legal().then_some(set_up);
     }
     let kept = made(Mistake::RecordKeepsShort) && set_up.is_in_range();
     (kept || set_up.is_legal()).then_some(set_up)
+}
+
+/// The header: "1 or 2; what follows is all zero in Class 1"; names "one an input, in the inputs' order; all zero past the
+/// inputs".
+fn read_class(settings: &face::Settings) -> Option<Class> {
+    let face::Settings { class_number, serial, version, names, input_count, .. } = settings;
+    let nothing_in = |names: &[face::Name]| names.iter().all(|name| *name == face::Name::EMPTY);
+    let class_number = match class_number {
+        0 if made(Mistake::ClassZeroIsOne) => 1,
+        3 if made(Mistake::ClassThreeIsTwo) => 2,
+        number => *number,
+    };
+    match class_number {
+        1 => {
+            let no_texts = *version == face::Text::EMPTY
+                && (*serial == face::Text::EMPTY || made(Mistake::SerialInClass1))
+                && (nothing_in(names) || made(Mistake::NamesInClass1));
+            no_texts.then_some(Class::One)
+        }
+        2 => {
+            let (listed, past) = names.split_at_checked(*input_count)?;
+            let texts = Texts {
+                serial: read_text(serial)?,
+                version: read_text(version)?,
+                names: listed.iter().map(read_name).collect::<Option<_>>()?,
+            };
+            (nothing_in(past) || made(Mistake::NamesPastInputs)).then_some(Class::Two(texts))
+        }
+        _ => None,
+    }
+}
+
+fn read_name(name: &face::Name) -> Option<Vec<u8>> {
+    part_in_use(&name.bytes, name.len, LONGEST_INPUT_NAME)
 }
 
 /// 02, L8: "A legal record now includes the marks, at least one set if there are lamps"; one past the lamps is not set.
@@ -183,6 +228,15 @@ fn write_set_up(set_up: &SetUp, lamp_count: usize, settings: &mut face::Settings
     settings.lamp_count = lamp_count;
     settings.warm = set_up.warm;
     settings.cool = set_up.cool;
+    settings.class_number = set_up.class.number();
+    if let Class::Two(Texts { serial, version, names }) = &set_up.class {
+        write_text(serial, &mut settings.serial);
+        write_text(version, &mut settings.version);
+        for (room, name) in settings.names.iter_mut().zip(names) {
+            room.len = name.len();
+            room.bytes[..name.len()].copy_from_slice(name);
+        }
+    }
 }
 
 fn write_connection(connection: &Connection, record: &mut face::Connection) {

@@ -1,9 +1,11 @@
 //! 01, "Controller": "The reply reader is told the command."
 
+use super::class::{is_input_name, is_serial};
+use super::class_2::Body2;
 use super::commands::Body;
 use super::connection::ERRA_LINE;
-use super::controller::Command;
-use super::rules::{Mistake, made};
+use super::controller::{Command, Command2};
+use super::rules::{Mistake, knows_class_2, made};
 use super::set_up::{LONGEST_NAME, is_information, is_name, is_text};
 use super::text::{CR, Input, all_letters_or_digits, hours};
 
@@ -19,8 +21,9 @@ pub enum Meaning {
     Lamps(Vec<(u32, bool)>),
     Inputs(Vec<Input>),
     Text(Vec<u8>),
-    Class,
+    Class(u8),
     Erra,
+    Freeze(bool),
 }
 
 /// The reply reader's refusals, with 01's numbers.
@@ -29,24 +32,32 @@ pub const OTHER_COMMAND: u32 = 11;
 pub const PARAMETER_NOT_ALLOWED: u32 = 12;
 
 /// "It knows the ERRA line, then tests the form (`%1`, four letters or digits, `=`, 0 to 128 bytes with no CR, one CR
-/// at the end), then the body without case, then the parameter."
+/// at the end), then the body without case, then the parameter." 02, L14: the form has the command's own class.
 pub fn meaning(command: Command, line: &[u8]) -> Result<Meaning, u32> {
     if line == ERRA_LINE {
         return Ok(Meaning::Erra);
     }
-    let (body, parameter) = formed(line).ok_or(NO_REPLY_LINE)?;
-    if !body.eq_ignore_ascii_case(command.body().bytes()) {
+    let other = if command.class_digit() == b'1' { b'2' } else { b'1' };
+    let formed = match formed(line, command.class_digit()) {
+        None if made(Mistake::ReaderTakesEitherClass) => formed(line, other),
+        None if made(Mistake::OtherClassIsForeign) && formed(line, other).is_some() => return Err(OTHER_COMMAND),
+        formed => formed,
+    };
+    let (body, parameter) = formed.ok_or(NO_REPLY_LINE)?;
+    if !body.eq_ignore_ascii_case(command.body()) {
         return Err(OTHER_COMMAND);
     }
     let meaning = match command {
         Command::Query(body) => query_meaning(body, parameter),
+        Command::Class2(Command2::Query(body)) => query_meaning_2(body, parameter),
+        Command::Class2(Command2::AskName(_)) => name_meaning(parameter),
         _ => set_meaning(parameter),
     };
     meaning.ok_or(PARAMETER_NOT_ALLOWED)
 }
 
-fn formed(line: &[u8]) -> Option<(&[u8], &[u8])> {
-    let (body, parameter) = line.strip_prefix(b"%1")?.strip_suffix(b"\r")?.split_at_checked(4)?;
+fn formed(line: &[u8], class_digit: u8) -> Option<(&[u8], &[u8])> {
+    let (body, parameter) = line.strip_prefix(&[b'%', class_digit])?.strip_suffix(b"\r")?.split_at_checked(4)?;
     let parameter = parameter.strip_prefix(b"=")?;
     let allowed = all_letters_or_digits(body) && parameter.len() <= 128 && !parameter.contains(&CR);
     allowed.then_some((body, parameter))
@@ -62,13 +73,23 @@ fn set_meaning(parameter: &[u8]) -> Option<Meaning> {
 }
 
 /// "queries the values above or ERR1, ERR3, ERR4".
+fn refusal(parameter: &[u8]) -> Option<Meaning> {
+    match parameter {
+        [b'E', b'R', b'R', digit @ (b'1' | b'3' | b'4')] => Some(Meaning::Error(digit - b'0')),
+        _ => None,
+    }
+}
+
 fn query_meaning(body: Body, parameter: &[u8]) -> Option<Meaning> {
-    if let [b'E', b'R', b'R', digit @ (b'1' | b'3' | b'4')] = parameter {
-        return Some(Meaning::Error(digit - b'0'));
+    if let Some(refusal) = refusal(parameter) {
+        return Some(refusal);
     }
     match (body, parameter) {
         (Body::Powr, [digit @ b'0'..=b'3']) => Some(Meaning::Power(digit - b'0')),
-        (Body::Inpt, _) => Input::from_characters(parameter).map(Meaning::Input),
+        (Body::Inpt, _) => {
+            let refused = |input: &Input| !input.is_of_class_1() && made(Mistake::ReaderRefusesNewInputs);
+            Input::from_characters(parameter).filter(|input| !refused(input)).map(Meaning::Input)
+        }
         (Body::Avmt, b"11") => Some(Meaning::Mutes { video: true, audio: false }),
         (Body::Avmt, b"21") => Some(Meaning::Mutes { video: false, audio: true }),
         (Body::Avmt, b"31") => Some(Meaning::Mutes { video: true, audio: true }),
@@ -78,8 +99,38 @@ fn query_meaning(body: Body, parameter: &[u8]) -> Option<Meaning> {
         (Body::Inst, _) => inputs(parameter).map(Meaning::Inputs),
         (Body::Name, _) => text(parameter, is_name(parameter) || is_old_name(parameter)).map(Meaning::Text),
         (Body::Inf1 | Body::Inf2 | Body::Info, _) => text(parameter, is_information(parameter)).map(Meaning::Text),
-        (Body::Clss, b"1") => Some(Meaning::Class),
+        (Body::Clss, b"1") => Some(Meaning::Class(1)),
+        // 02, L14: "on a `%1` reply it allows whatever a legal set-up of either class answers there"
+        (Body::Clss, b"2") if knows_class_2() && !made(Mistake::ReaderRefusesClass2) => Some(Meaning::Class(2)),
+        (Body::Clss, b"3") if made(Mistake::ReaderTakesClass3) => Some(Meaning::Class(3)),
         _ => None,
+    }
+}
+
+fn query_meaning_2(body: Body2, parameter: &[u8]) -> Option<Meaning> {
+    if let Some(refusal) = refusal(parameter) {
+        return Some(refusal);
+    }
+    match (body, parameter) {
+        (Body2::Inpt, _) => Input::from_characters(parameter).map(Meaning::Input),
+        (Body2::Inst, _) => inputs(parameter).map(Meaning::Inputs),
+        (Body2::Frez, b"0" | b"1") => Some(Meaning::Freeze(parameter == b"1")),
+        (Body2::Snum | Body2::Sver, b"ERR2") if made(Mistake::SerialErr2Taken) => Some(Meaning::Error(2)),
+        (Body2::Snum | Body2::Sver, _) => {
+            let long = made(Mistake::ReaderSerialLong) && is_text(parameter, 128);
+            text(parameter, is_serial(parameter) || long).map(Meaning::Text)
+        }
+        _ => None,
+    }
+}
+
+/// The header: ERR2 is allowed "to PJ_INNM, since a projector may say it of an input that it does not have".
+fn name_meaning(parameter: &[u8]) -> Option<Meaning> {
+    match parameter {
+        b"ERR2" if made(Mistake::NameErr2Refused) => None,
+        b"ERR2" => Some(Meaning::Error(2)),
+        _ if parameter.len() > 64 && made(Mistake::ReaderName64) => None,
+        _ => refusal(parameter).or_else(|| is_input_name(parameter).then(|| Meaning::Text(parameter.to_vec()))),
     }
 }
 
@@ -114,7 +165,8 @@ fn inputs(parameter: &[u8]) -> Option<Vec<Input>> {
         _ if made(Mistake::ReaderTakesMore) => 33,
         _ => 32,
     };
-    (inputs.len() <= most).then_some(inputs)
+    let refused = made(Mistake::ReaderListsOldInputs) && !inputs.iter().all(|input| input.is_of_class_1());
+    (inputs.len() <= most && !refused).then_some(inputs)
 }
 
 /// "A text has at most 64 bytes (NAME) or 32, each 0x20 to 0xFF; ERR2 as a text is 12." By 02, L2, a name is UTF-8 here

@@ -158,7 +158,7 @@ mistakes! {
     OldHasMarks: "a stored form of version 1 has a section of marks",
     OldSetsTheFirst: "a stored form of version 1 loads with the first mark alone",
     OldWritten: "where every mark is set, version 1 is written",
-    VersionThreeTaken: "a stored form may have the version 3",
+    VersionFourTaken: "a stored form may have the version 4",
     MarksBeforeLamps: "a stored form's marks stand before the lamps",
     MarksLast: "a stored form's marks stand last",
     MarksNotCounted: "a stored form's marks have no count of their own",
@@ -210,10 +210,118 @@ mistakes! {
     RandomOfOpenPassedOver: "a panel's open greeting may have a random number",
     AnythingUnderWay: "a panel may have under way what is no command",
     HoursNotBounded: "a panel's hours may be over 99,999",
+    Class1AnswersTwo: "a Class 1 set-up answers `%2` lines",
+    Class2DropsTwo: "a Class 2 set-up drops `%2` lines",
+    RepliesWithOne: "every reply begins with `%1`",
+    RepliesWithTwo: "a Class 2 set-up begins every reply with `%2`",
+    ClassToldOne: "a Class 2 set-up answers 1 to CLSS",
+    ClassAskedUnderTwo: "`%2CLSS ?` is answered",
+    OldBodiesUnderTwo: "`%2POWR ?` and the other bodies of Class 1 are answered",
+    NewBodiesUnderOne: "`%1FREZ ?` and the other bodies of Class 2 are answered in Class 2",
+    OtherBodyUnderTwoDropped: "a body that Class 2 does not have gets no reply under `%2`",
+    OldInputsUnderOne: "under `%1` a Class 2 set-up lists its inputs of Class 1 only",
+    NewInputRefusedUnderOne: "under `%1` a Class 2 set-up takes its inputs of Class 1 only",
+    LowerCaseAsked: "a line may name an input in lower case",
+    LevelTold: "`%2SVOL ?` and `%2MVOL ?` answer the level",
+    LevelTaken: "SVOL and MVOL take a level, and not a step",
+    LevelWraps: "a level that steps past its end comes to the other",
+    LevelPastTwenty: "a level goes past 20",
+    LevelEndRefused: "a step that goes no further is ERR3",
+    LevelStepsSwapped: "0 is a step up and 1 a step down",
+    MicrophoneIsSpeaker: "MVOL steps the speaker",
+    LevelsFromZero: "both levels are 0 at set-up",
+    LevelUnmutes: "a step of the speaker ends its mute",
+    FreezeEndsAtPowerOff: "power off ends the freeze",
+    FreezeEndsWithInput: "choosing an input ends the freeze",
+    FreezeToldAlways: "FREZ ? is answered in every power",
+    FaultLeavesLevels: "SVOL and MVOL are served under the fault mark",
+    Err3BeforeErr4UnderTwo: "under `%2` ERR3 is tested before ERR4",
+    NameNeedsPower: "INNM is ERR3 unless on",
+    NameUnlistedIsErr1: "INNM of an input that is not listed is ERR1",
+    NameUnlistedIsEmpty: "INNM of an input that is not listed answers an empty name",
+    NameWithoutMark: "INNM takes an input without `?` before it",
+    NameOfChosen: "`%2INNM ?` answers the name of the chosen input",
+    NameOfType: "INNM answers the name of the first input of the type",
+    SerialIsVersion: "SNUM answers the software version",
+    SerialSetIsErr2: "SNUM with a parameter other than `?` is ERR2",
+    LettersInClass1: "a Class 1 set-up takes inputs with letters",
+    NoSixInClass2: "a Class 2 set-up refuses the type 6",
+    ZeroInClass2: "a Class 2 set-up takes the number 0",
+    LowerCaseTaken: "a set-up takes lower-case letters in an input",
+    LettersFromEleven: "the letter A is the number 11",
+    Serial33: "a serial number may have 33 bytes",
+    Version64: "a software version may have 64 bytes",
+    Name64: "an input's name has at most 64 bytes",
+    Name127: "an input's name has at most 127 bytes",
+    InputNamesInUtf8: "an input's name has to be UTF-8",
+    InputNameErr1: "an input's name may be ERR1",
+    FewerNamesTaken: "a set-up may have fewer names than inputs",
+    MoreNamesTaken: "a set-up may have more names than inputs",
+    NameBytesLeft: "bytes of names past the lengths are passed over",
+    LengthCutTo32Bits: "32 bits of a name's length are looked at",
+    ShortBeforeTexts: "a short password is 8 before a name that is out of its range",
+    WhichTakesClass2: "pj_which_setting takes inputs of Class 2",
+    ClassZeroIsOne: "a record of class 0 is one of Class 1",
+    ClassThreeIsTwo: "a record of class 3 is one of Class 2",
+    NamesInClass1: "a Class 1 record may have names",
+    SerialInClass1: "a Class 1 record may have a serial number",
+    NamesPastInputs: "a record may have names past its inputs",
+    LevelsNotTested: "a record's levels may be over 20",
+    FrozenInClass1Refused: "a Class 1 record that is frozen is not legal",
+    Class1InVersion2: "a Class 1 set-up is stored in version 2",
+    ClassFirst: "a stored form's class stands after its version",
+    OtherClassIsOtherVersion: "a stored form of another class is 20",
+    OtherClassHasTexts: "a stored form of another class has texts after it",
+    OtherClassBeforeLeftOver: "a stored form of another class is 23, even where bytes are left over",
+    OtherClassIsOne: "a stored form of another class loads as Class 1",
+    NamesCounted: "a stored form's names have a count of their own",
+    ThirtyTwoNames: "a stored form of Class 2 has 32 names, whatever its inputs",
+    NamesNotStored: "a stored form has empty names",
+    VersionTwoRefused: "a stored form of version 2 is 20",
+    OldTakesNewInputs: "a stored form of version 2 with inputs of Class 2 loads as Class 2",
+    ReaderRefusesNewInputs: "the reader refuses `%1INPT=6A`",
+    ReaderListsOldInputs: "the reader refuses a list with `6A`",
+    ReaderRefusesClass2: "the reader refuses `%1CLSS=2`",
+    ReaderTakesClass3: "the reader takes `%1CLSS=3`",
+    ReaderTakesEitherClass: "the reader does not look at a reply's class",
+    OtherClassIsForeign: "a reply of another class is 11",
+    NameErr2Refused: "the reader refuses ERR2 to INNM",
+    SerialErr2Taken: "the reader takes ERR2 to SNUM and SVER",
+    ReaderName64: "the reader takes input names of at most 64 bytes",
+    ReaderSerialLong: "the reader takes serial numbers of up to 128 bytes",
+    WriterRefusesNewInputs: "the writer refuses `%1INPT 6A`",
+    WriterAlwaysOne: "the writer begins every line with `%1`",
+    WriterNameWithoutMark: "the writer asks for an input's name without `?`",
+    PanelHidesNewReply: "a panel does not show the input that `%2INPT ?` tells",
+    PanelKeepsOldInputs: "a panel's record has inputs of Class 1 only",
+    PanelTakes36: "a panel's input may have the number 36",
 }
 
 thread_local! {
     static MADE: Cell<Option<Mistake>> = const { Cell::new(None) };
+    static RULES: Cell<Rules> = const { Cell::new(Rules::Now) };
+}
+
+/// The rules as they stand now, or as they stood before 02, L14. The cases from then follow the latter, so that they are
+/// the same still.
+#[derive(Clone, Copy, PartialEq, Eq, Debug)]
+pub enum Rules {
+    Before,
+    Now,
+}
+
+impl Rules {
+    /// What this gives by these rules.
+    pub fn by<T>(self, run: impl FnOnce() -> T) -> T {
+        let others = RULES.replace(self);
+        let given = run();
+        RULES.set(others);
+        given
+    }
+}
+
+pub fn knows_class_2() -> bool {
+    RULES.get() == Rules::Now
 }
 
 /// Whether this mistake is to be made now.

@@ -1,5 +1,6 @@
 //! 01, "Set-up".
 
+use super::class::{Class, Volume};
 use super::rules::{Mistake, made};
 use super::text::{Input, all_letters_or_digits};
 use super::{Connection, Power, Projector, utf8};
@@ -24,6 +25,7 @@ pub struct SetUp {
     pub inputs: Vec<Input>,
     pub warm: u32,
     pub cool: u32,
+    pub class: Class,
 }
 
 impl SetUp {
@@ -42,10 +44,12 @@ impl SetUp {
             && are_inputs(&self.inputs)
             && is_stretch(self.warm)
             && is_stretch(self.cool)
+            && self.class.allows(&self.inputs)
     }
 
     /// "A device starts off, with both mutes off, the first input, no fault, error status 000000, connection closed."
-    /// 02, L8: the marks are "all" set "at first".
+    /// 02, L8: the marks are "all" set "at first". L14, by the header: "not frozen and with both levels at
+    /// PJ_VOLUME_FIRST".
     pub fn fresh(self, lamps: Vec<u32>) -> Projector {
         Projector {
             set_up: self,
@@ -57,6 +61,9 @@ impl SetUp {
             errors: [0; 6],
             enabled: fresh_marks(lamps.len()),
             lamps,
+            frozen: false,
+            speaker: Volume::first(),
+            microphone: Volume::first(),
             connections: [const { Connection::Closed }; PLACES],
         }
     }
@@ -116,7 +123,12 @@ pub fn are_lamps(lamps: &[u32]) -> bool {
 
 /// Inputs as they are lent: two characters each, so that an odd number of bytes is no list.
 pub fn inputs_of(characters: &[u8]) -> Option<Vec<Input>> {
-    characters.chunks(2).map(Input::from_characters).collect()
+    let input = |characters: &[u8]| match characters {
+        [kind @ b'1'..=b'6', b'0'] if made(Mistake::ZeroInClass2) => Some(Input { kind: kind - b'0', number: 0 }),
+        _ if made(Mistake::LowerCaseTaken) => Input::from_characters(&characters.to_ascii_uppercase()),
+        _ => Input::from_characters(characters),
+    };
+    characters.chunks(2).map(input).collect()
 }
 
 /// "1 to 16, all different", now to 32.
@@ -134,7 +146,7 @@ fn is_stretch(seconds: u32) -> bool {
     (1..=600).contains(&seconds)
 }
 
-/// Whether each setting is in its range: name, maker, model, other, password, inputs, lamps, W, C.
+/// Whether each setting is in its range, for Class 1: name, maker, model, other, password, inputs, lamps, W, C.
 pub fn in_range(lent: &face::Lent) -> [bool; 9] {
     [
         is_name(&lent.name),
@@ -142,7 +154,9 @@ pub fn in_range(lent: &face::Lent) -> [bool; 9] {
         is_information(&lent.model),
         is_information(&lent.other),
         is_password(&lent.password),
-        inputs_of(&lent.inputs).is_some_and(|inputs| are_inputs(&inputs)),
+        inputs_of(&lent.inputs).is_some_and(|inputs| {
+            are_inputs(&inputs) && (Class::One.allows(&inputs) || made(Mistake::WhichTakesClass2))
+        }),
         are_lamps(&lent.lamps),
         is_stretch(lent.warm),
         is_stretch(lent.cool),

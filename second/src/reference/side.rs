@@ -13,6 +13,7 @@ impl Side for Second {
     fn call(&mut self, device: &Device, act: &Act) -> Answer {
         match act {
             Act::SetUp(lent) => Answer::Changed(calls::set_up(lent)),
+            Act::SetUp2(lent) => Answer::Changed(calls::set_up_2(lent)),
             Act::WhichSetting(lent) => Answer::Setting(calls::which_setting(lent)),
             Act::Open { random, lent } => {
                 let mut out = lent.clone();

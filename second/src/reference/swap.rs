@@ -1,9 +1,10 @@
 //! 02, L3: the calls on the stored form, which `form` lays out.
 
-use super::calls::{NOT_LEGAL, ROOM_SHORT, accepted};
-use super::form::{CONTENTS, LEFT_OVER, LONGEST, SHORTEST, Stored, read, written};
-use super::rules::{Mistake, made};
-use super::set_up::{LAMP_LIMIT, LONGEST_NAME, is_password, is_short, is_text};
+use super::calls::{NOT_LEGAL, OUT_OF_RANGE, ROOM_SHORT, accepted};
+use super::class::{Class, Texts};
+use super::form::{CONTENTS, LEFT_OVER, LONGEST, SHORTEST, Stored, StoredClass, read, written};
+use super::rules::{Mistake, knows_class_2, made};
+use super::set_up::{LAMP_LIMIT, LONGEST_NAME, inputs_of, is_password, is_short, is_text};
 use super::{Power, Projector};
 use crate::face;
 
@@ -14,7 +15,8 @@ pub fn store(device: &face::Device, out: &mut [u8]) -> face::Written {
         let room_first = made(Mistake::FormRoomFirst) && out.len() < SHORTEST;
         return refused(if room_first { ROOM_SHORT } else { NOT_LEGAL });
     };
-    let form = written(&Stored { lent: settings(&projector), marks: Some(marks(&projector)) });
+    let class = knows_class_2().then(|| StoredClass::of(&projector.set_up.class));
+    let form = written(&Stored { lent: settings(&projector), marks: Some(marks(&projector)), class });
     let least = if made(Mistake::RoomForTheLongest) { LONGEST } else { form.len() };
     if out.len() < least {
         return refused(ROOM_SHORT);
@@ -30,7 +32,7 @@ pub fn store(device: &face::Device, out: &mut [u8]) -> face::Written {
 /// the blank record."
 pub fn load(bytes: &[u8]) -> face::Changed {
     let refused = |number| face::Changed { number, device: face::Device::BLANK };
-    let (Stored { lent, marks }, left_over) = match read(bytes) {
+    let (Stored { lent, marks, class }, left_over) = match read(bytes) {
         Ok(read) => read,
         Err(number) => return refused(number),
     };
@@ -39,7 +41,11 @@ pub fn load(bytes: &[u8]) -> face::Changed {
         return refused(CONTENTS);
     }
     let lamps = lent.lamps.len();
-    let fresh = accepted(&lent).or_else(|number| taken_by_mistake(lent).ok_or(number));
+    let old = || if made(Mistake::OldTakesNewInputs) { needed_class(&lent) } else { Class::One };
+    let fresh = match class.map_or_else(|| Some(old()), StoredClass::class) {
+        None => Err(OUT_OF_RANGE),
+        Some(class) => accepted(&lent, class.clone()).or_else(|number| taken_by_mistake(lent, class).ok_or(number)),
+    };
     let fresh = fresh.and_then(|mut fresh| {
         fresh.enabled = loaded_marks(marks, lamps)?;
         Ok(fresh)
@@ -84,21 +90,31 @@ fn loaded_marks(marks: Option<Vec<u8>>, lamps: usize) -> Result<Vec<bool>, u32> 
     if marks.len() == lamps && are_bits && some_set { Ok(enabled) } else { Err(CONTENTS) }
 }
 
+/// Class 2 with empty names where the inputs are in no set-up of Class 1.
+fn needed_class(lent: &face::Lent) -> Class {
+    match inputs_of(&lent.inputs) {
+        Some(inputs) if !Class::One.allows(&inputs) => {
+            Class::Two(Texts { names: vec![Vec::new(); inputs.len()], ..Texts::default() })
+        }
+        _ => Class::One,
+    }
+}
+
 /// No rule takes these; a mistake does.
-fn taken_by_mistake(mut lent: face::Lent) -> Option<Projector> {
+fn taken_by_mistake(mut lent: face::Lent, class: Class) -> Option<Projector> {
     if made(Mistake::LoadedLampsStopped) {
         lent.lamps.iter_mut().for_each(|seconds| *seconds = (*seconds).min(LAMP_LIMIT));
-        return accepted(&lent).ok();
+        return accepted(&lent, class).ok();
     }
     if made(Mistake::LoadedKeepsShort) && is_short(&lent.password) && is_password(&lent.password) {
         let password = std::mem::take(&mut lent.password);
-        let mut fresh = accepted(&lent).ok()?;
+        let mut fresh = accepted(&lent, class).ok()?;
         fresh.set_up.password = password;
         return Some(fresh);
     }
     if made(Mistake::LoadedKeepsOldNames) && is_text(&lent.name, LONGEST_NAME) {
         let name = std::mem::take(&mut lent.name);
-        let mut fresh = accepted(&lent).ok()?;
+        let mut fresh = accepted(&lent, class).ok()?;
         fresh.set_up.name = name;
         return Some(fresh);
     }

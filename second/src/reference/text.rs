@@ -1,6 +1,6 @@
 //! Bytes that 01 speaks of: letters and digits, hex digits, decimal numbers, inputs.
 
-use super::rules::{Mistake, made};
+use super::rules::{Mistake, knows_class_2, made};
 
 pub const CR: u8 = b'\r';
 pub const LF: u8 = b'\n';
@@ -36,7 +36,8 @@ pub fn hex_number(digits: &[u8]) -> Option<u32> {
     Some(number)
 }
 
-/// "An input has a type 1 to 5 (RGB, VIDEO, DIGITAL, STORAGE, NETWORK) and a number 1 to 9."
+/// "An input has a type 1 to 5 (RGB, VIDEO, DIGITAL, STORAGE, NETWORK) and a number 1 to 9." 02, L14, adds "inputs of type
+/// 6 and with letters", A to Z, whose numbers are 10 to 35. A set-up of Class 1 has none of these.
 #[derive(Clone, Copy, PartialEq, Eq, Debug)]
 pub struct Input {
     pub kind: u8,
@@ -45,21 +46,39 @@ pub struct Input {
 
 impl Input {
     pub fn new(kind: u8, number: u8) -> Option<Input> {
-        let kinds = if made(Mistake::SixthInputType) { 6 } else { 5 };
-        ((1..=kinds).contains(&kind) && (1..=9).contains(&number)).then_some(Input { kind, number })
+        let input = Input { kind, number };
+        let is_one = if knows_class_2() { input.is_of_class_2() } else { input.is_of_class_1() };
+        is_one.then_some(input)
     }
 
     /// "So 11 and 59 are legal; 10, 20 and 61 are not."
+    pub fn is_of_class_1(self) -> bool {
+        let kinds = if made(Mistake::SixthInputType) { 6 } else { 5 };
+        (1..=kinds).contains(&self.kind) && (1..=9).contains(&self.number)
+    }
+
+    fn is_of_class_2(self) -> bool {
+        let most = if made(Mistake::LettersFromEleven) { 36 } else { 35 };
+        (1..=6).contains(&self.kind) && (1..=most).contains(&self.number)
+    }
+
     pub fn from_characters(characters: &[u8]) -> Option<Input> {
         match characters {
             [kind @ b'0'..=b'9', number @ b'0'..=b'9'] => Input::new(kind - b'0', number - b'0'),
+            [kind @ b'0'..=b'9', letter @ b'A'..=b'Z'] => Input::new(kind - b'0', letter - b'A' + letter_a()),
             _ => None,
         }
     }
 
     pub fn characters(self) -> [u8; 2] {
-        [b'0' + self.kind, b'0' + self.number]
+        let letter = |number: u8| if number < letter_a() { b':' } else { b'A' + (number - letter_a()) };
+        [b'0' + self.kind, if self.number < 10 { b'0' + self.number } else { letter(self.number) }]
     }
+}
+
+/// The number of the first letter.
+fn letter_a() -> u8 {
+    if made(Mistake::LettersFromEleven) { 11 } else { 10 }
 }
 
 /// 02, L4: "The number reader should take one to five digits, leading zeros included; six digits stay 12."

@@ -4,6 +4,7 @@
 pub mod mistakes;
 
 use crate::reference::Projector;
+use crate::reference::class::Class;
 use crate::reference::places::NOT_CLOSED;
 use crate::reference::set_up::SetUp;
 use crate::reference::text::{CR, Input, LF, hex_number};
@@ -99,6 +100,7 @@ pub fn sample() -> Projector {
         inputs: vec![Input { kind: 1, number: 1 }],
         warm: 20,
         cool: 60,
+        class: Class::One,
     };
     set_up.fresh(vec![0])
 }

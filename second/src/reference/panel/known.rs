@@ -19,6 +19,7 @@ impl Known {
     pub fn show(&mut self, command: Command, told: Meaning) {
         match (told, command) {
             (Meaning::Power(digit), _) => self.power = Some(digit),
+            (Meaning::Input(_), Command::Class2(_)) if made(Mistake::PanelHidesNewReply) => (),
             (Meaning::Input(input), _) => self.input = Some(input),
             (Meaning::Lamps(lamps), _) => self.lamps = Some(lamps),
             (Meaning::Ok, Command::SetPower(on)) if made(Mistake::OkShownAsPower) => self.power = Some(u8::from(on)),

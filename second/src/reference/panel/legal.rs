@@ -2,7 +2,7 @@
 
 use super::Panel;
 use crate::compare::random::Random;
-use crate::compare::{every_panel, panels};
+use crate::compare::{class_2, every_panel, panels};
 use crate::face::{self, Act, Answer, Device, Side};
 use crate::reference::side::Second;
 
@@ -10,7 +10,9 @@ use crate::reference::side::Second;
 fn what_is_given_is_legal() {
     let mut random = Random::new(13);
     let mut calls = every_panel::calls(&mut random);
-    calls.extend((0..400).flat_map(|_| panels::history(&mut random)));
+    calls.extend((0..400).flat_map(|_| panels::history(&mut random, panels::CLASS_1)));
+    calls.extend((0..400).flat_map(|_| panels::history(&mut random, class_2::panels::MAKING)));
+    calls.extend(class_2::every_panel::calls());
     let (mut served, mut refused) = (0, 0);
     for act in calls {
         let (number, given) = match Second.call(&Device::BLANK, &act) {

@@ -186,8 +186,8 @@ fn is_greeting(line: &[u8]) -> bool {
 fn only_used(command: face::Command) -> face::Command {
     let face::Command { code, first, second } = command;
     match code {
-        1 => face::Command { code, first, second: 0 },
-        3 | 5 => face::Command { code, first, second },
+        1 | 15..=17 => face::Command { code, first, second: 0 },
+        3 | 5 | 20 | 22 => face::Command { code, first, second },
         _ => face::Command { code, first: 0, second: 0 },
     }
 }

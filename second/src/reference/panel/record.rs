@@ -102,10 +102,16 @@ fn read_power(entry: &face::Entry) -> Option<Option<u8>> {
     }
 }
 
-/// "1 to 5 and 1 to 9; both 0 where the input is not known".
+/// "1 to 6 and 1 to 35; both 0 where the input is not known".
 fn read_input(entry: &face::Entry) -> Option<Option<Input>> {
     match (entry.input_known, entry.input_type, entry.input_number) {
-        (true, kind, number) => Input::new(kind, number).map(Some),
+        (true, kind, 36) if made(Mistake::PanelTakes36) && (1..=6).contains(&kind) => {
+            Some(Some(Input { kind, number: 36 }))
+        }
+        (true, kind, number) => {
+            let is_new = |input: &Input| !input.is_of_class_1() && made(Mistake::PanelKeepsOldInputs);
+            Input::new(kind, number).filter(|input| !is_new(input)).map(Some)
+        }
         (false, 0, 0) => Some(None),
         _ => None,
     }

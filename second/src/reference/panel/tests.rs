@@ -142,7 +142,7 @@ fn the_digest_leads_the_first() {
 #[test]
 fn numbers_of_a_command() {
     let awaited = two("");
-    let none = Command { code: 14, first: 0, second: 0 };
+    let none = Command { code: 24, first: 0, second: 0 };
     let asked = sends(&hears(&awaited, "PJLINK 0\r"), ASK_POWER).0;
     for panel in [awaited, asked] {
         assert_eq!(number(&panel, 1, ASK_POWER, 168), 9);
