@@ -1,12 +1,12 @@
 /* How deep each call of libboard.a reaches into the stack: the stack below is painted, the call made, and the lowest
    byte that lost its paint is looked for. What a caller in C keeps for the call is in it: the record by value, the
-   result's room and a copy, about 4,000 bytes where a record goes both ways. */
+   result's room and a copy, about 17,500 bytes where a record goes both ways. */
 #include <stdio.h>
 #include <string.h>
 
 #include "ceiling.h"
 
-enum { PAINTED = 1 << 16, LEFT = 256, PAINT = 0xA5 };
+enum { PAINTED = 1 << 18, LEFT = 256, PAINT = 0xA5 };
 
 static pj_device device;
 static uint8_t out[PJ_COMMAND_ROOM];
@@ -37,6 +37,9 @@ static __attribute__((noinline)) void measure(const char *name, void (*call)(voi
     static __attribute__((noinline)) void name(void) body
 
 static const uint32_t lamps[8] = {1, 2, 3, 4, 5, 6, 7, 8};
+static const size_t name_lengths[2] = {3, 5};
+static uint8_t form[PJ_FORM_MOST];
+static size_t stored;
 static const char *line;
 static uint32_t tables[2][PJ_TABLE_MOST];
 static int64_t differences[PJ_TABLE_MOST];
@@ -46,6 +49,11 @@ static volatile uint32_t sink;
 CALL(call_set_up, {
     pj_changed c = pj_set_up(TEXT("name"), TEXT("maker"), TEXT("model"), TEXT("other"), TEXT("panel123"),
                              TEXT("11213141"), lamps, 8, 600, 600);
+    device = c.device;
+})
+CALL(call_set_up_2, {
+    pj_changed c = pj_set_up_2(TEXT("name"), TEXT("maker"), TEXT("model"), TEXT("other"), TEXT(""), TEXT("116A"), lamps,
+                               8, 600, 600, TEXT("serial"), TEXT("version"), TEXT("RGBLager"), name_lengths, 2);
     device = c.device;
 })
 CALL(call_which_setting, {
@@ -61,6 +69,8 @@ CALL(call_set_errors, { device = pj_set_errors(device, message, 6).device; })
 CALL(call_set_mark, { device = pj_set_mark(device, 1, false).device; })
 CALL(call_legal, { sink = pj_legal(device); })
 CALL(call_close, { device = pj_close(device, 0).device; })
+CALL(call_store, { stored = pj_store(device, form, sizeof form).length; })
+CALL(call_load, { device = pj_load(form, stored).device; })
 CALL(call_md5, { sink = pj_md5(message, sizeof message).bytes[0]; })
 CALL(call_write, { sink = (uint32_t)pj_write(command, true, 7, TEXT("panel123"), out, sizeof out).length; })
 CALL(call_read_greeting, { sink = pj_read_greeting(TEXT("PJLINK 1 498e4a67\r")).random; })
@@ -103,6 +113,12 @@ int main(void) {
     measure("pj_set_errors", call_set_errors);
     measure("pj_legal", call_legal);
     measure("pj_close", call_close);
+    measure("pj_set_up_2", call_set_up_2);
+    device = pj_open(device, 1, out, sizeof out).device;
+    line = "%2INNM ?6A\r";
+    measure("pj_receive, %2INNM ?6A", call_receive);
+    measure("pj_store, Class 2", call_store);
+    measure("pj_load, Class 2", call_load);
     measure("pj_md5", call_md5);
     command = (pj_command){PJ_INPT_SET, 5, 9};
     measure("pj_write, secured", call_write);

@@ -1,6 +1,6 @@
 //! What is measured: each piece of work, done by the archive, by the second program and, for MD5, by plain C.
 
-use second::face::{Command, Connection, Device, Lent, Reading, linked};
+use second::face::{Changed, Command, Connection, Device, Lent, Lent2, Reading, linked};
 use second::reference::{calls, service};
 use std::hint::black_box;
 
@@ -48,19 +48,24 @@ pub fn all() -> Vec<Work> {
     add("pj_receive, one byte, four lines full", false, Box::new(|| receiving(full(134), b"%")));
     add("pj_receive, %1LAMP ?, others' lines full", false, Box::new(|| receiving(full(0), b"%1LAMP ?\r")));
     add("pj_receive, 4,096 bytes of lines, handed on", false, Box::new(|| handing_on(opened(b""))));
+    add("pj_receive, one byte, Class 2", false, Box::new(|| receiving(class_2(), b"%")));
+    add("pj_receive, %2INNM ?6A, 128 bytes, Class 2", false, Box::new(|| receiving(class_2(), b"%2INNM ?6A\r")));
     add("pj_pass, n = 1", false, Box::new(|| passing(warming(), 1)));
     add("pj_pass, n = 1, short texts", false, Box::new(|| passing(short(), 1)));
     add("pj_pass, n = 1, four lines full", false, Box::new(|| passing(full(135), 1)));
+    add("pj_pass, n = 1, Class 2", false, Box::new(|| passing(class_2(), 1)));
     add("pj_pass, n = 4,294,967,295", false, Box::new(|| passing(warming(), u32::MAX)));
     add("pj_pass_in_place, n = 1", false, Box::new(|| passing_in_place(warming(), 1)));
     add("pj_pass_in_place, n = 1, four lines full", false, Box::new(|| passing_in_place(full(135), 1)));
     add("pj_legal", false, Box::new(|| legality(opened(b""))));
     add("pj_legal, four lines full", false, Box::new(|| legality(full(135))));
     add("pj_legal, short texts", false, Box::new(|| legality(short())));
+    add("pj_legal, Class 2", false, Box::new(|| legality(class_2())));
     add("pj_legal, a name of 21 Japanese characters", false, Box::new(|| legality(japanese())));
     add("pj_read_reply, longest LAMP", false, Box::new(|| reading(7, "LAMP", &["99999 1"; 8].join(" "))));
     add("pj_read_reply, longest INST", false, Box::new(|| reading(8, "INST", &["59"; 32].join(" "))));
     add("pj_read_reply, longest NAME", false, Box::new(|| reading(9, "NAME", &"n".repeat(64))));
+    add("pj_read_reply, longest INNM", false, Box::new(|| reading(20, "INNM", &"n".repeat(128))));
     add("pj_compare_lamps, 64 places", false, Box::new(comparing));
     all.extend(crate::day::all());
     all
@@ -112,8 +117,33 @@ pub fn opened(password: &[u8]) -> Device {
     })
 }
 
+/// The same in Class 2: every input of type 6 or with a letter, and every name as long as it may be.
+fn class_2() -> Device {
+    let lent = Lent2 {
+        lent: Lent {
+            name: vec![b'n'; 64],
+            maker: vec![b'm'; 32],
+            model: vec![b'o'; 32],
+            other: vec![b'i'; 32],
+            password: Vec::new(),
+            inputs: (b'A'..=b'Z').chain(b'1'..=b'6').flat_map(|number| [b'6', number]).collect(),
+            lamps: vec![359_000_000; 8],
+            warm: 600,
+            cool: 600,
+        },
+        serial: vec![b's'; 32],
+        version: vec![b'v'; 32],
+        names: vec![b'n'; 32 * 128],
+        name_lengths: vec![128; 32],
+    };
+    connected(calls::set_up_2(&lent))
+}
+
 fn made(lent: Lent) -> Device {
-    let fresh = calls::set_up(&lent);
+    connected(calls::set_up(&lent))
+}
+
+fn connected(fresh: Changed) -> Device {
     assert_eq!(fresh.number, 0);
     calls::open(&fresh.device, 0x498e_4a67, &mut [0; 136]).device
 }
@@ -232,8 +262,9 @@ fn legality(device: Device) -> Run {
 }
 
 fn reading(code: u8, body: &str, parameter: &str) -> Run {
-    let line = format!("%1{body}={parameter}\r").into_bytes();
-    let command = Command { code, first: 0, second: 0 };
+    let class = if code < 14 { 1 } else { 2 };
+    let line = format!("%{class}{body}={parameter}\r").into_bytes();
+    let command = Command { code, first: 1, second: 1 };
     Box::new(move |by| {
         let line = black_box(&line);
         let reading: Reading = match by {
