@@ -4,7 +4,9 @@
        controller ADDRESS PORT BODY [PARAMETER]         controller 127.0.0.1 4352 POWR 1
 
    ADDRESS is numeric; PORT is 4352 by the specification. BODY is one of POWR, INPT, AVMT, ERST, LAMP, INST, NAME, INF1,
-   INF2, INFO and CLSS. Without a parameter, or with `?`, it is a query. The password is that of the environment,
+   INF2, INFO and CLSS; of Class 2, one of FREZ, SVOL, MVOL, SNUM, SVER, INNM, %2INPT and %2INST, to which a projector
+   of Class 1 gives no reply. Without a parameter, or with `?`, it is a query; SVOL and MVOL have none, and take 0 or 1,
+   a step down or up; INNM takes the input whose name it asks for, 31 or 6A. The password is that of the environment,
    PJLINK_PASSWORD. The status is 0 where the projector did it or told it, 1 where it did not, 2 where the words or the
    password are none. */
 #define _DEFAULT_SOURCE
@@ -19,7 +21,8 @@
 #include "ceiling.h"
 
 #define TEXT(s) (const uint8_t *)(s), strlen(s)
-#define QUERY_ONLY 255
+#define QUERY_ONLY 255 /* no code: there is no set */
+#define NO_QUERY 255
 
 static const struct {
     const char *body;
@@ -31,7 +34,11 @@ static const struct {
     {"LAMP", PJ_LAMP, QUERY_ONLY, 0},      {"INST", PJ_INST, QUERY_ONLY, 0},
     {"NAME", PJ_NAME, QUERY_ONLY, 0},      {"INF1", PJ_INF1, QUERY_ONLY, 0},
     {"INF2", PJ_INF2, QUERY_ONLY, 0},      {"INFO", PJ_INFO, QUERY_ONLY, 0},
-    {"CLSS", PJ_CLSS, QUERY_ONLY, 0},
+    {"CLSS", PJ_CLSS, QUERY_ONLY, 0},      {"FREZ", PJ_FREZ_ASK, PJ_FREZ_SET, 1},
+    {"SVOL", NO_QUERY, PJ_SVOL, 1},        {"MVOL", NO_QUERY, PJ_MVOL, 1},
+    {"SNUM", PJ_SNUM, QUERY_ONLY, 0},      {"SVER", PJ_SVER, QUERY_ONLY, 0},
+    {"INNM", NO_QUERY, PJ_INNM, 2},        {"%2INPT", PJ_INPT_ASK_2, PJ_INPT_SET_2, 2},
+    {"%2INST", PJ_INST_2, QUERY_ONLY, 0},
 };
 
 static void end(int status, const char *why) {
@@ -39,7 +46,13 @@ static void end(int status, const char *why) {
     exit(status);
 }
 
-/* The command that the words ask for: fields are numbers, where the words have digits. */
+/* The number of an input: 1 to 9, then A to Z. What is none gives one that no command takes. */
+static uint8_t number_of(char character) {
+    if (character >= '0' && character <= '9') return (uint8_t)(character - '0');
+    return character >= 'A' && character <= 'Z' ? (uint8_t)(character - 'A' + 10) : 255;
+}
+
+/* The command that the words ask for: fields are numbers, where the words have digits and letters. */
 static pj_command command_of(const char *body, const char *parameter) {
     pj_command command = {QUERY_ONLY, 0, 0};
     for (size_t i = 0; i < sizeof bodies / sizeof *bodies; i++) {
@@ -49,7 +62,7 @@ static pj_command command_of(const char *body, const char *parameter) {
         } else if (bodies[i].set != QUERY_ONLY && strlen(parameter) == bodies[i].digits) {
             command.code = bodies[i].set;
             command.first = (uint8_t)(parameter[0] - '0');
-            if (bodies[i].digits == 2) command.second = (uint8_t)(parameter[1] - '0');
+            if (bodies[i].digits == 2) command.second = number_of(parameter[1]);
         }
     }
     return command; /* what is no command, the writer refuses */
@@ -92,7 +105,9 @@ static void print(const pj_reading *read) {
     case PJ_READ_OK: printf("OK\n"); break;
     case PJ_READ_ERR: printf("ERR%d: %s\n", read->first, refusals[read->first - 1]); break;
     case PJ_READ_POWER: printf("%s\n", powers[read->first]); break;
-    case PJ_READ_INPUT: printf("input %d%d\n", read->first, read->second); break;
+    case PJ_READ_INPUT:
+        printf("input %d%c\n", read->first, read->second < 10 ? '0' + read->second : 'A' + read->second - 10);
+        break;
     case PJ_READ_MUTES: printf("video muted %d, audio muted %d\n", read->first, read->second); break;
     case PJ_READ_ERRORS:
         for (size_t i = 0; i < read->count; i++) printf("%s: %s\n", parts[i], levels[read->text[i]]);
@@ -106,6 +121,7 @@ static void print(const pj_reading *read) {
         break;
     case PJ_READ_TEXT: printf("%.*s\n", (int)read->count, (const char *)read->text); break;
     case PJ_READ_CLASS: printf("class %d\n", read->first); break;
+    case PJ_READ_FREEZE: printf("frozen %d\n", read->first); break;
     default: printf("the password is wrong\n"); break; /* PJ_READ_ERRA */
     }
 }

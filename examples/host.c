@@ -1,8 +1,9 @@
 /* A host: it keeps one projector, feeds it bytes in odd cuts as a network would, lets time pass, and asks as a
    controller; service compares two tables of lamp seconds, the board is swapped, four controllers are connected at
-   once, one lamp burns while the other rests, and a cutting day is planned and checked. Every number that a call gives is tested before anything else of its
-   result is used. What it must print, by the rules of documents 01 and 02, is in host.stdout: `0 < LINE` is a reply to
-   the controller at place 0. */
+   once, one lamp burns while the other rests, a projector of Class 2 is asked what one of Class 1 does not answer, and
+   a cutting day is planned and checked. Every number that a call gives is tested before anything else of its result is
+   used. What it must print, by the rules of documents 01 and 02, is in host.stdout: `0 < LINE` is a reply to the
+   controller at place 0. */
 #include <stdio.h>
 #include <stdlib.h>
 #include <string.h>
@@ -39,15 +40,17 @@ static size_t feed(size_t place, const uint8_t *bytes, size_t len) {
 }
 
 /* A controller's command, and what it reads of the reply. */
-static pj_reading ask(size_t place, uint8_t code, uint8_t first) {
+static pj_reading ask_of(size_t place, uint8_t code, uint8_t first, uint8_t second) {
     uint8_t line[PJ_COMMAND_ROOM];
-    pj_command command = {code, first, 0};
+    pj_command command = {code, first, second};
     pj_written w = pj_write(command, false, 0, TEXT(""), line, sizeof line);
     served(w.number, "pj_write");
     pj_reading r = pj_read_reply(command, reply, feed(place, line, w.length));
     served(r.number, "pj_read_reply");
     return r;
 }
+
+static pj_reading ask(size_t place, uint8_t code, uint8_t first) { return ask_of(place, code, first, 0); }
 
 /* The command was carried out. */
 static void set(size_t place, uint8_t code, uint8_t first) {
@@ -77,8 +80,8 @@ static void one_projector(void) {
     started = pj_set_up(TEXT("\xE5\x8F\xB0 3 \xE5\x8F"), TEXT("maker"), TEXT("model"), TEXT(""), TEXT(""), TEXT("1132"),
                         LIST(lamps), 20, 60);
     printf("a character cut off: refused %d\n", started.number == PJ_OUT_OF_RANGE);
-    started = pj_set_up(TEXT("\xE5\x8F\xB0 3"), TEXT("maker"), TEXT("model"), TEXT(""), TEXT("JBMIAProjectorLink"), TEXT("1132"),
-                        LIST(lamps), 20, 60);
+    started = pj_set_up(TEXT("\xE5\x8F\xB0 3"), TEXT("maker"), TEXT("model"), TEXT(""), TEXT("JBMIAProjectorLink"),
+                        TEXT("1132"), LIST(lamps), 20, 60);
     served(started.number, "pj_set_up");
     device = started.device;
     printf("set up: legal %d\n", pj_legal(device));
@@ -237,6 +240,60 @@ static void one_lamp(void) {
     printf("loaded: marks %d %d\n", loaded.device.own.enabled[0], loaded.device.own.enabled[1]);
 }
 
+/* A projector of Class 2, with names for its inputs; what it replies to under `%1` is what one of Class 1 does. */
+static void class_2(void) {
+    const uint32_t lamps[] = {0};
+    const size_t lengths[] = {3, 6}; /* of the names, RGB and player */
+
+    /* the projector so far is of Class 1, and swallows a line of Class 2 */
+    printf("Class 1: a reply of %zu bytes to %%2SNUM ?\n", feed(0, TEXT("%2SNUM ?\r")));
+
+    pj_changed started = pj_set_up_2(TEXT("Table 4"), TEXT("maker"), TEXT("model"), TEXT(""), TEXT(""), TEXT("116A"),
+                                     LIST(lamps), 20, 60, TEXT("S/N 7"), TEXT("1.4"), TEXT("RGB"), lengths, 1);
+    printf("two inputs and one name: refused %d\n", started.number == PJ_OUT_OF_RANGE);
+    started = pj_set_up_2(TEXT("Table 4"), TEXT("maker"), TEXT("model"), TEXT(""), TEXT(""), TEXT("116A"),
+                          LIST(lamps), 20, 60, TEXT("S/N 7"), TEXT("1.4"), TEXT("RGBplayer"), LIST(lengths));
+    served(started.number, "pj_set_up_2");
+    device = started.device;
+    pj_opened opened = pj_open(device, 0, reply, sizeof reply);
+    served(opened.number, "pj_open");
+    device = opened.device;
+    size_t place = opened.place;
+
+    printf("class %d\n", ask(place, PJ_CLSS, 0).first);
+    pj_reading told = ask_of(place, PJ_INNM, 6, 10); /* 6A: a letter's number is 10 to 35 */
+    printf("input 6A is the %.*s\n", (int)told.count, (const char *)told.text);
+    told = ask_of(place, PJ_INNM, 6, 11);
+    printf("input 6B: ERR%d\n", told.first);
+    told = ask(place, PJ_SNUM, 0);
+    printf("serial number %.*s\n", (int)told.count, (const char *)told.text);
+    told = ask(place, PJ_FREZ_SET, 1);
+    printf("freeze while off: ERR%d\n", told.first);
+
+    set(place, PJ_POWR_SET, 1);
+    pass(20);
+    set(place, PJ_FREZ_SET, 1);
+    printf("frozen %d\n", ask(place, PJ_FREZ_ASK, 0).first);
+    /* eleven steps up from 10: the last goes no further, and is OK too; a level is not told, but the host reads it */
+    for (int step = 0; step < 11; step++) set(place, PJ_SVOL, 1);
+    set(place, PJ_MVOL, 0);
+    printf("speaker %d, microphone %d\n", device.own.speaker, device.own.microphone);
+    printf("6A under %%1: OK %d\n", ask_of(place, PJ_INPT_SET, 6, 10).kind == PJ_READ_OK);
+    told = ask(place, PJ_INPT_ASK_2, 0);
+    printf("input: type %d, number %d\n", told.first, told.second);
+
+    /* class, serial number, version and names are in the stored form; freeze and levels start anew */
+    uint8_t form[PJ_FORM_MOST];
+    pj_written stored = pj_store(device, form, sizeof form);
+    served(stored.number, "pj_store");
+    printf("stored: %zu bytes, version %d\n", stored.length, form[0]);
+    pj_changed loaded = pj_load(form, stored.length);
+    served(loaded.number, "pj_load");
+    const pj_settings *settings = &loaded.device.settings;
+    printf("loaded: class %d, %.*s, frozen %d, speaker %d\n", settings->class_number, (int)settings->names[1].len,
+           (const char *)settings->names[1].bytes, loaded.device.own.frozen, loaded.device.own.speaker);
+}
+
 static void one_day(void) {
     /* three jobs, of which the first two overlap, on two rigs; the last may use rig 0 alone (bit 0) */
     const uint32_t starts[] = {600, 1200, 9000}, lengths[] = {3600, 1800, 7200};
@@ -269,6 +326,7 @@ int main(void) {
     board_swap();
     four_controllers();
     one_lamp();
+    class_2();
     one_day();
     return 0;
 }

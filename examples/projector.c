@@ -5,7 +5,7 @@
 
    ADDRESS is numeric; 127.0.0.1 is heard on this machine alone, 0.0.0.0 by every network that it is on. Port 0 is any
    free one. The password is that of the environment, PJLINK_PASSWORD, of eight characters or more; none, or an empty
-   one, is no security.
+   one, is no security. With PJLINK_CLASS=2 in the environment it is a projector of Class 2.
 
    Four controllers are answered at a time: the host keeps a socket for each of the record's places. Before it takes a
    new one it reads what the others have sent, to see who has gone; so whoever hangs up and connects again at once is
@@ -158,12 +158,19 @@ static int listen_at(const char *address, const char *port) {
     return listener;
 }
 
-int main(int argc, char **argv) {
-    const char *password = getenv("PJLINK_PASSWORD");
+static pj_changed set_up(const char *password, bool class_2) {
     const uint32_t lamps[] = {0};
+    const size_t lengths[] = {3, 0, 6}; /* of the inputs' names */
+    if (!class_2) return pj_set_up(TEXT("Table 3"), TEXT("maker"), TEXT("model"), TEXT("an example"), TEXT(password),
+                                   TEXT("1132"), lamps, 1, 20, 60);
+    return pj_set_up_2(TEXT("Table 3"), TEXT("maker"), TEXT("model"), TEXT("an example"), TEXT(password),
+                       TEXT("11326A"), lamps, 1, 2, 60, TEXT("S/N 3"), TEXT("1.4"), TEXT("RGBplayer"), lengths, 3);
+}
+
+int main(int argc, char **argv) {
+    const char *password = getenv("PJLINK_PASSWORD"), *class_number = getenv("PJLINK_CLASS");
     unsigned long idle = argc > 3 ? strtoul(argv[3], NULL, 10) : 300;
-    pj_changed made = pj_set_up(TEXT("Table 3"), TEXT("maker"), TEXT("model"), TEXT("an example"),
-                                TEXT(password ? password : ""), TEXT("1132"), lamps, 1, 20, 60);
+    pj_changed made = set_up(password ? password : "", class_number != NULL && strcmp(class_number, "2") == 0);
     if (made.number != PJ_SERVED || idle == 0 || argc > 4) {
         fprintf(stderr, "projector [PORT [ADDRESS [IDLE]]], PJLINK_PASSWORD: 8 to %d letters, digits\n",
                 PJ_PASSWORD_MOST);
