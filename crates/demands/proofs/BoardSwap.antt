@@ -7,7 +7,7 @@ use mathlib.Core.List.{List, [], _∷_}
 use native.Mathlib.Omega.{arith}
 use lib.ListN.{length, getD}
 use lib.Seq.{getD-take, length-take-le, ext-getD}
-use borrow.Author.Tests.{leb-true, eq-eqb}
+use borrow.Author.Tests.{leb-true, eq-eqb, ne-eqb}
 use Rattle.text.specs.Scans.{every}
 use Rattle.lines.specs.Bytes.{_at_}
 use Rattle.text.proofs.Scanning.{every-at}
@@ -20,11 +20,13 @@ use Rattle.record.specs.declared.types.Device.{Device}
 use Rattle.record.specs.declared.types.Changed.{Changed}
 use Rattle.record.proofs.LegalTold.{own-of-legal}
 use Rattle.record.proofs.MarksTold.{marks-long}
+use Rattle.record.proofs.Started.{started-parts}
 use Rattle.stored.specs.Form.{formVersion, markedFormOf, storedOf, marksStored, storedForm, storedBy}
-use Rattle.stored.specs.Loading.{startedWith, loaded}
-use Rattle.stored.proofs.Results.{stored-told}
+use Rattle.stored.specs.Loading.{settingsIn, startedWith, loaded}
+use Rattle.stored.proofs.Results.{stored-told, accepted-set-up}
 use Rattle.stored.proofs.StoredLoads.{stored-in-range, stored-loads as form-again}
 use Rattle.stored.proofs.FormsLoad.{marked-form-loads, marked-form-marks, old-form-loads}
+use Rattle.stored.proofs.Contents.{older-is-class-1}
 use Rattle.stored.proofs.BytesAgain.{Bytes}
 use Rattle.stored.proofs.OneForm.{stored-again, forms-apart}
 use Rattle.demands.specs.Board.{ours, givenBy, bytesWritten}
@@ -158,12 +160,20 @@ marked-loads w ms h e =
     let same = marked-form-loads w (h .set-up) (h .class-1) ms marks in
     record { accepted = e; fresh = ap (λ (r : Changed). r .device) same }
 
+older-loads : (s : List ℕ) → ours .load s .number ≡ 0 → (s at 0 ≡ formVersion → ⊥)
+    → ours .load s .device .settings .«class_number» ≡ 1
+older-loads s e other =
+    ap (λ (r : Changed). r .device .settings .«class_number») (accepted-set-up s e)
+    ∙ ap (λ (d : Device). d .settings .«class_number») (started-parts (settingsIn s))
+    ∙ older-is-class-1 s (ne-eqb (s at 0) formVersion other)
+
 pub ours-swap : BoardSwap ours
 ours-swap = record {
   form-stored = form-stored;
   stored-loads = stored-loads;
   old-form-sets-up = λ w h. ap givenBy (old-form-loads w (h .set-up) (h .class-1));
   marked-form-loads = marked-loads;
+  older-class-1 = older-loads;
   stored-again = λ s b new h. stored-again s (bytes-kept s b) h (eq-eqb (s at 0) formVersion new);
   one-form = λ s t a b g h v e. forms-apart s t (bytes-kept s a) (bytes-kept t b) g h v e;
   hours-go-on = hours-go-on;

@@ -36,6 +36,9 @@ pub record BoardSwap (B : Board) : Type 0 where
   -- 02, L14: version 2 loads "as Class 1", with its marks
   pub marked-form-loads : (w : Wanted) (ms : List Bool) → IsClass1 w → B .load (markedFormOf w ms) .number ≡ 0
       → LoadsAs B (markedFormOf w ms) w ms
+  -- "Versions 1 and 2 load as Class 1", whatever bytes these are
+  pub older-class-1 : (s : List ℕ) → B .load s .number ≡ 0 → (s at 0 ≡ formVersion → ⊥)
+      → B .shows (B .load s .device) .settings .«class_number» ≡ 1
   -- "One set-up has one form": what loads, stored again, is the same bytes, of the newest version
   pub stored-again : (s : List ℕ) → every (atMost 255) s ≡ true → s at 0 ≡ formVersion → B .load s .number ≡ 0
       → storedForm (B .shows (B .load s .device)) ≡ s

@@ -22,7 +22,7 @@ use Rattle.record.proofs.OutOfRange.{each-in-range}
 use Rattle.record.proofs.InRange.{in-range-each}
 use Rattle.record.proofs.Started.{started-marks}
 use Rattle.record.proofs.Calls.{set-up-refused}
-use Rattle.stored.specs.Loading.{isOld, placesOf, between, numberIn, secondsIn, classIn, textsAfter}
+use Rattle.stored.specs.Loading.{isOld, hasClass, placesOf, between, numberIn, secondsIn, classIn, textsAfter}
 use Rattle.stored.specs.Loading.{settingsWith, settingsBy, settingsAt, settingsIn, marksAt}
 use Rattle.stored.specs.Loading.{markBytesIn, isMarked, marksRead, markRoom, areMarks, startedWith}
 use Rattle.stored.specs.declared.layout.Places.{Places}
@@ -103,6 +103,11 @@ module _ (w : Wanted) where
         })
 
 module _ (s : List ℕ) where
+  -- versions 1 and 2 are of Class 1 (02, L14)
+  pub older-is-class-1 : hasClass s ≡ false → settingsIn s .class ≡ 1
+  unfolding settingsAt settingsWith
+  older-is-class-1 e = if-no _ 1 e
+
   pub lamps-many : length (settingsIn s .lamps) ≡ s at (placesOf s .lamps)
   unfolding settingsAt settingsWith
   lamps-many = read-many (s at (placesOf s .lamps)) _
