@@ -58,6 +58,7 @@ fn every_body() -> Vec<Case> {
         device.own.power = state / 2;
         device.own.left = u32::from(state >= 4);
         device.own.fault = state % 2 == 1;
+        device.own.chosen = 1;
         device.own.frozen = state == 2;
         let device = Rc::new(device);
         for body in &bodies {
