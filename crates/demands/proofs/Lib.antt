@@ -35,6 +35,7 @@ pub mod PowerSetsSeen
 pub mod Agrees
 pub mod AgreesThen
 pub mod CallsNoted
+pub mod HistorySpelt
 pub mod HistoryTold
 pub mod HoursTold
 pub mod FleetAdds

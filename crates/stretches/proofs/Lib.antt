@@ -1,0 +1,4 @@
+pub mod Exactly
+pub mod InOrder
+pub mod LengthsAdd
+pub mod Told
