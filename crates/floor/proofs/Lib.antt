@@ -1,20 +1,21 @@
-mod Gathering
+pub mod Gathering
 mod Endings
 mod Printing
 mod PartsPut
-mod KeptText
-mod EventsLeave
-mod Driven
-mod LinesPlayed
+pub mod KeptText
+pub mod EventsLeave
+pub mod Driven
+pub mod LinesPlayed
 mod LoopPlayed
 mod Refusals
 mod Carrying
 mod Cuts
-mod KeptLine
+pub mod KeptLine
 mod Replayed
 mod Accepted
 mod LinesCounted
 pub mod WholeLog
+pub mod EventSeconds
 pub mod LogOpenings
 pub mod OnePlace
 pub mod LastLine

@@ -13,7 +13,7 @@ ghost use Rattle.floor.specs.Reading.{keptOf, lfMissing, logFinished};
 ghost use Rattle.floor.specs.Calls.{readingIn, finishRoom, CanPlay, TakenAs};
 
 // 1 where a line has begun, which its LF would end; else 0.
-fn missing_lf(k: Begun) -> usize
+pub fn missing_lf(k: Begun) -> usize
     ensures { λ r. ⌜ r ≡ lfMissing (keptOf k []) ⌝ }
 {
     if k.overlong | (1 <= k.held) {

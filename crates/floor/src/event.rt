@@ -84,7 +84,7 @@ fn call_legal(d: Device, says: Says, bytes: &[u8], out: &mut [u8]) -> Called
 }
 
 // The same on any record, of which it is known whether it is legal: 1 where it is not.
-fn call(legal: bool, d: Device, says: Says, bytes: &[u8], out: &mut [u8]) -> Called
+pub fn call(legal: bool, d: Device, says: Says, bytes: &[u8], out: &mut [u8]) -> Called
     requires { ⌜ replyRoom ≤ length (now out) ⌝ }
     requires { ⌜ legal ≡ isLegal d ⌝ }
     ensures { λ r. ⌜ r ≡ calledOf (did d (eventOf says (now (bytes .entry)))) ⌝ }
@@ -110,7 +110,7 @@ fn last_place(at: usize, replied: usize) -> usize
     at + (replied - 1)
 }
 
-fn seconds_of(says: Says) -> u32
+pub fn seconds_of(says: Says) -> u32
     ensures { λ r. ⌜ r ≡ secondsOf (eventOf says []) ⌝ }
 {
     match says {

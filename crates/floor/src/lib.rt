@@ -1,7 +1,7 @@
 // The floor log played back (02, L1).
-mod closing;
+pub mod closing;
 pub mod event;
 pub mod gather;
-mod moving;
-mod playing;
+pub mod moving;
+pub mod playing;
 pub mod replay;

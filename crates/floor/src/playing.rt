@@ -18,7 +18,7 @@ ghost use Rattle.floor.specs.Calls.{readingIn, readingWith, CanPlay, Tak
 
 pub const PRINT_ROOM: usize = 157;
 
-fn least(a: usize, b: usize) -> usize
+pub fn least(a: usize, b: usize) -> usize
     ensures { λ r. ⌜ r ≡ min a b ⌝ }
 {
     if a < b {
@@ -28,7 +28,7 @@ fn least(a: usize, b: usize) -> usize
 }
 
 // What the line that is kept says; CR stands after it in the memory.
-fn kept_says(k: Begun, line: &mut [u8]) -> Says
+pub fn kept_says(k: Begun, line: &mut [u8]) -> Says
     requires { ⌜ k .held < length (now line) ⌝ }
     ensures { λ r. ⌜ r ≡ keptSaid (keptOf k (now (line .entry))) ⌝ }
     ensures { λ _. ⌜ now (line .exit) ≡ lineAfter (keptOf k (now (line .entry))) ⌝ }

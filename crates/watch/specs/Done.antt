@@ -1,0 +1,8 @@
+-- The struct that a played line returns.
+-- Assumes nothing.
+use Rattle.record.specs.declared.types.Device.{Device}
+use Rattle.watch.specs.declared.marking.Done.{Done}
+use Rattle.watch.specs.Marking.{FloorEvent, doneBy, secondsBy}
+
+abbrev pub doneOf : Device → FloorEvent → Done
+doneOf d e = record { seconds = secondsBy e; device = doneBy d e }

@@ -1,0 +1,5 @@
+pub mod Marking
+pub mod Watching
+pub mod Done
+pub mod WatchCalls
+pub mod LampLines

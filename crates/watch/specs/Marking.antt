@@ -1,0 +1,49 @@
+-- A log that is watched for its lamps has one form of line more than 02's L1 has, and every other line is what L1 says:
+-- `M`, a space, a lamp's number from 1, a space, 0 or 1 is the mark call of L8. No projector has more than eight lamps,
+-- so a number is one digit.
+--   isMarkLine l      l has that form
+--   lampMarked l      the place of the lamp that it names, from 0;    markGiven l    the mark
+--   FloorEvent        an event of such a log
+--   floorEvent l      that of the line l
+--   doneBy d e        the device after it
+--   secondsBy e       the seconds that it lets pass
+-- Assumes nothing.
+use Prim.Native.Nat.{ℕ, _-_}
+use Prim.Native.Char.{code}
+use mathlib.Core.Bool.{Bool, _&&_}
+use mathlib.Core.List.{List}
+use lib.ListN.{length}
+use lib.Dec.{eqb}
+use Rattle.text.specs.Words.{if_then_else_, _is_, _from_to_}
+use Rattle.lines.specs.Bytes.{_at_}
+use Rattle.record.specs.HostCalls.{markSet}
+use Rattle.record.specs.declared.types.Device.{Device}
+use Rattle.floor.specs.Events.{LogEvent, event}
+use Rattle.floor.specs.Playing.{did}
+use Rattle.floor.specs.Told.{secondsOf}
+
+unfoldable pub isMarkLine : List ℕ → Bool
+isMarkLine l =
+    eqb (length l) 5 && l at 0 is "M" && l at 1 is " " && l at 2 from "1" to "9" && l at 3 is " "
+    && l at 4 from "0" to "1"
+
+abbrev pub lampMarked : List ℕ → ℕ
+lampMarked l = l at 2 - code "1"
+
+abbrev pub markGiven : List ℕ → Bool
+markGiven l = l at 4 is "1"
+
+pub data FloorEvent : Type 0 where
+  logged : LogEvent → FloorEvent
+  marked : (lamp : ℕ) (mark : Bool) → FloorEvent
+
+unfoldable pub floorEvent : List ℕ → FloorEvent
+floorEvent l = if isMarkLine l then marked (lampMarked l) (markGiven l) else logged (event l)
+
+unfoldable pub doneBy : Device → FloorEvent → Device
+doneBy d (logged e) = did d e .device
+doneBy d (marked lamp mark) = markSet d lamp mark .device
+
+abbrev pub secondsBy : FloorEvent → ℕ
+secondsBy (logged e) = secondsOf e
+secondsBy (marked lamp mark) = 0

@@ -1,0 +1,1 @@
+// What is printed of lamps, a line each.
