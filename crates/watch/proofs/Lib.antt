@@ -1,0 +1,5 @@
+pub mod MarksSaid
+pub mod LinesDone
+pub mod Followed
+pub mod Turns
+pub mod WatchRefusals

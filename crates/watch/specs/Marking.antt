@@ -2,7 +2,7 @@
 -- `M`, a space, a lamp's number from 1, a space, 0 or 1 is the mark call of L8. No projector has more than eight lamps,
 -- so a number is one digit.
 --   isMarkLine l      l has that form
---   lampMarked l      the place of the lamp that it names, from 0;    markGiven l    the mark
+--   markSaid l        the place of the lamp that it names, from 0, and the mark
 --   FloorEvent        an event of such a log
 --   floorEvent l      that of the line l
 --   doneBy d e        the device after it
@@ -21,24 +21,27 @@ use Rattle.record.specs.declared.types.Device.{Device}
 use Rattle.floor.specs.Events.{LogEvent, event}
 use Rattle.floor.specs.Playing.{did}
 use Rattle.floor.specs.Told.{secondsOf}
+use Rattle.watch.specs.declared.marking.MarkSaid.{MarkSaid}
+use Rattle.watch.specs.declared.marking.MarkSaid.the-variants.{Sets, NoMark}
 
-unfoldable pub isMarkLine : List ℕ → Bool
+abbrev pub isMarkLine : List ℕ → Bool
 isMarkLine l =
     eqb (length l) 5 && l at 0 is "M" && l at 1 is " " && l at 2 from "1" to "9" && l at 3 is " "
     && l at 4 from "0" to "1"
 
-abbrev pub lampMarked : List ℕ → ℕ
-lampMarked l = l at 2 - code "1"
-
-abbrev pub markGiven : List ℕ → Bool
-markGiven l = l at 4 is "1"
+unfoldable pub markSaid : List ℕ → MarkSaid
+markSaid l = if isMarkLine l then Sets ((l at 2) - code "1") (l at 4 is "1") else NoMark
 
 pub data FloorEvent : Type 0 where
   logged : LogEvent → FloorEvent
   marked : (lamp : ℕ) (mark : Bool) → FloorEvent
 
+abbrev pub eventBy : MarkSaid → LogEvent → FloorEvent
+eventBy (Sets lamp mark) e = marked lamp mark
+eventBy NoMark e = logged e
+
 unfoldable pub floorEvent : List ℕ → FloorEvent
-floorEvent l = if isMarkLine l then marked (lampMarked l) (markGiven l) else logged (event l)
+floorEvent l = eventBy (markSaid l) (event l)
 
 unfoldable pub doneBy : Device → FloorEvent → Device
 doneBy d (logged e) = did d e .device

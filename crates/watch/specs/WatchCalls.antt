@@ -1,9 +1,9 @@
 -- The calls by which a log is watched, for every state and every lent memory.
 --   watchingIn w m           a state w and the memory m lent for a line;    watchOf n s    back again
 --   isSound s                no lamp burnt longer than there was time, and the stretch under way began before now
---   watchRefusal s lines     the number of a call on so many bytes: 1 for a record that is not legal; 2 for too little
+--   watchRefusal ..          the number of a call on so many bytes: 1 for a record that is not legal; 2 for too little
 --                            memory to keep a line in; 3 for a state that no log leaves, or whose seconds could pass 64
---                            bits; else 0
+--                            bits; else 0;    refusalIn s lines    that of a call on a state
 --   CanWatch s lines         what a call has that is not refused
 --   watchGiving n s x        what a call with the number n gives: x; nothing taken where n is a refusal
 --   watched w m bs           what `play` gives;    watchedToEnd w m    what `finish` gives
@@ -13,7 +13,7 @@
 use Prim.Native.Nat.{ℕ, _+_, _-_, _*_, _^_, _≤_, _<_}
 use mathlib.Core.Path.{_≡_}
 use mathlib.Core.Bool.{Bool, true, false, not, _&&_, _||_}
-use mathlib.Core.List.{List}
+use mathlib.Core.List.{List, []}
 use lib.ListN.{length, getD, replicate}
 use lib.Dec.{leb, ltb, eqb}
 use Rattle.text.specs.Words.{if_then_else_}
@@ -26,10 +26,12 @@ use Rattle.log.specs.Lines.{lineMost}
 use Rattle.floor.specs.declared.gather.Begun.{Begun}
 use Rattle.floor.specs.declared.replay.Floor.{Floor}
 use Rattle.floor.specs.Reading.{keptOf, begunOf, nothingBegun}
+use Rattle.floor.specs.Told.{Drives}
 use Rattle.watch.specs.declared.watching.Watch.{Watch}
 use Rattle.watch.specs.declared.watching.Seen.{Seen}
 use Rattle.watch.specs.declared.watching.Step.{Step}
-use Rattle.watch.specs.Watching.{Watching, Watched, isBurningIn, isDark, lineDone, watchedIn}
+use Rattle.watch.specs.Watching.{Watching, Watched, isBurningIn, isDark, darkWith, watchedBy, lineDone}
+use Rattle.watch.specs.Watching.{watchedIn}
 use Rattle.watch.specs.Watching.{watchEnded}
 
 abbrev pub watchingWith : Watch → Begun → List ℕ → Watching
@@ -62,12 +64,16 @@ soundTop s = if isBurningIn (s .device) then s .from else s .time
 unfoldable pub isSound : Watching → Bool
 isSound s = leb (s .from) (s .time) && every (λ (b : ℕ). leb b (soundTop s)) (s .burnt)
 
-unfoldable pub watchRefusal : Watching → ℕ → ℕ
-watchRefusal s lines =
-    if not (isLegal (s .device)) then 1
-    else if leb (length (s .kept .bytes)) lineMost then 2
-    else if ltb lineMost (s .kept .held) || not (isSound s) || leb (2 ^ 64) (s .time + lines * secondsMost) then 3
+unfoldable pub watchRefusal : (legal sound : Bool) → (held memory time lines : ℕ) → ℕ
+watchRefusal legal sound held memory time lines =
+    if not legal then 1
+    else if leb memory lineMost then 2
+    else if ltb lineMost held || not sound || leb (2 ^ 64) (time + lines * secondsMost) then 3
     else 0
+
+abbrev pub refusalIn : Watching → ℕ → ℕ
+refusalIn s lines =
+    watchRefusal (isLegal (s .device)) (isSound s) (s .kept .held) (length (s .kept .bytes)) (s .time) lines
 
 pub record CanWatch (s : Watching) (lines : ℕ) : Type 0 where
   pub legal : isLegal (s .device) ≡ true
@@ -80,6 +86,17 @@ pub record CanWatch (s : Watching) (lines : ℕ) : Type 0 where
 pub record CanDarken (from time : ℕ) (burnt : List ℕ) : Type 0 where
   pub begun : from ≤ time
   pub fits : (k : ℕ) → getD burnt k 0 + (time - from) < 2 ^ 64
+
+-- a line that let n seconds pass and left the device d can be followed
+pub record CanFollow (s : Watching) (d : Device) (n : ℕ) : Type 0 where
+  pub legal : isLegal (s .device) ≡ true
+  pub sound : isSound s ≡ true
+  pub timed : s .time + n < 2 ^ 64
+  pub settings : d .settings ≡ s .device .settings
+  pub drives : Drives true n (s .device) d
+
+abbrev pub followed : Watching → Device → ℕ → Watched
+followed s d n = record { taken = 0; told = darkWith s d; state = watchedBy s d n [] }
 
 -- one line, and what is taken where none ends
 abbrev pub lineWatched : Watching → Watched
@@ -101,12 +118,12 @@ watchGiving n s x = record {
 unfoldable pub watched : Watch → List ℕ → List ℕ → WatchStep
 watched w m bs =
     let s = watchingIn w m in
-    watchGiving (watchRefusal s (length bs)) s (watchedIn s bs)
+    watchGiving (refusalIn s (length bs)) s (watchedIn s bs)
 
 unfoldable pub watchedToEnd : Watch → List ℕ → WatchStep
 watchedToEnd w m =
     let s = watchingIn w m in
-    watchGiving (watchRefusal s 1) s (watchEnded s)
+    watchGiving (refusalIn s 1) s (watchEnded s)
 
 abbrev pub seenOf : ℕ → Watched → Seen
 seenOf n x = record { taken = x .taken; ended = x .told; watch = watchOf n (x .state) }

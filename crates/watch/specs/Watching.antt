@@ -27,9 +27,10 @@ use Rattle.record.specs.declared.types.Device.{Device}
 use Rattle.record.specs.declared.types.Line.{Line}
 use Rattle.clock.specs.Second.{changedWhere, marksIn}
 use Rattle.stream.specs.Collecting.{lineText}
-use Rattle.floor.specs.Events.{noSuch}
-use Rattle.floor.specs.Reading.{keptOf, nothingBegun, keptWith, lineAfter, lfMissing}
-use Rattle.watch.specs.Marking.{FloorEvent, logged, floorEvent, doneBy, secondsBy}
+use Rattle.floor.specs.Reading.{keptOf, nothingBegun, keptWith, keptEvent, lineAfter, lfMissing}
+use Rattle.watch.specs.declared.marking.MarkSaid.{MarkSaid}
+use Rattle.watch.specs.declared.marking.MarkSaid.the-variants.{NoMark}
+use Rattle.watch.specs.Marking.{FloorEvent, markSaid, eventBy, doneBy, secondsBy}
 
 pub record Watching : Type 0 where
   pub device : Device
@@ -45,14 +46,16 @@ abbrev pub gainedBy : Device → ℕ → List ℕ → List ℕ
 gainedBy d n burnt = changedWhere (λ (b : ℕ). b + n) (marksIn (d .settings) (d .own)) burnt
 
 -- an overlong line has no such form
-abbrev pub keptFloorEvent : Line → FloorEvent
-keptFloorEvent k = if k .overlong then logged noSuch else floorEvent (lineText k)
+abbrev pub keptMark : Line → MarkSaid
+keptMark k = if k .overlong then NoMark else markSaid (lineText k)
 
--- what an event leaves, and the memory of its line
-abbrev pub watchedOn : Watching → FloorEvent → List ℕ → Watching
-watchedOn s e line =
-    let d = doneBy (s .device) e in
-    let t = s .time + secondsBy e in
+abbrev pub keptFloorEvent : Line → FloorEvent
+keptFloorEvent k = eventBy (keptMark k) (keptEvent k)
+
+-- what a line leaves that let n seconds pass and left the device d; and the memory of the line
+abbrev pub watchedBy : Watching → Device → ℕ → List ℕ → Watching
+watchedBy s d n line =
+    let t = s .time + n in
     record {
       device = d;
       time = t;
@@ -61,14 +64,17 @@ watchedOn s e line =
       kept = keptOf nothingBegun line;
     }
 
-abbrev pub darkBy : Watching → FloorEvent → Bool
-darkBy s e = isBurningIn (s .device) && not (isBurningIn (doneBy (s .device) e))
+abbrev pub watchedOn : Watching → FloorEvent → List ℕ → Watching
+watchedOn s e line = watchedBy s (doneBy (s .device) e) (secondsBy e) line
+
+abbrev pub darkWith : Watching → Device → Bool
+darkWith s d = isBurningIn (s .device) && not (isBurningIn d)
 
 unfoldable pub lineDone : Watching → Watching
 lineDone s = watchedOn s (keptFloorEvent (s .kept)) (lineAfter (s .kept))
 
 unfoldable pub isDark : Watching → Bool
-isDark s = darkBy s (keptFloorEvent (s .kept))
+isDark s = darkWith s (doneBy (s .device) (keptFloorEvent (s .kept)))
 
 abbrev pub isLong : Watching → Bool
 isLong s = ltb (s .from) (s .time)
@@ -105,12 +111,14 @@ darkened s = record {
   kept = s .kept;
 }
 
-unfoldable pub closedAtEnd : Watching → Watched
-closedAtEnd s =
-    if isBurningIn (s .device) then record { taken = 0; told = isLong s; state = darkened s }
+-- where the last line told of stretches that ended there, none is under way
+abbrev pub closedAtEnd : Bool → Watching → Watched
+closedAtEnd told s =
+    if told then record { taken = 0; told = true; state = s }
+    else if isBurningIn (s .device) then record { taken = 0; told = isLong s; state = darkened s }
     else record { taken = 0; told = false; state = s }
 
 unfoldable pub watchEnded : Watching → Watched
 watchEnded s =
     let x = watchedIn s (take (lfMissing (s .kept)) (code "\n" ∷ [])) in
-    if x .told then record { taken = 0; told = true; state = x .state } else closedAtEnd (x .state)
+    closedAtEnd (x .told) (x .state)

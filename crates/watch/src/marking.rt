@@ -2,19 +2,19 @@
 use floor::event;
 use floor::gather::Begun;
 use floor::playing;
+use log::Says;
 use record::host;
-use record::types::Changed;
 use record::types::Device;
 ghost use mathlib.Core.Path.{_≡_};
 ghost use mathlib.Core.Bool.{true};
-ghost use Prim.Native.Nat.{_≤_, _<_};
-ghost use lib.ListN.{length};
+ghost use Prim.Native.Nat.{_+_, _-_, _≤_, _<_, min};
+ghost use lib.ListN.{length, take, drop};
 ghost use Rattle.record.specs.Legal.{isLegal};
-ghost use Rattle.record.specs.HostCalls.{markSet};
 ghost use Rattle.device.specs.Calls.{replyRoom};
+ghost use Rattle.floor.specs.Events.{eventOf};
 ghost use Rattle.floor.specs.Reading.{keptOf, lineAfter};
-ghost use Rattle.watch.specs.Marking.{isMarkLine, lampMarked, markGiven, doneBy, secondsBy};
-ghost use Rattle.watch.specs.Watching.{keptFloorEvent};
+ghost use Rattle.watch.specs.Marking.{logged, markSaid};
+ghost use Rattle.watch.specs.Watching.{keptMark, keptFloorEvent};
 ghost use Rattle.watch.specs.Done.{doneOf};
 
 // What a line did: the seconds that it let pass, and the record that it leaves.
@@ -23,26 +23,70 @@ pub struct Done {
     pub device: Device,
 }
 
-// `M`, a space, a lamp's number from 1, a space, 0 or 1.
-fn is_mark_line(l: &[u8]) -> bool
-    ensures { λ r. ⌜ r ≡ isMarkLine (now (l .entry)) ⌝ }
-{
-    if l.len() != 5 {
-        return false;
-    }
-    (l[0] == b'M')
-        & (l[1] == b' ')
-        & ((b'1' <= l[2]) & (l[2] <= b'9'))
-        & (l[3] == b' ')
-        & ((b'0' <= l[4]) & (l[4] <= b'1'))
+// The mark that a line asks for: of the lamp at a place from 0.
+pub enum MarkSaid {
+    Sets(u8, bool),
+    NoMark,
 }
 
-// The mark call that such a line asks for (02, L8).
-fn mark(d: Device, l: &[u8]) -> Changed
-    requires { ⌜ isMarkLine (now l) ≡ true ⌝ }
-    ensures { λ r. ⌜ r ≡ markSet d (lampMarked (now (l .entry))) (markGiven (now (l .entry))) ⌝ }
+// `M`, a space, a lamp's number from 1, a space, 0 or 1.
+fn mark_says(l: &[u8]) -> MarkSaid
+    ensures { λ r. ⌜ r ≡ markSaid (now (l .entry)) ⌝ }
 {
-    host::set_mark(d, (l[2] - b'1') as usize, l[4] == b'1')
+    if l.len() != 5 {
+        return MarkSaid::NoMark;
+    }
+    let lamp = l[2];
+    let mark = l[4];
+    if lamp < b'1' {
+        return MarkSaid::NoMark;
+    }
+    if (l[0] == b'M')
+        & (l[1] == b' ')
+        & (lamp <= b'9')
+        & (l[3] == b' ')
+        & (b'0' <= mark)
+        & (mark <= b'1')
+    {
+        return MarkSaid::Sets(lamp - b'1', mark == b'1');
+    }
+    MarkSaid::NoMark
+}
+
+fn place(x: u8) -> usize
+    ensures { λ r. ⌜ r ≡ x ⌝ }
+{
+    x as usize
+}
+
+// What the kept line says of a mark; an overlong one says nothing.
+fn kept_mark(k: Begun, line: &[u8]) -> MarkSaid
+    requires { ⌜ k .held < length (now line) ⌝ }
+    ensures { λ r. ⌜ r ≡ keptMark (keptOf k (now (line .entry))) ⌝ }
+{
+    if k.overlong {
+        return MarkSaid::NoMark;
+    }
+    let held = k.held;
+    mark_says(&line[0..held])
+}
+
+// The event of a kept line, which CR follows in the memory.
+fn log_event(d: Device, says: Says, held: usize, line: &[u8], reply: &mut [u8]) -> Done
+    requires { ⌜ isLegal d ≡ true ⌝ }
+    requires { ⌜ held < length (now line) ⌝ }
+    requires { ⌜ replyRoom ≤ length (now reply) ⌝ }
+    ensures { λ r. ⌜ r ≡ doneOf d (logged (eventOf says (take (held + 1 - min 2 held)
+        (drop (min 2 held) (now (line .entry)))))) ⌝ }
+{
+    let from = playing::least(2, held);
+    let end = held + 1;
+    let called = event::call(true, d, says, &line[from..end], reply);
+    let device = called.device;
+    Done {
+        seconds: event::seconds_of(says),
+        device,
+    }
 }
 
 // The line that is kept, played on a legal record; CR stands after it in the memory.
@@ -53,19 +97,14 @@ pub fn end_line(d: Device, k: Begun, line: &mut [u8], reply: &mut [u8]) -> Done
     ensures { λ r. ⌜ r ≡ doneOf d (keptFloorEvent (keptOf k (now (line .entry)))) ⌝ }
     ensures { λ _. ⌜ now (line .exit) ≡ lineAfter (keptOf k (now (line .entry))) ⌝ }
 {
+    let mark = kept_mark(k, line);
     let says = playing::kept_says(k, line);
-    let held = k.held;
-    if !k.overlong & is_mark_line(&line[0..held]) {
-        let changed = mark(d, &line[0..held]);
-        let device = changed.device;
-        return Done { seconds: 0, device };
-    }
-    let from = playing::least(2, held);
-    let end = held + 1;
-    let called = event::call(true, d, says, &line[from..end], reply);
-    let device = called.device;
-    Done {
-        seconds: event::seconds_of(says),
-        device,
+    match mark {
+        MarkSaid::Sets(lamp, to) => {
+            let changed = host::set_mark(d, place(lamp), to);
+            let device = changed.device;
+            Done { seconds: 0, device }
+        }
+        MarkSaid::NoMark => log_event(d, says, k.held, line, reply),
     }
 }

@@ -23,9 +23,10 @@ ghost use Rattle.record.specs.Legal.{isLegal};
 ghost use Rattle.clock.specs.Second.{changedWhere};
 ghost use Rattle.device.specs.Calls.{replyRoom};
 ghost use Rattle.floor.specs.Told.{Drives};
-ghost use Rattle.watch.specs.Watching.{Watched, lineDone, isDark, darkened, watchedIn, watchEnded};
+ghost use Rattle.watch.specs.Watching.{isBurningIn, closedAtEnd, darkened, watchedIn};
 ghost use Rattle.watch.specs.WatchCalls.{watchingIn, watchingWith, watchOf, watchingFrom, isSound, watchRefusal};
 ghost use Rattle.watch.specs.WatchCalls.{CanWatch, SeenAs, WatchedAs, watched, watchedToEnd, movedTo, CanDarken, lineWatched, seenOf, heldOf};
+ghost use Rattle.watch.specs.WatchCalls.{CanFollow, followed, watchStepOf};
 
 pub const REPLY_ROOM: usize = 136;
 
@@ -71,7 +72,12 @@ fn gain(mark: bool, burnt: u64, n: u64) -> u64
 }
 
 // Each lamp whose mark is set burnt n seconds more.
-fn gained(burnt: [u64; LAMPS_MOST], marks: [bool; LAMPS_MOST], count: usize, n: u64) -> [u64; LAMPS_MOST]
+fn gained(
+    burnt: [u64; LAMPS_MOST],
+    marks: [bool; LAMPS_MOST],
+    count: usize,
+    n: u64,
+) -> [u64; LAMPS_MOST]
     requires { ⌜ ((k : ℕ) → getD burnt k 0 + n < 2 ^ 64) ⌝ }
     ensures { λ r. ⌜ r ≡ changedWhere (λ (b : ℕ). b + n) (take count marks) burnt ⌝ }
 {
@@ -156,7 +162,13 @@ fn darken(w: Watch) -> Watch
 {
     let floor = w.floor;
     let marks = floor.device.own.enabled;
-    let burnt = gained(w.burnt, marks, floor.device.settings.lamp_count, w.time - w.from);
+    let before = w.burnt;
+    let burnt = gained(
+        before,
+        marks,
+        floor.device.settings.lamp_count,
+        w.time - w.from,
+    );
     Watch {
         floor,
         time: w.time,
@@ -165,20 +177,16 @@ fn darken(w: Watch) -> Watch
     }
 }
 
-// The line that is kept is played; `ended`: after it the lamps burn no longer.
-fn end_line(w: Watch, k: Begun, line: &mut [u8], reply: &mut [u8]) -> Seen
-    requires { ⌜ CanWatch (watchingWith w k (now line)) 1 ⌝ }
-    requires { ⌜ replyRoom ≤ length (now reply) ⌝ }
-    ensures { λ r. ⌜ SeenAs (w .floor .number) (lineWatched (watchingWith w k (now (line .entry))))
-        r (now (line .exit)) ⌝ }
+// What a line leaves; `ended`: after it the lamps burn no longer.
+fn after_line(w: Watch, done: Done) -> Seen
+    requires { ⌜ CanFollow (watchingIn w []) (done .device) (done .seconds) ⌝ }
+    ensures { λ r. ⌜ r ≡ seenOf (w .floor .number) (followed (watchingIn w []) (done .device) (done .seconds)) ⌝ }
 {
-    let before = w.floor;
-    let done = marking::end_line(before.device, k, line, reply);
-    let was = own::is_lit(before.device.own.power);
+    let was = own::is_lit(w.floor.device.own.power);
     let is = own::is_lit(done.device.own.power);
     let time = w.time + wide(done.seconds);
     let from = begin(!was & is, time, w.from);
-    let floor = advanced(before, done);
+    let floor = advanced(w.floor, done);
     let burnt = w.burnt;
     let next = Watch {
         floor,
@@ -199,6 +207,18 @@ fn end_line(w: Watch, k: Begun, line: &mut [u8], reply: &mut [u8]) -> Seen
         ended: false,
         watch: next,
     }
+}
+
+// The line that is kept is played.
+fn end_line(w: Watch, k: Begun, line: &mut [u8], reply: &mut [u8]) -> Seen
+    requires { ⌜ CanWatch (watchingWith w k (now line)) 1 ⌝ }
+    requires { ⌜ replyRoom ≤ length (now reply) ⌝ }
+    ensures { λ r. ⌜ SeenAs (w .floor .number) (lineWatched (watchingWith w k (now (line .entry))))
+        r (now (line .exit)) ⌝ }
+{
+    let floor = w.floor;
+    let done = marking::end_line(floor.device, k, line, reply);
+    after_line(w, done)
 }
 
 // The lines of `bytes`, up to one after which the lamps burn no longer.
@@ -252,4 +272,119 @@ fn held(w: Watch, begun: Begun, taken: usize) -> Seen
         ended: false,
         watch,
     }
+}
+
+// The end of a log ends the stretches that are under way, unless its last line told of some.
+fn close_log(seen: Seen) -> Seen
+    requires { ⌜ (isBurningIn (seen .watch .floor .device) ≡ true
+        → CanDarken (seen .watch .from) (seen .watch .time) (seen .watch .burnt)) ⌝ }
+    ensures { λ r. ⌜ r ≡ seenOf (seen .watch .floor .number) (closedAtEnd (seen .ended) (watchingIn (seen .watch) [])) ⌝ }
+{
+    let watch = seen.watch;
+    if seen.ended {
+        return Seen {
+            taken: 0,
+            ended: true,
+            watch,
+        };
+    }
+    if own::is_lit(watch.floor.device.own.power) {
+        let after = darken(watch);
+        return Seen {
+            taken: 0,
+            ended: watch.from < watch.time,
+            watch: after,
+        };
+    }
+    Seen {
+        taken: 0,
+        ended: false,
+        watch,
+    }
+}
+
+fn is_sound(w: Watch) -> bool
+    ensures { λ r. ⌜ r ≡ isSound (watchingIn w []) ⌝ }
+{
+    let top = begin(own::is_lit(w.floor.device.own.power), w.from, w.time);
+    let burnt = w.burnt;
+    (w.from <= w.time) & all_at_most(burnt, top)
+}
+
+// 1 for a record that is not legal, 2 for too little memory, 3 for a state that cannot go on, else 0.
+fn refusal_of(legal: bool, sound: bool, held: usize, memory: usize, time: u64, lines: usize) -> u32
+    ensures { λ r. ⌜ r ≡ watchRefusal legal sound held memory time lines ⌝ }
+{
+    if !legal {
+        return 1;
+    }
+    if memory <= LINE_MOST {
+        return 2;
+    }
+    if LINE_MOST < held {
+        return 3;
+    }
+    if !sound {
+        return 3;
+    }
+    if (u64::MAX - time) / SECONDS_MOST < lines as u64 {
+        return 3;
+    }
+    0
+}
+
+fn refused(w: Watch, number: u32) -> Step
+    ensures { λ r. ⌜ r ≡ watchStepOf (w .floor .number) (record { number = number; watched = heldOf 0 (watchingIn w []) }) ⌝ }
+{
+    let seen = Seen {
+        taken: 0,
+        ended: false,
+        watch: w,
+    };
+    Step { number, seen }
+}
+
+// Bytes of a log, the next ones: all are taken, or those up to the end of a line after which the lamps burn no longer.
+pub fn play(w: Watch, line: &mut [u8], bytes: &[u8]) -> Step
+    ensures { λ r. ⌜ WatchedAs (w .floor .number) (watched w (now (line .entry)) (now (bytes .entry)))
+        r (now (line .exit)) ⌝ }
+{
+    let number = refusal_of(
+        legality::legal(w.floor.device),
+        is_sound(w),
+        w.floor.begun.held,
+        line.len(),
+        w.time,
+        bytes.len(),
+    );
+    if number != 0 {
+        return refused(w, number);
+    }
+    let mut reply = [0u8; REPLY_ROOM];
+    let seen = watch_on(w, line, bytes, &mut reply);
+    Step { number: 0, seen }
+}
+
+// The end of the input: a line without LF is played, and the log ends.
+pub fn finish(w: Watch, line: &mut [u8]) -> Step
+    ensures { λ r. ⌜ WatchedAs (w .floor .number) (watchedToEnd w (now (line .entry))) r (now (line .exit)) ⌝ }
+{
+    let begun = w.floor.begun;
+    let number = refusal_of(
+        legality::legal(w.floor.device),
+        is_sound(w),
+        begun.held,
+        line.len(),
+        w.time,
+        1,
+    );
+    if number != 0 {
+        return refused(w, number);
+    }
+    let mut reply = [0u8; REPLY_ROOM];
+    let count = closing::missing_lf(begun);
+    let lf = [b'\n'; 1];
+    let last = watch_on(w, line, &lf[0..count], &mut reply);
+    let seen = close_log(last);
+    Step { number: 0, seen }
 }
