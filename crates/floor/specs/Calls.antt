@@ -1,6 +1,7 @@
 -- The calls of a replay, for every state and every lent memory (02, L1).
 --   readingIn f m          a state f and the memory m lent for a line, as a reading; `readingWith f k m`: with k begun
 --   floorOf s              the state of a reading, without that memory
+--   floorWith d            the state before a log that begins with the device d
 --   lineTakenOf t          what was taken, as the code returns it
 --   TakenAs t out ..       what an inner function returns and leaves in the two memories, where it takes t and `out` is
 --                          the memory to print in
@@ -32,7 +33,8 @@ use Rattle.floor.specs.declared.replay.Stepped.{Stepped}
 use Rattle.floor.specs.declared.playing.Taken.{Taken}
 use Rattle.log.specs.Lines.{lineMost}
 use Rattle.log.specs.LastLine.{lastRoom}
-use Rattle.floor.specs.Reading.{Reading, keptOf, begunOf, printRoom, playedIn, logFinished}
+use Rattle.floor.specs.Reading.{Reading, keptOf, begunOf, nothingBegun, printRoom, playedIn}
+use Rattle.floor.specs.Reading.{logFinished}
 
 abbrev pub readingWith : Floor → Begun → List ℕ → Reading
 readingWith f k m = record { device = f .device; number = f .number; kept = keptOf k m }
@@ -42,6 +44,9 @@ readingIn f m = readingWith f (f .begun) m
 
 abbrev pub floorOf : Reading → Floor
 floorOf s = record { device = s .device; number = s .number; begun = begunOf (s .kept) }
+
+abbrev pub floorWith : Device → Floor
+floorWith d = record { device = d; number = 0; begun = nothingBegun }
 
 abbrev pub lineTakenOf : Took Reading → Taken
 lineTakenOf t = record { taken = t .taken; length = length (t .reply); floor = floorOf (t .state) }

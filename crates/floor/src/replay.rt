@@ -11,7 +11,7 @@ ghost use mathlib.Core.Path.{_≡_};
 ghost use mathlib.Core.List.{[]};
 ghost use lib.ListN.{length};
 ghost use Rattle.floor.specs.Reading.{fresh};
-ghost use Rattle.floor.specs.Calls.{floorOf, refusal, stepped, endedAt, SteppedAs};
+ghost use Rattle.floor.specs.Calls.{floorOf, floorWith, refusal, stepped, endedAt, SteppedAs};
 
 const FINISH_ROOM: usize = 268;
 
@@ -38,6 +38,18 @@ pub fn start() -> Floor
     let lamps = [0u32; 1];
     let started = setup::set_up(b"", b"", b"", b"", b"", b"11", &lamps, 20, 60);
     let device = started.device;
+    let begun = Begun::NOTHING;
+    Floor {
+        device,
+        number: 0,
+        begun,
+    }
+}
+
+// The same with another device.
+pub fn start_with(device: Device) -> Floor
+    ensures { λ r. ⌜ r ≡ floorWith device ⌝ }
+{
     let begun = Begun::NOTHING;
     Floor {
         device,

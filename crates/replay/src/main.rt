@@ -1,4 +1,5 @@
-// The floor log played back (02, L1): a log on standard input, what its lines answer on standard output. Where a read
+// The floor log played back (02, L1): a log on standard input, what its lines answer on standard output, from 01's sample
+// set-up or from that of the stored form in the file that an argument names. Where a read
 // fails, the last line says so, and there is no line of power and lamps; where a write fails, standard error says so.
 mod way;
 
@@ -9,6 +10,7 @@ use floor::replay::Floor;
 use libc::STDERR_FILENO;
 use libc::STDIN_FILENO;
 use libc::STDOUT_FILENO;
+use record::types::Device;
 
 const ROOM: usize = 65536;
 
@@ -136,8 +138,17 @@ fn end(p: Place, line: &mut [u8], out: &mut [u8]) {
     }
 }
 
-fn run(line: &mut [u8], input: &mut [u8], out: &mut [u8]) {
-    let floor = replay::start();
+// A form that does not load gives its number in one line, and nothing else.
+fn tell_number(number: u32) {
+    let mut line = [0u8; 16];
+    let length = way::put_number(number, &mut line);
+    if !write_start(STDOUT_FILENO, &line, length) {
+        say(STDERR_FILENO, Failure::Write);
+    }
+}
+
+fn run(device: Device, line: &mut [u8], input: &mut [u8], out: &mut [u8]) {
+    let floor = replay::start_with(device);
     let mut place = Place {
         floor,
         at: 0,
@@ -154,8 +165,17 @@ fn run(line: &mut [u8], input: &mut [u8], out: &mut [u8]) {
 }
 
 fn main() {
+    let begun = formfile::begun_by(1);
+    if !begun.read {
+        tell_failure(Failure::Read);
+        return;
+    }
+    if begun.number != 0 {
+        tell_number(begun.number);
+        return;
+    }
     let mut line = [0u8; replay::LINE_ROOM];
     let mut input = [0u8; ROOM];
     let mut out = [0u8; ROOM];
-    run(&mut line, &mut input, &mut out);
+    run(begun.device, &mut line, &mut input, &mut out);
 }

@@ -3,7 +3,7 @@ ghost use mathlib.Core.Path.{_≡_};
 ghost use Prim.Native.Nat.{_≤_};
 ghost use lib.ListN.{length};
 ghost use Rattle.text.specs.Words.{over};
-ghost use Rattle.replay.specs.Ways.{readWay, callWay, failureLine, failureRoom};
+ghost use Rattle.replay.specs.Ways.{readWay, callWay, failureLine, failureRoom, numberLine};
 
 pub enum Failure {
     Read,
@@ -62,4 +62,16 @@ pub fn put_failure(failure: Failure, out: &mut [u8]) -> usize
             13
         }
     }
+}
+
+// The line of a form that does not load: its number.
+pub fn put_number(number: u32, out: &mut [u8]) -> usize
+    requires { ⌜ failureRoom ≤ length (now out) ⌝ }
+    ensures { λ r. ⌜ r ≡ length (numberLine number) ⌝ }
+    ensures { λ _. ⌜ now (out .exit) ≡ over (numberLine number) (now (out .entry)) ⌝ }
+{
+    text::put(out, 0, b"! ");
+    let end = numbers::put_number(out, 2, number);
+    text::put(out, end, b"\n");
+    end + 1
 }

@@ -3,3 +3,4 @@ pub mod LinesDone
 pub mod Followed
 pub mod Turns
 pub mod WatchRefusals
+pub mod PartsTold
