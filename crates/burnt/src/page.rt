@@ -20,7 +20,7 @@ pub fn head() -> bool {
     );
     let b = sink::text(
         a,
-        b".b{fill:#f4f4f4;stroke:#bbb;stroke-width:.5}\n.h{stroke:#bbb;stroke-width:.5}\n.l{fill:#0072b2;stroke:#000;stroke-width:.6}\n.o{fill:#e69f00}\ntable{border-collapse:collapse;margin-top:1em}\ntd,th{border:1px solid #888;padding:.25em .7em;text-align:right}\n",
+        b".b{fill:#f4f4f4;stroke:#bbb;stroke-width:.5}\n.h{stroke:#bbb;stroke-width:.5}\n.l{fill:#0072b2;stroke:#000;stroke-width:.6}\ntable{border-collapse:collapse;margin-top:1em}\ntd,th{border:1px solid #888;padding:.25em .7em;text-align:right}\n",
     );
     let c = sink::text(
         b,

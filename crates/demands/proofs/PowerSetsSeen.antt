@@ -3,17 +3,18 @@
 -- Assumes nothing.
 use Prim.Native.Nat.{ℕ, _+_, _-_}
 use mathlib.Core.Path.{_≡_, ap, _∙_}
-use mathlib.Core.Bool.{Bool, true, false}
+use mathlib.Core.Bool.{Bool, true, false, not}
 use mathlib.Core.List.{List, [], _∷_, _++_}
 use native.Mathlib.Omega.{arith}
 use lib.ListN.{length, drop, length-append}
 use lib.Seq.{drop-append-seam}
 use Rattle.text.specs.Words.{ascii}
+use Rattle.text.proofs.Choices.{if-all}
 use Rattle.lines.specs.Requests.{isBody}
 use Rattle.lines.specs.declared.command.Body.the-variants.{Powr}
 use Rattle.stream.proofs.LastBytes.{Ends}
 use Rattle.device.proofs.PowerLines.{isPowerOkay, powerLine, power-line-read, power-line-not-other}
-use Rattle.demands.specs.History.{switched, powerSet}
+use Rattle.demands.specs.History.{Event, switched, powerSet, _says_, _ends-in_}
 
 module _ (a b c d : ℕ) (powr : isBody 1 (a ∷ b ∷ c ∷ d ∷ []) Powr ≡ true) (stream reply : List ℕ)
     (okay : isPowerOkay reply ≡ true) where
@@ -37,3 +38,11 @@ module _ (a b c d : ℕ) (powr : isBody 1 (a ∷ b ∷ c ∷ d ∷ []) Powr ≡ 
 pub none-seen : (stream reply : List ℕ) → isPowerOkay reply ≡ false → powerSet stream reply ≡ []
 unfolding powerSet
 none-seen stream reply e = rw e
+
+-- whatever it is, it is one set or none
+pub one-or-none : (P : List Event → Type 0) (stream reply : List ℕ) → P [] → ((wanted : Bool) → P (switched wanted ∷ []))
+    → P (powerSet stream reply)
+unfolding powerSet
+one-or-none P stream reply none one =
+    if-all P (not (reply says "%1POWR=OK\r")) none
+    (if-all P (stream ends-in "%1POWR 1\r") (one true) (if-all P (stream ends-in "%1POWR 0\r") (one false) none))

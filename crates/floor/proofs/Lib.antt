@@ -16,6 +16,7 @@ mod Accepted
 mod LinesCounted
 pub mod WholeLog
 pub mod EventSeconds
+pub mod DidSpelt
 pub mod LogOpenings
 pub mod OnePlace
 pub mod LastLine

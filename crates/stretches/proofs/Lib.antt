@@ -1,4 +1,7 @@
 pub mod Exactly
-pub mod InOrder
+pub mod OrderKept
 pub mod LengthsAdd
 pub mod Told
+pub mod Joined
+pub mod EventsSeen
+pub mod LogTells

@@ -8,7 +8,7 @@ use Rattle.record.specs.Wanted.{Wanted}
 use Rattle.demands.specs.History.{Event, steady}
 use Rattle.stretches.specs.Stretches.{secondsLit, stretchesOf, StretchesTell}
 use Rattle.stretches.proofs.Exactly.{exactly-lit}
-use Rattle.stretches.proofs.InOrder.{in-order}
+use Rattle.stretches.proofs.OrderKept.{in-order}
 use Rattle.stretches.proofs.LengthsAdd.{lengths-lit, lit-burns}
 
 pub stretches-tell : (w : Wanted) (ms : List Bool) (k : ℕ) (es : List Event)

@@ -7,7 +7,7 @@
 --   stretchesFrom lit f t ls    the stretches of seconds that are lit as ls says, the first of which is the second t,
 --                               where one has begun at f if `lit`;    stretchesOf ls    from the second 0 on
 --   isIn ss i                   the second i lies in one of ss
---   Apart n ss                  the stretches are in order, apart and none of them empty, and none begins before n
+--   InOrder n ss                  the stretches are in order, apart and none of them empty, and none begins before n
 --   lengthsOf ss                their lengths, added up
 --   StretchesTell w ms k es ss  what is promised of the stretches of the lamp at place k
 -- Assumes nothing.
@@ -55,10 +55,10 @@ abbrev pub isIn : List Stretch → ℕ → Bool
 isIn [] i = false
 isIn (s ∷ ss) i = leb (s .from) i && ltb i (s .to) || isIn ss i
 
-pub data Apart : ℕ → List Stretch → Type 0 where
-  no-more : {n : ℕ} → Apart n []
-  and-then : {n : ℕ} {s : Stretch} {ss : List Stretch} → n ≤ s .from → s .from < s .to → Apart (suc (s .to)) ss
-      → Apart n (s ∷ ss)
+pub data InOrder : ℕ → List Stretch → Type 0 where
+  no-more : {n : ℕ} → InOrder n []
+  and-then : {n : ℕ} {s : Stretch} {ss : List Stretch} → n ≤ s .from → s .from < s .to → InOrder (suc (s .to)) ss
+      → InOrder n (s ∷ ss)
 
 abbrev pub lengthsOf : List Stretch → ℕ
 lengthsOf [] = 0
@@ -68,6 +68,6 @@ pub record StretchesTell (w : Wanted) (ms : List Bool) (k : ℕ) (es : List Even
   -- exactly the seconds of warm-up or power-on with its mark set
   pub exactly : (i : ℕ) → isIn ss i ≡ getD (secondsLit w ms k es) i false
   -- in order, apart, none empty
-  pub apart : Apart 0 ss
+  pub apart : InOrder 0 ss
   -- what the lamp burnt by demand 3
   pub adds-up : lengthsOf ss ≡ burning w ms k es

@@ -1,4 +1,5 @@
 pub mod MarksSaid
+pub mod DoneSpelt
 pub mod LinesDone
 pub mod Followed
 pub mod Turns

@@ -20,7 +20,7 @@ use Rattle.floor.proofs.Gathering.{kept-held, kept-long}
 use Rattle.watch.specs.Watching.{Watching, Watched, isBurningIn, watchKept, watchStep, isDark, isLong}
 use Rattle.watch.specs.Watching.{watchedIn, darkened, closedAtEnd}
 use Rattle.watch.specs.WatchCalls.{isSound, watchRefusal, refusalIn, CanWatch, WatchStep, watchGiving, heldOf}
-use Rattle.watch.specs.WatchCalls.{seenOf}
+use Rattle.watch.specs.WatchCalls.{sightOf}
 use Rattle.watch.proofs.LinesDone.{line-goes}
 use Rattle.watch.proofs.Turns.{can-fewer}
 
@@ -140,13 +140,13 @@ watched-goes (b ∷ bs) s can =
 -- ---- the end of a log looks at no byte of the line
 
 pub closed-anywhere : (n : ℕ) (told : Bool) (s : Watching) (m : List ℕ)
-    → seenOf n (closedAtEnd told (watchIn s m)) ≡ seenOf n (closedAtEnd told s)
+    → sightOf n (closedAtEnd told (watchIn s m)) ≡ sightOf n (closedAtEnd told s)
 closed-anywhere n true s m = refl
 closed-anywhere n false s m = by (isBurningIn (s .device))
   where
     by : (lit : Bool)
-        → seenOf n (if lit then record { taken = 0; told = isLong s; state = darkened (watchIn s m) } else heldOf 0 (watchIn s m))
-        ≡ seenOf n (if lit then record { taken = 0; told = isLong s; state = darkened s } else heldOf 0 s)
+        → sightOf n (if lit then record { taken = 0; told = isLong s; state = darkened (watchIn s m) } else heldOf 0 (watchIn s m))
+        ≡ sightOf n (if lit then record { taken = 0; told = isLong s; state = darkened s } else heldOf 0 s)
     by true = refl
     by false = refl
 

@@ -4,5 +4,5 @@ use Rattle.record.specs.declared.types.Device.{Device}
 use Rattle.watch.specs.declared.marking.Done.{Done}
 use Rattle.watch.specs.Marking.{FloorEvent, doneBy, secondsBy}
 
-abbrev pub doneOf : Device → FloorEvent → Done
-doneOf d e = record { seconds = secondsBy e; device = doneBy d e }
+abbrev pub lineDid : Device → FloorEvent → Done
+lineDid d e = record { seconds = secondsBy e; device = doneBy d e }

@@ -125,15 +125,15 @@ watchedToEnd w m =
     let s = watchingIn w m in
     watchGiving (refusalIn s 1) s (watchEnded s)
 
-abbrev pub seenOf : ℕ → Watched → Seen
-seenOf n x = record { taken = x .taken; ended = x .told; watch = watchOf n (x .state) }
+abbrev pub sightOf : ℕ → Watched → Seen
+sightOf n x = record { taken = x .taken; ended = x .told; watch = watchOf n (x .state) }
 
 pub record SeenAs (n : ℕ) (x : Watched) (r : Seen) (line-left : List ℕ) : Type 0 where
-  pub returned : r ≡ seenOf n x
+  pub returned : r ≡ sightOf n x
   pub line : line-left ≡ x .state .kept .bytes
 
 abbrev pub watchStepOf : ℕ → WatchStep → Step
-watchStepOf n g = record { number = g .number; seen = seenOf n (g .watched) }
+watchStepOf n g = record { number = g .number; seen = sightOf n (g .watched) }
 
 pub record WatchedAs (n : ℕ) (g : WatchStep) (r : Step) (line-left : List ℕ) : Type 0 where
   pub returned : r ≡ watchStepOf n g

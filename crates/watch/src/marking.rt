@@ -15,7 +15,7 @@ ghost use Rattle.floor.specs.Events.{eventOf};
 ghost use Rattle.floor.specs.Reading.{keptOf, lineAfter};
 ghost use Rattle.watch.specs.Marking.{logged, markSaid};
 ghost use Rattle.watch.specs.Watching.{keptMark, keptFloorEvent};
-ghost use Rattle.watch.specs.Done.{doneOf};
+ghost use Rattle.watch.specs.Done.{lineDid};
 
 // What a line did: the seconds that it let pass, and the record that it leaves.
 pub struct Done {
@@ -76,7 +76,7 @@ fn log_event(d: Device, says: Says, held: usize, line: &[u8], reply: &mut [u8]) 
     requires { ⌜ isLegal d ≡ true ⌝ }
     requires { ⌜ held < length (now line) ⌝ }
     requires { ⌜ replyRoom ≤ length (now reply) ⌝ }
-    ensures { λ r. ⌜ r ≡ doneOf d (logged (eventOf says (take (held + 1 - min 2 held)
+    ensures { λ r. ⌜ r ≡ lineDid d (logged (eventOf says (take (held + 1 - min 2 held)
         (drop (min 2 held) (now (line .entry)))))) ⌝ }
 {
     let from = playing::least(2, held);
@@ -94,7 +94,7 @@ pub fn end_line(d: Device, k: Begun, line: &mut [u8], reply: &mut [u8]) -> Done
     requires { ⌜ isLegal d ≡ true ⌝ }
     requires { ⌜ k .held < length (now line) ⌝ }
     requires { ⌜ replyRoom ≤ length (now reply) ⌝ }
-    ensures { λ r. ⌜ r ≡ doneOf d (keptFloorEvent (keptOf k (now (line .entry)))) ⌝ }
+    ensures { λ r. ⌜ r ≡ lineDid d (keptFloorEvent (keptOf k (now (line .entry)))) ⌝ }
     ensures { λ _. ⌜ now (line .exit) ≡ lineAfter (keptOf k (now (line .entry))) ⌝ }
 {
     let mark = kept_mark(k, line);

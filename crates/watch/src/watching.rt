@@ -25,7 +25,7 @@ ghost use Rattle.device.specs.Calls.{replyRoom};
 ghost use Rattle.floor.specs.Told.{Drives};
 ghost use Rattle.watch.specs.Watching.{isBurningIn, closedAtEnd, darkened, watchedIn};
 ghost use Rattle.watch.specs.WatchCalls.{watchingIn, watchingWith, watchOf, watchingFrom, isSound, watchRefusal};
-ghost use Rattle.watch.specs.WatchCalls.{CanWatch, SeenAs, WatchedAs, watched, watchedToEnd, movedTo, CanDarken, lineWatched, seenOf, heldOf};
+ghost use Rattle.watch.specs.WatchCalls.{CanWatch, SeenAs, WatchedAs, watched, watchedToEnd, movedTo, CanDarken, lineWatched, sightOf, heldOf};
 ghost use Rattle.watch.specs.WatchCalls.{CanFollow, followed, watchStepOf};
 
 pub const REPLY_ROOM: usize = 136;
@@ -180,7 +180,7 @@ fn darken(w: Watch) -> Watch
 // What a line leaves; `ended`: after it the lamps burn no longer.
 fn after_line(w: Watch, done: Done) -> Seen
     requires { ⌜ CanFollow (watchingIn w []) (done .device) (done .seconds) ⌝ }
-    ensures { λ r. ⌜ r ≡ seenOf (w .floor .number) (followed (watchingIn w []) (done .device) (done .seconds)) ⌝ }
+    ensures { λ r. ⌜ r ≡ sightOf (w .floor .number) (followed (watchingIn w []) (done .device) (done .seconds)) ⌝ }
 {
     let was = own::is_lit(w.floor.device.own.power);
     let is = own::is_lit(done.device.own.power);
@@ -256,7 +256,7 @@ fn watch_on(w: Watch, line: &mut [u8], bytes: &[u8], reply: &mut [u8]) -> Seen
 }
 
 fn held(w: Watch, begun: Begun, taken: usize) -> Seen
-    ensures { λ r. ⌜ r ≡ seenOf (w .floor .number) (heldOf taken (watchingWith w begun [])) ⌝ }
+    ensures { λ r. ⌜ r ≡ sightOf (w .floor .number) (heldOf taken (watchingWith w begun [])) ⌝ }
 {
     let mut floor = w.floor;
     floor.begun = begun;
@@ -278,7 +278,7 @@ fn held(w: Watch, begun: Begun, taken: usize) -> Seen
 fn close_log(seen: Seen) -> Seen
     requires { ⌜ (isBurningIn (seen .watch .floor .device) ≡ true
         → CanDarken (seen .watch .from) (seen .watch .time) (seen .watch .burnt)) ⌝ }
-    ensures { λ r. ⌜ r ≡ seenOf (seen .watch .floor .number) (closedAtEnd (seen .ended) (watchingIn (seen .watch) [])) ⌝ }
+    ensures { λ r. ⌜ r ≡ sightOf (seen .watch .floor .number) (closedAtEnd (seen .ended) (watchingIn (seen .watch) [])) ⌝ }
 {
     let watch = seen.watch;
     if seen.ended {

@@ -16,7 +16,7 @@ use Rattle.watch.specs.declared.marking.Done.{Done}
 use Rattle.watch.specs.declared.marking.MarkSaid.{MarkSaid}
 use Rattle.watch.specs.Marking.{logged, eventBy, doneBy}
 use Rattle.watch.specs.Watching.{keptMark}
-use Rattle.watch.specs.Done.{doneOf}
+use Rattle.watch.specs.Done.{lineDid}
 use Rattle.watch.proofs.marking.end_line.Statement.{statement}
 use Rattle.watch.proofs.marking.end_line.Tie as tie
 
@@ -32,9 +32,9 @@ module _ (c : tie.After-kept-says) where
   kept = keptOf (start .args .k) (now (start .args .line))
 
   by-mark : {m : MarkSaid} → read .kept-mark .result ≡ m
-      → doneOf (start .args .d) (eventBy m (keptEvent kept))
-      ≡ doneOf (start .args .d) (eventBy (keptMark kept) (keptEvent kept))
-  by-mark e = ap (λ (m : MarkSaid). doneOf (start .args .d) (eventBy m (keptEvent kept))) (sym e ∙ read .kept-mark .ensures)
+      → lineDid (start .args .d) (eventBy m (keptEvent kept))
+      ≡ lineDid (start .args .d) (eventBy (keptMark kept) (keptEvent kept))
+  by-mark e = ap (λ (m : MarkSaid). lineDid (start .args .d) (eventBy m (keptEvent kept))) (sym e ∙ read .kept-mark .ensures)
 
 marks : tie.Need-returns
 unfolding doneBy
@@ -60,9 +60,9 @@ plays c =
     let k = s .args .k in
     let from = min 2 (k .held) in (
       called .log-event .ensures
-          ∙ (λ i. doneOf (s .args .d) (logged (eventOf (said .kept-says .ensures .0 i)
+          ∙ (λ i. lineDid (s .args .d) (logged (eventOf (said .kept-says .ensures .0 i)
           (take (k .held + 1 - from) (drop from (said .kept-says .ensures .1 i))))))
-          ∙ ap (λ (e : LogEvent). doneOf (s .args .d) (logged e)) (event-lent k (now (s .args .line)) (s .pre .1 .0) from refl)
+          ∙ ap (λ (e : LogEvent). lineDid (s .args .d) (logged e)) (event-lent k (now (s .args .line)) (s .pre .1 .0) from refl)
           ∙ by-mark said (arm .enum-told .given .1),
       said .kept-says .ensures .1,
     )

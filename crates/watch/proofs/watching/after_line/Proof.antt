@@ -13,7 +13,7 @@ use Rattle.floor.specs.Reading.{keptOf}
 use Rattle.watch.specs.declared.watching.Watch.{Watch}
 use Rattle.watch.specs.declared.watching.Seen.{Seen}
 use Rattle.watch.specs.Watching.{Watching, isBurningIn, darkWith, darkened}
-use Rattle.watch.specs.WatchCalls.{watchingIn, watchOf, seenOf, CanDarken}
+use Rattle.watch.specs.WatchCalls.{watchingIn, watchOf, sightOf, CanDarken}
 use Rattle.watch.proofs.LinesDone.{can-darken}
 use Rattle.watch.proofs.Followed.{not-both, onward, lightFrom, dark-followed, lit-followed}
 use Rattle.watch.proofs.watching.after_line.Statement.{statement}
@@ -71,7 +71,7 @@ returns c =
         kept = keptOf (moved b .advanced .ensures j .begun) [];
       })))) i;
     } in
-    made ∙ sym (ap (seenOf (number b)) (dark-followed (s b) (start b .args .done .device) (start b .args .done .seconds)
+    made ∙ sym (ap (sightOf (number b)) (dark-followed (s b) (start b .args .done .device) (start b .args .done .seconds)
     (darkens-here b dark)))
 
 returns-2 : tie.Need-returns-2
@@ -89,7 +89,7 @@ returns-2 c =
         burnt = w .burnt;
       };
     } in
-    made ∙ sym (ap (seenOf (number b)) (lit-followed (s b) (start b .args .done .device) (start b .args .done .seconds) lit))
+    made ∙ sym (ap (sightOf (number b)) (lit-followed (s b) (start b .args .done .device) (start b .args .done .seconds) lit))
 
 darkens : tie.Need-darken-requires
 darkens c κs =

@@ -8,14 +8,14 @@ use borrow.Author.Needs.{needs}
 use Rattle.text.proofs.Choices.{if-yes, if-no}
 use Rattle.watch.specs.declared.watching.Seen.{Seen}
 use Rattle.watch.specs.Watching.{closedAtEnd}
-use Rattle.watch.specs.WatchCalls.{watchingIn, seenOf}
+use Rattle.watch.specs.WatchCalls.{watchingIn, sightOf}
 use Rattle.watch.proofs.watching.close_log.Statement.{statement}
 use Rattle.watch.proofs.watching.close_log.Tie as tie
 
 abbrev closed : tie.Start → Bool → Seen
 closed start told =
     let w = start .args .seen .watch in
-    seenOf (w .floor .number) (closedAtEnd told (watchingIn w []))
+    sightOf (w .floor .number) (closedAtEnd told (watchingIn w []))
 
 told : tie.Need-returns
 told c = sym (ap (closed (c .before .before)) (c .if1 .taken))
@@ -33,7 +33,7 @@ dark c =
     } in
     made
     ∙ sym (ap (closed start) (tested .before .if1 .left)
-    ∙ ap (seenOf (w .floor .number)) (if-yes _ _ (sym (tested .is-lit .ensures) ∙ after .before .if2 .taken)))
+    ∙ ap (sightOf (w .floor .number)) (if-yes _ _ (sym (tested .is-lit .ensures) ∙ after .before .if2 .taken)))
 
 none : tie.Need-returns-3
 none c =
@@ -41,7 +41,7 @@ none c =
     let start = tested .before .before .before in
     let w = start .args .seen .watch in
     sym (ap (closed start) (tested .before .if1 .left)
-    ∙ ap (seenOf (w .floor .number)) (if-no _ _ (sym (tested .is-lit .ensures) ∙ c .if2 .left)))
+    ∙ ap (sightOf (w .floor .number)) (if-no _ _ (sym (tested .is-lit .ensures) ∙ c .if2 .left)))
 
 may-darken : tie.Need-darken-requires
 may-darken c κs =

@@ -9,8 +9,8 @@ use Rattle.record.specs.declared.types.Device.{Device}
 use Rattle.watch.specs.declared.marking.Done.{Done}
 use Rattle.watch.specs.Marking.{FloorEvent}
 use Rattle.watch.specs.Watching.{Watching, keptFloorEvent, lineDone, isDark}
-use Rattle.watch.specs.WatchCalls.{watchingIn, watchingWith, seenOf, followed, isSound, CanFollow}
-use Rattle.watch.specs.Done.{doneOf}
+use Rattle.watch.specs.WatchCalls.{watchingIn, watchingWith, sightOf, followed, isSound, CanFollow}
+use Rattle.watch.specs.Done.{lineDid}
 use Rattle.watch.proofs.LinesDone.{done-settings, done-drives, line-seconds}
 use Rattle.watch.proofs.watching.end_line.Statement.{statement}
 use Rattle.watch.proofs.watching.end_line.Tie as tie
@@ -56,7 +56,7 @@ returns c =
     let w = start done .args .w in
     record {
       returned = c .after-line .ensures
-          ∙ ap (λ (x : Done). seenOf (w .floor .number) (followed (watchingIn w []) (x .device) (x .seconds)))
+          ∙ ap (λ (x : Done). sightOf (w .floor .number) (followed (watchingIn w []) (x .device) (x .seconds)))
           (done .end-line .ensures .0);
       line = done .end-line .ensures .1;
     }

@@ -17,7 +17,7 @@ use Rattle.watch.specs.declared.watching.Step.{Step}
 use Rattle.watch.specs.declared.watching.Seen.{Seen}
 use Rattle.watch.specs.Watching.{Watching, Watched, isBurningIn, watchedIn, closedAtEnd, watchEnded}
 use Rattle.watch.specs.WatchCalls.{watchingIn, isSound, watchRefusal, refusalIn, WatchStep, WatchedAs, watchedToEnd}
-use Rattle.watch.specs.WatchCalls.{seenOf, SeenAs, CanWatch, CanDarken}
+use Rattle.watch.specs.WatchCalls.{sightOf, SeenAs, CanWatch, CanDarken}
 use Rattle.watch.proofs.LinesDone.{can-darken}
 use Rattle.watch.proofs.Turns.{can-fewer}
 use Rattle.watch.proofs.WatchRefusals.{can-watch, watch-nothing, watch-all, watched-goes, closed-anywhere}
@@ -109,7 +109,7 @@ ends c =
     let made : _≡_ {A = Step} _ _ = λ i. record {
       number = 0;
       seen = (c .close-log .ensures
-          ∙ (λ j. seenOf (ret j .watch .floor .number) (closedAtEnd (ret j .ended) (watchingIn (ret j .watch) [])))
+          ∙ (λ j. sightOf (ret j .watch .floor .number) (closedAtEnd (ret j .ended) (watchingIn (ret j .watch) [])))
           ∙ closed-anywhere (n called) (x called .told) (x called .state) []) i;
     } in
     carried (watch-all (s k) (watchEnded (s k)) (number k) (counted called .before .if1 .left))

@@ -18,7 +18,7 @@ use Rattle.floor.specs.Told.{gatheredTo}
 use Rattle.watch.specs.declared.watching.Watch.{Watch}
 use Rattle.watch.specs.declared.watching.Seen.{Seen}
 use Rattle.watch.specs.Watching.{Watching, Watched, lineDone, isDark, watchedIn}
-use Rattle.watch.specs.WatchCalls.{watchingIn, watchingWith, seenOf, SeenAs, CanWatch, lineWatched, heldOf}
+use Rattle.watch.specs.WatchCalls.{watchingIn, watchingWith, sightOf, SeenAs, CanWatch, lineWatched, heldOf}
 use Rattle.watch.proofs.Turns.{WatchedTo, none-watched, first, held, in-memory, can-end-one, stays, place-inside}
 use Rattle.watch.proofs.Turns.{stops, goes-on, all-watched}
 use Rattle.watch.proofs.watching.watch_on.Statement.{statement}
@@ -97,7 +97,7 @@ part : tie.Need-returns Inv μ
 part c =
     let got = let known = c .before .before .before in known .before .before .before in
     let none = sym (ended got) ∙ not-true (got .gather .result .ended) (c .before .if1 .taken) in
-    let told : _≡_ {A = Seen} _ _ = λ i. seenOf (turn got .loop .inv .number i)
+    let told : _≡_ {A = Seen} _ _ = λ i. sightOf (turn got .loop .inv .number i)
     (heldOf (length (bytes got)) (watchingWith (turn got .loop .watch) (gave got i .begun) (left got i))) in
     carried (stays (s got) (bytes got) (to got) (test got .loop-test .taken) none)
     (record { returned = c .held .ensures ∙ told; line = left got })
@@ -203,7 +203,7 @@ all-taken c =
     let i = turn .loop .inv in
     carried (all-watched _ _ (i .to) (c .loop-test .left))
     (record {
-      returned = ap (λ (n : ℕ). seenOf n (heldOf (turn .loop .at) (watchingIn (turn .loop .watch) (turn .loop .line))))
+      returned = ap (λ (n : ℕ). sightOf n (heldOf (turn .loop .at) (watchingIn (turn .loop .watch) (turn .loop .line))))
           (i .number);
       line = refl;
     })
