@@ -16,7 +16,7 @@ use Rattle.demands.specs.Demand3.{countSet}
 use Rattle.demands.proofs.HistorySpelt.{burning-none, burning-more}
 use Rattle.stretches.specs.Stretches.{Stretch, stretchesFrom, stretchesOf, lengthsOf, secondsLitFrom}
 
-lengths-append : (xs ys : List Stretch) → lengthsOf (xs ++ ys) ≡ lengthsOf xs + lengthsOf ys
+pub lengths-append : (xs ys : List Stretch) → lengthsOf (xs ++ ys) ≡ lengthsOf xs + lengthsOf ys
 lengths-append [] ys = omega arith
 lengths-append (s ∷ xs) ys = let rest = lengths-append xs ys in omega arith
 

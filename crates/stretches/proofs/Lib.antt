@@ -5,3 +5,4 @@ pub mod Told
 pub mod Joined
 pub mod EventsSeen
 pub mod LogTells
+pub mod BurntAdds

@@ -4,6 +4,7 @@
 --   isMarkedIn d k     the mark of the lamp at place k is set
 --   toldOf k s es      the stretches that are told of the lamp at place k, from the state s on: those that end with an
 --                      event (crate `watch`: `darkWith`, `isLong`), and the one under way when the log ends
+--   burntOf k s es     the seconds that the lamp at place k is told to have burnt, when the log ends
 -- Assumes nothing.
 use Prim.Native.Nat.{ℕ}
 use mathlib.Core.Bool.{Bool, false, _&&_}
@@ -17,7 +18,7 @@ use Rattle.floor.specs.Events.{opens, receives, passes, closes, noSuch}
 use Rattle.floor.specs.Playing.{logPlace}
 use Rattle.demands.specs.Calls.{Call, opens as opensAt, receives as receivesAt, passes as passesBy, closes as closesAt, enables}
 use Rattle.watch.specs.Marking.{FloorEvent, logged, marked, doneBy}
-use Rattle.watch.specs.Watching.{Watching, isBurningIn, isLong, darkWith, watchedOn}
+use Rattle.watch.specs.Watching.{Watching, isBurningIn, isLong, darkWith, watchedOn, closedAtEnd}
 use Rattle.stretches.specs.Stretches.{Stretch, stretchIf}
 
 -- the memory that each call is lent
@@ -45,3 +46,7 @@ toldOf k s [] =
 toldOf k s (e ∷ es) =
     let t = watchedOn s e (s .kept .bytes) in
     stretchIf (darkWith s (t .device) && isMarkedIn (t .device) k && isLong t) (t .from) (t .time) ++ toldOf k t es
+
+unfoldable pub burntOf : ℕ → Watching → List FloorEvent → ℕ
+burntOf k s [] = getD (closedAtEnd false s .state .burnt) k 0
+burntOf k s (e ∷ es) = burntOf k (watchedOn s e (s .kept .bytes)) es
