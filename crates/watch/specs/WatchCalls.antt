@@ -87,13 +87,16 @@ pub record CanDarken (from time : ℕ) (burnt : List ℕ) : Type 0 where
   pub begun : from ≤ time
   pub fits : (k : ℕ) → getD burnt k 0 + (time - from) < 2 ^ 64
 
--- a line that let n seconds pass and left the device d can be followed
-pub record CanFollow (s : Watching) (d : Device) (n : ℕ) : Type 0 where
-  pub legal : isLegal (s .device) ≡ true
+-- a line that let n seconds pass left the settings of the device d, and its places but one (02, L5)
+pub record CanSettle (d : Device) (n : ℕ) (to : Device) : Type 0 where
+  pub legal : isLegal d ≡ true
+  pub settings : to .settings ≡ d .settings
+  pub drives : Drives true n d to
+
+-- it can be followed
+pub record CanFollow (s : Watching) (n : ℕ) : Type 0 where
   pub sound : isSound s ≡ true
   pub timed : s .time + n < 2 ^ 64
-  pub settings : d .settings ≡ s .device .settings
-  pub drives : Drives true n (s .device) d
 
 abbrev pub followed : Watching → Device → ℕ → Watched
 followed s d n = record { taken = 0; told = darkWith s d; state = watchedBy s d n [] }

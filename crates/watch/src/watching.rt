@@ -19,14 +19,12 @@ ghost use lib.ListN.{length, getD, take};
 ghost use lib.Dec.{leb};
 ghost use Rattle.text.specs.Words.{if_then_else_};
 ghost use Rattle.text.specs.Scans.{every};
-ghost use Rattle.record.specs.Legal.{isLegal};
 ghost use Rattle.clock.specs.Second.{changedWhere};
 ghost use Rattle.device.specs.Calls.{replyRoom};
-ghost use Rattle.floor.specs.Told.{Drives};
 ghost use Rattle.watch.specs.Watching.{isBurningIn, closedAtEnd, darkened, watchedIn};
 ghost use Rattle.watch.specs.WatchCalls.{watchingIn, watchingWith, watchOf, watchingFrom, isSound, watchRefusal};
 ghost use Rattle.watch.specs.WatchCalls.{CanWatch, SeenAs, WatchedAs, watched, watchedToEnd, movedTo, CanDarken, lineWatched, sightOf, heldOf};
-ghost use Rattle.watch.specs.WatchCalls.{CanFollow, followed, watchStepOf};
+ghost use Rattle.watch.specs.WatchCalls.{CanFollow, CanSettle, followed, watchStepOf};
 
 pub const REPLY_ROOM: usize = 136;
 
@@ -124,25 +122,35 @@ pub fn start(device: Device) -> Watch
     }
 }
 
-// The state of a log after a line, with no copy of what the line cannot have changed.
-fn advanced(f: Floor, done: Done) -> Floor
-    requires { ⌜ isLegal (f .device) ≡ true ⌝ }
-    requires { ⌜ done .device .settings ≡ f .device .settings ⌝ }
-    requires { ⌜ Drives true (done .seconds) (f .device) (done .device) ⌝ }
-    ensures { λ r. ⌜ r ≡ movedTo (f .number) (done .device) ⌝ }
+// The device after a line, with nothing begun.
+fn moved_to(number: u64, device: Device) -> Floor
+    ensures { λ r. ⌜ r ≡ movedTo number device ⌝ }
 {
-    let mut floor = f;
-    if 1 <= done.seconds {
-        floor = moving::aged(floor, done.seconds);
-    }
-    let device = done.device;
     let begun = Begun::NOTHING;
-    let to = Floor {
+    Floor {
         device,
-        number: f.number,
+        number,
         begun,
-    };
-    moving::moved(floor, to)
+    }
+}
+
+// `to`, which a line left that let so many seconds pass: what it cannot have changed stays where it is, and is not copied.
+fn settled(w: Watch, seconds: u32, to: Watch) -> Watch
+    requires { ⌜ CanSettle (w .floor .device) seconds (to .floor .device) ⌝ }
+    ensures { λ r. ⌜ r ≡ to ⌝ }
+{
+    let mut floor = w.floor;
+    if 1 <= seconds {
+        floor = moving::aged(floor, seconds);
+    }
+    floor = moving::moved(floor, to.floor);
+    let burnt = to.burnt;
+    Watch {
+        floor,
+        time: to.time,
+        from: to.from,
+        burnt,
+    }
 }
 
 // `to` where the lamps began to burn at that second, else what it was.
@@ -179,14 +187,15 @@ fn darken(w: Watch) -> Watch
 
 // What a line leaves; `ended`: after it the lamps burn no longer.
 fn after_line(w: Watch, done: Done) -> Seen
-    requires { ⌜ CanFollow (watchingIn w []) (done .device) (done .seconds) ⌝ }
+    requires { ⌜ CanFollow (watchingIn w []) (done .seconds) ⌝ }
     ensures { λ r. ⌜ r ≡ sightOf (w .floor .number) (followed (watchingIn w []) (done .device) (done .seconds)) ⌝ }
 {
     let was = own::is_lit(w.floor.device.own.power);
     let is = own::is_lit(done.device.own.power);
     let time = w.time + wide(done.seconds);
     let from = begin(!was & is, time, w.from);
-    let floor = advanced(w.floor, done);
+    let device = done.device;
+    let floor = moved_to(w.floor.number, device);
     let burnt = w.burnt;
     let next = Watch {
         floor,
@@ -209,16 +218,27 @@ fn after_line(w: Watch, done: Done) -> Seen
     }
 }
 
+// What a line left, and the seconds that it let pass.
+struct Lined {
+    seconds: u32,
+    seen: Seen,
+}
+
 // The line that is kept is played.
-fn end_line(w: Watch, k: Begun, line: &mut [u8], reply: &mut [u8]) -> Seen
+fn end_line(w: Watch, k: Begun, line: &mut [u8], reply: &mut [u8]) -> Lined
     requires { ⌜ CanWatch (watchingWith w k (now line)) 1 ⌝ }
     requires { ⌜ replyRoom ≤ length (now reply) ⌝ }
     ensures { λ r. ⌜ SeenAs (w .floor .number) (lineWatched (watchingWith w k (now (line .entry))))
-        r (now (line .exit)) ⌝ }
+        (r .seen) (now (line .exit)) ⌝ }
+    ensures { λ r. ⌜ CanSettle (w .floor .device) (r .seconds) (r .seen .watch .floor .device) ⌝ }
 {
     let floor = w.floor;
     let done = marking::end_line(floor.device, k, line, reply);
-    after_line(w, done)
+    let seen = after_line(w, done);
+    Lined {
+        seconds: done.seconds,
+        seen,
+    }
 }
 
 // The lines of `bytes`, up to one after which the lamps burn no longer.
@@ -237,16 +257,17 @@ fn watch_on(w: Watch, line: &mut [u8], bytes: &[u8], reply: &mut [u8]) -> Seen
         if !gathered.ended {
             return held(watch, begun, bytes.len());
         }
-        let seen = end_line(watch, begun, line, reply);
-        watch = seen.watch;
+        let lined = end_line(watch, begun, line, reply);
+        let next = lined.seen.watch;
         at += gathered.before + 1;
-        if seen.ended {
+        if lined.seen.ended {
             return Seen {
                 taken: at,
-                ended: watch.from < watch.time,
-                watch,
+                ended: next.from < next.time,
+                watch: next,
             };
         }
+        watch = settled(watch, lined.seconds, next);
     }
     Seen {
         taken: at,

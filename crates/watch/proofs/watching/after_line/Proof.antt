@@ -21,11 +21,11 @@ use Rattle.watch.proofs.watching.after_line.Tie as tie
 
 -- the state is moved on
 module _ (c : tie.After-burnt) where
-  abbrev moved : tie.After-advanced
+  abbrev moved : tie.After-moved-to
   moved = c .before
 
   abbrev begun : tie.After-begin
-  begun = moved .before
+  begun = moved .before .before
 
   abbrev timed : tie.After-wide
   timed = begun .before .before
@@ -63,12 +63,12 @@ returns c =
     let made : _≡_ {A = Seen} _ _ = λ i. record {
       taken = 0;
       ended = true;
-      watch = (c .darken .ensures ∙ (λ j. watchOf (moved b .advanced .ensures j .number) (darkened (record {
-        device = moved b .advanced .ensures j .device;
+      watch = (c .darken .ensures ∙ (λ j. watchOf (moved b .moved-to .ensures j .number) (darkened (record {
+        device = moved b .moved-to .ensures j .device;
         time = same-time b j;
         from = same-from b dark j;
         burnt = w .burnt;
-        kept = keptOf (moved b .advanced .ensures j .begun) [];
+        kept = keptOf (moved b .moved-to .ensures j .begun) [];
       })))) i;
     } in
     made ∙ sym (ap (sightOf (number b)) (dark-followed (s b) (start b .args .done .device) (start b .args .done .seconds)
@@ -83,7 +83,7 @@ returns-2 c =
       taken = 0;
       ended = false;
       watch = record {
-        floor = moved b .advanced .ensures i;
+        floor = moved b .moved-to .ensures i;
         time = same-time b i;
         from = (begun b .begin .ensures ∙ (λ j. if tests b (λ (x y : Bool). not x && y) j then same-time b j else s b .from)) i;
         burnt = w .burnt;
@@ -106,11 +106,6 @@ adds c =
     let known = c .before in
     omega (arith, known .before .before .before .pre .timed, known .wide .ensures)
 
-advances : tie.Need-advanced-requires
-advances c κs =
-    let can = (let known = c .before .before in known .before .before .before) .pre in
-    (can .legal, (can .settings, can .drives))
-
 pub after-line-spec : {M : Type 1} → statement M
 after-line-spec =
     tie.close
@@ -120,7 +115,7 @@ after-line-spec =
     (λ c κs. search needs)
     adds
     (λ c κs. search needs)
-    advances
+    (λ c κs. search needs)
     darkens
     returns
     returns-2)

@@ -7,9 +7,10 @@ use denote.Ref.{now}
 use borrow.Author.Needs.{needs}
 use Rattle.record.specs.declared.types.Device.{Device}
 use Rattle.watch.specs.declared.marking.Done.{Done}
+use Rattle.watch.specs.declared.watching.Seen.{Seen}
 use Rattle.watch.specs.Marking.{FloorEvent}
 use Rattle.watch.specs.Watching.{Watching, keptFloorEvent, lineDone, isDark}
-use Rattle.watch.specs.WatchCalls.{watchingIn, watchingWith, sightOf, followed, isSound, CanFollow}
+use Rattle.watch.specs.WatchCalls.{watchingIn, watchingWith, sightOf, followed, isSound, CanFollow, CanSettle}
 use Rattle.watch.specs.Done.{lineDid}
 use Rattle.watch.proofs.LinesDone.{done-settings, done-drives, line-seconds}
 use Rattle.watch.proofs.watching.end_line.Statement.{statement}
@@ -39,14 +40,11 @@ follows c κs =
     let can = start done .pre .0 in
     let few = line-seconds (s done .kept) in
     let timed = can .timed in
-    subst (λ (x : Done). CanFollow (watchingIn (start done .args .w) []) (x .device) (x .seconds))
+    subst (λ (x : Done). CanFollow (watchingIn (start done .args .w) []) (x .seconds))
     (sym (done .end-line .ensures .0))
     (record {
-      legal = can .legal;
       sound = can .sound;
       timed = omega arith;
-      settings = done-settings (s done .device) (e done);
-      drives = done-drives (s done .device) (can .legal) (e done);
     })
 
 returns : tie.Need-returns
@@ -54,12 +52,23 @@ unfolding lineDone isDark
 returns c =
     let done = let known = c .before .before .before in known .before .before in
     let w = start done .args .w in
-    record {
-      returned = c .after-line .ensures
-          ∙ ap (λ (x : Done). sightOf (w .floor .number) (followed (watchingIn w []) (x .device) (x .seconds)))
-          (done .end-line .ensures .0);
-      line = done .end-line .ensures .1;
-    }
+    let can = start done .pre .0 in
+    let d = s done .device in (
+      record {
+        returned = c .after-line .ensures
+            ∙ ap (λ (x : Done). sightOf (w .floor .number) (followed (watchingIn w []) (x .device) (x .seconds)))
+            (done .end-line .ensures .0);
+        line = done .end-line .ensures .1;
+      },
+      subst (λ (x : Seen). CanSettle d (done .end-line .result .seconds) (x .watch .floor .device))
+          (sym (c .after-line .ensures))
+          (subst (λ (x : Done). CanSettle d (x .seconds) (x .device)) (sym (done .end-line .ensures .0))
+          (record {
+            legal = can .legal;
+            settings = done-settings d (e done);
+            drives = done-drives d (can .legal) (e done);
+          })),
+    )
 
 pub end-line-spec : {M : Type 1} → statement M
 end-line-spec =

@@ -18,7 +18,7 @@ use Rattle.floor.specs.Told.{gatheredTo}
 use Rattle.watch.specs.declared.watching.Watch.{Watch}
 use Rattle.watch.specs.declared.watching.Seen.{Seen}
 use Rattle.watch.specs.Watching.{Watching, Watched, lineDone, isDark, watchedIn}
-use Rattle.watch.specs.WatchCalls.{watchingIn, watchingWith, sightOf, SeenAs, CanWatch, lineWatched, heldOf}
+use Rattle.watch.specs.WatchCalls.{watchingIn, watchingWith, watchOf, sightOf, SeenAs, CanWatch, lineWatched, heldOf}
 use Rattle.watch.proofs.Turns.{WatchedTo, none-watched, first, held, in-memory, can-end-one, stays, place-inside}
 use Rattle.watch.proofs.Turns.{stops, goes-on, all-watched}
 use Rattle.watch.proofs.watching.watch_on.Statement.{statement}
@@ -137,13 +137,13 @@ module _ (c : tie.After-end-line Inv μ) where
   abbrev n : ℕ
   n = start got .args .w .floor .number
 
-  seen : SeenAs n (lineWatched (line got)) (c .end-line .result) line-left
+  seen : SeenAs n (lineWatched (line got)) (c .end-line .result .seen) line-left
   seen =
-      subst (λ (k : ℕ). SeenAs k (lineWatched (line got)) (c .end-line .result) line-left) (turn got .loop .inv .number)
-      (subst (λ (t : Watching). SeenAs (turn got .loop .watch .floor .number) (lineWatched t) (c .end-line .result) line-left) (same got)
-      (c .end-line .ensures))
+      subst (λ (k : ℕ). SeenAs k (lineWatched (line got)) (c .end-line .result .seen) line-left) (turn got .loop .inv .number)
+      (subst (λ (t : Watching). SeenAs (turn got .loop .watch .floor .number) (lineWatched t) (c .end-line .result .seen) line-left) (same got)
+      (c .end-line .ensures .0))
 
-  dark : c .end-line .result .ended ≡ isDark (line got)
+  dark : c .end-line .result .seen .ended ≡ isDark (line got)
   dark = ap (λ (r : Seen). r .ended) (seen .returned)
 
   line-long : length line-left ≡ length (now (start got .args .line))
@@ -175,23 +175,29 @@ stopped c =
     (stops (s g) (bytes g) (to g) (test g .loop-test .taken) (ends (came l)) (sym (dark l) ∙ tested .if2 .taken))
     (record { returned = told; line = seen l .line })
 
+settles : tie.Need-settled-requires Inv μ
+settles c κs = after-line (c .before) .end-line .ensures .1
+
 falls : tie.Need-loop-less Inv μ
 falls c =
-    let l = after-line (c .before) in
+    let l = after-line (c .before .before) in
     omega (arith, inside (came l), test (got l) .loop-test .taken)
 
 again : tie.Need-loop-again Inv μ
 again c =
-    let l = after-line (c .before) in
+    let l = after-line (c .before .before) in
     let g = got l in
-    let next = goes-on (s g) (bytes g) (to g) (test g .loop-test .taken) (ends (came l)) (sym (dark l) ∙ c .if2 .left) in
+    let lit = sym (dark l) ∙ c .before .if2 .left in
+    let next = goes-on (s g) (bytes g) (to g) (test g .loop-test .taken) (ends (came l)) lit in
+    let left : c .settled .result ≡ watchOf (n l) (lineDone (line g)) =
+    c .settled .ensures ∙ ap (λ (r : Seen). r .watch) (seen l .returned) in
     record {
-      to = subst (λ (k : ℕ). WatchedTo (s g) (bytes g) (watchingIn (l .end-line .result .watch) (line-left l))
+      to = subst (λ (k : ℕ). WatchedTo (s g) (bytes g) (watchingIn (c .settled .result) (line-left l))
           (turn g .loop .at + (k + 1))) (sym (ap (λ (x : Gathered). x .before) (gave g)))
           (subst (λ (t : Watching). WatchedTo (s g) (bytes g) t
           (turn g .loop .at + (first (s g) (bytes g) (to g) (test g .loop-test .taken) .before + 1)))
-          (sym (λ i. watchingIn (seen l .returned i .watch) (seen l .line i))) next);
-      number = ap (λ (r : Seen). r .watch .floor .number) (seen l .returned);
+          (sym (λ i. watchingIn (left i) (seen l .line i))) next);
+      number = ap (λ (x : Watch). x .floor .number) left;
       reply-long = reply-long l;
     }
 
@@ -229,6 +235,7 @@ watch-on-spec =
     (λ c. line-long (after-line (c .before .before)))
     (λ c. reply-long (after-line (c .before .before)))
     stopped
+    settles
     falls
     again
     (λ c. c .before .loop .inv .to .long)
