@@ -16,13 +16,13 @@ use Rattle.record.specs.Wanted.{Wanted}
 use Rattle.record.specs.declared.types.Device.{Device}
 use Rattle.record.proofs.Calls.{set-up-in-range}
 use Rattle.record.proofs.Started.{started-legal, set-up-started}
-use Rattle.stored.specs.Form.{formOf, oldFormOf}
+use Rattle.stored.specs.Form.{formOf, markedFormOf, oldFormOf}
 use Rattle.stored.proofs.Results.{accepted-legal}
 use Rattle.demands.specs.Board.{ours}
 use Rattle.demands.specs.Calls.{Call, after}
 use Rattle.demands.specs.History.{Event, switched, aSecond, markSwitched, Streams, noStreams, streamsAfter, seen, history}
 use Rattle.demands.specs.History.{Stage, steady, towards, next, isBurning, reached, marksAfter}
-use Rattle.demands.specs.Demand3.{Beginning, setsUp, loads, loadsOld, startMarks, begunBy, Accepted, historyOf}
+use Rattle.demands.specs.Demand3.{Beginning, setsUp, loads, loadsMarked, loadsOld, startMarks, begunBy, Accepted, historyOf}
 use Rattle.demands.proofs.HistorySpelt.{history-none, history-more, marks-none, marks-more, reached-none, reached-more}
 use Rattle.demands.proofs.Agrees.{Agrees, lit-shown}
 use Rattle.demands.proofs.AgreesThen.{Then, agrees-none}
@@ -240,6 +240,7 @@ module _ (w : Wanted) (k : ℕ) (inside : k < length (w .lamps)) where
 begun-legal : (w : Wanted) (b : Beginning) → Accepted ours b w → isLegal (begunBy ours b w .device) ≡ true
 begun-legal w setsUp h = ap isLegal (set-up-started w h) ∙ started-legal w (set-up-in-range w h)
 begun-legal w (loads ms) h = accepted-legal (formOf w ms) (h .1)
+begun-legal w (loadsMarked ms) h = accepted-legal (markedFormOf w ms) (h .1)
 begun-legal w loadsOld h = accepted-legal (oldFormOf w) (h .1)
 
 module _ (b : Beginning) (w : Wanted) (h : Accepted ours b w) (k : ℕ) (inside : k < length (w .lamps)) (m : List ℕ)
