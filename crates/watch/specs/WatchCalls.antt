@@ -13,7 +13,7 @@
 use Prim.Native.Nat.{ℕ, _+_, _-_, _*_, _^_, _≤_, _<_}
 use mathlib.Core.Path.{_≡_}
 use mathlib.Core.Bool.{Bool, true, false, not, _&&_, _||_}
-use mathlib.Core.List.{List, []}
+use mathlib.Core.List.{List}
 use lib.ListN.{length, getD, replicate}
 use lib.Dec.{leb, ltb, eqb}
 use Rattle.text.specs.Words.{if_then_else_}
@@ -30,7 +30,8 @@ use Rattle.floor.specs.Told.{Drives}
 use Rattle.watch.specs.declared.watching.Watch.{Watch}
 use Rattle.watch.specs.declared.watching.Seen.{Seen}
 use Rattle.watch.specs.declared.watching.Step.{Step}
-use Rattle.watch.specs.Watching.{Watching, Watched, isBurningIn, isDark, darkWith, watchedBy, lineDone}
+use Rattle.watch.specs.declared.watching.Light.{Light}
+use Rattle.watch.specs.Watching.{Watching, Watched, isBurningIn, isLong, darkened}
 use Rattle.watch.specs.Watching.{watchedIn}
 use Rattle.watch.specs.Watching.{watchEnded}
 
@@ -93,17 +94,17 @@ pub record CanSettle (d : Device) (n : ℕ) (to : Device) : Type 0 where
   pub settings : to .settings ≡ d .settings
   pub drives : Drives true n d to
 
--- it can be followed
-pub record CanFollow (s : Watching) (n : ℕ) : Type 0 where
-  pub sound : isSound s ≡ true
-  pub timed : s .time + n < 2 ^ 64
+-- what a line does to the light, by whether the lamps burnt before it and burn after it
+abbrev pub lightOf : Bool → Bool → ℕ → ℕ → ℕ → Light
+lightOf was is n time from = record {
+  dark = was && not is;
+  time = time + n;
+  from = if not was && is then time + n else from;
+}
 
-abbrev pub followed : Watching → Device → ℕ → Watched
-followed s d n = record { taken = 0; told = darkWith s d; state = watchedBy s d n [] }
-
--- one line, and what is taken where none ends
-abbrev pub lineWatched : Watching → Watched
-lineWatched s = record { taken = 0; told = isDark s; state = lineDone s }
+-- what is taken where the lamps burn no longer, and where no line ends
+abbrev pub darkAfter : ℕ → Watching → Watched
+darkAfter n s = record { taken = n; told = isLong s; state = darkened s }
 
 abbrev pub heldOf : ℕ → Watching → Watched
 heldOf n s = record { taken = n; told = false; state = s }

@@ -18,13 +18,14 @@ ghost use Prim.Native.Nat.{ℕ, _+_, _^_, _≤_, _<_};
 ghost use lib.ListN.{length, getD, take};
 ghost use lib.Dec.{leb};
 ghost use Rattle.text.specs.Words.{if_then_else_};
+ghost use Rattle.record.specs.Limits.{isLit};
 ghost use Rattle.text.specs.Scans.{every};
 ghost use Rattle.clock.specs.Second.{changedWhere};
 ghost use Rattle.device.specs.Calls.{replyRoom};
 ghost use Rattle.watch.specs.Watching.{isBurningIn, closedAtEnd, darkened, watchedIn};
 ghost use Rattle.watch.specs.WatchCalls.{watchingIn, watchingWith, watchOf, watchingFrom, isSound, watchRefusal};
-ghost use Rattle.watch.specs.WatchCalls.{CanWatch, SeenAs, WatchedAs, watched, watchedToEnd, movedTo, CanDarken, lineWatched, sightOf, heldOf};
-ghost use Rattle.watch.specs.WatchCalls.{CanFollow, CanSettle, followed, watchStepOf};
+ghost use Rattle.watch.specs.WatchCalls.{CanWatch, SeenAs, WatchedAs, watched, watchedToEnd, movedTo, CanDarken, sightOf, heldOf};
+ghost use Rattle.watch.specs.WatchCalls.{CanSettle, lightOf, darkAfter, watchStepOf};
 
 pub const REPLY_ROOM: usize = 136;
 
@@ -122,35 +123,23 @@ pub fn start(device: Device) -> Watch
     }
 }
 
-// The device after a line, with nothing begun.
-fn moved_to(number: u64, device: Device) -> Floor
-    ensures { λ r. ⌜ r ≡ movedTo number device ⌝ }
+// The state of a log after a line, with no copy of what the line cannot have changed.
+fn advanced(f: Floor, done: Done) -> Floor
+    requires { ⌜ CanSettle (f .device) (done .seconds) (done .device) ⌝ }
+    ensures { λ r. ⌜ r ≡ movedTo (f .number) (done .device) ⌝ }
 {
+    let mut floor = f;
+    if 1 <= done.seconds {
+        floor = moving::aged(floor, done.seconds);
+    }
+    let device = done.device;
     let begun = Begun::NOTHING;
-    Floor {
+    let to = Floor {
         device,
-        number,
+        number: f.number,
         begun,
-    }
-}
-
-// `to`, which a line left that let so many seconds pass: what it cannot have changed stays where it is, and is not copied.
-fn settled(w: Watch, seconds: u32, to: Watch) -> Watch
-    requires { ⌜ CanSettle (w .floor .device) seconds (to .floor .device) ⌝ }
-    ensures { λ r. ⌜ r ≡ to ⌝ }
-{
-    let mut floor = w.floor;
-    if 1 <= seconds {
-        floor = moving::aged(floor, seconds);
-    }
-    floor = moving::moved(floor, to.floor);
-    let burnt = to.burnt;
-    Watch {
-        floor,
-        time: to.time,
-        from: to.from,
-        burnt,
-    }
+    };
+    moving::moved(floor, to)
 }
 
 // `to` where the lamps began to burn at that second, else what it was.
@@ -185,59 +174,38 @@ fn darken(w: Watch) -> Watch
     }
 }
 
-// What a line leaves; `ended`: after it the lamps burn no longer.
-fn after_line(w: Watch, done: Done) -> Seen
-    requires { ⌜ CanFollow (watchingIn w []) (done .seconds) ⌝ }
-    ensures { λ r. ⌜ r ≡ sightOf (w .floor .number) (followed (watchingIn w []) (done .device) (done .seconds)) ⌝ }
+// What a line does to the light: whether the lamps burn no longer after it, the seconds gone, and the second at which they
+// began to burn last.
+struct Light {
+    dark: bool,
+    time: u64,
+    from: u64,
+}
+
+fn light_after(before: u8, after: u8, seconds: u32, time: u64, from: u64) -> Light
+    requires { ⌜ time + seconds < 2 ^ 64 ⌝ }
+    ensures { λ r. ⌜ r ≡ lightOf (isLit before) (isLit after) seconds time from ⌝ }
 {
-    let was = own::is_lit(w.floor.device.own.power);
-    let is = own::is_lit(done.device.own.power);
-    let time = w.time + wide(done.seconds);
-    let from = begin(!was & is, time, w.from);
-    let device = done.device;
-    let floor = moved_to(w.floor.number, device);
-    let burnt = w.burnt;
-    let next = Watch {
-        floor,
-        time,
-        from,
-        burnt,
-    };
-    if was & !is {
-        let watch = darken(next);
-        return Seen {
-            taken: 0,
-            ended: true,
-            watch,
-        };
+    let was = own::is_lit(before);
+    let is = own::is_lit(after);
+    let after_it = time + wide(seconds);
+    Light {
+        dark: was & !is,
+        time: after_it,
+        from: begin(!was & is, after_it, from),
     }
+}
+
+// The lamps burn no longer: what is told, after so many bytes.
+fn go_dark(w: Watch, taken: usize) -> Seen
+    requires { ⌜ CanDarken (w .from) (w .time) (w .burnt) ⌝ }
+    ensures { λ r. ⌜ r ≡ sightOf (w .floor .number) (darkAfter taken (watchingIn w [])) ⌝ }
+{
+    let watch = darken(w);
     Seen {
-        taken: 0,
-        ended: false,
-        watch: next,
-    }
-}
-
-// What a line left, and the seconds that it let pass.
-struct Lined {
-    seconds: u32,
-    seen: Seen,
-}
-
-// The line that is kept is played.
-fn end_line(w: Watch, k: Begun, line: &mut [u8], reply: &mut [u8]) -> Lined
-    requires { ⌜ CanWatch (watchingWith w k (now line)) 1 ⌝ }
-    requires { ⌜ replyRoom ≤ length (now reply) ⌝ }
-    ensures { λ r. ⌜ SeenAs (w .floor .number) (lineWatched (watchingWith w k (now (line .entry))))
-        (r .seen) (now (line .exit)) ⌝ }
-    ensures { λ r. ⌜ CanSettle (w .floor .device) (r .seconds) (r .seen .watch .floor .device) ⌝ }
-{
-    let floor = w.floor;
-    let done = marking::end_line(floor.device, k, line, reply);
-    let seen = after_line(w, done);
-    Lined {
-        seconds: done.seconds,
-        seen,
+        taken,
+        ended: w.from < w.time,
+        watch,
     }
 }
 
@@ -248,48 +216,59 @@ fn watch_on(w: Watch, line: &mut [u8], bytes: &[u8], reply: &mut [u8]) -> Seen
     ensures { λ r. ⌜ SeenAs (w .floor .number) (watchedIn (watchingIn w (now (line .entry))) (now (bytes .entry)))
         r (now (line .exit)) ⌝ }
 {
-    let mut watch = w;
+    let mut floor = w.floor;
+    let mut time = w.time;
+    let mut from = w.from;
+    let burnt = w.burnt;
     let mut at = 0;
     while at < bytes.len() {
-        let kept = watch.floor.begun;
+        let kept = floor.begun;
         let gathered = gather::gather(kept, line, &bytes[at..]);
         let begun = gathered.begun;
         if !gathered.ended {
-            return held(watch, begun, bytes.len());
-        }
-        let lined = end_line(watch, begun, line, reply);
-        let next = lined.seen.watch;
-        at += gathered.before + 1;
-        if lined.seen.ended {
+            floor.begun = begun;
+            let watch = Watch {
+                floor,
+                time,
+                from,
+                burnt,
+            };
             return Seen {
-                taken: at,
-                ended: next.from < next.time,
-                watch: next,
+                taken: bytes.len(),
+                ended: false,
+                watch,
             };
         }
-        watch = settled(watch, lined.seconds, next);
+        let done = marking::end_line(floor.device, begun, line, reply);
+        let next = light_after(
+            floor.device.own.power,
+            done.device.own.power,
+            done.seconds,
+            time,
+            from,
+        );
+        floor = advanced(floor, done);
+        at += gathered.before + 1;
+        time = next.time;
+        from = next.from;
+        if next.dark {
+            let watch = Watch {
+                floor,
+                time,
+                from,
+                burnt,
+            };
+            return go_dark(watch, at);
+        }
     }
-    Seen {
-        taken: at,
-        ended: false,
-        watch,
-    }
-}
-
-fn held(w: Watch, begun: Begun, taken: usize) -> Seen
-    ensures { λ r. ⌜ r ≡ sightOf (w .floor .number) (heldOf taken (watchingWith w begun [])) ⌝ }
-{
-    let mut floor = w.floor;
-    floor.begun = begun;
-    let burnt = w.burnt;
     let watch = Watch {
         floor,
-        time: w.time,
-        from: w.from,
+        time,
+        from,
         burnt,
     };
     Seen {
-        taken,
+        taken: at,
         ended: false,
         watch,
     }

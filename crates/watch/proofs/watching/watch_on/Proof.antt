@@ -1,28 +1,40 @@
 -- `watch::watching::watch_on` meets its contract: line after line is watched.
 -- Assumes nothing.
-use Prim.Native.Nat.{ℕ, _+_, _-_, _≤_}
+use Prim.Native.Nat.{ℕ, _+_, _-_, _≤_, _<_, _^_}
 use mathlib.Core.Path.{_≡_, refl, sym, ap, subst, _∙_}
 use mathlib.Core.Bool.{Bool, true, false}
-use mathlib.Core.List.{List}
+use mathlib.Core.List.{List, []}
 use native.Mathlib.Omega.{arith}
 use lib.ListN.{length, take, drop, length-drop}
 use lib.Seq.{take-all}
-use lib.Dec.{ltb}
 use denote.Ref.{now}
 use borrow.Author.Needs.{needs}
 use borrow.Author.Tests.{not-true, not-false}
-use Rattle.device.specs.Calls.{replyRoom}
+use Rattle.text.proofs.Choices.{both-left}
+use Rattle.record.specs.declared.types.Line.{Line}
 use Rattle.floor.specs.declared.gather.Gathered.{Gathered}
-use Rattle.floor.specs.Reading.{upToLf}
+use Rattle.floor.specs.declared.replay.Floor.{Floor}
+use Rattle.floor.specs.Reading.{upToLf, lineAfter}
 use Rattle.floor.specs.Told.{gatheredTo}
+use Rattle.watch.specs.declared.marking.Done.{Done}
 use Rattle.watch.specs.declared.watching.Watch.{Watch}
 use Rattle.watch.specs.declared.watching.Seen.{Seen}
-use Rattle.watch.specs.Watching.{Watching, Watched, lineDone, isDark, watchedIn}
-use Rattle.watch.specs.WatchCalls.{watchingIn, watchingWith, watchOf, sightOf, SeenAs, CanWatch, lineWatched, heldOf}
-use Rattle.watch.proofs.Turns.{WatchedTo, none-watched, first, held, in-memory, can-end-one, stays, place-inside}
-use Rattle.watch.proofs.Turns.{stops, goes-on, all-watched}
+use Rattle.watch.specs.declared.watching.Light.{Light}
+use Rattle.watch.specs.Marking.{secondsBy}
+use Rattle.watch.specs.Watching.{Watching, Watched, isBurningIn, isLong, isDark, lineDone, keptFloorEvent, watchedIn}
+use Rattle.watch.specs.WatchCalls.{watchingIn, watchingWith, watchOf, sightOf, SeenAs, CanWatch, CanDarken, CanSettle}
+use Rattle.watch.specs.WatchCalls.{heldOf, lightOf, darkAfter, movedTo}
+use Rattle.watch.specs.Done.{lineDid}
+use Rattle.watch.proofs.LinesDone.{done-settings, done-drives, line-seconds, can-darken}
+use Rattle.watch.proofs.Followed.{event-kept, device-after, onward-kept, dark-is, line-dark, line-lit, dark-from}
+use Rattle.watch.proofs.Turns.{WatchedTo, none-watched, first, held, can-end-one, stays, place-inside, stops}
+use Rattle.watch.proofs.Turns.{goes-on, all-watched}
 use Rattle.watch.proofs.watching.watch_on.Statement.{statement}
 use Rattle.watch.proofs.watching.watch_on.Tie as tie
+
+-- a state in its parts
+abbrev parts : Floor → ℕ → ℕ → List ℕ → Watch
+parts floor time from burnt = record { floor = floor; time = time; from = from; burnt = burnt }
 
 record Loop (line₀ bytes reply₀ : List ℕ) (watch₀ : Watch) (line reply : List ℕ) (watch : Watch) (at : ℕ) : Type 0 where
   to : WatchedTo (watchingIn watch₀ line₀) bytes (watchingIn watch line) at
@@ -30,10 +42,11 @@ record Loop (line₀ bytes reply₀ : List ℕ) (watch₀ : Watch) (line reply :
   reply-long : length reply ≡ length reply₀
 
 abbrev Inv : tie.InvT-loop
-Inv line₀ bytes reply₀ watch₀ at₀ line reply watch at = Loop line₀ bytes reply₀ watch₀ line reply watch at
+Inv line₀ bytes reply₀ floor₀ time₀ from₀ burnt at₀ line reply floor time from at =
+    Loop line₀ bytes reply₀ (parts floor₀ time₀ from₀ burnt) line reply (parts floor time from burnt) at
 
 abbrev μ : tie.MeasureT-loop
-μ line₀ bytes reply₀ watch₀ at₀ line reply watch at = length bytes - at
+μ line₀ bytes reply₀ floor₀ time₀ from₀ burnt at₀ line reply floor time from at = length bytes - at
 
 -- the promise, along an equation for what is taken
 carried : {n : ℕ} {x y : Watched} {r : Seen} {l : List ℕ} → x ≡ y → SeenAs n y r l → SeenAs n x r l
@@ -41,7 +54,7 @@ carried {n} {x} {y} {r} {l} e p = subst (λ (z : Watched). SeenAs n z r l) (sym 
 
 holds : tie.Need-loop-holds Inv μ
 holds c =
-    let start = c .before .before .before in
+    let start = let known = c .before .before in known .before .before .before in
     record { to = none-watched _ _ (start .pre .0); number = refl; reply-long = refl }
 
 gather-lent : tie.Need-gather-requires Inv μ
@@ -58,16 +71,22 @@ module _ (c : tie.After-gather Inv μ) where
   turn = test .before
 
   abbrev start : tie.Start Inv μ
-  start = let known = turn .before .before in known .before .before
+  start = let known = turn .before .before .before in known .before .before .before
+
+  abbrev w : Watch
+  w = start .args .w
 
   abbrev s : Watching
-  s = watchingIn (start .args .w) (now (start .args .line))
+  s = watchingIn w (now (start .args .line))
 
   abbrev bytes : List ℕ
   bytes = start .args .bytes .now
 
+  abbrev watch : Watch
+  watch = parts (turn .loop .floor) (turn .loop .time) (turn .loop .from) (w .burnt)
+
   abbrev here : Watching
-  here = watchingIn (turn .loop .watch) (turn .loop .line)
+  here = watchingIn watch (turn .loop .line)
 
   abbrev to : WatchedTo s bytes here (turn .loop .at)
   to = turn .loop .inv .to
@@ -76,7 +95,8 @@ module _ (c : tie.After-gather Inv μ) where
   line = held s bytes to (test .loop-test .taken)
 
   whole : take (length bytes - turn .loop .at) (drop (turn .loop .at) bytes) ≡ drop (turn .loop .at) bytes
-  whole = take-all (length bytes - turn .loop .at) (drop (turn .loop .at) bytes) (omega (arith, length-drop (turn .loop .at) bytes))
+  whole = take-all (length bytes - turn .loop .at) (drop (turn .loop .at) bytes)
+      (omega (arith, length-drop (turn .loop .at) bytes))
 
   gave : c .gather .result ≡ gatheredTo (first s bytes to (test .loop-test .taken))
   gave = c .gather .ensures .0 ∙ ap (λ (l : List ℕ). gatheredTo (upToLf (here .kept) l)) whole
@@ -84,8 +104,8 @@ module _ (c : tie.After-gather Inv μ) where
   left : c .gather .last .1 .0 ≡ line .kept .bytes
   left = c .gather .ensures .1 ∙ ap (λ (l : List ℕ). upToLf (here .kept) l .line .bytes) whole
 
-  same : watchingWith (turn .loop .watch) (c .gather .result .begun) (c .gather .last .1 .0) ≡ line
-  same = λ i. watchingWith (turn .loop .watch) (gave i .begun) (left i)
+  same : watchingWith watch (c .gather .result .begun) (c .gather .last .1 .0) ≡ line
+  same = λ i. watchingWith watch (gave i .begun) (left i)
 
   ended : c .gather .result .ended ≡ first s bytes to (test .loop-test .taken) .ended
   ended = ap (λ (g : Gathered). g .ended) gave
@@ -93,14 +113,24 @@ module _ (c : tie.After-gather Inv μ) where
   long : length (c .gather .last .1 .0) ≡ length (now (start .args .line))
   long = c .gather .kept .1 .0 ∙ to .long
 
+abbrev then-got : tie.Then1 Inv μ → tie.After-gather Inv μ
+then-got c = let known = c .before .before in known .before .before .before
+
 part : tie.Need-returns Inv μ
 part c =
-    let got = let known = c .before .before .before in known .before .before .before in
-    let none = sym (ended got) ∙ not-true (got .gather .result .ended) (c .before .if1 .taken) in
-    let told : _≡_ {A = Seen} _ _ = λ i. sightOf (turn got .loop .inv .number i)
-    (heldOf (length (bytes got)) (watchingWith (turn got .loop .watch) (gave got i .begun) (left got i))) in
+    let got = then-got c in
+    let none = sym (ended got) ∙ not-true (got .gather .result .ended) (c .if1 .taken) in
+    let told : _≡_ {A = Seen} _ _ = λ i. record {
+      taken = length (bytes got);
+      ended = false;
+      watch = parts (record {
+        device = here got .device;
+        number = turn got .loop .inv .number i;
+        begun = gave got i .begun;
+      }) (here got .time) (here got .from) (w got .burnt);
+    } in
     carried (stays (s got) (bytes got) (to got) (test got .loop-test .taken) none)
-    (record { returned = c .held .ensures ∙ told; line = left got })
+    (record { returned = told; line = left got })
 
 -- LF came
 module _ (c : tie.Else1 Inv μ) where
@@ -115,15 +145,17 @@ module _ (c : tie.Else1 Inv μ) where
       subst (λ (g : Gathered). turn gathers .loop .at + (g .before + 1) ≤ length (bytes gathers)) (sym (gave gathers))
       (place-inside (s gathers) (bytes gathers) (to gathers) (test gathers .loop-test .taken) ends)
 
+  can : CanWatch (line gathers) 1
+  can = can-end-one (s gathers) (bytes gathers) (to gathers) (test gathers .loop-test .taken)
+
 line-lent : tie.Need-end-line-requires Inv μ
 line-lent c κs =
-    let got = gathers (c .before .before) in (
-      subst (λ (t : Watching). CanWatch t 1) (sym (same got))
-          (can-end-one (s got) (bytes got) (to got) (test got .loop-test .taken)),
-      omega (arith, start got .pre .1, turn got .loop .inv .reply-long),
-    )
+    let came = c .before .before in
+    let got = gathers came in
+    let held = subst (λ (t : Watching). CanWatch t 1) (sym (same got)) (can came) in
+    (held .legal, (omega (arith, held .held, held .lent), omega (arith, start got .pre .1, turn got .loop .inv .reply-long)))
 
--- the line is played
+-- the line is done
 module _ (c : tie.After-end-line Inv μ) where
   abbrev came : tie.Else1 Inv μ
   came = c .before .before .before
@@ -135,16 +167,18 @@ module _ (c : tie.After-end-line Inv μ) where
   line-left = c .end-line .last .1 .1 .0
 
   abbrev n : ℕ
-  n = start got .args .w .floor .number
+  n = w got .floor .number
 
-  seen : SeenAs n (lineWatched (line got)) (c .end-line .result .seen) line-left
-  seen =
-      subst (λ (k : ℕ). SeenAs k (lineWatched (line got)) (c .end-line .result .seen) line-left) (turn got .loop .inv .number)
-      (subst (λ (t : Watching). SeenAs (turn got .loop .watch .floor .number) (lineWatched t) (c .end-line .result .seen) line-left) (same got)
-      (c .end-line .ensures .0))
+  did : c .end-line .result ≡ lineDid (line got .device) (event-kept (line got))
+  did =
+      c .end-line .ensures .0
+      ∙ ap (λ (t : Watching). lineDid (line got .device) (keptFloorEvent (t .kept))) (same got)
 
-  dark : c .end-line .result .seen .ended ≡ isDark (line got)
-  dark = ap (λ (r : Seen). r .ended) (seen .returned)
+  line-after : line-left ≡ lineAfter (line got .kept)
+  line-after = c .end-line .ensures .1 ∙ ap (λ (t : Watching). lineAfter (t .kept)) (same got)
+
+  timed : line got .time + secondsBy (event-kept (line got)) < 2 ^ 64
+  timed = omega (arith, can came .timed, line-seconds (line got .kept))
 
   line-long : length line-left ≡ length (now (start got .args .line))
   line-long = c .end-line .kept .1 .1 .0 ∙ long got
@@ -152,65 +186,134 @@ module _ (c : tie.After-end-line Inv μ) where
   reply-long : length (c .end-line .last .1 .1 .1 .0) ≡ length (now (start got .args .reply))
   reply-long = c .end-line .kept .1 .1 .1 .0 ∙ turn got .loop .inv .reply-long
 
-abbrev after-line : tie.After-struct-known2 Inv μ → tie.After-end-line Inv μ
-after-line c = let known = c .before .before .before in known .before .before .before
+light-fits : tie.Need-light-after-requires Inv μ
+light-fits c κs =
+    let l = let known = c .before .before in known .before .before in
+    subst (λ (x : Done). line (got l) .time + x .seconds < 2 ^ 64) (sym (did l)) (timed l)
+
+advances : tie.Need-advanced-requires Inv μ
+advances c κs =
+    let l = let known = c .before .before in known .before .before .before in
+    let t = line (got l) in
+    let legal = can (came l) .legal in
+    subst (λ (x : Done). CanSettle (t .device) (x .seconds) (x .device)) (sym (did l))
+    (record {
+      legal = legal;
+      settings = done-settings (t .device) (event-kept t);
+      drives = done-drives (t .device) legal (event-kept t);
+    })
+
+-- the state is moved on
+module _ (c : tie.After-advanced Inv μ) where
+  abbrev lit : tie.After-light-after Inv μ
+  lit = c .before
+
+  abbrev l : tie.After-end-line Inv μ
+  l = let known = lit .before .before in known .before .before .before
+
+  abbrev t : Watching
+  t = line (got l)
+
+  lighted : lit .light-after .result
+      ≡ lightOf (isBurningIn (t .device)) (isBurningIn (device-after t)) (secondsBy (event-kept t)) (t .time) (t .from)
+  lighted =
+      lit .light-after .ensures
+      ∙ (λ i. lightOf (isBurningIn (t .device)) (isBurningIn (did l i .device)) (did l i .seconds) (t .time) (t .from))
+
+  floored : c .advanced .result ≡ movedTo (n l) (device-after t)
+  floored = c .advanced .ensures ∙ (λ i. movedTo (turn (got l) .loop .inv .number i) (did l i .device))
+
+  abbrev left-watch : Watch
+  left-watch = parts (c .advanced .result) (lit .light-after .result .time) (lit .light-after .result .from) (w (got l) .burnt)
+
+  moved : left-watch ≡ watchOf (n l) (onward-kept t)
+  moved = λ i. parts (floored i) (lighted i .time) (lighted i .from) (w (got l) .burnt)
+
+  state : watchingIn left-watch (line-left l) ≡ onward-kept t
+  state = λ i. watchingIn (moved i) (line-after l i)
+
+  dark : lit .light-after .result .dark ≡ isDark t
+  dark = ap (λ (x : Light). x .dark) lighted ∙ sym (dark-is t)
+
+abbrev past : tie.After-struct-known2 Inv μ → tie.After-advanced Inv μ
+past c = c .before
 
 adds : tie.Need-add-at Inv μ
-adds c = let l = after-line c in omega (arith, inside (came l), start (got l) .good)
+adds c = let k = l (past c) in omega (arith, inside (came k), start (got k) .good)
 
 adds-2 : tie.Need-add-at-2 Inv μ
-adds-2 c = let l = after-line c in omega (arith, inside (came l), start (got l) .good)
+adds-2 c = let k = l (past c) in omega (arith, inside (came k), start (got k) .good)
+
+darkens : tie.Need-go-dark-requires Inv μ
+darkens c κs =
+    let a = past (c .before) in
+    let x = t a in
+    let n = secondsBy (event-kept x) in
+    let is = sym (dark a) ∙ c .if2 .taken in
+    let with = sym (dark-is x) ∙ is in
+    subst (λ (y : Watch). CanDarken (y .from) (y .time) (y .burnt)) (sym (moved a))
+    (subst (λ (f : ℕ). CanDarken f (x .time + n) (x .burnt))
+    (sym (dark-from x (device-after x) n (lineAfter (x .kept)) with))
+    (can-darken x (can (came (l a)) .sound) (both-left _ _ with) (x .time + n) (omega arith) (timed (l a))))
 
 stopped : tie.Need-returns-2 Inv μ
 stopped c =
     let tested = c .before in
-    let l = after-line (tested .before) in
-    let g = got l in
-    let told : _≡_ {A = Seen} _ _ = λ i. record {
-      taken = turn g .loop .at + (gave g i .before + 1);
-      ended = ltb (seen l .returned i .watch .from) (seen l .returned i .watch .time);
-      watch = seen l .returned i .watch;
+    let a = past (tested .before) in
+    let k = l a in
+    let g = got k in
+    let is = sym (dark a) ∙ tested .if2 .taken in
+    let at : ℕ → ℕ = λ b. turn g .loop .at + (b + 1) in
+    let all : Watching → Watched = λ x. record {
+      taken = at (first (s g) (bytes g) (to g) (test g .loop-test .taken) .before);
+      told = isLong x;
+      state = x;
     } in
-    carried
-    (stops (s g) (bytes g) (to g) (test g .loop-test .taken) (ends (came l)) (sym (dark l) ∙ tested .if2 .taken))
-    (record { returned = told; line = seen l .line })
-
-settles : tie.Need-settled-requires Inv μ
-settles c κs = after-line (c .before) .end-line .ensures .1
+    carried (stops (s g) (bytes g) (to g) (test g .loop-test .taken) (ends (came k)) is)
+    (record {
+      returned = c .go-dark .ensures
+          ∙ (λ i. sightOf (moved a i .floor .number) (darkAfter (at (gave g i .before)) (watchingIn (moved a i) [])))
+          ∙ ap (λ (x : Watching). sightOf (n k) (all x)) (sym (line-dark (t a) is));
+      line = line-after k ∙ ap (λ (x : Watching). x .kept .bytes) (sym (line-dark (t a) is));
+    })
 
 falls : tie.Need-loop-less Inv μ
 falls c =
-    let l = after-line (c .before .before) in
-    omega (arith, inside (came l), test (got l) .loop-test .taken)
+    let k = l (past (c .before)) in
+    omega (arith, inside (came k), test (got k) .loop-test .taken)
 
 again : tie.Need-loop-again Inv μ
 again c =
-    let l = after-line (c .before .before) in
-    let g = got l in
-    let lit = sym (dark l) ∙ c .before .if2 .left in
-    let next = goes-on (s g) (bytes g) (to g) (test g .loop-test .taken) (ends (came l)) lit in
-    let left : c .settled .result ≡ watchOf (n l) (lineDone (line g)) =
-    c .settled .ensures ∙ ap (λ (r : Seen). r .watch) (seen l .returned) in
+    let a = past (c .before) in
+    let k = l a in
+    let g = got k in
+    let is = sym (dark a) ∙ c .if2 .left in
+    let next = goes-on (s g) (bytes g) (to g) (test g .loop-test .taken) (ends (came k)) is in
     record {
-      to = subst (λ (k : ℕ). WatchedTo (s g) (bytes g) (watchingIn (c .settled .result) (line-left l))
-          (turn g .loop .at + (k + 1))) (sym (ap (λ (x : Gathered). x .before) (gave g)))
-          (subst (λ (t : Watching). WatchedTo (s g) (bytes g) t
+      to = subst (λ (b : ℕ). WatchedTo (s g) (bytes g) (watchingIn (left-watch a) (line-left k)) (turn g .loop .at + (b + 1)))
+          (sym (ap (λ (x : Gathered). x .before) (gave g)))
+          (subst (λ (x : Watching). WatchedTo (s g) (bytes g) x
           (turn g .loop .at + (first (s g) (bytes g) (to g) (test g .loop-test .taken) .before + 1)))
-          (sym (λ i. watchingIn (left i) (seen l .line i))) next);
-      number = ap (λ (x : Watch). x .floor .number) left;
-      reply-long = reply-long l;
+          (line-lit (t a) is ∙ sym (state a)) next);
+      number = ap (λ (x : Watch). x .floor .number) (moved a);
+      reply-long = reply-long k;
     }
 
 all-taken : tie.Need-returns-3 Inv μ
 all-taken c =
     let turn = c .before in
-    let known = turn .before .before in
-    let start = known .before .before in
     let i = turn .loop .inv in
     carried (all-watched _ _ (i .to) (c .loop-test .left))
     (record {
-      returned = ap (λ (n : ℕ). sightOf n (heldOf (turn .loop .at) (watchingIn (turn .loop .watch) (turn .loop .line))))
-          (i .number);
+      returned = λ j. record {
+        taken = turn .loop .at;
+        ended = false;
+        watch = parts (record {
+          device = turn .loop .floor .device;
+          number = i .number j;
+          begun = turn .loop .floor .begun;
+        }) (turn .loop .time) (turn .loop .from) ((let known = turn .before .before .before in known .before .before .before) .args .w .burnt);
+      };
       line = refl;
     })
 
@@ -225,17 +328,18 @@ watch-on-spec =
     (λ c. search needs)
     (λ c. search needs)
     gather-lent
-    (λ c κs. search needs)
-    (λ c. long (let known = c .before .before .before in known .before .before .before))
-    (λ c. turn (let known = c .before .before .before in known .before .before .before) .loop .inv .reply-long)
+    (λ c. long (then-got c))
+    (λ c. turn (then-got c) .loop .inv .reply-long)
     part
     line-lent
+    light-fits
+    advances
     adds
     adds-2
-    (λ c. line-long (after-line (c .before .before)))
-    (λ c. reply-long (after-line (c .before .before)))
+    darkens
+    (λ c. line-long (l (past (c .before .before))))
+    (λ c. reply-long (l (past (c .before .before))))
     stopped
-    settles
     falls
     again
     (λ c. c .before .loop .inv .to .long)
