@@ -9,13 +9,14 @@ use lib.ListN.{take}
 use Rattle.text.specs.Words.{ascii, _is_}
 use Rattle.numbers.specs.Decimal.{isDigit}
 use Rattle.log.proofs.LastLineEnds.{last-line-ends}
+use Rattle.record.specs.declared.types.Device.{Device}
 use Rattle.floor.specs.Events.{events}
-use Rattle.floor.specs.Playing.{sampleDevice, stateAfter, linesPrinted, replayed}
+use Rattle.floor.specs.Playing.{stateAfter, linesPrinted, replayed}
 
-pub no-log-ends-in : (log other : List ℕ) (c : ℕ) → (isDigit c || c is "s") ≡ false
-    → replayed log ≡ other ++ (c ∷ ascii "\n") → ⊥
+pub no-log-ends-in : (d : Device) (log other : List ℕ) (c : ℕ) → (isDigit c || c is "s") ≡ false
+    → replayed d log ≡ other ++ (c ∷ ascii "\n") → ⊥
 unfolding replayed
-no-log-ends-in log other c h e =
-    let d = stateAfter sampleDevice (events log) in
-    last-line-ends (linesPrinted 0 sampleDevice (events log)) (d .own .power)
-    (take (d .settings .«lamp_count») (d .own .lamps)) other c h e
+no-log-ends-in d log other c h e =
+    let after = stateAfter d (events log) in
+    last-line-ends (linesPrinted 0 d (events log)) (after .own .power)
+    (take (after .settings .«lamp_count») (after .own .lamps)) other c h e

@@ -13,7 +13,8 @@ mod Cuts
 pub mod KeptLine
 mod Replayed
 mod Accepted
-mod LinesCounted
+pub mod LinesSpelt
+pub mod LinesCounted
 pub mod WholeLog
 pub mod EventSeconds
 pub mod DidSpelt

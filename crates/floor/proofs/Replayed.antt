@@ -19,7 +19,7 @@ use Rattle.stream.proofs.LinesSpelt.{run-none, run-more}
 use Rattle.log.specs.Lines.{lineMost}
 use Rattle.log.specs.LastLine.{lastLine}
 use Rattle.floor.specs.Events.{LogEvent, event, linesFrom, events}
-use Rattle.floor.specs.Playing.{did, printed, stateAfter, linesPrinted, sampleDevice, replayed}
+use Rattle.floor.specs.Playing.{did, printed, stateAfter, linesPrinted, replayed}
 use Rattle.floor.specs.Reading.{Reading, keptOf, nothingBegun, keptWith, lineAfter, more, ended, logRun}
 use Rattle.floor.specs.Reading.{endOfInput}
 use Rattle.floor.specs.Reading.{logFinished, fresh}
@@ -89,19 +89,18 @@ log-plays (b ∷ bs) d n g k h =
     (log-plays bs d n (g ++ (b ∷ [])) (keptWith k b) (one-more g k h b)))
 
 -- a log from the start, in memory that has room for a line and its CR
-module _ (m : List ℕ) (room : lineMost < length m) (log : List ℕ) where
+module _ (d : Device) (m : List ℕ) (room : lineMost < length m) (log : List ℕ) where
   abbrev read : Out Reading
-  read = logRun (fresh m) log
+  read = logRun (fresh d m) log
 
-  plays : Plays sampleDevice 0 (events log) read
-  unfolding fresh
-  plays = log-plays log sampleDevice 0 [] (keptOf nothingBegun m) (none-held m room)
+  plays : Plays d 0 (events log) read
+  plays = log-plays log d 0 [] (keptOf nothingBegun m) (none-held m room)
 
-  pub end-state : logFinished (read .state) .state .device ≡ stateAfter sampleDevice (events log)
+  pub end-state : logFinished (read .state) .state .device ≡ stateAfter d (events log)
   unfolding logFinished
   end-state = plays .state
 
-  pub all-printed : read .reply ++ logFinished (read .state) .reply ≡ replayed log
+  pub all-printed : read .reply ++ logFinished (read .state) .reply ≡ replayed d log
   unfolding logFinished replayed
   all-printed =
       let last = lastLine (endOfInput (read .state) .state .device) in

@@ -15,6 +15,7 @@ use lib.ListN.{length, take, length-take, length-drop}
 use lib.Dec.{leb}
 use borrow.Author.Tests.{leb-true}
 use Rattle.text.proofs.Choices.{both-left, both-right}
+use Rattle.record.specs.declared.types.Device.{Device}
 use Rattle.stream.specs.Machine.{Out, Took, tookBytes, handedParts, uncut}
 use Rattle.stream.proofs.LinesSpelt.{uncut-more}
 use Rattle.stream.proofs.SameHoweverCut.{outThrough, tookThrough, Taking, parts-run}
@@ -81,26 +82,23 @@ module _ (room : ℕ) (printable : printRoom ≤ room) where
       parts-run (code "\n") Reading more ended stageOf (playedBy room) ReadyFor one-call (Ahead size) (first size)
       (next size)
 
-module _ (room : ℕ) (m : List ℕ) (size : ℕ) (reads : List (List ℕ)) (printable : finishRoom ≤ room)
+module _ (room : ℕ) (d : Device) (m : List ℕ) (size : ℕ) (reads : List (List ℕ)) (printable : finishRoom ≤ room)
     (lent : lineMost < length m) (countable : Countable size reads) where
   abbrev log : List ℕ
   log = uncut reads
 
   abbrev read : Out Reading
-  read = logRun (fresh m) log
+  read = logRun (fresh d m) log
 
-  starts : Going (fresh m)
-  unfolding fresh
+  starts : Going (fresh d m)
   starts = record { held = omega arith; memory = lent }
 
   counts : read .state .number ≡ lineEnds log
-  unfolding fresh
-  counts = run-counts (fresh m) log ∙ omega arith
+  counts = run-counts (fresh d m) log ∙ omega arith
 
-  all-taken : handedParts (playedBy room) (startStage m) reads ≡ outThrough stageOf read
-  unfolding fresh
+  all-taken : handedParts (playedBy room) (startStage d m) reads ≡ outThrough stageOf read
   all-taken =
-      all-reads room (omega arith) size (fresh m) reads
+      all-reads room (omega arith) size (fresh d m) reads
       (record {
         goes = starts;
         sizes = countable .sizes;
@@ -111,13 +109,13 @@ module _ (room : ℕ) (m : List ℕ) (size : ℕ) (reads : List (List ℕ)) (pri
   unfolding finishedBy
   ends =
       ap callLeaves
-      (finish-tells (floorOf (read .state)) (read .state .kept .bytes) (run-goes (fresh m) log starts) room printable
+      (finish-tells (floorOf (read .state)) (read .state .kept .bytes) (run-goes (fresh d m) log starts) room printable
       (omega (arith, counts, ends-lines [] log, countable .lines, countable .some)))
 
   abbrev finishing : Out LogStage → Out LogStage
   finishing o = let last = finishedBy room (o .state) in record { state = last .state; reply = o .reply ++ last .reply }
 
-  plays : wholePlay room m reads
+  plays : wholePlay room d m reads
       ≡ (let last = logFinished (read .state) in
       record { state = stageOf (last .state); reply = read .reply ++ last .reply })
   unfolding wholePlay
@@ -125,9 +123,9 @@ module _ (room : ℕ) (m : List ℕ) (size : ℕ) (reads : List (List ℕ)) (pri
       ap finishing all-taken
       ∙ ap {B = Out LogStage} (λ (t : Took LogStage). record { state = t .state; reply = read .reply ++ t .reply }) ends
 
-  pub whole-log-played-back : PlaysBack log (wholePlay room m reads)
+  pub whole-log-played-back : PlaysBack d log (wholePlay room d m reads)
   whole-log-played-back = record {
     accepted = ap (λ (o : Out LogStage). o .state .number) plays;
-    printed = ap (λ (o : Out LogStage). o .reply) plays ∙ all-printed m lent log;
-    device = ap (λ (o : Out LogStage). o .state .floor .device) plays ∙ end-state m lent log;
+    printed = ap (λ (o : Out LogStage). o .reply) plays ∙ all-printed d m lent log;
+    device = ap (λ (o : Out LogStage). o .state .floor .device) plays ∙ end-state d m lent log;
   }

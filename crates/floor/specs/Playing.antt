@@ -10,7 +10,7 @@
 --   stateAfter d es     the device after these events
 --   linesPrinted n d es what is printed for them, the first being line n + 1
 --   sampleDevice        01's sample set-up: W 20, C 60, one lamp at 0 s, input 11, texts empty, no password
---   replayed log        all that is printed for a log
+--   replayed d log      all that is printed for a log that begins with the device d
 -- Assumes nothing.
 use Prim.Native.Nat.{ℕ, _+_, _-_}
 use mathlib.Core.Bool.{not}
@@ -78,5 +78,5 @@ linesPrinted n d (e ∷ es) = printed (n + 1) e (did d e) ++ linesPrinted (n + 1
 unfoldable pub sampleDevice : Device
 sampleDevice = setUp (wantedOf [] [] [] [] [] (ascii "11") (0 ∷ []) 20 60) .device
 
-unfoldable pub replayed : List ℕ → List ℕ
-replayed log = linesPrinted 0 sampleDevice (events log) ++ lastLine (stateAfter sampleDevice (events log))
+unfoldable pub replayed : Device → List ℕ → List ℕ
+replayed d log = linesPrinted 0 d (events log) ++ lastLine (stateAfter d (events log))

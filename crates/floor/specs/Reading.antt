@@ -14,7 +14,7 @@
 --   lfMissing k         how many LF a log lacks that ends there: one where a line has begun
 --   endOfInput s        what the end of the input does to a line that has begun: it is played
 --   logFinished s       that, and the last line printed
---   fresh m             before a log: 01's sample set-up, every place closed, no line played, m the lent memory
+--   fresh d m           before a log that begins with the device d: no line played, m the lent memory
 -- Assumes nothing.
 use Prim.Native.Nat.{ℕ, suc, _+_, _-_}
 use Prim.Native.Char.{code}
@@ -33,7 +33,7 @@ use Rattle.log.specs.declared.Says.the-variants.{NoSuch}
 use Rattle.log.specs.Lines.{lineMost, lineSaid}
 use Rattle.log.specs.LastLine.{lastLine}
 use Rattle.floor.specs.Events.{LogEvent, noSuch, event}
-use Rattle.floor.specs.Playing.{did, printed, sampleDevice}
+use Rattle.floor.specs.Playing.{did, printed}
 
 pub record Reading : Type 0 where
   pub device : Device
@@ -117,5 +117,5 @@ logFinished s =
     let o = endOfInput s in
     record { state = o .state; reply = o .reply ++ lastLine (o .state .device) }
 
-unfoldable pub fresh : List ℕ → Reading
-fresh m = record { device = sampleDevice; number = 0; kept = keptOf nothingBegun m }
+abbrev pub fresh : Device → List ℕ → Reading
+fresh d m = record { device = d; number = 0; kept = keptOf nothingBegun m }

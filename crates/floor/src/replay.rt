@@ -8,10 +8,9 @@ use record::legality;
 use record::setup;
 use record::types::Device;
 ghost use mathlib.Core.Path.{_≡_};
-ghost use mathlib.Core.List.{[]};
 ghost use lib.ListN.{length};
-ghost use Rattle.floor.specs.Reading.{fresh};
-ghost use Rattle.floor.specs.Calls.{floorOf, floorWith, refusal, stepped, endedAt, SteppedAs};
+ghost use Rattle.floor.specs.Playing.{sampleDevice};
+ghost use Rattle.floor.specs.Calls.{floorWith, refusal, stepped, endedAt, SteppedAs};
 
 const FINISH_ROOM: usize = 268;
 
@@ -33,7 +32,7 @@ pub struct Stepped {
 
 // Before a log: 01's sample set-up, every place closed.
 pub fn start() -> Floor
-    ensures { λ r. ⌜ r ≡ floorOf (fresh []) ⌝ }
+    ensures { λ r. ⌜ r ≡ floorWith sampleDevice ⌝ }
 {
     let lamps = [0u32; 1];
     let started = setup::set_up(b"", b"", b"", b"", b"", b"11", &lamps, 20, 60);

@@ -5,12 +5,11 @@ use mathlib.Core.Bool.{false}
 use borrow.Author.Needs.{needs}
 use Rattle.floor.specs.declared.replay.Floor.{Floor}
 use Rattle.floor.specs.Playing.{sampleDevice}
-use Rattle.floor.specs.Reading.{fresh}
 use Rattle.floor.proofs.replay.start.Statement.{statement}
 use Rattle.floor.proofs.replay.start.Tie as tie
 
 begins : tie.Need-returns
-unfolding fresh sampleDevice
+unfolding sampleDevice
 begins c =
     let made : _≡_ {A = Floor} _ _ = λ i. record {
       device = c .before .set-up .ensures i .device;
