@@ -5,3 +5,7 @@ pub mod Followed
 pub mod Turns
 pub mod WatchRefusals
 pub mod PartsTold
+pub mod LogRuns
+mod EventsTold
+pub mod TellingsSpelt
+pub mod WholeWatch

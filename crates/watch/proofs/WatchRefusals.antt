@@ -17,7 +17,7 @@ use Rattle.clock.specs.Passing.{secondsMost}
 use Rattle.log.specs.Lines.{lineMost}
 use Rattle.floor.specs.Reading.{keptOf, begunOf}
 use Rattle.floor.proofs.Gathering.{kept-held, kept-long}
-use Rattle.watch.specs.Watching.{Watching, Watched, isBurningIn, watchKept, watchStep, isDark, isLong}
+use Rattle.watch.specs.Watching.{Watching, Watched, isBurningIn, watchKept, watchMore, watchStep, isDark, isLong}
 use Rattle.watch.specs.Watching.{watchedIn, darkened, closedAtEnd}
 use Rattle.watch.specs.WatchCalls.{isSound, watchRefusal, refusalIn, CanWatch, WatchStep, watchGiving, heldOf}
 use Rattle.watch.specs.WatchCalls.{sightOf}
@@ -100,6 +100,12 @@ can-watch s lines =
       timed = leb-false (2 ^ 64) (s .time + lines * secondsMost) (two .1);
     })))
 
+pub not-refused : (s : Watching) (lines : ℕ) → CanWatch s lines → refusalIn s lines ≡ 0
+not-refused s lines can =
+    gives-none (isLegal (s .device)) (isSound s) (s .kept .held) (length (s .kept .bytes)) (s .time) lines
+    (ap not (can .legal)) (lt-leb (length (s .kept .bytes)) lineMost (can .lent)) (can .held) (ap not (can .sound))
+    (can .timed)
+
 -- what a call gives, by its number
 module _ {n r : ℕ} (s : Watching) (x : Watched) (told : r ≡ n) where
   pub watch-nothing : (r ≡ 0 → ⊥) → watchGiving n s x ≡ record { number = r; watched = heldOf 0 s }
@@ -116,17 +122,20 @@ watchIn s m = watchKept s (keptOf (begunOf (s .kept)) m)
 
 -- ---- after any bytes
 
-pub byte-goes : (s : Watching) (b n : ℕ) → CanWatch s (n + 1) → CanWatch (watchStep s b) n
+pub more-goes : (s : Watching) (b n : ℕ) → CanWatch s n → CanWatch (watchMore s b) n
 unfolding isSound
+more-goes s b n can = record {
+  legal = can .legal;
+  lent = omega (arith, kept-long (s .kept) b, can .lent);
+  held = kept-held (s .kept) b (can .held);
+  sound = can .sound;
+  timed = can .timed;
+}
+
+pub byte-goes : (s : Watching) (b n : ℕ) → CanWatch s (n + 1) → CanWatch (watchStep s b) n
 byte-goes s b n can =
     if-by (λ (t : Watching). CanWatch t n) (b is "\n") (λ e. line-goes s n can)
-    (λ e. let timed = can .timed in record {
-      legal = can .legal;
-      lent = omega (arith, kept-long (s .kept) b, can .lent);
-      held = kept-held (s .kept) b (can .held);
-      sound = can .sound;
-      timed = omega arith;
-    })
+    (λ e. more-goes s b n (can-fewer (omega arith) can))
 
 pub watched-goes : (bs : List ℕ) (s : Watching) → CanWatch s (length bs) → CanWatch (watchedIn s bs .state) 0
 unfolding watchedIn

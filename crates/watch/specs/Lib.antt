@@ -3,3 +3,4 @@ pub mod Watching
 pub mod Done
 pub mod WatchCalls
 pub mod LampLines
+pub mod WholeWatch
