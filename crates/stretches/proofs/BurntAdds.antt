@@ -27,6 +27,8 @@ use Rattle.watch.specs.WatchCalls.{watchingFrom}
 use Rattle.watch.proofs.LinesDone.{done-settings}
 use Rattle.stretches.specs.Stretches.{Stretch, stretchIf, lengthsOf}
 use Rattle.stretches.specs.LogTold.{callsOf, isMarkedIn, toldOf, burntOf}
+use Rattle.watch.proofs.TellingsSpelt.{burnt-none, burnt-more}
+use Rattle.stretches.proofs.ToldSpelt.{told-none, told-more}
 use Rattle.stretches.proofs.LengthsAdd.{lengths-append}
 use Rattle.stretches.proofs.LogTells.{log-stretches-tell}
 
@@ -53,8 +55,9 @@ module _ (k : ℕ) where
 
   adds : (es : List FloorEvent) (s : Watching) → k < s .device .settings .«lamp_count» → k < length (s .burnt)
       → burntOf k s es ≡ getD (s .burnt) k 0 + lengthsOf (toldOf k s es)
-  unfolding burntOf toldOf
-  adds [] s counted inside = by (isBurningIn (s .device))
+  adds [] s counted inside =
+      ap (λ (l : List ℕ). getD l k 0) (burnt-none s) ∙ by (isBurningIn (s .device))
+      ∙ ap (λ (l : List Stretch). getD (s .burnt) k 0 + lengthsOf l) (sym (told-none k s))
     where
       closed : Bool → Watched
       closed b =
@@ -70,8 +73,10 @@ module _ (k : ℕ) where
       by false = omega arith
   adds (e ∷ es) s counted inside =
       let d = doneBy (s .device) e in
-      let t = watchedOn s e (s .kept .bytes) in
+      let t = watchedOn s e [] in
       let kept : k < d .settings .«lamp_count» = rw (done-settings (s .device) e) counted in
+      let burnt : burntOf k s (e ∷ es) ≡ burntOf k t es = ap (λ (l : List ℕ). getD l k 0) (burnt-more s e es) in
+      let told = ap lengthsOf (told-more k s e es) in
       let rest = adds es t kept (longer (isBurningIn (s .device) && not (isBurningIn d))) in
       let here = now (isBurningIn (s .device)) (isBurningIn d) kept in
       let all = lengths-append (stretchIf (isBurningIn (s .device) && not (isBurningIn d) && isMarkedIn d k && ltb (t .from) (t .time))

@@ -2,7 +2,9 @@ pub mod Exactly
 pub mod OrderKept
 pub mod LengthsAdd
 pub mod Told
+pub mod ToldSpelt
 pub mod Joined
 pub mod EventsSeen
 pub mod LogTells
 pub mod BurntAdds
+pub mod WholeLogTold

@@ -39,6 +39,7 @@ use Rattle.stretches.proofs.Joined.{joined, since-none, some-seconds, e
 use Rattle.stretches.proofs.Joined.{lit-seconds}
 use Rattle.stretches.proofs.EventsSeen.{Makes, no-call, one-call, makes, Seen, nothing, time, power, mark, sees}
 use Rattle.stretches.proofs.Told.{stretches-tell}
+use Rattle.stretches.proofs.ToldSpelt.{told-none, told-more}
 
 -- a second counts for one exactly if it is lit
 pub one-is : (b : Bool) → eqb (if b then 1 else 0) 1 ≡ b
@@ -144,7 +145,7 @@ module _ (w : Wanted) (k : ℕ) (inside : k < length (w .lamps)) where
   event-told : (s : Watching) (e : FloorEvent) {g : Stage} {ms : List Bool} {n : ℕ → ℕ} {stream now : Streams}
       (xs ys : List Event) → Agrees w g ms n stream (s .device) → Then w g ms n xs now (doneBy (s .device) e)
       → Seen g (secondsBy e) xs → s .from ≤ s .time
-      → let t = watchedOn s e (s .kept .bytes) in
+      → let t = watchedOn s e [] in
       stretchIf (isBurningIn (s .device) && not (isBurningIn (t .device)) && isMarkedIn (t .device) k && ltb (t .from) (t .time))
       (t .from) (t .time)
       ++ joined (isLitThen (reached w g xs) (marksAfter ms xs) k) (t .from) (t .time)
@@ -161,7 +162,7 @@ module _ (w : Wanted) (k : ℕ) (inside : k < length (w .lamps)) where
       ∙ by-seen w k g ms (secondsBy e) (s .from) (s .time) xs ys le sort
 
   from-before : (s : Watching) (e : FloorEvent) → s .from ≤ s .time
-      → let t = watchedOn s e (s .kept .bytes) in t .from ≤ t .time
+      → let t = watchedOn s e [] in t .from ≤ t .time
   from-before s e le =
       by (not (isBurningIn (s .device)) && isBurningIn (doneBy (s .device) e))
     where
@@ -173,7 +174,7 @@ module _ (w : Wanted) (k : ℕ) (inside : k < length (w .lamps)) where
   one-event : (es : List FloorEvent) (s : Watching) (e : FloorEvent) {g : Stage} {ms : List Bool} {n : ℕ → ℕ} {stream : Streams}
       → Agrees w g ms n stream (s .device) → isLegal (s .device) ≡ true → s .from ≤ s .time
       → let d = doneBy (s .device) e in
-      let t = watchedOn s e (s .kept .bytes) in
+      let t = watchedOn s e [] in
       ((h : Stage) (ns : List Bool) (m : ℕ → ℕ) (now : Streams) → Agrees w h ns m now d
       → toldOf k t es
       ≡ joined (isLitThen h ns k) (t .from) (t .time) (secondsLitFrom w h ns k (history ours d now (callsOf d es))))
@@ -190,7 +191,7 @@ module _ (w : Wanted) (k : ℕ) (inside : k < length (w .lamps)) where
       after-it = doneBy d e
 
       t : Watching
-      t = watchedOn s e (s .kept .bytes)
+      t = watchedOn s e []
 
       first : List Stretch
       first = stretchIf (isBurningIn d && not (isBurningIn after-it) && isMarkedIn after-it k && ltb (t .from) (t .time))
@@ -224,20 +225,22 @@ module _ (w : Wanted) (k : ℕ) (inside : k < length (w .lamps)) where
       → toldOf k s es
       ≡ joined (isLitThen g ms k) (s .from) (s .time)
       (secondsLitFrom w g ms k (history ours (s .device) stream (callsOf (s .device) es)))
-  unfolding toldOf callsOf secondsLitFrom stretchesFrom
+  unfolding callsOf secondsLitFrom stretchesFrom
   tells [] s {g} {ms} {n} {stream} a legal le =
-      ap (λ (b : Bool). stretchIf (b && ltb (s .from) (s .time)) (s .from) (s .time))
+      told-none k s
+      ∙ ap (λ (b : Bool). stretchIf (b && ltb (s .from) (s .time)) (s .from) (s .time))
       ((λ i. burning-known a i && a .marks k inside i) ∙ sym (one-is (isBurning g && getD ms k false)))
       ∙ ap (λ (xs : List Event). joined (isLitThen g ms k) (s .from) (s .time) (secondsLitFrom w g ms k xs))
       (sym (history-none ours (s .device) stream))
   tells (e ∷ es) s a legal le =
-      one-event es s e a legal le
+      told-more k s e es
+      ∙ one-event es s e a legal le
       (λ h ns m now b.
-      tells es (watchedOn s e (s .kept .bytes)) b (done-legal (s .device) legal e) (from-before s e le))
+      tells es (watchedOn s e []) b (done-legal (s .device) legal e) (from-before s e le))
 
 -- ---- a log from its beginning
 
-begun-legal : (w : Wanted) (b : Beginning) → Accepted ours b w → isLegal (begunBy ours b w .device) ≡ true
+pub begun-legal : (w : Wanted) (b : Beginning) → Accepted ours b w → isLegal (begunBy ours b w .device) ≡ true
 begun-legal w setsUp h = ap isLegal (set-up-started w h) ∙ started-legal w (set-up-in-range w h)
 begun-legal w (loads ms) h = accepted-legal (formOf w ms) (h .1)
 begun-legal w (loadsMarked ms) h = accepted-legal (markedFormOf w ms) (h .1)

@@ -150,3 +150,8 @@ module _ (d : Device) (legal : isLegal d ≡ true) (m : List ℕ) (lent : lineMo
     burnt = ap (λ (o : Out WatchStage). o .state .watch .burnt) plays ∙ tells .burnt;
     device = ap (λ (o : Out WatchStage). o .state .watch .floor .device) plays ∙ tells .device;
   }
+
+-- a log of fewer than 2 ^ 32 lines, those that one read could hold counted twice
+pub short-log-timeable : (size : ℕ) (reads : List (List ℕ)) → 1 ≤ size → noneLonger size reads ≡ true
+    → length (linesOf (uncut reads)) + size ≤ 2 ^ 32 → Timeable size reads
+short-log-timeable size reads some sizes few = record { some = some; sizes = sizes; seconds = omega arith }
