@@ -24,9 +24,7 @@ use Rattle.record.specs.declared.types.Device.{Device}
 use Rattle.clock.specs.Passing.{secondsMost}
 use Rattle.log.specs.Lines.{lineMost}
 use Rattle.floor.specs.declared.gather.Begun.{Begun}
-use Rattle.floor.specs.declared.replay.Floor.{Floor}
 use Rattle.floor.specs.Reading.{keptOf, begunOf, nothingBegun}
-use Rattle.floor.specs.Told.{Drives}
 use Rattle.watch.specs.declared.watching.Watch.{Watch}
 use Rattle.watch.specs.declared.watching.Seen.{Seen}
 use Rattle.watch.specs.declared.watching.Step.{Step}
@@ -56,9 +54,6 @@ watchOf n s = record {
   burnt = s .burnt;
 }
 
-abbrev pub movedTo : ℕ → Device → Floor
-movedTo n d = record { device = d; number = n; begun = nothingBegun }
-
 abbrev pub soundTop : Watching → ℕ
 soundTop s = if isBurningIn (s .device) then s .from else s .time
 
@@ -87,12 +82,6 @@ pub record CanWatch (s : Watching) (lines : ℕ) : Type 0 where
 pub record CanDarken (from time : ℕ) (burnt : List ℕ) : Type 0 where
   pub begun : from ≤ time
   pub fits : (k : ℕ) → getD burnt k 0 + (time - from) < 2 ^ 64
-
--- a line that let n seconds pass left the settings of the device d, and its places but one (02, L5)
-pub record CanSettle (d : Device) (n : ℕ) (to : Device) : Type 0 where
-  pub legal : isLegal d ≡ true
-  pub settings : to .settings ≡ d .settings
-  pub drives : Drives true n d to
 
 -- what a line does to the light, by whether the lamps burnt before it and burn after it
 abbrev pub lightOf : Bool → Bool → ℕ → ℕ → ℕ → Light

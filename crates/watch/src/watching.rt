@@ -24,8 +24,8 @@ ghost use Rattle.clock.specs.Second.{changedWhere};
 ghost use Rattle.device.specs.Calls.{replyRoom};
 ghost use Rattle.watch.specs.Watching.{isBurningIn, closedAtEnd, darkened, watchedIn};
 ghost use Rattle.watch.specs.WatchCalls.{watchingIn, watchingWith, watchOf, watchingFrom, isSound, watchRefusal};
-ghost use Rattle.watch.specs.WatchCalls.{CanWatch, SeenAs, WatchedAs, watched, watchedToEnd, movedTo, CanDarken, sightOf, heldOf};
-ghost use Rattle.watch.specs.WatchCalls.{CanSettle, lightOf, darkAfter, watchStepOf};
+ghost use Rattle.watch.specs.WatchCalls.{CanWatch, SeenAs, WatchedAs, watched, watchedToEnd, CanDarken, sightOf, heldOf};
+ghost use Rattle.watch.specs.WatchCalls.{lightOf, darkAfter, watchStepOf};
 
 pub const REPLY_ROOM: usize = 136;
 
@@ -121,25 +121,6 @@ pub fn start(device: Device) -> Watch
         from: 0,
         burnt,
     }
-}
-
-// The state of a log after a line, with no copy of what the line cannot have changed.
-fn advanced(f: Floor, done: Done) -> Floor
-    requires { ⌜ CanSettle (f .device) (done .seconds) (done .device) ⌝ }
-    ensures { λ r. ⌜ r ≡ movedTo (f .number) (done .device) ⌝ }
-{
-    let mut floor = f;
-    if 1 <= done.seconds {
-        floor = moving::aged(floor, done.seconds);
-    }
-    let device = done.device;
-    let begun = Begun::NOTHING;
-    let to = Floor {
-        device,
-        number: f.number,
-        begun,
-    };
-    moving::moved(floor, to)
 }
 
 // `to` where the lamps began to burn at that second, else what it was.
@@ -247,7 +228,18 @@ fn watch_on(w: Watch, line: &mut [u8], bytes: &[u8], reply: &mut [u8]) -> Seen
             time,
             from,
         );
-        floor = advanced(floor, done);
+        // moved on here and in no function of its own: the compiler then copies no settings
+        if 1 <= done.seconds {
+            floor = moving::aged(floor, done.seconds);
+        }
+        let device = done.device;
+        let nothing = Begun::NOTHING;
+        let to = Floor {
+            device,
+            number: w.floor.number,
+            begun: nothing,
+        };
+        floor = moving::moved(floor, to);
         at += gathered.before + 1;
         time = next.time;
         from = next.from;

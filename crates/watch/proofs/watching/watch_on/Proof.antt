@@ -4,26 +4,28 @@ use Prim.Native.Nat.{ℕ, _+_, _-_, _≤_, _<_, _^_}
 use mathlib.Core.Path.{_≡_, refl, sym, ap, subst, _∙_}
 use mathlib.Core.Bool.{Bool, true, false}
 use mathlib.Core.List.{List, []}
+use mathlib.Core.Logic.{⊎-elim}
 use native.Mathlib.Omega.{arith}
 use lib.ListN.{length, take, drop, length-drop}
 use lib.Seq.{take-all}
 use denote.Ref.{now}
 use borrow.Author.Needs.{needs}
-use borrow.Author.Tests.{not-true, not-false}
+use borrow.Author.Tests.{not-true, not-false, le-leb, lt-leb}
 use Rattle.text.proofs.Choices.{both-left}
-use Rattle.record.specs.declared.types.Line.{Line}
+use Rattle.record.specs.declared.types.Device.{Device}
 use Rattle.floor.specs.declared.gather.Gathered.{Gathered}
 use Rattle.floor.specs.declared.replay.Floor.{Floor}
-use Rattle.floor.specs.Reading.{upToLf, lineAfter}
-use Rattle.floor.specs.Told.{gatheredTo}
+use Rattle.floor.specs.Reading.{upToLf, lineAfter, nothingBegun}
+use Rattle.floor.specs.Told.{gatheredTo, Drives}
+use Rattle.floor.proofs.Driven.{aged-moves, unaged-moves}
 use Rattle.watch.specs.declared.marking.Done.{Done}
 use Rattle.watch.specs.declared.watching.Watch.{Watch}
 use Rattle.watch.specs.declared.watching.Seen.{Seen}
 use Rattle.watch.specs.declared.watching.Light.{Light}
 use Rattle.watch.specs.Marking.{secondsBy}
 use Rattle.watch.specs.Watching.{Watching, Watched, isBurningIn, isLong, isDark, lineDone, keptFloorEvent, watchedIn}
-use Rattle.watch.specs.WatchCalls.{watchingIn, watchingWith, watchOf, sightOf, SeenAs, CanWatch, CanDarken, CanSettle}
-use Rattle.watch.specs.WatchCalls.{heldOf, lightOf, darkAfter, movedTo}
+use Rattle.watch.specs.WatchCalls.{watchingIn, watchingWith, watchOf, sightOf, SeenAs, CanWatch, CanDarken}
+use Rattle.watch.specs.WatchCalls.{heldOf, lightOf, darkAfter}
 use Rattle.watch.specs.Done.{lineDid}
 use Rattle.watch.proofs.LinesDone.{done-settings, done-drives, line-seconds, can-darken}
 use Rattle.watch.proofs.Followed.{event-kept, device-after, onward-kept, dark-is, line-dark, line-lit, dark-from}
@@ -36,17 +38,21 @@ use Rattle.watch.proofs.watching.watch_on.Tie as tie
 abbrev parts : Floor → ℕ → ℕ → List ℕ → Watch
 parts floor time from burnt = record { floor = floor; time = time; from = from; burnt = burnt }
 
+-- after a line: nothing of a next one has begun
+abbrev movedTo : ℕ → Device → Floor
+movedTo n d = record { device = d; number = n; begun = nothingBegun }
+
 record Loop (line₀ bytes reply₀ : List ℕ) (watch₀ : Watch) (line reply : List ℕ) (watch : Watch) (at : ℕ) : Type 0 where
   to : WatchedTo (watchingIn watch₀ line₀) bytes (watchingIn watch line) at
   number : watch .floor .number ≡ watch₀ .floor .number
   reply-long : length reply ≡ length reply₀
 
 abbrev Inv : tie.InvT-loop
-Inv line₀ bytes reply₀ floor₀ time₀ from₀ burnt at₀ line reply floor time from at =
+Inv w line₀ bytes reply₀ floor₀ time₀ from₀ burnt at₀ line reply floor time from at =
     Loop line₀ bytes reply₀ (parts floor₀ time₀ from₀ burnt) line reply (parts floor time from burnt) at
 
 abbrev μ : tie.MeasureT-loop
-μ line₀ bytes reply₀ floor₀ time₀ from₀ burnt at₀ line reply floor time from at = length bytes - at
+μ w line₀ bytes reply₀ floor₀ time₀ from₀ burnt at₀ line reply floor time from at = length bytes - at
 
 -- the promise, along an equation for what is taken
 carried : {n : ℕ} {x y : Watched} {r : Seen} {l : List ℕ} → x ≡ y → SeenAs n y r l → SeenAs n x r l
@@ -191,22 +197,38 @@ light-fits c κs =
     let l = let known = c .before .before in known .before .before in
     subst (λ (x : Done). line (got l) .time + x .seconds < 2 ^ 64) (sym (did l)) (timed l)
 
-advances : tie.Need-advanced-requires Inv μ
-advances c κs =
-    let l = let known = c .before .before in known .before .before .before in
-    let t = line (got l) in
-    let legal = can (came l) .legal in
-    subst (λ (x : Done). CanSettle (t .device) (x .seconds) (x .device)) (sym (did l))
-    (record {
-      legal = legal;
-      settings = done-settings (t .device) (event-kept t);
-      drives = done-drives (t .device) legal (event-kept t);
-    })
+-- the light after the line is known
+module _ (c : tie.After-struct-known2 Inv μ) where
+  abbrev done : tie.After-end-line Inv μ
+  done = let lit = c .before .before .before in let known = lit .before .before in known .before
+
+  abbrev whole-line : Watching
+  whole-line = line (got done)
+
+  settings : done .end-line .result .device .settings ≡ whole-line .device .settings
+  settings = ap (λ (x : Done). x .device .settings) (did done) ∙ done-settings (whole-line .device) (event-kept whole-line)
+
+  drives : Drives true (done .end-line .result .seconds) (whole-line .device) (done .end-line .result .device)
+  drives =
+      subst (λ (x : Done). Drives true (x .seconds) (whole-line .device) (x .device)) (sym (did done))
+      (done-drives (whole-line .device) (can (came done) .legal) (event-kept whole-line))
+
+moves : tie.Need-moved-requires Inv μ
+moves c κs =
+    let tested = c .before in
+    let known = tested .before in
+    let n = done known .end-line .result .seconds in
+    let f = turn (got (done known)) .loop .floor in
+    let to = done known .end-line .result .device in
+    ⊎-elim
+    (λ x. aged-moves true n f to (drives known) (settings known) (le-leb 1 n (x .0 .taken)) (x .2 ∙ x .1 .ensures))
+    (λ x. unaged-moves true n f to (drives known) (settings known) (lt-leb 1 n (x .0 .left)) (x .1))
+    (tested .if2 .came)
 
 -- the state is moved on
-module _ (c : tie.After-advanced Inv μ) where
+module _ (c : tie.After-moved Inv μ) where
   abbrev lit : tie.After-light-after Inv μ
-  lit = c .before
+  lit = let known = c .before .before in known .before .before
 
   abbrev l : tie.After-end-line Inv μ
   l = let known = lit .before .before in known .before .before .before
@@ -220,11 +242,11 @@ module _ (c : tie.After-advanced Inv μ) where
       lit .light-after .ensures
       ∙ (λ i. lightOf (isBurningIn (t .device)) (isBurningIn (did l i .device)) (did l i .seconds) (t .time) (t .from))
 
-  floored : c .advanced .result ≡ movedTo (n l) (device-after t)
-  floored = c .advanced .ensures ∙ (λ i. movedTo (turn (got l) .loop .inv .number i) (did l i .device))
+  floored : c .moved .result ≡ movedTo (n l) (device-after t)
+  floored = c .moved .ensures ∙ (λ i. movedTo (n l) (did l i .device))
 
   abbrev left-watch : Watch
-  left-watch = parts (c .advanced .result) (lit .light-after .result .time) (lit .light-after .result .from) (w (got l) .burnt)
+  left-watch = parts (c .moved .result) (lit .light-after .result .time) (lit .light-after .result .from) (w (got l) .burnt)
 
   moved : left-watch ≡ watchOf (n l) (onward-kept t)
   moved = λ i. parts (floored i) (lighted i .time) (lighted i .from) (w (got l) .burnt)
@@ -235,7 +257,7 @@ module _ (c : tie.After-advanced Inv μ) where
   dark : lit .light-after .result .dark ≡ isDark t
   dark = ap (λ (x : Light). x .dark) lighted ∙ sym (dark-is t)
 
-abbrev past : tie.After-struct-known2 Inv μ → tie.After-advanced Inv μ
+abbrev past : tie.After-struct-known3 Inv μ → tie.After-moved Inv μ
 past c = c .before
 
 adds : tie.Need-add-at Inv μ
@@ -249,7 +271,7 @@ darkens c κs =
     let a = past (c .before) in
     let x = t a in
     let n = secondsBy (event-kept x) in
-    let is = sym (dark a) ∙ c .if2 .taken in
+    let is = sym (dark a) ∙ c .if3 .taken in
     let with = sym (dark-is x) ∙ is in
     subst (λ (y : Watch). CanDarken (y .from) (y .time) (y .burnt)) (sym (moved a))
     (subst (λ (f : ℕ). CanDarken f (x .time + n) (x .burnt))
@@ -262,7 +284,7 @@ stopped c =
     let a = past (tested .before) in
     let k = l a in
     let g = got k in
-    let is = sym (dark a) ∙ tested .if2 .taken in
+    let is = sym (dark a) ∙ tested .if3 .taken in
     let at : ℕ → ℕ = λ b. turn g .loop .at + (b + 1) in
     let all : Watching → Watched = λ x. record {
       taken = at (first (s g) (bytes g) (to g) (test g .loop-test .taken) .before);
@@ -287,7 +309,7 @@ again c =
     let a = past (c .before) in
     let k = l a in
     let g = got k in
-    let is = sym (dark a) ∙ c .if2 .left in
+    let is = sym (dark a) ∙ c .if3 .left in
     let next = goes-on (s g) (bytes g) (to g) (test g .loop-test .taken) (ends (came k)) is in
     record {
       to = subst (λ (b : ℕ). WatchedTo (s g) (bytes g) (watchingIn (left-watch a) (line-left k)) (turn g .loop .at + (b + 1)))
@@ -333,7 +355,8 @@ watch-on-spec =
     part
     line-lent
     light-fits
-    advances
+    (λ c κs. can (came (done (c .before))) .legal)
+    moves
     adds
     adds-2
     darkens
