@@ -49,6 +49,7 @@ pub mod Samples
 pub mod WrongRefusalsFall
 pub mod WrongLinesFall
 pub mod WrongClassesFall
+mod Unled
 pub mod WrongDoorsFall
 pub mod WrongOutsidersFall
 pub mod WrongClocksFall

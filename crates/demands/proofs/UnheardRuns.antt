@@ -1,20 +1,15 @@
 -- Two runs of 01's sample set-up with a password, for 02, L6. Place 0 is opened by someone who does not know the
 -- password, place 1 by someone who does, who powers on, and 20 seconds later off. Nothing is computed here.
 -- Assumes nothing.
-use Prim.Native.Nat.{ℕ, _<_}
+use Prim.Native.Nat.{ℕ}
 use mathlib.Core.Path.{_≡_}
 use mathlib.Core.Bool.{Bool, true, false, _&&_}
 use mathlib.Core.List.{List, [], _∷_, _++_}
-use native.Mathlib.Omega.{arith}
-use lib.ListN.{length}
 use lib.Dec.{eqb}
 use Rattle.text.specs.Words.{ascii, if_then_else_}
-use Rattle.text.specs.Scans.{sameBy, itself}
-use Rattle.text.proofs.Scanning.{long-differs}
 use Rattle.digest.specs.Hex.{leadingDigest}
-use Rattle.digest.proofs.Laws.{leading-digest-length}
 use Rattle.record.specs.declared.types.Device.{Device}
-use Rattle.device.specs.Receiving.{digestLong, passwordOf}
+use Rattle.device.specs.Receiving.{passwordOf}
 use Rattle.demands.specs.Board.{ours}
 use Rattle.demands.specs.Calls.{Call, opens, receives, passes, after}
 use Rattle.demands.specs.Outsider.{Session, unopened, goesOn, noted, isMatched, NeverMatched}
@@ -54,12 +49,6 @@ alike =
     same-call no-calls)))))
 
 -- ---- place 0 never matches
-
--- a line shorter than a digest is not led by it
-pub short-unled : (random : ℕ) (secret l : List ℕ) → length l < digestLong
-    → sameBy itself l (leadingDigest random secret) ≡ false
-short-unled random secret l short =
-    long-differs itself l (leadingDigest random secret) (λ e. omega (arith, leading-digest-length random secret))
 
 unmatched-elsewhere : (d : Device) (s : Session) (bs : List ℕ) → isMatched password s ≡ false
     → isMatched password (noted ours 0 d s (receives 1 bs memory)) ≡ false

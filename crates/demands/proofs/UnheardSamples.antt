@@ -28,7 +28,8 @@ use Rattle.demands.specs.Computing.{computing}
 use Rattle.demands.proofs.Unheard.{ours-unheard}
 use Rattle.demands.proofs.UnheardMoments.{nobody-opens}
 use Rattle.demands.proofs.UnheardRuns.{fresh, password, ledOn, later, since, calls, asks, waits, alike}
-use Rattle.demands.proofs.UnheardRuns.{short-unled, later-never, greeted-two, spoken-to}
+use Rattle.demands.proofs.UnheardRuns.{later-never, greeted-two, spoken-to}
+use Rattle.demands.proofs.Unled.{short-unled}
 use Rattle.demands.proofs.UnheardRuns.{session-one, session-two, session-three}
 
 -- ---- place 0 never matches

@@ -1,20 +1,15 @@
 -- Demand 2: the boards of specs/WrongDoors.antt fall, each to what the demand says of one sample, where the two numbers
 -- shown differ. The password is on; nobody sends the digest.
 -- Assumes nothing.
-use Prim.Native.Nat.{ℕ, _<_}
+use Prim.Native.Nat.{ℕ}
 use mathlib.Core.Path.{_≡_, refl, ap}
-use mathlib.Core.Bool.{true, false, false≢true}
+use mathlib.Core.Bool.{true, false≢true}
 use mathlib.Core.List.{List, [], _∷_}
 use native.Mathlib.Omega.{arith}
 use lib.ListN.{length, getD}
 use Rattle.text.specs.Words.{ascii}
-use Rattle.text.specs.Scans.{sameBy, itself}
-use Rattle.text.proofs.Scanning.{long-differs}
-use Rattle.digest.specs.Hex.{leadingDigest}
-use Rattle.digest.proofs.Laws.{leading-digest-length}
 use Rattle.record.specs.Places.{connectionAt}
 use Rattle.record.specs.declared.types.Device.{Device}
-use Rattle.device.specs.Receiving.{digestLong}
 use Rattle.demands.specs.Board.{ours}
 use Rattle.demands.specs.Calls.{Call, opens, passes}
 use Rattle.demands.specs.Demand2.{Demand2}
@@ -23,6 +18,7 @@ use Rattle.demands.specs.WrongDoors.{securedSample, forgetsPassword, ign
 use Rattle.demands.specs.WrongDoors.{failedAnswers, neverCloses, hidesFaults, hidesErrors}
 use Rattle.demands.specs.Computing.{computing}
 use Rattle.demands.proofs.Samples.{openedSample}
+use Rattle.demands.proofs.Unled.{short-unled}
 
 -- closed, off, with a password
 abbrev secured : Device
@@ -50,13 +46,6 @@ greets-with-zero-falls h =
     absurd (omega arith)
 
 -- ---- the outsider, who powers on
-
--- a line shorter than a digest is not led by it
-short-unled : (random : ℕ) (password l : List ℕ) → length l < digestLong
-    → sameBy itself l (leadingDigest random password) ≡ false
-short-unled random password l short =
-    long-differs itself l (leadingDigest random password)
-    (λ e. omega (arith, leading-digest-length random password))
 
 -- the power that he leaves, and the one that he found
 pub time-opens-falls : Demand2 timeOpens → ⊥

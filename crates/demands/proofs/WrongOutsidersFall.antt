@@ -15,7 +15,7 @@ use Rattle.demands.specs.WrongDoors.{securedSample}
 use Rattle.demands.specs.WrongOutsiders.{closesNext, countsFailures, refusesElsewhere}
 use Rattle.demands.specs.Unheard.{AllAlike, no-calls, one-more, same-call, other-bytes, Gave, Unheard}
 use Rattle.demands.specs.Computing.{computing}
-use Rattle.demands.proofs.UnheardRuns.{short-unled}
+use Rattle.demands.proofs.Unled.{short-unled}
 use Rattle.demands.proofs.UnheardSamples.{nothing}
 
 abbrev calls : List ℕ → List Call

@@ -30,7 +30,7 @@ use Rattle.floor.specs.Events.{LogEvent, opens, receives, passes, closes
 use Rattle.floor.specs.Playing.{logPlace, did}
 use Rattle.floor.specs.Told.{secondsOf, printedOf, placesAfter, Drives, agedBy}
 use Rattle.floor.proofs.LogOpenings.{log-opened-by}
-use Rattle.floor.proofs.OnePlace.{first-lowest}
+use Rattle.floor.proofs.OnePlace.{first-is-lowest-shut}
 use Rattle.floor.proofs.Refusals.{neither}
 
 -- no second
@@ -71,7 +71,7 @@ module _ (d : Device) where
       (λ legal free. opened-by d r replyRoom (λ q. Kept (q .device)) (λ n z. itself-kept)
       (λ h s c. let new = greeted (d .settings) r in subst
       (λ (k : ℕ). set before logPlace (getD (set before k new) logPlace noConnection) ≡ set before k new)
-      (sym (first-lowest before free)) (put-there before new)))
+      (sym (first-is-lowest-shut before free)) (put-there before new)))
 
   passing-drives : (n : ℕ) → Drives (isLegal d) n d (did d (passes n) .device)
   unfolding did

@@ -28,15 +28,15 @@ use Rattle.floor.specs.Events.{LogEvent, opens, receives, passes, closes
 use Rattle.floor.specs.Playing.{logPlace, did, sampleDevice, stateAfter}
 use Rattle.floor.proofs.LogOpenings.{log-opened-by}
 
-pub first-lowest : (cs : List Connection) → isShut (getD cs 0 noConnection) ≡ true → lowestShut cs ≡ 0
-first-lowest cs e =
+pub first-is-lowest-shut : (cs : List Connection) → isShut (getD cs 0 noConnection) ≡ true → lowestShut cs ≡ 0
+first-is-lowest-shut cs e =
     ⊎-elim (λ (h : lowestShut cs ≤ 0). omega arith)
     (λ (h : 0 < lowestShut cs). absurd (false≢true (sym (below-lowest cs 0 h) ∙ e))) (le-or-lt (lowestShut cs) 0)
 
 pub log-place-taken : (d : Device) → isLegal d ≡ true → isShut (connectionAt d logPlace) ≡ true
     → placeTaken d replyRoom ≡ logPlace
 log-place-taken d legal shut =
-    let lowest = first-lowest (d .connections) shut in
+    let lowest = first-is-lowest-shut (d .connections) shut in
     opened-lowest d 0 replyRoom legal (omega arith) (omega (arith, lowest)) ∙ lowest
 
 untimed : (c : Connection) → c ≡ closed → isTimed (c .phase) ≡ false
