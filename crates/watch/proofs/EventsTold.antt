@@ -100,7 +100,8 @@ module _ (t : Watching) (k : Line) where
   last-told false false long = refl
 
   last-burnt : (was lit long : Bool)
-      → closedOn (watchKept t k) (was && not lit && long) lit long .state .burnt ≡ closedOn t false lit long .state .burnt
+      → closedOn (watchKept t k) (was && not lit && long) lit long .state .burnt
+      ≡ closedOn t false lit long .state .burnt
   last-burnt true true long = refl
   last-burnt true false true = refl
   last-burnt true false false = refl
@@ -140,7 +141,8 @@ at-end s g k h false e =
     record {
       prints = ap linesOfEnd played ∙ ap toldLines (last-told t left was lit (isLong t));
       burnt = ap (λ (x : Watched). x .state .burnt) played ∙ last-burnt t left was lit (isLong t);
-      device = ap (λ (x : Watched). x .state .device) played ∙ last-device t left (was && not lit && isLong t) lit (isLong t);
+      device = ap (λ (x : Watched). x .state .device) played
+          ∙ last-device t left (was && not lit && isLong t) lit (isLong t);
     }
   where
     endOf : FloorEvent → Watched
@@ -153,7 +155,8 @@ lines-append [] us = refl
 lines-append (t ∷ ts) us =
     ap (λ (l : List ℕ). stretchLines 1 (marksIn (t .device .settings) (t .device .own)) (t .from) (t .to) ++ l)
     (lines-append ts us)
-    ∙ sym (append-assoc (stretchLines 1 (marksIn (t .device .settings) (t .device .own)) (t .from) (t .to)) (toldLines ts)
+    ∙ sym (append-assoc (stretchLines 1 (marksIn (t .device .settings) (t .device .own)) (t .from) (t .to))
+    (toldLines ts)
     (toldLines us))
 
 -- an event, and what follows it
@@ -193,7 +196,8 @@ log-sees [] s g k h =
     (subst (Sees s (map floorEvent (if eqb (length g) 0 then [] else g ∷ [])))
     (sym (run-none (code "\n") Watching watchMore lineTells (watchKept s k))) (at-end s g k h (eqb (length g) 0) refl))
 log-sees (b ∷ bs) s g k h =
-    subst (λ (ls : List (List ℕ)). Sees s (map floorEvent ls) (watchRun (watchKept s k) (b ∷ bs))) (sym (lines-byte g b bs))
+    subst (λ (ls : List (List ℕ)). Sees s (map floorEvent ls) (watchRun (watchKept s k) (b ∷ bs)))
+    (sym (lines-byte g b bs))
     (subst (Sees s (map floorEvent (if b is "\n" then g ∷ linesFrom [] bs else linesFrom (g ++ (b ∷ [])) bs)))
     (sym (run-more (code "\n") Watching watchMore lineTells (watchKept s k) b bs))
     (on-byte s g k b bs h (b is "\n") (log-sees bs _ [] _ (none-after g k h))

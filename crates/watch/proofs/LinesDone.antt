@@ -107,7 +107,8 @@ module _ (s : Watching) (sound : isSound s ≡ true) where
   sound-burnt = both-right (leb (s .from) (s .time)) _ sound
 
   -- the lamps burn no longer, some seconds later
-  pub can-darken : isBurningIn (s .device) ≡ true → (t : ℕ) → s .time ≤ t → t < 2 ^ 64 → CanDarken (s .from) t (s .burnt)
+  pub can-darken : isBurningIn (s .device) ≡ true → (t : ℕ) → s .time ≤ t → t < 2 ^ 64
+      → CanDarken (s .from) t (s .burnt)
   can-darken lit t late fits =
       let top : soundTop s ≡ s .from = if-yes _ _ lit in
       let begun = sound-from in

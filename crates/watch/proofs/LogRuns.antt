@@ -48,7 +48,11 @@ watched-runs s (b ∷ bs) =
   where
     first : Bool → Bool → Out Watching
     first lf dark =
-        if lf then record { state = lineDone s; reply = toldLines (tellingIf (dark && isLong (lineDone s)) (lineDone s)) }
+        if lf then record {
+          state = lineDone s;
+          reply = toldLines
+              (tellingIf (dark && isLong (lineDone s)) (lineDone s));
+        }
         else unanswered (watchMore s b)
 
     Runs : Watching → Type 0

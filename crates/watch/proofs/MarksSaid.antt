@@ -34,12 +34,15 @@ module _ (l : List ℕ) where
   module _ (five : length l ≡ 5) where
     pub mark-lamp : l at 2 < code "1" → markSaid l ≡ NoMark
     unfolding markSaid
-    mark-lamp h = if-no _ _ (ap inner (lt-leb (code "1") (l at 2) h) ∙ none (eqb (length l) 5 && l at 0 is "M" && l at 1 is " "))
+    mark-lamp h = if-no _ _ (ap inner (lt-leb (code "1") (l at 2) h)
+        ∙ none (eqb (length l) 5 && l at 0 is "M" && l at 1 is " "))
       where
         inner : Bool → Bool
-        inner b = eqb (length l) 5 && l at 0 is "M" && l at 1 is " " && (b && leb (l at 2) (code "9")) && l at 3 is " " && (leb (code "0") (l at 4) && leb (l at 4) (code "1"))
+        inner b = eqb (length l) 5 && l at 0 is "M" && l at 1 is " " && (b && leb (l at 2) (code "9")) && l at 3 is " "
+            && (leb (code "0") (l at 4) && leb (l at 4) (code "1"))
 
-        none : (a : Bool) → (a && false && l at 3 is " " && (leb (code "0") (l at 4) && leb (l at 4) (code "1"))) ≡ false
+        none : (a : Bool) → (a && false && l at 3 is " " && (leb (code "0") (l at 4) && leb (l at 4) (code "1")))
+            ≡ false
         none true = refl
         none false = refl
 

@@ -31,6 +31,7 @@ pub device-none : (d : Device) → deviceAfter d [] ≡ d
 unfolding deviceAfter
 device-none d = refl
 
-pub device-more : (d : Device) (e : FloorEvent) (es : List FloorEvent) → deviceAfter d (e ∷ es) ≡ deviceAfter (doneBy d e) es
+pub device-more : (d : Device) (e : FloorEvent) (es : List FloorEvent) → deviceAfter d (e ∷ es)
+    ≡ deviceAfter (doneBy d e) es
 unfolding deviceAfter
 device-more d e es = refl

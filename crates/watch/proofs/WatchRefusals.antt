@@ -38,7 +38,8 @@ passes-over time lines h t =
 pub passes-not : (time lines : ℕ) → lines ≤ (2 ^ 64 - 1 - time) / secondsMost → time < 2 ^ 64
     → time + lines * secondsMost < 2 ^ 64
 passes-not time lines h t =
-    let under = le-div-iff-mul-le {k = secondsMost} {x = lines} {y = 2 ^ 64 - 1 - time} (omega arith) .0 h in omega arith
+    let under = le-div-iff-mul-le {k = secondsMost} {x = lines} {y = 2 ^ 64 - 1 - time}
+    (omega arith) .0 h in omega arith
 
 module _ (legal sound : Bool) (held memory time lines : ℕ) where
   abbrev number : ℕ
@@ -154,7 +155,8 @@ closed-anywhere n true s m = refl
 closed-anywhere n false s m = by (isBurningIn (s .device))
   where
     by : (lit : Bool)
-        → sightOf n (if lit then record { taken = 0; told = isLong s; state = darkened (watchIn s m) } else heldOf 0 (watchIn s m))
+        → sightOf n (if lit then record { taken = 0; told = isLong s; state = darkened (watchIn s m) } else heldOf 0
+        (watchIn s m))
         ≡ sightOf n (if lit then record { taken = 0; told = isLong s; state = darkened s } else heldOf 0 s)
     by true = refl
     by false = refl

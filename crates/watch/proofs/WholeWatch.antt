@@ -92,7 +92,8 @@ module _ (n : ℕ) where
   all-reads : (size : ℕ) (s : Watching) (reads : List (List ℕ)) → Ahead size s reads
       → handedParts playTells (stageOf n s) reads ≡ outThrough (stageOf n) (watchRun s (uncut reads))
   all-reads size =
-      parts-run (code "\n") Watching watchMore lineTells (stageOf n) playTells ReadyFor one-call (Ahead size) (first size)
+      parts-run (code "\n") Watching watchMore lineTells (stageOf n) playTells ReadyFor one-call (Ahead size)
+      (first size)
       (next size)
 
 module _ (d : Device) (legal : isLegal d ≡ true) (m : List ℕ) (lent : lineMost < length m) (size : ℕ)
@@ -138,7 +139,8 @@ module _ (d : Device) (legal : isLegal d ≡ true) (m : List ℕ) (lent : lineMo
   unfolding wholeWatch
   plays =
       ap finishing all-taken
-      ∙ ap {B = Out WatchStage} (λ (t : Took WatchStage). record { state = t .state; reply = seen .reply ++ t .reply }) ends
+      ∙ ap {B = Out WatchStage}
+      (λ (t : Took WatchStage). record { state = t .state; reply = seen .reply ++ t .reply }) ends
 
   tells : Sees (watchingFrom d []) (floorEvents log) seen
   tells = log-sees log (watchingFrom d []) [] (keptOf nothingBegun m) (none-held m lent)

@@ -28,7 +28,7 @@ use Rattle.floor.specs.Reading.{keptOf, begunOf, nothingBegun}
 use Rattle.watch.specs.declared.watching.Watch.{Watch}
 use Rattle.watch.specs.declared.watching.Seen.{Seen}
 use Rattle.watch.specs.declared.watching.Step.{Step}
-use Rattle.watch.specs.declared.watching.Light.{Light}
+use Rattle.watch.specs.declared.light.Light.{Light}
 use Rattle.watch.specs.Watching.{Watching, Watched, isBurningIn, isLong, darkened}
 use Rattle.watch.specs.Watching.{watchedIn}
 use Rattle.watch.specs.Watching.{watchEnded}

@@ -12,10 +12,10 @@
 --   playTells g bs        what `play` on the bytes bs leaves, and what is printed; after a refusal nobody calls again
 --   finishTells g         what `finish` leaves, and what is printed
 --   wholeWatch d m rs     all calls for the reads rs, of any sizes, empty ones too
---   Timeable size rs      the seconds of the log can be counted: no read has more than `size` bytes, and so many seconds
---                         as its lines and `size` together could let pass have 64 bits
---   WatchesBack d log o   all calls for a log leave o: none refused, what is printed is what the events of the log tell,
---                         and so is what each lamp burnt
+--   Timeable size rs      the seconds of the log can be counted: no read has more than `size` bytes, and so many
+--                         seconds as its lines and `size` together could let pass have 64 bits
+--   WatchesBack d log o   all calls for a log leave o: none refused, what is printed is what the events of the log
+--                         tell, and so is what each lamp burnt
 -- Assumes nothing.
 use Prim.Native.Nat.{ℕ, _+_, _*_, _^_, _≤_, _<_}
 use mathlib.Core.Path.{_≡_}

@@ -1,6 +1,6 @@
 // A log watched for its lamps, handed over in any parts: when lamps began to burn, and when they ended.
+use crate::light;
 use crate::marking;
-use crate::marking::Done;
 use floor::closing;
 use floor::gather;
 use floor::gather::Begun;
@@ -12,20 +12,15 @@ use record::own;
 use record::types::Device;
 use record::types::LAMPS_MOST;
 ghost use mathlib.Core.Path.{_≡_};
-ghost use mathlib.Core.Bool.{Bool, true};
+ghost use mathlib.Core.Bool.{true};
 ghost use mathlib.Core.List.{[]};
-ghost use Prim.Native.Nat.{ℕ, _+_, _^_, _≤_, _<_};
-ghost use lib.ListN.{length, getD, take};
-ghost use lib.Dec.{leb};
-ghost use Rattle.text.specs.Words.{if_then_else_};
-ghost use Rattle.record.specs.Limits.{isLit};
-ghost use Rattle.text.specs.Scans.{every};
-ghost use Rattle.clock.specs.Second.{changedWhere};
+ghost use Prim.Native.Nat.{_+_, _≤_, _<_};
+ghost use lib.ListN.{length};
 ghost use Rattle.device.specs.Calls.{replyRoom};
 ghost use Rattle.watch.specs.Watching.{isBurningIn, closedAtEnd, darkened, watchedIn};
-ghost use Rattle.watch.specs.WatchCalls.{watchingIn, watchingWith, watchOf, watchingFrom, isSound, watchRefusal};
-ghost use Rattle.watch.specs.WatchCalls.{CanWatch, SeenAs, WatchedAs, watched, watchedToEnd, CanDarken, sightOf, heldOf};
-ghost use Rattle.watch.specs.WatchCalls.{lightOf, darkAfter, watchStepOf};
+ghost use Rattle.watch.specs.WatchCalls.{watchingIn, watchOf, watchingFrom, isSound, watchRefusal};
+ghost use Rattle.watch.specs.WatchCalls.{CanWatch, SeenAs, WatchedAs, watched, watchedToEnd, CanDarken, sightOf};
+ghost use Rattle.watch.specs.WatchCalls.{heldOf, darkAfter, watchStepOf};
 
 pub const REPLY_ROOM: usize = 136;
 
@@ -54,56 +49,6 @@ pub struct Step {
     pub seen: Seen,
 }
 
-fn wide(x: u32) -> u64
-    ensures { λ r. ⌜ r ≡ x ⌝ }
-{
-    x as u64
-}
-
-fn gain(mark: bool, burnt: u64, n: u64) -> u64
-    requires { ⌜ burnt + n < 2 ^ 64 ⌝ }
-    ensures { λ r. ⌜ r ≡ (if mark then burnt + n else burnt) ⌝ }
-{
-    if mark {
-        return burnt + n;
-    }
-    burnt
-}
-
-// Each lamp whose mark is set burnt n seconds more.
-fn gained(
-    burnt: [u64; LAMPS_MOST],
-    marks: [bool; LAMPS_MOST],
-    count: usize,
-    n: u64,
-) -> [u64; LAMPS_MOST]
-    requires { ⌜ ((k : ℕ) → getD burnt k 0 + n < 2 ^ 64) ⌝ }
-    ensures { λ r. ⌜ r ≡ changedWhere (λ (b : ℕ). b + n) (take count marks) burnt ⌝ }
-{
-    let mut after = burnt;
-    let mut k = 0;
-    while k < LAMPS_MOST {
-        if count <= k {
-            return after;
-        }
-        after[k] = gain(marks[k], burnt[k], n);
-        k += 1;
-    }
-    after
-}
-
-fn all_at_most(burnt: [u64; LAMPS_MOST], top: u64) -> bool
-    ensures { λ r. ⌜ r ≡ every (λ (b : ℕ). leb b top) burnt ⌝ }
-{
-    let mut ok = true;
-    let mut k = 0;
-    while k < LAMPS_MOST {
-        ok = ok & (burnt[k] <= top);
-        k += 1;
-    }
-    ok
-}
-
 // Before a log.
 pub fn start(device: Device) -> Watch
     ensures { λ r. ⌜ r ≡ watchOf 0 (watchingFrom device []) ⌝ }
@@ -123,16 +68,6 @@ pub fn start(device: Device) -> Watch
     }
 }
 
-// `to` where the lamps began to burn at that second, else what it was.
-fn begin(lights: bool, time: u64, from: u64) -> u64
-    ensures { λ r. ⌜ r ≡ (if lights then time else from) ⌝ }
-{
-    if lights {
-        return time;
-    }
-    from
-}
-
 // The lamps burn no longer: each whose mark is set burnt from `from` to `time`.
 fn darken(w: Watch) -> Watch
     requires { ⌜ CanDarken (w .from) (w .time) (w .burnt) ⌝ }
@@ -141,7 +76,7 @@ fn darken(w: Watch) -> Watch
     let floor = w.floor;
     let marks = floor.device.own.enabled;
     let before = w.burnt;
-    let burnt = gained(
+    let burnt = light::gained(
         before,
         marks,
         floor.device.settings.lamp_count,
@@ -152,28 +87,6 @@ fn darken(w: Watch) -> Watch
         time: w.time,
         from: w.from,
         burnt,
-    }
-}
-
-// What a line does to the light: whether the lamps burn no longer after it, the seconds gone, and the second at which they
-// began to burn last.
-struct Light {
-    dark: bool,
-    time: u64,
-    from: u64,
-}
-
-fn light_after(before: u8, after: u8, seconds: u32, time: u64, from: u64) -> Light
-    requires { ⌜ time + seconds < 2 ^ 64 ⌝ }
-    ensures { λ r. ⌜ r ≡ lightOf (isLit before) (isLit after) seconds time from ⌝ }
-{
-    let was = own::is_lit(before);
-    let is = own::is_lit(after);
-    let after_it = time + wide(seconds);
-    Light {
-        dark: was & !is,
-        time: after_it,
-        from: begin(!was & is, after_it, from),
     }
 }
 
@@ -221,7 +134,7 @@ fn watch_on(w: Watch, line: &mut [u8], bytes: &[u8], reply: &mut [u8]) -> Seen
             };
         }
         let done = marking::end_line(floor.device, begun, line, reply);
-        let next = light_after(
+        let next = light::light_after(
             floor.device.own.power,
             done.device.own.power,
             done.seconds,
@@ -270,7 +183,8 @@ fn watch_on(w: Watch, line: &mut [u8], bytes: &[u8], reply: &mut [u8]) -> Seen
 fn close_log(seen: Seen) -> Seen
     requires { ⌜ (isBurningIn (seen .watch .floor .device) ≡ true
         → CanDarken (seen .watch .from) (seen .watch .time) (seen .watch .burnt)) ⌝ }
-    ensures { λ r. ⌜ r ≡ sightOf (seen .watch .floor .number) (closedAtEnd (seen .ended) (watchingIn (seen .watch) [])) ⌝ }
+    ensures { λ r. ⌜ r ≡ sightOf (seen .watch .floor .number)
+        (closedAtEnd (seen .ended) (watchingIn (seen .watch) [])) ⌝ }
 {
     let watch = seen.watch;
     if seen.ended {
@@ -298,9 +212,9 @@ fn close_log(seen: Seen) -> Seen
 fn is_sound(w: Watch) -> bool
     ensures { λ r. ⌜ r ≡ isSound (watchingIn w []) ⌝ }
 {
-    let top = begin(own::is_lit(w.floor.device.own.power), w.from, w.time);
+    let top = light::begin(own::is_lit(w.floor.device.own.power), w.from, w.time);
     let burnt = w.burnt;
-    (w.from <= w.time) & all_at_most(burnt, top)
+    (w.from <= w.time) & light::all_at_most(burnt, top)
 }
 
 // 1 for a record that is not legal, 2 for too little memory, 3 for a state that cannot go on, else 0.
@@ -326,7 +240,8 @@ fn refusal_of(legal: bool, sound: bool, held: usize, memory: usize, time: u64, l
 }
 
 fn refused(w: Watch, number: u32) -> Step
-    ensures { λ r. ⌜ r ≡ watchStepOf (w .floor .number) (record { number = number; watched = heldOf 0 (watchingIn w []) }) ⌝ }
+    ensures { λ r. ⌜ r ≡ watchStepOf (w .floor .number)
+        (record { number = number; watched = heldOf 0 (watchingIn w []) }) ⌝ }
 {
     let seen = Seen {
         taken: 0,

@@ -1,4 +1,5 @@
--- `watch::marking::end_line` meets its contract: the mark that the line asks for is set, or its event done as floor does.
+-- `watch::marking::end_line` meets its contract: the mark that the line asks for is set, or its event done as floor
+-- does.
 -- Assumes nothing.
 use Prim.Native.Nat.{ℕ, _+_, _-_, min}
 use mathlib.Core.Path.{_≡_, refl, sym, ap, _∙_}
@@ -34,7 +35,8 @@ module _ (c : tie.After-kept-says) where
   by-mark : {m : MarkSaid} → read .kept-mark .result ≡ m
       → lineDid (start .args .d) (eventBy m (keptEvent kept))
       ≡ lineDid (start .args .d) (eventBy (keptMark kept) (keptEvent kept))
-  by-mark e = ap (λ (m : MarkSaid). lineDid (start .args .d) (eventBy m (keptEvent kept))) (sym e ∙ read .kept-mark .ensures)
+  by-mark e = ap (λ (m : MarkSaid). lineDid (start .args .d) (eventBy m (keptEvent kept))) (sym e
+      ∙ read .kept-mark .ensures)
 
 marks : tie.Need-returns
 unfolding doneBy
@@ -62,7 +64,8 @@ plays c =
       called .log-event .ensures
           ∙ (λ i. lineDid (s .args .d) (logged (eventOf (said .kept-says .ensures .0 i)
           (take (k .held + 1 - from) (drop from (said .kept-says .ensures .1 i))))))
-          ∙ ap (λ (e : LogEvent). lineDid (s .args .d) (logged e)) (event-lent k (now (s .args .line)) (s .pre .1 .0) from refl)
+          ∙ ap (λ (e : LogEvent). lineDid (s .args .d) (logged e))
+          (event-lent k (now (s .args .line)) (s .pre .1 .0) from refl)
           ∙ by-mark said (arm .enum-told .given .1),
       said .kept-says .ensures .1,
     )

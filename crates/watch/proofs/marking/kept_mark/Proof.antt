@@ -14,7 +14,9 @@ use Rattle.watch.proofs.marking.kept_mark.Tie as tie
 returns-2 : tie.Need-returns-2
 returns-2 c =
     let other = c .before .before in
-    c .mark-says .ensures ∙ ap markSaid (ap (λ (k : ℕ). take k (now (other .before .before .args .line))) (sub-zero (other .before .before .args .k .held)))
+    c .mark-says .ensures
+    ∙ ap markSaid (ap (λ (k : ℕ). take k (now (other .before .before .args .line)))
+    (sub-zero (other .before .before .args .k .held)))
     ∙ sym (if-no _ _ (other .if1 .left))
 
 pub kept-mark-spec : {M : Type 1} → statement M

@@ -21,7 +21,8 @@ use Rattle.floor.proofs.event.seconds_of.Reads as seconds-of-reads
 use Rattle.floor.proofs.playing.least.Reads as least-reads
 
 call-requires : tie.Need-call-requires
-call-requires c κs = let start = let known = c .before .before in known .before .before .before in (search needs, sym (start .pre .0))
+call-requires c κs = let start = let known = c .before .before in known .before .before .before in
+    (search needs, sym (start .pre .0))
 
 returns : tie.Need-returns
 unfolding doneBy

@@ -37,7 +37,8 @@ module _ (c : tie.After-put-part2) where
   text2 = text1 step2 ++ numbered (ascii " start ") (start step2 .args .start)
 
   put2 : PutSo (out step2) text2 (c .put-part2 .last .0) (c .put-part2 .result)
-  put2 = next-part (put1 step2) (numbered (ascii " start ") (start step2 .args .start)) (c .put-part2 .ensures .1) (c .put-part2 .ensures .0)
+  put2 = next-part (put1 step2) (numbered (ascii " start ") (start step2 .args .start)) (c .put-part2 .ensures .1)
+      (c .put-part2 .ensures .0)
 
   short2 : c .put-part2 .result ≤ 52
   short2 =
@@ -51,11 +52,18 @@ module _ (c : tie.After-put-part3) where
   text3 = text2 step3 ++ numbered (ascii " burnt ") (start (step2 step3) .args .burnt)
 
   put3 : PutSo (out (step2 step3)) text3 (c .put-part3 .last .0) (c .put-part3 .result)
-  put3 = next-part (put2 step3) (numbered (ascii " burnt ") (start (step2 step3) .args .burnt)) (c .put-part3 .ensures .1) (c .put-part3 .ensures .0)
+  put3 = next-part (put2 step3) (numbered (ascii " burnt ") (start (step2 step3) .args .burnt))
+      (c .put-part3 .ensures .1) (c .put-part3 .ensures .0)
 
   short3 : c .put-part3 .result ≤ 79
   short3 =
-      omega (arith, c .put-part3 .ensures .0, short2 step3, part-long (ascii " burnt ") (start (step2 step3) .args .burnt))
+      omega (
+        arith,
+        c .put-part3 .ensures .0,
+        short2 step3,
+        part-long (ascii " burnt ")
+            (start (step2 step3) .args .burnt),
+      )
 
 module _ (c : tie.After-put-part4) where
   abbrev step4 : tie.After-put-part3
@@ -65,11 +73,18 @@ module _ (c : tie.After-put-part4) where
   text4 = text3 step4 ++ numbered (ascii " now ") (start (step2 (step3 step4)) .args .last)
 
   put4 : PutSo (out (step2 (step3 step4))) text4 (c .put-part4 .last .0) (c .put-part4 .result)
-  put4 = next-part (put3 step4) (numbered (ascii " now ") (start (step2 (step3 step4)) .args .last)) (c .put-part4 .ensures .1) (c .put-part4 .ensures .0)
+  put4 = next-part (put3 step4) (numbered (ascii " now ") (start (step2 (step3 step4)) .args .last))
+      (c .put-part4 .ensures .1) (c .put-part4 .ensures .0)
 
   short4 : c .put-part4 .result ≤ 104
   short4 =
-      omega (arith, c .put-part4 .ensures .0, short3 step4, part-long (ascii " now ") (start (step2 (step3 step4)) .args .last))
+      omega (
+        arith,
+        c .put-part4 .ensures .0,
+        short3 step4,
+        part-long (ascii " now ")
+            (start (step2 (step3 step4)) .args .last),
+      )
 
 fits2 : tie.Need-put-part-requires-2
 fits2 c κs =

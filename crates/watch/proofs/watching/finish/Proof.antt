@@ -1,5 +1,5 @@
--- `watch::watching::finish` meets its contract: refused with nothing taken; or the line that has begun is watched, as if its
--- LF had come, and the log ends.
+-- `watch::watching::finish` meets its contract: refused with nothing taken; or the line that has begun is watched, as
+-- if its LF had come, and the log ends.
 -- Assumes nothing.
 use Prim.Native.Nat.{ℕ, _-_, _≤_}
 use Prim.Native.Char.{code}
@@ -16,7 +16,8 @@ use Rattle.floor.specs.Reading.{isBegun, lfMissing}
 use Rattle.watch.specs.declared.watching.Step.{Step}
 use Rattle.watch.specs.declared.watching.Seen.{Seen}
 use Rattle.watch.specs.Watching.{Watching, Watched, isBurningIn, watchedIn, closedAtEnd, watchEnded}
-use Rattle.watch.specs.WatchCalls.{watchingIn, isSound, watchRefusal, refusalIn, WatchStep, WatchedAs, watchedToEnd}
+use Rattle.watch.specs.WatchCalls.{watchingIn, isSound, watchRefusal, refusalIn, WatchStep, WatchedAs}
+use Rattle.watch.specs.WatchCalls.{watchedToEnd}
 use Rattle.watch.specs.WatchCalls.{sightOf, SeenAs, CanWatch, CanDarken}
 use Rattle.watch.proofs.LinesDone.{can-darken}
 use Rattle.watch.proofs.Turns.{can-fewer}
@@ -85,7 +86,8 @@ module _ (c : tie.After-watch-on) where
 
   told : SeenAs n x (c .watch-on .result) (c .watch-on .last .1 .0)
   told =
-      subst (λ (k : ℕ). SeenAs n (watchedIn (s asked) (take k (code "\n" ∷ []))) (c .watch-on .result) (c .watch-on .last .1 .0))
+      subst (λ (k : ℕ). SeenAs n (watchedIn (s asked) (take k (code "\n" ∷ []))) (c .watch-on .result)
+      (c .watch-on .last .1 .0))
       (sub-zero (counted .missing-lf .result) ∙ counted .missing-lf .ensures) (c .watch-on .ensures)
 
   sound : CanWatch (x .state) 0

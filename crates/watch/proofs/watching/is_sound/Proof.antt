@@ -16,7 +16,8 @@ unfolding isSound
 returns c =
     let begun = let known = c .before .before in known .before in
     let w = begun .before .before .args .w in
-    let top = begun .begin .ensures ∙ ap (λ (l : Bool). if l then w .from else w .time) (begun .before .is-lit .ensures) in
+    let top = begun .begin .ensures
+    ∙ ap (λ (l : Bool). if l then w .from else w .time) (begun .before .is-lit .ensures) in
     let all = c .all-at-most .ensures ∙ ap (λ (t : ℕ). every (λ (b : ℕ). leb b t) (w .burnt)) top in
     (λ i. leb (w .from) (w .time) && all i)
 

@@ -21,9 +21,10 @@ use Rattle.floor.proofs.Driven.{aged-moves, unaged-moves}
 use Rattle.watch.specs.declared.marking.Done.{Done}
 use Rattle.watch.specs.declared.watching.Watch.{Watch}
 use Rattle.watch.specs.declared.watching.Seen.{Seen}
-use Rattle.watch.specs.declared.watching.Light.{Light}
+use Rattle.watch.specs.declared.light.Light.{Light}
 use Rattle.watch.specs.Marking.{secondsBy}
-use Rattle.watch.specs.Watching.{Watching, Watched, isBurningIn, isLong, isDark, lineDone, keptFloorEvent, watchedIn}
+use Rattle.watch.specs.Watching.{Watching, Watched, isBurningIn, isLong, isDark, lineDone, keptFloorEvent}
+use Rattle.watch.specs.Watching.{watchedIn}
 use Rattle.watch.specs.WatchCalls.{watchingIn, watchingWith, watchOf, sightOf, SeenAs, CanWatch, CanDarken}
 use Rattle.watch.specs.WatchCalls.{heldOf, lightOf, darkAfter}
 use Rattle.watch.specs.Done.{lineDid}
@@ -158,8 +159,14 @@ line-lent : tie.Need-end-line-requires Inv μ
 line-lent c κs =
     let came = c .before .before in
     let got = gathers came in
-    let held = subst (λ (t : Watching). CanWatch t 1) (sym (same got)) (can came) in
-    (held .legal, (omega (arith, held .held, held .lent), omega (arith, start got .pre .1, turn got .loop .inv .reply-long)))
+    let held = subst (λ (t : Watching). CanWatch t 1) (sym (same got)) (can came) in (
+      held .legal,
+      (
+        omega (arith, held .held, held .lent),
+        omega
+            (arith, start got .pre .1, turn got .loop .inv .reply-long),
+      ),
+    )
 
 -- the line is done
 module _ (c : tie.After-end-line Inv μ) where
@@ -206,7 +213,8 @@ module _ (c : tie.After-struct-known2 Inv μ) where
   whole-line = line (got done)
 
   settings : done .end-line .result .device .settings ≡ whole-line .device .settings
-  settings = ap (λ (x : Done). x .device .settings) (did done) ∙ done-settings (whole-line .device) (event-kept whole-line)
+  settings = ap (λ (x : Done). x .device .settings) (did done)
+      ∙ done-settings (whole-line .device) (event-kept whole-line)
 
   drives : Drives true (done .end-line .result .seconds) (whole-line .device) (done .end-line .result .device)
   drives =
@@ -246,7 +254,8 @@ module _ (c : tie.After-moved Inv μ) where
   floored = c .moved .ensures ∙ (λ i. movedTo (n l) (did l i .device))
 
   abbrev left-watch : Watch
-  left-watch = parts (c .moved .result) (lit .light-after .result .time) (lit .light-after .result .from) (w (got l) .burnt)
+  left-watch = parts (c .moved .result) (lit .light-after .result .time) (lit .light-after .result .from)
+      (w (got l) .burnt)
 
   moved : left-watch ≡ watchOf (n l) (onward-kept t)
   moved = λ i. parts (floored i) (lighted i .time) (lighted i .from) (w (got l) .burnt)
@@ -312,7 +321,8 @@ again c =
     let is = sym (dark a) ∙ c .if3 .left in
     let next = goes-on (s g) (bytes g) (to g) (test g .loop-test .taken) (ends (came k)) is in
     record {
-      to = subst (λ (b : ℕ). WatchedTo (s g) (bytes g) (watchingIn (left-watch a) (line-left k)) (turn g .loop .at + (b + 1)))
+      to = subst (λ (b : ℕ). WatchedTo (s g) (bytes g) (watchingIn (left-watch a) (line-left k))
+          (turn g .loop .at + (b + 1)))
           (sym (ap (λ (x : Gathered). x .before) (gave g)))
           (subst (λ (x : Watching). WatchedTo (s g) (bytes g) x
           (turn g .loop .at + (first (s g) (bytes g) (to g) (test g .loop-test .taken) .before + 1)))
@@ -334,7 +344,8 @@ all-taken c =
           device = turn .loop .floor .device;
           number = i .number j;
           begun = turn .loop .floor .begun;
-        }) (turn .loop .time) (turn .loop .from) ((let known = turn .before .before .before in known .before .before .before) .args .w .burnt);
+        }) (turn .loop .time) (turn .loop .from)
+            ((let known = turn .before .before .before in known .before .before .before) .args .w .burnt);
       };
       line = refl;
     })

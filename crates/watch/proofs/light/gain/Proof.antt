@@ -1,10 +1,10 @@
--- `watch::watching::gain` meets its contract: by the mark.
+-- `watch::light::gain` meets its contract: by the mark.
 -- Assumes nothing.
 use mathlib.Core.Path.{sym}
 use borrow.Author.Needs.{needs}
 use Rattle.text.proofs.Choices.{if-yes, if-no}
-use Rattle.watch.proofs.watching.gain.Statement.{statement}
-use Rattle.watch.proofs.watching.gain.Tie as tie
+use Rattle.watch.proofs.light.gain.Statement.{statement}
+use Rattle.watch.proofs.light.gain.Tie as tie
 
 pub gain-spec : {M : Type 1} → statement M
 gain-spec =

@@ -1,5 +1,5 @@
--- `watch::watching::gained` meets its contract: up to k each enabled lamp has burnt its seconds, and the others stand as they
--- were.
+-- `watch::light::gained` meets its contract: up to k each enabled lamp has burnt its seconds, and the others stand
+-- as they were.
 -- Assumes nothing.
 use Prim.Native.Nat.{ℕ, _+_, _-_, _≤_}
 use mathlib.Core.Path.{_≡_, refl, sym, ap, _∙_}
@@ -12,8 +12,8 @@ use borrow.Author.Needs.{needs}
 use Rattle.record.specs.Limits.{lampsMost}
 use Rattle.clock.specs.Second.{changedWhere}
 use Rattle.clock.proofs.ChangedWhere.{where-none, one-more-where}
-use Rattle.watch.proofs.watching.gained.Statement.{statement}
-use Rattle.watch.proofs.watching.gained.Tie as tie
+use Rattle.watch.proofs.light.gained.Statement.{statement}
+use Rattle.watch.proofs.light.gained.Tie as tie
 
 record Burnt (lamps : List ℕ) (enabled : List Bool) (count n : ℕ) (after : List ℕ) (k : ℕ) : Type 0 where
   inside : k ≤ lampsMost

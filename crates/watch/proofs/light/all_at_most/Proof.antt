@@ -1,4 +1,4 @@
--- `watch::watching::all_at_most` meets its contract: the scan that never leaves early.
+-- `watch::light::all_at_most` meets its contract: the scan that never leaves early.
 -- Assumes nothing.
 use Prim.Native.Nat.{ℕ, _-_}
 use mathlib.Core.Path.{_≡_, refl}
@@ -8,8 +8,8 @@ use lib.Dec.{leb}
 use borrow.Author.Needs.{needs}
 use Rattle.record.specs.Limits.{lampsMost}
 use Rattle.text.proofs.Scanning.{Gathered, none-gathered, one-gathered, all-gathered}
-use Rattle.watch.proofs.watching.all_at_most.Statement.{statement}
-use Rattle.watch.proofs.watching.all_at_most.Tie as tie
+use Rattle.watch.proofs.light.all_at_most.Statement.{statement}
+use Rattle.watch.proofs.light.all_at_most.Tie as tie
 
 abbrev Inv : tie.InvT-loop
 Inv top burnt ok₀ k₀ ok k = Gathered (λ (b : ℕ). leb b top) burnt k ok

@@ -1,4 +1,4 @@
--- `watch::watching::light_after` meets its contract: each part by the calls that made it.
+-- `watch::light::light_after` meets its contract: each part by the calls that made it.
 -- Assumes nothing.
 use Prim.Native.Nat.{ℕ, _+_}
 use mathlib.Core.Path.{_≡_, ap, _∙_}
@@ -6,9 +6,9 @@ use mathlib.Core.Bool.{not, _&&_}
 use native.Mathlib.Omega.{arith}
 use borrow.Author.Needs.{needs}
 use Rattle.text.specs.Words.{if_then_else_}
-use Rattle.watch.specs.declared.watching.Light.{Light}
-use Rattle.watch.proofs.watching.light_after.Statement.{statement}
-use Rattle.watch.proofs.watching.light_after.Tie as tie
+use Rattle.watch.specs.declared.light.Light.{Light}
+use Rattle.watch.proofs.light.light_after.Statement.{statement}
+use Rattle.watch.proofs.light.light_after.Tie as tie
 
 returns : tie.Need-returns
 returns c =
