@@ -1,5 +1,5 @@
--- A list changed where marks are set: how many there are, what stands at each place, the loop that changes them one after
--- the other, and two changes as one.
+-- A list changed where marks are set: how many there are, what stands at each place, the loop that changes them one
+-- after the other, and two changes as one.
 -- Assumes nothing.
 use Prim.Native.Nat.{ℕ, zero, suc, _+_, _<_}
 use mathlib.Core.Path.{_≡_, refl, sym, ap, ap₂, _∙_}

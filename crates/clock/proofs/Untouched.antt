@@ -20,7 +20,8 @@ pub record Untouched (before after : Device) : Type 0 where
   pub settings : after .settings ≡ before .settings
   pub own : after .own
       ≡ withSeconds (withPower (before .own) (after .own .power) (after .own .left)) (after .own .lamps)
-  pub connection : (p : ℕ) → isTimed (connectionAt before p .phase) ≡ false → connectionAt after p ≡ connectionAt before p
+  pub connection : (p : ℕ) → isTimed (connectionAt before p .phase) ≡ false → connectionAt after p
+      ≡ connectionAt before p
 
 -- the chosen input, the mutes, the fault mark and the error digits stay
 module _ (n : ℕ) (s : Settings) (o : Own) where

@@ -47,7 +47,8 @@ pub record CalledBack (d : Device) (p : ℕ) (c : Command) (w : Written) (r : Re
   pub read : x ≡ readingOf (meaning (meant (d .settings) (d .own) (Asks c)))
 
 -- paper is the memory lent to the writer, out that lent to the projector; m and n are what the calls leave in them
-module _ (d : Device) (p : ℕ) (c : Command) (paper out : List ℕ) {w : Written} {r : Received} {x : Reading} {m n : List ℕ} where
+module _ (d : Device) (p : ℕ) (c : Command)
+    (paper out : List ℕ) {w : Written} {r : Received} {x : Reading} {m n : List ℕ} where
   called-back : (secured : Bool) (random : ℕ) (password : List ℕ)
       → let s = writtenCommand c secured random password (length paper) in
       s .number ≡ 0 → TakenAndRead d p c (s .bytes) (received d p (s .bytes) (length out))
@@ -69,7 +70,8 @@ module _ (d : Device) (p : ℕ) (c : Command) (paper out : List ℕ) {w : Writte
         read = reads ∙ ap (λ (b : List ℕ). readingOf (readReply c b)) heard ∙ ap readingOf (back .said);
       }
 
-  module _ (there : p < placesCount) (legal : isLegal d ≡ true) (between : connectionAt d p .line ≡ emptyLine) (writable : isCommand c ≡ true)
+  module _ (there : p < placesCount) (legal : isLegal d ≡ true) (between : connectionAt d p .line ≡ emptyLine)
+      (writable : isCommand c ≡ true)
       (within : commandClass c ≤ d .settings .«class_number»)
       (roomy : commandRoom ≤ length paper) (enough : replyRoom ≤ length out) where
     pub calls-read-back : connectionAt d p .phase ≡ opened → (random : ℕ) (password : List ℕ)
@@ -77,7 +79,8 @@ module _ (d : Device) (p : ℕ) (c : Command) (paper out : List ℕ) {w : Writte
         → x ≡ readingOf (readReply c (take (r .length) n))
         → CalledBack d p c w r x
     calls-read-back phase random password =
-        let through = written-reads-back d p there legal between c writable within (length out) enough (length paper) roomy phase
+        let through = written-reads-back d p there legal between c writable within (length out) enough
+        (length paper) roomy phase
         random password in
         called-back false random password (through .0) (through .1)
 
@@ -87,7 +90,8 @@ module _ (d : Device) (p : ℕ) (c : Command) (paper out : List ℕ) {w : Writte
         → x ≡ readingOf (readReply c (take (r .length) n))
         → CalledBack d p c w r x
     calls-read-back-secured phase =
-        let through = written-reads-back-secured d p there legal between c writable within (length out) enough (length paper) roomy
+        let through = written-reads-back-secured d p there legal between c writable within (length out) enough
+        (length paper) roomy
         phase in
         called-back true (connectionAt d p .random) (passwordOf (d .settings)) (through .0) (through .1)
 

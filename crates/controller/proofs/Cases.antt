@@ -83,7 +83,8 @@ module _ (c : Command) (l : List ℕ) where
   pub reply-by : (P : ReadAs → Type 0)
       → (sameBy itself l erraLine ≡ true → P (without Erra))
       → (sameBy itself l erraLine ≡ false → isReplyForm (commandClass c) l ≡ false → P (without NotALine))
-      → (isReplyForm (commandClass c) l ≡ true → isBody (commandClass c) (headBody l) (bodyOf c) ≡ false → P (without OtherCommand))
+      → (isReplyForm (commandClass c) l ≡ true → isBody (commandClass c) (headBody l) (bodyOf c) ≡ false
+      → P (without OtherCommand))
       → (isReplyForm (commandClass c) l ≡ true → isBody (commandClass c) (headBody l) (bodyOf c) ≡ true
       → P (saying (readParameter c (replyParameter l))))
       → P (readReply c l)
@@ -91,7 +92,8 @@ module _ (c : Command) (l : List ℕ) where
   reply-by P erra unformed other said =
       let named = isBody (commandClass c) (headBody l) (bodyOf c) in
       if-by P (sameBy itself l erraLine) erra (λ line.
-      if-by P (not (isReplyForm (commandClass c) l)) (λ f. unformed line (not-true (isReplyForm (commandClass c) l) f)) (λ f.
+      if-by P (not (isReplyForm (commandClass c) l)) (λ f. unformed line (not-true (isReplyForm (commandClass c) l) f))
+      (λ f.
       let formed = not-false (isReplyForm (commandClass c) l) f in
       if-by P (not named) (λ b. other formed (not-true named b)) (λ b. said formed (not-false named b))))
 

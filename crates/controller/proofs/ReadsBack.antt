@@ -1,7 +1,8 @@
 -- THE LAW: for a legal projector on a connection between lines, what the reader takes from the reply to a command's
 -- line is what the projector meant (01, "Controller"), for every command of a class no higher than the set-up's; a
 -- higher one gets no reply (02, L14).
---   TakenAndRead d p c bs r    the result r of receiving bs at place p: number 0, exactly bs taken, the record as the command leaves
+--   TakenAndRead d p c bs r    the result r of receiving bs at place p: number 0, exactly bs taken, the record as the
+--                              command leaves
 --                            it on a connection open between lines with the random number kept, the reply read as meant
 -- Assumes nothing.
 use Prim.Native.Nat.{ℕ, _+_, _≤_, _<_}
@@ -103,17 +104,22 @@ module _ (c : Command) {m : Said} (can : CanSay c m) (short : length (saidBytes 
   spelled-read : readReply c spelled ≡ meaning m
   spelled-read =
       reply-said c spelled
-      (reply-not-erra (text at 0) (text at 1) (text at 2) (text at 3) letters (classDigit (commandClass c)) (saidBytes m))
+      (reply-not-erra (text at 0) (text at 1) (text at 2) (text at 3) letters (classDigit (commandClass c))
+      (saidBytes m))
       (reply-form (text at 0) (text at 1) (text at 2) (text at 3) letters (commandClass c) (saidBytes m) short plain)
-      (ap (λ (s : List ℕ). isBody (commandClass c) s (bodyOf c)) (body-spelt (bodyOf c) .long) ∙ body-spelt (bodyOf c) .own)
+      (ap (λ (s : List ℕ). isBody (commandClass c) s (bodyOf c)) (body-spelt (bodyOf c) .long)
+      ∙ body-spelt (bodyOf c) .own)
       ∙ ap (λ (p : List ℕ). saying (readParameter c p))
-      (reply-parameter (text at 0) (text at 1) (text at 2) (text at 3) letters (classDigit (commandClass c)) (saidBytes m))
+      (reply-parameter (text at 0) (text at 1) (text at 2) (text at 3) letters (classDigit (commandClass c))
+      (saidBytes m))
       ∙ ap saying (parameter-reads-back can)
       ∙ ap {B = ReadAs} (λ (o : Outcome). record { outcome = o; said = m }) (can-mean can)
 
-  pub reply-read : readReply c (ascii "%" ++ (classDigit (commandClass c) ∷ text) ++ ascii "=" ++ saidBytes m ++ ascii "\r") ≡ meaning m
+  pub reply-read : readReply c (ascii "%" ++ (classDigit (commandClass c) ∷ text) ++ ascii "=" ++ saidBytes m
+      ++ ascii "\r") ≡ meaning m
   reply-read =
-      ap (λ (s : List ℕ). readReply c (ascii "%" ++ (classDigit (commandClass c) ∷ s) ++ ascii "=" ++ saidBytes m ++ ascii "\r"))
+      ap (λ (s : List ℕ). readReply c (ascii "%" ++ (classDigit (commandClass c) ∷ s) ++ ascii "=" ++ saidBytes m
+      ++ ascii "\r"))
       (sym (body-spelt (bodyOf c) .long))
       ∙ spelled-read
 
@@ -129,7 +135,8 @@ module _ (d : Device) (p : ℕ) (there : p < placesCount) (legal : isLegal d ≡
   abbrev answer : Answered
   answer = record {
     own = done (d .settings) (d .own) (Asks c);
-    reply = ascii "%" ++ (classDigit (commandClass c) ∷ bodyText (bodyOf c)) ++ ascii "=" ++ saidBytes told ++ ascii "\r";
+    reply = ascii "%" ++ (classDigit (commandClass c) ∷ bodyText (bodyOf c)) ++ ascii "=" ++ saidBytes told
+        ++ ascii "\r";
   }
 
   answer-read : readReply c (answer .reply) ≡ meaning told

@@ -32,7 +32,8 @@ use Rattle.stored.proofs.OneForm.{stored-again, forms-apart}
 use Rattle.demands.specs.Board.{ours, givenBy, bytesWritten}
 use Rattle.demands.specs.Calls.{Call, run}
 use Rattle.demands.specs.History.{Event, switched, aSecond, markSwitched, Stage, steady, towards, next, marksNext}
-use Rattle.demands.specs.History.{noStreams, history, marksAfter, burns, burningFrom, burning, stageAfter, lampWith}
+use Rattle.demands.specs.History.{noStreams, history, marksAfter, burns, burningFrom, burning, stageAfter}
+use Rattle.demands.specs.History.{lampWith}
 use Rattle.demands.specs.Demand3.{Beginning, loads, IsClass1, startMarks, Accepted, runOf, historyOf}
 use Rattle.demands.specs.BoardSwap.{LoadsAs, BoardSwap}
 use Rattle.demands.proofs.LentMemory.{over-front}
@@ -59,7 +60,8 @@ module _ (v w : Wanted) (warm : v .warm ≡ w .warm) (cool : v .cool ≡ w .cool
   next-alike (steady on) (markSwitched lamp mark) = refl
   next-alike (towards on n) (markSwitched lamp mark) = refl
 
-  burning-alike : (g : Stage) (ms : List Bool) (k : ℕ) (es : List Event) → burningFrom v g ms k es ≡ burningFrom w g ms k es
+  burning-alike : (g : Stage) (ms : List Bool) (k : ℕ) (es : List Event) → burningFrom v g ms k es
+      ≡ burningFrom w g ms k es
   unfolding burningFrom
   burning-alike g ms k [] = refl
   burning-alike g ms k (e ∷ es) =
@@ -120,7 +122,8 @@ module _ (b : Beginning) (w : Wanted) (cs es : List Call) (m : List ℕ) (place 
       let own = own-of-legal old legal in
       let long = marks-long (old .settings .«lamp_count») (old .own .enabled) (own .marks) in
       let many : length (marksStored old) ≡ length (w .lamps)
-      = length-take-le (old .settings .«lamp_count») (old .own .enabled) (omega (arith, long, own .lamps .inside)) ∙ count in
+      = length-take-le (old .settings .«lamp_count») (old .own .enabled) (omega (arith, long, own .lamps .inside))
+      ∙ count in
       ext-getD false _ _ (many ∙ sym (known .marks-long))
       (λ k inside.
       getD-take (old .settings .«lamp_count») (old .own .enabled) k false (omega (arith, many, count))

@@ -114,7 +114,8 @@ module _ {w : Wanted} {g : Stage} {ms : List Bool} {n : ℕ → ℕ} {stream : S
         let told = tells-on (d .settings) (d .own) (a .last p) more t in
         let here : goingOnAt stream p more p ≡ stream p ++ more = if-yes _ _ (eq-eqb p p refl) in
         rw (take-append-seam (r .reply) (drop (length (r .reply)) m))
-        (by-effect (goingOnAt stream p more) p (r .reply) (r .device) settings (λ q. going-on r others (told .last) q (eqb q p) refl)
+        (by-effect (goingOnAt stream p more) p (r .reply) (r .device) settings
+        (λ q. going-on r others (told .last) q (eqb q p) refl)
         (told .lamps) (told .marks)
         (subst (λ (k : List ℕ). StreamEffect (d .settings) (d .own) k (r .reply) (r .device .own)) (sym here)
         (told .effect)))

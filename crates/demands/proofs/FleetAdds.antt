@@ -1,5 +1,5 @@
--- Demand 3: the fleet's question (02, L8). While no lamp reaches the limit, the seconds that the lamps gained are, added
--- up, the seconds of burning, each counted once for each mark that stood.
+-- Demand 3: the fleet's question (02, L8). While no lamp reaches the limit, the seconds that the lamps gained are,
+-- added up, the seconds of burning, each counted once for each mark that stood.
 -- Assumes nothing.
 use Prim.Native.Nat.{ℕ, zero, suc, _+_, _-_, _≤_, _<_}
 use mathlib.Core.Path.{_≡_, refl, sym, ap, _∙_}
@@ -14,7 +14,8 @@ use Rattle.demands.specs.Board.{ours}
 use Rattle.demands.specs.Calls.{Call}
 use Rattle.demands.specs.History.{Event, switched, aSecond, markSwitched, Stage, steady, next, isBurning, burns}
 use Rattle.demands.specs.History.{burningFrom, burning}
-use Rattle.demands.specs.Demand3.{Beginning, startMarks, Accepted, runOf, historyOf, countSet, burntByMarks, sumOf}
+use Rattle.demands.specs.Demand3.{Beginning, startMarks, Accepted, runOf, historyOf, countSet, burntByMarks}
+use Rattle.demands.specs.Demand3.{sumOf}
 use Rattle.demands.proofs.HistoryTold.{history-told, marks-many}
 
 -- ---- sums
@@ -69,7 +70,8 @@ burnt-adds-up w g ms (switched wanted ∷ es) =
 burnt-adds-up w g ms (markSwitched lamp mark ∷ es) =
     sum-of-two (length ms) (λ k. 0) (λ k. burningFrom w (next w g (markSwitched lamp mark)) (set ms lamp mark) k es)
     ∙ (λ i. sum-none (length ms) i
-    + sumOf (sym (length-set ms lamp mark) i) (λ k. burningFrom w (next w g (markSwitched lamp mark)) (set ms lamp mark) k es))
+    + sumOf (sym (length-set ms lamp mark) i)
+    (λ k. burningFrom w (next w g (markSwitched lamp mark)) (set ms lamp mark) k es))
     ∙ ap (λ (c : ℕ). 0 + c) (burnt-adds-up w (next w g (markSwitched lamp mark)) (set ms lamp mark) es)
     ∙ omega arith
 

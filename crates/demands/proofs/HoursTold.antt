@@ -94,7 +94,8 @@ module _ (w : Wanted) (ms : List Bool) (es : List Event) {stream : Streams} {d :
       let line = is-between d p (between .there) (between .legal) (between .unmarked) (between .none-held) in
       let back = reads-back d p (between .there) (between .legal) line (Query Lamp) refl any-class (length m) enough
       (between .in-phase) in
-      let said = command-received d p (between .there) (length m) (between .legal) enough (between .unmarked) (between .none-held)
+      let said = command-received d p (between .there) (length m) (between .legal) enough (between .unmarked)
+      (between .none-held)
       (Query Lamp) refl any-class (between .in-phase) in
       let lamps = lamps-answered (d .settings) (d .own) (omega (arith, count)) ∙ ap lampsAre lamps-same in
       let seam = over-front (result .reply) m in

@@ -60,7 +60,8 @@ module _ (d : Device) (p : ℕ) (l m : List ℕ) (plain : noCr l ≡ true) (enou
       (short-answered short))
       (λ (long : commandMost < length l).
       result-answers d p bs m (swallowed (d .own)) (answerTo d l)
-      (overlong-line-received d p (between .there) (length m) legal enough unmarked none l plain (between .in-phase) long) count
+      (overlong-line-received d p (between .there) (length m) legal enough unmarked none l plain
+      (between .in-phase) long) count
       (long-swallowed long))
       (le-or-lt (length l) commandMost)
 
@@ -76,6 +77,7 @@ module _ (d : Device) (p : ℕ) (l m : List ℕ) (plain : noCr l ≡ true) (enou
         leading-digest-length (connectionAt d p .random) (passwordOf (d .settings)),
       ) in
       result-answers d p bs m tables (answerTo d l)
-      (led-line-received d p (between .there) (length m) (between .legal) enough (between .unmarked) (between .none-held) l plain
+      (led-line-received d p (between .there) (length m) (between .legal) enough (between .unmarked)
+      (between .none-held) l plain
       (between .in-phase) short)
       count (short-answered short)

@@ -1,6 +1,6 @@
 -- Demand 2: who never sends the matching digest has no say, over any calls, whoever makes them. Each place stands as
--- proofs/PlacesStand.antt says; and where that holds of every place, the device goes on beside another one that only the
--- passes and the host's calls reach: both have the same settings and own part at each moment.
+-- proofs/PlacesStand.antt says; and where that holds of every place, the device goes on beside another one that only
+-- the passes and the host's calls reach: both have the same settings and own part at each moment.
 --   Beside settings d e      the legal devices d and e have these settings, and the same own part
 -- Assumes nothing.
 use Prim.Native.Nat.{ℕ, _<_}

@@ -40,7 +40,8 @@ unfolding powerSet
 none-seen stream reply e = rw e
 
 -- whatever it is, it is one set or none
-pub one-or-none : (P : List Event → Type 0) (stream reply : List ℕ) → P [] → ((wanted : Bool) → P (switched wanted ∷ []))
+pub one-or-none : (P : List Event → Type 0) (stream reply : List ℕ) → P []
+    → ((wanted : Bool) → P (switched wanted ∷ []))
     → P (powerSet stream reply)
 unfolding powerSet
 one-or-none P stream reply none one =

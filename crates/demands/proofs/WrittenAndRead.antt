@@ -53,7 +53,8 @@ module _ (d : Device) (p : ℕ) (c : Command) (paper m : List ℕ) (writable : i
   on-memory : (w : WrittenAs) → (w .number ≡ 0) × TakenAndRead d p c (w .bytes) (received d p (w .bytes) (length m))
       → ReadBack ours d p c (wroteBy w paper) (ours .receive d p (bytesWritten (wroteBy w paper)) m)
   on-memory w (number, back) =
-      subst (λ (bs : List ℕ). ReadBack ours d p c (wroteBy w paper) (ours .receive d p bs m)) (sym (line-written w paper))
+      subst (λ (bs : List ℕ). ReadBack ours d p c (wroteBy w paper) (ours .receive d p bs m))
+      (sym (line-written w paper))
       (record {
         wrote = number;
         number = back .number;
@@ -123,6 +124,7 @@ greets-back d random m legal q there closed enough word =
     let cs = d .connections in
     let low : lowestShut cs ≤ q
     = ⊎-elim (λ (h : lowestShut cs ≤ q). h)
-    (λ (h : q < lowestShut cs). absurd (false≢true (sym (below-lowest cs q h) ∙ closed))) (le-or-lt (lowestShut cs) q) in
+    (λ (h : q < lowestShut cs). absurd (false≢true (sym (below-lowest cs q h) ∙ closed)))
+    (le-or-lt (lowestShut cs) q) in
     let back = greeted-back d random (length m) legal (omega arith) enough word in
     (back .number, ap readGreeting (over-front (openedBy d random (length m) .reply) m) ∙ back .heard)

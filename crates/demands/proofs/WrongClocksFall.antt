@@ -1,5 +1,5 @@
--- Demand 3: the boards of specs/WrongClocks.antt fall to what the demand says of two sessions of twenty seconds, where the
--- seconds stored and those burnt differ. (Nine of forty minutes would do as well: each second is computed.)
+-- Demand 3: the boards of specs/WrongClocks.antt fall to what the demand says of two sessions of twenty seconds, where
+-- the seconds stored and those burnt differ. (Nine of forty minutes would do as well: each second is computed.)
 -- Assumes nothing.
 use Prim.Native.Nat.{ℕ}
 use mathlib.Core.Path.{_≡_, refl}

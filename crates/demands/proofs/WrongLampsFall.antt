@@ -38,7 +38,8 @@ unfolding computing
 forgets-marks-falls h = let e : _≡_ {A = ℕ} 100 0 = told forgetsMarks h refl in absurd (omega arith)
 
 -- ours: the first burns, the second rests
-pub ours-rests : getD (runOf ours setsUp twoLamps oneRests .own .lamps) 0 0 ∷ getD (runOf ours setsUp twoLamps oneRests .own .lamps) 1 0 ∷ []
+pub ours-rests : getD (runOf ours setsUp twoLamps oneRests .own .lamps) 0 0 ∷ getD
+    (runOf ours setsUp twoLamps oneRests .own .lamps) 1 0 ∷ []
     ≡ 100 ∷ 0 ∷ []
 unfolding computing
 ours-rests = refl

@@ -14,9 +14,9 @@
 --   SameElsewhere B p d e          the device part, and every other place's connection, are the same
 --   Unheard B                      the request
 -- What holds at the end of every two such runs holds at every moment: what came before is two such runs.
--- So someone on the network without the password can do nothing to the projector but take up places: each for 30 seconds,
--- and for 30 more from a refused line on. Against that a host can close whoever stays silent (closing at a place is its
--- own call), or keep strangers off the network.
+-- So someone on the network without the password can do nothing to the projector but take up places: each for 30
+-- seconds, and for 30 more from a refused line on. Against that a host can close whoever stays silent (closing at a
+-- place is its own call), or keep strangers off the network.
 -- TO BELIEVE IT, believe, and nothing else: what a password is (`isSecured` of device/specs/Calls), when a first line
 -- matches (`NeverMatched` of Outsider), and here Board and Calls.
 -- Assumes nothing.

@@ -31,7 +31,13 @@ letIn d p = withPlace d (d .own) p (turned (connectionAt d p) opened)
 -- `PJLINK 0`, password or not
 abbrev openly : ℕ → Result Device → Result Device
 openly p r =
-    if eqb (r .number) 0 then record { number = 0; taken = 0; reply = greetingOpen; device = letIn (r .device) p } else r
+    if eqb (r .number) 0 then record {
+      number = 0;
+      taken = 0;
+      reply = greetingOpen;
+      device = letIn
+          (r .device) p;
+    } else r
 
 abbrev pub ignoresPassword : Board
 ignoresPassword =

@@ -32,7 +32,8 @@ use Rattle.device.specs.Receiving.{Ended, Taken, begunIn, isMatch, diges
 use Rattle.device.specs.Receiving.{refusedDigest, lineEnded, keepingLine, takenIn}
 use Rattle.device.specs.Calls.{Result, refusedBy, made, replyRoom, isNoPlace, acceptedTaken}
 use Rattle.device.specs.Calls.{receivingRows, openingRows, closingRows}
-use Rattle.device.specs.Calls.{received, isSecured, greeting, greeted, acceptedOpening, openedBy, placeTaken, closedBy}
+use Rattle.device.specs.Calls.{received, isSecured, greeting, greeted, acceptedOpening, openedBy, placeTaken}
+use Rattle.device.specs.Calls.{closedBy}
 
 abbrev pub takes : Device → ℕ → List ℕ → Taken
 takes d p bs = takenIn (d .settings) (d .own) (connectionAt d p) bs

@@ -164,7 +164,8 @@ received-tells d p bs room =
     let here = connectionAt d p in
     let held = lineText (here .line) in
     let Told : Result Device → Type 0 = λ r.
-    Tells (d .settings) (d .own) (held ++ take (r .taken) bs) (r .reply) (r .device .own) (connectionAt (r .device) p) in
+    Tells (d .settings) (d .own) (held ++ take (r .taken) bs) (r .reply) (r .device .own)
+    (connectionAt (r .device) p) in
     let nothing : Tells (d .settings) (d .own) (held ++ []) [] (d .own) here = record {
       effect = stays refl refl refl;
       lamps = refl;

@@ -1,5 +1,5 @@
--- Receiving changes nothing of the settings, the lamps and their marks, the fault mark and the error digits; opening and
--- closing change nothing but the connection; and each leaves every other place's connection as it was.
+-- Receiving changes nothing of the settings, the lamps and their marks, the fault mark and the error digits; opening
+-- and closing change nothing but the connection; and each leaves every other place's connection as it was.
 -- Assumes nothing.
 use Prim.Native.Nat.{ℕ}
 use mathlib.Core.Path.{_≡_, refl}
@@ -26,7 +26,8 @@ module _ (s : Settings) (o : Own) where
   pub answered-keeps : (l : List ℕ) → Keeps o (lineAnswer s o l .own)
   unfolding lineAnswer
   answered-keeps l =
-      if-all (λ (a : Answered). Keeps o (a .own)) (isCommandForm (s .«class_number») l) (done-keeps s o (lineAsks l)) (itself-kept o)
+      if-all (λ (a : Answered). Keeps o (a .own)) (isCommandForm (s .«class_number») l) (done-keeps s o (lineAsks l))
+      (itself-kept o)
 
   pub ended-keeps : (c : Connection) (l : Line) → Keeps o (lineEnded s o c l .own)
   ended-keeps c l =

@@ -1,5 +1,5 @@
-// The state of a replay after a line, with no copy of what the line cannot have changed: the settings and, as a log drives
-// one place only (02, L5), the other places, which age where they stand.
+// The state of a replay after a line, with no copy of what the line cannot have changed: the settings and, as a log
+// drives one place only (02, L5), the other places, which age where they stand.
 use crate::event::PLACE;
 use crate::replay::Floor;
 use clock::connections;

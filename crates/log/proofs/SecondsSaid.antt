@@ -29,7 +29,8 @@ seconds-within : (s : List ℕ) → Within (secondsSaid s)
 unfolding secondsSaid
 seconds-within s =
     if-by Within (leb 1 (length s) && leb (length s) 10 && every isDigit s && leb (decimalValue s) secondsMost)
-    (λ e. leb-true (decimalValue s) secondsMost (both-right (leb 1 (length s) && leb (length s) 10 && every isDigit s) _ e))
+    (λ e. leb-true (decimalValue s) secondsMost
+    (both-right (leb 1 (length s) && leb (length s) 10 && every isDigit s) _ e))
     (λ e. tt)
 
 random-within : (s : List ℕ) → Within (randomSaid s)

@@ -49,7 +49,8 @@ use Rattle.meaning.proofs.Cases.{Passes, meant-by}
 -- the inputs of a legal set-up
 module _ (s : Settings) (t : SettingsTold s) where
   pub inputs-number : length (inputsOf s) ≡ s .«input_count»
-  inputs-number = inputs-counted (pairsOf s) (s .«input_count») (kept-length inputRoom (isInputs (s .«class_number»)) _ _ (t .inputs))
+  inputs-number = inputs-counted (pairsOf s) (s .«input_count»)
+      (kept-length inputRoom (isInputs (s .«class_number»)) _ _ (t .inputs))
 
   pub listed-input : (k : ℕ) → k < s .«input_count» → isInput (getD (inputsOf s) k noInput) ≡ true
   listed-input k h =

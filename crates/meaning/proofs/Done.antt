@@ -28,7 +28,8 @@ use Rattle.record.proofs.OwnTold.{OwnTold, own-told, own-shown, frozen-told, vo
 use Rattle.record.proofs.OwnTold.{warming-left, cooling-left}
 use Rattle.meaning.specs.SetUpInputs.{placeOf, isListed}
 use Rattle.meaning.specs.Rules.{isOutOfParameter}
-use Rattle.meaning.specs.Meaning.{levelAfter, afterPower, afterMute, afterStep, requestAnswer, carriedOut, meant, done}
+use Rattle.meaning.specs.Meaning.{levelAfter, afterPower, afterMute, afterStep, requestAnswer, carriedOut, meant}
+use Rattle.meaning.specs.Meaning.{done}
 use Rattle.meaning.proofs.Cases.{decided-by, done-by}
 
 pub record Keeps (o k : Own) : Type 0 where
@@ -44,8 +45,10 @@ module _ (s : Settings) (o : Own) where
   power-keeps : (wanted : Bool) → Keeps o (afterPower s o wanted)
   unfolding afterPower
   power-keeps wanted =
-      if-all (Keeps o) (wanted && eqb (o .power) off) (record { lamps = refl; marks = refl; fault = refl; errors = refl })
-      (if-all (Keeps o) (not wanted && eqb (o .power) on) (record { lamps = refl; marks = refl; fault = refl; errors = refl })
+      if-all (Keeps o) (wanted && eqb (o .power) off)
+      (record { lamps = refl; marks = refl; fault = refl; errors = refl })
+      (if-all (Keeps o) (not wanted && eqb (o .power) on)
+      (record { lamps = refl; marks = refl; fault = refl; errors = refl })
       all-kept)
 
   mute-keeps : (half : Half) (wanted : Bool) → Keeps o (afterMute o half wanted)

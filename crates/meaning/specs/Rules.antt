@@ -72,7 +72,8 @@ isUntimely power (FreezeSet wanted) = not (eqb power on)
 isUntimely power (VolumeStep v up) = not (eqb power on)
 isUntimely power (NameQuery i) = false
 
--- 4. POWR set in warm-up or cooling; INPT and AVMT, set or query, unless on: ERR3. So for FREZ, SVOL and MVOL (02, L14).
+-- 4. POWR set in warm-up or cooling; INPT and AVMT, set or query, unless on: ERR3. So for FREZ, SVOL and MVOL (02,
+-- L14).
 abbrev pub isUnavailable : Own → Request → Bool
 isUnavailable o UnknownBody = false
 isUnavailable o (Unlisted b) = false

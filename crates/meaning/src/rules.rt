@@ -9,7 +9,8 @@ use record::own::ON;
 use record::types::Own;
 use record::types::Settings;
 ghost use mathlib.Core.Path.{_≡_};
-ghost use Rattle.meaning.specs.Rules.{isNoQuery, isUndefined, isUnlisted, isOutOfParameter, isFailure, isUntimely};
+ghost use Rattle.meaning.specs.Rules.{isNoQuery, isUndefined, isUnlisted, isOutOfParameter, isFailure};
+ghost use Rattle.meaning.specs.Rules.{isUntimely};
 ghost use Rattle.meaning.specs.Rules.{isUnavailable};
 
 fn is_no_query(c: Command) -> bool

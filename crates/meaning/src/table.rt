@@ -29,7 +29,8 @@ ghost use Rattle.answers.specs.Said.{powerIs, chosenIs, errorsAre, lampsAre, in
 ghost use Rattle.answers.specs.Carried.{textCarried, answerOf};
 ghost use Rattle.record.specs.Record.{blankName};
 ghost use Rattle.meaning.specs.SetUpInputs.{inputsOf};
-ghost use Rattle.meaning.specs.Meaning.{powerSaid, chosenOf, lampsSaid, lampsOf, textSaid, nameBytes, inputNameOf};
+ghost use Rattle.meaning.specs.Meaning.{powerSaid, chosenOf, lampsSaid, lampsOf, textSaid, nameBytes};
+ghost use Rattle.meaning.specs.Meaning.{inputNameOf};
 ghost use Rattle.meaning.specs.Meaning.{queried, tableAnswer};
 
 const HOUR: u32 = 3600;

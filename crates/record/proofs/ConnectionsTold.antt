@@ -59,7 +59,8 @@ module _ (cs : List Connection) where
 -- every place closed
 pub all-closed-legal : isConnections allClosed ≡ true
 all-closed-legal =
-    connections-shown allClosed refl (both closed-legal (both closed-legal (both closed-legal (both closed-legal refl))))
+    connections-shown allClosed refl
+    (both closed-legal (both closed-legal (both closed-legal (both closed-legal refl))))
 
 pub all-closed-at : (p : ℕ) → p < placesCount → getD allClosed p noConnection ≡ closed
 all-closed-at p there = replicated placesCount p there

@@ -117,5 +117,6 @@ module _ (ns s : List ℕ) where
       unfolding areNames
       all-names-passed e =
           (λ j. eqb (sym (parts-many ns s) j) count
-          && sym (p .rest ∙ ap (λ (l : List ℕ). ok && every isInputName (cutBy l (drop at s))) none-left ∙ no-more ok) j)
+          && sym (p .rest ∙ ap (λ (l : List ℕ). ok && every isInputName (cutBy l (drop at s))) none-left
+          ∙ no-more ok) j)
           ∙ ap (areNames count) (sym (names-matched ns s (total ∙ e)))

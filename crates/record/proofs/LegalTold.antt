@@ -18,7 +18,8 @@ module _ (d : Device) where
   module _ (h : isLegal d ≡ true) where
     device-part : (isSettings (d .settings) && isOwn (d .settings) (d .own)) ≡ true
     unfolding isLegal
-    device-part = both-left (isSettings (d .settings) && isOwn (d .settings) (d .own)) (isConnections (d .connections)) h
+    device-part = both-left (isSettings (d .settings) && isOwn (d .settings) (d .own))
+        (isConnections (d .connections)) h
 
     pub legal-settings : isSettings (d .settings) ≡ true
     legal-settings = both-left (isSettings (d .settings)) (isOwn (d .settings) (d .own)) device-part

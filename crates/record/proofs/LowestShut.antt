@@ -1,4 +1,5 @@
--- The lowest closed place (02, L5): the loop's law, and that what opening takes is closed, with no closed place below it.
+-- The lowest closed place (02, L5): the loop's law, and that what opening takes is closed, with no closed place below
+-- it.
 -- Assumes nothing.
 use Prim.Native.Nat.{ℕ, zero, suc, _+_, _≤_, _<_}
 use mathlib.Core.Path.{_≡_, refl, sym, ap, _∙_}

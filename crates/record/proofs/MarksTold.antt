@@ -1,4 +1,5 @@
--- What the enabled marks of a legal record tell, and how they are shown (02, L8): all set at a set-up, and one replaced.
+-- What the enabled marks of a legal record tell, and how they are shown (02, L8): all set at a set-up, and one
+-- replaced.
 -- Assumes nothing.
 use Prim.Native.Nat.{ℕ, zero, suc, _-_, _+_, _≤_, _<_}
 use mathlib.Core.Path.{_≡_, refl, sym, ap, _∙_}

@@ -18,7 +18,8 @@ use Rattle.record.specs.SetUp.{settingsInOrder, isSettingInRange, isInRa
 use Rattle.record.specs.OutOfRange.{settingPlace, firstFailing, firstOutOfRange, SettingHolds}
 use Rattle.record.specs.declared.out_of_range.Setting.{Setting}
 use Rattle.record.specs.declared.out_of_range.Setting.the-variants.{Name, Maker, Model, Other, Password, Inputs}
-use Rattle.record.specs.declared.out_of_range.Setting.the-variants.{Lamps, WarmUp, Cooling, Serial, Version, Names}
+use Rattle.record.specs.declared.out_of_range.Setting.the-variants.{Lamps, WarmUp, Cooling, Serial, Version}
+use Rattle.record.specs.declared.out_of_range.Setting.the-variants.{Names}
 use Rattle.record.specs.declared.out_of_range.MaybeSetting.{MaybeSetting}
 use Rattle.record.specs.declared.out_of_range.MaybeSetting.the-variants.{SettingIs, NoSetting}
 use Rattle.record.proofs.Calls.{set-up-ranged}

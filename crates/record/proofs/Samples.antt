@@ -1,5 +1,5 @@
--- Set-ups of 01's "Lines that settle it" and of its own examples, inputs, passwords and classes on both sides of 02's L11,
--- L9 and L14, and which setting was refused, computed.
+-- Set-ups of 01's "Lines that settle it" and of its own examples, inputs, passwords and classes on both sides of 02's
+-- L11, L9 and L14, and which setting was refused, computed.
 -- Assumes nothing.
 use Prim.Native.Nat.{ℕ}
 use Prim.Native.String.{String}

@@ -151,8 +151,10 @@ module _ (s : Settings) where
         lamps = leb-true (s .«lamp_count») lampsMost (both-right to-inputs (leb (s .«lamp_count») lampsMost) h7);
         warm = stretch-told (s .warm) (both-right to-lamps (isStretch (s .warm)) h8);
         cool = stretch-told (s .cool) (both-right to-warm (isStretch (s .cool)) h9);
-        serial = kept-told textRoom _ _ _ (both-left (info-in-2 (s .serial)) (info-in-2 (s .version)) (texts-of-2 rest));
-        version = kept-told textRoom _ _ _ (both-right (info-in-2 (s .serial)) (info-in-2 (s .version)) (texts-of-2 rest));
+        serial = kept-told textRoom _ _ _
+            (both-left (info-in-2 (s .serial)) (info-in-2 (s .version)) (texts-of-2 rest));
+        version = kept-told textRoom _ _ _
+            (both-right (info-in-2 (s .serial)) (info-in-2 (s .version)) (texts-of-2 rest));
         names = names-told _ _ (names-of-2 rest);
       }
 
@@ -185,7 +187,8 @@ module _ (s : Settings) (t : SettingsTold s) where
   input-of-class k l =
       (λ j. isInputText (s .«class_number») (sym (used (2 * k) (omega arith)) j)
       (sym (used (2 * k + 1) (omega arith)) j))
-      ∙ input-named (s .«class_number») (take (2 * s .«input_count») (s .inputs)) (t .inputs .follows) k (omega (arith, listed))
+      ∙ input-named (s .«class_number») (take (2 * s .«input_count») (s .inputs)) (t .inputs .follows) k
+      (omega (arith, listed))
 
   pub input-at : (k : ℕ) → k < s .«input_count» → isInputText 2 (s .inputs at (2 * k)) (s .inputs at (2 * k + 1)) ≡ true
   input-at k l =
@@ -193,10 +196,12 @@ module _ (s : Settings) (t : SettingsTold s) where
 
   -- what Class 2 alone has follows its rule in either class, since nothing does
   pub serial-told : isInfo (bytesOf (s .serial)) ≡ true
-  serial-told = text-wider (bytesOf (s .serial)) _ infoMost (only-in-2-within (s .«class_number») infoMost) (t .serial .follows)
+  serial-told = text-wider (bytesOf (s .serial)) _ infoMost (only-in-2-within (s .«class_number») infoMost)
+      (t .serial .follows)
 
   pub version-told : isInfo (bytesOf (s .version)) ≡ true
-  version-told = text-wider (bytesOf (s .version)) _ infoMost (only-in-2-within (s .«class_number») infoMost) (t .version .follows)
+  version-told = text-wider (bytesOf (s .version)) _ infoMost (only-in-2-within (s .«class_number») infoMost)
+      (t .version .follows)
 
   -- the name at any place, one of the list or not
   pub name-at : (k : ℕ) → NameKept (getD (s .names) k blankName)
@@ -205,6 +210,7 @@ module _ (s : Settings) (t : SettingsTold s) where
   pub inputs-apart : (j k : ℕ) → j < k → k < s .«input_count» → s .inputs at (2 * k) ≡ s .inputs at (2 * j)
       → s .inputs at (2 * k + 1) ≡ s .inputs at (2 * j + 1) → ⊥
   inputs-apart j k l m e f =
-      inputs-differ (s .«class_number») (take (2 * s .«input_count») (s .inputs)) (t .inputs .follows) j k l (omega (arith, listed))
+      inputs-differ (s .«class_number») (take (2 * s .«input_count») (s .inputs)) (t .inputs .follows) j k l
+      (omega (arith, listed))
       (used (2 * k) (omega arith) ∙ e ∙ sym (used (2 * j) (omega arith)))
       (used (2 * k + 1) (omega arith) ∙ f ∙ sym (used (2 * j + 1) (omega arith)))

@@ -12,7 +12,7 @@ use Rattle.record.specs.HostCalls.{faultSet, errorsSet, markSet}
 
 unfoldable pub computing : Unit {0}
 unfolding
-    lines isSetUpPassword eachPair isNone isInputs isLamps isMarks isErrors areNames inRoom namesKept closed allMarks started
-    blank isClear fillsRoom isNames isRestOf2 isSettings isLeft isOwn isAge heldMost isHeld isConnection isConnections isLegal isInRange
-    isSetUp setUp lowestShut faultSet errorsSet markSet
+    lines isSetUpPassword eachPair isNone isInputs isLamps isMarks isErrors areNames inRoom namesKept closed allMarks
+    started blank isClear fillsRoom isNames isRestOf2 isSettings isLeft isOwn isAge heldMost isHeld isConnection
+    isConnections isLegal isInRange isSetUp setUp lowestShut faultSet errorsSet markSet
 computing = tt

@@ -19,7 +19,8 @@ use Rattle.record.specs.Rules.{isLongEnough}
 use Rattle.record.specs.SetUp.{settingsInOrder, isSettingInRange}
 use Rattle.record.specs.declared.out_of_range.Setting.{Setting}
 use Rattle.record.specs.declared.out_of_range.Setting.the-variants.{Name, Maker, Model, Other, Password, Inputs}
-use Rattle.record.specs.declared.out_of_range.Setting.the-variants.{Lamps, WarmUp, Cooling, Serial, Version, Names}
+use Rattle.record.specs.declared.out_of_range.Setting.the-variants.{Lamps, WarmUp, Cooling, Serial, Version}
+use Rattle.record.specs.declared.out_of_range.Setting.the-variants.{Names}
 use Rattle.record.specs.declared.out_of_range.MaybeSetting.{MaybeSetting}
 use Rattle.record.specs.declared.out_of_range.MaybeSetting.the-variants.{SettingIs, NoSetting}
 

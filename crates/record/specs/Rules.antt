@@ -6,7 +6,8 @@
 --   isNewInput k a b s   the characters a b name an input of the class k, which none of the later ones s repeats
 --   eachNamed k s        s is pairs, each of which names an input of the class k
 --   inputPlace a b       the place of the input a b, at which the code marks it
---   isInputs k s         there is a class k (02, L14), and s are 1 to 32 inputs of it, two characters each, all different
+--   isInputs k s         there is a class k (02, L14), and s are 1 to 32 inputs of it, two characters each, all
+--                        different
 --   isLamp x             a lamp's seconds are at most the limit
 --   isLamps xs           0 to 8 lamps
 --   isMarks n ms         the enabled marks of n lamps (02, L8): none past them, and one at least where there are lamps

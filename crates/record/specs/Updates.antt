@@ -4,7 +4,8 @@
 --   withChosen o place          the place of the chosen input;    withMutes o video audio     both mutes
 --   withFault o mark            the fault mark;                   withErrors o digits         the error digits
 --   withSeconds o s             the lamps' seconds;               withMarks o ms              their marks (02, L8)
---   withFreeze o mark           the freeze mark (02, L14);        withVolumes o speaker microphone     both volumes (02, L14)
+--   withFreeze o mark           the freeze mark (02, L14)
+--   withVolumes o speaker microphone     both volumes (02, L14)
 --   aged c age, withLine c l    the connection at that age; with that line
 --   withOwn d o                 the device with that own part
 -- Assumes nothing.

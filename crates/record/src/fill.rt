@@ -96,8 +96,8 @@ pub fn mark_room(count: usize) -> [bool; LAMPS_MOST]
     list
 }
 
-// Off, both mutes off, the first input, no fault, error status 000000, and the lamps' starting seconds, each enabled, and both volumes
-// half way.
+// Off, both mutes off, the first input, no fault, error status 000000, and the lamps' starting seconds, each enabled,
+// and both volumes half way.
 pub fn start_own(lamps: &[u32]) -> Own
     requires { ⌜ length (now lamps) ≤ lampsMost ⌝ }
     ensures { λ r. ⌜ r ≡ startOwn (now (lamps .entry)) ⌝ }

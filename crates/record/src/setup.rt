@@ -71,8 +71,8 @@ fn refuse(number: u32) -> Changed
     Changed { number, device }
 }
 
-// Of either class: 0 and the started device, or the blank record, with 3 where a setting is out of its range, then with 8
-// where the password is too short.
+// Of either class: 0 and the started device, or the blank record, with 3 where a setting is out of its range, then with
+// 8 where the password is too short.
 pub fn set_up_in(
     class: u8,
     name: &[u8],

@@ -116,7 +116,8 @@ impl InputName {
     };
 }
 
-// All zero: off, both mutes off, the first input, no fault, error status 000000, no lamp enabled, not frozen, no volume.
+// All zero: off, both mutes off, the first input, no fault, error status 000000, no lamp enabled, not frozen, no
+// volume.
 impl Own {
     pub const BLANK: Own = Own {
         power: 0,

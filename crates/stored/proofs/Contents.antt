@@ -57,7 +57,8 @@ module _ (s : List ℕ) (p : Places) where
     settings-lent e f g =
         (λ i. wantedIn k (between 2 (p .maker) s) (between (p .maker + 1) (p .model) s)
         (between (p .model + 1) (p .other) s) (between (p .other + 1) (p .password) s)
-        (between (p .password + 1) (p .inputs) s) (between (p .inputs + 1) (p .lamps) s) (e i) (f i) (g i) serial version
+        (between (p .password + 1) (p .inputs) s) (between (p .inputs + 1) (p .lamps) s) (e i) (f i)
+        (g i) serial version
         names)
 
     -- inputs that are too many for a set-up, by their count

@@ -112,7 +112,8 @@ module _ (s : List ℕ) (k : ℕ) where
       let inputs = next-text (p .password) (r .password) (p .inputs) (r .inputs) (f .inputs) (g .inputs) password in
       let lamps = next 2 (p .inputs) (r .inputs) (p .lamps) (r .lamps) (f .lamps) (g .lamps) inputs in
       let marks = next 4 (p .lamps) (r .lamps) (p .marks) (r .marks) (f .marks) (g .marks) lamps in
-      let warm = next-marks (p .marks) (r .marks) (p .warm) (r .warm) (omega (arith, g .marks)) (f .warm) (g .warm) marks in
+      let warm = next-marks (p .marks) (r .marks) (p .warm) (r .warm) (omega (arith, g .marks)) (f .warm)
+      (g .warm) marks in
       let class : Reached (p .class) (r .class) =
       ⊎-elim (λ (e : p .warm ≡ r .warm). inl (omega (arith, f .class, g .class)))
       (λ (e : k < r .warm). inr (omega (arith, g .class))) warm in

@@ -129,4 +129,9 @@ module _ (d : Device) (h : isLegal d ≡ true) where
       + length (restPart d)
   stored-form-long =
       let l = stored-long in
-      omega (arith, form-long formVersion (marksSection (marksStored d)) (restPart d) (storedOf d), length-map (marksStored d) markByte)
+      omega (
+        arith,
+        form-long formVersion (marksSection (marksStored d)) (restPart d) (storedOf d),
+        length-map
+            (marksStored d) markByte,
+      )

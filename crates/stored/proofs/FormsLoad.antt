@@ -1,6 +1,6 @@
--- What was stored loads (02, L3, L8 and L14): the form of settings that set-up takes, with marks of their lamps, is loaded
--- as their set-up with these marks; version 2's too, of settings of Class 1; version 1's as their set-up, in which each
--- lamp is enabled; what follows a form is left over.
+-- What was stored loads (02, L3, L8 and L14): the form of settings that set-up takes, with marks of their lamps, is
+-- loaded as their set-up with these marks; version 2's too, of settings of Class 1; version 1's as their set-up, in
+-- which each lamp is enabled; what follows a form is left over.
 -- Assumes nothing.
 use Prim.Native.Nat.{ℕ, _+_}
 use mathlib.Core.Path.{_≡_, refl, sym, ap, subst, _∙_}
@@ -20,7 +20,8 @@ use Rattle.record.proofs.Calls.{set-up-accepted}
 use Rattle.stored.specs.Form.{formVersion, markedVersion, oldVersion, markByte, marksSection, formWith}
 use Rattle.stored.specs.Form.{formOf, markedFormOf, oldFormOf}
 use Rattle.stored.specs.Loading.{isOld, isOtherVersion, placesOf, formEnd, between, settingsIn}
-use Rattle.stored.specs.Loading.{markBytesIn, isMarkByte, isMarked, marksRead, isMarksOf, areMarks, startedWith, loaded}
+use Rattle.stored.specs.Loading.{markBytesIn, isMarkByte, isMarked, marksRead, isMarksOf, areMarks, startedWith}
+use Rattle.stored.specs.Loading.{loaded}
 use Rattle.stored.proofs.MarkBytes.{marks-back, marks-are-bytes}
 use Rattle.stored.proofs.Sections.{items-read}
 use Rattle.stored.proofs.Contents.{new-bytes, old-are-marks, old-started}

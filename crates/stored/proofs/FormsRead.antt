@@ -1,5 +1,5 @@
--- A form is read back (02, L3, L8 and L14), of each version: by its counts it ends where it ends, whatever follows it, and
--- has the settings of which it is the form, and its marks.
+-- A form is read back (02, L3, L8 and L14), of each version: by its counts it ends where it ends, whatever follows it,
+-- and has the settings of which it is the form, and its marks.
 -- Assumes nothing.
 use Prim.Native.Nat.{ℕ, _+_, _*_, _/_, _≤_}
 use mathlib.Core.Path.{_≡_, refl, sym, ap, _∙_}
@@ -88,7 +88,8 @@ module _ (v : ℕ) (marks rest : List ℕ) (has : HasMarks v marks) (w : Wanted)
   whole =
       in-turn v (textSection (w .name)) (textSection (w .maker)) (textSection (w .model))
       (textSection (w .other)) (textSection (w .password)) (section (length (w .inputs) / 2) (w .inputs))
-      (section (length (w .lamps)) (secondsBytes (w .lamps))) marks (highestFirst 2 (w .warm)) (highestFirst 2 (w .cool))
+      (section (length (w .lamps)) (secondsBytes (w .lamps))) marks (highestFirst 2 (w .warm))
+      (highestFirst 2 (w .cool))
       rest more
 
   at-name : drop 1 s ≡ length (w .name) ∷ (w .name ++ from-maker)

@@ -1,6 +1,7 @@
--- Texts that were read, without their counts (02, L14): their lengths and their bytes as loops copy them, and as set-up is
--- lent them.
---   LengthsRead s p m list place i      the loop that copies the lengths of the texts of s from the place p on has come to i
+-- Texts that were read, without their counts (02, L14): their lengths and their bytes as loops copy them, and as set-up
+-- is lent them.
+--   LengthsRead s p m list place i      the loop that copies the lengths of the texts of s from the place p on has come
+--                                       to i
 --   BytesRead s p m list place to i     the loop that copies their bytes
 -- Assumes nothing.
 use Prim.Native.Nat.{ℕ, suc, _+_, _-_, _≤_, _<_}
@@ -51,7 +52,8 @@ bytes-long [] = refl
 bytes-long (t ∷ ts) =
     omega (arith, bytes-long ts, length-append t (textsBytes ts), length-append t (joinedTexts ts))
 
-pub joined-long : (n : ℕ) (t : List ℕ) → textsLong n t ≤ length t → length (joinedTexts (textsIn n t)) + n ≡ textsLong n t
+pub joined-long : (n : ℕ) (t : List ℕ) → textsLong n t ≤ length t → length (joinedTexts (textsIn n t)) + n
+    ≡ textsLong n t
 joined-long n t l =
     omega (
       arith,
@@ -118,7 +120,8 @@ module _ (s : List ℕ) (p : ℕ) where
     pub next-text : take (s at (p + textsLong i t)) (drop (p + textsLong i t + 1) s) ≡ textAt t (textsLong i t)
     next-text =
         let far : p + (textsLong i t + 1) ≡ p + textsLong i t + 1 = omega arith in
-        (λ j. take (sym next-count j) ((ap (λ (k : ℕ). drop k s) (sym far) ∙ sym (drop-drop (textsLong i t + 1) p s)) j))
+        (λ j. take (sym next-count j)
+        ((ap (λ (k : ℕ). drop k s) (sym far) ∙ sym (drop-drop (textsLong i t + 1) p s)) j))
 
     pub next-long : length (textAt t (textsLong i t)) ≡ s at (p + textsLong i t)
     next-long =
@@ -137,12 +140,14 @@ module _ (s : List ℕ) (p : ℕ) where
       stored = ap (λ (l : List (List ℕ)). sets (zeros m) 0 (map length l)) (sym (no-texts-in t));
     }
 
-    module _ (n : ℕ) (uncut : p + textsLong n t ≤ length s) {list : List ℕ} {place i : ℕ} (r : LengthsRead list place i) where
+    module _ (n : ℕ) (uncut : p + textsLong n t ≤ length s) {list : List ℕ} {place i : ℕ}
+        (r : LengthsRead list place i) where
       pub one-length-read : {c : ℕ} → i < n → c ≡ s at place → LengthsRead (set list i c) (place + 1 + c) (i + 1)
       one-length-read {c} more e =
           let found : c ≡ s at (p + textsLong i t) = e ∙ ap (λ (k : ℕ). s at k) (r .here) in
           let long = next-long n i more uncut in
-          let many : i ≡ 0 + length (map length (textsIn i t)) = omega (arith, length-map (textsIn i t) length, texts-many i t) in
+          let many : i ≡ 0 + length (map length (textsIn i t)) = omega
+          (arith, length-map (textsIn i t) length, texts-many i t) in
           record {
             here = omega (arith, found, r .here, texts-long-more i t, next-count n i more uncut);
             stored =
@@ -171,7 +176,8 @@ module _ (s : List ℕ) (p : ℕ) where
       stored = ap (λ (l : List (List ℕ)). sets (zeros m) 0 (joinedTexts l)) (sym (no-texts-in t));
     }
 
-    module _ (n : ℕ) (uncut : p + textsLong n t ≤ length s) {list : List ℕ} {place to i : ℕ} (r : BytesRead list place to i)
+    module _ (n : ℕ) (uncut : p + textsLong n t ≤ length s) {list : List ℕ} {place to i : ℕ}
+        (r : BytesRead list place to i)
       where
         joined-more : joinedTexts (textsIn (i + 1) t) ≡ joinedTexts (textsIn i t) ++ textAt t (textsLong i t)
         joined-more =
@@ -217,7 +223,8 @@ module _ (s : List ℕ) (p : ℕ) where
                   ∙ ap (sets (zeros m) 0) (sym joined-more);
             }
 
-        pub all-bytes-read : i ≡ n → length (joinedTexts (textsIn n t)) ≤ m → list ≡ inRoom m (joinedTexts (textsIn n t))
+        pub all-bytes-read : i ≡ n → length (joinedTexts (textsIn n t)) ≤ m → list
+            ≡ inRoom m (joinedTexts (textsIn n t))
         all-bytes-read e few =
             r .stored
             ∙ ap (λ (k : ℕ). sets (zeros m) 0 (joinedTexts (textsIn k t))) e

@@ -125,7 +125,8 @@ module _ (lent : List ℕ) (p : ℕ) (names : List InputName) where
 
   pub one-name-put : (d : InputName) {out m : List ℕ} {here q i n : ℕ} → Wrote lent p out here (first names i)
       → i < length names → length (nameStored (getD names i d)) ≡ n
-      → m ≡ sets out here (textSection (nameStored (getD names i d))) → q ≡ here + 1 + n → Wrote lent p m q (first names (i + 1))
+      → m ≡ sets out here (textSection (nameStored (getD names i d))) → q ≡ here + 1 + n
+      → Wrote lent p m q (first names (i + 1))
   one-name-put d {out} {m} {here} {q} {i} w l many e f =
       let one = textSection (nameStored (getD names i d)) in
       let next : Wrote lent p m q (first names i ++ one) = wrote-then lent p w one e (omega arith) in

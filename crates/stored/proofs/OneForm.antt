@@ -1,6 +1,6 @@
--- Each version has one form (02, L3, L8 and L14): bytes that load are their version's form of what they load. So those of the
--- newest, stored again, are the same bytes; those of the old one become the newest form of the same, each lamp enabled;
--- and no two byte strings of one version load as one record.
+-- Each version has one form (02, L3, L8 and L14): bytes that load are their version's form of what they load. So those
+-- of the newest, stored again, are the same bytes; those of the old one become the newest form of the same, each lamp
+-- enabled; and no two byte strings of one version load as one record.
 -- Assumes nothing.
 use Prim.Native.Nat.{ℕ}
 use mathlib.Core.Path.{_≡_, sym, ap, _∙_}
@@ -14,7 +14,8 @@ use Rattle.record.specs.declared.types.Device.{Device}
 use Rattle.record.specs.declared.types.Changed.{Changed}
 use Rattle.stored.specs.Form.{formVersion, oldVersion, formOf, oldFormOf, versionForm, storedOf, marksStored}
 use Rattle.stored.specs.Form.{storedForm}
-use Rattle.stored.specs.Loading.{isOld, hasClass, settingsIn, markBytesIn, isMarked, marksRead, startedWith, loaded}
+use Rattle.stored.specs.Loading.{isOld, hasClass, settingsIn, markBytesIn, isMarked, marksRead, startedWith}
+use Rattle.stored.specs.Loading.{loaded}
 use Rattle.stored.proofs.MarkBytes.{marks-told}
 use Rattle.stored.proofs.Contents.{old-marks}
 use Rattle.stored.proofs.Results.{Accepted, accepted-told, accepted-set-up}

@@ -131,7 +131,8 @@ module _ (s : List ℕ) where
   accepted-legal e =
       let told = accepted-told e in
       ap (λ (c : Changed). isLegal (c .device)) (accepted-set-up e)
-      ∙ started-with-legal (settingsIn s) (marksRead s) (told .contents) (marks-told _ (markBytesIn s) (told .marks) .legal)
+      ∙ started-with-legal (settingsIn s) (marksRead s) (told .contents)
+      (marks-told _ (markBytesIn s) (told .marks) .legal)
 
   pub one-loading : {r q : Changed} → r ≡ loaded s → q ≡ loaded s → r ≡ q
   one-loading e f = one-result e f

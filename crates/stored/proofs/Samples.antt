@@ -67,7 +67,8 @@ printed-loaded = refl
 abbrev classRoom : Wanted
 classRoom =
     wantedOf2 (cuttingRoom .name) (cuttingRoom .maker) [] (cuttingRoom .other) (cuttingRoom .password)
-    (cuttingRoom .inputs) (cuttingRoom .lamps) 20 600 (ascii "S-7") (ascii "1.0") (ascii "Desk" ∷ ascii "Cast" ∷ [] ∷ [])
+    (cuttingRoom .inputs) (cuttingRoom .lamps) 20 600 (ascii "S-7") (ascii "1.0")
+    (ascii "Desk" ∷ ascii "Cast" ∷ [] ∷ [])
 
 abbrev classPrinted : List ℕ
 classPrinted =
@@ -125,8 +126,8 @@ pub each-refused : map numberOn
 unfolding computing record-computing
 each-refused = refl
 
--- the class: none, another one, with and without texts after it; in Class 2 cut in a text and before the last, left over,
--- one name too few and one too many
+-- the class: none, another one, with and without texts after it; in Class 2 cut in a text and before the last, left
+-- over, one name too few and one too many
 pub each-class : map numberOn
     ((hex "03" ++ untilClass) ∷ (hex "03" ++ untilClass ++ hex "00") ∷ (hex "03" ++ untilClass ++ hex "0700")
     ∷ (hex "03" ++ untilClass ++ hex "02") ∷ take 70 classPrinted ∷ take 73 classPrinted ∷ (classPrinted ++ hex "00")

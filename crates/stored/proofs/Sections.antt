@@ -35,7 +35,8 @@ module _ (s : List ℕ) (p : ℕ) (n : ℕ) (items rest : List ℕ) (h : drop p 
         ∙ drop-append-seam items rest
 
 -- a text between two places, and what is left after it
-module _ (s : List ℕ) (p r : ℕ) (t rest : List ℕ) (h : drop p s ≡ length t ∷ (t ++ rest)) (e : r ≡ p + 1 + (s at p)) where
+module _ (s : List ℕ) (p r : ℕ) (t rest : List ℕ) (h : drop p s ≡ length t ∷ (t ++ rest))
+    (e : r ≡ p + 1 + (s at p)) where
   text-end : r ≡ p + 1 + length t
   text-end = e ∙ ap (λ (n : ℕ). p + 1 + n) (count-read s p (length t) t rest h)
 

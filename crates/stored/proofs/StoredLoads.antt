@@ -1,6 +1,6 @@
 -- A board swap (02, L3 and L8): what a legal record stores loads as the fresh set-up of its settings and of its lamps'
--- seconds as they are, each lamp with its mark, with the number 0. What is stored of a fresh set-up is what it was set up
--- with.
+-- seconds as they are, each lamp with its mark, with the number 0. What is stored of a fresh set-up is what it was set
+-- up with.
 -- Assumes nothing.
 use Prim.Native.Nat.{ℕ, _/_, _≤_}
 use mathlib.Core.Path.{_≡_, refl, sym, ap, _∙_}
@@ -61,7 +61,8 @@ module _ (d : Device) (h : isLegal d ≡ true) where
       let told = settings-of-legal d h in
       let n = onlyIn2 (d .settings .«class_number») (d .settings .«input_count») in
       let few = only-in-2-within (d .settings .«class_number») (d .settings .«input_count») in
-      let count : length (storedOf d .inputs) / 2 ≡ d .settings .«input_count» = omega (arith, stored-long d h .inputs) in
+      let count : length (storedOf d .inputs) / 2
+      ≡ d .settings .«input_count» = omega (arith, stored-long d h .inputs) in
       let many : length (take n (d .settings .names)) ≡ n =
       length-take-le n (d .settings .names)
       (omega (arith, few, told .names .long, input-count-high (d .settings) told)) in
@@ -120,7 +121,8 @@ module _ (w : Wanted) (ok : isSetUp w ≡ true) where
   each-name : (ns : List (List ℕ)) → every isInputName ns ≡ true → map nameStored (map nameOf ns) ≡ ns
   each-name [] e = refl
   each-name (t ∷ ts) e =
-      (λ i. filled-take inputNameMost isInputName t (input-name-long t (both-left (isInputName t) (every isInputName ts) e)) i
+      (λ i. filled-take inputNameMost isInputName t
+      (input-name-long t (both-left (isInputName t) (every isInputName ts) e)) i
       ∷ each-name ts (both-right (isInputName t) (every isInputName ts) e) i)
 
   names-stored : map nameStored (take (onlyIn2 (w .class) (length (w .inputs) / 2)) (namesKept (w .names))) ≡ w .names

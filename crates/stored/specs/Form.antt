@@ -1,8 +1,8 @@
--- The stored form (02, L3): "the version byte .., then sections in a fixed order, each after its count (of bytes, inputs
--- or lamps) in one byte: name, maker, model, other, password, inputs (two ASCII digits each), lamps (seconds as four
--- bytes); last W and C as two bytes each; all highest first". Version 2 has "a section of marks, one byte 0 or 1 each,
--- after the lamps .. Each version has one form; the newest is written" (02, L8). Version 3 has the class after C in one
--- byte, and in Class 2 a serial number, a version and a name for each input, each after its count (02, L14).
+-- The stored form (02, L3): "the version byte .., then sections in a fixed order, each after its count (of bytes,
+-- inputs or lamps) in one byte: name, maker, model, other, password, inputs (two ASCII digits each), lamps (seconds as
+-- four bytes); last W and C as two bytes each; all highest first". Version 2 has "a section of marks, one byte 0 or 1
+-- each, after the lamps .. Each version has one form; the newest is written" (02, L8). Version 3 has the class after C
+-- in one byte, and in Class 2 a serial number, a version and a name for each input, each after its count (02, L14).
 --   formVersion               the version byte of the newest form. Still loaded: markedVersion, which has marks and no
 --                             class; oldVersion, which has neither
 --   highestFirst n x          the number x in n bytes
@@ -14,7 +14,8 @@
 --   textsBytes ts             texts, each after its count
 --   textsOf2 w                the texts of the settings w that Class 2 alone has
 --   classPart k ts            the class k, and these texts in Class 2
---   formWith v marks rest w   a form of the settings w: of the version v, which has these bytes after the lamps, these after C
+--   formWith v marks rest w   a form of the settings w: of the version v, which has these bytes after the lamps, these
+--                             after C
 --   formOf w ms               the newest form: of the settings w, the lamps with the marks ms
 --   markedFormOf w ms         version 2's form of the settings w of Class 1;    oldFormOf w    version 1's
 --   versionForm v w ms        the form of the version v

@@ -10,7 +10,8 @@
 --   marksLong s p             how long the section of marks is whose count stands at p: the old version has none
 --   placesOf s                where each section's count stands, by the counts before it; then W; then what follows C
 --   textsLong n t             how long the first n texts in t are, each after its count;    textsIn n t    these texts
---   joinedTexts ts            the texts without their counts, one after the other; the code has room for joinedMost bytes
+--   joinedTexts ts            the texts without their counts, one after the other; the code has room for joinedMost
+--                             bytes
 --   classIn s t               the class, where t is what follows C
 --   manyTexts k n             how many texts follow the class k, if there are n inputs
 --   restLong s n t            how long the class is with its texts;    textsAfter s n t    these texts

@@ -4,7 +4,8 @@ ghost use mathlib.Core.Path.{_≡_};
 ghost use Prim.Native.Nat.{_+_, _*_, _≤_};
 ghost use lib.ListN.{length, drop};
 ghost use Rattle.lines.specs.Bytes.{_at_};
-ghost use Rattle.stored.specs.Loading.{isOld, hasClass, marksLong, placesOf, classIn, manyTexts, textsLong, restLong};
+ghost use Rattle.stored.specs.Loading.{isOld, hasClass, marksLong, placesOf, classIn, manyTexts, textsLong};
+ghost use Rattle.stored.specs.Loading.{restLong};
 
 // The newest, which is written: it has a class (02, L14).
 pub const VERSION: u8 = 3;

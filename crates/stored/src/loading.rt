@@ -151,7 +151,8 @@ fn bytes_at(s: &[u8], p: usize, n: usize) -> [u8; JOINED_MOST]
 // Set-up of Class 2: the texts stand after the class, the names last. Names that are too many are not copied.
 fn set_up_2_at(s: &[u8], p: Places) -> Changed
     requires { ⌜ Walked (now s) p ⌝ }
-    requires { ⌜ p .class + 1 + textsLong (2 + (now s at (p .inputs))) (drop (p .class + 1) (now s)) ≤ length (now s) ⌝ }
+    requires { ⌜ p .class + 1 + textsLong (2 + (now s at (p .inputs))) (drop (p .class + 1) (now s))
+        ≤ length (now s) ⌝ }
     requires { ⌜ p .class ≤ 65535 ⌝ }
     ensures { λ r. ⌜ r ≡ setUp (settingsBy (now (s .entry)) p 2 (textsIn (2 + (now (s .entry) at (p .inputs)))
         (drop (p .class + 1) (now (s .entry))))) ⌝ }

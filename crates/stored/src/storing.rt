@@ -19,7 +19,8 @@ ghost use Rattle.lines.specs.Texts.{inputNameMost};
 ghost use Rattle.record.specs.Limits.{textRoom, listedMost, lampsMost, onlyIn2};
 ghost use Rattle.record.specs.Legal.{isNames, isSettings, isLegal};
 ghost use Rattle.stored.specs.Form.{formVersion, highestFirst, section, textSection, secondsBytes, textStored};
-ghost use Rattle.stored.specs.Form.{markByte, textsBytes, classPart, nameStored, storedForm, storedBy, toldStored};
+ghost use Rattle.stored.specs.Form.{markByte, textsBytes, classPart, nameStored, storedForm, storedBy};
+ghost use Rattle.stored.specs.Form.{toldStored};
 
 #[repr(C)]
 pub struct FormWritten {

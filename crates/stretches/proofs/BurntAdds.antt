@@ -79,7 +79,8 @@ module _ (k : ℕ) where
       let told = ap lengthsOf (told-more k s e es) in
       let rest = adds es t kept (longer (isBurningIn (s .device) && not (isBurningIn d))) in
       let here = now (isBurningIn (s .device)) (isBurningIn d) kept in
-      let all = lengths-append (stretchIf (isBurningIn (s .device) && not (isBurningIn d) && isMarkedIn d k && ltb (t .from) (t .time))
+      let all = lengths-append
+      (stretchIf (isBurningIn (s .device) && not (isBurningIn d) && isMarkedIn d k && ltb (t .from) (t .time))
       (t .from) (t .time)) (toldOf k t es) in
       omega arith
     where

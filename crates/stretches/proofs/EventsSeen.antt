@@ -27,8 +27,10 @@ use Rattle.floor.specs.Playing.{logPlace}
 use Rattle.floor.proofs.LogOpenings.{log-opened-again, log-opened-closed}
 use Rattle.demands.specs.Board.{ours, reply, lentBy}
 use Rattle.demands.specs.Calls.{Call, after}
-use Rattle.demands.specs.Calls.{opens as opensAt, receives as receivesAt, passes as passesBy, closes as closesAt, enables}
-use Rattle.demands.specs.History.{Event, switched, aSecond, markSwitched, Streams, seen, Stage, steady, towards, powerSet}
+use Rattle.demands.specs.Calls.{opens as opensAt, receives as receivesAt, passes as passesBy, closes as closesAt}
+use Rattle.demands.specs.Calls.{enables}
+use Rattle.demands.specs.History.{Event, switched, aSecond, markSwitched, Streams, seen, Stage, steady, towards}
+use Rattle.demands.specs.History.{powerSet}
 use Rattle.demands.proofs.Agrees.{powerOf, Agrees}
 use Rattle.demands.proofs.PowerSetsSeen.{one-or-none}
 use Rattle.watch.specs.Marking.{FloorEvent, logged, marked, doneBy, secondsBy}
@@ -76,19 +78,23 @@ is-off (towards false n) e = absurd (omega arith)
 
 module _ {w : Wanted} {g : Stage} {ms : List Bool} {n : ℕ → ℕ} {stream : Streams} {d : Device}
     (a : Agrees w g ms n stream d) (legal : isLegal d ≡ true) where
-  pub sees : (e : FloorEvent) (c : Call) → callsBy d e ≡ c ∷ [] → (now : Streams) → Seen g (secondsBy e) (seen ours d now c)
+  pub sees : (e : FloorEvent) (c : Call) → callsBy d e ≡ c ∷ [] → (now : Streams)
+      → Seen g (secondsBy e) (seen ours d now c)
   sees (logged (opens r)) c e now = by (isShut (connectionAt d logPlace)) e
     where
       by : (t : Bool) → (if t then opensAt r roomLent ∷ [] else []) ≡ c ∷ [] → Seen g 0 (seen ours d now c)
-      by true q = let same : opensAt r roomLent ≡ c = cc in subst (λ (x : Call). Seen g 0 (seen ours d now x)) same (nothing refl)
+      by true q = let same : opensAt r roomLent ≡ c = cc in subst (λ (x : Call). Seen g 0 (seen ours d now x)) same
+          (nothing refl)
       by false q = let z : _≡_ {A = ℕ} 0 1 = cc in absurd (omega arith)
   sees (logged (receives bs)) c e now =
       let same : receivesAt logPlace bs roomLent ≡ c = cc in
       subst (λ (x : Call). Seen g 0 (seen ours d now x)) same
       (by (eqb (received d logPlace bs (length roomLent) .number) 0))
     where
-      by : (t : Bool) → Seen g 0 (if t then powerSet (now logPlace) (reply (ours .receive d logPlace bs roomLent)) else [])
-      by true = one-or-none (Seen g 0) (now logPlace) (reply (ours .receive d logPlace bs roomLent)) (nothing refl) (λ wanted. power wanted refl)
+      by : (t : Bool) → Seen g 0
+          (if t then powerSet (now logPlace) (reply (ours .receive d logPlace bs roomLent)) else [])
+      by true = one-or-none (Seen g 0) (now logPlace) (reply (ours .receive d logPlace bs roomLent)) (nothing refl)
+          (λ wanted. power wanted refl)
       by false = nothing refl
   sees (logged (passes k)) c e now =
       let same : passesBy k ≡ c = cc in

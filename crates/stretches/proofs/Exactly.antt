@@ -62,7 +62,8 @@ pub from-exactly : (ls : List Bool) (lit : Bool) (f t i : ℕ) → f ≤ t
     → isIn (stretchesFrom lit f t ls) i ≡ litAt lit f t ls i
 unfolding stretchesFrom
 from-exactly [] lit f t i h = begun-in lit f t i
-from-exactly (true ∷ ls) lit f t i h = from-exactly ls true (if lit then f else t) (suc t) i (early lit) ∙ by lit (side i t)
+from-exactly (true ∷ ls) lit f t i h = from-exactly ls true (if lit then f else t) (suc t) i (early lit)
+    ∙ by lit (side i t)
   where
     early : (l : Bool) → (if l then f else t) ≤ suc t
     early true = omega arith

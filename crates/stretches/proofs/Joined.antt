@@ -16,7 +16,8 @@ use Rattle.text.specs.Words.{if_then_else_}
 use Rattle.text.proofs.Choices.{if-all}
 use Rattle.text.proofs.Orders.{le-or-lt}
 use Rattle.record.specs.Wanted.{Wanted}
-use Rattle.demands.specs.History.{Event, switched, aSecond, markSwitched, Stage, steady, towards, next, marksNext, isBurning, reached}
+use Rattle.demands.specs.History.{Event, switched, aSecond, markSwitched, Stage, steady, towards, next, marksNext}
+use Rattle.demands.specs.History.{isBurning, reached}
 use Rattle.demands.proofs.HistorySpelt.{reached-none, reached-more}
 use Rattle.stretches.specs.Stretches.{Stretch, stretchIf, stretchesFrom, isLitThen, secondsLitFrom}
 

@@ -20,9 +20,11 @@ use Rattle.stored.specs.Form.{formOf, markedFormOf, oldFormOf}
 use Rattle.stored.proofs.Results.{accepted-legal}
 use Rattle.demands.specs.Board.{ours}
 use Rattle.demands.specs.Calls.{Call, after}
-use Rattle.demands.specs.History.{Event, switched, aSecond, markSwitched, Streams, noStreams, streamsAfter, seen, history}
+use Rattle.demands.specs.History.{Event, switched, aSecond, markSwitched, Streams, noStreams, streamsAfter, seen}
+use Rattle.demands.specs.History.{history}
 use Rattle.demands.specs.History.{Stage, steady, towards, next, isBurning, reached, marksAfter}
-use Rattle.demands.specs.Demand3.{Beginning, setsUp, loads, loadsMarked, loadsOld, startMarks, begunBy, Accepted, historyOf}
+use Rattle.demands.specs.Demand3.{Beginning, setsUp, loads, loadsMarked, loadsOld, startMarks, begunBy, Accepted}
+use Rattle.demands.specs.Demand3.{historyOf}
 use Rattle.demands.proofs.HistorySpelt.{history-none, history-more, marks-none, marks-more, reached-none, reached-more}
 use Rattle.demands.proofs.Agrees.{Agrees, lit-shown}
 use Rattle.demands.proofs.AgreesThen.{Then, agrees-none}
@@ -35,7 +37,8 @@ use Rattle.watch.proofs.LinesDone.{done-legal}
 use Rattle.stretches.specs.Stretches.{Stretch, stretchIf, stretchesFrom, stretchesOf, isLitThen, secondsLitFrom}
 use Rattle.stretches.specs.Stretches.{secondsLit, StretchesTell}
 use Rattle.stretches.specs.LogTold.{callsBy, callsOf, isMarkedIn, toldOf}
-use Rattle.stretches.proofs.Joined.{joined, since-none, some-seconds, ends-here, cooling-dim, seconds-burn, lit-by}
+use Rattle.stretches.proofs.Joined.{joined, since-none, some-seconds, ends-here, cooling-dim, seconds-burn}
+use Rattle.stretches.proofs.Joined.{lit-by}
 use Rattle.stretches.proofs.Joined.{lit-seconds}
 use Rattle.stretches.proofs.EventsSeen.{Makes, no-call, one-call, makes, Seen, nothing, time, power, mark, sees}
 use Rattle.stretches.proofs.Told.{stretches-tell}
@@ -68,7 +71,8 @@ module _ (w : Wanted) (k : ℕ) where
       ∙ by (isBurning g)
     where
       by : (b : Bool)
-          → stretchIf (b && not b && getD ms k false && ltb (if not b && b then t else f) t) (if not b && b then t else f) t
+          → stretchIf (b && not b && getD ms k false && ltb (if not b && b then t else f) t)
+          (if not b && b then t else f) t
           ++ joined (isLitThen g ms k) (if not b && b then t else f) t ls
           ≡ joined (isLitThen g ms k) f t ls
       by true = refl
@@ -103,7 +107,8 @@ module _ (w : Wanted) (k : ℕ) where
   by-seen : (g : Stage) (ms : List Bool) (n f t : ℕ) (xs ys : List Event) → f ≤ t → Seen g n xs
       → let h = reached w g xs in
       let ns = marksAfter ms xs in
-      turned g h ns f (t + n) (secondsLitFrom w h ns k ys) ≡ joined (isLitThen g ms k) f t (secondsLitFrom w g ms k (xs ++ ys))
+      turned g h ns f (t + n) (secondsLitFrom w h ns k ys)
+      ≡ joined (isLitThen g ms k) f t (secondsLitFrom w g ms k (xs ++ ys))
   unfolding secondsLitFrom
   by-seen g ms n f t xs ys le (nothing e) =
       let same : t + n ≡ t = omega arith in
@@ -146,7 +151,8 @@ module _ (w : Wanted) (k : ℕ) (inside : k < length (w .lamps)) where
       (xs ys : List Event) → Agrees w g ms n stream (s .device) → Then w g ms n xs now (doneBy (s .device) e)
       → Seen g (secondsBy e) xs → s .from ≤ s .time
       → let t = watchedOn s e [] in
-      stretchIf (isBurningIn (s .device) && not (isBurningIn (t .device)) && isMarkedIn (t .device) k && ltb (t .from) (t .time))
+      stretchIf (isBurningIn (s .device) && not (isBurningIn (t .device)) && isMarkedIn (t .device) k
+      && ltb (t .from) (t .time))
       (t .from) (t .time)
       ++ joined (isLitThen (reached w g xs) (marksAfter ms xs) k) (t .from) (t .time)
       (secondsLitFrom w (reached w g xs) (marksAfter ms xs) k ys)
@@ -171,14 +177,16 @@ module _ (w : Wanted) (k : ℕ) (inside : k < length (w .lamps)) where
       by false = omega arith
 
   -- what is told with an event and after it, where `later` says what is told after it
-  one-event : (es : List FloorEvent) (s : Watching) (e : FloorEvent) {g : Stage} {ms : List Bool} {n : ℕ → ℕ} {stream : Streams}
+  one-event : (es : List FloorEvent) (s : Watching)
+      (e : FloorEvent) {g : Stage} {ms : List Bool} {n : ℕ → ℕ} {stream : Streams}
       → Agrees w g ms n stream (s .device) → isLegal (s .device) ≡ true → s .from ≤ s .time
       → let d = doneBy (s .device) e in
       let t = watchedOn s e [] in
       ((h : Stage) (ns : List Bool) (m : ℕ → ℕ) (now : Streams) → Agrees w h ns m now d
       → toldOf k t es
       ≡ joined (isLitThen h ns k) (t .from) (t .time) (secondsLitFrom w h ns k (history ours d now (callsOf d es))))
-      → stretchIf (isBurningIn (s .device) && not (isBurningIn d) && isMarkedIn d k && ltb (t .from) (t .time)) (t .from) (t .time)
+      → stretchIf (isBurningIn (s .device) && not (isBurningIn d) && isMarkedIn d k && ltb (t .from) (t .time))
+      (t .from) (t .time)
       ++ toldOf k t es
       ≡ joined (isLitThen g ms k) (s .from) (s .time)
       (secondsLitFrom w g ms k (history ours (s .device) stream (callsBy (s .device) e ++ callsOf d es)))
@@ -194,7 +202,8 @@ module _ (w : Wanted) (k : ℕ) (inside : k < length (w .lamps)) where
       t = watchedOn s e []
 
       first : List Stretch
-      first = stretchIf (isBurningIn d && not (isBurningIn after-it) && isMarkedIn after-it k && ltb (t .from) (t .time))
+      first = stretchIf (isBurningIn d && not (isBurningIn after-it) && isMarkedIn after-it k
+          && ltb (t .from) (t .time))
           (t .from) (t .time)
 
       by : Makes d e → first ++ toldOf k t es
@@ -263,4 +272,5 @@ module _ (b : Beginning) (w : Wanted) (h : Accepted ours b w) (k : ℕ) (inside 
   -- exactly the seconds that demand 3 counts, in order, apart, none empty, and adding up to what the lamp burnt
   pub log-stretches-tell : StretchesTell w (startMarks b w) k log-history (toldOf k (watchingFrom begun m) es)
   log-stretches-tell =
-      subst (StretchesTell w (startMarks b w) k log-history) (sym log-tells) (stretches-tell w (startMarks b w) k log-history)
+      subst (StretchesTell w (startMarks b w) k log-history) (sym log-tells)
+      (stretches-tell w (startMarks b w) k log-history)

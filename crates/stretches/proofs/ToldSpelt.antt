@@ -16,7 +16,8 @@ module _ (k : ℕ) where
   stretches-append [] us = refl
   stretches-append (t ∷ ts) us =
       ap (λ (l : List Stretch). stretchIf (isMarkedIn (t .device) k) (t .from) (t .to) ++ l) (stretches-append ts us)
-      ∙ sym (append-assoc (stretchIf (isMarkedIn (t .device) k) (t .from) (t .to)) (stretchesIn k ts) (stretchesIn k us))
+      ∙ sym (append-assoc (stretchIf (isMarkedIn (t .device) k) (t .from) (t .to)) (stretchesIn k ts)
+      (stretchesIn k us))
 
   -- lamps that burn no longer, for some time: of this one, if its mark is set
   told-if : (s : Watching) (dark long : Bool)

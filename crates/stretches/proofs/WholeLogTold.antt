@@ -1,5 +1,5 @@
--- A whole log watched through the calls, in reads of any sizes, tells of each lamp its stretches in demand 3's history of
--- the same log, what it burnt, and what it has now.
+-- A whole log watched through the calls, in reads of any sizes, tells of each lamp its stretches in demand 3's history
+-- of the same log, what it burnt, and what it has now.
 -- Assumes nothing.
 use Prim.Native.Nat.{ℕ, _+_, _*_, _^_, _≤_, _<_}
 use mathlib.Core.Path.{_≡_, sym, ap, _∙_}
@@ -59,7 +59,8 @@ module _ (b : Beginning) (w : Wanted) (h : Accepted ours b w) where
       ap (λ (d : Device). d .settings .«lamp_count») (begins-so b w h)
       ∙ ap (λ s. s .«lamp_count») (agrees-started w (startMarks b w) (set-up-too b w h) (marks-many b w h) .settings)
 
-  module _ (m : List ℕ) (lent : lineMost < length m) (size : ℕ) (reads : List (List ℕ)) (timeable : Timeable size reads) where
+  module _ (m : List ℕ) (lent : lineMost < length m) (size : ℕ) (reads : List (List ℕ))
+      (timeable : Timeable size reads) where
     back : WatchesBack begun (uncut reads) (wholeWatch begun m reads)
     back = whole-log-watched begun legal m lent size reads timeable
 

@@ -1,5 +1,5 @@
--- Which lamp burnt when ("a log from the floor played back to show which lamp burnt when"), over demand 3's history: the
--- seconds are those of its events, and a second is lit exactly if demand 3 counts it as burning.
+-- Which lamp burnt when ("a log from the floor played back to show which lamp burnt when"), over demand 3's history:
+-- the seconds are those of its events, and a second is lit exactly if demand 3 counts it as burning.
 --   isLitThen g ms k            a second in the stage g, with the marks ms, is one that the lamp at place k burns
 --   secondsLitFrom w g ms k es  so it is of each second of the events es, one after the other, where they begin at g
 --                               and ms;    secondsLit w ms k es    where they begin with the device, which is off
@@ -19,7 +19,8 @@ use lib.ListN.{getD}
 use lib.Dec.{leb, ltb, eqb}
 use Rattle.text.specs.Words.{if_then_else_}
 use Rattle.record.specs.Wanted.{Wanted}
-use Rattle.demands.specs.History.{Event, switched, aSecond, markSwitched, Stage, steady, next, marksNext, burns, burning}
+use Rattle.demands.specs.History.{Event, switched, aSecond, markSwitched, Stage, steady, next, marksNext, burns}
+use Rattle.demands.specs.History.{burning}
 
 abbrev pub isLitThen : Stage → List Bool → ℕ → Bool
 isLitThen g ms k = eqb (burns g ms k aSecond) 1

@@ -21,6 +21,7 @@ read-freeze-spec =
     (λ c. search needs) (λ c κs. search needs)
     (λ c.
     let test = c .before .before in
-    let p = test .before .before .before .before .args .p .now in
+    let start = let known = test .before .before in known .before .before in
+    let p = start .args .p .now in
     exactly-said p (ascii "0") (Frozen false) (freezeIs false) refl (c .read-exactly .ensures)
     ∙ ap answerOf (sym (if-no (freezeIs true) _ (sym (test .before .same .ensures) ∙ test .if1 .left)))))

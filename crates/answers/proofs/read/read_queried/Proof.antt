@@ -60,24 +60,28 @@ read-queried-spec =
     c .read-inputs .ensures ∙ told (arm .before .before .before) (arm .enum-told6 .given .1))
     (λ c.
     let test = c .before in
-    let start = test .before .before .before .before in
+    let arm = test .before in
+    let start = arm .before .before .before in
     text-said (start .args .p .now) (c .text-if .ensures) (test .is-name .ensures)
-    ∙ told start (test .before .enum-told7 .given .1))
+    ∙ told start (arm .enum-told7 .given .1))
     (λ c.
     let test = c .before in
-    let start = test .before .before .before .before in
+    let arm = test .before in
+    let start = arm .before .before .before in
     text-said (start .args .p .now) (c .text-if2 .ensures) (test .is-info .ensures)
-    ∙ told start (test .before .enum-told8 .given .1))
+    ∙ told start (arm .enum-told8 .given .1))
     (λ c.
     let test = c .before in
-    let start = test .before .before .before .before in
+    let arm = test .before in
+    let start = arm .before .before .before in
     text-said (start .args .p .now) (c .text-if3 .ensures) (test .is-info2 .ensures)
-    ∙ told start (test .before .enum-told9 .given .1))
+    ∙ told start (arm .enum-told9 .given .1))
     (λ c.
     let test = c .before in
-    let start = test .before .before .before .before in
+    let arm = test .before in
+    let start = arm .before .before .before in
     text-said (start .args .p .now) (c .text-if4 .ensures) (test .is-info3 .ensures)
-    ∙ told start (test .before .enum-told10 .given .1))
+    ∙ told start (arm .enum-told10 .given .1))
     (λ c.
     let arm = c .before .before in
     c .plain4 .ensures ∙ c .before .read-class .ensures
@@ -94,19 +98,22 @@ read-queried-spec =
     c .plain7 .ensures ∙ told (arm .before .before .before) (arm .enum-told14 .given .1))
     (λ c.
     let test = c .before in
-    let start = test .before .before .before .before in
+    let arm = test .before in
+    let start = arm .before .before .before in
     text-said (start .args .p .now) (c .text-if5 .ensures) (test .is-info4 .ensures)
-    ∙ told start (test .before .enum-told15 .given .1))
+    ∙ told start (arm .enum-told15 .given .1))
     (λ c.
     let test = c .before in
-    let start = test .before .before .before .before in
+    let arm = test .before in
+    let start = arm .before .before .before in
     text-said (start .args .p .now) (c .text-if6 .ensures) (test .is-info5 .ensures)
-    ∙ told start (test .before .enum-told16 .given .1))
+    ∙ told start (arm .enum-told16 .given .1))
     (λ c.
     let test = c .before in
-    let start = test .before .before .before .before in
+    let arm = test .before in
+    let start = arm .before .before .before in
     text-said (start .args .p .now) (c .text-if7 .ensures) (test .is-input-name .ensures)
-    ∙ told start (test .before .enum-told17 .given .1))
+    ∙ told start (arm .enum-told17 .given .1))
     (λ c.
     let arm = c .before .before in
     c .plain8 .ensures ∙ c .before .read-chosen2 .ensures

@@ -39,7 +39,8 @@ again c =
       inside = omega arith;
       first =
           (λ i. set (turn .loop .inv .first i) place (c .connection-after .ensures i))
-          ∙ one-more-changed place (times connectionSecond (start .args .n)) (start .args .t1) noConnection (omega arith)
+          ∙ one-more-changed place (times connectionSecond (start .args .n)) (start .args .t1) noConnection
+          (omega arith)
           ∙ ap (λ (j : ℕ). firstChanged j (times connectionSecond (start .args .n)) (start .args .t1))
           (sym (add-one place));
     }

@@ -22,13 +22,13 @@ long start = search needs
 
 found : tie.Need-returns Inv μ
 found c =
-    let turn = c .before .before .before .before in
+    let turn = let known = c .before .before in known .before .before in
     let size = long (turn .before) in
     lowest-here _ (turn .loop .inv) (omega arith) (eq-eqb _ _ (c .if1 .taken))
 
 again : tie.Need-loop-again Inv μ
 again c =
-    let turn = c .before .before .before .before in
+    let turn = let known = c .before .before in known .before .before in
     let size = long (turn .before) in
     one-unshut _ (turn .loop .inv) (omega arith) (ne-eqb _ _ (c .if1 .left))
 

@@ -12,7 +12,7 @@ use Rattle.lines.proofs.request.is_body.Tie as tie
 told : tie.Need-returns
 told c =
     let second = c .before .before in
-    let row = second .before .before .before .before in
+    let row = let first = second .before .before in first .before .before in
     let args = row .before .args in
     let class : row .row-of .result .class ≡ classOf (args .body)
     = ap (λ (r : BodyRow). r .class) (row .row-of .ensures) in

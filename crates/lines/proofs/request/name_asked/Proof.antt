@@ -27,11 +27,14 @@ module _ (read : tie.After-input-of) where
   abbrev marked : tie.Else2
   marked = read .before .before
 
+  abbrev start : tie.Start
+  start = let known = marked .before .before in known .before .before
+
   abbrev b : Body
-  b = marked .before .before .before .before .args .b
+  b = start .args .b
 
   abbrev p : List ℕ
-  p = marked .before .before .before .before .args .p .now
+  p = start .args .p .now
 
   asked : {m : MaybeInput} → read .input-of .result ≡ m → inputAsked NameQuery b m ≡ nameAsked b p
   unfolding nameAsked

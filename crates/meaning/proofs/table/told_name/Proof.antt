@@ -21,4 +21,5 @@ told-name-spec =
     let found = c .before in
     let start = found .before .before in
     c .name-at .ensures
-    ∙ ap (λ (k : ℕ). answerOf (textIs (nameBytes (getD (start .args .s .names) k blankName)))) (found .place-of .ensures)))
+    ∙ ap (λ (k : ℕ). answerOf (textIs (nameBytes (getD (start .args .s .names) k blankName))))
+    (found .place-of .ensures)))

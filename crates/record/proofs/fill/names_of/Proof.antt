@@ -1,5 +1,5 @@
--- `record::fill::names_of` meets its contract: each name passed is kept at its place, in a room of which no other place has
--- one.
+-- `record::fill::names_of` meets its contract: each name passed is kept at its place, in a room of which no other place
+-- has one.
 -- Assumes nothing.
 use Prim.Native.Nat.{ℕ, _+_, _-_, _≤_, _<_}
 use mathlib.Core.List.{List}

@@ -55,7 +55,8 @@ not-off c =
     let some = c .before .before in
     let tested = some .before in
     let past = there tested in
-    sym (mark-not-off _ _ _ (legal (passed past)) (lt-leb _ _ (past .if2 .left)) (sym (none-left tested) ∙ some .if3 .left)
+    sym (mark-not-off _ _ _ (legal (passed past)) (lt-leb _ _ (past .if2 .left)) (sym (none-left tested)
+    ∙ some .if3 .left)
     (ne-eqb _ _ (c .if4 .taken)))
 
 marked : tie.Need-returns-5

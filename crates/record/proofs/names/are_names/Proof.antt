@@ -51,13 +51,15 @@ left c =
     let ended = c .before in
     let turn = ended .before in
     none-wanted (sizes turn) (lent turn) _
-    (bytes-left (sizes turn) (lent turn) (turn .loop .inv) (given turn .args .count) (ended .loop-test .left) (c .if2 .taken))
+    (bytes-left (sizes turn) (lent turn) (turn .loop .inv) (given turn .args .count) (ended .loop-test .left)
+    (c .if2 .taken))
 
 ends : tie.Need-returns-3 Inv μ
 ends c =
     let ended = c .before in
     let turn = ended .before in
-    all-names-passed (sizes turn) (lent turn) (turn .loop .inv) (given turn .args .count) (ended .loop-test .left) (c .if2 .left)
+    all-names-passed (sizes turn) (lent turn) (turn .loop .inv) (given turn .args .count) (ended .loop-test .left)
+    (c .if2 .left)
 
 pub are-names-spec : {M : Type 1} → statement M
 are-names-spec =

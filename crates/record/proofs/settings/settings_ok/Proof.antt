@@ -19,11 +19,13 @@ decided c =
     (λ j.
     maker .before .name-ok .ensures j && maker .text-ok .ensures j && other .before .text-ok2 .ensures j
     && other .text-ok3 .ensures j && inputs .before .password-ok .ensures j && inputs .input-list-ok .ensures j
-    && leb (start .args .s .«lamp_count») lampsMost && times .before .stretch-ok .ensures j && times .stretch-ok2 .ensures j
+    && leb (start .args .s .«lamp_count») lampsMost && times .before .stretch-ok .ensures j
+    && times .stretch-ok2 .ensures j
     && c .rest-of-2-ok .ensures j)
 
 pub settings-ok-spec : {M : Type 1} → statement M
 settings-ok-spec =
     tie.close
     (tie.spec (λ c κs. search needs) (λ c κs. search needs) (λ c κs. search needs) (λ c κs. search needs)
-    (λ c κs. search needs) (λ c κs. search needs) (λ c κs. search needs) (λ c κs. search needs) (λ c κs. search needs) decided)
+    (λ c κs. search needs) (λ c κs. search needs) (λ c κs. search needs) (λ c κs. search needs)
+    (λ c κs. search needs) decided)

@@ -1,5 +1,5 @@
--- `record::setup::set_up_in` meets its contract: whether each setting is in its range, then whether the password is long
--- enough, picks the case; what passes fits its room.
+-- `record::setup::set_up_in` meets its contract: whether each setting is in its range, then whether the password is
+-- long enough, picks the case; what passes fits its room.
 -- Assumes nothing.
 use mathlib.Core.Path.{_≡_, refl, sym, _∙_}
 use mathlib.Core.Bool.{true}

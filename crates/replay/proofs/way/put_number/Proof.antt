@@ -42,7 +42,8 @@ module _ (c : tie.After-put-number) where
   short = omega (arith, c .put-number .ensures .0, digits-at-most-10 (start .args .number))
 
   stored : c .put-number .last .0 ≡ sets out 0 text
-  stored = c .put-number .ensures .1 ∙ sets-then out 0 (ascii "! ") (digits (start .args .number)) (first .put .ensures) refl
+  stored = c .put-number .ensures .1
+      ∙ sets-then out 0 (ascii "! ") (digits (start .args .number)) (first .put .ensures) refl
 
   long : length (c .put-number .last .0) ≡ length out
   long = c .put-number .kept .0 ∙ first .put .kept .0
@@ -60,7 +61,8 @@ returns c =
     let last = c .before .before in
     let n = before-lf last in
     let line = text n ++ ascii "\n" in
-    let whole : n .put-number .result + 1 ≡ length line = omega (arith, place n, length-append (text n) (ascii "\n")) in (
+    let whole : n .put-number .result + 1 ≡ length line
+    = omega (arith, place n, length-append (text n) (ascii "\n")) in (
       whole,
       last .put2 .ensures ∙ sets-then (out n) 0 (text n) (ascii "\n") (stored n) (omega (arith, place n))
           ∙ sets-over line (out n) (omega (arith, whole, short n, start n .pre)),

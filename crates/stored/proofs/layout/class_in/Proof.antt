@@ -21,8 +21,11 @@ here c =
 none : tie.Need-returns-2
 none c =
     let asked = c .before in
-    let args = asked .before .before .args in
-    (no-class (args .s .now) (drop (args .p) (args .s .now)) (sym (asked .has-class .ensures) ∙ c .if1 .left), omega arith)
+    let args = asked .before .before .args in (
+      no-class (args .s .now) (drop (args .p) (args .s .now)) (sym (asked .has-class .ensures)
+          ∙ c .if1 .left),
+      omega arith,
+    )
 
 pub class-in-spec : {M : Type 1} → statement M
 class-in-spec = tie.close (tie.spec (λ c κs. search needs) (λ c κs. search needs) here none)

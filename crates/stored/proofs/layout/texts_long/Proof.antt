@@ -52,8 +52,11 @@ ends c =
     let turn = c .before in
     let start = turn .before .before in
     let known = turn .loop .inv in
-    let last : turn .loop .i ≡ start .args .n = omega (arith, known .inside, c .loop-test .left) in
-    (known .all ∙ ap (λ (k : ℕ). textsLong k (drop (start .args .p) (start .args .s .now))) last, omega (arith, known .small))
+    let last : turn .loop .i ≡ start .args .n = omega (arith, known .inside, c .loop-test .left) in (
+      known .all ∙ ap (λ (k : ℕ). textsLong k (drop (start .args .p) (start .args .s .now))) last,
+      omega
+          (arith, known .small),
+    )
 
 pub texts-long-spec : {M : Type 1} → statement M
 texts-long-spec =

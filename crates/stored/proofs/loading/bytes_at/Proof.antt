@@ -123,7 +123,8 @@ bytes-at-spec =
     (λ c. omega arith)
     (λ c. ends-within (c .before))
     roomy
-    (λ c. let counted = let put = c .before in let arg = put .before in arg .before .before in omega (arith, fits counted))
+    (λ c. let counted = let put = c .before in let arg = put .before in arg .before .before in omega
+    (arith, fits counted))
     (λ c. search needs)
     (λ c. omega arith)
     again

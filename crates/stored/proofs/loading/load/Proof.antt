@@ -150,7 +150,8 @@ new c =
     c .enabled .ensures
     ∙ ap (λ (p : Places). markedBy (set-up .set-up-at .result .device) (between (p .marks + 1) (p .warm) s))
     (places set-up .walk .ensures .0)
-    ∙ loaded-new s (ours (places set-up)) (uncut set-up) (whole set-up) (gave set-up) (fit past .if4 .left) (not-old past)
+    ∙ loaded-new s (ours (places set-up)) (uncut set-up) (whole set-up) (gave set-up) (fit past .if4 .left)
+    (not-old past)
 
 set-up-fits : tie.Need-set-up-at-requires
 set-up-fits c κs =

@@ -130,7 +130,8 @@ made c =
     let found = counts lent in
     let p = start found .args .p in
     c .set-up-with .ensures
-    ∙ ap (λ (l : List (List ℕ)). setUp (settingsWith (s found) p 2 (between (serial found + 1) (version found) (s found))
+    ∙ ap (λ (l : List (List ℕ)). setUp
+    (settingsWith (s found) p 2 (between (serial found + 1) (version found) (s found))
     (between (version found + 1) (names found) (s found)) l)) (names-lent lent)
     ∙ ap setUp (wanted found)
 

@@ -27,7 +27,8 @@ too-many c =
     c .refusal .ensures
     ∙ sym
     (too-many-lamps (args .s .now) (args .p) (args .class) (args .serial .now) (args .version .now)
-    (namesIn (args .lengths .now) (args .names .now)) (omega (arith, counted .count-at .ensures .0, tested .if1 .taken)))
+    (namesIn (args .lengths .now) (args .names .now))
+    (omega (arith, counted .count-at .ensures .0, tested .if1 .taken)))
 
 made : tie.Need-returns-2
 made c =

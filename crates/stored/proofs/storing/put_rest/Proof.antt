@@ -69,7 +69,8 @@ module _ (c : tie.Else1) where
   legal = ap (λ (k : ℕ). isNames k (start .args .names)) (sym so-many) ∙ start .pre .0
 
   parts : classPart (start .args .class)
-      (serial start ∷ version start ∷ map nameStored (take (onlyIn2 (start .args .class) (start .args .n)) (start .args .names)))
+      (serial start ∷ version start ∷ map nameStored
+      (take (onlyIn2 (start .args .class) (start .args .n)) (start .args .names)))
       ≡ (start .args .class ∷ []) ++ textSection (serial start) ++ textSection (version start)
       ++ named start (start .args .n)
   parts =
@@ -87,7 +88,8 @@ module _ (c : tie.Else1) where
         ap length parts,
         serial-many start,
         version-many start,
-        length-append (lead ++ textSection (serial start) ++ textSection (version start)) (named start (start .args .n)),
+        length-append (lead ++ textSection (serial start) ++ textSection (version start))
+            (named start (start .args .n)),
         length-append (lead ++ textSection (serial start)) (textSection (version start)),
         length-append lead (textSection (serial start)),
         start .pre .1 .1 .1 .1,
@@ -98,7 +100,8 @@ only c =
     let put = c .before .before .before in
     let start = at-lead (put .before) in
     put .put .ensures
-    ∙ ap (sets (start .args .out .now) (start .args .p)) (sym (part-of-other _ (texts start) (ne-eqb _ _ (c .if1 .taken))))
+    ∙ ap (sets (start .args .out .now) (start .args .p))
+    (sym (part-of-other _ (texts start) (ne-eqb _ _ (c .if1 .taken))))
 
 lead-fits : tie.Need-put-requires
 lead-fits c κs =
@@ -115,8 +118,11 @@ version-fits : tie.Need-put-text-requires-2
 version-fits c κs =
     let first = c .before .before .before in
     let past = let arg = first .before in arg .before in
-    let put = past .before .before .before in
-    (start past .pre .1 .1 .1 .0, omega (arith, fits past, put .put .kept .0, first .put-text .kept .0, first .put-text .ensures .0))
+    let put = past .before .before .before in (
+      start past .pre .1 .1 .1 .0,
+      omega
+          (arith, fits past, put .put .kept .0, first .put-text .kept .0, first .put-text .ensures .0),
+    )
 
 names-fit : tie.Need-put-names-requires
 names-fit c κs =
@@ -152,7 +158,8 @@ all c =
     let w0 : Wrote out p _ (p + 1) (s .args .class ∷ []) = record { bytes = put .put .ensures; place = refl } in
     let w1 = wrote-then out p w0 (textSection (serial s)) {q = first .put-text .result} (first .put-text .ensures .1)
     (omega (arith, first .put-text .ensures .0, serial-many s)) in
-    let w2 = wrote-then out p w1 (textSection (version s)) {q = second .put-text2 .result} (second .put-text2 .ensures .1)
+    let w2 = wrote-then out p w1 (textSection (version s)) {q = second .put-text2 .result}
+    (second .put-text2 .ensures .1)
     (omega (arith, second .put-text2 .ensures .0, version-many s)) in
     let w3 = wrote-then out p w2 (named s (s .args .n)) (names .put-names .ensures) refl in
     w3 .bytes ∙ ap (sets out p) (sym (parts past))

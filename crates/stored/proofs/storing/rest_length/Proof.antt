@@ -50,11 +50,14 @@ whole c =
     let b = textStored (args .version) in
     let ns = map nameStored (take (args .n) (args .names)) in
     let long-a : length a ≡ args .serial .len
-    = length-take-le (args .serial .len) (args .serial .bytes) (omega (arith, serial-long (start past), start past .pre .1 .1 .0)) in
+    = length-take-le (args .serial .len) (args .serial .bytes)
+    (omega (arith, serial-long (start past), start past .pre .1 .1 .0)) in
     let long-b : length b ≡ args .version .len
-    = length-take-le (args .version .len) (args .version .bytes) (omega (arith, version-long (start past), start past .pre .1 .1 .1)) in
+    = length-take-le (args .version .len) (args .version .bytes)
+    (omega (arith, version-long (start past), start past .pre .1 .1 .1)) in
     let part = ap length (part-of-2 (args .class) a b ns (two past)) in
-    let same = ap (λ (k : ℕ). length (classPart (args .class) (a ∷ b ∷ map nameStored (take k (args .names))))) (so-many past) in (
+    let same = ap (λ (k : ℕ). length (classPart (args .class) (a ∷ b ∷ map nameStored (take k (args .names)))))
+    (so-many past) in (
       omega (
         arith,
         same,
