@@ -2,4 +2,6 @@
 mod layout;
 pub mod loading;
 mod numbers;
+mod reading;
 pub mod storing;
+mod writing;

@@ -4,6 +4,7 @@ use crate::layout::MARKED_VERSION;
 use crate::layout::Places;
 use crate::layout::VERSION;
 use crate::numbers;
+use crate::reading;
 use record::host;
 use record::own;
 use record::setup;
@@ -16,22 +17,17 @@ ghost use mathlib.Core.Bool.{true};
 ghost use mathlib.Core.List.{map};
 ghost use Prim.Native.Nat.{_+_, _*_, _≤_};
 ghost use lib.ListN.{length, drop};
-ghost use Rattle.text.specs.Words.{if_then_else_};
-ghost use Rattle.text.specs.Scans.{every};
-ghost use Rattle.record.specs.Limits.{listedMost, lampsMost};
 ghost use Rattle.lines.specs.Bytes.{_at_};
+ghost use Rattle.text.specs.Words.{if_then_else_};
 ghost use Rattle.record.specs.Wanted.{namesIn};
 ghost use Rattle.record.specs.Updates.{withOwn, withMarks};
-ghost use Rattle.record.specs.Record.{inRoom, blank, accepted, refused};
+ghost use Rattle.record.specs.Record.{blank, accepted, refused};
 ghost use Rattle.record.specs.Legal.{isLegal};
 ghost use Rattle.record.specs.SetUp.{setUp};
-ghost use Rattle.stored.specs.Loading.{isOtherVersion, Walked, secondsIn, isMarkByte, isMarked};
-ghost use Rattle.stored.specs.Loading.{textsLong, textsIn, joinedTexts, joinedMost, endAt};
+ghost use Rattle.stored.specs.Loading.{isOtherVersion, Walked, isMarked};
+ghost use Rattle.stored.specs.Loading.{textsLong, textsIn, endAt};
 ghost use Rattle.stored.specs.Loading.{settingsWith, settingsBy, settingsAt};
 ghost use Rattle.stored.specs.Loading.{markRoom, areMarks, loaded};
-
-// The bytes of so many texts at most, of 255 bytes each at most.
-const JOINED_MOST: usize = 255 * INPUTS_MOST;
 
 fn refusal(number: u32) -> Changed
     ensures { λ r. ⌜ r ≡ refused number blank ⌝ }
@@ -47,21 +43,6 @@ fn is_other_version(s: &[u8]) -> bool
         return false;
     }
     (s[0] != VERSION) & (s[0] != MARKED_VERSION) & !layout::is_old(s)
-}
-
-// The seconds of n lamps, from the place p on.
-fn seconds_at(s: &[u8], p: usize, n: usize) -> [u32; LAMPS_MOST]
-    requires { ⌜ n ≤ lampsMost ⌝ }
-    requires { ⌜ p + 4 * n ≤ length (now s) ⌝ }
-    ensures { λ r. ⌜ r ≡ inRoom lampsMost (secondsIn n (drop p (now (s .entry)))) ⌝ }
-{
-    let mut list = [0u32; LAMPS_MOST];
-    let mut i = 0;
-    while i < n {
-        list[i] = numbers::four_at(s, p + 4 * i);
-        i += 1;
-    }
-    list
 }
 
 // Set-up with what stands at the places, and with what is lent of Class 2: lamps that are too many are not copied.
@@ -90,7 +71,7 @@ fn set_up_with(
     if LAMPS_MOST < n {
         return refusal(3);
     }
-    let seconds = seconds_at(s, lamps + 1, n);
+    let seconds = reading::seconds_at(s, lamps + 1, n);
     setup::set_up_in(
         class,
         &s[2..maker],
@@ -107,45 +88,6 @@ fn set_up_with(
         names,
         lengths,
     )
-}
-
-// The lengths of n texts from the place p on.
-fn lengths_at(s: &[u8], p: usize, n: usize) -> [usize; INPUTS_MOST]
-    requires { ⌜ n ≤ listedMost ⌝ }
-    requires { ⌜ p + textsLong n (drop p (now s)) ≤ length (now s) ⌝ }
-    ensures { λ r. ⌜ r ≡ inRoom listedMost (map length (textsIn n (drop p (now (s .entry))))) ⌝ }
-{
-    let mut list = [0usize; INPUTS_MOST];
-    let mut at = p;
-    let mut i = 0;
-    while i < n {
-        let count = layout::count_at(s, at);
-        list[i] = count;
-        at = at + 1 + count;
-        i += 1;
-    }
-    list
-}
-
-// The bytes of n texts from the place p on, without their counts.
-fn bytes_at(s: &[u8], p: usize, n: usize) -> [u8; JOINED_MOST]
-    requires { ⌜ n ≤ listedMost ⌝ }
-    requires { ⌜ p + textsLong n (drop p (now s)) ≤ length (now s) ⌝ }
-    ensures { λ r. ⌜ r ≡ inRoom joinedMost (joinedTexts (textsIn n (drop p (now (s .entry))))) ⌝ }
-{
-    let mut list = [0u8; JOINED_MOST];
-    let mut at = p;
-    let mut to = 0;
-    let mut i = 0;
-    while i < n {
-        let count = layout::count_at(s, at);
-        let end = at + 1 + count;
-        text::put(&mut list, to, &s[at + 1..end]);
-        at = end;
-        to += count;
-        i += 1;
-    }
-    list
 }
 
 // Set-up of Class 2: the texts stand after the class, the names last. Names that are too many are not copied.
@@ -165,8 +107,8 @@ fn set_up_2_at(s: &[u8], p: Places) -> Changed
     if INPUTS_MOST < n {
         return refusal(3);
     }
-    let lengths = lengths_at(s, names, n);
-    let bytes = bytes_at(s, names, n);
+    let lengths = reading::lengths_at(s, names, n);
+    let bytes = reading::bytes_at(s, names, n);
     let total = layout::texts_long(s, names, n) - n;
     set_up_with(
         s,
@@ -195,33 +137,6 @@ fn set_up_at(s: &[u8], p: Places) -> Changed
     set_up_with(s, p, class as u8, &none, &none, &none, &no_lengths)
 }
 
-// Each byte is a mark's.
-fn marks_ok(s: &[u8]) -> bool
-    ensures { λ r. ⌜ r ≡ every isMarkByte (now (s .entry)) ⌝ }
-{
-    let mut ok = true;
-    let mut i = 0;
-    while i < s.len() {
-        ok = ok & (s[i] <= 1);
-        i += 1;
-    }
-    ok
-}
-
-// The marks that the bytes are, in their room.
-fn marks_of(s: &[u8]) -> [bool; LAMPS_MOST]
-    requires { ⌜ length (now s) ≤ lampsMost ⌝ }
-    ensures { λ r. ⌜ r ≡ markRoom (map isMarked (now (s .entry))) ⌝ }
-{
-    let mut list = [false; LAMPS_MOST];
-    let mut i = 0;
-    while i < s.len() {
-        list[i] = s[i] == 1;
-        i += 1;
-    }
-    list
-}
-
 // The device with the marks that the bytes are, if they are marks of its lamps: the record's own test says which marks
 // are legal.
 fn enabled(d: Device, s: &[u8]) -> Changed
@@ -233,10 +148,10 @@ fn enabled(d: Device, s: &[u8]) -> Changed
     if s.len() != d.settings.lamp_count {
         return refusal(23);
     }
-    if !marks_ok(s) {
+    if !reading::marks_ok(s) {
         return refusal(23);
     }
-    let marks = marks_of(s);
+    let marks = reading::marks_of(s);
     let mut changed = d.own;
     changed.enabled = marks;
     if !own::own_ok(d.settings, changed) {

@@ -1,6 +1,7 @@
 // Storing a record (02, L3 and L8): its settings, each lamp's seconds as they are now, and its enabled mark.
 use crate::layout::VERSION;
 use crate::numbers;
+use crate::writing;
 use record::legality;
 use record::types::Device;
 use record::types::INPUTS_MOST;
@@ -15,121 +16,16 @@ ghost use Prim.Native.Nat.{_+_, _*_, _≤_};
 ghost use lib.ListN.{length, take};
 ghost use lib.Seq.{sets};
 ghost use Rattle.text.specs.Words.{over};
-ghost use Rattle.lines.specs.Texts.{inputNameMost};
-ghost use Rattle.record.specs.Limits.{textRoom, listedMost, lampsMost, onlyIn2};
+ghost use Rattle.record.specs.Limits.{textRoom, listedMost, onlyIn2};
 ghost use Rattle.record.specs.Legal.{isNames, isSettings, isLegal};
 ghost use Rattle.stored.specs.Form.{formVersion, highestFirst, section, textSection, secondsBytes, textStored};
-ghost use Rattle.stored.specs.Form.{markByte, textsBytes, classPart, nameStored, storedForm, storedBy};
+ghost use Rattle.stored.specs.Form.{markByte, classPart, nameStored, storedForm, storedBy};
 ghost use Rattle.stored.specs.Form.{toldStored};
 
 #[repr(C)]
 pub struct FormWritten {
     pub number: u32,
     pub length: usize,
-}
-
-// A section: its count, then what is counted.
-fn put_section(out: &mut [u8], p: usize, count: u8, items: &[u8])
-    requires { ⌜ p + 1 + length (now items) ≤ length (now out) ⌝ }
-    ensures { λ _. ⌜ now (out .exit) ≡ sets (now (out .entry)) p (section count (now (items .entry))) ⌝ }
-{
-    let lead = [count];
-    text::put(out, p, &lead);
-    text::put(out, p + 1, items);
-}
-
-// A text's section. Returns the place after it.
-fn put_text(out: &mut [u8], p: usize, t: Text) -> usize
-    requires { ⌜ t .len ≤ textRoom ⌝ }
-    requires { ⌜ p + 1 + t .len ≤ length (now out) ⌝ }
-    ensures { λ r. ⌜ r ≡ p + 1 + t .len ⌝ }
-    ensures { λ _. ⌜ now (out .exit) ≡ sets (now (out .entry)) p (textSection (textStored t)) ⌝ }
-{
-    let bytes = t.bytes;
-    let len = t.len;
-    put_section(out, p, len as u8, &bytes[0..len]);
-    p + 1 + len
-}
-
-// The seconds of the first n lamps.
-fn put_seconds(out: &mut [u8], p: usize, lamps: [u32; LAMPS_MOST], n: usize)
-    requires { ⌜ n ≤ lampsMost ⌝ }
-    requires { ⌜ p + 4 * n ≤ length (now out) ⌝ }
-    ensures { λ _. ⌜ now (out .exit) ≡ sets (now (out .entry)) p (secondsBytes (take n lamps)) ⌝ }
-{
-    let mut i = 0;
-    while i < n {
-        numbers::put_four(out, p + 4 * i, lamps[i]);
-        i += 1;
-    }
-}
-
-fn mark_byte(mark: bool) -> u8
-    ensures { λ r. ⌜ r ≡ markByte mark ⌝ }
-{
-    if mark {
-        return 1;
-    }
-    0
-}
-
-// The marks of the first n lamps.
-fn put_marks(out: &mut [u8], p: usize, marks: [bool; LAMPS_MOST], n: usize)
-    requires { ⌜ n ≤ lampsMost ⌝ }
-    requires { ⌜ p + n ≤ length (now out) ⌝ }
-    ensures { λ _. ⌜ now (out .exit) ≡ sets (now (out .entry)) p (map markByte (take n marks)) ⌝ }
-{
-    let mut i = 0;
-    while i < n {
-        out[p + i] = mark_byte(marks[i]);
-        i += 1;
-    }
-}
-
-// An input's name in its section. Returns the place after it.
-fn put_name(out: &mut [u8], p: usize, t: InputName) -> usize
-    requires { ⌜ t .len ≤ inputNameMost ⌝ }
-    requires { ⌜ p + 1 + t .len ≤ length (now out) ⌝ }
-    ensures { λ r. ⌜ r ≡ p + 1 + t .len ⌝ }
-    ensures { λ _. ⌜ now (out .exit) ≡ sets (now (out .entry)) p (textSection (nameStored t)) ⌝ }
-{
-    let bytes = t.bytes;
-    let len = t.len;
-    put_section(out, p, len as u8, &bytes[0..len]);
-    p + 1 + len
-}
-
-// How long the first n names are, each with its count.
-fn names_long(names: [InputName; INPUTS_MOST], n: usize) -> usize
-    requires { ⌜ n ≤ listedMost ⌝ }
-    requires { ⌜ isNames n names ≡ true ⌝ }
-    ensures { λ r. ⌜ r ≡ length (textsBytes (map nameStored (take n names))) ⌝ }
-    ensures { λ r. ⌜ r ≤ 129 * n ⌝ }
-{
-    let mut long = 0;
-    let mut i = 0;
-    while i < n {
-        let t = names[i];
-        long = long + 1 + t.len;
-        i += 1;
-    }
-    long
-}
-
-// The first n names, one after the other.
-fn put_names(out: &mut [u8], p: usize, names: [InputName; INPUTS_MOST], n: usize)
-    requires { ⌜ n ≤ listedMost ⌝ }
-    requires { ⌜ isNames n names ≡ true ⌝ }
-    requires { ⌜ p + length (textsBytes (map nameStored (take n names))) ≤ length (now out) ⌝ }
-    ensures { λ _. ⌜ now (out .exit) ≡ sets (now (out .entry)) p (textsBytes (map nameStored (take n names))) ⌝ }
-{
-    let mut at = p;
-    let mut i = 0;
-    while i < n {
-        let t = names[i];
-        at = put_name(out, at, t);
-        i += 1;
-    }
 }
 
 // How long the class is with what Class 2 alone has.
@@ -151,7 +47,7 @@ fn rest_length(
     if class != 2 {
         return 1;
     }
-    3 + serial.len + version.len + names_long(names, n)
+    3 + serial.len + version.len + writing::names_long(names, n)
 }
 
 // The class, and what Class 2 alone has.
@@ -178,9 +74,9 @@ fn put_rest(
     if class != 2 {
         return;
     }
-    let place = put_text(out, p + 1, serial);
-    let first = put_text(out, place, version);
-    put_names(out, first, names, n);
+    let place = writing::put_text(out, p + 1, serial);
+    let first = writing::put_text(out, place, version);
+    writing::put_names(out, first, names, n);
 }
 
 // The length of the form of a legal record.
@@ -207,11 +103,11 @@ fn put_texts(out: &mut [u8], s: Settings) -> usize
 {
     let version = [VERSION];
     text::put(out, 0, &version);
-    let maker = put_text(out, 1, s.name);
-    let model = put_text(out, maker, s.maker);
-    let other = put_text(out, model, s.model);
-    let password = put_text(out, other, s.other);
-    put_text(out, password, s.password)
+    let maker = writing::put_text(out, 1, s.name);
+    let model = writing::put_text(out, maker, s.maker);
+    let other = writing::put_text(out, model, s.model);
+    let password = writing::put_text(out, other, s.other);
+    writing::put_text(out, password, s.password)
 }
 
 // The inputs, the lamps, their marks, W and C. Returns the place after them.
@@ -234,14 +130,14 @@ fn put_lists(
     let count = s.input_count;
     let n = s.lamp_count;
     let len = 2 * count;
-    put_section(out, p, count as u8, &list[0..len]);
+    writing::put_section(out, p, count as u8, &list[0..len]);
     let place = p + 1 + len;
     let lead = [n as u8];
     text::put(out, place, &lead);
-    put_seconds(out, place + 1, lamps, n);
+    writing::put_seconds(out, place + 1, lamps, n);
     let next = place + 1 + 4 * n;
     text::put(out, next, &lead);
-    put_marks(out, next + 1, marks, n);
+    writing::put_marks(out, next + 1, marks, n);
     let warm = next + 1 + n;
     numbers::put_two(out, warm, s.warm);
     numbers::put_two(out, warm + 2, s.cool);

@@ -1,4 +1,4 @@
--- `stored::loading::seconds_at` meets its contract: each lamp passed has its seconds in a cleared room.
+-- `stored::reading::seconds_at` meets its contract: each lamp passed has its seconds in a cleared room.
 -- Assumes nothing.
 use Prim.Native.Nat.{ℕ, _+_, _*_, _-_, _<_}
 use mathlib.Core.Path.{_≡_, sym, ap, subst, _∙_}
@@ -11,8 +11,8 @@ use Rattle.record.specs.Limits.{lampsMost}
 use Rattle.record.proofs.Filled.{Copied, none-copied, one-copied, all-copied}
 use Rattle.stored.specs.Loading.{numberIn, secondsIn}
 use Rattle.stored.proofs.Seconds.{read-many, read-at}
-use Rattle.stored.proofs.loading.seconds_at.Statement.{statement}
-use Rattle.stored.proofs.loading.seconds_at.Tie as tie
+use Rattle.stored.proofs.reading.seconds_at.Statement.{statement}
+use Rattle.stored.proofs.reading.seconds_at.Tie as tie
 
 abbrev Inv : tie.InvT-loop
 Inv s p n list₀ i₀ list i = Copied lampsMost (secondsIn n (drop p s)) list i

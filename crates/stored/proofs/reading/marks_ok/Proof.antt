@@ -1,4 +1,4 @@
--- `stored::loading::marks_ok` meets its contract: the answer so far is whether each byte passed is a mark's.
+-- `stored::reading::marks_ok` meets its contract: the answer so far is whether each byte passed is a mark's.
 -- Assumes nothing.
 use Prim.Native.Nat.{_-_}
 use mathlib.Core.Path.{refl}
@@ -6,8 +6,8 @@ use lib.ListN.{length}
 use borrow.Author.Needs.{needs}
 use Rattle.text.proofs.Scanning.{Gathered, none-gathered, one-gathered, all-gathered}
 use Rattle.stored.specs.Loading.{isMarkByte}
-use Rattle.stored.proofs.loading.marks_ok.Statement.{statement}
-use Rattle.stored.proofs.loading.marks_ok.Tie as tie
+use Rattle.stored.proofs.reading.marks_ok.Statement.{statement}
+use Rattle.stored.proofs.reading.marks_ok.Tie as tie
 
 abbrev Inv : tie.InvT-loop
 Inv s ok₀ i₀ ok i = Gathered isMarkByte s i ok

@@ -1,4 +1,4 @@
--- `stored::storing::put_marks` meets its contract: up to i each mark has its byte in memory.
+-- `stored::writing::put_marks` meets its contract: up to i each mark has its byte in memory.
 -- Assumes nothing.
 use Prim.Native.Nat.{_-_}
 use mathlib.Core.Path.{_≡_}
@@ -7,8 +7,8 @@ use lib.ListN.{length}
 use borrow.Author.Needs.{needs}
 use Rattle.record.specs.Limits.{lampsMost}
 use Rattle.stored.proofs.MarksWritten.{MarksPut, no-mark-put, one-mark-put, marks-put-room, all-marks-put}
-use Rattle.stored.proofs.storing.put_marks.Statement.{statement}
-use Rattle.stored.proofs.storing.put_marks.Tie as tie
+use Rattle.stored.proofs.writing.put_marks.Statement.{statement}
+use Rattle.stored.proofs.writing.put_marks.Tie as tie
 
 abbrev Inv : tie.InvT-loop
 Inv out₀ p n marks i₀ out i = MarksPut out₀ p marks n out i

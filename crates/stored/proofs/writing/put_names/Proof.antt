@@ -1,4 +1,4 @@
--- `stored::storing::put_names` meets its contract: up to i each name stands in memory after its count.
+-- `stored::writing::put_names` meets its contract: up to i each name stands in memory after its count.
 -- Assumes nothing.
 use Prim.Native.Nat.{ℕ, _+_, _-_, _≤_, _<_}
 use mathlib.Core.Path.{_≡_, ap, _∙_}
@@ -12,8 +12,8 @@ use Rattle.stored.specs.Form.{nameStored}
 use Rattle.stored.proofs.Written.{Wrote, wrote-room}
 use Rattle.stored.proofs.NamesWritten.{noName, first, no-name-put, one-name-put, name-inside, name-within}
 use Rattle.stored.proofs.NamesWritten.{name-stored-long, name-stays}
-use Rattle.stored.proofs.storing.put_names.Statement.{statement}
-use Rattle.stored.proofs.storing.put_names.Tie as tie
+use Rattle.stored.proofs.writing.put_names.Statement.{statement}
+use Rattle.stored.proofs.writing.put_names.Tie as tie
 
 abbrev Inv : tie.InvT-loop
 Inv out₀ p n names at₀ i₀ out place i = (i ≤ n) × Wrote out₀ p out place (first names i)

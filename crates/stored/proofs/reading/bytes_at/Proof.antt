@@ -1,4 +1,4 @@
--- `stored::loading::bytes_at` meets its contract: up to i the bytes of the texts stand one after the other in a cleared
+-- `stored::reading::bytes_at` meets its contract: up to i the bytes of the texts stand one after the other in a cleared
 -- room.
 -- Assumes nothing.
 use Prim.Native.Nat.{ℕ, _+_, _*_, _-_, _≤_}
@@ -12,8 +12,8 @@ use Rattle.lines.specs.Bytes.{_at_}
 use Rattle.stored.specs.Loading.{textsIn, joinedTexts, joinedMost}
 use Rattle.stored.proofs.Joined.{BytesRead, no-bytes-read, one-bytes-read, all-bytes-read, bytes-read-room}
 use Rattle.stored.proofs.Joined.{next-ends}
-use Rattle.stored.proofs.loading.bytes_at.Statement.{statement}
-use Rattle.stored.proofs.loading.bytes_at.Tie as tie
+use Rattle.stored.proofs.reading.bytes_at.Statement.{statement}
+use Rattle.stored.proofs.reading.bytes_at.Tie as tie
 
 record Copied (s : List ℕ) (p n : ℕ) (list : List ℕ) (place to i : ℕ) : Type 0 where
   inside : i ≤ n

@@ -1,4 +1,4 @@
--- `stored::storing::names_long` meets its contract: up to i the names are so long with their counts.
+-- `stored::writing::names_long` meets its contract: up to i the names are so long with their counts.
 -- Assumes nothing.
 use Prim.Native.Nat.{ℕ, _*_, _-_, _≤_, _<_}
 use mathlib.Core.Path.{_≡_, ap, _∙_}
@@ -11,8 +11,8 @@ use Rattle.record.specs.declared.types.InputName.{InputName}
 use Rattle.stored.specs.Form.{nameStored}
 use Rattle.stored.proofs.NamesWritten.{noName, first, NamesLong, no-name-long, one-name-long, name-inside}
 use Rattle.stored.proofs.NamesWritten.{name-within, name-stored-long}
-use Rattle.stored.proofs.storing.names_long.Statement.{statement}
-use Rattle.stored.proofs.storing.names_long.Tie as tie
+use Rattle.stored.proofs.writing.names_long.Statement.{statement}
+use Rattle.stored.proofs.writing.names_long.Tie as tie
 
 record Added (n : ℕ) (names : List InputName) (long i : ℕ) : Type 0 where
   inside : i ≤ n

@@ -1,12 +1,12 @@
--- `stored::loading::marks_of` meets its contract: each byte passed is kept as its mark, in a room without marks.
+-- `stored::reading::marks_of` meets its contract: each byte passed is kept as its mark, in a room without marks.
 -- Assumes nothing.
 use Prim.Native.Nat.{_-_}
 use mathlib.Core.Path.{refl}
 use lib.ListN.{length}
 use borrow.Author.Needs.{needs}
 use Rattle.stored.proofs.MarksWritten.{MarksKept, no-mark-kept, one-mark-kept, all-marks-kept}
-use Rattle.stored.proofs.loading.marks_of.Statement.{statement}
-use Rattle.stored.proofs.loading.marks_of.Tie as tie
+use Rattle.stored.proofs.reading.marks_of.Statement.{statement}
+use Rattle.stored.proofs.reading.marks_of.Tie as tie
 
 abbrev Inv : tie.InvT-loop
 Inv s list₀ i₀ list i = MarksKept s list i

@@ -1,4 +1,4 @@
--- `stored::storing::put_seconds` meets its contract: up to i each lamp has its four bytes in memory.
+-- `stored::writing::put_seconds` meets its contract: up to i each lamp has its four bytes in memory.
 -- Assumes nothing.
 use Prim.Native.Nat.{_-_}
 use mathlib.Core.Path.{_≡_}
@@ -6,8 +6,8 @@ use native.Mathlib.Omega.{arith}
 use lib.ListN.{length}
 use borrow.Author.Needs.{needs}
 use Rattle.stored.proofs.Seconds.{SecondsPut, none-put, one-put, put-room, all-put}
-use Rattle.stored.proofs.storing.put_seconds.Statement.{statement}
-use Rattle.stored.proofs.storing.put_seconds.Tie as tie
+use Rattle.stored.proofs.writing.put_seconds.Statement.{statement}
+use Rattle.stored.proofs.writing.put_seconds.Tie as tie
 
 abbrev Inv : tie.InvT-loop
 Inv out₀ p n lamps i₀ out i = SecondsPut out₀ p lamps n out i

@@ -1,4 +1,4 @@
--- `stored::loading::lengths_at` meets its contract: up to i each text has its length in a cleared room.
+-- `stored::reading::lengths_at` meets its contract: up to i each text has its length in a cleared room.
 -- Assumes nothing.
 use Prim.Native.Nat.{ℕ, _+_, _-_, _≤_}
 use mathlib.Core.Path.{sym, subst}
@@ -8,8 +8,8 @@ use borrow.Author.Needs.{needs}
 use Rattle.lines.specs.Bytes.{_at_}
 use Rattle.record.specs.Limits.{listedMost}
 use Rattle.stored.proofs.Joined.{LengthsRead, no-length-read, one-length-read, all-lengths-read, next-ends}
-use Rattle.stored.proofs.loading.lengths_at.Statement.{statement}
-use Rattle.stored.proofs.loading.lengths_at.Tie as tie
+use Rattle.stored.proofs.reading.lengths_at.Statement.{statement}
+use Rattle.stored.proofs.reading.lengths_at.Tie as tie
 
 abbrev Inv : tie.InvT-loop
 Inv s p n list₀ at₀ i₀ list place i = (i ≤ n) × LengthsRead s p listedMost list place i

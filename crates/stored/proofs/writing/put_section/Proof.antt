@@ -1,11 +1,11 @@
--- `stored::storing::put_section` meets its contract: what is counted is put after its count.
+-- `stored::writing::put_section` meets its contract: what is counted is put after its count.
 -- Assumes nothing.
 use mathlib.Core.Path.{refl, _∙_}
 use mathlib.Core.List.{[], _∷_}
 use borrow.Author.Needs.{needs}
 use Rattle.text.proofs.Stores.{sets-then}
-use Rattle.stored.proofs.storing.put_section.Statement.{statement}
-use Rattle.stored.proofs.storing.put_section.Tie as tie
+use Rattle.stored.proofs.writing.put_section.Statement.{statement}
+use Rattle.stored.proofs.writing.put_section.Tie as tie
 
 returns : tie.Need-returns
 returns c =
