@@ -4,10 +4,11 @@ use floor::replay;
 use record::types::Device;
 use stored::loading;
 
-// The longest form is shorter; a file that fills this is none.
-const ROOM: usize = 16384;
+// A byte more than the longest form that its counts, a byte each, can ask for, legal or not: a file that fills this has
+// bytes left over.
+const ROOM: usize = 68867;
 
-// `read`: the file could be opened; `number`: that of the load, 0 where the device may be used.
+// `read`: the file could be read to its end; `number`: that of the load, 0 where the device may be used.
 pub struct Begin {
     pub read: bool,
     pub number: u32,
@@ -40,6 +41,14 @@ fn of_file(path: &[u8]) -> Begin {
     }
     let mut bytes = [0u8; ROOM];
     let length = io::read_full(fd, &mut bytes);
+    // what stopped there: the end of the file, or a read that fails again, as of a directory
+    let mut more = [0u8; 1];
+    let got = libc::read(fd, &mut more);
+    if got < 0 {
+        os::fail(path);
+        libc::close(fd);
+        return unread();
+    }
     libc::close(fd);
     let loaded = loading::load(&bytes[..length]);
     let device = loaded.device;
