@@ -233,7 +233,7 @@ pub fn simpler_set_ups(lent: &Lent) -> Vec<Lent> {
 }
 
 /// The form of simpler settings, with what is left over after it, or shorter bytes; of what is no form, simpler bytes.
-fn simpler_forms(bytes: &[u8]) -> Vec<Vec<u8>> {
+pub fn simpler_forms(bytes: &[u8]) -> Vec<Vec<u8>> {
     let Ok((stored, left_over)) = unmistaken(|| form::read(bytes)) else { return simpler_bytes(bytes).collect() };
     let of = |stored: &Stored| [&unmistaken(|| form::written(stored))[..], left_over].concat();
     let with_lent = |lent| Stored { lent, ..stored.clone() };

@@ -27,7 +27,7 @@ fn every_byte() -> Vec<u8> {
 }
 
 /// Each count of digits, with and without leading zeros; each number around a power of ten or two; the lamp burns.
-fn every_number() -> Vec<u8> {
+pub fn every_number() -> Vec<u8> {
     let mut log = b"O 00000000\nR %1POWR 1\n".to_vec();
     for digits in 0..=22 {
         for digit in '0'..='9' {

@@ -9,11 +9,17 @@ use crate::reference::{Power, Projector};
 use crate::replay::{LONGEST, PLACE, event, play, sample};
 
 /// How often a log has what: one line in so many.
-struct Temper {
-    damaged: usize,
-    long: usize,
+pub struct Temper {
+    pub damaged: usize,
+    pub long: usize,
     /// Whether seconds come by the year.
-    ages: bool,
+    pub ages: bool,
+}
+
+impl Temper {
+    fn any(random: &mut Random) -> Temper {
+        Temper { damaged: random.pick(&[2, 5, 20, 1000]), long: random.pick(&[20, 200, 2000]), ages: random.one_in(3) }
+    }
 }
 
 pub fn log(random: &mut Random) -> Vec<u8> {
@@ -25,24 +31,28 @@ pub fn log(random: &mut Random) -> Vec<u8> {
             let length = random.below(3000);
             random.bytes_from(0, length)
         }
-        _ => day(random),
+        _ => day(random, sample(), line, play_text),
     }
 }
 
-fn noise(random: &mut Random, bytes: &[u8]) -> Vec<u8> {
+pub fn noise(random: &mut Random, bytes: &[u8]) -> Vec<u8> {
     (0..random.below(2000)).map(|_| random.pick(bytes)).collect()
 }
 
-/// Lines of every kind; at the end an LF is missing at times.
-fn day(random: &mut Random) -> Vec<u8> {
-    let temper =
-        Temper { damaged: random.pick(&[2, 5, 20, 1000]), long: random.pick(&[20, 200, 2000]), ages: random.one_in(3) };
+/// Lines of every kind, each made for what the lines before it did; at the end an LF is missing at times.
+pub fn day(
+    random: &mut Random,
+    mut projector: Projector,
+    line: fn(&mut Random, &Projector, &Temper) -> Vec<u8>,
+    play_text: fn(&mut Projector, &[u8]),
+) -> Vec<u8> {
+    let temper = Temper::any(random);
     let most = random.pick(&[3, 30, 150, 400]);
-    let mut projector = sample();
     let mut log = Vec::new();
     for _ in 0..=random.below(most) {
         let line = line(random, &projector, &temper);
-        follow(&mut projector, &line);
+        // a text may have an LF in it, and then it is more than one line
+        line.split(|&byte| byte == LF).for_each(|text| play_text(&mut projector, text));
         log.extend(line);
         log.push(LF);
     }
@@ -60,23 +70,24 @@ fn day(random: &mut Random) -> Vec<u8> {
     log
 }
 
-/// A text may have an LF in it, and then it is more than one line.
-fn follow(projector: &mut Projector, text: &[u8]) {
-    for line in text.split(|&byte| byte == LF) {
-        if let Some(event) = event(line) {
-            play(projector, event);
-        }
+fn play_text(projector: &mut Projector, text: &[u8]) {
+    if let Some(event) = event(text) {
+        play(projector, event);
     }
 }
 
 fn line(random: &mut Random, projector: &Projector, temper: &Temper) -> Vec<u8> {
     if random.one_in(temper.long) {
-        let length =
-            random.pick(&[4095, 4096, 4096, 4096, 4096, 4097, 4097, 4097, 4098, 8191, 8192, 8193, 12_288, 65_537]);
-        return long(random, projector, length);
+        return any_long(random, projector);
     }
     let good = good(random, projector, temper);
     if random.one_in(temper.damaged) { damage::damaged(random, good) } else { good }
+}
+
+pub fn any_long(random: &mut Random, projector: &Projector) -> Vec<u8> {
+    let lengths = [4095, 4096, 4096, 4096, 4096, 4097, 4097, 4097, 4098, 8191, 8192, 8193, 12_288, 65_537];
+    let length = random.pick(&lengths);
+    long(random, projector, length)
 }
 
 fn good(random: &mut Random, projector: &Projector, temper: &Temper) -> Vec<u8> {
@@ -91,14 +102,14 @@ fn good(random: &mut Random, projector: &Projector, temper: &Temper) -> Vec<u8> 
     }
 }
 
-fn open(random: &mut Random) -> Vec<u8> {
+pub fn open(random: &mut Random) -> Vec<u8> {
     let number = random.word();
     let number = random.pick(&[number, number, number, 0, 1, u32::MAX]);
     [b"O ", &eight_hex_digits(number)[..]].concat()
 }
 
 /// Commands, their cases and damages as the calls are compared on, without the CR that `R` adds.
-fn text(random: &mut Random, projector: &Projector) -> Vec<u8> {
+pub fn text(random: &mut Random, projector: &Projector) -> Vec<u8> {
     match random.below(16) {
         0..=2 => b"%1POWR 1".to_vec(),
         3 => b"%1POWR 0".to_vec(),
@@ -125,7 +136,7 @@ fn padded(random: &mut Random, command: &[u8]) -> Vec<u8> {
     text
 }
 
-fn pass(random: &mut Random, projector: &Projector, temper: &Temper) -> Vec<u8> {
+pub fn pass(random: &mut Random, projector: &Projector, temper: &Temper) -> Vec<u8> {
     let seconds = seconds(random, projector, temper);
     let width = if random.one_in(6) { random.from_to(1, 10) } else { 1 };
     format!("T {seconds:0width$}").into_bytes()
@@ -134,11 +145,12 @@ fn pass(random: &mut Random, projector: &Projector, temper: &Temper) -> Vec<u8> 
 /// Around what is left of warm-up and cooling, around 30 seconds and whole hours; with ages, around the lamp limit and
 /// the ends of the range.
 fn seconds(random: &mut Random, projector: &Projector, temper: &Temper) -> u32 {
+    let first = projector.lamps.first().copied().unwrap_or_default();
     let left = match projector.power {
         Power::WarmUp(left) | Power::Cooling(left) => left,
-        Power::On | Power::Off => 3600 - projector.lamps[0] % 3600,
+        Power::On | Power::Off => 3600 - first % 3600,
     };
-    let to_limit = LAMP_LIMIT - projector.lamps[0];
+    let to_limit = LAMP_LIMIT - first;
     match random.below(if temper.ages { 12 } else { 9 }) {
         0 => random.pick(&[0, 1, 2, 10, 99, 100]),
         1 | 2 => left - 1,

@@ -1,11 +1,12 @@
 //! 02, L1 by the thousand: for each log, made from a seed, the program prints what these rules print, byte for byte,
 //! whatever the sizes of the reads; and the logs of a run would show each deliberate mistake of `replay::mistakes`.
 
-mod damage;
-mod every;
-mod making;
+pub mod damage;
+pub mod every;
+pub mod making;
 mod program;
-mod report;
+pub mod report;
+pub mod workers;
 
 pub use program::Program;
 pub use report::{Difference, Met};
@@ -13,11 +14,10 @@ pub use report::{Difference, Met};
 use crate::compare::random::Random;
 use crate::compare::shrink::{self, Smaller};
 use crate::replay::{LONGEST, lines, replayed};
-use std::sync::Mutex;
-use std::thread;
+use workers::on_all;
 
 /// How many smaller logs are tried at most, once one differs.
-const TRIES: usize = 600;
+pub const TRIES: usize = 600;
 
 /// No log is fed in many more reads than these.
 const READS: usize = 2000;
@@ -40,8 +40,11 @@ impl Fed {
             Some(log) => log(),
             None => making::log(&mut random),
         };
-        let small = number % 2 == 1;
-        let reads = if small { sizes(&mut random, log.len()) } else { Vec::new() };
+        Fed::new(&mut random, log, number % 2 == 1)
+    }
+
+    pub fn new(random: &mut Random, log: Vec<u8>, small: bool) -> Fed {
+        let reads = if small { sizes(random, log.len()) } else { Vec::new() };
         Fed { log, reads }
     }
 }
@@ -75,29 +78,19 @@ impl Smaller for Fed {
 /// The logs of a seed, so many random ones, played by a program on all processors: what they met, or the first that
 /// differs, cut down.
 pub fn compare(program: &Program, seed: u64, count: usize) -> Result<Met, Box<Difference>> {
-    let numbers = Mutex::new(0..FIXED + count);
-    let run = || {
-        let mut met = Met::default();
-        loop {
-            let Some(number) = numbers.lock().expect("no panic").next() else { return Ok(met) };
-            let fed = Fed::nth(seed, number);
-            let expected = replayed(&fed.log);
-            if program.replayed(&fed.log, &fed.reads) != expected {
-                *numbers.lock().expect("no panic") = 0..0;
-                return Err((number, fed));
-            }
-            met.count(&fed.log, &expected);
+    let met = on_all(FIXED + count, Met::default, |number, met| {
+        let fed = Fed::nth(seed, number);
+        let expected = replayed(&fed.log);
+        if program.printed(&fed.log, &fed.reads) != expected {
+            return Err((number, fed));
         }
-    };
-    let workers = thread::available_parallelism().map_or(1, usize::from);
-    let met = thread::scope(|scope| {
-        let workers: Vec<_> = (0..workers).map(|_| scope.spawn(run)).collect();
-        workers.into_iter().map(|worker| worker.join().expect("no panic")).collect::<Result<Vec<_>, _>>()
+        met.count(&fed.log, &expected);
+        Ok(())
     });
     met.map(|all| all.into_iter().fold(Met::default(), Met::and)).map_err(|(number, fed)| {
-        let differs = |fed: &Fed| program.replayed(&fed.log, &fed.reads) != replayed(&fed.log);
+        let differs = |fed: &Fed| program.printed(&fed.log, &fed.reads) != replayed(&fed.log);
         let fed = shrink::smallest(fed, TRIES, differs);
-        let (expected, given) = (replayed(&fed.log), program.replayed(&fed.log, &fed.reads));
+        let (expected, given) = (replayed(&fed.log), program.printed(&fed.log, &fed.reads));
         Box::new(Difference { number, fed, expected, given })
     })
 }
@@ -161,7 +154,7 @@ mod tests {
     fn reads_have_their_sizes() {
         let copy = |count: &str| {
             let words = ["dd", "bs=1000", "status=none", count];
-            let out = Program(words.map(str::to_string).to_vec()).replayed(b"abcdefghij", &[1, 3]);
+            let out = Program(words.map(str::to_string).to_vec()).printed(b"abcdefghij", &[1, 3]);
             out.into_iter().take_while(|&byte| byte != b'(').collect::<Vec<u8>>()
         };
         assert_eq!(copy("count=1"), b"a");

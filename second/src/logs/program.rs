@@ -7,28 +7,47 @@ use std::process::{Command, Stdio};
 use std::thread;
 
 /// The words that start it.
+#[derive(Clone)]
 pub struct Program(pub Vec<String>);
 
 impl Program {
+    /// With one word more.
+    pub fn with(&self, word: String) -> Program {
+        Program([&self.0[..], &[word]].concat())
+    }
+
     /// What it prints for a log. Without sizes the log comes through a pipe, in reads as large as the program asks for;
     /// with sizes, each read gives one of that size, in turn.
     ///
     /// A program that fails or leaves bytes unread prints that too.
-    pub fn replayed(&self, log: &[u8], reads: &[usize]) -> Vec<u8> {
-        self.started(log, reads).unwrap_or_else(|error| panic!("{}: {error}", self.0.join(" ")))
-    }
-
-    fn started(&self, log: &[u8], reads: &[usize]) -> io::Result<Vec<u8>> {
-        if reads.is_empty() {
-            let (input, mut feed) = io::pipe()?;
-            self.run(input.into(), move || feed.write_all(log))
-        } else {
-            let (input, feed) = UnixDatagram::pair()?;
-            self.run(input.into(), move || in_reads(&feed, log, reads))
+    pub fn printed(&self, log: &[u8], reads: &[usize]) -> Vec<u8> {
+        let (mut out, fed) = self.started(log, reads);
+        if let Err(error) = fed {
+            out.extend(format!("(not all was read: {error})\n").bytes());
         }
+        out
     }
 
-    fn run(&self, input: OwnedFd, feed: impl FnOnce() -> io::Result<()> + Send) -> io::Result<Vec<u8>> {
+    /// What it prints where it may leave the log unread.
+    pub fn printed_unread(&self, log: &[u8], reads: &[usize]) -> Vec<u8> {
+        self.started(log, reads).0
+    }
+
+    /// What it prints, and whether the log was read.
+    fn started(&self, log: &[u8], reads: &[usize]) -> (Vec<u8>, io::Result<()>) {
+        let started = if reads.is_empty() {
+            io::pipe().and_then(|(input, mut feed)| self.run(input.into(), move || feed.write_all(log)))
+        } else {
+            UnixDatagram::pair().and_then(|(input, feed)| self.run(input.into(), move || in_reads(&feed, log, reads)))
+        };
+        started.unwrap_or_else(|error| panic!("{}: {error}", self.0.join(" ")))
+    }
+
+    fn run(
+        &self,
+        input: OwnedFd,
+        feed: impl FnOnce() -> io::Result<()> + Send,
+    ) -> io::Result<(Vec<u8>, io::Result<()>)> {
         let (program, words) = self.0.split_first().expect("a program has a name");
         let mut child = Command::new(program).args(words).stdin(input).stdout(Stdio::piped()).spawn()?;
         let mut out = Vec::new();
@@ -40,10 +59,9 @@ impl Program {
         let status = child.wait()?;
         if !status.success() {
             out.extend(format!("({status})\n").bytes());
-        } else if let Err(error) = fed {
-            out.extend(format!("(not all was read: {error})\n").bytes());
+            return Ok((out, Ok(())));
         }
-        Ok(out)
+        Ok((out, fed))
     }
 }
 

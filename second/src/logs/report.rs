@@ -120,7 +120,7 @@ impl fmt::Display for Difference {
 }
 
 /// A line's bytes, the middle of a long one left out.
-fn shown(line: &[u8]) -> String {
+pub fn shown(line: &[u8]) -> String {
     match line {
         [first @ .., _] if first.len() > 200 => {
             format!("{}..{} ({} bytes)", line[..60].escape_ascii(), line[line.len() - 60..].escape_ascii(), line.len())

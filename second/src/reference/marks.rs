@@ -15,27 +15,10 @@ pub fn set_mark(device: &face::Device, lamp: usize, enabled: bool) -> face::Chan
         let told = lamp >= device.settings.lamp_count && made(Mistake::LampBeforeLegality);
         return refused(if told { OUT_OF_RANGE } else { NOT_LEGAL });
     };
-    if !projector.may_be_marked() && made(Mistake::NotOffFirst) {
-        return refused(NOT_OFF);
+    match projector.set_mark(lamp, enabled) {
+        Ok(()) => face::Changed { number: 0, device: projector.record() },
+        Err(number) => refused(number),
     }
-    let Some(lamp) = lamp_of(&projector, lamp) else { return refused(OUT_OF_RANGE) };
-    if !enabled && projector.is_last_mark(lamp) {
-        return refused(OUT_OF_RANGE);
-    }
-    if projector.enabled[lamp] == enabled && made(Mistake::SameMarkRefused) {
-        return refused(OUT_OF_RANGE);
-    }
-    if !projector.may_be_marked() {
-        return refused(if made(Mistake::NotOffIsThree) { OUT_OF_RANGE } else { NOT_OFF });
-    }
-    if enabled && made(Mistake::OneMarkAtATime) {
-        projector.enabled.fill(false);
-    }
-    if enabled && !projector.enabled[lamp] && made(Mistake::MarkStartsAnew) {
-        projector.lamps[lamp] = 0;
-    }
-    projector.enabled[lamp] = enabled;
-    face::Changed { number: 0, device: projector.record() }
 }
 
 /// "a lamp place that does not exist is 3". Lamps are numbered from 0.
@@ -51,6 +34,31 @@ fn lamp_of(projector: &Projector, number: usize) -> Option<usize> {
 }
 
 impl Projector {
+    /// 3, 7.
+    pub fn set_mark(&mut self, lamp: usize, enabled: bool) -> Result<(), u32> {
+        if !self.may_be_marked() && made(Mistake::NotOffFirst) {
+            return Err(NOT_OFF);
+        }
+        let lamp = lamp_of(self, lamp).ok_or(OUT_OF_RANGE)?;
+        if !enabled && self.is_last_mark(lamp) {
+            return Err(OUT_OF_RANGE);
+        }
+        if self.enabled[lamp] == enabled && made(Mistake::SameMarkRefused) {
+            return Err(OUT_OF_RANGE);
+        }
+        if !self.may_be_marked() {
+            return Err(if made(Mistake::NotOffIsThree) { OUT_OF_RANGE } else { NOT_OFF });
+        }
+        if enabled && made(Mistake::OneMarkAtATime) {
+            self.enabled.fill(false);
+        }
+        if enabled && !self.enabled[lamp] && made(Mistake::MarkStartsAnew) {
+            self.lamps[lamp] = 0;
+        }
+        self.enabled[lamp] = enabled;
+        Ok(())
+    }
+
     fn may_be_marked(&self) -> bool {
         match self.power {
             Power::Off => !(self.fault && made(Mistake::FaultRefusesMarks)),

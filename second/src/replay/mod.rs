@@ -1,13 +1,14 @@
-//! 02, L1: a log from the floor, played on 01's sample set-up (W 20, C 60, one lamp at 0 s, input 11, texts empty, no
-//! password, every place closed). `mistakes` has the deliberate ones.
+//! 02, L1: a log from the floor, played on 01's sample set-up, or on the device of a stored form. `mistakes` has the
+//! deliberate ones.
 
+mod device;
 pub mod mistakes;
 
+pub use device::{device, sample};
+
 use crate::reference::Projector;
-use crate::reference::class::Class;
 use crate::reference::places::NOT_CLOSED;
-use crate::reference::set_up::SetUp;
-use crate::reference::text::{CR, Input, LF, hex_number};
+use crate::reference::text::{CR, LF, hex_number};
 use std::io::{self, BufRead, Write};
 
 /// 02, L5: "L1's log drives place 0 only, and a second `O` there still prints `! 5`, by the program's own test."
@@ -90,43 +91,42 @@ fn told(outcome: Option<Outcome>) -> Vec<u8> {
     }
 }
 
-pub fn sample() -> Projector {
-    let set_up = SetUp {
-        name: Vec::new(),
-        maker: Vec::new(),
-        model: Vec::new(),
-        other: Vec::new(),
-        password: Vec::new(),
-        inputs: vec![Input { kind: 1, number: 1 }],
-        warm: 20,
-        cool: 60,
-        class: Class::One,
+pub fn replay(form: Option<&[u8]>, log: impl BufRead, out: impl Write) -> io::Result<()> {
+    replay_by(play, form, log, out)
+}
+
+/// After the last line, power as POWR answers it and the lamp seconds, each after a space. "a form that does not load
+/// gives its number in one line, and nothing else".
+fn replay_by(play: Play, form: Option<&[u8]>, log: impl BufRead, mut out: impl Write) -> io::Result<()> {
+    let mut projector = match device(form) {
+        Ok(projector) => projector,
+        Err(number) => return refuse(number, out),
     };
-    set_up.fresh(vec![0])
-}
-
-pub fn replay(log: impl BufRead, out: impl Write) -> io::Result<()> {
-    replay_by(play, log, out)
-}
-
-/// "Lines end with LF, the last perhaps without". After the last, power as POWR answers it and the lamp seconds.
-fn replay_by(play: Play, mut log: impl BufRead, mut out: impl Write) -> io::Result<()> {
-    let mut projector = sample();
-    let mut line = Vec::new();
     let mut number = 0u64;
-    loop {
-        line.clear();
-        if log.read_until(LF, &mut line)? == 0 {
-            break;
-        }
+    each_text(log, |text| {
         number += 1;
         write!(out, "{number} ")?;
-        out.write_all(&told(event(text_of(&line)).map(|event| play(&mut projector, event))))?;
-        out.write_all(b"\n")?;
-    }
-    let lamps: Vec<String> = projector.lamps.iter().map(u32::to_string).collect();
-    writeln!(out, "power {} lamps {}", char::from(projector.power_digit()), lamps.join(" "))?;
+        out.write_all(&told(event(text).map(|event| play(&mut projector, event))))?;
+        out.write_all(b"\n")
+    })?;
+    let lamps: String = projector.lamps.iter().map(|seconds| format!(" {seconds}")).collect();
+    writeln!(out, "power {} lamps{lamps}", char::from(projector.power_digit()))?;
     out.flush()
+}
+
+pub fn refuse(number: u32, mut out: impl Write) -> io::Result<()> {
+    writeln!(out, "! {number}")?;
+    out.flush()
+}
+
+/// "Lines end with LF, the last perhaps without": the text of each in turn.
+pub fn each_text(mut log: impl BufRead, mut each: impl FnMut(&[u8]) -> io::Result<()>) -> io::Result<()> {
+    let mut line = Vec::new();
+    while log.read_until(LF, &mut line)? > 0 {
+        each(text_of(&line))?;
+        line.clear();
+    }
+    Ok(())
 }
 
 /// The lines of a log, each with the LF that it has.
@@ -141,17 +141,24 @@ pub fn text_of(line: &[u8]) -> &[u8] {
 
 /// What a log in memory prints.
 pub fn replayed(log: &[u8]) -> Vec<u8> {
-    in_memory(play, log)
+    replayed_on(None, log)
 }
 
-fn in_memory(play: Play, log: &[u8]) -> Vec<u8> {
+pub fn replayed_on(form: Option<&[u8]>, log: &[u8]) -> Vec<u8> {
+    in_memory(play, form, log)
+}
+
+fn in_memory(play: Play, form: Option<&[u8]>, log: &[u8]) -> Vec<u8> {
     let mut out = Vec::new();
-    replay_by(play, log, &mut out).expect("memory takes what is written");
+    replay_by(play, form, log, &mut out).expect("memory takes what is written");
     out
 }
 
 #[cfg(test)]
 mod tests {
+    use crate::compare::forms;
+    use crate::face::Lent;
+
     fn replayed(log: &[u8]) -> String {
         String::from_utf8(super::replayed(log)).unwrap()
     }
@@ -179,5 +186,15 @@ mod tests {
         let log = [b"O 00000000\n", &line(4096)[..], &line(4097), b"R %1CLSS\r ?\nX \nT \n"].concat();
         assert_eq!(replayed(&log), "1 PJLINK 0\n2 -\n3 ?\n4 ?\n5 ?\n6 ?\npower 0 lamps 0\n");
         assert_eq!(replayed(b""), "power 0 lamps 0\n");
+    }
+
+    /// "`replay` takes the same argument"; "`replay` still answers `?`" to an `M` line.
+    #[test]
+    fn on_a_form() {
+        let on = |form: &[u8]| String::from_utf8(super::replayed_on(Some(form), b"M 1 0\nO 00000000\n")).unwrap();
+        let lent = Lent { lamps: vec![5, 6], ..forms::least() };
+        assert_eq!(on(&forms::of(&lent)), "1 ?\n2 PJLINK 0\npower 0 lamps 5 6\n");
+        assert_eq!(on(&forms::of(&forms::least())), "1 ?\n2 PJLINK 0\npower 0 lamps\n");
+        assert_eq!(on(&forms::marked(&lent, &[0, 0])), "! 23\n");
     }
 }

@@ -34,7 +34,7 @@ impl Wrong {
         match *self {
             Wrong::Log(read) => replayed(&read(log)),
             Wrong::Line(read) => replayed(&each_line(log, |line| read(line).unwrap_or(line.to_vec()))),
-            Wrong::Plays(play) => in_memory(play, log),
+            Wrong::Plays(play) => in_memory(play, None, log),
             Wrong::Prints(print) => {
                 let out = ascii(replayed(log));
                 let (told, last) = out.trim_end().rsplit_once('\n').unwrap_or(("", &out));
