@@ -3,7 +3,6 @@
 // or that of the stored form in the file that the next argument names.
 mod place;
 
-use crate::place::Place;
 use floor::replay::LINE_ROOM;
 use page::Stretch;
 use page::Totals;
@@ -13,12 +12,6 @@ use report::way;
 use sink::ROOM;
 use watch::watching;
 use watch::watching::Watch;
-
-struct Going {
-    watch: Watch,
-    place: Place,
-    report: Report,
-}
 
 // The stretches that ended, if any did.
 fn tell(r: Report, out: &mut [u8; ROOM], ended: bool, w: Watch) -> Report {
@@ -35,39 +28,6 @@ fn tell(r: Report, out: &mut [u8; ROOM], ended: bool, w: Watch) -> Report {
     report::tell(r, out, stretch)
 }
 
-fn play(g: Going, line: &mut [u8; LINE_ROOM], rest: &[u8], out: &mut [u8; ROOM]) -> Going {
-    let step = watching::play(g.watch, line, rest);
-    let seen = step.seen;
-    let watch = seen.watch;
-    let report = tell(g.report, out, seen.ended, watch);
-    let place = place::after_call(g.place, step.number, seen.taken, report.page.sink.ok);
-    Going {
-        watch,
-        place,
-        report,
-    }
-}
-
-// What is left of the last read is played. Where nothing is left, all that was told is written before the next read,
-// which may wait.
-fn turn(g: Going, line: &mut [u8; LINE_ROOM], input: &mut [u8], out: &mut [u8; ROOM]) -> Going {
-    let at = g.place.at;
-    let end = g.place.end;
-    if at < end {
-        if end <= input.len() {
-            return play(g, line, &input[at..end], out);
-        }
-    }
-    let report = report::flush(g.report, out);
-    let place = place::read(report.page.sink.ok, input);
-    let watch = g.watch;
-    Going {
-        watch,
-        place,
-        report,
-    }
-}
-
 fn tell_totals(r: Report, out: &mut [u8; ROOM], w: Watch) -> u8 {
     let starts = r.starts;
     let burnt = w.burnt;
@@ -82,7 +42,7 @@ fn tell_totals(r: Report, out: &mut [u8; ROOM], w: Watch) -> u8 {
 }
 
 // The end of the log ends the stretches that are under way.
-fn end(w: Watch, r: Report, line: &mut [u8; LINE_ROOM], out: &mut [u8; ROOM]) -> u8 {
+fn end_log(w: Watch, r: Report, line: &mut [u8; LINE_ROOM], out: &mut [u8; ROOM]) -> u8 {
     let step = watching::finish(w, line);
     if step.number != 0 {
         return way::BROKEN_OFF;
@@ -93,29 +53,40 @@ fn end(w: Watch, r: Report, line: &mut [u8; LINE_ROOM], out: &mut [u8; ROOM]) ->
     tell_totals(report, out, watch)
 }
 
-// A log that was cut short has neither its last stretches nor its lamps' seconds.
-fn close(g: Going, line: &mut [u8; LINE_ROOM], out: &mut [u8; ROOM]) -> u8 {
-    if g.place.way == way::ENDED {
-        return end(g.watch, g.report, line, out);
-    }
-    report::flush(g.report, out);
-    g.place.way
-}
-
+// What is left of the last read is played. Where nothing is left, all that was told is written before the next read,
+// which may wait. The state is moved on here and in no function of its own, which would copy the record.
 fn run(
-    g: Going,
+    device: Device,
+    begun: Report,
     line: &mut [u8; LINE_ROOM],
-    input: &mut [u8; ROOM],
+    input: &mut [u8],
     out: &mut [u8; ROOM],
-) -> Going {
-    let mut now = g;
+) -> u8 {
+    let mut watch = watching::start(device);
+    let mut report = begun;
+    let mut place = place::empty(way::ON);
     // a proved loop has to end: no log takes this many turns
     let mut turns = u64::MAX;
-    while turns > 0 && now.place.way == way::ON {
-        now = turn(now, line, input, out);
+    while turns > 0 && place.way == way::ON {
+        let at = place.at;
+        let end = place.end;
+        if at < end && end <= input.len() {
+            let step = watching::play(watch, line, &input[at..end]);
+            watch = step.seen.watch;
+            report = tell(report, out, step.seen.ended, watch);
+            place = place::after_call(place, step.number, step.seen.taken, report.page.sink.ok);
+        } else {
+            report = report::flush(report, out);
+            place = place::read(report.page.sink.ok, input);
+        }
         turns -= 1;
     }
-    now
+    if place.way == way::ENDED {
+        return end_log(watch, report, line, out);
+    }
+    // a log that was cut short has neither its last stretches nor its lamps' seconds
+    report::flush(report, out);
+    place.way
 }
 
 fn show(device: Device, drawn: bool) -> u8 {
@@ -124,15 +95,7 @@ fn show(device: Device, drawn: bool) -> u8 {
     let mut out = [0u8; ROOM];
     let starts = device.own.lamps;
     let report = report::begin(drawn, starts, &mut out);
-    let watch = watching::start(device);
-    let place = place::empty(way::ON);
-    let begun = Going {
-        watch,
-        place,
-        report,
-    };
-    let last = run(begun, &mut line, &mut input, &mut out);
-    close(last, &mut line, &mut out)
+    run(device, report, &mut line, &mut input, &mut out)
 }
 
 // Whether the first argument asks for the page.

@@ -1,15 +1,26 @@
--- `burnt::run` is safe and ends: the turns left fall.
+-- `burnt::run` is safe and ends: the turns left fall, and the input memory keeps its length.
 -- Assumes nothing.
-use Prim.Native.Nat.{ℕ, _≤_}
+use mathlib.Core.Path.{_≡_, ap, _∙_}
+use mathlib.Core.Logic.{⊎-elim}
+use lib.ListN.{length}
 use borrow.Author.Needs.{needs}
 use Rattle.burnt.proofs.run.Statement.{statement}
 use Rattle.burnt.proofs.run.Tie as tie
 
 abbrev Inv : tie.InvT-loop
-Inv line₀ input₀ out₀ now₀ turns₀ line input out now turns = 0 ≤ turns
+Inv line₀ input₀ out₀ watch₀ report₀ place₀ turns₀ line input out watch report place turns =
+    length input ≡ length input₀
 
 abbrev μ : tie.MeasureT-loop
-μ line₀ input₀ out₀ now₀ turns₀ line input out now turns = turns
+μ line₀ input₀ out₀ watch₀ report₀ place₀ turns₀ line input out watch report place turns = turns
+
+again : tie.Need-loop-again Inv μ
+again c =
+    let turn = let known = c .before .before in known .before .before in
+    ⊎-elim
+    (λ w. ap length (w .11) ∙ turn .loop .inv)
+    (λ w. ap length (w .8) ∙ w .4 .kept .1 .0 ∙ turn .loop .inv)
+    (c .if2 .came)
 
 pub run-spec : {M : Type 1} → statement M
 run-spec =
@@ -17,10 +28,23 @@ run-spec =
     (tie.spec
     Inv
     μ
-    (λ c. search needs)
+    (λ c κs. search needs)
     (λ c κs. search needs)
     (λ c. search needs)
     (λ c. search needs)
     (λ c. search needs)
+    (λ c. search needs)
+    (λ c κs. search needs)
+    (λ c κs. search needs)
+    (λ c κs. search needs)
+    (λ c κs. search needs)
+    (λ c κs. search needs)
+    (λ c. search needs)
+    (λ c. search needs)
+    again
+    (λ c κs. search needs)
+    (λ c. search needs)
+    (λ c. search needs)
+    (λ c κs. search needs)
     (λ c. search needs)
     (λ c. search needs))
