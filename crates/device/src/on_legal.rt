@@ -39,12 +39,11 @@ pub fn receive(d: Device, place: usize, bytes: &[u8], out: &mut [u8]) -> Receive
     } else if PLACES <= place {
         number = 3;
     } else {
-        let connection = d.connections[place];
+        let connection = device.connections[place];
         if connection.phase == SHUT {
             number = 4;
         } else {
-            // lent from the record that came, not from the one that leaves: that one is then copied only once
-            let took = receiving::take_in(d.settings, d.own, connection, bytes, out);
+            let took = receiving::take_in(device.settings, device.own, connection, bytes, out);
             let own = took.own;
             let next = took.connection;
             device.own = own;

@@ -70,8 +70,8 @@ may-take c κs =
     let roomy = enough (exists unshut) in
     let from = start roomy in
     record {
-      settings = legal-settings (from .args .t1) (from .pre);
-      own = legal-own (from .args .t1) (from .pre);
+      settings = legal-settings (from .args .d) (from .pre);
+      own = legal-own (from .args .d) (from .pre);
       room = roomy .if1 .left;
     }
 
@@ -82,7 +82,7 @@ taken c =
     let there = exists unshut in
     let roomy = enough there in
     let from = start roomy in
-    let d = from .args .t1 in
+    let d = from .args .d in
     let p = from .args .place in
     let e = took .take-in .ensures .0 in
     let result : _≡_ {A = Received} _ _ = λ i. record {
