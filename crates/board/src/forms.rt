@@ -1,13 +1,13 @@
 // The stored form: settings that survive a board swap (02, L3).
+use form::storing::FormWritten;
+use form::storing;
 use record::types::Changed;
 use record::types::Device;
 use stored::loading;
-use stored::storing;
-use stored::storing::FormWritten;
 ghost use mathlib.Core.Path.{_≡_};
 ghost use lib.ListN.{length};
 ghost use Rattle.text.specs.Words.{over};
-ghost use Rattle.stored.specs.Form.{storedBy, toldStored};
+ghost use Rattle.form.specs.Form.{storedBy, toldStored};
 ghost use Rattle.stored.specs.Loading.{loaded};
 
 #[no_mangle]

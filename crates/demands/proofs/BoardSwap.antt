@@ -21,9 +21,10 @@ use Rattle.record.specs.declared.types.Changed.{Changed}
 use Rattle.record.proofs.LegalTold.{own-of-legal}
 use Rattle.record.proofs.MarksTold.{marks-long}
 use Rattle.record.proofs.Started.{started-parts}
-use Rattle.stored.specs.Form.{formVersion, markedFormOf, storedOf, marksStored, storedForm, storedBy}
+use Rattle.form.specs.Form.{formVersion, markedFormOf, storedOf, marksStored, storedForm, storedBy}
+use Rattle.form.proofs.Results.{stored-told}
 use Rattle.stored.specs.Loading.{settingsIn, startedWith, loaded}
-use Rattle.stored.proofs.Results.{stored-told, accepted-set-up}
+use Rattle.stored.proofs.Results.{accepted-set-up}
 use Rattle.stored.proofs.StoredLoads.{stored-in-range, stored-loads as form-again}
 use Rattle.stored.proofs.FormsLoad.{marked-form-loads, marked-form-marks, old-form-loads}
 use Rattle.stored.proofs.Contents.{older-is-class-1}

@@ -11,8 +11,8 @@ use Rattle.lines.specs.Commands.{commandLine}
 use Rattle.lines.specs.declared.command.Command.{Command}
 use Rattle.lines.proofs.CommandLines.{command-length, line-length}
 use Rattle.record.specs.declared.types.Device.{Device}
-use Rattle.stored.specs.Form.{storedBy}
-use Rattle.stored.proofs.Results.{storing-by}
+use Rattle.form.specs.Form.{storedBy}
+use Rattle.form.proofs.Results.{storing-by}
 use Rattle.device.specs.Receiving.{digestLong}
 use Rattle.device.specs.Calls.{longestReply, Result, received, openedBy}
 use Rattle.device.proofs.Cases.{received-by, opened-by}

@@ -19,7 +19,7 @@ use Rattle.record.specs.declared.types.Changed.{Changed}
 use Rattle.record.specs.Wanted.{Wanted}
 use Rattle.record.specs.SetUp.{setUp}
 use Rattle.record.specs.HostCalls.{faultSet, errorsSet, markSet}
-use Rattle.stored.specs.Form.{StoredAs, storedBy}
+use Rattle.form.specs.Form.{StoredAs, storedBy}
 use Rattle.stored.specs.Loading.{loaded}
 use Rattle.clock.specs.Passing.{passed}
 use Rattle.device.specs.Calls.{Result, openedBy, placeTaken, closedBy, received}
@@ -115,7 +115,7 @@ ours = record {
   set-errors = λ d digits. givenBy (errorsSet d digits);
   -- record::host::set_mark
   set-mark = λ d lamp mark. givenBy (markSet d lamp mark);
-  -- stored::storing::store
+  -- form::storing::store
   store = λ d m. formBy (storedBy d (length m)) m;
   -- stored::loading::load
   load = λ s. givenBy (loaded s);

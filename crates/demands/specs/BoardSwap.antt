@@ -13,7 +13,7 @@ use Rattle.text.specs.Scans.{every}
 use Rattle.record.specs.Wanted.{Wanted}
 use Rattle.record.specs.Rules.{atMost}
 use Rattle.lines.specs.Bytes.{_at_}
-use Rattle.stored.specs.Form.{formVersion, markedFormOf, oldFormOf, storedOf, marksStored, storedForm}
+use Rattle.form.specs.Form.{formVersion, markedFormOf, oldFormOf, storedOf, marksStored, storedForm}
 use Rattle.stored.specs.Loading.{startedWith}
 use Rattle.demands.specs.Board.{Board, bytesWritten}
 use Rattle.demands.specs.Calls.{Call, run}

@@ -5,6 +5,7 @@ use Rattle.numbers.specs.Computing.{computing as numbers}
 use Rattle.lines.specs.Computing.{computing as lines}
 use Rattle.answers.specs.Computing.{computing as answers}
 use Rattle.record.specs.Computing.{computing as records}
+use Rattle.form.specs.Computing.{computing as forms}
 use Rattle.stored.specs.Computing.{computing as stored}
 use Rattle.clock.specs.Computing.{computing as clock}
 use Rattle.meaning.specs.Computing.{computing as meaning}
@@ -16,6 +17,6 @@ use Rattle.demands.specs.History.{powerSet, history, marksAfter, reached
 
 unfoldable pub computing : Unit {0}
 unfolding
-    numbers lines answers records stored clock meaning stream device controller run powerSet history marksAfter reached
-    burningFrom
+    numbers lines answers records forms stored clock meaning stream device controller run powerSet history marksAfter
+    reached burningFrom
 computing = tt

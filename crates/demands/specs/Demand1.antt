@@ -36,7 +36,7 @@ use Rattle.record.specs.Record.{blank}
 use Rattle.record.specs.HostCalls.{markRows}
 use Rattle.record.specs.SetUp.{isInRange}
 use Rattle.record.specs.declared.types.Device.{Device}
-use Rattle.stored.specs.Form.{storingRows}
+use Rattle.form.specs.Form.{storingRows}
 use Rattle.stored.specs.Loading.{loadRows}
 use Rattle.device.specs.Calls.{receivingRows, openingRows, closingRows}
 use Rattle.controller.specs.Writing.{commandRoom, isWritable}

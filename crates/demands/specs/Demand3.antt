@@ -33,7 +33,7 @@ use Rattle.record.specs.Limits.{lampLimit, opened}
 use Rattle.record.specs.Wanted.{Wanted}
 use Rattle.record.specs.Legal.{isLegal}
 use Rattle.record.specs.SetUp.{isSetUp}
-use Rattle.stored.specs.Form.{formOf, markedFormOf, oldFormOf}
+use Rattle.form.specs.Form.{formOf, markedFormOf, oldFormOf}
 use Rattle.clock.specs.Second.{times, second}
 use Rattle.clock.specs.Passing.{secondsMost}
 use Rattle.device.specs.Calls.{replyRoom}

@@ -11,7 +11,7 @@ use Prim.Native.Nat.{ℕ}
 use mathlib.Core.List.{List}
 use Rattle.answers.specs.Carried.{saidBy}
 use Rattle.record.specs.declared.types.Device.{Device}
-use Rattle.stored.specs.declared.storing.FormWritten.{FormWritten}
+use Rattle.form.specs.declared.storing.FormWritten.{FormWritten}
 use Rattle.device.specs.declared.calls.Opened.{Opened}
 use Rattle.device.specs.declared.calls.Received.{Received}
 use Rattle.controller.specs.Reading.{ReadAs}

@@ -1,9 +1,9 @@
 // `ours`'s storing and loading.
+use form::storing::FormWritten;
+use form::storing;
 use record::types::Changed;
 use record::types::Device;
 use stored::loading;
-use stored::storing;
-use stored::storing::FormWritten;
 ghost use mathlib.Core.Path.{_≡_};
 ghost use Rattle.demands.specs.Board.{ours, givenBy};
 ghost use Rattle.demands.specs.Tied.{wroteForm};

@@ -4,4 +4,5 @@ pub mod LeadingZeros
 pub mod ReadBack
 pub mod Reading
 pub mod OneResult
+pub mod HighestFirst
 pub mod Examples

@@ -1,4 +1,6 @@
-// Decimal numbers: written into lent bytes, and read from bytes.
+// Numbers: decimal ones here, written into lent bytes and read from bytes; those in bytes in highest.rt.
+pub mod highest;
+
 ghost use mathlib.Core.Path.{_≡_};
 ghost use Prim.Native.Nat.{_+_, _≤_};
 ghost use lib.ListN.{length};

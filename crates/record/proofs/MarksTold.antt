@@ -7,8 +7,8 @@ use mathlib.Core.Bool.{Bool, true, false, not, _&&_, _||_}
 use mathlib.Core.List.{List, [], _∷_, _++_}
 use native.Mathlib.Numerals.{add-one}
 use native.Mathlib.Omega.{arith}
-use lib.ListN.{length, drop, set, replicate, length-set, length-append, length-replicate}
-use lib.Seq.{drop-set-lt, drop-at}
+use lib.ListN.{length, take, drop, set, replicate, length-set, length-append, length-replicate}
+use lib.Seq.{drop-set-lt, drop-at, length-take-le}
 use lib.Dec.{eqb}
 use borrow.Author.Tests.{eqb-true, eqb-false, eq-eqb, ne-eqb, not-true}
 use Rattle.text.specs.Scans.{every}
@@ -31,6 +31,9 @@ module _ (n : ℕ) (ms : List Bool) where
 
     pub marks-past : every not (drop n ms) ≡ true
     marks-past = both-right (eqb (length ms) lampsMost) (every not (drop n ms)) first-two
+
+    pub front-many : n ≤ lampsMost → length (take n ms) ≡ n
+    front-many few = length-take-le n ms (omega (arith, marks-long))
 
   pub marks-shown : length ms ≡ lampsMost → every not (drop n ms) ≡ true → ((n ≡ 0 → ⊥) → every not ms ≡ false)
       → isMarks n ms ≡ true

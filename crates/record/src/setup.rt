@@ -64,7 +64,8 @@ fn settings_of(
     }
 }
 
-fn refuse(number: u32) -> Changed
+// A refusal: its number, and the blank record.
+pub fn refuse(number: u32) -> Changed
     ensures { λ r. ⌜ r ≡ refused number blank ⌝ }
 {
     let device = Device::BLANK;

@@ -9,9 +9,11 @@ use lib.ListN.{length, take, drop, length-drop}
 use lib.Seq.{take-add, getD-take, getD-drop, length-take-le}
 use Rattle.text.specs.Scans.{itself}
 use Rattle.text.proofs.Bases.{Digits}
-use Rattle.stored.specs.Form.{highestFirst, secondsBytes}
-use Rattle.stored.specs.Loading.{numberIn, secondsIn}
-use Rattle.stored.proofs.HighestFirst.{highest-one-form}
+use Rattle.numbers.specs.HighestFirst.{highestFirst, numberIn}
+use Rattle.numbers.proofs.HighestFirst.{highest-one-form}
+use Rattle.form.specs.Form.{secondsBytes}
+use Rattle.form.proofs.Seconds.{no-seconds, first-seconds}
+use Rattle.stored.specs.Loading.{secondsIn}
 
 abbrev pub Bytes : List ℕ → Type 0
 Bytes s = Digits 256 itself s
@@ -31,11 +33,12 @@ number-again n s l b =
     ∙ highest-one-form (take n s) (take-bytes n s l b)
 
 pub seconds-again : (n : ℕ) (s : List ℕ) → 4 * n ≤ length s → Bytes s → secondsBytes (secondsIn n s) ≡ take (4 * n) s
-unfolding secondsBytes secondsIn
-seconds-again zero s l b = refl
+unfolding secondsIn
+seconds-again zero s l b = no-seconds
 seconds-again (suc n) s l b =
     let more : 4 + 4 * n ≡ 4 * suc n = omega arith in
-    (λ i. number-again 4 s (omega arith) b i
+    first-seconds (numberIn (take 4 s)) (secondsIn n (drop 4 s))
+    ∙ (λ i. number-again 4 s (omega arith) b i
     ++ seconds-again n (drop 4 s) (omega (arith, length-drop 4 s)) (drop-bytes 4 s b) i)
     ∙ sym (take-add 4 (4 * n) s)
     ∙ ap (λ (k : ℕ). take k s) more

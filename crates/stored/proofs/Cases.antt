@@ -1,4 +1,4 @@
--- Storing and loading by their cases: what each gives by the tests that decide it.
+-- Loading by its cases: what it gives by the tests that decide it.
 -- Assumes nothing.
 use Prim.Native.Nat.{ℕ, _+_, _≤_, _<_}
 use mathlib.Core.Path.{_≡_, refl, sym, ap, _∙_}
@@ -19,7 +19,7 @@ use Rattle.record.specs.declared.types.Device.{Device}
 use Rattle.record.specs.declared.types.Changed.{Changed}
 use Rattle.record.proofs.Calls.{set-up-accepted, set-up-in-range}
 use Rattle.record.proofs.Started.{started-parts, set-up-legal}
-use Rattle.stored.specs.Form.{formVersion, markedVersion, storedForm, nothingStored, storedBy}
+use Rattle.form.specs.Form.{formVersion, markedVersion, storedForm, nothingStored, storedBy}
 use Rattle.stored.specs.Loading.{isOld, isOtherVersion, placesOf, formEnd, between, settingsIn, markBytesIn}
 use Rattle.stored.specs.Loading.{isMarked, marksRead, markRoom, areMarks, startedWith, isContents, loaded}
 use Rattle.stored.proofs.Contents.{new-bytes, old-are-marks, old-started}
@@ -33,21 +33,6 @@ pub version-first : (s : List ℕ) → (length s ≡ 0 → ⊥)
     → (not (eqb (s at 0) formVersion) && not (eqb (s at 0) markedVersion) && not (isOld s)) ≡ isOtherVersion s
 version-first [] h = absurd (h refl)
 version-first (v ∷ s) h = refl
-
-module _ (d : Device) (room : ℕ) where
-  pub stored-illegal : isLegal d ≡ false → storedBy d room ≡ nothingStored 1
-  unfolding storedBy
-  stored-illegal h = if-yes _ _ (ap not h)
-
-  module _ (h : isLegal d ≡ true) where
-    pub stored-short : room < length (storedForm d) → storedBy d room ≡ nothingStored 2
-    unfolding storedBy
-    stored-short l = if-no _ _ (ap not h) ∙ if-yes _ _ (lt-ltb room _ l)
-
-    pub stored-whole : length (storedForm d) ≤ room
-        → storedBy d room ≡ record { number = 0; bytes = storedForm d }
-    unfolding storedBy
-    stored-whole l = if-no _ _ (ap not h) ∙ if-no _ _ (le-ltb room _ l)
 
 otherwise : {A : Type 0} (a b : A) (t : Bool) → (if not t then a else b) ≡ (if t then b else a)
 otherwise a b true = refl

@@ -8,6 +8,7 @@ use mathlib.Core.List.{List, map}
 use native.Mathlib.Omega.{arith}
 use lib.ListN.{length, take, drop, replicate, length-replicate}
 use Rattle.text.proofs.Choices.{if-yes, if-no, by-not}
+use Rattle.numbers.specs.HighestFirst.{numberIn}
 use Rattle.lines.specs.Bytes.{_at_}
 use Rattle.record.specs.Limits.{listedMost, lampsMost}
 use Rattle.record.specs.Wanted.{Wanted, wantedIn}
@@ -22,7 +23,7 @@ use Rattle.record.proofs.OutOfRange.{each-in-range}
 use Rattle.record.proofs.InRange.{in-range-each}
 use Rattle.record.proofs.Started.{started-marks}
 use Rattle.record.proofs.Calls.{set-up-refused}
-use Rattle.stored.specs.Loading.{isOld, hasClass, placesOf, between, numberIn, secondsIn, classIn, textsAfter}
+use Rattle.stored.specs.Loading.{isOld, hasClass, placesOf, between, secondsIn, classIn, textsAfter}
 use Rattle.stored.specs.Loading.{settingsWith, settingsBy, settingsAt, settingsIn, marksAt}
 use Rattle.stored.specs.Loading.{markBytesIn, isMarked, marksRead, markRoom, areMarks, startedWith}
 use Rattle.stored.specs.declared.layout.Places.{Places}

@@ -16,8 +16,8 @@ use Rattle.lines.specs.Bytes.{_at_}
 use Rattle.record.specs.Wanted.{Wanted}
 use Rattle.record.specs.SetUp.{isSetUp}
 use Rattle.record.specs.declared.types.Changed.{Changed}
-use Rattle.stored.specs.Form.{formVersion, markedVersion, oldVersion, marksSection, formWith, formOf}
-use Rattle.stored.specs.Form.{markedFormOf, oldFormOf}
+use Rattle.form.specs.Form.{formVersion, markedVersion, oldVersion, marksSection, formWith, formOf, markedFormOf}
+use Rattle.form.specs.Form.{oldFormOf}
 use Rattle.stored.specs.Loading.{isOld, hasClass, isOtherVersion, marksLong, placesOf, restLong, formEnd, loaded}
 use Rattle.stored.proofs.Walked.{no-marks-long, some-marks-long, walked}
 use Rattle.stored.proofs.Cases.{loaded-cut}

@@ -9,10 +9,12 @@ use native.Mathlib.Omega.{arith}
 use lib.ListN.{length, take, drop, length-drop, length-map, take-append-drop}
 use lib.Seq.{drop-drop}
 use Rattle.text.specs.Words.{if_then_else_}
+use Rattle.numbers.specs.HighestFirst.{highestFirst}
 use Rattle.lines.specs.Bytes.{_at_}
 use Rattle.record.specs.Wanted.{Wanted}
-use Rattle.stored.specs.Form.{highestFirst, section, textSection, secondsBytes, markByte, marksSection}
-use Rattle.stored.specs.Form.{textsOf2, classPart, formWith, versionForm}
+use Rattle.form.specs.Form.{section, textSection, secondsBytes, markByte, marksSection, textsOf2, classPart, formWith}
+use Rattle.form.specs.Form.{versionForm}
+use Rattle.form.proofs.FormLong.{form-with}
 use Rattle.stored.specs.Loading.{isOld, hasClass, placesOf, Walked, between, secondsIn}
 use Rattle.stored.specs.Loading.{settingsWith, settingsAt, settingsIn, markBytesIn, isMarked, marksRead}
 use Rattle.stored.specs.declared.layout.Places.{Places}
@@ -114,12 +116,12 @@ module _ (s : List ℕ) (b : Bytes s) (a : Accepted s) where
 
   -- all sections, one after the other
   pub form-again : formWith (s at 0) marks rest w ≡ s
-  unfolding formWith settingsAt settingsWith
+  unfolding settingsAt settingsWith
   form-again =
       let order = places in
       let end = a .uncut in
-      let texts = w in
-      sym
+      form-with (s at 0) marks rest w
+      ∙ sym
       (version-then s (omega arith)
       ∙ ap (λ (l : List ℕ). (s at 0) ∷ l)
       (text-again 1 (q .maker) (order .maker) (omega arith)

@@ -1,7 +1,7 @@
 -- No form is longer than `formMost`; proofs/Samples has one that is as long.
 -- Assumes nothing.
 use Prim.Native.Nat.{ℕ, suc, _*_, _/_, _≤_}
-use mathlib.Core.Path.{_≡_, refl}
+use mathlib.Core.Path.{_≡_, refl, ap}
 use mathlib.Core.Bool.{Bool, true, false}
 use mathlib.Core.List.{List, [], _∷_, _++_}
 use native.Mathlib.Omega.{arith}
@@ -22,19 +22,21 @@ use Rattle.record.specs.declared.out_of_range.Setting.the-variants.{Serial, Ver
 use Rattle.record.specs.declared.out_of_range.Setting.the-variants.{Name, Maker, Model, Other, Password, Inputs, Lamps}
 use Rattle.record.proofs.Rules.{inputs-few, lamps-few, only-in-2-within, names-many, names-each, text-most}
 use Rattle.record.proofs.OutOfRange.{each-in-range}
-use Rattle.stored.specs.Form.{formVersion, markByte, marksSection, formOf, formMost, storedOf, marksStored}
-use Rattle.stored.specs.Form.{textSection, textsBytes, textsOf2, classPart, storedForm}
+use Rattle.form.specs.Form.{formVersion, markByte, marksSection, formOf, formMost, storedOf, marksStored}
+use Rattle.form.specs.Form.{textsBytes, textsOf2, classPart, storedForm}
+use Rattle.form.proofs.TextsWritten.{no-texts, first-text}
+use Rattle.form.proofs.ClassPart.{class-part}
+use Rattle.form.proofs.FormLong.{form-long}
 use Rattle.stored.specs.Loading.{isMarksOf}
-use Rattle.stored.proofs.FormLong.{form-long}
 use Rattle.stored.proofs.StoredLoads.{stored-in-range, stored-marks}
 
 -- names of 128 bytes at most, each with its count
 names-most : (ts : List (List ℕ)) → every isInputName ts ≡ true → length (textsBytes ts) ≤ 129 * length ts
-unfolding textsBytes
-names-most [] e = omega arith
+names-most [] e = omega (arith, ap length no-texts)
 names-most (t ∷ ts) e =
     omega (
       arith,
+      ap length (first-text t ts),
       length-append t (textsBytes ts),
       input-name-long t (both-left (isInputName t) (every isInputName ts) e),
       names-most ts (both-right (isInputName t) (every isInputName ts) e),
@@ -42,8 +44,7 @@ names-most (t ∷ ts) e =
 
 -- the class, and what Class 2 alone has
 class-most : (w : Wanted) → isSetUp w ≡ true → length (classPart (w .class) (textsOf2 w)) ≤ 4195
-unfolding classPart textsBytes
-class-most w ok = by (eqb (w .class) 2) refl
+class-most w ok = rw (class-part (w .class) (textsOf2 w)) (by (eqb (w .class) 2) refl)
   where
     met : (s : Setting) → isSettingInRange w s ≡ true
     met = each-in-range w ok
@@ -54,7 +55,9 @@ class-most w ok = by (eqb (w .class) 2) refl
     by true e =
         omega (
           arith,
-          length-append (w .serial) (textSection (w .version) ++ textsBytes (w .names)),
+          ap length (first-text (w .serial) (w .version ∷ w .names)),
+          ap length (first-text (w .version) (w .names)),
+          length-append (w .serial) (textsBytes (w .version ∷ w .names)),
           length-append (w .version) (textsBytes (w .names)),
           names-most (w .names) (names-each _ (w .names) (met Names)),
           names-many _ (w .names) (met Names),

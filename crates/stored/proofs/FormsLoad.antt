@@ -17,8 +17,8 @@ use Rattle.record.specs.Record.{started, accepted}
 use Rattle.record.specs.SetUp.{isSetUp, setUp}
 use Rattle.record.specs.declared.types.Changed.{Changed}
 use Rattle.record.proofs.Calls.{set-up-accepted}
-use Rattle.stored.specs.Form.{formVersion, markedVersion, oldVersion, markByte, marksSection, formWith}
-use Rattle.stored.specs.Form.{formOf, markedFormOf, oldFormOf}
+use Rattle.form.specs.Form.{formVersion, markedVersion, oldVersion, markByte, marksSection, formWith, formOf}
+use Rattle.form.specs.Form.{markedFormOf, oldFormOf}
 use Rattle.stored.specs.Loading.{isOld, isOtherVersion, placesOf, formEnd, between, settingsIn}
 use Rattle.stored.specs.Loading.{markBytesIn, isMarkByte, isMarked, marksRead, isMarksOf, areMarks, startedWith}
 use Rattle.stored.specs.Loading.{loaded}

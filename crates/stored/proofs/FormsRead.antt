@@ -10,6 +10,8 @@ use lib.ListN.{length, getD, take, drop, length-drop, length-append}
 use lib.Seq.{take-at, drop-at, drop-drop}
 use borrow.Author.Tests.{leb-true}
 use Rattle.text.proofs.Scanning.{every-at}
+use Rattle.numbers.specs.HighestFirst.{highestFirst, numberIn}
+use Rattle.numbers.proofs.HighestFirst.{highest-length, highest-back}
 use Rattle.lines.specs.Bytes.{_at_}
 use Rattle.record.specs.Limits.{lampLimit, stretchMost}
 use Rattle.record.specs.Wanted.{Wanted, wantedIn}
@@ -21,12 +23,13 @@ use Rattle.record.proofs.Rules.{lamps-within}
 use Rattle.record.proofs.OutOfRange.{each-in-range}
 use Rattle.record.proofs.SettingsTold.{stretch-told}
 use Rattle.record.proofs.Started.{inputs-halved}
-use Rattle.stored.specs.Form.{highestFirst, section, textSection, secondsBytes, formWith}
-use Rattle.stored.specs.Loading.{isOtherVersion, placesOf, Walked, formEnd, numberIn, secondsIn, classIn}
+use Rattle.form.specs.Form.{section, textSection, secondsBytes, formWith}
+use Rattle.form.proofs.Seconds.{seconds-long}
+use Rattle.form.proofs.FormLong.{form-with}
+use Rattle.stored.specs.Loading.{isOtherVersion, placesOf, Walked, formEnd, secondsIn, classIn}
 use Rattle.stored.specs.Loading.{restLong, textsAfter, settingsWith, settingsBy, settingsIn}
 use Rattle.stored.specs.declared.layout.Places.{Places}
-use Rattle.stored.proofs.HighestFirst.{highest-length, highest-back}
-use Rattle.stored.proofs.Seconds.{seconds-long, seconds-back}
+use Rattle.stored.proofs.Seconds.{seconds-back}
 use Rattle.stored.proofs.Walked.{walked}
 use Rattle.stored.proofs.Sections.{count-read, items-from, items-read, rest-read, text-read, text-rest}
 use Rattle.stored.proofs.Versions.{HasMarks}
@@ -84,9 +87,9 @@ module _ (v : ℕ) (marks rest : List ℕ) (has : HasMarks v marks) (w : Wanted)
   from-maker = textSection (w .maker) ++ from-model
 
   whole : s ≡ v ∷ (textSection (w .name) ++ from-maker)
-  unfolding formWith
   whole =
-      in-turn v (textSection (w .name)) (textSection (w .maker)) (textSection (w .model))
+      ap (λ (l : List ℕ). l ++ more) (form-with v marks rest w)
+      ∙ in-turn v (textSection (w .name)) (textSection (w .maker)) (textSection (w .model))
       (textSection (w .other)) (textSection (w .password)) (section (length (w .inputs) / 2) (w .inputs))
       (section (length (w .lamps)) (secondsBytes (w .lamps))) marks (highestFirst 2 (w .warm))
       (highestFirst 2 (w .cool))

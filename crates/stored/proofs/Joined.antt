@@ -18,7 +18,8 @@ use Rattle.lines.specs.Bytes.{_at_}
 use Rattle.record.specs.Wanted.{totalOf, cutBy, namesIn}
 use Rattle.record.specs.Record.{zeros, inRoom}
 use Rattle.record.proofs.Filled.{room-filled}
-use Rattle.stored.specs.Form.{textsBytes}
+use Rattle.form.specs.Form.{textsBytes}
+use Rattle.form.proofs.TextsWritten.{no-texts, first-text}
 use Rattle.stored.specs.Loading.{between, textsLong, textsIn, joinedTexts}
 use Rattle.stored.proofs.Texts.{textAt, no-texts-in, texts-many, texts-in-more, texts-again, texts-long-within}
 use Rattle.stored.proofs.Texts.{texts-long-more, no-texts-long, first-long, first-in}
@@ -47,10 +48,15 @@ joined-append (t ∷ ts) us =
     ap (λ (l : List ℕ). t ++ l) (joined-append ts us) ∙ sym (append-assoc t (joinedTexts ts) (joinedTexts us))
 
 bytes-long : (ts : List (List ℕ)) → length (textsBytes ts) ≡ length (joinedTexts ts) + length ts
-unfolding textsBytes
-bytes-long [] = refl
+bytes-long [] = ap length no-texts
 bytes-long (t ∷ ts) =
-    omega (arith, bytes-long ts, length-append t (textsBytes ts), length-append t (joinedTexts ts))
+    omega (
+      arith,
+      ap length (first-text t ts),
+      bytes-long ts,
+      length-append t (textsBytes ts),
+      length-append t (joinedTexts ts),
+    )
 
 pub joined-long : (n : ℕ) (t : List ℕ) → textsLong n t ≤ length t → length (joinedTexts (textsIn n t)) + n
     ≡ textsLong n t

@@ -1,11 +1,7 @@
-pub mod HighestFirst
 pub mod Seconds
 pub mod MarkBytes
-pub mod MarksWritten
-pub mod Written
+pub mod MarksKept
 pub mod Texts
-pub mod NamesWritten
-pub mod FormLong
 pub mod Walked
 pub mod Contents
 pub mod Cases

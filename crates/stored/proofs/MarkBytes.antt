@@ -9,7 +9,7 @@ use native.Mathlib.Numerals.{add-one}
 use native.Mathlib.Omega.{arith}
 use lib.ListN.{length, getD, take, drop, replicate, length-drop, length-map, take-append-drop}
 use lib.ListN.{replicate-append-replicate}
-use lib.Seq.{length-take-le, take-append-seam, take-suc-set}
+use lib.Seq.{take-append-seam, take-suc-set}
 use lib.Dec.{eqb}
 use borrow.Author.Tests.{eqb-true, eq-eqb, leb-true}
 use Rattle.text.specs.Scans.{every}
@@ -17,8 +17,8 @@ use Rattle.text.proofs.Choices.{both, both-left, both-right}
 use Rattle.record.specs.Limits.{lampsMost}
 use Rattle.record.specs.Rules.{isMarks}
 use Rattle.record.specs.Record.{allMarks}
-use Rattle.record.proofs.MarksTold.{marks-long, marks-past, all-marks-legal, one-more-mark}
-use Rattle.stored.specs.Form.{markByte}
+use Rattle.record.proofs.MarksTold.{marks-long, marks-past, front-many, all-marks-legal, one-more-mark}
+use Rattle.form.specs.Form.{markByte}
 use Rattle.stored.specs.Loading.{isMarkByte, isMarked, markRoom, isMarksOf, areMarks}
 
 -- ---- in their room
@@ -49,14 +49,11 @@ mark-at ms k = then-none ms (lampsMost - length ms) k
 
 -- as a legal record has them
 module _ (n : ℕ) (ms : List Bool) (legal : isMarks n ms ≡ true) (few : n ≤ lampsMost) where
-  pub front-many : length (take n ms) ≡ n
-  front-many = length-take-le n ms (omega (arith, marks-long n ms legal))
-
   pub room-again : markRoom (take n ms) ≡ ms
   unfolding markRoom
   room-again =
       let left : length (drop n ms) ≡ lampsMost - length (take n ms)
-      = omega (arith, length-drop n ms, marks-long n ms legal, front-many) in
+      = omega (arith, length-drop n ms, marks-long n ms legal, front-many n ms legal few) in
       ap (λ (l : List Bool). take n ms ++ l)
       (ap (λ (k : ℕ). replicate k false) (sym left) ∙ sym (none-are (drop n ms) (marks-past n ms legal)))
       ∙ take-append-drop n ms

@@ -12,8 +12,7 @@ use Rattle.lines.specs.Bytes.{_at_}
 use Rattle.record.specs.Wanted.{Wanted}
 use Rattle.record.specs.declared.types.Device.{Device}
 use Rattle.record.specs.declared.types.Changed.{Changed}
-use Rattle.stored.specs.Form.{formVersion, oldVersion, formOf, oldFormOf, versionForm, storedOf, marksStored}
-use Rattle.stored.specs.Form.{storedForm}
+use Rattle.form.specs.Form.{formVersion, oldVersion, formOf, oldFormOf, versionForm, storedOf, marksStored, storedForm}
 use Rattle.stored.specs.Loading.{isOld, hasClass, settingsIn, markBytesIn, isMarked, marksRead, startedWith}
 use Rattle.stored.specs.Loading.{loaded}
 use Rattle.stored.proofs.MarkBytes.{marks-told}

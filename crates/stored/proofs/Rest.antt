@@ -21,7 +21,8 @@ use Rattle.record.specs.SetUp.{isSetUp}
 use Rattle.record.specs.declared.out_of_range.Setting.the-variants.{Serial, Version, Names}
 use Rattle.record.proofs.Rules.{text-most, names-many}
 use Rattle.record.proofs.OutOfRange.{each-in-range}
-use Rattle.stored.specs.Form.{formVersion, textSection, textsBytes, textsOf2, classPart}
+use Rattle.form.specs.Form.{formVersion, textSection, textsBytes, textsOf2, classPart}
+use Rattle.form.proofs.ClassPart.{class-part}
 use Rattle.stored.specs.Loading.{hasClass, textsLong, textsIn, classIn, manyTexts, restLong, textsAfter}
 use Rattle.stored.proofs.Texts.{no-texts-long, no-texts-in, texts-back, texts-long-back}
 
@@ -112,22 +113,6 @@ module _ (s : List ℕ) (n p : ℕ) where
           (if-no (2 + n) 0 (ne-eqb (t at 0) 2 (λ two. other (if-yes _ _ e ∙ two))))
           ∙ no-texts-in (drop 1 t)
 
--- the part of either class, as the code writes it
-module _ (k : ℕ) where
-  pub part-some : (ts : List (List ℕ)) → 1 ≤ length (classPart k ts)
-  unfolding classPart
-  part-some ts = omega arith
-
-  pub part-of-other : (ts : List (List ℕ)) → eqb k 2 ≡ false → classPart k ts ≡ k ∷ []
-  unfolding classPart
-  part-of-other ts e = ap (λ (l : List ℕ). k ∷ l) (if-no _ _ e)
-
-  pub part-of-2 : (a b : List ℕ) (ns : List (List ℕ)) → eqb k 2 ≡ true
-      → classPart k (a ∷ b ∷ ns) ≡ (k ∷ []) ++ textSection a ++ textSection b ++ textsBytes ns
-  unfolding classPart textsBytes
-  part-of-2 a b ns e =
-      ap (λ (l : List ℕ). k ∷ l) (if-yes _ _ e ∙ sym (append-assoc (textSection a) (textSection b) (textsBytes ns)))
-
 pub record HasRest (v : ℕ) (rest : List ℕ) (w : Wanted) : Type 0 where
   pub long : (s more : List ℕ) → s at 0 ≡ v → restLong s (length (w .inputs) / 2) (rest ++ more) ≡ length rest
   pub class : (s more : List ℕ) → s at 0 ≡ v → classIn s (rest ++ more) ≡ w .class
@@ -157,19 +142,16 @@ module _ (w : Wanted) (ok : isSetUp w ≡ true) where
 
   -- its class, and the texts after it
   part-front : (more : List ℕ) → (part ++ more) at 0 ≡ w .class
-  unfolding classPart
-  part-front more = refl
+  part-front more = ap (λ (l : List ℕ). (l ++ more) at 0) (class-part (w .class) (textsOf2 w))
 
   abbrev after : Bool → List ℕ
   after two = if two then textsBytes (textsOf2 w) else []
 
   part-rest : (more : List ℕ) → drop 1 (part ++ more) ≡ after (eqb (w .class) 2) ++ more
-  unfolding classPart
-  part-rest more = refl
+  part-rest more = ap (λ (l : List ℕ). drop 1 (l ++ more)) (class-part (w .class) (textsOf2 w))
 
   part-long : length part ≡ 1 + length (after (eqb (w .class) 2))
-  unfolding classPart
-  part-long = omega arith
+  part-long = omega (arith, ap length (class-part (w .class) (textsOf2 w)))
 
   -- there are as many as the class and the inputs say
   abbrev many : Bool → ℕ

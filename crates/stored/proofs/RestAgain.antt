@@ -12,7 +12,8 @@ use lib.Dec.{eqb}
 use Rattle.text.specs.Words.{if_then_else_}
 use Rattle.text.proofs.Choices.{if-yes, if-no}
 use Rattle.lines.specs.Bytes.{_at_}
-use Rattle.stored.specs.Form.{textsBytes, classPart}
+use Rattle.form.specs.Form.{textsBytes, classPart}
+use Rattle.form.proofs.ClassPart.{class-part}
 use Rattle.stored.specs.Loading.{hasClass, textsLong, textsIn, classIn, manyTexts, restLong, textsAfter}
 use Rattle.stored.proofs.Texts.{no-texts-long, texts-many, texts-again}
 use Rattle.stored.proofs.Texts.{texts-cut}
@@ -32,7 +33,6 @@ module _ (s : List ℕ) (n : ℕ) (t : List ℕ) (whole : length t ≡ restLong 
   ts = textsAfter s n t
 
   pub rest-again : t ≡ (if hasClass s then classPart (classIn s t) (getD ts 0 [] ∷ getD ts 1 [] ∷ drop 2 ts) else [])
-  unfolding classPart
   rest-again = by (hasClass s) refl
     where
       class-again : hasClass s ≡ true → (two : Bool) → eqb (t at 0) 2 ≡ two
@@ -60,7 +60,7 @@ module _ (s : List ℕ) (n : ℕ) (t : List ℕ) (whole : length t ≡ restLong 
 
       by : (has : Bool) → hasClass s ≡ has
           → t ≡ (if has then classPart (if has then t at 0 else 1) (getD ts 0 [] ∷ getD ts 1 [] ∷ drop 2 ts) else [])
-      by true e = class-again e (eqb (t at 0) 2) refl
+      by true e = class-again e (eqb (t at 0) 2) refl ∙ sym (class-part (t at 0) _)
       by false e = nothing t (omega (arith, whole, no-rest-long s n t e))
 
 -- ---- cut

@@ -1,8 +1,6 @@
--- What storing and loading give (02, L3): the number is that of the first row that applies, for every record and every
--- byte string; a refused store writes no byte, a refused load gives the blank record; a load that is accepted is a
--- set-up with the marks that the form has (02, L8), and legal; and each promise leaves one result.
---   StoredTold r      an accepted store: the record is legal, the memory has room, the bytes are the form's
---   Stores r m        the result r and the lent bytes m meet what storing promises
+-- What loading gives (02, L3): the number is that of the first row that applies, for every byte string; a refused load
+-- gives the blank record; a load that is accepted is a set-up with the marks that the form has (02, L8), and legal; and
+-- the promise leaves one result.
 --   Accepted s        an accepted load: the version is known, the bytes are as long as their form, the contents legal
 -- Assumes nothing.
 use Prim.Native.Nat.{ℕ, _≤_}
@@ -27,49 +25,11 @@ use Rattle.record.specs.declared.types.Changed.{Changed}
 use Rattle.record.proofs.LegalTold.{own-of-legal}
 use Rattle.record.proofs.HostKept.{with-own-legal}
 use Rattle.record.proofs.Started.{started-parts, started-legal}
-use Rattle.stored.specs.Form.{storedForm, StoredAs, nothingStored, storingRows, storedBy, toldStored}
+use Rattle.form.specs.Form.{storedForm, StoredAs, nothingStored, storingRows, storedBy, toldStored}
+use Rattle.form.specs.declared.storing.FormWritten.{FormWritten}
 use Rattle.stored.specs.Loading.{isOtherVersion, formEnd, settingsIn, markBytesIn, marksRead, markRoom, areMarks}
 use Rattle.stored.specs.Loading.{startedWith, loadRows, loaded}
-use Rattle.stored.specs.declared.storing.FormWritten.{FormWritten}
 use Rattle.stored.proofs.MarkBytes.{marks-told}
-
-module _ (d : Device) (room : ℕ) where
-  pub storing-number : storedBy d room .number ≡ firstOf (storingRows d room)
-  unfolding storedBy
-  storing-number =
-      rows-number nothingStored (record { number = 0; bytes = storedForm d }) (λ r. r .number) (λ n. refl) refl
-      (storingRows d room)
-
-  pub record StoredTold (r : StoredAs) : Type 0 where
-    pub legal : isLegal d ≡ true
-    pub fits : length (storedForm d) ≤ room
-    pub form : r .bytes ≡ storedForm d
-
-  pub storing-by : (P : StoredAs → Type 0) → ((n : ℕ) → (n ≡ 0 → ⊥) → P (nothingStored n))
-      → (isLegal d ≡ true → length (storedForm d) ≤ room
-      → P (record { number = 0; bytes = storedForm d }))
-      → P (storedBy d room)
-  unfolding storedBy
-  storing-by P refuse accept =
-      by-rows nothingStored (record { number = 0; bytes = storedForm d }) P refuse (storingRows d room) refl
-      (λ none. accept (not-false (isLegal d) (none .0)) (ltb-false room (length (storedForm d)) (none .1 .0)))
-
-  pub refused-store-writes-nothing : (storedBy d room .number ≡ 0 → ⊥) → storedBy d room .bytes ≡ []
-  refused-store-writes-nothing =
-      storing-by (λ r. (r .number ≡ 0 → ⊥) → r .bytes ≡ []) (λ n some k. refl) (λ h l k. absurd (k refl))
-
-  pub stored-told : storedBy d room .number ≡ 0 → StoredTold (storedBy d room)
-  stored-told =
-      storing-by (λ r. r .number ≡ 0 → StoredTold r) (λ n some e. absurd (some e))
-      (λ h l e. record { legal = h; fits = l; form = refl })
-
--- out is the lent memory
-module _ (d : Device) (out : List ℕ) where
-  abbrev pub Stores : FormWritten → List ℕ → Type 0
-  Stores = let w = storedBy d (length out) in Left (toldStored w) (over (w .bytes) out)
-
-  pub one-storing : {r s : FormWritten} {m n : List ℕ} → Stores r m → Stores s n → (r ≡ s) × (m ≡ n)
-  one-storing p q = one-left p q
 
 -- a set-up with legal marks is legal
 pub started-with-legal : (w : Wanted) (ms : List Bool) → isSetUp w ≡ true

@@ -1,44 +1,20 @@
--- The lamps' seconds, four bytes each: how long, one lamp more, lamp by lamp.
---   SecondsPut lent p xs n out i      the loop that writes n of the seconds xs from the place p on has come to i
+-- The lamps' seconds, four bytes each, read: how many, lamp by lamp, and back from the bytes that were written.
 -- Assumes nothing.
 use Prim.Native.Nat.{ℕ, zero, suc, _+_, _*_, _^_, _≤_, _<_}
 use mathlib.Core.Path.{_≡_, refl, sym, ap, _∙_}
-use mathlib.Core.List.{List, [], _∷_, _++_, append-assoc, append-nil}
-use native.Mathlib.Numerals.{add-one}
+use mathlib.Core.List.{List, [], _∷_, _++_, append-assoc}
 use native.Mathlib.Omega.{arith}
-use lib.ListN.{length, getD, take, drop, length-append}
-use lib.Seq.{sets, length-sets, take-suc, take-at, drop-at, length-take-le, drop-drop}
-use Rattle.text.proofs.Stores.{sets-then}
+use lib.ListN.{length, getD, take, drop}
+use lib.Seq.{take-at, drop-at, drop-drop}
+use Rattle.numbers.specs.HighestFirst.{highestFirst, numberIn}
+use Rattle.numbers.proofs.HighestFirst.{highest-length, highest-back}
 use Rattle.record.specs.Limits.{lampsMost}
 use Rattle.record.specs.Rules.{isLamps}
 use Rattle.record.specs.Record.{inRoom}
 use Rattle.record.proofs.Kept.{filled-take}
-use Rattle.stored.specs.Form.{highestFirst, secondsBytes}
-use Rattle.stored.specs.Loading.{numberIn, secondsIn}
-use Rattle.stored.proofs.HighestFirst.{highest-length, highest-back}
-
-pub seconds-long : (xs : List ℕ) → length (secondsBytes xs) ≡ 4 * length xs
-unfolding secondsBytes
-seconds-long [] = refl
-seconds-long (x ∷ xs) =
-    length-append (highestFirst 4 x) (secondsBytes xs)
-    ∙ omega (arith, highest-length 4 x, seconds-long xs)
-
-seconds-append : (xs ys : List ℕ) → secondsBytes (xs ++ ys) ≡ secondsBytes xs ++ secondsBytes ys
-unfolding secondsBytes
-seconds-append [] ys = refl
-seconds-append (x ∷ xs) ys =
-    ap (λ (l : List ℕ). highestFirst 4 x ++ l) (seconds-append xs ys)
-    ∙ sym (append-assoc (highestFirst 4 x) (secondsBytes xs) (secondsBytes ys))
-
-pub seconds-more : (xs : List ℕ) (i : ℕ) → i < length xs
-    → secondsBytes (take (i + 1) xs) ≡ secondsBytes (take i xs) ++ highestFirst 4 (getD xs i 0)
-unfolding secondsBytes
-seconds-more xs i h =
-    ap (λ (k : ℕ). secondsBytes (take k xs)) (add-one i)
-    ∙ ap secondsBytes (take-suc xs i 0 h)
-    ∙ seconds-append (take i xs) (getD xs i 0 ∷ [])
-    ∙ ap (λ (l : List ℕ). secondsBytes (take i xs) ++ l) (append-nil (highestFirst 4 (getD xs i 0)))
+use Rattle.form.specs.Form.{secondsBytes}
+use Rattle.form.proofs.Seconds.{first-seconds}
+use Rattle.stored.specs.Loading.{secondsIn}
 
 pub read-many : (n : ℕ) (s : List ℕ) → length (secondsIn n s) ≡ n
 unfolding secondsIn
@@ -57,12 +33,12 @@ read-at (suc n) s (suc i) h =
 -- seconds that fit four bytes, read back
 pub seconds-back : (xs t : List ℕ) → ((i : ℕ) → i < length xs → getD xs i 0 < 256 ^ 4)
     → secondsIn (length xs) (secondsBytes xs ++ t) ≡ xs
-unfolding secondsIn secondsBytes
+unfolding secondsIn
 seconds-back [] t h = refl
 seconds-back (x ∷ xs) t h =
     let four = highestFirst 4 x in
-    let whole : four ++ secondsBytes xs ++ t ≡ four ++ (secondsBytes xs ++ t)
-    = append-assoc four (secondsBytes xs) t in
+    let whole : secondsBytes (x ∷ xs) ++ t ≡ four ++ (secondsBytes xs ++ t)
+    = ap (λ (l : List ℕ). l ++ t) (first-seconds x xs) ∙ append-assoc four (secondsBytes xs) t in
     let long = highest-length 4 x in
     (λ i.
     (ap (λ (l : List ℕ). numberIn (take 4 l)) whole ∙ ap numberIn (take-at four _ 4 long)
@@ -77,35 +53,3 @@ room-read n s h =
     let many = read-many n s in
     ap (λ (k : ℕ). take k (inRoom lampsMost (secondsIn n s))) (sym many)
     ∙ filled-take lampsMost isLamps (secondsIn n s) (omega arith)
-
-module _ (lent : List ℕ) (p : ℕ) (xs : List ℕ) (n : ℕ) where
-  pub record SecondsPut (out : List ℕ) (i : ℕ) : Type 0 where
-    pub inside : i ≤ n
-    pub stored : out ≡ sets lent p (secondsBytes (take i xs))
-
-  pub none-put : SecondsPut lent 0
-  unfolding secondsBytes
-  none-put = record { inside = omega arith; stored = refl }
-
-  module _ {out : List ℕ} {i : ℕ} (put : SecondsPut out i) where
-    pub put-room : length out ≡ length lent
-    put-room = ap length (put .stored) ∙ length-sets lent p (secondsBytes (take i xs))
-
-    pub one-put : {m : List ℕ} → i < n → n ≤ length xs → m ≡ sets out (p + 4 * i) (highestFirst 4 (getD xs i 0))
-        → SecondsPut m (i + 1)
-    one-put h k e =
-        let before = secondsBytes (take i xs) in
-        let long : length before ≡ 4 * i
-        = seconds-long (take i xs) ∙ ap (λ (j : ℕ). 4 * j) (length-take-le i xs (omega arith)) in
-        record {
-          inside = omega arith;
-          stored =
-              e
-              ∙ sets-then lent p before (highestFirst 4 (getD xs i 0)) (put .stored) (omega arith)
-              ∙ ap (sets lent p) (sym (seconds-more xs i (omega arith)));
-        }
-
-    pub all-put : n ≤ i → out ≡ sets lent p (secondsBytes (take n xs))
-    all-put h =
-        let last : i ≡ n = omega (arith, put .inside) in
-        put .stored ∙ ap (λ (k : ℕ). sets lent p (secondsBytes (take k xs))) last

@@ -35,10 +35,10 @@ use Rattle.record.proofs.OutOfRange.{each-in-range}
 use Rattle.record.proofs.InRange.{in-range-shown}
 use Rattle.record.proofs.Calls.{set-up-shown}
 use Rattle.record.proofs.Started.{started-parts, inputs-halved}
-use Rattle.stored.specs.Form.{nameStored, storedOf, marksStored, storedForm}
+use Rattle.form.specs.Form.{nameStored, storedOf, marksStored, storedForm}
+use Rattle.form.proofs.FormLong.{stored-long}
 use Rattle.stored.specs.Loading.{markRoom, isMarksOf, startedWith, loaded}
 use Rattle.stored.proofs.MarkBytes.{room-again, room-front}
-use Rattle.stored.proofs.FormLong.{stored-long}
 use Rattle.stored.proofs.FormsLoad.{form-loads}
 
 in-stretch : (n : ℕ) → StretchTold n → isStretch n ≡ true

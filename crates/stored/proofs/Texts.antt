@@ -13,7 +13,8 @@ use lib.Seq.{drop-drop, getD-drop, getD-take, take-add, take-append-seam, drop-a
 use Rattle.text.proofs.Orders.{le-or-lt}
 use Rattle.text.proofs.Parts.{drop-take}
 use Rattle.lines.specs.Bytes.{_at_}
-use Rattle.stored.specs.Form.{textSection, textsBytes}
+use Rattle.form.specs.Form.{textsBytes}
+use Rattle.form.proofs.TextsWritten.{no-texts, first-text}
 use Rattle.stored.specs.Loading.{textsLong, textsIn}
 
 abbrev pub textAt : List ℕ → ℕ → List ℕ
@@ -98,43 +99,42 @@ texts-long-within (suc i) (suc n) t l =
 
 -- ---- written and read back
 
-pub texts-snoc : (ts : List (List ℕ)) (t : List ℕ) → textsBytes (ts ++ (t ∷ [])) ≡ textsBytes ts ++ textSection t
-unfolding textsBytes
-texts-snoc [] t = append-nil (textSection t)
-texts-snoc (x ∷ ts) t =
-    ap (λ (l : List ℕ). textSection x ++ l) (texts-snoc ts t)
-    ∙ sym (append-assoc (textSection x) (textsBytes ts) (textSection t))
-
 module _ (more : List ℕ) where
+  first-then : (x : List ℕ) (ts : List (List ℕ))
+      → textsBytes (x ∷ ts) ++ more ≡ length x ∷ (x ++ (textsBytes ts ++ more))
+  first-then x ts =
+      ap (λ (l : List ℕ). l ++ more) (first-text x ts)
+      ∙ ap (λ (l : List ℕ). length x ∷ l) (append-assoc x (textsBytes ts) more)
+
   pub texts-back : (ts : List (List ℕ)) → textsIn (length ts) (textsBytes ts ++ more) ≡ ts
-  unfolding textsBytes textsIn
+  unfolding textsIn
   texts-back [] = refl
   texts-back (x ∷ ts) =
-      let whole : x ++ textsBytes ts ++ more ≡ x ++ (textsBytes ts ++ more) = append-assoc x (textsBytes ts) more in
-      (λ i. (ap (take (length x)) whole ∙ take-append-seam x (textsBytes ts ++ more)) i
-      ∷ textsIn (length ts) ((ap (drop (length x)) whole ∙ drop-append-seam x (textsBytes ts ++ more)) i))
+      let then = textsBytes ts ++ more in
+      ap (textsIn (suc (length ts))) (first-then x ts)
+      ∙ (λ i. take-append-seam x then i ∷ textsIn (length ts) (drop-append-seam x then i))
       ∙ ap (λ (l : List (List ℕ)). x ∷ l) (texts-back ts)
 
   pub texts-long-back : (ts : List (List ℕ)) → textsLong (length ts) (textsBytes ts ++ more) ≡ length (textsBytes ts)
-  unfolding textsBytes textsLong
-  texts-long-back [] = refl
+  unfolding textsLong
+  texts-long-back [] = sym (ap length no-texts)
   texts-long-back (x ∷ ts) =
-      let whole : x ++ textsBytes ts ++ more ≡ x ++ (textsBytes ts ++ more) = append-assoc x (textsBytes ts) more in
-      ap (λ (l : List ℕ). suc (length x + textsLong (length ts) l))
-      (ap (drop (length x)) whole ∙ drop-append-seam x (textsBytes ts ++ more))
-      ∙ omega (arith, texts-long-back ts, length-append x (textsBytes ts))
+      ap (textsLong (suc (length ts))) (first-then x ts)
+      ∙ ap (λ (l : List ℕ). suc (length x + textsLong (length ts) l)) (drop-append-seam x (textsBytes ts ++ more))
+      ∙ omega (arith, texts-long-back ts, ap length (first-text x ts), length-append x (textsBytes ts))
 
 -- ---- written again
 
 pub texts-again : (n : ℕ) (t : List ℕ) → textsLong n t ≤ length t → textsBytes (textsIn n t) ≡ take (textsLong n t) t
-unfolding textsBytes textsIn textsLong
-texts-again zero t l = refl
+unfolding textsIn textsLong
+texts-again zero t l = no-texts
 texts-again (suc n) [] l = absurd (omega arith)
 texts-again (suc n) (c ∷ t) l =
     let first = take c t in
     let u = drop c t in
     let long : length first ≡ c = length-take-le c t (omega arith) in
-    (λ i. long i ∷ (first ++ texts-again n u (omega (arith, length-drop c t)) i))
+    first-text first (textsIn n u)
+    ∙ (λ i. long i ∷ (first ++ texts-again n u (omega (arith, length-drop c t)) i))
     ∙ ap (λ (s : List ℕ). c ∷ s) (sym (take-add c (textsLong n u) t))
 
 -- ---- cut: what is left of them says that they end past the cut

@@ -9,7 +9,7 @@ use native.Mathlib.Omega.{arith}
 use lib.ListN.{length, drop, length-map}
 use lib.Dec.{eqb}
 use Rattle.lines.specs.Bytes.{_at_}
-use Rattle.stored.specs.Form.{formVersion, markedVersion, oldVersion, markByte, marksSection}
+use Rattle.form.specs.Form.{formVersion, markedVersion, oldVersion, markByte, marksSection}
 use Rattle.stored.specs.Loading.{marksLong}
 use Rattle.stored.proofs.Walked.{no-marks-long, some-marks-long}
 use Rattle.stored.proofs.Sections.{count-read}

@@ -1,10 +1,9 @@
 -- One name that opens this crate's definitions, for computing on concrete records only (02, L3).
 -- Assumes nothing.
-use Rattle.stored.specs.Form.{highestFirst, secondsBytes, textsBytes, classPart, formWith, storedBy}
 use Rattle.stored.specs.Loading.{sectionEnd, marksLong, placesOf, textsLong, textsIn, restLong, textsAfter}
 use Rattle.stored.specs.Loading.{secondsIn, settingsWith, settingsAt, markRoom, marksAt, loaded}
 
 unfoldable pub computing : Unit {0}
-unfolding highestFirst secondsBytes textsBytes classPart formWith storedBy sectionEnd marksLong placesOf textsLong
-    textsIn restLong textsAfter secondsIn settingsWith settingsAt markRoom marksAt loaded
+unfolding sectionEnd marksLong placesOf textsLong textsIn restLong textsAfter secondsIn settingsWith settingsAt markRoom
+    marksAt loaded
 computing = tt

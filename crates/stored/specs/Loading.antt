@@ -18,7 +18,6 @@
 --   Walked s p                p are these places, each said by the one before it
 --   endAt s p                 the form's end, by its places;    formEnd s    by those that s says
 --   between a b s             the bytes from the place a up to b
---   numberIn s                the number that the bytes s are, highest first
 --   secondsIn n s             the first n numbers of four bytes in s
 --   settingsWith s p k a b ns      the settings that stand at the places p, with the class k and what Class 2 alone has
 --   settingsBy s p k ts       the same by the list of those texts: serial number, version, names
@@ -41,9 +40,9 @@ use mathlib.Core.List.{List, [], _∷_, _++_, map}
 use lib.ListN.{length, getD, take, drop, replicate}
 use lib.Dec.{ltb, eqb}
 use Rattle.text.specs.Words.{if_then_else_}
-use Rattle.text.specs.Scans.{itself, every}
-use Rattle.text.specs.Bases.{valueIn}
+use Rattle.text.specs.Scans.{every}
 use Rattle.text.specs.Rows.{Row, _when_, byRows}
+use Rattle.numbers.specs.HighestFirst.{numberIn}
 use Rattle.lines.specs.Bytes.{_at_}
 use Rattle.record.specs.Limits.{listedMost, lampsMost, onlyIn2}
 use Rattle.record.specs.Wanted.{Wanted, wantedIn}
@@ -53,7 +52,7 @@ use Rattle.record.specs.Record.{started, blank, accepted, refused}
 use Rattle.record.specs.SetUp.{isSetUp}
 use Rattle.record.specs.declared.types.Device.{Device}
 use Rattle.record.specs.declared.types.Changed.{Changed}
-use Rattle.stored.specs.Form.{formVersion, markedVersion, oldVersion}
+use Rattle.form.specs.Form.{formVersion, markedVersion, oldVersion}
 use Rattle.stored.specs.declared.layout.Places.{Places}
 
 abbrev pub isOld : List ℕ → Bool
@@ -142,9 +141,6 @@ formEnd s = endAt s (placesOf s)
 
 abbrev pub between : ℕ → ℕ → List ℕ → List ℕ
 between a b s = take (b - a) (drop a s)
-
-abbrev pub numberIn : List ℕ → ℕ
-numberIn s = valueIn 256 itself 0 s
 
 unfoldable pub secondsIn : ℕ → List ℕ → List ℕ
 secondsIn zero s = []

@@ -1,5 +1,6 @@
 // Where the sections of a stored form stand, by its version and its counts alone (02, L3 and L8). What lies between two
 // counts is not looked at, so that bytes of any length cost the same.
+use form::storing::VERSION;
 ghost use mathlib.Core.Path.{_≡_};
 ghost use Prim.Native.Nat.{_+_, _*_, _≤_};
 ghost use lib.ListN.{length, drop};
@@ -7,10 +8,7 @@ ghost use Rattle.lines.specs.Bytes.{_at_};
 ghost use Rattle.stored.specs.Loading.{isOld, hasClass, marksLong, placesOf, classIn, manyTexts, textsLong};
 ghost use Rattle.stored.specs.Loading.{restLong};
 
-// The newest, which is written: it has a class (02, L14).
-pub const VERSION: u8 = 3;
-
-// With marks and no class (02, L8); with neither (02, L3). Both still load.
+// Before the newest: with marks and no class (02, L8); with neither (02, L3). Both still load.
 pub const MARKED_VERSION: u8 = 2;
 
 const OLD_VERSION: usize = 1;

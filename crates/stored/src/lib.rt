@@ -1,7 +1,4 @@
-// Settings that survive a board swap (02, L3): the stored form, written and loaded.
+// Settings that survive a board swap (02, L3): a stored form, loaded.
 mod layout;
 pub mod loading;
-mod numbers;
 mod reading;
-pub mod storing;
-mod writing;

@@ -2,9 +2,9 @@
 use crate::layout;
 use crate::layout::MARKED_VERSION;
 use crate::layout::Places;
-use crate::layout::VERSION;
-use crate::numbers;
 use crate::reading;
+use form::storing::VERSION;
+use numbers::highest;
 use record::host;
 use record::own;
 use record::setup;
@@ -28,13 +28,6 @@ ghost use Rattle.stored.specs.Loading.{isOtherVersion, Walked, isMarked}
 ghost use Rattle.stored.specs.Loading.{textsLong, textsIn, endAt};
 ghost use Rattle.stored.specs.Loading.{settingsWith, settingsBy, settingsAt};
 ghost use Rattle.stored.specs.Loading.{markRoom, areMarks, loaded};
-
-fn refusal(number: u32) -> Changed
-    ensures { λ r. ⌜ r ≡ refused number blank ⌝ }
-{
-    let device = Device::BLANK;
-    Changed { number, device }
-}
 
 fn is_other_version(s: &[u8]) -> bool
     ensures { λ r. ⌜ r ≡ isOtherVersion (now (s .entry)) ⌝ }
@@ -69,7 +62,7 @@ fn set_up_with(
     let warm = p.warm;
     let n = layout::count_at(s, lamps);
     if LAMPS_MOST < n {
-        return refusal(3);
+        return setup::refuse(3);
     }
     let seconds = reading::seconds_at(s, lamps + 1, n);
     setup::set_up_in(
@@ -81,8 +74,8 @@ fn set_up_with(
         &s[password + 1..inputs],
         &s[inputs + 1..lamps],
         &seconds[0..n],
-        numbers::two_at(s, warm),
-        numbers::two_at(s, warm + 2),
+        highest::two_at(s, warm),
+        highest::two_at(s, warm + 2),
         serial,
         version,
         names,
@@ -105,7 +98,7 @@ fn set_up_2_at(s: &[u8], p: Places) -> Changed
     let inputs = p.inputs;
     let n = layout::count_at(s, inputs);
     if INPUTS_MOST < n {
-        return refusal(3);
+        return setup::refuse(3);
     }
     let lengths = reading::lengths_at(s, names, n);
     let bytes = reading::bytes_at(s, names, n);
@@ -146,16 +139,16 @@ fn enabled(d: Device, s: &[u8]) -> Changed
         else refused 23 blank) ⌝ }
 {
     if s.len() != d.settings.lamp_count {
-        return refusal(23);
+        return setup::refuse(23);
     }
     if !reading::marks_ok(s) {
-        return refusal(23);
+        return setup::refuse(23);
     }
     let marks = reading::marks_of(s);
     let mut changed = d.own;
     changed.enabled = marks;
     if !own::own_ok(d.settings, changed) {
-        return refusal(23);
+        return setup::refuse(23);
     }
     let device = host::with_own(d, changed);
     Changed { number: 0, device }
@@ -166,21 +159,21 @@ pub fn load(s: &[u8]) -> Changed
     ensures { λ r. ⌜ r ≡ loaded (now (s .entry)) ⌝ }
 {
     if is_other_version(s) {
-        return refusal(20);
+        return setup::refuse(20);
     }
     let p = layout::walk(s);
     let marks = p.marks;
     let warm = p.warm;
     let end = p.class + layout::rest_long(s, layout::count_at(s, p.inputs), p.class);
     if s.len() < end {
-        return refusal(21);
+        return setup::refuse(21);
     }
     if end < s.len() {
-        return refusal(22);
+        return setup::refuse(22);
     }
     let made = set_up_at(s, p);
     if made.number != 0 {
-        return refusal(23);
+        return setup::refuse(23);
     }
     if layout::is_old(s) {
         return made;

@@ -1,6 +1,6 @@
 // What stands at the places of a form that has been walked: seconds, marks, and the texts of Class 2 (02, L3, L8, L14).
 use crate::layout;
-use crate::numbers;
+use numbers::highest;
 use record::types::INPUTS_MOST;
 use record::types::LAMPS_MOST;
 ghost use mathlib.Core.Path.{_≡_};
@@ -28,7 +28,7 @@ pub fn seconds_at(s: &[u8], p: usize, n: usize) -> [u32; LAMPS_MOST]
     let mut list = [0u32; LAMPS_MOST];
     let mut i = 0;
     while i < n {
-        list[i] = numbers::four_at(s, p + 4 * i);
+        list[i] = highest::four_at(s, p + 4 * i);
         i += 1;
     }
     list

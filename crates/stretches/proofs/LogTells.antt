@@ -16,7 +16,7 @@ use Rattle.record.specs.Wanted.{Wanted}
 use Rattle.record.specs.declared.types.Device.{Device}
 use Rattle.record.proofs.Calls.{set-up-in-range}
 use Rattle.record.proofs.Started.{started-legal, set-up-started}
-use Rattle.stored.specs.Form.{formOf, markedFormOf, oldFormOf}
+use Rattle.form.specs.Form.{formOf, markedFormOf, oldFormOf}
 use Rattle.stored.proofs.Results.{accepted-legal}
 use Rattle.demands.specs.Board.{ours}
 use Rattle.demands.specs.Calls.{Call, after}

@@ -4,7 +4,7 @@ use Prim.Native.Nat.{ℕ}
 use mathlib.Core.Path.{ap}
 use lib.Dec.{eqb}
 use borrow.Author.Needs.{needs}
-use Rattle.stored.specs.Form.{formVersion}
+use Rattle.form.specs.Form.{formVersion}
 use Rattle.stored.proofs.layout.has_class.Statement.{statement}
 use Rattle.stored.proofs.layout.has_class.Tie as tie
 

@@ -4,7 +4,7 @@ use Prim.Native.Nat.{ℕ}
 use mathlib.Core.Path.{ap}
 use lib.Dec.{eqb}
 use borrow.Author.Needs.{needs}
-use Rattle.stored.specs.Form.{oldVersion}
+use Rattle.form.specs.Form.{oldVersion}
 use Rattle.stored.proofs.layout.is_old.Statement.{statement}
 use Rattle.stored.proofs.layout.is_old.Tie as tie
 

@@ -40,14 +40,14 @@ other-count : tie.Need-returns
 other-count c =
     let tested = c .before in
     let start = tested .before .before .before in
-    c .refusal .ensures ∙ sym (if-no _ _ (wrong start (λ t. tested .if1 .taken (t .many))))
+    c .refuse .ensures ∙ sym (if-no _ _ (wrong start (λ t. tested .if1 .taken (t .many))))
 
 no-marks : tie.Need-returns-2
 no-marks c =
     let tested = c .before in
     let scanned = tested .before in
     let start = at-count (scanned .before) in
-    c .refusal2 .ensures
+    c .refuse2 .ensures
     ∙ sym
     (if-no _ _ (wrong start
     (λ t. false≢true (sym (not-true _ (tested .if2 .taken)) ∙ scanned .marks-ok .ensures ∙ t .each))))
@@ -82,7 +82,7 @@ not-legal c =
     let start = begin asked in
     let d = start .args .d in
     let o = own-of-legal d (start .pre) in
-    c .refusal3 .ensures
+    c .refuse3 .ensures
     ∙ sym
     (if-no _ _ (wrong start
     (λ t. false≢true

@@ -5,7 +5,7 @@ use mathlib.Core.Bool.{Bool, not, _&&_}
 use lib.Dec.{eqb}
 use borrow.Author.Needs.{needs}
 use Rattle.lines.specs.Bytes.{_at_}
-use Rattle.stored.specs.Form.{formVersion, markedVersion}
+use Rattle.form.specs.Form.{formVersion, markedVersion}
 use Rattle.stored.proofs.Cases.{no-version, version-first}
 use Rattle.stored.proofs.loading.is_other_version.Statement.{statement}
 use Rattle.stored.proofs.loading.is_other_version.Tie as tie

@@ -20,7 +20,7 @@ other : tie.Need-returns
 other c =
     let tested = c .before in
     let asked = tested .before in
-    c .refusal .ensures ∙ sym (loaded-other _ (sym (asked .is-other-version .ensures) ∙ tested .if1 .taken))
+    c .refuse .ensures ∙ sym (loaded-other _ (sym (asked .is-other-version .ensures) ∙ tested .if1 .taken))
 
 -- past the first test the version is ours, and the places are known
 module _ (c : tie.After-walk) where
@@ -55,7 +55,7 @@ short : tie.Need-returns-2
 short c =
     let tested = c .before in
     let known = tested .before in
-    c .refusal2 .ensures
+    c .refuse2 .ensures
     ∙ sym (loaded-cut (bytes known) (ours (walk known)) (omega (arith, ends known, tested .if2 .taken)))
 
 longer : tie.Need-returns-3
@@ -63,7 +63,7 @@ longer c =
     let tested = c .before in
     let second = tested .before in
     let known = second .before in
-    c .refusal3 .ensures
+    c .refuse3 .ensures
     ∙ sym
     (loaded-over (bytes known) (ours (walk known)) (omega (arith, ends known, second .if2 .left))
     (omega (arith, ends known, tested .if3 .taken)))
@@ -92,7 +92,7 @@ wrong : tie.Need-returns-4
 wrong c =
     let tested = c .before in
     let made = tested .before .before in
-    c .refusal4 .ensures
+    c .refuse4 .ensures
     ∙ sym
     (loaded-refused (lent (places made)) (ours (places made)) (uncut made) (whole made) (gave made)
     (tested .if4 .taken))

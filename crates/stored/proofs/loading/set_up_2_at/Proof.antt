@@ -84,7 +84,7 @@ too-many c =
     let tested = c .before in
     let counts = tested .before in
     let p = start counts .args .p in
-    c .refusal .ensures
+    c .refuse .ensures
     ∙ sym
     (too-many-inputs (s counts) p 2 _ _ _ (start counts .pre .0 .lamps)
     (omega (arith, start counts .pre .0, start counts .pre .1 .0))

@@ -24,7 +24,7 @@ too-many c =
     let tested = c .before in
     let counted = tested .before in
     let args = start counted .args in
-    c .refusal .ensures
+    c .refuse .ensures
     ∙ sym
     (too-many-lamps (args .s .now) (args .p) (args .class) (args .serial .now) (args .version .now)
     (namesIn (args .lengths .now) (args .names .now))

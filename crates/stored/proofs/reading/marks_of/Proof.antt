@@ -4,7 +4,7 @@ use Prim.Native.Nat.{_-_}
 use mathlib.Core.Path.{refl}
 use lib.ListN.{length}
 use borrow.Author.Needs.{needs}
-use Rattle.stored.proofs.MarksWritten.{MarksKept, no-mark-kept, one-mark-kept, all-marks-kept}
+use Rattle.stored.proofs.MarksKept.{MarksKept, no-mark-kept, one-mark-kept, all-marks-kept}
 use Rattle.stored.proofs.reading.marks_of.Statement.{statement}
 use Rattle.stored.proofs.reading.marks_of.Tie as tie
 

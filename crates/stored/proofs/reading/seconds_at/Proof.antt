@@ -7,9 +7,10 @@ use native.Mathlib.Omega.{arith}
 use lib.ListN.{length, getD, set, take, drop}
 use lib.Seq.{drop-drop}
 use borrow.Author.Needs.{needs}
+use Rattle.numbers.specs.HighestFirst.{numberIn}
 use Rattle.record.specs.Limits.{lampsMost}
 use Rattle.record.proofs.Filled.{Copied, none-copied, one-copied, all-copied}
-use Rattle.stored.specs.Loading.{numberIn, secondsIn}
+use Rattle.stored.specs.Loading.{secondsIn}
 use Rattle.stored.proofs.Seconds.{read-many, read-at}
 use Rattle.stored.proofs.reading.seconds_at.Statement.{statement}
 use Rattle.stored.proofs.reading.seconds_at.Tie as tie
