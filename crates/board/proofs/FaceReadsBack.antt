@@ -9,7 +9,7 @@ use mathlib.Core.Bool.{true, false}
 use mathlib.Core.List.{List}
 use Rattle.lines.specs.Commands.{commandClass}
 use Rattle.lines.specs.declared.command.Command.{Command}
-use Rattle.lines.specs.declared.request.Request.the-variants.{Asks}
+use Rattle.requests.specs.declared.Request.the-variants.{Asks}
 use Rattle.record.specs.Limits.{placesCount, awaiting, opened}
 use Rattle.record.specs.Legal.{isLegal}
 use Rattle.record.specs.Places.{connectionAt, lowestShut}

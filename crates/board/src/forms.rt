@@ -1,6 +1,6 @@
 // The stored form: settings that survive a board swap (02, L3).
-use form::storing::FormWritten;
 use form::storing;
+use form::storing::FormWritten;
 use record::types::Changed;
 use record::types::Device;
 use stored::loading;

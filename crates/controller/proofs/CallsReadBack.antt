@@ -12,7 +12,7 @@ use lib.Seq.{take-append-seam}
 use Rattle.text.specs.Words.{over}
 use Rattle.lines.specs.Commands.{commandClass, isCommand}
 use Rattle.lines.specs.declared.command.Command.{Command}
-use Rattle.lines.specs.declared.request.Request.the-variants.{Asks}
+use Rattle.requests.specs.declared.Request.the-variants.{Asks}
 use Rattle.record.specs.Limits.{placesCount, awaiting, opened}
 use Rattle.record.specs.Legal.{isLegal}
 use Rattle.record.specs.Places.{connectionAt, withPlace, lowestShut}

@@ -14,8 +14,8 @@ use Rattle.digest.specs.Hex.{leadingDigest, hexDigits}
 use Rattle.lines.specs.Texts.{isPassword}
 use Rattle.lines.specs.Commands.{isCommand, bodyOf, commandClass, commandLine}
 use Rattle.lines.specs.Forms.{erraLine, greetingOpen, greetingSecured, isReplyForm, headBody, replyParameter}
-use Rattle.lines.specs.Requests.{isBody}
 use Rattle.lines.specs.declared.command.Command.{Command}
+use Rattle.requests.specs.Requests.{isBody}
 use Rattle.answers.specs.Reading.{readParameter}
 use Rattle.controller.specs.Writing.{WrittenAs, nothingWritten, commandRoom, isWritable, ledBy, writtenCommand}
 use Rattle.controller.specs.Reading.{ReadAs, without, saying, readReply}

@@ -18,14 +18,15 @@ use Rattle.digest.specs.Hex.{leadingDigest}
 use Rattle.digest.proofs.Laws.{leading-digest-length}
 use Rattle.lines.specs.Bytes.{_at_, isAlnum, notCr, noCr}
 use Rattle.lines.specs.Forms.{replyLine}
-use Rattle.lines.specs.Requests.{isBody}
 use Rattle.lines.specs.Commands.{bodyText, bodyOf, commandClass, classDigit, isCommand, commandText, commandLine}
 use Rattle.lines.specs.declared.command.Command.{Command}
-use Rattle.lines.specs.declared.request.Request.the-variants.{Asks}
 use Rattle.lines.proofs.Bodies.{four, body-spelt}
 use Rattle.lines.proofs.Characters.{no-cr-each}
 use Rattle.lines.proofs.CommandLines.{command-length, line-length, command-no-cr}
 use Rattle.lines.proofs.RepliesReadBack.{reply-not-erra, reply-form, reply-parameter}
+use Rattle.requests.specs.Requests.{isBody}
+use Rattle.requests.proofs.BodiesNamed.{body-named}
+use Rattle.requests.specs.declared.Request.the-variants.{Asks}
 use Rattle.answers.specs.Said.{Said, saidBytes}
 use Rattle.answers.specs.Reading.{readParameter}
 use Rattle.answers.specs.CanSay.{CanSay, done as does, refuses, power, input, mutes, errors, lamps, inputs}
@@ -108,7 +109,7 @@ module _ (c : Command) {m : Said} (can : CanSay c m) (short : length (saidBytes 
       (saidBytes m))
       (reply-form (text at 0) (text at 1) (text at 2) (text at 3) letters (commandClass c) (saidBytes m) short plain)
       (ap (λ (s : List ℕ). isBody (commandClass c) s (bodyOf c)) (body-spelt (bodyOf c) .long)
-      ∙ body-spelt (bodyOf c) .own)
+      ∙ body-named (bodyOf c) .own)
       ∙ ap (λ (p : List ℕ). saying (readParameter c p))
       (reply-parameter (text at 0) (text at 1) (text at 2) (text at 3) letters (classDigit (commandClass c))
       (saidBytes m))

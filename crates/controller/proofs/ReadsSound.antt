@@ -12,10 +12,10 @@ use Rattle.text.specs.Scans.{sameBy, itself}
 use Rattle.text.proofs.Choices.{if-yes, if-no}
 use Rattle.text.proofs.Sameness.{same-is}
 use Rattle.lines.specs.Forms.{erraLine, isReplyForm, headBody, replyParameter}
-use Rattle.lines.specs.Requests.{isBody}
 use Rattle.lines.specs.Commands.{bodyOf, commandClass}
 use Rattle.lines.specs.declared.command.Command.{Command}
 use Rattle.lines.proofs.RepliesReadBack.{form-not-erra}
+use Rattle.requests.specs.Requests.{isBody}
 use Rattle.answers.specs.Said.{Said}
 use Rattle.answers.specs.CanSay.{CanSay}
 use Rattle.answers.specs.Reading.{readParameter}

@@ -14,9 +14,9 @@ use mathlib.Core.List.{List}
 use Rattle.text.specs.Words.{if_then_else_}
 use Rattle.text.specs.Scans.{sameBy, itself}
 use Rattle.lines.specs.Forms.{erraLine, isReplyForm, headBody, replyParameter}
-use Rattle.lines.specs.Requests.{isBody}
 use Rattle.lines.specs.Commands.{bodyOf, commandClass}
 use Rattle.lines.specs.declared.command.Command.{Command}
+use Rattle.requests.specs.Requests.{isBody}
 use Rattle.answers.specs.Said.{Said, nothing}
 use Rattle.answers.specs.Carried.{answerOf}
 use Rattle.answers.specs.Reading.{readParameter}

@@ -6,7 +6,6 @@ use answers::read;
 use lines::command;
 use lines::command::Command;
 use lines::form;
-use lines::request;
 ghost use mathlib.Core.Path.{_≡_};
 ghost use Rattle.controller.specs.Reading.{readReply, readingOf, kindOutcome, without};
 
@@ -63,7 +62,7 @@ pub fn read_reply(c: Command, line: &[u8]) -> Reading
     if !form::is_reply_form(class, line) {
         return meaningless(Outcome::NotALine);
     }
-    if !request::is_body(
+    if !requests::is_body(
         class,
         line[2],
         line[3],

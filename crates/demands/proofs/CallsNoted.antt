@@ -13,7 +13,7 @@ use borrow.Author.Tests.{eqb-true, eqb-false, eq-eqb, ne-eqb}
 use Rattle.text.specs.Words.{if_then_else_}
 use Rattle.text.proofs.Choices.{if-yes}
 use Rattle.lines.specs.declared.command.Command.the-variants.{PowerSet}
-use Rattle.lines.specs.declared.request.Request.the-variants.{Asks}
+use Rattle.requests.specs.declared.Request.the-variants.{Asks}
 use Rattle.answers.specs.Said.{okay}
 use Rattle.record.specs.Limits.{isBetween}
 use Rattle.record.specs.Wanted.{Wanted}

@@ -15,15 +15,16 @@ use Rattle.text.proofs.Choices.{if-yes, if-no, if-by, if-all}
 use Rattle.lines.specs.Bytes.{_at_, noCr}
 use Rattle.lines.specs.Inputs.{isInputText, inputNamed, inputText}
 use Rattle.lines.specs.Forms.{headBody, commandParameter, commandMost, isCommandForm, classNamed, replyLine}
-use Rattle.lines.specs.Requests.{requestOf}
 use Rattle.lines.specs.ClassOne.{isCommandForm1}
 use Rattle.lines.specs.declared.command.Body.the-variants.{Inpt}
 use Rattle.lines.specs.declared.command.Command.the-variants.{InputSet}
-use Rattle.lines.specs.declared.request.Request.{Request}
-use Rattle.lines.specs.declared.request.Request.the-variants.{Asks, Unlisted}
 use Rattle.lines.proofs.InputsReadBack.{named-text}
 use Rattle.lines.proofs.SourcesFollowed.{named-stands}
-use Rattle.lines.proofs.ClassOneKept.{KeptAs, as-before, of-class-2, asked-kept, form-kept, class-byte-1}
+use Rattle.lines.proofs.ClassOneKept.{form-kept, class-byte-1}
+use Rattle.requests.specs.Requests.{requestOf}
+use Rattle.requests.specs.declared.Request.{Request}
+use Rattle.requests.specs.declared.Request.the-variants.{Asks, Unlisted}
+use Rattle.requests.proofs.ClassOneKept.{KeptAs, as-before, of-class-2, asked-kept}
 use Rattle.answers.specs.Said.{saidBytes}
 use Rattle.record.specs.Legal.{isLegal, isSettings}
 use Rattle.record.specs.Limits.{awaiting, opened}

@@ -22,9 +22,9 @@ use Rattle.lines.specs.declared.command.Volume.the-variants.{Speaker, Microphon
 use Rattle.lines.specs.declared.command.Command.{Command}
 use Rattle.lines.specs.declared.command.Command.the-variants.{PowerSet, InputSet, MuteSet, InputSet2, FreezeSet}
 use Rattle.lines.specs.declared.command.Command.the-variants.{VolumeStep, NameQuery, Query}
-use Rattle.lines.specs.declared.request.Request.{Request}
-use Rattle.lines.specs.declared.request.Request.the-variants.{Asks, Unlisted, UnknownBody}
 use Rattle.lines.proofs.TextsTold.{name-long, info-long}
+use Rattle.requests.specs.declared.Request.{Request}
+use Rattle.requests.specs.declared.Request.the-variants.{Asks, Unlisted, UnknownBody}
 use Rattle.answers.specs.Said.{Said, saidBytes, bytesMost, refused}
 use Rattle.answers.specs.CanSay.{CanSay, done as does, refuses, power, input, mutes, errors, lamps, inputs, name, maker}
 use Rattle.answers.specs.CanSay.{model, other, class-is, freeze, serial, version, input-name, input-2, inputs-2}

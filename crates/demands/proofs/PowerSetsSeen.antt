@@ -10,8 +10,8 @@ use lib.ListN.{length, drop, length-append}
 use lib.Seq.{drop-append-seam}
 use Rattle.text.specs.Words.{ascii}
 use Rattle.text.proofs.Choices.{if-all}
-use Rattle.lines.specs.Requests.{isBody}
 use Rattle.lines.specs.declared.command.Body.the-variants.{Powr}
+use Rattle.requests.specs.Requests.{isBody}
 use Rattle.stream.proofs.LastBytes.{Ends}
 use Rattle.device.proofs.PowerLines.{isPowerOkay, powerLine, power-line-read, power-line-not-other}
 use Rattle.demands.specs.History.{Event, switched, powerSet, _says_, _ends-in_}

@@ -11,8 +11,8 @@ use Rattle.text.proofs.Choices.{if-yes, if-no}
 use Rattle.text.specs.Scans.{sameBy, itself}
 use Rattle.lines.specs.Forms.{erraLine, greetingOpen, isReplyForm, headBody, replyParameter}
 use Rattle.lines.specs.Commands.{bodyOf, commandClass}
-use Rattle.lines.specs.Requests.{isBody}
 use Rattle.lines.specs.declared.command.Command.{Command}
+use Rattle.requests.specs.Requests.{isBody}
 use Rattle.answers.specs.Writings.{Allowed}
 use Rattle.record.specs.Wanted.{Wanted}
 use Rattle.record.specs.Legal.{isLegal}

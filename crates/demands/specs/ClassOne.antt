@@ -20,8 +20,9 @@ use lib.Dec.{leb}
 use Rattle.text.specs.Words.{ascii, if_then_else_, _is_}
 use Rattle.lines.specs.Bytes.{_at_, noCr}
 use Rattle.lines.specs.Forms.{headBody, commandParameter, commandMost}
-use Rattle.lines.specs.ClassOne.{isCommandForm1, requestOf1}
-use Rattle.lines.specs.declared.request.Request.{Request}
+use Rattle.lines.specs.ClassOne.{isCommandForm1}
+use Rattle.requests.specs.ClassOne.{requestOf1}
+use Rattle.requests.specs.declared.Request.{Request}
 use Rattle.answers.specs.Said.{saidBytes}
 use Rattle.record.specs.Limits.{awaiting, opened}
 use Rattle.record.specs.declared.types.Settings.{Settings}

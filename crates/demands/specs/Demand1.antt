@@ -25,8 +25,8 @@ use Rattle.text.specs.Rows.{Row, _when_, firstOf}
 use Rattle.text.specs.Scans.{sameBy, itself}
 use Rattle.lines.specs.Forms.{erraLine, greetingOpen, isReplyForm, headBody, replyParameter}
 use Rattle.lines.specs.Commands.{bodyOf, commandClass}
-use Rattle.lines.specs.Requests.{isBody}
 use Rattle.lines.specs.declared.command.Command.{Command}
+use Rattle.requests.specs.Requests.{isBody}
 use Rattle.answers.specs.Said.{nothing}
 use Rattle.answers.specs.Writings.{Allowed}
 use Rattle.record.specs.Wanted.{Wanted}

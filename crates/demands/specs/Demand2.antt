@@ -40,7 +40,7 @@ use Rattle.lines.specs.Commands.{isCommand, commandClass, commandLine}
 use Rattle.lines.specs.declared.command.Body.the-variants.{Name}
 use Rattle.lines.specs.declared.command.Command.{Command}
 use Rattle.lines.specs.declared.command.Command.the-variants.{Query}
-use Rattle.lines.specs.declared.request.Request.the-variants.{Asks}
+use Rattle.requests.specs.declared.Request.the-variants.{Asks}
 use Rattle.answers.specs.Said.{Said, textIs}
 use Rattle.record.specs.Limits.{placesCount, awaiting, opened, failed}
 use Rattle.record.specs.Wanted.{Wanted}

@@ -9,9 +9,9 @@ use Rattle.text.specs.Words.{ascii, if_then_else_}
 use Rattle.text.specs.Scans.{sameBy, itself}
 use Rattle.lines.specs.Bytes.{upperOf}
 use Rattle.lines.specs.Forms.{headBody}
-use Rattle.lines.specs.Requests.{isBody}
 use Rattle.lines.specs.declared.command.Command.{Command}
 use Rattle.lines.specs.declared.command.Body.the-variants.{Name}
+use Rattle.requests.specs.Requests.{isBody}
 use Rattle.answers.specs.Said.{textIs}
 use Rattle.record.specs.Updates.{withLine}
 use Rattle.record.specs.Record.{blank}

@@ -1,6 +1,6 @@
 // `ours`'s storing and loading.
-use form::storing::FormWritten;
 use form::storing;
+use form::storing::FormWritten;
 use record::types::Changed;
 use record::types::Device;
 use stored::loading;

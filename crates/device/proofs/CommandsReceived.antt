@@ -21,9 +21,9 @@ use Rattle.lines.specs.Bytes.{notCr}
 use Rattle.lines.specs.Commands.{bodyText, bodyOf, commandClass, classDigit, isCommand, commandText}
 use Rattle.lines.specs.Commands.{commandLine}
 use Rattle.lines.specs.declared.command.Command.{Command}
-use Rattle.lines.specs.declared.request.Request.the-variants.{Asks}
 use Rattle.lines.proofs.Characters.{no-cr-each}
 use Rattle.lines.proofs.CommandLines.{command-length, command-no-cr}
+use Rattle.requests.specs.declared.Request.the-variants.{Asks}
 use Rattle.answers.specs.Said.{Said, saidBytes}
 use Rattle.record.specs.Limits.{placesCount, shut, awaiting, opened}
 use Rattle.record.specs.Legal.{isTimed, isLegal}

@@ -17,10 +17,10 @@ use borrow.Author.Tests.{eqb-true, eqb-false, ne-eqb}
 use Rattle.text.specs.Words.{ascii}
 use Rattle.text.proofs.Choices.{if-by}
 use Rattle.lines.specs.Forms.{replyLine}
-use Rattle.lines.specs.Requests.{isBody}
 use Rattle.lines.specs.declared.command.Body.the-variants.{Powr}
 use Rattle.lines.specs.declared.command.Command.the-variants.{PowerSet}
-use Rattle.lines.specs.declared.request.Request.the-variants.{Asks}
+use Rattle.requests.specs.Requests.{isBody}
+use Rattle.requests.specs.declared.Request.the-variants.{Asks}
 use Rattle.answers.specs.Said.{okay}
 use Rattle.record.specs.Limits.{shut, awaiting, opened, failed}
 use Rattle.record.specs.Legal.{isCollecting, heldMost, isConnection}

@@ -17,12 +17,12 @@ use Rattle.text.proofs.Choices.{if-by}
 use Rattle.lines.specs.Bytes.{_at_, upperOf}
 use Rattle.lines.specs.Commands.{switchDigit}
 use Rattle.lines.specs.Forms.{headBody, classNamed, lineClass, isCommandForm, commandParameter, replyLine}
-use Rattle.lines.specs.Requests.{isBody, askedOf}
 use Rattle.lines.specs.declared.command.Body.the-variants.{Powr}
 use Rattle.lines.specs.declared.command.Command.the-variants.{PowerSet}
-use Rattle.lines.specs.declared.request.Request.the-variants.{Asks}
-use Rattle.lines.proofs.PowerAsked.{isPowerSet, not-powr, powr-asked, power-parameter}
 use Rattle.lines.proofs.FormsSpelt.{taken-by, form-takes, form-spelt}
+use Rattle.requests.specs.Requests.{isBody, askedOf}
+use Rattle.requests.specs.declared.Request.the-variants.{Asks}
+use Rattle.requests.proofs.PowerAsked.{isPowerSet, not-powr, powr-asked, power-parameter}
 use Rattle.answers.proofs.OnlyOkay.{okay-bytes}
 use Rattle.answers.specs.Said.{Said, okay, saidBytes}
 use Rattle.record.specs.declared.types.Settings.{Settings}

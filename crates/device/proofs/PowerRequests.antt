@@ -5,12 +5,12 @@ use mathlib.Core.Path.{_≡_, refl}
 use mathlib.Core.Bool.{Bool}
 use mathlib.Core.List.{List}
 use Prim.Native.Nat.{ℕ}
-use Rattle.lines.specs.Requests.{askedOf}
 use Rattle.lines.specs.declared.command.Body.the-variants.{Powr}
 use Rattle.lines.specs.declared.command.Command.the-variants.{PowerSet, Query}
-use Rattle.lines.specs.declared.request.Request.{Request}
-use Rattle.lines.specs.declared.request.Request.the-variants.{Asks, Unlisted}
-use Rattle.lines.proofs.PowerAsked.{powr-by}
+use Rattle.requests.specs.Requests.{askedOf}
+use Rattle.requests.specs.declared.Request.{Request}
+use Rattle.requests.specs.declared.Request.the-variants.{Asks, Unlisted}
+use Rattle.requests.proofs.PowerAsked.{powr-by}
 use Rattle.answers.specs.Said.{Said, okay}
 use Rattle.answers.proofs.OnlyOkay.{NotOkay, refusal-not-okay, power-not-okay, nothing-not-okay}
 use Rattle.record.specs.declared.types.Settings.{Settings}

@@ -21,13 +21,13 @@ use Rattle.digest.proofs.Laws.{leading-digest-length, hex-are-digits, digits-ha
 use Rattle.lines.specs.Bytes.{notCr, noCr}
 use Rattle.lines.specs.Forms.{commandMost, headBody}
 use Rattle.lines.specs.Commands.{bodyText, bodyOf, commandClass, classDigit, isCommand, commandText}
-use Rattle.lines.specs.Requests.{isBody, requestOf}
 use Rattle.lines.specs.declared.command.Command.{Command}
-use Rattle.lines.specs.declared.request.Request.the-variants.{Asks}
-use Rattle.lines.proofs.Bodies.{body-spelt}
+use Rattle.requests.proofs.BodiesNamed.{body-named}
 use Rattle.lines.proofs.CommandLines.{command-body, command-parameter, command-class, command-form}
 use Rattle.lines.proofs.CommandLines.{command-of-higher-class}
-use Rattle.lines.proofs.CommandsAskedBack.{command-asked-back}
+use Rattle.requests.specs.Requests.{isBody, requestOf}
+use Rattle.requests.specs.declared.Request.the-variants.{Asks}
+use Rattle.requests.proofs.CommandsAskedBack.{command-asked-back}
 use Rattle.answers.specs.Said.{saidBytes}
 use Rattle.record.specs.Limits.{lineRoom, awaiting, opened}
 use Rattle.record.specs.Record.{inRoom}
@@ -133,7 +133,7 @@ module _ (s : Settings) (o : Own) (settings : isSettings s ≡ true) (k : Comman
     command-asked =
         (λ i. requestOf (command-class k i) (headBody (commandText k)) (command-parameter k i))
         ∙ command-asked-back k (headBody (commandText k)) writable
-        (ap (λ (h : List ℕ). isBody (commandClass k) h (bodyOf k)) (command-body k) ∙ body-spelt (bodyOf k) .own)
+        (ap (λ (h : List ℕ). isBody (commandClass k) h (bodyOf k)) (command-body k) ∙ body-named (bodyOf k) .own)
 
     -- class and body as sent, what the command means, and what it does
     pub command-answered : lineAnswer s o (commandText k) ≡ record {

@@ -9,9 +9,9 @@ use Prim.Native.Nat.{ℕ}
 use mathlib.Core.List.{List, []}
 use Rattle.text.specs.Words.{if_then_else_}
 use Rattle.lines.specs.Bytes.{_at_}
-use Rattle.lines.specs.Requests.{requestOf}
 use Rattle.lines.specs.Forms.{isCommandForm, lineClass, headBody, commandParameter, replyLine}
-use Rattle.lines.specs.declared.request.Request.{Request}
+use Rattle.requests.specs.Requests.{requestOf}
+use Rattle.requests.specs.declared.Request.{Request}
 use Rattle.answers.specs.Said.{saidBytes}
 use Rattle.record.specs.declared.types.Settings.{Settings}
 use Rattle.record.specs.declared.types.Own.{Own}

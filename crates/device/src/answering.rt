@@ -1,7 +1,6 @@
 // A line on an open connection: decided over what it asks, then written.
 use answers::answer::Answer;
 use lines::form;
-use lines::request;
 use record::types::Own;
 use record::types::Settings;
 ghost use mathlib.Core.Path.{_≡_};
@@ -48,7 +47,7 @@ pub fn answer_line(s: Settings, o: Own, l: &[u8], out: &mut [u8]) -> Spoken
     let b = l[3];
     let c = l[4];
     let d = l[5];
-    let r = request::request_of(form::class_named(h), a, b, c, d, &l[7..]);
+    let r = requests::request_of(form::class_named(h), a, b, c, d, &l[7..]);
     let decided = meaning::decide(s, o, r);
     let own = decided.own;
     let length = put_reply(out, h, a, b, c, d, decided.answer);

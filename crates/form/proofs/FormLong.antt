@@ -1,4 +1,5 @@
--- A form by its sections, and how long it is: a byte for the version, one for each count, four for W and C, and the contents.
+-- A form by its sections, and how long it is: a byte for the version, one for each count, four for W and C, and the
+-- contents.
 -- Assumes nothing.
 use Prim.Native.Nat.{ℕ, _+_, _*_, _/_, _≤_}
 use mathlib.Core.Path.{_≡_, refl}

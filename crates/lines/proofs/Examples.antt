@@ -7,18 +7,16 @@ use Prim.Native.Nat.{ℕ}
 use Rattle.text.specs.Words.{ascii}
 use Rattle.lines.specs.Bytes.{_at_}
 use Rattle.lines.specs.Sources.{numberFor, numberCharacter, inputFor}
-use Rattle.lines.specs.Inputs.{isInputText, sourceNamed, readInput, inputOf}
+use Rattle.lines.specs.Inputs.{isInputText}
 use Rattle.lines.specs.Commands.{commandLine}
-use Rattle.lines.specs.Requests.{bodyNamed, switchAsked, nameAsked, askedOf, requestOf}
 use Rattle.lines.specs.Forms.{isCommandForm}
 use Rattle.lines.specs.declared.input.Source.the-variants.{Rgb, Digital, Network, Internal}
 use Rattle.lines.specs.declared.input.Input.{Input}
 use Rattle.lines.specs.declared.input.MaybeInput.the-variants.{InputIs, NoInput}
-use Rattle.lines.specs.declared.command.Body.the-variants.{Inst, Snum, Svol, Innm, Inpt2}
+use Rattle.lines.specs.declared.command.Body.the-variants.{Snum}
 use Rattle.lines.specs.declared.command.Volume.the-variants.{Speaker, Microphone}
-use Rattle.lines.specs.declared.command.Command.the-variants.{InputSet, InputSet2, FreezeSet, VolumeStep}
+use Rattle.lines.specs.declared.command.Command.the-variants.{InputSet2, FreezeSet, VolumeStep}
 use Rattle.lines.specs.declared.command.Command.the-variants.{NameQuery, Query}
-use Rattle.lines.specs.declared.request.Request.the-variants.{Asks, Unlisted, UnknownBody}
 
 abbrev texts : List (List ℕ)
 texts = ascii "11" ∷ ascii "59" ∷ ascii "10" ∷ ascii "20" ∷ ascii "61" ∷ []
@@ -53,27 +51,6 @@ written : map commandLine
     ∷ ascii "%2SNUM ?\r" ∷ []
 unfolding numberCharacter
 written = refl
-
--- what is asked for under each class: CLSS and POWR are of Class 1 only, SNUM of Class 2 only
-record Line : Type 0 where
-  class : ℕ
-  body : List ℕ
-  parameter : List ℕ
-
-abbrev line : ℕ → List ℕ → List ℕ → Line
-line k b p = record { class = k; body = b; parameter = p }
-
-requests : map (λ (l : Line). requestOf (l .class) (l .body) (l .parameter))
-    (line 1 (ascii "INPT") (ascii "31") ∷ line 2 (ascii "inpt") (ascii "31") ∷ line 2 (ascii "INPT") (ascii "3a")
-    ∷ line 1 (ascii "INST") (ascii "?") ∷ line 2 (ascii "CLSS") (ascii "?") ∷ line 1 (ascii "SNUM") (ascii "?")
-    ∷ line 2 (ascii "SNUM") (ascii "1") ∷ line 2 (ascii "SVOL") (ascii "?") ∷ line 2 (ascii "INNM") (ascii "?31")
-    ∷ line 2 (ascii "INNM") (ascii "?") ∷ [])
-    ≡ Asks (InputSet hdmi) ∷ Asks (InputSet2 hdmi) ∷ Unlisted Inpt2
-    ∷ Asks (Query Inst) ∷ UnknownBody ∷ UnknownBody
-    ∷ Unlisted Snum ∷ Unlisted Svol ∷ Asks (NameQuery hdmi)
-    ∷ Unlisted Innm ∷ []
-unfolding requestOf bodyNamed askedOf switchAsked nameAsked inputOf readInput sourceNamed numberFor
-requests = refl
 
 -- a Class 1 set-up takes no `%2` line, a Class 2 set-up takes both, and none takes `%3`
 forms : map (λ (k : ℕ). map (isCommandForm k) (ascii "%1INST ?" ∷ ascii "%2INST ?" ∷ ascii "%3INST ?" ∷ []))

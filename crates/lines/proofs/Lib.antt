@@ -8,9 +8,7 @@ pub mod InputsReadBack
 pub mod SourcesFollowed
 pub mod Bodies
 pub mod CommandLines
-pub mod CommandsAskedBack
 pub mod FormsSpelt
-pub mod PowerAsked
 pub mod ClassOneKept
 pub mod RepliesReadBack
 mod Examples

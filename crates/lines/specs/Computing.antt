@@ -6,11 +6,10 @@ use Rattle.lines.specs.Bytes.{noCr}
 use Rattle.lines.specs.Sources.{numberFor, numberCharacter, inputFor}
 use Rattle.lines.specs.Inputs.{sourceNamed, readInput, inputOf}
 use Rattle.lines.specs.Texts.{isRefusal, refusalOf, isText, isName, isPassword}
-use Rattle.lines.specs.Requests.{bodyNamed, switchAsked, nameAsked, halfNamed, muteAsked, askedOf, requestOf}
 use Rattle.lines.specs.Forms.{isCommandForm, isReplyForm}
 
 unfoldable pub computing : Unit {0}
 unfolding
     utf8 noCr numberFor numberCharacter inputFor sourceNamed readInput inputOf isRefusal refusalOf isText isName
-    isPassword bodyNamed switchAsked nameAsked halfNamed muteAsked askedOf requestOf isCommandForm isReplyForm
+    isPassword isCommandForm isReplyForm
 computing = tt

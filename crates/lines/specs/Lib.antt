@@ -4,7 +4,6 @@ pub mod Inputs
 pub mod Bodies
 pub mod Texts
 pub mod Commands
-pub mod Requests
 pub mod ClassOne
 pub mod Forms
 pub mod Computing

@@ -4,5 +4,4 @@ pub mod byte;
 pub mod command;
 pub mod form;
 pub mod input;
-pub mod request;
 pub mod texts;

@@ -18,10 +18,10 @@ use Rattle.lines.specs.declared.command.Body.the-variants.{Clss, Frez, Svol, Mv
 use Rattle.lines.specs.declared.command.Command.{Command}
 use Rattle.lines.specs.declared.command.Command.the-variants.{PowerSet, InputSet, MuteSet, Query}
 use Rattle.lines.specs.declared.command.Command.the-variants.{InputSet2, FreezeSet, VolumeStep, NameQuery}
-use Rattle.lines.specs.declared.request.Request.{Request}
-use Rattle.lines.specs.declared.request.Request.the-variants.{Asks, Unlisted, UnknownBody}
 use Rattle.lines.proofs.InputsReadBack.{named-is-input}
 use Rattle.lines.proofs.SourcesFollowed.{named-stands}
+use Rattle.requests.specs.declared.Request.{Request}
+use Rattle.requests.specs.declared.Request.the-variants.{Asks, Unlisted, UnknownBody}
 use Rattle.answers.specs.Said.{Said, saidBytes, saidMost}
 use Rattle.answers.specs.Carried.{inputsCarried, answerOf, saidBy, isSayable}
 use Rattle.answers.specs.Reading.{hasOwnParameter, isRefusalTo}

@@ -6,7 +6,7 @@ use mathlib.Core.Path.{_≡_, refl, sym, _∙_}
 use mathlib.Core.Bool.{Bool, true, false, _||_}
 use Rattle.text.specs.Words.{if_then_else_}
 use Rattle.text.proofs.Choices.{if-yes, if-no}
-use Rattle.lines.specs.declared.request.Request.{Request}
+use Rattle.requests.specs.declared.Request.{Request}
 use Rattle.answers.specs.Said.{Said, refused}
 use Rattle.answers.specs.Carried.{answerOf}
 use Rattle.record.specs.declared.types.Settings.{Settings}

@@ -4,7 +4,7 @@ use mathlib.Core.Path.{_≡_, refl}
 use mathlib.Core.Bool.{Bool}
 use Rattle.lines.specs.declared.command.Half.the-variants.{VideoHalf, AudioHalf}
 use Rattle.lines.specs.declared.command.Command.the-variants.{MuteSet}
-use Rattle.lines.specs.declared.request.Request.the-variants.{Asks}
+use Rattle.requests.specs.declared.Request.the-variants.{Asks}
 use Rattle.record.specs.declared.types.Settings.{Settings}
 use Rattle.record.specs.declared.types.Own.{Own}
 use Rattle.meaning.specs.Meaning.{done}

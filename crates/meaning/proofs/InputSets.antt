@@ -8,7 +8,7 @@ use Rattle.lines.specs.Inputs.{isInput}
 use Rattle.lines.specs.declared.input.Input.{Input}
 use Rattle.lines.specs.declared.command.Body.the-variants.{Inpt}
 use Rattle.lines.specs.declared.command.Command.the-variants.{InputSet, Query}
-use Rattle.lines.specs.declared.request.Request.the-variants.{Asks}
+use Rattle.requests.specs.declared.Request.the-variants.{Asks}
 use Rattle.answers.specs.Said.{okay, chosenIs}
 use Rattle.record.specs.Updates.{withChosen}
 use Rattle.record.specs.Legal.{isSettings}

@@ -10,7 +10,7 @@ use lib.Seq.{getD-take}
 use borrow.Author.Tests.{ne-eqb}
 use Rattle.lines.specs.declared.command.Body.the-variants.{Lamp}
 use Rattle.lines.specs.declared.command.Command.the-variants.{Query}
-use Rattle.lines.specs.declared.request.Request.the-variants.{Asks}
+use Rattle.requests.specs.declared.Request.the-variants.{Asks}
 use Rattle.answers.specs.Said.{lampsAre}
 use Rattle.answers.specs.declared.answer.LampHours.{LampHours}
 use Rattle.record.specs.Limits.{isLit}

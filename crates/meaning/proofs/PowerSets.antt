@@ -14,8 +14,8 @@ use Rattle.lines.specs.declared.command.Volume.{Volume}
 use Rattle.lines.specs.declared.command.Volume.the-variants.{Speaker, Microphone}
 use Rattle.lines.specs.declared.command.Command.the-variants.{PowerSet, InputSet, MuteSet, Query}
 use Rattle.lines.specs.declared.command.Command.the-variants.{InputSet2, FreezeSet, VolumeStep, NameQuery}
-use Rattle.lines.specs.declared.request.Request.{Request}
-use Rattle.lines.specs.declared.request.Request.the-variants.{Asks, Unlisted, UnknownBody}
+use Rattle.requests.specs.declared.Request.{Request}
+use Rattle.requests.specs.declared.Request.the-variants.{Asks, Unlisted, UnknownBody}
 use Rattle.answers.specs.Said.{Said, okay, refused}
 use Rattle.record.specs.Limits.{off, on, cooling, warming, isBetween}
 use Rattle.record.specs.Updates.{withPower}

@@ -8,9 +8,9 @@ use Rattle.text.specs.Words.{ascii}
 use Rattle.lines.specs.declared.input.Source.the-variants.{Rgb}
 use Rattle.lines.specs.declared.command.Body.the-variants.{Powr, Inpt, Lamp, Name, Clss}
 use Rattle.lines.specs.declared.command.Command.the-variants.{PowerSet, InputSet, Query}
-use Rattle.lines.specs.declared.request.Request.{Request}
-use Rattle.lines.specs.declared.request.Request.the-variants.{Asks, Unlisted, UnknownBody}
 use Rattle.lines.specs.Computing.{computing as lines-computing}
+use Rattle.requests.specs.declared.Request.{Request}
+use Rattle.requests.specs.declared.Request.the-variants.{Asks, Unlisted, UnknownBody}
 use Rattle.answers.specs.Said.{Said, okay, refused, lampsAre, classIs}
 use Rattle.record.specs.Limits.{warming, on}
 use Rattle.record.specs.Wanted.{wantedOf}

@@ -26,8 +26,8 @@ use Rattle.lines.specs.declared.command.Volume.the-variants.{Speaker, Microphon
 use Rattle.lines.specs.declared.command.Command.{Command}
 use Rattle.lines.specs.declared.command.Command.the-variants.{PowerSet, InputSet, MuteSet, Query}
 use Rattle.lines.specs.declared.command.Command.the-variants.{InputSet2, FreezeSet, VolumeStep, NameQuery}
-use Rattle.lines.specs.declared.request.Request.{Request}
-use Rattle.lines.specs.declared.request.Request.the-variants.{Asks, Unlisted, UnknownBody}
+use Rattle.requests.specs.declared.Request.{Request}
+use Rattle.requests.specs.declared.Request.the-variants.{Asks, Unlisted, UnknownBody}
 use Rattle.answers.specs.Said.{Said, okay, refused, powerIs, chosenIs, mutesAre, errorsAre, lampsAre, inputsAre}
 use Rattle.answers.specs.Said.{textIs, classIs, freezeIs, nothing}
 use Rattle.answers.specs.Carried.{answerOf}

@@ -14,7 +14,7 @@ use Rattle.text.proofs.Choices.{if-yes}
 use Rattle.digest.specs.Hex.{leadingDigest}
 use Rattle.lines.specs.Commands.{commandClass, isCommand, commandLine}
 use Rattle.lines.specs.declared.command.Command.{Command}
-use Rattle.lines.specs.declared.request.Request.the-variants.{Asks}
+use Rattle.requests.specs.declared.Request.the-variants.{Asks}
 use Rattle.answers.specs.Said.{Said}
 use Rattle.record.specs.Limits.{shut, awaiting, opened}
 use Rattle.record.specs.Places.{connectionAt, isShut}

@@ -11,7 +11,7 @@ use Rattle.text.proofs.Choices.{if-no}
 use Rattle.text.proofs.Orders.{le-or-lt}
 use Rattle.lines.specs.Commands.{commandClass}
 use Rattle.lines.specs.declared.command.Command.{Command}
-use Rattle.lines.specs.declared.request.Request.the-variants.{Asks}
+use Rattle.requests.specs.declared.Request.the-variants.{Asks}
 use Rattle.answers.specs.Said.{Said}
 use Rattle.record.specs.Limits.{opened}
 use Rattle.record.specs.Legal.{isLegal}

@@ -2,6 +2,7 @@
 -- settle it"). The digest stays shut: no line is computed on a secured connection.
 -- Assumes nothing.
 use Rattle.lines.specs.Computing.{computing as lines}
+use Rattle.requests.specs.Computing.{computing as requests}
 use Rattle.answers.specs.Computing.{computing as answers}
 use Rattle.record.specs.Computing.{computing as records}
 use Rattle.meaning.specs.Computing.{computing as meaning}
@@ -12,5 +13,5 @@ use Rattle.codes.specs.Computing.{computing as codes}
 use Rattle.panel.specs.Computing.{computing as panel}
 
 unfoldable pub computing : Unit {0}
-unfolding lines answers records meaning stream device controller codes panel
+unfolding lines requests answers records meaning stream device controller codes panel
 computing = tt

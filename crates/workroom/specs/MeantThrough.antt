@@ -11,7 +11,7 @@
 use Prim.Native.Nat.{_≤_}
 use mathlib.Core.List.{List, [], _∷_}
 use Rattle.lines.specs.Commands.{commandClass}
-use Rattle.lines.specs.declared.request.Request.the-variants.{Asks}
+use Rattle.requests.specs.declared.Request.the-variants.{Asks}
 use Rattle.answers.specs.Said.{Said, nothing}
 use Rattle.record.specs.declared.types.Settings.{Settings}
 use Rattle.record.specs.declared.types.Own.{Own}

@@ -2,7 +2,7 @@
 -- Assumes nothing.
 use mathlib.Core.Path.{_≡_, sym, ap, _∙_}
 use borrow.Author.Needs.{needs}
-use Rattle.lines.specs.declared.request.Request.{Request}
+use Rattle.requests.specs.declared.Request.{Request}
 use Rattle.answers.specs.Carried.{answerOf}
 use Rattle.meaning.specs.Meaning.{requestAnswer, carriedOut}
 use Rattle.meaning.specs.declared.Decided.{Decided}

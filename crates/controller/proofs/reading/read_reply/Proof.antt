@@ -10,7 +10,6 @@ use borrow.Author.Tests.{not-true, not-false}
 use borrow.Author.Needs.{needs}
 use Rattle.text.specs.Scans.{sameBy, itself}
 use Rattle.lines.specs.Forms.{erraLine, isReplyForm, headBody}
-use Rattle.lines.specs.Requests.{isBody}
 use Rattle.lines.specs.Commands.{bodyOf, commandClass}
 use Rattle.answers.specs.Carried.{answerOf}
 use Rattle.answers.specs.Reading.{readParameter}
@@ -18,6 +17,7 @@ use Rattle.answers.specs.declared.answer.Answer.{Answer}
 use Rattle.controller.specs.Reading.{readingOf, kindOutcome}
 use Rattle.controller.proofs.Cases.{reply-erra, reply-unformed, reply-other, reply-said}
 use Rattle.lines.proofs.RepliesReadBack.{reply-long}
+use Rattle.requests.specs.Requests.{isBody}
 use Rattle.controller.proofs.reading.read_reply.Statement.{statement}
 use Rattle.controller.proofs.reading.read_reply.Tie as tie
 

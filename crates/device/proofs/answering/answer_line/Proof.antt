@@ -12,9 +12,7 @@ use borrow.Author.Needs.{needs}
 use Rattle.text.specs.Words.{over}
 use Rattle.text.proofs.Choices.{if-yes, if-no}
 use Rattle.lines.specs.Bytes.{_at_}
-use Rattle.lines.specs.Requests.{requestOf}
 use Rattle.lines.specs.Forms.{isCommandForm, headBody, replyLine}
-use Rattle.lines.specs.declared.request.Request.{Request}
 use Rattle.answers.specs.Said.{Said, saidBytes}
 use Rattle.answers.specs.Carried.{saidBy}
 use Rattle.meaning.specs.Meaning.{meant, decided}
@@ -26,6 +24,8 @@ use Rattle.device.specs.declared.answering.Spoken.{Spoken}
 use Rattle.lines.proofs.CommandLines.{form-long}
 use Rattle.text.proofs.Carried.{carried}
 use Rattle.text.proofs.Parts.{rest-whole}
+use Rattle.requests.specs.Requests.{requestOf}
+use Rattle.requests.specs.declared.Request.{Request}
 use Rattle.device.proofs.answering.answer_line.Statement.{statement}
 use Rattle.device.proofs.answering.answer_line.Tie as tie
 
