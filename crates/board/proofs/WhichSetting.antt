@@ -8,9 +8,9 @@ use Rattle.text.proofs.OneResult.{one-result}
 use Rattle.record.specs.Wanted.{Wanted}
 use Rattle.record.specs.SetUp.{setUp}
 use Rattle.record.specs.OutOfRange.{settingPlace, firstOutOfRange, refusedSetting}
-use Rattle.record.specs.declared.out_of_range.Setting.the-variants.{Password}
-use Rattle.record.specs.declared.out_of_range.MaybeSetting.{MaybeSetting}
-use Rattle.record.specs.declared.out_of_range.MaybeSetting.the-variants.{SettingIs, NoSetting}
+use Rattle.record.specs.declared.types.Setting.the-variants.{Password}
+use Rattle.record.specs.declared.types.MaybeSetting.{MaybeSetting}
+use Rattle.record.specs.declared.types.MaybeSetting.the-variants.{SettingIs, NoSetting}
 use Rattle.record.proofs.OutOfRange.{one-setting-place, setting-place-within}
 use Rattle.record.proofs.RefusedSetting.{none-gives-0, gives-0-none, gives-3-first, gives-8-password}
 use Rattle.board.specs.Which.{settingNumber}

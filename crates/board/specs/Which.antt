@@ -3,8 +3,8 @@
 -- Assumes nothing.
 use Prim.Native.Nat.{ℕ}
 use Rattle.record.specs.OutOfRange.{settingPlace}
-use Rattle.record.specs.declared.out_of_range.MaybeSetting.{MaybeSetting}
-use Rattle.record.specs.declared.out_of_range.MaybeSetting.the-variants.{SettingIs, NoSetting}
+use Rattle.record.specs.declared.types.MaybeSetting.{MaybeSetting}
+use Rattle.record.specs.declared.types.MaybeSetting.the-variants.{SettingIs, NoSetting}
 
 abbrev pub settingNumber : MaybeSetting → ℕ
 settingNumber NoSetting = 0

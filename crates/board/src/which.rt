@@ -1,7 +1,7 @@
 // Which setting set-up refuses, as a number, since an exported call returns no enum.
-use record::out_of_range;
-use record::out_of_range::MaybeSetting;
-use record::out_of_range::Setting;
+use record::types::MaybeSetting;
+use record::types::Setting;
+use setup::out_of_range;
 ghost use mathlib.Core.Path.{_≡_};
 ghost use Rattle.record.specs.Wanted.{wantedOf};
 ghost use Rattle.record.specs.OutOfRange.{settingPlace, refusedSetting};

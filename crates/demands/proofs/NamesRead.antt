@@ -9,7 +9,7 @@ use Rattle.lines.specs.declared.command.Body.the-variants.{Name}
 use Rattle.answers.specs.Said.{textIs}
 use Rattle.record.specs.Wanted.{Wanted}
 use Rattle.record.specs.declared.types.Changed.{Changed}
-use Rattle.record.specs.declared.out_of_range.Setting.the-variants.{Name as ItsName}
+use Rattle.record.specs.declared.types.Setting.the-variants.{Name as ItsName}
 use Rattle.record.proofs.Calls.{set-up-by}
 use Rattle.record.proofs.OutOfRange.{each-in-range}
 use Rattle.controller.specs.Reading.{meaning}

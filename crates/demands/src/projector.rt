@@ -4,7 +4,6 @@ use device::calls;
 use device::calls::Opened;
 use device::calls::Received;
 use record::host;
-use record::setup;
 use record::types::Changed;
 use record::types::Device;
 ghost use mathlib.Core.Path.{_≡_};

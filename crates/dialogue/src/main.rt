@@ -2,7 +2,6 @@
 // with W = 20, C = 60, one lamp at 0 s, input 11, texts empty and no password.
 use device::calls;
 use libc::STDOUT_FILENO;
-use record::setup;
 use record::types::Device;
 
 fn write(s: &[u8]) {

@@ -5,7 +5,6 @@ use crate::playing;
 use crate::playing::PRINT_ROOM;
 use log::LINE_MOST;
 use record::legality;
-use record::setup;
 use record::types::Device;
 ghost use mathlib.Core.Path.{_≡_};
 ghost use lib.ListN.{length};

@@ -6,10 +6,10 @@ use Rattle.text.proofs.Choices.{both}
 use Rattle.record.specs.Wanted.{Wanted}
 use Rattle.record.specs.SetUp.{isSettingInRange, isInRange}
 use Rattle.record.specs.OutOfRange.{SettingHolds}
-use Rattle.record.specs.declared.out_of_range.Setting.{Setting}
-use Rattle.record.specs.declared.out_of_range.Setting.the-variants.{Name, Maker, Model, Other, Password, Inputs}
-use Rattle.record.specs.declared.out_of_range.Setting.the-variants.{Lamps, WarmUp, Cooling, Serial, Version}
-use Rattle.record.specs.declared.out_of_range.Setting.the-variants.{Names}
+use Rattle.record.specs.declared.types.Setting.{Setting}
+use Rattle.record.specs.declared.types.Setting.the-variants.{Name, Maker, Model, Other, Password, Inputs}
+use Rattle.record.specs.declared.types.Setting.the-variants.{Lamps, WarmUp, Cooling, Serial, Version}
+use Rattle.record.specs.declared.types.Setting.the-variants.{Names}
 use Rattle.record.proofs.OutOfRange.{first-holds, in-range-none}
 
 pub in-range-shown : (w : Wanted) → ((s : Setting) → isSettingInRange w s ≡ true) → isInRange w ≡ true

@@ -12,9 +12,9 @@ use Rattle.record.specs.Rules.{isLongEnough}
 use Rattle.record.specs.SetUp.{setUp}
 use Rattle.record.specs.OutOfRange.{orShort, firstOutOfRange, refusedSetting}
 use Rattle.record.specs.declared.types.Changed.{Changed}
-use Rattle.record.specs.declared.out_of_range.Setting.the-variants.{Password}
-use Rattle.record.specs.declared.out_of_range.MaybeSetting.{MaybeSetting}
-use Rattle.record.specs.declared.out_of_range.MaybeSetting.the-variants.{SettingIs, NoSetting}
+use Rattle.record.specs.declared.types.Setting.the-variants.{Password}
+use Rattle.record.specs.declared.types.MaybeSetting.{MaybeSetting}
+use Rattle.record.specs.declared.types.MaybeSetting.the-variants.{SettingIs, NoSetting}
 use Rattle.record.proofs.Calls.{set-up-ranged, set-up-long, set-up-shown, set-up-accepted, set-up-in-range}
 use Rattle.record.proofs.OutOfRange.{none-in-range, in-range-none}
 use Rattle.record.proofs.Results.{set-up-3, set-up-8}

@@ -17,9 +17,9 @@ use Rattle.record.specs.SetUp.{settingsInOrder, setUp}
 use Rattle.record.specs.OutOfRange.{firstFailing, refusedSetting}
 use Rattle.record.specs.Computing.{computing}
 use Rattle.record.specs.declared.types.Changed.{Changed}
-use Rattle.record.specs.declared.out_of_range.Setting.the-variants.{Password, Cooling, Serial, Version, Names}
-use Rattle.record.specs.declared.out_of_range.MaybeSetting.{MaybeSetting}
-use Rattle.record.specs.declared.out_of_range.MaybeSetting.the-variants.{SettingIs, NoSetting}
+use Rattle.record.specs.declared.types.Setting.the-variants.{Password, Cooling, Serial, Version, Names}
+use Rattle.record.specs.declared.types.MaybeSetting.{MaybeSetting}
+use Rattle.record.specs.declared.types.MaybeSetting.the-variants.{SettingIs, NoSetting}
 
 -- W = 20, C = 60, one lamp; the name and the inputs as given
 abbrev small : String → String → ℕ → Changed

@@ -17,10 +17,10 @@ use Rattle.record.specs.Record.{startOwn, started, blank}
 use Rattle.record.specs.Legal.{fillsRoom, isNames, isRestOf2, isSettings, isOwn, isLegal}
 use Rattle.record.specs.Places.{connectionAt}
 use Rattle.record.specs.SetUp.{isSettingInRange, isSetUp, setUp}
-use Rattle.record.specs.declared.out_of_range.Setting.{Setting}
-use Rattle.record.specs.declared.out_of_range.Setting.the-variants.{Name, Maker, Model, Other, Password, Inputs}
-use Rattle.record.specs.declared.out_of_range.Setting.the-variants.{Lamps, WarmUp, Cooling, Serial, Version}
-use Rattle.record.specs.declared.out_of_range.Setting.the-variants.{Names}
+use Rattle.record.specs.declared.types.Setting.{Setting}
+use Rattle.record.specs.declared.types.Setting.the-variants.{Name, Maker, Model, Other, Password, Inputs}
+use Rattle.record.specs.declared.types.Setting.the-variants.{Lamps, WarmUp, Cooling, Serial, Version}
+use Rattle.record.specs.declared.types.Setting.the-variants.{Names}
 use Rattle.lines.proofs.TextsTold.{name-long, info-long, password-long}
 use Rattle.record.proofs.Rules.{set-up-password-shown, inputs-some, inputs-few, inputs-new, lamps-few}
 use Rattle.record.proofs.Rules.{only-in-2-within, names-many, names-each, text-most}

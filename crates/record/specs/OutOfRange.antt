@@ -17,12 +17,12 @@ use Rattle.text.specs.Words.{if_then_else_}
 use Rattle.record.specs.Wanted.{Wanted}
 use Rattle.record.specs.Rules.{isLongEnough}
 use Rattle.record.specs.SetUp.{settingsInOrder, isSettingInRange}
-use Rattle.record.specs.declared.out_of_range.Setting.{Setting}
-use Rattle.record.specs.declared.out_of_range.Setting.the-variants.{Name, Maker, Model, Other, Password, Inputs}
-use Rattle.record.specs.declared.out_of_range.Setting.the-variants.{Lamps, WarmUp, Cooling, Serial, Version}
-use Rattle.record.specs.declared.out_of_range.Setting.the-variants.{Names}
-use Rattle.record.specs.declared.out_of_range.MaybeSetting.{MaybeSetting}
-use Rattle.record.specs.declared.out_of_range.MaybeSetting.the-variants.{SettingIs, NoSetting}
+use Rattle.record.specs.declared.types.Setting.{Setting}
+use Rattle.record.specs.declared.types.Setting.the-variants.{Name, Maker, Model, Other, Password, Inputs}
+use Rattle.record.specs.declared.types.Setting.the-variants.{Lamps, WarmUp, Cooling, Serial, Version}
+use Rattle.record.specs.declared.types.Setting.the-variants.{Names}
+use Rattle.record.specs.declared.types.MaybeSetting.{MaybeSetting}
+use Rattle.record.specs.declared.types.MaybeSetting.the-variants.{SettingIs, NoSetting}
 
 abbrev pub settingPlace : Setting → ℕ
 settingPlace Name = 1

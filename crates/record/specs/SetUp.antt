@@ -19,10 +19,10 @@ use Rattle.record.specs.Wanted.{Wanted}
 use Rattle.record.specs.Rules.{isLongEnough, isInputs, isLamps, isStretch, areNames}
 use Rattle.record.specs.Record.{started, blank, accepted, refused}
 use Rattle.record.specs.declared.types.Changed.{Changed}
-use Rattle.record.specs.declared.out_of_range.Setting.{Setting}
-use Rattle.record.specs.declared.out_of_range.Setting.the-variants.{Name, Maker, Model, Other, Password, Inputs}
-use Rattle.record.specs.declared.out_of_range.Setting.the-variants.{Lamps, WarmUp, Cooling, Serial, Version}
-use Rattle.record.specs.declared.out_of_range.Setting.the-variants.{Names}
+use Rattle.record.specs.declared.types.Setting.{Setting}
+use Rattle.record.specs.declared.types.Setting.the-variants.{Name, Maker, Model, Other, Password, Inputs}
+use Rattle.record.specs.declared.types.Setting.the-variants.{Lamps, WarmUp, Cooling, Serial, Version}
+use Rattle.record.specs.declared.types.Setting.the-variants.{Names}
 
 abbrev pub settingsInOrder : List Setting
 settingsInOrder =

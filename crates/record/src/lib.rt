@@ -1,15 +1,13 @@
-// The device record of the projector: what it holds, when it is legal, set-up, and the host's calls.
-mod class;
+// The device record of the projector: what it holds, when it is legal, and the host's calls.
+pub mod class;
 pub mod connection;
 pub mod connections;
-mod fill;
+pub mod fresh;
 pub mod host;
-mod inputs;
+pub mod inputs;
 pub mod legality;
-mod names;
-pub mod out_of_range;
+pub mod names;
 pub mod own;
 mod scan;
-mod settings;
-pub mod setup;
+pub mod settings;
 pub mod types;

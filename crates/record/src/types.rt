@@ -171,3 +171,24 @@ impl Device {
         connections: [Connection::CLOSED; PLACES],
     };
 }
+
+// What a set-up is given, in the order in which it is tested (01, "Set-up"; 02, L14).
+pub enum Setting {
+    Name,
+    Maker,
+    Model,
+    Other,
+    Password,
+    Inputs,
+    Lamps,
+    WarmUp,
+    Cooling,
+    Serial,
+    Version,
+    Names,
+}
+
+pub enum MaybeSetting {
+    SettingIs(Setting),
+    NoSetting,
+}

@@ -16,7 +16,7 @@ use Rattle.record.specs.Rules.{isMarks}
 use Rattle.record.specs.Updates.{withOwn, withMarks}
 use Rattle.record.specs.Record.{allMarks, started, blank, refused}
 use Rattle.record.specs.SetUp.{isInRange, isSetUp, setUp}
-use Rattle.record.specs.declared.out_of_range.Setting.the-variants.{Inputs, Lamps}
+use Rattle.record.specs.declared.types.Setting.the-variants.{Inputs, Lamps}
 use Rattle.record.proofs.Rules.{inputs-few, lamps-few}
 use Rattle.record.proofs.MarksTold.{all-marks-legal}
 use Rattle.record.proofs.OutOfRange.{each-in-range}

@@ -17,9 +17,9 @@ use Rattle.record.specs.Wanted.{Wanted}
 use Rattle.record.specs.Legal.{isLegal}
 use Rattle.record.specs.SetUp.{isSettingInRange, isSetUp}
 use Rattle.record.specs.declared.types.Device.{Device}
-use Rattle.record.specs.declared.out_of_range.Setting.{Setting}
-use Rattle.record.specs.declared.out_of_range.Setting.the-variants.{Serial, Version, Names}
-use Rattle.record.specs.declared.out_of_range.Setting.the-variants.{Name, Maker, Model, Other, Password, Inputs, Lamps}
+use Rattle.record.specs.declared.types.Setting.{Setting}
+use Rattle.record.specs.declared.types.Setting.the-variants.{Serial, Version, Names}
+use Rattle.record.specs.declared.types.Setting.the-variants.{Name, Maker, Model, Other, Password, Inputs, Lamps}
 use Rattle.record.proofs.Rules.{inputs-few, lamps-few, only-in-2-within, names-many, names-each, text-most}
 use Rattle.record.proofs.OutOfRange.{each-in-range}
 use Rattle.form.specs.Form.{formVersion, markByte, marksSection, formOf, formMost, storedOf, marksStored}

@@ -17,8 +17,8 @@ use Rattle.record.specs.Limits.{lampLimit, stretchMost}
 use Rattle.record.specs.Wanted.{Wanted, wantedIn}
 use Rattle.record.specs.Rules.{isLamp}
 use Rattle.record.specs.SetUp.{isSettingInRange, isSetUp}
-use Rattle.record.specs.declared.out_of_range.Setting.{Setting}
-use Rattle.record.specs.declared.out_of_range.Setting.the-variants.{Inputs, Lamps, WarmUp, Cooling}
+use Rattle.record.specs.declared.types.Setting.{Setting}
+use Rattle.record.specs.declared.types.Setting.the-variants.{Inputs, Lamps, WarmUp, Cooling}
 use Rattle.record.proofs.Rules.{lamps-within}
 use Rattle.record.proofs.OutOfRange.{each-in-range}
 use Rattle.record.proofs.SettingsTold.{stretch-told}

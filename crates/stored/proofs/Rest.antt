@@ -18,7 +18,7 @@ use Rattle.lines.specs.Bytes.{_at_}
 use Rattle.record.specs.Limits.{onlyIn2}
 use Rattle.record.specs.Wanted.{Wanted}
 use Rattle.record.specs.SetUp.{isSetUp}
-use Rattle.record.specs.declared.out_of_range.Setting.the-variants.{Serial, Version, Names}
+use Rattle.record.specs.declared.types.Setting.the-variants.{Serial, Version, Names}
 use Rattle.record.proofs.Rules.{text-most, names-many}
 use Rattle.record.proofs.OutOfRange.{each-in-range}
 use Rattle.form.specs.Form.{formVersion, textSection, textsBytes, textsOf2, classPart}

@@ -23,9 +23,9 @@ use Rattle.record.specs.Record.{inRoom, nameOf, namesKept, started, accepted}
 use Rattle.record.specs.Legal.{fillsNameRoom, isLegal}
 use Rattle.record.specs.SetUp.{isSettingInRange, isSetUp}
 use Rattle.record.specs.declared.types.Device.{Device}
-use Rattle.record.specs.declared.out_of_range.Setting.{Setting}
-use Rattle.record.specs.declared.out_of_range.Setting.the-variants.{Name, Maker, Model, Other, Password, Inputs}
-use Rattle.record.specs.declared.out_of_range.Setting.the-variants.{Lamps, WarmUp, Cooling, Serial, Version, Names}
+use Rattle.record.specs.declared.types.Setting.{Setting}
+use Rattle.record.specs.declared.types.Setting.the-variants.{Name, Maker, Model, Other, Password, Inputs}
+use Rattle.record.specs.declared.types.Setting.the-variants.{Lamps, WarmUp, Cooling, Serial, Version, Names}
 use Rattle.record.proofs.Kept.{kept-told, kept-length, filled-take}
 use Rattle.record.proofs.Rules.{inputs-few, lamps-few, only-in-2-within, names-many, names-each, names-shown, text-most}
 use Rattle.record.proofs.NamesTold.{names-first}

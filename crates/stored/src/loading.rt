@@ -5,9 +5,9 @@ use crate::layout::Places;
 use crate::reading;
 use form::storing::VERSION;
 use numbers::highest;
+use record::fresh;
 use record::host;
 use record::own;
-use record::setup;
 use record::types::Changed;
 use record::types::Device;
 use record::types::INPUTS_MOST;
@@ -62,7 +62,7 @@ fn set_up_with(
     let warm = p.warm;
     let n = layout::count_at(s, lamps);
     if LAMPS_MOST < n {
-        return setup::refuse(3);
+        return fresh::refuse(3);
     }
     let seconds = reading::seconds_at(s, lamps + 1, n);
     setup::set_up_in(
@@ -98,7 +98,7 @@ fn set_up_2_at(s: &[u8], p: Places) -> Changed
     let inputs = p.inputs;
     let n = layout::count_at(s, inputs);
     if INPUTS_MOST < n {
-        return setup::refuse(3);
+        return fresh::refuse(3);
     }
     let lengths = reading::lengths_at(s, names, n);
     let bytes = reading::bytes_at(s, names, n);
@@ -139,16 +139,16 @@ fn enabled(d: Device, s: &[u8]) -> Changed
         else refused 23 blank) ⌝ }
 {
     if s.len() != d.settings.lamp_count {
-        return setup::refuse(23);
+        return fresh::refuse(23);
     }
     if !reading::marks_ok(s) {
-        return setup::refuse(23);
+        return fresh::refuse(23);
     }
     let marks = reading::marks_of(s);
     let mut changed = d.own;
     changed.enabled = marks;
     if !own::own_ok(d.settings, changed) {
-        return setup::refuse(23);
+        return fresh::refuse(23);
     }
     let device = host::with_own(d, changed);
     Changed { number: 0, device }
@@ -159,21 +159,21 @@ pub fn load(s: &[u8]) -> Changed
     ensures { λ r. ⌜ r ≡ loaded (now (s .entry)) ⌝ }
 {
     if is_other_version(s) {
-        return setup::refuse(20);
+        return fresh::refuse(20);
     }
     let p = layout::walk(s);
     let marks = p.marks;
     let warm = p.warm;
     let end = p.class + layout::rest_long(s, layout::count_at(s, p.inputs), p.class);
     if s.len() < end {
-        return setup::refuse(21);
+        return fresh::refuse(21);
     }
     if end < s.len() {
-        return setup::refuse(22);
+        return fresh::refuse(22);
     }
     let made = set_up_at(s, p);
     if made.number != 0 {
-        return setup::refuse(23);
+        return fresh::refuse(23);
     }
     if layout::is_old(s) {
         return made;
