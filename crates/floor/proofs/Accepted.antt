@@ -14,7 +14,8 @@ use Rattle.stream.specs.Machine.{tookBytes}
 use Rattle.stream.proofs.SameHoweverCut.{live-run}
 use Rattle.floor.specs.declared.replay.Floor.{Floor}
 use Rattle.log.specs.Lines.{lineMost}
-use Rattle.floor.specs.Reading.{Reading, printRoom, ended, more, logRun, playedIn, logFinished}
+use Rattle.events.specs.Doing.{printRoom}
+use Rattle.floor.specs.Reading.{Reading, ended, more, logRun, playedIn, logFinished}
 use Rattle.floor.specs.Calls.{readingIn, finishRoom, callRefusal, stepped, endedAt}
 use Rattle.floor.proofs.Gathering.{kept-held, kept-long}
 use Rattle.floor.proofs.LinesPlayed.{after-long}

@@ -10,7 +10,8 @@ use lib.Dec.{ltb}
 use Rattle.text.proofs.Choices.{if-all}
 use Rattle.stream.specs.Machine.{Took, unanswered, tookBytes}
 use Rattle.stream.proofs.LinesSpelt.{run-none, run-more}
-use Rattle.floor.specs.Reading.{Reading, printRoom, more, ended, logStep, logRun, stepThen, playedIn}
+use Rattle.events.specs.Doing.{printRoom}
+use Rattle.floor.specs.Reading.{Reading, more, ended, logStep, logRun, stepThen, playedIn}
 
 -- a call runs over the bytes that it takes
 pub played-runs : (left : ℕ) (s : Reading) (bs : List ℕ) → let t = playedIn left s bs in

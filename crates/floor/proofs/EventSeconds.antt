@@ -10,8 +10,9 @@ use Rattle.log.specs.declared.Says.{Says}
 use Rattle.log.specs.declared.Says.the-variants.{Opens, Receives, Passes, Closes, NoSuch}
 use Rattle.log.specs.Lines.{lineSaid}
 use Rattle.log.proofs.SecondsSaid.{Within, said-within}
-use Rattle.floor.specs.Events.{eventOf, event}
-use Rattle.floor.specs.Told.{secondsOf}
+use Rattle.events.specs.Events.{eventOf}
+use Rattle.events.specs.Told.{secondsOf}
+use Rattle.floor.specs.Events.{event}
 
 of-said : (s : Says) (bs : List ℕ) → Within s → secondsOf (eventOf s bs) ≤ secondsMost
 of-said (Passes n) bs h = h

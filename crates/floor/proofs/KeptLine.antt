@@ -17,9 +17,10 @@ use Rattle.text.proofs.Orders.{le-or-lt}
 use Rattle.record.specs.declared.types.Line.{Line}
 use Rattle.log.specs.declared.Says.{Says}
 use Rattle.log.specs.Lines.{lineMost}
-use Rattle.floor.specs.Events.{eventOf, event}
+use Rattle.floor.specs.Events.{event}
 use Rattle.floor.specs.Reading.{keptOf, nothingBegun, keptWith, keptEvent, lineAfter, isBegun}
 use Rattle.log.proofs.Forms.{line-overlong}
+use Rattle.events.specs.Events.{eventOf}
 use Rattle.floor.proofs.Gathering.{kept-marked, kept-more, kept-past, kept-long}
 use Rattle.floor.proofs.LinesPlayed.{after-long}
 

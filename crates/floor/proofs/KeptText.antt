@@ -16,8 +16,9 @@ use Rattle.text.proofs.Orders.{le-or-lt}
 use Rattle.text.proofs.Parts.{drop-take}
 use Rattle.log.specs.declared.Says.the-variants.{NoSuch}
 use Rattle.log.specs.Lines.{lineSaid}
+use Rattle.events.specs.Events.{noSuch, eventOf}
 use Rattle.floor.specs.declared.gather.Begun.{Begun}
-use Rattle.floor.specs.Events.{noSuch, eventOf, event}
+use Rattle.floor.specs.Events.{event}
 use Rattle.floor.specs.Reading.{keptOf, keptSaid, keptEvent, lineAfter}
 
 -- past the end nothing is left, wherever one begins

@@ -1,9 +1,5 @@
 pub mod Gathering
-mod Endings
-mod Printing
-mod PartsPut
 pub mod KeptText
-pub mod EventsLeave
 pub mod Driven
 pub mod LinesPlayed
 mod LoopPlayed
@@ -17,8 +13,6 @@ pub mod LinesSpelt
 pub mod LinesCounted
 pub mod WholeLog
 pub mod EventSeconds
-pub mod DidSpelt
-pub mod LogOpenings
 pub mod OnePlace
 pub mod LastLine
 pub mod Counted

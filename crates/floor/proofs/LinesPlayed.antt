@@ -24,10 +24,11 @@ use Rattle.stream.specs.Machine.{Out, Took, unanswered, tookBytes, callOf}
 use Rattle.stream.proofs.UpToTheEnd.{notEnd, found}
 use Rattle.stream.proofs.OneCallGathers.{call-gathers, call-by}
 use Rattle.log.specs.Lines.{lineMost}
-use Rattle.floor.specs.Reading.{Reading, printRoom, keptWith, lineAfter, ended, withKept, more, lineTaken, upToLf}
+use Rattle.events.specs.Doing.{printRoom}
+use Rattle.events.proofs.EventsLeave.{did-settings, did-legality}
+use Rattle.floor.specs.Reading.{Reading, keptWith, lineAfter, ended, withKept, more, lineTaken, upToLf}
 use Rattle.floor.specs.Reading.{keptEvent, stepThen, playedIn, isBegun, lfMissing, endOfInput}
 use Rattle.floor.proofs.Gathering.{line-in-memory}
-use Rattle.floor.proofs.EventsLeave.{did-settings, did-legality}
 
 abbrev pub addedTo : ℕ → List ℕ → Took Reading → Took Reading
 addedTo n r t = record { taken = n + t .taken; state = t .state; reply = r ++ t .reply }

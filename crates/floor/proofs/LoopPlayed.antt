@@ -18,10 +18,11 @@ use Rattle.stream.specs.Machine.{Took}
 use Rattle.floor.specs.declared.replay.Floor.{Floor}
 use Rattle.floor.specs.declared.playing.Taken.{Taken}
 use Rattle.log.specs.Lines.{lineMost}
-use Rattle.floor.specs.Reading.{Reading, printRoom, lineTaken, playedIn}
+use Rattle.events.specs.Doing.{printRoom}
+use Rattle.floor.specs.Reading.{Reading, lineTaken, playedIn}
 use Rattle.floor.specs.Calls.{readingIn, floorOf, lineTakenOf, CanPlay, TakenAs}
 use Rattle.floor.proofs.Carrying.{carry}
-use Rattle.floor.proofs.PartsPut.{partFrom, leftFrom, Put, part-long, part-put}
+use Rattle.events.proofs.PartsPut.{partFrom, leftFrom, Put, part-long, part-put}
 use Rattle.floor.proofs.LinesPlayed.{addedTo, onward, added-none, added-twice, line-first, LineTold, line-told}
 
 module _ (s : Reading) (bs out : List ℕ) where

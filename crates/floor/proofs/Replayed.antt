@@ -18,8 +18,10 @@ use Rattle.stream.specs.Machine.{Out, unanswered, replyThen}
 use Rattle.stream.proofs.LinesSpelt.{run-none, run-more}
 use Rattle.log.specs.Lines.{lineMost}
 use Rattle.log.specs.LastLine.{lastLine}
-use Rattle.floor.specs.Events.{LogEvent, event, linesFrom, events}
-use Rattle.floor.specs.Playing.{did, printed, stateAfter, linesPrinted, replayed}
+use Rattle.events.specs.Events.{LogEvent}
+use Rattle.events.specs.Doing.{did, printed}
+use Rattle.floor.specs.Events.{event, linesFrom, events}
+use Rattle.floor.specs.Playing.{stateAfter, linesPrinted, replayed}
 use Rattle.floor.specs.Reading.{Reading, keptOf, nothingBegun, keptWith, lineAfter, more, ended, logRun}
 use Rattle.floor.specs.Reading.{endOfInput}
 use Rattle.floor.specs.Reading.{logFinished, fresh}

@@ -20,7 +20,8 @@ use Rattle.stream.specs.Machine.{Out, Took, tookBytes, handedParts, uncut}
 use Rattle.stream.proofs.LinesSpelt.{uncut-more}
 use Rattle.stream.proofs.SameHoweverCut.{outThrough, tookThrough, Taking, parts-run}
 use Rattle.log.specs.Lines.{lineMost}
-use Rattle.floor.specs.Reading.{Reading, printRoom, more, ended, logRun, playedIn, logFinished, fresh}
+use Rattle.events.specs.Doing.{printRoom}
+use Rattle.floor.specs.Reading.{Reading, more, ended, logRun, playedIn, logFinished, fresh}
 use Rattle.floor.specs.Calls.{floorOf, finishRoom}
 use Rattle.floor.specs.WholeLog.{LogStage, startStage, callLeaves, playedBy, finishedBy, wholePlay}
 use Rattle.floor.specs.WholeLog.{noneLonger, Countable, PlaysBack}

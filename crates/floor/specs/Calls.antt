@@ -33,7 +33,8 @@ use Rattle.floor.specs.declared.replay.Stepped.{Stepped}
 use Rattle.floor.specs.declared.playing.Taken.{Taken}
 use Rattle.log.specs.Lines.{lineMost}
 use Rattle.log.specs.LastLine.{lastRoom}
-use Rattle.floor.specs.Reading.{Reading, keptOf, begunOf, nothingBegun, printRoom, playedIn}
+use Rattle.events.specs.Doing.{printRoom}
+use Rattle.floor.specs.Reading.{Reading, keptOf, begunOf, nothingBegun, playedIn}
 use Rattle.floor.specs.Reading.{logFinished}
 
 abbrev pub readingWith : Floor → Begun → List ℕ → Reading

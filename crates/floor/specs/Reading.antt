@@ -32,8 +32,9 @@ use Rattle.log.specs.declared.Says.{Says}
 use Rattle.log.specs.declared.Says.the-variants.{NoSuch}
 use Rattle.log.specs.Lines.{lineMost, lineSaid}
 use Rattle.log.specs.LastLine.{lastLine}
-use Rattle.floor.specs.Events.{LogEvent, noSuch, event}
-use Rattle.floor.specs.Playing.{did, printed}
+use Rattle.events.specs.Events.{LogEvent, noSuch}
+use Rattle.events.specs.Doing.{did, printed}
+use Rattle.floor.specs.Events.{event}
 
 pub record Reading : Type 0 where
   pub device : Device
@@ -48,10 +49,6 @@ begunOf k = record { held = k .held; overlong = k .overlong }
 
 abbrev pub nothingBegun : Begun
 nothingBegun = record { held = 0; overlong = false }
-
--- so much room a printed line never needs more than: 20 digits, a space and a reply
-abbrev pub printRoom : ℕ
-printRoom = 157
 
 -- the memory is the caller's: an overlong line leaves it as it is
 abbrev pub keptWith : Line → ℕ → Line

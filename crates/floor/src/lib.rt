@@ -1,6 +1,5 @@
 // The floor log played back (02, L1).
 pub mod closing;
-pub mod event;
 pub mod gather;
 pub mod moving;
 pub mod playing;

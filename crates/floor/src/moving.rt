@@ -1,8 +1,8 @@
 // The state of a replay after a line, with no copy of what the line cannot have changed: the settings and, as a log
 // drives one place only (02, L5), the other places, which age where they stand.
-use crate::event::PLACE;
 use crate::replay::Floor;
 use clock::connections;
+use events::PLACE;
 use record::connection;
 use record::types::Device;
 ghost use mathlib.Core.Path.{_≡_};
@@ -10,7 +10,7 @@ ghost use mathlib.Core.Bool.{true, _||_};
 ghost use lib.ListN.{set};
 ghost use Rattle.record.specs.Legal.{isTimed, isLegal};
 ghost use Rattle.record.specs.Places.{connectionAt};
-ghost use Rattle.floor.specs.Playing.{logPlace};
+ghost use Rattle.events.specs.Doing.{logPlace};
 ghost use Rattle.floor.specs.Told.{agedBy};
 
 // `to`, where its settings and its places but the one that a log drives are those of `from`: these stay where they are,

@@ -1,19 +1,19 @@
 // The lines of a log played one after the other, inside a call that is not refused and has tested its record.
-use crate::event;
-use crate::event::Printed;
 use crate::gather;
 use crate::gather::Begun;
 use crate::moving;
 use crate::replay::Floor;
+use events::Printed;
 use log::Says;
 use record::types::Device;
 ghost use mathlib.Core.Path.{_≡_};
 ghost use Prim.Native.Nat.{_<_, min};
 ghost use lib.ListN.{length};
 ghost use Rattle.stream.specs.Machine.{tookBytes};
-ghost use Rattle.floor.specs.Reading.{printRoom, keptOf, keptSaid, keptEvent, lineAfter, ended, lineTaken};
+ghost use Rattle.events.specs.Doing.{printRoom};
+ghost use Rattle.events.specs.Told.{PrintedAs, Drives};
+ghost use Rattle.floor.specs.Reading.{keptOf, keptSaid, keptEvent, lineAfter, ended, lineTaken};
 ghost use Rattle.floor.specs.Reading.{playedIn};
-ghost use Rattle.floor.specs.Told.{PrintedAs, Drives};
 ghost use Rattle.floor.specs.Calls.{readingIn, readingWith, CanPlay, TakenAs};
 
 pub const PRINT_ROOM: usize = 157;
@@ -60,7 +60,7 @@ fn end_line(
     let held = k.held;
     let from = least(2, held);
     let end = held + 1;
-    event::print(legal, d, number, says, &line[from..end], out)
+    events::print(legal, d, number, says, &line[from..end], out)
 }
 
 pub struct Taken {

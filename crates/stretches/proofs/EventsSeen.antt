@@ -22,9 +22,9 @@ use Rattle.record.specs.declared.types.Device.{Device}
 use Rattle.record.proofs.Calls.{mark-set-by}
 use Rattle.clock.proofs.Cases.{passed-accepted}
 use Rattle.device.specs.Calls.{Result, replyRoom, received, openedBy, refusedBy}
-use Rattle.floor.specs.Events.{LogEvent, opens, receives, passes, closes, noSuch}
-use Rattle.floor.specs.Playing.{logPlace}
-use Rattle.floor.proofs.LogOpenings.{log-opened-again, log-opened-closed}
+use Rattle.events.specs.Events.{LogEvent, opens, receives, passes, closes, noSuch}
+use Rattle.events.specs.Doing.{logPlace}
+use Rattle.events.proofs.LogOpenings.{log-opened-again, log-opened-closed}
 use Rattle.demands.specs.Board.{ours, reply, lentBy}
 use Rattle.demands.specs.Calls.{Call, after}
 use Rattle.demands.specs.Calls.{opens as opensAt, receives as receivesAt, passes as passesBy, closes as closesAt}

@@ -18,8 +18,8 @@ use Rattle.record.specs.Wanted.{Wanted}
 use Rattle.record.specs.declared.types.Device.{Device}
 use Rattle.device.specs.Calls.{replyRoom}
 use Rattle.stream.specs.Machine.{Out}
-use Rattle.floor.specs.Events.{opens, receives, passes, closes, noSuch}
-use Rattle.floor.specs.Playing.{logPlace}
+use Rattle.events.specs.Events.{opens, receives, passes, closes, noSuch}
+use Rattle.events.specs.Doing.{logPlace}
 use Rattle.demands.specs.Board.{ours}
 use Rattle.demands.specs.Calls.{Call, opens as opensAt, receives as receivesAt, passes as passesBy, closes as closesAt}
 use Rattle.demands.specs.Calls.{enables}

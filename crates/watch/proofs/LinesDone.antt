@@ -24,11 +24,12 @@ use Rattle.clock.specs.Passing.{secondsMost}
 use Rattle.clock.proofs.ChangedWhere.{where-length, where-at}
 use Rattle.stream.specs.Collecting.{lineText}
 use Rattle.log.specs.Lines.{lineMost}
-use Rattle.floor.specs.Events.{noSuch, event}
+use Rattle.events.specs.Events.{noSuch}
+use Rattle.events.specs.Told.{Drives, secondsOf}
+use Rattle.events.proofs.Driven.{none-pass, itself-kept, did-drives}
+use Rattle.events.proofs.EventsLeave.{did-settings, did-legality}
+use Rattle.floor.specs.Events.{event}
 use Rattle.floor.specs.Reading.{keptEvent, lineAfter}
-use Rattle.floor.specs.Told.{Drives, secondsOf}
-use Rattle.floor.proofs.Driven.{none-pass, itself-kept, did-drives}
-use Rattle.floor.proofs.EventsLeave.{did-settings, did-legality}
 use Rattle.floor.proofs.EventSeconds.{event-seconds}
 use Rattle.floor.proofs.LinesPlayed.{after-long}
 use Rattle.watch.specs.declared.marking.MarkSaid.{MarkSaid}

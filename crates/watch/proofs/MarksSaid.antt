@@ -13,8 +13,8 @@ use Rattle.text.proofs.Choices.{if-no}
 use Rattle.lines.specs.Bytes.{_at_}
 use Rattle.log.specs.declared.Says.{Says}
 use Rattle.log.specs.declared.Says.the-variants.{Opens, Receives, Passes, Closes, NoSuch}
-use Rattle.floor.specs.Events.{eventOf}
-use Rattle.floor.specs.Told.{secondsOf}
+use Rattle.events.specs.Events.{eventOf}
+use Rattle.events.specs.Told.{secondsOf}
 use Rattle.watch.specs.declared.marking.MarkSaid.{MarkSaid}
 use Rattle.watch.specs.declared.marking.MarkSaid.the-variants.{Sets, NoMark}
 use Rattle.watch.specs.Marking.{isMarkLine, markSaid}

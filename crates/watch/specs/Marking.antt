@@ -18,9 +18,10 @@ use Rattle.text.specs.Words.{if_then_else_, _is_, _from_to_}
 use Rattle.lines.specs.Bytes.{_at_}
 use Rattle.record.specs.HostCalls.{markSet}
 use Rattle.record.specs.declared.types.Device.{Device}
-use Rattle.floor.specs.Events.{LogEvent, event}
-use Rattle.floor.specs.Playing.{did}
-use Rattle.floor.specs.Told.{secondsOf}
+use Rattle.events.specs.Events.{LogEvent}
+use Rattle.events.specs.Doing.{did}
+use Rattle.events.specs.Told.{secondsOf}
+use Rattle.floor.specs.Events.{event}
 use Rattle.watch.specs.declared.marking.MarkSaid.{MarkSaid}
 use Rattle.watch.specs.declared.marking.MarkSaid.the-variants.{Sets, NoMark}
 

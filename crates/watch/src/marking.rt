@@ -1,5 +1,4 @@
 // One line of a log that is watched for its lamps: what it does to the device.
-use floor::event;
 use floor::gather::Begun;
 use floor::playing;
 use log::Says;
@@ -11,7 +10,7 @@ ghost use Prim.Native.Nat.{_+_, _-_, _≤_, _<_, min};
 ghost use lib.ListN.{length, take, drop};
 ghost use Rattle.record.specs.Legal.{isLegal};
 ghost use Rattle.device.specs.Calls.{replyRoom};
-ghost use Rattle.floor.specs.Events.{eventOf};
+ghost use Rattle.events.specs.Events.{eventOf};
 ghost use Rattle.floor.specs.Reading.{keptOf, lineAfter};
 ghost use Rattle.watch.specs.Marking.{logged, markSaid};
 ghost use Rattle.watch.specs.Watching.{keptMark, keptFloorEvent};
@@ -81,10 +80,10 @@ fn log_event(d: Device, says: Says, held: usize, line: &[u8], reply: &mut [u8]) 
 {
     let from = playing::least(2, held);
     let end = held + 1;
-    let called = event::call(true, d, says, &line[from..end], reply);
+    let called = events::call(true, d, says, &line[from..end], reply);
     let device = called.device;
     Done {
-        seconds: event::seconds_of(says),
+        seconds: events::seconds_of(says),
         device,
     }
 }

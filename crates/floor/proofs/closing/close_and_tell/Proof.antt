@@ -16,11 +16,12 @@ use Rattle.text.proofs.Stores.{sets-then, sets-over}
 use Rattle.stream.specs.Machine.{Out, tookBytes}
 use Rattle.floor.specs.declared.playing.Taken.{Taken}
 use Rattle.log.specs.LastLine.{lastRoom, lastLine}
-use Rattle.floor.specs.Reading.{Reading, printRoom, playedIn, isBegun, lfMissing, endOfInput, logFinished}
+use Rattle.events.specs.Doing.{printRoom}
+use Rattle.floor.specs.Reading.{Reading, playedIn, isBegun, lfMissing, endOfInput, logFinished}
 use Rattle.floor.specs.Calls.{readingIn, TakenAs}
 use Rattle.floor.proofs.LinesPlayed.{end-played}
 use Rattle.floor.proofs.Carrying.{carry}
-use Rattle.floor.proofs.PartsPut.{partFrom, leftFrom, Put, part-long, part-put, first-put}
+use Rattle.events.proofs.PartsPut.{partFrom, leftFrom, Put, part-long, part-put, first-put}
 use Rattle.floor.proofs.closing.close_and_tell.Statement.{statement}
 use Rattle.floor.proofs.closing.close_and_tell.Tie as tie
 

@@ -8,10 +8,10 @@ use native.Mathlib.Omega.{arith}
 use lib.ListN.{take, drop}
 use denote.Ref.{now}
 use borrow.Author.Needs.{needs}
-use Rattle.floor.specs.declared.event.Printed.{Printed}
-use Rattle.floor.specs.Events.{LogEvent, eventOf}
+use Rattle.events.specs.declared.Printed.{Printed}
+use Rattle.events.specs.Events.{LogEvent, eventOf}
+use Rattle.events.specs.Told.{PrintedAs}
 use Rattle.floor.specs.Reading.{keptOf, keptEvent}
-use Rattle.floor.specs.Told.{PrintedAs}
 use Rattle.floor.proofs.KeptText.{event-lent}
 use Rattle.floor.proofs.playing.end_line.Statement.{statement}
 use Rattle.floor.proofs.playing.end_line.Tie as tie

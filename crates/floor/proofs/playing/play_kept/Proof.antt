@@ -4,9 +4,9 @@ use Prim.Native.Nat.{_+_}
 use mathlib.Core.Path.{_≡_}
 use native.Mathlib.Omega.{arith}
 use borrow.Author.Needs.{needs}
+use Rattle.events.proofs.Driven.{printed-drives}
 use Rattle.floor.specs.declared.playing.Taken.{Taken}
 use Rattle.floor.specs.Reading.{nothingBegun, ended}
-use Rattle.floor.proofs.Driven.{printed-drives}
 use Rattle.floor.proofs.playing.play_kept.Statement.{statement}
 use Rattle.floor.proofs.playing.play_kept.Tie as tie
 

@@ -9,12 +9,13 @@ use lib.ListN.{length}
 use denote.Ref.{now}
 use borrow.Author.Needs.{needs}
 use Rattle.text.proofs.Choices.{both-left}
+use Rattle.events.specs.Doing.{printRoom}
+use Rattle.events.specs.Told.{Drives}
 use Rattle.floor.specs.declared.playing.Played.{Played}
-use Rattle.floor.specs.Reading.{Reading, printRoom}
+use Rattle.floor.specs.Reading.{Reading}
 use Rattle.floor.specs.Calls.{readingIn}
-use Rattle.floor.specs.Told.{Drives}
 use Rattle.floor.proofs.Driven.{aged-moves, unaged-moves}
-use Rattle.floor.proofs.PartsPut.{leftFrom}
+use Rattle.events.proofs.PartsPut.{leftFrom}
 use Rattle.floor.proofs.LoopPlayed.{PlayedTo, Turn, none-played, memory-long, can-take, turn-told, all-played}
 use Rattle.floor.proofs.playing.play_on.Statement.{statement}
 use Rattle.floor.proofs.playing.play_on.Tie as tie

@@ -14,6 +14,7 @@ use Rattle.text.proofs.Choices.{if-yes, if-no}
 use Rattle.record.specs.declared.types.Line.{Line}
 use Rattle.stream.specs.Machine.{UpTo, unanswered, tookBytes}
 use Rattle.stream.proofs.UpToTheEnd.{found}
+use Rattle.events.proofs.Driven.{none-pass, itself-kept}
 use Rattle.floor.specs.declared.gather.Gathered.{Gathered}
 use Rattle.floor.specs.declared.playing.Taken.{Taken}
 use Rattle.floor.specs.Reading.{Reading, keptWith, upToLf, withKept, ended}
@@ -21,7 +22,6 @@ use Rattle.floor.specs.Calls.{readingIn, readingWith, TakenAs}
 use Rattle.floor.proofs.Gathering.{line-in-memory}
 use Rattle.floor.proofs.LinesPlayed.{line-gathers}
 use Rattle.floor.proofs.Carrying.{carry}
-use Rattle.floor.proofs.Driven.{none-pass, itself-kept}
 use Rattle.floor.proofs.playing.take_line.Statement.{statement}
 use Rattle.floor.proofs.playing.take_line.Tie as tie
 

@@ -10,7 +10,7 @@ use borrow.Author.Needs.{needs}
 use Rattle.record.specs.HostCalls.{markSet}
 use Rattle.record.specs.declared.types.Changed.{Changed}
 use Rattle.record.specs.declared.types.Line.{Line}
-use Rattle.floor.specs.Events.{LogEvent, eventOf}
+use Rattle.events.specs.Events.{LogEvent, eventOf}
 use Rattle.floor.specs.Reading.{keptOf, keptEvent}
 use Rattle.floor.proofs.KeptText.{event-lent}
 use Rattle.watch.specs.declared.marking.Done.{Done}

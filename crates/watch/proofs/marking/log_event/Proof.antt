@@ -6,9 +6,9 @@ use mathlib.Core.List.{List}
 use lib.ListN.{take, drop}
 use denote.Ref.{now}
 use borrow.Author.Needs.{needs}
-use Rattle.floor.specs.declared.event.Called.{Called}
-use Rattle.floor.specs.Events.{eventOf}
-use Rattle.floor.specs.Playing.{did}
+use Rattle.events.specs.declared.Called.{Called}
+use Rattle.events.specs.Events.{eventOf}
+use Rattle.events.specs.Doing.{did}
 use Rattle.watch.specs.declared.marking.Done.{Done}
 use Rattle.watch.specs.Marking.{doneBy}
 use Rattle.watch.proofs.MarksSaid.{seconds-any}

@@ -13,10 +13,11 @@ use borrow.Author.Needs.{needs}
 use borrow.Author.Tests.{not-true, not-false, le-leb, lt-leb}
 use Rattle.text.proofs.Choices.{both-left}
 use Rattle.record.specs.declared.types.Device.{Device}
+use Rattle.events.specs.Told.{Drives}
 use Rattle.floor.specs.declared.gather.Gathered.{Gathered}
 use Rattle.floor.specs.declared.replay.Floor.{Floor}
 use Rattle.floor.specs.Reading.{upToLf, lineAfter, nothingBegun}
-use Rattle.floor.specs.Told.{gatheredTo, Drives}
+use Rattle.floor.specs.Told.{gatheredTo}
 use Rattle.floor.proofs.Driven.{aged-moves, unaged-moves}
 use Rattle.watch.specs.declared.marking.Done.{Done}
 use Rattle.watch.specs.declared.watching.Watch.{Watch}

@@ -1,4 +1,4 @@
--- `floor::event::call_legal` meets its contract: each arm is one event, and more room changes nothing.
+-- `events::call_legal` meets its contract: each arm is one event, and more room changes nothing.
 -- Assumes nothing.
 use Prim.Native.Nat.{ℕ}
 use mathlib.Core.Path.{_≡_, refl, sym, ap, _∙_}
@@ -12,14 +12,14 @@ use Rattle.record.specs.declared.types.Device.{Device}
 use Rattle.record.specs.declared.types.Changed.{Changed}
 use Rattle.device.specs.declared.calls.Received.{Received}
 use Rattle.device.specs.Calls.{Result}
-use Rattle.floor.specs.declared.event.Called.{Called}
 use Rattle.log.specs.declared.Says.{Says}
-use Rattle.floor.specs.Events.{eventOf}
-use Rattle.floor.specs.Playing.{logPlace, did}
-use Rattle.floor.specs.Told.{calledOf}
 use Rattle.device.proofs.EnoughRoom.{received-room, closing-quiet}
-use Rattle.floor.proofs.event.call_legal.Statement.{statement}
-use Rattle.floor.proofs.event.call_legal.Tie as tie
+use Rattle.events.specs.declared.Called.{Called}
+use Rattle.events.specs.Events.{eventOf}
+use Rattle.events.specs.Doing.{logPlace, did}
+use Rattle.events.specs.Told.{calledOf}
+use Rattle.events.proofs.call_legal.Statement.{statement}
+use Rattle.events.proofs.call_legal.Tie as tie
 
 -- the event that an arm stands for
 abbrev asked : tie.Start → Says → Result Device

@@ -11,7 +11,7 @@ use Rattle.record.specs.Legal.{isLegal}
 use Rattle.record.specs.Places.{connectionAt, isShut}
 use Rattle.record.specs.declared.types.Device.{Device}
 use Rattle.device.specs.Calls.{Result, refusedBy, replyRoom, openedBy}
-use Rattle.floor.specs.Playing.{logPlace, logOpeningRows, openedInLog}
+use Rattle.events.specs.Doing.{logPlace, logOpeningRows, openedInLog}
 
 module _ (d : Device) (r : ℕ) where
   pub log-opened-by : (P : Result Device → Type 0) → ((n : ℕ) → (n ≡ 0 → ⊥) → P (refusedBy n d))

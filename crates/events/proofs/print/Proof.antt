@@ -1,4 +1,4 @@
--- `floor::event::print` meets its contract: the number and a space, the reply after them, and the line's ending in the
+-- `events::print` meets its contract: the number and a space, the reply after them, and the line's ending in the
 -- place of its CR.
 -- Assumes nothing.
 use Prim.Native.Nat.{ℕ, _+_, _≤_}
@@ -14,11 +14,11 @@ use Rattle.text.proofs.Stores.{sets-then}
 use Rattle.numbers.specs.Decimal.{longDigits}
 use Rattle.numbers.proofs.Digits.{long-at-most-20}
 use Rattle.device.specs.Calls.{replyRoom}
-use Rattle.floor.specs.declared.event.Called.{Called}
-use Rattle.floor.proofs.PartsPut.{leftFrom, Put, part-long, part-put}
-use Rattle.floor.proofs.Printing.{result, Replied, ending-fits, line-printed}
-use Rattle.floor.proofs.event.print.Statement.{statement}
-use Rattle.floor.proofs.event.print.Tie as tie
+use Rattle.events.specs.declared.Called.{Called}
+use Rattle.events.proofs.PartsPut.{leftFrom, Put, part-long, part-put}
+use Rattle.events.proofs.Printing.{result, Replied, ending-fits, line-printed}
+use Rattle.events.proofs.print.Statement.{statement}
+use Rattle.events.proofs.print.Tie as tie
 
 number-fits : tie.Need-put-long-requires
 number-fits c κs =

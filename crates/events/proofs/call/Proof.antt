@@ -1,4 +1,4 @@
--- `floor::event::call` meets its contract: a legal record is called on, and one that is not is refused with 1.
+-- `events::call` meets its contract: a legal record is called on, and one that is not is refused with 1.
 -- Assumes nothing.
 use Prim.Native.Nat.{ℕ}
 use mathlib.Core.Path.{_≡_, refl, sym, ap, _∙_}
@@ -10,12 +10,12 @@ use Rattle.text.proofs.Choices.{if-yes, if-no}
 use Rattle.record.specs.declared.types.Device.{Device}
 use Rattle.device.specs.Calls.{Result, refusedBy}
 use Rattle.log.specs.Ending.{isFormed}
-use Rattle.floor.specs.Events.{eventOf}
-use Rattle.floor.specs.Playing.{did}
-use Rattle.floor.specs.Told.{calledOf}
-use Rattle.floor.proofs.EventsLeave.{did-illegal}
-use Rattle.floor.proofs.event.call.Statement.{statement}
-use Rattle.floor.proofs.event.call.Tie as tie
+use Rattle.events.specs.Events.{eventOf}
+use Rattle.events.specs.Doing.{did}
+use Rattle.events.specs.Told.{calledOf}
+use Rattle.events.proofs.call.Statement.{statement}
+use Rattle.events.proofs.call.Tie as tie
+use Rattle.events.proofs.EventsLeave.{did-illegal}
 
 -- the record is not legal
 module _ (c : tie.Else1) where

@@ -19,9 +19,9 @@ use Rattle.log.specs.Ending.{isFormed, ending}
 use Rattle.log.specs.declared.Says.{Says}
 use Rattle.log.specs.declared.Says.the-variants.{Opens, Receives, Passes, Closes, NoSuch}
 use Rattle.log.proofs.Endings.{mark-unformed, mark-refused, mark-silent, mark-replied}
-use Rattle.floor.specs.Events.{eventOf}
-use Rattle.floor.specs.Playing.{logPlace, did, outcome, shown}
-use Rattle.floor.proofs.LogOpenings.{log-opened-by}
+use Rattle.events.specs.Events.{eventOf}
+use Rattle.events.specs.Doing.{logPlace, did, outcome, shown}
+use Rattle.events.proofs.LogOpenings.{log-opened-by}
 
 -- a refusal has no reply, and a line of no such form has none
 pub record Plain (formed : Bool) (r : Result Device) : Type 0 where

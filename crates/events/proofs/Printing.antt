@@ -15,14 +15,14 @@ use Rattle.numbers.specs.Decimal.{digits, longDigits}
 use Rattle.numbers.proofs.Digits.{digits-at-most-10}
 use Rattle.record.specs.declared.types.Device.{Device}
 use Rattle.device.specs.Calls.{Result, replyRoom}
-use Rattle.floor.specs.declared.event.Called.{Called}
 use Rattle.log.specs.Ending.{isFormed, ending}
 use Rattle.log.specs.declared.Says.{Says}
 use Rattle.log.specs.declared.Says.the-variants.{Opens, Receives, Passes, Closes, NoSuch}
-use Rattle.floor.specs.Events.{eventOf}
-use Rattle.floor.specs.Playing.{did, outcome, shown, printed}
-use Rattle.floor.specs.Told.{calledOf, secondsOf, PrintedAs}
-use Rattle.floor.proofs.Endings.{did-plain, bare, ending-by, shown-formed, shown-unformed}
+use Rattle.events.specs.declared.Called.{Called}
+use Rattle.events.specs.Events.{eventOf}
+use Rattle.events.specs.Doing.{did, outcome, shown, printed}
+use Rattle.events.specs.Told.{calledOf, secondsOf, PrintedAs}
+use Rattle.events.proofs.Endings.{did-plain, bare, ending-by, shown-formed, shown-unformed}
 
 -- an ending after no reply, and one in the place of a reply's last byte
 appended : (l text end : List ℕ) → sets (sets l 0 (text ++ [])) (length text + (0 - 1)) end ≡ sets l 0 (text ++ end)

@@ -12,10 +12,9 @@ ghost use lib.ListN.{length};
 ghost use Rattle.text.specs.Words.{over};
 ghost use Rattle.record.specs.Legal.{isLegal};
 ghost use Rattle.device.specs.Calls.{replyRoom};
-ghost use Rattle.floor.specs.Events.{eventOf};
-ghost use Rattle.floor.specs.Playing.{openedInLog, did};
-ghost use Rattle.floor.specs.Reading.{printRoom};
-ghost use Rattle.floor.specs.Told.{calledOf, calledWith, secondsOf, PrintedAs};
+ghost use Rattle.events.specs.Events.{eventOf};
+ghost use Rattle.events.specs.Doing.{openedInLog, did, printRoom};
+ghost use Rattle.events.specs.Told.{calledOf, calledWith, secondsOf, PrintedAs};
 
 // The place that a log drives (02, L5).
 pub const PLACE: usize = 0;

@@ -1,4 +1,4 @@
--- `floor::event::open_legal` meets its contract: 5 is the replay's own row, and more room than a reply needs changes
+-- `events::open_legal` meets its contract: 5 is the replay's own row, and more room than a reply needs changes
 -- nothing.
 -- Assumes nothing.
 use Prim.Native.Nat.{ℕ}
@@ -13,11 +13,11 @@ use Rattle.record.specs.declared.types.Device.{Device}
 use Rattle.device.specs.declared.calls.Opened.{Opened}
 use Rattle.device.specs.Calls.{Result}
 use Rattle.device.proofs.EnoughRoom.{opened-room}
-use Rattle.floor.specs.declared.event.Called.{Called}
-use Rattle.floor.specs.Told.{calledOf}
-use Rattle.floor.proofs.LogOpenings.{log-opened-again, log-opened-closed}
-use Rattle.floor.proofs.event.open_legal.Statement.{statement}
-use Rattle.floor.proofs.event.open_legal.Tie as tie
+use Rattle.events.specs.declared.Called.{Called}
+use Rattle.events.specs.Told.{calledOf}
+use Rattle.events.proofs.open_legal.Statement.{statement}
+use Rattle.events.proofs.open_legal.Tie as tie
+use Rattle.events.proofs.LogOpenings.{log-opened-again, log-opened-closed}
 
 abbrev replyOf : Result Device → List ℕ
 replyOf r = r .reply

@@ -18,9 +18,9 @@ use Rattle.device.proofs.Illegal.{received-legality, opened-legality, closed-le
 use Rattle.log.specs.declared.Says.{Says}
 use Rattle.log.specs.declared.Says.the-variants.{Opens, Receives, Passes, Closes, NoSuch}
 use Rattle.log.specs.Ending.{isFormed}
-use Rattle.floor.specs.Events.{LogEvent, opens, receives, passes, closes, noSuch, eventOf}
-use Rattle.floor.specs.Playing.{changedTo, logPlace, did}
-use Rattle.floor.proofs.LogOpenings.{log-opened-by, log-opened-illegal}
+use Rattle.events.specs.Events.{LogEvent, opens, receives, passes, closes, noSuch, eventOf}
+use Rattle.events.specs.Doing.{changedTo, logPlace, did}
+use Rattle.events.proofs.LogOpenings.{log-opened-by, log-opened-illegal}
 
 module _ (d : Device) where
   pub did-settings : (e : LogEvent) → did d e .device .settings ≡ d .settings

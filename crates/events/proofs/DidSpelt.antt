@@ -6,8 +6,8 @@ use mathlib.Core.List.{List}
 use Rattle.record.specs.declared.types.Device.{Device}
 use Rattle.clock.specs.Passing.{passed}
 use Rattle.device.specs.Calls.{made, replyRoom, received, closedBy}
-use Rattle.floor.specs.Events.{opens, receives, passes, closes, noSuch}
-use Rattle.floor.specs.Playing.{changedTo, logPlace, openedInLog, did}
+use Rattle.events.specs.Events.{opens, receives, passes, closes, noSuch}
+use Rattle.events.specs.Doing.{changedTo, logPlace, openedInLog, did}
 
 module _ (d : Device) where
   pub did-opening : (r : ℕ) → did d (opens r) ≡ openedInLog d r
