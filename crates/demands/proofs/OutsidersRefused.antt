@@ -2,6 +2,7 @@
 -- after it and however it all is cut.
 -- Assumes nothing.
 use Prim.Native.Nat.{ℕ, _≤_}
+use Prim.Native.Char.{code}
 use mathlib.Core.Path.{_≡_, sym, ap, subst, _∙_}
 use mathlib.Core.Bool.{true, false}
 use mathlib.Core.List.{List, _∷_, _++_, append-assoc}
@@ -36,7 +37,7 @@ outsider-refused d p l more m ps between plain unled enough all =
     let there = between .there in
     let waits = between .in-phase in
     let empty = is-between d p there legal (between .unmarked) (between .none-held) in
-    let bytes : l ++ (13 ∷ more) ≡ uncut ps = sym (all ∙ append-assoc l (ascii "\r") more) in
+    let bytes : l ++ (code "\r" ∷ more) ≡ uncut ps = sym (all ∙ append-assoc l (ascii "\r") more) in
     let unmatched : Unmatched s c (uncut ps)
     = subst (Unmatched s c) bytes (unled-unmatched s c empty waits l more plain unled) in
     let cr : firstLine c (uncut ps) .ended ≡ true

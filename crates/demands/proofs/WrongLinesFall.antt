@@ -2,6 +2,7 @@
 -- shown differ. The line is a power query, its body in small letters.
 -- Assumes nothing.
 use Prim.Native.Nat.{ℕ}
+use Prim.Native.Char.{code}
 use mathlib.Core.Path.{_≡_, refl, ap}
 use mathlib.Core.List.{List, [], _∷_}
 use native.Mathlib.Omega.{arith}
@@ -60,7 +61,7 @@ made-up-taken-falls h =
 pub upper-cases-falls : Demand2 upperCases → ⊥
 unfolding computing
 upper-cases-falls h =
-    let e : _≡_ {A = ℕ} 80 112 = ap (λ (bs : List ℕ). bs at 2) (queried upperCases h openedSample ready .replied) in
+    let e : _≡_ {A = ℕ} (code "P") (code "p") = ap (λ (bs : List ℕ). bs at 2) (queried upperCases h openedSample ready .replied) in
     absurd (omega arith)
 
 -- the query whole, and in three parts of which the second is empty

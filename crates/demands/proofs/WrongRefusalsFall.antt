@@ -2,6 +2,7 @@
 -- short.
 -- Assumes nothing.
 use Prim.Native.Nat.{ℕ}
+use Prim.Native.Char.{code}
 use mathlib.Core.Path.{_≡_, ap}
 use mathlib.Core.List.{List}
 use native.Mathlib.Omega.{arith}
@@ -24,7 +25,7 @@ pub writes-first-falls : Demand1 writesFirst → ⊥
 unfolding computing
 writes-first-falls h =
     let kept = h .refused-keeps openedSample (receives 0 (withCr "%1POWR ?") short) (λ e. omega arith) in
-    let e : _≡_ {A = ℕ} 37 0 = ap (λ (bs : List ℕ). bs at 0) (kept .1 .memory) in
+    let e : _≡_ {A = ℕ} (code "%") 0 = ap (λ (bs : List ℕ). bs at 0) (kept .1 .memory) in
     absurd (omega arith)
 
 -- the phase: closed, and open

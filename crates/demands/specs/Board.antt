@@ -98,7 +98,7 @@ abbrev pub ours : Board
 ours = record {
   Record = Device;
   shows = λ d. d;
-  -- record::setup::set_up of Class 1, record::setup::set_up_2 of Class 2; what neither can be lent is out of range
+  -- setup::set_up of Class 1, setup::set_up_2 of Class 2; what neither can be lent is out of range
   set-up = λ w. givenBy (setUp w);
   -- device::calls::open
   opening = λ d random m. lentBy (openedBy d random (length m)) m;

@@ -4,9 +4,9 @@
 -- secured connection a first line without the matching digest yields the refusal line only; power, input, mutes and
 -- lamps stay." What the projector meant is `meant`, 01's table of commands (crate `meaning`), which knows no bytes but
 -- a set-up's inputs, two characters each, by 01's table of types.
--- TO BELIEVE IT, believe, and nothing else: MD5 and its digits (digest/specs); lines, inputs, texts, commands and
--- requests (lines/specs; for names also utf8/specs/Utf8); what an answer is and which bytes say it (answers/specs:
--- Said, CanSay, Writings); what a reading means and a greeting is (controller/specs: `meaning`, `LineSays` of
+-- TO BELIEVE IT, believe, and nothing else: MD5 and its digits (digest/specs); lines, inputs, texts and commands
+-- (lines/specs; for names also utf8/specs/Utf8), and requests (requests/specs/Requests); what an answer is and which
+-- bytes say it (answers/specs: Said, CanSay, Writings); what a reading means and a greeting is (controller/specs: `meaning`, `LineSays` of
 -- Reading, `Exactly`, `greetedOn` of Greetings); what is meant and done (meaning/specs); how a line is answered and a
 -- connection greeted (device/specs: Answering, `isLedBy` of Receiving, and `greeting`, `greeted` of Calls); the record
 -- (record/specs); a stream in cuts (stream/specs/Machine); here Board, Calls, CallsDone, Outsider. 02, L5: "Demand 2

@@ -1,6 +1,7 @@
 -- Names written one after the other, each after its count, and how long they are (02, L14).
---   NamesLong names long i               the loop that adds up their lengths has come to i
---   NamesPut lent p names out at i       the loop that writes them from the place p on has come to i
+--   first names i              the first i of them, written
+--   NamesLong names long i     the loop that adds up their lengths has come to i
+-- Where the loop that writes them stands is said by `Wrote` of proofs/Written, over `first`.
 -- Assumes nothing.
 use Prim.Native.Nat.{ℕ, zero, suc, _+_, _≤_, _<_}
 use mathlib.Core.Bool.{true}

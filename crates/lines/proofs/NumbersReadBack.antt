@@ -29,7 +29,11 @@ written-back : allBelow writtenBack 36 ≡ true
 unfolding numberFor numberCharacter
 written-back = refl
 
-read-back : allBelow readBack 91 ≡ true
+-- up to Z
+abbrev most : ℕ
+most = code "Z" + 1
+
+read-back : allBelow readBack most ≡ true
 unfolding numberFor numberCharacter
 read-back = refl
 
@@ -60,13 +64,13 @@ module _ (b : ℕ) (named : isNumberCharacter b ≡ true) where
       either-by (b from "1" to "9") (b from "A" to "Z") named
       (λ e. omega (arith, in-range b "1" "9" e)) (λ e. omega (arith, in-range b "A" "Z" e))
 
-  up-to-Z : b < 91
+  up-to-Z : b < most
   up-to-Z =
       either-by (b from "1" to "9") (b from "A" to "Z") named
       (λ e. omega (arith, in-range b "1" "9" e)) (λ e. omega (arith, in-range b "A" "Z" e))
 
   told : (isNumber (numberFor b) && eqb (numberCharacter (numberFor b)) b) ≡ true
-  told = implied (isNumberCharacter b) _ (each-below readBack 91 read-back b up-to-Z) named
+  told = implied (isNumberCharacter b) _ (each-below readBack most read-back b up-to-Z) named
 
   pub number-low : 1 ≤ numberFor b
   number-low = leb-true 1 (numberFor b) (both-left (leb 1 (numberFor b)) _ (both-left (isNumber (numberFor b)) _ told))

@@ -27,7 +27,7 @@ module _ (s : Settings) (settings : isSettings s ≡ true) (i : Input) where
       let below = ltb-true (placeOf s i) (s .«input_count») listed in
       found-at-place i noInput (inputsOf s) (omega (arith, inputs-number s (settings-told s settings)))
 
-  -- an input that is listed is one that two characters can name: none has the number 11
+  -- an input that is listed is one that two characters can name
   pub listed-is-input : isListed s i ≡ true → isInput i ≡ true
   listed-is-input listed =
       let told = settings-told s settings in

@@ -12,6 +12,7 @@ use codes::command::Coded;
 use codes::command::MaybeCommand;
 use lines::texts;
 use record::types::Text;
+use setup::fill;
 ghost use mathlib.Core.Path.{_≡_};
 ghost use lib.ListN.{length};
 ghost use Rattle.text.specs.Words.{over};
@@ -53,7 +54,7 @@ pub fn add(p: Panel, password: &[u8]) -> PanelChanged
             panel: p,
         };
     }
-    let fresh = entries::entry_of(entries::text_of(password));
+    let fresh = entries::entry_of(fill::text_of(password));
     let mut panel = entries::with_entry(p, count, fresh);
     panel.count = count + 1;
     PanelChanged { number: 0, panel }

@@ -4,28 +4,13 @@ use crate::types::LAMPS_MOST;
 use crate::types::NO_COMMAND;
 use crate::types::PANEL_MOST;
 use crate::types::Panel;
-use record::types::TEXT_ROOM;
 use record::types::Text;
 ghost use mathlib.Core.Path.{_≡_};
 ghost use Prim.Native.Nat.{_<_, _≤_};
-ghost use lib.ListN.{length, getD};
-ghost use Rattle.record.specs.Limits.{textRoom};
-ghost use Rattle.record.specs.Record.{textOf};
+ghost use lib.ListN.{getD};
 ghost use Rattle.panel.specs.Entries.{entryOf, noTalk, nothingShown, blankEntry};
 ghost use Rattle.panel.specs.LegalPanels.{panelMost};
 ghost use Rattle.panel.specs.PanelCalls.{withEntry};
-
-pub fn text_of(s: &[u8]) -> Text
-    requires { ⌜ length (now s) ≤ textRoom ⌝ }
-    ensures { λ r. ⌜ r ≡ textOf (now (s .entry)) ⌝ }
-{
-    let mut bytes = [0u8; TEXT_ROOM];
-    text::put(&mut bytes, 0, s);
-    Text {
-        len: s.len(),
-        bytes,
-    }
-}
 
 // A projector of which nothing is known, with that password.
 pub fn entry_of(password: Text) -> Entry

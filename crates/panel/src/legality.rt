@@ -10,30 +10,18 @@ use codes::command;
 use codes::command::Coded;
 use codes::command::MaybeCommand;
 use lines::texts;
+use record::scan;
 use record::types::TEXT_ROOM;
 use record::types::Text;
 ghost use mathlib.Core.Path.{_≡_};
 ghost use lib.ListN.{drop};
 ghost use Rattle.text.specs.Scans.{every};
 ghost use Rattle.lines.specs.Texts.{isPassword};
-ghost use Rattle.record.specs.Legal.{isZero, fillsTextRoom};
+ghost use Rattle.record.specs.Legal.{fillsTextRoom};
 ghost use Rattle.codes.specs.Commands.{commandOf};
 ghost use Rattle.panel.specs.Entries.{talkOf};
 ghost use Rattle.panel.specs.LegalPanels.{isNamed, isCommandKept, isTalk, isEntry, isEntries, isUnused};
 ghost use Rattle.panel.specs.LegalPanels.{isPanel};
-
-// The room from n on is unused.
-fn zeros_from(s: &[u8], n: usize) -> bool
-    ensures { λ r. ⌜ r ≡ every isZero (drop n (now (s .entry))) ⌝ }
-{
-    let mut ok = true;
-    let mut i = n;
-    while i < s.len() {
-        ok = ok & (s[i] == 0);
-        i += 1;
-    }
-    ok
-}
 
 // 0 to 32 letters and digits, in their room: those that the controller's writer takes.
 fn password_ok(t: Text) -> bool
@@ -44,7 +32,10 @@ fn password_ok(t: Text) -> bool
     if TEXT_ROOM < len {
         return false;
     }
-    zeros_from(&bytes, len) & texts::is_password(&bytes[0..len])
+    if !scan::clear_from(&bytes, len) {
+        return false;
+    }
+    texts::is_password(&bytes[0..len])
 }
 
 fn is_named(k: Coded) -> bool

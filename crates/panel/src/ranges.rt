@@ -2,11 +2,12 @@
 use crate::types::Entry;
 use crate::types::HOURS_MOST;
 use crate::types::LAMPS_MOST;
+use record::own;
 ghost use mathlib.Core.Path.{_≡_};
 ghost use Rattle.record.specs.Legal.{fillsRoom};
 ghost use Rattle.answers.specs.Carried.{lampsCarried};
 ghost use Rattle.panel.specs.Entries.{shownOf};
-ghost use Rattle.panel.specs.LegalPanels.{isPowerShown, isInputShown, isLampCount, isHours, isLitRoom};
+ghost use Rattle.panel.specs.LegalPanels.{isPowerShown, isInputShown, isLampCount, isHours};
 ghost use Rattle.panel.specs.LegalPanels.{isLampsShown, isShown};
 
 fn power_ok(known: bool, power: u8) -> bool
@@ -52,25 +53,13 @@ fn hours_ok(hours: [u32; LAMPS_MOST], count: usize) -> bool
     ok
 }
 
-fn lit_ok(lit: [bool; LAMPS_MOST], count: usize) -> bool
-    ensures { λ r. ⌜ r ≡ isLitRoom lit count ⌝ }
-{
-    let mut ok = true;
-    let mut i = count;
-    while i < LAMPS_MOST {
-        ok = ok & !lit[i];
-        i += 1;
-    }
-    ok
-}
-
 fn lamps_ok(e: Entry) -> bool
     ensures { λ r. ⌜ r ≡ isLampsShown (e .«lamps_known») (e .«lamp_count») (e .hours) (e .lit) ⌝ }
 {
     let count = e.lamp_count;
     let hours = e.hours;
     let lit = e.lit;
-    lamp_count_ok(e.lamps_known, count) & hours_ok(hours, count) & lit_ok(lit, count)
+    lamp_count_ok(e.lamps_known, count) & hours_ok(hours, count) & own::none_marked(lit, count)
 }
 
 pub fn shown_ok(e: Entry) -> bool

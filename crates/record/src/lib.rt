@@ -8,6 +8,6 @@ pub mod inputs;
 pub mod legality;
 pub mod names;
 pub mod own;
-mod scan;
+pub mod scan;
 pub mod settings;
 pub mod types;

@@ -1,5 +1,5 @@
 // Set-up (01, "Set-up"): each setting is tested, then kept.
-mod fill;
+pub mod fill;
 pub mod out_of_range;
 
 use record::class;

@@ -8,6 +8,7 @@ use numbers::highest;
 use record::fresh;
 use record::host;
 use record::own;
+use record::scan;
 use record::types::Changed;
 use record::types::Device;
 use record::types::INPUTS_MOST;
@@ -141,7 +142,7 @@ fn enabled(d: Device, s: &[u8]) -> Changed
     if s.len() != d.settings.lamp_count {
         return fresh::refuse(23);
     }
-    if !reading::marks_ok(s) {
+    if !scan::bytes_within(s, 1) {
         return fresh::refuse(23);
     }
     let marks = reading::marks_of(s);

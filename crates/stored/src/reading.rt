@@ -8,11 +8,10 @@ ghost use mathlib.Core.Bool.{true};
 ghost use mathlib.Core.List.{map};
 ghost use Prim.Native.Nat.{_+_, _*_, _≤_};
 ghost use lib.ListN.{length, drop};
-ghost use Rattle.text.specs.Scans.{every};
 ghost use Rattle.record.specs.Limits.{listedMost, lampsMost};
 ghost use Rattle.lines.specs.Bytes.{_at_};
 ghost use Rattle.record.specs.Record.{inRoom};
-ghost use Rattle.stored.specs.Loading.{secondsIn, isMarkByte, isMarked};
+ghost use Rattle.stored.specs.Loading.{secondsIn, isMarked};
 ghost use Rattle.stored.specs.Loading.{textsLong, textsIn, joinedTexts, joinedMost};
 ghost use Rattle.stored.specs.Loading.{markRoom};
 
@@ -71,19 +70,6 @@ pub fn bytes_at(s: &[u8], p: usize, n: usize) -> [u8; JOINED_MOST]
         i += 1;
     }
     list
-}
-
-// Each byte is a mark's.
-pub fn marks_ok(s: &[u8]) -> bool
-    ensures { λ r. ⌜ r ≡ every isMarkByte (now (s .entry)) ⌝ }
-{
-    let mut ok = true;
-    let mut i = 0;
-    while i < s.len() {
-        ok = ok & (s[i] <= 1);
-        i += 1;
-    }
-    ok
 }
 
 // The marks that the bytes are, in their room.

@@ -1,45 +1,48 @@
 -- `panel::legality::password_ok` meets its contract: the unused room is clear, and what is used is a password.
 -- Assumes nothing.
-use mathlib.Core.Path.{_≡_, sym, ap, _∙_}
+use mathlib.Core.Path.{_≡_, sym, _∙_}
 use native.Mathlib.Omega.{arith}
 use lib.ListN.{length}
 use borrow.Author.Needs.{needs}
-use Rattle.text.proofs.Parts.{first-part}
+use borrow.Author.Tests.{not-true, not-false}
 use Rattle.lines.specs.Texts.{isPassword}
 use Rattle.record.specs.Limits.{textRoom}
-use Rattle.record.proofs.Rooms.{kept-short}
-use Rattle.panel.proofs.Tails.{room-tested}
+use Rattle.record.proofs.Rooms.{kept-by, kept-not, kept-short}
 use Rattle.panel.proofs.legality.password_ok.Statement.{statement}
 use Rattle.panel.proofs.legality.password_ok.Tie as tie
 
 long : (c : tie.Start) → length (c .args .t .bytes) ≡ textRoom
 long c = search needs
 
-over : tie.Need-returns
-over c =
+short : tie.Need-returns
+short c =
     let start = c .before .before in
-    let size = long start in
-    sym (kept-short textRoom isPassword _ _ size (omega arith))
+    sym (kept-short textRoom isPassword _ _ (long start) (omega (arith, long start)))
 
--- past the first test
-module _ (c : tie.Else1) where
-  abbrev start : tie.Start
-  start = c .before .before
+unclear : tie.Need-returns-2
+unclear c =
+    let start = let copied = c .before .before in copied .before .before .before in
+    let dirty = sym (c .before .clear-from .ensures) ∙ not-true _ (c .if2 .taken) in
+    sym (kept-not textRoom isPassword _ _ (long start) dirty)
 
-fits : tie.Need-part-is-password-end
-fits c = let tested = c .before .before .before in let size = long (start tested) in omega (arith, tested .if1 .left)
-
-tested : tie.Need-returns-2
-tested c =
-    let zeros = c .before .before .before in
-    let within = zeros .before .before in
-    let t = start within .args .t in
-    room-tested textRoom isPassword (t .bytes) (t .len) (long (start within)) (omega (arith, within .if1 .left))
-    (zeros .zeros-from .ensures) (c .is-password .ensures ∙ ap isPassword (first-part (t .bytes) (t .len)))
+used : tie.Need-returns-3
+used c =
+    let passed = c .before .before .before in
+    let start = let copied = passed .before .before in copied .before .before .before in
+    let clear = sym (passed .before .clear-from .ensures) ∙ not-false _ (passed .if2 .left) in
+    kept-by textRoom isPassword _ _ (long start) clear (c .is-password .ensures)
 
 pub password-ok-spec : {M : Type 1} → statement M
 password-ok-spec =
     tie.close
     (tie.spec
-    over (λ c. search needs) (λ c κs. search needs) (λ c. search needs) (λ c. search needs) fits
-    (λ c κs. search needs) tested)
+    short
+    (λ c. search needs) (λ c κs. search needs)
+    unclear
+    (λ c. search needs)
+    (λ c. search needs)
+    (λ c.
+    let copied = let passed = c .before in passed .before .before in
+    omega (arith, long (copied .before .before .before)))
+    (λ c κs. search needs)
+    used)

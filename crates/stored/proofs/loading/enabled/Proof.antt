@@ -50,7 +50,7 @@ no-marks c =
     c .refuse2 .ensures
     ∙ sym
     (if-no _ _ (wrong start
-    (λ t. false≢true (sym (not-true _ (tested .if2 .taken)) ∙ scanned .marks-ok .ensures ∙ t .each))))
+    (λ t. false≢true (sym (not-true _ (tested .if2 .taken)) ∙ scanned .bytes-within .ensures ∙ t .each))))
 
 few : tie.Need-marks-of-requires
 few c κs =
@@ -63,7 +63,7 @@ module _ (c : tie.After-own-ok) where
   abbrev kept : tie.After-marks-of
   kept = c .before .before
 
-  abbrev scanned : tie.After-marks-ok
+  abbrev scanned : tie.After-bytes-within
   scanned = kept .before .before
 
   abbrev begin : tie.Start
@@ -106,7 +106,7 @@ done c =
     let d = start .args .d in
     let legal = own-told (d .settings) (marked start) (sym (tested-own asked) ∙ not-false _ (tested .if3 .left)) in
     let shown = are-marks-shown (many start) (bytes start) (record {
-      each = sym (scanned asked .marks-ok .ensures) ∙ not-false _ (kept asked .before .if2 .left);
+      each = sym (scanned asked .bytes-within .ensures) ∙ not-false _ (kept asked .before .if2 .left);
       many = scanned asked .before .if1 .left;
       legal = legal .marks;
     }) in
