@@ -8,4 +8,5 @@ pub mod face;
 pub mod logs;
 pub mod reference;
 pub mod replay;
+pub mod tally;
 pub mod wrong;

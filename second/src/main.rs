@@ -125,7 +125,7 @@ fn logs(seed: u64, count: usize, words: &[&str]) -> ExitCode {
     match logs::compare(&program, seed, count) {
         Ok(met) => {
             println!("{met}, seed {seed}");
-            verdict(met.missed().next().is_none())
+            verdict(met.missed().is_empty())
         }
         Err(difference) => {
             println!("{difference}`second log {seed} {}` prints it whole", difference.number);
@@ -140,7 +140,7 @@ fn burnts(played: Played, seed: u64, count: usize, words: &[&str]) -> ExitCode {
     match burnts::compare(&program, played, seed, count) {
         Ok(met) => {
             println!("{met}, seed {seed}");
-            verdict(met.missed().next().is_none())
+            verdict(met.missed().is_empty())
         }
         Err(difference) => {
             let number = difference.number;

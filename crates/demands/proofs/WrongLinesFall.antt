@@ -61,7 +61,8 @@ made-up-taken-falls h =
 pub upper-cases-falls : Demand2 upperCases → ⊥
 unfolding computing
 upper-cases-falls h =
-    let e : _≡_ {A = ℕ} (code "P") (code "p") = ap (λ (bs : List ℕ). bs at 2) (queried upperCases h openedSample ready .replied) in
+    let e : _≡_ {A = ℕ} (code "P") (code "p")
+    = ap (λ (bs : List ℕ). bs at 2) (queried upperCases h openedSample ready .replied) in
     absurd (omega arith)
 
 -- the query whole, and in three parts of which the second is empty

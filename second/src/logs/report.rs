@@ -2,18 +2,12 @@
 
 use super::Fed;
 use crate::replay::{LONGEST, lines, mistakes, text_of};
-use std::collections::{BTreeMap, BTreeSet};
+use crate::tally::Tally;
 use std::fmt;
 
-/// How many logs and lines agreed, how often a line was of each kind, and which mistakes would have shown.
+/// How often a line was of each kind, and which mistakes would have shown.
 #[derive(Default)]
-pub struct Met {
-    pub logs: usize,
-    pub lines: usize,
-    kinds: BTreeMap<&'static str, usize>,
-    /// Their places in the list.
-    shown: BTreeSet<usize>,
-}
+pub struct Met(Tally);
 
 /// What a line is and what it is told.
 pub const KINDS: [&str; 13] = [
@@ -54,47 +48,35 @@ fn kind(line: &[u8], told: &[u8]) -> &'static str {
 impl Met {
     /// One more log that was played alike.
     pub fn count(&mut self, log: &[u8], out: &[u8]) {
-        self.logs += 1;
+        self.0.logs += 1;
         for (line, out) in lines(log).zip(lines(out)) {
             let told = out.splitn(2, |&byte| byte == b' ').last().unwrap_or_default();
-            *self.kinds.entry(kind(line, told.trim_ascii_end())).or_default() += 1;
-            self.lines += 1;
+            self.0.meet(kind(line, told.trim_ascii_end()));
+            self.0.lines += 1;
         }
         for (place, (_, wrong)) in mistakes::all().enumerate() {
-            if !self.shown.contains(&place) && wrong.replayed(log) != out {
-                self.shown.insert(place);
-            }
+            self.0.show(place, || wrong.replayed(log) != out);
         }
     }
 
-    pub fn and(mut self, other: Met) -> Met {
-        self.logs += other.logs;
-        self.lines += other.lines;
-        for (kind, times) in other.kinds {
-            *self.kinds.entry(kind).or_default() += times;
-        }
-        self.shown.extend(other.shown);
-        self
+    pub fn and(self, other: Met) -> Met {
+        Met(self.0.and(other.0))
     }
 
     pub fn times(&self, kind: &str) -> usize {
-        self.kinds.get(kind).copied().unwrap_or_default()
+        self.0.times(kind)
     }
 
     /// The mistakes that no log would have shown.
-    pub fn missed(&self) -> impl Iterator<Item = &'static str> {
-        mistakes::all().enumerate().filter(|(place, _)| !self.shown.contains(place)).map(|(_, (words, _))| *words)
+    pub fn missed(&self) -> Vec<&'static str> {
+        self.0.missed(mistakes::all().map(|(words, _)| *words))
     }
 }
 
 impl fmt::Display for Met {
     fn fmt(&self, f: &mut fmt::Formatter) -> fmt::Result {
-        let kinds: Vec<String> = KINDS.iter().map(|kind| format!("{kind} {}", self.times(kind))).collect();
-        writeln!(f, "lines: {}", kinds.join("; "))?;
-        self.missed().try_for_each(|words| writeln!(f, "NOT FOUND: {words}"))?;
-        let all = mistakes::all().count();
-        let (logs, lines, found) = (self.logs, self.lines, all - self.missed().count());
-        write!(f, "{logs} logs, {lines} lines played back alike; {found} of {all} deliberate mistakes found")
+        let all: Vec<&'static str> = mistakes::all().map(|(words, _)| *words).collect();
+        self.0.tell(f, ("lines", &KINDS), "played back alike", &all)
     }
 }
 
