@@ -50,7 +50,8 @@ fn lamp_of(hours: &[u8], lit: &[u8]) -> MaybeLamp
     let Number::Value(n) = number else {
         return MaybeLamp::NoLamp;
     };
-    MaybeLamp::LampIs(LampHours { hours: n, lit: on })
+    let hours = n as u32;
+    MaybeLamp::LampIs(LampHours { hours, lit: on })
 }
 
 pub fn read_lamps(p: &[u8]) -> Answer

@@ -4,24 +4,15 @@
 --   sampleDevice        01's sample set-up: W 20, C 60, one lamp at 0 s, input 11, texts empty, no password
 --   replayed d log      all that is printed for a log that begins with the device d
 -- Assumes nothing.
-use Prim.Native.Nat.{ℕ, _+_, _-_}
-use mathlib.Core.Bool.{not}
+use Prim.Native.Nat.{ℕ, _+_}
 use mathlib.Core.List.{List, [], _∷_, _++_}
-use lib.ListN.{length, take}
-use lib.Dec.{eqb}
-use Rattle.text.specs.Words.{ascii, if_then_else_}
-use Rattle.text.specs.Rows.{Row, _when_, byRows}
-use Rattle.numbers.specs.Decimal.{digits, longDigits}
-use Rattle.record.specs.Legal.{isLegal}
-use Rattle.record.specs.Places.{connectionAt, isShut}
+use Rattle.text.specs.Words.{ascii}
 use Rattle.record.specs.Wanted.{wantedOf}
 use Rattle.record.specs.SetUp.{setUp}
 use Rattle.record.specs.declared.types.Device.{Device}
-use Rattle.record.specs.declared.types.Changed.{Changed}
-use Rattle.clock.specs.Passing.{passed}
-use Rattle.device.specs.Calls.{Result, refusedBy, made, replyRoom, received, openedBy, closedBy}
 use Rattle.log.specs.LastLine.{lastLine}
-use Rattle.events.specs.Events.{LogEvent, opens, receives, passes, closes, noSuch}
+use Rattle.events.specs.Events.{LogEvent}
+use Rattle.events.specs.Doing.{did, printed}
 use Rattle.floor.specs.Events.{events}
 
 unfoldable pub stateAfter : Device → List LogEvent → Device

@@ -33,7 +33,7 @@ use Rattle.log.specs.declared.Says.the-variants.{NoSuch}
 use Rattle.log.specs.Lines.{lineMost, lineSaid}
 use Rattle.log.specs.LastLine.{lastLine}
 use Rattle.events.specs.Events.{LogEvent, noSuch}
-use Rattle.events.specs.Doing.{did, printed}
+use Rattle.events.specs.Doing.{did, printed, printRoom}
 use Rattle.floor.specs.Events.{event}
 
 pub record Reading : Type 0 where

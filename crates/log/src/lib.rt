@@ -2,6 +2,7 @@
 pub mod ending;
 pub mod last;
 
+use numbers::Number;
 ghost use mathlib.Core.Path.{_≡_};
 ghost use Rattle.digest.specs.Hex.{isHexDigit};
 ghost use Rattle.log.specs.Lines.{randomSaid, secondsSaid, formSaid, lineSaid};
@@ -52,16 +53,10 @@ fn seconds_said(s: &[u8]) -> Says
     if 10 < s.len() {
         return Says::NoSuch;
     }
-    let mut v: u64 = 0;
-    let mut i = 0;
-    while i < s.len() {
-        let b = s[i];
-        if !numbers::is_digit(b) {
-            return Says::NoSuch;
-        }
-        v = v * 10 + (b - b'0') as u64;
-        i += 1;
-    }
+    let read = numbers::read_digits(s);
+    let Number::Value(v) = read else {
+        return Says::NoSuch;
+    };
     if SECONDS_MOST < v {
         return Says::NoSuch;
     }

@@ -61,18 +61,32 @@ chosen : (t : Bool) (a : Number) (n : ℕ) → (if t then a else NotANumber) ≡
 chosen true a n e = (refl, e)
 chosen false a n e = (cc, cc)
 
+-- what all digits tell, and what a byte that is none
+pub digits-told : (s : List ℕ) (n : ℕ) → readDigits s ≡ Value n → (every isDigit s ≡ true) × (decimalValue s ≡ n)
+unfolding readDigits
+digits-told s n e =
+    let figures = chosen (every isDigit s) (Value (decimalValue s)) n e in (figures .0, cc (figures .1))
+
+pub digits-untold : (s : List ℕ) → readDigits s ≡ NotANumber → every isDigit s ≡ false
+unfolding readDigits
+digits-untold s = by (every isDigit s)
+  where
+    by : (t : Bool) → (if t then Value (decimalValue s) else NotANumber) ≡ NotANumber → t ≡ false
+    by true e = cc
+    by false e = refl
+
 pub read-written : (s : List ℕ) (n : ℕ) → readNumber s ≡ Value n → WritesNumber n s
 unfolding readNumber readDigits
 read-written s n e =
     let least : Bool = leb 1 (length s) in
     let most : Bool = leb (length s) mostDigits in
     let formed = chosen (least && most) (readDigits s) n e in
-    let figures = chosen (every isDigit s) (Value (decimalValue s)) n (formed .1) in
+    let figures = digits-told s n (formed .1) in
     record {
       some = leb-true 1 (length s) (both-left least most (formed .0));
       short = leb-true (length s) mostDigits (both-right least most (formed .0));
       figures = figures .0;
-      value = cc (figures .1);
+      value = figures .1;
     }
 
 pub read-below : (s : List ℕ) (n : ℕ) → readNumber s ≡ Value n → n < 100000

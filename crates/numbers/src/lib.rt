@@ -6,7 +6,7 @@ ghost use Prim.Native.Nat.{_+_, _≤_};
 ghost use lib.ListN.{length};
 ghost use lib.Seq.{sets};
 ghost use Rattle.numbers.specs.Decimal.{digits, longDigits, isDigit};
-ghost use Rattle.numbers.specs.Decimal.{readDigits, readNumber, mostDigits};
+ghost use Rattle.numbers.specs.Decimal.{readDigits, readNumber};
 
 const MOST_DIGITS: usize = 5;
 
@@ -36,7 +36,7 @@ pub fn put_number(out: &mut [u8], at: usize, n: u32) -> usize
 }
 
 pub enum Number {
-    Value(u32),
+    Value(u64),
     NotANumber,
 }
 
@@ -46,18 +46,19 @@ pub fn is_digit(b: u8) -> bool
     (b'0' <= b) & (b <= b'9')
 }
 
-fn read_digits(s: &[u8]) -> Number
-    requires { ⌜ length (now s) ≤ mostDigits ⌝ }
+// The number that all of s spells, in at most ten digits.
+pub fn read_digits(s: &[u8]) -> Number
+    requires { ⌜ length (now s) ≤ 10 ⌝ }
     ensures { λ r. ⌜ r ≡ readDigits (now (s .entry)) ⌝ }
 {
-    let mut v: u32 = 0;
+    let mut v: u64 = 0;
     let mut i = 0;
     while i < s.len() {
         let b = s[i];
         if !is_digit(b) {
             return Number::NotANumber;
         }
-        v = v * 10 + (b - b'0') as u32;
+        v = v * 10 + (b - b'0') as u64;
         i += 1;
     }
     Number::Value(v)

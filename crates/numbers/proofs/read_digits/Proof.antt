@@ -35,9 +35,9 @@ module _ (c : tie.Else1 Inv μ) where
   passes : isDigit byte ≡ true
   passes = sym (c .before .is-digit .ensures) ∙ not-false (c .before .is-digit .result) (c .if1 .left)
 
-  -- another digit keeps the value within a u32
-  small : turn .loop .v < 10 ^ 4
-  small = read-below 10 decimalWorth isDigit s (turn .loop .inv) 4 (omega arith) (omega arith)
+  -- another digit keeps the value within a u64
+  small : turn .loop .v < 10 ^ 9
+  small = read-below 10 decimalWorth isDigit s (turn .loop .inv) 9 (omega arith) (omega arith)
 
 fails : tie.Need-returns Inv μ
 fails c =

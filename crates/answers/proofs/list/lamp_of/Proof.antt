@@ -1,9 +1,13 @@
 -- `answers::list::lamp_of` meets its contract: the two comparisons are the definition's tests, and the number decides.
 -- Assumes nothing.
+use Prim.Native.Nat.{ℕ, _<_}
 use mathlib.Core.Path.{_≡_, sym, _∙_}
+use native.Mathlib.Omega.{arith}
 use borrow.Author.Tests.{not-true, not-false}
 use borrow.Author.Needs.{needs}
 use Rattle.numbers.specs.declared.Number.{Number}
+use Rattle.numbers.specs.declared.Number.the-variants.{Value}
+use Rattle.numbers.proofs.ReadBack.{read-below}
 use Rattle.answers.specs.Reading.{lampOfHours, lampOf}
 use Rattle.answers.proofs.LampsRead.{not-lit, lit-by}
 use Rattle.answers.proofs.list.lamp_of.Statement.{statement}
@@ -26,6 +30,9 @@ module _ (c : tie.After-read-number) where
       sym (lit-by _ _ (on .same .ensures) (off .same2 .ensures) (not-false _ (c .before .if1 .left))
       (sym e ∙ c .read-number .ensures))
 
+  small : {n : ℕ} → c .read-number .result ≡ Value n → n < 100000
+  small {n} e = read-below (start .args .hours .now) n (sym (c .read-number .ensures) ∙ e)
+
 pub lamp-of-spec : {M : Type 1} → statement M
 lamp-of-spec =
     tie.close
@@ -42,4 +49,5 @@ lamp-of-spec =
     (λ c. search needs)
     (λ c. search needs)
     (λ c. decided (c .before .before) (c .enum-told .given .1))
+    (λ c. let known = c .before in omega (arith, small (known .before .before) (known .number .given .1)))
     (λ c. let known = c .before in decided (known .before .before) (known .number .given .1)))

@@ -16,11 +16,12 @@ decided : tie.Need-returns
 unfolding isLampsShown isLitRoom
 decided c =
     let hours = c .before in
-    let start = hours .before .before .before .before .before in
+    let count = hours .before in
+    let start = count .before .before .before in
     rw (
       c .none-marked .ensures,
       hours .hours-ok .ensures,
-      hours .before .lamp-count-ok .ensures,
+      count .lamp-count-ok .ensures,
       eq-eqb _ _ (long start),
     )
 

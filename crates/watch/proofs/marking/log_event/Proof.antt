@@ -16,8 +16,8 @@ use Rattle.watch.proofs.marking.log_event.Statement.{statement}
 use Rattle.watch.proofs.marking.log_event.Tie as tie
 use Rattle.watch.proofs.marking.log_event.Reads as reads
 use Rattle.watch.proofs.marking.log_event.Lts as lts
-use Rattle.floor.proofs.event.call.Reads as call-reads
-use Rattle.floor.proofs.event.seconds_of.Reads as seconds-of-reads
+use Rattle.events.proofs.call.Reads as call-reads
+use Rattle.events.proofs.seconds_of.Reads as seconds-of-reads
 use Rattle.floor.proofs.playing.least.Reads as least-reads
 
 call-requires : tie.Need-call-requires
