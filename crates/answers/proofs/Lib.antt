@@ -15,6 +15,7 @@ pub mod JoinedBack
 pub mod ReadsBack
 pub mod SaidBack
 pub mod SaidPlain
+pub mod Nothing
 pub mod OneResult
 mod JoinedRead
 mod LampsRead

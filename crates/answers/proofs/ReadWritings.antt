@@ -10,12 +10,9 @@ use Rattle.answers.specs.Said.{Said, nothing}
 use Rattle.answers.specs.Reading.{readParameter}
 use Rattle.answers.specs.CanSay.{CanSay}
 use Rattle.answers.specs.Writings.{Says, Allowed, says, says-nothing}
+use Rattle.answers.proofs.Nothing.{cannot-say-nothing}
 use Rattle.answers.proofs.ReadsBack.{written-back}
 use Rattle.answers.proofs.ReadSound.{CanRead, answer, no-answer, read-sound}
-
--- `nothing` is no answer
-cannot-say-nothing : {c : Command} → CanSay c nothing → ⊥
-cannot-say-nothing can = elim can [ ]
 
 module _ (c : Command) (p : List ℕ) where
   pub read-was-written : (readParameter c p ≡ nothing → ⊥) → Says c (readParameter c p) p

@@ -7,6 +7,7 @@
 --   answerOf m      what is said, in arrays from their start on; the rest of each is blank
 --   saidBy a        what an answer says: as many of its elements as it counts, and no more than an array has
 --   isSayable m     what is said has room in the arrays
+--   isNothing k     the kind of an answer that says nothing: its parameter is not allowed (01, "Controller")
 -- Assumes nothing.
 use Prim.Native.Nat.{ℕ, min}
 use mathlib.Core.Bool.{Bool, true, false}
@@ -102,3 +103,17 @@ isSayable (textIs s) = leb (length s) textCarried
 isSayable (classIs k) = true
 isSayable (freezeIs on) = true
 isSayable nothing = true
+
+abbrev pub isNothing : Kind → Bool
+isNothing Ok = false
+isNothing (Refused n) = false
+isNothing (Powered p) = false
+isNothing (Chosen i) = false
+isNothing (Muted video audio) = false
+isNothing Errors = false
+isNothing (Lamps n) = false
+isNothing (Inputs n) = false
+isNothing (Text n) = false
+isNothing (Class k) = false
+isNothing (Frozen on) = false
+isNothing Nothing = true

@@ -2,7 +2,7 @@
 use lines::input::Input;
 use lines::input::Source;
 ghost use mathlib.Core.Path.{_≡_};
-ghost use Rattle.answers.specs.Carried.{plainOf, ofLamps, ofInputs, ofText};
+ghost use Rattle.answers.specs.Carried.{plainOf, ofLamps, ofInputs, ofText, isNothing};
 
 pub const LAMPS_MOST: usize = 8;
 
@@ -57,6 +57,25 @@ pub const NO_INPUT: Input = Input {
     source: Source::Rgb,
     number: 0,
 };
+
+pub fn is_nothing(k: Kind) -> bool
+    ensures { λ r. ⌜ r ≡ isNothing k ⌝ }
+{
+    match k {
+        Kind::Ok => false,
+        Kind::Refused(_) => false,
+        Kind::Powered(_) => false,
+        Kind::Chosen(_) => false,
+        Kind::Muted(_, _) => false,
+        Kind::Errors => false,
+        Kind::Lamps(_) => false,
+        Kind::Inputs(_) => false,
+        Kind::Text(_) => false,
+        Kind::Class(_) => false,
+        Kind::Frozen(_) => false,
+        Kind::Nothing => true,
+    }
+}
 
 pub fn plain(k: Kind) -> Answer
     ensures { λ r. ⌜ r ≡ plainOf k ⌝ }

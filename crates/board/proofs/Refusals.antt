@@ -21,7 +21,7 @@ use Rattle.controller.specs.declared.reading.Outcome.the-variants.{Means, Erra,
 use Rattle.controller.proofs.Cases.{reply-by}
 use Rattle.controller.proofs.Refusals.{refusal-writes-nothing, written-number}
 use Rattle.codes.specs.Commands.{commandOf}
-use Rattle.codes.specs.Readings.{meaningless, saidFlat, flatAs, flat}
+use Rattle.codes.specs.Readings.{meaningless, flatAs, flat}
 use Rattle.board.specs.Face.{noneWritten, writtenBy, readBy}
 use Rattle.codes.specs.declared.command.Coded.{Coded}
 use Rattle.codes.specs.declared.command.MaybeCommand.{MaybeCommand}
@@ -64,33 +64,6 @@ module _ (secured : Bool) (random : ℕ) (password : List ℕ) (room : ℕ) wher
 pub no-command-read : (k : Coded) (l : List ℕ) → commandOf k ≡ NoCommand → readBy (commandOf k) l ≡ meaningless 3
 no-command-read k l e = ap (λ (m : MaybeCommand). readBy m l) e
 
--- a reading with a number that is not 0 has nothing but its number
-said-or-none : (m : Said) → (saidFlat m .number ≡ 0 → ⊥) → saidFlat m ≡ meaningless (saidFlat m .number)
-said-or-none okay n = absurd (n refl)
-said-or-none (refused k) n = absurd (n refl)
-said-or-none (powerIs p) n = absurd (n refl)
-said-or-none (chosenIs i) n = absurd (n refl)
-said-or-none (mutesAre video audio) n = absurd (n refl)
-said-or-none (errorsAre ds) n = absurd (n refl)
-said-or-none (lampsAre ls) n = absurd (n refl)
-said-or-none (inputsAre is) n = absurd (n refl)
-said-or-none (textIs s) n = absurd (n refl)
-said-or-none (classIs k) n = absurd (n refl)
-said-or-none (freezeIs on) n = absurd (n refl)
-said-or-none nothing n = refl
-
-flat-or-none : (o : Outcome) (m : Said) → (flatAs o m .number ≡ 0 → ⊥) → flatAs o m ≡ meaningless (flatAs o m .number)
-flat-or-none Means m n = said-or-none m n
-flat-or-none Erra m n = absurd (n refl)
-flat-or-none NotALine m n = refl
-flat-or-none OtherCommand m n = refl
-flat-or-none NotAllowed m n = refl
-
-pub refused-means-nothing : (m : MaybeCommand) (l : List ℕ) → (readBy m l .number ≡ 0 → ⊥)
-    → readBy m l ≡ meaningless (readBy m l .number)
-refused-means-nothing (CommandIs c) l n = flat-or-none (readReply c l .outcome) (readReply c l .said) n
-refused-means-nothing NoCommand l n = refl
-
 -- the number of a reading is its outcome's
 saying-number : (m : Said) → flat (saying m) .number ≡ outcomeNumber (saying m .outcome)
 saying-number okay = refl
@@ -110,3 +83,18 @@ pub read-number : (c : Command) (l : List ℕ) → readBy (CommandIs c) l .numbe
 read-number c l =
     reply-by c l (λ r. flat r .number ≡ outcomeNumber (r .outcome)) (λ e. refl) (λ e f. refl) (λ f b. refl)
     (λ f b. saying-number (readParameter c (replyParameter l)))
+
+-- so one with a number that is not 0 has nothing but its number
+flat-or-none : (o : Outcome) (m : Said) → flatAs o m .number ≡ outcomeNumber o → (flatAs o m .number ≡ 0 → ⊥)
+    → flatAs o m ≡ meaningless (flatAs o m .number)
+flat-or-none Means m e n = absurd (n e)
+flat-or-none Erra m e n = absurd (n e)
+flat-or-none NotALine m e n = refl
+flat-or-none OtherCommand m e n = refl
+flat-or-none NotAllowed m e n = refl
+
+pub refused-means-nothing : (m : MaybeCommand) (l : List ℕ) → (readBy m l .number ≡ 0 → ⊥)
+    → readBy m l ≡ meaningless (readBy m l .number)
+refused-means-nothing (CommandIs c) l n =
+    flat-or-none (readReply c l .outcome) (readReply c l .said) (read-number c l) n
+refused-means-nothing NoCommand l n = refl

@@ -14,6 +14,7 @@ use lib.ListN.{length, length-append}
 use lib.Dec.{eqb}
 use Rattle.text.specs.Words.{ascii}
 use Rattle.text.specs.Scans.{every}
+use Rattle.text.proofs.Choices.{if-no}
 use Rattle.digest.specs.Hex.{leadingDigest}
 use Rattle.digest.proofs.Laws.{leading-digest-length}
 use Rattle.lines.specs.Bytes.{_at_, isAlnum, notCr, noCr}
@@ -29,9 +30,8 @@ use Rattle.requests.proofs.BodiesNamed.{body-named}
 use Rattle.requests.specs.declared.Request.the-variants.{Asks}
 use Rattle.answers.specs.Said.{Said, saidBytes}
 use Rattle.answers.specs.Reading.{readParameter}
-use Rattle.answers.specs.CanSay.{CanSay, done as does, refuses, power, input, mutes, errors, lamps, inputs}
-use Rattle.answers.specs.CanSay.{name, maker, model, other, class-is, freeze, serial, version, input-name, input-2}
-use Rattle.answers.specs.CanSay.{inputs-2}
+use Rattle.answers.specs.CanSay.{CanSay}
+use Rattle.answers.proofs.Nothing.{says-something}
 use Rattle.answers.proofs.ReadsBack.{reads-back as parameter-reads-back}
 use Rattle.record.specs.Limits.{placesCount, shut, awaiting, opened}
 use Rattle.record.specs.Legal.{isLegal}
@@ -49,9 +49,9 @@ use Rattle.device.proofs.Cases.{takes, received-taken}
 use Rattle.device.proofs.Legal.{line-legal}
 use Rattle.stream.proofs.LegalLines.{between-lines}
 use Rattle.device.proofs.WholeLines.{open-line-taken, matching-line-taken, command-answered}
-use Rattle.controller.specs.Reading.{ReadAs, meaning, outcomeOf, saying, readReply}
+use Rattle.controller.specs.Reading.{ReadAs, meaning, saying, readReply}
 use Rattle.controller.specs.declared.reading.Outcome.{Outcome}
-use Rattle.controller.specs.declared.reading.Outcome.the-variants.{Means}
+use Rattle.controller.specs.declared.reading.Outcome.the-variants.{Means, NotAllowed}
 use Rattle.controller.proofs.Cases.{reply-said}
 
 -- 01's "between lines", no collected bytes and no overlong mark, is what the laws ask of the line
@@ -69,26 +69,8 @@ pub record TakenAndRead (d : Device) (p : ℕ) (c : Command) (bs : List ℕ) (r 
   pub said : readReply c (r .reply) ≡ meaning (meant (d .settings) (d .own) (Asks c))
 
 -- every answer that a command can have means something
-pub can-mean : {c : Command} {m : Said} → CanSay c m → outcomeOf m ≡ Means
-can-mean (does s) = refl
-can-mean (refuses n l h t) = refl
-can-mean (power p) = refl
-can-mean (input i e) = refl
-can-mean (mutes v a) = refl
-can-mean (errors ds h e) = refl
-can-mean (lamps ls l h e) = refl
-can-mean (inputs is l h e) = refl
-can-mean (name s e) = refl
-can-mean (maker s e) = refl
-can-mean (model s e) = refl
-can-mean (other s e) = refl
-can-mean (class-is k l h) = refl
-can-mean (freeze on) = refl
-can-mean (serial s e) = refl
-can-mean (version s e) = refl
-can-mean (input-name s b e) = refl
-can-mean (input-2 i e) = refl
-can-mean (inputs-2 is l h e) = refl
+pub can-mean : {c : Command} {m : Said} → CanSay c m → saying m .outcome ≡ Means
+can-mean can = if-no NotAllowed Means (says-something can)
 
 -- the reply to a command, by what it says
 module _ (c : Command) {m : Said} (can : CanSay c m) (short : length (saidBytes m) ≤ 128)

@@ -9,7 +9,7 @@ use mathlib.Core.List.{List}
 use mathlib.Core.Logic.{_↔_}
 use Rattle.text.specs.Words.{if_then_else_}
 use Rattle.text.specs.Scans.{sameBy, itself}
-use Rattle.text.proofs.Choices.{if-yes, if-no}
+use Rattle.text.proofs.Choices.{if-yes, if-no, if-all}
 use Rattle.text.proofs.Sameness.{same-is}
 use Rattle.lines.specs.Forms.{erraLine, isReplyForm, headBody, replyParameter}
 use Rattle.lines.specs.Commands.{bodyOf, commandClass}
@@ -17,12 +17,13 @@ use Rattle.lines.specs.declared.command.Command.{Command}
 use Rattle.lines.proofs.RepliesReadBack.{form-not-erra}
 use Rattle.requests.specs.Requests.{isBody}
 use Rattle.answers.specs.Said.{Said}
+use Rattle.answers.specs.Carried.{answerOf, isNothing}
 use Rattle.answers.specs.CanSay.{CanSay}
 use Rattle.answers.specs.Reading.{readParameter}
 use Rattle.answers.specs.Writings.{Says, Allowed, says, says-nothing}
 use Rattle.answers.proofs.ReadSound.{CanRead, no-answer, answer, read-sound}
 use Rattle.answers.proofs.ReadWritings.{written-is-read, not-allowed-says-nothing}
-use Rattle.controller.specs.Reading.{ReadAs, meaning, outcomeOf, saying, readReply, LineSays}
+use Rattle.controller.specs.Reading.{ReadAs, meaning, saying, readReply, LineSays}
 use Rattle.controller.specs.declared.reading.Outcome.{Outcome}
 use Rattle.controller.specs.declared.reading.Outcome.the-variants.{Means, Erra, NotALine, OtherCommand}
 use Rattle.controller.specs.declared.reading.Outcome.the-variants.{NotAllowed}
@@ -45,7 +46,7 @@ isErra OtherCommand = false
 isErra NotAllowed = false
 
 module _ (c : Command) where
-  said-sound : {p : List ℕ} {m : Said} → CanRead c p m → outcomeOf m ≡ Means → Says c m p
+  said-sound : {p : List ℕ} {m : Said} → CanRead c p m → saying m .outcome ≡ Means → Says c m p
   said-sound (answer said) e = said
   said-sound no-answer e = absurd (false≢true (ap isMeans e))
 
@@ -65,15 +66,14 @@ module _ (c : Command) where
       ∙ (λ i. record { outcome = can-mean (line .says .can) i; said = m })
 
   -- the ERRA line, and no other
-  no-erra : {p : List ℕ} {m : Said} → CanRead c p m → isErra (outcomeOf m) ≡ false
-  no-erra (answer said) = ap isErra (can-mean (said .can))
-  no-erra no-answer = refl
+  no-erra : (m : Said) → isErra (saying m .outcome) ≡ false
+  no-erra m = if-all (λ (o : Outcome). isErra o ≡ false) (isNothing (answerOf m .kind)) refl refl
 
   erra-was-written : (l : List ℕ) → readReply c l .outcome ≡ Erra → l ≡ erraLine
   erra-was-written l =
       reply-by c l (λ r. r .outcome ≡ Erra → l ≡ erraLine) (λ e q. same-is l erraLine e)
       (λ e f q. absurd (false≢true (ap isErra q))) (λ f b q. absurd (false≢true (ap isErra q)))
-      (λ f b q. absurd (false≢true (sym (no-erra (read-sound c _)) ∙ ap isErra q)))
+      (λ f b q. absurd (false≢true (sym (no-erra (readParameter c (replyParameter l))) ∙ ap isErra q)))
 
   pub erra-exactly : (l : List ℕ) → (readReply c l .outcome ≡ Erra) ↔ (l ≡ erraLine)
   erra-exactly l = (
@@ -91,9 +91,11 @@ module _ (c : Command) where
       else Means
 
   allowed-outcome : (p : List ℕ) {t : Bool} → Allowed c p t
-      → outcomeOf (readParameter c p) ≡ (if not t then NotAllowed else Means)
-  allowed-outcome p (says m said) = ap outcomeOf (written-is-read c p m said) ∙ can-mean (said .can)
-  allowed-outcome p (says-nothing none) = ap outcomeOf (not-allowed-says-nothing c p (says-nothing none))
+      → saying (readParameter c p) .outcome ≡ (if not t then NotAllowed else Means)
+  allowed-outcome p (says m said) =
+      ap (λ (m : Said). saying m .outcome) (written-is-read c p m said) ∙ can-mean (said .can)
+  allowed-outcome p (says-nothing none) =
+      ap (λ (m : Said). saying m .outcome) (not-allowed-says-nothing c p (says-nothing none))
 
   pub outcome-is-first : (l : List ℕ) {t : Bool} → Allowed c (replyParameter l) t
       → readReply c l .outcome ≡ firstOutcome l t

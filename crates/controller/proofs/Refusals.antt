@@ -8,13 +8,13 @@ use mathlib.Core.List.{List, []}
 use lib.Dec.{ltb}
 use borrow.Author.Tests.{lt-ltb, le-ltb}
 use Rattle.text.specs.Words.{if_then_else_}
-use Rattle.text.proofs.Choices.{if-yes, if-no}
+use Rattle.text.proofs.Choices.{if-yes, if-no, by-not-not}
 use Rattle.lines.specs.Forms.{erraLine}
 use Rattle.lines.specs.declared.command.Command.{Command}
-use Rattle.answers.specs.Said.{Said, okay, refused, powerIs, chosenIs, mutesAre, errorsAre, lampsAre, inputsAre}
-use Rattle.answers.specs.Said.{textIs, classIs, freezeIs, nothing}
+use Rattle.answers.specs.Said.{Said, nothing}
 use Rattle.answers.specs.Carried.{plainOf, answerOf}
 use Rattle.answers.specs.declared.answer.Kind.the-variants.{Nothing}
+use Rattle.answers.proofs.Nothing.{is-nothing}
 use Rattle.controller.specs.Writing.{commandRoom, isWritable, writtenCommand}
 use Rattle.controller.specs.Reading.{outcomeNumber, without, saying, readReply, readingOf}
 use Rattle.controller.specs.declared.reading.Outcome.the-variants.{Means, Erra}
@@ -38,23 +38,12 @@ module _ (c : Command) (secured : Bool) (random : ℕ) (password : List ℕ) (ro
 
 module _ (c : Command) where
   unsaid : (m : Said) → (saying m .outcome ≡ Means → ⊥) → m ≡ nothing
-  unsaid okay n = absurd (n refl)
-  unsaid (refused k) n = absurd (n refl)
-  unsaid (powerIs p) n = absurd (n refl)
-  unsaid (chosenIs i) n = absurd (n refl)
-  unsaid (mutesAre video audio) n = absurd (n refl)
-  unsaid (errorsAre ds) n = absurd (n refl)
-  unsaid (lampsAre ls) n = absurd (n refl)
-  unsaid (inputsAre is) n = absurd (n refl)
-  unsaid (textIs s) n = absurd (n refl)
-  unsaid (classIs k) n = absurd (n refl)
-  unsaid (freezeIs on) n = absurd (n refl)
-  unsaid nothing n = refl
+  unsaid m n = is-nothing m (by-not-not _ (λ e. n (if-no _ _ e)))
 
   pub refusal-means-nothing : (l : List ℕ) → (readReply c l .outcome ≡ Means → ⊥) → readReply c l .said ≡ nothing
   refusal-means-nothing l =
       reply-by c l (λ r. (r .outcome ≡ Means → ⊥) → r .said ≡ nothing) (λ e n. refl) (λ e f n. refl) (λ f b n. refl)
-      (λ f b n. unsaid _ n)
+      (λ f b. unsaid _)
 
   -- by the number, and as the code returns it: the kind Nothing, zeros beside it
   pub number-means-nothing : (l : List ℕ) → (outcomeNumber (readReply c l .outcome) ≡ 0 → ⊥)

@@ -2,6 +2,7 @@
 --   ReadAs              what the reader gives: the outcome, and what is said (nothing unless the outcome is Means)
 --   outcomeNumber o     the number of an outcome in the table of 01
 --   meaning m           the reading that means m
+--   saying m            the reading of a parameter that says m: it is not allowed where it says nothing
 --   readReply c l       what the line l, with its CR, says to the command c: the ERRA line, then the form of a reply of
 --                       the command's class (02, L14), then the body, then the parameter
 --   readingOf r         this as the code returns it
@@ -18,12 +19,9 @@ use Rattle.lines.specs.Commands.{bodyOf, commandClass}
 use Rattle.lines.specs.declared.command.Command.{Command}
 use Rattle.requests.specs.Requests.{isBody}
 use Rattle.answers.specs.Said.{Said, nothing}
-use Rattle.answers.specs.Carried.{answerOf}
+use Rattle.answers.specs.Carried.{answerOf, isNothing}
 use Rattle.answers.specs.Reading.{readParameter}
 use Rattle.answers.specs.Writings.{Says}
-use Rattle.answers.specs.declared.answer.Kind.{Kind}
-use Rattle.answers.specs.declared.answer.Kind.the-variants.{Ok, Refused, Powered, Chosen, Muted, Errors, Lamps, Inputs}
-use Rattle.answers.specs.declared.answer.Kind.the-variants.{Text, Class, Frozen, Nothing}
 use Rattle.controller.specs.declared.reading.Outcome.{Outcome}
 use Rattle.controller.specs.declared.reading.Outcome.the-variants.{Means, Erra, NotALine, OtherCommand}
 use Rattle.controller.specs.declared.reading.Outcome.the-variants.{NotAllowed}
@@ -46,26 +44,8 @@ meaning m = record { outcome = Means; said = m }
 abbrev pub without : Outcome → ReadAs
 without o = record { outcome = o; said = nothing }
 
--- a parameter that says nothing is not allowed
-abbrev pub kindOutcome : Kind → Outcome
-kindOutcome Ok = Means
-kindOutcome (Refused n) = Means
-kindOutcome (Powered p) = Means
-kindOutcome (Chosen i) = Means
-kindOutcome (Muted video audio) = Means
-kindOutcome Errors = Means
-kindOutcome (Lamps n) = Means
-kindOutcome (Inputs n) = Means
-kindOutcome (Text n) = Means
-kindOutcome (Class k) = Means
-kindOutcome (Frozen on) = Means
-kindOutcome Nothing = NotAllowed
-
-abbrev pub outcomeOf : Said → Outcome
-outcomeOf m = kindOutcome (answerOf m .kind)
-
 abbrev pub saying : Said → ReadAs
-saying m = record { outcome = outcomeOf m; said = m }
+saying m = record { outcome = if isNothing (answerOf m .kind) then NotAllowed else Means; said = m }
 
 unfoldable pub readReply : Command → List ℕ → ReadAs
 readReply c l =

@@ -7,7 +7,7 @@ use lines::command;
 use lines::command::Command;
 use lines::form;
 ghost use mathlib.Core.Path.{_≡_};
-ghost use Rattle.controller.specs.Reading.{readReply, readingOf, kindOutcome, without};
+ghost use Rattle.controller.specs.Reading.{readReply, readingOf, without};
 
 pub enum Outcome {
     Means,
@@ -21,25 +21,6 @@ pub enum Outcome {
 pub struct Reading {
     pub outcome: Outcome,
     pub answer: Answer,
-}
-
-fn outcome_of(k: Kind) -> Outcome
-    ensures { λ r. ⌜ r ≡ kindOutcome k ⌝ }
-{
-    match k {
-        Kind::Ok => Outcome::Means,
-        Kind::Refused(_) => Outcome::Means,
-        Kind::Powered(_) => Outcome::Means,
-        Kind::Chosen(_) => Outcome::Means,
-        Kind::Muted(_, _) => Outcome::Means,
-        Kind::Errors => Outcome::Means,
-        Kind::Lamps(_) => Outcome::Means,
-        Kind::Inputs(_) => Outcome::Means,
-        Kind::Text(_) => Outcome::Means,
-        Kind::Class(_) => Outcome::Means,
-        Kind::Frozen(_) => Outcome::Means,
-        Kind::Nothing => Outcome::NotAllowed,
-    }
 }
 
 fn meaningless(o: Outcome) -> Reading
@@ -75,8 +56,10 @@ pub fn read_reply(c: Command, line: &[u8]) -> Reading
     let last = line.len() - 1;
     let answer = read::read_parameter(c, &line[7..last]);
     let kind = answer.kind;
-    Reading {
-        outcome: outcome_of(kind),
-        answer,
-    }
+    let outcome = if answer::is_nothing(kind) {
+        Outcome::NotAllowed
+    } else {
+        Outcome::Means
+    };
+    Reading { outcome, answer }
 }

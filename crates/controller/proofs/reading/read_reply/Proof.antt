@@ -2,19 +2,21 @@
 -- Assumes nothing.
 use Prim.Native.Nat.{ℕ, _-_, _≤_}
 use mathlib.Core.Path.{_≡_, sym, ap, _∙_}
-use mathlib.Core.Bool.{true, false}
+use mathlib.Core.Bool.{Bool, true, false}
 use mathlib.Core.List.{List}
 use native.Mathlib.Omega.{arith}
 use lib.ListN.{length, take, drop}
 use borrow.Author.Tests.{not-true, not-false}
 use borrow.Author.Needs.{needs}
+use Rattle.text.specs.Words.{if_then_else_}
 use Rattle.text.specs.Scans.{sameBy, itself}
 use Rattle.lines.specs.Forms.{erraLine, isReplyForm, headBody}
 use Rattle.lines.specs.Commands.{bodyOf, commandClass}
-use Rattle.answers.specs.Carried.{answerOf}
+use Rattle.answers.specs.Carried.{answerOf, isNothing}
 use Rattle.answers.specs.Reading.{readParameter}
 use Rattle.answers.specs.declared.answer.Answer.{Answer}
-use Rattle.controller.specs.Reading.{readingOf, kindOutcome}
+use Rattle.controller.specs.Reading.{readReply, readingOf}
+use Rattle.controller.specs.declared.reading.Outcome.the-variants.{Means, NotAllowed}
 use Rattle.controller.proofs.Cases.{reply-erra, reply-unformed, reply-other, reply-said}
 use Rattle.lines.proofs.RepliesReadBack.{reply-long}
 use Rattle.requests.specs.Requests.{isBody}
@@ -90,26 +92,34 @@ module _ (c : tie.Else3) where
       let read = body .before .before .before in
       read .before .before
 
-said : tie.Need-returns-4
-said c =
-    let parameter = c .before in
-    let third = parameter .before .before in
-    let tested = third .before in
-    let body = tested .before in
-    let formed = named third in
-    let args = start (first formed) .args in
-    let l = args .line .now in
-    let has-body : isBody (commandClass (args .c)) (headBody l) (bodyOf (args .c)) ≡ true
-    = sym (tested .is-body .ensures ∙ (λ i. isBody (class formed i) (headBody l) (body .body-of .ensures i)))
-    ∙ not-false _ (third .if3 .left) in
-    let enough = long formed in
-    let cut : length l - 1 - 7 ≡ length l - 8 = omega arith in
-    let m = readParameter (args .c) (take (length l - 8) (drop 7 l)) in
-    let answers : parameter .read-parameter .result ≡ answerOf m = parameter .read-parameter .ensures
-    ∙ ap (λ (n : ℕ). answerOf (readParameter (args .c) (take n (drop 7 l)))) cut in
-    let outcome = c .outcome-of .ensures ∙ ap (λ (a : Answer). kindOutcome (a .kind)) answers in
-    (λ i. record { outcome = outcome i; answer = answers i })
-    ∙ ap readingOf (sym (reply-said (args .c) l (not-erra (first formed)) (has-form formed) has-body))
+-- and its parameter is read: it says nothing, or something
+module _ (c : tie.After-is-nothing) where
+  abbrev asked : tie.Start
+  asked = let third = c .before .before .before in start (first (named third))
+
+  said : {t : Bool} → c .is-nothing .result ≡ t
+      → record { outcome = if t then NotAllowed else Means; answer = c .before .read-parameter .result }
+      ≡ readingOf (readReply (asked .args .c) (asked .args .line .now))
+  said {t} e =
+      let parameter = c .before in
+      let third = parameter .before .before in
+      let tested = third .before in
+      let body = tested .before in
+      let formed = named third in
+      let args = asked .args in
+      let l = args .line .now in
+      let has-body : isBody (commandClass (args .c)) (headBody l) (bodyOf (args .c)) ≡ true
+      = sym (tested .is-body .ensures ∙ (λ i. isBody (class formed i) (headBody l) (body .body-of .ensures i)))
+      ∙ not-false _ (third .if3 .left) in
+      let enough = long formed in
+      let cut : length l - 1 - 7 ≡ length l - 8 = omega arith in
+      let m = readParameter (args .c) (take (length l - 8) (drop 7 l)) in
+      let answers : parameter .read-parameter .result ≡ answerOf m = parameter .read-parameter .ensures
+      ∙ ap (λ (n : ℕ). answerOf (readParameter (args .c) (take n (drop 7 l)))) cut in
+      let none : t ≡ isNothing (answerOf m .kind)
+      = sym e ∙ c .is-nothing .ensures ∙ ap (λ (a : Answer). isNothing (a .kind)) answers in
+      (λ i. record { outcome = if none i then NotAllowed else Means; answer = answers i })
+      ∙ ap readingOf (sym (reply-said (args .c) l (not-erra (first formed)) (has-form formed) has-body))
 
 pub read-reply-spec : {M : Type 1} → statement M
 read-reply-spec =
@@ -125,4 +135,5 @@ read-reply-spec =
     (λ c. let enough = long (named c) in omega arith)
     (λ c. let enough = long (named c) in omega arith)
     (λ c. let enough = long (named c) in omega arith)
-    (λ c. search needs) (λ c κs. search needs) (λ c κs. search needs) said)
+    (λ c. search needs) (λ c κs. search needs) (λ c κs. search needs)
+    (λ c. said (c .before) (c .if4 .taken)) (λ c. said (c .before) (c .if4 .left)))
