@@ -51,7 +51,8 @@ use Rattle.meaning.proofs.Cases.{Passes, meant-by, err1}
 use Rattle.device.specs.Answering.{lineAsks, lineAnswer}
 use Rattle.device.specs.Receiving.{lineEnded, takenIn}
 use Rattle.device.specs.Calls.{received}
-use Rattle.device.proofs.Cases.{answered-by, received-by, ended-by, taken-by}
+use Rattle.device.proofs.Cases.{received-by}
+use Rattle.device.proofs.LineCases.{answered-by, ended-by, taken-by}
 use Rattle.demands.specs.ClassOne.{longestBefore}
 
 abbrev parameterBefore : ℕ

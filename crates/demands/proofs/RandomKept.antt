@@ -30,8 +30,9 @@ use Rattle.clock.proofs.ConnectionsAge.{connection-then}
 use Rattle.clock.proofs.InOneGo.{place-passes}
 use Rattle.device.specs.Receiving.{lineEnded, keepingLine, takenIn}
 use Rattle.device.specs.Calls.{Result}
-use Rattle.device.proofs.Cases.{takes, received-by, opened-by, closed-by, ended-by, keeping-none, keeping-line}
-use Rattle.device.proofs.Cases.{taken-by}
+use Rattle.device.proofs.Cases.{takes, received-by, opened-by, closed-by}
+use Rattle.device.proofs.LineCases.{ended-by, keeping-none, keeping-line}
+use Rattle.device.proofs.LineCases.{taken-by}
 use Rattle.record.proofs.LowestShut.{lowest-is-shut}
 use Rattle.demands.specs.Board.{ours}
 use Rattle.demands.specs.Calls.{Call, opens, closes, receives, passes, marks, reports, enables, after}

@@ -35,7 +35,7 @@ use Rattle.stream.proofs.GatheredOn.{plain-gathered}
 use Rattle.stream.proofs.CollectedOn.{collected-on, collected-whole}
 use Rattle.stream.proofs.LinesCollected.{empty-is-none, whole-gathered}
 use Rattle.device.specs.Receiving.{Ended, Taken, isMatch, noReply, lineEnded, keepingLine, takenIn, passwordOf}
-use Rattle.device.proofs.Cases.{keeping-line, taken-line, taken-part}
+use Rattle.device.proofs.LineCases.{keeping-line, taken-line, taken-part}
 use Rattle.device.proofs.Outsiders.{mismatch-refused, failed-ignores}
 use Rattle.device.proofs.FirstLines.{unled-collected}
 use Rattle.demands.specs.Outsider.{Session, isMatched, RefusalAtMost, silence, refusal}

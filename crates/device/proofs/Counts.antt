@@ -25,7 +25,8 @@ use Rattle.stream.proofs.GatheredOn.{gathered-within, gathered-ended, plain-gat
 use Rattle.stream.proofs.LinesCollected.{whole-gathered}
 use Rattle.device.specs.Receiving.{Taken, noReply, keepingLine, takenOf, takenIn}
 use Rattle.device.specs.Calls.{received}
-use Rattle.device.proofs.Cases.{received-by, taken-line, taken-part, taken-by}
+use Rattle.device.proofs.Cases.{received-by}
+use Rattle.device.proofs.LineCases.{taken-line, taken-part, taken-by}
 
 module _ (s : Settings) (o : Own) (c : Connection) where
   abbrev most : ℕ

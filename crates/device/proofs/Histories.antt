@@ -39,7 +39,8 @@ use Rattle.meaning.specs.Meaning.{meant, done}
 use Rattle.meaning.proofs.Done.{Keeps}
 use Rattle.device.specs.Receiving.{Taken, digestLong, lineEnded, keepingLine, takenIn}
 use Rattle.device.specs.Calls.{Result, received, greeted, openedBy, closedBy}
-use Rattle.device.proofs.Cases.{received-by, opened-by, closed-by, ended-by, taken-by}
+use Rattle.device.proofs.Cases.{received-by, opened-by, closed-by}
+use Rattle.device.proofs.LineCases.{ended-by, taken-by}
 use Rattle.device.proofs.Legal.{collecting, line-legal}
 use Rattle.device.proofs.Untouched.{taken-keeps, receiving-keeps-others}
 use Rattle.stream.proofs.LinesSpelt.{empty-held}

@@ -27,7 +27,8 @@ use Rattle.meaning.proofs.Done.{done-legal}
 use Rattle.device.specs.Answering.{Answered, lineAsks, lineAnswer}
 use Rattle.device.specs.Receiving.{turned, lineEnded, keepingLine, takenIn}
 use Rattle.device.specs.Calls.{Result, isSecured, greeted, received, openedBy, closedBy}
-use Rattle.device.proofs.Cases.{received-by, opened-by, closed-by, ended-by, taken-by}
+use Rattle.device.proofs.Cases.{received-by, opened-by, closed-by}
+use Rattle.device.proofs.LineCases.{ended-by, taken-by}
 
 -- a phase is shut, failed or collects
 pub collecting : (p : ℕ) → p ≤ failed → (p ≡ shut → ⊥) → (p ≡ failed → ⊥) → isCollecting p ≡ true

@@ -1,4 +1,5 @@
 pub mod Cases
+pub mod LineCases
 pub mod EnoughRoom
 pub mod Refusals
 pub mod Numbers

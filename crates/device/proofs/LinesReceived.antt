@@ -33,7 +33,8 @@ use Rattle.stream.proofs.LinesCollected.{empty-is-none, overlong-gathered}
 use Rattle.device.specs.Answering.{Answered, lineAnswer, swallowed}
 use Rattle.device.specs.Receiving.{Ended, Taken, spoken, digestLong, passwordOf, lineEnded, takenIn}
 use Rattle.device.specs.Calls.{Result, replyRoom, acceptedTaken, received}
-use Rattle.device.proofs.Cases.{received-taken, ended-overlong, taken-line}
+use Rattle.device.proofs.Cases.{received-taken}
+use Rattle.device.proofs.LineCases.{ended-overlong, taken-line}
 use Rattle.device.proofs.Legal.{line-legal}
 use Rattle.stream.proofs.LegalLines.{between-lines}
 use Rattle.device.proofs.WholeLines.{open-line-taken, matching-line-taken}

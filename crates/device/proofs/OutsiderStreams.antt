@@ -26,7 +26,7 @@ use Rattle.stream.specs.Collecting.{collected, gathered}
 use Rattle.stream.specs.Machine.{Out, unanswered, replyThen, runOver, handedParts, uncut}
 use Rattle.device.specs.Receiving.{isMatch, keepingLine}
 use Rattle.device.specs.Calls.{replyRoom}
-use Rattle.device.proofs.Cases.{keeping-none, keeping-line}
+use Rattle.device.proofs.LineCases.{keeping-none, keeping-line}
 use Rattle.device.proofs.Outsiders.{Unmatched, mismatch-refused, failed-ignores-line}
 use Rattle.device.proofs.ReceivingAsMachine.{State, stateOf, leaves, collects, ends}
 use Rattle.device.proofs.SameCuts.{deviceAt, partsAt, receives, received-as-run}

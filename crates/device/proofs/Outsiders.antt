@@ -19,7 +19,8 @@ use Rattle.record.proofs.ConnectionsTold.{placed-itself}
 use Rattle.stream.specs.Collecting.{emptyLine, gathered}
 use Rattle.device.specs.Receiving.{Ended, isMatch, noReply, lineEnded, takenIn}
 use Rattle.device.specs.Calls.{received}
-use Rattle.device.proofs.Cases.{received-by, ended-other, ended-erra, keeping-none, taken-by}
+use Rattle.device.proofs.Cases.{received-by}
+use Rattle.device.proofs.LineCases.{ended-other, ended-erra, keeping-none, taken-by}
 
 pub record Outside (o : Own) (c : Connection) (e : Ended) : Type 0 where
   pub reply : e .reply ≡ erraLine

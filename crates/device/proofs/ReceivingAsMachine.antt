@@ -24,7 +24,7 @@ use Rattle.stream.specs.Collecting.{collected, gathered}
 use Rattle.stream.specs.Machine.{Out, Took, unanswered, tookBytes, oneCall}
 use Rattle.stream.proofs.OneCallGathers.{finished, call-finishes}
 use Rattle.device.specs.Receiving.{Ended, Taken, isMatch, lineEnded, keepingLine, takenIn}
-use Rattle.device.proofs.Cases.{ended-other, taken-by, keeping-none, keeping-line}
+use Rattle.device.proofs.LineCases.{ended-other, taken-by, keeping-none, keeping-line}
 
 pub record State : Type 0 where
   pub own : Own

@@ -30,7 +30,8 @@ use Rattle.stream.proofs.LegalLines.{collected-legal}
 use Rattle.stream.proofs.SameHoweverCut.{outThrough, tookThrough, calls-run}
 use Rattle.device.specs.Receiving.{lineEnded, keepingLine, takenIn}
 use Rattle.device.specs.Calls.{Result, replyRoom, acceptedTaken, received}
-use Rattle.device.proofs.Cases.{received-taken, ended-by}
+use Rattle.device.proofs.Cases.{received-taken}
+use Rattle.device.proofs.LineCases.{ended-by}
 use Rattle.device.proofs.Legal.{line-legal, keeping-legal, ended-own-legal, ended-connection-legal}
 use Rattle.device.proofs.ReceivingAsMachine.{State, stateOf, collects, ends, taking-is-call}
 

@@ -26,7 +26,8 @@ use Rattle.meaning.proofs.CanBeSaid.{meant-fits}
 use Rattle.device.specs.Answering.{Answered, lineAsks, lineAnswer}
 use Rattle.device.specs.Receiving.{lineEnded, takenIn}
 use Rattle.device.specs.Calls.{longestReply, isSecured, greeting, received, openedBy}
-use Rattle.device.proofs.Cases.{received-by, opened-by, ended-by, taken-by}
+use Rattle.device.proofs.Cases.{received-by, opened-by}
+use Rattle.device.proofs.LineCases.{ended-by, taken-by}
 
 abbrev pub longestGreeting : ℕ
 longestGreeting = 18

@@ -17,7 +17,8 @@ use Rattle.meaning.proofs.Done.{Keeps, done-keeps}
 use Rattle.device.specs.Answering.{Answered, lineAsks, lineAnswer}
 use Rattle.device.specs.Receiving.{lineEnded, takenIn}
 use Rattle.device.specs.Calls.{received, openedBy, placeTaken, closedBy}
-use Rattle.device.proofs.Cases.{received-by, opened-by, opened-placed-by, closed-by, ended-by, taken-by}
+use Rattle.device.proofs.Cases.{received-by, opened-by, opened-placed-by, closed-by}
+use Rattle.device.proofs.LineCases.{ended-by, taken-by}
 
 itself-kept : (o : Own) → Keeps o o
 itself-kept o = record { lamps = refl; marks = refl; fault = refl; errors = refl }

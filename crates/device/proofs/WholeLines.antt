@@ -46,7 +46,7 @@ use Rattle.meaning.proofs.ClassKnown.{class-low, class-high}
 use Rattle.device.specs.Answering.{lineAsks, replied, swallowed, lineAnswer}
 use Rattle.device.specs.Receiving.{Ended, Taken, spoken, isMatch, digestLong, passwordOf}
 use Rattle.device.specs.Receiving.{lineEnded, takenOf, takenIn}
-use Rattle.device.proofs.Cases.{ended-open, ended-match}
+use Rattle.device.proofs.LineCases.{ended-open, ended-match}
 
 map-itself : (xs : List ℕ) → map itself xs ≡ xs
 map-itself [] = refl

@@ -8,6 +8,7 @@ pub mod Cases
 pub mod Results
 pub mod Sections
 pub mod Joined
+pub mod TextsCopied
 pub mod Rest
 pub mod RestAgain
 pub mod Versions

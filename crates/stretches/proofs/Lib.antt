@@ -5,6 +5,7 @@ pub mod Told
 pub mod ToldSpelt
 pub mod Joined
 pub mod EventsSeen
+pub mod EventTells
 pub mod LogTells
 pub mod BurntAdds
 pub mod WholeLogTold

@@ -10,8 +10,8 @@ use lib.Seq.{length-take-le}
 use borrow.Author.Needs.{needs}
 use Rattle.lines.specs.Bytes.{_at_}
 use Rattle.stored.specs.Loading.{textsIn, joinedTexts, joinedMost}
-use Rattle.stored.proofs.Joined.{BytesRead, no-bytes-read, one-bytes-read, all-bytes-read, bytes-read-room}
-use Rattle.stored.proofs.Joined.{next-ends}
+use Rattle.stored.proofs.TextsCopied.{BytesRead, no-bytes-read, one-bytes-read, all-bytes-read, bytes-read-room}
+use Rattle.stored.proofs.TextsCopied.{next-ends}
 use Rattle.stored.proofs.reading.bytes_at.Statement.{statement}
 use Rattle.stored.proofs.reading.bytes_at.Tie as tie
 

@@ -7,7 +7,7 @@ use lib.ListN.{length}
 use borrow.Author.Needs.{needs}
 use Rattle.lines.specs.Bytes.{_at_}
 use Rattle.record.specs.Limits.{listedMost}
-use Rattle.stored.proofs.Joined.{LengthsRead, no-length-read, one-length-read, all-lengths-read, next-ends}
+use Rattle.stored.proofs.TextsCopied.{LengthsRead, no-length-read, one-length-read, all-lengths-read, next-ends}
 use Rattle.stored.proofs.reading.lengths_at.Statement.{statement}
 use Rattle.stored.proofs.reading.lengths_at.Tie as tie
 

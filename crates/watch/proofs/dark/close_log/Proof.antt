@@ -1,4 +1,4 @@
--- `watch::watching::close_log` meets its contract: by what was told, and by whether the lamps burn.
+-- `watch::dark::close_log` meets its contract: by what was told, and by whether the lamps burn.
 -- Assumes nothing.
 use mathlib.Core.Path.{_≡_, sym, ap, _∙_}
 use mathlib.Core.Bool.{Bool}
@@ -9,8 +9,8 @@ use Rattle.text.proofs.Choices.{if-yes, if-no}
 use Rattle.watch.specs.declared.watching.Seen.{Seen}
 use Rattle.watch.specs.Watching.{closedAtEnd}
 use Rattle.watch.specs.WatchCalls.{watchingIn, sightOf}
-use Rattle.watch.proofs.watching.close_log.Statement.{statement}
-use Rattle.watch.proofs.watching.close_log.Tie as tie
+use Rattle.watch.proofs.dark.close_log.Statement.{statement}
+use Rattle.watch.proofs.dark.close_log.Tie as tie
 
 abbrev closed : tie.Start → Bool → Seen
 closed start told =

@@ -1,4 +1,4 @@
--- `watch::watching::is_sound` meets its contract.
+-- `watch::refusing::is_sound` meets its contract.
 -- Assumes nothing.
 use Prim.Native.Nat.{ℕ}
 use mathlib.Core.Path.{_≡_, ap, _∙_}
@@ -8,8 +8,8 @@ use borrow.Author.Needs.{needs}
 use Rattle.text.specs.Words.{if_then_else_}
 use Rattle.text.specs.Scans.{every}
 use Rattle.watch.specs.WatchCalls.{isSound}
-use Rattle.watch.proofs.watching.is_sound.Statement.{statement}
-use Rattle.watch.proofs.watching.is_sound.Tie as tie
+use Rattle.watch.proofs.refusing.is_sound.Statement.{statement}
+use Rattle.watch.proofs.refusing.is_sound.Tie as tie
 
 returns : tie.Need-returns
 unfolding isSound

@@ -1,11 +1,11 @@
--- `watch::watching::go_dark` meets its contract: what the lamps burnt is added up, and the rest is as it was.
+-- `watch::dark::go_dark` meets its contract: what the lamps burnt is added up, and the rest is as it was.
 -- Assumes nothing.
 use mathlib.Core.Path.{_≡_}
 use lib.Dec.{ltb}
 use borrow.Author.Needs.{needs}
 use Rattle.watch.specs.declared.watching.Seen.{Seen}
-use Rattle.watch.proofs.watching.go_dark.Statement.{statement}
-use Rattle.watch.proofs.watching.go_dark.Tie as tie
+use Rattle.watch.proofs.dark.go_dark.Statement.{statement}
+use Rattle.watch.proofs.dark.go_dark.Tie as tie
 
 returns : tie.Need-returns
 returns c =

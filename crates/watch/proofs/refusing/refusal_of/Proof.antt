@@ -1,12 +1,12 @@
--- `watch::watching::refusal_of` meets its contract: the tests stand in the order of the definition.
+-- `watch::refusing::refusal_of` meets its contract: the tests stand in the order of the definition.
 -- Assumes nothing.
 use mathlib.Core.Path.{sym}
 use borrow.Author.Needs.{needs}
 use borrow.Author.Tests.{le-leb, lt-leb}
 use Rattle.watch.proofs.WatchRefusals.{gives-1, gives-2, gives-held, gives-unsound, gives-late, gives-none}
 use Rattle.watch.proofs.WatchRefusals.{passes-over, passes-not}
-use Rattle.watch.proofs.watching.refusal_of.Statement.{statement}
-use Rattle.watch.proofs.watching.refusal_of.Tie as tie
+use Rattle.watch.proofs.refusing.refusal_of.Statement.{statement}
+use Rattle.watch.proofs.refusing.refusal_of.Tie as tie
 
 long-line : tie.Need-returns-3
 long-line c =

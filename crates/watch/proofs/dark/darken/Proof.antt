@@ -1,10 +1,10 @@
--- `watch::watching::darken` meets its contract: only what the lamps burnt is another.
+-- `watch::dark::darken` meets its contract: only what the lamps burnt is another.
 -- Assumes nothing.
 use mathlib.Core.Path.{_≡_}
 use borrow.Author.Needs.{needs}
 use Rattle.watch.specs.declared.watching.Watch.{Watch}
-use Rattle.watch.proofs.watching.darken.Statement.{statement}
-use Rattle.watch.proofs.watching.darken.Tie as tie
+use Rattle.watch.proofs.dark.darken.Statement.{statement}
+use Rattle.watch.proofs.dark.darken.Tie as tie
 
 gained-fits : tie.Need-gained-requires
 gained-fits c κs = let start = let known = c .before .before in known .before .before in start .pre .fits
