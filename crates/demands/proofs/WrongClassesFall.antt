@@ -18,7 +18,6 @@ use Rattle.record.specs.Updates.{withOwn, withPower, withVolumes}
 use Rattle.record.specs.declared.types.Device.{Device}
 use Rattle.controller.specs.Writing.{commandRoom}
 use Rattle.controller.specs.Reading.{ReadAs, LineSays, outcomeNumber}
-use Rattle.demands.specs.Board.{ours}
 use Rattle.demands.specs.Demand2.{Demand2, BetweenLines}
 use Rattle.demands.specs.Settled.{class2Sample, memory, withCr}
 use Rattle.demands.specs.WrongClasses.{answersClass2, refusesLetters, volumeWraps}

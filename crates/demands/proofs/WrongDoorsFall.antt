@@ -6,7 +6,7 @@ use mathlib.Core.Path.{_≡_, refl, ap}
 use mathlib.Core.Bool.{true, false≢true}
 use mathlib.Core.List.{List, [], _∷_}
 use native.Mathlib.Omega.{arith}
-use lib.ListN.{length, getD}
+use lib.ListN.{getD}
 use Rattle.text.specs.Words.{ascii}
 use Rattle.record.specs.Places.{connectionAt}
 use Rattle.record.specs.declared.types.Device.{Device}

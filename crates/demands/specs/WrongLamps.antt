@@ -1,10 +1,9 @@
 -- Wrong boards against demand 3 with marks (02, L8); proofs/WrongLampsFall.antt has where each falls.
 --   twoLamps      01's sample set-up with two lamps
 -- Assumes nothing.
-use Prim.Native.Nat.{ℕ}
-use mathlib.Core.Bool.{Bool, true, false, _&&_}
+use mathlib.Core.Bool.{Bool, true, _&&_}
 use mathlib.Core.List.{List, [], _∷_}
-use lib.ListN.{length, replicate, set}
+use lib.ListN.{length, set}
 use lib.Dec.{eqb}
 use Rattle.text.specs.Words.{ascii, if_then_else_}
 use Rattle.record.specs.Limits.{off, warming}

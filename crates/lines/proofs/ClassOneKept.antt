@@ -19,7 +19,6 @@ use Rattle.lines.specs.Inputs.{isInputText, sourceNamed, inputNamed, rea
 use Rattle.lines.specs.Forms.{isCommandForm, commandMost}
 use Rattle.lines.specs.ClassOne.{isCommandForm1, isInputText1, sourceNamed1, inputNamed1, readInput1}
 use Rattle.lines.specs.declared.input.Source.the-variants.{Rgb, Video, Digital, Storage, Network, Internal}
-use Rattle.lines.specs.declared.input.Input.{Input}
 use Rattle.lines.specs.declared.input.MaybeInput.{MaybeInput}
 use Rattle.lines.specs.declared.input.MaybeInput.the-variants.{InputIs, NoInput}
 use Rattle.lines.proofs.Characters.{in-range}

@@ -5,10 +5,10 @@ use Prim.Native.Nat.{ℕ, _+_, _*_, _/_, _<_, _≤_}
 use mathlib.Core.Path.{_≡_, refl, sym, ap, _∙_}
 use mathlib.Core.Bool.{Bool, true, false, _||_, false≢true, or-true}
 use native.Mathlib.Omega.{arith}
-use lib.ListN.{length, getD, take, length-map}
+use lib.ListN.{length, getD, take}
 use borrow.Author.Tests.{leb-true, le-leb, eqb-false, not-false}
 use Rattle.text.specs.Scans.{every}
-use Rattle.text.proofs.Scanning.{every-map, every-by-place}
+use Rattle.text.proofs.Scanning.{every-by-place}
 use Rattle.lines.specs.Bytes.{noCr}
 use Rattle.lines.specs.Inputs.{isInput}
 use Rattle.lines.specs.Bodies.{hasParameters}

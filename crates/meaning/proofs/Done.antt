@@ -19,7 +19,7 @@ use Rattle.requests.specs.declared.Request.{Request}
 use Rattle.requests.specs.declared.Request.the-variants.{Asks, Unlisted, UnknownBody}
 use Rattle.answers.specs.Said.{okay}
 use Rattle.record.specs.Limits.{off, on, cooling, warming, volumeMost}
-use Rattle.record.specs.Updates.{withPower, withChosen, withMutes, withFreeze, withVolumes}
+use Rattle.record.specs.Updates.{withPower, withChosen, withMutes, withFreeze}
 use Rattle.record.specs.Legal.{isLeft, isSettings, isOwn}
 use Rattle.record.specs.declared.types.Settings.{Settings}
 use Rattle.record.specs.declared.types.Own.{Own}

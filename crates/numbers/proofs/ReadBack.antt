@@ -1,7 +1,7 @@
 -- What is read was written so, and below 100000; each writing of a number is read as that number, its own digits and
 -- those with zeros before them (02, L4).
 -- Assumes nothing.
-use Prim.Native.Nat.{ℕ, zero, suc, _+_, _^_, _<_, _≤_}
+use Prim.Native.Nat.{ℕ, zero, suc, _+_, _<_, _≤_}
 use Prim.Native.Char.{code}
 use mathlib.Core.Path.{_≡_, refl, _∙_}
 use mathlib.Core.Bool.{Bool, true, false, _&&_}
@@ -14,7 +14,7 @@ use borrow.Author.Tests.{le-leb, leb-true}
 use Rattle.text.specs.Words.{if_then_else_}
 use Rattle.text.specs.Scans.{every}
 use Rattle.text.proofs.Bases.{value-below}
-use Rattle.text.proofs.Choices.{both, both-left, both-right}
+use Rattle.text.proofs.Choices.{both-left, both-right}
 use Rattle.text.proofs.Scanning.{every-append}
 use Rattle.numbers.specs.Decimal.{digits, isDigit, decimalWorth, decimalValue}
 use Rattle.numbers.specs.Decimal.{readDigits, mostDigits, WritesNumber, readNumber}

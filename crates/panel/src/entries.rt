@@ -6,7 +6,7 @@ use crate::types::PANEL_MOST;
 use crate::types::Panel;
 use record::types::Text;
 ghost use mathlib.Core.Path.{_≡_};
-ghost use Prim.Native.Nat.{_<_, _≤_};
+ghost use Prim.Native.Nat.{_<_};
 ghost use lib.ListN.{getD};
 ghost use Rattle.panel.specs.Entries.{entryOf, noTalk, nothingShown, blankEntry};
 ghost use Rattle.panel.specs.LegalPanels.{panelMost};

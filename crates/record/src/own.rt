@@ -9,7 +9,7 @@ ghost use mathlib.Core.Bool.{not};
 ghost use lib.ListN.{drop};
 ghost use Rattle.text.specs.Scans.{every};
 ghost use Rattle.record.specs.Limits.{lampsMost, isLit, isBetween};
-ghost use Rattle.record.specs.Rules.{isLamps, isMarks, isErrors, isVolume};
+ghost use Rattle.record.specs.Rules.{isLamps, isMarks, isErrors};
 ghost use Rattle.record.specs.Legal.{fillsRoom, isLeft, isOwn};
 
 // 99,999 hours and 3,599 seconds.

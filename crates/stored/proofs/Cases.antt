@@ -19,7 +19,7 @@ use Rattle.record.specs.declared.types.Device.{Device}
 use Rattle.record.specs.declared.types.Changed.{Changed}
 use Rattle.record.proofs.Calls.{set-up-accepted, set-up-in-range}
 use Rattle.record.proofs.Started.{started-parts, set-up-legal}
-use Rattle.form.specs.Form.{formVersion, markedVersion, storedForm, nothingStored, storedBy}
+use Rattle.form.specs.Form.{formVersion, markedVersion}
 use Rattle.stored.specs.Loading.{isOld, isOtherVersion, placesOf, formEnd, between, settingsIn, markBytesIn}
 use Rattle.stored.specs.Loading.{isMarked, marksRead, markRoom, areMarks, startedWith, isContents, loaded}
 use Rattle.stored.proofs.Contents.{new-bytes, old-are-marks, old-started}

@@ -5,7 +5,7 @@
 use Prim.Native.Nat.{ℕ, _+_, _/_, _≤_}
 use mathlib.Core.Path.{_≡_, refl, sym, ap, _∙_}
 use mathlib.Core.Bool.{Bool, true, false}
-use mathlib.Core.List.{List, [], _∷_, _++_, append-assoc}
+use mathlib.Core.List.{List, [], _∷_, _++_}
 use native.Mathlib.Nat.{add-zero}
 use native.Mathlib.Omega.{arith}
 use lib.ListN.{length, getD, drop}
@@ -21,7 +21,7 @@ use Rattle.record.specs.SetUp.{isSetUp}
 use Rattle.record.specs.declared.types.Setting.the-variants.{Serial, Version, Names}
 use Rattle.record.proofs.Rules.{text-most, names-many}
 use Rattle.record.proofs.OutOfRange.{each-in-range}
-use Rattle.form.specs.Form.{formVersion, textSection, textsBytes, textsOf2, classPart}
+use Rattle.form.specs.Form.{formVersion, textsBytes, textsOf2, classPart}
 use Rattle.form.proofs.ClassPart.{class-part}
 use Rattle.stored.specs.Loading.{hasClass, textsLong, textsIn, classIn, manyTexts, restLong, textsAfter}
 use Rattle.stored.proofs.Texts.{no-texts-long, no-texts-in, texts-back, texts-long-back}

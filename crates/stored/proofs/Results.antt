@@ -6,14 +6,13 @@
 use Prim.Native.Nat.{ℕ, _≤_}
 use mathlib.Core.Path.{_≡_, refl, ap, _∙_}
 use mathlib.Core.Bool.{Bool, true, false, _&&_}
-use mathlib.Core.List.{List, []}
+use mathlib.Core.List.{List}
 use lib.ListN.{length}
 use borrow.Author.Tests.{ltb-false, not-false}
-use Rattle.text.specs.Words.{over}
 use Rattle.text.specs.Rows.{firstOf}
 use Rattle.text.proofs.ByRows.{by-rows, rows-number}
 use Rattle.text.proofs.Choices.{both-left, both-right}
-use Rattle.text.proofs.OneResult.{one-result, Left, one-left}
+use Rattle.text.proofs.OneResult.{one-result}
 use Rattle.record.specs.Wanted.{Wanted}
 use Rattle.record.specs.Rules.{isMarks}
 use Rattle.record.specs.Updates.{withMarks}
@@ -25,8 +24,6 @@ use Rattle.record.specs.declared.types.Changed.{Changed}
 use Rattle.record.proofs.LegalTold.{own-of-legal}
 use Rattle.record.proofs.HostKept.{with-own-legal}
 use Rattle.record.proofs.Started.{started-parts, started-legal}
-use Rattle.form.specs.Form.{storedForm, StoredAs, nothingStored, storingRows, storedBy, toldStored}
-use Rattle.form.specs.declared.storing.FormWritten.{FormWritten}
 use Rattle.stored.specs.Loading.{isOtherVersion, formEnd, settingsIn, markBytesIn, marksRead, markRoom, areMarks}
 use Rattle.stored.specs.Loading.{startedWith, loadRows, loaded}
 use Rattle.stored.proofs.MarkBytes.{marks-told}

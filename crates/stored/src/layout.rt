@@ -3,7 +3,7 @@
 use form::storing::VERSION;
 ghost use mathlib.Core.Path.{_≡_};
 ghost use Prim.Native.Nat.{_+_, _*_, _≤_};
-ghost use lib.ListN.{length, drop};
+ghost use lib.ListN.{drop};
 ghost use Rattle.lines.specs.Bytes.{_at_};
 ghost use Rattle.stored.specs.Loading.{isOld, hasClass, marksLong, placesOf, classIn, manyTexts, textsLong};
 ghost use Rattle.stored.specs.Loading.{restLong};

@@ -4,7 +4,6 @@ use numbers::highest;
 use record::types::INPUTS_MOST;
 use record::types::LAMPS_MOST;
 ghost use mathlib.Core.Path.{_≡_};
-ghost use mathlib.Core.Bool.{true};
 ghost use mathlib.Core.List.{map};
 ghost use Prim.Native.Nat.{_+_, _*_, _≤_};
 ghost use lib.ListN.{length, drop};

@@ -1,9 +1,9 @@
 -- What a lamp is told to have burnt is what its stretches add up to, and so what it burnt by demand 3.
 -- Assumes nothing.
 use Prim.Native.Nat.{ℕ, _+_, _-_, _≤_, _<_}
-use mathlib.Core.Path.{_≡_, refl, sym, ap, subst, _∙_}
+use mathlib.Core.Path.{_≡_, refl, sym, ap, _∙_}
 use mathlib.Core.Bool.{Bool, true, false, not, _&&_}
-use mathlib.Core.List.{List, [], _∷_, _++_}
+use mathlib.Core.List.{List, [], _∷_}
 use mathlib.Core.Logic.{⊎-elim}
 use native.Mathlib.Nat.{zero-add}
 use native.Mathlib.Omega.{arith}
@@ -16,7 +16,7 @@ use Rattle.text.proofs.Orders.{le-or-lt}
 use Rattle.record.specs.Limits.{lampsMost}
 use Rattle.record.specs.Wanted.{Wanted}
 use Rattle.record.specs.declared.types.Device.{Device}
-use Rattle.clock.specs.Second.{changedWhere, marksIn}
+use Rattle.clock.specs.Second.{marksIn}
 use Rattle.clock.proofs.ChangedWhere.{where-at, where-length}
 use Rattle.demands.specs.Board.{ours}
 use Rattle.demands.specs.Demand3.{Beginning, startMarks, begunBy, Accepted, historyOf}

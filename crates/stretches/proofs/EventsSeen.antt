@@ -21,11 +21,11 @@ use Rattle.record.specs.declared.types.Changed.{Changed}
 use Rattle.record.specs.declared.types.Device.{Device}
 use Rattle.record.proofs.Calls.{mark-set-by}
 use Rattle.clock.proofs.Cases.{passed-accepted}
-use Rattle.device.specs.Calls.{Result, replyRoom, received, openedBy, refusedBy}
-use Rattle.events.specs.Events.{LogEvent, opens, receives, passes, closes, noSuch}
+use Rattle.device.specs.Calls.{Result, replyRoom, received, openedBy}
+use Rattle.events.specs.Events.{opens, receives, passes, closes, noSuch}
 use Rattle.events.specs.Doing.{logPlace}
 use Rattle.events.proofs.LogOpenings.{log-opened-again, log-opened-closed}
-use Rattle.demands.specs.Board.{ours, reply, lentBy}
+use Rattle.demands.specs.Board.{ours, reply}
 use Rattle.demands.specs.Calls.{Call, after}
 use Rattle.demands.specs.Calls.{opens as opensAt, receives as receivesAt, passes as passesBy, closes as closesAt}
 use Rattle.demands.specs.Calls.{enables}

@@ -1,7 +1,7 @@
 -- The lengths of the stretches add up to the lit seconds, and these are what demand 3 counts as burning.
 -- Assumes nothing.
 use Prim.Native.Nat.{ℕ, suc, _+_, _-_, _≤_}
-use mathlib.Core.Path.{_≡_, refl, sym, ap, _∙_}
+use mathlib.Core.Path.{_≡_, refl, sym, _∙_}
 use mathlib.Core.Bool.{Bool, true, false, _&&_}
 use mathlib.Core.List.{List, [], _∷_, _++_}
 use native.Mathlib.Nat.{zero-add}
@@ -10,8 +10,8 @@ use lib.ListN.{getD, set}
 use lib.Dec.{eqb}
 use Rattle.text.specs.Words.{if_then_else_}
 use Rattle.record.specs.Wanted.{Wanted}
-use Rattle.demands.specs.History.{Event, switched, aSecond, markSwitched, Stage, steady, next, marksNext, isBurning}
-use Rattle.demands.specs.History.{burns, burningFrom}
+use Rattle.demands.specs.History.{Event, switched, aSecond, markSwitched, Stage, next, isBurning}
+use Rattle.demands.specs.History.{burningFrom}
 use Rattle.demands.specs.Demand3.{countSet}
 use Rattle.demands.proofs.HistorySpelt.{burning-none, burning-more}
 use Rattle.stretches.specs.Stretches.{Stretch, stretchesFrom, stretchesOf, lengthsOf, secondsLitFrom}

@@ -1,29 +1,27 @@
 -- A whole log watched through the calls, in reads of any sizes, tells of each lamp its stretches in demand 3's history
 -- of the same log, what it burnt, and what it has now.
 -- Assumes nothing.
-use Prim.Native.Nat.{ℕ, _+_, _*_, _^_, _≤_, _<_}
+use Prim.Native.Nat.{ℕ, _+_, _<_}
 use mathlib.Core.Path.{_≡_, sym, ap, _∙_}
 use mathlib.Core.Bool.{true}
 use mathlib.Core.List.{List, [], _∷_, _++_}
 use native.Mathlib.Omega.{arith}
 use lib.ListN.{length, getD}
-use Rattle.record.specs.Limits.{lampsMost}
 use Rattle.record.specs.Legal.{isLegal}
 use Rattle.record.specs.Wanted.{Wanted}
 use Rattle.record.specs.declared.types.Device.{Device}
 use Rattle.record.proofs.LegalTold.{settings-of-legal}
-use Rattle.stream.specs.Machine.{Out, uncut}
+use Rattle.stream.specs.Machine.{uncut}
 use Rattle.log.specs.Lines.{lineMost}
 use Rattle.demands.specs.Board.{ours}
 use Rattle.demands.specs.Calls.{run}
 use Rattle.demands.specs.Demand3.{Beginning, startMarks, begunBy, Accepted}
-use Rattle.demands.proofs.Agrees.{Agrees}
 use Rattle.demands.proofs.Demand3.{ours-3}
 use Rattle.demands.proofs.HistorySpelt.{run-none, run-more}
 use Rattle.demands.proofs.HistoryTold.{agrees-started, set-up-too, marks-many, begins-so}
 use Rattle.watch.specs.Marking.{FloorEvent, doneBy}
 use Rattle.watch.specs.WatchCalls.{watchingFrom}
-use Rattle.watch.specs.WholeWatch.{floorEvents, tellings, deviceAfter, WatchStage, wholeWatch, Timeable, WatchesBack}
+use Rattle.watch.specs.WholeWatch.{floorEvents, tellings, deviceAfter, wholeWatch, Timeable, WatchesBack}
 use Rattle.watch.proofs.LinesDone.{done-legal}
 use Rattle.watch.proofs.TellingsSpelt.{device-none, device-more}
 use Rattle.watch.proofs.WholeWatch.{whole-log-watched}

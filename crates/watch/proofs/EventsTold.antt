@@ -14,7 +14,6 @@ use lib.Dec.{eqb}
 use Rattle.text.specs.Words.{if_then_else_, _is_}
 use Rattle.text.proofs.Choices.{if-yes, if-no}
 use Rattle.text.proofs.Orders.{le-or-lt}
-use Rattle.record.specs.declared.types.Device.{Device}
 use Rattle.record.specs.declared.types.Line.{Line}
 use Rattle.clock.specs.Second.{marksIn}
 use Rattle.stream.specs.Machine.{Out, unanswered, replyThen}
@@ -25,7 +24,7 @@ use Rattle.floor.specs.Reading.{keptOf, nothingBegun, keptWith, lineAfter, isBe
 use Rattle.floor.proofs.KeptLine.{Holds, kept-event, one-more, none-after, begun-some}
 use Rattle.floor.proofs.LinesSpelt.{lines-end, lines-byte}
 use Rattle.watch.specs.LampLines.{stretchLines}
-use Rattle.watch.specs.Marking.{FloorEvent, markSaid, eventBy, floorEvent, doneBy}
+use Rattle.watch.specs.Marking.{FloorEvent, markSaid, eventBy, floorEvent}
 use Rattle.watch.specs.Watching.{Watching, Watched, isBurningIn, keptMark, keptFloorEvent, watchKept, watchMore}
 use Rattle.watch.specs.Watching.{watchedOn, darkWith, lineDone, isDark, isLong, watchedIn, darkened, closedAtEnd}
 use Rattle.watch.specs.Watching.{watchEnded}

@@ -1,11 +1,11 @@
 -- What a line leaves: the settings, the places but one (02, L5), a legal record; and a state that can go on.
 -- Assumes nothing.
-use Prim.Native.Nat.{ℕ, zero, suc, _+_, _-_, _*_, _^_, _≤_, _<_}
-use mathlib.Core.Path.{_≡_, refl, sym, ap, subst, _∙_}
+use Prim.Native.Nat.{ℕ, zero, suc, _+_, _-_, _^_, _≤_, _<_}
+use mathlib.Core.Path.{_≡_, refl, sym, subst, _∙_}
 use mathlib.Core.Bool.{Bool, true, false, not, _&&_}
 use mathlib.Core.List.{List, [], _∷_}
 use native.Mathlib.Omega.{arith}
-use lib.ListN.{length, getD}
+use lib.ListN.{getD}
 use lib.Dec.{leb}
 use borrow.Author.Tests.{leb-true, le-leb}
 use Rattle.text.specs.Words.{if_then_else_}
@@ -13,7 +13,6 @@ use Rattle.text.specs.Scans.{every}
 use Rattle.text.proofs.Choices.{if-yes, if-no, if-all, both, both-left, both-right}
 use Rattle.text.proofs.Scanning.{every-by-place}
 use Rattle.record.specs.Legal.{isLegal}
-use Rattle.record.specs.HostCalls.{markSet}
 use Rattle.record.specs.declared.types.Device.{Device}
 use Rattle.record.specs.declared.types.Line.{Line}
 use Rattle.record.specs.declared.types.Changed.{Changed}
@@ -23,12 +22,9 @@ use Rattle.clock.specs.Second.{changedWhere, marksIn}
 use Rattle.clock.specs.Passing.{secondsMost}
 use Rattle.clock.proofs.ChangedWhere.{where-length, where-at}
 use Rattle.stream.specs.Collecting.{lineText}
-use Rattle.log.specs.Lines.{lineMost}
-use Rattle.events.specs.Events.{noSuch}
 use Rattle.events.specs.Told.{Drives, secondsOf}
 use Rattle.events.proofs.Driven.{none-pass, itself-kept, did-drives}
 use Rattle.events.proofs.EventsLeave.{did-settings, did-legality}
-use Rattle.floor.specs.Events.{event}
 use Rattle.floor.specs.Reading.{keptEvent, lineAfter}
 use Rattle.floor.proofs.EventSeconds.{event-seconds}
 use Rattle.floor.proofs.LinesPlayed.{after-long}

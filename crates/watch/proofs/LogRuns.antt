@@ -7,7 +7,7 @@ use Prim.Native.Nat.{ℕ, suc, _+_, _≤_}
 use Prim.Native.Char.{code}
 use mathlib.Core.Path.{_≡_, refl, sym, ap, subst, _∙_}
 use mathlib.Core.Bool.{Bool, true, false, _&&_}
-use mathlib.Core.List.{List, [], _∷_, _++_, append-nil}
+use mathlib.Core.List.{List, [], _∷_, append-nil}
 use native.Mathlib.Omega.{arith}
 use lib.ListN.{length, take}
 use Rattle.text.specs.Words.{if_then_else_, _is_}
@@ -15,7 +15,7 @@ use Rattle.text.proofs.Choices.{if-all}
 use Rattle.stream.specs.Machine.{Out, Took, unanswered, replyThen, tookBytes, oneStep, runOver}
 use Rattle.stream.proofs.LinesSpelt.{run-none, run-more}
 use Rattle.floor.proofs.LinesCounted.{lineEnds}
-use Rattle.watch.specs.Watching.{Watching, Watched, lineDone, isDark, isLong, watchMore, watchStep, takenMore}
+use Rattle.watch.specs.Watching.{Watching, Watched, lineDone, isDark, isLong, watchMore, takenMore}
 use Rattle.watch.specs.Watching.{watchedIn}
 use Rattle.watch.specs.WatchCalls.{CanWatch}
 use Rattle.watch.specs.WholeWatch.{tellingIf, toldLines}

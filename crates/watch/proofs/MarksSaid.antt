@@ -2,7 +2,7 @@
 -- Assumes nothing.
 use Prim.Native.Nat.{ℕ, _-_, _≤_, _<_}
 use Prim.Native.Char.{code}
-use mathlib.Core.Path.{_≡_, refl, sym, ap, _∙_}
+use mathlib.Core.Path.{_≡_, refl, ap, _∙_}
 use mathlib.Core.Bool.{Bool, true, false, _&&_}
 use mathlib.Core.List.{List, []}
 use lib.ListN.{length}
@@ -15,9 +15,8 @@ use Rattle.log.specs.declared.Says.{Says}
 use Rattle.log.specs.declared.Says.the-variants.{Opens, Receives, Passes, Closes, NoSuch}
 use Rattle.events.specs.Events.{eventOf}
 use Rattle.events.specs.Told.{secondsOf}
-use Rattle.watch.specs.declared.marking.MarkSaid.{MarkSaid}
 use Rattle.watch.specs.declared.marking.MarkSaid.the-variants.{Sets, NoMark}
-use Rattle.watch.specs.Marking.{isMarkLine, markSaid}
+use Rattle.watch.specs.Marking.{markSaid}
 
 regrouped : (a b c d e f : Bool) → (true && a && b && (true && c) && d && (e && f)) ≡ (a && b && c && d && e && f)
 regrouped false b c d e f = refl

@@ -4,13 +4,13 @@
 -- Assumes nothing.
 use Prim.Native.Nat.{ℕ, suc, _+_, _-_, _≤_, _<_}
 use Prim.Native.Char.{code}
-use mathlib.Core.Path.{_≡_, refl, sym, ap, _∙_, subst}
+use mathlib.Core.Path.{_≡_, refl, sym, ap, _∙_}
 use mathlib.Core.Bool.{Bool, true, false, _&&_}
 use mathlib.Core.List.{List, [], _∷_, _++_, append-nil, foldl}
 use native.Mathlib.Nat.{zero-add, add-zero}
 use native.Mathlib.Omega.{arith}
-use lib.ListN.{length, take, drop, length-drop, drop-of-length-le}
-use lib.Seq.{take-all, drop-drop, drop-append-add}
+use lib.ListN.{length, drop, length-drop, drop-of-length-le}
+use lib.Seq.{drop-drop, drop-append-add}
 use lib.Dec.{eqb}
 use borrow.Author.Tests.{not-true}
 use Rattle.text.specs.Words.{if_then_else_}
@@ -19,8 +19,7 @@ use Rattle.text.proofs.Choices.{if-yes, if-no, both-left, both-right}
 use Rattle.record.specs.declared.types.Line.{Line}
 use Rattle.stream.specs.Machine.{UpTo}
 use Rattle.stream.proofs.UpToTheEnd.{notEnd, up-to-by, found}
-use Rattle.log.specs.Lines.{lineMost}
-use Rattle.floor.specs.Reading.{keptWith, upToLf, lineAfter}
+use Rattle.floor.specs.Reading.{keptWith, upToLf}
 use Rattle.floor.proofs.Gathering.{line-in-memory}
 use Rattle.floor.proofs.LinesPlayed.{after-long}
 use Rattle.watch.specs.Watching.{Watching, Watched, watchKept, lineDone, isDark, isLong, takenMore, watchedIn}

@@ -3,9 +3,9 @@
 --   stageOf n s      a state as the calls have it, n the lines that `floor` would count, which stay
 --   Ahead size s rs  `play` takes every read of rs, each of at most `size` bytes
 -- Assumes nothing.
-use Prim.Native.Nat.{ℕ, _+_, _*_, _^_, _≤_, _<_}
+use Prim.Native.Nat.{ℕ, _+_, _^_, _≤_, _<_}
 use Prim.Native.Char.{code}
-use mathlib.Core.Path.{_≡_, refl, sym, ap, subst, _∙_}
+use mathlib.Core.Path.{_≡_, refl, ap, _∙_}
 use mathlib.Core.Bool.{Bool, true, false, _&&_}
 use mathlib.Core.List.{List, [], _∷_, _++_}
 use native.Mathlib.Omega.{arith}
@@ -18,8 +18,7 @@ use Rattle.text.proofs.Choices.{both-left, both-right}
 use Rattle.record.specs.Limits.{lampsMost}
 use Rattle.record.specs.Legal.{isLegal}
 use Rattle.record.specs.declared.types.Device.{Device}
-use Rattle.clock.specs.Passing.{secondsMost}
-use Rattle.stream.specs.Machine.{Out, Took, tookBytes, handedParts, uncut}
+use Rattle.stream.specs.Machine.{Out, Took, handedParts, uncut}
 use Rattle.stream.proofs.LinesSpelt.{uncut-more}
 use Rattle.stream.proofs.SameHoweverCut.{outThrough, tookThrough, Taking, parts-run}
 use Rattle.log.specs.Lines.{lineMost}
@@ -29,7 +28,7 @@ use Rattle.floor.specs.WholeLog.{noneLonger}
 use Rattle.floor.proofs.KeptLine.{none-held}
 use Rattle.floor.proofs.LinesCounted.{lineEnds, ends-append, ends-few, ends-lines}
 use Rattle.watch.specs.Watching.{Watching, isBurningIn, watchMore, watchedIn, watchEnded}
-use Rattle.watch.specs.WatchCalls.{isSound, refusalIn, CanWatch, WatchStep, watchGiving, watched, watchedToEnd}
+use Rattle.watch.specs.WatchCalls.{isSound, CanWatch, watched, watchedToEnd}
 use Rattle.watch.specs.WatchCalls.{watchOf, watchingFrom}
 use Rattle.watch.specs.WholeWatch.{floorEvents, WatchStage, watchBegun, callTells, playTells, finishTells}
 use Rattle.watch.specs.WholeWatch.{wholeWatch, Timeable, WatchesBack}

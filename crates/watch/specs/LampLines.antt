@@ -6,7 +6,7 @@
 --   stretchRoom, totalRoom   so much room a line never needs more than
 -- Assumes nothing.
 use Prim.Native.Nat.{ℕ, _+_}
-use mathlib.Core.Bool.{Bool, true, false}
+use mathlib.Core.Bool.{Bool}
 use mathlib.Core.List.{List, [], _∷_, _++_}
 use Rattle.text.specs.Words.{ascii, if_then_else_}
 use Rattle.numbers.specs.Decimal.{longDigits}

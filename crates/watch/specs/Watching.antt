@@ -15,7 +15,7 @@
 --   closedAtEnd s         the end of a log ends the stretches that are under way
 --   watchEnded s          the end of the input: a line without LF is played, and the log ends
 -- Assumes nothing.
-use Prim.Native.Nat.{ℕ, suc, _+_, _-_}
+use Prim.Native.Nat.{ℕ, _+_, _-_}
 use Prim.Native.Char.{code}
 use mathlib.Core.Bool.{Bool, true, false, not, _&&_}
 use mathlib.Core.List.{List, [], _∷_}

@@ -2,7 +2,7 @@
 -- L14).
 -- Assumes nothing.
 use Prim.Native.Nat.{ℕ, _<_}
-use mathlib.Core.Path.{_≡_, refl, sym, ap, subst, _∙_}
+use mathlib.Core.Path.{_≡_, refl, sym, ap, subst}
 use mathlib.Core.List.{List}
 use Rattle.lines.specs.Commands.{commandClass}
 use Rattle.lines.specs.declared.command.Command.{Command}

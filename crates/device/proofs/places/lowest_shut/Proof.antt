@@ -1,6 +1,6 @@
 -- `device::places::lowest_shut` meets its contract: no place passed is closed.
 -- Assumes nothing.
-use Prim.Native.Nat.{_-_, _<_}
+use Prim.Native.Nat.{_-_}
 use mathlib.Core.Path.{_≡_, _∙_}
 use native.Mathlib.Omega.{arith}
 use lib.ListN.{length}

@@ -1,6 +1,6 @@
 -- `page::days::open_to` is safe and ends: the days left fall.
 -- Assumes nothing.
-use Prim.Native.Nat.{ℕ, _-_, _≤_}
+use Prim.Native.Nat.{_-_, _≤_}
 use borrow.Author.Needs.{needs}
 use Rattle.page.proofs.days.open_to.Statement.{statement}
 use Rattle.page.proofs.days.open_to.Tie as tie

@@ -1,8 +1,7 @@
 -- `record::host::set_mark` meets its contract: each `return` is one row of the table; 3 is tested in two steps.
 -- Assumes nothing.
 use mathlib.Core.Path.{_≡_, sym, ap, _∙_}
-use mathlib.Core.Bool.{Bool, true, false}
-use mathlib.Core.List.{List}
+use mathlib.Core.Bool.{true}
 use native.Mathlib.Omega.{arith}
 use lib.ListN.{set}
 use borrow.Author.Tests.{not-true, not-false, le-leb, lt-leb, ne-eqb}

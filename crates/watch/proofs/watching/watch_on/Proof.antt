@@ -2,7 +2,7 @@
 -- Assumes nothing.
 use Prim.Native.Nat.{ℕ, _+_, _-_, _≤_, _<_, _^_}
 use mathlib.Core.Path.{_≡_, refl, sym, ap, subst, _∙_}
-use mathlib.Core.Bool.{Bool, true, false}
+use mathlib.Core.Bool.{true, false}
 use mathlib.Core.List.{List, []}
 use mathlib.Core.Logic.{⊎-elim}
 use native.Mathlib.Omega.{arith}
@@ -24,10 +24,9 @@ use Rattle.watch.specs.declared.watching.Watch.{Watch}
 use Rattle.watch.specs.declared.watching.Seen.{Seen}
 use Rattle.watch.specs.declared.light.Light.{Light}
 use Rattle.watch.specs.Marking.{secondsBy}
-use Rattle.watch.specs.Watching.{Watching, Watched, isBurningIn, isLong, isDark, lineDone, keptFloorEvent}
-use Rattle.watch.specs.Watching.{watchedIn}
+use Rattle.watch.specs.Watching.{Watching, Watched, isBurningIn, isLong, isDark, keptFloorEvent}
 use Rattle.watch.specs.WatchCalls.{watchingIn, watchingWith, watchOf, sightOf, SeenAs, CanWatch, CanDarken}
-use Rattle.watch.specs.WatchCalls.{heldOf, lightOf, darkAfter}
+use Rattle.watch.specs.WatchCalls.{lightOf, darkAfter}
 use Rattle.watch.specs.Done.{lineDid}
 use Rattle.watch.proofs.LinesDone.{done-settings, done-drives, line-seconds, can-darken}
 use Rattle.watch.proofs.Followed.{event-kept, device-after, onward-kept, dark-is, line-dark, line-lit, dark-from}
