@@ -14,6 +14,7 @@ use native.Mathlib.Omega.{arith}
 use lib.ListN.{length, getD, take, length-append}
 use lib.Seq.{sets, take-suc, getD-take, length-take-le}
 use Rattle.text.proofs.Scanning.{every-at}
+use Rattle.text.proofs.Written.{Wrote, wrote-then}
 use Rattle.lines.specs.Texts.{isInputName, inputNameMost}
 use Rattle.record.specs.Limits.{listedMost}
 use Rattle.record.specs.Legal.{fillsNameRoom, isNames}
@@ -21,7 +22,6 @@ use Rattle.record.specs.declared.types.InputName.{InputName}
 use Rattle.record.proofs.Kept.{Kept, kept-told, kept-length}
 use Rattle.record.proofs.NamesTold.{names-told}
 use Rattle.form.specs.Form.{textSection, textsBytes, nameStored}
-use Rattle.form.proofs.Written.{Wrote, wrote-then}
 use Rattle.form.proofs.TextsWritten.{texts-snoc}
 
 -- what an array of names has past its end

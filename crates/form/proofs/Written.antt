@@ -1,36 +1,22 @@
--- Memory that is written from a place on, part after part.
---   Wrote lent b out p s      the bytes s stand in the lent memory from b on, and p is the place after them
+-- A text written after what stands before it, in its section.
 -- Assumes nothing.
 use Prim.Native.Nat.{ℕ, _+_}
-use mathlib.Core.Path.{_≡_, ap, _∙_}
+use mathlib.Core.Path.{_≡_}
 use mathlib.Core.Bool.{Bool}
 use mathlib.Core.List.{List, _++_}
 use native.Mathlib.Omega.{arith}
-use lib.ListN.{length, length-append}
-use lib.Seq.{sets, length-sets}
-use Rattle.text.proofs.Stores.{sets-then}
+use lib.ListN.{length}
+use lib.Seq.{sets}
+use Rattle.text.proofs.Written.{Wrote, wrote-then}
 use Rattle.record.specs.Limits.{textRoom}
 use Rattle.record.specs.declared.types.Text.{Text}
 use Rattle.record.proofs.Kept.{kept-length}
 use Rattle.record.proofs.SettingsTold.{TextKept}
 use Rattle.form.specs.Form.{textSection, textStored}
 
-module _ (lent : List ℕ) (b : ℕ) where
-  pub record Wrote (out : List ℕ) (p : ℕ) (s : List ℕ) : Type 0 where
-    pub bytes : out ≡ sets lent b s
-    pub place : p ≡ b + length s
-
-  module _ {out : List ℕ} {p : ℕ} {s : List ℕ} (w : Wrote out p s) where
-    pub wrote-room : length out ≡ length lent
-    wrote-room = ap length (w .bytes) ∙ length-sets lent b s
-
-    pub wrote-then : (t : List ℕ) {m : List ℕ} {q : ℕ} → m ≡ sets out p t → q ≡ p + length t → Wrote m q (s ++ t)
-    wrote-then t e f = record {
-      bytes = e ∙ sets-then lent b s t (w .bytes) (w .place);
-      place = omega (arith, length-append s t, w .place);
-    }
-
-    pub wrote-text : {rule : List ℕ → Bool} (t : Text) {m : List ℕ} {q : ℕ} → TextKept rule t
-        → m ≡ sets out p (textSection (textStored t)) → q ≡ p + 1 + t .len → Wrote m q (s ++ textSection (textStored t))
-    wrote-text {rule} t k e f =
-        wrote-then (textSection (textStored t)) e (omega (arith, kept-length textRoom rule _ _ k))
+module _ (lent : List ℕ) (b : ℕ) {out : List ℕ} {p : ℕ} {s : List ℕ} (w : Wrote lent b out p s) where
+  pub wrote-text : {rule : List ℕ → Bool} (t : Text) {m : List ℕ} {q : ℕ} → TextKept rule t
+      → m ≡ sets out p (textSection (textStored t)) → q ≡ p + 1 + t .len
+      → Wrote lent b m q (s ++ textSection (textStored t))
+  wrote-text {rule} t k e f =
+      wrote-then lent b w (textSection (textStored t)) e (omega (arith, kept-length textRoom rule _ _ k))

@@ -10,3 +10,4 @@ pub mod Parts
 pub mod Sameness
 pub mod Scanning
 pub mod Stores
+pub mod Written

@@ -7,6 +7,7 @@ use native.Mathlib.Omega.{arith}
 use lib.Seq.{sets}
 use borrow.Author.Needs.{needs}
 use Rattle.text.proofs.Stores.{sets-over}
+use Rattle.text.proofs.Written.{Wrote, wrote-then}
 use Rattle.record.specs.Legal.{isSettings}
 use Rattle.record.proofs.LegalTold.{legal-settings, settings-of-legal}
 use Rattle.record.proofs.SettingsTold.{input-count-high}
@@ -14,7 +15,6 @@ use Rattle.record.proofs.NamesTold.{names-room-shown}
 use Rattle.form.specs.Form.{storedForm}
 use Rattle.form.proofs.FormLong.{textsPart, listsPart, restPart, texts-long, lists-long, stored-form}
 use Rattle.form.proofs.FormLong.{stored-form-long}
-use Rattle.form.proofs.Written.{Wrote, wrote-then}
 use Rattle.form.proofs.storing.put_form.Statement.{statement}
 use Rattle.form.proofs.storing.put_form.Tie as tie
 

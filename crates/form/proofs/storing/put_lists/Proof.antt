@@ -8,6 +8,7 @@ use lib.ListN.{length, take, length-map}
 use lib.Seq.{sets, length-take-le}
 use borrow.Author.Needs.{needs}
 use Rattle.text.proofs.Parts.{first-part}
+use Rattle.text.proofs.Written.{Wrote, wrote-then}
 use Rattle.numbers.specs.HighestFirst.{highestFirst}
 use Rattle.numbers.proofs.HighestFirst.{highest-length}
 use Rattle.record.specs.Limits.{inputRoom, lampsMost}
@@ -16,7 +17,6 @@ use Rattle.record.proofs.Kept.{kept-length}
 use Rattle.record.proofs.SettingsTold.{SettingsTold, settings-told}
 use Rattle.form.specs.Form.{section, secondsBytes, markByte}
 use Rattle.form.proofs.Seconds.{seconds-long}
-use Rattle.form.proofs.Written.{Wrote, wrote-then}
 use Rattle.form.proofs.storing.put_lists.Statement.{statement}
 use Rattle.form.proofs.storing.put_lists.Tie as tie
 

@@ -11,10 +11,10 @@ use lib.Dec.{eqb}
 use borrow.Author.Needs.{needs}
 use borrow.Author.Tests.{eq-eqb, ne-eqb}
 use Rattle.text.proofs.Choices.{if-yes}
+use Rattle.text.proofs.Written.{Wrote, wrote-then}
 use Rattle.record.specs.Limits.{textRoom, onlyIn2}
 use Rattle.record.specs.Legal.{isNames}
 use Rattle.form.specs.Form.{textSection, textsBytes, textStored, nameStored, classPart}
-use Rattle.form.proofs.Written.{Wrote, wrote-then}
 use Rattle.form.proofs.storing.put_rest.Statement.{statement}
 use Rattle.form.proofs.ClassPart.{part-some, part-of-other, part-of-2}
 use Rattle.form.proofs.storing.put_rest.Tie as tie

@@ -5,9 +5,10 @@ use mathlib.Core.Path.{refl}
 use mathlib.Core.List.{List, [], _∷_}
 use native.Mathlib.Omega.{arith}
 use borrow.Author.Needs.{needs}
+use Rattle.text.proofs.Written.{Wrote}
 use Rattle.record.proofs.SettingsTold.{SettingsTold, settings-told}
 use Rattle.form.specs.Form.{formVersion}
-use Rattle.form.proofs.Written.{Wrote, wrote-text}
+use Rattle.form.proofs.Written.{wrote-text}
 use Rattle.form.proofs.storing.put_texts.Statement.{statement}
 use Rattle.form.proofs.storing.put_texts.Tie as tie
 

@@ -6,10 +6,10 @@ use native.Mathlib.Omega.{arith}
 use lib.ListN.{length, getD}
 use lib.Seq.{sets}
 use borrow.Author.Needs.{needs}
+use Rattle.text.proofs.Written.{Wrote, wrote-room}
 use Rattle.lines.specs.Texts.{inputNameMost}
 use Rattle.record.specs.declared.types.InputName.{InputName}
 use Rattle.form.specs.Form.{nameStored}
-use Rattle.form.proofs.Written.{Wrote, wrote-room}
 use Rattle.form.proofs.NamesWritten.{noName, first, no-name-put, one-name-put, name-inside, name-within}
 use Rattle.form.proofs.NamesWritten.{name-stored-long, name-stays}
 use Rattle.form.proofs.writing.put_names.Statement.{statement}

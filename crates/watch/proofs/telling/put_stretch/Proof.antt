@@ -7,8 +7,9 @@ use native.Mathlib.Omega.{arith}
 use denote.Ref.{now}
 use borrow.Author.Needs.{needs}
 use Rattle.text.specs.Words.{ascii}
+use Rattle.text.proofs.Written.{wrote-room, wrote-then}
 use Rattle.watch.specs.LampLines.{numbered, stretchLine}
-use Rattle.watch.proofs.PartsTold.{PutSo, first-part, next-part, long-so, all-put, part-long}
+use Rattle.watch.proofs.PartsTold.{PutSo, first-part, all-put, part-long}
 use Rattle.watch.proofs.telling.put_stretch.Statement.{statement}
 use Rattle.watch.proofs.telling.put_stretch.Tie as tie
 
@@ -36,7 +37,7 @@ module _ (c : tie.After-put-part2) where
   text2 = text1 step2 ++ numbered (ascii " from ") (start step2 .args .from)
 
   put2 : PutSo (out step2) text2 (c .put-part2 .last .0) (c .put-part2 .result)
-  put2 = next-part (put1 step2) (numbered (ascii " from ") (start step2 .args .from)) (c .put-part2 .ensures .1)
+  put2 = wrote-then _ _ (put1 step2) (numbered (ascii " from ") (start step2 .args .from)) (c .put-part2 .ensures .1)
       (c .put-part2 .ensures .0)
 
   short2 : c .put-part2 .result ≤ 51
@@ -51,7 +52,7 @@ module _ (c : tie.After-put-part3) where
   text3 = text2 step3 ++ numbered (ascii " to ") (start (step2 step3) .args .to)
 
   put3 : PutSo (out (step2 step3)) text3 (c .put-part3 .last .0) (c .put-part3 .result)
-  put3 = next-part (put2 step3) (numbered (ascii " to ") (start (step2 step3) .args .to)) (c .put-part3 .ensures .1)
+  put3 = wrote-then _ _ (put2 step3) (numbered (ascii " to ") (start (step2 step3) .args .to)) (c .put-part3 .ensures .1)
       (c .put-part3 .ensures .0)
 
   short3 : c .put-part3 .result ≤ 75
@@ -61,17 +62,17 @@ module _ (c : tie.After-put-part3) where
 fits2 : tie.Need-put-part-requires-2
 fits2 c κs =
     let p = let known = c .before .before in known .before .before in
-    omega (arith, short1 p, long-so (put1 p), start p .pre)
+    omega (arith, short1 p, wrote-room _ _ (put1 p), start p .pre)
 
 fits3 : tie.Need-put-part-requires-3
 fits3 c κs =
     let p = let known = c .before .before in known .before .before in
-    omega (arith, short2 p, long-so (put2 p), start (step2 p) .pre)
+    omega (arith, short2 p, wrote-room _ _ (put2 p), start (step2 p) .pre)
 
 lf-fits : tie.Need-put-requires
 lf-fits c κs =
     let p = let known = c .before .before in known .before .before in
-    omega (arith, short3 p, long-so (put3 p), start (step2 (step3 p)) .pre)
+    omega (arith, short3 p, wrote-room _ _ (put3 p), start (step2 (step3 p)) .pre)
 
 abbrev before-lf : tie.After-put → tie.After-put-part3
 before-lf c = let known = c .before .before in known .before .before .before
@@ -84,7 +85,7 @@ unfolding stretchLine
 returns c =
     let last = c .before .before in
     let p = before-lf last in
-    let all = next-part (put3 p) (ascii "\n") (last .put .ensures) refl in
+    let all = wrote-then _ _ (put3 p) (ascii "\n") (last .put .ensures) refl in
     all-put all (omega (arith, short3 p, start (step2 (step3 p)) .pre))
 
 pub put-stretch-spec : {M : Type 1} → statement M
