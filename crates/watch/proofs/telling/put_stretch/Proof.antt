@@ -37,7 +37,8 @@ module _ (c : tie.After-put-part2) where
   text2 = text1 step2 ++ numbered (ascii " from ") (start step2 .args .from)
 
   put2 : PutSo (out step2) text2 (c .put-part2 .last .0) (c .put-part2 .result)
-  put2 = wrote-then _ _ (put1 step2) (numbered (ascii " from ") (start step2 .args .from)) (c .put-part2 .ensures .1)
+  put2 =
+      wrote-then _ _ (put1 step2) (numbered (ascii " from ") (start step2 .args .from)) (c .put-part2 .ensures .1)
       (c .put-part2 .ensures .0)
 
   short2 : c .put-part2 .result ≤ 51
@@ -52,7 +53,8 @@ module _ (c : tie.After-put-part3) where
   text3 = text2 step3 ++ numbered (ascii " to ") (start (step2 step3) .args .to)
 
   put3 : PutSo (out (step2 step3)) text3 (c .put-part3 .last .0) (c .put-part3 .result)
-  put3 = wrote-then _ _ (put2 step3) (numbered (ascii " to ") (start (step2 step3) .args .to)) (c .put-part3 .ensures .1)
+  put3 =
+      wrote-then _ _ (put2 step3) (numbered (ascii " to ") (start (step2 step3) .args .to)) (c .put-part3 .ensures .1)
       (c .put-part3 .ensures .0)
 
   short3 : c .put-part3 .result ≤ 75
