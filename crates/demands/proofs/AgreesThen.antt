@@ -1,7 +1,7 @@
 -- The invariant of demand 3's history over several events.
 --   Then w g ms n es stream d    stage, marks, counts and streams agree with the device d after the events es
 -- Assumes nothing.
-use Prim.Native.Nat.{ℕ, zero, suc, _+_, _-_}
+use Prim.Native.Nat.{ℕ, zero, suc, _+_}
 use mathlib.Core.Path.{_≡_, refl, sym, ap, _∙_}
 use mathlib.Core.Bool.{Bool, true}
 use mathlib.Core.List.{List, [], _∷_, _++_}

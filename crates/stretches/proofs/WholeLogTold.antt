@@ -1,7 +1,7 @@
 -- A whole log watched through the calls, in reads of any sizes, tells of each lamp its stretches in demand 3's history
 -- of the same log, what it burnt, and what it has now.
 -- Assumes nothing.
-use Prim.Native.Nat.{ℕ, _+_, _<_}
+use Prim.Native.Nat.{ℕ, _<_}
 use mathlib.Core.Path.{_≡_, sym, ap, _∙_}
 use mathlib.Core.Bool.{true}
 use mathlib.Core.List.{List, [], _∷_, _++_}

@@ -1,6 +1,6 @@
 -- `watch::telling::put_total` meets its contract: each part stands after the one before it.
 -- Assumes nothing.
-use Prim.Native.Nat.{ℕ, _+_, _≤_}
+use Prim.Native.Nat.{ℕ, _≤_}
 use mathlib.Core.Path.{refl}
 use mathlib.Core.List.{List, _++_}
 use native.Mathlib.Omega.{arith}
