@@ -1,26 +1,12 @@
-mod InputCharacters
-pub mod Inputs
+pub mod Characters
 pub mod Lamps
 pub mod Mapped
-pub mod Errors
-pub mod Words
-pub mod Spaced
-pub mod ReadLists
+pub mod Joined
 pub mod PutLists
-pub mod Parameters
 pub mod Counts
-pub mod LampsBack
-pub mod ErrorsBack
-pub mod JoinedBack
-pub mod ReadsBack
+pub mod SaidRows
 pub mod SaidBack
 pub mod SaidPlain
 pub mod Nothing
 pub mod OneResult
-mod JoinedRead
-mod LampsRead
-mod ErrorsRead
-pub mod ReadSound
-pub mod ReadWritings
 pub mod OnlyOkay
-pub mod Examples

@@ -8,10 +8,8 @@ use lib.ListN.{length}
 use lib.Seq.{sets}
 use Rattle.text.proofs.OneResult.{one-result, Left, one-left}
 use Rattle.lines.specs.declared.input.Input.{Input}
-use Rattle.lines.specs.declared.command.Command.{Command}
 use Rattle.answers.specs.Said.{saidBytes}
-use Rattle.answers.specs.Carried.{plainOf, ofLamps, ofInputs, ofText, answerOf, saidBy}
-use Rattle.answers.specs.Reading.{readParameter}
+use Rattle.answers.specs.Carried.{plainOf, ofLamps, ofInputs, ofText, saidBy}
 use Rattle.answers.specs.declared.answer.LampHours.{LampHours}
 use Rattle.answers.specs.declared.answer.Kind.{Kind}
 use Rattle.answers.specs.declared.answer.Answer.{Answer}
@@ -27,10 +25,6 @@ one-of-inputs n is = one-result
 
 pub one-of-text : (k : Kind) (t : List ℕ) {r s : Answer} → r ≡ ofText k t → s ≡ ofText k t → r ≡ s
 one-of-text k t = one-result
-
-pub one-reading : (c : Command) (p : List ℕ) {r s : Answer} → r ≡ answerOf (readParameter c p)
-    → s ≡ answerOf (readParameter c p) → r ≡ s
-one-reading c p = one-result
 
 pub one-writing : (out : List ℕ) (at : ℕ) (a : Answer) {r s : ℕ} {m n : List ℕ}
     → Left (at + length (saidBytes (saidBy a))) (sets out at (saidBytes (saidBy a))) r m

@@ -8,16 +8,12 @@ use mathlib.Core.List.{_++_}
 use Rattle.text.specs.Words.{ascii}
 use Rattle.text.specs.Scans.{sameBy}
 use Rattle.lines.specs.Bytes.{upperOf}
-use Rattle.answers.specs.Said.{Said, okay, refused, powerIs, nothing, saidBytes}
+use Rattle.answers.specs.Said.{Said, refused, powerIs, nothing, saidBytes}
 use Rattle.answers.specs.declared.answer.Power.{Power}
 use Rattle.answers.specs.declared.answer.Power.the-variants.{Off, On, Cooling, WarmUp}
 
 abbrev pub NotOkay : Said → Type 0
 NotOkay m = sameBy upperOf (saidBytes m ++ ascii "\r") (ascii "OK\r") ≡ false
-
-pub okay-bytes : saidBytes okay ≡ ascii "OK"
-unfolding saidBytes
-okay-bytes = refl
 
 pub refusal-not-okay : (n : ℕ) → NotOkay (refused n)
 unfolding saidBytes

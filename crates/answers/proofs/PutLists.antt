@@ -16,7 +16,7 @@ use Rattle.text.specs.Scans.{every}
 use Rattle.text.proofs.Choices.{if-all, both-left, both-right}
 use Rattle.text.proofs.Stores.{sets-then}
 use Rattle.answers.specs.Lists.{spaced, gap, joined}
-use Rattle.answers.proofs.JoinedRead.{spaced-append}
+use Rattle.answers.proofs.Joined.{spaced-append}
 
 pub gap-short : (i : ℕ) → length (gap i) ≤ 1
 unfolding gap

@@ -33,10 +33,10 @@ use Rattle.answers.specs.declared.answer.Power.{Power}
 use Rattle.answers.specs.declared.answer.Power.the-variants.{Off, On, Cooling, WarmUp}
 use Rattle.answers.specs.declared.answer.LampHours.{LampHours}
 use Rattle.lines.proofs.TextsTold.{text-bytes, name-is-text}
-use Rattle.answers.proofs.InputCharacters.{input-no-cr}
-use Rattle.answers.proofs.ErrorsBack.{numbers-are-digits}
+use Rattle.answers.proofs.Characters.{input-no-cr}
+use Rattle.answers.proofs.Characters.{numbers-are-digits}
 use Rattle.answers.proofs.PutLists.{joined-long}
-use Rattle.answers.proofs.JoinedBack.{joined-every}
+use Rattle.answers.proofs.Joined.{joined-every}
 use Rattle.answers.proofs.SaidBack.{power-within, mutes-within, said-back, said-within}
 
 -- every answer has room in the arrays, and so comes back out of them

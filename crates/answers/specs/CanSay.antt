@@ -1,29 +1,55 @@
 -- Every answer that a command can have (01, "Commands" and "Controller"; 02, L14).
+--   isSet c            c sets something: it is answered OK
+--   hasOwnParameter c  the parameter of c is another than `?`, so that a projector may not know it
+--   isRefusalTo c n    ERRn is allowed in reply to c: `?` may have all but ERR2, any other command all of them
 --   isLampHours l      hours that five digits can tell
 --   isErrorDigit d     0, 1 or 2
 --   CanSay c m         m is an answer to c
 -- Assumes nothing.
 use Prim.Native.Nat.{ℕ, _≤_}
 use mathlib.Core.Path.{_≡_}
-use mathlib.Core.Bool.{Bool, true}
+use mathlib.Core.Bool.{Bool, true, false, not, _||_}
 use mathlib.Core.List.{List}
 use lib.ListN.{length}
-use lib.Dec.{leb}
+use lib.Dec.{leb, eqb}
 use Rattle.text.specs.Scans.{every}
 use Rattle.lines.specs.Inputs.{isInput}
 use Rattle.lines.specs.Texts.{isName, isInfo, isInputName}
 use Rattle.lines.specs.Commands.{bodyOf}
 use Rattle.lines.specs.declared.input.Input.{Input}
 use Rattle.lines.specs.declared.command.Command.{Command}
-use Rattle.lines.specs.declared.command.Command.the-variants.{Query}
+use Rattle.lines.specs.declared.command.Command.the-variants.{PowerSet, InputSet, MuteSet, InputSet2, FreezeSet}
+use Rattle.lines.specs.declared.command.Command.the-variants.{VolumeStep, NameQuery, Query}
 use Rattle.lines.specs.declared.command.Body.the-variants.{Powr, Inpt, Avmt, Erst, Lamp, Inst, Name, Inf1, Inf2, Info}
 use Rattle.lines.specs.declared.command.Body.the-variants.{Clss, Frez, Snum, Sver, Innm, Inpt2, Inst2}
 use Rattle.answers.specs.Said.{Said, okay, refused, powerIs, chosenIs, mutesAre, errorsAre, lampsAre, inputsAre}
 use Rattle.answers.specs.Said.{textIs, classIs, freezeIs}
 use Rattle.answers.specs.Carried.{lampsCarried, inputsCarried, errorsCarried}
-use Rattle.answers.specs.Reading.{isSet, isRefusalTo}
 use Rattle.answers.specs.declared.answer.Power.{Power}
 use Rattle.answers.specs.declared.answer.LampHours.{LampHours}
+
+abbrev pub isSet : Command → Bool
+isSet (PowerSet on) = true
+isSet (InputSet i) = true
+isSet (MuteSet half on) = true
+isSet (InputSet2 i) = true
+isSet (FreezeSet on) = true
+isSet (VolumeStep v up) = true
+isSet (NameQuery i) = false
+isSet (Query b) = false
+
+abbrev pub hasOwnParameter : Command → Bool
+hasOwnParameter (PowerSet on) = true
+hasOwnParameter (InputSet i) = true
+hasOwnParameter (MuteSet half on) = true
+hasOwnParameter (InputSet2 i) = true
+hasOwnParameter (FreezeSet on) = true
+hasOwnParameter (VolumeStep v up) = true
+hasOwnParameter (NameQuery i) = true
+hasOwnParameter (Query b) = false
+
+abbrev pub isRefusalTo : Command → ℕ → Bool
+isRefusalTo c n = hasOwnParameter c || not (eqb n 2)
 
 abbrev pub hoursMost : ℕ
 hoursMost = 99999

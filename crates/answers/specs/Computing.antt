@@ -3,10 +3,7 @@
 use Rattle.answers.specs.Lists.{gap}
 use Rattle.answers.specs.Said.{saidBytes}
 use Rattle.answers.specs.Carried.{saidBy}
-use Rattle.answers.specs.Reading.{powerNamed, readPower, mutesNamed, readMutes, readErrors, lampOf}
-use Rattle.answers.specs.Reading.{readLamps, readInputs, readParameter}
 
 unfoldable pub computing : Unit {0}
-unfolding
-    gap saidBytes saidBy powerNamed readPower mutesNamed readMutes readErrors lampOf readLamps readInputs readParameter
+unfolding gap saidBytes saidBy
 computing = tt

@@ -5,7 +5,8 @@
 --   powerText p        0 off, 1 on, 2 cooling, 3 warm-up: the characters, whatever hex 000 prints for the last two
 --   mutesText v a      11 video only, 21 audio only, 31 both, 30 neither
 --   lampText l         the hours, a space, 1 if lit, else 0
---   saidBytes m        the parameter
+--   saidText m         the parameter, row by row
+--   saidBytes m        the same, shut
 --   parameterMost      no parameter of a reply is longer
 --   bytesMost m        no answer of its kind has a longer one: 63 bytes for 8 lamps, 8 × 7 and 7 spaces (000 allows 65)
 --   saidMost           no answer has a longer one: an input's name of 128 bytes (02, L14)
@@ -57,19 +58,22 @@ refusalText n = ascii "ERR" ++ (numberDigit n ∷ [])
 abbrev pub lampText : LampHours → List ℕ
 lampText l = digits (l .hours) ++ (code " " ∷ switchDigit (l .lit) ∷ [])
 
+abbrev pub saidText : Said → List ℕ
+saidText okay = ascii "OK"
+saidText (refused n) = refusalText n
+saidText (powerIs p) = powerText p
+saidText (chosenIs i) = inputText i
+saidText (mutesAre video audio) = mutesText video audio
+saidText (errorsAre ds) = map numberDigit ds
+saidText (lampsAre ls) = joined lampText ls
+saidText (inputsAre is) = joined inputText is
+saidText (textIs s) = s
+saidText (classIs k) = numberDigit k ∷ []
+saidText (freezeIs on) = switchDigit on ∷ []
+saidText nothing = []
+
 unfoldable pub saidBytes : Said → List ℕ
-saidBytes okay = ascii "OK"
-saidBytes (refused n) = refusalText n
-saidBytes (powerIs p) = powerText p
-saidBytes (chosenIs i) = inputText i
-saidBytes (mutesAre video audio) = mutesText video audio
-saidBytes (errorsAre ds) = map numberDigit ds
-saidBytes (lampsAre ls) = joined lampText ls
-saidBytes (inputsAre is) = joined inputText is
-saidBytes (textIs s) = s
-saidBytes (classIs k) = numberDigit k ∷ []
-saidBytes (freezeIs on) = switchDigit on ∷ []
-saidBytes nothing = []
+saidBytes m = saidText m
 
 abbrev pub parameterMost : ℕ
 parameterMost = 128

@@ -1,5 +1,3 @@
-// What a projector can answer: the answer as a value, its bytes, and the reading of them.
+// What a projector can answer: the answer as a value, and its bytes.
 pub mod answer;
-mod list;
-pub mod read;
 pub mod write;

@@ -13,7 +13,7 @@ use Rattle.lines.specs.Forms.{replyParameter}
 use Rattle.lines.specs.declared.command.Command.{Command}
 use Rattle.answers.specs.Said.{Said, okay, refused, powerIs, chosenIs, mutesAre, errorsAre, lampsAre, inputsAre}
 use Rattle.answers.specs.Said.{textIs, classIs, freezeIs, nothing}
-use Rattle.answers.specs.Reading.{readParameter}
+use Rattle.replies.specs.Reading.{readParameter}
 use Rattle.controller.specs.Writing.{WrittenAs, nothingWritten, commandRoom, isWritable}
 use Rattle.controller.specs.Reading.{outcomeNumber, saying, readReply}
 use Rattle.controller.specs.declared.reading.Outcome.{Outcome}

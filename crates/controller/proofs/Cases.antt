@@ -16,7 +16,7 @@ use Rattle.lines.specs.Commands.{isCommand, bodyOf, commandClass, commandLine}
 use Rattle.lines.specs.Forms.{erraLine, greetingOpen, greetingSecured, isReplyForm, headBody, replyParameter}
 use Rattle.lines.specs.declared.command.Command.{Command}
 use Rattle.requests.specs.Requests.{isBody}
-use Rattle.answers.specs.Reading.{readParameter}
+use Rattle.replies.specs.Reading.{readParameter}
 use Rattle.controller.specs.Writing.{WrittenAs, nothingWritten, commandRoom, isWritable, ledBy, writtenCommand}
 use Rattle.controller.specs.Reading.{ReadAs, without, saying, readReply}
 use Rattle.controller.specs.Greetings.{greets, randomIn, readGreeting}

@@ -7,7 +7,7 @@ use mathlib.Core.List.{List}
 use Rattle.lines.specs.declared.command.Command.{Command}
 use Rattle.answers.specs.Said.{Said}
 use Rattle.answers.specs.Carried.{answerOf, saidBy, isSayable}
-use Rattle.answers.proofs.ReadSound.{CanRead, answer, no-answer, read-sound}
+use Rattle.replies.proofs.ReadSound.{CanRead, answer, no-answer, read-sound}
 use Rattle.answers.proofs.SaidPlain.{can-sayable}
 use Rattle.answers.proofs.SaidBack.{said-back}
 use Rattle.controller.specs.Reading.{readReply}

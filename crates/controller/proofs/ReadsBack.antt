@@ -29,10 +29,10 @@ use Rattle.requests.specs.Requests.{isBody}
 use Rattle.requests.proofs.BodiesNamed.{body-named}
 use Rattle.requests.specs.declared.Request.the-variants.{Asks}
 use Rattle.answers.specs.Said.{Said, saidBytes}
-use Rattle.answers.specs.Reading.{readParameter}
+use Rattle.replies.specs.Reading.{readParameter}
 use Rattle.answers.specs.CanSay.{CanSay}
 use Rattle.answers.proofs.Nothing.{says-something}
-use Rattle.answers.proofs.ReadsBack.{reads-back as parameter-reads-back}
+use Rattle.replies.proofs.ReadsBack.{reads-back as parameter-reads-back}
 use Rattle.record.specs.Limits.{placesCount, shut, awaiting, opened}
 use Rattle.record.specs.Legal.{isLegal}
 use Rattle.record.specs.Places.{connectionAt, withPlace}

@@ -19,10 +19,10 @@ use Rattle.requests.specs.Requests.{isBody}
 use Rattle.answers.specs.Said.{Said}
 use Rattle.answers.specs.Carried.{answerOf, isNothing}
 use Rattle.answers.specs.CanSay.{CanSay}
-use Rattle.answers.specs.Reading.{readParameter}
-use Rattle.answers.specs.Writings.{Says, Allowed, says, says-nothing}
-use Rattle.answers.proofs.ReadSound.{CanRead, no-answer, answer, read-sound}
-use Rattle.answers.proofs.ReadWritings.{written-is-read, not-allowed-says-nothing}
+use Rattle.replies.specs.Reading.{readParameter}
+use Rattle.replies.specs.Writings.{Says, Allowed, says, says-nothing}
+use Rattle.replies.proofs.ReadSound.{CanRead, no-answer, answer, read-sound}
+use Rattle.replies.proofs.ReadWritings.{written-is-read, not-allowed-says-nothing}
 use Rattle.controller.specs.Reading.{ReadAs, meaning, saying, readReply, LineSays}
 use Rattle.controller.specs.declared.reading.Outcome.{Outcome}
 use Rattle.controller.specs.declared.reading.Outcome.the-variants.{Means, Erra, NotALine, OtherCommand}

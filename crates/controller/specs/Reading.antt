@@ -20,8 +20,8 @@ use Rattle.lines.specs.declared.command.Command.{Command}
 use Rattle.requests.specs.Requests.{isBody}
 use Rattle.answers.specs.Said.{Said, nothing}
 use Rattle.answers.specs.Carried.{answerOf, isNothing}
-use Rattle.answers.specs.Reading.{readParameter}
-use Rattle.answers.specs.Writings.{Says}
+use Rattle.replies.specs.Reading.{readParameter}
+use Rattle.replies.specs.Writings.{Says}
 use Rattle.controller.specs.declared.reading.Outcome.{Outcome}
 use Rattle.controller.specs.declared.reading.Outcome.the-variants.{Means, Erra, NotALine, OtherCommand}
 use Rattle.controller.specs.declared.reading.Outcome.the-variants.{NotAllowed}

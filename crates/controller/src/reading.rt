@@ -2,7 +2,6 @@
 use answers::answer;
 use answers::answer::Answer;
 use answers::answer::Kind;
-use answers::read;
 use lines::command;
 use lines::command::Command;
 use lines::form;
@@ -54,7 +53,7 @@ pub fn read_reply(c: Command, line: &[u8]) -> Reading
         return meaningless(Outcome::OtherCommand);
     }
     let last = line.len() - 1;
-    let answer = read::read_parameter(c, &line[7..last]);
+    let answer = replies::read_parameter(c, &line[7..last]);
     let kind = answer.kind;
     let outcome = if answer::is_nothing(kind) {
         Outcome::NotAllowed

@@ -13,7 +13,7 @@ use Rattle.lines.specs.Forms.{erraLine, greetingOpen, isReplyForm, headBody, re
 use Rattle.lines.specs.Commands.{bodyOf, commandClass}
 use Rattle.lines.specs.declared.command.Command.{Command}
 use Rattle.requests.specs.Requests.{isBody}
-use Rattle.answers.specs.Writings.{Allowed}
+use Rattle.replies.specs.Writings.{Allowed}
 use Rattle.record.specs.Wanted.{Wanted}
 use Rattle.record.specs.Legal.{isLegal}
 use Rattle.record.specs.declared.types.Device.{Device}

@@ -5,6 +5,7 @@ use Rattle.numbers.specs.Computing.{computing as numbers}
 use Rattle.lines.specs.Computing.{computing as lines}
 use Rattle.requests.specs.Computing.{computing as requests}
 use Rattle.answers.specs.Computing.{computing as answers}
+use Rattle.replies.specs.Computing.{computing as replies}
 use Rattle.record.specs.Computing.{computing as records}
 use Rattle.form.specs.Computing.{computing as forms}
 use Rattle.stored.specs.Computing.{computing as stored}
@@ -18,6 +19,6 @@ use Rattle.demands.specs.History.{powerSet, history, marksAfter, reached
 
 unfoldable pub computing : Unit {0}
 unfolding
-    numbers lines requests answers records forms stored clock meaning stream device controller run powerSet history
-    marksAfter reached burningFrom
+    numbers lines requests answers replies records forms stored clock meaning stream device controller run powerSet
+    history marksAfter reached burningFrom
 computing = tt

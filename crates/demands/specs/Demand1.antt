@@ -29,7 +29,7 @@ use Rattle.lines.specs.Commands.{bodyOf, commandClass}
 use Rattle.lines.specs.declared.command.Command.{Command}
 use Rattle.requests.specs.Requests.{isBody}
 use Rattle.answers.specs.Said.{nothing}
-use Rattle.answers.specs.Writings.{Allowed}
+use Rattle.replies.specs.Writings.{Allowed}
 use Rattle.record.specs.Wanted.{Wanted}
 use Rattle.record.specs.Rules.{isLongEnough, isErrors}
 use Rattle.record.specs.Legal.{isLegal}

@@ -23,7 +23,7 @@ use Rattle.lines.proofs.FormsSpelt.{taken-by, form-takes, form-spelt}
 use Rattle.requests.specs.Requests.{isBody, askedOf}
 use Rattle.requests.specs.declared.Request.the-variants.{Asks}
 use Rattle.requests.proofs.PowerAsked.{isPowerSet, not-powr, powr-asked, power-parameter}
-use Rattle.answers.proofs.OnlyOkay.{okay-bytes}
+use Rattle.answers.proofs.SaidRows.{said-row}
 use Rattle.answers.specs.Said.{Said, okay, saidBytes}
 use Rattle.record.specs.declared.types.Settings.{Settings}
 use Rattle.record.specs.declared.types.Own.{Own}
@@ -62,7 +62,8 @@ module _ (a b c d : ℕ) (p : List ℕ) where
       ∙ and-false (isBody 1 (a ∷ b ∷ c ∷ d ∷ []) Powr)
 
 okay-said : (h a b c d : ℕ) (m : Said) → m ≡ okay → replyLine h a b c d (saidBytes m) ≡ replyLine h a b c d (ascii "OK")
-okay-said h a b c d m e = ap (λ (x : Said). replyLine h a b c d (saidBytes x)) e ∙ ap (replyLine h a b c d) okay-bytes
+okay-said h a b c d m e =
+    ap (λ (x : Said). replyLine h a b c d (saidBytes x)) e ∙ ap (replyLine h a b c d) (said-row okay)
 
 pub okay-reply : (a b c d : ℕ) → isBody 1 (a ∷ b ∷ c ∷ d ∷ []) Powr ≡ true
     → isPowerOkay (replyLine (code "1") a b c d (ascii "OK")) ≡ true

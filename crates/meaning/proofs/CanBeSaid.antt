@@ -24,7 +24,7 @@ use Rattle.requests.specs.declared.Request.{Request}
 use Rattle.requests.specs.declared.Request.the-variants.{Asks, Unlisted, UnknownBody}
 use Rattle.answers.specs.Said.{Said, saidBytes, saidMost}
 use Rattle.answers.specs.Carried.{inputsCarried, answerOf, saidBy, isSayable}
-use Rattle.answers.specs.Reading.{hasOwnParameter, isRefusalTo}
+use Rattle.answers.specs.CanSay.{hasOwnParameter, isRefusalTo}
 use Rattle.answers.specs.CanSay.{CanSay, done, refuses, power, input, mutes, errors, lamps, inputs, name, maker, model}
 use Rattle.answers.specs.CanSay.{other, class-is, freeze, serial, version, input-name, input-2, inputs-2, isLampHours}
 use Rattle.answers.proofs.SaidPlain.{can-sayable, can-said-back, said-most, said-plain}

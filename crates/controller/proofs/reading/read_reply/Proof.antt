@@ -13,7 +13,7 @@ use Rattle.text.specs.Scans.{sameBy, itself}
 use Rattle.lines.specs.Forms.{erraLine, isReplyForm, headBody}
 use Rattle.lines.specs.Commands.{bodyOf, commandClass}
 use Rattle.answers.specs.Carried.{answerOf, isNothing}
-use Rattle.answers.specs.Reading.{readParameter}
+use Rattle.replies.specs.Reading.{readParameter}
 use Rattle.answers.specs.declared.answer.Answer.{Answer}
 use Rattle.controller.specs.Reading.{readReply, readingOf}
 use Rattle.controller.specs.declared.reading.Outcome.the-variants.{Means, NotAllowed}
