@@ -21,6 +21,7 @@ use Rattle.lines.specs.Commands.{switchDigit}
 use Rattle.lines.specs.declared.command.Command.{Command}
 use Rattle.lines.proofs.Characters.{no-cr-of}
 use Rattle.lines.proofs.TextsTold.{name-long, info-long, input-name-long}
+use Rattle.lines.proofs.CommandLines.{input-no-cr}
 use Rattle.answers.specs.Said.{Said, okay, refused, powerIs, chosenIs, mutesAre, errorsAre, lampsAre, inputsAre}
 use Rattle.answers.specs.Said.{textIs, classIs, freezeIs, nothing, lampText, powerText, mutesText, saidBytes}
 use Rattle.answers.specs.Said.{parameterMost, saidMost, bytesMost}
@@ -33,7 +34,6 @@ use Rattle.answers.specs.declared.answer.Power.{Power}
 use Rattle.answers.specs.declared.answer.Power.the-variants.{Off, On, Cooling, WarmUp}
 use Rattle.answers.specs.declared.answer.LampHours.{LampHours}
 use Rattle.lines.proofs.TextsTold.{text-bytes, name-is-text}
-use Rattle.answers.proofs.Characters.{input-no-cr}
 use Rattle.answers.proofs.Characters.{numbers-are-digits}
 use Rattle.answers.proofs.PutLists.{joined-long}
 use Rattle.answers.proofs.Joined.{joined-every}

@@ -59,7 +59,7 @@ half-not-cr VideoHalf = refl
 half-not-cr AudioHalf = refl
 half-not-cr BothHalves = refl
 
-input-no-cr : (i : Input) → every notCr (inputText i) ≡ true
+pub input-no-cr : (i : Input) → every notCr (inputText i) ≡ true
 input-no-cr i = every-implies isAlnum notCr alnum-not-cr (inputText i) (input-alnum i)
 
 parameter-no-cr : (c : Command) → every notCr (parameterOf c) ≡ true

@@ -3,10 +3,13 @@ use crate::body;
 use crate::input;
 use crate::input::Input;
 ghost use mathlib.Core.Path.{_≡_};
+ghost use mathlib.Core.List.{_++_};
 ghost use Prim.Native.Nat.{_+_, _≤_};
 ghost use lib.ListN.{length};
 ghost use lib.Seq.{sets};
+ghost use Rattle.text.specs.Words.{ascii};
 ghost use Rattle.lines.specs.Bodies.{classOf};
+ghost use Rattle.lines.specs.Inputs.{inputText};
 ghost use Rattle.lines.specs.Commands.{bodyText, volumeBody, bodyOf, commandClass, classDigit, parameterOf};
 ghost use Rattle.lines.specs.Commands.{parameterBytes, switchDigit, halfDigit, isCommand, commandLine};
 
@@ -135,20 +138,21 @@ fn half_digit(h: Half) -> u8
     }
 }
 
+fn input_parameter(i: Input) -> Parameter
+    ensures { λ r. ⌜ parameterBytes r ≡ inputText i ⌝ }
+{
+    let t = input::input_text(i);
+    Parameter::Two(t[0], t[1])
+}
+
 fn parameter_of(c: Command) -> Parameter
     ensures { λ r. ⌜ parameterBytes r ≡ parameterOf c ⌝ }
 {
     match c {
         Command::PowerSet(on) => Parameter::One(switch_digit(on)),
-        Command::InputSet(i) => {
-            let t = input::input_text(i);
-            Parameter::Two(t[0], t[1])
-        }
+        Command::InputSet(i) => input_parameter(i),
         Command::MuteSet(h, on) => Parameter::Two(half_digit(h), switch_digit(on)),
-        Command::InputSet2(i) => {
-            let t = input::input_text(i);
-            Parameter::Two(t[0], t[1])
-        }
+        Command::InputSet2(i) => input_parameter(i),
         Command::FreezeSet(on) => Parameter::One(switch_digit(on)),
         Command::VolumeStep(_, up) => Parameter::One(switch_digit(up)),
         Command::NameQuery(i) => {
@@ -165,6 +169,28 @@ fn class_digit(b: Body) -> u8
     b'0' + body::row_of(b).class
 }
 
+// The parameter and CR into out, from the place `at` on; the place after them.
+fn put_parameter(out: &mut [u8], at: usize, p: Parameter) -> usize
+    requires { ⌜ at + 4 ≤ length (now out) ⌝ }
+    ensures { λ r. ⌜ r ≡ at + length (parameterBytes p ++ ascii "\r") ⌝ }
+    ensures { λ _. ⌜ now (out .exit) ≡ sets (now (out .entry)) at (parameterBytes p ++ ascii "\r") ⌝ }
+{
+    match p {
+        Parameter::One(x) => {
+            text::put(out, at, &[x, b'\r']);
+            at + 2
+        }
+        Parameter::Two(x, y) => {
+            text::put(out, at, &[x, y, b'\r']);
+            at + 3
+        }
+        Parameter::Three(x, y, z) => {
+            text::put(out, at, &[x, y, z, b'\r']);
+            at + 4
+        }
+    }
+}
+
 // The command's line into out, from the place `at` on; the place after it.
 pub fn put_command(out: &mut [u8], at: usize, c: Command) -> usize
     requires { ⌜ at + 11 ≤ length (now out) ⌝ }
@@ -175,21 +201,6 @@ pub fn put_command(out: &mut [u8], at: usize, c: Command) -> usize
     let h = class_digit(body);
     let b = body_text(body);
     let p = parameter_of(c);
-    match p {
-        Parameter::One(x) => {
-            let line = [b'%', h, b[0], b[1], b[2], b[3], b' ', x, b'\r'];
-            text::put(out, at, &line);
-            at + 9
-        }
-        Parameter::Two(x, y) => {
-            let line = [b'%', h, b[0], b[1], b[2], b[3], b' ', x, y, b'\r'];
-            text::put(out, at, &line);
-            at + 10
-        }
-        Parameter::Three(x, y, z) => {
-            let line = [b'%', h, b[0], b[1], b[2], b[3], b' ', x, y, z, b'\r'];
-            text::put(out, at, &line);
-            at + 11
-        }
-    }
+    text::put(out, at, &[b'%', h, b[0], b[1], b[2], b[3], b' ']);
+    put_parameter(out, at + 7, p)
 }
