@@ -1,20 +1,14 @@
--- Things joined by spaces: two lists one after the other, and what holds of every byte.
+-- Things joined by spaces: what holds of every byte.
 -- Assumes nothing.
 use Prim.Native.Nat.{ℕ}
 use Prim.Native.Char.{code}
-use mathlib.Core.Path.{_≡_, refl, sym, ap, _∙_}
+use mathlib.Core.Path.{_≡_, refl}
 use mathlib.Core.Bool.{Bool, true}
-use mathlib.Core.List.{List, [], _∷_, _++_, append-assoc}
+use mathlib.Core.List.{List, [], _∷_}
 use Rattle.text.specs.Scans.{every}
 use Rattle.text.proofs.Choices.{both, both-left, both-right}
 use Rattle.text.proofs.Scanning.{every-append}
 use Rattle.answers.specs.Lists.{spaced, joined}
-
-pub spaced-append : {A : Type 0} (w : A → List ℕ) (xs ys : List A) → spaced w (xs ++ ys) ≡ spaced w xs ++ spaced w ys
-spaced-append w [] ys = refl
-spaced-append w (x ∷ xs) ys =
-    ap (λ (l : List ℕ). code " " ∷ (w x ++ l)) (spaced-append w xs ys)
-    ∙ ap (λ (l : List ℕ). code " " ∷ l) (sym (append-assoc (w x) (spaced w xs) (spaced w ys)))
 
 -- what holds of each byte of each thing, and of a space, holds of each byte
 module _ {A : Type 0} (w : A → List ℕ) (P : A → Bool) where

@@ -14,25 +14,22 @@ use lib.Dec.{eqb}
 use borrow.Author.Tests.{ne-eqb}
 use Rattle.text.specs.Scans.{every}
 use Rattle.text.proofs.Choices.{if-all, both-left, both-right}
+use Rattle.text.proofs.InTurn.{turns-snoc}
 use Rattle.text.proofs.Stores.{sets-then}
 use Rattle.answers.specs.Lists.{spaced, gap, joined}
-use Rattle.answers.proofs.Joined.{spaced-append}
 
 pub gap-short : (i : ℕ) → length (gap i) ≤ 1
 unfolding gap
 gap-short i = if-all (λ (l : List ℕ). length l ≤ 1) (eqb i 0) (omega arith) (omega arith)
 
 module _ {A : Type 0} (w : A → List ℕ) where
-  spaced-snoc : (xs : List A) (y : A) → spaced w (xs ++ (y ∷ [])) ≡ spaced w xs ++ (code " " ∷ w y)
-  spaced-snoc xs y =
-      spaced-append w xs (y ∷ []) ∙ ap (λ (l : List ℕ). spaced w xs ++ (code " " ∷ l)) (append-nil (w y))
-
   joined-snoc : (xs : List A) (y : A) → joined w (xs ++ (y ∷ [])) ≡ joined w xs ++ (gap (length xs) ++ w y)
   unfolding gap
   joined-snoc [] y = append-nil (w y)
   joined-snoc (x ∷ xs) y =
       rw (ne-eqb (suc (length xs)) 0 (omega arith))
-      (ap (λ (l : List ℕ). w x ++ l) (spaced-snoc xs y) ∙ sym (append-assoc (w x) (spaced w xs) (code " " ∷ w y)))
+      (ap (λ (l : List ℕ). w x ++ l) (turns-snoc (λ (z : A). code " " ∷ w z) xs y)
+      ∙ sym (append-assoc (w x) (spaced w xs) (code " " ∷ w y)))
 
   joined-more : (xs : List A) (i : ℕ) (d : A) → i < length xs
       → joined w (take (i + 1) xs) ≡ joined w (take i xs) ++ (gap i ++ w (getD xs i d))

@@ -8,10 +8,10 @@ use Prim.Native.Char.{code}
 use mathlib.Core.List.{List, [], _∷_, _++_}
 use lib.Dec.{eqb}
 use Rattle.text.specs.Words.{ascii, if_then_else_}
+use Rattle.text.specs.InTurn.{eachInTurn}
 
 abbrev pub spaced : {A : Type 0} → (A → List ℕ) → List A → List ℕ
-spaced w [] = []
-spaced w (x ∷ xs) = code " " ∷ (w x ++ spaced w xs)
+spaced w xs = eachInTurn (λ x. code " " ∷ w x) xs
 
 abbrev pub joined : {A : Type 0} → (A → List ℕ) → List A → List ℕ
 joined w [] = []

@@ -4,13 +4,13 @@ use Prim.Native.Nat.{ℕ, _+_, _*_, _≤_, _<_}
 use mathlib.Core.Path.{_≡_, refl, sym, ap, _∙_}
 use mathlib.Core.Bool.{Bool, true, false, _&&_}
 use mathlib.Core.List.{List, [], _∷_, _++_, append-assoc}
-use native.Mathlib.Numerals.{add-one}
 use native.Mathlib.Omega.{arith}
 use lib.ListN.{length, getD, set, take, length-append}
-use lib.Seq.{take-suc, take-all, length-take-le}
+use lib.Seq.{take-all, length-take-le}
 use lib.Dec.{ltb}
 use borrow.Author.Tests.{ltb-true, ltb-false}
 use Rattle.text.proofs.Choices.{both-left, both-right}
+use Rattle.text.proofs.InTurn.{turns-long, one-turn-more}
 use Rattle.text.proofs.Stores.{sets-snoc}
 use Rattle.lines.specs.Sources.{numberCharacter}
 use Rattle.lines.specs.Inputs.{inputText, sourceDigit}
@@ -42,14 +42,6 @@ all-passed {A} l k room count long h = by (ltb k room) refl
         let past = ltb-false k room e in
         take-all k l (omega arith) ∙ sym (take-all count l (omega arith))
 
-characters-snoc : (xs : List Input) (i : Input) → characters (xs ++ (i ∷ [])) ≡ characters xs ++ inputText i
-characters-snoc [] i = refl
-characters-snoc (x ∷ xs) i = ap (λ (l : List ℕ). inputText x ++ l) (characters-snoc xs i)
-
-characters-long : (xs : List Input) → length (characters xs) ≡ 2 * length xs
-characters-long [] = refl
-characters-long (x ∷ xs) = omega (arith, characters-long xs)
-
 -- one turn: two stores for one input more
 pub one-more-input : (l : List Input) (k : ℕ) (d : Input) {pairs : List ℕ} → k < length l
     → pairs ≡ filledTo 64 0 (characters (take k l))
@@ -60,11 +52,10 @@ one-more-input l k d {pairs} h e =
     let before = characters (take k l) in
     let a = sourceDigit (i .source) in
     let long : length before ≡ 2 * k
-    = characters-long (take k l) ∙ ap (λ (j : ℕ). 2 * j) (length-take-le k l (omega arith)) in
+    = turns-long inputText 2 (λ x. refl) (take k l) ∙ ap (λ (j : ℕ). 2 * j) (length-take-le k l (omega arith)) in
     let first : set pairs (2 * k) a ≡ filledTo 64 0 (before ++ (a ∷ []))
     = sets-snoc noCharacters 0 before a e (omega arith) in
     sets-snoc noCharacters 0 (before ++ (a ∷ [])) (numberCharacter (i .number)) first
     (omega (arith, length-append before (a ∷ [])))
     ∙ ap (filledTo 64 0) (append-assoc before (a ∷ []) (numberCharacter (i .number) ∷ [])
-    ∙ sym (characters-snoc (take k l) i)
-    ∙ ap characters (sym (ap (λ (j : ℕ). take j l) (add-one k) ∙ take-suc l k d h)))
+    ∙ sym (one-turn-more inputText l k d h))

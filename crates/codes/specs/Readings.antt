@@ -5,9 +5,10 @@
 -- Assumes nothing.
 use Prim.Native.Nat.{ℕ}
 use mathlib.Core.Bool.{Bool, false}
-use mathlib.Core.List.{List, [], _∷_, _++_, map}
+use mathlib.Core.List.{List, [], map}
 use lib.ListN.{length, replicate}
 use lib.Seq.{sets}
+use Rattle.text.specs.InTurn.{eachInTurn}
 use Rattle.lines.specs.Inputs.{inputText}
 use Rattle.lines.specs.declared.input.Input.{Input}
 use Rattle.answers.specs.Said.{Said, okay, refused, powerIs, chosenIs, mutesAre, errorsAre, lampsAre, inputsAre}
@@ -92,8 +93,7 @@ withLamps ls =
 
 -- two characters an input
 abbrev pub characters : List Input → List ℕ
-characters [] = []
-characters (i ∷ is) = inputText i ++ characters is
+characters is = eachInTurn inputText is
 
 abbrev pub withInputs : List Input → FlatReading
 withInputs is = flatOf 0 8 0 0 (length is) noHours noneLit (filledTo 64 0 (characters is)) noBytes

@@ -7,11 +7,11 @@
 -- receiving as device/specs/Calls has them, those of a mark as record/specs/HostCalls has them (02, L8), with
 -- `replyRoom` and `isNoPlace`, and `isShut`, `connectionAt`, `lowestShut` of record/specs/Places (02, L5), those of
 -- storing and loading as form/specs/Form and stored/specs/Loading have them, against 02's order (L3), with numbers in
--- bytes as numbers/specs/HighestFirst has them; what is legal and what is in range (record/specs: Limits, Rules, Legal,
--- SetUp, and `blank` of Record; lines/specs: Bytes, Inputs, Texts; utf8/specs: Utf8); the length 168 (`commandRoom` of
--- controller/specs/Writing); for the readers, the forms of lines (lines/specs: Forms, Commands; `isBody` of
--- requests/specs/Requests) and which parameter says what (answers/specs: Lists, Said, CanSay; replies/specs: Words, Writings;
--- `greets`, `randomIn` of controller/specs/Greetings); here Board and Calls.
+-- bytes as numbers/specs/HighestFirst has them; what is legal and what is in range (record/specs: Limits, Rules,
+-- Legal, SetUp, and `blank` of Record; lines/specs: Bytes, Inputs, Texts; utf8/specs: Utf8); the length 168
+-- (`commandRoom` of controller/specs/Writing); for the readers, the forms of lines (lines/specs: Forms, Commands;
+-- `isBody` of requests/specs/Requests) and which parameter says what (answers/specs: Lists, Said, CanSay;
+-- replies/specs: Words, Writings; `greets`, `randomIn` of controller/specs/Greetings); here Board and Calls.
 --   rowsOf d c          the rows that the call c can meet, in the table's order; so for set-up, writer and readers
 --   Inside m r          a call that is lent the memory m stays in it, and changes no byte past its reply
 --   Untouched m r       it took nothing, replied nothing and wrote nothing

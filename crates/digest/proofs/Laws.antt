@@ -4,7 +4,7 @@
 -- Assumes nothing.
 use mathlib.Core.Path.{_≡_, refl, ap, _∙_}
 use mathlib.Core.Bool.{Bool, true, false, not, _&&_, _||_}
-use mathlib.Core.List.{List, [], _∷_}
+use mathlib.Core.List.{List}
 use mathlib.Core.Logic.{_⊎_, inl, inr}
 use Prim.Native.Nat.{ℕ, _*_, _^_, _≤_, _<_}
 use Prim.Native.Char.{code}
@@ -16,7 +16,8 @@ use Rattle.text.specs.Words.{_is_, _from_to_}
 use Rattle.text.specs.Scans.{every}
 use Rattle.text.proofs.Choices.{if-by, both-left, both-right}
 use Rattle.text.proofs.Bases.{low-digits-length, low-digits-pass, low-digits-back, value-below}
-use Rattle.text.proofs.Scanning.{every-append, every-at, every-implies}
+use Rattle.text.proofs.InTurn.{turns-long, turns-pass}
+use Rattle.text.proofs.Scanning.{every-at, every-implies}
 use Rattle.digest.specs.Md5.{md5Of}
 use Rattle.digest.specs.Hex.{hexDigit, hexWorth, hexOf, hexDigits, hexValue, isHexDigit, leadingDigest}
 use Rattle.digest.proofs.Tables.{digit-is-hex, digit-worth}
@@ -25,10 +26,12 @@ pub md5-length : (s : List ℕ) → length (md5Of s) ≡ 16
 unfolding md5Of
 md5-length s = refl
 
+pub hex-digits-length : (n x : ℕ) → length (hexDigits n x) ≡ n
+hex-digits-length = low-digits-length 16 hexDigit
+
 pub hex-length : (xs : List ℕ) → length (hexOf xs) ≡ 2 * length xs
 unfolding hexOf
-hex-length [] = refl
-hex-length (x ∷ xs) = let h = hex-length xs in omega arith
+hex-length = turns-long (hexDigits 2) 2 (hex-digits-length 2)
 
 pub hex-of-md5-length : (s : List ℕ) → length (hexOf (md5Of s)) ≡ 32
 hex-of-md5-length s = hex-length (md5Of s) ∙ ap (λ (n : ℕ). 2 * n) (md5-length s)
@@ -38,9 +41,6 @@ leading-digest-length random password = hex-of-md5-length _
 
 pub between : (l h b : ℕ) → (leb l b && leb b h) ≡ true → (l ≤ b) × (b ≤ h)
 between l h b e = (leb-true l b (both-left (leb l b) (leb b h) e), leb-true b h (both-right (leb l b) (leb b h) e))
-
-pub hex-digits-length : (n x : ℕ) → length (hexDigits n x) ≡ n
-hex-digits-length = low-digits-length 16 hexDigit
 
 pub hex-digits-are-digits : (n x : ℕ) → every isHexDigit (hexDigits n x) ≡ true
 hex-digits-are-digits = low-digits-pass 16 hexDigit isHexDigit (omega arith) digit-is-hex
@@ -61,9 +61,7 @@ hex-value-below s = value-below 16 hexWorth s (λ i h. hex-worth-small (getD s i
 
 pub hex-are-digits : (xs : List ℕ) → every isHexDigit (hexOf xs) ≡ true
 unfolding hexOf
-hex-are-digits [] = refl
-hex-are-digits (x ∷ xs) =
-    every-append isHexDigit (hexDigits 2 x) (hexOf xs) (hex-digits-are-digits 2 x) (hex-are-digits xs)
+hex-are-digits = turns-pass (hexDigits 2) isHexDigit (hex-digits-are-digits 2)
 
 abbrev pub BetweenDigits : ℕ → Type 0
 BetweenDigits b = ((code "0" ≤ b) × (b ≤ code "9")) ⊎ ((code "a" ≤ b) × (b ≤ code "f"))

@@ -10,9 +10,10 @@
 use Prim.Native.Nat.{ℕ, _+_, _-_}
 use Prim.Native.Char.{code}
 use mathlib.Core.Bool.{Bool, _||_}
-use mathlib.Core.List.{List, [], _∷_, _++_}
+use mathlib.Core.List.{List, _++_}
 use lib.ListN.{getD}
 use Rattle.text.specs.Words.{ascii, if_then_else_, _from_to_}
+use Rattle.text.specs.InTurn.{eachInTurn}
 use Rattle.text.specs.Bases.{valueIn, lowDigits}
 use Rattle.digest.specs.Md5.{md5Of}
 
@@ -32,8 +33,7 @@ abbrev pub hexValue : List ℕ → ℕ
 hexValue s = valueIn 16 hexWorth 0 s
 
 unfoldable pub hexOf : List ℕ → List ℕ
-hexOf [] = []
-hexOf (x ∷ xs) = hexDigits 2 x ++ hexOf xs
+hexOf xs = eachInTurn (hexDigits 2) xs
 
 abbrev pub isHexDigit : ℕ → Bool
 isHexDigit b = b from "0" to "9" || b from "a" to "f"

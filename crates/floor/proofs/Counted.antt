@@ -12,7 +12,7 @@ use borrow.Author.Tests.{le-leb, eqb-false}
 use Rattle.text.specs.Words.{_is_}
 use Rattle.text.proofs.Choices.{if-all, if-by, both}
 use Rattle.stream.specs.Machine.{uncut}
-use Rattle.stream.proofs.LinesSpelt.{uncut-more}
+use Rattle.stream.proofs.WholeParts.{uncut-more}
 use Rattle.floor.specs.Events.{linesFrom}
 use Rattle.floor.specs.WholeLog.{noneLonger, Countable}
 

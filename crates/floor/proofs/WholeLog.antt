@@ -17,7 +17,7 @@ use borrow.Author.Tests.{leb-true}
 use Rattle.text.proofs.Choices.{both-left, both-right}
 use Rattle.record.specs.declared.types.Device.{Device}
 use Rattle.stream.specs.Machine.{Out, Took, tookBytes, handedParts, uncut}
-use Rattle.stream.proofs.LinesSpelt.{uncut-more}
+use Rattle.stream.proofs.WholeParts.{uncut-more}
 use Rattle.stream.proofs.SameHoweverCut.{outThrough, tookThrough, Taking, parts-run}
 use Rattle.log.specs.Lines.{lineMost}
 use Rattle.events.specs.Doing.{printRoom}

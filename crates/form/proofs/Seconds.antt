@@ -3,11 +3,11 @@
 -- Assumes nothing.
 use Prim.Native.Nat.{ℕ, _+_, _*_, _≤_, _<_}
 use mathlib.Core.Path.{_≡_, refl, sym, ap, _∙_}
-use mathlib.Core.List.{List, [], _∷_, _++_, append-assoc, append-nil}
-use native.Mathlib.Numerals.{add-one}
+use mathlib.Core.List.{List, [], _∷_, _++_}
 use native.Mathlib.Omega.{arith}
-use lib.ListN.{length, getD, take, length-append}
-use lib.Seq.{sets, length-sets, take-suc, length-take-le}
+use lib.ListN.{length, getD, take}
+use lib.Seq.{sets, length-sets, length-take-le}
+use Rattle.text.proofs.InTurn.{turns-long, one-turn-more}
 use Rattle.text.proofs.Stores.{sets-then}
 use Rattle.numbers.specs.HighestFirst.{highestFirst}
 use Rattle.numbers.proofs.HighestFirst.{highest-length}
@@ -23,26 +23,7 @@ first-seconds x xs = refl
 
 pub seconds-long : (xs : List ℕ) → length (secondsBytes xs) ≡ 4 * length xs
 unfolding secondsBytes
-seconds-long [] = refl
-seconds-long (x ∷ xs) =
-    length-append (highestFirst 4 x) (secondsBytes xs)
-    ∙ omega (arith, highest-length 4 x, seconds-long xs)
-
-seconds-append : (xs ys : List ℕ) → secondsBytes (xs ++ ys) ≡ secondsBytes xs ++ secondsBytes ys
-unfolding secondsBytes
-seconds-append [] ys = refl
-seconds-append (x ∷ xs) ys =
-    ap (λ (l : List ℕ). highestFirst 4 x ++ l) (seconds-append xs ys)
-    ∙ sym (append-assoc (highestFirst 4 x) (secondsBytes xs) (secondsBytes ys))
-
-pub seconds-more : (xs : List ℕ) (i : ℕ) → i < length xs
-    → secondsBytes (take (i + 1) xs) ≡ secondsBytes (take i xs) ++ highestFirst 4 (getD xs i 0)
-unfolding secondsBytes
-seconds-more xs i h =
-    ap (λ (k : ℕ). secondsBytes (take k xs)) (add-one i)
-    ∙ ap secondsBytes (take-suc xs i 0 h)
-    ∙ seconds-append (take i xs) (getD xs i 0 ∷ [])
-    ∙ ap (λ (l : List ℕ). secondsBytes (take i xs) ++ l) (append-nil (highestFirst 4 (getD xs i 0)))
+seconds-long = turns-long (highestFirst 4) 4 (highest-length 4)
 
 module _ (lent : List ℕ) (p : ℕ) (xs : List ℕ) (n : ℕ) where
   pub record SecondsPut (out : List ℕ) (i : ℕ) : Type 0 where
@@ -59,6 +40,7 @@ module _ (lent : List ℕ) (p : ℕ) (xs : List ℕ) (n : ℕ) where
 
     pub one-put : {m : List ℕ} → i < n → n ≤ length xs → m ≡ sets out (p + 4 * i) (highestFirst 4 (getD xs i 0))
         → SecondsPut m (i + 1)
+    unfolding secondsBytes
     one-put h k e =
         let before = secondsBytes (take i xs) in
         let long : length before ≡ 4 * i
@@ -68,7 +50,7 @@ module _ (lent : List ℕ) (p : ℕ) (xs : List ℕ) (n : ℕ) where
           stored =
               e
               ∙ sets-then lent p before (highestFirst 4 (getD xs i 0)) (put .stored) (omega arith)
-              ∙ ap (sets lent p) (sym (seconds-more xs i (omega arith)));
+              ∙ ap (sets lent p) (sym (one-turn-more (highestFirst 4) xs i 0 (omega arith)));
         }
 
     pub all-put : n ≤ i → out ≡ sets lent p (secondsBytes (take n xs))

@@ -1,8 +1,9 @@
 -- Texts written one after the other, each after its count (02, L14): none, the first, and one more.
 -- Assumes nothing.
 use Prim.Native.Nat.{ℕ}
-use mathlib.Core.Path.{_≡_, refl, sym, ap, _∙_}
-use mathlib.Core.List.{List, [], _∷_, _++_, append-assoc, append-nil}
+use mathlib.Core.Path.{_≡_, refl}
+use mathlib.Core.List.{List, [], _∷_, _++_}
+use Rattle.text.proofs.InTurn.{turns-snoc}
 use Rattle.form.specs.Form.{textSection, textsBytes}
 
 pub no-texts : textsBytes [] ≡ []
@@ -15,7 +16,4 @@ first-text t ts = refl
 
 pub texts-snoc : (ts : List (List ℕ)) (t : List ℕ) → textsBytes (ts ++ (t ∷ [])) ≡ textsBytes ts ++ textSection t
 unfolding textsBytes
-texts-snoc [] t = append-nil (textSection t)
-texts-snoc (x ∷ ts) t =
-    ap (λ (l : List ℕ). textSection x ++ l) (texts-snoc ts t)
-    ∙ sym (append-assoc (textSection x) (textsBytes ts) (textSection t))
+texts-snoc = turns-snoc textSection

@@ -35,6 +35,7 @@ use mathlib.Core.List.{List, [], _∷_, _++_, map}
 use lib.ListN.{length, take}
 use lib.Dec.{ltb, eqb}
 use Rattle.text.specs.Words.{if_then_else_}
+use Rattle.text.specs.InTurn.{eachInTurn}
 use Rattle.text.specs.Rows.{Row, _when_, byRows}
 use Rattle.numbers.specs.HighestFirst.{highestFirst}
 use Rattle.record.specs.Limits.{onlyIn2}
@@ -61,8 +62,7 @@ abbrev pub textSection : List ℕ → List ℕ
 textSection s = section (length s) s
 
 unfoldable pub secondsBytes : List ℕ → List ℕ
-secondsBytes [] = []
-secondsBytes (x ∷ xs) = highestFirst 4 x ++ secondsBytes xs
+secondsBytes xs = eachInTurn (highestFirst 4) xs
 
 abbrev pub markByte : Bool → ℕ
 markByte false = 0
@@ -72,8 +72,7 @@ abbrev pub marksSection : List Bool → List ℕ
 marksSection ms = section (length ms) (map markByte ms)
 
 unfoldable pub textsBytes : List (List ℕ) → List ℕ
-textsBytes [] = []
-textsBytes (t ∷ ts) = textSection t ++ textsBytes ts
+textsBytes ts = eachInTurn textSection ts
 
 abbrev pub textsOf2 : Wanted → List (List ℕ)
 textsOf2 w = w .serial ∷ w .version ∷ w .names

@@ -2,37 +2,22 @@
 -- Assumes nothing.
 use Prim.Native.Nat.{ℕ, _+_, _*_, _≤_, _<_}
 use mathlib.Core.Path.{_≡_, refl, sym, ap, _∙_}
-use mathlib.Core.List.{List, [], _∷_, _++_, append-nil, append-assoc}
+use mathlib.Core.List.{List, [], _∷_, _++_, append-assoc}
 use native.Mathlib.Nat.{add-zero}
-use native.Mathlib.Numerals.{add-one}
 use native.Mathlib.Omega.{arith}
 use lib.ListN.{length, getD, take, length-append}
-use lib.Seq.{sets, take-suc, take-all, length-take-le}
+use lib.Seq.{sets, take-all, length-take-le}
 use Rattle.text.specs.Words.{ascii}
+use Rattle.text.proofs.InTurn.{one-turn-more}
 use Rattle.text.proofs.Stores.{sets-then}
 use Rattle.numbers.specs.Decimal.{digits}
 use Rattle.numbers.proofs.Digits.{digits-at-most-10}
-use Rattle.log.specs.LastLine.{lampsShown}
-
-abbrev one : ℕ → List ℕ
-one x = ascii " " ++ digits x
-
-shown-append : (xs ys : List ℕ) → lampsShown (xs ++ ys) ≡ lampsShown xs ++ lampsShown ys
-shown-append [] ys = refl
-shown-append (x ∷ xs) ys =
-    ap (λ (s : List ℕ). one x ++ s) (shown-append xs ys) ∙ sym (append-assoc (one x) (lampsShown xs) (lampsShown ys))
-
-shown-more : (xs : List ℕ) (k : ℕ) → k < length xs
-    → lampsShown (take (k + 1) xs) ≡ lampsShown (take k xs) ++ one (getD xs k 0)
-shown-more xs k h =
-    ap lampsShown (ap (λ (n : ℕ). take n xs) (add-one k) ∙ take-suc xs k 0 h)
-    ∙ shown-append (take k xs) (getD xs k 0 ∷ [])
-    ∙ ap (λ (s : List ℕ). lampsShown (take k xs) ++ s) (append-nil (one (getD xs k 0)))
+use Rattle.log.specs.LastLine.{lampShown, lampsShown}
 
 pub shown-short : (xs : List ℕ) → length (lampsShown xs) ≤ 11 * length xs
 shown-short [] = omega arith
 shown-short (x ∷ xs) =
-    omega (arith, length-append (one x) (lampsShown xs), digits-at-most-10 x, shown-short xs)
+    omega (arith, length-append (lampShown x) (lampsShown xs), digits-at-most-10 x, shown-short xs)
 
 module _ (out : List ℕ) (at : ℕ) (lamps : List ℕ) (count : ℕ) where
   pub record PutTo (m : List ℕ) (place k : ℕ) : Type 0 where
@@ -55,15 +40,16 @@ module _ (out : List ℕ) (at : ℕ) (lamps : List ℕ) (count : ℕ) where
     one-put h c e f g =
         let x = getD lamps k 0 in
         let text = lampsShown (take k lamps) in
+        let more = one-turn-more lampShown lamps k 0 h in
         let spaced = sets-then out at text (ascii " ") (p .stored) (p .counted) in
         let sum : place + 1 ≡ at + length (text ++ ascii " ") =
         omega (arith, p .counted, length-append text (ascii " ")) in
         let whole : text ++ ascii " " ++ digits x ≡ lampsShown (take (k + 1) lamps) =
-        append-assoc text (ascii " ") (digits x) ∙ sym (shown-more lamps k h) in
+        append-assoc text (ascii " ") (digits x) ∙ sym more in
         record {
           inside = omega arith;
           few = omega arith;
-          counted = omega (arith, g, p .counted, ap length (shown-more lamps k h), length-append text (one x));
+          counted = omega (arith, g, p .counted, ap length more, length-append text (lampShown x));
           stored = f ∙ sets-then out at (text ++ ascii " ") (digits x) (e ∙ spaced) sum ∙ ap (sets out at) whole;
         }
 

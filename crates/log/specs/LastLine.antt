@@ -1,19 +1,22 @@
 -- The last line that is printed for a log (02, L1: "after the last, one line with power and lamp seconds").
---   lampsShown lamps        a space and the seconds, for each lamp
+--   lampShown x             a space and the seconds x of a lamp; lampsShown, those of each
 --   lampsRoom, lastRoom     so much room these, and the line, never need more than
 --   lastLineOf power lamps  the line
 --   lastLine d              that of a device
 -- Assumes nothing.
 use Prim.Native.Nat.{ℕ}
-use mathlib.Core.List.{List, [], _∷_, _++_}
+use mathlib.Core.List.{List, _++_}
 use lib.ListN.{take}
 use Rattle.text.specs.Words.{ascii}
+use Rattle.text.specs.InTurn.{eachInTurn}
 use Rattle.numbers.specs.Decimal.{digits}
 use Rattle.record.specs.declared.types.Device.{Device}
 
+abbrev pub lampShown : ℕ → List ℕ
+lampShown x = ascii " " ++ digits x
+
 abbrev pub lampsShown : List ℕ → List ℕ
-lampsShown [] = []
-lampsShown (x ∷ xs) = ascii " " ++ digits x ++ lampsShown xs
+lampsShown lamps = eachInTurn lampShown lamps
 
 -- a space and ten digits for each of eight; and 23 bytes more
 abbrev pub lampsRoom : ℕ

@@ -8,8 +8,8 @@ use mathlib.Core.Bool.{Bool, true}
 use mathlib.Core.List.{List, [], _∷_, _++_}
 use native.Mathlib.Omega.{arith}
 use Rattle.text.specs.Scans.{every}
+use Rattle.text.proofs.InTurn.{turns-append}
 use Rattle.text.proofs.Scanning.{every-append}
-use Rattle.answers.proofs.Joined.{spaced-append}
 use Rattle.replies.specs.Words.{SpacedBy, no-more, wordsOf, Got, none, all, _andThen_}
 use Rattle.replies.proofs.Spaced.{none-spaced, spaced-then}
 use Rattle.replies.proofs.Words.{bySpaces, words-spaced}
@@ -27,7 +27,7 @@ module _ {A : Type 0} (W : A → List ℕ → Type 0) (P : A → Bool) where
   reads-then us ws (read xs good text) not-read = not-read
   reads-then us ws (read xs good text) (read ys goods texts) =
       read (xs ++ ys) (every-append P xs ys good goods)
-      (subst (SpacedBy W (xs ++ ys)) (sym (spaced-append (λ (u : List ℕ). u) us ws)) (spaced-then text texts))
+      (subst (SpacedBy W (xs ++ ys)) (sym (turns-append (λ (u : List ℕ). code " " ∷ u) us ws)) (spaced-then text texts))
 
   -- what holds of none, and of the things that a text is, holds of what is read
   pub words-by : (reads : List (List ℕ) → Got A) → ((ws : List (List ℕ)) → Reads ws (reads ws))

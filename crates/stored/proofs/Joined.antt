@@ -1,8 +1,8 @@
 -- Texts that were read, without their counts (02, L14): as set-up is lent them, and where each stands.
 -- Assumes nothing.
 use Prim.Native.Nat.{ℕ, suc, _+_, _-_, _≤_}
-use mathlib.Core.Path.{_≡_, refl, sym, ap, _∙_}
-use mathlib.Core.List.{List, [], _∷_, _++_, map, append-assoc}
+use mathlib.Core.Path.{_≡_, refl, ap, _∙_}
+use mathlib.Core.List.{List, [], _∷_, map}
 use native.Mathlib.Nat.{add-zero}
 use native.Mathlib.Omega.{arith}
 use lib.ListN.{length, take, drop, length-append}
@@ -34,11 +34,6 @@ names-joined ts =
     if-yes (cutBy (map length ts) (joinedTexts ts)) []
     (eq-eqb (totalOf (map length ts)) (length (joinedTexts ts)) (lengths-add-up ts))
     ∙ cut-again ts
-
-pub joined-append : (ts us : List (List ℕ)) → joinedTexts (ts ++ us) ≡ joinedTexts ts ++ joinedTexts us
-joined-append [] us = refl
-joined-append (t ∷ ts) us =
-    ap (λ (l : List ℕ). t ++ l) (joined-append ts us) ∙ sym (append-assoc t (joinedTexts ts) (joinedTexts us))
 
 bytes-long : (ts : List (List ℕ)) → length (textsBytes ts) ≡ length (joinedTexts ts) + length ts
 bytes-long [] = ap length no-texts

@@ -5,11 +5,12 @@
 -- Assumes nothing.
 use Prim.Native.Nat.{ℕ, _+_, _-_, _≤_, _<_}
 use mathlib.Core.Path.{_≡_, sym, ap, _∙_}
-use mathlib.Core.List.{List, [], _∷_, _++_, map, map-append, append-nil}
+use mathlib.Core.List.{List, [], _∷_, _++_, map, map-append}
 use native.Mathlib.Nat.{zero-add}
 use native.Mathlib.Omega.{arith}
 use lib.ListN.{length, set, take, drop, length-append, length-map, length-replicate, length-drop}
 use lib.Seq.{sets, length-sets, getD-drop, drop-drop, length-take-le}
+use Rattle.text.proofs.InTurn.{turns-snoc}
 use Rattle.text.proofs.Stores.{sets-snoc, sets-then}
 use Rattle.lines.specs.Bytes.{_at_}
 use Rattle.record.specs.Record.{zeros, inRoom}
@@ -17,7 +18,6 @@ use Rattle.record.proofs.Filled.{room-filled}
 use Rattle.stored.specs.Loading.{textsLong, textsIn, joinedTexts}
 use Rattle.stored.proofs.Texts.{textAt, no-texts-in, texts-many, texts-in-more, texts-long-within}
 use Rattle.stored.proofs.Texts.{texts-long-more, no-texts-long}
-use Rattle.stored.proofs.Joined.{joined-append}
 
 module _ (s : List ℕ) (p : ℕ) where
   abbrev t : List ℕ
@@ -95,9 +95,7 @@ module _ (s : List ℕ) (p : ℕ) where
       where
         joined-more : joinedTexts (textsIn (i + 1) t) ≡ joinedTexts (textsIn i t) ++ textAt t (textsLong i t)
         joined-more =
-            ap joinedTexts (texts-in-more i t)
-            ∙ joined-append (textsIn i t) (textAt t (textsLong i t) ∷ [])
-            ∙ ap (λ (l : List ℕ). joinedTexts (textsIn i t) ++ l) (append-nil (textAt t (textsLong i t)))
+            ap joinedTexts (texts-in-more i t) ∙ turns-snoc (λ (u : List ℕ). u) (textsIn i t) (textAt t (textsLong i t))
 
         pub bytes-read-room : length list ≡ m
         bytes-read-room =

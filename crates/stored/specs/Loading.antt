@@ -41,6 +41,7 @@ use lib.ListN.{length, getD, take, drop, replicate}
 use lib.Dec.{ltb, eqb}
 use Rattle.text.specs.Words.{if_then_else_}
 use Rattle.text.specs.Scans.{every}
+use Rattle.text.specs.InTurn.{eachInTurn}
 use Rattle.text.specs.Rows.{Row, _when_, byRows}
 use Rattle.numbers.specs.HighestFirst.{numberIn}
 use Rattle.lines.specs.Bytes.{_at_}
@@ -114,8 +115,7 @@ textsIn zero t = []
 textsIn (suc n) t = take (t at 0) (drop 1 t) ∷ textsIn n (drop (suc (t at 0)) t)
 
 abbrev pub joinedTexts : List (List ℕ) → List ℕ
-joinedTexts [] = []
-joinedTexts (t ∷ ts) = t ++ joinedTexts ts
+joinedTexts ts = eachInTurn (λ t. t) ts
 
 -- of so many texts as there are inputs at most, of 255 bytes each at most
 abbrev pub joinedMost : ℕ

@@ -5,14 +5,14 @@ use Prim.Native.Nat.{ℕ, suc}
 use Prim.Native.Char.{code}
 use mathlib.Core.Path.{_≡_, refl}
 use mathlib.Core.Bool.{Bool, false, true}
-use mathlib.Core.List.{List, [], _∷_, _++_}
+use mathlib.Core.List.{List, [], _∷_}
 use Rattle.text.specs.Words.{if_then_else_, _is_}
 use Rattle.record.specs.Limits.{lineRoom}
 use Rattle.record.specs.Record.{zeros}
 use Rattle.record.specs.declared.types.Line.{Line}
 use Rattle.stream.specs.declared.Gathered.{Gathered}
 use Rattle.stream.specs.Collecting.{emptyLine, overlongLine, collected, gatheredOf, gathered}
-use Rattle.stream.specs.Machine.{UpTo, Out, unanswered, replyThen, upTo, oneLater, oneStep, runOver, uncut}
+use Rattle.stream.specs.Machine.{UpTo, Out, unanswered, replyThen, upTo, oneLater, oneStep, runOver}
 
 pub empty-spelt : emptyLine ≡ record { overlong = false; held = 0; bytes = zeros lineRoom }
 unfolding emptyLine
@@ -56,11 +56,3 @@ module _ (end : ℕ) (D : Type 0) (collect : D → ℕ → D) (ends : D → Out 
       runOver end D collect ends d (b ∷ bs) ≡ replyThen (o .reply) (runOver end D collect ends (o .state) bs)
   unfolding runOver
   run-more b bs = refl
-
-pub uncut-none : uncut [] ≡ []
-unfolding uncut
-uncut-none = refl
-
-pub uncut-more : (p : List ℕ) (ps : List (List ℕ)) → uncut (p ∷ ps) ≡ p ++ uncut ps
-unfolding uncut
-uncut-more p ps = refl

@@ -21,6 +21,7 @@ use mathlib.Core.List.{List, [], _∷_, _++_}
 use lib.ListN.{length, drop}
 use lib.Dec.{eqb}
 use Rattle.text.specs.Words.{if_then_else_}
+use Rattle.text.specs.InTurn.{eachInTurn}
 
 pub record UpTo (L : Type 0) : Type 0 where
   pub line : L
@@ -83,5 +84,4 @@ handedParts f d [] = unanswered d
 handedParts f d (p ∷ ps) = replyThen (handedPart f d p .reply) (handedParts f (handedPart f d p .state) ps)
 
 unfoldable pub uncut : List (List ℕ) → List ℕ
-uncut [] = []
-uncut (p ∷ ps) = p ++ uncut ps
+uncut ps = eachInTurn (λ p. p) ps

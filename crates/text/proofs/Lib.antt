@@ -4,6 +4,7 @@ pub mod Carried
 pub mod Choices
 pub mod DigitsRead
 pub mod EachBelow
+pub mod InTurn
 pub mod OneResult
 pub mod Orders
 pub mod Parts

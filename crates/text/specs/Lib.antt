@@ -1,4 +1,5 @@
 pub mod Words
 pub mod Scans
+pub mod InTurn
 pub mod Rows
 pub mod Bases

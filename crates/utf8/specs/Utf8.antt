@@ -16,6 +16,7 @@ use mathlib.Core.Bool.{Bool, true, false, _&&_, _||_}
 use mathlib.Core.List.{List, [], _∷_, _++_}
 use lib.Dec.{leb}
 use Rattle.text.specs.Words.{if_then_else_}
+use Rattle.text.specs.InTurn.{eachInTurn}
 
 infix 70 _upto_
 infix 40 _inRange_
@@ -82,5 +83,4 @@ encoded n =
     else filled 0xF0 3 n
 
 abbrev pub encodedAll : List ℕ → List ℕ
-encodedAll [] = []
-encodedAll (n ∷ ns) = encoded n ++ encodedAll ns
+encodedAll ns = eachInTurn encoded ns

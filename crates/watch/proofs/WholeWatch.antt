@@ -19,7 +19,7 @@ use Rattle.record.specs.Limits.{lampsMost}
 use Rattle.record.specs.Legal.{isLegal}
 use Rattle.record.specs.declared.types.Device.{Device}
 use Rattle.stream.specs.Machine.{Out, Took, handedParts, uncut}
-use Rattle.stream.proofs.LinesSpelt.{uncut-more}
+use Rattle.stream.proofs.WholeParts.{uncut-more}
 use Rattle.stream.proofs.SameHoweverCut.{outThrough, tookThrough, Taking, parts-run}
 use Rattle.log.specs.Lines.{lineMost}
 use Rattle.floor.specs.Events.{linesOf}
