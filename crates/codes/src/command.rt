@@ -8,7 +8,8 @@ use lines::input::Source;
 ghost use mathlib.Core.Path.{_≡_};
 ghost use mathlib.Core.Bool.{true, false};
 ghost use lib.Dec.{eqb};
-ghost use Rattle.lines.specs.declared.command.Command.the-variants.{MuteSet, VolumeStep};
+ghost use Rattle.lines.specs.declared.command.Command.the-variants.{MuteSet, VolumeStep, Query};
+ghost use Rattle.codes.specs.declared.command.MaybeCommand.the-variants.{CommandIs};
 ghost use Rattle.codes.specs.Commands.{switchCoded, sourceAt, inputAt, inputCoded, halfAt, halfCoded, commandOf};
 
 // `pj_command`. What a code does not use is passed over.
@@ -22,6 +23,12 @@ pub struct Coded {
 pub enum MaybeCommand {
     CommandIs(Command),
     NoCommand,
+}
+
+fn asked(b: Body) -> MaybeCommand
+    ensures { λ r. ⌜ r ≡ CommandIs (Query b) ⌝ }
+{
+    MaybeCommand::CommandIs(Command::Query(b))
 }
 
 // The first command for 0, the second for 1.
@@ -103,30 +110,30 @@ pub fn command_of(k: Coded) -> MaybeCommand
     let n = k.first;
     let input = input_at(n, k.second);
     match code {
-        0 => MaybeCommand::CommandIs(Command::Query(Body::Powr)),
+        0 => asked(Body::Powr),
         1 => switch_set(n, Command::PowerSet(false), Command::PowerSet(true)),
-        2 => MaybeCommand::CommandIs(Command::Query(Body::Inpt)),
+        2 => asked(Body::Inpt),
         3 => of_input(n, k.second, Command::InputSet(input)),
-        4 => MaybeCommand::CommandIs(Command::Query(Body::Avmt)),
+        4 => asked(Body::Avmt),
         5 => mute_set(n, k.second),
-        6 => MaybeCommand::CommandIs(Command::Query(Body::Erst)),
-        7 => MaybeCommand::CommandIs(Command::Query(Body::Lamp)),
-        8 => MaybeCommand::CommandIs(Command::Query(Body::Inst)),
-        9 => MaybeCommand::CommandIs(Command::Query(Body::Name)),
-        10 => MaybeCommand::CommandIs(Command::Query(Body::Inf1)),
-        11 => MaybeCommand::CommandIs(Command::Query(Body::Inf2)),
-        12 => MaybeCommand::CommandIs(Command::Query(Body::Info)),
-        13 => MaybeCommand::CommandIs(Command::Query(Body::Clss)),
-        14 => MaybeCommand::CommandIs(Command::Query(Body::Frez)),
+        6 => asked(Body::Erst),
+        7 => asked(Body::Lamp),
+        8 => asked(Body::Inst),
+        9 => asked(Body::Name),
+        10 => asked(Body::Inf1),
+        11 => asked(Body::Inf2),
+        12 => asked(Body::Info),
+        13 => asked(Body::Clss),
+        14 => asked(Body::Frez),
         15 => switch_set(n, Command::FreezeSet(false), Command::FreezeSet(true)),
         16 => step(n, Volume::Speaker),
         17 => step(n, Volume::Microphone),
-        18 => MaybeCommand::CommandIs(Command::Query(Body::Snum)),
-        19 => MaybeCommand::CommandIs(Command::Query(Body::Sver)),
+        18 => asked(Body::Snum),
+        19 => asked(Body::Sver),
         20 => of_input(n, k.second, Command::NameQuery(input)),
-        21 => MaybeCommand::CommandIs(Command::Query(Body::Inpt2)),
+        21 => asked(Body::Inpt2),
         22 => of_input(n, k.second, Command::InputSet2(input)),
-        23 => MaybeCommand::CommandIs(Command::Query(Body::Inst2)),
+        23 => asked(Body::Inst2),
         _ => MaybeCommand::NoCommand,
     }
 }
