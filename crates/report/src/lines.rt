@@ -4,7 +4,6 @@ use page::Stretch;
 use page::Totals;
 use sink::ROOM;
 use sink::Sink;
-use watch::telling;
 ghost use Prim.Native.Nat.{_<_};
 
 // The room that `put_stretch` and `put_total` ask for.
@@ -19,7 +18,7 @@ fn stretch(before: Sink, out: &mut [u8; ROOM], s: Stretch, k: usize) -> Sink
         return before;
     }
     let mut line = [0u8; STRETCH_ROOM];
-    let length = telling::put_stretch(&mut line, k as u64 + 1, s.from, s.to);
+    let length = lamplines::put_stretch(&mut line, k as u64 + 1, s.from, s.to);
     sink::first(before, out, &line, length)
 }
 
@@ -39,7 +38,7 @@ fn total(before: Sink, out: &mut [u8; ROOM], t: Totals, k: usize) -> Sink
     let mut line = [0u8; TOTAL_ROOM];
     let start = t.starts[k] as u64;
     let last = t.lasts[k] as u64;
-    let length = telling::put_total(&mut line, k as u64 + 1, start, t.burnt[k], last);
+    let length = lamplines::put_total(&mut line, k as u64 + 1, start, t.burnt[k], last);
     sink::first(before, out, &line, length)
 }
 

@@ -21,10 +21,10 @@ use Rattle.clock.proofs.ChangedWhere.{where-at, where-length}
 use Rattle.demands.specs.Board.{ours}
 use Rattle.demands.specs.Demand3.{Beginning, startMarks, begunBy, Accepted, historyOf}
 use Rattle.demands.specs.History.{burning}
-use Rattle.watch.specs.Marking.{FloorEvent, doneBy, secondsBy}
+use Rattle.marking.specs.Marking.{FloorEvent, doneBy, secondsBy}
 use Rattle.watch.specs.Watching.{Watching, Watched, isBurningIn, gainedBy, watchedOn, darkened}
 use Rattle.watch.specs.WatchCalls.{watchingFrom}
-use Rattle.watch.proofs.LinesDone.{done-settings}
+use Rattle.marking.proofs.LineDoes.{done-settings}
 use Rattle.stretches.specs.Stretches.{Stretch, stretchIf, lengthsOf}
 use Rattle.stretches.specs.LogTold.{callsOf, isMarkedIn, toldOf, burntOf}
 use Rattle.watch.proofs.TellingsSpelt.{burnt-none, burnt-more}

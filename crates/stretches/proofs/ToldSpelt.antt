@@ -4,7 +4,7 @@ use Prim.Native.Nat.{ℕ}
 use mathlib.Core.Path.{_≡_, refl, sym, ap, _∙_}
 use mathlib.Core.Bool.{Bool, true, false, _&&_}
 use mathlib.Core.List.{List, [], _∷_, _++_, append-assoc}
-use Rattle.watch.specs.Marking.{FloorEvent}
+use Rattle.marking.specs.Marking.{FloorEvent}
 use Rattle.watch.specs.Watching.{Watching, isBurningIn, isLong, darkWith, watchedOn}
 use Rattle.watch.specs.WholeWatch.{Telling, tellingIf, tellings}
 use Rattle.watch.proofs.TellingsSpelt.{tellings-none, tellings-more}

@@ -25,7 +25,7 @@ use Rattle.demands.specs.Calls.{Call, opens as opensAt, receives as receivesAt,
 use Rattle.demands.specs.Calls.{enables}
 use Rattle.demands.specs.Demand3.{Beginning, startMarks, begunBy, historyOf}
 use Rattle.demands.specs.History.{Event, burning, lampWith}
-use Rattle.watch.specs.Marking.{FloorEvent, logged, marked, doneBy}
+use Rattle.marking.specs.Marking.{FloorEvent, logged, marked, doneBy}
 use Rattle.watch.specs.Watching.{Watching}
 use Rattle.watch.specs.WholeWatch.{floorEvents, Telling, tellings, toldLines, burntAfter, WatchStage}
 use Rattle.stretches.specs.Stretches.{Stretch, stretchIf, StretchesTell}

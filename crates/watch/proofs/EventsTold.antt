@@ -2,51 +2,30 @@
 --   endTells s        what is printed when the input ends in the state s
 --   Sees s es o       what o leaves, with its input ended, has told and done the events es, from the state s on
 -- Assumes nothing.
-use Prim.Native.Nat.{ℕ, _<_, _≤_}
+use Prim.Native.Nat.{ℕ}
 use Prim.Native.Char.{code}
 use mathlib.Core.Path.{_≡_, refl, sym, ap, subst, _∙_}
 use mathlib.Core.Bool.{Bool, true, false, not, _&&_}
 use mathlib.Core.List.{List, [], _∷_, _++_, append-assoc, map}
-use mathlib.Core.Logic.{⊎-elim}
-use native.Mathlib.Omega.{arith}
 use lib.ListN.{length, take}
 use lib.Dec.{eqb}
 use Rattle.text.specs.Words.{if_then_else_, _is_}
-use Rattle.text.proofs.Choices.{if-yes, if-no}
-use Rattle.text.proofs.Orders.{le-or-lt}
 use Rattle.record.specs.declared.types.Line.{Line}
 use Rattle.clock.specs.Second.{marksIn}
 use Rattle.stream.specs.Machine.{Out, unanswered, replyThen}
 use Rattle.stream.proofs.LinesSpelt.{run-none, run-more}
-use Rattle.log.specs.Lines.{lineMost}
 use Rattle.floor.specs.Events.{linesFrom}
 use Rattle.floor.specs.Reading.{keptOf, nothingBegun, keptWith, lineAfter, isBegun}
-use Rattle.floor.proofs.KeptLine.{Holds, kept-event, one-more, none-after, begun-some}
+use Rattle.floor.proofs.KeptLine.{Holds, one-more, none-after, begun-some}
 use Rattle.floor.proofs.LinesSpelt.{lines-end, lines-byte}
-use Rattle.watch.specs.LampLines.{stretchLines}
-use Rattle.watch.specs.Marking.{FloorEvent, markSaid, eventBy, floorEvent}
-use Rattle.watch.specs.Watching.{Watching, Watched, isBurningIn, keptMark, keptFloorEvent, watchKept, watchMore}
+use Rattle.lamplines.specs.LampLines.{stretchLines}
+use Rattle.marking.specs.Marking.{FloorEvent, floorEvent}
+use Rattle.marking.proofs.KeptEvents.{event-kept}
+use Rattle.watch.specs.Watching.{Watching, Watched, isBurningIn, watchKept, watchMore}
 use Rattle.watch.specs.Watching.{watchedOn, darkWith, lineDone, isDark, isLong, watchedIn, darkened, closedAtEnd}
 use Rattle.watch.specs.Watching.{watchEnded}
 use Rattle.watch.specs.WholeWatch.{Telling, tellingIf, tellings, toldLines, burntAfter, deviceAfter}
-use Rattle.watch.proofs.MarksSaid.{mark-length}
 use Rattle.watch.proofs.LogRuns.{lineTells, watchRun}
-
--- ---- the event of a kept line
-
-module _ (g : List ℕ) (k : Line) (h : Holds g k) where
-  mark-kept : keptMark k ≡ markSaid g
-  mark-kept =
-      ⊎-elim
-      (λ (l : length g ≤ lineMost).
-      let f = h .fits l in
-      if-no _ _ (f .unmarked) ∙ ap markSaid (ap (λ (n : ℕ). take n (k .bytes)) (f .held) ∙ f .bytes))
-      (λ (l : lineMost < length g). if-yes _ _ (h .past l) ∙ sym (mark-length g (λ e. omega arith)))
-      (le-or-lt (length g) lineMost)
-
-  event-kept : keptFloorEvent k ≡ floorEvent g
-  unfolding floorEvent
-  event-kept = (λ i. eventBy (mark-kept i) (kept-event g k h i))
 
 -- ---- the end of the input
 

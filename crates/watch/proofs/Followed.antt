@@ -7,8 +7,8 @@ use mathlib.Core.List.{List}
 use Rattle.text.specs.Words.{if_then_else_}
 use Rattle.record.specs.declared.types.Device.{Device}
 use Rattle.floor.specs.Reading.{keptOf, nothingBegun, lineAfter}
-use Rattle.watch.specs.Marking.{FloorEvent, doneBy, secondsBy}
-use Rattle.watch.specs.Watching.{Watching, isBurningIn, gainedBy, keptFloorEvent, darkWith, watchedBy, darkened}
+use Rattle.marking.specs.Marking.{FloorEvent, doneBy, secondsBy, keptFloorEvent}
+use Rattle.watch.specs.Watching.{Watching, isBurningIn, gainedBy, darkWith, watchedBy, darkened}
 use Rattle.watch.specs.Watching.{lineDone, isDark}
 
 module _ (s : Watching) (d : Device) (n : ℕ) (line : List ℕ) where

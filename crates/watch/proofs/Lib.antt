@@ -1,10 +1,7 @@
-pub mod MarksSaid
-pub mod DoneSpelt
 pub mod LinesDone
 pub mod Followed
 pub mod Turns
 pub mod WatchRefusals
-pub mod PartsTold
 pub mod LogRuns
 mod EventsTold
 pub mod TellingsSpelt

@@ -1,7 +1,7 @@
--- What a line leaves: the settings, the places but one (02, L5), a legal record; and a state that can go on.
+-- A sound state, and that a line leaves one that can go on.
 -- Assumes nothing.
 use Prim.Native.Nat.{ℕ, zero, suc, _+_, _-_, _^_, _≤_, _<_}
-use mathlib.Core.Path.{_≡_, refl, sym, subst, _∙_}
+use mathlib.Core.Path.{_≡_, refl, sym, subst}
 use mathlib.Core.Bool.{Bool, true, false, not, _&&_}
 use mathlib.Core.List.{List, [], _∷_}
 use native.Mathlib.Omega.{arith}
@@ -12,63 +12,15 @@ use Rattle.text.specs.Words.{if_then_else_}
 use Rattle.text.specs.Scans.{every}
 use Rattle.text.proofs.Choices.{if-yes, if-no, if-all, both, both-left, both-right}
 use Rattle.text.proofs.Scanning.{every-by-place}
-use Rattle.record.specs.Legal.{isLegal}
 use Rattle.record.specs.declared.types.Device.{Device}
-use Rattle.record.specs.declared.types.Line.{Line}
-use Rattle.record.specs.declared.types.Changed.{Changed}
-use Rattle.record.proofs.Calls.{mark-set-by}
-use Rattle.record.proofs.HostKept.{mark-legal}
 use Rattle.clock.specs.Second.{changedWhere, marksIn}
-use Rattle.clock.specs.Passing.{secondsMost}
 use Rattle.clock.proofs.ChangedWhere.{where-length, where-at}
-use Rattle.stream.specs.Collecting.{lineText}
-use Rattle.events.specs.Told.{Drives, secondsOf}
-use Rattle.events.proofs.Driven.{none-pass, itself-kept, did-drives}
-use Rattle.events.proofs.EventsLeave.{did-settings, did-legality}
-use Rattle.floor.specs.Reading.{keptEvent, lineAfter}
-use Rattle.floor.proofs.EventSeconds.{event-seconds}
+use Rattle.floor.specs.Reading.{lineAfter}
 use Rattle.floor.proofs.LinesPlayed.{after-long}
-use Rattle.watch.specs.declared.marking.MarkSaid.{MarkSaid}
-use Rattle.watch.specs.declared.marking.MarkSaid.the-variants.{Sets, NoMark}
-use Rattle.watch.specs.Marking.{FloorEvent, logged, marked, eventBy, doneBy, secondsBy}
-use Rattle.watch.specs.Watching.{Watching, isBurningIn, gainedBy, keptMark, keptFloorEvent, watchedOn, lineDone}
+use Rattle.marking.specs.Marking.{FloorEvent, doneBy, secondsBy, keptFloorEvent}
+use Rattle.marking.proofs.LineDoes.{done-legal, line-seconds}
+use Rattle.watch.specs.Watching.{Watching, isBurningIn, gainedBy, watchedOn, lineDone}
 use Rattle.watch.specs.WatchCalls.{soundTop, isSound, CanWatch, CanDarken}
-
-module _ (d : Device) where
-  pub done-settings : (e : FloorEvent) → doneBy d e .settings ≡ d .settings
-  unfolding doneBy
-  done-settings (logged e) = did-settings d e
-  done-settings (marked lamp mark) =
-      mark-set-by d (λ (r : Changed). r .device .settings ≡ d .settings) lamp mark (λ n z. refl) (λ h i l p. refl)
-
-  pub done-legal : isLegal d ≡ true → (e : FloorEvent) → isLegal (doneBy d e) ≡ true
-  unfolding doneBy
-  done-legal legal (logged e) = did-legality d e ∙ legal
-  done-legal legal (marked lamp mark) = mark-legal d legal lamp mark
-
-  pub done-drives : isLegal d ≡ true → (e : FloorEvent) → Drives true (secondsBy e) d (doneBy d e)
-  unfolding doneBy
-  done-drives legal (logged e) =
-      subst (λ (t : Bool). Drives t (secondsOf e) d (doneBy d (logged e))) legal (did-drives d e)
-  done-drives legal (marked lamp mark) =
-      none-pass d true (doneBy d (marked lamp mark))
-      (mark-set-by d (λ (r : Changed). Stays (r .device)) lamp mark (λ n z. itself-kept d) (λ h i l p. itself-kept d))
-    where
-      Stays : Device → Type 0
-      Stays after = Drives false 0 d after
-
--- ---- the seconds of a line
-
-kept-seconds : (k : Line) → secondsOf (keptEvent k) ≤ secondsMost
-kept-seconds k =
-    if-all (λ e. secondsOf e ≤ secondsMost) (k .overlong) (omega arith) (event-seconds (lineText k))
-
-pub line-seconds : (k : Line) → secondsBy (keptFloorEvent k) ≤ secondsMost
-line-seconds k = by (keptMark k)
-  where
-    by : (m : MarkSaid) → secondsBy (eventBy m (keptEvent k)) ≤ secondsMost
-    by (Sets lamp mark) = omega arith
-    by NoMark = kept-seconds k
 
 -- ---- a sound state
 

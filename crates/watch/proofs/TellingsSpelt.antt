@@ -4,7 +4,7 @@ use mathlib.Core.Path.{_≡_, refl}
 use mathlib.Core.Bool.{false, _&&_}
 use mathlib.Core.List.{List, [], _∷_, _++_}
 use Rattle.record.specs.declared.types.Device.{Device}
-use Rattle.watch.specs.Marking.{FloorEvent, doneBy}
+use Rattle.marking.specs.Marking.{FloorEvent, doneBy}
 use Rattle.watch.specs.Watching.{Watching, isBurningIn, isLong, darkWith, watchedOn, closedAtEnd}
 use Rattle.watch.specs.WholeWatch.{tellingIf, tellings, burntAfter, deviceAfter}
 

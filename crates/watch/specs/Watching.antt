@@ -26,11 +26,8 @@ use Rattle.record.specs.Limits.{isLit}
 use Rattle.record.specs.declared.types.Device.{Device}
 use Rattle.record.specs.declared.types.Line.{Line}
 use Rattle.clock.specs.Second.{changedWhere, marksIn}
-use Rattle.stream.specs.Collecting.{lineText}
-use Rattle.floor.specs.Reading.{keptOf, nothingBegun, keptWith, keptEvent, lineAfter, lfMissing}
-use Rattle.watch.specs.declared.marking.MarkSaid.{MarkSaid}
-use Rattle.watch.specs.declared.marking.MarkSaid.the-variants.{NoMark}
-use Rattle.watch.specs.Marking.{FloorEvent, markSaid, eventBy, doneBy, secondsBy}
+use Rattle.floor.specs.Reading.{keptOf, nothingBegun, keptWith, lineAfter, lfMissing}
+use Rattle.marking.specs.Marking.{FloorEvent, doneBy, secondsBy}
 
 pub record Watching : Type 0 where
   pub device : Device
@@ -44,13 +41,6 @@ isBurningIn d = isLit (d .own .power)
 
 abbrev pub gainedBy : Device → ℕ → List ℕ → List ℕ
 gainedBy d n burnt = changedWhere (λ (b : ℕ). b + n) (marksIn (d .settings) (d .own)) burnt
-
--- an overlong line has no such form
-abbrev pub keptMark : Line → MarkSaid
-keptMark k = if k .overlong then NoMark else markSaid (lineText k)
-
-abbrev pub keptFloorEvent : Line → FloorEvent
-keptFloorEvent k = eventBy (keptMark k) (keptEvent k)
 
 -- what a line leaves that let n seconds pass and left the device d; and the memory of the line
 abbrev pub watchedBy : Watching → Device → ℕ → List ℕ → Watching

@@ -30,9 +30,9 @@ use Rattle.clock.specs.Passing.{secondsMost}
 use Rattle.stream.specs.Machine.{Out, Took, unanswered, tookBytes, handedParts, uncut}
 use Rattle.floor.specs.Events.{linesOf}
 use Rattle.floor.specs.WholeLog.{noneLonger}
+use Rattle.lamplines.specs.LampLines.{stretchLines}
+use Rattle.marking.specs.Marking.{FloorEvent, floorEvent, doneBy}
 use Rattle.watch.specs.declared.watching.Watch.{Watch}
-use Rattle.watch.specs.LampLines.{stretchLines}
-use Rattle.watch.specs.Marking.{FloorEvent, floorEvent, doneBy}
 use Rattle.watch.specs.Watching.{Watching, isBurningIn, isLong, darkWith, watchedOn, closedAtEnd}
 use Rattle.watch.specs.WatchCalls.{WatchStep, watched, watchedToEnd, watchOf, watchingFrom}
 

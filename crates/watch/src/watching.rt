@@ -1,7 +1,6 @@
 // A log watched for its lamps, handed over in any parts: when lamps began to burn, and when they ended.
 use crate::dark;
 use crate::light;
-use crate::marking;
 use crate::refusing;
 use floor::closing;
 use floor::gather;

@@ -19,16 +19,17 @@ use Rattle.floor.specs.declared.replay.Floor.{Floor}
 use Rattle.floor.specs.Reading.{upToLf, lineAfter, nothingBegun}
 use Rattle.floor.specs.Told.{gatheredTo}
 use Rattle.floor.proofs.Driven.{aged-moves, unaged-moves}
-use Rattle.watch.specs.declared.marking.Done.{Done}
+use Rattle.marking.specs.declared.Done.{Done}
+use Rattle.marking.specs.Marking.{secondsBy, keptFloorEvent}
+use Rattle.marking.specs.Done.{lineDid}
+use Rattle.marking.proofs.LineDoes.{done-settings, done-drives, line-seconds}
 use Rattle.watch.specs.declared.watching.Watch.{Watch}
 use Rattle.watch.specs.declared.watching.Seen.{Seen}
 use Rattle.watch.specs.declared.light.Light.{Light}
-use Rattle.watch.specs.Marking.{secondsBy}
-use Rattle.watch.specs.Watching.{Watching, Watched, isBurningIn, isLong, isDark, keptFloorEvent}
+use Rattle.watch.specs.Watching.{Watching, Watched, isBurningIn, isLong, isDark}
 use Rattle.watch.specs.WatchCalls.{watchingIn, watchingWith, watchOf, sightOf, SeenAs, CanWatch, CanDarken}
 use Rattle.watch.specs.WatchCalls.{lightOf, darkAfter}
-use Rattle.watch.specs.Done.{lineDid}
-use Rattle.watch.proofs.LinesDone.{done-settings, done-drives, line-seconds, can-darken}
+use Rattle.watch.proofs.LinesDone.{can-darken}
 use Rattle.watch.proofs.Followed.{event-kept, device-after, onward-kept, dark-is, line-dark, line-lit, dark-from}
 use Rattle.watch.proofs.Turns.{WatchedTo, none-watched, first, held, can-end-one, stays, place-inside, stops}
 use Rattle.watch.proofs.Turns.{goes-on, all-watched}

@@ -7,6 +7,7 @@
 --   floorEvent l      that of the line l
 --   doneBy d e        the device after it
 --   secondsBy e       the seconds that it lets pass
+--   keptMark k, keptFloorEvent k     the mark and the event of a line that is kept
 -- Assumes nothing.
 use Prim.Native.Nat.{ℕ, _-_}
 use Prim.Native.Char.{code}
@@ -18,12 +19,15 @@ use Rattle.text.specs.Words.{if_then_else_, _is_, _from_to_}
 use Rattle.lines.specs.Bytes.{_at_}
 use Rattle.record.specs.HostCalls.{markSet}
 use Rattle.record.specs.declared.types.Device.{Device}
+use Rattle.record.specs.declared.types.Line.{Line}
+use Rattle.stream.specs.Collecting.{lineText}
 use Rattle.events.specs.Events.{LogEvent}
 use Rattle.events.specs.Doing.{did}
 use Rattle.events.specs.Told.{secondsOf}
 use Rattle.floor.specs.Events.{event}
-use Rattle.watch.specs.declared.marking.MarkSaid.{MarkSaid}
-use Rattle.watch.specs.declared.marking.MarkSaid.the-variants.{Sets, NoMark}
+use Rattle.floor.specs.Reading.{keptEvent}
+use Rattle.marking.specs.declared.MarkSaid.{MarkSaid}
+use Rattle.marking.specs.declared.MarkSaid.the-variants.{Sets, NoMark}
 
 abbrev pub isMarkLine : List ℕ → Bool
 isMarkLine l =
@@ -51,3 +55,10 @@ doneBy d (marked lamp mark) = markSet d lamp mark .device
 abbrev pub secondsBy : FloorEvent → ℕ
 secondsBy (logged e) = secondsOf e
 secondsBy (marked lamp mark) = 0
+
+-- an overlong line has no such form
+abbrev pub keptMark : Line → MarkSaid
+keptMark k = if k .overlong then NoMark else markSaid (lineText k)
+
+abbrev pub keptFloorEvent : Line → FloorEvent
+keptFloorEvent k = eventBy (keptMark k) (keptEvent k)

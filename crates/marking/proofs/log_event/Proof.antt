@@ -1,4 +1,4 @@
--- `watch::marking::log_event` meets its contract: the call of the event, whose text is the line's part.
+-- `marking::log_event` meets its contract: the call of the event, whose text is the line's part.
 -- Assumes nothing.
 use Prim.Native.Nat.{ℕ, _+_, _-_, min}
 use mathlib.Core.Path.{_≡_, sym, ap, _∙_}
@@ -9,16 +9,16 @@ use borrow.Author.Needs.{needs}
 use Rattle.events.specs.declared.Called.{Called}
 use Rattle.events.specs.Events.{eventOf}
 use Rattle.events.specs.Doing.{did}
-use Rattle.watch.specs.declared.marking.Done.{Done}
-use Rattle.watch.specs.Marking.{doneBy}
-use Rattle.watch.proofs.MarksSaid.{seconds-any}
-use Rattle.watch.proofs.marking.log_event.Statement.{statement}
-use Rattle.watch.proofs.marking.log_event.Tie as tie
-use Rattle.watch.proofs.marking.log_event.Reads as reads
-use Rattle.watch.proofs.marking.log_event.Lts as lts
 use Rattle.events.proofs.call.Reads as call-reads
 use Rattle.events.proofs.seconds_of.Reads as seconds-of-reads
 use Rattle.floor.proofs.playing.least.Reads as least-reads
+use Rattle.marking.specs.declared.Done.{Done}
+use Rattle.marking.specs.Marking.{doneBy}
+use Rattle.marking.proofs.MarksSaid.{seconds-any}
+use Rattle.marking.proofs.log_event.Statement.{statement}
+use Rattle.marking.proofs.log_event.Tie as tie
+use Rattle.marking.proofs.log_event.Reads as reads
+use Rattle.marking.proofs.log_event.Lts as lts
 
 call-requires : tie.Need-call-requires
 call-requires c κs = let start = let known = c .before .before in known .before .before .before in

@@ -1,12 +1,12 @@
--- `watch::marking::mark_says` meets its contract: the tests that led to each return say what the line says.
+-- `marking::mark_says` meets its contract: the tests that led to each return say what the line says.
 -- Assumes nothing.
 use mathlib.Core.Path.{sym}
 use borrow.Author.Needs.{needs}
-use Rattle.watch.proofs.MarksSaid.{mark-length, mark-lamp, mark-by}
-use Rattle.watch.proofs.marking.mark_says.Statement.{statement}
-use Rattle.watch.proofs.marking.mark_says.Tie as tie
-use Rattle.watch.proofs.marking.mark_says.Reads as reads
-use Rattle.watch.proofs.marking.mark_says.Lts as lts
+use Rattle.marking.proofs.MarksSaid.{mark-length, mark-lamp, mark-by}
+use Rattle.marking.proofs.mark_says.Statement.{statement}
+use Rattle.marking.proofs.mark_says.Tie as tie
+use Rattle.marking.proofs.mark_says.Reads as reads
+use Rattle.marking.proofs.mark_says.Lts as lts
 
 returns : tie.Need-returns
 returns c = sym (mark-length _ (c .if1 .taken))

@@ -11,7 +11,7 @@ use Rattle.device.specs.Calls.{Result, replyRoom, received, closedBy}
 use Rattle.events.specs.Events.{opens, receives, passes, closes, noSuch}
 use Rattle.events.specs.Doing.{logPlace, openedInLog}
 use Rattle.events.proofs.DidSpelt.{did-opening, did-receiving, did-passing, did-closing, did-nothing}
-use Rattle.watch.specs.Marking.{logged, marked, doneBy}
+use Rattle.marking.specs.Marking.{logged, marked, doneBy}
 
 module _ (d : Device) where
   pub done-opening : (r : ℕ) → doneBy d (logged (opens r)) ≡ openedInLog d r .device

@@ -12,9 +12,8 @@ ghost use Rattle.record.specs.Legal.{isLegal};
 ghost use Rattle.device.specs.Calls.{replyRoom};
 ghost use Rattle.events.specs.Events.{eventOf};
 ghost use Rattle.floor.specs.Reading.{keptOf, lineAfter};
-ghost use Rattle.watch.specs.Marking.{logged, markSaid};
-ghost use Rattle.watch.specs.Watching.{keptMark, keptFloorEvent};
-ghost use Rattle.watch.specs.Done.{lineDid};
+ghost use Rattle.marking.specs.Marking.{logged, markSaid, keptMark, keptFloorEvent};
+ghost use Rattle.marking.specs.Done.{lineDid};
 
 // What a line did: the seconds that it let pass, and the record that it leaves.
 pub struct Done {

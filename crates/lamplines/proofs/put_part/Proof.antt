@@ -1,4 +1,4 @@
--- `watch::telling::put_part` meets its contract: the number stands after the word.
+-- `lamplines::put_part` meets its contract: the number stands after the word.
 -- Assumes nothing.
 use mathlib.Core.Path.{refl, _∙_}
 use native.Mathlib.Omega.{arith}
@@ -8,8 +8,8 @@ use borrow.Author.Needs.{needs}
 use Rattle.text.proofs.Stores.{sets-then}
 use Rattle.numbers.specs.Decimal.{longDigits}
 use Rattle.numbers.proofs.Digits.{long-at-most-20}
-use Rattle.watch.proofs.telling.put_part.Statement.{statement}
-use Rattle.watch.proofs.telling.put_part.Tie as tie
+use Rattle.lamplines.proofs.put_part.Statement.{statement}
+use Rattle.lamplines.proofs.put_part.Tie as tie
 
 number-fits : tie.Need-put-long-requires
 number-fits c κs =

@@ -1,4 +1,4 @@
--- `watch::marking::end_line` meets its contract: the mark that the line asks for is set, or its event done as floor
+-- `marking::end_line` meets its contract: the mark that the line asks for is set, or its event done as floor
 -- does.
 -- Assumes nothing.
 use Prim.Native.Nat.{ℕ, _+_, _-_, min}
@@ -12,13 +12,12 @@ use Rattle.record.specs.declared.types.Line.{Line}
 use Rattle.events.specs.Events.{LogEvent, eventOf}
 use Rattle.floor.specs.Reading.{keptOf, keptEvent}
 use Rattle.floor.proofs.KeptText.{event-lent}
-use Rattle.watch.specs.declared.marking.Done.{Done}
-use Rattle.watch.specs.declared.marking.MarkSaid.{MarkSaid}
-use Rattle.watch.specs.Marking.{logged, eventBy, doneBy}
-use Rattle.watch.specs.Watching.{keptMark}
-use Rattle.watch.specs.Done.{lineDid}
-use Rattle.watch.proofs.marking.end_line.Statement.{statement}
-use Rattle.watch.proofs.marking.end_line.Tie as tie
+use Rattle.marking.specs.declared.Done.{Done}
+use Rattle.marking.specs.declared.MarkSaid.{MarkSaid}
+use Rattle.marking.specs.Marking.{logged, eventBy, doneBy, keptMark}
+use Rattle.marking.specs.Done.{lineDid}
+use Rattle.marking.proofs.end_line.Statement.{statement}
+use Rattle.marking.proofs.end_line.Tie as tie
 
 -- the mark is read, and what the line says
 module _ (c : tie.After-kept-says) where

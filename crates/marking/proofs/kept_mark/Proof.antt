@@ -1,4 +1,4 @@
--- `watch::marking::kept_mark` meets its contract: an overlong line says nothing, any other is read.
+-- `marking::kept_mark` meets its contract: an overlong line says nothing, any other is read.
 -- Assumes nothing.
 use Prim.Native.Nat.{ℕ}
 use mathlib.Core.Path.{sym, ap, _∙_}
@@ -7,9 +7,9 @@ use lib.ListN.{take}
 use denote.Ref.{now}
 use borrow.Author.Needs.{needs}
 use Rattle.text.proofs.Choices.{if-yes, if-no}
-use Rattle.watch.specs.Marking.{markSaid}
-use Rattle.watch.proofs.marking.kept_mark.Statement.{statement}
-use Rattle.watch.proofs.marking.kept_mark.Tie as tie
+use Rattle.marking.specs.Marking.{markSaid}
+use Rattle.marking.proofs.kept_mark.Statement.{statement}
+use Rattle.marking.proofs.kept_mark.Tie as tie
 
 returns-2 : tie.Need-returns-2
 returns-2 c =

@@ -13,7 +13,7 @@ use Rattle.text.proofs.Stores.{sets-over}
 use Rattle.text.proofs.Written.{Wrote}
 use Rattle.numbers.specs.Decimal.{longDigits}
 use Rattle.numbers.proofs.Digits.{long-at-most-20}
-use Rattle.watch.specs.LampLines.{numbered}
+use Rattle.lamplines.specs.LampLines.{numbered}
 
 abbrev pub PutSo : (out text m : List ℕ) → ℕ → Type 0
 PutSo out text m place = Wrote out 0 m place text

@@ -4,7 +4,7 @@ ghost use Prim.Native.Nat.{_+_, _≤_};
 ghost use lib.ListN.{length};
 ghost use lib.Seq.{sets};
 ghost use Rattle.text.specs.Words.{over};
-ghost use Rattle.watch.specs.LampLines.{numbered, stretchLine, totalLine, stretchRoom, totalRoom};
+ghost use Rattle.lamplines.specs.LampLines.{numbered, stretchLine, totalLine, stretchRoom, totalRoom};
 
 // A word and a number, from the place `at` on; the place after them.
 fn put_part(out: &mut [u8], at: usize, word: &[u8], n: u64) -> usize

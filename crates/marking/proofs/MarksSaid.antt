@@ -15,8 +15,8 @@ use Rattle.log.specs.declared.Says.{Says}
 use Rattle.log.specs.declared.Says.the-variants.{Opens, Receives, Passes, Closes, NoSuch}
 use Rattle.events.specs.Events.{eventOf}
 use Rattle.events.specs.Told.{secondsOf}
-use Rattle.watch.specs.declared.marking.MarkSaid.the-variants.{Sets, NoMark}
-use Rattle.watch.specs.Marking.{markSaid}
+use Rattle.marking.specs.declared.MarkSaid.the-variants.{Sets, NoMark}
+use Rattle.marking.specs.Marking.{markSaid}
 
 regrouped : (a b c d e f : Bool) → (true && a && b && (true && c) && d && (e && f)) ≡ (a && b && c && d && e && f)
 regrouped false b c d e f = refl

@@ -1,4 +1,4 @@
--- `watch::telling::put_total` meets its contract: each part stands after the one before it.
+-- `lamplines::put_total` meets its contract: each part stands after the one before it.
 -- Assumes nothing.
 use Prim.Native.Nat.{ℕ, _≤_}
 use mathlib.Core.Path.{refl}
@@ -8,10 +8,10 @@ use denote.Ref.{now}
 use borrow.Author.Needs.{needs}
 use Rattle.text.specs.Words.{ascii}
 use Rattle.text.proofs.Written.{wrote-room, wrote-then}
-use Rattle.watch.specs.LampLines.{numbered, totalLine}
-use Rattle.watch.proofs.PartsTold.{PutSo, first-part, all-put, part-long}
-use Rattle.watch.proofs.telling.put_total.Statement.{statement}
-use Rattle.watch.proofs.telling.put_total.Tie as tie
+use Rattle.lamplines.specs.LampLines.{numbered, totalLine}
+use Rattle.lamplines.proofs.PartsTold.{PutSo, first-part, all-put, part-long}
+use Rattle.lamplines.proofs.put_total.Statement.{statement}
+use Rattle.lamplines.proofs.put_total.Tie as tie
 
 module _ (c : tie.After-put-part) where
   abbrev start : tie.Start

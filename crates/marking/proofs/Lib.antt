@@ -1,0 +1,4 @@
+pub mod MarksSaid
+pub mod DoneSpelt
+pub mod LineDoes
+pub mod KeptEvents
