@@ -20,7 +20,8 @@ use Rattle.lines.proofs.command.put_command.Tie as tie
 returns : tie.Need-returns
 returns c =
     let closed = c .before .before in
-    let put = closed .before .before .before .before in
+    let moved = closed .before .before in
+    let put = moved .before .before in
     let known = put .before .before .before in
     let digit = known .before .before in
     let named = digit .before in

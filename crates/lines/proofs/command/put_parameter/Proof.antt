@@ -31,18 +31,21 @@ put-parameter-spec =
     (λ c. search needs)
     (λ c.
     let put = c .before .before in
-    let given = put .before .before .before .before in
+    let made = put .before .before in
+    let given = made .before .before in
     let start = given .before .before .before in
     put-for (start .args .out .now) (start .args .at) (given .p .given .1) (put .put .ensures))
     (λ c. search needs)
     (λ c.
     let put = c .before .before in
-    let given = put .before .before .before .before in
+    let made = put .before .before in
+    let given = made .before .before in
     let start = given .before .before .before in
     put-for (start .args .out .now) (start .args .at) (given .p2 .given .1) (put .put2 .ensures))
     (λ c. search needs)
     (λ c.
     let put = c .before .before in
-    let given = put .before .before .before .before in
+    let made = put .before .before in
+    let given = made .before .before in
     let start = given .before .before .before in
     put-for (start .args .out .now) (start .args .at) (given .p3 .given .1) (put .put3 .ensures)))
