@@ -1,6 +1,7 @@
 // Which lamp burnt when: a log on standard input, on standard output the stretches of its lamps as they end, and at
 // the end each lamp's seconds; or, with `--page`, one HTML document that shows them. The device is 01's sample set-up,
 // or that of the stored form in the file that the next argument names.
+#![tactic(auto)]
 mod place;
 
 use floor::replay::LINE_ROOM;

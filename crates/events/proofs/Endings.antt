@@ -15,10 +15,10 @@ use Rattle.numbers.specs.Decimal.{digits}
 use Rattle.record.specs.declared.types.Device.{Device}
 use Rattle.device.specs.Calls.{Result, replyRoom}
 use Rattle.device.proofs.Refusals.{opening-refused, receiving-refused, closing-refused}
-use Rattle.log.specs.Ending.{isFormed, ending}
-use Rattle.log.specs.declared.Says.{Says}
-use Rattle.log.specs.declared.Says.TheVariants.{Opens, Receives, Passes, Closes, NoSuch}
-use Rattle.log.proofs.Endings.{mark-unformed, mark-refused, mark-silent, mark-replied}
+use Rattle.logs.specs.Ending.{isFormed, ending}
+use Rattle.logs.specs.declared.Says.{Says}
+use Rattle.logs.specs.declared.Says.TheVariants.{Opens, Receives, Passes, Closes, NoSuch}
+use Rattle.logs.proofs.Endings.{mark-unformed, mark-refused, mark-silent, mark-replied}
 use Rattle.events.specs.Events.{eventOf}
 use Rattle.events.specs.Doing.{logPlace, did, outcome, shown}
 use Rattle.events.proofs.LogOpenings.{log-opened-by}

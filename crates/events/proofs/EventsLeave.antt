@@ -15,9 +15,9 @@ use Rattle.device.specs.Calls.{refusedBy, replyRoom}
 use Rattle.device.proofs.Untouched.{receiving-keeps-settings, opening-keeps-settings, closing-keeps-settings}
 use Rattle.device.proofs.Illegal.{received-illegal, closed-illegal}
 use Rattle.device.proofs.Illegal.{received-legality, opened-legality, closed-legality}
-use Rattle.log.specs.declared.Says.{Says}
-use Rattle.log.specs.declared.Says.TheVariants.{Opens, Receives, Passes, Closes, NoSuch}
-use Rattle.log.specs.Ending.{isFormed}
+use Rattle.logs.specs.declared.Says.{Says}
+use Rattle.logs.specs.declared.Says.TheVariants.{Opens, Receives, Passes, Closes, NoSuch}
+use Rattle.logs.specs.Ending.{isFormed}
 use Rattle.events.specs.Events.{LogEvent, opens, receives, passes, closes, noSuch, eventOf}
 use Rattle.events.specs.Doing.{changedTo, logPlace, did}
 use Rattle.events.proofs.LogOpenings.{log-opened-by, log-opened-illegal}

@@ -15,9 +15,9 @@ use Rattle.numbers.specs.Decimal.{digits, longDigits}
 use Rattle.numbers.proofs.Digits.{digits-at-most-10}
 use Rattle.record.specs.declared.types.Device.{Device}
 use Rattle.device.specs.Calls.{Result, replyRoom}
-use Rattle.log.specs.Ending.{isFormed, ending}
-use Rattle.log.specs.declared.Says.{Says}
-use Rattle.log.specs.declared.Says.TheVariants.{Opens, Receives, Passes, Closes, NoSuch}
+use Rattle.logs.specs.Ending.{isFormed, ending}
+use Rattle.logs.specs.declared.Says.{Says}
+use Rattle.logs.specs.declared.Says.TheVariants.{Opens, Receives, Passes, Closes, NoSuch}
 use Rattle.events.specs.declared.Called.{Called}
 use Rattle.events.specs.Events.{eventOf}
 use Rattle.events.specs.Doing.{did, outcome, shown, printed}

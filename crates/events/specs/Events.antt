@@ -4,8 +4,8 @@
 --   eventOf says bs   the event of what a line says, where bs are the bytes that it would have received
 -- Assumes nothing.
 use Rattle.std.specs.Prelude.{ℕ, List}
-use Rattle.log.specs.declared.Says.{Says}
-use Rattle.log.specs.declared.Says.TheVariants.{Opens, Receives, Passes, Closes, NoSuch}
+use Rattle.logs.specs.declared.Says.{Says}
+use Rattle.logs.specs.declared.Says.TheVariants.{Opens, Receives, Passes, Closes, NoSuch}
 
 pub data LogEvent : Type 0 where
   opens : ℕ → LogEvent

@@ -1,4 +1,5 @@
 // One event: what it does, and what is printed for it. No record is tested here: it is known whether it is legal.
+#![tactic(auto)]
 ghost use Rattle.std.specs.Prelude.{◌≡◌, true, [], ◌+◌, ◌-◌, ◌^◌, ◌≤◌, ◌<◌, length};
 ghost use Rattle.text.specs.Words.{over};
 ghost use Rattle.record.specs.Legal.{isLegal};
@@ -8,7 +9,7 @@ ghost use Rattle.events.specs.Doing.{openedInLog, did, printRoom};
 ghost use Rattle.events.specs.Told.{calledOf, calledWith, secondsOf, PrintedAs};
 
 use device::on_legal;
-use log::{Says, ending};
+use logs::{Says, ending};
 use record::connection::SHUT;
 use record::types::Device;
 

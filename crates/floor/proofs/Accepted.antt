@@ -13,7 +13,7 @@ use borrow.Author.Tests.{le-ltb, lt-leb}
 use Rattle.stream.specs.Machine.{tookBytes}
 use Rattle.stream.proofs.SameHoweverCut.{live-run}
 use Rattle.floor.specs.declared.replay.Floor.{Floor}
-use Rattle.log.specs.Lines.{lineMost}
+use Rattle.logs.specs.Lines.{lineMost}
 use Rattle.events.specs.Doing.{printRoom}
 use Rattle.floor.specs.Reading.{Reading, ended, more, logRun, playedIn, logFinished}
 use Rattle.floor.specs.Calls.{readingIn, finishRoom, callRefusal, stepped, endedAt}

@@ -6,10 +6,10 @@ use native.Mathlib.Omega.{arith}
 use lib.ListN.{drop}
 use Rattle.text.specs.Words.{ascii}
 use Rattle.clock.specs.Passing.{secondsMost}
-use Rattle.log.specs.declared.Says.{Says}
-use Rattle.log.specs.declared.Says.TheVariants.{Opens, Receives, Passes, Closes, NoSuch}
-use Rattle.log.specs.Lines.{lineSaid}
-use Rattle.log.proofs.SecondsSaid.{Within, said-within}
+use Rattle.logs.specs.declared.Says.{Says}
+use Rattle.logs.specs.declared.Says.TheVariants.{Opens, Receives, Passes, Closes, NoSuch}
+use Rattle.logs.specs.Lines.{lineSaid}
+use Rattle.logs.proofs.SecondsSaid.{Within, said-within}
 use Rattle.events.specs.Events.{eventOf}
 use Rattle.events.specs.Told.{secondsOf}
 use Rattle.floor.specs.Events.{event}

@@ -15,7 +15,7 @@ use lib.Seq.{take-suc}
 use Rattle.record.specs.declared.types.Line.{Line}
 use Rattle.stream.proofs.UpToTheEnd.{up-to-keeps}
 use Rattle.stream.proofs.AllAtOnce.{more, collected-by, one-marked, one-fits, one-past}
-use Rattle.log.specs.Lines.{lineMost}
+use Rattle.logs.specs.Lines.{lineMost}
 use Rattle.floor.specs.Reading.{keptWith, upToLf}
 
 pub record InMemory (k now : Line) : Type 0 where

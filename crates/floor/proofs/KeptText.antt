@@ -14,8 +14,8 @@ use lib.Seq.{take-suc-set, take-set-le, drop-append-le, length-take-le}
 use Rattle.text.specs.Words.{ascii, if◌then◌else◌}
 use Rattle.text.proofs.Orders.{le-or-lt}
 use Rattle.text.proofs.Parts.{drop-take}
-use Rattle.log.specs.declared.Says.TheVariants.{NoSuch}
-use Rattle.log.specs.Lines.{lineSaid}
+use Rattle.logs.specs.declared.Says.TheVariants.{NoSuch}
+use Rattle.logs.specs.Lines.{lineSaid}
 use Rattle.events.specs.Events.{noSuch, eventOf}
 use Rattle.floor.specs.declared.gather.Begun.{Begun}
 use Rattle.floor.specs.Events.{event}

@@ -8,7 +8,7 @@ use mathlib.Core.List.{List, ◌∷◌, ◌++◌}
 use lib.ListN.{take}
 use Rattle.text.specs.Words.{ascii, ◌is◌}
 use Rattle.numbers.specs.Decimal.{isDigit}
-use Rattle.log.proofs.LastLineEnds.{last-line-ends}
+use Rattle.logs.proofs.LastLineEnds.{last-line-ends}
 use Rattle.record.specs.declared.types.Device.{Device}
 use Rattle.floor.specs.Events.{events}
 use Rattle.floor.specs.Playing.{stateAfter, linesPrinted, replayed}

@@ -23,7 +23,7 @@ use Rattle.record.specs.declared.types.Line.{Line}
 use Rattle.stream.specs.Machine.{Out, Took, unanswered, tookBytes, call_of}
 use Rattle.stream.proofs.UpToTheEnd.{notEnd, found}
 use Rattle.stream.proofs.OneCallGathers.{call-gathers, call_by}
-use Rattle.log.specs.Lines.{lineMost}
+use Rattle.logs.specs.Lines.{lineMost}
 use Rattle.events.specs.Doing.{printRoom}
 use Rattle.events.proofs.EventsLeave.{did-settings, did-legality}
 use Rattle.floor.specs.Reading.{Reading, keptWith, lineAfter, ended, withKept, more, lineTaken, upToLf}

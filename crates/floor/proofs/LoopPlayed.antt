@@ -17,7 +17,7 @@ use Rattle.record.specs.Legal.{isLegal}
 use Rattle.stream.specs.Machine.{Took}
 use Rattle.floor.specs.declared.replay.Floor.{Floor}
 use Rattle.floor.specs.declared.playing.Taken.{Taken}
-use Rattle.log.specs.Lines.{lineMost}
+use Rattle.logs.specs.Lines.{lineMost}
 use Rattle.events.specs.Doing.{printRoom}
 use Rattle.floor.specs.Reading.{Reading, lineTaken, playedIn}
 use Rattle.floor.specs.Calls.{readingIn, floorOf, lineTakenOf, CanPlay, TakenAs}

@@ -10,7 +10,7 @@ use Rattle.text.proofs.Choices.{if_yes, if_no, if-by}
 use Rattle.record.specs.Legal.{isLegal}
 use Rattle.record.specs.declared.types.Device.{Device}
 use Rattle.stream.specs.Machine.{Took, unanswered, tookBytes}
-use Rattle.log.specs.Lines.{lineMost}
+use Rattle.logs.specs.Lines.{lineMost}
 use Rattle.floor.specs.Reading.{Reading}
 use Rattle.floor.specs.Calls.{refusal, CanPlay, Step, giving}
 

@@ -16,8 +16,8 @@ use Rattle.record.specs.declared.types.Device.{Device}
 use Rattle.record.specs.declared.types.Line.{Line}
 use Rattle.stream.specs.Machine.{Out, unanswered, replyThen}
 use Rattle.stream.proofs.LinesSpelt.{run_none, run_more}
-use Rattle.log.specs.Lines.{lineMost}
-use Rattle.log.specs.LastLine.{lastLine}
+use Rattle.logs.specs.Lines.{lineMost}
+use Rattle.logs.specs.LastLine.{lastLine}
 use Rattle.events.specs.Events.{LogEvent}
 use Rattle.events.specs.Doing.{did, printed}
 use Rattle.floor.specs.Events.{event, lines_from, events}

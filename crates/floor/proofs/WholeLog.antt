@@ -19,7 +19,7 @@ use Rattle.record.specs.declared.types.Device.{Device}
 use Rattle.stream.specs.Machine.{Out, Took, tookBytes, handedParts, uncut}
 use Rattle.stream.proofs.WholeParts.{uncut-more}
 use Rattle.stream.proofs.SameHoweverCut.{outThrough, tookThrough, Taking, parts-run}
-use Rattle.log.specs.Lines.{lineMost}
+use Rattle.logs.specs.Lines.{lineMost}
 use Rattle.events.specs.Doing.{printRoom}
 use Rattle.floor.specs.Reading.{Reading, more, ended, logRun, playedIn, logFinished, fresh}
 use Rattle.floor.specs.Calls.{floorOf, finishRoom}

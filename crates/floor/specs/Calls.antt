@@ -26,8 +26,8 @@ use Rattle.floor.specs.declared.gather.Begun.{Begun}
 use Rattle.floor.specs.declared.replay.Floor.{Floor}
 use Rattle.floor.specs.declared.replay.Stepped.{Stepped}
 use Rattle.floor.specs.declared.playing.Taken.{Taken}
-use Rattle.log.specs.Lines.{lineMost}
-use Rattle.log.specs.LastLine.{lastRoom}
+use Rattle.logs.specs.Lines.{lineMost}
+use Rattle.logs.specs.LastLine.{lastRoom}
 use Rattle.events.specs.Doing.{printRoom}
 use Rattle.floor.specs.Reading.{Reading, keptOf, begunOf, nothingBegun, playedIn}
 use Rattle.floor.specs.Reading.{logFinished}

@@ -7,7 +7,7 @@
 -- Assumes nothing.
 use Rattle.std.specs.Prelude.{ℕ, List, [], ◌∷◌, ◌++◌, map, length, drop, eqb}
 use Rattle.text.specs.Words.{ascii, if◌then◌else◌, ◌is◌}
-use Rattle.log.specs.Lines.{lineSaid}
+use Rattle.logs.specs.Lines.{lineSaid}
 use Rattle.events.specs.Events.{LogEvent, eventOf}
 
 unfoldable pub event : List ℕ → LogEvent

@@ -9,7 +9,7 @@ use Rattle.text.specs.Words.{ascii}
 use Rattle.record.specs.Wanted.{wantedOf}
 use Rattle.record.specs.SetUp.{setUp}
 use Rattle.record.specs.declared.types.Device.{Device}
-use Rattle.log.specs.LastLine.{lastLine}
+use Rattle.logs.specs.LastLine.{lastLine}
 use Rattle.events.specs.Events.{LogEvent}
 use Rattle.events.specs.Doing.{did, printed}
 use Rattle.floor.specs.Events.{events}

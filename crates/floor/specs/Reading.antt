@@ -24,10 +24,10 @@ use Rattle.record.specs.declared.types.Line.{Line}
 use Rattle.stream.specs.Collecting.{lineText, collectedIn}
 use Rattle.stream.specs.Machine.{UpTo, Out, Took, unanswered, tookBytes, up_to, oneStep, runOver, oneCall}
 use Rattle.floor.specs.declared.gather.Begun.{Begun}
-use Rattle.log.specs.declared.Says.{Says}
-use Rattle.log.specs.declared.Says.TheVariants.{NoSuch}
-use Rattle.log.specs.Lines.{lineMost, lineSaid}
-use Rattle.log.specs.LastLine.{lastLine}
+use Rattle.logs.specs.declared.Says.{Says}
+use Rattle.logs.specs.declared.Says.TheVariants.{NoSuch}
+use Rattle.logs.specs.Lines.{lineMost, lineSaid}
+use Rattle.logs.specs.LastLine.{lastLine}
 use Rattle.events.specs.Events.{LogEvent, noSuch}
 use Rattle.events.specs.Doing.{did, printed, printRoom}
 use Rattle.floor.specs.Events.{event}

@@ -8,7 +8,7 @@ use crate::gather::Begun;
 use crate::playing;
 use crate::playing::{PRINT_ROOM, Taken};
 use crate::replay::Floor;
-use log::last;
+use logs::last;
 
 // 1 where a line has begun, which its LF would end; else 0.
 pub fn missing_lf(k: Begun) -> usize

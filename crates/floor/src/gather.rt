@@ -1,10 +1,10 @@
 // Bytes of a log up to the end of a line, kept in lent memory until the line is whole.
 ghost use Rattle.std.specs.Prelude.{◌≡◌, ◌≤◌, length};
-ghost use Rattle.log.specs.Lines.{lineMost};
+ghost use Rattle.logs.specs.Lines.{lineMost};
 ghost use Rattle.floor.specs.Reading.{keptOf, begunOf, keptWith, upToLf};
 ghost use Rattle.floor.specs.Told.{gatheredTo};
 
-use log::LINE_MOST;
+use logs::LINE_MOST;
 
 // What is kept of a line that has begun.
 #[derive(Drop)]

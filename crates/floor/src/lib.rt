@@ -1,4 +1,5 @@
 // The floor log played back (02, L1).
+#![tactic(auto)]
 pub mod closing;
 pub mod gather;
 pub mod moving;

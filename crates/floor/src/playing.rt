@@ -11,7 +11,7 @@ use crate::gather::Begun;
 use crate::replay::Floor;
 use crate::{gather, moving};
 use events::Printed;
-use log::Says;
+use logs::Says;
 use record::types::Device;
 
 pub const PRINT_ROOM: usize = 157;
@@ -36,7 +36,7 @@ pub fn kept_says(k: Begun, line: &mut [u8]) -> Says
     }
     let held = k.held;
     line[held] = b'\r';
-    log::line_says(&line[0..held])
+    logs::line_says(&line[0..held])
 }
 
 // That line is played. Its event is printed in one place, so that the compiler puts the calls into the loop and copies

@@ -6,7 +6,7 @@ ghost use Rattle.floor.specs.Calls.{floorWith, refusal, stepped, endedAt, Steppe
 use crate::gather::Begun;
 use crate::playing::PRINT_ROOM;
 use crate::{closing, playing};
-use log::LINE_MOST;
+use logs::LINE_MOST;
 use record::legality;
 use record::types::Device;
 

@@ -1,5 +1,6 @@
 // The device that a log begins with: 01's sample set-up, or the one of a stored form (02, L3) in a file that an
 // argument names.
+#![tactic(auto)]
 use floor::replay;
 use record::types::Device;
 use stored::loading;

@@ -1,4 +1,5 @@
 // What is printed of a lamp: a stretch that it burnt, and its seconds in all.
+#![tactic(auto)]
 ghost use Rattle.std.specs.Prelude.{◌≡◌, ◌+◌, ◌≤◌, length};
 ghost use Rattle.std.proofs.lemmas.List.Edits.{sets};
 ghost use Rattle.text.specs.Words.{over};

@@ -11,8 +11,8 @@ use borrow.Author.Tests.{le-leb, lt-leb, eq-eqb, ne_eqb}
 use Rattle.text.specs.Words.{if◌then◌else◌, ◌is◌}
 use Rattle.text.proofs.Choices.{if_no}
 use Rattle.lines.specs.Bytes.{◌at◌}
-use Rattle.log.specs.declared.Says.{Says}
-use Rattle.log.specs.declared.Says.TheVariants.{Opens, Receives, Passes, Closes, NoSuch}
+use Rattle.logs.specs.declared.Says.{Says}
+use Rattle.logs.specs.declared.Says.TheVariants.{Opens, Receives, Passes, Closes, NoSuch}
 use Rattle.events.specs.Events.{eventOf}
 use Rattle.events.specs.Told.{secondsOf}
 use Rattle.marking.specs.declared.MarkSaid.TheVariants.{Sets, NoMark}

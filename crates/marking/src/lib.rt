@@ -1,4 +1,5 @@
 // One line of a log that is watched for its lamps: what it does to the device.
+#![tactic(auto)]
 ghost use Rattle.std.specs.Prelude.{◌≡◌, true, ◌+◌, ◌-◌, ◌≤◌, ◌<◌, min, length, take, drop};
 ghost use Rattle.record.specs.Legal.{isLegal};
 ghost use Rattle.device.specs.Calls.{replyRoom};
@@ -9,7 +10,7 @@ ghost use Rattle.marking.specs.Done.{lineDid};
 
 use floor::gather::Begun;
 use floor::playing;
-use log::Says;
+use logs::Says;
 use record::host;
 use record::types::Device;
 

@@ -1,4 +1,5 @@
 // What the projector answers to a request and what the request does to it (01, "Commands"), apart from any line.
+#![tactic(auto)]
 mod change;
 mod inputs;
 mod rules;

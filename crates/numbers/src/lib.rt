@@ -1,4 +1,5 @@
 // Numbers: decimal ones here, written into lent bytes and read from bytes; those in bytes in highest.rt.
+#![tactic(auto)]
 pub mod highest;
 
 ghost use Rattle.std.specs.Prelude.{◌≡◌, ◌+◌, ◌≤◌, length};

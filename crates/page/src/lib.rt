@@ -2,6 +2,7 @@
 // bars; the hours along the top; a table of totals. It is written as it comes: a stretch is drawn once it has ended,
 // and rows are opened up to its days. Bands stand apart by place and name, so that no colour has to be told from
 // another.
+#![tactic(auto)]
 mod days;
 mod frame;
 

@@ -1,6 +1,7 @@
 // The floor log played back (02, L1): a log on standard input, what its lines answer on standard output, from 01's
 // sample set-up or from that of the stored form in the file that an argument names. Where a read
 // fails, the last line says so, and there is no line of power and lamps; where a write fails, standard error says so.
+#![tactic(auto)]
 mod way;
 
 use crate::way::{Failure, Way};

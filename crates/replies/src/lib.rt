@@ -1,4 +1,5 @@
 // The parameter of a reply, read for the command that it answers (01, "Controller").
+#![tactic(auto)]
 mod list;
 mod values;
 

@@ -1,4 +1,5 @@
 // What a received class, body and parameter ask for (01, "Commands"; 02, L14).
+#![tactic(auto)]
 ghost use Rattle.std.specs.Prelude.{◌≡◌, true, false, [], ◌∷◌};
 ghost use Rattle.lines.specs.Inputs.{input_of};
 ghost use Rattle.requests.specs.Requests.{isBody, bodyNamed, isQuestion, switchAsked, inputAsked, nameAsked};

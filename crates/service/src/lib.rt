@@ -1,4 +1,5 @@
 // Service reads all lamps each month: two tables of lamp seconds, compared (02, L10).
+#![tactic(auto)]
 ghost use Rattle.std.specs.Prelude.{◌≡◌, ◌≤◌, length};
 ghost use Rattle.std.proofs.lemmas.List.Edits.{sets};
 ghost use Rattle.service.specs.Differences.{◌minus◌, differences, firstNegative};

@@ -1,4 +1,5 @@
 // Set-up (01, "Set-up"): each setting is tested, then kept.
+#![tactic(auto)]
 pub mod fill;
 pub mod out_of_range;
 

@@ -1,4 +1,5 @@
 // Bytes taken up to the end of a line (01, "Connection"): collected, at most as many as the phase allows.
+#![tactic(auto)]
 ghost use Rattle.std.specs.Prelude.{◌≡◌, ◌≤◌};
 ghost use Rattle.record.specs.Limits.{lineRoom};
 ghost use Rattle.record.specs.Legal.{heldMost};

@@ -7,6 +7,7 @@ use Prim.Native.Nat.{ℕ, suc, ◌+◌, ◌-◌, ◌≤◌, ◌<◌}
 use native.Mathlib.Nat.{add-zero, add-suc, suc-add, zero-add}
 use native.Mathlib.Numerals.{add-one}
 use native.Mathlib.Omega.{arith}
+use borrow.Rule.Slice.PartMut.{put_mid}
 use lib.ListN.{length, get_or, set, take, drop, length-drop, drop_of_length-le}
 use lib.Seq.{sets, sets-eq, take-suc, take_all, take-length, length-take-le, drop-drop}
 use Rattle.text.specs.Words.{over}
@@ -61,3 +62,10 @@ sets-part l src at {part} h e =
     take at l ++ (src ++ drop (at + length src) l) ≡⟨ sym (append_assoc (take at l) src (drop (at + length src) l)) ⟩
     take at l ++ src ++ drop (at + length src) l ≡⟨ sym (sets-eq src l at h) ⟩
     sets l at src ∎
+
+-- src put in the place of the k elements from `at` on, k as many as src
+pub sets_mid : (l src : List ℕ) (at k : ℕ) {part : List ℕ} → at + length src ≤ length l → k ≡ length src → part ≡ src
+    → put_mid at k l part ≡ sets l at src
+sets_mid l src at k {part} h n e =
+    rw (n, e) (ap (λ (r : List ℕ). take at l ++ (src ++ r)) (drop-drop (length src) at l)
+    ∙ sym (append_assoc (take at l) src (drop (at + length src) l)) ∙ sym (sets-eq src l at h))

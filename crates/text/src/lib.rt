@@ -1,4 +1,5 @@
 // Text in memory: put into lent bytes, and compared.
+#![tactic(auto)]
 ghost use Rattle.std.specs.Prelude.{◌≡◌, ◌+◌, ◌≤◌, length};
 ghost use Rattle.std.proofs.lemmas.List.Edits.{sets};
 ghost use Rattle.text.specs.Scans.{sameBy, itself};
@@ -8,7 +9,7 @@ pub fn put(out: &mut [u8], at: usize, src: &[u8])
     requires { at + length src.now ≤ length out.old }
     ensures { out.new ≡ sets out.old at src.now }
 {
-    let copied = bytes::copy(src, &mut out[at..]);
+    out[at..at + src.len()].copy_from_slice(src);
 }
 
 // Whether a and b hold the same bytes.

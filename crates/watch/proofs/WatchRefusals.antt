@@ -13,7 +13,7 @@ use Rattle.text.specs.Words.{if◌then◌else◌, ◌is◌}
 use Rattle.text.proofs.Choices.{if_yes, if_no, if-by}
 use Rattle.record.specs.Legal.{isLegal}
 use Rattle.clock.specs.Passing.{secondsMost}
-use Rattle.log.specs.Lines.{lineMost}
+use Rattle.logs.specs.Lines.{lineMost}
 use Rattle.floor.specs.Reading.{keptOf, begunOf}
 use Rattle.floor.proofs.Gathering.{kept-held, kept-long}
 use Rattle.watch.specs.Watching.{Watching, Watched, isBurningIn, watchKept, watchMore, watchStep, isDark, isLong}

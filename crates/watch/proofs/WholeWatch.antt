@@ -21,7 +21,7 @@ use Rattle.record.specs.declared.types.Device.{Device}
 use Rattle.stream.specs.Machine.{Out, Took, handedParts, uncut}
 use Rattle.stream.proofs.WholeParts.{uncut-more}
 use Rattle.stream.proofs.SameHoweverCut.{outThrough, tookThrough, Taking, parts-run}
-use Rattle.log.specs.Lines.{lineMost}
+use Rattle.logs.specs.Lines.{lineMost}
 use Rattle.floor.specs.Events.{lines_of}
 use Rattle.floor.specs.Reading.{keptOf, nothingBegun}
 use Rattle.floor.specs.WholeLog.{noneLonger}

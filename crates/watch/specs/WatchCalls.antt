@@ -17,7 +17,7 @@ use Rattle.record.specs.Limits.{lampsMost}
 use Rattle.record.specs.Legal.{isLegal}
 use Rattle.record.specs.declared.types.Device.{Device}
 use Rattle.clock.specs.Passing.{secondsMost}
-use Rattle.log.specs.Lines.{lineMost}
+use Rattle.logs.specs.Lines.{lineMost}
 use Rattle.floor.specs.declared.gather.Begun.{Begun}
 use Rattle.floor.specs.Reading.{keptOf, begunOf, nothingBegun}
 use Rattle.watch.specs.declared.watching.Watch.{Watch}

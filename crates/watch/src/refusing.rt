@@ -4,7 +4,7 @@ ghost use Rattle.watch.specs.WatchCalls.{watchingIn, isSound, watchRefusal, held
 
 use crate::light;
 use crate::watching::{Seen, Step, Watch};
-use log::LINE_MOST;
+use logs::LINE_MOST;
 use record::own;
 
 const SECONDS_MOST: u64 = 4294967295;

@@ -8,7 +8,7 @@ use Rattle.text.proofs.Carried.{carried}
 use Rattle.text.proofs.Choices.{if_yes, if_no}
 use Rattle.record.specs.declared.types.Device.{Device}
 use Rattle.device.specs.Calls.{Result, refusedBy}
-use Rattle.log.specs.Ending.{isFormed}
+use Rattle.logs.specs.Ending.{isFormed}
 use Rattle.events.specs.Events.{eventOf}
 use Rattle.events.specs.Doing.{did}
 use Rattle.events.specs.Told.{calledOf}

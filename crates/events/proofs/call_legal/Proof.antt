@@ -11,7 +11,7 @@ use Rattle.record.specs.declared.types.Device.{Device}
 use Rattle.record.specs.declared.types.Changed.{Changed}
 use Rattle.device.specs.declared.calls.Received.{Received}
 use Rattle.device.specs.Calls.{Result}
-use Rattle.log.specs.declared.Says.{Says}
+use Rattle.logs.specs.declared.Says.{Says}
 use Rattle.device.proofs.EnoughRoom.{received-room, closing-quiet}
 use Rattle.events.specs.declared.Called.{Called}
 use Rattle.events.specs.Events.{eventOf}

@@ -14,7 +14,7 @@ use Rattle.text.proofs.Choices.{if-all}
 use Rattle.text.proofs.Stores.{sets_then, sets_over}
 use Rattle.stream.specs.Machine.{Out, tookBytes}
 use Rattle.floor.specs.declared.playing.Taken.{Taken}
-use Rattle.log.specs.LastLine.{lastRoom, lastLine}
+use Rattle.logs.specs.LastLine.{lastRoom, lastLine}
 use Rattle.events.specs.Doing.{printRoom}
 use Rattle.floor.specs.Reading.{Reading, playedIn, isBegun, lfMissing, endOfInput, logFinished}
 use Rattle.floor.specs.Calls.{readingIn, TakenAs}

@@ -9,7 +9,7 @@ use native.Mathlib.Omega.{arith}
 use lib.ListN.{length-set}
 use borrow.Author.Rules.{rules}
 use Rattle.text.proofs.Choices.{if_yes, if_no}
-use Rattle.log.specs.Lines.{lineSaid}
+use Rattle.logs.specs.Lines.{lineSaid}
 use Rattle.floor.proofs.KeptText.{line-lent}
 use Rattle.floor.proofs.playing.kept_says.Statement.{statement}
 use Rattle.floor.proofs.playing.kept_says.Tie as tie
