@@ -12,7 +12,7 @@ pub const TEXT_MOST: usize = 128;
 
 pub const ERRORS_COUNT: usize = 6;
 
-#[derive(Drop)]
+#[derive(Clone, Copy)]
 pub enum Power {
     Off,
     On,
@@ -20,7 +20,7 @@ pub enum Power {
     WarmUp,
 }
 
-#[derive(Drop)]
+#[derive(Clone, Copy)]
 pub struct LampHours {
     pub hours: u32,
     pub lit: bool,
@@ -28,7 +28,7 @@ pub struct LampHours {
 
 // The mutes are of video and of audio. The counts are of the array's elements from its first on. The six error digits
 // stand in `text`, as numbers. The class is 1 or 2. Nothing is a parameter that is not allowed.
-#[derive(Drop)]
+#[derive(Clone, Copy)]
 pub enum Kind {
     Ok,
     Refused(u8),
@@ -44,7 +44,7 @@ pub enum Kind {
     Nothing,
 }
 
-#[derive(Drop)]
+#[derive(Clone, Copy)]
 pub struct Answer {
     pub kind: Kind,
     pub lamps: [LampHours; LAMPS_MOST],

@@ -11,7 +11,7 @@ use day::plan::Plan;
 use day::{check, plan};
 
 #[repr(C)]
-#[derive(Drop)]
+#[derive(Clone, Copy)]
 pub struct FlatVerdict {
     pub number: u32,
     pub rule: u8,
@@ -20,7 +20,7 @@ pub struct FlatVerdict {
 }
 
 #[repr(C)]
-#[derive(Drop)]
+#[derive(Clone, Copy)]
 pub struct FlatPlan {
     pub number: u32,
     pub planned: bool,

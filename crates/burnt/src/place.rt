@@ -3,7 +3,7 @@ use libc::STDIN_FILENO;
 use report::way;
 
 // The bytes of the input memory from `at` to `end` are not yet taken.
-#[derive(Drop)]
+#[derive(Clone, Copy)]
 pub struct Place {
     pub at: usize,
     pub end: usize,

@@ -9,14 +9,14 @@ use lines::input::{Input, Source};
 
 // `pj_command`. What a code does not use is passed over.
 #[repr(C)]
-#[derive(Drop)]
+#[derive(Clone, Copy)]
 pub struct Coded {
     pub code: u8,
     pub first: u8,
     pub second: u8,
 }
 
-#[derive(Drop)]
+#[derive(Clone, Copy)]
 pub enum MaybeCommand {
     CommandIs(Command),
     NoCommand,

@@ -15,7 +15,7 @@ pub const CHARACTERS: usize = 2 * INPUTS_MOST;
 
 // `pj_greeting`.
 #[repr(C)]
-#[derive(Drop)]
+#[derive(Clone, Copy)]
 pub struct FlatGreeting {
     pub number: u32,
     pub kind: u8,
@@ -24,7 +24,7 @@ pub struct FlatGreeting {
 
 // `pj_reading`.
 #[repr(C)]
-#[derive(Drop)]
+#[derive(Clone, Copy)]
 pub struct FlatReading {
     pub number: u32,
     pub kind: u8,

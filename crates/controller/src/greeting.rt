@@ -2,7 +2,7 @@
 ghost use Rattle.std.specs.Prelude.{◌≡◌};
 ghost use Rattle.controller.specs.Greetings.{readGreeting};
 
-#[derive(Drop)]
+#[derive(Clone, Copy)]
 pub enum Greeting {
     Open,
     Secured(u32),

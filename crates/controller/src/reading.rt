@@ -7,7 +7,7 @@ use answers::answer::{Answer, Kind};
 use lines::command::Command;
 use lines::{command, form};
 
-#[derive(Drop)]
+#[derive(Clone, Copy)]
 pub enum Outcome {
     Means,
     Erra,
@@ -17,7 +17,7 @@ pub enum Outcome {
 }
 
 // The answer is of the kind Nothing, zeros beside it, unless the outcome is Means.
-#[derive(Drop)]
+#[derive(Clone, Copy)]
 pub struct Reading {
     pub outcome: Outcome,
     pub answer: Answer,

@@ -7,7 +7,7 @@ use lines::command::Command;
 use lines::{command, texts};
 
 #[repr(C)]
-#[derive(Drop)]
+#[derive(Clone, Copy)]
 pub struct Written {
     pub number: u32,
     pub length: usize,

@@ -7,7 +7,7 @@ ghost use Rattle.day.specs.Verdicts.{judged, checked};
 
 use crate::{range, rules};
 
-#[derive(Drop)]
+#[derive(Clone, Copy)]
 pub enum Verdict {
     OutOfRange,
     Accepted,

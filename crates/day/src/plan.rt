@@ -7,7 +7,7 @@ ghost use Rattle.day.specs.Plans.{isFree, joins, Placed, plan_of, rigsWritten};
 
 use crate::{range, rules};
 
-#[derive(Drop)]
+#[derive(Clone, Copy)]
 pub enum Plan {
     OutOfRange,
     Planned,
@@ -15,7 +15,7 @@ pub enum Plan {
 }
 
 // The rigs of the jobs that found one, and how many these are.
-#[derive(Drop)]
+#[derive(Clone, Copy)]
 struct Placing {
     count: usize,
     rigs: [u8; 64],

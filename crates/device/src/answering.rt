@@ -13,7 +13,7 @@ use lines::form;
 use record::types::{Own, Settings};
 
 // What a line leaves: the projector's own part, and the length of the reply that now stands in the lent memory.
-#[derive(Drop)]
+#[derive(Clone, Copy)]
 pub struct Spoken {
     pub own: Own,
     pub length: usize,

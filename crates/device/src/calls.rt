@@ -9,7 +9,7 @@ use record::legality;
 use record::types::{Changed, Device};
 
 #[repr(C)]
-#[derive(Drop)]
+#[derive(Clone, Copy)]
 pub struct Opened {
     pub number: u32,
     pub length: usize,
@@ -18,7 +18,7 @@ pub struct Opened {
 }
 
 #[repr(C)]
-#[derive(Drop)]
+#[derive(Clone, Copy)]
 pub struct Received {
     pub number: u32,
     pub taken: usize,

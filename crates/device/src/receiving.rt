@@ -15,7 +15,7 @@ use record::connection::{AWAITING, FAILED, OPENED};
 use record::types::{Connection, LINE_ROOM, Line, Own, Settings, TEXT_ROOM};
 
 // What a line's end leaves; the reply stands in the lent memory.
-#[derive(Drop)]
+#[derive(Clone, Copy)]
 pub struct Done {
     pub own: Own,
     pub connection: Connection,
@@ -23,7 +23,7 @@ pub struct Done {
 }
 
 // What one call leaves.
-#[derive(Drop)]
+#[derive(Clone, Copy)]
 pub struct Took {
     pub own: Own,
     pub connection: Connection,

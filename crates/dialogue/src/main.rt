@@ -20,7 +20,7 @@ fn write_line(mark: &[u8], line: &[u8]) {
 }
 
 // A projector, and the place at which its controller is connected.
-#[derive(Drop)]
+#[derive(Clone, Copy)]
 struct Connected {
     place: usize,
     device: Device,

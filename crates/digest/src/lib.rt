@@ -12,7 +12,7 @@ ghost use Rattle.digest.specs.Hex.{hexOf, hexDigits, hexValue, leadingDigest};
 use std::num::wrapping_add_u64;
 
 // The four-word buffer of RFC 1321, 3.3.
-#[derive(Drop)]
+#[derive(Clone, Copy)]
 struct Buffer {
     a: u32,
     b: u32,
@@ -21,7 +21,7 @@ struct Buffer {
 }
 
 #[repr(C)]
-#[derive(Drop)]
+#[derive(Clone, Copy)]
 pub struct Digest {
     pub bytes: [u8; 16],
 }

@@ -17,7 +17,7 @@ use record::types::Device;
 pub const PLACE: usize = 0;
 
 // What a call gave: its number, the length of its reply, the record.
-#[derive(Drop)]
+#[derive(Clone, Copy)]
 pub struct Called {
     pub number: u32,
     pub length: usize,
@@ -25,7 +25,7 @@ pub struct Called {
 }
 
 // What is left of a line: the length of what was printed, the seconds that it let pass, the record.
-#[derive(Drop)]
+#[derive(Clone, Copy)]
 pub struct Printed {
     pub length: usize,
     pub seconds: u32,

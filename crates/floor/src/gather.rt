@@ -7,7 +7,7 @@ ghost use Rattle.floor.specs.Told.{gatheredTo};
 use logs::LINE_MOST;
 
 // What is kept of a line that has begun.
-#[derive(Drop)]
+#[derive(Clone, Copy)]
 pub struct Begun {
     pub held: usize,
     pub overlong: bool,
@@ -20,7 +20,7 @@ impl Begun {
     };
 }
 
-#[derive(Drop)]
+#[derive(Clone, Copy)]
 pub struct Gathered {
     pub begun: Begun,
     pub before: usize,

@@ -61,7 +61,7 @@ fn end_line(
     events::print(legal, d, number, says, &line[from..end], out)
 }
 
-#[derive(Drop)]
+#[derive(Clone, Copy)]
 pub struct Taken {
     pub taken: usize,
     pub length: usize,
@@ -69,7 +69,7 @@ pub struct Taken {
 }
 
 // What was taken of one line, and the seconds that it let pass.
-#[derive(Drop)]
+#[derive(Clone, Copy)]
 pub struct Played {
     pub seconds: u32,
     pub took: Taken,

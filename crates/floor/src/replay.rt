@@ -14,7 +14,7 @@ const FINISH_ROOM: usize = 268;
 
 pub const LINE_ROOM: usize = 4097;
 
-#[derive(Drop)]
+#[derive(Clone, Copy)]
 pub struct Floor {
     pub device: Device,
     // lines played
@@ -22,7 +22,7 @@ pub struct Floor {
     pub begun: Begun,
 }
 
-#[derive(Drop)]
+#[derive(Clone, Copy)]
 pub struct Stepped {
     pub number: u32,
     pub taken: usize,

@@ -18,7 +18,7 @@ use record::types::{Device, INPUTS_MOST, InputName, LAMPS_MOST, Settings, Text};
 pub const VERSION: u8 = 3;
 
 #[repr(C)]
-#[derive(Drop)]
+#[derive(Clone, Copy)]
 pub struct FormWritten {
     pub number: u32,
     pub length: usize,

@@ -10,7 +10,7 @@ use stored::loading;
 const ROOM: usize = 68867;
 
 // `read`: the file could be read to its end; `number`: that of the load, 0 where the device may be used.
-#[derive(Drop)]
+#[derive(Clone, Copy)]
 pub struct Begin {
     pub read: bool,
     pub number: u32,

@@ -5,7 +5,7 @@ ghost use Rattle.lines.specs.Bodies.{rowOf, hasSet, hasParameters, hasQuery};
 use crate::command::Body;
 
 // What a body sets, if anything. INNM sets nothing, and names an input beside its `?`.
-#[derive(Drop)]
+#[derive(Clone, Copy)]
 pub enum Sets {
     SetsPower,
     SetsInput,
@@ -20,7 +20,7 @@ pub enum Sets {
 
 // The class; the letters; what is set; whether `?` asks it; whether there have to be lamps (rule 1); whether the power
 // has to be on (rule 4).
-#[derive(Drop)]
+#[derive(Clone, Copy)]
 pub struct BodyRow {
     pub class: u8,
     pub letters: [u8; 4],

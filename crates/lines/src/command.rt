@@ -11,7 +11,7 @@ use crate::input::Input;
 use crate::{body, input};
 
 // The four letters that name what a command is about. INPT and INST are asked for under both classes.
-#[derive(Drop)]
+#[derive(Clone, Copy)]
 pub enum Body {
     Powr,
     Inpt,
@@ -35,7 +35,7 @@ pub enum Body {
 }
 
 // What a mute is of.
-#[derive(Drop)]
+#[derive(Clone, Copy)]
 pub enum Half {
     VideoHalf,
     AudioHalf,
@@ -43,7 +43,7 @@ pub enum Half {
 }
 
 // What a step is of.
-#[derive(Drop)]
+#[derive(Clone, Copy)]
 pub enum Volume {
     Speaker,
     Microphone,
@@ -51,7 +51,7 @@ pub enum Volume {
 
 // What our writer can write: the sets, the query of an input's name, and `?` to any body that has it. A step is up
 // where its bool is true.
-#[derive(Drop)]
+#[derive(Clone, Copy)]
 pub enum Command {
     PowerSet(bool),
     InputSet(Input),
@@ -64,7 +64,7 @@ pub enum Command {
 }
 
 // A parameter of ours has one to three bytes.
-#[derive(Drop)]
+#[derive(Clone, Copy)]
 pub enum Parameter {
     One(u8),
     Two(u8, u8),

@@ -4,7 +4,7 @@ ghost use Rattle.lines.specs.Sources.{isNumberCharacter, numberFor, numberCharac
 ghost use Rattle.lines.specs.Inputs.{isInputText, sourceNamed, read_input, input_of, isInput, sourceDigit};
 ghost use Rattle.lines.specs.Inputs.{numberDigit, inputText};
 
-#[derive(Drop)]
+#[derive(Clone, Copy)]
 pub enum Source {
     Rgb,
     Video,
@@ -15,13 +15,13 @@ pub enum Source {
 }
 
 // The number is 1 to 9, or 10 to 35 for A to Z.
-#[derive(Drop)]
+#[derive(Clone, Copy)]
 pub struct Input {
     pub source: Source,
     pub number: u8,
 }
 
-#[derive(Drop)]
+#[derive(Clone, Copy)]
 pub enum MaybeInput {
     InputIs(Input),
     NoInput,

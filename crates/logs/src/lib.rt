@@ -9,7 +9,7 @@ ghost use Rattle.logs.specs.Lines.{randomSaid, secondsSaid, formSaid, lineSaid};
 
 use numbers::Number;
 
-#[derive(Drop)]
+#[derive(Clone, Copy)]
 pub enum Says {
     Opens(u32),
     // the bytes received are those of the line after its first two, and CR

@@ -15,14 +15,14 @@ use record::host;
 use record::types::Device;
 
 // What a line did: the seconds that it let pass, and the record that it leaves.
-#[derive(Drop)]
+#[derive(Clone, Copy)]
 pub struct Done {
     pub seconds: u32,
     pub device: Device,
 }
 
 // The mark that a line asks for: of the lamp at a place from 0.
-#[derive(Drop)]
+#[derive(Clone, Copy)]
 pub enum MarkSaid {
     Sets(u8, bool),
     NoMark,

@@ -15,7 +15,7 @@ use lines::command::Command;
 use record::types::{Own, Settings};
 use requests::Request;
 
-#[derive(Drop)]
+#[derive(Clone, Copy)]
 pub struct Decided {
     pub answer: Answer,
     pub own: Own,

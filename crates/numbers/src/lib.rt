@@ -34,7 +34,7 @@ pub fn put_number(out: &mut [u8], at: usize, n: u32) -> usize
     put_long(out, at, n as u64)
 }
 
-#[derive(Drop)]
+#[derive(Clone, Copy)]
 pub enum Number {
     Value(u64),
     NotANumber,

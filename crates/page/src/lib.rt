@@ -13,14 +13,14 @@ pub const LAMPS: usize = 8;
 const DAY: u64 = 86400;
 
 // There are rows for so many days; the last is open.
-#[derive(Drop)]
+#[derive(Clone, Copy)]
 pub struct Page {
     pub days: u64,
     pub sink: Sink,
 }
 
 // Stretches that ended together, of each lamp whose mark is set, in seconds since the log began.
-#[derive(Drop)]
+#[derive(Clone, Copy)]
 pub struct Stretch {
     pub marks: [bool; LAMPS],
     pub count: usize,
@@ -29,7 +29,7 @@ pub struct Stretch {
 }
 
 // Each lamp's seconds: when the log began, burnt in it, and now.
-#[derive(Drop)]
+#[derive(Clone, Copy)]
 pub struct Totals {
     pub count: usize,
     pub starts: [u32; LAMPS],

@@ -20,7 +20,7 @@ pub const GREETED_SECURED: u8 = 2;
 
 // `pj_entry`: one projector.
 #[repr(C)]
-#[derive(Drop)]
+#[derive(Clone, Copy)]
 pub struct Entry {
     pub password: Text,
     pub greeting: u8,
@@ -42,7 +42,7 @@ pub struct Entry {
 
 // `pj_panel`.
 #[repr(C)]
-#[derive(Drop)]
+#[derive(Clone, Copy)]
 pub struct Panel {
     pub count: usize,
     pub entries: [Entry; PANEL_MOST],
@@ -50,7 +50,7 @@ pub struct Panel {
 
 // `pj_panel_changed`.
 #[repr(C)]
-#[derive(Drop)]
+#[derive(Clone, Copy)]
 pub struct PanelChanged {
     pub number: u32,
     pub panel: Panel,
@@ -58,7 +58,7 @@ pub struct PanelChanged {
 
 // `pj_panel_sent`.
 #[repr(C)]
-#[derive(Drop)]
+#[derive(Clone, Copy)]
 pub struct PanelSent {
     pub number: u32,
     pub length: usize,

@@ -23,7 +23,7 @@ pub const PLACES: usize = 4;
 
 // A text in its room. Here and in every array: what is not used is zero.
 #[repr(C)]
-#[derive(Drop)]
+#[derive(Clone, Copy)]
 pub struct Text {
     pub len: usize,
     pub bytes: [u8; TEXT_ROOM],
@@ -31,7 +31,7 @@ pub struct Text {
 
 // The name of an input in its room (02, L14).
 #[repr(C)]
-#[derive(Drop)]
+#[derive(Clone, Copy)]
 pub struct InputName {
     pub len: usize,
     pub bytes: [u8; INPUT_NAME_MOST],
@@ -40,7 +40,7 @@ pub struct InputName {
 // What set-up was given, but for the lamps' starting seconds. An input is two ASCII characters.
 // What Class 2 alone has, serial, version and a name for each input, is all zero in Class 1 (02, L14).
 #[repr(C)]
-#[derive(Drop)]
+#[derive(Clone, Copy)]
 pub struct Settings {
     pub name: Text,
     pub maker: Text,
@@ -60,7 +60,7 @@ pub struct Settings {
 
 // The projector's own part, which no connection touches but by a command.
 #[repr(C)]
-#[derive(Drop)]
+#[derive(Clone, Copy)]
 pub struct Own {
     pub power: u8,
     pub left: u32,
@@ -78,7 +78,7 @@ pub struct Own {
 
 // What is collected of a line.
 #[repr(C)]
-#[derive(Drop)]
+#[derive(Clone, Copy)]
 pub struct Line {
     pub overlong: bool,
     pub held: usize,
@@ -86,7 +86,7 @@ pub struct Line {
 }
 
 #[repr(C)]
-#[derive(Drop)]
+#[derive(Clone, Copy)]
 pub struct Connection {
     pub phase: u8,
     pub age: u32,
@@ -95,7 +95,7 @@ pub struct Connection {
 }
 
 #[repr(C)]
-#[derive(Drop)]
+#[derive(Clone, Copy)]
 pub struct Device {
     pub settings: Settings,
     pub own: Own,
@@ -104,7 +104,7 @@ pub struct Device {
 
 // What set-up, the host's three calls, closing and passing time give.
 #[repr(C)]
-#[derive(Drop)]
+#[derive(Clone, Copy)]
 pub struct Changed {
     pub number: u32,
     pub device: Device,
@@ -181,7 +181,7 @@ impl Device {
 }
 
 // What a set-up is given, in the order in which it is tested (01, "Set-up"; 02, L14).
-#[derive(Drop)]
+#[derive(Clone, Copy)]
 pub enum Setting {
     Name,
     Maker,
@@ -197,7 +197,7 @@ pub enum Setting {
     Names,
 }
 
-#[derive(Drop)]
+#[derive(Clone, Copy)]
 pub enum MaybeSetting {
     SettingIs(Setting),
     NoSetting,

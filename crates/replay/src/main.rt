@@ -13,7 +13,7 @@ use record::types::Device;
 const ROOM: usize = 65536;
 
 // Where a replay stands: the bytes of the input memory from `at` to `end` are not yet taken.
-#[derive(Drop)]
+#[derive(Clone, Copy)]
 struct Place {
     floor: Floor,
     at: usize,

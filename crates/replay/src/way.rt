@@ -3,7 +3,7 @@ ghost use Rattle.std.specs.Prelude.{◌≡◌, ◌≤◌, length};
 ghost use Rattle.text.specs.Words.{over};
 ghost use Rattle.replay.specs.Ways.{readWay, callWay, failureLine, failureRoom, numberLine};
 
-#[derive(Drop)]
+#[derive(Clone, Copy)]
 pub enum Failure {
     Read,
     Write,
@@ -11,7 +11,7 @@ pub enum Failure {
     Broken,
 }
 
-#[derive(Drop)]
+#[derive(Clone, Copy)]
 pub enum Way {
     On,
     Ended,

@@ -33,22 +33,22 @@ inputs_read (w ∷ ws) =
 
 pub inputs-back : (i : Input) → isInput i ≡ true → (u : List ℕ) → Only inputText i u → (t : List ℕ)
     (ws : List (List ℕ)) → words_of t ≡ [] ∷ ws
-    → inputsIn (words_of (u ++ t)) ≡ (all (i ∷ []) and_then inputsIn ws)
+    → inputsIn (words_of (u ++ t)) ≡ (all (i ∷ []) andThen inputsIn ws)
 inputs-back i e u text t ws h =
     ap (λ (l : List ℕ). inputsIn (words_of (l ++ t))) text
     ∙ ap inputsIn
     (word_first (inputText i) t (input-unspaced i) h)
-    ∙ ap (λ (m : MaybeInput). inputGot m and_then inputsIn ws) (input-of-text i e)
+    ∙ ap (λ (m : MaybeInput). inputGot m andThen inputsIn ws) (input-of-text i e)
 
 -- the loop: one input, and the end
 module _ (p : List ℕ) where
   pub input-here : {start end : ℕ} → WordTo p start end → {r m : MaybeInput}
       → r ≡ input_of (take (end - start) (drop start p))
       → r ≡ m
-      → inputsIn (words_of (drop start p)) ≡ (inputGot m and_then inputsIn (wordsAfter (drop end p)))
+      → inputsIn (words_of (drop start p)) ≡ (inputGot m andThen inputsIn (wordsAfter (drop end p)))
   input-here {start} {end} word e f =
       ap inputsIn word.words
-      ∙ ap (λ (m : MaybeInput). inputGot m and_then inputsIn (wordsAfter (drop end p))) (sym e ∙ f)
+      ∙ ap (λ (m : MaybeInput). inputGot m andThen inputsIn (wordsAfter (drop end p))) (sym e ∙ f)
 
   pub no-inputs : {r : Answer} → r ≡ plain_of Nothing → listSays inputsAre inputsCarried (inputsIn (words_of p)) ≡ nothing
       → r ≡ answer_of (readInputs p)

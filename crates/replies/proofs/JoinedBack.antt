@@ -16,7 +16,7 @@ use Rattle.replies.specs.Reading.{listSays}
 -- where a thing's text, before a space or the end, is read as that thing and then the words that follow
 module _ {A : Type 0} (W : A → List ℕ → Type 0) (P : A → Bool) (reads : List (List ℕ) → Got A) (end : reads [] ≡ all [])
     (back : (a : A) → P a ≡ true → (u : List ℕ) → W a u → (t : List ℕ) (ws : List (List ℕ)) → words_of t ≡ [] ∷ ws
-    → reads (words_of (u ++ t)) ≡ (all (a ∷ []) and_then reads ws)) where
+    → reads (words_of (u ++ t)) ≡ (all (a ∷ []) andThen reads ws)) where
   -- after the space before the first thing
   record Back (xs : List A) (s : List ℕ) : Type 0 where
     words : List (List ℕ)
@@ -32,7 +32,7 @@ module _ {A : Type 0} (W : A → List ℕ → Type 0) (P : A → Bool) (reads : 
         split = refl;
         things =
             back x (both_left (P x) (every P xs) e) t text s rest.words rest.split
-            ∙ ap (λ (q : Got A). all (x ∷ []) and_then q) rest.things;
+            ∙ ap (λ (q : Got A). all (x ∷ []) andThen q) rest.things;
       }
 
   pub read-joined : (says : List A → Said) (most : ℕ) (xs : List A) (p : List ℕ) → SpacedBy W xs (code " " ∷ p)

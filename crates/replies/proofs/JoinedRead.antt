@@ -22,7 +22,7 @@ module _ {A : Type 0} (W : A → List ℕ → Type 0) (P : A → Bool) where
   pub nothing_read : Reads [] (all [])
   nothing_read = read [] refl no_more
 
-  pub reads_then : (us ws : List (List ℕ)) {q r : Got A} → Reads us q → Reads ws r → Reads (us ++ ws) (q and_then r)
+  pub reads_then : (us ws : List (List ℕ)) {q r : Got A} → Reads us q → Reads ws r → Reads (us ++ ws) (q andThen r)
   reads_then us ws not-read rest = not-read
   reads_then us ws (read xs good text) not-read = not-read
   reads_then us ws (read xs good text) (read ys goods texts) =

@@ -42,7 +42,7 @@ module _ (x : LampHours) (u : List ℕ) (w : WritesLamp x u) where
       every-implies isDigit notSpace (λ b d. ap not (digit-isnt " " (omega arith) b d)) w.word w.hours.figures
 
   pub lamps-back : (t : List ℕ) (ws : List (List ℕ)) → words_of t ≡ [] ∷ ws
-      → lampsIn (words_of (u ++ t)) ≡ (all (x ∷ []) and_then lampsIn ws)
+      → lampsIn (words_of (u ++ t)) ≡ (all (x ∷ []) andThen lampsIn ws)
   lamps-back t ws h =
       let lit : List ℕ = switchDigit x.lit ∷ [] in
       let split : words_of (w.word ++ (code " " ∷ (lit ++ t))) ≡ w.word ∷ lit ∷ ws =
@@ -51,7 +51,7 @@ module _ (x : LampHours) (u : List ℕ) (w : WritesLamp x u) where
       ap (λ (s : List ℕ). lampsIn (words_of s))
       (ap (λ (s : List ℕ). s ++ t) w.text ∙ append_assoc w.word (code " " ∷ lit) t)
       ∙ ap lampsIn split
-      ∙ ap (λ (m : MaybeLamp). lampGot m and_then lampsIn ws) lamp-back
+      ∙ ap (λ (m : MaybeLamp). lampGot m andThen lampsIn ws) lamp-back
 
 -- a lamp as a projector of ours writes it
 pub lamp-written : (x : LampHours) → isLampHours x ≡ true → WritesLamp x (lampText x)

@@ -97,11 +97,11 @@ module _ (p : List ℕ) {start mid : ℕ} (first : WordTo p start mid) where
   pub lamp-here : mid < length p → {end : ℕ} → WordTo p (mid + 1) end → {r m : MaybeLamp}
       → r ≡ lampOf hours-word (take (end - (mid + 1)) (drop (mid + 1) p))
       → r ≡ m
-      → lampsIn (words_of (drop start p)) ≡ (lampGot m and_then lampsIn (wordsAfter (drop end p)))
+      → lampsIn (words_of (drop start p)) ≡ (lampGot m andThen lampsIn (wordsAfter (drop end p)))
   lamp-here h {end} second e f =
       ap lampsIn
       (first.words ∙ ap (λ (ws : List (List ℕ)). hours-word ∷ ws) (after-space p h ∙ second.words))
-      ∙ ap (λ (m : MaybeLamp). lampGot m and_then lampsIn (wordsAfter (drop end p))) (sym e ∙ f)
+      ∙ ap (λ (m : MaybeLamp). lampGot m andThen lampsIn (wordsAfter (drop end p))) (sym e ∙ f)
 
   pub no_second : length p ≤ mid → lampsIn (words_of (drop start p)) ≡ none
   no_second h = ap lampsIn (first.words ∙ ap (λ (ws : List (List ℕ)). hours-word ∷ ws) (after-end p h))

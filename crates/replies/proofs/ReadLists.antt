@@ -17,12 +17,12 @@ use Rattle.replies.specs.Reading.{listSays}
 use Rattle.replies.proofs.Words.{after-space, after-end}
 use Rattle.replies.proofs.JoinedRead.{Reads, words-by}
 
-none_then : {A : Type 0} (q : Got A) → q ≡ (all [] and_then q)
+none_then : {A : Type 0} (q : Got A) → q ≡ (all [] andThen q)
 none_then none = refl
 none_then (all ys) = refl
 
 one_then : {A : Type 0} (xs : List A) (a : A) (q : Got A)
-    → (all xs and_then all (a ∷ []) and_then q) ≡ (all (xs ++ (a ∷ [])) and_then q)
+    → (all xs andThen all (a ∷ []) andThen q) ≡ (all (xs ++ (a ∷ [])) andThen q)
 one_then xs a none = refl
 one_then xs a (all ys) = ap all (sym (append_assoc xs (a ∷ []) ys))
 
@@ -32,7 +32,7 @@ module _ {A : Type 0} (reads : List (List ℕ) → Got A) (z : List A) (p : List
     pub count : k ≡ length done
     pub inside : at ≤ length p
     pub stored : arr ≡ sets z 0 done
-    pub rest : reads (words_of p) ≡ (all done and_then reads (words_of (drop at p)))
+    pub rest : reads (words_of p) ≡ (all done andThen reads (words_of (drop at p)))
 
   pub record AllRead (arr : List A) (k : ℕ) : Type 0 where
     pub things : List A
@@ -64,7 +64,7 @@ module _ {A : Type 0} {reads : List (List ℕ) → Got A} {z : List A} {p : List
         → listSays says most (reads (words_of p)) ≡ nothing
     no_room says {most} h each =
         ap (listSays says most) st.rest
-        ∙ words-by _ _ reads each (λ (q : Got A). listSays says most (all st.done and_then q) ≡ nothing) refl
+        ∙ words-by _ _ reads each (λ (q : Got A). listSays says most (all st.done andThen q) ≡ nothing) refl
         (drop at p)
         (λ x xs good text.
         rw (lt-leb (length (st.done ++ (x ∷ xs))) most (omega (arith, st.count, length-append st.done (x ∷ xs)))))
@@ -72,10 +72,10 @@ module _ {A : Type 0} {reads : List (List ℕ) → Got A} {z : List A} {p : List
     pub no-thing : (says : List A → Said) (most : ℕ) → reads (words_of (drop at p)) ≡ none
         → listSays says most (reads (words_of p)) ≡ nothing
     no-thing says most e =
-        ap (listSays says most) (st.rest ∙ ap (λ (q : Got A). all st.done and_then q) e)
+        ap (listSays says most) (st.rest ∙ ap (λ (q : Got A). all st.done andThen q) e)
 
     module _ (a : A) (end : ℕ)
-        (here : reads (words_of (drop at p)) ≡ (all (a ∷ []) and_then reads (wordsAfter (drop end p)))) where
+        (here : reads (words_of (drop at p)) ≡ (all (a ∷ []) andThen reads (wordsAfter (drop end p)))) where
       counted : k + 1 ≡ length (st.done ++ (a ∷ []))
       counted = rw length-append (omega (arith, st.count))
 
@@ -83,12 +83,12 @@ module _ {A : Type 0} {reads : List (List ℕ) → Got A} {z : List A} {p : List
       added = sets-snoc z 0 st.done a st.stored (omega (arith, st.count))
 
       more : {ws : List (List ℕ)} → wordsAfter (drop end p) ≡ ws
-          → reads (words_of p) ≡ (all (st.done ++ (a ∷ [])) and_then reads ws)
+          → reads (words_of p) ≡ (all (st.done ++ (a ∷ [])) andThen reads ws)
       more {ws} e =
           st.rest
-          ∙ ap (λ (q : Got A). all st.done and_then q) here
+          ∙ ap (λ (q : Got A). all st.done andThen q) here
           ∙ one_then st.done a (reads (wordsAfter (drop end p)))
-          ∙ ap (λ (vs : List (List ℕ)). all (st.done ++ (a ∷ [])) and_then reads vs) e
+          ∙ ap (λ (vs : List (List ℕ)). all (st.done ++ (a ∷ [])) andThen reads vs) e
 
       pub at-end : reads [] ≡ all [] → length p ≤ end → AllRead reads z p (set arr k a) (k + 1)
       at-end e h = record {
@@ -97,7 +97,7 @@ module _ {A : Type 0} {reads : List (List ℕ) → Got A} {z : List A} {p : List
         stored = added;
         whole =
             more (after-end p h)
-            ∙ ap (λ (q : Got A). all (st.done ++ (a ∷ [])) and_then q) e
+            ∙ ap (λ (q : Got A). all (st.done ++ (a ∷ [])) andThen q) e
             ∙ ap all (append-nil (st.done ++ (a ∷ [])));
       }
 

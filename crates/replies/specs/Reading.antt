@@ -101,7 +101,7 @@ lampGot NoLamp = none
 abbrev pub lampsIn : List (List ℕ) → Got LampHours
 lampsIn [] = all []
 lampsIn (hours ∷ []) = none
-lampsIn (hours ∷ lit ∷ ws) = lampGot (lampOf hours lit) and_then lampsIn ws
+lampsIn (hours ∷ lit ∷ ws) = lampGot (lampOf hours lit) andThen lampsIn ws
 
 abbrev pub inputGot : MaybeInput → Got Input
 inputGot (InputIs i) = all (i ∷ [])
@@ -109,7 +109,7 @@ inputGot NoInput = none
 
 abbrev pub inputsIn : List (List ℕ) → Got Input
 inputsIn [] = all []
-inputsIn (w ∷ ws) = inputGot (input_of w) and_then inputsIn ws
+inputsIn (w ∷ ws) = inputGot (input_of w) andThen inputsIn ws
 
 -- the things of a list, where there are no more than a reply may have
 abbrev pub listSays : {A : Type 0} → (List A → Said) → ℕ → Got A → Said

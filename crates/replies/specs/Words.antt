@@ -6,7 +6,7 @@
 --   wordsAfter s       the words after the first byte of s: where a word has ended, those that follow its space
 --   WordTo p i n       the word that begins at the place i of p ends at n, before a space or at the end of p
 --   Got A              what words are read as: `all xs`, the things xs, or none
---   q and_then r        the things of q and then those of r, where both are some
+--   q andThen r        the things of q and then those of r, where both are some
 -- Assumes nothing.
 use Rattle.std.specs.Prelude.{ℕ, ◌-◌, ◌≤◌, ◌≡◌, List, [], ◌∷◌, ◌++◌, length, take, drop}
 use Prim.Native.Char.{code}
@@ -43,6 +43,6 @@ pub data Got (A : Type 0) : Type 0 where
   all : List A → Got A
 
 abbrev pub ◌andThen◌ : {A : Type 0} → Got A → Got A → Got A
-none and_then r = none
-all xs and_then none = none
-all xs and_then all ys = all (xs ++ ys)
+none andThen r = none
+all xs andThen none = none
+all xs andThen all ys = all (xs ++ ys)

@@ -10,7 +10,7 @@ use lines::input;
 use lines::input::MaybeInput;
 use numbers::Number;
 
-#[derive(Drop)]
+#[derive(Clone, Copy)]
 pub enum MaybeLamp {
     LampIs(LampHours),
     NoLamp,

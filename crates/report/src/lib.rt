@@ -7,7 +7,7 @@ use page::{LAMPS, Page, Stretch, Totals};
 use sink::{ROOM, Sink};
 
 // `starts`: each lamp's seconds when the log began, which its end tells. Lines go where the page would go.
-#[derive(Drop)]
+#[derive(Clone, Copy)]
 pub struct Report {
     pub drawn: bool,
     pub starts: [u32; LAMPS],

@@ -11,13 +11,13 @@ use lines::command::{Body, Command, Half, Volume};
 use lines::input::MaybeInput;
 use lines::{body, byte, input};
 
-#[derive(Drop)]
+#[derive(Clone, Copy)]
 pub enum MaybeBody {
     BodyIs(Body),
     NoBody,
 }
 
-#[derive(Drop)]
+#[derive(Clone, Copy)]
 pub enum Request {
     Asks(Command),
     Unlisted(Body),

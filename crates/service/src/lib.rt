@@ -8,7 +8,7 @@ ghost use Rattle.service.specs.Differences.{isComparable, compared, reportOf};
 // The places that a table may have.
 const TABLE_MOST: usize = 64;
 
-#[derive(Drop)]
+#[derive(Clone, Copy)]
 pub enum Compared {
     Forwards,
     Backwards(usize),
@@ -17,7 +17,7 @@ pub enum Compared {
 
 // The number of 01's table, whether a lamp went backwards, and the first place where one did (0 where none did).
 #[repr(C)]
-#[derive(Drop)]
+#[derive(Clone, Copy)]
 pub struct Report {
     pub number: u32,
     pub backwards: bool,

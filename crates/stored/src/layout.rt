@@ -15,7 +15,7 @@ const OLD_VERSION: usize = 1;
 const NEWEST: usize = VERSION as usize;
 
 // The place of each section's count but the name's, which stands after the version; of W; and of what follows C.
-#[derive(Drop)]
+#[derive(Clone, Copy)]
 pub struct Places {
     pub maker: usize,
     pub model: usize,

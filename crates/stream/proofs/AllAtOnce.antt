@@ -16,7 +16,7 @@ use borrow.Author.Tests.{lt-ltb, le-leb, lt-leb, leb-true, leb-false}
 use Rattle.text.specs.Words.{if◌then◌else◌}
 use Rattle.text.proofs.Choices.{if_yes, if_no, if-by}
 use Rattle.text.proofs.Orders.{le-or-lt}
-use Rattle.bytes.specs.Bytes.{index_after, index_of}
+use Rattle.stream.specs.Places.{index_after, index_of}
 use Rattle.record.specs.declared.types.Line.{Line}
 use Rattle.stream.specs.Collecting.{overlongLine, collectedIn, collectedAll}
 use Rattle.stream.specs.Machine.{UpTo, oneLater, up_to}

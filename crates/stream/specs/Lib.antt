@@ -1,3 +1,4 @@
 pub mod Machine
 pub mod Collecting
 pub mod Computing
+pub mod Places

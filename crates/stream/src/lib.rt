@@ -9,7 +9,7 @@ use record::connection;
 use record::types::{LINE_ROOM, Line};
 
 // What one call makes of the bytes it is handed: the line so far, the bytes before CR, and whether there was one.
-#[derive(Drop)]
+#[derive(Clone, Copy)]
 pub struct Gathered {
     pub line: Line,
     pub before: usize,
@@ -50,11 +50,25 @@ fn collect(most: usize, l: Line, more: &[u8]) -> Line
     next
 }
 
+// The place of the first b in s, or the length of s.
+pub fn find(s: &[u8], b: u8) -> usize
+    ensures { result ≡ index_of b s.now }
+{
+    let mut i = 0;
+    while i < s.len() {
+        if s[i] == b {
+            return i;
+        }
+        i += 1;
+    }
+    i
+}
+
 // The bytes up to the first CR, collected as the phase allows.
 pub fn gather(phase: u8, l: Line, bytes: &[u8]) -> Gathered
     ensures { result ≡ gathered (heldMost phase) l bytes.now }
 {
-    let before = bytes::scan::find(bytes, 0, bytes.len(), b'\r');
+    let before = find(bytes, b'\r');
     let line = collect(connection::held_most(phase), l, &bytes[0..before]);
     Gathered {
         line,

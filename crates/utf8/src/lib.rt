@@ -7,7 +7,7 @@ ghost use Rattle.text.specs.Scans.{every};
 
 // What is left of a character: how many bytes, and from which to which the next of them is. Those after it are any that
 // only continue.
-#[derive(Drop)]
+#[derive(Clone, Copy)]
 struct Rest(u8, u8, u8);
 
 // What follows a character's first byte, by the rows of the table. No byte is from 1 to 0, where there is no row.

@@ -71,7 +71,7 @@ pub fn begin(lights: bool, time: u64, from: u64) -> u64
 
 // What a line does to the light: whether the lamps burn no longer after it, the seconds gone, and the second at which
 // they began to burn last.
-#[derive(Drop)]
+#[derive(Clone, Copy)]
 pub struct Light {
     pub dark: bool,
     pub time: u64,

@@ -14,7 +14,7 @@ use record::types::{Device, LAMPS_MOST};
 
 pub const REPLY_ROOM: usize = 136;
 
-#[derive(Drop)]
+#[derive(Clone, Copy)]
 pub struct Watch {
     pub floor: Floor,
     // seconds gone since the log began
@@ -27,14 +27,14 @@ pub struct Watch {
 
 // How many bytes were taken, and whether the last of them ended stretches: those of the lamps whose marks are set, from
 // `from` to `time` of the state.
-#[derive(Drop)]
+#[derive(Clone, Copy)]
 pub struct Seen {
     pub taken: usize,
     pub ended: bool,
     pub watch: Watch,
 }
 
-#[derive(Drop)]
+#[derive(Clone, Copy)]
 pub struct Step {
     pub number: u32,
     pub seen: Seen,

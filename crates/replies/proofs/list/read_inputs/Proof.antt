@@ -41,7 +41,7 @@ module _ (c : tie.After-input-of Inv μ) where
   left = wordsAfter (drop word.word-end.result bytes)
 
   here : {m : MaybeInput} → c.Input-of.result ≡ m
-      → inputsIn (words_of (drop turn.loop.at bytes)) ≡ (inputGot m and_then inputsIn left)
+      → inputsIn (words_of (drop turn.loop.at bytes)) ≡ (inputGot m andThen inputsIn left)
   here e = input-here bytes word.word-end.ensures c.Input-of.ensures e
 
 -- and from the input that it found
@@ -53,7 +53,7 @@ module _ (c : tie.After-known-told Inv μ) where
   input = c.before.found.given.0.0
 
   found : inputsIn (words_of (drop (turn gave).loop.at (bytes gave)))
-      ≡ (all (input ∷ []) and_then inputsIn (left gave))
+      ≡ (all (input ∷ []) andThen inputsIn (left gave))
   found = here gave c.before.found.given.1
 
 none_found : tie.Need-returns Inv μ

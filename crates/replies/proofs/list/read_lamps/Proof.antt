@@ -46,7 +46,7 @@ module _ (c : tie.After-lamp-of Inv μ) where
   left = wordsAfter (drop second.word-end2.result (bytes first))
 
   here : {m : MaybeLamp} → c.lamp-of.result ≡ m
-      → lampsIn (words_of (drop (turn first).loop.at (bytes first))) ≡ (lampGot m and_then lampsIn left)
+      → lampsIn (words_of (drop (turn first).loop.at (bytes first))) ≡ (lampGot m andThen lampsIn left)
   here e =
       lamp-here (bytes first) first.word-end.ensures second.before.if1.left second.word-end2.ensures
       c.lamp-of.ensures
@@ -61,7 +61,7 @@ module _ (c : tie.After-known-told Inv μ) where
   lamp = c.before.found.given.0.0
 
   found : lampsIn (words_of (drop (turn (first gave)).loop.at (bytes (first gave))))
-      ≡ (all (lamp ∷ []) and_then lampsIn (left gave))
+      ≡ (all (lamp ∷ []) andThen lampsIn (left gave))
   found = here gave c.before.found.given.1
 
 left_over : tie.Need-returns Inv μ
