@@ -4,16 +4,23 @@
 #![tactic(auto)]
 mod place;
 
+use crate::place::Place;
 use floor::replay::LINE_ROOM;
 use page::{Stretch, Totals};
 use record::types::Device;
+use report::way::Way;
 use report::{Report, way};
-use sink::ROOM;
+use sink::Sink;
+use std::alloc::AllocError;
+use std::env;
+use std::io::Stdout;
 use watch::watching;
 use watch::watching::Watch;
 
+const ROOM: usize = 65536;
+
 // The stretches that ended, if any did.
-fn tell(r: Report, out: &mut [u8; ROOM], ended: bool, w: Watch) -> Report {
+fn tell(r: Report, out: &mut Sink<Stdout>, ended: bool, w: Watch) -> Report {
     if !ended {
         return r;
     }
@@ -27,7 +34,7 @@ fn tell(r: Report, out: &mut [u8; ROOM], ended: bool, w: Watch) -> Report {
     report::tell(r, out, stretch)
 }
 
-fn tell_totals(r: Report, out: &mut [u8; ROOM], w: Watch) -> u8 {
+fn tell_totals(r: Report, out: &mut Sink<Stdout>, w: Watch) -> Way {
     let starts = r.starts;
     let burnt = w.burnt;
     let lasts = w.floor.device.own.lamps;
@@ -37,14 +44,15 @@ fn tell_totals(r: Report, out: &mut [u8; ROOM], w: Watch) -> u8 {
         burnt,
         lasts,
     };
-    way::after_write(report::end(r, out, w.time, totals))
+    report::end(r, out, w.time, totals);
+    way::after_write(out.is_ok())
 }
 
 // The end of the log ends the stretches that are under way.
-fn end_log(w: Watch, r: Report, line: &mut [u8; LINE_ROOM], out: &mut [u8; ROOM]) -> u8 {
+fn end_log(w: Watch, r: Report, line: &mut [u8; LINE_ROOM], out: &mut Sink<Stdout>) -> Way {
     let step = watching::finish(w, line);
     if step.number != 0 {
-        return way::BROKEN_OFF;
+        return Way::BrokenOff;
     }
     let seen = step.seen;
     let watch = seen.watch;
@@ -55,75 +63,84 @@ fn end_log(w: Watch, r: Report, line: &mut [u8; LINE_ROOM], out: &mut [u8; ROOM]
 // What is left of the last read is played. Where nothing is left, all that was told is written before the next read,
 // which may wait. The state is moved on here and in no function of its own, which would copy the record.
 fn run(
+    rt: &HostRuntime,
     device: Device,
     begun: Report,
     line: &mut [u8; LINE_ROOM],
-    input: &mut [u8],
-    out: &mut [u8; ROOM],
-) -> u8 {
+    input: &mut [u8; ROOM],
+    out: &mut Sink<Stdout>,
+) -> Way {
     let mut watch = watching::start(device);
     let mut report = begun;
-    let mut place = place::empty(way::ON);
+    let mut place = Place::empty(Way::On);
     // a proved loop has to end: no log takes this many turns
-    let mut turns = u64::MAX;
-    while turns > 0 && place.way == way::ON {
+    for _ in 0..u64::MAX {
+        match place.way {
+            Way::On => {}
+            _ => break,
+        }
         let at = place.at;
         let end = place.end;
-        if at < end && end <= input.len() {
+        if at < end && end <= ROOM {
             let step = watching::play(watch, line, &input[at..end]);
             watch = step.seen.watch;
             report = tell(report, out, step.seen.ended, watch);
-            place = place::after_call(place, step.number, step.seen.taken, report.page.sink.ok);
+            place = place.after_call(step.number, step.seen.taken, out.is_ok());
         } else {
-            report = report::flush(report, out);
-            place = place::read(report.page.sink.ok, input);
+            out.flush();
+            place = place::read(rt, out.is_ok(), input);
         }
-        turns -= 1;
     }
-    if place.way == way::ENDED {
-        return end_log(watch, report, line, out);
+    match place.way {
+        Way::Ended => end_log(watch, report, line, out),
+        // a log that was cut short has neither its last stretches nor its lamps' seconds
+        cut => {
+            out.flush();
+            cut
+        }
     }
-    // a log that was cut short has neither its last stretches nor its lamps' seconds
-    report::flush(report, out);
-    place.way
 }
 
-fn show(device: Device, drawn: bool) -> u8 {
+fn show(rt: &HostRuntime, device: Device, drawn: bool) -> Result<Way, AllocError> {
     let mut line = [0u8; LINE_ROOM];
     let mut input = [0u8; ROOM];
-    let mut out = [0u8; ROOM];
-    let starts = device.own.lamps;
-    let report = report::begin(drawn, starts, &mut out);
-    run(device, report, &mut line, &mut input, &mut out)
+    let mut out = Sink::new(rt.alloc(), rt.stdout())?;
+    let report = report::begin(&mut out, drawn, device.own.lamps);
+    Ok(run(rt, device, report, &mut line, &mut input, &mut out))
 }
 
 // Whether the first argument asks for the page.
-fn is_page() -> bool {
-    let mut word = [0u8; 8];
-    let length = os::arg(1, &mut word);
-    if os::errno() != 0 {
-        return false;
+fn is_page(rt: &HostRuntime) -> bool {
+    match env::args(rt) {
+        Ok(mut all) => match all.nth(1) {
+            Some(word) => word.as_str() == "--page",
+            None => false,
+        },
+        Err(_) => false,
     }
-    text::same(&word[..length], b"--page")
 }
 
-fn form_place(drawn: bool) -> usize {
-    if drawn {
-        return 2;
-    }
-    1
+// The one line for a form that does not load.
+fn say_number(rt: &HostRuntime, number: u32) -> Result<Way, AllocError> {
+    let mut out = Sink::new(rt.alloc(), rt.stdout())?;
+    out.fill(b"! #\n", &[number as u64]);
+    out.flush();
+    Ok(way::after_write(out.is_ok()))
 }
 
-fn main() {
-    let drawn = is_page();
-    let begun = formfile::begun_by(form_place(drawn));
+fn told(rt: &HostRuntime) -> Result<Way, AllocError> {
+    let drawn = is_page(rt);
+    let begun = formfile::begun_by(rt, if drawn { 2 } else { 1 });
     if !begun.read {
-        way::say(way::READ_FAILED);
-        return;
+        return Ok(Way::ReadFailed);
     }
     if begun.number != 0 {
-        way::say_number(begun.number);
-        return;
+        return say_number(rt, begun.number);
     }
-    way::say(show(begun.device, drawn));
+    show(rt, begun.device, drawn)
+}
+
+fn main(rt: HostRuntime) -> Result<(), AllocError> {
+    way::say(&rt, told(&rt)?);
+    Ok(())
 }

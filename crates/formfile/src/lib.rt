@@ -3,11 +3,15 @@
 #![tactic(auto)]
 use floor::replay;
 use record::types::Device;
+use std::env;
+use std::fs::File;
+use std::io;
+use std::io::{Read, Write};
 use stored::loading;
 
 // A byte more than the longest form that its counts, a byte each, can ask for, legal or not: a file that fills this has
 // bytes left over.
-const ROOM: usize = 68867;
+const ROOM: u64 = 68867;
 
 // `read`: the file could be read to its end; `number`: that of the load, 0 where the device may be used.
 #[derive(Clone, Copy)]
@@ -35,42 +39,36 @@ fn sample() -> Begin {
     }
 }
 
-fn of_file(path: &[u8]) -> Begin {
-    let fd = os::open_read(path);
-    if fd < 0 {
-        os::fail(path);
-        return unread();
-    }
-    let mut bytes = [0u8; ROOM];
-    let length = io::read_full(fd, &mut bytes);
-    // what stopped there: the end of the file, or a read that fails again, as of a directory
+fn of_file(rt: &HostRuntime, path: &str) -> io::Result<Begin> {
+    let mut file = File::open(rt, path)?;
+    let mut bytes = Vec::new(rt.alloc());
+    (&mut file).take(ROOM).read_to_end(&mut bytes)?;
+    // a read that fails where these bytes end is told too
     let mut more = [0u8; 1];
-    let got = libc::read(fd, &mut more);
-    if got < 0 {
-        os::fail(path);
-        libc::close(fd);
-        return unread();
-    }
-    libc::close(fd);
-    let loaded = loading::load(&bytes[..length]);
+    file.read(&mut more)?;
+    let loaded = loading::load(&bytes);
     let device = loaded.device;
-    Begin {
+    Ok(Begin {
         read: true,
         number: loaded.number,
         device,
+    })
+}
+
+fn begin(rt: &HostRuntime, place: usize) -> io::Result<Begin> {
+    match env::args(rt)?.nth(place) {
+        None => Ok(sample()),
+        Some(path) => of_file(rt, path.as_str()),
     }
 }
 
-// By the argument with that place, where there is one.
-pub fn begun_by(place: usize) -> Begin {
-    if os::arg_count() <= place {
-        return sample();
+// By the argument with that place, where there is one. What cannot be read is told on standard error.
+pub fn begun_by(rt: &HostRuntime, place: usize) -> Begin {
+    match begin(rt, place) {
+        Ok(begun) => begun,
+        Err(error) => {
+            let _told = eprintln!(rt; "form: {error}").is_ok();
+            unread()
+        }
     }
-    let mut path = io::buffer();
-    let length = os::arg(place, &mut path);
-    if os::errno() != 0 {
-        os::fail(b"path");
-        return unread();
-    }
-    of_file(&path[..length])
 }

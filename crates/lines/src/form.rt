@@ -26,6 +26,7 @@ fn takes_class(k: u8, h: u8) -> bool
 }
 
 // A line as received, without its CR, for a set-up of Class k.
+#[tactic(auto, unfolding(crate::specs::Forms::isCommandForm))]
 pub fn is_command_form(k: u8, l: &[u8]) -> bool
     ensures { result ≡ isCommandForm k l.now }
 {
@@ -58,6 +59,7 @@ fn is_class_digit(k: u8, h: u8) -> bool
 }
 
 // A reply of Class k, with its CR.
+#[tactic(auto, unfolding(crate::specs::Forms::isReplyForm))]
 pub fn is_reply_form(k: u8, l: &[u8]) -> bool
     ensures { result ≡ isReplyForm k l.now }
 {

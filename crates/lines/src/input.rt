@@ -43,6 +43,7 @@ pub fn is_input_text(k: u8, a: u8, b: u8) -> bool
     ((b'1' <= a) & (a <= b'6')) & is_number_character(b)
 }
 
+#[tactic(auto, unfolding(crate::specs::Inputs::sourceNamed))]
 fn source_named(a: u8) -> Source
     ensures { result ≡ sourceNamed a }
 {
@@ -56,6 +57,7 @@ fn source_named(a: u8) -> Source
     }
 }
 
+#[tactic(auto, unfolding(crate::specs::Sources::numberFor))]
 fn number_for(b: u8) -> u8
     requires { isNumberCharacter b ≡ true }
     ensures { result ≡ numberFor b }
@@ -67,6 +69,7 @@ fn number_for(b: u8) -> u8
 }
 
 // The input of either class that two characters name, or none.
+#[tactic(auto, unfolding(crate::specs::Inputs::read_input))]
 pub fn read_input(a: u8, b: u8) -> MaybeInput
     ensures { result ≡ read_input a b }
 {
@@ -79,6 +82,7 @@ pub fn read_input(a: u8, b: u8) -> MaybeInput
 }
 
 // The input of one word.
+#[tactic(auto, unfolding(crate::specs::Inputs::input_of))]
 pub fn input_of(w: &[u8]) -> MaybeInput
     ensures { result ≡ input_of w.now }
 {
@@ -109,6 +113,7 @@ pub fn source_digit(s: Source) -> u8
     }
 }
 
+#[tactic(auto, unfolding(crate::specs::Sources::numberCharacter))]
 pub fn number_character(n: u8) -> u8
     ensures { result ≡ numberCharacter n }
 {

@@ -1,5 +1,6 @@
 // Numbers: decimal ones here, written into lent bytes and read from bytes; those in bytes in highest.rt.
 #![tactic(auto)]
+
 pub mod highest;
 
 ghost use Rattle.std.specs.Prelude.{◌≡◌, ◌+◌, ◌≤◌, length};
@@ -26,6 +27,7 @@ pub fn put_long(out: &mut [u8], at: usize, n: u64) -> usize
 }
 
 // The same for a u32.
+#[tactic(auto, using(crate::proofs::Digits::digits_long))]
 pub fn put_number(out: &mut [u8], at: usize, n: u32) -> usize
     requires { at + length (digits n) ≤ length out.old }
     ensures count { result ≡ at + length (digits n) }
@@ -65,6 +67,7 @@ pub fn read_digits(s: &[u8]) -> Number
 }
 
 // The number that all of s spells: 0 to 99999, in one to five digits, leading zeros included (02, L4).
+#[tactic(auto, unfolding(crate::specs::Decimal::readNumber))]
 pub fn read_number(s: &[u8]) -> Number
     ensures { result ≡ readNumber s.now }
 {

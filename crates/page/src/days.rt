@@ -2,8 +2,9 @@
 // is placed to a hundredth of a unit.
 ghost use Rattle.std.specs.Prelude.{◌<◌, ◌≤◌};
 
-use crate::{DAY, LAMPS, Page, Stretch};
-use sink::{ROOM, Sink};
+use crate::{DAY, LAMPS, Stretch};
+use sink::Sink;
+use std::io::Write;
 
 // A lamp's band with the gap below it.
 const BAND: u64 = 18;
@@ -29,56 +30,41 @@ fn top(k: usize) -> u64
     k as u64 * BAND + 3
 }
 
-fn band(s: Sink, out: &mut [u8; ROOM], k: usize) -> Sink
+fn band<W: Write + Drop>(out: &mut Sink<W>, k: usize)
     requires { k < 8 }
 {
     let y = top(k);
     let numbers = [y + 12, k as u64 + 1, y, y];
-    sink::fill(
-        s,
-        out,
+    out.fill(
         b"<text x=\"46\" y=\"#\">lamp #</text>\
         <rect class=\"b\" x=\"90\" width=\"960\" height=\"16\" y=\"#\"/>\
         <path class=\"h\" d=\"M330 #v16m240 -16v16m240 -16v16\"/>",
         &numbers,
-    )
-}
-
-fn bands(s: Sink, out: &mut [u8; ROOM], count: usize) -> Sink {
-    let mut now = s;
-    let mut k = 0;
-    while k < count && k < LAMPS {
-        now = band(now, out, k);
-        k += 1;
-    }
-    now
+    );
 }
 
 // A row for the day, counted from 1: its name, and for each lamp a band with its name.
-fn open(s: Sink, out: &mut [u8; ROOM], day: u64, count: usize) -> Sink {
-    let mut before = s;
+fn open<W: Write + Drop>(out: &mut Sink<W>, day: u64, count: usize) {
     if 1 < day {
-        before = sink::text(s, out, b"</svg>\n");
+        out.text(b"</svg>\n");
     }
     let numbers = [lamps_of(count) * BAND + 8, day];
-    let named = sink::fill(
-        before,
-        out,
+    out.fill(
         b"<svg viewBox=\"0 0 1100 #\" role=\"img\">\
         <text x=\"0\" y=\"15\" font-weight=\"bold\">day #</text>",
         &numbers,
     );
-    bands(named, out, count)
+    for k in 0..count.min(LAMPS) {
+        band(out, k);
+    }
 }
 
-pub fn open_to(p: Page, out: &mut [u8; ROOM], last: u64, count: usize) -> Page {
-    let mut sink = p.sink;
-    let mut days = p.days;
-    while days < last {
-        days += 1;
-        sink = open(sink, out, days, count);
+// Rows for so many days: for `last`, where there were fewer.
+pub fn open_to<W: Write + Drop>(out: &mut Sink<W>, days: u64, last: u64, count: usize) -> u64 {
+    for before in days..last {
+        open(out, before + 1, count);
     }
-    Page { days, sink }
+    days.max(last)
 }
 
 fn hundredths(seconds: u64) -> u64
@@ -88,12 +74,12 @@ fn hundredths(seconds: u64) -> u64
 }
 
 // The bar of the lamp at place k in the open row, if its mark is set: from the second x of the day on, so many seconds.
-fn bar(before: Sink, out: &mut [u8; ROOM], s: Stretch, x: u64, seconds: u64, k: usize) -> Sink
+fn bar<W: Write + Drop>(out: &mut Sink<W>, s: Stretch, x: u64, seconds: u64, k: usize)
     requires from_le_to { s.from ≤ s.to }
     requires k_bound { k < 8 }
 {
     if !s.marks[k] {
-        return before;
+        return;
     }
     let place = hundredths(x);
     let width = hundredths(seconds);
@@ -110,25 +96,11 @@ fn bar(before: Sink, out: &mut [u8; ROOM], s: Stretch, x: u64, seconds: u64, k: 
         s.to,
         s.to - s.from,
     ];
-    sink::fill(
-        before,
-        out,
+    out.fill(
         b"<rect class=\"l\" height=\"16\" y=\"#\" x=\"#.##\" width=\"#.##\">\
         <title>lamp # from # to #: # seconds</title></rect>",
         &numbers,
-    )
-}
-
-fn bars(before: Sink, out: &mut [u8; ROOM], s: Stretch, x: u64, seconds: u64) -> Sink
-    requires { s.from ≤ s.to }
-{
-    let mut now = before;
-    let mut k = 0;
-    while k < s.count && k < LAMPS {
-        now = bar(now, out, s, x, seconds, k);
-        k += 1;
-    }
-    now
+    );
 }
 
 // The second of the day at which what began at `from` is there, and the one at which what ended at `to` is not any
@@ -147,19 +119,17 @@ fn end_in(day: u64, to: u64) -> u64 {
     DAY
 }
 
-// What of the stretches lies in the day, counted from 1.
-pub fn draw(p: Page, out: &mut [u8; ROOM], s: Stretch, day: u64) -> Page
+// What of the stretches lies in the day, counted from 1, where there are rows for so many days.
+pub fn draw<W: Write + Drop>(out: &mut Sink<W>, days: u64, s: Stretch, day: u64) -> u64
     requires { s.from ≤ s.to }
 {
-    let opened = open_to(p, out, day, s.count);
+    let opened = open_to(out, days, day, s.count);
     let x = first_in(day, s.from);
     let y = end_in(day, s.to);
-    if y <= x {
-        return opened;
+    if x < y {
+        for k in 0..s.count.min(LAMPS) {
+            bar(out, s, x, y - x, k);
+        }
     }
-    let sink = bars(opened.sink, out, s, x, y - x);
-    Page {
-        days: opened.days,
-        sink,
-    }
+    opened
 }

@@ -2,12 +2,11 @@
 ghost use Rattle.std.specs.Prelude.{◌<◌};
 
 use crate::{LAMPS, Totals};
-use sink::{ROOM, Sink};
+use sink::Sink;
+use std::io::Write;
 
-fn head(s: Sink, out: &mut [u8; ROOM]) -> Sink {
-    let style = sink::text(
-        s,
-        out,
+fn head<W: Write + Drop>(out: &mut Sink<W>) {
+    out.text(
         b"<!DOCTYPE html>\n\
         <html lang=\"en\"><head><meta charset=\"utf-8\"><title>Which lamp burnt when</title>\n\
         <style>\n\
@@ -23,35 +22,31 @@ fn head(s: Sink, out: &mut [u8; ROOM]) -> Sink {
         @media print{body{margin:0}.l,.b{-webkit-print-color-adjust:exact;print-color-adjust:exact}}\n\
         </style></head><body>\n",
     );
-    sink::text(
-        style,
-        out,
+    out.text(
         b"<h1>Which lamp burnt when</h1>\n\
         <p>A row is a day since the log began, a band in it a lamp; a dark bar is a stretch that it burnt. \
         Rest on a bar to read its seconds.</p>\n",
-    )
+    );
 }
 
 // The hours along the top.
-fn hours(s: Sink, out: &mut [u8; ROOM]) -> Sink {
-    sink::text(
-        s,
-        out,
+fn hours<W: Write + Drop>(out: &mut Sink<W>) {
+    out.text(
         b"<svg viewBox=\"0 0 1100 16\" role=\"img\" aria-label=\"hours of the day\"><g text-anchor=\"middle\">\
         <text y=\"12\" x=\"90\">0</text><text y=\"12\" x=\"170\">2</text><text y=\"12\" x=\"250\">4</text>\
         <text y=\"12\" x=\"330\">6</text><text y=\"12\" x=\"410\">8</text><text y=\"12\" x=\"490\">10</text>\
         <text y=\"12\" x=\"570\">12</text><text y=\"12\" x=\"650\">14</text><text y=\"12\" x=\"730\">16</text>\
         <text y=\"12\" x=\"810\">18</text><text y=\"12\" x=\"890\">20</text><text y=\"12\" x=\"970\">22</text>\
         <text y=\"12\" x=\"1050\">24</text></g></svg>\n",
-    )
+    );
 }
 
-pub fn above(s: Sink, out: &mut [u8; ROOM]) -> Sink {
-    let headed = head(s, out);
-    hours(headed, out)
+pub fn above<W: Write + Drop>(out: &mut Sink<W>) {
+    head(out);
+    hours(out);
 }
 
-fn row(before: Sink, out: &mut [u8; ROOM], t: Totals, k: usize) -> Sink
+fn row<W: Write + Drop>(out: &mut Sink<W>, t: Totals, k: usize)
     requires { k < 8 }
 {
     let numbers = [
@@ -60,32 +55,20 @@ fn row(before: Sink, out: &mut [u8; ROOM], t: Totals, k: usize) -> Sink
         t.burnt[k],
         t.lasts[k] as u64,
     ];
-    sink::fill(
-        before,
-        out,
+    out.fill(
         b"<tr><th>#</th><td>#</td><td>#</td><td>#</td></tr>\n",
         &numbers,
-    )
+    );
 }
 
-fn rows(before: Sink, out: &mut [u8; ROOM], t: Totals) -> Sink {
-    let mut now = before;
-    let mut k = 0;
-    while k < t.count && k < LAMPS {
-        now = row(now, out, t, k);
-        k += 1;
-    }
-    now
-}
-
-pub fn below(s: Sink, out: &mut [u8; ROOM], t: Totals) -> Sink {
-    let opened = sink::text(
-        s,
-        out,
+pub fn below<W: Write + Drop>(out: &mut Sink<W>, t: Totals) {
+    out.text(
         b"</svg>\n\
         <table><caption>Seconds of each lamp</caption>\
         <tr><th>lamp</th><th>at the start</th><th>burnt</th><th>now</th></tr>\n",
     );
-    let filled = rows(opened, out, t);
-    sink::text(filled, out, b"</table>\n</body></html>\n")
+    for k in 0..t.count.min(LAMPS) {
+        row(out, t, k);
+    }
+    out.text(b"</table>\n</body></html>\n");
 }

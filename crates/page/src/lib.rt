@@ -6,18 +6,12 @@
 mod days;
 mod frame;
 
-use sink::{ROOM, Sink};
+use sink::Sink;
+use std::io::Write;
 
 pub const LAMPS: usize = 8;
 
 const DAY: u64 = 86400;
-
-// There are rows for so many days; the last is open.
-#[derive(Clone, Copy)]
-pub struct Page {
-    pub days: u64,
-    pub sink: Sink,
-}
 
 // Stretches that ended together, of each lamp whose mark is set, in seconds since the log began.
 #[derive(Clone, Copy)]
@@ -37,9 +31,8 @@ pub struct Totals {
     pub lasts: [u32; LAMPS],
 }
 
-pub fn begin(out: &mut [u8; ROOM]) -> Page {
-    let sink = frame::above(Sink::EMPTY, out);
-    Page { days: 0, sink }
+pub fn begin<W: Write + Drop>(out: &mut Sink<W>) {
+    frame::above(out);
 }
 
 // So many days have one of these seconds. A log of no seconds has its first day all the same.
@@ -50,26 +43,20 @@ fn days_of(seconds: u64) -> u64 {
     1
 }
 
-pub fn draw(p: Page, out: &mut [u8; ROOM], s: Stretch) -> Page {
+// There are rows for so many days; the last is open. The same, with what the stretches are drawn in.
+pub fn draw<W: Write + Drop>(out: &mut Sink<W>, days: u64, s: Stretch) -> u64 {
     if s.to <= s.from {
-        return p;
+        return days;
     }
-    let last = days_of(s.to);
-    let mut page = p;
-    let mut day = s.from / DAY;
-    while day < last {
-        day += 1;
-        page = days::draw(page, out, s, day);
+    let mut opened = days;
+    for before in s.from / DAY..days_of(s.to) {
+        opened = days::draw(out, opened, s, before + 1);
     }
-    page
+    opened
 }
 
 // The rows up to the end of a log of so many seconds, and what stands below them.
-pub fn end(p: Page, out: &mut [u8; ROOM], seconds: u64, t: Totals) -> Page {
-    let opened = days::open_to(p, out, days_of(seconds), t.count);
-    let sink = frame::below(opened.sink, out, t);
-    Page {
-        days: opened.days,
-        sink,
-    }
+pub fn end<W: Write + Drop>(out: &mut Sink<W>, days: u64, seconds: u64, t: Totals) {
+    days::open_to(out, days, days_of(seconds), t.count);
+    frame::below(out, t);
 }

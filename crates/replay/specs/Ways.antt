@@ -1,6 +1,6 @@
 -- How a replay goes on, and how it ends where its log is cut short. 02's L1 speaks of logs that are read and printed to
 -- their end; what is said of the others is the house's own rule.
---   readWay got          what a read's answer means: -1 that it failed, 0 the end of the log, more that bytes came
+--   readWay got          what a read's answer means: none that it failed, 0 the end of the log, more that bytes came
 --   callWay written n    how the replay goes on after a call with the number n, whose output was written or not
 --   failureLine f        the last line then, in place of the line of power and lamps. No log prints it by itself: every
 --                        other line begins with a digit or with `power `, and no log's last line ends so
@@ -8,7 +8,7 @@
 --   numberLine n         the one line for a stored form that does not load, with its number (02, L3)
 --   failureRoom          so much room a failure line never needs more than
 -- Assumes nothing.
-use Rattle.std.specs.Prelude.{ℕ, zero, suc, Bool, not, List, ◌++◌, ℤ, pos, negsuc, eqb}
+use Rattle.std.specs.Prelude.{ℕ, zero, suc, Bool, not, List, ◌++◌, Option, None, Some, eqb}
 use Rattle.text.specs.Words.{ascii, if◌then◌else◌}
 use Rattle.numbers.specs.Decimal.{digits}
 use Rattle.replay.specs.declared.way.Failure.{Failure}
@@ -16,10 +16,10 @@ use Rattle.replay.specs.declared.way.Failure.TheVariants.{Read, Write, Broken}
 use Rattle.replay.specs.declared.way.Way.{Way}
 use Rattle.replay.specs.declared.way.Way.TheVariants.{On, Ended, Failed}
 
-abbrev pub readWay : ℤ → Way
-readWay (pos zero) = Ended
-readWay (pos (suc n)) = On
-readWay (negsuc n) = Failed Read
+abbrev pub readWay : Option ℕ → Way
+readWay None = Failed Read
+readWay (Some zero) = Ended
+readWay (Some (suc n)) = On
 
 abbrev pub callWay : Bool → ℕ → Way
 callWay written number =

@@ -7,8 +7,8 @@ mod way;
 use crate::way::{Failure, Way};
 use floor::replay;
 use floor::replay::Floor;
-use libc::{STDERR_FILENO, STDIN_FILENO, STDOUT_FILENO};
 use record::types::Device;
+use std::io::{Read, Write};
 
 const ROOM: usize = 65536;
 
@@ -21,9 +21,9 @@ struct Place {
     way: Way,
 }
 
-fn write_start(fd: i32, out: &[u8], length: usize) -> bool {
+fn write_start<W: Write>(to: &mut W, out: &[u8], length: usize) -> bool {
     if length <= out.len() {
-        return io::write_all(fd, &out[0..length]);
+        return to.write_all(&out[0..length]).is_ok();
     }
     false
 }
@@ -55,23 +55,20 @@ fn further(floor: Floor, at: usize, end: usize, taken: usize, way: Way) -> Place
 }
 
 // What is left of the last read is played, and what it prints is written.
-fn play_rest(p: Place, line: &mut [u8], rest: &[u8], out: &mut [u8]) -> Place {
+fn play_rest(rt: &HostRuntime, p: Place, line: &mut [u8], rest: &[u8], out: &mut [u8]) -> Place {
     let stepped = replay::play(p.floor, line, rest, out);
-    let written = write_start(STDOUT_FILENO, out, stepped.length);
+    let written = write_start(&mut rt.stdout(), out, stepped.length);
     let next = way::after_call(written, stepped.number);
     further(stepped.floor, p.at, p.end, stepped.taken, next)
 }
 
-fn read_more(p: Place, input: &mut [u8]) -> Place {
-    let got = libc::read(STDIN_FILENO, input);
-    let end = io::count(got, input);
-    let floor = p.floor;
-    let next = way::after_read(got);
+fn read_more(rt: &HostRuntime, p: Place, input: &mut [u8]) -> Place {
+    let got = rt.stdin().read(input).ok();
     Place {
-        floor,
+        floor: p.floor,
         at: 0,
-        end,
-        way: next,
+        end: got.unwrap_or(0),
+        way: way::after_read(got),
     }
 }
 
@@ -84,69 +81,68 @@ fn goes_on(p: Place) -> bool {
     }
 }
 
-fn turn(p: Place, line: &mut [u8], input: &mut [u8], out: &mut [u8]) -> Place {
+fn turn(rt: &HostRuntime, p: Place, line: &mut [u8], input: &mut [u8], out: &mut [u8]) -> Place {
     let at = p.at;
     let end = p.end;
     if end <= at {
-        return read_more(p, input);
+        return read_more(rt, p, input);
     }
     if input.len() < end {
         return broken_off(p.floor);
     }
-    play_rest(p, line, &input[at..end], out)
+    play_rest(rt, p, line, &input[at..end], out)
 }
 
-fn say(fd: i32, failure: Failure) -> bool {
+fn say<W: Write>(to: &mut W, failure: Failure) -> bool {
     let mut line = [0u8; 16];
     let length = way::put_failure(failure, &mut line);
-    write_start(fd, &line, length)
+    write_start(to, &line, length)
 }
 
-fn tell(way: Way) {
+fn tell(rt: &HostRuntime, way: Way) {
     match way {
         Way::On => {}
         Way::Ended => {}
-        Way::Failed(failure) => tell_failure(failure),
+        Way::Failed(failure) => tell_failure(rt, failure),
     }
 }
 
 // A failure has the last line; that of a write goes to standard error, since more output would hide what is missing.
-fn tell_failure(failure: Failure) {
-    let mut fd = STDOUT_FILENO;
-    match failure {
-        Failure::Read => {}
-        Failure::Write => fd = STDERR_FILENO,
-        Failure::Broken => {}
-    }
-    if !say(fd, failure) {
-        say(STDERR_FILENO, Failure::Write);
+fn tell_failure(rt: &HostRuntime, failure: Failure) {
+    let told = match failure {
+        Failure::Read => say(&mut rt.stdout(), failure),
+        Failure::Write => say(&mut rt.stderr(), failure),
+        Failure::Broken => say(&mut rt.stdout(), failure),
+    };
+    if !told {
+        say(&mut rt.stderr(), Failure::Write);
     }
 }
 
 // The end of the log is played, and the line of power and lamps written; a replay that was cut short has neither.
-fn end(p: Place, line: &mut [u8], out: &mut [u8]) {
+fn end(rt: &HostRuntime, p: Place, line: &mut [u8], out: &mut [u8]) {
     let way = p.way;
     match way {
         Way::Ended => {
             let finished = replay::finish(p.floor, line, out);
-            let written = write_start(STDOUT_FILENO, out, finished.length);
-            tell(way::after_call(written, finished.number));
+            let written = write_start(&mut rt.stdout(), out, finished.length);
+            tell(rt, way::after_call(written, finished.number));
         }
-        Way::Failed(failure) => tell_failure(failure),
-        Way::On => tell_failure(Failure::Broken),
+        Way::Failed(failure) => tell_failure(rt, failure),
+        Way::On => tell_failure(rt, Failure::Broken),
     }
 }
 
 // A form that does not load gives its number in one line, and nothing else.
-fn tell_number(number: u32) {
+fn tell_number(rt: &HostRuntime, number: u32) {
     let mut line = [0u8; 16];
     let length = way::put_number(number, &mut line);
-    if !write_start(STDOUT_FILENO, &line, length) {
-        say(STDERR_FILENO, Failure::Write);
+    if !write_start(&mut rt.stdout(), &line, length) {
+        say(&mut rt.stderr(), Failure::Write);
     }
 }
 
-fn run(device: Device, line: &mut [u8], input: &mut [u8], out: &mut [u8]) {
+fn run(rt: &HostRuntime, device: Device, line: &mut [u8], input: &mut [u8], out: &mut [u8]) {
     let floor = replay::start_with(device);
     let mut place = Place {
         floor,
@@ -157,24 +153,24 @@ fn run(device: Device, line: &mut [u8], input: &mut [u8], out: &mut [u8]) {
     // a proved loop has to end: no log takes this many turns
     let mut turns = u64::MAX;
     while turns > 0 && goes_on(place) {
-        place = turn(place, line, input, out);
+        place = turn(rt, place, line, input, out);
         turns -= 1;
     }
-    end(place, line, out);
+    end(rt, place, line, out);
 }
 
-fn main() {
-    let begun = formfile::begun_by(1);
+fn main(rt: HostRuntime) {
+    let begun = formfile::begun_by(&rt, 1);
     if !begun.read {
-        tell_failure(Failure::Read);
+        tell_failure(&rt, Failure::Read);
         return;
     }
     if begun.number != 0 {
-        tell_number(begun.number);
+        tell_number(&rt, begun.number);
         return;
     }
     let mut line = [0u8; replay::LINE_ROOM];
     let mut input = [0u8; ROOM];
     let mut out = [0u8; ROOM];
-    run(begun.device, &mut line, &mut input, &mut out);
+    run(&rt, begun.device, &mut line, &mut input, &mut out);
 }

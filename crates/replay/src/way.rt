@@ -18,16 +18,15 @@ pub enum Way {
     Failed(Failure),
 }
 
-pub fn after_read(got: isize) -> Way
+// `got`: how many bytes a read gave, where it did not fail.
+pub fn after_read(got: Option<usize>) -> Way
     ensures { result ≡ readWay got }
 {
-    if got < 0 {
-        return Way::Failed(Failure::Read);
+    match got {
+        None => Way::Failed(Failure::Read),
+        Some(0) => Way::Ended,
+        Some(_) => Way::On,
     }
-    if got < 1 {
-        return Way::Ended;
-    }
-    Way::On
 }
 
 pub fn after_call(written: bool, number: u32) -> Way

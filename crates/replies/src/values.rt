@@ -14,7 +14,7 @@ use lines::input::MaybeInput;
 
 // The kind k where p is exactly t.
 pub fn read_exactly(p: &[u8], t: &[u8], k: Kind) -> Kind
-    ensures { result ≡ (if p.now spells (λ x. x.now) t.entry then k else Nothing) }
+    ensures { result ≡ (if p.now spells t.now then k else Nothing) }
 {
     if text::same(p, t) {
         return k;

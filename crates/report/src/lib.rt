@@ -3,58 +3,45 @@
 mod lines;
 pub mod way;
 
-use page::{LAMPS, Page, Stretch, Totals};
-use sink::{ROOM, Sink};
+use page::{LAMPS, Stretch, Totals};
+use sink::Sink;
+use std::io::Write;
 
-// `starts`: each lamp's seconds when the log began, which its end tells. Lines go where the page would go.
+// `starts`: each lamp's seconds when the log began, which its end tells. A page has rows for so many days.
 #[derive(Clone, Copy)]
 pub struct Report {
     pub drawn: bool,
     pub starts: [u32; LAMPS],
-    pub page: Page,
+    days: u64,
 }
 
-pub fn begin(drawn: bool, starts: [u32; LAMPS], out: &mut [u8; ROOM]) -> Report {
-    let sink = Sink::EMPTY;
-    let mut page = Page { days: 0, sink };
+pub fn begin<W: Write + Drop>(out: &mut Sink<W>, drawn: bool, starts: [u32; LAMPS]) -> Report {
     if drawn {
-        page = page::begin(out);
+        page::begin(out);
     }
     Report {
         drawn,
         starts,
-        page,
+        days: 0,
     }
 }
 
-pub fn tell(r: Report, out: &mut [u8; ROOM], s: Stretch) -> Report {
+pub fn tell<W: Write + Drop>(r: Report, out: &mut Sink<W>, s: Stretch) -> Report {
     let mut report = r;
-    let mut page = r.page;
     if r.drawn {
-        page = page::draw(page, out, s);
+        report.days = page::draw(out, r.days, s);
     } else {
-        page.sink = lines::stretches(page.sink, out, s);
+        lines::stretches(out, s);
     }
-    report.page = page;
     report
 }
 
-pub fn flush(r: Report, out: &[u8; ROOM]) -> Report {
-    let mut report = r;
-    let mut page = r.page;
-    page.sink = sink::flush(page.sink, out);
-    report.page = page;
-    report
-}
-
-// The end of a log of so many seconds; whether all was written.
-pub fn end(r: Report, out: &mut [u8; ROOM], seconds: u64, t: Totals) -> bool {
-    let mut page = r.page;
+// The end of a log of so many seconds.
+pub fn end<W: Write + Drop>(r: Report, out: &mut Sink<W>, seconds: u64, t: Totals) {
     if r.drawn {
-        page = page::end(page, out, seconds, t);
+        page::end(out, r.days, seconds, t);
     } else {
-        page.sink = lines::totals(page.sink, out, t);
+        lines::totals(out, t);
     }
-    let written = sink::flush(page.sink, out);
-    written.ok
+    out.flush();
 }

@@ -2,50 +2,43 @@
 ghost use Rattle.std.specs.Prelude.{◌<◌};
 
 use page::{LAMPS, Stretch, Totals};
-use sink::{ROOM, Sink};
+use sink::Sink;
+use std::io::Write;
 
 // The room that `put_stretch` and `put_total` ask for.
 const STRETCH_ROOM: usize = 76;
 
 const TOTAL_ROOM: usize = 105;
 
-fn stretch(before: Sink, out: &mut [u8; ROOM], s: Stretch, k: usize) -> Sink
+fn stretch<W: Write + Drop>(out: &mut Sink<W>, s: Stretch, k: usize)
     requires { k < 8 }
 {
     if !s.marks[k] {
-        return before;
+        return;
     }
     let mut line = [0u8; STRETCH_ROOM];
     let length = lamplines::put_stretch(&mut line, k as u64 + 1, s.from, s.to);
-    sink::first(before, out, &line, length)
+    out.first(&line, length);
 }
 
-pub fn stretches(before: Sink, out: &mut [u8; ROOM], s: Stretch) -> Sink {
-    let mut now = before;
-    let mut k = 0;
-    while k < s.count && k < LAMPS {
-        now = stretch(now, out, s, k);
-        k += 1;
+pub fn stretches<W: Write + Drop>(out: &mut Sink<W>, s: Stretch) {
+    for k in 0..s.count.min(LAMPS) {
+        stretch(out, s, k);
     }
-    now
 }
 
-fn total(before: Sink, out: &mut [u8; ROOM], t: Totals, k: usize) -> Sink
+fn total<W: Write + Drop>(out: &mut Sink<W>, t: Totals, k: usize)
     requires { k < 8 }
 {
     let mut line = [0u8; TOTAL_ROOM];
     let start = t.starts[k] as u64;
     let last = t.lasts[k] as u64;
     let length = lamplines::put_total(&mut line, k as u64 + 1, start, t.burnt[k], last);
-    sink::first(before, out, &line, length)
+    out.first(&line, length);
 }
 
-pub fn totals(before: Sink, out: &mut [u8; ROOM], t: Totals) -> Sink {
-    let mut now = before;
-    let mut k = 0;
-    while k < t.count && k < LAMPS {
-        now = total(now, out, t, k);
-        k += 1;
+pub fn totals<W: Write + Drop>(out: &mut Sink<W>, t: Totals) {
+    for k in 0..t.count.min(LAMPS) {
+        total(out, t, k);
     }
-    now
 }

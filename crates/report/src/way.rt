@@ -1,59 +1,41 @@
 // How a log goes on, and the last line where it is cut short.
-use libc::{STDERR_FILENO, STDOUT_FILENO};
-use sink::{ROOM, Sink};
+use std::io::Write;
 
-pub const ON: u8 = 0;
-
-pub const ENDED: u8 = 1;
-
-pub const READ_FAILED: u8 = 2;
-
-pub const WRITE_FAILED: u8 = 3;
-
-// A call refused: the seconds could pass 64 bits.
-pub const BROKEN_OFF: u8 = 4;
-
-pub fn after_read(got: isize, ok: bool) -> u8 {
-    if !ok {
-        return WRITE_FAILED;
-    }
-    if got < 0 {
-        return READ_FAILED;
-    }
-    if got < 1 {
-        return ENDED;
-    }
-    ON
+#[derive(Clone, Copy)]
+pub enum Way {
+    On,
+    Ended,
+    ReadFailed,
+    WriteFailed,
+    // A call refused: the seconds could pass 64 bits.
+    BrokenOff,
 }
 
-pub fn after_write(ok: bool) -> u8 {
-    if ok {
-        return ENDED;
+pub fn after_read(got: Option<usize>, ok: bool) -> Way {
+    if !ok {
+        return Way::WriteFailed;
     }
-    WRITE_FAILED
+    match got {
+        None => Way::ReadFailed,
+        Some(0) => Way::Ended,
+        Some(_) => Way::On,
+    }
+}
+
+pub fn after_write(ok: bool) -> Way {
+    if ok {
+        return Way::Ended;
+    }
+    Way::WriteFailed
 }
 
 // That a write failed is told on standard error: more output would hide what is missing.
-pub fn say(way: u8) {
-    if way == ENDED {
-        return;
-    }
-    if way == READ_FAILED {
-        io::write_all(STDOUT_FILENO, b"! read failed\n");
-        return;
-    }
-    if way == WRITE_FAILED {
-        io::write_all(STDERR_FILENO, b"! write failed\n");
-        return;
-    }
-    io::write_all(STDOUT_FILENO, b"! broken off\n");
-}
-
-// The one line for a form that does not load.
-pub fn say_number(number: u32) {
-    let mut out = [0u8; ROOM];
-    let numbers = [number as u64];
-    let line = sink::fill(Sink::EMPTY, &mut out, b"! #\n", &numbers);
-    let written = sink::flush(line, &out);
-    say(after_write(written.ok));
+pub fn say(rt: &HostRuntime, way: Way) {
+    let _told = match way {
+        Way::On => true,
+        Way::Ended => true,
+        Way::ReadFailed => rt.stdout().write_all(b"! read failed\n").is_ok(),
+        Way::WriteFailed => rt.stderr().write_all(b"! write failed\n").is_ok(),
+        Way::BrokenOff => rt.stdout().write_all(b"! broken off\n").is_ok(),
+    };
 }

@@ -1,0 +1,9 @@
+use Rattle.std.proofs.Common.{sym}
+use Rattle.numbers.proofs.Reading.{no_digit, digits-read}
+use Rattle.numbers.proofs.read_digits.Goals as goal
+
+pub returns-then-not-is_digit : goal.returns-then-not-is_digit
+returns-then-not-is_digit c = sym (no_digit _ c.loop-i.invariant c.loop-i-test.true (cc))
+
+pub returns : goal.returns
+returns c = sym (digits-read _ c.loop-i.invariant c.loop-i-test.false)
