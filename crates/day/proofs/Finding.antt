@@ -1,6 +1,7 @@
 -- The find-first law: `first f n` is the lowest number below n that passes the test f, and n where none does.
 --   Lowest f n x      x is that number
 --   Sought f n i      the loop that looks for it has come to i, and found none
+--   Behind f n i j    such a loop that starts behind i has come to j
 -- Assumes nothing.
 use Prim.Native.Nat.{ℕ, zero, suc, ◌+◌, ◌<◌, ◌≤◌}
 use mathlib.Core.Path.{◌≡◌, refl, sym, ap, subst}
@@ -103,6 +104,10 @@ module _ (f : ℕ → Bool) where
 
       pub all-sought : n ≤ i → i ≡ first f n
       all-sought h = sym (first-is (record { upto = s.inside; before = s.before; here = λ k. absurd (omega arith) }))
+
+pub record Behind (f : ℕ → Bool) (n i j : ℕ) : Type 0 where
+  pub behind : i < j
+  pub sought : Sought f n j
 
 module _ (g : ℕ → Bool) (n : ℕ) where
   pub each-told : each g n ≡ true → (k : ℕ) → k < n → g k ≡ true

@@ -19,6 +19,7 @@ pub fn is_formed(says: Says) -> bool
 }
 
 // What stands at a line's end before LF, from `at` on; the place after it.
+#[tactic(auto, unfolding(crate::specs::Ending::endMark))]
 fn put_mark(out: &mut [u8], at: usize, formed: bool, number: u32, replied: usize) -> usize
     requires { at + length (endMark formed number replied) < length out.old }
     ensures value { result ≡ at + length (endMark formed number replied) }

@@ -1,5 +1,6 @@
 // What a line of a log says; how the line ends that is printed for it, and the last line of all (02, L1).
 #![tactic(auto)]
+
 pub mod ending;
 pub mod last;
 
@@ -67,6 +68,7 @@ fn seconds_said(s: &[u8]) -> Says
 }
 
 // What the line l says, without its LF.
+#[tactic(auto, unfolding(crate::specs::Lines::lineSaid))]
 pub fn line_says(l: &[u8]) -> Says
     ensures { result ≡ lineSaid l.now }
 {
@@ -79,6 +81,7 @@ pub fn line_says(l: &[u8]) -> Says
     form_says(l)
 }
 
+#[tactic(auto, unfolding(crate::specs::Lines::formSaid))]
 fn form_says(l: &[u8]) -> Says
     ensures { result ≡ formSaid l.now }
 {

@@ -9,3 +9,4 @@ pub mod LegalLines
 pub mod LinesSpelt
 pub mod LastBytes
 pub mod WholeParts
+pub mod FirstPlace

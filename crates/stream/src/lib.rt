@@ -1,9 +1,11 @@
 // Bytes taken up to the end of a line (01, "Connection"): collected, at most as many as the phase allows.
 #![tactic(auto)]
-ghost use Rattle.std.specs.Prelude.{◌≡◌, ◌≤◌};
+
+ghost use Rattle.std.specs.Prelude.{◌≡◌, ◌≤◌, length};
 ghost use Rattle.record.specs.Limits.{lineRoom};
 ghost use Rattle.record.specs.Legal.{heldMost};
 ghost use Rattle.stream.specs.Collecting.{collectedAll, gathered};
+ghost use Rattle.stream.specs.Places.{index_of};
 
 use record::connection;
 use record::types::{LINE_ROOM, Line};
@@ -52,7 +54,8 @@ fn collect(most: usize, l: Line, more: &[u8]) -> Line
 
 // The place of the first b in s, or the length of s.
 pub fn find(s: &[u8], b: u8) -> usize
-    ensures { result ≡ index_of b s.now }
+    ensures place { result ≡ index_of b s.now }
+    ensures within { result ≤ length s.now }
 {
     let mut i = 0;
     while i < s.len() {

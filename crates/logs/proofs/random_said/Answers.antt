@@ -1,0 +1,19 @@
+use Rattle.std.proofs.Common.{sym, ap, ◌∙◌}
+use Rattle.text.proofs.Scanning.{all-passed, one-fails}
+use Rattle.digest.specs.Hex.{isHexDigit}
+use Rattle.logs.specs.declared.Says.TheVariants.{Opens}
+use Rattle.logs.proofs.Forms.{random-not-8, random-no-digit, random-opens}
+use Rattle.logs.proofs.random_said.Goals as goal
+
+pub returns-then-s-ne8 : goal.returns-then-s-ne8
+returns-then-s-ne8 c = sym (random-not-8 _ c.if-s-ne8.true)
+
+pub returns-then-not-is_hex_digit : goal.returns-then-not-is_hex_digit
+returns-then-not-is_hex_digit c =
+    sym (random-no-digit _ (one-fails isHexDigit _ 0 c.loop-i.invariant c.loop-i-test.true
+    (sym c.is_hex_digit.ensures ∙ c.if-not-is_hex_digit.true)))
+
+pub returns : goal.returns
+returns c =
+    ap Opens c.hex_value.ensures
+    ∙ sym (random-opens _ c.if-s-ne8.false (all-passed isHexDigit _ 0 c.loop-i.invariant c.loop-i-test.false))
