@@ -83,7 +83,8 @@ place-passes n d p =
     ap (λ (e : Device). connectionAt e p) (parts-pass n d) ∙ mapped d.connections p
   where
     mapped : (cs : List Connection) (k : ℕ)
-        → get_or (map (times connectionSecond n) cs) k noConnection ≡ times connectionSecond n (get_or cs k noConnection)
+        → get_or (map (times connectionSecond n) cs) k noConnection
+        ≡ times connectionSecond n (get_or cs k noConnection)
     mapped [] k = sym (untimed-stays n noConnection refl)
     mapped (c ∷ cs) zero = refl
     mapped (c ∷ cs) (suc k) = mapped cs k

@@ -78,7 +78,8 @@ module _ (s : Settings) (o : Own) (t : OwnTold s o) where
       let x = get_or o.lamps k 0 in
       let gained = where-at oneMore marks o.lamps 0 k inside in
       let within : (if get_or marks k false then oneMore x else x) ≤ lampLimit
-      = if-all (λ (y : ℕ). y ≤ lampLimit) (get_or marks k false) (one-within x (lamp-at s o t k h)) (lamp-at s o t k h) in
+      = if-all (λ (y : ℕ). y ≤ lampLimit) (get_or marks k false) (one-within x (lamp-at s o t k h))
+      (lamp-at s o t k h) in
       omega (arith, gained, within))
       (λ k h.
       where-unmarked oneMore marks o.lamps 0 k (none-past k h) ∙ kept-zero lampsMost isLamps _ _ t.lamps k h)

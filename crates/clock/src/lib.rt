@@ -1,5 +1,6 @@
 // Time (01, "Time"): n seconds at once, by value and in place. The meaning is one second, applied n times.
 #![tactic(auto)]
+
 pub mod connection;
 pub mod connections;
 pub mod on_legal;

@@ -8,12 +8,14 @@ use record::own;
 use record::own::{LAMP_LIMIT, OFF, ON, WARMING};
 use record::types::{LAMPS_MOST, Own, Settings};
 
+#[tactic(auto, unfolding(crate::specs::Second::settledPower))]
 fn settled_power(power: u8) -> u8
     ensures { result ≡ settledPower power }
 {
     if power == WARMING { ON } else { OFF }
 }
 
+#[tactic(auto, unfolding(crate::specs::After::powerAfter))]
 fn power_after(power: u8, left: u32, n: u32) -> u8
     ensures { result ≡ powerAfter n power left }
 {
@@ -23,6 +25,7 @@ fn power_after(power: u8, left: u32, n: u32) -> u8
     power
 }
 
+#[tactic(auto, unfolding(crate::specs::After::leftAfter))]
 fn left_after(power: u8, left: u32, n: u32) -> u32
     ensures { result ≡ leftAfter n power left }
 {
@@ -36,6 +39,7 @@ fn left_after(power: u8, left: u32, n: u32) -> u32
 }
 
 // A lamp that burns for n seconds, stopped at the limit.
+#[tactic(auto, using(crate::proofs::LampsGain::burns, crate::proofs::LampsGain::stays))]
 fn lamp_after(seconds: u32, n: u32) -> u32
     ensures { result ≡ times oneMore n seconds }
 {
@@ -78,6 +82,7 @@ fn burnt(
     after
 }
 
+#[tactic(auto, unfolding(crate::specs::After::lampsAfter))]
 fn lamps_after(
     power: u8,
     lamps: [u32; LAMPS_MOST],

@@ -7,6 +7,7 @@ use record::legality;
 use record::types::{Changed, Device};
 
 // The record after n seconds; 1 and the record as it was where it is not legal.
+#[tactic(auto, unfolding(crate::specs::Passing::passed))]
 pub fn pass(d: Device, n: u32) -> Changed
     ensures { result ≡ passed d n }
 {

@@ -11,6 +11,7 @@ pub enum Greeting {
 }
 
 // The greetings and the ERRA line, each to its CR and no further.
+#[tactic(auto, unfolding(crate::specs::Greetings::readGreeting))]
 pub fn read_greeting(line: &[u8]) -> Greeting
     ensures { result ≡ readGreeting line.now }
 {

@@ -14,6 +14,7 @@ pub struct Written {
 }
 
 // The command's line from the start of the lent memory: 2 and 3 in that order.
+#[tactic(auto, unfolding(crate::specs::Writing::writtenCommand))]
 pub fn write_command(
     c: Command,
     secured: bool,

@@ -1,6 +1,8 @@
 -- Laws of `blocksOf` and `wholeBlocks`: blocks in two goes, and the digest of a message in two parts.
 -- Assumes nothing.
-use Rattle.std.proofs.Common.{◌≡◌, ℕ, zero, suc, ◌+◌, ◌*◌, ◌/◌, ◌%◌, ◌≤◌, List, [], ◌∷◌, ◌++◌, length, take, drop, replicate, sym, refl, ap, ◌∙◌, append_assoc, add-zero, add-suc, arith, length-append, length-drop, drop_of_length-le, take_all, drop-drop}
+use Rattle.std.proofs.Common.{◌≡◌, ℕ, zero, suc, ◌+◌, ◌*◌, ◌/◌, ◌%◌, ◌≤◌, List, [], ◌∷◌, ◌++◌, length, take, drop}
+use Rattle.std.proofs.Common.{replicate, sym, refl, ap, ◌∙◌, append_assoc, add-zero, add-suc, arith, length-append}
+use Rattle.std.proofs.Common.{length-drop, drop_of_length-le, take_all, drop-drop}
 use mathlib.Core.Path.{◌≡⟨◌⟩◌, ◌∎}
 use lib.Seq.{take-append-le, drop-append-le}
 use Rattle.digest.specs.Words.{low_first}

@@ -2,7 +2,8 @@
 --   mixed x y z         as the code has it
 --   chosen n x y z      as the definition has it, n being the word of ones
 -- Assumes nothing.
-use Rattle.std.proofs.Common.{◌≡◌, ℕ, zero, suc, ◌+◌, ◌-◌, ◌*◌, ◌/◌, ◌%◌, ◌^◌, ◌<◌, Bool, eqb, sym, refl, ◌∙◌, pow-suc, arith, eqb-true}
+use Rattle.std.proofs.Common.{◌≡◌, ℕ, zero, suc, ◌+◌, ◌-◌, ◌*◌, ◌/◌, ◌%◌, ◌^◌, ◌<◌, Bool, eqb, sym, refl, ◌∙◌, pow-suc}
+use Rattle.std.proofs.Common.{arith, eqb-true}
 use lib.Bits.{bit_and, bit_or, bit_xor, and_shr, or_shr, xor_shr, and_mod, or_mod, xor_mod}
 use Rattle.text.proofs.EachBelow.{each_below}
 

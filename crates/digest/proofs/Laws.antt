@@ -2,7 +2,8 @@
 -- byte of a hex text is a digit. `leadingDigest` is such a text, `hexOf (md5Of ..)`.
 --   BetweenDigits b     b is a digit, by its bounds
 -- Assumes nothing.
-use Rattle.std.proofs.Common.{◌≡◌, ℕ, ◌*◌, ◌^◌, ◌<◌, ◌≤◌, Bool, true, false, not, ◌&&◌, ◌||◌, eqb, leb, ◌⊎◌, List, length, get_or, refl, ap, ◌∙◌, inl, inr, arith, ne_eqb, leb-true}
+use Rattle.std.proofs.Common.{◌≡◌, ℕ, ◌*◌, ◌^◌, ◌<◌, ◌≤◌, Bool, true, false, not, ◌&&◌, ◌||◌, eqb, leb, ◌⊎◌, List}
+use Rattle.std.proofs.Common.{length, get_or, refl, ap, ◌∙◌, inl, inr, arith, ne_eqb, leb-true}
 use Prim.Native.Char.{code}
 use Rattle.text.specs.Words.{◌is◌, ◌from◌to◌}
 use Rattle.text.specs.Scans.{every}

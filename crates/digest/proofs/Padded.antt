@@ -2,7 +2,9 @@
 --   zeros n         n zero bytes
 --   start_of rest    where what is left of the message goes
 -- Assumes nothing.
-use Rattle.std.proofs.Common.{◌≡◌, ℕ, zero, suc, ◌+◌, ◌-◌, ◌*◌, ◌/◌, ◌%◌, ◌<◌, List, [], ◌∷◌, ◌++◌, length, take, drop, set, replicate, sym, refl, ap, ◌∙◌, append_assoc, append-nil, arith, length-append, length-drop, length-set, take_all, drop_at}
+use Rattle.std.proofs.Common.{◌≡◌, ℕ, zero, suc, ◌+◌, ◌-◌, ◌*◌, ◌/◌, ◌%◌, ◌<◌, List, [], ◌∷◌, ◌++◌, length, take, drop}
+use Rattle.std.proofs.Common.{set, replicate, sym, refl, ap, ◌∙◌, append_assoc, append-nil, arith, length-append}
+use Rattle.std.proofs.Common.{length-drop, length-set, take_all, drop_at}
 use mathlib.Core.Path.{◌≡⟨◌⟩◌, ◌∎}
 use lib.ListN.{length-replicate, replicate-append-replicate}
 use lib.Seq.{sets, length-sets}

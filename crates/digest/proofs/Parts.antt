@@ -2,7 +2,8 @@
 -- Both fit into one block of 64 bytes, or h and the first 56 bytes of s fill it.
 --   blank     the block before anything is put there
 -- Assumes nothing.
-use Rattle.std.proofs.Common.{◌≡◌, ℕ, ◌+◌, ◌-◌, ◌%◌, ◌^◌, ◌<◌, ◌≤◌, List, ◌++◌, length, take, drop, replicate, sym, ap, ◌∙◌, append_assoc, arith, length-append, length-drop, take-append-drop, length-take-le}
+use Rattle.std.proofs.Common.{◌≡◌, ℕ, ◌+◌, ◌-◌, ◌%◌, ◌^◌, ◌<◌, ◌≤◌, List, ◌++◌, length, take, drop, replicate, sym, ap}
+use Rattle.std.proofs.Common.{◌∙◌, append_assoc, arith, length-append, length-drop, take-append-drop, length-take-le}
 use lib.Seq.{sets}
 use Rattle.text.proofs.Stores.{sets_then}
 use Rattle.digest.specs.Padding.{bitLength}

@@ -1,6 +1,7 @@
 -- Stores over a whole list, at its front, and between two parts of it.
 -- Assumes nothing.
-use Rattle.std.proofs.Common.{◌≡◌, ℕ, ◌+◌, ◌≤◌, List, ◌++◌, length, take, drop, sym, ap, ◌∙◌, append_assoc, append-nil, arith, length-append, drop_of_length-le, take_at, drop_at}
+use Rattle.std.proofs.Common.{◌≡◌, ℕ, ◌+◌, ◌≤◌, List, ◌++◌, length, take, drop, sym, ap, ◌∙◌, append_assoc, append-nil}
+use Rattle.std.proofs.Common.{arith, length-append, drop_of_length-le, take_at, drop_at}
 use lib.Seq.{sets, sets-eq}
 use Rattle.text.proofs.Stores.{sets_over}
 

@@ -1,7 +1,8 @@
 -- Digits as `digits::all` writes them, two at a time over blank bytes.
 --   blank       what it writes over
 -- Assumes nothing.
-use Rattle.std.proofs.Common.{◌≡◌, ℕ, ◌+◌, ◌*◌, ◌<◌, List, length, get_or, take, replicate, sym, ap, ◌∙◌, arith, length-take-le, take_all}
+use Rattle.std.proofs.Common.{◌≡◌, ℕ, ◌+◌, ◌*◌, ◌<◌, List, length, get_or, take, replicate, sym, ap, ◌∙◌, arith}
+use Rattle.std.proofs.Common.{length-take-le, take_all}
 use lib.Seq.{sets}
 use Rattle.text.proofs.InTurn.{one-turn-more}
 use Rattle.text.proofs.Stores.{sets_then}

@@ -20,7 +20,8 @@ x <<< s = (x * 2 ^ s) % 2 ^ 32 + x / 2 ^ (32 - s)
 
 abbrev pub word_at : List ℕ → ℕ → ℕ
 word_at xs k =
-    slice_index xs k + slice_index xs (k + 1) * 2 ^ 8 + slice_index xs (k + 2) * 2 ^ 16 + slice_index xs (k + 3) * 2 ^ 24
+    slice_index xs k + slice_index xs (k + 1) * 2 ^ 8 + slice_index xs (k + 2) * 2 ^ 16
+    + slice_index xs (k + 3) * 2 ^ 24
 
 abbrev pub low_first : ℕ → ℕ → List ℕ
 low_first zero x = []

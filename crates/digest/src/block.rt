@@ -8,6 +8,7 @@ ghost use Rattle.digest.specs.Md5.{wholeBlocks};
 use crate::Buffer;
 use std::num::wrapping_add_u32;
 
+#[tactic(auto, unfolding(crate::specs::Rounds::added))]
 fn add(p: Buffer, q: Buffer) -> Buffer
     ensures { result ≡ added p q }
 {

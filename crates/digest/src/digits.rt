@@ -5,6 +5,7 @@ ghost use Rattle.digest.specs.Hex.{hexDigit, hexOf, hexDigits, hexWorth, hexValu
 use crate::word;
 
 // The digit of x at a place p, a power of 16.
+#[tactic(auto, unfolding(crate::specs::Hex::hexDigit))]
 fn digit(x: u32, p: u32) -> u8
     requires { 0 < p }
     ensures { result ≡ hexDigit (x / p % 16) }
@@ -50,6 +51,7 @@ pub fn all(b: &[u8]) -> [u8; 32]
     out
 }
 
+#[tactic(auto, unfolding(crate::specs::Hex::hexWorth))]
 fn worth(b: u8) -> u32
     ensures { result ≡ hexWorth b }
 {

@@ -1,5 +1,6 @@
 // MD5 of RFC 1321 over lent bytes, and its digests in hex.
 #![tactic(auto)]
+
 mod block;
 mod digits;
 mod tail;

@@ -3,6 +3,7 @@
 // and rows are opened up to its days. Bands stand apart by place and name, so that no colour has to be told from
 // another.
 #![tactic(auto)]
+
 mod days;
 mod frame;
 

@@ -1,4 +1,5 @@
--- What a legal connection tells, and how it is shown (the crates above never open `isConnection`, `isAge` or `is_held`).
+-- What a legal connection tells, and how it is shown (the crates above never open `isConnection`, `isAge` or
+-- `is_held`).
 --   ConnectionTold c      its line's room, its phase, age, random number and collected bytes
 -- Assumes nothing.
 use Prim.Native.Nat.{ℕ, ◌≤◌, ◌<◌}

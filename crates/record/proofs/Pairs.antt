@@ -69,7 +69,8 @@ module _ (k : ℕ) where
   new-named [] h = refl
   new-named (a ∷ []) h = h
   new-named (a ∷ b ∷ s) h =
-      both (both_left (isInputText k a b) (is_none a b s) (both_left (isNewInput k a b s) (eachPair (isNewInput k) s) h))
+      both
+      (both_left (isInputText k a b) (is_none a b s) (both_left (isNewInput k a b s) (eachPair (isNewInput k) s) h))
       (new-named s (both_right (isNewInput k a b s) (eachPair (isNewInput k) s) h))
 
   pub inputs-unnamed : (s : List ℕ) → eachNamed k s ≡ false → isInputs k s ≡ false

@@ -12,7 +12,7 @@
 --   isTimed, isCollecting     the phases in which a connection ages; in which it collects bytes
 --   isAge phase age           0 to 29 in a phase that ages, else 0
 --   heldMost phase            the most collected bytes: 167 while awaiting, 135 while open, none otherwise
---   is_held phase mark n       n bytes may be collected: none under the overlong mark, which stands in those phases only
+--   is_held phase mark n      n bytes may be collected: none under the overlong mark, which stands in those phases only
 --   isConnection c            the connection is legal
 --   isConnections cs          a connection at each place, each legal (02, L5)
 --   isLegal d                 the record is

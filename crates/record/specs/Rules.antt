@@ -2,7 +2,7 @@
 --   isLongEnough n       n characters are a password's: none, which is no security, or 8 and more (02, L9)
 --   isSetUpPassword s    the rule of set-up: as the controller's writer has it (`isPassword`), and long enough
 --   eachPair f s         s is pairs, and each pair passes the test f, which also sees what follows it
---   is_none a b s         the input a b is none of the inputs s: each of them is another (isOther)
+--   is_none a b s        the input a b is none of the inputs s: each of them is another (isOther)
 --   isNewInput k a b s   the characters a b name an input of the class k, which none of the later ones s repeats
 --   eachNamed k s        s is pairs, each of which names an input of the class k
 --   inputPlace a b       the place of the input a b, at which the code marks it
@@ -16,7 +16,8 @@
 --   areNames n ns        the names of n inputs (02, L14)
 --   isVolume v           a volume is 0 to 20 (02, L14)
 -- Assumes nothing.
-use Rattle.std.specs.Prelude.{ℕ, ◌+◌, ◌-◌, ◌*◌, Bool, true, false, not, ◌&&◌, ◌||◌, List, [], ◌∷◌, length, drop, leb, eqb}
+use Rattle.std.specs.Prelude.{ℕ, ◌+◌, ◌-◌, ◌*◌, Bool, true, false, not, ◌&&◌, ◌||◌, List, [], ◌∷◌, length, drop}
+use Rattle.std.specs.Prelude.{leb, eqb}
 use Prim.Native.Char.{code}
 use Rattle.text.specs.Scans.{every}
 use Rattle.lines.specs.Inputs.{isInputText}

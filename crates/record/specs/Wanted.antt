@@ -5,7 +5,7 @@
 --   wantedOf ..           a Class 1 set-up, of what a call is lent, each setting by itself
 --   wantedOf2 ..          a Class 2 set-up
 --   withPassword p w      with another password
---   total_of ns            the numbers ns added up
+--   total_of ns           the numbers ns added up
 --   cutBy ns s            s cut into parts of the lengths ns
 --   namesIn ns s          these parts, where they are all of s: names whose lengths do not add up are none
 -- Assumes nothing.

@@ -5,6 +5,7 @@ ghost use Rattle.record.specs.Legal.{isConnections};
 use crate::connection;
 use crate::types::{Connection, PLACES};
 
+#[tactic(auto, unfolding(crate::specs::Legal::isConnections))]
 pub fn connections_ok(connections: [Connection; PLACES]) -> bool
     ensures { result ≡ isConnections connections }
 {

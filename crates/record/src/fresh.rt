@@ -5,6 +5,7 @@ ghost use Rattle.record.specs.Record.{blank, allClosed, refused};
 use crate::types::{Changed, Connection, Device, PLACES};
 
 // A refusal: its number, and the blank record.
+#[tactic(auto, unfolding(crate::specs::Record::blank, crate::specs::Record::closed))]
 pub fn refuse(number: u32) -> Changed
     ensures { result ≡ refused number blank }
 {
@@ -12,6 +13,7 @@ pub fn refuse(number: u32) -> Changed
     Changed { number, device }
 }
 
+#[tactic(auto, unfolding(crate::specs::Record::closed))]
 pub fn all_closed() -> [Connection; PLACES]
     ensures { result ≡ allClosed }
 {

@@ -5,6 +5,7 @@ ghost use Rattle.record.specs.Legal.{isLegal};
 use crate::types::Device;
 use crate::{connections, own, settings};
 
+#[tactic(auto, unfolding(crate::specs::Legal::isLegal))]
 pub fn legal(d: Device) -> bool
     ensures { result ≡ isLegal d }
 {

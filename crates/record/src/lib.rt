@@ -1,5 +1,6 @@
 // The device record of the projector: what it holds, when it is legal, and the host's calls.
 #![tactic(auto)]
+
 pub mod class;
 pub mod connection;
 pub mod connections;

@@ -42,6 +42,7 @@ pub fn is_between(power: u8) -> bool
 }
 
 // 0 to 8 lamps, each within the limit.
+#[tactic(auto, unfolding(crate::specs::Rules::isLamps))]
 pub fn lamps_ok(s: &[u32]) -> bool
     ensures { result ≡ isLamps s.now }
 {
@@ -71,6 +72,7 @@ pub fn none_marked(marks: [bool; LAMPS_MOST], from: usize) -> bool
 }
 
 // None past the lamps, and one at least where there are lamps (02, L8).
+#[tactic(auto, unfolding(crate::specs::Rules::isMarks))]
 fn marks_ok(marks: [bool; LAMPS_MOST], count: usize) -> bool
     ensures { result ≡ isMarks count marks }
 {
@@ -78,6 +80,7 @@ fn marks_ok(marks: [bool; LAMPS_MOST], count: usize) -> bool
 }
 
 // Six error digits, each 0 to 2.
+#[tactic(auto, unfolding(crate::specs::Rules::isErrors))]
 pub fn errors_ok(s: &[u8]) -> bool
     ensures { result ≡ isErrors s.now }
 {
@@ -91,6 +94,7 @@ fn error_list_ok(list: [u8; ERRORS]) -> bool
 }
 
 // Seconds left: 1 to `warm` in warm-up, 1 to `cool` in cooling, else 0.
+#[tactic(auto, unfolding(crate::specs::Legal::isLeft))]
 fn left_ok(power: u8, left: u32, warm: u32, cool: u32) -> bool
     ensures { result ≡ isLeft power left warm cool }
 {
@@ -103,6 +107,7 @@ fn left_ok(power: u8, left: u32, warm: u32, cool: u32) -> bool
     (power <= WARMING) & (left == 0)
 }
 
+#[tactic(auto, unfolding(crate::specs::Legal::isOwn))]
 pub fn own_ok(s: Settings, o: Own) -> bool
     ensures { result ≡ isOwn s o }
 {

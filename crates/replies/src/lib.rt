@@ -1,5 +1,6 @@
 // The parameter of a reply, read for the command that it answers (01, "Controller").
 #![tactic(auto)]
+
 mod list;
 mod values;
 

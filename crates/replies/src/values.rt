@@ -22,6 +22,7 @@ pub fn read_exactly(p: &[u8], t: &[u8], k: Kind) -> Kind
     Kind::Nothing
 }
 
+#[tactic(auto, unfolding(crate::specs::Reading::powerNamed))]
 fn power_named(b: u8) -> Kind
     ensures { plain_of result ≡ answer_of (powerNamed b) }
 {
@@ -34,6 +35,7 @@ fn power_named(b: u8) -> Kind
     }
 }
 
+#[tactic(auto, unfolding(crate::specs::Reading::readPower))]
 pub fn read_power(p: &[u8]) -> Kind
     ensures { plain_of result ≡ answer_of (readPower p.now) }
 {
@@ -53,6 +55,7 @@ pub fn read_chosen(p: &[u8]) -> Kind
     }
 }
 
+#[tactic(auto, unfolding(crate::specs::Reading::mutesNamed))]
 fn mutes_named(a: u8, b: u8) -> Kind
     ensures { plain_of result ≡ answer_of (mutesNamed a b) }
 {
@@ -71,6 +74,7 @@ fn mutes_named(a: u8, b: u8) -> Kind
     Kind::Nothing
 }
 
+#[tactic(auto, unfolding(crate::specs::Reading::readMutes))]
 pub fn read_mutes(p: &[u8]) -> Kind
     ensures { plain_of result ≡ answer_of (readMutes p.now) }
 {

@@ -3,25 +3,24 @@
 --   Sought k s i     the search for the body of Class k that s names has passed i bodies, none of which it names
 -- Assumes nothing.
 use Prim.Native.Nat.{ℕ, ◌+◌, ◌<◌, ◌≤◌}
-use mathlib.Core.Path.{◌≡◌, refl, sym, ap, ◌∙◌}
+use mathlib.Core.Path.{◌≡◌, refl, sym, ◌∙◌}
 use mathlib.Core.Bool.{Bool, true, false, ◌&&◌}
 use mathlib.Core.List.{List, [], ◌∷◌, map}
 use native.Mathlib.Numerals.{add-one}
 use native.Mathlib.Omega.{arith}
-use lib.ListN.{get_or, drop, drop_of_length-le}
+use lib.ListN.{get_or, drop}
 use lib.Seq.{drop-cons}
 use lib.Dec.{eqb}
 use borrow.Author.Tests.{eqb-true, eq-eqb}
 use Rattle.text.specs.Words.{if◌then◌else◌}
 use Rattle.text.specs.Scans.{sameBy, itself}
 use Rattle.text.proofs.Choices.{both_left, both_right}
-use Rattle.text.proofs.Scanning.{no_more}
 use Rattle.text.proofs.Sameness.{same-turned, same_after}
-use Rattle.lines.specs.Bytes.{◌at◌, upperOf}
+use Rattle.lines.specs.Bytes.{upperOf}
 use Rattle.lines.specs.Bodies.{bodies, class_of}
 use Rattle.lines.specs.Commands.{bodyText}
 use Rattle.lines.specs.declared.command.Body.{Body}
-use Rattle.lines.proofs.Bodies.{each-body, yes, body-spelt}
+use Rattle.lines.proofs.Bodies.{each-body, yes}
 use Rattle.requests.specs.Requests.{isBody, firstNamed, bodyNamed}
 use Rattle.requests.specs.declared.MaybeBody.{MaybeBody}
 use Rattle.requests.specs.declared.MaybeBody.TheVariants.{BodyIs, NoBody}
@@ -40,14 +39,6 @@ body-named b = record {
   own = each-body (λ (x : Body). isBody (class_of x) (bodyText x) x) yes refl b;
   alone = each-body (λ (x : Body). exactly bodies (class_of x) (bodyText x)) BodyIs refl b;
 }
-
--- a body's text has four bytes, so four tests compare it
-pub body-by-bytes : (k a b c d : ℕ) (x : Body) → isBody k (a ∷ b ∷ c ∷ d ∷ []) x
-    ≡ (eqb k (class_of x) && (eqb (upperOf a) (bodyText x at 0) && (eqb (upperOf b) (bodyText x at 1)
-    && (eqb (upperOf c) (bodyText x at 2) && eqb (upperOf d) (bodyText x at 3)))))
-body-by-bytes k a b c d x =
-    ap (λ (t : List ℕ). eqb k (class_of x) && sameBy upperOf (a ∷ b ∷ c ∷ d ∷ []) t) (sym (body-spelt x).long)
-    ∙ rw (no_more (eqb (upperOf d) (bodyText x at 3)))
 
 -- bytes name a body as their upper case does exactly
 in-upper-case : (bs : List Body) (k : ℕ) (s : List ℕ) → firstNamed bs k s ≡ exactly bs k (map upperOf s)
@@ -89,6 +80,3 @@ module _ (k : ℕ) (s : List ℕ) where
     inside = omega arith;
     rest = st.rest ∙ rw (add-one, drop-cons bodies i d, sym e ∙ f);
   }
-
-  pub all-sought : {i : ℕ} → Sought i → 19 ≤ i → NoBody ≡ bodyNamed k s
-  all-sought st h = sym (st.rest ∙ ap (λ (bs : List Body). firstNamed bs k s) (drop_of_length-le bodies h))

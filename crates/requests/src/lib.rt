@@ -1,5 +1,6 @@
 // What a received class, body and parameter ask for (01, "Commands"; 02, L14).
 #![tactic(auto)]
+
 ghost use Rattle.std.specs.Prelude.{◌≡◌, true, false, [], ◌∷◌};
 ghost use Rattle.lines.specs.Inputs.{input_of};
 ghost use Rattle.requests.specs.Requests.{isBody, bodyNamed, isQuestion, switchAsked, inputAsked, nameAsked};
@@ -84,6 +85,7 @@ fn is_question(p: &[u8]) -> bool
 }
 
 // The digit 0 asks `off`, 1 asks `on`.
+#[tactic(auto, unfolding(crate::specs::Requests::switchAsked))]
 fn switch_asked(b: Body, off: Command, on: Command, p: &[u8]) -> Request
     ensures { result ≡ switchAsked b off on p.now }
 {
@@ -118,6 +120,7 @@ fn input2_asked(b: Body, p: &[u8]) -> Request
 }
 
 // `?` and the input that is asked for.
+#[tactic(auto, unfolding(crate::specs::Requests::nameAsked))]
 fn name_asked(b: Body, p: &[u8]) -> Request
     ensures { result ≡ nameAsked b p.now }
 {
@@ -134,6 +137,7 @@ fn name_asked(b: Body, p: &[u8]) -> Request
     }
 }
 
+#[tactic(auto, unfolding(crate::specs::Requests::halfNamed))]
 fn half_named(a: u8) -> Half
     ensures { result ≡ halfNamed a }
 {
@@ -144,6 +148,7 @@ fn half_named(a: u8) -> Half
     }
 }
 
+#[tactic(auto, unfolding(crate::specs::Requests::muteAsked))]
 fn mute_asked(p: &[u8]) -> Request
     ensures { result ≡ muteAsked p.now }
 {
@@ -186,6 +191,7 @@ fn set_asked(b: Body, p: &[u8]) -> Request
     }
 }
 
+#[tactic(auto, unfolding(crate::specs::Requests::asked_of))]
 fn asked_of(b: Body, p: &[u8]) -> Request
     ensures { result ≡ asked_of b p.now }
 {
@@ -196,6 +202,7 @@ fn asked_of(b: Body, p: &[u8]) -> Request
 }
 
 // What the body a b c d with the parameter p asks for in a line of Class k.
+#[tactic(auto, unfolding(crate::specs::Requests::requestOf))]
 pub fn request_of(k: u8, a: u8, b: u8, c: u8, d: u8, p: &[u8]) -> Request
     ensures { result ≡ requestOf k (a ∷ b ∷ c ∷ d ∷ []) p.now }
 {

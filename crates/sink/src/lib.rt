@@ -1,6 +1,7 @@
 // What a program writes, gathered in memory: it is written where there is no room for more, and where the program asks
 // for it, as before a read that may wait. No contract can say what is written: all is proved safe and ending.
 #![tactic(auto)]
+
 use std::alloc::{AllocError, Global};
 use std::io::Write;
 

@@ -1,6 +1,7 @@
 // The test suite of RFC 1321, A.5, in the RFC's format; digests of messages whose length is near a block's end; and the
 // example of 000, 5.1, with both spellings of its password. `stdout` was made by md5sum.
 #![tactic(auto)]
+
 ghost use Rattle.std.specs.Prelude.{◌≤◌};
 
 use std::io;
@@ -42,8 +43,14 @@ fn main(rt: HostRuntime) -> io::Result<()> {
     suite(&mut out, b"abc")?;
     suite(&mut out, b"message digest")?;
     suite(&mut out, b"abcdefghijklmnopqrstuvwxyz")?;
-    suite(&mut out, b"ABCDEFGHIJKLMNOPQRSTUVWXYZabcdefghijklmnopqrstuvwxyz0123456789")?;
-    suite(&mut out, b"12345678901234567890123456789012345678901234567890123456789012345678901234567890")?;
+    suite(
+        &mut out,
+        b"ABCDEFGHIJKLMNOPQRSTUVWXYZabcdefghijklmnopqrstuvwxyz0123456789",
+    )?;
+    suite(
+        &mut out,
+        b"12345678901234567890123456789012345678901234567890123456789012345678901234567890",
+    )?;
     letters(&mut out, b"55 x a", 55)?;
     letters(&mut out, b"56 x a", 56)?;
     letters(&mut out, b"63 x a", 63)?;

@@ -7,6 +7,7 @@ ghost use Rattle.digest.specs.Rounds.{operation, operations};
 use crate::{Buffer, word};
 use std::num::wrapping_add_u32;
 
+#[tactic(auto, unfolding(crate::specs::Rounds::byRound))]
 fn by_round(i: u32, w: u32, x: u32, y: u32, z: u32) -> u32
     ensures { result ≡ byRound i w x y z }
 {
@@ -55,6 +56,7 @@ fn shift(i: u32) -> u32
 }
 
 // Operation i, [abcd k s i], with its constant t.
+#[tactic(auto, unfolding(crate::specs::Rounds::operated, crate::specs::Rounds::operation))]
 fn operate(m: &[u8], i: u32, t: u32, q: Buffer) -> Buffer
     requires { (length m.now ≡ 64) × ((i < 64) × (t ≡ constant_of i)) }
     ensures { result ≡ operation m.now i q }
@@ -81,6 +83,7 @@ fn row(m: &[u8], i: u32, t0: u32, t1: u32, t2: u32, t3: u32, q: Buffer) -> Buffe
 }
 
 // Rounds 1 and 2. (All 64 operations in one function are more facts than a search looks at.)
+#[tactic(auto, unfolding(crate::specs::Rounds::tableT, crate::specs::Rounds::constant_of))]
 pub fn first_two(m: &[u8], q: Buffer) -> Buffer
     requires { length m.now ≡ 64 }
     ensures { result ≡ operations 0 32 m.now q }
@@ -96,6 +99,7 @@ pub fn first_two(m: &[u8], q: Buffer) -> Buffer
 }
 
 // Rounds 3 and 4.
+#[tactic(auto, unfolding(crate::specs::Rounds::tableT, crate::specs::Rounds::constant_of))]
 pub fn last_two(m: &[u8], q: Buffer) -> Buffer
     requires { length m.now ≡ 64 }
     ensures { result ≡ operations 32 32 m.now q }

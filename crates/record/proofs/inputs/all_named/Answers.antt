@@ -1,0 +1,14 @@
+use Rattle.std.proofs.Common.{◌+◌, ◌*◌, ◌<◌, length, arith}
+use Rattle.lines.specs.Inputs.{isInputText}
+use Rattle.record.specs.Rules.{eachNamed}
+use Rattle.record.proofs.Pairs.{one-paired, all-paired}
+use Rattle.record.proofs.inputs.all_named.Goals as goal
+
+pub loop-k-preserved : goal.loop-k-preserved
+loop-k-preserved c =
+    let there : 2 * c.loop-k.k + 1 < length c.args.s.now = omega arith in
+    rw c.is_input_text-ok.ensures (one-paired (isInputText c.args.class) _ c.loop-k.invariant there)
+
+pub returns : goal.returns
+unfolding eachNamed
+returns c = all-paired (isInputText c.args.class) _ c.loop-k.invariant (omega arith)

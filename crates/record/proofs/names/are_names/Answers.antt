@@ -1,0 +1,18 @@
+-- Lengths that do not add up name nothing, which is right where none is wanted.
+use Rattle.std.proofs.Common.{arith}
+use Rattle.record.proofs.CutNames.{none-wanted, name-past, bytes_left, all-names-passed}
+use Rattle.record.proofs.names.are_names.Goals as goal
+
+pub returns-then-bytes-at : goal.returns-then-bytes-at
+returns-then-bytes-at c =
+    none-wanted _ _ _
+    (name-past _ _ c.loop-i.invariant c.loop-i-test.true
+    (omega (arith, c.if-bytes-at.true, c.loop-i.invariant.inside)))
+
+pub returns-then-at-bytes : goal.returns-then-at-bytes
+returns-then-at-bytes c =
+    none-wanted _ _ _
+    (bytes_left _ _ c.loop-i.invariant c.args.count c.loop-i-test.false c.if-at-bytes.true)
+
+pub returns : goal.returns
+returns c = all-names-passed _ _ c.loop-i.invariant c.args.count c.loop-i-test.false c.if-at-bytes.false
