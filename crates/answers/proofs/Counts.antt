@@ -1,14 +1,13 @@
 -- What an answer says, by its kind: a count past the end of an array counts the whole array.
 -- Assumes nothing.
-use Prim.Native.Nat.{ℕ, ◌+◌, ◌≤◌, ◌<◌, min}
+use Prim.Native.Nat.{ℕ, ◌≤◌, ◌<◌, min}
 use mathlib.Core.Path.{◌≡◌, sym, ap, ◌∙◌}
 use mathlib.Core.Logic.{⊎_elim}
 use mathlib.Core.List.{List}
 use native.Mathlib.Omega.{arith}
 use lib.ListN.{length, take}
-use lib.Seq.{sets, take_all}
+use lib.Seq.{take_all}
 use Rattle.text.proofs.Orders.{le-or-lt}
-use Rattle.answers.specs.Said.{saidBytes}
 use Rattle.answers.specs.Carried.{saidAs, saidBy}
 use Rattle.answers.specs.declared.answer.Kind.{Kind}
 use Rattle.answers.specs.declared.answer.Answer.{Answer}
@@ -23,12 +22,3 @@ take_min n m l e =
 pub said-of-kind : (a : Answer) {k : Kind} → a.kind ≡ k → saidBy a ≡ saidAs k a
 unfolding saidBy
 said-of-kind a e = ap (λ (k : Kind). saidAs k a) e
-
--- bytes that say what an answer of its kind says, put
-pub put_as : (a : Answer) (out : List ℕ) (at : ℕ) {k : Kind} → a.kind ≡ k → {r : ℕ} {m b : List ℕ}
-    → (r ≡ at + length b) × (m ≡ sets out at b)
-    → b ≡ saidBytes (saidAs k a)
-    → (r ≡ at + length (saidBytes (saidBy a))) × (m ≡ sets out at (saidBytes (saidBy a)))
-put_as a out at e put says =
-    let whole = says ∙ ap saidBytes (sym (said-of-kind a e)) in
-    (put.0 ∙ ap (λ (l : List ℕ). at + length l) whole, put.1 ∙ ap (sets out at) whole)

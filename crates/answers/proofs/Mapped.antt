@@ -6,7 +6,7 @@ use mathlib.Core.List.{List, [], ◌∷◌, ◌++◌, map, map-append}
 use native.Mathlib.Numerals.{add-one}
 use native.Mathlib.Omega.{arith}
 use lib.ListN.{length, get_or, set, take, length-map}
-use lib.Seq.{sets, take-suc, length-take-le, length-sets}
+use lib.Seq.{sets, take-suc, length-take-le}
 use Rattle.text.proofs.Stores.{sets-snoc}
 
 -- f of the first i bytes of s stand in m, which was l, from the place `at` on
@@ -30,14 +30,3 @@ module _ {f : ℕ → ℕ} {l : List ℕ} {at : ℕ} {s m : List ℕ} {i : ℕ} 
             ∙ ap (λ (b : ℕ). sets l at (map f (take i s) ++ (b ∷ []))) g
             ∙ ap (sets l at) (sym (ap (map f) more ∙ map-append f (take i s) (get_or s i 0 ∷ [])));
       }
-
-  pub mapped-room : length m ≡ length l
-  mapped-room = ap length p.bytes ∙ length-sets l at (map f (take i s))
-
-  -- at the end of the loop
-  pub all-mapped : {n : ℕ} → i ≡ n → (at + n ≡ at + length (map f (take n s))) × (m ≡ sets l at (map f (take n s)))
-  all-mapped {n} e =
-      let long : length (map f (take i s)) ≡ i = length-map (take i s) f ∙ length-take-le i s p.inside in (
-        ap (λ (k : ℕ). at + k) (sym (ap (λ (k : ℕ). length (map f (take k s))) (sym e) ∙ long ∙ e)),
-        p.bytes ∙ ap (λ (k : ℕ). sets l at (map f (take k s))) e,
-      )

@@ -71,9 +71,6 @@ module _ {A : Type 0} (w : A → List ℕ) where
       pub place : p ≡ at + length (joined w (take i xs))
       pub bytes : out ≡ sets out₀ at (joined w (take i xs))
 
-    pub none-put : PutTo out₀ at 0
-    none-put = record { inside = omega arith; place = omega arith; bytes = refl }
-
 module _ {A : Type 0} {w : A → List ℕ} {xs : List A} {out₀ : List ℕ} {at : ℕ}
     {out : List ℕ} {p i : ℕ} (st : PutTo w xs out₀ at out p i) where
   pub put-room : length out ≡ length out₀
@@ -99,14 +96,6 @@ module _ {A : Type 0} {w : A → List ℕ} {xs : List A} {out₀ : List ℕ} {at
             ∙ sets_then out₀ at done (gap i ++ x) st.bytes st.place
             ∙ ap (sets out₀ at) (sym more);
       }
-
-  -- at the end of the loop
-  pub all-put : {n : ℕ} → i ≡ n
-      → (p ≡ at + length (joined w (take n xs))) × (out ≡ sets out₀ at (joined w (take n xs)))
-  all-put e = (
-    st.place ∙ ap (λ (k : ℕ). at + length (joined w (take k xs))) e,
-    st.bytes ∙ ap (λ (k : ℕ). sets out₀ at (joined w (take k xs))) e,
-  )
 
   -- how far the loop has come, where no thing has more than n bytes
   pub put-within : (n : ℕ) → ((a : A) → length (w a) ≤ n) → p ≤ at + suc n * i

@@ -1,4 +1,5 @@
 // What a projector can answer: the answer as a value, and its bytes.
 #![tactic(auto)]
+
 pub mod answer;
 pub mod write;

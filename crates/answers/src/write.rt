@@ -109,6 +109,7 @@ fn put_lamp(out: &mut [u8], at: usize, l: LampHours) -> usize
 }
 
 // The space before the thing at the place i of a list; before the first there is none.
+#[tactic(auto, unfolding(crate::specs::Lists::gap))]
 fn put_gap(out: &mut [u8], at: usize, i: usize) -> usize
     requires { at + 1 ≤ length out.old }
     ensures value { result ≡ at + length (gap i) }
@@ -167,6 +168,7 @@ fn put_text(out: &mut [u8], at: usize, kept: [u8; TEXT_MOST], count: usize) -> u
 }
 
 // What the answer a says.
+#[tactic(auto, unfolding(crate::specs::Said::saidBytes, crate::specs::Carried::saidBy))]
 pub fn put_answer(out: &mut [u8], at: usize, a: Answer) -> usize
     requires { at + parameterMost ≤ length out.old }
     ensures value { result ≡ at + length (saidBytes (saidBy a)) }

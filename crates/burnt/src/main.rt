@@ -2,6 +2,7 @@
 // the end each lamp's seconds; or, with `--page`, one HTML document that shows them. The device is 01's sample set-up,
 // or that of the stored form in the file that the next argument names.
 #![tactic(auto)]
+
 mod place;
 
 use crate::place::Place;

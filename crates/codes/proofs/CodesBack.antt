@@ -3,16 +3,15 @@
 --   Right n b      what the code n stands for has that code
 --   Stands u m     m is no command, or one that can be written and has the code u
 -- Assumes nothing.
-use Prim.Native.Nat.{ℕ, zero, suc, ◌≤◌}
+use Prim.Native.Nat.{ℕ, ◌≤◌}
 use mathlib.Core.Path.{◌≡◌, refl, sym, ap, subst, ◌∙◌}
 use mathlib.Core.Bool.{Bool, true, false, ◌&&◌}
 use mathlib.Core.List.{List, [], ◌∷◌}
 use native.Mathlib.Omega.{arith}
-use lib.Dec.{leb, ltb, eqb}
-use borrow.Author.Tests.{leb-true, ltb-true, eqb-true, eqb-false, ne_eqb}
+use lib.Dec.{leb, eqb}
+use borrow.Author.Tests.{leb-true, eqb-true, eqb-false}
 use Rattle.text.specs.Words.{if◌then◌else◌}
-use Rattle.text.specs.Scans.{every}
-use Rattle.text.proofs.Choices.{if_no, if-by, both, both_left, both_right}
+use Rattle.text.proofs.Choices.{if-by, both, both_left, both_right}
 use Rattle.lines.specs.Inputs.{isInput}
 use Rattle.lines.specs.Commands.{isCommand}
 use Rattle.lines.specs.declared.input.Source.{Source}
@@ -139,28 +138,6 @@ among-stands k (r ∷ rs) right = by (among-stands k rs right.1) (eqb k.code r.c
 pub command-stands : (k : Coded) → Stands (usedOf k) (commandOf k)
 unfolding commandOf usedOf
 command-stands k = among-stands k codes codes-right
-
--- a number that is none of those below k, as the last arm of a `match` knows it, is at least k
-abbrev pub NoneBelow : ℕ → ℕ → Type 0
-NoneBelow n zero = Unit {0}
-NoneBelow n (suc k) = NoneBelow n k × (n ≡ k → ⊥)
-
-none_below : (n k : ℕ) → NoneBelow n k → k ≤ n
-none_below n zero h = omega arith
-none_below n (suc k) h = let below = none_below n k h.0 in let other = h.1 in omega arith
-
--- a code past those of the table stands for none
-among-past : (k : Coded) (rs : List CodeRow) → every (λ (r : CodeRow). ltb r.code 24) rs ≡ true → 24 ≤ k.code
-    → commandAmong rs k ≡ NoCommand
-among-past k [] e h = refl
-among-past k (r ∷ rs) e h =
-    let below = ltb-true r.code 24 (both_left (ltb r.code 24) _ e) in
-    if_no _ _ (ne_eqb k.code r.code (λ same. omega arith))
-    ∙ among-past k rs (both_right (ltb r.code 24) _ e) h
-
-pub no-code-left : (k : Coded) → NoneBelow k.code 24 → NoCommand ≡ commandOf k
-unfolding commandOf
-no-code-left k left = sym (among-past k codes refl (none_below k.code 24 left))
 
 told : {u : Coded} {c : Command} → Stands u (CommandIs c) → (isCommand c ≡ true) × (code_of c ≡ u)
 told (stands e f) = (e, f)

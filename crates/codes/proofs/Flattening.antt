@@ -1,14 +1,14 @@
--- The loops that flatten a list: where one stops, and the characters of one input more.
+-- The loops that flatten a list: the test of a turn, and the characters of one input more.
 -- Assumes nothing.
-use Prim.Native.Nat.{ℕ, ◌+◌, ◌*◌, ◌≤◌, ◌<◌}
+use Prim.Native.Nat.{ℕ, ◌+◌, ◌*◌, ◌<◌}
 use mathlib.Core.Path.{◌≡◌, refl, sym, ap, ◌∙◌}
-use mathlib.Core.Bool.{Bool, true, false, ◌&&◌}
+use mathlib.Core.Bool.{Bool, true, ◌&&◌}
 use mathlib.Core.List.{List, [], ◌∷◌, ◌++◌, append_assoc}
 use native.Mathlib.Omega.{arith}
 use lib.ListN.{length, get_or, set, take, length-append}
-use lib.Seq.{take_all, length-take-le}
+use lib.Seq.{length-take-le}
 use lib.Dec.{ltb}
-use borrow.Author.Tests.{ltb-true, ltb-false}
+use borrow.Author.Tests.{ltb-true}
 use Rattle.text.proofs.Choices.{both_left, both_right}
 use Rattle.text.proofs.InTurn.{turns-long, one-turn-more}
 use Rattle.text.proofs.Stores.{sets-snoc}
@@ -27,20 +27,6 @@ module _ (k room count : ℕ) (e : goesOn k room count ≡ true) where
 
   pub in_count : k < count
   in_count = ltb-true k count (both_right (ltb k room) (ltb k count) e)
-
--- where it stops, what was passed is all that is counted
-pub all-passed : {A : Type 0} (l : List A) (k room count : ℕ) → length l ≡ room → k ≤ count
-    → goesOn k room count ≡ false → take k l ≡ take count l
-all-passed {A} l k room count long h = by (ltb k room) refl
-  where
-    by : (t : Bool) → ltb k room ≡ t → (t && ltb k count) ≡ false → take k l ≡ take count l
-    by true e f =
-        let past = ltb-false k count f in
-        let same : k ≡ count = omega arith in
-        ap (λ (j : ℕ). take j l) same
-    by false e f =
-        let past = ltb-false k room e in
-        take_all k l (omega arith) ∙ sym (take_all count l (omega arith))
 
 -- one turn: two stores for one input more
 pub one-more-input : (l : List Input) (k : ℕ) (d : Input) {pairs : List ℕ} → k < length l

@@ -29,6 +29,7 @@ fn asked(b: Body) -> MaybeCommand
 }
 
 // The first command for 0, the second for 1.
+#[tactic(auto, unfolding(crate::specs::Commands::switchCoded))]
 fn switch_set(n: u8, off: Command, on: Command) -> MaybeCommand
     ensures { result ≡ switchCoded off on n }
 {
@@ -39,6 +40,7 @@ fn switch_set(n: u8, off: Command, on: Command) -> MaybeCommand
     }
 }
 
+#[tactic(auto, unfolding(crate::specs::Commands::sourceAt))]
 fn source_at(n: u8) -> Source
     ensures { result ≡ sourceAt n }
 {
@@ -60,6 +62,7 @@ fn input_at(source: u8, number: u8) -> Input
 }
 
 // The command, of a type 1 to 6 and a number 1 to 35.
+#[tactic(auto, unfolding(crate::specs::Commands::inputCoded))]
 fn of_input(source: u8, number: u8, c: Command) -> MaybeCommand
     ensures { result ≡ inputCoded source number c }
 {
@@ -69,6 +72,7 @@ fn of_input(source: u8, number: u8, c: Command) -> MaybeCommand
     MaybeCommand::CommandIs(c)
 }
 
+#[tactic(auto, unfolding(crate::specs::Commands::halfAt))]
 fn half_at(n: u8) -> Half
     ensures { result ≡ halfAt n }
 {
@@ -80,6 +84,7 @@ fn half_at(n: u8) -> Half
 }
 
 // 1 video, 2 audio, 3 both; 1 on, 0 off.
+#[tactic(auto, unfolding(crate::specs::Commands::halfCoded))]
 fn mute_set(half: u8, on: u8) -> MaybeCommand
     ensures { result ≡ halfCoded half on (MuteSet (halfAt half) (eqb on 1)) }
 {
@@ -100,6 +105,7 @@ fn step(n: u8, v: Volume) -> MaybeCommand
     )
 }
 
+#[tactic(auto, unfolding(crate::specs::Commands::commandOf))]
 pub fn command_of(k: Coded) -> MaybeCommand
     ensures { result ≡ commandOf k }
 {

@@ -1,10 +1,9 @@
 -- The calls, case by case: one law a call, and the equation of what it does.
 -- Assumes nothing.
 use Prim.Native.Nat.{ℕ, ◌≤◌, ◌<◌}
-use mathlib.Core.Path.{◌≡◌, refl, ap, ◌∙◌}
+use mathlib.Core.Path.{◌≡◌, refl, ap}
 use mathlib.Core.Bool.{Bool, true, false, not}
 use mathlib.Core.List.{List, [], ◌∷◌}
-use lib.Dec.{ltb}
 use borrow.Author.Tests.{ltb-false, le-ltb, leb-false, lt-leb, eqb-false}
 use borrow.Author.Tests.{not-true, not-false}
 use Rattle.text.specs.Words.{if◌then◌else◌}
@@ -23,7 +22,7 @@ use Rattle.record.specs.declared.types.Connection.{Connection}
 use Rattle.record.specs.declared.types.Device.{Device}
 use Rattle.device.specs.Receiving.{Taken, begunIn}
 use Rattle.device.specs.Receiving.{takenIn}
-use Rattle.device.specs.Calls.{Result, refusedBy, made, replyRoom, isNoPlace, acceptedTaken}
+use Rattle.device.specs.Calls.{Result, refusedBy, made, replyRoom, acceptedTaken}
 use Rattle.device.specs.Calls.{receivingRows, openingRows, closingRows}
 use Rattle.device.specs.Calls.{received, isSecured, greeting, greeted, acceptedOpening, openedBy, placeTaken}
 use Rattle.device.specs.Calls.{closedBy}
@@ -87,24 +86,6 @@ module _ (d : Device) (r room : ℕ) where
       → (isLegal d ≡ true → replyRoom ≤ room → lowest < placesCount → P (acceptedOpening d r))
       → P (openedBy d r room)
   opened-by P refused greets = opened-placed-by (λ p q. P q) refused greets
-
-  -- a row that applies decides the place and the result
-  abbrev pub Opens : ℕ → Result Device → Type 0
-  Opens p q = (placeTaken d room ≡ p) × (openedBy d r room ≡ q)
-
-  pub opens-not-legal : isLegal d ≡ false → Opens 0 (refusedBy 1 d)
-  unfolding openedBy placeTaken
-  opens-not-legal h = (if_yes _ _ (ap not h), if_yes _ _ (ap not h))
-
-  module _ (legal : isLegal d ≡ true) where
-    pub opens-short : ltb room replyRoom ≡ true → Opens 0 (refusedBy 2 d)
-    unfolding openedBy placeTaken
-    opens-short k = (if_no _ _ (ap not legal) ∙ if_yes _ _ k, if_no _ _ (ap not legal) ∙ if_yes _ _ k)
-
-    pub opens-full : ltb room replyRoom ≡ false → isNoPlace lowest ≡ true → Opens 0 (refusedBy 6 d)
-    unfolding openedBy placeTaken
-    opens-full k m =
-        (if_no _ _ (ap not legal) ∙ if_no _ _ k ∙ if_yes _ _ m, if_no _ _ (ap not legal) ∙ if_no _ _ k ∙ if_yes _ _ m)
 
   module _ (legal : isLegal d ≡ true) (enough : replyRoom ≤ room) (free : lowest < placesCount) where
     none-applies : NoneOf (openingRows d room)

@@ -20,6 +20,5 @@ pub mod LinesReceived
 pub mod PowerRequests
 pub mod PowerLines
 pub mod Histories
-mod Opening
 mod Used
 mod Written

@@ -1,10 +1,9 @@
--- The part of an array that a count uses, and the part of that from a place on, as code lends them.
+-- The part of an array that a count uses, from a place on, as code lends it.
 -- Assumes nothing.
 use Prim.Native.Nat.{ℕ, ◌-◌, ◌≤◌, ◌<◌, min}
 use mathlib.Core.Path.{◌≡◌, sym, ap, ◌∙◌}
 use mathlib.Core.List.{List}
 use mathlib.Core.Logic.{⊎_elim}
-use native.Mathlib.Nat.{sub-zero}
 use native.Mathlib.Omega.{arith}
 use lib.ListN.{length, take, drop, length-take, drop_of_length-le}
 use Rattle.text.proofs.Orders.{le-or-lt}
@@ -12,9 +11,6 @@ use Rattle.text.proofs.Parts.{drop-take}
 use Rattle.answers.proofs.Counts.{take_min}
 
 module _ (n room : ℕ) (s : List ℕ) (long : length s ≡ room) where
-  pub used-part : take (min n room - 0) s ≡ take n s
-  used-part = ap (λ (k : ℕ). take k s) (sub-zero (min n room)) ∙ take_min n room s long
-
   pub used-from : (from : ℕ) {held start : ℕ} → held ≡ min n room → start ≡ min from held
       → take (held - start) (drop start s) ≡ drop from (take n s)
   used-from from {held} {start} e f =

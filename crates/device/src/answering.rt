@@ -33,6 +33,7 @@ fn put_reply(out: &mut [u8], h: u8, a: u8, b: u8, c: u8, d: u8, answer: Answer) 
 }
 
 // What the line asks is decided and answered; a line not of the form is swallowed.
+#[tactic(auto, unfolding(crate::specs::Answering::lineAnswer))]
 pub fn answer_line(s: Settings, o: Own, l: &[u8], out: &mut [u8]) -> Spoken
     requires { Ready s o (length out.old) }
     ensures value { result ≡ spokenOf (lineAnswer s o l.now) }

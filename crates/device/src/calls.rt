@@ -27,6 +27,7 @@ pub struct Received {
 }
 
 // Bytes from the network at a place: 1, 2, 3 and 4 in that order, even for no bytes.
+#[tactic(auto, unfolding(crate::specs::Calls::received))]
 pub fn receive(d: Device, place: usize, bytes: &[u8], out: &mut [u8]) -> Received
     ensures value { result ≡ toldReceived (received d place bytes.now (length out.old)) }
     ensures out_after { out.new ≡ over (received d place bytes.now (length out.old)).reply
@@ -44,6 +45,7 @@ pub fn receive(d: Device, place: usize, bytes: &[u8], out: &mut [u8]) -> Receive
 }
 
 // A new connection, with the random number that the host lends: 1, 2 and 6 in that order.
+#[tactic(auto, unfolding(crate::specs::Calls::openedBy, crate::specs::Calls::placeTaken))]
 pub fn open(d: Device, random: u32, out: &mut [u8]) -> Opened
     ensures value { result ≡ toldOpened (placeTaken d (length out.old))
         (openedBy d random (length out.old)) }
@@ -62,6 +64,7 @@ pub fn open(d: Device, random: u32, out: &mut [u8]) -> Opened
 }
 
 // The connection at a place closed: 1, 3 and 4 in that order.
+#[tactic(auto, unfolding(crate::specs::Calls::closedBy))]
 pub fn close(d: Device, place: usize) -> Changed
     ensures { result ≡ toldChanged (closedBy d place) }
 {

@@ -1,5 +1,6 @@
 // The projector's face: opening, closing and receiving (01, "Connection" and "Commands").
 #![tactic(auto)]
+
 mod answering;
 pub mod calls;
 pub mod on_legal;

@@ -14,6 +14,7 @@ use record::connection::{AWAITING, OPENED, SHUT};
 use record::types::{Changed, Connection, Device, PLACES, Settings};
 
 // Bytes from the network at a place: 2, 3 and 4 in that order, even for no bytes.
+#[tactic(auto, unfolding(crate::specs::Calls::received))]
 pub fn receive(d: Device, place: usize, bytes: &[u8], out: &mut [u8]) -> Received
     requires { isLegal d ≡ true }
     ensures value { result ≡ toldReceived (received d place bytes.now (length out.old)) }
@@ -51,6 +52,7 @@ pub fn receive(d: Device, place: usize, bytes: &[u8], out: &mut [u8]) -> Receive
 }
 
 // The greeting, from the start of the lent memory; its length.
+#[tactic(auto, unfolding(crate::specs::Calls::greeting))]
 fn put_greeting(s: Settings, random: u32, out: &mut [u8]) -> usize
     requires { 136 ≤ length out.old }
     ensures value { result ≡ length (greeting s random) }
@@ -67,6 +69,7 @@ fn put_greeting(s: Settings, random: u32, out: &mut [u8]) -> usize
     18
 }
 
+#[tactic(auto, unfolding(crate::specs::Calls::greeted, stream::specs::Collecting::emptyLine))]
 fn greeted_connection(s: Settings, random: u32) -> Connection
     ensures { result ≡ greeted s random }
 {
@@ -82,6 +85,7 @@ fn greeted_connection(s: Settings, random: u32) -> Connection
 }
 
 // A new connection at the lowest closed place, with the random number that the host lends: 2 and 6 in that order.
+#[tactic(auto, unfolding(crate::specs::Calls::openedBy, crate::specs::Calls::placeTaken))]
 pub fn open(d: Device, random: u32, out: &mut [u8]) -> Opened
     requires { isLegal d ≡ true }
     ensures value { result ≡ toldOpened (placeTaken d (length out.old))
@@ -116,6 +120,7 @@ pub fn open(d: Device, random: u32, out: &mut [u8]) -> Opened
 }
 
 // The connection at a place closed: 3 and 4 in that order.
+#[tactic(auto, unfolding(crate::specs::Calls::closedBy, record::specs::Record::closed))]
 pub fn close(d: Device, place: usize) -> Changed
     requires { isLegal d ≡ true }
     ensures { result ≡ toldChanged (closedBy d place) }

@@ -42,6 +42,7 @@ fn within(n: usize, room: usize) -> usize
 }
 
 // The connection in another phase, with nothing collected.
+#[tactic(auto, unfolding(stream::specs::Collecting::emptyLine))]
 fn turn(c: Connection, phase: u8) -> Connection
     ensures { result ≡ turned c phase }
 {
@@ -67,6 +68,7 @@ fn starts_with(bytes: [u8; LINE_ROOM], digest: [u8; 32]) -> bool
 }
 
 // Whether the line starts with the digest of the random number and the password.
+#[tactic(auto, unfolding(crate::specs::Receiving::isMatch))]
 fn matches(s: Settings, c: Connection, l: Line) -> bool
     ensures { result ≡ isMatch s c l }
 {
@@ -112,6 +114,7 @@ fn speak(s: Settings, o: Own, c: Connection, l: Line, from: usize, out: &mut [u8
 }
 
 // What CR does.
+#[tactic(auto, unfolding(crate::specs::Receiving::lineEnded))]
 fn end_line(s: Settings, o: Own, c: Connection, l: Line, out: &mut [u8]) -> Done
     requires { Ready s o (length out.old) }
     ensures value { result ≡ done_of (lineEnded s o c l) }
@@ -149,6 +152,7 @@ fn end_line(s: Settings, o: Own, c: Connection, l: Line, out: &mut [u8]) -> Done
 }
 
 // A failed connection keeps no byte.
+#[tactic(auto, unfolding(crate::specs::Receiving::keepingLine))]
 fn keep(c: Connection, l: Line) -> Connection
     ensures { result ≡ keepingLine c l }
 {
@@ -161,6 +165,7 @@ fn keep(c: Connection, l: Line) -> Connection
 }
 
 // Takes the bytes up to and including the first CR, or all.
+#[tactic(auto, unfolding(crate::specs::Receiving::takenIn))]
 pub fn take_in(s: Settings, o: Own, c: Connection, bytes: &[u8], out: &mut [u8]) -> Took
     requires { Ready s o (length out.old) }
     ensures value { result ≡ tookOf (takenIn s o c bytes.now) }

@@ -1,6 +1,7 @@
 // The lines that settle it (01): each line as a controller sends it, and the reply of the projector that 01 sets up,
 // with W = 20, C = 60, one lamp at 0 s, input 11, texts empty and no password.
 #![tactic(auto)]
+
 use device::calls;
 use record::types::Device;
 use std::io;

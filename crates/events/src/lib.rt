@@ -1,5 +1,6 @@
 // One event: what it does, and what is printed for it. No record is tested here: it is known whether it is legal.
 #![tactic(auto)]
+
 ghost use Rattle.std.specs.Prelude.{◌≡◌, true, [], ◌+◌, ◌-◌, ◌^◌, ◌≤◌, ◌<◌, length};
 ghost use Rattle.text.specs.Words.{over};
 ghost use Rattle.record.specs.Legal.{isLegal};
@@ -43,6 +44,7 @@ fn gave(number: u32, length: usize, device: Device) -> Called
 }
 
 // Opening at that place: 5 where it is not closed. Else it is the lowest closed place, which the device takes.
+#[tactic(auto, unfolding(crate::specs::Doing::openedInLog))]
 fn open_legal(d: Device, random: u32, out: &mut [u8]) -> Called
     requires reply_room_in_bounds { replyRoom ≤ length out.old }
     requires d_value { isLegal d ≡ true }
@@ -57,6 +59,7 @@ fn open_legal(d: Device, random: u32, out: &mut [u8]) -> Called
 }
 
 // The event that a line says, on a legal record; a text is lent with its CR.
+#[tactic(auto, unfolding(crate::specs::Doing::did))]
 fn call_legal(d: Device, says: Says, bytes: &[u8], out: &mut [u8]) -> Called
     requires reply_room_in_bounds { replyRoom ≤ length out.old }
     requires d_value { isLegal d ≡ true }

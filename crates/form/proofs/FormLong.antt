@@ -10,15 +10,16 @@ use lib.ListN.{length, length-append, length-map}
 use Rattle.numbers.specs.HighestFirst.{highestFirst}
 use Rattle.numbers.proofs.HighestFirst.{highest-length}
 use Rattle.lines.specs.Texts.{isName, isInfo, isPassword}
-use Rattle.record.specs.Limits.{textRoom, inputRoom, lampsMost}
+use Rattle.record.specs.Limits.{textRoom, inputRoom, listedMost, lampsMost, onlyIn2}
 use Rattle.record.specs.Wanted.{Wanted}
 use Rattle.record.specs.Rules.{isInputs, isLamps}
-use Rattle.record.specs.Legal.{isLegal}
+use Rattle.record.specs.Legal.{isNames, isSettings, isLegal}
 use Rattle.record.specs.declared.types.Settings.{Settings}
 use Rattle.record.specs.declared.types.Device.{Device}
 use Rattle.record.proofs.Kept.{kept-length}
-use Rattle.record.proofs.SettingsTold.{SettingsTold}
-use Rattle.record.proofs.LegalTold.{settings-of-legal, own-of-legal}
+use Rattle.record.proofs.NamesTold.{names-room-shown}
+use Rattle.record.proofs.SettingsTold.{settings-told, input-count-high}
+use Rattle.record.proofs.LegalTold.{legal-settings, settings-of-legal, own-of-legal}
 use Rattle.record.proofs.MarksTold.{front-many}
 use Rattle.form.specs.Form.{formVersion, section, textSection, secondsBytes, markByte}
 use Rattle.form.specs.Form.{marksSection, textsOf2, classPart, formWith, storedOf, marksStored, storedForm}
@@ -49,19 +50,37 @@ regroup : (v : ℕ) (a b c d e f g h i j k : List ℕ)
     ≡ (v ∷ (a ++ b ++ c ++ d ++ e)) ++ (f ++ g ++ h ++ i ++ j) ++ k
 regroup v a b c d e f g h i j k = simp append_assoc
 
--- what legal settings are at most
+-- what legal settings are at most, and their names
 pub record Sized (s : Settings) : Type 0 where
-  pub texts : s.name.len + s.maker.len + s.model.len + s.other.len + s.password.len ≤ 320
-  pub inputs : 2 * s.input_count ≤ inputRoom
+  pub name : s.name.len ≤ textRoom
+  pub maker : s.maker.len ≤ textRoom
+  pub model : s.model.len ≤ textRoom
+  pub other : s.other.len ≤ textRoom
+  pub password : s.password.len ≤ textRoom
+  pub inputs : s.input_count ≤ listedMost
   pub lamps : s.lamp_count ≤ lampsMost
+  pub serial : s.serial.len ≤ textRoom
+  pub version : s.version.len ≤ textRoom
+  pub names : isNames (onlyIn2 s.class_number s.input_count) s.names ≡ true
 
-pub sized : (s : Settings) → SettingsTold s → Sized s
-sized s t = record {
-  texts =
-      omega (arith, t.name.inside, t.maker.inside, t.model.inside, t.other.inside, t.password.inside);
-  inputs = t.inputs.inside;
-  lamps = t.lamps;
-}
+pub sized : (s : Settings) → isSettings s ≡ true → Sized s
+sized s h =
+    let t = settings-told s h in
+    record {
+      name = t.name.inside;
+      maker = t.maker.inside;
+      model = t.model.inside;
+      other = t.other.inside;
+      password = t.password.inside;
+      inputs = input-count-high s t;
+      lamps = t.lamps;
+      serial = t.serial.inside;
+      version = t.version.inside;
+      names = names-room-shown _ _ t.names;
+    }
+
+pub legal_sized : (d : Device) → isLegal d ≡ true → Sized d.settings
+legal_sized d h = sized d.settings (legal-settings d h)
 
 -- of a legal record: the form in the three parts that the code writes, with the counts that the record has
 abbrev pub textsPart : Device → List ℕ

@@ -7,7 +7,7 @@ use mathlib.Core.Bool.{Bool, false}
 use mathlib.Core.List.{List, [], ◌∷◌, map}
 use native.Mathlib.Omega.{arith}
 use lib.ListN.{length, get_or, set, take, length-map, get_or-map}
-use lib.Seq.{sets, length-sets}
+use lib.Seq.{sets}
 use Rattle.text.proofs.Stores.{sets_more}
 use Rattle.form.specs.Form.{markByte}
 
@@ -21,13 +21,7 @@ module _ (lent : List ℕ) (p : ℕ) (ms : List Bool) (n : ℕ) where
     pub inside : i ≤ n
     pub stored : out ≡ sets lent p (take i (map markByte ms))
 
-  pub no-mark-put : MarksPut lent 0
-  no-mark-put = record { inside = omega arith; stored = refl }
-
   module _ {out : List ℕ} {i : ℕ} (put : MarksPut out i) where
-    pub marks-put-room : length out ≡ length lent
-    marks-put-room = ap length put.stored ∙ length-sets lent p (take i (map markByte ms))
-
     pub one-mark-put : {b : ℕ} → i < n → n ≤ length ms → b ≡ markByte (get_or ms i false)
         → MarksPut (set out (p + i) b) (i + 1)
     one-mark-put h k e = record {

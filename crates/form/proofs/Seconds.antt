@@ -6,7 +6,7 @@ use mathlib.Core.Path.{◌≡◌, refl, sym, ap, ◌∙◌}
 use mathlib.Core.List.{List, [], ◌∷◌, ◌++◌}
 use native.Mathlib.Omega.{arith}
 use lib.ListN.{length, get_or, take}
-use lib.Seq.{sets, length-sets, length-take-le}
+use lib.Seq.{sets, length-take-le}
 use Rattle.text.proofs.InTurn.{turns-long, one-turn-more}
 use Rattle.text.proofs.Stores.{sets_then}
 use Rattle.numbers.specs.HighestFirst.{highestFirst}
@@ -35,9 +35,6 @@ module _ (lent : List ℕ) (p : ℕ) (xs : List ℕ) (n : ℕ) where
   none-put = record { inside = omega arith; stored = refl }
 
   module _ {out : List ℕ} {i : ℕ} (put : SecondsPut out i) where
-    pub put-room : length out ≡ length lent
-    put-room = ap length put.stored ∙ length-sets lent p (secondsBytes (take i xs))
-
     pub one-put : {m : List ℕ} → i < n → n ≤ length xs → m ≡ sets out (p + 4 * i) (highestFirst 4 (get_or xs i 0))
         → SecondsPut m (i + 1)
     unfolding secondsBytes
@@ -52,8 +49,3 @@ module _ (lent : List ℕ) (p : ℕ) (xs : List ℕ) (n : ℕ) where
               ∙ sets_then lent p before (highestFirst 4 (get_or xs i 0)) put.stored (omega arith)
               ∙ ap (sets lent p) (sym (one-turn-more (highestFirst 4) xs i 0 (omega arith)));
         }
-
-    pub all-put : n ≤ i → out ≡ sets lent p (secondsBytes (take n xs))
-    all-put h =
-        let last : i ≡ n = omega (arith, put.inside) in
-        put.stored ∙ ap (λ (k : ℕ). sets lent p (secondsBytes (take k xs))) last

@@ -1,12 +1,12 @@
 // The device that a log begins with: 01's sample set-up, or the one of a stored form (02, L3) in a file that an
 // argument names.
 #![tactic(auto)]
+
 use floor::replay;
 use record::types::Device;
-use std::env;
 use std::fs::File;
-use std::io;
 use std::io::{Read, Write};
+use std::{env, io};
 use stored::loading;
 
 // A byte more than the longest form that its counts, a byte each, can ask for, legal or not: a file that fills this has
@@ -55,7 +55,7 @@ fn of_file(rt: &HostRuntime, path: &str) -> io::Result<Begin> {
     })
 }
 
-fn begin(rt: &HostRuntime, place: usize) -> io::Result<Begin> {
+fn by_argument(rt: &HostRuntime, place: usize) -> io::Result<Begin> {
     match env::args(rt)?.nth(place) {
         None => Ok(sample()),
         Some(path) => of_file(rt, path.as_str()),
@@ -64,7 +64,7 @@ fn begin(rt: &HostRuntime, place: usize) -> io::Result<Begin> {
 
 // By the argument with that place, where there is one. What cannot be read is told on standard error.
 pub fn begun_by(rt: &HostRuntime, place: usize) -> Begin {
-    match begin(rt, place) {
+    match by_argument(rt, place) {
         Ok(begun) => begun,
         Err(error) => {
             let _told = eprintln!(rt; "form: {error}").is_ok();

@@ -54,16 +54,6 @@ module _ (n : ℕ) (low : 1 ≤ n) (high : n ≤ 35) where
   number-back = eqb-true _ n (both_right (isNumberCharacter (numberCharacter n)) _ back)
 
 module _ (b : ℕ) (named : isNumberCharacter b ≡ true) where
-  pub from-1 : code "1" ≤ b
-  from-1 =
-      either-by (b from "1" to "9") (b from "A" to "Z") named
-      (λ e. omega (arith, in-range b "1" "9" e)) (λ e. omega (arith, in-range b "A" "Z" e))
-
-  pub letters-from-A : code "9" < b → code "A" ≤ b
-  letters-from-A h =
-      either-by (b from "1" to "9") (b from "A" to "Z") named
-      (λ e. omega (arith, in-range b "1" "9" e)) (λ e. omega (arith, in-range b "A" "Z" e))
-
   up-to-Z : b < most
   up-to-Z =
       either-by (b from "1" to "9") (b from "A" to "Z") named

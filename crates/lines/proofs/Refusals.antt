@@ -50,9 +50,6 @@ module _ (s : List ℕ) (r : isRefusal s ≡ true) where
   pub refusal-long : length s ≡ 4
   refusal-long = told.long
 
-  pub refusal-low : code "1" ≤ s at 3
-  refusal-low = told.low
-
   refusal-spelt : s ≡ ascii "ERR" ++ (numberDigit ((s at 3) - code "0") ∷ [])
   refusal-spelt =
       let t = told in

@@ -14,7 +14,8 @@
 --   WritesNumber n s    the bytes s are one to `mostDigits` digits whose value is n: a number has several such writings
 --   readNumber s        the value of s, where it is one to `mostDigits` digits
 -- Assumes nothing.
-use Rattle.std.specs.Prelude.{ℕ, zero, suc, ◌+◌, ◌-◌, ◌/◌, ◌%◌, ◌≤◌, ◌≡◌, Bool, true, ◌&&◌, List, [], ◌∷◌, ◌++◌, length, ltb, leb}
+use Rattle.std.specs.Prelude.{ℕ, zero, suc, ◌+◌, ◌-◌, ◌/◌, ◌%◌, ◌≤◌, ◌≡◌, Bool, true, ◌&&◌, List, [], ◌∷◌, ◌++◌, length}
+use Rattle.std.specs.Prelude.{ltb, leb}
 use Prim.Native.Char.{code}
 use Rattle.text.specs.Words.{if◌then◌else◌, ◌from◌to◌}
 use Rattle.text.specs.Scans.{every}

@@ -2,6 +2,7 @@
 // sample set-up or from that of the stored form in the file that an argument names. Where a read
 // fails, the last line says so, and there is no line of power and lamps; where a write fails, standard error says so.
 #![tactic(auto)]
+
 mod way;
 
 use crate::way::{Failure, Way};

@@ -1,5 +1,6 @@
 // What is told of a watched log: lines, or a page where one is wanted; and a last line where the log is cut short.
 #![tactic(auto)]
+
 mod lines;
 pub mod way;
 

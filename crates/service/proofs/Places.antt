@@ -26,6 +26,7 @@ module _ (es ls : List ℕ) (out : List ℤ) (d : ℤ) (i : ℕ) where
 
   pub place-past : length es ≤ i → get_or (sets out 0 (compared es ls (length out)).written) i d ≡ get_or out i d
   place-past h =
-      compared-by es ls (length out) (λ (c : ComparedAs). get_or (sets out 0 c.written) i d ≡ get_or out i d) (λ f. refl)
+      compared-by es ls (length out) (λ (c : ComparedAs). get_or (sets out 0 c.written) i d ≡ get_or out i d)
+      (λ f. refl)
       (λ f. past-front (differences es ls) out (differences-fit es ls out f) d i
       (omega (arith, differences-long es ls (one-length es ls (length out) f))))

@@ -1,13 +1,13 @@
--- The result list after the differences were written: it has the room it had, and its front is the differences.
+-- The result list after the differences were written: its front is the differences.
 -- Assumes nothing.
 use Prim.Native.Nat.{ℕ, ◌≤◌}
-use mathlib.Core.Path.{◌≡◌, sym, ap, ◌∙◌}
+use mathlib.Core.Path.{◌≡◌, sym, ◌∙◌}
 use mathlib.Core.Bool.{true}
 use mathlib.Core.List.{List}
 use native.Mathlib.Omega.{arith}
 use lib.IntN.{ℤ}
 use lib.ListN.{length, take}
-use lib.Seq.{sets, length-sets}
+use lib.Seq.{sets}
 use Rattle.service.specs.Differences.{differences, isComparable}
 use Rattle.service.proofs.ByPlace.{differences-long}
 use Rattle.service.proofs.Cases.{one-length, has_room}
@@ -19,10 +19,6 @@ module _ (es ls : List ℕ) (out₀ : List ℤ) (fit : isComparable es ls (lengt
       omega (arith, differences-long es ls (one-length es ls (length out₀) fit), has_room es ls (length out₀) fit)
 
   module _ {out : List ℤ} (e : out ≡ sets out₀ 0 (differences es ls)) where
-    pub room-left : length es ≤ length out
-    room-left =
-        omega (arith, ap length e ∙ length-sets out₀ 0 (differences es ls), has_room es ls (length out₀) fit)
-
     pub front-left : take (length es) out ≡ differences es ls
     front-left =
         (λ i. take (sym (differences-long es ls (one-length es ls (length out₀) fit)) i) (e i))

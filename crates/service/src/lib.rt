@@ -1,5 +1,6 @@
 // Service reads all lamps each month: two tables of lamp seconds, compared (02, L10).
 #![tactic(auto)]
+
 ghost use Rattle.std.specs.Prelude.{◌≡◌, ◌≤◌, length};
 ghost use Rattle.std.proofs.lemmas.List.Edits.{sets};
 ghost use Rattle.service.specs.Differences.{◌minus◌, differences, firstNegative};
@@ -24,6 +25,7 @@ pub struct Report {
     pub place: usize,
 }
 
+#[tactic(auto, unfolding(crate::specs::Differences::reportOf))]
 pub fn report_of(c: Compared) -> Report
     ensures { result ≡ reportOf c }
 {
@@ -56,8 +58,7 @@ fn difference(earlier: u32, later: u32) -> i64
 fn put_differences(earlier: &[u32], later: &[u32], out: &mut [i64])
     requires earlier_len { length earlier.now ≡ length later.now }
     requires earlier_in_bounds { length earlier.now ≤ length out.old }
-    ensures { out.new ≡ sets out.old 0
-        (differences earlier.now later.now) }
+    ensures { out.new ≡ sets out.old 0 (differences earlier.now later.now) }
 {
     let mut i = 0;
     while i < earlier.len() {
@@ -91,8 +92,7 @@ fn is_comparable(earlier: &[u32], later: &[u32], room: usize) -> bool
 // Each place's difference from the first place of `out` on, and the first place where the lamp went backwards.
 pub fn compare(earlier: &[u32], later: &[u32], out: &mut [i64]) -> Compared
     ensures value { result ≡ (compared earlier.now later.now (length out.old)).told }
-    ensures out_after { out.new ≡ sets out.old 0
-        (compared earlier.now later.now (length out.old)).written }
+    ensures out_after { out.new ≡ sets out.old 0 (compared earlier.now later.now (length out.old)).written }
 {
     if !is_comparable(earlier, later, out.len()) {
         return Compared::Refused;

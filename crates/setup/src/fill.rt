@@ -37,8 +37,8 @@ pub fn name_of(s: &[u8]) -> InputName
 
 // So many names, one after the other in `bytes`, each of its length (02, L14).
 pub fn names_of(bytes: &[u8], lengths: &[usize], count: usize) -> [InputName; INPUTS_MOST]
-    requires bytes_value { areNames count (namesIn lengths.now bytes.now) ≡ true }
-    requires count_le_listed_most { count ≤ listedMost }
+    requires named { areNames count (namesIn lengths.now bytes.now) ≡ true }
+    requires few { count ≤ listedMost }
     ensures { result ≡ namesKept (namesIn lengths.now bytes.now) }
 {
     let mut list = [InputName::EMPTY; INPUTS_MOST];
