@@ -69,7 +69,7 @@ fn put_greeting(s: Settings, random: u32, out: &mut [u8]) -> usize
     18
 }
 
-#[tactic(auto, unfolding(crate::specs::Calls::greeted, stream::specs::Collecting::emptyLine))]
+#[tactic(auto, unfolding(crate::specs::Calls::greeted))]
 fn greeted_connection(s: Settings, random: u32) -> Connection
     ensures { result ≡ greeted s random }
 {
@@ -120,7 +120,7 @@ pub fn open(d: Device, random: u32, out: &mut [u8]) -> Opened
 }
 
 // The connection at a place closed: 3 and 4 in that order.
-#[tactic(auto, unfolding(crate::specs::Calls::closedBy, record::specs::Record::closed))]
+#[tactic(auto, unfolding(crate::specs::Calls::closedBy))]
 pub fn close(d: Device, place: usize) -> Changed
     requires { isLegal d ≡ true }
     ensures { result ≡ toldChanged (closedBy d place) }

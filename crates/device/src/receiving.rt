@@ -42,7 +42,6 @@ fn within(n: usize, room: usize) -> usize
 }
 
 // The connection in another phase, with nothing collected.
-#[tactic(auto, unfolding(stream::specs::Collecting::emptyLine))]
 fn turn(c: Connection, phase: u8) -> Connection
     ensures { result ≡ turned c phase }
 {

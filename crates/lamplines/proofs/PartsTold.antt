@@ -6,14 +6,13 @@ use mathlib.Core.Path.{◌≡◌, ◌∙◌}
 use mathlib.Core.List.{List}
 use native.Mathlib.Nat.{zero-add}
 use native.Mathlib.Omega.{arith}
-use lib.ListN.{length, length-append}
+use lib.ListN.{length}
 use lib.Seq.{sets}
 use Rattle.text.specs.Words.{over}
 use Rattle.text.proofs.Stores.{sets_over}
 use Rattle.text.proofs.Written.{Wrote}
 use Rattle.numbers.specs.Decimal.{longDigits}
 use Rattle.numbers.proofs.Digits.{long-at-most-20}
-use Rattle.lamplines.specs.LampLines.{numbered}
 
 abbrev pub PutSo : (out text m : List ℕ) → ℕ → Type 0
 PutSo out text m place = Wrote out 0 m place text
@@ -28,5 +27,5 @@ all-put {text = text} p fits =
     let counted = p.place ∙ zero-add (length text) in
     (counted, p.bytes ∙ sets_over text _ (omega (arith, counted)))
 
-pub part-long : (word : List ℕ) (n : ℕ) → length (numbered word n) ≤ length word + 20
-part-long word n = omega (arith, length-append word (longDigits n), long-at-most-20 n)
+pub digits_fit : (n : ℕ) → length (longDigits n) ≤ 20
+digits_fit = long-at-most-20

@@ -1,11 +1,13 @@
 // What is printed of a lamp: a stretch that it burnt, and its seconds in all.
 #![tactic(auto)]
+
 ghost use Rattle.std.specs.Prelude.{◌≡◌, ◌+◌, ◌≤◌, length};
 ghost use Rattle.std.proofs.lemmas.List.Edits.{sets};
 ghost use Rattle.text.specs.Words.{over};
 ghost use Rattle.lamplines.specs.LampLines.{numbered, stretchLine, totalLine, stretchRoom, totalRoom};
 
 // A word and a number, from the place `at` on; the place after them.
+#[tactic(auto, using(crate::proofs::PartsTold::digits_fit))]
 fn put_part(out: &mut [u8], at: usize, word: &[u8], n: u64) -> usize
     requires { at + (length word.now + 20) ≤ length out.old }
     ensures value { result ≡ at + length (numbered word.now n) }
@@ -16,6 +18,7 @@ fn put_part(out: &mut [u8], at: usize, word: &[u8], n: u64) -> usize
 }
 
 // The line of a stretch, from the start of the lent memory; its length.
+#[tactic(auto, using(crate::proofs::PartsTold::digits_fit))]
 pub fn put_stretch(out: &mut [u8], lamp: u64, from: u64, to: u64) -> usize
     requires { stretchRoom ≤ length out.old }
     ensures value { result ≡ length (stretchLine lamp from to) }
@@ -29,6 +32,7 @@ pub fn put_stretch(out: &mut [u8], lamp: u64, from: u64, to: u64) -> usize
 }
 
 // The line of a lamp's seconds in all.
+#[tactic(auto, using(crate::proofs::PartsTold::digits_fit))]
 pub fn put_total(out: &mut [u8], lamp: u64, start: u64, burnt: u64, last: u64) -> usize
     requires { totalRoom ≤ length out.old }
     ensures value { result ≡ length (totalLine lamp start burnt last) }

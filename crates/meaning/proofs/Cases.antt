@@ -1,19 +1,16 @@
 -- The answer and what is done, by the rules: which rule decides, and what holds of both because it holds in every case.
 --   Passes s o r      no rule refuses the request
 -- Assumes nothing.
-use Prim.Native.Nat.{ℕ}
-use mathlib.Core.Path.{◌≡◌, refl, sym, ◌∙◌}
+use mathlib.Core.Path.{◌≡◌, refl, ◌∙◌}
 use mathlib.Core.Bool.{Bool, true, false, ◌||◌}
 use Rattle.text.specs.Words.{if◌then◌else◌}
 use Rattle.text.proofs.Choices.{if_yes, if_no}
 use Rattle.requests.specs.declared.Request.{Request}
 use Rattle.answers.specs.Said.{Said, refused}
-use Rattle.answers.specs.Carried.{answer_of}
 use Rattle.record.specs.declared.types.Settings.{Settings}
 use Rattle.record.specs.declared.types.Own.{Own}
 use Rattle.meaning.specs.Rules.{isUndefined, isOutOfParameter, isFailure, isUnavailable}
-use Rattle.meaning.specs.Meaning.{requestAnswer, carriedOut, meant, done, decided}
-use Rattle.meaning.specs.declared.Decided.{Decided}
+use Rattle.meaning.specs.Meaning.{requestAnswer, carriedOut, meant, done}
 
 -- the first of four tests decides
 first_of : {A B : Type 0} (P : A → B → Type 0) (a b c d : Bool) {w x y z t : A} {k m : B}
@@ -61,48 +58,21 @@ module _ (s : Settings) (o : Own) (r : Request) where
   pub done-by : (P : Own → Type 0) → P o → (Passes → P (carriedOut s o r)) → P (done s o r)
   done-by P kept n = decided-by (λ m k. P k) (λ a. kept) (λ a b. kept) (λ a b c. kept) (λ a b c d. kept) n
 
-  -- what is decided, where the rules are known
-  abbrev refusedWith : ℕ → Decided
-  refusedWith n = record { answer = answer_of (refused n); own = o }
-
-  abbrev accepted : Decided
-  accepted = record { answer = answer_of (requestAnswer s o r); own = carriedOut s o r }
-
+  -- what is meant, where the rules are known
   module _ (a : isUndefined s r ≡ true) where
     pub err1 : meant s o r ≡ refused 1
     unfolding meant
     err1 = if_yes _ _ a
-
-    nothing-done : done s o r ≡ o
-    unfolding done
-    nothing-done = if_yes o (carriedOut s o r) (λ j. a j || isOutOfParameter s r || isFailure o r || isUnavailable o r)
-
-    pub decided-err1 : {d : Decided} → d ≡ refusedWith 1 → d ≡ decided s o r
-    decided-err1 e = e ∙ (λ i. record { answer = answer_of (sym err1 i); own = sym nothing-done i })
 
   module _ (a : isUndefined s r ≡ false) (b : isOutOfParameter s r ≡ true) where
     pub err2 : meant s o r ≡ refused 2
     unfolding meant
     err2 = if_no _ _ a ∙ if_yes _ _ b
 
-    nothing-done-2 : done s o r ≡ o
-    unfolding done
-    nothing-done-2 = if_yes o (carriedOut s o r) (λ j. a j || b j || isFailure o r || isUnavailable o r)
-
-    pub decided-err2 : {d : Decided} → d ≡ refusedWith 2 → d ≡ decided s o r
-    decided-err2 e = e ∙ (λ i. record { answer = answer_of (sym err2 i); own = sym nothing-done-2 i })
-
   module _ (a : isUndefined s r ≡ false) (b : isOutOfParameter s r ≡ false) (c : isFailure o r ≡ true) where
     pub err4 : meant s o r ≡ refused 4
     unfolding meant
     err4 = if_no _ _ a ∙ if_no _ _ b ∙ if_yes _ _ c
-
-    nothing-done-4 : done s o r ≡ o
-    unfolding done
-    nothing-done-4 = if_yes o (carriedOut s o r) (λ j. a j || b j || c j || isUnavailable o r)
-
-    pub decided-err4 : {d : Decided} → d ≡ refusedWith 4 → d ≡ decided s o r
-    decided-err4 e = e ∙ (λ i. record { answer = answer_of (sym err4 i); own = sym nothing-done-4 i })
 
   module _ (a : isUndefined s r ≡ false) (b : isOutOfParameter s r ≡ false) (c : isFailure o r ≡ false)
       (d : isUnavailable o r ≡ true) where
@@ -110,21 +80,7 @@ module _ (s : Settings) (o : Own) (r : Request) where
     unfolding meant
     err3 = if_no _ _ a ∙ if_no _ _ b ∙ if_no _ _ c ∙ if_yes _ _ d
 
-    nothing-done-3 : done s o r ≡ o
-    unfolding done
-    nothing-done-3 = if_yes o (carriedOut s o r) (λ j. a j || b j || c j || d j)
-
-    pub decided-err3 : {w : Decided} → w ≡ refusedWith 3 → w ≡ decided s o r
-    decided-err3 e = e ∙ (λ i. record { answer = answer_of (sym err3 i); own = sym nothing-done-3 i })
-
   module _ (p : Passes) where
     pub meant-passed : meant s o r ≡ requestAnswer s o r
     unfolding meant
     meant-passed = if_no _ _ p.defined ∙ if_no _ _ p.listed ∙ if_no _ _ p.sound ∙ if_no _ _ p.timely
-
-    pub done-passed : done s o r ≡ carriedOut s o r
-    unfolding done
-    done-passed = if_no o (carriedOut s o r) (λ j. p.defined j || p.listed j || p.sound j || p.timely j)
-
-    pub decided-passed : {d : Decided} → d ≡ accepted → d ≡ decided s o r
-    decided-passed e = e ∙ (λ i. record { answer = answer_of (sym meant-passed i); own = sym done-passed i })

@@ -9,7 +9,7 @@ use native.Mathlib.Nat.{add-zero, zero-add}
 use native.Mathlib.Numerals.{add-one}
 use native.Mathlib.Omega.{arith}
 use lib.ListN.{length, get_or, take, drop, length-take, drop_of_length-le}
-use lib.Seq.{get_or-take, take_all, drop-cons}
+use lib.Seq.{get_or-take, drop-cons}
 use Rattle.text.specs.Words.{if◌then◌else◌}
 use Rattle.text.proofs.Choices.{if_yes, if_no, if-by}
 use Rattle.lines.specs.Sources.{sameInput}
@@ -82,11 +82,8 @@ module _ (l : List ℕ) where
       let odd : suc (twice k) ≡ 2 * k + 1 = omega (arith, twice-is k) in
       ap (λ (n : ℕ). inputsOfPairs (take n l)) even
       ∙ named_more k l (omega (arith, twice-is k))
-      ∙ (λ i. inputsOfPairs (take (twice-is k i) l) ++ (inputOfPair (get_or l (twice-is k i) 0) (get_or l (odd i) 0) ∷ []))
-
-  pub all_named : (k n : ℕ) → length l ≤ 2 * k → length l ≤ 2 * n
-      → inputsOfPairs (take (2 * k) l) ≡ inputsOfPairs (take (2 * n) l)
-  all_named k n h m = ap inputsOfPairs (take_all (2 * k) l h ∙ sym (take_all (2 * n) l m))
+      ∙ (λ i.
+      inputsOfPairs (take (twice-is k i) l) ++ (inputOfPair (get_or l (twice-is k i) 0) (get_or l (odd i) 0) ∷ []))
 
   pub input-at-place : (k : ℕ) (d : Input) → 2 * k + 1 < length l
       → get_or (inputsOfPairs l) k d ≡ inputOfPair (get_or l (2 * k) 0) (get_or l (2 * k + 1) 0)

@@ -28,6 +28,7 @@ fn with_mutes(o: Own, video: bool, audio: bool) -> Own
     changed
 }
 
+#[tactic(auto, unfolding(crate::specs::Meaning::afterPower))]
 fn after_power(s: Settings, o: Own, wanted: bool) -> Own
     ensures { result ≡ afterPower s o wanted }
 {
@@ -77,6 +78,7 @@ fn with_volumes(o: Own, speaker: u8, microphone: u8) -> Own
 }
 
 // One step up or down, stopped at the ends (02, L14).
+#[tactic(auto, unfolding(crate::specs::Meaning::levelAfter))]
 fn step(up: bool, level: u8) -> u8
     ensures { result ≡ levelAfter up level }
 {

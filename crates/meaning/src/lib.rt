@@ -1,5 +1,6 @@
 // What the projector answers to a request and what the request does to it (01, "Commands"), apart from any line.
 #![tactic(auto)]
+
 mod change;
 mod inputs;
 mod rules;
@@ -48,6 +49,7 @@ fn accept(s: Settings, o: Own, r: Request) -> Decided
 }
 
 // The first rule that applies decides.
+#[tactic(auto, unfolding(crate::specs::Meaning::meant, crate::specs::Meaning::done))]
 pub fn decide(s: Settings, o: Own, r: Request) -> Decided
     ensures { result ≡ decided s o r }
 {

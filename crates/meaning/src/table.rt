@@ -21,6 +21,7 @@ use record::types::{
 
 const HOUR: u32 = 3600;
 
+#[tactic(auto, unfolding(crate::specs::Meaning::powerSaid))]
 fn power_said(power: u8) -> Power
     ensures { result ≡ powerSaid power }
 {

@@ -1,7 +1,9 @@
 pub mod LinesDone
 pub mod Followed
 pub mod Turns
+mod OneTurn
 pub mod WatchRefusals
+mod Answered
 pub mod LogRuns
 mod EventsTold
 pub mod TellingsSpelt

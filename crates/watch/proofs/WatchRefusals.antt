@@ -32,7 +32,8 @@ neither false b e = (refl, e)
 pub passes_over : (time lines : ℕ) → (2 ^ 64 - 1 - time) / secondsMost < lines → time < 2 ^ 64
     → 2 ^ 64 ≤ time + lines * secondsMost
 passes_over time lines h t =
-    let over = (div-lt_iff_lt-mul {k = secondsMost} {x = 2 ^ 64 - 1 - time} {y = lines} (omega arith)).0 h in omega arith
+    let over = (div-lt_iff_lt-mul {k = secondsMost} {x = 2 ^ 64 - 1 - time} {y = lines} (omega arith)).0 h in
+    omega arith
 
 pub passes-not : (time lines : ℕ) → lines ≤ (2 ^ 64 - 1 - time) / secondsMost → time < 2 ^ 64
     → time + lines * secondsMost < 2 ^ 64

@@ -1,0 +1,25 @@
+-- A place in use has the input of its pair, a place past them none.
+use Rattle.std.proofs.Common.{◌≡◌, ◌+◌, ◌*◌, ◌<◌, sym, ◌∙◌, arith, rules, length, take}
+use lib.ListN.{length-take}
+use Rattle.record.specs.Limits.{inputRoom}
+use Rattle.meaning.specs.SetUpInputs.{noInput}
+use Rattle.meaning.proofs.InputsByPlace.{no-input-past, input-in-use}
+use Rattle.meaning.proofs.inputs.input_at.Goals as goal
+
+pub returns-then-place-ge-INPUTS_MOST : goal.returns-then-place-ge-INPUTS_MOST
+returns-then-place-ge-INPUTS_MOST c =
+    let size : length c.args.pairs ≡ inputRoom = search rules in
+    let used = take (2 * c.args.count) c.args.pairs in
+    sym (no-input-past used c.args.place noInput (omega (arith, length-take (2 * c.args.count) c.args.pairs)))
+
+pub returns-then-count-place : goal.returns-then-count-place
+returns-then-count-place c =
+    let used = take (2 * c.args.count) c.args.pairs in
+    sym (no-input-past used c.args.place noInput (omega (arith, length-take (2 * c.args.count) c.args.pairs)))
+
+pub returns : goal.returns
+returns c =
+    let size : length c.args.pairs ≡ inputRoom = search rules in
+    let room : 2 * c.args.place + 1 < length c.args.pairs = omega arith in
+    c.input_of_pair.ensures
+    ∙ sym (input-in-use c.args.pairs c.args.count c.args.place c.if-count-place.false room noInput)

@@ -1,0 +1,25 @@
+use Rattle.std.proofs.Common.{◌≡◌, ◌+◌, ◌*◌, arith, rules, refl, get_or, length, ◌∙◌}
+use Rattle.answers.specs.Carried.{noInputs}
+use Rattle.record.specs.Limits.{inputRoom}
+use Rattle.meaning.specs.SetUpInputs.{inputOfPair, inputsOfPairs}
+use Rattle.meaning.proofs.Filling.{none_filled, one-filled}
+use Rattle.meaning.proofs.InputsByPlace.{one-more-named}
+use Rattle.meaning.proofs.inputs.told_inputs.Invariants.{firstInputs}
+use Rattle.meaning.proofs.inputs.told_inputs.Goals as goal
+
+pub loop-k-init : goal.loop-k-init
+unfolding inputsOfPairs
+loop-k-init c = record { inside = omega arith; filled = none_filled (firstInputs c.args.pairs) noInputs _ refl }
+
+pub loop-k-preserved : goal.loop-k-preserved
+loop-k-preserved c =
+    let size : length c.args.pairs ≡ inputRoom = search rules in
+    let pairs = c.args.pairs in
+    let k = c.loop-k.k in
+    let input : c.input_of_pair.result ≡ inputOfPair (get_or pairs (2 * k) 0) (get_or pairs (2 * k + 1) 0)
+    = c.input_of_pair.ensures in
+    record {
+      inside = omega arith;
+      filled = one-filled (firstInputs pairs) noInputs _ c.input_of_pair.result c.loop-k.invariant.filled
+          c.if-count-k.false (one-more-named pairs k (omega arith) ∙ rw (← input));
+    }
