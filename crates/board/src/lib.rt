@@ -1,5 +1,6 @@
 // The face that a host links, in C (include/ceiling.h): thin calls over the proved crates, none with a precondition.
 #![tactic(auto)]
+
 pub mod days;
 pub mod forms;
 pub mod lamps;

@@ -10,6 +10,7 @@ use codes::command::{Coded, MaybeCommand};
 use controller::writing;
 use controller::writing::Written;
 
+#[tactic(auto, unfolding(crate::specs::Face::noneWritten))]
 fn none_written(room: usize) -> Written
     ensures { result ≡ toldWritten (noneWritten room) }
 {
@@ -26,6 +27,7 @@ fn none_written(room: usize) -> Written
 }
 
 // What is no command is 3, after 2.
+#[tactic(auto, unfolding(crate::specs::Face::noneWritten))]
 #[unsafe(no_mangle)]
 pub extern "C" fn pj_write(
     k: Coded,

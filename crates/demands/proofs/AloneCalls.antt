@@ -29,7 +29,7 @@ use Rattle.demands.proofs.LinesTaken.{line_taken, ends-add}
 -- collecting leaves the own part as it was
 own-stays : (o : Own) (c : Connection) (xs : List ℕ) → (foldl collects (state_of o c) xs).own ≡ o
 own-stays o c [] = refl
-own-stays o c (x ∷ xs) = own-stays o _ xs
+own-stays o c (x ∷ xs) = own-stays o (collects (state_of o c) x).connection xs
 
 -- ---- what is heard
 
@@ -48,7 +48,8 @@ module _ (s : Settings) where
   unfolding aloneAt
   alone-collects o c owns [] rest p = refl
   alone-collects o c owns (x ∷ xs) rest p =
-      if_no _ _ (first_plain x xs p) ∙ alone-collects o _ owns xs rest (rest_plain x xs p)
+      let k = (collects (state_of o c) x).connection in
+      if_no _ _ (first_plain x xs p) ∙ alone-collects o k owns xs rest (rest_plain x xs p)
 
   module _ (o : Own) (c : Connection) (xs : List ℕ) (none : every notCr xs ≡ true) where
     abbrev gathered : State
@@ -112,7 +113,7 @@ module _ (s : Settings) where
     pub taking-heard : c.phase ≤ failed → (c.phase ≡ shut → ⊥) → OneCall o c bs (takesIn s (state_of o c) bs)
     taking-heard known live = subst (OneCall o c bs) (sym (taking-is-call s o c bs known live)) call-heard
 
-  -- ---- one call after the first_plain
+  -- ---- one call after the first
 
   pub hears-then : {c k e : Connection} {h g : Heard} → Hears c h k → Hears k g e → Hears c (heardThen h g) e
   hears-then {c} {k} {e} {h} {g} first second =

@@ -11,7 +11,8 @@
 --                         set, where it began with the marks ms
 --   lampWith n start      a lamp's seconds: what it started with and what it burnt, stopped at 359,999,999
 -- Assumes nothing.
-use Rattle.std.specs.Prelude.{ℕ, ◌+◌, ◌-◌, min, Bool, true, false, not, ◌&&◌, List, [], ◌∷◌, ◌++◌, length, take, drop, replicate, get_or, set, leb, eqb}
+use Rattle.std.specs.Prelude.{ℕ, ◌+◌, ◌-◌, min, leb, eqb, Bool, true, false, not, ◌&&◌}
+use Rattle.std.specs.Prelude.{List, [], ◌∷◌, ◌++◌, length, take, drop, replicate, get_or, set}
 use Prim.Native.String.{String}
 use Rattle.text.specs.Words.{ascii, if◌then◌else◌}
 use Rattle.text.specs.Scans.{sameBy}

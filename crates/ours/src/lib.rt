@@ -2,6 +2,7 @@
 //! function, for set-up one a class, that does nothing but call the product's function, and whose promise is that
 //! field's value. So a demand that spoke of another function than the linked one would not be proved.
 #![tactic(auto)]
+
 pub mod projector;
 pub mod reader;
 pub mod sums;

@@ -2,13 +2,12 @@
 -- what is done.
 -- Assumes nothing.
 use Prim.Native.Nat.{ℕ, ◌≤◌, ◌<◌}
-use mathlib.Core.Path.{◌≡◌, refl, ap, ◌∙◌}
+use mathlib.Core.Path.{◌≡◌, refl, ap}
 use mathlib.Core.Bool.{true, false, not}
 use mathlib.Core.List.{List}
-use borrow.Author.Tests.{leb-false, lt-leb, le-leb, ltb-false, le-ltb, not-false}
+use borrow.Author.Tests.{leb-false, lt-leb, ltb-false, le-ltb, not-false}
 use Rattle.text.specs.Rows.{byRows}
 use Rattle.text.proofs.ByRows.{by_rows, rows-done}
-use Rattle.text.proofs.Choices.{if_yes, if_no}
 use Rattle.lines.specs.Texts.{isPassword}
 use Rattle.controller.specs.Writing.{commandRoom}
 use Rattle.codes.specs.Commands.{commandOf}
@@ -90,10 +89,6 @@ module _ (p : Panel) (i : ℕ) where
     pub projector-done : isPanel p ≡ true → i < p.count → byRows (projectorRows p i) (panelKept p) done ≡ done
     projector-done legal there =
         rows-done (panelKept p) done (projectorRows p i) (ap not legal, (lt-leb p.count i there, tt))
-
-    pub projector-none : isPanel p ≡ true → p.count ≤ i
-        → byRows (projectorRows p i) (panelKept p) done ≡ panelKept p 3
-    projector-none legal past = if_no _ _ (ap not legal) ∙ if_yes _ _ (le-leb p.count i past)
 
   module _ (l : List ℕ) where
     pub stepped_by : (P : PanelAs → Type 0) → Refusals p P

@@ -1,4 +1,3 @@
-pub mod Tails
 pub mod PanelsTold
 pub mod TalksTold
 pub mod Cases

@@ -25,6 +25,7 @@ pub fn none() -> PanelChanged
 }
 
 // A projector more: 1, then 3 for a password out of range or a ninth projector.
+#[tactic(auto, unfolding(crate::specs::PanelCalls::addedTo))]
 pub fn add(p: Panel, password: &[u8]) -> PanelChanged
     ensures { result ≡ toldPanel (addedTo p password.now) }
 {
@@ -54,6 +55,7 @@ pub fn add(p: Panel, password: &[u8]) -> PanelChanged
 }
 
 // A command to a projector: 1, 2, 3 and 9 in that order.
+#[tactic(auto, unfolding(crate::specs::PanelCalls::commanded))]
 pub fn send(p: Panel, projector: usize, k: Coded, out: &mut [u8]) -> PanelSent
     ensures value { result ≡ toldSent (commanded p projector k (length out.old)) }
     ensures out_after { out.new ≡ over (commanded p projector k (length out.old)).line
@@ -107,6 +109,7 @@ pub fn send(p: Panel, projector: usize, k: Coded, out: &mut [u8]) -> PanelSent
 }
 
 // The step on a line from a projector: 1, then 3.
+#[tactic(auto, unfolding(crate::specs::PanelCalls::steppedAt))]
 pub fn line(p: Panel, projector: usize, line: &[u8]) -> PanelChanged
     ensures { result ≡ toldPanel (steppedAt p projector line.now) }
 {
@@ -129,6 +132,7 @@ pub fn line(p: Panel, projector: usize, line: &[u8]) -> PanelChanged
 }
 
 // The connection to a projector is gone: 1, then 3.
+#[tactic(auto, unfolding(crate::specs::PanelCalls::lostAt))]
 pub fn lost(p: Panel, projector: usize) -> PanelChanged
     ensures { result ≡ toldPanel (lostAt p projector) }
 {

@@ -42,6 +42,7 @@ fn is_named(k: Coded) -> bool
 }
 
 // A command under way only after a greeting, and one that the writer takes; else none.
+#[tactic(auto, unfolding(crate::specs::LegalPanels::isCommandKept))]
 fn command_ok(e: Entry) -> bool
     ensures { result ≡ isCommandKept (talkOf e) }
 {
@@ -52,6 +53,7 @@ fn command_ok(e: Entry) -> bool
     (k.code == 0) & (k.first == 0) & (k.second == 0)
 }
 
+#[tactic(auto, unfolding(crate::specs::LegalPanels::isTalk))]
 fn talk_ok(e: Entry) -> bool
     ensures { result ≡ isTalk (talkOf e) }
 {
@@ -60,6 +62,7 @@ fn talk_ok(e: Entry) -> bool
         & command_ok(e)
 }
 
+#[tactic(auto, unfolding(crate::specs::LegalPanels::isEntry))]
 fn entry_ok(e: Entry) -> bool
     ensures { result ≡ isEntry e }
 {
@@ -67,6 +70,7 @@ fn entry_ok(e: Entry) -> bool
 }
 
 // Nothing is kept in the entry.
+#[tactic(auto, unfolding(crate::specs::LegalPanels::isUnused))]
 fn is_unused(e: Entry) -> bool
     ensures { result ≡ isUnused e }
 {
@@ -78,6 +82,7 @@ fn is_unused(e: Entry) -> bool
         & (e.strays == 0)
 }
 
+#[tactic(auto, unfolding(crate::specs::LegalPanels::isEntries))]
 fn entries_ok(entries: [Entry; PANEL_MOST]) -> bool
     ensures { result ≡ isEntries entries }
 {
@@ -104,6 +109,7 @@ fn unused_from(entries: [Entry; PANEL_MOST], count: usize) -> bool
     ok
 }
 
+#[tactic(auto, unfolding(crate::specs::LegalPanels::isPanel))]
 pub fn legal(p: Panel) -> bool
     ensures { result ≡ isPanel p }
 {

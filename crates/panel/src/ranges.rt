@@ -9,6 +9,7 @@ ghost use Rattle.panel.specs.LegalPanels.{isLampsShown, isShown};
 use crate::types::{Entry, HOURS_MOST, LAMPS_MOST};
 use record::own;
 
+#[tactic(auto, unfolding(crate::specs::LegalPanels::isPowerShown))]
 fn power_ok(known: bool, power: u8) -> bool
     ensures { result ≡ isPowerShown known power }
 {
@@ -18,6 +19,7 @@ fn power_ok(known: bool, power: u8) -> bool
     power == 0
 }
 
+#[tactic(auto, unfolding(crate::specs::LegalPanels::isInputShown))]
 fn input_ok(known: bool, source: u8, number: u8) -> bool
     ensures { result ≡ isInputShown known source number }
 {
@@ -27,6 +29,7 @@ fn input_ok(known: bool, source: u8, number: u8) -> bool
     (source == 0) & (number == 0)
 }
 
+#[tactic(auto, unfolding(crate::specs::LegalPanels::isLampCount))]
 fn lamp_count_ok(known: bool, count: usize) -> bool
     ensures { result ≡ isLampCount known count }
 {
@@ -52,6 +55,7 @@ fn hours_ok(hours: [u32; LAMPS_MOST], count: usize) -> bool
     ok
 }
 
+#[tactic(auto, unfolding(crate::specs::LegalPanels::isLampsShown, crate::specs::LegalPanels::isLitRoom))]
 fn lamps_ok(e: Entry) -> bool
     ensures { result ≡ isLampsShown e.lamps_known e.lamp_count e.hours e.lit }
 {
@@ -61,6 +65,7 @@ fn lamps_ok(e: Entry) -> bool
     lamp_count_ok(e.lamps_known, count) & hours_ok(hours, count) & own::none_marked(lit, count)
 }
 
+#[tactic(auto, unfolding(crate::specs::LegalPanels::isShown))]
 pub fn shown_ok(e: Entry) -> bool
     ensures { result ≡ isShown (shownOf e) }
 {

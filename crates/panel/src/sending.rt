@@ -25,6 +25,7 @@ fn leads_next(e: Entry) -> bool
 }
 
 // The command's line, from the start of the lent memory; its length.
+#[tactic(auto, unfolding(crate::specs::Stepping::commandSent))]
 pub fn put_line(e: Entry, c: Command, out: &mut [u8]) -> usize
     requires { e.password.len ≤ textRoom }
     ensures value { result ≡ length (commandSent e c (length out.old)) }

@@ -101,6 +101,7 @@ fn reply(e: Entry, r: Reading) -> Entry
 }
 
 // A line with no command under way is late. What is under way in a legal entry is a command.
+#[tactic(auto, unfolding(crate::specs::Stepping::heardLine))]
 pub fn step(e: Entry, line: &[u8]) -> Entry
     ensures { result ≡ heardLine e line.now }
 {

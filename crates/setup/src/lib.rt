@@ -63,7 +63,7 @@ fn settings_of(
 
 // Of either class: 0 and the started device, or the blank record, with 3 where a setting is out of its range, then with
 // 8 where the password is too short.
-#[tactic(auto, unfolding(record::specs::SetUp::setUp, record::specs::SetUp::isSetUp, record::specs::Record::started))]
+#[tactic(auto, using(crate::proofs::InOrder::cases))]
 pub fn set_up_in(
     class: u8,
     name: &[u8],

@@ -10,7 +10,7 @@ use record::types::{MaybeSetting, Setting};
 use record::{inputs, names, own, settings};
 
 // Lent what set-up is lent: the first that is out of its range, in that order. A short password is in its range.
-#[tactic(auto, unfolding(record::specs::OutOfRange::firstFailing))]
+#[tactic(auto, using(crate::proofs::InOrder::steps))]
 pub fn first_out_of_range(
     class: u8,
     name: &[u8],

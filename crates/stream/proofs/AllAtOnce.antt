@@ -51,10 +51,6 @@ module _ (left : List ℕ → List ℕ) (most : ℕ) (l : Line) (b : ℕ) where
     one-past h = if_no _ _ unmarked ∙ if_yes _ _ (le-leb most l.held h)
 
 module _ (most : ℕ) where
-  pub none-collected : (l : Line) (bs : List ℕ) → length bs ≡ 0 → collectedAll most l bs ≡ l
-  none-collected l [] e = refl
-  none-collected l (b ∷ bs) e = absurd (omega arith)
-
   -- the mark stays
   pub marked-stays : (l : Line) (bs : List ℕ) → l.overlong ≡ true → collectedAll most l bs ≡ l
   marked-stays l [] e = refl

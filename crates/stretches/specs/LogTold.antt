@@ -17,8 +17,8 @@ use Rattle.stream.specs.Machine.{Out}
 use Rattle.events.specs.Events.{opens, receives, passes, closes, noSuch}
 use Rattle.events.specs.Doing.{logPlace}
 use Rattle.ours.specs.Board.{ours}
-use Rattle.demands.specs.Calls.{Call, opens as opens_at, receives as receivesAt, passes as passesBy, closes as closes_at}
-use Rattle.demands.specs.Calls.{enables}
+use Rattle.demands.specs.Calls.{Call, opens as opens_at, receives as receivesAt, passes as passesBy}
+use Rattle.demands.specs.Calls.{closes as closes_at, enables}
 use Rattle.demands.specs.Demand3.{Beginning, startMarks, begunBy, historyOf}
 use Rattle.demands.specs.History.{Event, burning, lampWith}
 use Rattle.marking.specs.Marking.{FloorEvent, logged, marked, doneBy}

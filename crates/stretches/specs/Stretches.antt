@@ -11,7 +11,8 @@
 --   lengthsOf ss                their lengths, added up
 --   StretchesTell w ms k es ss  what is promised of the stretches of the lamp at place k
 -- Assumes nothing.
-use Rattle.std.specs.Prelude.{ℕ, suc, ◌+◌, ◌-◌, ◌≤◌, ◌<◌, ◌≡◌, Bool, true, false, ◌&&◌, ◌||◌, List, [], ◌∷◌, ◌++◌, get_or, leb, ltb, eqb}
+use Rattle.std.specs.Prelude.{ℕ, suc, ◌+◌, ◌-◌, ◌≤◌, ◌<◌, ◌≡◌, leb, ltb, eqb, Bool, true, false, ◌&&◌, ◌||◌}
+use Rattle.std.specs.Prelude.{List, [], ◌∷◌, ◌++◌, get_or}
 use Rattle.text.specs.Words.{if◌then◌else◌}
 use Rattle.record.specs.Wanted.{Wanted}
 use Rattle.demands.specs.History.{Event, switched, aSecond, markSwitched, Stage, steady, next, marksNext, burns}
