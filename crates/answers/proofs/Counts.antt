@@ -1,7 +1,7 @@
 -- What an answer says, by its kind: a count past the end of an array counts the whole array.
 -- Assumes nothing.
 use Prim.Native.Nat.{ℕ, ◌≤◌, ◌<◌, min}
-use mathlib.Core.Path.{◌≡◌, sym, ap, ◌∙◌}
+use mathlib.Core.Path.{◌≡◌, refl, sym, ap, ◌∙◌}
 use mathlib.Core.Logic.{⊎_elim}
 use mathlib.Core.List.{List}
 use native.Mathlib.Omega.{arith}
@@ -22,3 +22,7 @@ take_min n m l e =
 pub said-of-kind : (a : Answer) {k : Kind} → a.kind ≡ k → saidBy a ≡ saidAs k a
 unfolding saidBy
 said-of-kind a e = ap (λ (k : Kind). saidAs k a) e
+
+pub said_by_kind : (a : Answer) → saidBy a ≡ saidAs a.kind a
+unfolding saidBy
+said_by_kind a = said-of-kind a refl

@@ -127,7 +127,7 @@ fn bit(on: bool) -> u8
     if on { 1 } else { 0 }
 }
 
-#[tactic(auto, unfolding(answers::specs::Carried::saidBy))]
+#[tactic(auto, using(answers::proofs::Counts::said_by_kind))]
 fn said_flat(a: Answer) -> FlatReading
     ensures { result ≡ saidFlat (saidBy a) }
 {

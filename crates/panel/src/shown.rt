@@ -62,7 +62,7 @@ fn show_lamps(e: Entry, lamps: [LampHours; LAMPS_MOST], count: usize) -> Entry
 }
 
 // What an accepted reply says is shown: a power, an input or lamps; anything else changes nothing.
-#[tactic(auto, unfolding(answers::specs::Carried::saidBy))]
+#[tactic(auto, using(answers::proofs::Counts::said_by_kind))]
 pub fn show(e: Entry, a: Answer) -> Entry
     ensures { result ≡ withShown e (showing (shownOf e) (saidBy a)) }
 {
