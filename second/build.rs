@@ -1,9 +1,9 @@
-//! Finds `libboard.a` (`rt staticlib board` writes it to target/staticlib) and says how it is reached. The archive is
+//! Finds `libboard.a` (`./archive` writes it to target/native) and says how it is reached. The archive is
 //! for x86-64: there it is linked. On another processor a small host in C links it, built by a cross compiler, and the
 //! toolchain's emulator runs that.
 //!
-//! BOARD_ARCHIVE names another archive; BOARD_NATIVE one for the processor at hand, which is linked (`./archive` writes
-//! it to target/native); BOARD_CC another cross compiler; BOARD_EMULATOR another emulator.
+//! BOARD_ARCHIVE names another archive; BOARD_NATIVE one for the processor at hand, which is linked; BOARD_CC another
+//! cross compiler; BOARD_EMULATOR another emulator.
 
 use std::env;
 use std::path::{Path, PathBuf};
@@ -19,13 +19,13 @@ fn main() {
     let native = env::var_os("BOARD_NATIVE");
     let archive = match native.clone().or_else(|| env::var_os("BOARD_ARCHIVE")) {
         Some(path) => PathBuf::from(path),
-        None => root.join("target/staticlib/libboard.a"),
+        None => root.join("target/native/libboard.a"),
     };
     println!("cargo:rerun-if-changed={}", archive.display());
     println!("cargo:rerun-if-changed=build.rs");
     if !archive.exists() {
         println!(
-            "cargo:warning=no {}: `rt staticlib board` writes it; without it nothing is compared",
+            "cargo:warning=no {}: `./archive` writes it; without it nothing is compared",
             archive.display()
         );
         println!("cargo:rustc-cfg=board=\"missing\"");
