@@ -3,15 +3,13 @@
 --   InMemory k now      the line k has become `now`, in the same memory
 --   GoneTo k bs n now i     the loop has come to i, and `now` is what the bytes before i, of the first n, made of k
 -- Assumes nothing.
-use Prim.Native.Nat.{ℕ, ◌+◌, ◌≤◌, ◌<◌}
+use Prim.Native.Nat.{ℕ, ◌≤◌, ◌<◌}
 use Prim.Native.Char.{code}
-use mathlib.Core.Path.{◌≡◌, refl, sym, ap, ◌∙◌}
+use mathlib.Core.Path.{◌≡◌, refl, ◌∙◌}
 use mathlib.Core.Bool.{true, false}
-use mathlib.Core.List.{List, [], ◌∷◌, foldl, foldl-append}
-use native.Mathlib.Numerals.{add-one}
+use mathlib.Core.List.{List, foldl}
 use native.Mathlib.Omega.{arith}
-use lib.ListN.{length, get_or, take, length-set}
-use lib.Seq.{take-suc}
+use lib.ListN.{length, take, length-set}
 use Rattle.record.specs.declared.types.Line.{Line}
 use Rattle.stream.proofs.UpToTheEnd.{up-to-keeps}
 use Rattle.stream.proofs.AllAtOnce.{more, collected-by, one-marked, one-fits, one-past}
@@ -54,18 +52,3 @@ module _ (k : Line) (bs : List ℕ) (n : ℕ) where
     pub inside : i ≤ n
     pub long : length now.bytes ≡ length k.bytes
     pub so_far : now ≡ foldl keptWith k (take i bs)
-
-  pub none-gone : GoneTo k 0
-  none-gone = record { inside = omega arith; long = refl; so_far = refl }
-
-  pub one-gone : {now : Line} {i : ℕ} → GoneTo now i → i < n → n ≤ length bs
-      → GoneTo (keptWith now (get_or bs i 0)) (i + 1)
-  one-gone {now} {i} p h within =
-      let b = get_or bs i 0 in
-      record {
-        inside = omega arith;
-        long = kept-long now b ∙ p.long;
-        so_far = ap (λ (m : Line). keptWith m b) p.so_far
-            ∙ sym (foldl-append keptWith k (take i bs) (b ∷ []))
-            ∙ ap (foldl keptWith k) (sym (ap (λ (j : ℕ). take j bs) (add-one i) ∙ take-suc bs i 0 (omega arith)));
-      }

@@ -6,11 +6,10 @@ use mathlib.Core.Path.{◌≡◌, refl, sym, ap, ◌∙◌}
 use mathlib.Core.Bool.{Bool, true, false}
 use mathlib.Core.List.{List, ◌++◌}
 use mathlib.Core.Logic.{⊎_elim}
-use native.Mathlib.Nat.{sub-zero}
 use native.Mathlib.Numerals.{add-one}
 use native.Mathlib.Omega.{arith}
 use lib.ListN.{length, take, drop, set, drop_of_length-le}
-use lib.Seq.{take-suc-set, take-set-le, drop-append-le, length-take-le}
+use lib.Seq.{take-suc-set, drop-append-le, length-take-le}
 use Rattle.text.specs.Words.{ascii, if◌then◌else◌}
 use Rattle.text.proofs.Orders.{le-or-lt}
 use Rattle.text.proofs.Parts.{drop-take}
@@ -29,11 +28,6 @@ dropped a b s e =
     (le-or-lt b (length s))
 
 module _ (m : List ℕ) (held : ℕ) (inside : held < length m) where
-  pub line-lent : take (held - 0) (set m held (code "\r")) ≡ take held m
-  line-lent =
-      ap (λ (k : ℕ). take k (set m held (code "\r"))) (sub-zero held)
-      ∙ take-set-le held m held (code "\r") (omega arith)
-
   pub text-lent : (from : ℕ) → from ≡ min 2 held
       → take (held + 1 - from) (drop from (set m held (code "\r"))) ≡ drop 2 (take held m) ++ ascii "\r"
   text-lent from e =

@@ -4,9 +4,8 @@
 -- Assumes nothing.
 use Prim.Native.Nat.{ℕ, ◌+◌, ◌-◌, ◌≤◌, ◌<◌, ◌^◌}
 use mathlib.Core.Path.{◌≡◌, refl, sym, ap, ◌∙◌, subst}
-use mathlib.Core.Bool.{Bool}
-use mathlib.Core.List.{List, [], ◌++◌, append-nil}
-use native.Mathlib.Nat.{add-zero, sub-zero}
+use mathlib.Core.List.{List, ◌++◌, append-nil}
+use native.Mathlib.Nat.{add-zero}
 use native.Mathlib.Omega.{arith}
 use lib.ListN.{length, take, drop, length-append, length-drop, drop_of_length-le}
 use lib.Seq.{sets, drop-drop, take_all, length-sets}
@@ -20,10 +19,10 @@ use Rattle.floor.specs.declared.playing.Taken.{Taken}
 use Rattle.logs.specs.Lines.{lineMost}
 use Rattle.events.specs.Doing.{printRoom}
 use Rattle.floor.specs.Reading.{Reading, lineTaken, playedIn}
-use Rattle.floor.specs.Calls.{readingIn, floorOf, lineTakenOf, CanPlay, TakenAs}
+use Rattle.floor.specs.Calls.{readingIn, floorOf, lineTakenOf, TakenAs}
 use Rattle.floor.proofs.Carrying.{carry}
-use Rattle.events.proofs.PartsPut.{partFrom, leftFrom, Put, part-long, part-put}
-use Rattle.floor.proofs.LinesPlayed.{addedTo, onward, added_none, added_twice, line_first, LineTold, line-told}
+use Rattle.events.proofs.PartsPut.{partFrom, leftFrom, Put, part-put}
+use Rattle.floor.proofs.LinesPlayed.{addedTo, onward, added_twice, line_first, LineTold, line-told}
 
 module _ (s : Reading) (bs out : List ℕ) where
   pub record PlayedTo (now : Reading) (m : List ℕ) (at used : ℕ) : Type 0 where
@@ -37,22 +36,6 @@ module _ (s : Reading) (bs out : List ℕ) where
     pub counted : used ≡ length printed
     pub stored : m ≡ sets out 0 printed
     pub rest : playedIn (length out) s bs ≡ addedTo at printed (playedIn (length out - used) now (drop at bs))
-
-  pub none-played : s.kept.held ≤ lineMost → s.number + length bs < 2 ^ 64 → printRoom ≤ length out
-      → PlayedTo s out 0 0
-  none-played h n r = record {
-    inside = omega arith;
-    legality = refl;
-    held = h;
-    long = refl;
-    number = omega arith;
-    room = omega arith;
-    printed = [];
-    counted = refl;
-    stored = refl;
-    rest = added_none (playedIn (length out) s bs)
-        ∙ ap (λ (k : ℕ). addedTo 0 [] (playedIn k s bs)) (sym (sub-zero (length out)));
-  }
 
   pub record Turn (before : Reading) (at used : ℕ) (r : Taken) (l left : List ℕ) : Type 0 where
     pub inside : at + r.taken ≤ length bs
@@ -136,18 +119,6 @@ module _ (s : Reading) (bs out : List ℕ) where
       counted = sym text-long;
       stored = text-stored e;
       rest = onwards ∙ ap (addedTo (at + line.taken) text) (if_no _ _ (le-ltb _ printRoom h));
-    }
-
-    -- the call that takes the line can, and leaves a turn
-    pub can-take : {legal : Bool} → legal ≡ isLegal s.device → lineMost < length s.kept.bytes
-        → CanPlay legal now.device now.kept.held now.number 1 (length now.kept.bytes) printRoom
-        (length (partFrom m used))
-    can-take tested lent = record {
-      tested = tested ∙ sym p.legality;
-      kept = p.held;
-      lent = omega (arith, p.long);
-      counted = omega (arith, p.number);
-      room-left = omega (arith, part-long m used, memory-long p, p.room);
     }
 
     turn-of : {left : List ℕ} → Put m line.reply used (length m) left

@@ -1,18 +1,18 @@
--- The number of a call, case by case, and what no refusal says.
+-- A call that is not refused: when that is so, what it has, and what it gives.
 -- Assumes nothing.
 use Prim.Native.Nat.{ℕ, ◌+◌, ◌≤◌, ◌<◌, ◌^◌}
 use mathlib.Core.Path.{◌≡◌, refl, sym, ap, ◌∙◌}
 use mathlib.Core.Bool.{Bool, true, false, ◌||◌}
 use native.Mathlib.Omega.{arith}
 use lib.Dec.{leb, ltb}
-use borrow.Author.Tests.{lt-ltb, le-ltb, le-leb, lt-leb, ltb-false, leb-false, ne_eqb}
-use Rattle.text.proofs.Choices.{if_yes, if_no, if-by}
+use borrow.Author.Tests.{le-ltb, lt-leb, ltb-false, leb-false}
+use Rattle.text.proofs.Choices.{if_no, if-by}
 use Rattle.record.specs.Legal.{isLegal}
 use Rattle.record.specs.declared.types.Device.{Device}
-use Rattle.stream.specs.Machine.{Took, unanswered, tookBytes}
+use Rattle.stream.specs.Machine.{Took}
 use Rattle.logs.specs.Lines.{lineMost}
 use Rattle.floor.specs.Reading.{Reading}
-use Rattle.floor.specs.Calls.{refusal, CanPlay, Step, giving}
+use Rattle.floor.specs.Calls.{refusal, CanPlay, giving}
 
 -- neither side of a disjunction that fails holds
 pub neither : (a b : Bool) → (a || b) ≡ false → (a ≡ false) × (b ≡ false)
@@ -37,33 +37,13 @@ no-refusal {legal} {d} tested held number memory lines least room =
     }))
 
 module _ (held number memory lines : ℕ) (short : Bool) where
-  pub refused-memory : (short || leb memory lineMost) ≡ true → refusal held number memory lines short ≡ 2
+  pub not-refused : (short || leb memory lineMost) ≡ false → held ≤ lineMost → number + lines < 2 ^ 64
+      → refusal held number memory lines short ≡ 0
   unfolding refusal
-  refused-memory e = if_yes _ _ e
+  not-refused lent fits h =
+      if_no _ _ lent ∙ if_no _ _ (λ i. le-ltb lineMost held fits i || lt-leb (2 ^ 64) (number + lines) h i)
 
-  module _ (lent : (short || leb memory lineMost) ≡ false) where
-    pub refused-held : lineMost < held → refusal held number memory lines short ≡ 3
-    unfolding refusal
-    refused-held h =
-        if_no _ _ lent ∙ if_yes _ _ (ap (λ (t : Bool). t || leb (2 ^ 64) (number + lines)) (lt-ltb lineMost held h))
-
-    module _ (fits : held ≤ lineMost) where
-      pub refused-number : 2 ^ 64 ≤ number + lines → refusal held number memory lines short ≡ 3
-      unfolding refusal
-      refused-number h =
-          if_no _ _ lent ∙ if_yes _ _ (λ i. le-ltb lineMost held fits i || le-leb (2 ^ 64) (number + lines) h i)
-
-      pub not-refused : number + lines < 2 ^ 64 → refusal held number memory lines short ≡ 0
-      unfolding refusal
-      not-refused h =
-          if_no _ _ lent ∙ if_no _ _ (λ i. le-ltb lineMost held fits i || lt-leb (2 ^ 64) (number + lines) h i)
-
--- what a call gives, by its number
+-- what a call gives that is not refused
 module _ {n r : ℕ} (s : Reading) (t : Took Reading) (told : r ≡ n) where
-  pub gives_nothing : (r ≡ 0 → ⊥) → giving n s t ≡ record { number = r; took = tookBytes 0 (unanswered s) }
-  gives_nothing h =
-      ap (λ (m : ℕ). giving m s t) (sym told)
-      ∙ ap {B = Step} (λ (u : Took Reading). record { number = r; took = u }) (if_no _ _ (ne_eqb r 0 h))
-
   pub gives_all : r ≡ 0 → giving n s t ≡ record { number = 0; took = t }
   gives_all e = ap (λ (m : ℕ). giving m s t) (sym told ∙ e)

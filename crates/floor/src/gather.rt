@@ -55,7 +55,7 @@ pub fn gather(k: Begun, line: &mut [u8], bytes: &[u8]) -> Gathered
     ensures value { result ≡ gatheredTo (upToLf (keptOf k line.old) bytes.now) }
     ensures line_after { line.new ≡ (upToLf (keptOf k line.old) bytes.now).line.bytes }
 {
-    let before = bytes::scan::find(bytes, 0, bytes.len(), b'\n');
+    let before = stream::find(bytes, b'\n');
     let mut begun = k;
     let mut i = 0;
     while i < before {

@@ -1,5 +1,6 @@
 // The floor log played back (02, L1).
 #![tactic(auto)]
+
 pub mod closing;
 pub mod gather;
 pub mod moving;

@@ -76,6 +76,7 @@ pub struct Played {
 }
 
 // The same, with the state that it leaves.
+#[tactic(auto, unfolding(crate::specs::Reading::ended))]
 fn play_kept(legal: bool, f: Floor, k: Begun, line: &mut [u8], out: &mut [u8]) -> Played
     requires { CanPlay legal f.device k.held f.number 1 (length line.old) printRoom
         (length out.old) }

@@ -31,6 +31,7 @@ pub struct Stepped {
 }
 
 // Before a log: 01's sample set-up, every place closed.
+#[tactic(auto, unfolding(crate::specs::Playing::sampleDevice))]
 pub fn start() -> Floor
     ensures { result ≡ floorWith sampleDevice }
 {
@@ -58,6 +59,7 @@ pub fn start_with(device: Device) -> Floor
 }
 
 // 2 for too little lent memory, 3 for a state that cannot go on, else 0.
+#[tactic(auto, unfolding(crate::specs::Calls::refusal))]
 fn refusal_of(held: usize, number: u64, memory: usize, lines: usize, short: bool) -> u32
     ensures { result ≡ refusal held number memory lines short }
 {
@@ -75,6 +77,7 @@ fn refusal_of(held: usize, number: u64, memory: usize, lines: usize, short: bool
 
 // Bytes of a log, the next ones: lines are played and printed until all bytes are taken, or until there is no room in
 // `out` to print another line.
+#[tactic(auto, unfolding(crate::specs::Calls::stepped))]
 pub fn play(f: Floor, line: &mut [u8], bytes: &[u8], out: &mut [u8]) -> Stepped
     ensures { SteppedAs (stepped f line.old bytes.now (length out.old))
         out.old result line.new out.new }
@@ -106,6 +109,7 @@ pub fn play(f: Floor, line: &mut [u8], bytes: &[u8], out: &mut [u8]) -> Stepped
 }
 
 // The end of the input: a line without LF is played, and the last line is printed.
+#[tactic(auto, unfolding(crate::specs::Calls::endedAt))]
 pub fn finish(f: Floor, line: &mut [u8], out: &mut [u8]) -> Stepped
     ensures { SteppedAs (endedAt f line.old (length out.old)) out.old
         result line.new out.new }

@@ -13,12 +13,12 @@ use borrow.Author.Tests.{eq-eqb, ne_eqb, le-leb, lt-leb}
 use Rattle.text.specs.Words.{if◌then◌else◌}
 use Rattle.text.specs.Scans.{every}
 use Rattle.text.proofs.Choices.{both}
-use Rattle.text.proofs.Scanning.{Passed, none_passed, one-passed, one-fails, all-passed}
+use Rattle.text.proofs.Scanning.{Passed, one-passed, one-fails, all-passed}
 use Rattle.answers.specs.Said.{errorsAre, nothing}
 use Rattle.answers.specs.Carried.{errorsCarried, noText, ofText, answer_of}
 use Rattle.answers.specs.declared.answer.Kind.TheVariants.{Errors}
 use Rattle.answers.specs.declared.answer.Answer.{Answer}
-use Rattle.answers.proofs.Mapped.{Mapped, none-mapped, one-mapped}
+use Rattle.answers.proofs.Mapped.{Mapped, one-mapped}
 use Rattle.replies.specs.Reading.{isErrorText, errorOf, readErrors}
 
 -- the first i bytes of p are digits 0 to 2, and their numbers stand at the start of t
@@ -26,9 +26,6 @@ pub record ErrorsTo (p t : List ℕ) (i : ℕ) : Type 0 where
   pub six : length p ≡ errorsCarried
   pub passed : Passed isErrorText p i
   pub stored : Mapped errorOf noText 0 p t i
-
-pub none_told : (p : List ℕ) → length p ≡ errorsCarried → ErrorsTo p noText 0
-none_told p e = record { six = e; passed = none_passed isErrorText p; stored = none-mapped errorOf noText 0 p }
 
 pub not-six : (p : List ℕ) → (length p ≡ errorsCarried → ⊥) → readErrors p ≡ nothing
 unfolding readErrors

@@ -50,7 +50,8 @@ module _ (p : List ℕ) where
       ap inputsIn word.words
       ∙ ap (λ (m : MaybeInput). inputGot m andThen inputsIn (wordsAfter (drop end p))) (sym e ∙ f)
 
-  pub no-inputs : {r : Answer} → r ≡ plain_of Nothing → listSays inputsAre inputsCarried (inputsIn (words_of p)) ≡ nothing
+  pub no-inputs : {r : Answer} → r ≡ plain_of Nothing
+      → listSays inputsAre inputsCarried (inputsIn (words_of p)) ≡ nothing
       → r ≡ answer_of (readInputs p)
   unfolding readInputs
   no-inputs e n = e ∙ ap answer_of (sym n)

@@ -57,15 +57,6 @@ pub record InWord (p : List ℕ) (start i : ℕ) : Type 0 where
   pub inside : i ≤ length p
   pub unspaced : every notSpace (take (i - start) (drop start p)) ≡ true
 
-pub word-starts : (p : List ℕ) (start : ℕ) → start ≤ length p → InWord p start start
-word-starts p start h =
-    let no_byte : start - start ≡ 0 = omega arith in
-    record {
-      begun = omega arith;
-      inside = h;
-      unspaced = ap (λ (k : ℕ). every notSpace (take k (drop start p))) no_byte;
-    }
-
 module _ {p : List ℕ} {start i : ℕ} (st : InWord p start i) where
   abbrev word : List ℕ
   word = take (i - start) (drop start p)

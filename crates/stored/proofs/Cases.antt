@@ -3,14 +3,11 @@
 use Prim.Native.Nat.{ℕ, ◌+◌, ◌≤◌, ◌<◌}
 use mathlib.Core.Path.{◌≡◌, refl, sym, ap, ◌∙◌}
 use mathlib.Core.Bool.{Bool, true, false, not, ◌&&◌}
-use mathlib.Core.List.{List, [], ◌∷◌, map}
-use native.Mathlib.Omega.{arith}
+use mathlib.Core.List.{List, map}
 use lib.ListN.{length}
-use lib.Dec.{eqb}
 use borrow.Author.Tests.{lt-ltb, le-ltb}
 use Rattle.text.specs.Words.{if◌then◌else◌}
 use Rattle.text.proofs.Choices.{if_yes, if_no, by-not}
-use Rattle.lines.specs.Bytes.{◌at◌}
 use Rattle.record.specs.Updates.{withOwn, withMarks}
 use Rattle.record.specs.Record.{started, blank, accepted, refused}
 use Rattle.record.specs.Legal.{isLegal}
@@ -19,20 +16,9 @@ use Rattle.record.specs.declared.types.Device.{Device}
 use Rattle.record.specs.declared.types.Changed.{Changed}
 use Rattle.record.proofs.Calls.{set-up-accepted, set-up-in-range}
 use Rattle.record.proofs.Started.{started-parts, set-up-legal}
-use Rattle.form.specs.Form.{formVersion, markedVersion}
 use Rattle.stored.specs.Loading.{isOld, isOtherVersion, places_of, formEnd, between, settingsIn, markBytesIn}
 use Rattle.stored.specs.Loading.{isMarked, marksRead, markRoom, areMarks, startedWith, isContents, loaded}
 use Rattle.stored.proofs.Contents.{new-bytes, old-are-marks, old-started}
-
--- the first byte, if there is one
-pub no-version : (s : List ℕ) → length s ≡ 0 → false ≡ isOtherVersion s
-no-version [] h = refl
-no-version (v ∷ s) h = absurd (omega arith)
-
-pub version-first : (s : List ℕ) → (length s ≡ 0 → ⊥)
-    → (not (eqb (s at 0) formVersion) && not (eqb (s at 0) markedVersion) && not (isOld s)) ≡ isOtherVersion s
-version-first [] h = absurd (h refl)
-version-first (v ∷ s) h = refl
 
 otherwise : {A : Type 0} (a b : A) (t : Bool) → (if not t then a else b) ≡ (if t then b else a)
 otherwise a b true = refl

@@ -1,11 +1,11 @@
 -- Texts that were read, without their counts (02, L14): as set-up is lent them, and where each stands.
 -- Assumes nothing.
 use Prim.Native.Nat.{ℕ, suc, ◌+◌, ◌-◌, ◌≤◌}
-use mathlib.Core.Path.{◌≡◌, refl, ap, ◌∙◌}
+use mathlib.Core.Path.{◌≡◌, refl, sym, ap, ◌∙◌}
 use mathlib.Core.List.{List, [], ◌∷◌, map}
 use native.Mathlib.Nat.{add-zero}
 use native.Mathlib.Omega.{arith}
-use lib.ListN.{length, take, drop, length-append}
+use lib.ListN.{length, take, drop, length-append, length-drop}
 use lib.Seq.{drop-append_seam, take-append_seam, get_or-drop, drop-drop, length-take-le}
 use borrow.Author.Tests.{eq-eqb}
 use Rattle.text.proofs.Choices.{if_yes}
@@ -96,3 +96,28 @@ module _ (s : List ℕ) (a b c : ℕ) (e : b ≡ a + 1 + (s at a)) (f : c ≡ b 
         one-long s a b e (suc n),
         one-long s b c f n,
       )
+
+-- the two texts that come before the names, by their counts x and y, and n names
+module _ (s : List ℕ) (a m : ℕ) {x y n : ℕ} (e : x ≡ s at a) (f : y ≡ s at (a + 1 + x)) (g : n ≡ m) where
+  abbrev b : ℕ
+  b = a + 1 + x
+
+  abbrev c : ℕ
+  c = b + 1 + y
+
+  pub texts-in-turn : textsIn (2 + m) (drop a s) ≡ between (a + 1) b s ∷ between (b + 1) c s ∷ textsIn n (drop c s)
+  texts-in-turn =
+      ap (λ (k : ℕ). textsIn (2 + k) (drop a s)) (sym g)
+      ∙ two_in s a b c (ap (λ (k : ℕ). a + 1 + k) e) (ap (λ (k : ℕ). b + 1 + k) f) n
+
+  pub names-uncut : a + textsLong (2 + m) (drop a s) ≤ length s → c + textsLong n (drop c s) ≤ length s
+  names-uncut h =
+      omega (
+        arith,
+        two-long s a b c (ap (λ (k : ℕ). a + 1 + k) e) (ap (λ (k : ℕ). b + 1 + k) f) n,
+        ap (λ (k : ℕ). textsLong (2 + k) (drop a s)) g,
+      )
+
+  pub joined-there : a + textsLong (2 + m) (drop a s) ≤ length s
+      → length (joinedTexts (textsIn n (drop c s))) + n ≡ textsLong n (drop c s)
+  joined-there h = joined-long n (drop c s) (omega (arith, names-uncut h, length-drop c s))

@@ -2,7 +2,7 @@
 --   MarksKept s list i      the loop that keeps the marks that the bytes s are has come to i
 -- Assumes nothing.
 use Prim.Native.Nat.{ℕ, zero, suc, ◌+◌, ◌-◌, ◌≤◌, ◌<◌}
-use mathlib.Core.Path.{◌≡◌, refl, sym, ap, ◌∙◌}
+use mathlib.Core.Path.{◌≡◌, sym, ap, ◌∙◌}
 use mathlib.Core.Bool.{Bool, false}
 use mathlib.Core.List.{List, ◌++◌, map}
 use native.Mathlib.Nat.{zero-add}
@@ -32,9 +32,6 @@ module _ (s : List ℕ) where
   pub record MarksKept (list : List Bool) (i : ℕ) : Type 0 where
     pub inside : i ≤ length s
     pub stored : list ≡ sets clear 0 (take i (map isMarked s))
-
-  pub no-mark-kept : MarksKept clear 0
-  no-mark-kept = record { inside = omega arith; stored = refl }
 
   module _ {list : List Bool} {i : ℕ} (kept : MarksKept list i) where
     pub one-mark-kept : {m : Bool} → i < length s → m ≡ isMarked (get_or s i 0) → MarksKept (set list i m) (i + 1)

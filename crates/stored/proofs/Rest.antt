@@ -6,10 +6,9 @@ use Prim.Native.Nat.{ℕ, ◌+◌, ◌/◌, ◌≤◌}
 use mathlib.Core.Path.{◌≡◌, refl, sym, ap, ◌∙◌}
 use mathlib.Core.Bool.{Bool, true, false}
 use mathlib.Core.List.{List, [], ◌∷◌, ◌++◌}
-use native.Mathlib.Nat.{add-zero}
 use native.Mathlib.Omega.{arith}
 use lib.ListN.{length, get_or, drop}
-use lib.Seq.{get_or-drop, drop-drop}
+use lib.Seq.{drop-drop}
 use lib.Dec.{eqb}
 use borrow.Author.Tests.{eq-eqb, ne_eqb}
 use Rattle.text.specs.Words.{if◌then◌else◌}
@@ -75,11 +74,6 @@ module _ (s : List ℕ) (n : ℕ) (t : List ℕ) where
   pub some-texts-after : hasClass s ≡ true → textsAfter s n t ≡ textsIn (manyTexts (t at 0) n) (drop 1 t)
   unfolding textsAfter
   some-texts-after e = if_yes _ _ e
-
--- the class where the code looks for it
-pub class-here : (s : List ℕ) (p : ℕ) → hasClass s ≡ true → s at p ≡ classIn s (drop p s)
-class-here s p e =
-    ap (λ (k : ℕ). s at k) (sym (add-zero p)) ∙ sym (get_or-drop p s 0 0) ∙ sym (if_yes _ _ e)
 
 pub no-class : (s t : List ℕ) → hasClass s ≡ false → 1 ≡ classIn s t
 no-class s t e = sym (if_no _ _ e)

@@ -32,7 +32,8 @@ module _ (s : List ℕ) (n : ℕ) (t : List ℕ) (whole : length t ≡ restLong 
   abbrev ts : List (List ℕ)
   ts = textsAfter s n t
 
-  pub rest-again : t ≡ (if hasClass s then classPart (classIn s t) (get_or ts 0 [] ∷ get_or ts 1 [] ∷ drop 2 ts) else [])
+  pub rest-again : t
+      ≡ (if hasClass s then classPart (classIn s t) (get_or ts 0 [] ∷ get_or ts 1 [] ∷ drop 2 ts) else [])
   rest-again = by (hasClass s) refl
     where
       class-again : hasClass s ≡ true → (two : Bool) → eqb (t at 0) 2 ≡ two
@@ -59,7 +60,8 @@ module _ (s : List ℕ) (n : ℕ) (t : List ℕ) (whole : length t ≡ restLong 
           (nothing (drop 1 t) (omega (arith, long, left, no-texts-long (drop 1 t))))
 
       by : (has : Bool) → hasClass s ≡ has
-          → t ≡ (if has then classPart (if has then t at 0 else 1) (get_or ts 0 [] ∷ get_or ts 1 [] ∷ drop 2 ts) else [])
+          → t
+          ≡ (if has then classPart (if has then t at 0 else 1) (get_or ts 0 [] ∷ get_or ts 1 [] ∷ drop 2 ts) else [])
       by true e = class-again e (eqb (t at 0) 2) refl ∙ sym (class-part (t at 0) _)
       by false e = nothing t (omega (arith, whole, no-rest-long s n t e))
 

@@ -4,12 +4,12 @@
 --   BytesRead s p m list place to i     the loop that copies their bytes
 -- Assumes nothing.
 use Prim.Native.Nat.{ℕ, ◌+◌, ◌-◌, ◌≤◌, ◌<◌}
-use mathlib.Core.Path.{◌≡◌, sym, ap, ◌∙◌}
+use mathlib.Core.Path.{◌≡◌, sym, ap, subst, ◌∙◌}
 use mathlib.Core.List.{List, [], ◌∷◌, ◌++◌, map, map-append}
 use native.Mathlib.Nat.{zero-add}
 use native.Mathlib.Omega.{arith}
-use lib.ListN.{length, set, take, drop, length-append, length-map, length-replicate, length-drop}
-use lib.Seq.{sets, length-sets, get_or-drop, drop-drop, length-take-le}
+use lib.ListN.{length, set, take, drop, length-append, length-map, length-drop}
+use lib.Seq.{sets, get_or-drop, drop-drop, length-take-le}
 use Rattle.text.proofs.InTurn.{turns-snoc}
 use Rattle.text.proofs.Stores.{sets-snoc, sets_then}
 use Rattle.lines.specs.Bytes.{◌at◌}
@@ -30,6 +30,10 @@ module _ (s : List ℕ) (p : ℕ) where
 
     pub next-ends : p + textsLong i t + 1 + (s at (p + textsLong i t)) ≤ length s
     next-ends = omega (arith, texts-long-within (i + 1) n t (omega arith), texts-long-more i t, next-count)
+
+    -- the same at its place
+    pub next-within : {place : ℕ} → place ≡ p + textsLong i t → place + 1 + (s at place) ≤ length s
+    next-within e = subst (λ (k : ℕ). k + 1 + (s at k) ≤ length s) (sym e) next-ends
 
     pub next-text : take (s at (p + textsLong i t)) (drop (p + textsLong i t + 1) s) ≡ textAt t (textsLong i t)
     next-text =
@@ -96,10 +100,6 @@ module _ (s : List ℕ) (p : ℕ) where
         joined-more : joinedTexts (textsIn (i + 1) t) ≡ joinedTexts (textsIn i t) ++ textAt t (textsLong i t)
         joined-more =
             ap joinedTexts (texts-in-more i t) ∙ turns-snoc (λ (u : List ℕ). u) (textsIn i t) (textAt t (textsLong i t))
-
-        pub bytes-read-room : length list ≡ m
-        bytes-read-room =
-            ap length r.stored ∙ length-sets (zeros m) 0 (joinedTexts (textsIn i t)) ∙ length-replicate {A = ℕ} m 0
 
         -- the part that the code lends
         next-part : {c : ℕ} → i < n → c ≡ s at place

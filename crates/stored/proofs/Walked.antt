@@ -6,9 +6,10 @@ use mathlib.Core.Path.{◌≡◌, refl, sym, ap, subst, ◌∙◌}
 use mathlib.Core.Bool.{true, false}
 use mathlib.Core.List.{List}
 use native.Mathlib.Omega.{arith}
+use lib.ListN.{drop}
 use Rattle.text.proofs.Choices.{if_yes, if_no}
 use Rattle.lines.specs.Bytes.{◌at◌}
-use Rattle.stored.specs.Loading.{isOld, sectionEnd, marksLong, places_of, Walked}
+use Rattle.stored.specs.Loading.{isOld, sectionEnd, marksLong, places_of, restLong, end_at, formEnd, Walked}
 use Rattle.stored.specs.declared.layout.Places.{Places}
 
 module _ (s : List ℕ) where
@@ -64,6 +65,12 @@ module _ (s : List ℕ) where
     warm = refl;
     class = refl;
   }
+
+  -- the end of the form, as it is computed from the places
+  pub end-found : {p : Places} {n r : ℕ} → p ≡ places_of s → n ≡ s at p.inputs
+      → r ≡ restLong s n (drop p.class s) → p.class + r ≡ formEnd s
+  end-found {p} e f g =
+      ap (λ (k : ℕ). p.class + k) (g ∙ ap (λ (n : ℕ). restLong s n (drop p.class s)) f) ∙ ap (end_at s) e
 
   pub walked_by : {p : Places} → p ≡ places_of s → Walked s p
   walked_by e = subst (Walked s) (sym e) walked

@@ -4,6 +4,6 @@ use Rattle.stored.specs.Loading.{sectionEnd, marksLong, places_of, textsLong, te
 use Rattle.stored.specs.Loading.{secondsIn, settingsWith, settingsAt, markRoom, marksAt, loaded}
 
 unfoldable pub computing : Unit {0}
-unfolding sectionEnd marksLong places_of textsLong textsIn restLong textsAfter secondsIn settingsWith settingsAt markRoom
-    marksAt loaded
+unfolding sectionEnd marksLong places_of textsLong textsIn restLong textsAfter secondsIn settingsWith settingsAt
+    markRoom marksAt loaded
 computing = tt

@@ -33,7 +33,8 @@
 --   loadRows s                when a load is refused, and with which number
 --   loaded s                  refused with the blank record, or the set-up of the settings in s with the marks in s
 -- Assumes nothing.
-use Rattle.std.specs.Prelude.{ℕ, zero, suc, ◌+◌, ◌-◌, ◌*◌, ◌≡◌, Bool, false, not, ◌&&◌, List, [], ◌∷◌, ◌++◌, map, length, get_or, take, drop, replicate, ltb, eqb}
+use Rattle.std.specs.Prelude.{ℕ, zero, suc, ◌+◌, ◌-◌, ◌*◌, ◌≡◌, Bool, false, not, ◌&&◌, List, [], ◌∷◌, ◌++◌}
+use Rattle.std.specs.Prelude.{map, length, get_or, take, drop, replicate, ltb, eqb}
 use Rattle.text.specs.Words.{if◌then◌else◌}
 use Rattle.text.specs.Scans.{every}
 use Rattle.text.specs.InTurn.{eachInTurn}

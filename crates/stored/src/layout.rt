@@ -111,6 +111,7 @@ pub fn rest_long(s: &[u8], n: usize, p: usize) -> usize
 }
 
 // How long the section of marks is, by its count at p: the old version has none.
+#[tactic(auto, unfolding(crate::specs::Loading::marksLong))]
 fn marks_long(s: &[u8], p: usize) -> usize
     ensures value { result ≡ marksLong s.now p }
     ensures upper_bound { result ≤ 256 }

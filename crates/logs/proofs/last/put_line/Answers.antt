@@ -1,5 +1,6 @@
 -- Each part stands after the one before it.
-use Rattle.std.proofs.Common.{◌≡◌, refl, ◌∙◌, ℕ, ◌+◌, List, [], ◌++◌, length, take, ap, arith, length-append, length-take}
+use Rattle.std.proofs.Common.{◌≡◌, refl, ◌∙◌, ℕ, ◌+◌, List, [], ◌++◌, length, take, ap, arith}
+use Rattle.std.proofs.Common.{length-append, length-take}
 use Rattle.std.proofs.lemmas.List.Edits.{sets}
 use Rattle.text.specs.Words.{ascii}
 use Rattle.text.proofs.Stores.{sets_then, sets_over}

@@ -1,0 +1,24 @@
+use Rattle.std.proofs.Common.{◌≡◌, sym, ap, ◌∙◌, ℕ, length, take, nat_lt, arith}
+use mathlib.Core.List.{foldl}
+use Rattle.record.specs.declared.types.Line.{Line}
+use Rattle.stream.specs.Machine.{UpTo}
+use Rattle.stream.specs.Places.{index_of}
+use Rattle.stream.proofs.AllAtOnce.{all-at-once}
+use Rattle.floor.specs.Reading.{keptOf, keptWith, upToLf}
+use Rattle.floor.specs.Told.{gatheredTo}
+use Rattle.floor.proofs.gather.gather.Goals as goal
+
+pub returns : goal.returns
+returns c =
+    let bs = c.args.bytes.now in
+    let first = keptOf c.args.k c.args.line.now in
+    let kept = keptOf c.loop-i.begun c.loop-i.line in
+    let place = c.find-before.ensures.place in
+    let come : index_of 10 bs ≡ c.loop-i.i = omega (arith, place, c.loop-i.invariant.inside) in
+    let line : foldl keptWith first (take (index_of 10 bs) bs) ≡ kept =
+    ap (λ (n : ℕ). foldl keptWith first (take n bs)) come ∙ sym c.loop-i.invariant.so_far in
+    let all : upToLf first bs
+    ≡ record { line = kept; before = c.find-before.result; ended = nat_lt c.find-before.result (length bs) } =
+    all-at-once 10 keptWith first bs
+    ∙ (λ i. record { line = line i; before = sym place i; ended = nat_lt (sym place i) (length bs) }) in
+    record { value = ap gatheredTo (sym all); line_after = ap (λ (g : UpTo Line). g.line.bytes) (sym all) }
