@@ -3,9 +3,9 @@
 --   joined w xs        the same, joined by spaces
 --   gap i              what joins the thing at the place i to those before it
 -- Assumes nothing.
-use Rattle.std.specs.Prelude.{ℕ, List, [], ◌∷◌, ◌++◌, eqb}
+use Rattle.std.specs.Prelude.{ℕ, List, [], ◌∷◌, ◌++◌, eqb, if◌then◌else◌}
 use Prim.Native.Char.{code}
-use Rattle.text.specs.Words.{ascii, if◌then◌else◌}
+use Rattle.text.specs.Words.{ascii}
 use Rattle.text.specs.InTurn.{eachInTurn}
 
 abbrev pub spaced : {A : Type 0} → (A → List ℕ) → List A → List ℕ

@@ -3,8 +3,7 @@
 --   written_by m ..     what the writer gives
 --   read_by m l         what the reader gives of the line l
 -- Assumes nothing.
-use Rattle.std.specs.Prelude.{ℕ, Bool, List, ltb}
-use Rattle.text.specs.Words.{if◌then◌else◌}
+use Rattle.std.specs.Prelude.{ℕ, Bool, List, ltb, if◌then◌else◌}
 use Rattle.controller.specs.Writing.{WrittenAs, nothingWritten, commandRoom, writtenCommand}
 use Rattle.controller.specs.Reading.{readReply}
 use Rattle.codes.specs.Readings.{meaningless, flat}

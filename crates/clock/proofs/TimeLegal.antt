@@ -9,7 +9,7 @@ use native.Mathlib.Omega.{arith}
 use lib.ListN.{length, get_or, length-map, length-take, get_or-eq_default}
 use lib.Dec.{ltb, eqb}
 use borrow.Author.Tests.{ltb-true, eqb-true, eqb-false}
-use Rattle.text.specs.Words.{if◌then◌else◌}
+use Rattle.std.specs.Prelude.{if◌then◌else◌}
 use Rattle.text.proofs.Choices.{if-all, if-by}
 use Rattle.text.proofs.Scanning.{every_map}
 use Rattle.record.specs.Limits.{lampsMost, lampLimit, ageEnd, off, on, cooling, warming, isLit}

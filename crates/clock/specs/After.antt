@@ -6,8 +6,7 @@
 --   ownAfter s o n                                       the own part
 --   partsAfter n d                                       the device, a part at a time
 -- Assumes nothing.
-use Rattle.std.specs.Prelude.{ℕ, ◌+◌, ◌-◌, min, Bool, ◌&&◌, List, map, leb}
-use Rattle.text.specs.Words.{if◌then◌else◌}
+use Rattle.std.specs.Prelude.{ℕ, ◌+◌, ◌-◌, min, Bool, ◌&&◌, List, map, leb, if◌then◌else◌}
 use Rattle.record.specs.Limits.{lampLimit, isLit, isBetween}
 use Rattle.record.specs.Updates.{withPower, withSeconds}
 use Rattle.record.specs.declared.types.Settings.{Settings}

@@ -2,8 +2,7 @@
 --   secondsMost      the most seconds that one call lets pass
 --   passed d n       1 and the record as it was where it is not legal; else 0 and the record n seconds later
 -- Assumes nothing.
-use Rattle.std.specs.Prelude.{ℕ, not}
-use Rattle.text.specs.Words.{if◌then◌else◌}
+use Rattle.std.specs.Prelude.{ℕ, not, if◌then◌else◌}
 use Rattle.record.specs.Legal.{isLegal}
 use Rattle.record.specs.Record.{accepted, refused}
 use Rattle.record.specs.declared.types.Device.{Device}

@@ -8,8 +8,7 @@
 --   second d                 the device a second later
 -- The fault mark changes none of this.
 -- Assumes nothing.
-use Rattle.std.specs.Prelude.{ℕ, zero, suc, ◌+◌, ◌-◌, Bool, ◌&&◌, List, [], ◌∷◌, map, take, ltb, eqb}
-use Rattle.text.specs.Words.{if◌then◌else◌}
+use Rattle.std.specs.Prelude.{ℕ, zero, suc, ◌+◌, ◌-◌, Bool, ◌&&◌, List, [], ◌∷◌, map, take, ltb, eqb, if◌then◌else◌}
 use Rattle.record.specs.Limits.{lampLimit, ageEnd, off, on, warming, isLit, isBetween}
 use Rattle.record.specs.Updates.{withPower, withSeconds, aged}
 use Rattle.record.specs.Legal.{isTimed}

@@ -1,6 +1,5 @@
 // The projector's own part after n seconds, in closed form: the cost does not grow with n.
-ghost use Rattle.std.specs.Prelude.{◌≡◌, take};
-ghost use Rattle.text.specs.Words.{if◌then◌else◌};
+ghost use Rattle.std.specs.Prelude.{◌≡◌, take, if◌then◌else◌};
 ghost use Rattle.clock.specs.Second.{settledPower, oneMore, changedWhere, ownSecond, times};
 ghost use Rattle.clock.specs.After.{powerAfter, leftAfter, lampsAfter};
 

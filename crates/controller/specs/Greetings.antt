@@ -6,8 +6,7 @@
 --   greetedOn c         what an opened connection has been greeted with
 --   greetingNumber g    the number of this in the table of 01
 -- Assumes nothing.
-use Rattle.std.specs.Prelude.{ℕ, ◌^◌, ◌<◌, ◌≡◌, Bool, List, take, drop, eqb}
-use Rattle.text.specs.Words.{if◌then◌else◌}
+use Rattle.std.specs.Prelude.{ℕ, ◌^◌, ◌<◌, ◌≡◌, Bool, List, take, drop, eqb, if◌then◌else◌}
 use Rattle.text.specs.Scans.{sameBy, itself}
 use Rattle.digest.specs.Hex.{hexDigits, hexValue}
 use Rattle.lines.specs.Forms.{erraLine, greetingOpen, greetingSecured}

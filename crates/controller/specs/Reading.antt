@@ -8,8 +8,7 @@
 --   reading_of r         this as the code returns it
 --   LineSays c l m      the line l, with its CR, says m in reply to c: by its form, its body and its parameter
 -- Assumes nothing.
-use Rattle.std.specs.Prelude.{ℕ, ◌≡◌, true, not, List}
-use Rattle.text.specs.Words.{if◌then◌else◌}
+use Rattle.std.specs.Prelude.{ℕ, ◌≡◌, true, not, List, if◌then◌else◌}
 use Rattle.text.specs.Scans.{sameBy, itself}
 use Rattle.lines.specs.Forms.{erraLine, isReplyForm, headBody, replyParameter}
 use Rattle.lines.specs.Commands.{bodyOf, commandClass}

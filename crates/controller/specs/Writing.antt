@@ -6,8 +6,7 @@
 --   nothingWritten n                 a refusal: the number n, and no bytes
 --   writtenCommand c secured random password room     2, 3, or the line
 -- Assumes nothing.
-use Rattle.std.specs.Prelude.{ℕ, Bool, not, ◌&&◌, ◌||◌, List, [], ◌++◌, length, ltb}
-use Rattle.text.specs.Words.{if◌then◌else◌}
+use Rattle.std.specs.Prelude.{ℕ, Bool, not, ◌&&◌, ◌||◌, List, [], ◌++◌, length, ltb, if◌then◌else◌}
 use Rattle.digest.specs.Hex.{leadingDigest}
 use Rattle.lines.specs.Texts.{isPassword}
 use Rattle.lines.specs.Commands.{isCommand, commandLine}

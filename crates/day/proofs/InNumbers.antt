@@ -5,7 +5,7 @@ use Prim.Native.Nat.{ℕ}
 use mathlib.Core.Path.{◌≡◌, refl, sym, ◌∙◌}
 use mathlib.Core.Bool.{Bool}
 use lib.Dec.{eqb}
-use Rattle.text.specs.Words.{if◌then◌else◌}
+use Rattle.std.specs.Prelude.{if◌then◌else◌}
 use Rattle.day.specs.Verdicts.{verdictNumber, ruleOf, firstConcerned, secondConcerned}
 use Rattle.day.specs.Plans.{planNumber, isMade, job_of}
 use Rattle.day.specs.declared.check.Verdict.{Verdict}

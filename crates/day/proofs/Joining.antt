@@ -11,7 +11,7 @@ use lib.ListN.{length, length-append, get_or-append}
 use lib.Seq.{get_or-append_seam}
 use lib.Dec.{ltb, leb, eqb}
 use borrow.Author.Tests.{lt-ltb, le-ltb, ltb-false, le-leb, leb-true, eqb-true, eq-eqb, not-true, not-false}
-use Rattle.text.specs.Words.{if◌then◌else◌}
+use Rattle.std.specs.Prelude.{if◌then◌else◌}
 use Rattle.text.proofs.Choices.{if_yes, if-by, both, both_left, both_right, alike}
 use Rattle.text.proofs.Orders.{le-or-lt}
 use Rattle.day.specs.Finding.{first, sum, ◌nth◌}

@@ -12,7 +12,7 @@ use lib.ListN.{length, take, set, length-set}
 use lib.Seq.{length-take-le, take-suc-set}
 use lib.Dec.{ltb, leb}
 use borrow.Author.Tests.{lt-ltb, le-ltb, le-leb, lt-leb}
-use Rattle.text.specs.Words.{if◌then◌else◌}
+use Rattle.std.specs.Prelude.{if◌then◌else◌}
 use Rattle.text.proofs.Choices.{if_yes, if_no, both}
 use Rattle.day.specs.Finding.{first, ◌nth◌}
 use Rattle.day.specs.Days.{Day, jobs, rigs, isDay}

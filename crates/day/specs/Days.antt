@@ -7,8 +7,7 @@
 --   isRig w c              W and C are 1 to 600
 --   isDay d                at most 64 jobs and 8 rigs, lists of one length, each job and rig in its range
 -- Assumes nothing.
-use Rattle.std.specs.Prelude.{ℕ, ◌+◌, ◌/◌, ◌%◌, ◌^◌, Bool, true, false, ◌&&◌, List, length, leb, eqb}
-use Rattle.text.specs.Words.{if◌then◌else◌}
+use Rattle.std.specs.Prelude.{ℕ, ◌+◌, ◌/◌, ◌%◌, ◌^◌, Bool, true, false, ◌&&◌, List, length, leb, eqb, if◌then◌else◌}
 use Rattle.day.specs.Finding.{each, ◌nth◌}
 
 abbrev pub jobsMost : ℕ

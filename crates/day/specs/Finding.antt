@@ -5,8 +5,7 @@
 --   sum f n              f 0 + f 1 + .. up to n
 --   s nth i              the number at the place i of the list s; 0 past its end
 -- Assumes nothing.
-use Rattle.std.specs.Prelude.{ℕ, zero, suc, ◌+◌, Bool, not, List, get_or, eqb}
-use Rattle.text.specs.Words.{if◌then◌else◌}
+use Rattle.std.specs.Prelude.{ℕ, zero, suc, ◌+◌, Bool, not, List, get_or, eqb, if◌then◌else◌}
 
 infixl 80 ◌nth◌
 abbrev pub firstFrom : (ℕ → Bool) → ℕ → ℕ → ℕ

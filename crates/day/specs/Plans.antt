@@ -10,7 +10,7 @@
 --   joins d a r            what the code asks of the next job on rig r: the rules as far as they concern that job
 -- Assumes nothing.
 use Rattle.std.specs.Prelude.{ℕ, zero, suc, ◌+◌, ◌≤◌, ◌≡◌, Bool, true, false, not, ◌&&◌, List, [], ◌∷◌, ◌++◌, length, take, ltb, leb}
-use Rattle.text.specs.Words.{if◌then◌else◌}
+use Rattle.std.specs.Prelude.{if◌then◌else◌}
 use Rattle.day.specs.Finding.{first, each, ◌nth◌}
 use Rattle.day.specs.Days.{Day, jobs, rigs, isDay, isAllowed}
 use Rattle.day.specs.Rules.{burnt}

@@ -8,8 +8,7 @@
 --   Lasts d a r            rig r burns no more than it has left
 --   Keeps d a              all four rules
 -- Assumes nothing.
-use Rattle.std.specs.Prelude.{ℕ, ◌+◌, ◌<◌, ◌≤◌, ◌≡◌, List, length, eqb, true}
-use Rattle.text.specs.Words.{if◌then◌else◌}
+use Rattle.std.specs.Prelude.{ℕ, ◌+◌, ◌<◌, ◌≤◌, ◌≡◌, List, length, eqb, true, if◌then◌else◌}
 use Rattle.day.specs.Finding.{sum, ◌nth◌}
 use Rattle.day.specs.Days.{Day, rigs, isAllowed}
 

@@ -5,8 +5,7 @@
 --   keepsRules d a         all four rules hold of them
 --   verdictNumber, ruleOf, firstConcerned, secondConcerned      a verdict in numbers, as the paper has it
 -- Assumes nothing.
-use Rattle.std.specs.Prelude.{ℕ, Bool, true, false, ◌&&◌, List, length, ltb, eqb}
-use Rattle.text.specs.Words.{if◌then◌else◌}
+use Rattle.std.specs.Prelude.{ℕ, Bool, true, false, ◌&&◌, List, length, ltb, eqb, if◌then◌else◌}
 use Rattle.day.specs.Finding.{first}
 use Rattle.day.specs.Days.{Day, jobs, rigs, isDay}
 use Rattle.day.specs.Tests.{lacksRig, isEarly, hasClash, partner, isSpent}

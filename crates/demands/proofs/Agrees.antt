@@ -15,7 +15,7 @@ use lib.ListN.{length, get_or, set, length-set}
 use lib.Seq.{get_or-set_same, get_or-set_other}
 use lib.Dec.{eqb}
 use borrow.Author.Tests.{lt-leb, eqb-true, eqb-false}
-use Rattle.text.specs.Words.{if◌then◌else◌}
+use Rattle.std.specs.Prelude.{if◌then◌else◌}
 use Rattle.text.proofs.Choices.{if_no}
 use Rattle.text.proofs.Orders.{le-or-lt}
 use Rattle.record.specs.Limits.{off, on, cooling, warming, isLit, isBetween}

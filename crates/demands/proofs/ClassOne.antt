@@ -10,7 +10,8 @@ use native.Mathlib.Omega.{arith}
 use lib.ListN.{length}
 use lib.Dec.{leb}
 use borrow.Author.Tests.{ltb-true, eqb-true}
-use Rattle.text.specs.Words.{ascii, if◌then◌else◌, ◌is◌}
+use Rattle.std.specs.Prelude.{if◌then◌else◌}
+use Rattle.text.specs.Words.{ascii, ◌is◌}
 use Rattle.text.proofs.Choices.{if_yes, if_no, if-by, if-all}
 use Rattle.lines.specs.Bytes.{◌at◌, noCr}
 use Rattle.lines.specs.Inputs.{isInputText, inputNamed, inputText}

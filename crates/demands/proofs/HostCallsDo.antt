@@ -10,7 +10,7 @@ use mathlib.Core.List.{List}
 use lib.ListN.{set}
 use lib.Dec.{leb, eqb}
 use borrow.Author.Tests.{leb-false, eqb-true}
-use Rattle.text.specs.Words.{if◌then◌else◌}
+use Rattle.std.specs.Prelude.{if◌then◌else◌}
 use Rattle.record.specs.Limits.{off}
 use Rattle.record.specs.Legal.{isLegal}
 use Rattle.record.specs.Rules.{isErrors}

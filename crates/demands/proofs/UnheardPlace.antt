@@ -9,7 +9,7 @@ use mathlib.Core.List.{List, ◌++◌}
 use lib.ListN.{length, take}
 use lib.Dec.{eqb}
 use borrow.Author.Tests.{eqb-true, eqb-false, eq-eqb, ne_eqb}
-use Rattle.text.specs.Words.{if◌then◌else◌}
+use Rattle.std.specs.Prelude.{if◌then◌else◌}
 use Rattle.record.specs.Limits.{shut, placesCount}
 use Rattle.record.specs.Legal.{isLegal}
 use Rattle.record.specs.Record.{closed}

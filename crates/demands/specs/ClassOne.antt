@@ -11,8 +11,8 @@
 --   OfClass1 B d           the board is set up for Class 1
 --   ClassOneKept B         the theorem
 -- Assumes nothing.
-use Rattle.std.specs.Prelude.{ℕ, ◌≤◌, ◌≡◌, true, List, ◌++◌, length, leb}
-use Rattle.text.specs.Words.{ascii, if◌then◌else◌, ◌is◌}
+use Rattle.std.specs.Prelude.{ℕ, ◌≤◌, ◌≡◌, true, List, ◌++◌, length, leb, if◌then◌else◌}
+use Rattle.text.specs.Words.{ascii, ◌is◌}
 use Rattle.lines.specs.Bytes.{◌at◌, noCr}
 use Rattle.lines.specs.Forms.{headBody, commandParameter, commandMost}
 use Rattle.lines.specs.ClassOne.{isCommandForm1}

@@ -25,7 +25,8 @@
 --   Elsewhere B d c q        the call c is not at place q
 -- Assumes nothing.
 use Rattle.std.specs.Prelude.{ℕ, ◌≤◌, ◌<◌, ◌^◌, ◌≡◌, Bool, true, false, List, ◌++◌, ◌↔◌, length, set, leb}
-use Rattle.text.specs.Words.{ascii, if◌then◌else◌}
+use Rattle.std.specs.Prelude.{if◌then◌else◌}
+use Rattle.text.specs.Words.{ascii}
 use Rattle.digest.specs.Md5.{md5Of}
 use Rattle.digest.specs.Hex.{leadingDigest}
 use Rattle.lines.specs.Bytes.{noCr}

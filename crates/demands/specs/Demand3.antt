@@ -18,9 +18,9 @@
 --   burntByMarks ..     the seconds of burning, each counted once for each mark that stood
 --   LampsTold B ls r    the reply r says the lamps ls, and the reader takes them from it
 -- Assumes nothing.
-use Rattle.std.specs.Prelude.{ℕ, zero, suc, ◌+◌, ◌-◌, ◌/◌, ◌≤◌, ◌<◌, ◌≡◌, Bool, true, false, ◌&&◌}
+use Rattle.std.specs.Prelude.{ℕ, zero, suc, ◌+◌, ◌-◌, ◌/◌, ◌≤◌, ◌<◌, ◌≡◌, Bool, true, false, ◌&&◌, if◌then◌else◌}
 use Rattle.std.specs.Prelude.{List, [], ◌∷◌, ◌++◌, length, get_or, set, replicate}
-use Rattle.text.specs.Words.{ascii, if◌then◌else◌}
+use Rattle.text.specs.Words.{ascii}
 use Rattle.lines.specs.Commands.{commandLine}
 use Rattle.lines.specs.declared.command.Command.TheVariants.{Query}
 use Rattle.lines.specs.declared.command.Body.TheVariants.{Lamp}

@@ -11,10 +11,10 @@
 --                         set, where it began with the marks ms
 --   lampWith n start      a lamp's seconds: what it started with and what it burnt, stopped at 359,999,999
 -- Assumes nothing.
-use Rattle.std.specs.Prelude.{ℕ, ◌+◌, ◌-◌, min, leb, eqb, Bool, true, false, not, ◌&&◌}
+use Rattle.std.specs.Prelude.{ℕ, ◌+◌, ◌-◌, min, leb, eqb, Bool, true, false, not, ◌&&◌, if◌then◌else◌}
 use Rattle.std.specs.Prelude.{List, [], ◌∷◌, ◌++◌, length, take, drop, replicate, get_or, set}
 use Prim.Native.String.{String}
-use Rattle.text.specs.Words.{ascii, if◌then◌else◌}
+use Rattle.text.specs.Words.{ascii}
 use Rattle.text.specs.Scans.{sameBy}
 use Rattle.lines.specs.Bytes.{upperOf}
 use Rattle.record.specs.Limits.{lampLimit}

@@ -17,7 +17,8 @@
 --   SeenAlone B q d cs       what is seen at place q is what its connection alone gets of its own stream
 -- Assumes nothing.
 use Rattle.std.specs.Prelude.{ℕ, suc, ◌≤◌, ◌<◌, ◌≡◌, true, false, List, [], ◌∷◌, ◌++◌, length, take, drop, get_or, eqb}
-use Rattle.text.specs.Words.{if◌then◌else◌, ◌is◌}
+use Rattle.std.specs.Prelude.{if◌then◌else◌}
+use Rattle.text.specs.Words.{◌is◌}
 use Rattle.lines.specs.Bytes.{noCr}
 use Rattle.record.specs.Limits.{placesCount}
 use Rattle.record.specs.Legal.{heldMost, isLegal}

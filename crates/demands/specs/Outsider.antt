@@ -17,8 +17,8 @@
 --   HostsAlone B d cs        what the calls cs leave of the settings and the own part is what the passes and the host's
 --                            calls among them leave
 -- Assumes nothing.
-use Rattle.std.specs.Prelude.{ℕ, ◌≡◌, Bool, true, false, not, ◌&&◌, List, [], ◌∷◌, ◌++◌, take, eqb}
-use Rattle.text.specs.Words.{if◌then◌else◌, ◌is◌}
+use Rattle.std.specs.Prelude.{ℕ, ◌≡◌, Bool, true, false, not, ◌&&◌, List, [], ◌∷◌, ◌++◌, take, eqb, if◌then◌else◌}
+use Rattle.text.specs.Words.{◌is◌}
 use Rattle.lines.specs.Bytes.{noCr}
 use Rattle.lines.specs.Forms.{erraLine}
 use Rattle.device.specs.Receiving.{isLedBy}

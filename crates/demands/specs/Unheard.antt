@@ -20,8 +20,7 @@
 -- TO BELIEVE IT, believe, and nothing else: what a password is (`isSecured` of device/specs/Calls), when a first line
 -- matches (`NeverMatched` of Outsider), ours/specs/Board, and here Calls.
 -- Assumes nothing.
-use Rattle.std.specs.Prelude.{ℕ, ◌≡◌, Bool, true, false, List, [], ◌∷◌, eqb}
-use Rattle.text.specs.Words.{if◌then◌else◌}
+use Rattle.std.specs.Prelude.{ℕ, ◌≡◌, Bool, true, false, List, [], ◌∷◌, eqb, if◌then◌else◌}
 use Rattle.record.specs.Wanted.{Wanted}
 use Rattle.record.specs.Places.{connectionAt}
 use Rattle.device.specs.Receiving.{passwordOf}

@@ -1,7 +1,7 @@
 -- Wrong boards against demand 2, as to the class (02, L14); proofs/WrongClassesFall.antt has where each falls.
 -- Assumes nothing.
-use Rattle.std.specs.Prelude.{◌&&◌, ◌++◌, take, drop, eqb}
-use Rattle.text.specs.Words.{ascii, if◌then◌else◌, ◌is◌}
+use Rattle.std.specs.Prelude.{◌&&◌, ◌++◌, take, drop, eqb, if◌then◌else◌}
+use Rattle.text.specs.Words.{ascii, ◌is◌}
 use Rattle.text.specs.Scans.{sameBy, itself}
 use Rattle.lines.specs.Bytes.{◌at◌, upperOf}
 use Rattle.lines.specs.Forms.{replyParameter}

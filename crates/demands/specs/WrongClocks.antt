@@ -1,8 +1,7 @@
 -- Wrong boards against demand 3 (01, "What the promises have to exclude" and "Readings that look right");
 -- proofs/WrongClocksFall.antt has where each falls.
 -- Assumes nothing.
-use Rattle.std.specs.Prelude.{ℕ, ◌*◌, ◌/◌, Bool, false, not, ◌&&◌, ◌||◌, List, map}
-use Rattle.text.specs.Words.{if◌then◌else◌}
+use Rattle.std.specs.Prelude.{ℕ, ◌*◌, ◌/◌, Bool, false, not, ◌&&◌, ◌||◌, List, map, if◌then◌else◌}
 use Rattle.record.specs.Limits.{isLit}
 use Rattle.record.specs.Updates.{withOwn, withSeconds}
 use Rattle.record.specs.declared.types.Device.{Device}

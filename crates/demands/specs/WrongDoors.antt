@@ -2,8 +2,8 @@
 -- each falls.
 --   securedSample     01's sample set-up, with the password of 000's example
 -- Assumes nothing.
-use Rattle.std.specs.Prelude.{ℕ, [], length, eqb}
-use Rattle.text.specs.Words.{ascii, if◌then◌else◌}
+use Rattle.std.specs.Prelude.{ℕ, [], length, eqb, if◌then◌else◌}
+use Rattle.text.specs.Words.{ascii}
 use Rattle.lines.specs.Forms.{greetingOpen}
 use Rattle.record.specs.Limits.{awaiting, opened, failed}
 use Rattle.record.specs.Wanted.{Wanted, withPassword}

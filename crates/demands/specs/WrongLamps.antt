@@ -1,8 +1,8 @@
 -- Wrong boards against demand 3 with marks (02, L8); proofs/WrongLampsFall.antt has where each falls.
 --   twoLamps      01's sample set-up with two lamps
 -- Assumes nothing.
-use Rattle.std.specs.Prelude.{Bool, true, ◌&&◌, List, [], ◌∷◌, set, eqb}
-use Rattle.text.specs.Words.{ascii, if◌then◌else◌}
+use Rattle.std.specs.Prelude.{Bool, true, ◌&&◌, List, [], ◌∷◌, set, eqb, if◌then◌else◌}
+use Rattle.text.specs.Words.{ascii}
 use Rattle.record.specs.Limits.{off, warming}
 use Rattle.record.specs.Wanted.{Wanted, wantedOf}
 use Rattle.record.specs.Record.{allMarks}

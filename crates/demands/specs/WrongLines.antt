@@ -1,8 +1,8 @@
 -- Wrong boards against demand 2, as to lines, their cuts and their reading (01, "What the promises have to exclude" and
 -- "Readings that look right"); proofs/WrongLinesFall.antt has where each falls.
 -- Assumes nothing.
-use Rattle.std.specs.Prelude.{ℕ, suc, not, ◌&&◌, List, [], ◌∷◌, ◌++◌, map, length, take, drop}
-use Rattle.text.specs.Words.{ascii, if◌then◌else◌}
+use Rattle.std.specs.Prelude.{ℕ, suc, not, ◌&&◌, List, [], ◌∷◌, ◌++◌, map, length, take, drop, if◌then◌else◌}
+use Rattle.text.specs.Words.{ascii}
 use Rattle.text.specs.Scans.{sameBy, itself}
 use Rattle.lines.specs.Bytes.{upperOf}
 use Rattle.lines.specs.Forms.{headBody}

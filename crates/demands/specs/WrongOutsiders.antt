@@ -3,8 +3,8 @@
 --   failsNow d p e       the connection at place p was awaiting in d, and has failed in e
 --   onFailure change     our board, but where a log-in fails the record is changed so
 -- Assumes nothing.
-use Rattle.std.specs.Prelude.{ℕ, ◌+◌, min, Bool, ◌&&◌, ◌||◌, List, [], get_or, set, length, eqb}
-use Rattle.text.specs.Words.{over, if◌then◌else◌}
+use Rattle.std.specs.Prelude.{ℕ, ◌+◌, min, Bool, ◌&&◌, ◌||◌, List, [], get_or, set, length, eqb, if◌then◌else◌}
+use Rattle.text.specs.Words.{over}
 use Rattle.lines.specs.Forms.{erraLine}
 use Rattle.record.specs.Limits.{awaiting, failed, placesCount, errorMost}
 use Rattle.record.specs.Record.{closed}

@@ -1,8 +1,7 @@
 -- Wrong boards with four places (02, L5); proofs/WrongPlacesFall.antt has where each falls.
 --   besides X x receive     our board, with an X beside the record, x at first, that only receiving sees and changes
 -- Assumes nothing.
-use Rattle.std.specs.Prelude.{ℕ, List, eqb}
-use Rattle.text.specs.Words.{if◌then◌else◌}
+use Rattle.std.specs.Prelude.{ℕ, List, eqb, if◌then◌else◌}
 use Rattle.record.specs.Limits.{off}
 use Rattle.record.specs.Updates.{withOwn, withPower, withLine}
 use Rattle.record.specs.Places.{connectionAt, withPlace}

@@ -1,7 +1,7 @@
 -- Wrong boards against demand 1: what a refusal leaves; proofs/WrongRefusalsFall.antt has where each falls.
 -- Assumes nothing.
-use Rattle.std.specs.Prelude.{eqb}
-use Rattle.text.specs.Words.{ascii, over, if◌then◌else◌}
+use Rattle.std.specs.Prelude.{eqb, if◌then◌else◌}
+use Rattle.text.specs.Words.{ascii, over}
 use Rattle.record.specs.Record.{closed}
 use Rattle.record.specs.Places.{withPlace}
 use Rattle.ours.specs.Board.{Board, ours}

@@ -145,6 +145,7 @@ module _ (room : ℕ) (enough : replyRoom ≤ room) (p : ℕ) (there : p < place
         → handedParts (receives room p) d ps ≡ handedParts (receives room p) d qs
     received-however-cut ps qs same =
         received-as-run ps
-        ∙ ap (λ (bs : List ℕ). outThrough (deviceAt d p) (runOver (code "\r") State collects (ends s) (parts_at d p) bs))
+        ∙ ap
+        (λ (bs : List ℕ). outThrough (deviceAt d p) (runOver (code "\r") State collects (ends s) (parts_at d p) bs))
         same
         ∙ sym (received-as-run qs)

@@ -59,7 +59,8 @@ text-of-line xs h = filled-take lineRoom noCr xs h
 module _ (s : Settings) (o : Own) (c : Connection) (empty : c.line ≡ emptyLine) (rest : List ℕ) where
   whole-line : (xs : List ℕ) → length xs ≤ heldMost c.phase → heldMost c.phase ≤ lineRoom
       → every notCr xs ≡ true
-      → takenIn s o c (xs ++ (code "\r" ∷ rest)) ≡ record { ended = lineEnded s o c (line_of xs); taken = length xs + 1 }
+      → takenIn s o c (xs ++ (code "\r" ∷ rest))
+      ≡ record { ended = lineEnded s o c (line_of xs); taken = length xs + 1 }
   unfolding takenIn
   whole-line xs h room plain =
       let most = heldMost c.phase in

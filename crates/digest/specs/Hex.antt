@@ -7,9 +7,9 @@
 --   isHexDigit b          b is one of these digits
 --   leadingDigest r p     the digest of the random number's eight digits and the password, in hex
 -- Assumes nothing.
-use Rattle.std.specs.Prelude.{ℕ, ◌+◌, ◌-◌, Bool, ◌||◌, List, ◌++◌, slice_index}
+use Rattle.std.specs.Prelude.{ℕ, ◌+◌, ◌-◌, Bool, ◌||◌, List, ◌++◌, slice_index, if◌then◌else◌}
 use Prim.Native.Char.{code}
-use Rattle.text.specs.Words.{ascii, if◌then◌else◌, ◌from◌to◌}
+use Rattle.text.specs.Words.{ascii, ◌from◌to◌}
 use Rattle.text.specs.InTurn.{eachInTurn}
 use Rattle.text.specs.Bases.{valueIn, lowDigits}
 use Rattle.digest.specs.Md5.{md5Of}

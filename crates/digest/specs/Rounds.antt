@@ -13,7 +13,7 @@
 -- Assumes nothing.
 use Rattle.std.specs.Prelude.{ℕ, zero, suc, ◌+◌, ◌*◌, ◌/◌, ◌%◌, List, [], ◌∷◌, bit_and, bit_or, bit_xor, nat_lt}
 use Rattle.std.specs.Prelude.{slice_index}
-use Rattle.text.specs.Words.{if◌then◌else◌}
+use Rattle.std.specs.Prelude.{if◌then◌else◌}
 use Rattle.digest.specs.Words.{◌plus◌, ◌<<<◌, complement, word_at}
 use Rattle.digest.specs.declared.Buffer.{Buffer}
 

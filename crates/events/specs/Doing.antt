@@ -9,8 +9,8 @@
 --   printed n e r       the line number n, a space, that, and LF
 --   printRoom           a printed line never needs more room
 -- Assumes nothing.
-use Rattle.std.specs.Prelude.{ℕ, ◌-◌, not, List, [], ◌∷◌, ◌++◌, length, take, eqb}
-use Rattle.text.specs.Words.{ascii, if◌then◌else◌}
+use Rattle.std.specs.Prelude.{ℕ, ◌-◌, not, List, [], ◌∷◌, ◌++◌, length, take, eqb, if◌then◌else◌}
+use Rattle.text.specs.Words.{ascii}
 use Rattle.text.specs.Rows.{Row, ◌when◌, byRows}
 use Rattle.numbers.specs.Decimal.{digits, longDigits}
 use Rattle.record.specs.Legal.{isLegal}

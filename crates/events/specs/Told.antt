@@ -8,8 +8,8 @@
 --   placesAfter legal n cs    the connections after n seconds of a record of which it is known whether it is legal
 --   Drives legal n d after    the other places of the record after are those of d, n seconds later (02, L5)
 -- Assumes nothing.
-use Rattle.std.specs.Prelude.{ℕ, ◌≡◌, Bool, List, map, length, set}
-use Rattle.text.specs.Words.{if◌then◌else◌, over}
+use Rattle.std.specs.Prelude.{ℕ, ◌≡◌, Bool, List, map, length, set, if◌then◌else◌}
+use Rattle.text.specs.Words.{over}
 use Rattle.record.specs.Places.{connectionAt}
 use Rattle.record.specs.declared.types.Connection.{Connection}
 use Rattle.record.specs.declared.types.Device.{Device}

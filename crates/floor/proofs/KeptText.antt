@@ -10,7 +10,8 @@ use native.Mathlib.Numerals.{add-one}
 use native.Mathlib.Omega.{arith}
 use lib.ListN.{length, take, drop, set, drop_of_length-le}
 use lib.Seq.{take-suc-set, drop-append-le, length-take-le}
-use Rattle.text.specs.Words.{ascii, if◌then◌else◌}
+use Rattle.std.specs.Prelude.{if◌then◌else◌}
+use Rattle.text.specs.Words.{ascii}
 use Rattle.text.proofs.Orders.{le-or-lt}
 use Rattle.text.proofs.Parts.{drop-take}
 use Rattle.logs.specs.declared.Says.TheVariants.{NoSuch}

@@ -15,7 +15,7 @@ use lib.ListN.{length, take, drop, length-set}
 use lib.Seq.{drop-length, drop-append-add}
 use lib.Dec.{ltb, eqb}
 use borrow.Author.Tests.{le-ltb, not-true}
-use Rattle.text.specs.Words.{if◌then◌else◌}
+use Rattle.std.specs.Prelude.{if◌then◌else◌}
 use Rattle.text.specs.Scans.{every}
 use Rattle.text.proofs.Choices.{if_no, if-all, if-by, both_left, both_right}
 use Rattle.record.specs.Legal.{isLegal}

@@ -17,8 +17,8 @@
 --   step_of                 these as the code returns them; the length is that of the printed bytes
 --   SteppedAs s out ..     what a call returns and leaves in the two memories, that gives s
 -- Assumes nothing.
-use Rattle.std.specs.Prelude.{ℕ, ◌+◌, ◌^◌, ◌≤◌, ◌<◌, ◌≡◌, Bool, ◌||◌, List, length, leb, ltb, eqb}
-use Rattle.text.specs.Words.{if◌then◌else◌, over}
+use Rattle.std.specs.Prelude.{ℕ, ◌+◌, ◌^◌, ◌≤◌, ◌<◌, ◌≡◌, Bool, ◌||◌, List, length, leb, ltb, eqb, if◌then◌else◌}
+use Rattle.text.specs.Words.{over}
 use Rattle.record.specs.Legal.{isLegal}
 use Rattle.record.specs.declared.types.Device.{Device}
 use Rattle.stream.specs.Machine.{Took, unanswered, tookBytes}

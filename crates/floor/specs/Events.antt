@@ -5,8 +5,8 @@
 --   lines_of log       the lines of a log
 --   events log        its events
 -- Assumes nothing.
-use Rattle.std.specs.Prelude.{ℕ, List, [], ◌∷◌, ◌++◌, map, length, drop, eqb}
-use Rattle.text.specs.Words.{ascii, if◌then◌else◌, ◌is◌}
+use Rattle.std.specs.Prelude.{ℕ, List, [], ◌∷◌, ◌++◌, map, length, drop, eqb, if◌then◌else◌}
+use Rattle.text.specs.Words.{ascii, ◌is◌}
 use Rattle.logs.specs.Lines.{lineSaid}
 use Rattle.events.specs.Events.{LogEvent, eventOf}
 

@@ -13,8 +13,7 @@
 --   PlaysBack d log o     all calls for a log leave o: none refused, what is printed is what the definitions print for
 --                         the log, and the device is the one that 01's definitions give for its events
 -- Assumes nothing.
-use Rattle.std.specs.Prelude.{ℕ, ◌+◌, ◌≤◌, ◌<◌, ◌^◌, ◌≡◌, Bool, true, List, ◌++◌, length, leb, eqb}
-use Rattle.text.specs.Words.{if◌then◌else◌}
+use Rattle.std.specs.Prelude.{ℕ, ◌+◌, ◌≤◌, ◌<◌, ◌^◌, ◌≡◌, Bool, true, List, ◌++◌, length, leb, eqb, if◌then◌else◌}
 use Rattle.text.specs.Scans.{every}
 use Rattle.record.specs.declared.types.Device.{Device}
 use Rattle.stream.specs.Machine.{Out, Took, unanswered, tookBytes, handedParts, uncut}

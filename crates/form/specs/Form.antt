@@ -30,7 +30,7 @@
 --   toldStored                the same as the code returns it
 -- Assumes nothing.
 use Rattle.std.specs.Prelude.{ℕ, ◌*◌, ◌/◌, Bool, true, false, not, List, [], ◌∷◌, ◌++◌, map, length, take, ltb, eqb}
-use Rattle.text.specs.Words.{if◌then◌else◌}
+use Rattle.std.specs.Prelude.{if◌then◌else◌}
 use Rattle.text.specs.InTurn.{eachInTurn}
 use Rattle.text.specs.Rows.{Row, ◌when◌, byRows}
 use Rattle.numbers.specs.HighestFirst.{highestFirst}

@@ -5,8 +5,8 @@
 --   totalLine k a b c        it had a seconds at the start, burnt b, and has c now
 --   stretchRoom, totalRoom   so much room a line never needs more than
 -- Assumes nothing.
-use Rattle.std.specs.Prelude.{ℕ, ◌+◌, Bool, List, [], ◌∷◌, ◌++◌}
-use Rattle.text.specs.Words.{ascii, if◌then◌else◌}
+use Rattle.std.specs.Prelude.{ℕ, ◌+◌, Bool, List, [], ◌∷◌, ◌++◌, if◌then◌else◌}
+use Rattle.text.specs.Words.{ascii}
 use Rattle.numbers.specs.Decimal.{longDigits}
 
 abbrev pub numbered : List ℕ → ℕ → List ℕ

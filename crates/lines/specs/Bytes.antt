@@ -4,8 +4,8 @@
 --   upperOf b        the upper case of a letter; any other byte as it is
 --   noCr s           no byte of s is CR, which ends a line
 -- Assumes nothing.
-use Rattle.std.specs.Prelude.{ℕ, ◌-◌, Bool, not, ◌||◌, List, get_or}
-use Rattle.text.specs.Words.{if◌then◌else◌, ◌is◌, ◌from◌to◌}
+use Rattle.std.specs.Prelude.{ℕ, ◌-◌, Bool, not, ◌||◌, List, get_or, if◌then◌else◌}
+use Rattle.text.specs.Words.{◌is◌, ◌from◌to◌}
 use Rattle.text.specs.Scans.{every}
 
 infix 60 ◌at◌

@@ -4,9 +4,9 @@
 --   isCommandForm1 l      `%1`, four letters or digits, a space, 0 to 128 bytes
 --   readInput1 a b        the input that two characters name: a type 1 to 5 and a number 1 to 9
 -- Assumes nothing.
-use Rattle.std.specs.Prelude.{ℕ, ◌-◌, Bool, ◌&&◌, List, length, leb, eqb}
+use Rattle.std.specs.Prelude.{ℕ, ◌-◌, Bool, ◌&&◌, List, length, leb, eqb, if◌then◌else◌}
 use Prim.Native.Char.{code}
-use Rattle.text.specs.Words.{if◌then◌else◌, ◌is◌, ◌from◌to◌}
+use Rattle.text.specs.Words.{◌is◌, ◌from◌to◌}
 use Rattle.lines.specs.Bytes.{◌at◌, isAlnum}
 use Rattle.lines.specs.Forms.{commandMost}
 use Rattle.lines.specs.declared.input.Source.{Source}

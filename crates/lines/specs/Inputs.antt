@@ -8,9 +8,9 @@
 --   isInput i            an input that two characters can name
 --   inputText i          its two characters
 -- Assumes nothing.
-use Rattle.std.specs.Prelude.{ℕ, ◌+◌, ◌%◌, Bool, ◌&&◌, List, [], ◌∷◌, length, leb, eqb}
+use Rattle.std.specs.Prelude.{ℕ, ◌+◌, ◌%◌, Bool, ◌&&◌, List, [], ◌∷◌, length, leb, eqb, if◌then◌else◌}
 use Prim.Native.Char.{code}
-use Rattle.text.specs.Words.{if◌then◌else◌, ◌is◌, ◌from◌to◌}
+use Rattle.text.specs.Words.{◌is◌, ◌from◌to◌}
 use Rattle.lines.specs.Bytes.{◌at◌}
 use Rattle.lines.specs.Sources.{isNumberCharacter, numberFor, numberCharacter}
 use Rattle.lines.specs.declared.input.Source.{Source}

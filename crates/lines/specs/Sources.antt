@@ -10,9 +10,9 @@
 --   numberCharacter n      the character of the number n
 --   inputFor a b           the input for which the characters a b stand, a type's and a number's; or none
 -- Assumes nothing.
-use Rattle.std.specs.Prelude.{ℕ, ◌+◌, ◌-◌, ◌%◌, Bool, ◌&&◌, ◌||◌, List, [], ◌∷◌, eqb, leb}
+use Rattle.std.specs.Prelude.{ℕ, ◌+◌, ◌-◌, ◌%◌, Bool, ◌&&◌, ◌||◌, List, [], ◌∷◌, eqb, leb, if◌then◌else◌}
 use Prim.Native.Char.{code}
-use Rattle.text.specs.Words.{if◌then◌else◌, ◌from◌to◌}
+use Rattle.text.specs.Words.{◌from◌to◌}
 use Rattle.lines.specs.declared.input.Source.{Source}
 use Rattle.lines.specs.declared.input.Source.TheVariants.{Rgb, Video, Digital, Storage, Network, Internal}
 use Rattle.lines.specs.declared.input.Input.{Input}

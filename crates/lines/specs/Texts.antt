@@ -8,9 +8,9 @@
 --   isPassword s      0 to 32 ASCII letters and digits
 -- 000 narrows INF1, INF2 and INFO to 0x20 to 0x7E; 01's rule stands for every text.
 -- Assumes nothing.
-use Rattle.std.specs.Prelude.{ℕ, ◌-◌, Bool, not, ◌&&◌, List, length, leb, eqb}
+use Rattle.std.specs.Prelude.{ℕ, ◌-◌, Bool, not, ◌&&◌, List, length, leb, eqb, if◌then◌else◌}
 use Prim.Native.Char.{code}
-use Rattle.text.specs.Words.{if◌then◌else◌, ◌is◌, ◌from◌to◌}
+use Rattle.text.specs.Words.{◌is◌, ◌from◌to◌}
 use Rattle.text.specs.Scans.{every}
 use Rattle.utf8.specs.Utf8.{isUtf8}
 use Rattle.lines.specs.Bytes.{isAlnum, ◌at◌}

@@ -3,8 +3,8 @@
 --   endMark f n k       what is printed after a reply of k bytes without its CR: nothing; or `-`, the refusal n, or `?`
 --   ending f n k        that, and LF
 -- Assumes nothing.
-use Rattle.std.specs.Prelude.{ℕ, Bool, true, false, not, List, [], ◌++◌, eqb}
-use Rattle.text.specs.Words.{ascii, if◌then◌else◌}
+use Rattle.std.specs.Prelude.{ℕ, Bool, true, false, not, List, [], ◌++◌, eqb, if◌then◌else◌}
+use Rattle.text.specs.Words.{ascii}
 use Rattle.numbers.specs.Decimal.{digits}
 use Rattle.logs.specs.declared.Says.{Says}
 use Rattle.logs.specs.declared.Says.TheVariants.{Opens, Receives, Passes, Closes, NoSuch}

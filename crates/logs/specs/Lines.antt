@@ -6,9 +6,9 @@
 --   formSaid l          which of the four forms l has
 --   lineSaid l          the same, for a line that has at most `lineMost` bytes and no CR in it; else no such form
 -- Assumes nothing.
-use Rattle.std.specs.Prelude.{ℕ, Bool, ◌&&◌, List, length, drop, leb, eqb}
+use Rattle.std.specs.Prelude.{ℕ, Bool, ◌&&◌, List, length, drop, leb, eqb, if◌then◌else◌}
 use Prim.Native.Char.{Char}
-use Rattle.text.specs.Words.{if◌then◌else◌, ◌is◌}
+use Rattle.text.specs.Words.{◌is◌}
 use Rattle.text.specs.Scans.{every}
 use Rattle.numbers.specs.Decimal.{isDigit, decimalValue}
 use Rattle.digest.specs.Hex.{isHexDigit, hexValue}

@@ -9,9 +9,9 @@
 --   secondsBy e       the seconds that it lets pass
 --   keptMark k, keptFloorEvent k     the mark and the event of a line that is kept
 -- Assumes nothing.
-use Rattle.std.specs.Prelude.{ℕ, ◌-◌, Bool, ◌&&◌, List, length, eqb}
+use Rattle.std.specs.Prelude.{ℕ, ◌-◌, Bool, ◌&&◌, List, length, eqb, if◌then◌else◌}
 use Prim.Native.Char.{code}
-use Rattle.text.specs.Words.{if◌then◌else◌, ◌is◌, ◌from◌to◌}
+use Rattle.text.specs.Words.{◌is◌, ◌from◌to◌}
 use Rattle.lines.specs.Bytes.{◌at◌}
 use Rattle.record.specs.HostCalls.{markSet}
 use Rattle.record.specs.declared.types.Device.{Device}

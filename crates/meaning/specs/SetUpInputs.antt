@@ -8,8 +8,7 @@
 --   place_of s i          the place of the input i
 --   isListed s i         the input i is in the set-up
 -- Assumes nothing.
-use Rattle.std.specs.Prelude.{ℕ, suc, ◌*◌, Bool, List, [], ◌∷◌, take, ltb}
-use Rattle.text.specs.Words.{if◌then◌else◌}
+use Rattle.std.specs.Prelude.{ℕ, suc, ◌*◌, Bool, List, [], ◌∷◌, take, ltb, if◌then◌else◌}
 use Rattle.lines.specs.Sources.{sameInput, inputFor}
 use Rattle.lines.specs.declared.input.Source.TheVariants.{Rgb}
 use Rattle.lines.specs.declared.input.Input.{Input}

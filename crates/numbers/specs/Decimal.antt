@@ -17,7 +17,8 @@
 use Rattle.std.specs.Prelude.{ℕ, zero, suc, ◌+◌, ◌-◌, ◌/◌, ◌%◌, ◌≤◌, ◌≡◌, Bool, true, ◌&&◌, List, [], ◌∷◌, ◌++◌, length}
 use Rattle.std.specs.Prelude.{ltb, leb}
 use Prim.Native.Char.{code}
-use Rattle.text.specs.Words.{if◌then◌else◌, ◌from◌to◌}
+use Rattle.std.specs.Prelude.{if◌then◌else◌}
+use Rattle.text.specs.Words.{◌from◌to◌}
 use Rattle.text.specs.Scans.{every}
 use Rattle.text.specs.Bases.{valueIn}
 use Rattle.numbers.specs.declared.Number.{Number}

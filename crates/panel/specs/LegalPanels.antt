@@ -8,8 +8,7 @@
 --   isUnused e        nothing is kept of it: with isEntry, all zero (proofs/Unused)
 --   isPanel p         up to eight projectors, and the entries past them unused
 -- Assumes nothing.
-use Rattle.std.specs.Prelude.{ℕ, Bool, true, false, not, ◌&&◌, ◌||◌, List, length, drop, leb, eqb}
-use Rattle.text.specs.Words.{if◌then◌else◌}
+use Rattle.std.specs.Prelude.{ℕ, Bool, true, false, not, ◌&&◌, ◌||◌, List, length, drop, leb, eqb, if◌then◌else◌}
 use Rattle.text.specs.Scans.{every}
 use Rattle.lines.specs.Texts.{isPassword}
 use Rattle.record.specs.Rules.{at_most}

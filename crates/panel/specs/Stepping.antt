@@ -13,8 +13,7 @@
 --   lineSent e m room        the same of a command by its code; nothing of none
 -- Lines are read by the controller's own readers, readGreeting and readReply, and written by its writer.
 -- Assumes nothing.
-use Rattle.std.specs.Prelude.{ℕ, ◌+◌, min, Bool, not, ◌||◌, List, [], eqb}
-use Rattle.text.specs.Words.{if◌then◌else◌}
+use Rattle.std.specs.Prelude.{ℕ, ◌+◌, min, Bool, not, ◌||◌, List, [], eqb, if◌then◌else◌}
 use Rattle.lines.specs.declared.command.Command.{Command}
 use Rattle.answers.specs.Said.{Said}
 use Rattle.controller.specs.Greetings.{readGreeting}

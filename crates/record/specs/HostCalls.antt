@@ -8,8 +8,7 @@
 --                       mark; 7 unless power is off
 --   markSet d k m       refused, or the lamp at place k with that mark
 -- Assumes nothing.
-use Rattle.std.specs.Prelude.{ℕ, set, leb, eqb, Bool, not, ◌||◌, List, [], ◌∷◌}
-use Rattle.text.specs.Words.{if◌then◌else◌}
+use Rattle.std.specs.Prelude.{ℕ, set, leb, eqb, Bool, not, ◌||◌, List, [], ◌∷◌, if◌then◌else◌}
 use Rattle.text.specs.Scans.{every}
 use Rattle.text.specs.Rows.{Row, ◌when◌, byRows}
 use Rattle.record.specs.Limits.{off}

@@ -17,8 +17,7 @@
 --   isConnections cs          a connection at each place, each legal (02, L5)
 --   isLegal d                 the record is
 -- Assumes nothing.
-use Rattle.std.specs.Prelude.{ℕ, ◌*◌, Bool, not, ◌&&◌, ◌||◌, List, length, take, drop, leb, ltb, eqb}
-use Rattle.text.specs.Words.{if◌then◌else◌}
+use Rattle.std.specs.Prelude.{ℕ, ◌*◌, Bool, not, ◌&&◌, ◌||◌, List, length, take, drop, leb, ltb, eqb, if◌then◌else◌}
 use Rattle.text.specs.Scans.{every}
 use Rattle.lines.specs.Bytes.{noCr}
 use Rattle.lines.specs.Texts.{isText, isName, isInfo, infoMost, inputNameMost}

@@ -13,8 +13,7 @@
 --   isBetween power              warm-up or cooling: seconds are left
 --   shut, awaiting, opened, failed    the phase of a connection: isPhase p says that p is one of them
 -- Assumes nothing.
-use Rattle.std.specs.Prelude.{ℕ, ◌*◌, Bool, ◌||◌, leb, eqb}
-use Rattle.text.specs.Words.{if◌then◌else◌}
+use Rattle.std.specs.Prelude.{ℕ, ◌*◌, Bool, ◌||◌, leb, eqb, if◌then◌else◌}
 use Rattle.lines.specs.Texts.{nameMost}
 
 -- of the longest text

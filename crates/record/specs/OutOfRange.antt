@@ -8,8 +8,7 @@
 --   FirstOut f s              s is the first: its rule is not met, and that of each earlier one is
 --   SettingHolds f m          what m says of the rules f: s is the first, or every rule is met
 -- Assumes nothing.
-use Rattle.std.specs.Prelude.{ℕ, ◌<◌, ◌≡◌, Bool, true, false, List, [], ◌∷◌, length}
-use Rattle.text.specs.Words.{if◌then◌else◌}
+use Rattle.std.specs.Prelude.{ℕ, ◌<◌, ◌≡◌, Bool, true, false, List, [], ◌∷◌, length, if◌then◌else◌}
 use Rattle.record.specs.Wanted.{Wanted}
 use Rattle.record.specs.Rules.{isLongEnough}
 use Rattle.record.specs.SetUp.{settingsInOrder, isSettingInRange}

@@ -6,8 +6,7 @@
 --   isShut c               the connection is closed
 --   lowestShut cs          the lowest closed place, or their number where none is closed
 -- Assumes nothing.
-use Rattle.std.specs.Prelude.{ℕ, suc, Bool, false, List, [], ◌∷◌, get_or, set, eqb}
-use Rattle.text.specs.Words.{if◌then◌else◌}
+use Rattle.std.specs.Prelude.{ℕ, suc, Bool, false, List, [], ◌∷◌, get_or, set, eqb, if◌then◌else◌}
 use Rattle.record.specs.Limits.{shut}
 use Rattle.record.specs.declared.types.Own.{Own}
 use Rattle.record.specs.declared.types.Connection.{Connection}

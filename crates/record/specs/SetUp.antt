@@ -7,8 +7,7 @@
 --   setUp w                   0 and the started device, or 3, then 8, and the blank record
 -- An odd number of characters is no list of inputs, and so out of range.
 -- Assumes nothing.
-use Rattle.std.specs.Prelude.{Bool, not, ◌&&◌, List, [], ◌∷◌, ◌/◌, length}
-use Rattle.text.specs.Words.{if◌then◌else◌}
+use Rattle.std.specs.Prelude.{Bool, not, ◌&&◌, List, [], ◌∷◌, ◌/◌, length, if◌then◌else◌}
 use Rattle.text.specs.Scans.{every}
 use Rattle.lines.specs.Texts.{isText, isName, isInfo, isPassword, infoMost}
 use Rattle.record.specs.Limits.{onlyIn2}

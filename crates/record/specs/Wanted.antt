@@ -9,8 +9,7 @@
 --   cutBy ns s            s cut into parts of the lengths ns
 --   namesIn ns s          these parts, where they are all of s: names whose lengths do not add up are none
 -- Assumes nothing.
-use Rattle.std.specs.Prelude.{ℕ, ◌+◌, List, [], ◌∷◌, length, take, drop, eqb}
-use Rattle.text.specs.Words.{if◌then◌else◌}
+use Rattle.std.specs.Prelude.{ℕ, ◌+◌, List, [], ◌∷◌, length, take, drop, eqb, if◌then◌else◌}
 
 pub record Wanted : Type 0 where
   pub name : List ℕ

@@ -8,8 +8,8 @@
 --   numberLine n         the one line for a stored form that does not load, with its number (02, L3)
 --   failureRoom          so much room a failure line never needs more than
 -- Assumes nothing.
-use Rattle.std.specs.Prelude.{ℕ, zero, suc, Bool, not, List, ◌++◌, Option, None, Some, eqb}
-use Rattle.text.specs.Words.{ascii, if◌then◌else◌}
+use Rattle.std.specs.Prelude.{ℕ, zero, suc, Bool, not, List, ◌++◌, Option, None, Some, eqb, if◌then◌else◌}
+use Rattle.text.specs.Words.{ascii}
 use Rattle.numbers.specs.Decimal.{digits}
 use Rattle.replay.specs.declared.way.Failure.{Failure}
 use Rattle.replay.specs.declared.way.Failure.TheVariants.{Read, Write, Broken}

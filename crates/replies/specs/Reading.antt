@@ -12,7 +12,8 @@
 -- Assumes nothing.
 use Rattle.std.specs.Prelude.{ℕ, ◌-◌, Bool, true, false, ◌&&◌, ◌||◌, List, [], ◌∷◌, map, length, leb, eqb}
 use Prim.Native.Char.{code}
-use Rattle.text.specs.Words.{ascii, if◌then◌else◌, ◌is◌, ◌from◌to◌}
+use Rattle.std.specs.Prelude.{if◌then◌else◌}
+use Rattle.text.specs.Words.{ascii, ◌is◌, ◌from◌to◌}
 use Rattle.text.specs.Scans.{every, sameBy, itself}
 use Rattle.numbers.specs.Decimal.{readNumber}
 use Rattle.numbers.specs.declared.Number.{Number}

@@ -8,9 +8,9 @@
 --   Got A              what words are read as: `all xs`, the things xs, or none
 --   q andThen r        the things of q and then those of r, where both are some
 -- Assumes nothing.
-use Rattle.std.specs.Prelude.{ℕ, ◌-◌, ◌≤◌, ◌≡◌, List, [], ◌∷◌, ◌++◌, length, take, drop}
+use Rattle.std.specs.Prelude.{ℕ, ◌-◌, ◌≤◌, ◌≡◌, List, [], ◌∷◌, ◌++◌, length, take, drop, if◌then◌else◌}
 use Prim.Native.Char.{code}
-use Rattle.text.specs.Words.{if◌then◌else◌, ◌is◌}
+use Rattle.text.specs.Words.{◌is◌}
 
 infixr 20 ◌andThen◌
 pub data SpacedBy {A : Type 0} (W : A → List ℕ → Type 0) : List A → List ℕ → Type 0 where

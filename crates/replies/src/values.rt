@@ -1,6 +1,5 @@
 // The value that a parameter has, for each kind of query (01, "Controller").
-ghost use Rattle.std.specs.Prelude.{◌≡◌, true, ◌≤◌, length};
-ghost use Rattle.text.specs.Words.{if◌then◌else◌};
+ghost use Rattle.std.specs.Prelude.{◌≡◌, true, ◌≤◌, length, if◌then◌else◌};
 ghost use Rattle.answers.specs.Said.{textIs, nothing};
 ghost use Rattle.answers.specs.declared.answer.Kind.TheVariants.{Nothing};
 ghost use Rattle.answers.specs.Carried.{textCarried, plain_of, answer_of};

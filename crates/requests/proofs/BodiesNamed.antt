@@ -12,7 +12,7 @@ use lib.ListN.{get_or, drop}
 use lib.Seq.{drop-cons}
 use lib.Dec.{eqb}
 use borrow.Author.Tests.{eqb-true, eq-eqb}
-use Rattle.text.specs.Words.{if◌then◌else◌}
+use Rattle.std.specs.Prelude.{if◌then◌else◌}
 use Rattle.text.specs.Scans.{sameBy, itself}
 use Rattle.text.proofs.Choices.{both_left, both_right}
 use Rattle.text.proofs.Sameness.{same-turned, same_after}

@@ -8,7 +8,8 @@ use mathlib.Core.Bool.{Bool, true, false, ◌&&◌}
 use mathlib.Core.List.{List}
 use lib.ListN.{length}
 use lib.Dec.{eqb}
-use Rattle.text.specs.Words.{if◌then◌else◌, ◌is◌, ◌from◌to◌}
+use Rattle.std.specs.Prelude.{if◌then◌else◌}
+use Rattle.text.specs.Words.{◌is◌, ◌from◌to◌}
 use Rattle.text.proofs.Choices.{if-all}
 use Rattle.lines.specs.Bytes.{◌at◌}
 use Rattle.lines.specs.Inputs.{isInputText, inputNamed, read_input, input_of}

@@ -2,8 +2,8 @@
 -- names with a 1. Nothing is built on them; proofs/ClassOneKept.antt has that a set-up of Class 1 goes by them still.
 --   requestOf1 s p        what the body s with the parameter p asks for
 -- Assumes nothing.
-use Rattle.std.specs.Prelude.{Bool, ◌&&◌, List, [], ◌∷◌, ℕ, length, eqb}
-use Rattle.text.specs.Words.{if◌then◌else◌, ◌is◌, ◌from◌to◌}
+use Rattle.std.specs.Prelude.{Bool, ◌&&◌, List, [], ◌∷◌, ℕ, length, eqb, if◌then◌else◌}
+use Rattle.text.specs.Words.{◌is◌, ◌from◌to◌}
 use Rattle.text.specs.Scans.{sameBy}
 use Rattle.lines.specs.Bytes.{◌at◌, upperOf}
 use Rattle.lines.specs.Bodies.{rowOf}

@@ -9,8 +9,8 @@
 --   switchAsked b off on p the digit 0 asks the command `off` of the body b, 1 the command `on`
 --   inputAsked f b m       an input asks the command f of it
 -- Assumes nothing.
-use Rattle.std.specs.Prelude.{ℕ, Bool, true, false, ◌&&◌, List, [], ◌∷◌, length, drop, eqb}
-use Rattle.text.specs.Words.{if◌then◌else◌, ◌is◌, ◌from◌to◌}
+use Rattle.std.specs.Prelude.{ℕ, Bool, true, false, ◌&&◌, List, [], ◌∷◌, length, drop, eqb, if◌then◌else◌}
+use Rattle.text.specs.Words.{◌is◌, ◌from◌to◌}
 use Rattle.text.specs.Scans.{sameBy}
 use Rattle.lines.specs.Bytes.{◌at◌, upperOf}
 use Rattle.lines.specs.Inputs.{input_of}

@@ -6,7 +6,7 @@ use mathlib.Core.List.{List, [], ◌∷◌}
 use lib.IntN.{ℤ}
 use lib.ListN.{length}
 use lib.Seq.{sets}
-use Rattle.text.specs.Words.{if◌then◌else◌}
+use Rattle.std.specs.Prelude.{if◌then◌else◌}
 use Rattle.text.proofs.Choices.{if_yes, if_no, if-all}
 use Rattle.service.specs.Differences.{differences, isNegative, firstNegative, isComparable}
 use Rattle.service.specs.Differences.{ComparedAs, compared, reportOf}

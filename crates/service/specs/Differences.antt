@@ -9,7 +9,7 @@
 -- Assumes nothing.
 use Rattle.std.specs.Prelude.{ℕ, suc, Bool, true, false, ◌&&◌, List, [], ◌∷◌, ℤ, pos, ◌-ℤ◌, length, leb, eqb}
 use Rattle.std.specs.Int.Signed.{lt_z}
-use Rattle.text.specs.Words.{if◌then◌else◌}
+use Rattle.std.specs.Prelude.{if◌then◌else◌}
 use Rattle.service.specs.declared.Compared.{Compared}
 use Rattle.service.specs.declared.Compared.TheVariants.{Forwards, Backwards, Refused}
 use Rattle.service.specs.declared.Report.{Report}

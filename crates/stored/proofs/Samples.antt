@@ -8,7 +8,8 @@ use mathlib.Core.Path.{◌≡◌, refl}
 use mathlib.Core.Bool.{Bool, true, false}
 use mathlib.Core.List.{List, [], ◌∷◌, ◌++◌, map}
 use lib.ListN.{length, take, drop, replicate}
-use Rattle.text.specs.Words.{ascii, if◌then◌else◌, ◌from◌to◌}
+use Rattle.std.specs.Prelude.{if◌then◌else◌}
+use Rattle.text.specs.Words.{ascii, ◌from◌to◌}
 use Rattle.numbers.specs.Computing.{computing as number-computing}
 use Rattle.record.specs.Limits.{lampLimit}
 use Rattle.record.specs.Wanted.{Wanted, wantedOf, wantedOf2, withPassword}

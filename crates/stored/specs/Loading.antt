@@ -35,7 +35,7 @@
 -- Assumes nothing.
 use Rattle.std.specs.Prelude.{ℕ, zero, suc, ◌+◌, ◌-◌, ◌*◌, ◌≡◌, Bool, false, not, ◌&&◌, List, [], ◌∷◌, ◌++◌}
 use Rattle.std.specs.Prelude.{map, length, get_or, take, drop, replicate, ltb, eqb}
-use Rattle.text.specs.Words.{if◌then◌else◌}
+use Rattle.std.specs.Prelude.{if◌then◌else◌}
 use Rattle.text.specs.Scans.{every}
 use Rattle.text.specs.InTurn.{eachInTurn}
 use Rattle.text.specs.Rows.{Row, ◌when◌, byRows}

@@ -1,7 +1,6 @@
 // Loading a stored form (02, L3 and L8): the version, then the layout, then the contents.
-ghost use Rattle.std.specs.Prelude.{◌≡◌, true, map, ◌+◌, ◌≤◌, length, drop};
+ghost use Rattle.std.specs.Prelude.{◌≡◌, true, map, ◌+◌, ◌≤◌, length, drop, if◌then◌else◌};
 ghost use Rattle.lines.specs.Bytes.{◌at◌};
-ghost use Rattle.text.specs.Words.{if◌then◌else◌};
 ghost use Rattle.record.specs.Wanted.{namesIn};
 ghost use Rattle.record.specs.Updates.{withOwn, withMarks};
 ghost use Rattle.record.specs.Record.{blank, accepted, refused};

@@ -13,7 +13,7 @@ use lib.ListN.{length, take, set}
 use lib.Seq.{sets}
 use lib.Dec.{leb, ltb, eqb, leb-suc-suc}
 use borrow.Author.Tests.{lt-ltb, le-leb, lt-leb, leb-true, leb-false}
-use Rattle.text.specs.Words.{if◌then◌else◌}
+use Rattle.std.specs.Prelude.{if◌then◌else◌}
 use Rattle.text.proofs.Choices.{if_yes, if_no, if-by}
 use Rattle.text.proofs.Orders.{le-or-lt}
 use Rattle.stream.specs.Places.{index_after, index_of}

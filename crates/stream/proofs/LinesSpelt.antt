@@ -6,7 +6,8 @@ use Prim.Native.Char.{code}
 use mathlib.Core.Path.{◌≡◌, refl}
 use mathlib.Core.Bool.{Bool, false, true}
 use mathlib.Core.List.{List, [], ◌∷◌}
-use Rattle.text.specs.Words.{if◌then◌else◌, ◌is◌}
+use Rattle.std.specs.Prelude.{if◌then◌else◌}
+use Rattle.text.specs.Words.{◌is◌}
 use Rattle.record.specs.Limits.{lineRoom}
 use Rattle.record.specs.Record.{zeros}
 use Rattle.record.specs.declared.types.Line.{Line}

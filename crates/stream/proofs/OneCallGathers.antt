@@ -6,7 +6,7 @@ use mathlib.Core.List.{List, ◌∷◌, ◌++◌, foldl}
 use lib.ListN.{length}
 use Prim.Native.Nat.{ℕ, ◌+◌}
 use Prim.Native.Char.{code}
-use Rattle.text.specs.Words.{if◌then◌else◌}
+use Rattle.std.specs.Prelude.{if◌then◌else◌}
 use Rattle.text.specs.Scans.{every}
 use Rattle.record.specs.declared.types.Line.{Line}
 use Rattle.stream.specs.declared.Gathered.{Gathered}

@@ -9,10 +9,9 @@
 --   gathered most l bs       the line after the bytes of bs before the first CR, how many these are, and whether it
 --                            came
 -- Assumes nothing.
-use Rattle.std.specs.Prelude.{ℕ, ◌+◌, true, false, length, take, set, leb}
+use Rattle.std.specs.Prelude.{ℕ, ◌+◌, true, false, length, take, set, leb, if◌then◌else◌}
 use Prim.Native.Char.{code}
 use mathlib.Core.List.{List, foldl}
-use Rattle.text.specs.Words.{if◌then◌else◌}
 use Rattle.record.specs.Limits.{lineRoom}
 use Rattle.record.specs.Record.{zeros, inRoom}
 use Rattle.record.specs.declared.types.Line.{Line}

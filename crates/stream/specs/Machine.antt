@@ -16,7 +16,7 @@
 --   uncut ps               the stream of which these are the parts
 -- Assumes nothing.
 use Rattle.std.specs.Prelude.{ℕ, zero, suc, ◌+◌, Bool, true, false, List, [], ◌∷◌, ◌++◌, length, drop, eqb}
-use Rattle.text.specs.Words.{if◌then◌else◌}
+use Rattle.std.specs.Prelude.{if◌then◌else◌}
 use Rattle.text.specs.InTurn.{eachInTurn}
 
 pub record UpTo (L : Type 0) : Type 0 where

@@ -11,7 +11,7 @@ use lib.ListN.{length, get_or, replicate, length-replicate, get_or-replicate}
 use lib.Seq.{get_or-take}
 use lib.Dec.{ltb}
 use borrow.Author.Tests.{lt-ltb, le-ltb}
-use Rattle.text.specs.Words.{if◌then◌else◌}
+use Rattle.std.specs.Prelude.{if◌then◌else◌}
 use Rattle.text.proofs.Orders.{le-or-lt}
 use Rattle.record.specs.Limits.{lampsMost}
 use Rattle.record.specs.Wanted.{Wanted}

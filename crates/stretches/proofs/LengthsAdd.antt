@@ -8,7 +8,7 @@ use native.Mathlib.Nat.{zero-add}
 use native.Mathlib.Omega.{arith}
 use lib.ListN.{get_or, set}
 use lib.Dec.{eqb}
-use Rattle.text.specs.Words.{if◌then◌else◌}
+use Rattle.std.specs.Prelude.{if◌then◌else◌}
 use Rattle.record.specs.Wanted.{Wanted}
 use Rattle.demands.specs.History.{Event, switched, aSecond, markSwitched, Stage, next, isBurning}
 use Rattle.demands.specs.History.{burningFrom}

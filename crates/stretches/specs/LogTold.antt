@@ -7,8 +7,7 @@
 --   burntOf k s es     the seconds that the lamp at place k is told to have burnt, when the log has ended
 --   LogWatched ..      what is promised of a whole log, through the calls and in any reads
 -- Assumes nothing.
-use Rattle.std.specs.Prelude.{ℕ, ◌<◌, ◌≡◌, Bool, false, List, [], ◌∷◌, ◌++◌, length, get_or, replicate}
-use Rattle.text.specs.Words.{if◌then◌else◌}
+use Rattle.std.specs.Prelude.{ℕ, ◌<◌, ◌≡◌, Bool, false, List, [], ◌∷◌, ◌++◌, length, get_or, replicate, if◌then◌else◌}
 use Rattle.record.specs.Places.{connectionAt, isShut}
 use Rattle.record.specs.Wanted.{Wanted}
 use Rattle.record.specs.declared.types.Device.{Device}

@@ -13,7 +13,7 @@
 -- Assumes nothing.
 use Rattle.std.specs.Prelude.{ℕ, suc, ◌+◌, ◌-◌, ◌≤◌, ◌<◌, ◌≡◌, leb, ltb, eqb, Bool, true, false, ◌&&◌, ◌||◌}
 use Rattle.std.specs.Prelude.{List, [], ◌∷◌, ◌++◌, get_or}
-use Rattle.text.specs.Words.{if◌then◌else◌}
+use Rattle.std.specs.Prelude.{if◌then◌else◌}
 use Rattle.record.specs.Wanted.{Wanted}
 use Rattle.demands.specs.History.{Event, switched, aSecond, markSwitched, Stage, steady, next, marksNext, burns}
 use Rattle.demands.specs.History.{burning}

@@ -5,8 +5,7 @@
 --   NoneOf rows                 no row applies
 --   isNumbered row              its number is not 0, which no refusal has
 -- Assumes nothing.
-use Rattle.std.specs.Prelude.{ℕ, ◌≡◌, Bool, false, not, List, [], ◌∷◌, eqb}
-use Rattle.text.specs.Words.{if◌then◌else◌}
+use Rattle.std.specs.Prelude.{ℕ, ◌≡◌, Bool, false, not, List, [], ◌∷◌, eqb, if◌then◌else◌}
 
 infix 30 ◌when◌
 pub record Row : Type 0 where

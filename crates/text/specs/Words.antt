@@ -1,6 +1,5 @@
 -- The words that every specification here is written in.
 --   ascii "PJLINK 0"          the bytes of a text
---   if t then a else b        a choice by a test
 --   b is "%"                  the byte b is that character
 --   b from "0" to "9"         the byte b is one of those characters
 --   over r m                  the memory m with the reply r at its start, and every later byte as it was
@@ -9,16 +8,11 @@ use Rattle.std.specs.Prelude.{ℕ, Bool, true, false, ◌&&◌, List, [], ◌∷
 use Prim.Native.String.{String, [] as empty, ◌∷◌ as ◌then◌}
 use Prim.Native.Char.{Char, code}
 
-infixr 10 if◌then◌else◌
 infix 40 ◌is◌
 infix 40 ◌from◌to◌
 abbrev pub ascii : String → List ℕ
 ascii empty = []
 ascii (c then s) = code c ∷ ascii s
-
-abbrev pub if◌then◌else◌ : {A : Type 0} → Bool → A → A → A
-if true then a else b = a
-if false then a else b = b
 
 abbrev pub ◌is◌ : ℕ → Char → Bool
 b is c = eqb b (code c)

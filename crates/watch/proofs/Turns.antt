@@ -13,7 +13,7 @@ use lib.ListN.{length, drop, length-drop, drop_of_length-le}
 use lib.Seq.{drop-drop, drop-append-add}
 use lib.Dec.{eqb}
 use borrow.Author.Tests.{not-true}
-use Rattle.text.specs.Words.{if◌then◌else◌}
+use Rattle.std.specs.Prelude.{if◌then◌else◌}
 use Rattle.text.specs.Scans.{every}
 use Rattle.text.proofs.Choices.{if_yes, if_no, both_left, both_right}
 use Rattle.record.specs.declared.types.Line.{Line}

@@ -9,7 +9,8 @@ use native.Mathlib.Omega.{arith}
 use lib.ListN.{length}
 use lib.Dec.{leb, ltb}
 use borrow.Author.Tests.{leb-false, ltb-false, not-false, le-leb, lt-leb, lt-ltb, le-ltb, ne_eqb}
-use Rattle.text.specs.Words.{if◌then◌else◌, ◌is◌}
+use Rattle.std.specs.Prelude.{if◌then◌else◌}
+use Rattle.text.specs.Words.{◌is◌}
 use Rattle.text.proofs.Choices.{if_yes, if_no, if-by}
 use Rattle.record.specs.Legal.{isLegal}
 use Rattle.clock.specs.Passing.{secondsMost}

@@ -10,9 +10,8 @@
 --   WatchedAs ..             what a call returns and leaves in the lent memory
 --   watchingFrom d           before a log
 -- Assumes nothing.
-use Rattle.std.specs.Prelude.{ℕ, ◌+◌, ◌-◌, ◌*◌, ◌^◌, ◌≤◌, ◌<◌, ◌≡◌, Bool, true, false, not, ◌&&◌, ◌||◌}
+use Rattle.std.specs.Prelude.{ℕ, ◌+◌, ◌-◌, ◌*◌, ◌^◌, ◌≤◌, ◌<◌, ◌≡◌, Bool, true, false, not, ◌&&◌, ◌||◌, if◌then◌else◌}
 use Rattle.std.specs.Prelude.{List, length, get_or, replicate, leb, ltb, eqb}
-use Rattle.text.specs.Words.{if◌then◌else◌}
 use Rattle.text.specs.Scans.{every}
 use Rattle.record.specs.Limits.{lampsMost}
 use Rattle.record.specs.Legal.{isLegal}

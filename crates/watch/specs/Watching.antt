@@ -15,9 +15,9 @@
 --   closedAtEnd s         the end of a log ends the stretches that are under way
 --   watchEnded s          the end of the input: a line without LF is played, and the log ends
 -- Assumes nothing.
-use Rattle.std.specs.Prelude.{ℕ, ◌+◌, ◌-◌, Bool, true, false, not, ◌&&◌, List, [], ◌∷◌, take, ltb}
+use Rattle.std.specs.Prelude.{ℕ, ◌+◌, ◌-◌, Bool, true, false, not, ◌&&◌, List, [], ◌∷◌, take, ltb, if◌then◌else◌}
 use Prim.Native.Char.{code}
-use Rattle.text.specs.Words.{if◌then◌else◌, ◌is◌}
+use Rattle.text.specs.Words.{◌is◌}
 use Rattle.record.specs.Limits.{isLit}
 use Rattle.record.specs.declared.types.Device.{Device}
 use Rattle.record.specs.declared.types.Line.{Line}

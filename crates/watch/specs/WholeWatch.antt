@@ -17,9 +17,8 @@
 --   WatchesBack d log o   all calls for a log leave o: none refused, what is printed is what the events of the log
 --                         tell, and so is what each lamp burnt
 -- Assumes nothing.
-use Rattle.std.specs.Prelude.{ℕ, ◌+◌, ◌*◌, ◌^◌, ◌≤◌, ◌<◌, ◌≡◌, Bool, true, false, ◌&&◌}
+use Rattle.std.specs.Prelude.{ℕ, ◌+◌, ◌*◌, ◌^◌, ◌≤◌, ◌<◌, ◌≡◌, Bool, true, false, ◌&&◌, if◌then◌else◌}
 use Rattle.std.specs.Prelude.{List, [], ◌∷◌, ◌++◌, map, length, eqb}
-use Rattle.text.specs.Words.{if◌then◌else◌}
 use Rattle.record.specs.declared.types.Device.{Device}
 use Rattle.clock.specs.Second.{marksIn}
 use Rattle.clock.specs.Passing.{secondsMost}

@@ -1,6 +1,5 @@
 // The light of a log's lamps: when they began to burn, when they ended, and what each burnt meanwhile.
-ghost use Rattle.std.specs.Prelude.{◌≡◌, ℕ, ◌+◌, ◌^◌, ◌<◌, get_or, take, leb};
-ghost use Rattle.text.specs.Words.{if◌then◌else◌};
+ghost use Rattle.std.specs.Prelude.{◌≡◌, ℕ, ◌+◌, ◌^◌, ◌<◌, get_or, take, leb, if◌then◌else◌};
 ghost use Rattle.text.specs.Scans.{every};
 ghost use Rattle.record.specs.Limits.{isLit};
 ghost use Rattle.clock.specs.Second.{changedWhere};

@@ -17,8 +17,7 @@
 --   parted P i p w      the connection is gone: the device closes it, and the panel is told
 -- The host joins what comes back to whole lines, and hands every one to the panel, once; no bytes are no line.
 -- Assumes nothing.
-use Rattle.std.specs.Prelude.{ℕ, List, [], ◌∷◌, take, drop, eqb}
-use Rattle.text.specs.Words.{if◌then◌else◌}
+use Rattle.std.specs.Prelude.{ℕ, List, [], ◌∷◌, take, drop, eqb, if◌then◌else◌}
 use Rattle.record.specs.declared.types.Device.{Device}
 use Rattle.clock.specs.Passing.{passed}
 use Rattle.stream.specs.Machine.{Out, Took, handedParts, uncut}

@@ -2,8 +2,7 @@
 -- falls.
 --   hearingAs f      ours, but where a command is under way f takes the reading of the line
 -- Assumes nothing.
-use Rattle.std.specs.Prelude.{ℕ, ◌+◌, not, List, eqb}
-use Rattle.text.specs.Words.{if◌then◌else◌}
+use Rattle.std.specs.Prelude.{ℕ, ◌+◌, not, List, eqb, if◌then◌else◌}
 use Rattle.lines.specs.declared.command.Command.TheVariants.{Query}
 use Rattle.lines.specs.declared.command.Body.TheVariants.{Powr}
 use Rattle.answers.specs.Said.{Said}

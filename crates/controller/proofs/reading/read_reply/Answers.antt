@@ -1,6 +1,6 @@
 -- Each `return` is one case of `readReply`. What has the form has its eight bytes.
 use Rattle.std.proofs.Common.{◌≡◌, sym, ap, ◌∙◌, ℕ, ◌-◌, ◌≤◌, Bool, List, length, take, drop, arith}
-use Rattle.text.specs.Words.{if◌then◌else◌}
+use Rattle.std.specs.Prelude.{if◌then◌else◌}
 use Rattle.lines.specs.Forms.{isReplyForm, headBody, replyParameter}
 use Rattle.lines.specs.Commands.{bodyOf, commandClass}
 use Rattle.lines.specs.declared.command.Body.{Body}

@@ -1,6 +1,6 @@
 -- A place is tested by its own rule.
 use Rattle.std.proofs.Common.{◌≡◌, ℕ, ◌+◌, ◌<◌, Bool, ◌&&◌, List, length, get_or, ap, ◌∙◌, ltb, arith, rules}
-use Rattle.text.specs.Words.{if◌then◌else◌}
+use Rattle.std.specs.Prelude.{if◌then◌else◌}
 use Rattle.text.proofs.Choices.{if_yes, if_no}
 use Rattle.lines.specs.Texts.{inputNameMost}
 use Rattle.record.specs.Limits.{listedMost}

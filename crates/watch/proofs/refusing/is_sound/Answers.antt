@@ -1,5 +1,5 @@
 use Rattle.std.proofs.Common.{ℕ, Bool, ◌&&◌, ap, ◌∙◌, leb}
-use Rattle.text.specs.Words.{if◌then◌else◌}
+use Rattle.std.specs.Prelude.{if◌then◌else◌}
 use Rattle.text.specs.Scans.{every}
 use Rattle.watch.specs.WatchCalls.{isSound}
 use Rattle.watch.proofs.refusing.is_sound.Goals as goal
