@@ -3,8 +3,8 @@
 --                   to 32 inputs, repeats included, LAMP 1 to 8 lamps"): what a set-up may have is record's to say
 --   errorsCarried   so many error digits it carries, where it carries any
 --   textCarried     so many bytes of a text: an input's name is the longest (02, L14)
---   plain_of k       the answer of the kind k with nothing in its arrays
---   answer_of m      what is said, in arrays from their start on; the rest of each is blank
+--   plain_of k      the answer of the kind k with nothing in its arrays
+--   answer_of m     what is said, in arrays from their start on; the rest of each is blank
 --   saidBy a        what an answer says: as many of its elements as it counts, and no more than an array has
 --   isSayable m     what is said has room in the arrays
 --   isNothing k     the kind of an answer that says nothing: its parameter is not allowed (01, "Controller")

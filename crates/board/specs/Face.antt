@@ -1,7 +1,7 @@
 -- The controller's calls on a command by its code. What is no command is 3 (docs/DECISIONS.md): for the writer after 2,
 -- for the reader at once.
---   written_by m ..     what the writer gives
---   read_by m l         what the reader gives of the line l
+--   written_by m ..    what the writer gives
+--   read_by m l        what the reader gives of the line l
 -- Assumes nothing.
 use Rattle.std.specs.Prelude.{ℕ, Bool, List, ltb, if◌then◌else◌}
 use Rattle.controller.specs.Writing.{WrittenAs, nothingWritten, commandRoom, writtenCommand}

@@ -1,7 +1,7 @@
 -- The commands by their codes (include/ceiling.h), a code and two numbers each.
 --   codes              what each code stands for, and which of the two numbers it uses
 --   commandOf k        the command that k stands for, or none; what a code does not use is passed over
---   code_of c           the code of a command, with 0 for what it does not use
+--   code_of c          the code of a command, with 0 for what it does not use
 --   usedOf k           k with 0 for what its code does not use
 -- Assumes nothing.
 use Rattle.std.specs.Prelude.{ℕ, Bool, true, false, ◌&&◌, List, [], ◌∷◌, leb, eqb, if◌then◌else◌}

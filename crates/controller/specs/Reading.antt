@@ -5,7 +5,7 @@
 --   saying m            the reading of a parameter that says m: it is not allowed where it says nothing
 --   readReply c l       what the line l, with its CR, says to the command c: the ERRA line, then the form of a reply of
 --                       the command's class (02, L14), then the body, then the parameter
---   reading_of r         this as the code returns it
+--   reading_of r        this as the code returns it
 --   LineSays c l m      the line l, with its CR, says m in reply to c: by its form, its body and its parameter
 -- Assumes nothing.
 use Rattle.std.specs.Prelude.{ℕ, ◌≡◌, true, not, List, if◌then◌else◌}

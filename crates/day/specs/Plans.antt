@@ -4,12 +4,13 @@
 --                          number of rigs, where there is none
 --   plannedFrom d m a      up to m more jobs placed after those of a: as many as find a rig, one after the other
 --   planned d              the rigs of the jobs from the first on, up to the first that finds none
---   plan_of d room          the planner's answer, with room for so many rigs
+--   plan_of d room         the planner's answer, with room for so many rigs
 --   rigsWritten d room     what it writes at the start of the lent list: all the rigs, or nothing
---   planNumber, isMade, job_of      an answer in numbers, as the paper has it
+--   planNumber, isMade, job_of     an answer in numbers, as the paper has it
 --   joins d a r            what the code asks of the next job on rig r: the rules as far as they concern that job
 -- Assumes nothing.
-use Rattle.std.specs.Prelude.{ℕ, zero, suc, ◌+◌, ◌≤◌, ◌≡◌, Bool, true, false, not, ◌&&◌, List, [], ◌∷◌, ◌++◌, length, take, ltb, leb}
+use Rattle.std.specs.Prelude.{ℕ, zero, suc, ◌+◌, ◌≤◌, ◌≡◌, Bool, true, false, not, ◌&&◌, ltb, leb}
+use Rattle.std.specs.Prelude.{List, [], ◌∷◌, ◌++◌, length, take}
 use Rattle.std.specs.Prelude.{if◌then◌else◌}
 use Rattle.day.specs.Finding.{first, each, ◌nth◌}
 use Rattle.day.specs.Days.{Day, jobs, rigs, isDay, isAllowed}

@@ -1,6 +1,6 @@
 -- The invariant of demand 3's history: the outsider's clock shows the device's power and seconds left, his counts are
 -- in the lamps and his marks theirs, and the bytes that the device holds at a place are the last of his stream there.
---   powerOf g, left_of g        the power and the seconds left that the stage g shows
+--   powerOf g, left_of g       the power and the seconds left that the stage g shows
 --   Shows g o                  the own part o has them
 --   Agrees w g ms n stream d     the stage g, the marks ms, the counts n, one a lamp, and the streams agree with the
 --                                device d, set up with w

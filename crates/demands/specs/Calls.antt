@@ -2,7 +2,7 @@
 -- accepted set-up that take a device record, each lent the record the last one returned").
 --   Call            such a call, with what it is lent, at any place (02, L5); passing in place is passing
 --   after B d c     the record that the call c returns, lent d
---   number_of B d c  the number that it gives
+--   number_of B d c the number that it gives
 --   run B d cs      the record after the calls cs
 -- Assumes nothing.
 use Rattle.std.specs.Prelude.{ℕ, Bool, List, [], ◌∷◌}

@@ -13,7 +13,7 @@
 -- `isBody` of requests/specs/Requests) and which parameter says what (answers/specs: Lists, Said, CanSay;
 -- replies/specs: Words, Writings; `greets`, `randomIn` of controller/specs/Greetings); ours/specs/Board; here
 -- Calls.
---   rows_of d c          the rows that the call c can meet, in the table's order; so for set-up, writer and readers
+--   rows_of d c         the rows that the call c can meet, in the table's order; so for set-up, writer and readers
 --   Inside m r          a call that is lent the memory m stays in it, and changes no byte past its reply
 --   Untouched m r       it took nothing, replied nothing and wrote nothing
 -- Assumes nothing.

@@ -6,7 +6,7 @@ use mathlib.Core.Bool.{Bool, true, false, not}
 use mathlib.Core.List.{List, [], ◌∷◌}
 use borrow.Author.Tests.{ltb-false, le-ltb, leb-false, lt-leb, eqb-false}
 use borrow.Author.Tests.{not-true, not-false}
-use Rattle.text.specs.Words.{if◌then◌else◌}
+use Rattle.std.specs.Prelude.{if◌then◌else◌}
 use Rattle.text.specs.Scans.{every}
 use Rattle.text.specs.Rows.{Row, byRows, NoneOf, isNumbered}
 use Rattle.text.proofs.ByRows.{by_rows, rows-done}

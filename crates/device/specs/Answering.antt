@@ -5,8 +5,7 @@
 --                       parameter, CR; any other is swallowed, with no reply, and so is one of a class higher than the
 --                       set-up's (02, L14)
 -- Assumes nothing.
-use Rattle.std.specs.Prelude.{ℕ, List, []}
-use Rattle.text.specs.Words.{if◌then◌else◌}
+use Rattle.std.specs.Prelude.{ℕ, List, [], if◌then◌else◌}
 use Rattle.lines.specs.Bytes.{◌at◌}
 use Rattle.lines.specs.Forms.{isCommandForm, lineClass, headBody, commandParameter, replyLine}
 use Rattle.requests.specs.Requests.{requestOf}

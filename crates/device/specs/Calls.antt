@@ -8,8 +8,7 @@
 --   closedBy d p          closing at place p: refused, or the closed connection
 --   toldReceived, toldOpened, toldChanged     these results as the code returns them; the length is the reply's
 -- Assumes nothing.
-use Rattle.std.specs.Prelude.{ℕ, Bool, not, List, [], ◌∷◌, length, leb, ltb, eqb}
-use Rattle.text.specs.Words.{if◌then◌else◌}
+use Rattle.std.specs.Prelude.{ℕ, Bool, not, List, [], ◌∷◌, length, leb, ltb, eqb, if◌then◌else◌}
 use Rattle.text.specs.Rows.{Row, ◌when◌, byRows}
 use Rattle.digest.specs.Hex.{hexDigits}
 use Rattle.lines.specs.Forms.{greetingOpen, greetingSecured, replyMost}

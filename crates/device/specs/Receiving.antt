@@ -7,8 +7,7 @@
 --   takenIn s o c bs     what one call takes of the bytes bs
 -- The results name the own part and the connection, never the whole record: what has these parts can use them.
 -- Assumes nothing.
-use Rattle.std.specs.Prelude.{ℕ, ◌+◌, Bool, not, ◌&&◌, List, [], length, take, drop, leb, eqb}
-use Rattle.text.specs.Words.{if◌then◌else◌}
+use Rattle.std.specs.Prelude.{ℕ, ◌+◌, Bool, not, ◌&&◌, List, [], length, take, drop, leb, eqb, if◌then◌else◌}
 use Rattle.text.specs.Scans.{sameBy, itself}
 use Rattle.digest.specs.Hex.{leadingDigest}
 use Rattle.lines.specs.Forms.{erraLine}

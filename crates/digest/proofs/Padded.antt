@@ -1,6 +1,6 @@
 -- The padding as `tail::last` lays it out, at the end of two blocks of zeros.
 --   zeros n         n zero bytes
---   start_of rest    where what is left of the message goes
+--   start_of rest   where what is left of the message goes
 -- Assumes nothing.
 use Rattle.std.proofs.Common.{◌≡◌, ℕ, zero, suc, ◌+◌, ◌-◌, ◌*◌, ◌/◌, ◌%◌, ◌<◌, List, [], ◌∷◌, ◌++◌, length, take, drop}
 use Rattle.std.proofs.Common.{set, replicate, sym, refl, ap, ◌∙◌, append_assoc, append-nil, arith, length-append}

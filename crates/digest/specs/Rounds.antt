@@ -4,12 +4,12 @@
 --   wordNumbers           the k of the 64 operations [abcd k s i], a round a row
 --   shifts                their s, a round a row: each row is gone through four times
 --   byRound i w x y z     w, x, y or z, as operation i is of round 1, 2, 3 or 4
---   in_row f i             what f is of four operations, a row [ABCD k s i] [DABC k s i] [CDAB k s i] [BCDA k s i]
+--   in_row f i            what f is of four operations, a row [ABCD k s i] [DABC k s i] [CDAB k s i] [BCDA k s i]
 --   operated q f x s t    a = b + ((a + f + x + t) <<< s), after which DABC are called ABCD, for the next operation
 --   operation xs i q      operation i on the block xs
 --   operations i n xs q   n operations, the first of them operation i
 --   added p q             the four words q, each increased by what it was before the block
---   block_of xs q          the four words after the block xs, from the four words q
+--   block_of xs q         the four words after the block xs, from the four words q
 -- Assumes nothing.
 use Rattle.std.specs.Prelude.{ℕ, zero, suc, ◌+◌, ◌*◌, ◌/◌, ◌%◌, List, [], ◌∷◌, bit_and, bit_or, bit_xor, nat_lt}
 use Rattle.std.specs.Prelude.{slice_index}

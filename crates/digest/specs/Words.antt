@@ -2,8 +2,8 @@
 --   x plus y          "+": addition of words, modulo 2^32
 --   complement x      "not(X)": the bit-wise complement of a word
 --   x <<< s           "X <<< s": x circularly shifted left by s bit positions
---   word_at xs k       the word of the four bytes of xs from k on, low-order byte first
---   low_first n x      the n bytes of the number x, low-order byte first
+--   word_at xs k      the word of the four bytes of xs from k on, low-order byte first
+--   low_first n x     the n bytes of the number x, low-order byte first
 -- Assumes nothing.
 use Rattle.std.specs.Prelude.{ℕ, zero, suc, ◌+◌, ◌-◌, ◌*◌, ◌/◌, ◌%◌, ◌^◌, List, [], ◌∷◌, slice_index}
 

@@ -14,7 +14,7 @@
 --   giving n s t           the step of a call with the number n: it takes t; nothing where n is a refusal
 --   stepped f m bs room    what a call on the bytes bs gives, that has so much room to print in
 --   endedAt f m room       what the call at the end of the input gives
---   step_of                 these as the code returns them; the length is that of the printed bytes
+--   step_of                these as the code returns them; the length is that of the printed bytes
 --   SteppedAs s out ..     what a call returns and leaves in the two memories, that gives s
 -- Assumes nothing.
 use Rattle.std.specs.Prelude.{ℕ, ◌+◌, ◌^◌, ◌≤◌, ◌<◌, ◌≡◌, Bool, ◌||◌, List, length, leb, ltb, eqb, if◌then◌else◌}

@@ -1,8 +1,8 @@
 -- A log as events (02, L1).
 --   event l           the event of the line l: a text is received with a CR after it
---   lines_from g log   the lines of a log of which the first has begun with g: each ends with LF, the last perhaps
+--   lines_from g log  the lines of a log of which the first has begun with g: each ends with LF, the last perhaps
 --                     without
---   lines_of log       the lines of a log
+--   lines_of log      the lines of a log
 --   events log        its events
 -- Assumes nothing.
 use Rattle.std.specs.Prelude.{ℕ, List, [], ◌∷◌, ◌++◌, map, length, drop, eqb, if◌then◌else◌}

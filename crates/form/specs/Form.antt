@@ -15,7 +15,7 @@
 --   classPart k ts            the class k, and these texts in Class 2
 --   formWith v marks rest w   a form of the settings w: of the version v, which has these bytes after the lamps, these
 --                             after C
---   form_of w ms               the newest form: of the settings w, the lamps with the marks ms
+--   form_of w ms              the newest form: of the settings w, the lamps with the marks ms
 --   markedFormOf w ms         version 2's form of the settings w of Class 1;    oldFormOf w    version 1's
 --   versionForm v w ms        the form of the version v
 --   formMost                  no form is longer

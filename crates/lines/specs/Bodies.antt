@@ -4,7 +4,7 @@
 --   bodies             every body, those of Class 1 in 01's order, then those of Class 2
 --   rowOf b            its class; its letters; what it sets; whether `?` asks it; whether it is defined only where
 --                      there are lamps (rule 1); whether it is available, set or query, only when on (rule 4)
---   class_of b          the class of the line that asks for it
+--   class_of b         the class of the line that asks for it
 --   hasSet b           it sets something (rule 3)
 --   hasParameters b    it knows a parameter besides `?`: one that it does not know is out of parameter (rules 1 and 2)
 --   hasQuery b         `?` asks it

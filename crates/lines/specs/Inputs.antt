@@ -3,8 +3,8 @@
 --   isInputText k a b    the two characters name an input of Class k: of Class 1 a type 1 to 5 and a number 1 to 9, so
 --                        11 and 59 do, and 10, 20 and 61 do not; of Class 2 also the type 6 and a number A to Z
 --   inputNamed a b       the input that they name
---   read_input a b        the input of either class that they name, or none: which are listed the set-up decides
---   input_of w            the input that a word names: two characters
+--   read_input a b       the input of either class that they name, or none: which are listed the set-up decides
+--   input_of w           the input that a word names: two characters
 --   isInput i            an input that two characters can name
 --   inputText i          its two characters
 -- Assumes nothing.

@@ -2,7 +2,7 @@
 -- and what two characters stand for by it. What reads and what writes characters has definitions of its own (Inputs),
 -- which are proved to follow this table (proofs/SourcesFollowed), and so has the C face for its codes (`sourceNumber`
 -- of codes/specs/Commands; `face-follows` of codes/proofs/CodesBack).
---   type_of s               the type of a source, 1 to 6
+--   type_of s              the type of a source, 1 to 6
 --   sameInput i j          i and j have the same type and the same number
 --   character n            the character of a number below ten
 --   isNumberCharacter b    a character that numbers an input: 1 to 9, A to Z

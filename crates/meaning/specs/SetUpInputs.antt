@@ -4,8 +4,8 @@
 --   inputOfPair a b      the input for which a pair stands; one that stands for none is in no legal set-up
 --   inputsOfPairs cs     the inputs of pairs, in their order
 --   inputsOf s           the inputs in set-up order
---   place_in i is         the first place of the input i among the inputs is; where there is none, their number
---   place_of s i          the place of the input i
+--   place_in i is        the first place of the input i among the inputs is; where there is none, their number
+--   place_of s i         the place of the input i
 --   isListed s i         the input i is in the set-up
 -- Assumes nothing.
 use Rattle.std.specs.Prelude.{ℕ, suc, ◌*◌, Bool, List, [], ◌∷◌, take, ltb, if◌then◌else◌}

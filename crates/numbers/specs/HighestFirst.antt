@@ -1,6 +1,6 @@
 -- Numbers in bytes: "W and C as two bytes each; all highest first" (02, L3).
 --   highestFirst n x    the number x in n bytes
---   number_in s          the number that the bytes s are
+--   number_in s         the number that the bytes s are
 -- Assumes nothing.
 use Rattle.std.specs.Prelude.{ℕ, List}
 use Rattle.text.specs.Scans.{itself}

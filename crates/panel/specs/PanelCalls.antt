@@ -2,7 +2,7 @@
 --   PanelAs                what a call gives: its number, the line to be sent, the panel
 --   panelKept n p          the number n, no line and the panel that was given
 --   noPanel                the panel of no projector
---   entry_at p i, withEntry p i e     the entry of the projector i; the panel with the entry e there
+--   entry_at p i, withEntry p i e    the entry of the projector i; the panel with the entry e there
 --   addingRows, commandingRows, projectorRows     when each call is refused, and with which number
 --   addedTo p s              a projector more, with the password s: 1, then 3
 --   commanded p i k room   the command k to the projector i: 1, 2, 3, 9, or its line

@@ -1,8 +1,8 @@
 -- The records that 01 spells out (01, "Set-up" and "The numbers a call gives").
 --   zeros n              n zeros
 --   inRoom n s           s at the start of a room of n, and zeros after it
---   text_of s             the text s in its room
---   name_of s             the name s of an input in its room (02, L14)
+--   text_of s            the text s in its room
+--   name_of s            the name s of an input in its room (02, L14)
 --   namesKept ns         the names ns, an input each, at the start of the room for them
 --   closed               the closed connection: age 0, random number 0, no collected bytes, no overlong mark
 --   allClosed            every place closed (02, L5)

@@ -2,7 +2,7 @@
 -- by spaces"), where a thing may have more than one text.
 --   SpacedBy W xs s    s is the things xs, a space before each, each by one of the texts that W has for it; where s is
 --                      a space and p, the things are joined in p
---   words_of s          what stands between the spaces of s: one word more than it has spaces, empty where two meet
+--   words_of s         what stands between the spaces of s: one word more than it has spaces, empty where two meet
 --   wordsAfter s       the words after the first byte of s: where a word has ended, those that follow its space
 --   WordTo p i n       the word that begins at the place i of p ends at n, before a space or at the end of p
 --   Got A              what words are read as: `all xs`, the things xs, or none

@@ -8,7 +8,7 @@
 --   sectionEnd s width p      where the section ends whose count stands at p, of items of so many bytes each; past the
 --                             end of s there is no count, and 0 is read: what begins there ends later still
 --   marksLong s p             how long the section of marks is whose count stands at p: the old version has none
---   places_of s                where each section's count stands, by the counts before it; then W; then what follows C
+--   places_of s               where each section's count stands, by the counts before it; then W; then what follows C
 --   textsLong n t             how long the first n texts in t are, each after its count;    textsIn n t    these texts
 --   joinedTexts ts            the texts without their counts, one after the other; the code has room for joinedMost
 --                             bytes
@@ -16,7 +16,7 @@
 --   manyTexts k n             how many texts follow the class k, if there are n inputs
 --   restLong s n t            how long the class is with its texts;    textsAfter s n t    these texts
 --   Walked s p                p are these places, each said by the one before it
---   end_at s p                 the form's end, by its places;    formEnd s    by those that s says
+--   end_at s p                the form's end, by its places;    formEnd s    by those that s says
 --   between a b s             the bytes from the place a up to b
 --   secondsIn n s             the first n numbers of four bytes in s
 --   settingsWith s p k a b ns      the settings that stand at the places p, with the class k and what Class 2 alone has

@@ -1,5 +1,5 @@
 -- Collecting a line (01, "Connection": "takes bytes up to and including the first CR, or all of them if none").
---   line_of xs                the line with the bytes xs collected, and its unused room zero
+--   line_of xs               the line with the bytes xs collected, and its unused room zero
 --   lineText l               the bytes collected of a line
 --   emptyLine, overlongLine  the line with nothing collected; with the mark alone
 --   collectedIn left most l b    the line after one byte more; past `most` bytes it only keeps the mark, and `left`

@@ -3,7 +3,7 @@
 -- gives the same reply bytes and end state however it is cut"), over any byte that ends a line and any machine with a
 -- state D.
 --   UpTo L                 what is gathered: a line, how many bytes were collected in it, and whether it ended
---   up_to end collect l bs  the line l after the bytes of bs before the first `end`, each collected
+--   up_to end collect l bs the line l after the bytes of bs before the first `end`, each collected
 --   Out D                  what bytes leave: the state, and the reply bytes
 --   Took D                 what one call leaves: that, and how many bytes it took
 --   unanswered d              the state d, and no reply; `replyThen r o`: the reply r, and then what o leaves

@@ -1,6 +1,6 @@
 -- What a watched log tells of a lamp, beside demand 3's history of the same log.
 --   callsBy d e        the calls that an event makes on our board, lent the device d: a second `O` makes none (02, L5)
---   calls_of d es       those of events, one after the other
+--   calls_of d es      those of events, one after the other
 --   isMarkedIn d k     the mark of the lamp at place k is set
 --   stretchesIn k ts   what is told of the lamp at place k, where ts is told of all lamps (crate `watch`)
 --   toldOf k s es      the stretches that are told of the lamp at place k, from the state s on

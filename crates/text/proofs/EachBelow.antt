@@ -1,5 +1,5 @@
 -- What holds of each number below n, by one test of them all that the checker computes.
---   all_below f n      the test f passes at each number below n
+--   all_below f n     the test f passes at each number below n
 -- Assumes nothing.
 use Prim.Native.Nat.{ℕ, zero, suc, ◌<◌}
 use mathlib.Core.Path.{◌≡◌, refl, subst}

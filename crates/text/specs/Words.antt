@@ -4,7 +4,7 @@
 --   b from "0" to "9"         the byte b is one of those characters
 --   over r m                  the memory m with the reply r at its start, and every later byte as it was
 -- Assumes nothing.
-use Rattle.std.specs.Prelude.{ℕ, Bool, true, false, ◌&&◌, List, [], ◌∷◌, ◌++◌, length, drop, leb, eqb}
+use Rattle.std.specs.Prelude.{ℕ, Bool, ◌&&◌, List, [], ◌∷◌, ◌++◌, length, drop, leb, eqb}
 use Prim.Native.String.{String, [] as empty, ◌∷◌ as ◌then◌}
 use Prim.Native.Char.{Char, code}
 

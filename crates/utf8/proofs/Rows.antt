@@ -1,6 +1,6 @@
 -- A row of ranges and the numbers that its characters hold: a row of one range holds the numbers of that range, and one
 -- range more holds one digit more of base 64, the lowest.
---   is_row row c                   c is a character of the row: one byte in each of its ranges
+--   is_row row c                  c is a character of the row: one byte in each of its ranges
 --   Spans lead k low high row     its characters are the numbers low to high, filled over `lead` and k bytes after it
 -- Assumes nothing.
 use Prim.Native.Nat.{ℕ, suc, ◌+◌, ◌-◌, ◌*◌, ◌/◌, ◌%◌, ◌≤◌, ◌<◌}

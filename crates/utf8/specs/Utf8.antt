@@ -6,7 +6,7 @@
 --   isFrom row s       s starts with a byte in each of these ranges, and only characters follow
 --   isUtf8 s           s is nothing but characters
 -- By numbers, the RFC's section 3:
---   is_scalar n         0 to 0x10FFFF, without the surrogates 0xD800 to 0xDFFF
+--   is_scalar n        0 to 0x10FFFF, without the surrogates 0xD800 to 0xDFFF
 --   filled lead k n    the bits of n: six into each of the last k bytes, what is left into the first, under `lead`
 --   encoded n          the bytes of n, by the section's table of bit patterns
 --   encodedAll ns      those of each of ns, one after the other

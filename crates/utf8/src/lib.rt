@@ -1,5 +1,6 @@
 // Well-formed UTF-8 (02, L2; RFC 3629, section 4).
 #![tactic(auto)]
+
 ghost use Rattle.std.specs.Prelude.{◌≡◌, List, ◌∷◌, ℕ};
 ghost use Rattle.utf8.specs.Utf8.{utf8Rows, restFrom, isFrom, isUtf8};
 ghost use Rattle.utf8.specs.Rest.{ranges, isAscii};

@@ -2,7 +2,7 @@
 -- byte, no line, no connection and no panel.
 --   saidAt s o h          what the projector with the settings s and the own part o means by its reply; where there is
 --                         none, nothing is said
---   own_at s o h           its own part afterwards: what the command does, or the seconds that passed; after what others
+--   own_at s o h          its own part afterwards: what the command does, or the seconds that passed; after what others
 --                         did it is as they left it
 --   shownThrough s o v hs     what was shown, v, and on it all that was said, one after the other (`showing` of panel)
 --   ownThrough s o hs     its own part after all of it

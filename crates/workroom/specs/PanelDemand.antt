@@ -78,7 +78,8 @@ module _ (P : AnyPanel) where
     pub open-greets : (p : Panel) (i : ℕ) (l : List ℕ) → Served p i → (entry_at p i).greeting ≡ ungreeted
         → readGreeting l ≡ Open
         → Greeted (entry_at p i) (greetedBy greetedOpen 0) (afterLine p i l)
-    pub secured-greets : (p : Panel) (i : ℕ) (l : List ℕ) (random : ℕ) → Served p i → (entry_at p i).greeting ≡ ungreeted
+    pub secured-greets : (p : Panel) (i : ℕ) (l : List ℕ) (random : ℕ)
+        → Served p i → (entry_at p i).greeting ≡ ungreeted
         → readGreeting l ≡ Secured random
         → Greeted (entry_at p i) (greetedBy greetedSecured random) (afterLine p i l)
     -- "The step touches only the named projector's entry"

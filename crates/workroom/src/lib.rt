@@ -2,4 +2,5 @@
 //! and code that is never linked: for each field of `oursPanel` (specs/AnyPanel) one function that does nothing but
 //! call the product's function, and whose promise is that field's value.
 #![tactic(auto)]
+
 pub mod ties;

@@ -1,7 +1,7 @@
 -- Up to i no byte differs, so the answer for the whole is the answer for what is left.
 use Rattle.std.proofs.Common.{sym}
 use Rattle.text.specs.Scans.{itself}
-use Rattle.text.proofs.Scanning.{none-compared, one_alike, one-differs, all_alike, long-differs}
+use Rattle.text.proofs.Scanning.{long-differs}
 use Rattle.text.proofs.same.Goals as goal
 
 pub returns-then-a-b : goal.returns-then-a-b

@@ -1,5 +1,5 @@
 -- Each arm stores its own line from the first byte on, and there is room for it.
-use Rattle.std.proofs.Common.{ap, ◌∙◌, sym, arith}
+use Rattle.std.proofs.Common.{◌∙◌, arith}
 use Rattle.text.proofs.Stores.{sets_over}
 use Rattle.replay.specs.Ways.{failureLine}
 use Rattle.replay.specs.declared.way.Failure.TheVariants.{Read, Write, Broken}

@@ -1,5 +1,5 @@
 -- Each part stands after the one before it.
-use Rattle.std.proofs.Common.{◌∙◌, ◌+◌, ◌++◌, arith, refl, length, length-append}
+use Rattle.std.proofs.Common.{◌∙◌, ◌++◌, arith, refl, length-append}
 use Rattle.text.specs.Words.{ascii}
 use Rattle.text.proofs.Stores.{sets_then, sets_over}
 use Rattle.numbers.specs.Decimal.{digits}
