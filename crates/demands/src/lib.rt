@@ -1,3 +1,23 @@
 //! The three demands, stated over any board and proved for ours. Definitions and laws only; there is no code here to
 //! link.
 #![tactic(auto)]
+
+ghost use Rattle.ours.specs.Board.{ours};
+ghost use Rattle.demands.specs.Demand1.{Demand1};
+ghost use Rattle.demands.specs.Demand2.{Demand2};
+ghost use Rattle.demands.specs.Demand3.{Demand3};
+ghost use Rattle.demands.specs.Interleaved.{Interleaved};
+ghost use Rattle.demands.specs.Unheard.{Unheard};
+ghost use Rattle.demands.specs.BoardSwap.{BoardSwap};
+ghost use Rattle.demands.specs.ClassOne.{ClassOneKept};
+
+// Nothing is done: that it has this contract is that the theorems stand.
+pub fn ours_keeps_the_demands()
+    ensures stays_inside { Demand1 ours }
+    ensures speaks_pjlink { Demand2 ours }
+    ensures time_adds { Demand3 ours }
+    ensures places_stand { Interleaved ours }
+    ensures outsider_unheard { Unheard ours }
+    ensures survives_a_swap { BoardSwap ours }
+    ensures class_1_kept { ClassOneKept ours }
+{}

@@ -84,3 +84,7 @@ module _ (s : Settings) (o : Own) (r : Request) where
     pub meant-passed : meant s o r ≡ requestAnswer s o r
     unfolding meant
     meant-passed = if_no _ _ p.defined ∙ if_no _ _ p.listed ∙ if_no _ _ p.sound ∙ if_no _ _ p.timely
+
+    pub done-passed : done s o r ≡ carriedOut s o r
+    unfolding done
+    done-passed = if_no o (carriedOut s o r) (λ j. p.defined j || p.listed j || p.sound j || p.timely j)

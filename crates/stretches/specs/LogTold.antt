@@ -6,23 +6,26 @@
 --   toldOf k s es      the stretches that are told of the lamp at place k, from the state s on
 --   burntOf k s es     the seconds that the lamp at place k is told to have burnt, when the log has ended
 --   LogWatched ..      what is promised of a whole log, through the calls and in any reads
+--   LogsWatched        that it is kept of every log, however the board began
 -- Assumes nothing.
 use Rattle.std.specs.Prelude.{ℕ, ◌<◌, ◌≡◌, Bool, false, List, [], ◌∷◌, ◌++◌, length, get_or, replicate, if◌then◌else◌}
 use Rattle.record.specs.Places.{connectionAt, isShut}
 use Rattle.record.specs.Wanted.{Wanted}
 use Rattle.record.specs.declared.types.Device.{Device}
 use Rattle.device.specs.Calls.{replyRoom}
-use Rattle.stream.specs.Machine.{Out}
+use Rattle.logs.specs.Lines.{lineMost}
+use Rattle.stream.specs.Machine.{Out, uncut}
 use Rattle.events.specs.Events.{opens, receives, passes, closes, noSuch}
 use Rattle.events.specs.Doing.{logPlace}
 use Rattle.ours.specs.Board.{ours}
 use Rattle.demands.specs.Calls.{Call, opens as opens_at, receives as receivesAt, passes as passesBy}
 use Rattle.demands.specs.Calls.{closes as closes_at, enables}
-use Rattle.demands.specs.Demand3.{Beginning, startMarks, begunBy, historyOf}
+use Rattle.demands.specs.Demand3.{Beginning, Accepted, startMarks, begunBy, historyOf}
 use Rattle.demands.specs.History.{Event, burning, lampWith}
 use Rattle.marking.specs.Marking.{FloorEvent, logged, marked, doneBy}
 use Rattle.watch.specs.Watching.{Watching}
 use Rattle.watch.specs.WholeWatch.{floorEvents, Telling, tellings, toldLines, burntAfter, WatchStage}
+use Rattle.watch.specs.WholeWatch.{wholeWatch, Timeable}
 use Rattle.stretches.specs.Stretches.{Stretch, stretchIf, StretchesTell}
 
 -- the memory that each call is lent
@@ -75,3 +78,8 @@ pub record LogWatched (b : Beginning) (w : Wanted) (log : List ℕ) (o : Out Wat
   pub lamps : (k : ℕ) → k < length w.lamps
       → get_or o.state.watch.floor.device.own.lamps k 0
       ≡ lampWith (burning w (startMarks b w) k (logHistory b w log)) (get_or w.lamps k 0)
+
+abbrev pub LogsWatched : Type 0
+LogsWatched = (b : Beginning) (w : Wanted) → Accepted ours b w → (m : List ℕ) → lineMost < length m
+    → (size : ℕ) (reads : List (List ℕ)) → Timeable size reads
+    → LogWatched b w (uncut reads) (wholeWatch (begunBy ours b w).device m reads)

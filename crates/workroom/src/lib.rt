@@ -3,4 +3,5 @@
 //! call the product's function, and whose promise is that field's value.
 #![tactic(auto)]
 
+pub mod theorems;
 pub mod ties;

@@ -6,7 +6,7 @@ pub struct Board;
 
 impl Board {
     pub fn start() -> Board {
-        eprintln!("built without libboard.a: run `rt staticlib board` at the repository's root, then build again");
+        eprintln!("built without libboard.a: run `./archive` at the repository's root, then build again");
         std::process::exit(2);
     }
 }
