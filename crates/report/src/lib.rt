@@ -1,7 +1,7 @@
 // What is told of a watched log: lines, or a page where one is wanted; and a last line where the log is cut short.
 #![tactic(auto)]
 
-mod lines;
+mod printed;
 pub mod way;
 
 use page::{LAMPS, Stretch, Totals};
@@ -32,7 +32,7 @@ pub fn tell<W: Write + Drop>(r: Report, out: &mut Sink<W>, s: Stretch) -> Report
     if r.drawn {
         report.days = page::draw(out, r.days, s);
     } else {
-        lines::stretches(out, s);
+        printed::stretches(out, s);
     }
     report
 }
@@ -42,7 +42,7 @@ pub fn end<W: Write + Drop>(r: Report, out: &mut Sink<W>, seconds: u64, t: Total
     if r.drawn {
         page::end(out, r.days, seconds, t);
     } else {
-        lines::totals(out, t);
+        printed::totals(out, t);
     }
     out.flush();
 }
