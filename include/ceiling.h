@@ -2,7 +2,8 @@
    both sides, with the MD5 of RFC 1321.
 
    This declares what the archive libboard.a defines. `./archive` writes the archive for x86-64, whose calls are those
-   of the System V calling convention for AMD64.
+   of the System V calling convention for AMD64, and `./archive aarch64` the one for AArch64, by the calling convention
+   AAPCS64. The layout of the records is the same on both.
 
    Every call ends, keeps to the memory that it is lent, allocates nothing and keeps no state. The projector is a
    record, pj_device, and the host keeps it: a call takes the record, and the changed record comes back in what the
