@@ -24,10 +24,7 @@ fn main() {
     println!("cargo:rerun-if-changed={}", archive.display());
     println!("cargo:rerun-if-changed=build.rs");
     if !archive.exists() {
-        println!(
-            "cargo:warning=no {}: `./archive` writes it; without it nothing is compared",
-            archive.display()
-        );
+        println!("cargo:warning=no {}: `./archive` writes it; without it nothing is compared", archive.display());
         println!("cargo:rustc-cfg=board=\"missing\"");
     } else if native.is_some() || env::var("CARGO_CFG_TARGET_ARCH").unwrap() == "x86_64" {
         plain_md5(&here);
