@@ -47,10 +47,8 @@ fn all_characters(s: &[u8]) -> bool
     ensures { result ≡ isUtf8 s.now }
 {
     let mut rest = Rest(0, 0x80, 0xBF);
-    let mut i = 0;
-    while i < s.len() {
-        rest = after(rest, s[i]);
-        i += 1;
+    for b in s {
+        rest = after(rest, *b);
     }
     rest.0 == 0
 }
@@ -60,10 +58,8 @@ fn all_ascii(s: &[u8]) -> bool
     ensures { result ≡ every isAscii s.now }
 {
     let mut ok = true;
-    let mut i = 0;
-    while i < s.len() {
-        ok = ok & (s[i] <= 0x7F);
-        i += 1;
+    for b in s {
+        ok = ok & (*b <= 0x7F);
     }
     ok
 }
