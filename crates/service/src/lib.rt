@@ -60,24 +60,19 @@ fn put_differences(earlier: &[u32], later: &[u32], out: &mut [i64])
     requires earlier_in_bounds { length earlier.now ≤ length out.old }
     ensures { out.new ≡ sets out.old 0 (differences earlier.now later.now) }
 {
-    let mut i = 0;
-    while i < earlier.len() {
+    for i in 0..earlier.len() {
         let d = difference(earlier[i], later[i]);
         out[i] = d;
-        i += 1;
     }
 }
 
 fn first_negative(d: &[i64]) -> Compared
     ensures { result ≡ firstNegative 0 d.now }
 {
-    let mut i = 0;
-    while i < d.len() {
-        let x = d[i];
-        if x < 0 {
+    for (i, x) in d.iter().enumerate() {
+        if *x < 0 {
             return Compared::Backwards(i);
         }
-        i += 1;
     }
     Compared::Forwards
 }
