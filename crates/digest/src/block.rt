@@ -35,13 +35,10 @@ pub fn blocks(s: &[u8], q: Buffer) -> Buffer
     ensures { result ≡ wholeBlocks s.now q }
 {
     let mut p = q;
-    let n = s.len() / 64;
-    let mut k = 0;
-    while k < n {
+    for k in 0..s.len() / 64 {
         let from = k * 64;
         let to = from + 64;
         p = block(&s[from..to], p);
-        k += 1;
     }
     p
 }

@@ -42,11 +42,9 @@ pub fn all(b: &[u8]) -> [u8; 32]
     ensures { result ≡ hexOf b.now }
 {
     let mut out = [0u8; 32];
-    let mut i = 0;
-    while i < 16 {
-        let d = two(b[i]);
+    for (i, x) in b.iter().enumerate() {
+        let d = two(*x);
         text::put(&mut out, 2 * i, &d);
-        i += 1;
     }
     out
 }
@@ -70,10 +68,8 @@ pub fn value(s: &[u8]) -> u32
     ensures { result ≡ hexValue s.now }
 {
     let mut v: u32 = 0;
-    let mut i = 0;
-    while i < s.len() {
-        v = v * 16 + worth(s[i]);
-        i += 1;
+    for b in s {
+        v = v * 16 + worth(*b);
     }
     v
 }

@@ -13,10 +13,7 @@ one_more s q p r k e f =
 
 pub loop-k-init : goal.loop-k-init
 unfolding blocksOf
-loop-k-init c = record { bound = omega arith; words = refl }
+loop-k-init c = refl
 
 pub loop-k-preserved : goal.loop-k-preserved
-loop-k-preserved c = record {
-  bound = omega arith;
-  words = one_more c.args.s.now _ _ _ c.loop-k.k c.block-p.ensures c.loop-k.invariant.words;
-}
+loop-k-preserved c = one_more c.args.s.now _ _ _ c.loop-k.k c.block-p.ensures c.loop-k.invariant

@@ -1,10 +1,7 @@
 -- After k turns p is q after the first k blocks.
-use Rattle.std.proofs.Common.{◌≡◌, ◌-◌, ◌≤◌}
+use Rattle.std.proofs.Common.{◌≡◌}
 use Rattle.digest.specs.Md5.{blocksOf}
 use Rattle.digest.proofs.block.blocks.Given as goal
 
 abbrev pub invariant-loop-k : goal.invariant-loop-k
-invariant-loop-k l = record { bound : l.k ≤ l.n; words : l.p ≡ blocksOf l.k l.s l.fn.q }
-
-abbrev pub decreases-loop-k : goal.decreases-loop-k
-decreases-loop-k l = l.n - l.k
+invariant-loop-k l = l.p ≡ blocksOf l.k l.s l.fn.q

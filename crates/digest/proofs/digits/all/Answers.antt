@@ -6,17 +6,15 @@ use Rattle.digest.proofs.digits.all.Goals as goal
 
 pub loop-i-init : goal.loop-i-init
 unfolding hexOf
-loop-i-init c = record { bound = omega arith; digits = refl }
+loop-i-init c = refl
 
 pub loop-i-preserved : goal.loop-i-preserved
-loop-i-preserved c = record {
-  bound = omega arith;
-  digits = digits-written c.args.b.now c.loop-i.i (omega arith) c.loop-i.invariant.digits c.two-d.ensures c.put.ensures;
-}
+loop-i-preserved c =
+    digits-written c.args.b.now c.loop-i.i (omega arith) c.loop-i.invariant c.two-d.ensures c.put.ensures
 
 pub returns : goal.returns
 returns c =
     let e : c.loop-i.i ≡ 16 = omega arith in
-    c.loop-i.invariant.digits
+    c.loop-i.invariant
     ∙ ap (λ (k : ℕ). sets blank 0 (hexOf (take k c.args.b.now))) e
     ∙ all-written c.args.b.now c.requires

@@ -1,12 +1,9 @@
 -- After i turns the digits of the first i bytes stand first.
-use Rattle.std.proofs.Common.{◌≡◌, ◌-◌, ◌≤◌, take}
+use Rattle.std.proofs.Common.{◌≡◌, take}
 use Rattle.std.proofs.lemmas.List.Edits.{sets}
 use Rattle.digest.specs.Hex.{hexOf}
 use Rattle.digest.proofs.Written.{blank}
 use Rattle.digest.proofs.digits.all.Given as goal
 
 abbrev pub invariant-loop-i : goal.invariant-loop-i
-invariant-loop-i l = record { bound : l.i ≤ 16; digits : l.out ≡ sets blank 0 (hexOf (take l.i l.b)) }
-
-abbrev pub decreases-loop-i : goal.decreases-loop-i
-decreases-loop-i l = 16 - l.i
+invariant-loop-i l = l.out ≡ sets blank 0 (hexOf (take l.i l.b))

@@ -5,13 +5,13 @@ use Rattle.digest.proofs.Laws.{hex-worth-small}
 use Rattle.digest.proofs.digits.value.Goals as goal
 
 pub overflow_mul-v : goal.overflow_mul-v
-overflow_mul-v c = omega (arith, read_below 16 hexWorth _ _ c.loop-i.invariant 7 (omega arith) (omega arith))
+overflow_mul-v c = omega (arith, read_below 16 hexWorth _ _ c.loop-b.invariant 7 (omega arith) (omega arith))
 
 pub overflow_add-v : goal.overflow_add-v
 overflow_add-v c =
-    let small = read_below 16 hexWorth _ _ c.loop-i.invariant 7 (omega arith) (omega arith) in
+    let small = read_below 16 hexWorth _ _ c.loop-b.invariant 7 (omega arith) (omega arith) in
     omega (arith, hex-worth-small)
 
-pub loop-i-preserved : goal.loop-i-preserved
-loop-i-preserved c =
-    rw c.worth.ensures (one-read 16 hexWorth _ _ c.loop-i.invariant c.loop-i-test.true refl (hex-worth-small _))
+pub loop-b-preserved : goal.loop-b-preserved
+loop-b-preserved c =
+    rw c.worth.ensures (one-read 16 hexWorth _ _ c.loop-b.invariant c.loop-b-test.true refl (hex-worth-small _))
