@@ -54,14 +54,11 @@ pub fn read_digits(s: &[u8]) -> Number
     ensures { result ≡ readDigits s.now }
 {
     let mut v: u64 = 0;
-    let mut i = 0;
-    while i < s.len() {
-        let b = s[i];
-        if !is_digit(b) {
+    for b in s {
+        if !is_digit(*b) {
             return Number::NotANumber;
         }
-        v = v * 10 + (b - b'0') as u64;
-        i += 1;
+        v = v * 10 + (*b - b'0') as u64;
     }
     Number::Value(v)
 }
