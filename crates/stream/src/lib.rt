@@ -57,14 +57,12 @@ pub fn find(s: &[u8], b: u8) -> usize
     ensures place { result ≡ index_of b s.now }
     ensures within { result ≤ length s.now }
 {
-    let mut i = 0;
-    while i < s.len() {
-        if s[i] == b {
+    for (i, x) in s.iter().enumerate() {
+        if *x == b {
             return i;
         }
-        i += 1;
     }
-    i
+    s.len()
 }
 
 // The bytes up to the first CR, collected as the phase allows.
