@@ -2,12 +2,11 @@
 --   Named b          what the bodies' rows show of the letters of b
 --   Sought k s i     the search for the body of Class k that s names has passed i bodies, none of which it names
 -- Assumes nothing.
-use Prim.Native.Nat.{ℕ, ◌+◌, ◌<◌, ◌≤◌}
+use Prim.Native.Nat.{ℕ, ◌+◌, ◌<◌}
 use mathlib.Core.Path.{◌≡◌, refl, sym, ◌∙◌}
 use mathlib.Core.Bool.{Bool, true, false, ◌&&◌}
 use mathlib.Core.List.{List, [], ◌∷◌, map}
 use native.Mathlib.Numerals.{add-one}
-use native.Mathlib.Omega.{arith}
 use lib.ListN.{get_or, drop}
 use lib.Seq.{drop-cons}
 use lib.Dec.{eqb}
@@ -66,17 +65,13 @@ pub named-in-class : (s : List ℕ) (b : Body) → sameBy upperOf s (bodyText b)
 named-in-class s b e = (λ i. eq-eqb (class_of b) (class_of b) refl i && e i)
 
 module _ (k : ℕ) (s : List ℕ) where
-  pub record Sought (i : ℕ) : Type 0 where
-    pub inside : i ≤ 19
-    pub rest : bodyNamed k s ≡ firstNamed (drop i bodies) k s
+  abbrev pub Sought : ℕ → Type 0
+  Sought i = bodyNamed k s ≡ firstNamed (drop i bodies) k s
 
   pub none-sought : Sought 0
   unfolding bodyNamed
-  none-sought = record { inside = omega arith; rest = refl }
+  none-sought = refl
 
   pub one-sought : (d : Body) {i : ℕ} {t : Bool} → Sought i → i < 19 → t ≡ isBody k s (get_or bodies i d) → t ≡ false
       → Sought (i + 1)
-  one-sought d {i} st h e f = record {
-    inside = omega arith;
-    rest = st.rest ∙ rw (add-one, drop-cons bodies i d, sym e ∙ f);
-  }
+  one-sought d {i} st h e f = st ∙ rw (add-one, drop-cons bodies i d, sym e ∙ f)

@@ -63,14 +63,10 @@ pub fn is_body(k: u8, a: u8, b: u8, c: u8, d: u8, body: Body) -> bool
 pub fn body_named(k: u8, a: u8, b: u8, c: u8, d: u8) -> MaybeBody
     ensures { result ≡ bodyNamed k (a ∷ b ∷ c ∷ d ∷ []) }
 {
-    let bodies = BODIES;
-    let mut i = 0;
-    while i < 19 {
-        let body = bodies[i];
+    for body in BODIES {
         if is_body(k, a, b, c, d, body) {
             return MaybeBody::BodyIs(body);
         }
-        i += 1;
     }
     MaybeBody::NoBody
 }
