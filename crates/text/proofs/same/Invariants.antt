@@ -1,10 +1,6 @@
-use Rattle.std.proofs.Common.{length, ◌-◌}
 use Rattle.text.specs.Scans.{itself}
 use Rattle.text.proofs.Scanning.{Alike}
 use Rattle.text.proofs.same.Given as goal
 
 abbrev pub invariant-loop-i : goal.invariant-loop-i
 invariant-loop-i l = Alike itself l.a l.b l.i
-
-abbrev pub decreases-loop-i : goal.decreases-loop-i
-decreases-loop-i l = length l.a - l.i
