@@ -9,4 +9,3 @@ pub mod LegalLines
 pub mod LinesSpelt
 pub mod LastBytes
 pub mod WholeParts
-pub mod FirstPlace

@@ -57,12 +57,7 @@ pub fn find(s: &[u8], b: u8) -> usize
     ensures place { result ≡ index_of b s.now }
     ensures within { result ≤ length s.now }
 {
-    for (i, x) in s.iter().enumerate() {
-        if *x == b {
-            return i;
-        }
-    }
-    s.len()
+    s.iter().position(|x| *x == b).unwrap_or(s.len())
 }
 
 // The bytes up to the first CR, collected as the phase allows.

@@ -1,12 +1,18 @@
-use Rattle.std.proofs.Common.{arith}
-use Rattle.stream.proofs.FirstPlace.{index-here, index-later, index-none}
+-- The first place that `position` tells, or the length where it tells none, is what `index_of` counts.
+use Rattle.std.proofs.Common.{◌≡◌, ◌≢◌, rules, refl, sym, ◌∙◌, add-one, eq-eqb}
+use Rattle.std.proofs.lemmas.Bool.{ne_eqb}
+use Rattle.std.proofs.lemmas.Iterator.{YieldsList-from_slice, IsFirst-from_position, index_from_first}
+use borrow.Author.Tests.{tests}
+use Rattle.stream.specs.Places.{index_after, index_of}
 use Rattle.stream.proofs.find.Goals as goal
 
-pub returns-then-x-b-clause-place : goal.returns-then-x-b-clause-place
-returns-then-x-b-clause-place c = grind (arith, index-here)
-
-pub loop-i-preserved : goal.loop-i-preserved
-loop-i-preserved c = grind (arith, index-later)
-
 pub returns-clause-place : goal.returns-clause-place
-returns-clause-place c = grind (arith, index-none)
+unfolding index_of index_after
+returns-clause-place c =
+    let b = c.args.b in
+    let s = c.args.s.now in
+    let first = IsFirst-from_position _ _ _ (λ x. x ≡ b) (λ x. x ≢ b) c.position.ensures.ran
+    (YieldsList-from_slice s cc) (λ x q k. search (rules, tests)) (λ x q k. search (rules, tests)) in
+    c.unwrap_or.ensures
+    ∙ sym (index_from_first (index_of b) (λ x. x ≡ b) (λ x. x ≢ b) refl (λ x xs e. rw (eq-eqb x b e) refl)
+    (λ x xs e. rw (ne_eqb x b e) (simp add-one)) s _ first)
