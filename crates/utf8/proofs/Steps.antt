@@ -56,23 +56,16 @@ module _ (r : Rest) (b : ℕ) (s : List ℕ) where
 -- the bytes of s before i are read, and r is what is left of a character then
 module _ (s : List ℕ) where
   pub record Read (i : ℕ) (r : Rest) : Type 0 where
-    pub inside : i ≤ length s
     pub rest : isUtf8 s ≡ isFrom (ranges r) (drop i s)
 
   pub none_read : {r : Rest} → r.0 ≡ 0 → Read 0 r
   unfolding isUtf8
-  none_read {r} e = record {
-    inside = omega arith;
-    rest = ap (λ (n : ℕ). isFrom (left_of n r.1 r.2) s) (sym e);
-  }
+  none_read {r} e = record { rest = ap (λ (n : ℕ). isFrom (left_of n r.1 r.2) s) (sym e) }
 
   module _ {i : ℕ} {r : Rest} (p : Read i r) where
     pub one-read : i < length s → {q : Rest}
         → ((t : List ℕ) → isFrom (ranges r) (get_or s i 0 ∷ t) ≡ isFrom (ranges q) t) → Read (i + 1) q
-    one-read h step = record {
-      inside = omega arith;
-      rest = p.rest ∙ rw (add-one, drop-cons s i 0) (step (drop (suc i) s));
-    }
+    one-read h step = record { rest = p.rest ∙ rw (add-one, drop-cons s i 0) (step (drop (suc i) s)) }
 
     pub all_read : length s ≤ i → isUtf8 s ≡ eqb r.0 0
     all_read h = p.rest ∙ ap (isFrom (ranges r)) (drop_of_length-le s h) ∙ ended r.0
