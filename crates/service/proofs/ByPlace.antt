@@ -26,13 +26,12 @@ difference-at (e ∷ es) (l ∷ ls) d h (suc i) k = difference-at es ls d (omega
 
 module _ (es ls : List ℕ) (out₀ : List ℤ) where
   pub record Placed (out : List ℤ) (i : ℕ) : Type 0 where
-    pub inside : i ≤ length es
     pub same : length es ≡ length ls
     pub room : length out ≡ length out₀
     pub stored : out ≡ sets out₀ 0 (take i (differences es ls))
 
   pub none-placed : length es ≡ length ls → Placed out₀ 0
-  none-placed h = record { inside = omega arith; same = h; room = refl; stored = refl }
+  none-placed h = record { same = h; room = refl; stored = refl }
 
   module _ {out : List ℤ} {i : ℕ} (p : Placed out i) where
     pub one_placed : i < length es → {z : ℤ} → z ≡ get_or ls i 0 minus get_or es i 0 → Placed (set out i z) (i + 1)
@@ -41,7 +40,6 @@ module _ (es ls : List ℕ) (out₀ : List ℤ) where
         let within : i < length ds = omega (arith, differences-long es ls p.same) in
         let put = sets_more out₀ 0 ds i (pos 0) within p.stored in
         record {
-          inside = omega arith;
           same = p.same;
           room = simp length-set p.room;
           stored = (λ j. set out (sym (zero-add i) j) ((g ∙ sym (difference-at es ls (pos 0) p.same i h)) j)) ∙ put;
