@@ -10,11 +10,8 @@ pub fn connections_ok(connections: [Connection; PLACES]) -> bool
     ensures { result ≡ isConnections connections }
 {
     let mut ok = true;
-    let mut place = 0;
-    while place < PLACES {
-        let c = connections[place];
+    for &c in &connections {
         ok = ok & connection::connection_ok(c);
-        place += 1;
     }
     ok
 }

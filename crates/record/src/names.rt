@@ -28,16 +28,13 @@ fn are_names(bytes: &[u8], lengths: &[usize], count: usize) -> bool
 {
     let mut ok = true;
     let mut at = 0;
-    let mut i = 0;
-    while i < lengths.len() {
-        let n = lengths[i];
+    for &n in lengths {
         if bytes.len() - at < n {
             return count == 0;
         }
         let end = at + n;
         ok = ok & texts::is_text(&bytes[at..end], 128);
         at = end;
-        i += 1;
     }
     if at != bytes.len() {
         return count == 0;

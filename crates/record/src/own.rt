@@ -63,10 +63,8 @@ pub fn none_marked(marks: [bool; LAMPS_MOST], from: usize) -> bool
     ensures { result ≡ every not (drop from marks) }
 {
     let mut none = true;
-    let mut i = from;
-    while i < LAMPS_MOST {
+    for i in from..LAMPS_MOST {
         none = none & !marks[i];
-        i += 1;
     }
     none
 }

@@ -1,4 +1,4 @@
-use Rattle.std.proofs.Common.{◌+◌, ◌*◌, ◌<◌, length, arith}
+use Rattle.std.proofs.Common.{◌≡◌, ◌+◌, ◌*◌, ◌/◌, ◌<◌, length, arith}
 use Rattle.lines.specs.Inputs.{isInputText}
 use Rattle.record.specs.Rules.{eachNamed}
 use Rattle.record.proofs.Pairs.{one-paired, all-paired}
@@ -11,4 +11,6 @@ loop-k-preserved c =
 
 pub returns : goal.returns
 unfolding eachNamed
-returns c = all-paired (isInputText c.args.class) _ c.loop-k.invariant (omega arith)
+returns c =
+    let end : length c.args.s.now / 2 ≡ c.loop-k.k = omega arith in
+    rw end (all-paired (isInputText c.args.class) _ c.loop-k.invariant (omega arith))

@@ -1,10 +1,6 @@
-use Rattle.std.proofs.Common.{◌-◌}
 use Rattle.lines.specs.Inputs.{isInputText}
 use Rattle.record.proofs.Pairs.{Paired}
 use Rattle.record.proofs.inputs.all_named.Given as goal
 
 abbrev pub invariant-loop-k : goal.invariant-loop-k
 invariant-loop-k l = Paired (isInputText l.class) l.s l.k l.ok
-
-abbrev pub decreases-loop-k : goal.decreases-loop-k
-decreases-loop-k l = l.pairs - l.k

@@ -6,13 +6,13 @@ use Rattle.record.proofs.names.are_names.Goals as goal
 pub returns-then-bytes-at : goal.returns-then-bytes-at
 returns-then-bytes-at c =
     none-wanted _ _ _
-    (name-past _ _ c.loop-i.invariant c.loop-i-test.true
-    (omega (arith, c.if-bytes-at.true, c.loop-i.invariant.inside)))
+    (name-past _ _ c.loop-n.invariant (omega arith)
+    (omega (arith, c.if-bytes-at.true, c.loop-n.invariant.inside)))
 
 pub returns-then-at-bytes : goal.returns-then-at-bytes
 returns-then-at-bytes c =
     none-wanted _ _ _
-    (bytes_left _ _ c.loop-i.invariant c.args.count c.loop-i-test.false c.if-at-bytes.true)
+    (bytes_left _ _ c.loop-n.invariant c.args.count (omega arith) c.if-at-bytes.true)
 
 pub returns : goal.returns
-returns c = all-names-passed _ _ c.loop-i.invariant c.args.count c.loop-i-test.false c.if-at-bytes.false
+returns c = all-names-passed _ _ c.loop-n.invariant c.args.count (omega arith) c.if-at-bytes.false

@@ -4,11 +4,11 @@ use Rattle.record.specs.Legal.{is_zero}
 use Rattle.record.proofs.Sifted.{one-sifted, picked, passed-by}
 use Rattle.record.proofs.scan.line_room.Goals as goal
 
-pub loop-i-preserved : goal.loop-i-preserved
-loop-i-preserved c =
-    let at = ap (λ (k : ℕ). ltb k c.args.n) c.loop-i.invariant.0 in
-    let byte = get_or c.args.s.now c.loop-i.i 0 in (
+pub loop-b-preserved : goal.loop-b-preserved
+loop-b-preserved c =
+    let at = ap (λ (k : ℕ). ltb k c.args.n) c.loop-b.invariant.0 in
+    let byte = get_or c.args.s.now c.loop-b.b-index 0 in (
       omega arith,
-      one-sifted notCr is_zero _ _ c.loop-i.invariant.1 (search rules)
+      one-sifted notCr is_zero _ _ c.loop-b.invariant.1 (search rules)
           (λ e. picked (notCr byte) _ (at ∙ e)) (λ e. passed-by _ (is_zero byte) (at ∙ e)),
     )

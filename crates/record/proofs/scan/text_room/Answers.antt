@@ -6,13 +6,13 @@ use Rattle.record.specs.Legal.{is_zero}
 use Rattle.record.proofs.Sifted.{one-sifted, picked, passed-by}
 use Rattle.record.proofs.scan.text_room.Goals as goal
 
-pub loop-i-preserved : goal.loop-i-preserved
-loop-i-preserved c =
-    let at = ap (λ (k : ℕ). ltb k c.args.n) c.loop-i.invariant.0 in
-    let byte = get_or c.args.s.now c.loop-i.i 0 in
-    let small : byte ≤ 0xFF = omega (arith, c.type_inv.s c.loop-i.i) in
+pub loop-b-preserved : goal.loop-b-preserved
+loop-b-preserved c =
+    let at = ap (λ (k : ℕ). ltb k c.args.n) c.loop-b.invariant.0 in
+    let byte = get_or c.args.s.now c.loop-b.b-index 0 in
+    let small : byte ≤ 0xFF = omega (arith, c.type_inv.s c.loop-b.b-index) in
     let whole : leb 0x20 byte ≡ isTextByte byte = sym (rw (le-leb byte 0xFF small) (no_more _)) in (
       omega arith,
-      one-sifted isTextByte is_zero _ _ c.loop-i.invariant.1 (search rules)
+      one-sifted isTextByte is_zero _ _ c.loop-b.invariant.1 (search rules)
           (λ e. picked _ _ (at ∙ e) ∙ whole) (λ e. passed-by _ (is_zero byte) (at ∙ e)),
     )

@@ -1,11 +1,8 @@
-use Rattle.std.proofs.Common.{◌≡◌, ◌-◌, length}
+use Rattle.std.proofs.Common.{◌≡◌}
 use Rattle.lines.specs.Texts.{isTextByte}
 use Rattle.record.specs.Legal.{is_zero}
 use Rattle.record.proofs.Sifted.{Sifted}
 use Rattle.record.proofs.scan.text_room.Given as goal
 
-abbrev pub invariant-loop-i : goal.invariant-loop-i
-invariant-loop-i l = (l.k ≡ l.i) × Sifted isTextByte is_zero l.s l.n l.i l.ok
-
-abbrev pub decreases-loop-i : goal.decreases-loop-i
-decreases-loop-i l = length l.s - l.i
+abbrev pub invariant-loop-b : goal.invariant-loop-b
+invariant-loop-b l = (l.k ≡ l.b-index) × Sifted isTextByte is_zero l.s l.n l.b-index l.ok

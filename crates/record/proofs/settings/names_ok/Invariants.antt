@@ -1,12 +1,7 @@
-use Rattle.std.proofs.Common.{◌-◌}
 use Rattle.lines.specs.Texts.{inputNameMost}
-use Rattle.record.specs.Limits.{listedMost}
 use Rattle.record.specs.Legal.{fillsNameRoom}
 use Rattle.record.proofs.Sifted.{Sifted}
 use Rattle.record.proofs.settings.names_ok.Given as goal
 
 abbrev pub invariant-loop-i : goal.invariant-loop-i
-invariant-loop-i l = Sifted (fillsNameRoom inputNameMost) (fillsNameRoom 0) l.names l.count l.i l.ok
-
-abbrev pub decreases-loop-i : goal.decreases-loop-i
-decreases-loop-i l = listedMost - l.i
+invariant-loop-i l = Sifted (fillsNameRoom inputNameMost) (fillsNameRoom 0) l.t-items l.count l.i l.ok
