@@ -21,15 +21,13 @@ pub enum Verdict {
 fn without_rig(allowed: &[u8], count: usize, rigs: &[u8]) -> usize
     ensures { result ≡ first (lacksRig allowed.now count rigs.now) (length rigs.now) }
 {
-    let mut j = 0;
-    while j < rigs.len() {
-        let rig = rules::byte_at(rigs, j);
+    for (j, rig) in rigs.iter().enumerate() {
+        let rig = *rig as usize;
         if !((rig < count) & rules::is_allowed(rules::byte_at(allowed, j), rig)) {
             return j;
         }
-        j += 1;
     }
-    j
+    rigs.len()
 }
 
 // The lowest job that starts before its rig's W.
@@ -37,14 +35,12 @@ fn too_early(starts: &[u32], warm: &[u32], rigs: &[u8]) -> usize
     ensures { result ≡ first (isEarly starts.now warm.now rigs.now)
         (length rigs.now) }
 {
-    let mut j = 0;
-    while j < rigs.len() {
-        if rules::at(starts, j) < rules::at(warm, rules::byte_at(rigs, j)) {
+    for (j, rig) in rigs.iter().enumerate() {
+        if rules::at(starts, j) < rules::at(warm, *rig as usize) {
             return j;
         }
-        j += 1;
     }
-    j
+    rigs.len()
 }
 
 // The lowest job after i that clashes with it.
@@ -60,8 +56,7 @@ fn clash_with(
     ensures { result ≡ partner starts.now lengths.now warm.now cool.now
         rigs.now i }
 {
-    let mut j = i + 1;
-    while j < rigs.len() {
+    for j in i + 1..rigs.len() {
         if rules::meets_on(
             starts,
             lengths,
@@ -74,9 +69,8 @@ fn clash_with(
         ) {
             return j;
         }
-        j += 1;
     }
-    j
+    rigs.len()
 }
 
 // The lowest job that clashes with a later one.
@@ -84,14 +78,12 @@ fn clashing(starts: &[u32], lengths: &[u32], warm: &[u32], cool: &[u32], rigs: &
     ensures { result ≡ first (hasClash starts.now lengths.now warm.now cool.now
         rigs.now) (length rigs.now) }
 {
-    let mut i = 0;
-    while i < rigs.len() {
+    for i in 0..rigs.len() {
         if clash_with(starts, lengths, warm, cool, rigs, i) < rigs.len() {
             return i;
         }
-        i += 1;
     }
-    i
+    rigs.len()
 }
 
 // The lowest rig that burns more than it has left.
@@ -100,14 +92,12 @@ fn spent(lengths: &[u32], warm: &[u32], life: &[u32], rigs: &[u8]) -> usize
     ensures { result ≡ first (isSpent lengths.now warm.now life.now rigs.now)
         (length warm.now) }
 {
-    let mut r = 0;
-    while r < warm.len() {
+    for r in 0..warm.len() {
         if (rules::at(life, r) as u64) < rules::burnt_on(lengths, warm, rigs, r) {
             return r;
         }
-        r += 1;
     }
-    r
+    warm.len()
 }
 
 fn judge(

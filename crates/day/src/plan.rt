@@ -33,12 +33,10 @@ fn is_free(
     ensures { result ≡ isFree starts.now lengths.now warm.now cool.now
         placed.now rig }
 {
-    let mut i = 0;
-    while i < placed.len() {
+    for i in 0..placed.len() {
         if rules::meets_on(starts, lengths, warm, cool, placed, rig, i, placed.len()) {
             return false;
         }
-        i += 1;
     }
     true
 }
@@ -83,14 +81,12 @@ fn rig_for(
         warm.now cool.now life.now) placed.now)
         (length warm.now) }
 {
-    let mut r = 0;
-    while r < warm.len() {
+    for r in 0..warm.len() {
         if is_joining(starts, lengths, allowed, warm, cool, life, placed, r) {
             return r;
         }
-        r += 1;
     }
-    r
+    warm.len()
 }
 
 // The jobs placed, one after the other, up to the first that finds no rig.
@@ -107,8 +103,7 @@ fn place(
         cool.now life.now) result.count result.rigs }
 {
     let mut rigs = [0; 64];
-    let mut j = 0;
-    while j < starts.len() {
+    for j in 0..starts.len() {
         let rig = rig_for(starts, lengths, allowed, warm, cool, life, &rigs[..j]);
         if warm.len() <= rig {
             return Placing {
@@ -117,10 +112,9 @@ fn place(
             };
         }
         rigs[j] = rig as u8;
-        j += 1;
     }
     Placing {
-        count: j,
+        count: starts.len(),
         rigs: rigs,
     }
 }

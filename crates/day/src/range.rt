@@ -26,12 +26,10 @@ fn is_rig_or_job(of_rigs: bool, x: u32, y: u32) -> bool
 fn each_of(of_rigs: bool, xs: &[u32], ys: &[u32]) -> bool
     ensures { result ≡ eachOf of_rigs xs.now ys.now }
 {
-    let mut k = 0;
-    while k < xs.len() {
-        if !is_rig_or_job(of_rigs, rules::at(xs, k), rules::at(ys, k)) {
+    for (k, x) in xs.iter().enumerate() {
+        if !is_rig_or_job(of_rigs, *x, rules::at(ys, k)) {
             return false;
         }
-        k += 1;
     }
     true
 }

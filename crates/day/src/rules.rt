@@ -92,10 +92,8 @@ pub fn burnt_on(lengths: &[u32], warm: &[u32], rigs: &[u8], rig: usize) -> u64
     ensures { (result ≡ burnt lengths.now warm.now rigs.now rig) × (result ≤ 549_755_813_888) }
 {
     let mut total: u64 = 0;
-    let mut j = 0;
-    while j < rigs.len() {
+    for j in 0..rigs.len() {
         total += burnt_by(lengths, warm, rigs, rig, j);
-        j += 1;
     }
     total
 }

@@ -7,4 +7,4 @@ pub returns-then-clash_with-rigs : goal.returns-then-clash_with-rigs
 returns-then-clash_with-rigs c = found _ _ c.loop-i.invariant (grind (arith, common_steps))
 
 pub returns : goal.returns
-returns c = all-sought _ _ c.loop-i.invariant c.loop-i-test.false
+returns c = omega (arith, all-sought _ _ c.loop-i.invariant c.loop-i-test.false)

@@ -7,4 +7,4 @@ pub returns-then-at-burnt_on : goal.returns-then-at-burnt_on
 returns-then-at-burnt_on c = found _ _ c.loop-r.invariant (grind (arith, common_steps))
 
 pub returns : goal.returns
-returns c = all-sought _ _ c.loop-r.invariant c.loop-r-test.false
+returns c = omega (arith, all-sought _ _ c.loop-r.invariant c.loop-r-test.false)

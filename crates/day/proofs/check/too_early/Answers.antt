@@ -7,4 +7,4 @@ pub returns-then-at : goal.returns-then-at
 returns-then-at c = found _ _ c.loop-j.invariant (grind (arith, common_steps))
 
 pub returns : goal.returns
-returns c = all-sought _ _ c.loop-j.invariant c.loop-j-test.false
+returns c = omega (arith, all-sought _ _ c.loop-j.invariant c.loop-j-test.false)

@@ -7,4 +7,4 @@ pub returns-then-not-rig-count : goal.returns-then-not-rig-count
 returns-then-not-rig-count c = found _ _ c.loop-j.invariant (grind (arith, common_steps))
 
 pub returns : goal.returns
-returns c = all-sought _ _ c.loop-j.invariant c.loop-j-test.false
+returns c = omega (arith, all-sought _ _ c.loop-j.invariant c.loop-j-test.false)

@@ -7,4 +7,4 @@ pub returns-then-is_joining : goal.returns-then-is_joining
 returns-then-is_joining c = found _ _ c.loop-r.invariant (grind (arith, common_steps))
 
 pub returns : goal.returns
-returns c = all-sought _ _ c.loop-r.invariant c.loop-r-test.false
+returns c = omega (arith, all-sought _ _ c.loop-r.invariant c.loop-r-test.false)

@@ -1,5 +1,5 @@
 -- Each rig, or each job, passed is in its range.
-use Rattle.std.proofs.Common.{length, ◌-◌}
+use Rattle.std.proofs.Common.{length}
 use Rattle.day.specs.Finding.{fails, ◌nth◌}
 use Rattle.day.specs.Days.{isRigOrJob}
 use Rattle.day.proofs.Finding.{Sought}
@@ -7,6 +7,3 @@ use Rattle.day.proofs.range.each_of.Given as goal
 
 abbrev pub invariant-loop-k : goal.invariant-loop-k
 invariant-loop-k l = Sought (fails (λ k. isRigOrJob l.of_rigs (l.xs nth k) (l.ys nth k))) (length l.xs) l.k
-
-abbrev pub decreases-loop-k : goal.decreases-loop-k
-decreases-loop-k l = length l.xs - l.k
