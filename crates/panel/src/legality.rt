@@ -87,11 +87,8 @@ fn entries_ok(entries: [Entry; PANEL_MOST]) -> bool
     ensures { result ≡ isEntries entries }
 {
     let mut ok = true;
-    let mut i = 0;
-    while i < PANEL_MOST {
-        let e = entries[i];
-        ok = ok & entry_ok(e);
-        i += 1;
+    for e in entries.iter() {
+        ok = ok & entry_ok(*e);
     }
     ok
 }
@@ -100,11 +97,8 @@ fn unused_from(entries: [Entry; PANEL_MOST], count: usize) -> bool
     ensures { result ≡ every isUnused (drop count entries) }
 {
     let mut ok = true;
-    let mut i = count;
-    while i < PANEL_MOST {
-        let e = entries[i];
-        ok = ok & is_unused(e);
-        i += 1;
+    for i in count..PANEL_MOST {
+        ok = ok & is_unused(entries[i]);
     }
     ok
 }

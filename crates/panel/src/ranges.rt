@@ -46,11 +46,9 @@ fn hours_ok(hours: [u32; LAMPS_MOST], count: usize) -> bool
         return false;
     }
     let mut ok = true;
-    let mut i = 0;
-    while i < LAMPS_MOST {
+    for (i, h) in hours.iter().enumerate() {
         let used = i < count;
-        ok = ok & ((used & (hours[i] <= HOURS_MOST)) | (!used & (hours[i] == 0)));
-        i += 1;
+        ok = ok & ((used & (*h <= HOURS_MOST)) | (!used & (*h == 0)));
     }
     ok
 }

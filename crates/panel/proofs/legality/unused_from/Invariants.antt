@@ -1,10 +1,6 @@
-use Rattle.std.proofs.Common.{◌-◌}
 use Rattle.record.proofs.Tested.{TestedFrom}
-use Rattle.panel.specs.LegalPanels.{panelMost, isUnused}
+use Rattle.panel.specs.LegalPanels.{isUnused}
 use Rattle.panel.proofs.legality.unused_from.Given as goal
 
 abbrev pub invariant-loop-i : goal.invariant-loop-i
 invariant-loop-i l = TestedFrom isUnused l.entries l.count l.i l.ok
-
-abbrev pub decreases-loop-i : goal.decreases-loop-i
-decreases-loop-i l = panelMost - l.i

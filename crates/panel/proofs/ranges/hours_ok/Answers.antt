@@ -16,7 +16,6 @@ returns-then-count-gt-LAMPS_MOST c =
 
 pub loop-i-preserved : goal.loop-i-preserved
 loop-i-preserved c =
-    let size : length c.args.hours ≡ lampsCarried = search rules in
     let hours = get_or c.args.hours c.loop-i.i 0 in
     one-sifted (at_most hoursMost) is_zero _ _ c.loop-i.invariant (omega arith)
     (picked (leb hours hoursMost) (eqb hours 0)) (passed-by (leb hours hoursMost) (eqb hours 0))

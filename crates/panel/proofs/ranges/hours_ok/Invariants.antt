@@ -1,5 +1,3 @@
-use Rattle.std.proofs.Common.{◌-◌}
-use Rattle.answers.specs.Carried.{lampsCarried}
 use Rattle.answers.specs.CanSay.{hoursMost}
 use Rattle.record.specs.Rules.{at_most}
 use Rattle.record.specs.Legal.{is_zero}
@@ -7,7 +5,4 @@ use Rattle.record.proofs.Sifted.{Sifted}
 use Rattle.panel.proofs.ranges.hours_ok.Given as goal
 
 abbrev pub invariant-loop-i : goal.invariant-loop-i
-invariant-loop-i l = Sifted (at_most hoursMost) is_zero l.hours l.count l.i l.ok
-
-abbrev pub decreases-loop-i : goal.decreases-loop-i
-decreases-loop-i l = lampsCarried - l.i
+invariant-loop-i l = Sifted (at_most hoursMost) is_zero l.h-items l.count l.i l.ok
