@@ -4,12 +4,13 @@
 --   Behind f n i j    such a loop that starts behind i has come to j
 -- Assumes nothing.
 use Prim.Native.Nat.{ℕ, zero, suc, ◌+◌, ◌<◌, ◌≤◌}
-use mathlib.Core.Path.{◌≡◌, refl, sym, ap, subst}
+use mathlib.Core.Path.{◌≡◌, refl, sym, ap, subst, ◌∙◌}
 use mathlib.Core.Bool.{Bool, true, false, not}
 use mathlib.Core.Logic.{⊎_elim}
 use native.Mathlib.Omega.{arith}
 use borrow.Author.Tests.{eqb-true, eq-eqb, ne_eqb, not-false}
 use borrow.Author.Count.{below_more}
+use Rattle.std.specs.Prelude.{Option, None, Some, MatchOption, unwrap_or}
 use Rattle.text.proofs.Choices.{if-by}
 use Rattle.text.proofs.Orders.{le-or-lt}
 use Rattle.day.specs.Finding.{first, firstFrom, fails, each}
@@ -84,6 +85,13 @@ module _ (f : ℕ → Bool) where
     pub first-none : ((k : ℕ) → k < n → f k ≡ false) → first f n ≡ n
     first-none h = first-is (record { upto = omega arith; before = h; here = λ k. absurd (omega arith) })
 
+    pub first-by : (r : Option ℕ)
+        → MatchOption r ((k : ℕ) → k < n → f k ≡ false)
+        (λ x. (x < n) × (f x ≡ true) × ((k : ℕ) → k < x → f k ≡ false))
+        → unwrap_or r n ≡ first f n
+    first-by None h = sym (first-none h)
+    first-by (Some x) h = sym (first-is (record { upto = omega arith; before = h.2; here = λ k. h.1 }))
+
     pub none_below : n ≤ first f n → (k : ℕ) → k < n → f k ≡ false
     none_below h k p = first-lowest.before k (omega arith)
 
@@ -118,6 +126,11 @@ module _ (g : ℕ → Bool) (n : ℕ) where
   pub each_all : ((k : ℕ) → k < n → g k ≡ true) → each g n ≡ true
   unfolding each
   each_all h = eq-eqb (first (fails g) n) n (first-none (fails g) n (λ k p. ap not (h k p)))
+
+  pub each-by : (b : Bool) → (b ≡ true → (k : ℕ) → k < n → g k ≡ true)
+      → (((k : ℕ) → k < n → g k ≡ true) → b ≡ true) → b ≡ each g n
+  each-by true all back = sym (each_all (all refl))
+  each-by false all back = by-test (each g n) (λ e. back (each-told e) ∙ sym e) sym
 
   module _ {i : ℕ} (s : Sought (fails g) n i) where
     pub one-fails : i < n → g i ≡ false → each g n ≡ false

@@ -21,13 +21,12 @@ pub enum Verdict {
 fn without_rig(allowed: &[u8], count: usize, rigs: &[u8]) -> usize
     ensures { result ≡ first (lacksRig allowed.now count rigs.now) (length rigs.now) }
 {
-    for (j, rig) in rigs.iter().enumerate() {
-        let rig = *rig as usize;
-        if !((rig < count) & rules::is_allowed(rules::byte_at(allowed, j), rig)) {
-            return j;
-        }
-    }
-    rigs.len()
+    (0..rigs.len())
+        .find(|&j| {
+            let rig = rules::byte_at(rigs, j);
+            !((rig < count) & rules::is_allowed(rules::byte_at(allowed, j), rig))
+        })
+        .unwrap_or(rigs.len())
 }
 
 // The lowest job that starts before its rig's W.
@@ -35,12 +34,9 @@ fn too_early(starts: &[u32], warm: &[u32], rigs: &[u8]) -> usize
     ensures { result ≡ first (isEarly starts.now warm.now rigs.now)
         (length rigs.now) }
 {
-    for (j, rig) in rigs.iter().enumerate() {
-        if rules::at(starts, j) < rules::at(warm, *rig as usize) {
-            return j;
-        }
-    }
-    rigs.len()
+    (0..rigs.len())
+        .find(|&j| rules::at(starts, j) < rules::at(warm, rules::byte_at(rigs, j)))
+        .unwrap_or(rigs.len())
 }
 
 // The lowest job after i that clashes with it.
@@ -92,12 +88,9 @@ fn spent(lengths: &[u32], warm: &[u32], life: &[u32], rigs: &[u8]) -> usize
     ensures { result ≡ first (isSpent lengths.now warm.now life.now rigs.now)
         (length warm.now) }
 {
-    for r in 0..warm.len() {
-        if (rules::at(life, r) as u64) < rules::burnt_on(lengths, warm, rigs, r) {
-            return r;
-        }
-    }
-    warm.len()
+    (0..warm.len())
+        .find(|&r| (rules::at(life, r) as u64) < rules::burnt_on(lengths, warm, rigs, r))
+        .unwrap_or(warm.len())
 }
 
 fn judge(

@@ -33,12 +33,8 @@ fn is_free(
     ensures { result ≡ isFree starts.now lengths.now warm.now cool.now
         placed.now rig }
 {
-    for i in 0..placed.len() {
-        if rules::meets_on(starts, lengths, warm, cool, placed, rig, i, placed.len()) {
-            return false;
-        }
-    }
-    true
+    let n = placed.len();
+    (0..n).all(|i| !rules::meets_on(starts, lengths, warm, cool, placed, rig, i, n))
 }
 
 // The rules, as far as they concern the next job on the rig.
@@ -81,12 +77,9 @@ fn rig_for(
         warm.now cool.now life.now) placed.now)
         (length warm.now) }
 {
-    for r in 0..warm.len() {
-        if is_joining(starts, lengths, allowed, warm, cool, life, placed, r) {
-            return r;
-        }
-    }
-    warm.len()
+    (0..warm.len())
+        .find(|&r| is_joining(starts, lengths, allowed, warm, cool, life, placed, r))
+        .unwrap_or(warm.len())
 }
 
 // The jobs placed, one after the other, up to the first that finds no rig.

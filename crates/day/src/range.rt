@@ -26,12 +26,7 @@ fn is_rig_or_job(of_rigs: bool, x: u32, y: u32) -> bool
 fn each_of(of_rigs: bool, xs: &[u32], ys: &[u32]) -> bool
     ensures { result ≡ eachOf of_rigs xs.now ys.now }
 {
-    for (k, x) in xs.iter().enumerate() {
-        if !is_rig_or_job(of_rigs, *x, rules::at(ys, k)) {
-            return false;
-        }
-    }
-    true
+    (0..xs.len()).all(|k| is_rig_or_job(of_rigs, rules::at(xs, k), rules::at(ys, k)))
 }
 
 pub fn is_day(

@@ -1,10 +1,7 @@
-use Rattle.std.proofs.Common.{arith}
-use Rattle.std.proofs.lemmas.Grind.{common_steps}
-use Rattle.day.proofs.Finding.{found, all-sought}
+use Rattle.std.proofs.Common.{rules, ◌∙◌}
+use Rattle.std.proofs.iter.runs.Sources.{ranges}
+use Rattle.day.proofs.Finding.{first-by}
 use Rattle.day.proofs.check.spent.Goals as goal
 
-pub returns-then-at-burnt_on : goal.returns-then-at-burnt_on
-returns-then-at-burnt_on c = found _ _ c.loop-r.invariant (grind (arith, common_steps))
-
 pub returns : goal.returns
-returns c = omega (arith, all-sought _ _ c.loop-r.invariant c.loop-r-test.false)
+returns c = c.unwrap_or.ensures ∙ first-by _ _ c.find.result (search (rules, ranges))

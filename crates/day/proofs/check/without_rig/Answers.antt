@@ -1,10 +1,7 @@
-use Rattle.std.proofs.Common.{arith}
-use Rattle.std.proofs.lemmas.Grind.{common_steps}
-use Rattle.day.proofs.Finding.{found, all-sought}
+use Rattle.std.proofs.Common.{rules, ◌∙◌}
+use Rattle.std.proofs.iter.runs.Sources.{ranges}
+use Rattle.day.proofs.Finding.{first-by}
 use Rattle.day.proofs.check.without_rig.Goals as goal
 
-pub returns-then-not-rig-count : goal.returns-then-not-rig-count
-returns-then-not-rig-count c = found _ _ c.loop-j.invariant (grind (arith, common_steps))
-
 pub returns : goal.returns
-returns c = omega (arith, all-sought _ _ c.loop-j.invariant c.loop-j-test.false)
+returns c = c.unwrap_or.ensures ∙ first-by _ _ c.find.result (search (rules, ranges))
