@@ -91,10 +91,8 @@ fn put_errors(out: &mut [u8], at: usize, errors: [u8; TEXT_MOST]) -> usize
     ensures value { result ≡ at + length (map numberDigit (take errorsCarried errors)) }
     ensures out_after { out.new ≡ sets out.old at (map numberDigit (take errorsCarried errors)) }
 {
-    let mut i = 0;
-    while i < ERRORS_COUNT {
+    for i in 0..ERRORS_COUNT {
         out[at + i] = input::number_digit(errors[i]);
-        i += 1;
     }
     at + ERRORS_COUNT
 }
@@ -132,11 +130,9 @@ fn put_lamps(out: &mut [u8], at: usize, lamps: [LampHours; LAMPS_MOST], count: u
 {
     let most = least(count, LAMPS_MOST);
     let mut p = at;
-    let mut i = 0;
-    while i < most {
+    for i in 0..most {
         p = put_gap(out, p, i);
         p = put_lamp(out, p, lamps[i]);
-        i += 1;
     }
     p
 }
@@ -149,11 +145,9 @@ fn put_inputs(out: &mut [u8], at: usize, inputs: [Input; INPUTS_MOST], count: us
 {
     let most = least(count, INPUTS_MOST);
     let mut p = at;
-    let mut i = 0;
-    while i < most {
+    for i in 0..most {
         p = put_gap(out, p, i);
         p = put_all(out, p, &input::input_text(inputs[i]));
-        i += 1;
     }
     p
 }

@@ -6,12 +6,12 @@ use Rattle.answers.proofs.write.put_inputs.Goals as goal
 
 pub put_gap-p-requires : goal.put_gap-p-requires
 put_gap-p-requires c =
-    let st = c.loop-i.invariant.put in
+    let st = c.loop-i.invariant in
     omega (arith, put-room st, put-within st 2 (λ x. omega arith))
 
 pub put_all-p-requires : goal.put_all-p-requires
 put_all-p-requires c =
-    let st = c.loop-i.invariant.put in
+    let st = c.loop-i.invariant in
     omega (
       arith,
       put-room st,
@@ -25,11 +25,7 @@ loop-i-preserved c =
     let gap = c.put_gap-p in
     let text = c.input_text.ensures in
     let all = c.put_all-p.ensures in
-    record {
-      in_range = omega arith;
-      put =
-          one-put c.loop-i.invariant.put _ (omega arith) (gap.ensures.value, gap.ensures.out_after) (
-            all.value ∙ ap (λ (l : List ℕ). gap.result + length l) text,
-            all.out_after ∙ ap (sets gap.new.out gap.result) text,
-          );
-    }
+    one-put c.loop-i.invariant _ (omega arith) (gap.ensures.value, gap.ensures.out_after) (
+      all.value ∙ ap (λ (l : List ℕ). gap.result + length l) text,
+      all.out_after ∙ ap (sets gap.new.out gap.result) text,
+    )

@@ -6,20 +6,16 @@ use Rattle.answers.proofs.write.put_lamps.Goals as goal
 
 pub put_gap-p-requires : goal.put_gap-p-requires
 put_gap-p-requires c =
-    let st = c.loop-i.invariant.put in
+    let st = c.loop-i.invariant in
     omega (arith, put-room st, put-within st 12 lamp-short)
 
 pub put_lamp-p-requires : goal.put_lamp-p-requires
 put_lamp-p-requires c =
-    let st = c.loop-i.invariant.put in
+    let st = c.loop-i.invariant in
     omega (arith, put-room st, put-within st 12 lamp-short, gap-short c.loop-i.i)
 
 pub loop-i-preserved : goal.loop-i-preserved
 loop-i-preserved c =
     let gap = c.put_gap-p.ensures in
     let lamp = c.put_lamp-p.ensures in
-    record {
-      in_range = omega arith;
-      put =
-          one-put c.loop-i.invariant.put _ (omega arith) (gap.value, gap.out_after) (lamp.value, lamp.out_after);
-    }
+    one-put c.loop-i.invariant _ (omega arith) (gap.value, gap.out_after) (lamp.value, lamp.out_after)
