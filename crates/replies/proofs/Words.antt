@@ -96,5 +96,5 @@ module _ {p : List ℕ} {start i : ℕ} (st : InWord p start i) where
   pub word-closed : i < length p → get_or p i 0 ≡ code " " → WordTo p start i
   word-closed h e = ends (rw (drop-cons p i 0 h, eq-eqb (get_or p i 0) (code " ") e))
 
-  pub word-ended : length p ≤ i → WordTo p start i
-  word-ended h = ends (rw (drop_of_length-le p h))
+  pub word-ended : length p ≤ i → WordTo p start (length p)
+  word-ended h = let last : length p ≡ i = omega (arith, st.inside) in rw last (ends (rw (drop_of_length-le p h)))

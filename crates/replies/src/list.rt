@@ -21,14 +21,12 @@ fn word_end(p: &[u8], start: usize) -> usize
     requires { start ≤ length p.now }
     ensures { WordTo p.now start result }
 {
-    let mut i = start;
-    while i < p.len() {
+    for i in start..p.len() {
         if p[i] == b' ' {
             return i;
         }
-        i += 1;
     }
-    i
+    p.len()
 }
 
 // The lamp of two words.
@@ -52,9 +50,8 @@ pub fn read_lamps(p: &[u8]) -> Answer
     ensures { result ≡ answer_of (readLamps p.now) }
 {
     let mut lamps = [NO_LAMP; LAMPS_MOST];
-    let mut k: usize = 0;
     let mut at: usize = 0;
-    while k < LAMPS_MOST {
+    for k in 0..LAMPS_MOST {
         let mid = word_end(p, at);
         if p.len() <= mid {
             return answer::plain(Kind::Nothing);
@@ -66,9 +63,8 @@ pub fn read_lamps(p: &[u8]) -> Answer
             return answer::plain(Kind::Nothing);
         };
         lamps[k] = l;
-        k += 1;
         if p.len() <= end {
-            return answer::of_lamps(k, lamps);
+            return answer::of_lamps(k + 1, lamps);
         }
         at = end + 1;
     }
@@ -79,18 +75,16 @@ pub fn read_inputs(p: &[u8]) -> Answer
     ensures { result ≡ answer_of (readInputs p.now) }
 {
     let mut inputs = [NO_INPUT; INPUTS_MOST];
-    let mut k: usize = 0;
     let mut at: usize = 0;
-    while k < INPUTS_MOST {
+    for k in 0..INPUTS_MOST {
         let end = word_end(p, at);
         let found = input::input_of(&p[at..end]);
         let MaybeInput::InputIs(i) = found else {
             return answer::plain(Kind::Nothing);
         };
         inputs[k] = i;
-        k += 1;
         if p.len() <= end {
-            return answer::of_inputs(k, inputs);
+            return answer::of_inputs(k + 1, inputs);
         }
         at = end + 1;
     }

@@ -90,9 +90,7 @@ pub fn read_errors(p: &[u8]) -> Answer
         return answer::plain(Kind::Nothing);
     }
     let mut errors = [0; TEXT_MOST];
-    let mut i = 0;
-    while i < p.len() {
-        let b = p[i];
+    for (i, &b) in p.iter().enumerate() {
         if b < b'0' {
             return answer::plain(Kind::Nothing);
         }
@@ -100,7 +98,6 @@ pub fn read_errors(p: &[u8]) -> Answer
             return answer::plain(Kind::Nothing);
         }
         errors[i] = b - b'0';
-        i += 1;
     }
     answer::of_text(Kind::Errors, errors)
 }

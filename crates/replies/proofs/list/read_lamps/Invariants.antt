@@ -1,12 +1,8 @@
 -- k lamps are read, and the words that are left decide for the whole.
-use Rattle.std.proofs.Common.{◌-◌}
-use Rattle.answers.specs.Carried.{lampsCarried, noLamps}
+use Rattle.answers.specs.Carried.{noLamps}
 use Rattle.replies.specs.Reading.{lampsIn}
 use Rattle.replies.proofs.ReadLists.{ListAt}
 use Rattle.replies.proofs.list.read_lamps.Given as goal
 
 abbrev pub invariant-loop-k : goal.invariant-loop-k
 invariant-loop-k l = ListAt lampsIn noLamps l.p l.lamps l.k l.at
-
-abbrev pub decreases-loop-k : goal.decreases-loop-k
-decreases-loop-k l = lampsCarried - l.k
