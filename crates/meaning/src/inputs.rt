@@ -34,17 +34,13 @@ fn same_input(i: Input, j: Input) -> bool
 fn place_in(i: Input, pairs: [u8; INPUT_ROOM], count: usize) -> usize
     ensures { result ≡ place_in i (inputsOfPairs (take (2 * count) pairs)) }
 {
-    let mut k = 0;
-    while k < INPUTS_MOST {
-        if count <= k {
-            return k;
-        }
+    let most = count.min(INPUTS_MOST);
+    for k in 0..most {
         if same_input(input_of_pair(pairs[2 * k], pairs[2 * k + 1]), i) {
             return k;
         }
-        k += 1;
     }
-    k
+    most
 }
 
 pub fn place_of(s: Settings, i: Input) -> usize
@@ -77,13 +73,9 @@ pub fn told_inputs(pairs: [u8; INPUT_ROOM], count: usize) -> Answer
     ensures { result ≡ answer_of (inputsAre (inputsOfPairs (take (2 * count) pairs))) }
 {
     let mut inputs = [NO_INPUT; answer::INPUTS_MOST];
-    let mut k = 0;
-    while k < INPUTS_MOST {
-        if count <= k {
-            return answer::of_inputs(k, inputs);
-        }
+    let most = count.min(INPUTS_MOST);
+    for k in 0..most {
         inputs[k] = input_of_pair(pairs[2 * k], pairs[2 * k + 1]);
-        k += 1;
     }
-    answer::of_inputs(k, inputs)
+    answer::of_inputs(most, inputs)
 }

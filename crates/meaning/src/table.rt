@@ -66,18 +66,14 @@ fn lamps_said(
     ensures { result ≡ answer_of (lampsAre (lampsSaid lit marks (take count seconds))) }
 {
     let mut lamps = [NO_LAMP; LAMPS_MOST];
-    let mut k = 0;
-    while k < LAMPS_MOST {
-        if count <= k {
-            return answer::of_lamps(k, lamps);
-        }
+    let most = count.min(LAMPS_MOST);
+    for k in 0..most {
         lamps[k] = LampHours {
             hours: seconds[k] / HOUR,
             lit: lit & marks[k],
         };
-        k += 1;
     }
-    answer::of_lamps(k, lamps)
+    answer::of_lamps(most, lamps)
 }
 
 fn told_lamps(s: Settings, o: Own) -> Answer

@@ -15,40 +15,31 @@ compared : (i x : Input) (pairs : List ℕ) (count k : ℕ) (t : Bool) → k < c
 compared i x pairs count k t h room e same =
     ap (λ (x : Input). sameInput x i) (input-in-use pairs count k h room noInput ∙ sym e) ∙ sym same
 
-pub returns-then-count-k : goal.returns-then-count-k
-returns-then-count-k c =
-    let pairs = c.args.pairs in
-    let used = take (2 * c.args.count) pairs in
-    sym (all-sought c.args.i (inputsOfPairs used) c.loop-k.invariant.sought
-    (at-most-inputs used c.loop-k.k (omega (arith, length-take (2 * c.args.count) pairs))))
-
 pub returns-then-same_input : goal.returns-then-same_input
 returns-then-same_input c =
     let size : length c.args.pairs ≡ inputRoom = search rules in
     let room : 2 * c.loop-k.k + 1 < length c.args.pairs = omega arith in
-    let here = compared c.args.i _ c.args.pairs c.args.count c.loop-k.k _ c.if-count-k.false room
+    let here = compared c.args.i _ c.args.pairs c.args.count c.loop-k.k _ (omega arith) room
     c.input_of_pair.ensures c.same_input.ensures in
-    sym (found_here _ _ c.loop-k.invariant.sought noInput
-    (place-in-use c.args.pairs c.args.count c.loop-k.k c.if-count-k.false room) (here ∙ c.if-same_input.true))
+    sym (found_here _ _ c.loop-k.invariant noInput
+    (place-in-use c.args.pairs c.args.count c.loop-k.k (omega arith) room) (here ∙ c.if-same_input.true))
 
 pub loop-k-preserved : goal.loop-k-preserved
 loop-k-preserved c =
     let size : length c.args.pairs ≡ inputRoom = search rules in
     let room : 2 * c.loop-k.k + 1 < length c.args.pairs = omega arith in
-    let here = compared c.args.i _ c.args.pairs c.args.count c.loop-k.k _ c.if-count-k.false room
+    let here = compared c.args.i _ c.args.pairs c.args.count c.loop-k.k _ (omega arith) room
     c.input_of_pair.ensures c.same_input.ensures in
-    record {
-      inside = omega arith;
-      counted = omega arith;
-      sought = not-here _ _ c.loop-k.invariant.sought noInput
-          (place-in-use c.args.pairs c.args.count c.loop-k.k c.if-count-k.false room)
-          (here ∙ c.if-same_input.false);
-    }
+    not-here _ _ c.loop-k.invariant noInput (place-in-use c.args.pairs c.args.count c.loop-k.k (omega arith) room)
+    (here ∙ c.if-same_input.false)
 
 pub returns : goal.returns
 returns c =
     let size : length c.args.pairs ≡ inputRoom = search rules in
     let pairs = c.args.pairs in
     let used = take (2 * c.args.count) pairs in
-    sym (all-sought c.args.i (inputsOfPairs used) c.loop-k.invariant.sought
-    (at-most-inputs used c.loop-k.k (omega (arith, length-take (2 * c.args.count) pairs))))
+    omega (
+      arith,
+      all-sought c.args.i (inputsOfPairs used) c.loop-k.invariant
+          (at-most-inputs used c.loop-k.k (omega (arith, length-take (2 * c.args.count) pairs))),
+    )

@@ -9,7 +9,7 @@ use Rattle.meaning.proofs.inputs.told_inputs.Goals as goal
 
 pub loop-k-init : goal.loop-k-init
 unfolding inputsOfPairs
-loop-k-init c = record { inside = omega arith; filled = none_filled (firstInputs c.args.pairs) noInputs _ refl }
+loop-k-init c = none_filled (firstInputs c.args.pairs) noInputs _ refl
 
 pub loop-k-preserved : goal.loop-k-preserved
 loop-k-preserved c =
@@ -18,8 +18,5 @@ loop-k-preserved c =
     let k = c.loop-k.k in
     let input : c.input_of_pair.result ≡ inputOfPair (get_or pairs (2 * k) 0) (get_or pairs (2 * k + 1) 0)
     = c.input_of_pair.ensures in
-    record {
-      inside = omega arith;
-      filled = one-filled (firstInputs pairs) noInputs _ c.input_of_pair.result c.loop-k.invariant.filled
-          c.if-count-k.false (one-more-named pairs k (omega arith) ∙ rw (← input));
-    }
+    one-filled (firstInputs pairs) noInputs _ c.input_of_pair.result c.loop-k.invariant (omega arith)
+    (one-more-named pairs k (omega arith) ∙ rw (← input))

@@ -1,8 +1,7 @@
 -- The array has the inputs of the pairs passed.
-use Rattle.std.proofs.Common.{ℕ, ◌*◌, ◌-◌, ◌≤◌, List, take}
+use Rattle.std.proofs.Common.{ℕ, ◌*◌, List, take}
 use Rattle.lines.specs.declared.input.Input.{Input}
 use Rattle.answers.specs.Carried.{noInputs}
-use Rattle.record.specs.Limits.{listedMost}
 use Rattle.meaning.specs.SetUpInputs.{inputsOfPairs}
 use Rattle.meaning.proofs.Filling.{Filled}
 use Rattle.meaning.proofs.inputs.told_inputs.Given as goal
@@ -11,10 +10,4 @@ abbrev pub firstInputs : List ℕ → ℕ → List Input
 firstInputs pairs k = inputsOfPairs (take (2 * k) pairs)
 
 abbrev pub invariant-loop-k : goal.invariant-loop-k
-invariant-loop-k l = record {
-  inside : l.k ≤ listedMost;
-  filled : Filled (firstInputs l.pairs) noInputs l.count l.inputs l.k;
-}
-
-abbrev pub decreases-loop-k : goal.decreases-loop-k
-decreases-loop-k l = listedMost - l.k
+invariant-loop-k l = Filled (firstInputs l.pairs) noInputs l.count l.inputs l.k

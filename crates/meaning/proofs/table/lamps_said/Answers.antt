@@ -6,13 +6,10 @@ use Rattle.meaning.proofs.table.lamps_said.Invariants.{firstSaid}
 use Rattle.meaning.proofs.table.lamps_said.Goals as goal
 
 pub loop-k-init : goal.loop-k-init
-loop-k-init c = record { inside = omega arith; filled = none_filled (firstSaid _ _ _) noLamps _ (none_said _ _) }
+loop-k-init c = none_filled (firstSaid _ _ _) noLamps _ (none_said _ _)
 
 pub loop-k-preserved : goal.loop-k-preserved
 loop-k-preserved c =
     let size : length c.args.seconds ≡ 8 = search rules in
-    record {
-      inside = omega arith;
-      filled = one-filled (firstSaid c.args.lit c.args.marks c.args.seconds) noLamps _ _ c.loop-k.invariant.filled
-          c.if-count-k.false (one-more-said c.args.lit c.args.marks c.args.seconds c.loop-k.k (omega arith));
-    }
+    one-filled (firstSaid c.args.lit c.args.marks c.args.seconds) noLamps _ _ c.loop-k.invariant (omega arith)
+    (one-more-said c.args.lit c.args.marks c.args.seconds c.loop-k.k (omega arith))

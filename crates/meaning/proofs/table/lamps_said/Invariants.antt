@@ -1,5 +1,5 @@
 -- The array has the hours of the lamps passed.
-use Rattle.std.proofs.Common.{ℕ, ◌-◌, ◌≤◌, Bool, List, take}
+use Rattle.std.proofs.Common.{ℕ, Bool, List, take}
 use Rattle.answers.specs.Carried.{noLamps}
 use Rattle.answers.specs.declared.answer.LampHours.{LampHours}
 use Rattle.meaning.specs.Meaning.{lampsSaid}
@@ -10,10 +10,4 @@ abbrev pub firstSaid : Bool → List Bool → List ℕ → ℕ → List LampHour
 firstSaid lit marks seconds k = lampsSaid lit marks (take k seconds)
 
 abbrev pub invariant-loop-k : goal.invariant-loop-k
-invariant-loop-k l = record {
-  inside : l.k ≤ 8;
-  filled : Filled (firstSaid l.lit l.marks l.seconds) noLamps l.count l.lamps l.k;
-}
-
-abbrev pub decreases-loop-k : goal.decreases-loop-k
-decreases-loop-k l = 8 - l.k
+invariant-loop-k l = Filled (firstSaid l.lit l.marks l.seconds) noLamps l.count l.lamps l.k
