@@ -1,32 +1,17 @@
--- The loops that flatten a list: the test of a turn, and the characters of one input more.
+-- The loop that flattens inputs: the characters of one input more.
 -- Assumes nothing.
 use Prim.Native.Nat.{ℕ, ◌+◌, ◌*◌, ◌<◌}
 use mathlib.Core.Path.{◌≡◌, refl, sym, ap, ◌∙◌}
-use mathlib.Core.Bool.{Bool, true, ◌&&◌}
 use mathlib.Core.List.{List, [], ◌∷◌, ◌++◌, append_assoc}
 use native.Mathlib.Omega.{arith}
 use lib.ListN.{length, get_or, set, take, length-append}
 use lib.Seq.{length-take-le}
-use lib.Dec.{ltb}
-use borrow.Author.Tests.{ltb-true}
-use Rattle.text.proofs.Choices.{both_left, both_right}
 use Rattle.text.proofs.InTurn.{turns-long, one-turn-more}
 use Rattle.text.proofs.Stores.{sets-snoc}
 use Rattle.lines.specs.Sources.{numberCharacter}
 use Rattle.lines.specs.Inputs.{inputText, sourceDigit}
 use Rattle.lines.specs.declared.input.Input.{Input}
 use Rattle.codes.specs.Readings.{filledTo, noCharacters, characters}
-
--- the test of a turn: below the array's room, and below the count
-abbrev pub goesOn : ℕ → ℕ → ℕ → Bool
-goesOn k room count = ltb k room && ltb k count
-
-module _ (k room count : ℕ) (e : goesOn k room count ≡ true) where
-  pub in-room : k < room
-  in-room = ltb-true k room (both_left (ltb k room) (ltb k count) e)
-
-  pub in_count : k < count
-  in_count = ltb-true k count (both_right (ltb k room) (ltb k count) e)
 
 -- one turn: two stores for one input more
 pub one-more-input : (l : List Input) (k : ℕ) (d : Input) {pairs : List ℕ} → k < length l

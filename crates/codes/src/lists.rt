@@ -36,15 +36,14 @@ pub fn lamps_of(lamps: [LampHours; LAMPS_MOST], count: usize) -> FlatReading
 {
     let mut hours = [0u32; LAMPS_MOST];
     let mut lit = [false; LAMPS_MOST];
-    let mut k = 0;
-    while (k < LAMPS_MOST) & (k < count) {
+    let most = count.min(LAMPS_MOST);
+    for k in 0..most {
         let lamp = lamps[k];
         hours[k] = lamp.hours;
         lit[k] = lamp.lit;
-        k += 1;
     }
     let mut flat = readings::plain(7, 0, 0);
-    flat.count = k;
+    flat.count = most;
     flat.hours = hours;
     flat.lit = lit;
     flat
@@ -54,16 +53,15 @@ pub fn inputs_of(inputs: [Input; INPUTS_MOST], count: usize) -> FlatReading
     ensures { result ≡ withInputs (take (min count inputsCarried) inputs) }
 {
     let mut pairs = [0u8; CHARACTERS];
-    let mut k = 0;
-    while (k < INPUTS_MOST) & (k < count) {
+    let most = count.min(INPUTS_MOST);
+    for k in 0..most {
         let i = inputs[k];
         let source = i.source;
         pairs[2 * k] = input::source_digit(source);
         pairs[2 * k + 1] = input::number_character(i.number);
-        k += 1;
     }
     let mut flat = readings::plain(8, 0, 0);
-    flat.count = k;
+    flat.count = most;
     flat.inputs = pairs;
     flat
 }

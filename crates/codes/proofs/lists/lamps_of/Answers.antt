@@ -1,7 +1,6 @@
 use Rattle.std.proofs.Common.{rules, arith, ◌≡◌, ◌<◌, length}
 use Rattle.meaning.proofs.Filling.{one-filled, one-more-turned}
 use Rattle.codes.specs.Readings.{hoursOf, lit_of}
-use Rattle.codes.proofs.Flattening.{in-room, in_count}
 use Rattle.codes.proofs.lists.lamps_of.Goals as goal
 
 pub loop-k-preserved : goal.loop-k-preserved
@@ -9,11 +8,8 @@ loop-k-preserved c =
     let lamps = c.args.lamps in
     let k = c.loop-k.k in
     let size : length lamps ≡ 8 = search rules in
-    let less = in-room k 8 c.args.count c.loop-k-test.true in
-    let counted = in_count k 8 c.args.count c.loop-k-test.true in
     let here : k < length lamps = omega arith in
     record {
-      inside = omega arith;
-      told = one-filled _ _ _ _ c.loop-k.invariant.told counted (one-more-turned hoursOf lamps k _ here);
-      shown = one-filled _ _ _ _ c.loop-k.invariant.shown counted (one-more-turned lit_of lamps k _ here);
+      told = one-filled _ _ _ _ c.loop-k.invariant.told (omega arith) (one-more-turned hoursOf lamps k _ here);
+      shown = one-filled _ _ _ _ c.loop-k.invariant.shown (omega arith) (one-more-turned lit_of lamps k _ here);
     }
