@@ -9,13 +9,10 @@ use record::types::{Connection, PLACES};
 pub fn lowest_shut(connections: [Connection; PLACES]) -> usize
     ensures { result ≡ lowestShut connections }
 {
-    let mut place = 0;
-    while place < PLACES {
-        let c = connections[place];
+    for (place, c) in connections.iter().enumerate() {
         if c.phase == SHUT {
             return place;
         }
-        place += 1;
     }
     PLACES
 }
