@@ -43,12 +43,10 @@ pub fn names_of(bytes: &[u8], lengths: &[usize], count: usize) -> [InputName; IN
 {
     let mut list = [InputName::EMPTY; INPUTS_MOST];
     let mut at = 0;
-    let mut i = 0;
-    while i < count {
+    for i in 0..count {
         let end = at + lengths[i];
         list[i] = name_of(&bytes[at..end]);
         at = end;
-        i += 1;
     }
     list
 }
@@ -67,11 +65,7 @@ pub fn lamp_room(s: &[u32]) -> [u32; LAMPS_MOST]
     ensures { result ≡ inRoom lampsMost s.now }
 {
     let mut list = [0u32; LAMPS_MOST];
-    let mut i = 0;
-    while i < s.len() {
-        list[i] = s[i];
-        i += 1;
-    }
+    list[..s.len()].copy_from_slice(s);
     list
 }
 
@@ -81,10 +75,8 @@ pub fn mark_room(count: usize) -> [bool; LAMPS_MOST]
     ensures { result ≡ allMarks count }
 {
     let mut list = [false; LAMPS_MOST];
-    let mut i = 0;
-    while i < count {
+    for i in 0..count {
         list[i] = true;
-        i += 1;
     }
     list
 }

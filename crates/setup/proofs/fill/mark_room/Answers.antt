@@ -4,12 +4,9 @@ use Rattle.record.proofs.MarksTold.{no-marks, one-more-mark}
 use Rattle.setup.proofs.fill.mark_room.Goals as goal
 
 pub loop-i-init : goal.loop-i-init
-loop-i-init c = record { inside = omega arith; first = sym no-marks }
+loop-i-init c = sym no-marks
 
 pub loop-i-preserved : goal.loop-i-preserved
 loop-i-preserved c =
-    record {
-      inside = omega arith;
-      first = ap (λ (l : List Bool). set l c.loop-i.i true) c.loop-i.invariant.first
-          ∙ one-more-mark c.loop-i.i (omega arith);
-    }
+    ap (λ (l : List Bool). set l c.loop-i.i true) c.loop-i.invariant
+    ∙ one-more-mark c.loop-i.i (omega arith)
