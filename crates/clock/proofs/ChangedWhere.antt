@@ -70,12 +70,11 @@ module _ {A : Type 0} (f : A → A) where
 -- the loop: it stops at so many lamps, or at the arrays' end
 module _ (f : ℕ → ℕ) (l : List ℕ) (ms : List Bool) (count : ℕ) where
   pub record ChangedTo (after : List ℕ) (k : ℕ) : Type 0 where
-    pub inside : k ≤ lampsMost
     pub counted : k ≤ count
     pub first : after ≡ changedWhere f (take k ms) l
 
   pub none-changed : ChangedTo l 0
-  none-changed = record { inside = omega arith; counted = omega arith; first = sym (where-none f l) }
+  none-changed = record { counted = omega arith; first = sym (where-none f l) }
 
   module _ {after : List ℕ} {k : ℕ} (done : ChangedTo after k) where
     pub count-changed : count ≤ k → after ≡ changedWhere f (take count ms) l
@@ -94,7 +93,6 @@ module _ (f : ℕ → ℕ) (l : List ℕ) (ms : List Bool) (count : ℕ) where
           → v ≡ (if get_or ms k false then f (get_or l k 0) else get_or l k 0)
           → ChangedTo (set after k v) (k + 1)
       one-changed long h c e = record {
-        inside = omega arith;
         counted = omega arith;
         first =
             (λ i. set (done.first i) k (e i))

@@ -9,11 +9,8 @@ pub fn connections_after(connections: [Connection; PLACES], n: u32) -> [Connecti
     ensures { result ≡ map (times connectionSecond n) connections }
 {
     let mut after = connections;
-    let mut place = 0;
-    while place < PLACES {
-        let c = connections[place];
-        after[place] = connection::connection_after(c, n);
-        place += 1;
+    for (place, c) in connections.iter().enumerate() {
+        after[place] = connection::connection_after(*c, n);
     }
     after
 }

@@ -70,13 +70,11 @@ fn burnt(
     ensures { result ≡ changedWhere (times oneMore n) (take count enabled) lamps }
 {
     let mut after = lamps;
-    let mut k = 0;
-    while k < LAMPS_MOST {
+    for k in 0..LAMPS_MOST {
         if count <= k {
             return after;
         }
         after[k] = lamp_if(enabled[k], lamps[k], n);
-        k += 1;
     }
     after
 }
