@@ -1,7 +1,7 @@
 -- Marks written as bytes, one after the other (02, L8).
---   MarksPut lent p ms n out i      the loop that writes n of the marks ms from the place p on has come to i
+--   MarksPut lent p ms out i      the loop that writes the marks ms from the place p on has come to i
 -- Assumes nothing.
-use Prim.Native.Nat.{ℕ, zero, suc, ◌+◌, ◌≤◌, ◌<◌}
+use Prim.Native.Nat.{ℕ, zero, suc, ◌+◌, ◌<◌}
 use mathlib.Core.Path.{◌≡◌, refl, sym, ap, ◌∙◌}
 use mathlib.Core.Bool.{Bool, false}
 use mathlib.Core.List.{List, [], ◌∷◌, map}
@@ -16,21 +16,18 @@ take-map f zero s = refl
 take-map f (suc n) [] = refl
 take-map {B = B} f (suc n) (x ∷ s) = ap (λ (l : List B). f x ∷ l) (take-map f n s)
 
-module _ (lent : List ℕ) (p : ℕ) (ms : List Bool) (n : ℕ) where
+module _ (lent : List ℕ) (p : ℕ) (ms : List Bool) where
   pub record MarksPut (out : List ℕ) (i : ℕ) : Type 0 where
-    pub inside : i ≤ n
     pub stored : out ≡ sets lent p (take i (map markByte ms))
 
   module _ {out : List ℕ} {i : ℕ} (put : MarksPut out i) where
-    pub one-mark-put : {b : ℕ} → i < n → n ≤ length ms → b ≡ markByte (get_or ms i false)
+    pub one-mark-put : {b : ℕ} → i < length ms → b ≡ markByte (get_or ms i false)
         → MarksPut (set out (p + i) b) (i + 1)
-    one-mark-put h k e = record {
-      inside = omega arith;
+    one-mark-put h e = record {
       stored = ap (set out (p + i)) (e ∙ sym (get_or-map markByte ms i false))
           ∙ sets_more lent p (map markByte ms) i 0 (omega (arith, length-map ms markByte)) put.stored;
     }
 
-    pub all-marks-put : n ≤ i → out ≡ sets lent p (map markByte (take n ms))
-    all-marks-put h =
-        let last : i ≡ n = omega (arith, put.inside) in
-        put.stored ∙ ap (sets lent p) (ap (λ (k : ℕ). take k (map markByte ms)) last ∙ take-map markByte n ms)
+    pub all-marks-put : (n : ℕ) → i ≡ n → out ≡ sets lent p (map markByte (take n ms))
+    all-marks-put n e =
+        put.stored ∙ ap (sets lent p) (ap (λ (k : ℕ). take k (map markByte ms)) e ∙ take-map markByte n ms)

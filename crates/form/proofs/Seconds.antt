@@ -1,7 +1,7 @@
 -- The lamps' seconds, four bytes each: none, the first, how long, one lamp more, lamp by lamp.
---   SecondsPut lent p xs n out i      the loop that writes n of the seconds xs from the place p on has come to i
+--   SecondsPut lent p xs out i      the loop that writes the seconds xs from the place p on has come to i
 -- Assumes nothing.
-use Prim.Native.Nat.{ℕ, ◌+◌, ◌*◌, ◌≤◌, ◌<◌}
+use Prim.Native.Nat.{ℕ, ◌+◌, ◌*◌, ◌<◌}
 use mathlib.Core.Path.{◌≡◌, refl, sym, ap, ◌∙◌}
 use mathlib.Core.List.{List, [], ◌∷◌, ◌++◌}
 use native.Mathlib.Omega.{arith}
@@ -25,25 +25,23 @@ pub seconds-long : (xs : List ℕ) → length (secondsBytes xs) ≡ 4 * length x
 unfolding secondsBytes
 seconds-long = turns-long (highestFirst 4) 4 (highest-length 4)
 
-module _ (lent : List ℕ) (p : ℕ) (xs : List ℕ) (n : ℕ) where
+module _ (lent : List ℕ) (p : ℕ) (xs : List ℕ) where
   pub record SecondsPut (out : List ℕ) (i : ℕ) : Type 0 where
-    pub inside : i ≤ n
     pub stored : out ≡ sets lent p (secondsBytes (take i xs))
 
   pub none-put : SecondsPut lent 0
   unfolding secondsBytes
-  none-put = record { inside = omega arith; stored = refl }
+  none-put = record { stored = refl }
 
   module _ {out : List ℕ} {i : ℕ} (put : SecondsPut out i) where
-    pub one-put : {m : List ℕ} → i < n → n ≤ length xs → m ≡ sets out (p + 4 * i) (highestFirst 4 (get_or xs i 0))
+    pub one-put : {m : List ℕ} → i < length xs → m ≡ sets out (p + 4 * i) (highestFirst 4 (get_or xs i 0))
         → SecondsPut m (i + 1)
     unfolding secondsBytes
-    one-put h k e =
+    one-put h e =
         let before = secondsBytes (take i xs) in
         let long : length before ≡ 4 * i
         = seconds-long (take i xs) ∙ ap (λ (j : ℕ). 4 * j) (length-take-le i xs (omega arith)) in
         record {
-          inside = omega arith;
           stored =
               e
               ∙ sets_then lent p before (highestFirst 4 (get_or xs i 0)) put.stored (omega arith)

@@ -39,10 +39,8 @@ pub fn put_seconds(out: &mut [u8], p: usize, lamps: [u32; LAMPS_MOST], n: usize)
     requires n_in_bounds { p + 4 * n ≤ length out.old }
     ensures { out.new ≡ sets out.old p (secondsBytes (take n lamps)) }
 {
-    let mut i = 0;
-    while i < n {
+    for i in 0..n {
         highest::put_four(out, p + 4 * i, lamps[i]);
-        i += 1;
     }
 }
 
@@ -61,10 +59,8 @@ pub fn put_marks(out: &mut [u8], p: usize, marks: [bool; LAMPS_MOST], n: usize)
     requires n_in_bounds { p + n ≤ length out.old }
     ensures { out.new ≡ sets out.old p (map markByte (take n marks)) }
 {
-    let mut i = 0;
-    while i < n {
+    for i in 0..n {
         out[p + i] = mark_byte(marks[i]);
-        i += 1;
     }
 }
 
@@ -89,11 +85,9 @@ pub fn names_long(names: [InputName; INPUTS_MOST], n: usize) -> usize
     ensures upper_bound { result ≤ 129 * n }
 {
     let mut long = 0;
-    let mut i = 0;
-    while i < n {
+    for i in 0..n {
         let t = names[i];
         long = long + 1 + t.len;
-        i += 1;
     }
     long
 }
@@ -106,10 +100,8 @@ pub fn put_names(out: &mut [u8], p: usize, names: [InputName; INPUTS_MOST], n: u
     ensures { out.new ≡ sets out.old p (textsBytes (map nameStored (take n names))) }
 {
     let mut at = p;
-    let mut i = 0;
-    while i < n {
+    for i in 0..n {
         let t = names[i];
         at = put_name(out, at, t);
-        i += 1;
     }
 }

@@ -3,7 +3,7 @@ use Rattle.form.proofs.NamesWritten.{noName, no-name-long, one-name-long, name-i
 use Rattle.form.proofs.writing.names_long.Goals as goal
 
 pub loop-i-init : goal.loop-i-init
-loop-i-init c = (omega arith, (omega arith, no-name-long _))
+loop-i-init c = (omega arith, no-name-long _)
 
 pub overflow_add-long-in-loop-i : goal.overflow_add-long-in-loop-i
 overflow_add-long-in-loop-i c =
@@ -17,10 +17,7 @@ loop-i-preserved c =
     let legal = c.requires.names_value in
     let few = c.requires.n_le_listed_most in
     let more = c.loop-i-test.true in (
-      omega arith,
-      (
-        omega (arith, name-within _ _ legal few noName c.loop-i.i more),
-        one-name-long _ noName c.loop-i.invariant.1.1 (name-inside _ _ legal few noName _ more)
-            (name-stored-long _ _ legal few noName _ more),
-      ),
+      omega (arith, name-within _ _ legal few noName c.loop-i.i more),
+      one-name-long _ noName c.loop-i.invariant.1 (name-inside _ _ legal few noName _ more)
+          (name-stored-long _ _ legal few noName _ more),
     )

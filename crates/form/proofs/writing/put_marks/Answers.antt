@@ -3,8 +3,7 @@ use Rattle.form.proofs.MarksPut.{one-mark-put, all-marks-put}
 use Rattle.form.proofs.writing.put_marks.Goals as goal
 
 pub loop-i-preserved : goal.loop-i-preserved
-loop-i-preserved c =
-    one-mark-put _ _ _ _ c.loop-i.invariant c.loop-i-test.true (omega arith) c.mark_byte.ensures
+loop-i-preserved c = one-mark-put _ _ _ c.loop-i.invariant (omega arith) c.mark_byte.ensures
 
 pub returns : goal.returns
-returns c = all-marks-put _ _ _ _ c.loop-i.invariant c.loop-i-test.false
+returns c = all-marks-put _ _ _ c.loop-i.invariant _ (omega arith)

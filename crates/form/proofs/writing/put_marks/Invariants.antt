@@ -1,10 +1,6 @@
 -- Up to i each mark has its byte in memory.
-use Rattle.std.proofs.Common.{◌-◌}
 use Rattle.form.proofs.MarksPut.{MarksPut}
 use Rattle.form.proofs.writing.put_marks.Given as goal
 
 abbrev pub invariant-loop-i : goal.invariant-loop-i
-invariant-loop-i l = MarksPut l.fn.out l.p l.marks l.n l.out l.i
-
-abbrev pub decreases-loop-i : goal.decreases-loop-i
-decreases-loop-i l = l.n - l.i
+invariant-loop-i l = MarksPut l.fn.out l.p l.marks l.out l.i

@@ -1,11 +1,7 @@
 -- Up to i each name stands in memory after its count.
-use Rattle.std.proofs.Common.{◌≤◌, ◌-◌}
 use Rattle.text.proofs.Written.{Wrote}
 use Rattle.form.proofs.NamesWritten.{first}
 use Rattle.form.proofs.writing.put_names.Given as goal
 
 abbrev pub invariant-loop-i : goal.invariant-loop-i
-invariant-loop-i l = (l.i ≤ l.n) × Wrote l.fn.out l.p l.out l.at (first l.names l.i)
-
-abbrev pub decreases-loop-i : goal.decreases-loop-i
-decreases-loop-i l = l.n - l.i
+invariant-loop-i l = Wrote l.fn.out l.p l.out l.at (first l.names l.i)

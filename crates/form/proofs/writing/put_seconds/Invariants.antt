@@ -1,10 +1,6 @@
 -- Up to i each lamp has its four bytes in memory.
-use Rattle.std.proofs.Common.{◌-◌}
 use Rattle.form.proofs.Seconds.{SecondsPut}
 use Rattle.form.proofs.writing.put_seconds.Given as goal
 
 abbrev pub invariant-loop-i : goal.invariant-loop-i
-invariant-loop-i l = SecondsPut l.fn.out l.p l.lamps l.n l.out l.i
-
-abbrev pub decreases-loop-i : goal.decreases-loop-i
-decreases-loop-i l = l.n - l.i
+invariant-loop-i l = SecondsPut l.fn.out l.p l.lamps l.out l.i
