@@ -30,13 +30,11 @@ clear = replicate lampsMost false
 
 module _ (s : List ℕ) where
   pub record MarksKept (list : List Bool) (i : ℕ) : Type 0 where
-    pub inside : i ≤ length s
     pub stored : list ≡ sets clear 0 (take i (map isMarked s))
 
   module _ {list : List Bool} {i : ℕ} (kept : MarksKept list i) where
     pub one-mark-kept : {m : Bool} → i < length s → m ≡ isMarked (get_or s i 0) → MarksKept (set list i m) (i + 1)
     one-mark-kept {m} h e = record {
-      inside = omega arith;
       stored = (λ j. set list (sym (zero-add i) j) ((e ∙ sym (get_or-map isMarked s i 0)) j))
           ∙ sets_more clear 0 (map isMarked s) i false (omega (arith, length-map s isMarked)) kept.stored;
     }

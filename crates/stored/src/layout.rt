@@ -77,10 +77,8 @@ pub fn texts_long(s: &[u8], p: usize, n: usize) -> usize
     ensures upper_bound { result ≤ 256 * n }
 {
     let mut long = 0;
-    let mut i = 0;
-    while i < n {
+    for _ in 0..n {
         long = long + 1 + count_at(s, p + long);
-        i += 1;
     }
     long
 }

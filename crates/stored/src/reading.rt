@@ -21,10 +21,8 @@ pub fn seconds_at(s: &[u8], p: usize, n: usize) -> [u32; LAMPS_MOST]
     ensures { result ≡ inRoom lampsMost (secondsIn n (drop p s.now)) }
 {
     let mut list = [0u32; LAMPS_MOST];
-    let mut i = 0;
-    while i < n {
+    for i in 0..n {
         list[i] = highest::four_at(s, p + 4 * i);
-        i += 1;
     }
     list
 }
@@ -37,12 +35,10 @@ pub fn lengths_at(s: &[u8], p: usize, n: usize) -> [usize; INPUTS_MOST]
 {
     let mut list = [0usize; INPUTS_MOST];
     let mut at = p;
-    let mut i = 0;
-    while i < n {
+    for i in 0..n {
         let count = layout::count_at(s, at);
         list[i] = count;
         at = at + 1 + count;
-        i += 1;
     }
     list
 }
@@ -56,14 +52,12 @@ pub fn bytes_at(s: &[u8], p: usize, n: usize) -> [u8; JOINED_MOST]
     let mut list = [0u8; JOINED_MOST];
     let mut at = p;
     let mut to = 0;
-    let mut i = 0;
-    while i < n {
+    for _ in 0..n {
         let count = layout::count_at(s, at);
         let end = at + 1 + count;
         text::put(&mut list, to, &s[at + 1..end]);
         at = end;
         to += count;
-        i += 1;
     }
     list
 }
@@ -74,10 +68,8 @@ pub fn marks_of(s: &[u8]) -> [bool; LAMPS_MOST]
     ensures { result ≡ markRoom (map isMarked s.now) }
 {
     let mut list = [false; LAMPS_MOST];
-    let mut i = 0;
-    while i < s.len() {
-        list[i] = s[i] == 1;
-        i += 1;
+    for (i, b) in s.iter().enumerate() {
+        list[i] = *b == 1;
     }
     list
 }

@@ -1,10 +1,6 @@
 -- Each byte passed is kept as its mark, in a room without marks.
-use Rattle.std.proofs.Common.{length, ◌-◌}
 use Rattle.stored.proofs.MarksKept.{MarksKept}
 use Rattle.stored.proofs.reading.marks_of.Given as goal
 
 abbrev pub invariant-loop-i : goal.invariant-loop-i
 invariant-loop-i l = MarksKept l.s l.list l.i
-
-abbrev pub decreases-loop-i : goal.decreases-loop-i
-decreases-loop-i l = length l.s - l.i

@@ -1,5 +1,5 @@
 -- Each lamp passed has its seconds in a cleared room.
-use Rattle.std.proofs.Common.{◌-◌, drop}
+use Rattle.std.proofs.Common.{drop}
 use Rattle.record.specs.Limits.{lampsMost}
 use Rattle.record.proofs.Filled.{Copied}
 use Rattle.stored.specs.Loading.{secondsIn}
@@ -7,6 +7,3 @@ use Rattle.stored.proofs.reading.seconds_at.Given as goal
 
 abbrev pub invariant-loop-i : goal.invariant-loop-i
 invariant-loop-i l = Copied lampsMost (secondsIn l.n (drop l.p l.s)) l.list l.i
-
-abbrev pub decreases-loop-i : goal.decreases-loop-i
-decreases-loop-i l = l.n - l.i
