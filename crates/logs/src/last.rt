@@ -13,14 +13,9 @@ fn put_lamps(out: &mut [u8], at: usize, lamps: [u32; LAMPS_MOST], count: usize) 
     ensures out_after { out.new ≡ sets out.old at (lampsShown (take count lamps)) }
 {
     let mut place = at;
-    let mut k = 0;
-    while k < LAMPS_MOST {
-        if count <= k {
-            return place;
-        }
+    for k in 0..count.min(LAMPS_MOST) {
         text::put(out, place, b" ");
         place = numbers::put_number(out, place + 1, lamps[k]);
-        k += 1;
     }
     place
 }

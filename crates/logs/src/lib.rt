@@ -37,12 +37,10 @@ fn random_said(s: &[u8]) -> Says
     if s.len() != 8 {
         return Says::NoSuch;
     }
-    let mut i = 0;
-    while i < s.len() {
-        if !is_hex_digit(s[i]) {
+    for b in s {
+        if !is_hex_digit(*b) {
             return Says::NoSuch;
         }
-        i += 1;
     }
     Says::Opens(digest::hex_value(s))
 }

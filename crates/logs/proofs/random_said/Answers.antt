@@ -10,10 +10,10 @@ returns-then-s-ne8 c = sym (random-not-8 _ c.if-s-ne8.true)
 
 pub returns-then-not-is_hex_digit : goal.returns-then-not-is_hex_digit
 returns-then-not-is_hex_digit c =
-    sym (random-no-digit _ (one-fails isHexDigit _ 0 c.loop-i.invariant c.loop-i-test.true
+    sym (random-no-digit _ (one-fails isHexDigit _ 0 c.loop-b.invariant c.loop-b-test.true
     (sym c.is_hex_digit.ensures ∙ c.if-not-is_hex_digit.true)))
 
 pub returns : goal.returns
 returns c =
     ap Opens c.hex_value.ensures
-    ∙ sym (random-opens _ c.if-s-ne8.false (all-passed isHexDigit _ 0 c.loop-i.invariant c.loop-i-test.false))
+    ∙ sym (random-opens _ c.if-s-ne8.false (all-passed isHexDigit _ 0 c.loop-b.invariant c.loop-b-test.false))

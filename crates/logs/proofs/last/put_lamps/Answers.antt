@@ -15,5 +15,5 @@ put_number-place-requires c =
 
 pub loop-k-preserved : goal.loop-k-preserved
 loop-k-preserved c =
-    one-put _ _ _ _ c.loop-k.invariant (omega arith) c.if-count-k.false c.put.ensures
+    one-put _ _ _ _ c.loop-k.invariant (omega arith) (omega arith) c.put.ensures
     c.put_number-place.ensures.bytes c.put_number-place.ensures.count

@@ -1,10 +1,6 @@
 -- Up to k each lamp has its seconds in memory.
-use Rattle.std.proofs.Common.{◌-◌}
 use Rattle.logs.proofs.LampsShown.{PutTo}
 use Rattle.logs.proofs.last.put_lamps.Given as goal
 
 abbrev pub invariant-loop-k : goal.invariant-loop-k
 invariant-loop-k l = PutTo l.fn.out l.at l.lamps l.count l.out l.place l.k
-
-abbrev pub decreases-loop-k : goal.decreases-loop-k
-decreases-loop-k l = 8 - l.k
