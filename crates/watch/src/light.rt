@@ -35,13 +35,11 @@ pub fn gained(
     ensures { result ≡ changedWhere (λ (b : ℕ). b + n) (take count marks) burnt }
 {
     let mut after = burnt;
-    let mut k = 0;
-    while k < LAMPS_MOST {
+    for k in 0..LAMPS_MOST {
         if count <= k {
             return after;
         }
         after[k] = gain(marks[k], burnt[k], n);
-        k += 1;
     }
     after
 }
@@ -50,10 +48,8 @@ pub fn all_at_most(burnt: [u64; LAMPS_MOST], top: u64) -> bool
     ensures { result ≡ every (λ (b : ℕ). leb b top) burnt }
 {
     let mut ok = true;
-    let mut k = 0;
-    while k < LAMPS_MOST {
-        ok = ok & (burnt[k] <= top);
-        k += 1;
+    for b in burnt.iter() {
+        ok = ok & (*b <= top);
     }
     ok
 }

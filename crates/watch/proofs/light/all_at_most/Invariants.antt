@@ -1,10 +1,6 @@
-use Rattle.std.proofs.Common.{ℕ, ◌-◌, leb}
-use Rattle.record.specs.Limits.{lampsMost}
+use Rattle.std.proofs.Common.{ℕ, leb}
 use Rattle.text.proofs.Scanning.{Gathered}
 use Rattle.watch.proofs.light.all_at_most.Given as goal
 
-abbrev pub invariant-loop-k : goal.invariant-loop-k
-invariant-loop-k l = Gathered (λ (b : ℕ). leb b l.top) l.burnt l.k l.ok
-
-abbrev pub decreases-loop-k : goal.decreases-loop-k
-decreases-loop-k l = lampsMost - l.k
+abbrev pub invariant-loop-b : goal.invariant-loop-b
+invariant-loop-b l = Gathered (λ (b : ℕ). leb b l.top) l.fn.burnt l.b-index l.ok
