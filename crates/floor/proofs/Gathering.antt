@@ -1,7 +1,7 @@
 -- What is kept of a line, byte by byte, never passes a line's length and stays in its memory; the loop that collects
 -- it.
 --   InMemory k now      the line k has become `now`, in the same memory
---   GoneTo k bs n now i     the loop has come to i, and `now` is what the bytes before i, of the first n, made of k
+--   GoneTo k bs now i     the loop over bs has come to i, and `now` is what the bytes before i made of k
 -- Assumes nothing.
 use Prim.Native.Nat.{ℕ, ◌≤◌, ◌<◌}
 use Prim.Native.Char.{code}
@@ -47,8 +47,7 @@ line-in-memory k bs h =
     (λ m b n r. record { held = kept-held m b r.held; long = kept-long m b ∙ r.long }) k bs
     (record { held = h; long = refl })
 
-module _ (k : Line) (bs : List ℕ) (n : ℕ) where
+module _ (k : Line) (bs : List ℕ) where
   pub record GoneTo (now : Line) (i : ℕ) : Type 0 where
-    pub inside : i ≤ n
     pub long : length now.bytes ≡ length k.bytes
     pub so_far : now ≡ foldl keptWith k (take i bs)

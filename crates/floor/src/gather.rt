@@ -57,10 +57,8 @@ pub fn gather(k: Begun, line: &mut [u8], bytes: &[u8]) -> Gathered
 {
     let before = stream::find(bytes, b'\n');
     let mut begun = k;
-    let mut i = 0;
-    while i < before {
-        begun = collect(begun, line, bytes[i]);
-        i += 1;
+    for b in &bytes[..before] {
+        begun = collect(begun, line, *b);
     }
     Gathered {
         begun,

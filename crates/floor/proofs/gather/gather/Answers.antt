@@ -1,4 +1,5 @@
-use Rattle.std.proofs.Common.{◌≡◌, sym, ap, ◌∙◌, ℕ, length, take, nat_lt, arith}
+use Rattle.std.proofs.Common.{◌≡◌, sym, ap, ◌∙◌, ℕ, length, take, nat_lt}
+use Rattle.std.proofs.Math.Seq.{take_all}
 use mathlib.Core.List.{foldl}
 use Rattle.record.specs.declared.types.Line.{Line}
 use Rattle.stream.specs.Machine.{UpTo}
@@ -12,11 +13,11 @@ pub returns : goal.returns
 returns c =
     let bs = c.args.bytes.now in
     let first = keptOf c.args.k c.args.line.now in
-    let kept = keptOf c.loop-i.begun c.loop-i.line in
+    let kept = keptOf c.loop-b.begun c.loop-b.line in
     let place = c.find-before.ensures.place in
-    let come : index_of 10 bs ≡ c.loop-i.i = omega (arith, place, c.loop-i.invariant.inside) in
     let line : foldl keptWith first (take (index_of 10 bs) bs) ≡ kept =
-    ap (λ (n : ℕ). foldl keptWith first (take n bs)) come ∙ sym c.loop-i.invariant.so_far in
+    ap (λ (n : ℕ). foldl keptWith first (take n bs)) (sym place)
+    ∙ sym (c.loop-b.invariant.so_far ∙ ap (foldl keptWith first) (take_all _ _ c.loop-b-test.false)) in
     let all : upToLf first bs
     ≡ record { line = kept; before = c.find-before.result; ended = nat_lt c.find-before.result (length bs) } =
     all-at-once 10 keptWith first bs

@@ -1,11 +1,7 @@
--- The bytes up to i are collected one after the other.
-use Rattle.std.proofs.Common.{◌-◌}
+-- The bytes passed are collected one after the other.
 use Rattle.floor.specs.Reading.{keptOf}
 use Rattle.floor.proofs.Gathering.{GoneTo}
 use Rattle.floor.proofs.gather.gather.Given as goal
 
-abbrev pub invariant-loop-i : goal.invariant-loop-i
-invariant-loop-i l = GoneTo (keptOf l.fn.k l.fn.line) l.bytes l.before (keptOf l.begun l.line) l.i
-
-abbrev pub decreases-loop-i : goal.decreases-loop-i
-decreases-loop-i l = l.before - l.i
+abbrev pub invariant-loop-b : goal.invariant-loop-b
+invariant-loop-b l = GoneTo (keptOf l.fn.k l.fn.line) l.b-items (keptOf l.begun l.line) l.b-index
