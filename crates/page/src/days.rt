@@ -1,6 +1,6 @@
 // The rows of the days, and the bars in them. A row is 960 units for a day's hours, after room for the names; a second
 // is placed to a hundredth of a unit.
-ghost use Rattle.std.specs.Prelude.{◌<◌, ◌≤◌};
+ghost use Rattle.std.specs.Prelude.{◌≡◌, ◌<◌, ◌≤◌, max};
 
 use crate::{DAY, LAMPS, Stretch};
 use sink::Sink;
@@ -60,7 +60,9 @@ fn open<W: Write + Drop>(out: &mut Sink<W>, day: u64, count: usize) {
 }
 
 // Rows for so many days: for `last`, where there were fewer.
-pub fn open_to<W: Write + Drop>(out: &mut Sink<W>, days: u64, last: u64, count: usize) -> u64 {
+pub fn open_to<W: Write + Drop>(out: &mut Sink<W>, days: u64, last: u64, count: usize) -> u64
+    ensures { result ≡ max days last }
+{
     for before in days..last {
         open(out, before + 1, count);
     }
@@ -122,6 +124,7 @@ fn end_in(day: u64, to: u64) -> u64 {
 // What of the stretches lies in the day, counted from 1, where there are rows for so many days.
 pub fn draw<W: Write + Drop>(out: &mut Sink<W>, days: u64, s: Stretch, day: u64) -> u64
     requires { s.from ≤ s.to }
+    ensures { result ≡ max days day }
 {
     let opened = open_to(out, days, day, s.count);
     let x = first_in(day, s.from);

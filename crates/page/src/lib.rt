@@ -4,6 +4,9 @@
 // another.
 #![tactic(auto)]
 
+ghost use Rattle.std.specs.Prelude.{◌≡◌};
+ghost use Rattle.page.specs.Rows.{daysOf, rowsDrawn};
+
 mod days;
 mod frame;
 
@@ -37,7 +40,9 @@ pub fn begin<W: Write + Drop>(out: &mut Sink<W>) {
 }
 
 // So many days have one of these seconds. A log of no seconds has its first day all the same.
-fn days_of(seconds: u64) -> u64 {
+fn days_of(seconds: u64) -> u64
+    ensures { result ≡ daysOf seconds }
+{
     if 0 < seconds {
         return (seconds - 1) / DAY + 1;
     }
@@ -45,7 +50,9 @@ fn days_of(seconds: u64) -> u64 {
 }
 
 // There are rows for so many days; the last is open. The same, with what the stretches are drawn in.
-pub fn draw<W: Write + Drop>(out: &mut Sink<W>, days: u64, s: Stretch) -> u64 {
+pub fn draw<W: Write + Drop>(out: &mut Sink<W>, days: u64, s: Stretch) -> u64
+    ensures { result ≡ rowsDrawn days s.from s.to }
+{
     if s.to <= s.from {
         return days;
     }

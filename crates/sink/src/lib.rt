@@ -2,13 +2,16 @@
 // for it, as before a read that may wait. No contract can say what is written: all is proved safe and ending.
 #![tactic(auto)]
 
+ghost use Rattle.std.specs.Prelude.{◌≡◌, IsTrue, IfOk};
+
 use std::alloc::{AllocError, Global};
 use std::io::Write;
 
 // So many bytes wait at most.
 const ROOM: usize = 65536;
 
-// Once a write has failed nothing more is written: it would hide that bytes are missing.
+// Once a write has failed nothing more is written: it would hide that bytes are missing. Each call promises that a
+// failure is not forgotten.
 #[derive(Drop)]
 pub struct Sink<W: Write + Drop> {
     to: W,
@@ -17,7 +20,9 @@ pub struct Sink<W: Write + Drop> {
 }
 
 impl<W: Write + Drop> Sink<W> {
-    pub fn new(alloc: Global, to: W) -> Result<Sink<W>, AllocError> {
+    pub fn new(alloc: Global, to: W) -> Result<Sink<W>, AllocError>
+        ensures { IfOk result (λ s. IsTrue s.ok) }
+    {
         Ok(Sink {
             to,
             waiting: Vec::with_capacity(alloc, ROOM)?,
@@ -26,12 +31,16 @@ impl<W: Write + Drop> Sink<W> {
     }
 
     // Whether all that was to be written could be.
-    pub fn is_ok(&self) -> bool {
+    pub fn is_ok(&self) -> bool
+        ensures { result ≡ self.now.ok }
+    {
         self.ok
     }
 
     // At once: then nothing waits.
-    pub fn flush(&mut self) {
+    pub fn flush(&mut self)
+        ensures { IsTrue self.new.ok → IsTrue self.old.ok }
+    {
         if self.ok {
             self.ok = self.to.write_all(&self.waiting).is_ok();
         }
@@ -39,7 +48,9 @@ impl<W: Write + Drop> Sink<W> {
     }
 
     // What has no room is written at once, after what waits.
-    pub fn text(&mut self, bytes: &[u8]) {
+    pub fn text(&mut self, bytes: &[u8])
+        ensures { IsTrue self.new.ok → IsTrue self.old.ok }
+    {
         if ROOM.saturating_sub(self.waiting.len()) < bytes.len() {
             self.flush();
             if self.ok {
@@ -54,7 +65,9 @@ impl<W: Write + Drop> Sink<W> {
     }
 
     // The first bytes of a line; where there are not so many, it is as if a write had failed.
-    pub fn first(&mut self, line: &[u8], length: usize) {
+    pub fn first(&mut self, line: &[u8], length: usize)
+        ensures { IsTrue self.new.ok → IsTrue self.old.ok }
+    {
         if length <= line.len() {
             self.text(&line[0..length]);
         } else {
@@ -63,14 +76,18 @@ impl<W: Write + Drop> Sink<W> {
         }
     }
 
-    pub fn number(&mut self, n: u64) {
+    pub fn number(&mut self, n: u64)
+        ensures { IsTrue self.new.ok → IsTrue self.old.ok }
+    {
         let mut digits = [0u8; 20];
         let length = numbers::put_long(&mut digits, 0, n);
         self.text(&digits[0..length]);
     }
 
     // The text with the next of the numbers in the place of each `#`.
-    pub fn fill(&mut self, form: &[u8], numbers: &[u64]) {
+    pub fn fill(&mut self, form: &[u8], numbers: &[u64])
+        ensures { IsTrue self.new.ok → IsTrue self.old.ok }
+    {
         let mut from = 0;
         let mut k = 0;
         for (at, b) in form.iter().enumerate() {
