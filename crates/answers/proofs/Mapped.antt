@@ -1,7 +1,7 @@
 -- The loop that stores f of each byte of s: the one law of writing and reading error digits.
 -- Assumes nothing.
 use Prim.Native.Nat.{ℕ, ◌+◌, ◌<◌, ◌≤◌}
-use mathlib.Core.Path.{◌≡◌, refl, sym, ap, ◌∙◌}
+use mathlib.Core.Path.{◌≡◌, sym, ap, ◌∙◌}
 use mathlib.Core.List.{List, [], ◌∷◌, ◌++◌, map, map-append}
 use native.Mathlib.Numerals.{add-one}
 use native.Mathlib.Omega.{arith}
@@ -13,9 +13,6 @@ use Rattle.text.proofs.Stores.{sets-snoc}
 pub record Mapped (f : ℕ → ℕ) (l : List ℕ) (at : ℕ) (s m : List ℕ) (i : ℕ) : Type 0 where
   pub inside : i ≤ length s
   pub bytes : m ≡ sets l at (map f (take i s))
-
-pub none-mapped : (f : ℕ → ℕ) (l : List ℕ) (at : ℕ) (s : List ℕ) → Mapped f l at s l 0
-none-mapped f l at s = record { inside = omega arith; bytes = refl }
 
 module _ {f : ℕ → ℕ} {l : List ℕ} {at : ℕ} {s m : List ℕ} {i : ℕ} (p : Mapped f l at s m i) where
   pub one-mapped : i < length s → {r v : ℕ} → r ≡ at + i → v ≡ f (get_or s i 0) → Mapped f l at s (set m r v) (i + 1)

@@ -1,4 +1,4 @@
--- Only `nothing` says nothing, and it is no answer to a command (01, "Controller").
+-- Only `nothing` says nothing, and it is no answer to a command (RULES, Controller).
 -- Assumes nothing.
 use mathlib.Core.Path.{◌≡◌, refl, subst}
 use mathlib.Core.Bool.{true, false, false≢true}

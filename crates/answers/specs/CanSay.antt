@@ -1,4 +1,4 @@
--- Every answer that a command can have (01, "Commands" and "Controller"; 02, L14).
+-- Every answer that a command can have (RULES, Commands and Controller and Class 2).
 --   is_set c           c sets something: it is answered OK
 --   hasOwnParameter c  the parameter of c is another than `?`, so that a projector may not know it
 --   isRefusalTo c n    ERRn is allowed in reply to c: `?` may have all but ERR2, any other command all of them

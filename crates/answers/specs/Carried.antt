@@ -1,13 +1,13 @@
--- How an answer is carried: arrays beside an enum (01, "Forms by place in the code").
---   lampsCarried    so many lamps an answer carries at most, and inputsCarried inputs (01, "Controller": "INST allows 1
---                   to 32 inputs, repeats included, LAMP 1 to 8 lamps"): what a set-up may have is record's to say
+-- How an answer is carried: arrays beside an enum (RULES, What the product holds).
+--   lampsCarried    so many lamps an answer carries at most, and inputsCarried inputs (RULES, Controller: "INST allows
+--                   1 to 32 inputs, repeats included, LAMP 1 to 8 lamps"): what a set-up may have is record's to say
 --   errorsCarried   so many error digits it carries, where it carries any
---   textCarried     so many bytes of a text: an input's name is the longest (02, L14)
+--   textCarried     so many bytes of a text: an input's name is the longest (RULES, Class 2)
 --   plain_of k      the answer of the kind k with nothing in its arrays
 --   answer_of m     what is said, in arrays from their start on; the rest of each is blank
 --   saidBy a        what an answer says: as many of its elements as it counts, and no more than an array has
 --   isSayable m     what is said has room in the arrays
---   isNothing k     the kind of an answer that says nothing: its parameter is not allowed (01, "Controller")
+--   isNothing k     the kind of an answer that says nothing: its parameter is not allowed (RULES, Controller)
 -- Assumes nothing.
 use Rattle.std.specs.Prelude.{ℕ, min, Bool, true, false, List, length, take, replicate, leb, eqb}
 use Rattle.std.proofs.lemmas.List.Edits.{sets}

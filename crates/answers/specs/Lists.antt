@@ -1,4 +1,4 @@
--- Things joined by spaces, of any kind (01, "Commands": "lamps joined by spaces", "inputs .. joined by spaces").
+-- Things joined by spaces, of any kind (RULES, Commands: "lamps joined by spaces", "inputs .. joined by spaces").
 --   spaced w xs        the texts of xs, each by w, a space before each
 --   joined w xs        the same, joined by spaces
 --   gap i              what joins the thing at the place i to those before it

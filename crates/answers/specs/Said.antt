@@ -1,15 +1,18 @@
--- What a projector can say, before any bytes, and the parameter that says it (01, "Commands"; 000, 2.5 and 4; 02, L14).
+-- What a projector can say, before any bytes, and the parameter that says it (RULES, Commands; PJLink 1.04, 2.5 and 4;
+-- RULES, Class 2).
 --   Said               OK; ERRn; a power; a chosen input; the mutes of video and audio; six error digits; lamps;
 --                      inputs; a text; a class; whether the picture is frozen; or nothing: a parameter that is not
 --                      allowed
---   powerText p        0 off, 1 on, 2 cooling, 3 warm-up: the characters, whatever hex 000 prints for the last two
+--   powerText p        0 off, 1 on, 2 cooling, 3 warm-up: the characters, whatever hex PJLink's text prints for the
+--                      last two
 --   mutesText v a      11 video only, 21 audio only, 31 both, 30 neither
 --   lampText l         the hours, a space, 1 if lit, else 0
 --   saidText m         the parameter, row by row
 --   saidBytes m        the same, shut
 --   parameterMost      no parameter of a reply is longer
---   bytesMost m        no answer of its kind has a longer one: 63 bytes for 8 lamps, 8 × 7 and 7 spaces (000 allows 65)
---   saidMost           no answer has a longer one: an input's name of 128 bytes (02, L14)
+--   bytesMost m        no answer of its kind has a longer one: 63 bytes for 8 lamps, 8 × 7 and 7 spaces (PJLink allows
+--                      65)
+--   saidMost           no answer has a longer one: an input's name of 128 bytes (RULES, Class 2)
 -- Assumes nothing.
 use Rattle.std.specs.Prelude.{ℕ, ◌*◌, ◌-◌, Bool, true, false, List, [], ◌∷◌, ◌++◌, map, length}
 use Prim.Native.Char.{code}

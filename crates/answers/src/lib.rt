@@ -2,4 +2,5 @@
 #![tactic(auto)]
 
 pub mod answer;
+pub mod theorems;
 pub mod write;

@@ -1,4 +1,4 @@
-// The parameter that an answer is said by (01, "Commands").
+// The parameter that an answer is said by (RULES, Commands).
 ghost use Rattle.std.specs.Prelude.{◌≡◌, [], ◌∷◌, map, ◌+◌, ◌≤◌, min, length, take};
 ghost use Rattle.std.proofs.lemmas.List.Edits.{sets};
 ghost use Rattle.lines.specs.Inputs.{inputText, numberDigit};

@@ -1,6 +1,7 @@
 -- THE LAWS at the face: for every legal device, at every place between lines, whatever the other places hold, and for
--- every code that stands for a command of a class no higher than the device's (02, L14), what is read of the reply to
--- what was written is what the projector meant, in the kinds and values of the header; and so for the greeting.
+-- every code that stands for a command of a class no higher than the device's (RULES, Class 2), what is read of the
+-- reply to what was written is what the projector meant, in the kinds and values of the header; and so for the
+-- greeting.
 --   Told d p m c w r     the writing w of m, which is the command c, and the receiving r of its bytes at place p
 -- Assumes nothing.
 use Prim.Native.Nat.{ℕ, ◌^◌, ◌≤◌, ◌<◌}

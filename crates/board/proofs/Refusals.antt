@@ -1,5 +1,6 @@
 -- What is no command is refused: the writer writes nothing, the reader takes no meaning. And the numbers of the two
--- calls that take a command by its code, each the first row of the table that applies (01, "The numbers a call gives").
+-- calls that take a command by its code, each the first row of the table that applies (RULES, The numbers a call
+-- gives).
 -- Assumes nothing.
 use Prim.Native.Nat.{ℕ, ◌≤◌}
 use mathlib.Core.Path.{◌≡◌, refl, ap, ◌∙◌}

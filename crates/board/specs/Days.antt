@@ -1,4 +1,5 @@
--- A cutting day's verdict and plan in numbers, as the header has them (02, L12). The numbers of each case are `day`'s.
+-- A cutting day's verdict and plan in numbers, as the header has them (RULES, Cutting day). The numbers of each case
+-- are `day`'s.
 --   flatVerdict v      number, rule, and the job or rig concerned, with the other job of a clash
 --   flatPlan p         number, whether all jobs have a rig, and else the first job that finds none
 -- Assumes nothing.

@@ -1,3 +1,4 @@
 pub mod Face
 pub mod Days
 pub mod Which
+pub mod Results

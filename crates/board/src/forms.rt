@@ -1,4 +1,4 @@
-// The stored form: settings that survive a board swap (02, L3).
+// The stored form: settings that survive a board swap (RULES, Stored form).
 ghost use Rattle.std.specs.Prelude.{◌≡◌, length};
 ghost use Rattle.text.specs.Words.{over};
 ghost use Rattle.form.specs.Form.{storedBy, toldStored};
@@ -9,14 +9,36 @@ use form::storing::FormWritten;
 use record::types::{Changed, Device};
 use stored::loading;
 
+/// The record's form into the lent memory: 1 and 2 in that order.
+#[unsafe(no_mangle)]
+pub extern "C" fn pj_store_in_place(device: &Device, out: &mut [u8]) -> FormWritten
+    ensures value { result ≡ toldStored (storedBy device.now (length out.old)) }
+    ensures out_after { out.new ≡ over (storedBy device.now (length out.old)).bytes out.old }
+{
+    storing::store(device, out)
+}
+
+/// The same, of a record that is given by value.
 #[unsafe(no_mangle)]
 pub extern "C" fn pj_store(d: Device, out: &mut [u8]) -> FormWritten
     ensures value { result ≡ toldStored (storedBy d (length out.old)) }
     ensures out_after { out.new ≡ over (storedBy d (length out.old)).bytes out.old }
 {
-    storing::store(d, out)
+    storing::store(&d, out)
 }
 
+/// The device that the form is of, into the record; the blank one where it is refused, with 20 to 23.
+#[unsafe(no_mangle)]
+pub extern "C" fn pj_load_in_place(device: &mut Device, bytes: &[u8]) -> u32
+    ensures number { result ≡ (loaded bytes.now).number }
+    ensures device { device.new ≡ (loaded bytes.now).device }
+{
+    let made = loading::load(bytes);
+    *device = made.device;
+    made.number
+}
+
+/// The same, by value.
 #[unsafe(no_mangle)]
 pub extern "C" fn pj_load(bytes: &[u8]) -> Changed
     ensures { result ≡ loaded bytes.now }

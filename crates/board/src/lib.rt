@@ -1,13 +1,15 @@
 // The face that a host links, in C (include/ceiling.h): thin calls over the proved crates, none with a precondition.
 #![tactic(auto)]
 
+pub mod by_value;
 pub mod days;
 pub mod forms;
 pub mod lamps;
 pub mod projector;
 pub mod reader;
+pub mod results;
 pub mod sums;
-pub mod time;
+pub mod theorems;
 pub mod which;
 pub mod workroom;
 pub mod writer;

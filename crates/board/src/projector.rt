@@ -1,20 +1,26 @@
-// The projector's calls, but for those of time.
+// The projector's calls on a record that the host lends: it changes where it lies, and what the call says comes back. A
+// refused call leaves the record as it was; a refused set-up leaves the blank one.
 ghost use Rattle.std.specs.Prelude.{◌≡◌, length};
 ghost use Rattle.text.specs.Words.{over};
 ghost use Rattle.record.specs.Legal.{isLegal};
 ghost use Rattle.record.specs.Wanted.{wantedOf, wantedOf2, namesIn};
 ghost use Rattle.record.specs.SetUp.{setUp};
 ghost use Rattle.record.specs.HostCalls.{faultSet, errorsSet, markSet};
+ghost use Rattle.clock.specs.Passing.{passed};
 ghost use Rattle.device.specs.Calls.{received, openedBy, placeTaken, closedBy};
-ghost use Rattle.device.specs.Calls.{toldReceived, toldOpened, toldChanged};
+ghost use Rattle.device.specs.Outcomes.{told};
+ghost use Rattle.board.specs.Results.{receiving_of, opening_of};
 
+use crate::results::{Opening, Receiving};
+use clock::pass;
 use device::calls;
-use device::calls::{Opened, Received};
-use record::types::{Changed, Device};
-use record::{host, legality};
+use record::refusal;
+use record::types::Device;
 
+/// Set-up of Class 1 into the record: 3, then 8.
 #[unsafe(no_mangle)]
-pub extern "C" fn pj_set_up(
+pub extern "C" fn pj_set_up_in_place(
+    device: &mut Device,
     name: &[u8],
     maker: &[u8],
     model: &[u8],
@@ -24,18 +30,23 @@ pub extern "C" fn pj_set_up(
     lamps: &[u32],
     warm: u32,
     cool: u32,
-) -> Changed
-    ensures { result ≡ setUp (wantedOf name.now maker.now model.now other.now
-        password.now inputs.now lamps.now warm cool) }
+) -> u32
+    ensures number { result ≡ (setUp (wantedOf name.now maker.now model.now other.now
+        password.now inputs.now lamps.now warm cool)).number }
+    ensures device { device.new ≡ (setUp (wantedOf name.now maker.now model.now other.now
+        password.now inputs.now lamps.now warm cool)).device }
 {
-    setup::set_up(
+    let made = setup::set_up(
         name, maker, model, other, password, inputs, lamps, warm, cool,
-    )
+    );
+    *device = made.device;
+    made.number
 }
 
-// Of Class 2 (02, L14): the names one after the other, each of its length.
+/// Set-up of Class 2 into the record: the names one after the other, each of its length. 3, then 8.
 #[unsafe(no_mangle)]
-pub extern "C" fn pj_set_up_2(
+pub extern "C" fn pj_set_up_2_in_place(
+    device: &mut Device,
     name: &[u8],
     maker: &[u8],
     model: &[u8],
@@ -49,67 +60,100 @@ pub extern "C" fn pj_set_up_2(
     version: &[u8],
     names: &[u8],
     lengths: &[usize],
-) -> Changed
-    ensures { result ≡ setUp (wantedOf2 name.now maker.now model.now other.now
+) -> u32
+    ensures number { result ≡ (setUp (wantedOf2 name.now maker.now model.now other.now
         password.now inputs.now lamps.now warm cool serial.now
-        version.now (namesIn lengths.now names.now)) }
+        version.now (namesIn lengths.now names.now))).number }
+    ensures device { device.new ≡ (setUp (wantedOf2 name.now maker.now model.now other.now
+        password.now inputs.now lamps.now warm cool serial.now
+        version.now (namesIn lengths.now names.now))).device }
 {
-    setup::set_up_2(
+    let made = setup::set_up_2(
         name, maker, model, other, password, inputs, lamps, warm, cool, serial, version, names,
         lengths,
-    )
+    );
+    *device = made.device;
+    made.number
 }
 
+/// Whether the record is legal.
 #[unsafe(no_mangle)]
-pub extern "C" fn pj_open(d: Device, random: u32, out: &mut [u8]) -> Opened
-    ensures value { result ≡ toldOpened (placeTaken d (length out.old))
-        (openedBy d random (length out.old)) }
-    ensures out_after { out.new ≡ over (openedBy d random (length out.old)).reply
+pub extern "C" fn pj_legal_in_place(device: &Device) -> bool
+    ensures { result ≡ isLegal device.now }
+{
+    device.is_legal()
+}
+
+/// A new connection, greeted: 1, 2 and 6 in that order.
+#[unsafe(no_mangle)]
+pub extern "C" fn pj_open_in_place(device: &mut Device, random: u32, out: &mut [u8]) -> Opening
+    ensures says { result ≡ opening_of (told (openedBy device.old random (length out.old)))
+        (placeTaken device.old (length out.old)) }
+    ensures device { device.new ≡ (openedBy device.old random (length out.old)).device }
+    ensures reply { out.new ≡ over (openedBy device.old random (length out.old)).reply
         out.old }
 {
-    calls::open(d, random, out)
+    Opening::of(calls::open(device, random, out))
 }
 
+/// The connection at a place closed: 1, 3 and 4 in that order.
 #[unsafe(no_mangle)]
-pub extern "C" fn pj_close(d: Device, place: usize) -> Changed
-    ensures { result ≡ toldChanged (closedBy d place) }
+pub extern "C" fn pj_close_in_place(device: &mut Device, place: usize) -> u32
+    ensures number { result ≡ (closedBy device.old place).number }
+    ensures device { device.new ≡ (closedBy device.old place).device }
 {
-    calls::close(d, place)
+    refusal::number_of(calls::close(device, place))
 }
 
+/// Bytes from the network at a place: 1, 2, 3 and 4 in that order.
 #[unsafe(no_mangle)]
-pub extern "C" fn pj_receive(d: Device, place: usize, bytes: &[u8], out: &mut [u8]) -> Received
-    ensures value { result ≡ toldReceived (received d place bytes.now (length out.old)) }
-    ensures out_after { out.new ≡ over (received d place bytes.now (length out.old)).reply
+pub extern "C" fn pj_receive_in_place(
+    device: &mut Device,
+    place: usize,
+    bytes: &[u8],
+    out: &mut [u8],
+) -> Receiving
+    ensures says { result ≡ receiving_of (told (received device.old place bytes.now
+        (length out.old))) }
+    ensures device { device.new ≡ (received device.old place bytes.now (length out.old)).device }
+    ensures reply { out.new ≡ over (received device.old place bytes.now (length out.old)).reply
         out.old }
 {
-    calls::receive(d, place, bytes, out)
+    Receiving::of(calls::receive(device, place, bytes, out))
 }
 
+/// The fault mark: 1.
 #[unsafe(no_mangle)]
-pub extern "C" fn pj_set_fault(d: Device, mark: bool) -> Changed
-    ensures { result ≡ faultSet d mark }
+pub extern "C" fn pj_set_fault_in_place(device: &mut Device, mark: bool) -> u32
+    ensures number { result ≡ (faultSet device.old mark).number }
+    ensures device { device.new ≡ (faultSet device.old mark).device }
 {
-    host::set_fault(d, mark)
+    refusal::number_of(device.set_fault(mark))
 }
 
+/// The six error digits: 1 and 3 in that order.
 #[unsafe(no_mangle)]
-pub extern "C" fn pj_set_errors(d: Device, digits: &[u8]) -> Changed
-    ensures { result ≡ errorsSet d digits.now }
+pub extern "C" fn pj_set_errors_in_place(device: &mut Device, digits: &[u8]) -> u32
+    ensures number { result ≡ (errorsSet device.old digits.now).number }
+    ensures device { device.new ≡ (errorsSet device.old digits.now).device }
 {
-    host::set_errors(d, digits)
+    refusal::number_of(device.set_errors(digits))
 }
 
+/// A lamp's enabled mark: 1, 3 and 7 in that order.
 #[unsafe(no_mangle)]
-pub extern "C" fn pj_set_mark(d: Device, lamp: usize, enabled: bool) -> Changed
-    ensures { result ≡ markSet d lamp enabled }
+pub extern "C" fn pj_set_mark_in_place(device: &mut Device, lamp: usize, enabled: bool) -> u32
+    ensures number { result ≡ (markSet device.old lamp enabled).number }
+    ensures device { device.new ≡ (markSet device.old lamp enabled).device }
 {
-    host::set_mark(d, lamp, enabled)
+    refusal::number_of(device.set_mark(lamp, enabled))
 }
 
+/// So many seconds pass: 1.
 #[unsafe(no_mangle)]
-pub extern "C" fn pj_legal(d: Device) -> bool
-    ensures { result ≡ isLegal d }
+pub extern "C" fn pj_pass_in_place(device: &mut Device, seconds: u32) -> u32
+    ensures number { result ≡ (passed device.old seconds).number }
+    ensures device { device.new ≡ (passed device.old seconds).device }
 {
-    legality::legal(d)
+    refusal::number_of(pass::pass(device, seconds))
 }

@@ -36,7 +36,7 @@ fn setting_number(m: MaybeSetting) -> u32
 }
 
 // 0 where set-up gives 0; the place of the first setting that is out of its range where it gives 3; the password's
-// where it gives 8 (02, L9).
+// where it gives 8 (RULES, Passwords).
 #[unsafe(no_mangle)]
 pub extern "C" fn pj_which_setting(
     name: &[u8],

@@ -1,4 +1,4 @@
-// The workroom panel's calls (02, L13).
+// The workroom panel's calls (RULES, Panel).
 ghost use Rattle.std.specs.Prelude.{◌≡◌, length};
 ghost use Rattle.text.specs.Words.{over};
 ghost use Rattle.panel.specs.PanelCalls.{panelMade, noPanel, addedTo, commanded, steppedAt, lostAt};

@@ -1,5 +1,5 @@
 // Which lamp burnt when: a log on standard input, on standard output the stretches of its lamps as they end, and at
-// the end each lamp's seconds; or, with `--page`, one HTML document that shows them. The device is 01's sample set-up,
+// the end each lamp's seconds; or, with `--page`, one HTML document that shows them. The device is the sample set-up,
 // or that of the stored form in the file that the next argument names.
 #![tactic(auto)]
 
@@ -7,6 +7,7 @@ mod place;
 
 use crate::place::Place;
 use floor::replay::LINE_ROOM;
+use formfile::NotBegun;
 use page::{Stretch, Totals};
 use record::types::Device;
 use report::way::Way;
@@ -21,26 +22,28 @@ use watch::watching::Watch;
 const ROOM: usize = 65536;
 
 // The stretches that ended, if any did.
-fn tell(r: Report, out: &mut Sink<Stdout>, ended: bool, w: Watch) -> Report {
+fn tell(r: Report, out: &mut Sink<Stdout>, ended: bool, w: &Watch) -> Report {
     if !ended {
         return r;
     }
-    let marks = w.floor.device.own.enabled;
+    let device = &w.tested.device;
+    let marks = device.own.enabled;
     let stretch = Stretch {
         marks,
-        count: w.floor.device.settings.lamp_count,
+        count: device.settings.lamp_count,
         from: w.from,
         to: w.time,
     };
     report::tell(r, out, stretch)
 }
 
-fn tell_totals(r: Report, out: &mut Sink<Stdout>, w: Watch) -> Way {
+fn tell_totals(r: Report, out: &mut Sink<Stdout>, w: &Watch) -> Way {
+    let device = &w.tested.device;
     let starts = r.starts;
     let burnt = w.burnt;
-    let lasts = w.floor.device.own.lamps;
+    let lasts = device.own.lamps;
     let totals = Totals {
-        count: w.floor.device.settings.lamp_count,
+        count: device.settings.lamp_count,
         starts,
         burnt,
         lasts,
@@ -50,28 +53,25 @@ fn tell_totals(r: Report, out: &mut Sink<Stdout>, w: Watch) -> Way {
 }
 
 // The end of the log ends the stretches that are under way.
-fn end_log(w: Watch, r: Report, line: &mut [u8; LINE_ROOM], out: &mut Sink<Stdout>) -> Way {
+fn end_log(w: &mut Watch, r: Report, line: &mut [u8; LINE_ROOM], out: &mut Sink<Stdout>) -> Way {
     let step = watching::finish(w, line);
     if step.number != 0 {
         return Way::BrokenOff;
     }
-    let seen = step.seen;
-    let watch = seen.watch;
-    let report = tell(r, out, seen.ended, watch);
-    tell_totals(report, out, watch)
+    let report = tell(r, out, step.ended, w);
+    tell_totals(report, out, w)
 }
 
 // What is left of the last read is played. Where nothing is left, all that was told is written before the next read,
-// which may wait. The state is moved on here and in no function of its own, which would copy the record.
+// which may wait.
 fn run(
     rt: &HostRuntime,
-    device: Device,
+    watch: &mut Watch,
     begun: Report,
     line: &mut [u8; LINE_ROOM],
     input: &mut [u8; ROOM],
     out: &mut Sink<Stdout>,
 ) -> Way {
-    let mut watch = watching::start(device);
     let mut report = begun;
     let mut place = Place::empty(Way::On);
     // a proved loop has to end: no log takes this many turns
@@ -84,9 +84,8 @@ fn run(
         let end = place.end;
         if at < end && end <= ROOM {
             let step = watching::play(watch, line, &input[at..end]);
-            watch = step.seen.watch;
-            report = tell(report, out, step.seen.ended, watch);
-            place = place.after_call(step.number, step.seen.taken, out.is_ok());
+            report = tell(report, out, step.ended, watch);
+            place = place.after_call(step.number, step.taken, out.is_ok());
         } else {
             out.flush();
             place = place::read(rt, out.is_ok(), input);
@@ -107,7 +106,8 @@ fn show(rt: &HostRuntime, device: Device, drawn: bool) -> Result<Way, AllocError
     let mut input = [0u8; ROOM];
     let mut out = Sink::new(rt.alloc(), rt.stdout())?;
     let report = report::begin(&mut out, drawn, device.own.lamps);
-    Ok(run(rt, device, report, &mut line, &mut input, &mut out))
+    let mut watch = watching::start(device);
+    Ok(run(rt, &mut watch, report, &mut line, &mut input, &mut out))
 }
 
 // Whether the first argument asks for the page.
@@ -131,14 +131,11 @@ fn say_number(rt: &HostRuntime, number: u32) -> Result<Way, AllocError> {
 
 fn told(rt: &HostRuntime) -> Result<Way, AllocError> {
     let drawn = is_page(rt);
-    let begun = formfile::begun_by(rt, if drawn { 2 } else { 1 });
-    if !begun.read {
-        return Ok(Way::ReadFailed);
+    match formfile::begun_by(rt, if drawn { 2 } else { 1 }) {
+        Ok(device) => show(rt, device, drawn),
+        Err(NotBegun::Unread) => Ok(Way::ReadFailed),
+        Err(NotBegun::Refused(number)) => say_number(rt, number),
     }
-    if begun.number != 0 {
-        return say_number(rt, begun.number);
-    }
-    show(rt, begun.device, drawn)
 }
 
 fn main(rt: HostRuntime) -> Result<(), AllocError> {

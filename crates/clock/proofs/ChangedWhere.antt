@@ -39,6 +39,15 @@ module _ {A : Type 0} (f : A → A) where
   where-unmarked (m ∷ ms) (x ∷ l) d zero e = if_no (f x) x e
   where-unmarked (m ∷ ms) (x ∷ l) d (suc k) e = where-unmarked ms l d k e
 
+  -- past the marks that are taken it stands as it was
+  pub where-next : (ms : List Bool) (l : List A) (d : A) (k : ℕ)
+      → get_or (changedWhere f (take k ms) l) k d ≡ get_or l k d
+  unfolding changedWhere
+  where-next ms l d zero = refl
+  where-next [] l d (suc k) = refl
+  where-next (m ∷ ms) [] d (suc k) = refl
+  where-next (m ∷ ms) (x ∷ l) d (suc k) = where-next ms l d k
+
   pub where-none : (l : List A) → changedWhere f [] l ≡ l
   unfolding changedWhere
   where-none l = refl
@@ -98,6 +107,14 @@ module _ (f : ℕ → ℕ) (l : List ℕ) (ms : List Bool) (count : ℕ) where
             (λ i. set (done.first i) k (e i))
             ∙ one-more-where f ms l 0 k (omega (arith, marks-long)) (omega (arith, long));
       }
+
+      -- changed where it lies: what is read there is what stood there
+      pub one-changed-there : length l ≡ lampsMost → k < lampsMost → k < count → {v : ℕ}
+          → v ≡ (if get_or ms k false then f (get_or after k 0) else get_or after k 0)
+          → ChangedTo (set after k v) (k + 1)
+      one-changed-there long h c e =
+          let at = ap (λ (m : List ℕ). get_or m k 0) done.first ∙ where-next f ms l 0 k in
+          one-changed long h c (e ∙ (λ i. if get_or ms k false then f (at i) else at i))
 
 pub where-twice : {A : Type 0} (f g : A → A) (ms : List Bool) (l : List A)
     → changedWhere f ms (changedWhere g ms l) ≡ changedWhere (λ x. f (g x)) ms l

@@ -33,3 +33,10 @@ module _ {A : Type 0} where
   all-mapped zero f (x ∷ l) h = absurd (omega arith)
   all-mapped (suc n) f [] h = refl
   all-mapped (suc n) f (x ∷ l) h = ap (λ (t : List A). f x ∷ t) (all-mapped n f l (omega arith))
+
+  -- the next one stands as it was
+  pub next-unchanged : (n : ℕ) (f : A → A) (l : List A) (d : A) → get_or (firstChanged n f l) n d ≡ get_or l n d
+  unfolding firstChanged
+  next-unchanged zero f l d = refl
+  next-unchanged (suc n) f [] d = refl
+  next-unchanged (suc n) f (x ∷ l) d = next-unchanged n f l d

@@ -1,5 +1,5 @@
--- A lamp's seconds after n, by its place: where the lamps burn each enabled one gains n, stopped at the limit (02, L8);
--- else it stays, and so does the room past the lamps.
+-- A lamp's seconds after n, by its place: where the lamps burn each enabled one gains n, stopped at the limit (RULES,
+-- Lamps); else it stays, and so does the room past the lamps.
 -- Assumes nothing.
 use Prim.Native.Nat.{ℕ, ◌≤◌, ◌<◌}
 use mathlib.Core.Path.{◌≡◌, refl, ap, ◌∙◌}
@@ -14,10 +14,13 @@ use Rattle.record.specs.Legal.{isLegal}
 use Rattle.record.specs.declared.types.Settings.{Settings}
 use Rattle.record.specs.declared.types.Own.{Own}
 use Rattle.record.specs.declared.types.Device.{Device}
-use Rattle.record.proofs.OwnTold.{OwnTold, lamp-at}
+use Rattle.record.proofs.OwnTold.{lamp-at}
+use Rattle.record.specs.Facts.{IsOwn}
+use Rattle.record.specs.Views.{power_seen, is_burning}
+use Rattle.record.proofs.PowerSeen.{lit-seen}
 use Rattle.record.proofs.LegalTold.{own-of-legal}
 use Rattle.clock.specs.Second.{times, changedWhere, oneMore, marksIn, ownSecond, second}
-use Rattle.clock.specs.After.{lampAfter, lampsAfter}
+use Rattle.clock.specs.After.{lampAfter}
 use Rattle.clock.proofs.ChangedWhere.{where-at}
 use Rattle.clock.proofs.LampsGain.{burns}
 use Rattle.clock.proofs.InOneGo.{own-in-one-go, parts-pass}
@@ -37,14 +40,15 @@ module _ (ms : List Bool) (n : ℕ) (l : List ℕ) (k : ℕ) where
   used false inside within = refl
 
 module _ (s : Settings) (o : Own) (n : ℕ) where
-  pub own-lamp-after : OwnTold s o → (k : ℕ) → k < s.lamp_count
+  pub own-lamp-after : IsOwn s o → (k : ℕ) → k < s.lamp_count
       → get_or (times (ownSecond s) n o).lamps k 0
       ≡ lampAfter n (isLit o.power && get_or o.enabled k false) (get_or o.lamps k 0)
-  unfolding lampsAfter
   own-lamp-after t k h =
       let inside : k < length o.lamps = omega (arith, t.lamps.long, t.lamps.inside) in
-      ap (λ (x : Own). get_or x.lamps k 0) (own-in-one-go s o n)
-      ∙ used (marksIn s o) n o.lamps k (isLit o.power) inside (lamp-at s o t k h)
+      ap (λ (x : Own). get_or x.lamps k 0) (own-in-one-go s o t.power n)
+      ∙ used (marksIn s o) n o.lamps k (is_burning (power_seen o)) inside (lamp-at s o t k h)
+      ∙ ap (λ (lit : Bool). lampAfter n (lit && get_or (marksIn s o) k false) (get_or o.lamps k 0))
+      (lit-seen o.power o.left)
       ∙ ap (λ (m : Bool). lampAfter n (isLit o.power && m) (get_or o.lamps k 0))
       (get_or-take s.lamp_count o.enabled k false h)
 

@@ -1,4 +1,4 @@
--- 01's worked cases: warm-up is left at as many seconds as are left and not later, a lamp stops at the limit, a
+-- Worked cases: warm-up is left at as many seconds as are left and not later, a lamp stops at the limit, a
 -- connection closes at the age 30; and the call itself, computed on the set-up of "Lines that settle it".
 -- Assumes nothing.
 use Prim.Native.Nat.{ℕ, ◌+◌}
@@ -24,14 +24,17 @@ use Rattle.clock.specs.Passing.{secondsMost, passed}
 use Rattle.clock.specs.Computing.{computing}
 use Rattle.clock.proofs.LampsGain.{gains, stops}
 use Rattle.clock.proofs.ConnectionsAge.{grows-older, closes}
-use Rattle.clock.proofs.PowerByTime.{PowerThen, the-same-as, warm-up-lasts, warm-up-ends}
+use Rattle.clock.proofs.PowerByTime.{power-by-time}
+use Rattle.clock.specs.After.{powerAfter}
+use Rattle.record.specs.Views.{power_seen, IsPowerOf}
+use Rattle.record.specs.declared.views.Power.TheVariants.{WarmUp, On}
 
-module _ (s : Settings) (o : Own) (warms : o.power ≡ warming) (twenty : o.left ≡ 20) where
-  pub after-19-still-warming : PowerThen warming 1 (times (ownSecond s) 19 o)
-  after-19-still-warming = the-same-as (warm-up-lasts s o 19 warms (omega arith)) refl (omega arith)
+module _ (s : Settings) (o : Own) (t : IsPowerOf s.warm s.cool o.power o.left) (warms : power_seen o ≡ WarmUp 20) where
+  pub after-19-still-warming : power_seen (times (ownSecond s) 19 o) ≡ WarmUp 1
+  after-19-still-warming = power-by-time s o 19 t ∙ ap (powerAfter 19) warms
 
-  pub after-20-on : PowerThen on 0 (times (ownSecond s) 20 o)
-  after-20-on = warm-up-ends s o 20 warms (omega arith) (omega arith)
+  pub after-20-on : power_seen (times (ownSecond s) 20 o) ≡ On
+  after-20-on = power-by-time s o 20 t ∙ ap (powerAfter 20) warms
 
 pub one-short-of-the-limit : times oneMore 1 359999998 ≡ 359999999
 one-short-of-the-limit = gains 1 359999998 (omega arith)

@@ -13,7 +13,8 @@ use Rattle.record.specs.declared.types.Device.{Device}
 use Rattle.clock.specs.Second.{times, ownSecond, second}
 use Rattle.clock.specs.Passing.{passed}
 use Rattle.clock.proofs.ConnectionsAge.{untimed-stays}
-use Rattle.clock.proofs.InOneGo.{own-in-one-go, parts-pass, place-passes}
+use Rattle.clock.proofs.InOneGo.{parts-pass, place-passes}
+use Rattle.clock.proofs.Repeated.{times-keeps}
 use Rattle.clock.proofs.Cases.{passed-by}
 
 pub record Untouched (before after : Device) : Type 0 where
@@ -29,7 +30,12 @@ module _ (n : ℕ) (s : Settings) (o : Own) where
   then = times (ownSecond s) n o
 
   pub own-else-stays : then ≡ withSeconds (withPower o then.power then.left) then.lamps
-  own-else-stays = rw (own-in-one-go s o n)
+  unfolding ownSecond
+  own-else-stays =
+      times-keeps (λ (x : Own). x ≡ withSeconds (withPower o x.power x.left) x.lamps) (ownSecond s)
+      (λ x h.
+      ap (λ (y : Own). withSeconds (withPower y (ownSecond s x).power (ownSecond s x).left) (ownSecond s x).lamps) h)
+      n o refl
 
 pub time-leaves : (n : ℕ) (d : Device) → Untouched d (times second n d)
 time-leaves n d = record {

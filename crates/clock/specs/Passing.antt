@@ -1,4 +1,4 @@
--- Passing time (01, "Time" and "The numbers a call gives").
+-- Passing time (RULES, Time and The numbers a call gives).
 --   secondsMost      the most seconds that one call lets pass
 --   passed d n       1 and the record as it was where it is not legal; else 0 and the record n seconds later
 -- Assumes nothing.

@@ -6,22 +6,22 @@ use record::connection;
 use record::connection::AGE_END;
 use record::types::Connection;
 
-pub fn connection_after(c: Connection, n: u32) -> Connection
-    ensures { result ≡ times connectionSecond n c }
+pub fn age(c: &mut Connection, n: u32)
+    ensures { c.new ≡ times connectionSecond n c.old }
 {
     if !connection::is_timed(c.phase) {
-        return c;
+        return;
     }
     if n == 0 {
-        return c;
+        return;
     }
     if AGE_END <= n {
-        return Connection::CLOSED;
+        *c = Connection::CLOSED;
+        return;
     }
     if AGE_END - n <= c.age {
-        return Connection::CLOSED;
+        *c = Connection::CLOSED;
+        return;
     }
-    let mut aged = c;
-    aged.age = c.age + n;
-    aged
+    c.age += n;
 }

@@ -1,16 +1,14 @@
-// The connections after n seconds, each for itself (02, L5).
+// The connections after n seconds, each for itself (RULES, Places).
 ghost use Rattle.std.specs.Prelude.{◌≡◌, map};
 ghost use Rattle.clock.specs.Second.{connectionSecond, times};
 
 use crate::connection;
 use record::types::{Connection, PLACES};
 
-pub fn connections_after(connections: [Connection; PLACES], n: u32) -> [Connection; PLACES]
-    ensures { result ≡ map (times connectionSecond n) connections }
+pub fn age(connections: &mut [Connection; PLACES], n: u32)
+    ensures { connections.new ≡ map (times connectionSecond n) connections.old }
 {
-    let mut after = connections;
-    for (place, c) in connections.iter().enumerate() {
-        after[place] = connection::connection_after(*c, n);
+    for place in 0..PLACES {
+        connection::age(&mut connections[place], n);
     }
-    after
 }

@@ -1,4 +1,4 @@
-// Time (01, "Time"): n seconds at once, by value and in place. The meaning is one second, applied n times.
+// Time (RULES, Time): n seconds at once, where the record lies. The meaning is one second, applied n times.
 #![tactic(auto)]
 
 pub mod connection;
@@ -6,3 +6,4 @@ pub mod connections;
 pub mod on_legal;
 pub mod own;
 pub mod pass;
+pub mod theorems;

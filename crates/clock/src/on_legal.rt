@@ -1,21 +1,18 @@
 // What `pass` does with a record that is legal, by the same promise. A caller that has tested its record once and keeps
-// it legal calls this, as `floor` does; a host calls those of `pass`, which ask for nothing.
+// it legal calls this, as `floor` does; a host calls `pass`, which asks for nothing.
 ghost use Rattle.std.specs.Prelude.{◌≡◌, true};
 ghost use Rattle.record.specs.Legal.{isLegal};
 ghost use Rattle.clock.specs.Passing.{passed};
 
 use crate::{connections, own};
-use record::types::{Changed, Device};
+use record::types::Device;
 
-pub fn pass(d: Device, n: u32) -> Changed
-    requires { isLegal d ≡ true }
-    ensures { result ≡ passed d n }
+/// So many seconds pass. No legal record is refused.
+pub fn pass(device: &mut Device, seconds: u32)
+    requires { isLegal device.old ≡ true }
+    ensures number { 0 ≡ (passed device.old seconds).number }
+    ensures device { device.new ≡ (passed device.old seconds).device }
 {
-    let own = own::own_after(d.settings, d.own, n);
-    let connections = d.connections;
-    let connections = connections::connections_after(connections, n);
-    let mut device = d;
-    device.own = own;
-    device.connections = connections;
-    Changed { number: 0, device }
+    own::pass(&device.settings, &mut device.own, seconds);
+    connections::age(&mut device.connections, seconds);
 }

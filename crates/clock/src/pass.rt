@@ -1,31 +1,21 @@
-// The two calls that let time pass.
+// The call that lets time pass.
 ghost use Rattle.std.specs.Prelude.{◌≡◌};
+ghost use Rattle.record.specs.Refusals.{outcome_number};
 ghost use Rattle.clock.specs.Passing.{passed};
 
 use crate::on_legal;
-use record::legality;
-use record::types::{Changed, Device};
+use record::refusal::Refusal;
+use record::types::Device;
 
-// The record after n seconds; 1 and the record as it was where it is not legal.
+/// So many seconds pass, where the record lies (RULES, Time). Refused: `NotLegal`, and the record as it was.
 #[tactic(auto, unfolding(crate::specs::Passing::passed))]
-pub fn pass(d: Device, n: u32) -> Changed
-    ensures { result ≡ passed d n }
+pub fn pass(device: &mut Device, seconds: u32) -> Result<(), Refusal>
+    ensures number { outcome_number result ≡ (passed device.old seconds).number }
+    ensures device { device.new ≡ (passed device.old seconds).device }
 {
-    if !legality::legal(d) {
-        return Changed {
-            number: 1,
-            device: d,
-        };
+    if !device.is_legal() {
+        return Err(Refusal::NotLegal);
     }
-    on_legal::pass(d, n)
-}
-
-// The same on a record that is lent (01, "lends it to be changed in place as time passes"): its number, and its record
-// in the place of the lent one.
-pub fn pass_in_place(d: &mut Device, n: u32) -> u32
-    ensures { (result ≡ (passed d.old n).number) × (d.new ≡ (passed d.old n).device) }
-{
-    let changed = pass(*d, n);
-    *d = changed.device;
-    changed.number
+    on_legal::pass(device, seconds);
+    Ok(())
 }

@@ -1,6 +1,6 @@
 -- What the readers give as numbers (include/ceiling.h). What a kind does not use is zero.
 --   flatGreeting g     a greeting: kind 1 PJLINK 0, 2 PJLINK 1 with its random number, 3 ERRA
---   saidFlat m         what is said: kinds 1 to 10, and 12 a freeze (02, L14)
+--   saidFlat m         what is said: kinds 1 to 10, and 12 a freeze (RULES, Class 2)
 --   flat r             what the reply reader gives: kind 11 is ERRA, kind 0 no meaning
 -- Assumes nothing.
 use Rattle.std.specs.Prelude.{ℕ, Bool, false, List, [], map, length, replicate}

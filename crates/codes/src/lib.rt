@@ -4,3 +4,4 @@
 pub mod command;
 pub mod lists;
 pub mod readings;
+pub mod theorems;

@@ -1,4 +1,4 @@
--- Lines written and read, by computing (000, 4 and 5.1; 01, "Controller").
+-- Lines written and read, by computing (PJLink 1.04, 4 and 5.1; RULES, Controller).
 -- Assumes nothing.
 use mathlib.Core.Path.{◌≡◌, refl}
 use mathlib.Core.Bool.{true, false}
@@ -46,7 +46,7 @@ without-cr : readReply (Query Powr) (ascii "%1POWR=3") ≡ without NotALine
 unfolding computing lines replies digest
 without-cr = refl
 
--- 000's random number
+-- the specification's random number
 random-heard : readGreeting (ascii "PJLINK 1 498e4a67\r") ≡ Secured 1234061927
 unfolding computing lines replies digest
 random-heard = refl

@@ -1,5 +1,5 @@
 -- What the greeting reader takes from the opening reply is what opening did; and it takes each greeting and the ERRA
--- line for what it is, and no other line for one of them (01, "Controller": "nothing more").
+-- line for what it is, and no other line for one of them (RULES, Controller: "nothing more").
 --   GreetedBack d r p q     the result q of opening with the random number r, which reports the place p: number 0, the
 --                           record with a connection greeted there, and the reply read as what that connection now is
 -- Assumes nothing.

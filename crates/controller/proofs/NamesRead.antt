@@ -1,4 +1,4 @@
--- A name that the projector accepts is one that our reader accepts (02, L2).
+-- A name that the projector accepts is one that our reader accepts (RULES, Texts).
 -- Assumes nothing.
 use Prim.Native.Nat.{ℕ}
 use mathlib.Core.Path.{◌≡◌, sym, ap, ◌∙◌}

@@ -1,6 +1,6 @@
 -- THE LAW: for a legal projector on a connection between lines, what the reader takes from the reply to a command's
--- line is what the projector meant (01, "Controller"), for every command of a class no higher than the set-up's; a
--- higher one gets no reply (02, L14).
+-- line is what the projector meant (RULES, Controller), for every command of a class no higher than the set-up's; a
+-- higher one gets no reply (RULES, Class 2).
 --   TakenAndRead d p c bs r    the result r of receiving bs at place p: number 0, exactly bs taken, the record as the
 --                              command leaves
 --                            it on a connection open between lines with the random number kept, the reply read as meant
@@ -54,7 +54,7 @@ use Rattle.controller.specs.declared.reading.Outcome.{Outcome}
 use Rattle.controller.specs.declared.reading.Outcome.TheVariants.{Means, NotAllowed}
 use Rattle.controller.proofs.Cases.{reply-said}
 
--- 01's "between lines", no collected bytes and no overlong mark, is what the laws ask of the line
+-- "between lines", no collected bytes and no overlong mark, is what the laws ask of the line
 pub is-between : (d : Device) (p : ℕ) → p < placesCount → isLegal d ≡ true
     → (connectionAt d p).line.overlong ≡ false → (connectionAt d p).line.held ≡ 0
     → (connectionAt d p).line ≡ emptyLine

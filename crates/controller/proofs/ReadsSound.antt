@@ -1,4 +1,4 @@
--- THE LAW, the other way (01, "Controller"): whatever line comes, a reading that means something was a line that says
+-- THE LAW, the other way (RULES, Controller): whatever line comes, a reading that means something was a line that says
 -- it, and a line that says something is read so. The ERRA line and no other is read as such. So a line's outcome is
 -- that of the first test it fails.
 -- Assumes nothing.

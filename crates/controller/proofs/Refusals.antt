@@ -1,5 +1,5 @@
--- A refusal writes nothing and means nothing; and the numbers, each the first row of the table that applies (01, "The
--- numbers a call gives").
+-- A refusal writes nothing and means nothing; and the numbers, each the first row of the table that applies (RULES, The
+-- numbers a call gives).
 -- Assumes nothing.
 use Prim.Native.Nat.{ℕ}
 use mathlib.Core.Path.{◌≡◌, refl, sym, ap, ◌∙◌}

@@ -1,10 +1,10 @@
--- Reading a greeting (01, "Controller"): the two greetings and the ERRA line, each with its CR and nothing more.
+-- Reading a greeting (RULES, Controller): the two greetings and the ERRA line, each with its CR and nothing more.
 --   randomIn l          the number in the place of the random number
 --   greets l r          the line l is the greeting with the random number r, in its eight digits
 --   readGreeting l      what the line l is
 --   Exactly l g         the line l is the line of g; a line that is no greeting is none of them
 --   greetedOn c         what an opened connection has been greeted with
---   greetingNumber g    the number of this in the table of 01
+--   greetingNumber g    the number of this in the table of numbers
 -- Assumes nothing.
 use Rattle.std.specs.Prelude.{ℕ, ◌^◌, ◌<◌, ◌≡◌, Bool, List, take, drop, eqb, if◌then◌else◌}
 use Rattle.text.specs.Scans.{sameBy, itself}

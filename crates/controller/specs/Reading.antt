@@ -1,10 +1,10 @@
--- Reading a reply (01, "Controller"). The ERRA line is known for every command (docs/DECISIONS).
+-- Reading a reply (RULES, Controller). The ERRA line is known for every command (docs/DECISIONS).
 --   ReadAs              what the reader gives: the outcome, and what is said (nothing unless the outcome is Means)
---   outcomeNumber o     the number of an outcome in the table of 01
+--   outcomeNumber o     the number of an outcome in the table of numbers
 --   meaning m           the reading that means m
 --   saying m            the reading of a parameter that says m: it is not allowed where it says nothing
 --   readReply c l       what the line l, with its CR, says to the command c: the ERRA line, then the form of a reply of
---                       the command's class (02, L14), then the body, then the parameter
+--                       the command's class (RULES, Class 2), then the body, then the parameter
 --   reading_of r        this as the code returns it
 --   LineSays c l m      the line l, with its CR, says m in reply to c: by its form, its body and its parameter
 -- Assumes nothing.

@@ -1,4 +1,4 @@
--- Writing a command (01, "Controller" and "The numbers a call gives").
+-- Writing a command (RULES, Controller and The numbers a call gives).
 --   WrittenAs                        what the writer gives: the number, and the bytes from the start of the lent memory
 --   commandRoom                      less lent memory is 2: the digest and the longest line that the standard allows
 --   isWritable c secured password    the command's line can be written, and a digest is asked for of a legal password

@@ -8,8 +8,7 @@ use mathlib.Core.Path.{◌≡◌, refl, sym, ap, subst, ◌∙◌}
 use mathlib.Core.Bool.{Bool, true, false, not}
 use mathlib.Core.Logic.{⊎_elim}
 use native.Mathlib.Omega.{arith}
-use borrow.Author.Tests.{eqb-true, eq-eqb, ne_eqb, not-false}
-use borrow.Author.Count.{below_more}
+use borrow.Author.Tests.{eqb-true, eq-eqb, not-false}
 use Rattle.std.specs.Prelude.{Option, None, Some, MatchOption, unwrap_or}
 use Rattle.text.proofs.Choices.{if-by}
 use Rattle.text.proofs.Orders.{le-or-lt}
@@ -99,23 +98,12 @@ module _ (f : ℕ → Bool) where
       pub inside : i ≤ n
       pub before : (k : ℕ) → k < i → f k ≡ false
 
-    pub none-sought : Sought 0
-    none-sought = record { inside = omega arith; before = λ k h. absurd (omega arith) }
-
     module _ {i : ℕ} (s : Sought i) where
-      pub one-sought : i < n → f i ≡ false → Sought (i + 1)
-      one-sought h e =
-          record { inside = omega arith; before = below_more (λ (k : ℕ). f k ≡ false) i s.before e }
-
       pub found : f i ≡ true → i ≡ first f n
       found e = sym (first-is (record { upto = s.inside; before = s.before; here = λ h. e }))
 
       pub all-sought : n ≤ i → i ≡ first f n
       all-sought h = sym (first-is (record { upto = s.inside; before = s.before; here = λ k. absurd (omega arith) }))
-
-pub record Behind (f : ℕ → Bool) (n i j : ℕ) : Type 0 where
-  pub behind : i < j
-  pub sought : Sought f n j
 
 module _ (g : ℕ → Bool) (n : ℕ) where
   pub each-told : each g n ≡ true → (k : ℕ) → k < n → g k ≡ true
@@ -131,16 +119,3 @@ module _ (g : ℕ → Bool) (n : ℕ) where
       → (((k : ℕ) → k < n → g k ≡ true) → b ≡ true) → b ≡ each g n
   each-by true all back = sym (each_all (all refl))
   each-by false all back = by-test (each g n) (λ e. back (each-told e) ∙ sym e) sym
-
-  module _ {i : ℕ} (s : Sought (fails g) n i) where
-    pub one-fails : i < n → g i ≡ false → each g n ≡ false
-    unfolding each
-    one-fails h e =
-        let at : i ≡ first (fails g) n = found (fails g) n s (ap not e) in
-        ne_eqb (first (fails g) n) n (λ p. omega arith)
-
-    pub all_hold : n ≤ i → each g n ≡ true
-    unfolding each
-    all_hold h =
-        let at : i ≡ first (fails g) n = all-sought (fails g) n s h in
-        eq-eqb (first (fails g) n) n (omega (arith, s.inside))

@@ -74,18 +74,6 @@ module _ (d : Day) (a : List ℕ) (r : ℕ) where
   burn-here = if_yes _ _ (eq-eqb r r refl)
 
   module _ (p : Passes d b) where
-    pub left-passes : Passes d a
-    unfolding lacks cold meet
-    left-passes =
-        record {
-          rigged = λ j h. sym (ap (lacks j) (old j h)) ∙ p.rigged j (omega (arith, longer));
-          timely = λ j h. sym (ap (cold j) (old j h)) ∙ p.timely j (omega (arith, longer));
-          apart = λ i j k h.
-              sym (λ t. meet i j (old i (omega arith) t) (old j h t)) ∙ p.apart i j k (omega (arith, longer));
-          lasting = λ q h. le-ltb (d.life nth q) (burnt d.lengths d.warm a q)
-              (omega (arith, ltb-false (d.life nth q) (burnt d.lengths d.warm b q) (p.lasting q h), more q));
-        }
-
     allows : isAllowed (d.allowed nth n) r ≡ true
     unfolding lacks
     allows =

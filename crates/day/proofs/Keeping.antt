@@ -1,5 +1,5 @@
--- The tests and the rules of 02 say the same of a day in its ranges: the checker accepts exactly what keeps all four
--- rules.
+-- The tests and the rules of RULES, Cutting day, say the same of a day in its ranges: the checker accepts exactly what
+-- keeps all four rules.
 -- Assumes nothing.
 use Prim.Native.Nat.{ℕ, ◌+◌, ◌-◌, ◌<◌, ◌≤◌, max}
 use mathlib.Core.Path.{◌≡◌, sym, ap, subst, ◌∙◌}

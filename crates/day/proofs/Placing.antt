@@ -62,11 +62,6 @@ module _ (d : Day) (array : List ℕ) where
           placed = sym e;
         }
 
-    pub all_placed : jobs d ≤ j → Placed d j array
-    all_placed h =
-        let none : jobs d - j ≡ 0 = omega arith in
-        placed_by (g.rest ∙ ap (λ (m : ℕ). plannedFrom d m a) none)
-
     module _ (h : j < jobs d) {r : ℕ} (e : r ≡ first (joins d a) (rigs d)) where
       rig : r ≡ rigFor d a
       rig = e ∙ rig-found d a g.kept

@@ -2,11 +2,11 @@
 -- Assumes nothing.
 use Prim.Native.Nat.{ℕ, ◌+◌, ◌<◌, ◌≤◌}
 use mathlib.Core.Path.{◌≡◌}
-use mathlib.Core.Bool.{Bool, true, false, ◌&&◌}
+use mathlib.Core.Bool.{Bool, true, ◌&&◌}
 use lib.ListN.{length}
 use lib.Dec.{leb}
 use borrow.Author.Tests.{leb-true, le-leb, eqb-true, eq-eqb}
-use Rattle.text.proofs.Choices.{both_left, both_right, both, by-not}
+use Rattle.text.proofs.Choices.{both_left, both_right, both}
 use Rattle.day.specs.Finding.{◌nth◌}
 use Rattle.day.specs.Days.{Day, jobs, rigs, jobsMost, rigsMost, dayEnd, warmOrCoolMost}
 use Rattle.day.specs.Days.{isJob, isWarmOrCool, isRig, eachJob, eachRig, isDay}
@@ -114,6 +114,3 @@ module _ (d : Day) where
       (le-leb (d.starts nth j + d.lengths nth j) dayEnd (p.end-in-range j h)))))
       (each_all (λ r. isRig (d.warm nth r) (d.cool nth r)) (rigs d)
       (λ r h. both (stretch-tested (p.warm-in-range r h)) (stretch-tested (p.cool-in-range r h))))
-
-  pub unranged-no-day : (Ranged d → ⊥) → isDay d ≡ false
-  unranged-no-day none = by-not (isDay d) (λ e. none (day-ranged e))

@@ -1,4 +1,5 @@
--- A cutting day (02, L12): jobs and rigs, each field a list of its own, in the order of the jobs or of the rigs.
+-- A cutting day (RULES, Cutting day): jobs and rigs, each field a list of its own, in the order of the jobs or of the
+-- rigs.
 --   Day                    a job has a start, a length and the rigs that it may use, bit k of a byte for rig k;
 --                          a rig has W, C and the seconds of lamp life left. Rigs are numbered from 0
 --   jobs d, rigs d         how many

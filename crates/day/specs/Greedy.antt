@@ -1,4 +1,4 @@
--- The greedy assignment, over jobs and rigs: what 02 asks of the planner, apart from how it is found.
+-- The greedy assignment, over jobs and rigs: what RULES, Cutting day, asks of the planner, apart from how it is found.
 --   LowestRig d a r      r is the lowest rig on which the next job, after those of a, keeps every rule with them
 --   FindsNone d a        the next job keeps every rule with them on no rig
 --   Greedy d a           each job of a is on its lowest rig

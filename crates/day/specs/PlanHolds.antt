@@ -1,5 +1,5 @@
--- What each answer of the planner says of the jobs and rigs (02, L12), in its words and apart from how it is found.
--- That the answer told holds with what is written, and no other, is proved (proofs/PlanHolds).
+-- What each answer of the planner says of the jobs and rigs (RULES, Cutting day), in its words and apart from how it is
+-- found. That the answer told holds with what is written, and no other, is proved (proofs/PlanHolds).
 --   HasRoom d room         a day in its ranges, and room for one rig a job
 --   FindsNoneAt d j        each job before j is on its lowest rig, and j keeps every rule with them on no rig
 --   PlanHolds d room p w   what the answer p says, with the rigs w written: all the jobs' lowest rigs, or nothing

@@ -1,5 +1,5 @@
--- The planner (02, L12): jobs in the order given, each on the lowest-numbered rig that keeps every rule with those
--- already placed.
+-- The planner (RULES, Cutting day): jobs in the order given, each on the lowest-numbered rig that keeps every rule with
+-- those already placed.
 --   rigFor d a             the lowest rig on which the next job, after those of a, keeps every rule with them; the
 --                          number of rigs, where there is none
 --   plannedFrom d m a      up to m more jobs placed after those of a: as many as find a rig, one after the other
@@ -7,11 +7,13 @@
 --   plan_of d room         the planner's answer, with room for so many rigs
 --   rigsWritten d room     what it writes at the start of the lent list: all the rigs, or nothing
 --   planNumber, isMade, job_of     an answer in numbers, as the paper has it
+--   PlansInto d out r m    what planning leaves where the list out was lent: the answer r, and the list m
 --   joins d a r            what the code asks of the next job on rig r: the rules as far as they concern that job
 -- Assumes nothing.
 use Rattle.std.specs.Prelude.{ℕ, zero, suc, ◌+◌, ◌≤◌, ◌≡◌, Bool, true, false, not, ◌&&◌, ltb, leb}
 use Rattle.std.specs.Prelude.{List, [], ◌∷◌, ◌++◌, length, take}
 use Rattle.std.specs.Prelude.{if◌then◌else◌}
+use Rattle.text.specs.Words.{over}
 use Rattle.day.specs.Finding.{first, each, ◌nth◌}
 use Rattle.day.specs.Days.{Day, jobs, rigs, isDay, isAllowed}
 use Rattle.day.specs.Rules.{burnt}
@@ -47,6 +49,9 @@ plan_of d room =
 
 unfoldable pub rigsWritten : Day → ℕ → List ℕ
 rigsWritten d room = if isPlannable d room && leb (jobs d) (length (planned d)) then planned d else []
+
+abbrev pub PlansInto : Day → List ℕ → Plan → List ℕ → Type 0
+PlansInto d out r m = (r ≡ plan_of d (length out)) × (m ≡ over (rigsWritten d (length out)) out)
 
 abbrev pub planNumber : Plan → ℕ
 planNumber OutOfRange = 3

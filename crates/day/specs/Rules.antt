@@ -1,5 +1,5 @@
--- The four rules (02, L12), over jobs and rigs. An assignment a has a rig for each of the first jobs, in their order:
--- for the checker for all of them, for the planner for those already placed.
+-- The four rules (RULES, Cutting day), over jobs and rigs. An assignment a has a rig for each of the first jobs, in
+-- their order: for the checker for all of them, for the planner for those already placed.
 --   HasRig d a j           job j has a rig that exists and is allowed
 --   InTime d a j           job j does not start before its rig's W
 --   Occupies d r j t       on rig r job j occupies the second t: W seconds before its start, its length, C after it

@@ -1,5 +1,5 @@
--- What each verdict of the checker says of the jobs and rigs (02, L12), in its words and apart from how it is found.
--- That the verdict told holds, and no other, is proved (proofs/VerdictHolds).
+-- What each verdict of the checker says of the jobs and rigs (RULES, Cutting day), in its words and apart from how it
+-- is found. That the verdict told holds, and no other, is proved (proofs/VerdictHolds).
 --   Ranged d                  at most 64 jobs and 8 rigs, each with all its fields, each field in its range
 --   InRange d a               a day in its ranges, and one rig a job
 --   AllRigged, AllTimely, AllApart      the first, the second, the third rule, kept by all jobs

@@ -1,4 +1,5 @@
--- The checker's verdict (02, L12): the first rule broken, in the rules' order, and the lowest job or rig concerned.
+-- The checker's verdict (RULES, Cutting day): the first rule broken, in the rules' order, and the lowest job or rig
+-- concerned.
 --   unrigged d a j, early d a j, clashing d a i, spent d a r      the rules, each broken by a job or a rig
 --   judged d a             the verdict on the first jobs of a day, of which a has the rigs
 --   checked d a            the verdict on a whole day; out of range before anything else

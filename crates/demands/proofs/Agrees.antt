@@ -5,20 +5,17 @@
 --   Agrees w g ms n stream d     the stage g, the marks ms, the counts n, one a lamp, and the streams agree with the
 --                                device d, set up with w
 -- Assumes nothing.
-use Prim.Native.Nat.{ℕ, zero, suc, ◌+◌, ◌-◌, ◌≤◌, ◌<◌}
+use Prim.Native.Nat.{ℕ, ◌+◌, ◌<◌}
 use mathlib.Core.Path.{◌≡◌, refl, sym, ap, subst, ◌∙◌}
-use mathlib.Core.Bool.{Bool, true, false, false≢true, ◌&&◌}
+use mathlib.Core.Bool.{Bool, true, false, ◌&&◌}
 use mathlib.Core.List.{List}
-use mathlib.Core.Logic.{⊎_elim}
 use native.Mathlib.Omega.{arith}
 use lib.ListN.{length, get_or, set, length-set}
 use lib.Seq.{get_or-set_same, get_or-set_other}
 use lib.Dec.{eqb}
-use borrow.Author.Tests.{lt-leb, eqb-true, eqb-false}
+use borrow.Author.Tests.{eqb-true, eqb-false}
 use Rattle.std.specs.Prelude.{if◌then◌else◌}
-use Rattle.text.proofs.Choices.{if_no}
-use Rattle.text.proofs.Orders.{le-or-lt}
-use Rattle.record.specs.Limits.{off, on, cooling, warming, isLit, isBetween}
+use Rattle.record.specs.Limits.{off, on, cooling, warming, isLit}
 use Rattle.record.specs.Wanted.{Wanted}
 use Rattle.record.specs.Legal.{isLegal}
 use Rattle.record.specs.Record.{closed, settingsOf}
@@ -30,20 +27,25 @@ use Rattle.record.specs.declared.types.Line.{Line}
 use Rattle.record.specs.declared.types.Connection.{Connection}
 use Rattle.record.specs.declared.types.Device.{Device}
 use Rattle.record.proofs.ConnectionTold.{closed-holds-none}
-use Rattle.record.proofs.LegalTold.{own-of-legal}
-use Rattle.record.proofs.OwnTold.{LeftTold, in-warm-up, in-cooling, when-on, when-off, left-told}
+use Rattle.record.specs.Views.{power_of as seen, power_number, power_left}
+use Rattle.record.specs.declared.views.Power.{Power}
+use Rattle.record.specs.declared.views.Power.TheVariants.{Off, WarmUp, On, Cooling}
+use Rattle.clock.specs.Second.{powerSecond}
 use Rattle.clock.specs.Second.{times, ownSecond, second}
 use Rattle.clock.specs.After.{lampAfter}
 use Rattle.clock.proofs.ConnectionsAge.{line-then}
 use Rattle.clock.proofs.InOneGo.{parts-pass, place-passes}
 use Rattle.clock.proofs.LampsByPlace.{lamp-after}
-use Rattle.clock.proofs.PowerByTime.{PowerThen, the-same-as, settled-lasts, warm-up-lasts, warm-up-ends}
-use Rattle.clock.proofs.PowerByTime.{cooling-lasts, cooling-ends}
+use Rattle.clock.proofs.PowerByTime.{power-in-a-second, left-in-a-second}
 use Rattle.clock.proofs.Untouched.{own-else-stays}
 use Rattle.stream.specs.Collecting.{lineText}
 use Rattle.stream.proofs.LastBytes.{Ends, ends-unheld}
 use Rattle.demands.specs.History.{Streams, aSecond, Stage, steady, towards, next}
 use Rattle.demands.specs.History.{isBurning, burns, lampWith}
+
+pub record PowerThen (p l : ℕ) (o : Own) : Type 0 where
+  pub power : o.power ≡ p
+  pub left : o.left ≡ l
 
 abbrev pub powerOf : Stage → ℕ
 powerOf (steady true) = on
@@ -77,42 +79,40 @@ lit-shown (towards false n) = refl
 
 -- ---- one second
 
--- between off and on a legal record has seconds left
-some_left : {w c power left : ℕ} → LeftTold w c power left → isBetween power ≡ true → 1 ≤ left
-some_left (in-warm-up p h k) e = h
-some_left (in-cooling p h k) e = h
-some_left (when-on p h) e = absurd (false≢true (sym (ap isBetween p) ∙ e))
-some_left (when-off p h) e = absurd (false≢true (sym (ap isBetween p) ∙ e))
+-- the stage, as the power is seen
+abbrev seenIn : Stage → Power
+seenIn (steady true) = On
+seenIn (steady false) = Off
+seenIn (towards true n) = WarmUp n
+seenIn (towards false n) = Cooling n
 
--- the outsider's clock, in the last second of warm-up or cooling and before
-module _ (w : Wanted) (is-on : Bool) where
-  last-second : (n : ℕ) → n ≤ 1 → next w (towards is-on n) aSecond ≡ steady is-on
-  last-second zero h = refl
-  last-second (suc zero) h = refl
-  last-second (suc (suc n)) h = absurd (omega arith)
+stage-seen : (g : Stage) → seen (powerOf g) (left_of g) ≡ seenIn g
+stage-seen (steady true) = refl
+stage-seen (steady false) = refl
+stage-seen (towards true n) = refl
+stage-seen (towards false n) = refl
 
-  early-second : (n : ℕ) → 1 < n → next w (towards is-on n) aSecond ≡ towards is-on (n - 1)
-  early-second n h = if_no _ _ (lt-leb n 1 h)
+stage-number : (g : Stage) → (power_number (seenIn g) ≡ powerOf g) × (power_left (seenIn g) ≡ left_of g)
+stage-number (steady true) = (refl, refl)
+stage-number (steady false) = (refl, refl)
+stage-number (towards true n) = (refl, refl)
+stage-number (towards false n) = (refl, refl)
 
-module _ (w : Wanted) (s : Settings) (o : Own) (told : LeftTold s.warm s.cool o.power o.left) where
-  power-second : (g : Stage) → o.power ≡ powerOf g → o.left ≡ left_of g
-      → Shows (next w g aSecond) (times (ownSecond s) 1 o)
-  power-second (steady true) p l = the-same-as (settled-lasts s o 1 (ap isBetween p)) p l
-  power-second (steady false) p l = the-same-as (settled-lasts s o 1 (ap isBetween p)) p l
-  power-second (towards true n) p l =
-      ⊎_elim
-      (λ (h : n ≤ 1). rw (last-second w true n h)
-      (warm-up-ends s o 1 p (some_left told (ap isBetween p)) (omega arith)))
-      (λ (h : 1 < n). rw (early-second w true n h)
-      (the-same-as (warm-up-lasts s o 1 p (omega arith)) refl (ap (λ (x : ℕ). x - 1) l)))
-      (le-or-lt n 1)
-  power-second (towards false n) p l =
-      ⊎_elim
-      (λ (h : n ≤ 1). rw (last-second w false n h)
-      (cooling-ends s o 1 p (some_left told (ap isBetween p)) (omega arith)))
-      (λ (h : 1 < n). rw (early-second w false n h)
-      (the-same-as (cooling-lasts s o 1 p (omega arith)) refl (ap (λ (x : ℕ). x - 1) l)))
-      (le-or-lt n 1)
+next-seen : (w : Wanted) (g : Stage) → powerSecond (seenIn g) ≡ seenIn (next w g aSecond)
+next-seen w (steady true) = refl
+next-seen w (steady false) = refl
+next-seen w (towards true n) = grind arith
+next-seen w (towards false n) = grind arith
+
+power-second : (w : Wanted) (s : Settings) (o : Own) (g : Stage) → o.power ≡ powerOf g → o.left ≡ left_of g
+    → Shows (next w g aSecond) (times (ownSecond s) 1 o)
+power-second w s o g p l =
+    let after : powerSecond (seen o.power o.left) ≡ seenIn (next w g aSecond)
+    = (λ i. powerSecond (seen (p i) (l i))) ∙ ap powerSecond (stage-seen g) ∙ next-seen w g in
+    record {
+      power = power-in-a-second s o ∙ ap power_number after ∙ (stage-number (next w g aSecond)).0;
+      left = left-in-a-second s o ∙ ap power_left after ∙ (stage-number (next w g aSecond)).1;
+    }
 
 lamp-second : (g : Stage) (mark : Bool) (n x : ℕ)
     → lampAfter 1 (isLit (powerOf g) && mark) (lampWith n x) ≡ lampWith (n + (if isBurning g && mark then 1 else 0)) x
@@ -127,7 +127,7 @@ module _ {w : Wanted} {g : Stage} {ms : List Bool} {n : ℕ → ℕ} {stream : S
     (a : Agrees w g ms n stream d) (legal : isLegal d ≡ true) where
   abbrev shown : Shows (next w g aSecond) (times (ownSecond d.settings) 1 d.own)
   shown =
-      power-second w d.settings d.own (left-told _ _ _ _ (own-of-legal d legal).left) g a.power a.left
+      power-second w d.settings d.own g a.power a.left
 
   pub agrees-second : Agrees w (next w g aSecond) ms (λ k. n k + burns g ms k aSecond) stream (times second 1 d)
   agrees-second = record {

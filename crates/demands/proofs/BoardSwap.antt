@@ -1,4 +1,4 @@
--- Settings survive a board swap (02, L3): it holds of our board.
+-- Settings survive a board swap (RULES, Stored form): it holds of our board.
 -- Assumes nothing.
 use Prim.Native.Nat.{ℕ, ◌+◌, ◌<◌}
 use mathlib.Core.Path.{◌≡◌, refl, sym, ap, subst, ◌∙◌}
@@ -155,7 +155,7 @@ module _ (b : Beginning) (w : Wanted) (cs es : List Call) (m : List ℕ) (place 
   hours-go-on : GoesOn (bytesWritten (ours.store old m))
   hours-go-on = subst GoesOn (sym (form-stored old m stored)) on-the-new
 
--- ---- older versions (02, L14)
+-- ---- older versions (RULES, Class 2)
 
 marked-loads : (w : Wanted) (ms : List Bool) → IsClass1 w → (ours.load (markedFormOf w ms)).number ≡ 0
     → LoadsAs ours (markedFormOf w ms) w ms

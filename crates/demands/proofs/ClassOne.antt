@@ -1,5 +1,5 @@
--- A Class 1 set-up is as it was (02, L14): it holds of our board. A line of the form asks for what it asked for before,
--- but for an input of Class 2 alone, which was no input then and is in no Class 1 set-up now: ERR2 either way.
+-- A Class 1 set-up is as it was (RULES, Class 2): it holds of our board. A line of the form asks for what it asked for
+-- before, but for an input of Class 2 alone, which was no input then and is in no Class 1 set-up now: ERR2 either way.
 -- Assumes nothing.
 use Prim.Native.Nat.{ℕ, ◌*◌, ◌+◌, ◌≤◌, ◌<◌}
 use Prim.Native.Char.{code}

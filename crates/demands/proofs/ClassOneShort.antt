@@ -1,5 +1,5 @@
--- No reply of a Class 1 set-up is longer than 103 bytes (02, L11), as before Class 2 (02, L14): eight around a
--- parameter of at most 95. Only an input's name is longer, and a Class 1 set-up has none.
+-- No reply of a Class 1 set-up is longer than 103 bytes (RULES, Inputs), as before Class 2 (RULES, Class 2): eight
+-- around a parameter of at most 95. Only an input's name is longer, and a Class 1 set-up has none.
 -- Assumes nothing.
 use Prim.Native.Nat.{ℕ, ◌≤◌, ◌<◌}
 use Prim.Native.Char.{code}

@@ -1,5 +1,5 @@
--- Demand 3: the fleet's question (02, L8). While no lamp reaches the limit, the seconds that the lamps gained are,
--- added up, the seconds of burning, each counted once for each mark that stood.
+-- Demand 3: the fleet's question (RULES, Lamps). While no lamp reaches the limit, the seconds that the lamps gained
+-- are, added up, the seconds of burning, each counted once for each mark that stood.
 -- Assumes nothing.
 use Prim.Native.Nat.{ℕ, zero, suc, ◌+◌, ◌-◌, ◌≤◌, ◌<◌}
 use mathlib.Core.Path.{◌≡◌, refl, sym, ap, ◌∙◌}

@@ -80,7 +80,7 @@ module _ (w : Wanted) (ms : List Bool) (es : List Event) {stream : Streams} {d :
       ext_get_or none _ _ (many ∙ sym (each-length (lampThen w ms es) 0 w.lamps))
       (λ k inside. lamp-same k (omega (arith, many)))
 
-  -- LAMP is of Class 1, which every set-up takes (02, L14)
+  -- LAMP is of Class 1, which every set-up takes (RULES, Class 2)
   any-class : 1 ≤ d.settings.class_number
   any-class =
       let k = d.settings.class_number in

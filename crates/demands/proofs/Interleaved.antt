@@ -1,6 +1,6 @@
--- What is seen at a place is what its connection alone gets of its own stream (02, L5): each call at the place does to
--- the connection there what it would do alone with the own part of that moment, and a call elsewhere does nothing to
--- it.
+-- What is seen at a place is what its connection alone gets of its own stream (RULES, Places): each call at the place
+-- does to the connection there what it would do alone with the own part of that moment, and a call elsewhere does
+-- nothing to it.
 -- Assumes nothing.
 use Prim.Native.Nat.{ℕ, ◌≤◌, ◌<◌}
 use mathlib.Core.Path.{◌≡◌, sym, ap, subst, ◌∙◌}

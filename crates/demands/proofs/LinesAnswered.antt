@@ -1,5 +1,5 @@
--- Demand 2: any line of any controller is answered as 01's tables say, on an open connection and behind the matching
--- digest.
+-- Demand 2: any line of any controller is answered as the tables of RULES say, on an open connection and behind the
+-- matching digest.
 -- Assumes nothing.
 use Prim.Native.Nat.{ℕ, ◌+◌, ◌≤◌, ◌<◌}
 use mathlib.Core.Path.{◌≡◌, refl, sym, ap, subst, ◌∙◌}

@@ -1,4 +1,4 @@
--- Demand 2: a name that set-up accepts is one that the reader accepts (02, L2).
+-- Demand 2: a name that set-up accepts is one that the reader accepts (RULES, Texts).
 -- Assumes nothing.
 use mathlib.Core.Path.{◌≡◌}
 use mathlib.Core.List.{◌++◌}

@@ -1,4 +1,4 @@
--- Demand 2: one place's bytes never touch another's connection (02, L5), and no other call does but time.
+-- Demand 2: one place's bytes never touch another's connection (RULES, Places), and no other call does but time.
 -- Assumes nothing.
 use Prim.Native.Nat.{ℕ}
 use mathlib.Core.Path.{◌≡◌, refl}

@@ -1,11 +1,11 @@
--- 01, "Connection": "Either way the random number is kept until closing": whatever call comes on a connection that is
+-- RULES, Connection: "Either way the random number is kept until closing": whatever call comes on a connection that is
 -- not closed, at whatever place, it is closed afterwards or has the number that it had, over lines and over time.
 -- Assumes nothing.
 use Prim.Native.Nat.{ℕ, ◌<◌}
 use mathlib.Core.Path.{◌≡◌, refl, sym, ap, subst, ◌∙◌}
 use mathlib.Core.Bool.{Bool, true, false}
 use mathlib.Core.List.{List}
-use mathlib.Core.Logic.{◌⊎◌, inl, inr}
+use mathlib.Core.Logic.{inl, inr}
 use native.Mathlib.Omega.{arith}
 use lib.ListN.{length}
 use lib.Dec.{eqb}
@@ -36,9 +36,7 @@ use Rattle.device.proofs.LineCases.{taken-by}
 use Rattle.record.proofs.LowestShut.{lowest-is-shut}
 use Rattle.ours.specs.Board.{ours}
 use Rattle.demands.specs.Calls.{Call, opens, closes, receives, passes, marks, reports, enables, after}
-
-abbrev pub ClosedOr : ℕ → Connection → Type 0
-ClosedOr random c = (c.phase ≡ shut) ⊎ (c.random ≡ random)
+use Rattle.demands.specs.Beside.{ClosedOr}
 
 module _ (c : Connection) where
   keeping-keeps : (l : Line) → (keepingLine c l).random ≡ c.random

@@ -1,5 +1,5 @@
--- 01's sample device, opened at place 0, on which the wrong boards fall; and the longest replies, which 32 inputs reach
--- in Class 1 (02, L11) and an input's name in Class 2 (02, L14).
+-- the sample device, opened at place 0, on which the wrong boards fall; and the longest replies, which 32 inputs reach
+-- in Class 1 (RULES, Inputs) and an input's name in Class 2 (RULES, Class 2).
 -- Assumes nothing.
 use mathlib.Core.Path.{◌≡◌, refl}
 use Prim.Native.Char.{code}

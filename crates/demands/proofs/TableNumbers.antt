@@ -1,4 +1,4 @@
--- Demand 1: each call gives the number of the first row of 01's table that applies to it.
+-- Demand 1: each call gives the number of the first row of the table that applies to it.
 -- Assumes nothing.
 use Prim.Native.Nat.{ℕ}
 use mathlib.Core.Path.{◌≡◌, refl, sym, ap, ◌∙◌}

@@ -1,5 +1,5 @@
--- An outsider has no say (02, L6), of our board: call by call, the two runs leave records that are the same but for his
--- place, and each other call gives the same in both.
+-- An outsider has no say (RULES, Places), of our board: call by call, the two runs leave records that are the same but
+-- for his place, and each other call gives the same in both.
 -- Assumes nothing.
 use Prim.Native.Nat.{ℕ}
 use mathlib.Core.Path.{◌≡◌, refl, sym, ap, subst, ◌∙◌}

@@ -1,4 +1,4 @@
--- Two legal records that are the same but for place p (02, L6): what one place or a refusal leaves alike.
+-- Two legal records that are the same but for place p (RULES, Places): what one place or a refusal leaves alike.
 --   LentAlike p m k r l u   the results r and u, told with the places k and l over the memory m, give the same, and
 --                           leave records that are the same but for place p
 -- Assumes nothing.

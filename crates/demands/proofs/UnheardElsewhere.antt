@@ -1,5 +1,5 @@
--- Two records that are the same but for place p (02, L6): every call that is not at place p gives the same from both,
--- and leaves them so; opening does if the two agree in the phase of place p.
+-- Two records that are the same but for place p (RULES, Places): every call that is not at place p gives the same from
+-- both, and leaves them so; opening does if the two agree in the phase of place p.
 --   AlikeFrom p d e c     the call c gives the same from d and from e, and leaves them the same but for place p
 -- Assumes nothing.
 use Prim.Native.Nat.{ℕ}

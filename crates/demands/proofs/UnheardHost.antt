@@ -1,4 +1,4 @@
--- Two records that are the same but for place p (02, L6): time and the host's calls give the same from both, and
+-- Two records that are the same but for place p (RULES, Places): time and the host's calls give the same from both, and
 -- leave them so.
 -- Assumes nothing.
 use Prim.Native.Nat.{ℕ}

@@ -1,4 +1,4 @@
--- Which place is the lowest closed one depends on the phases alone (02, L6).
+-- Which place is the lowest closed one depends on the phases alone (RULES, Places).
 -- Assumes nothing.
 use Prim.Native.Nat.{ℕ, zero, suc, ◌≤◌, ◌<◌}
 use mathlib.Core.Path.{◌≡◌, refl, sym, ap, ◌∙◌}

@@ -1,5 +1,5 @@
--- What holds at the end of two such runs holds at every moment of them (02, L6): what came before is two such runs, on
--- any board.
+-- What holds at the end of two such runs holds at every moment of them (RULES, Places): what came before is two such
+-- runs, on any board.
 -- Assumes nothing.
 use Prim.Native.Nat.{ℕ, zero, suc}
 use mathlib.Core.Path.{◌≡◌, refl}

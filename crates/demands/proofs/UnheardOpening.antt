@@ -1,5 +1,5 @@
--- Two legal records that are the same but for place p (02, L6), and agree in its phase: an opening takes the same place
--- in both, gives the same, and leaves them so.
+-- Two legal records that are the same but for place p (RULES, Places), and agree in its phase: an opening takes the
+-- same place in both, gives the same, and leaves them so.
 -- Assumes nothing.
 use Prim.Native.Nat.{ℕ, ◌<◌}
 use mathlib.Core.Path.{◌≡◌, refl, sym, ap, subst, ◌∙◌}

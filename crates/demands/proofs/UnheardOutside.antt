@@ -1,5 +1,5 @@
--- One run of someone without the password, whoever makes which call (02, L6): his place stays outside, and what is
--- received or closed there touches nothing else; from a fresh set-up on.
+-- One run of someone without the password, whoever makes which call (RULES, Places): his place stays outside, and what
+-- is received or closed there touches nothing else; from a fresh set-up on.
 -- Assumes nothing.
 use Prim.Native.Nat.{ℕ, zero, suc}
 use mathlib.Core.Path.{◌≡◌, refl, sym, ap, subst, ◌∙◌}

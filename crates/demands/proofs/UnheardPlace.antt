@@ -1,4 +1,4 @@
--- One run of someone without the password (02, L6): at each moment the record is legal, and his place stands as
+-- One run of someone without the password (RULES, Places): at each moment the record is legal, and his place stands as
 -- proofs/Sessions.antt says; what is received or closed there touches nothing else.
 --   Outside p s d      place p of the legal, secured device d stands so with the session s
 -- Assumes nothing.

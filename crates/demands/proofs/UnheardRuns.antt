@@ -1,4 +1,4 @@
--- Two runs of 01's sample set-up with a password, for 02, L6. Place 0 is opened by someone who does not know the
+-- Two runs of the sample set-up with a password, for RULES, Places. Place 0 is opened by someone who does not know the
 -- password, place 1 by someone who does, who powers on, and 20 seconds later off. Nothing is computed here.
 -- Assumes nothing.
 use Prim.Native.Nat.{ℕ}

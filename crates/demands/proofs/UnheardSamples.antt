@@ -1,6 +1,6 @@
--- 02, L6 is not empty: the two runs of proofs/UnheardRuns.antt meet every premise of it. In the one he at place 0 asks
--- for power-on and has failed, in the other he sends five bytes and is still awaited; what place 1 did is the same in
--- both. And its premise about openings is needed.
+-- RULES, Places is not empty: the two runs of proofs/UnheardRuns.antt meet every premise of it. In the one he at place
+-- 0 asks for power-on and has failed, in the other he sends five bytes and is still awaited; what place 1 did is the
+-- same in both. And its premise about openings is needed.
 -- Assumes nothing.
 use Prim.Native.Nat.{ℕ}
 use mathlib.Core.Path.{◌≡◌, refl, ap, ◌∙◌}

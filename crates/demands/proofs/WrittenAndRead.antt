@@ -1,5 +1,5 @@
 -- Demand 2: what the writer writes, and what the readers take from the projector's replies and greetings; a command of
--- a class higher than the set-up's is swallowed (02, L14).
+-- a class higher than the set-up's is swallowed (RULES, Class 2).
 -- Assumes nothing.
 use Prim.Native.Nat.{ℕ, ◌^◌, ◌≤◌, ◌<◌}
 use mathlib.Core.Path.{◌≡◌, refl, sym, ap, subst, ◌∙◌}

@@ -1,5 +1,5 @@
--- 02, L6: the boards of specs/WrongOutsiders.antt fall, each to two runs of the secured sample in which someone at
--- place 0 sends `x` with its CR and is refused, or without it; the two numbers shown differ.
+-- RULES, Places: the boards of specs/WrongOutsiders.antt fall, each to two runs of the secured sample in which someone
+-- at place 0 sends `x` with its CR and is refused, or without it; the two numbers shown differ.
 -- Assumes nothing.
 use Prim.Native.Nat.{ℕ}
 use mathlib.Core.Path.{◌≡◌, refl, ap}

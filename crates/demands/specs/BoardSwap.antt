@@ -1,7 +1,7 @@
--- SETTINGS THAT SURVIVE A BOARD SWAP (02, L3), over any board: what is stored, what loads, and that the hours go on.
--- TO BELIEVE IT, believe, and nothing else: the stored form and what is stored of a record (form/specs/Form); what
--- demand 3 says of a history (Demand3, History); ours/specs/Board, and here Calls. Which bytes load is
--- in demand 1, row by row.
+-- SETTINGS THAT SURVIVE A BOARD SWAP (RULES, Stored form), over any board: what is stored, what loads, and that the
+-- hours go on. TO BELIEVE IT, believe, and nothing else: the stored form and what is stored of a record
+-- (form/specs/Form); what demand 3 says of a history (Demand3, History); ours/specs/Board, and here Calls. Which bytes
+-- load is in demand 1, row by row.
 --   LoadsAs B s w ms    the bytes s load, and give the record that the set-up of w gives, with the marks ms
 --   BoardSwap           the theorem
 -- Assumes nothing.
@@ -28,9 +28,10 @@ pub record BoardSwap (B : Board) : Type 0 where
   -- "Loading is a fresh set-up": of what was stored
   pub stored-loads : (d : B.Record) (m : List ℕ) → (B.store d m).number ≡ 0
       → LoadsAs B (bytesWritten (B.store d m)) (storedOf (B.shows d)) (marksStored (B.shows d))
-  -- 02, L8: version 1 "loads with all set": it is the set-up of its settings, which are of Class 1 (02, L14)
+  -- RULES, Lamps: version 1 "loads with all set": it is the set-up of its settings, which are of Class 1 (RULES, Class
+  -- 2)
   pub old-form-sets-up : (w : Wanted) → IsClass1 w → B.load (oldFormOf w) ≡ B.set-up w
-  -- 02, L14: version 2 loads "as Class 1", with its marks
+  -- RULES, Class 2: version 2 loads "as Class 1", with its marks
   pub marked-form-loads : (w : Wanted) (ms : List Bool) → IsClass1 w → (B.load (markedFormOf w ms)).number ≡ 0
       → LoadsAs B (markedFormOf w ms) w ms
   -- "Versions 1 and 2 load as Class 1", whatever bytes these are

@@ -1,6 +1,6 @@
--- The calls that take a device record, and a run of them (01, "Time": the history of demand 3 is "the calls since an
+-- The calls that take a device record, and a run of them (RULES, Time: the history of demand 3 is "the calls since an
 -- accepted set-up that take a device record, each lent the record the last one returned").
---   Call            such a call, with what it is lent, at any place (02, L5); passing in place is passing
+--   Call            such a call, with what it is lent, at any place (RULES, Places); passing in place is passing
 --   after B d c     the record that the call c returns, lent d
 --   number_of B d c the number that it gives
 --   run B d cs      the record after the calls cs

@@ -1,8 +1,8 @@
--- What an accepted call leaves, whole (01, "Set-up", "Connection" and "Time"): set-up, opening, closing and the host's
--- calls. Receiving is in Demand2, passing time in Demand3.
+-- What an accepted call leaves, whole (RULES, The legal record, Connection and Time): set-up, opening, closing and the
+-- host's calls. Receiving is in Demand2, passing time in Demand3.
 --   OpenedAs B d random p r   the greeting that the password and the lent number give was replied; p is the lowest
---                             closed place (02, L5), and the connection there keeps that number and awaits the digest
---                             exactly where there is a password; nothing else changed
+--                             closed place (RULES, Places), and the connection there keeps that number and awaits the
+--                             digest exactly where there is a password; nothing else changed
 --   Leaves B d r e          the call that gave r left the device e
 -- Assumes nothing.
 use Rattle.std.specs.Prelude.{ℕ, ◌≡◌}

@@ -1,5 +1,5 @@
--- A CLASS 1 SET-UP IS AS IT WAS (02, L14: "A Class 1 set-up answers every Class 1 line exactly as before and drops `%2`
--- lines"), over any board, against the definitions that stood before that landing.
+-- A CLASS 1 SET-UP IS AS IT WAS (RULES, Class 2: "A Class 1 set-up answers every Class 1 line exactly as before and
+-- drops `%2` lines"), over any board, against the definitions that stood before that landing.
 -- TO BELIEVE IT, believe, and nothing else: the form of a line and what a line asks for, as they were (lines/specs:
 -- ClassOne); what is meant and done (meaning/specs); which bytes say it (answers/specs: Said); the record
 -- (record/specs); ours/specs/Board, and here `BetweenLines`, `AnsweredAs`, `digestFor` of Demand2.
@@ -7,7 +7,7 @@
 --   lineBefore s o l       how a line was answered: `%1`, the four body bytes as received, `=`, the parameter, CR; or
 --                          swallowed
 --   answerBefore d l       the same, one of more than 135 bytes swallowed
---   longestBefore          no reply was longer (02, L11)
+--   longestBefore          no reply was longer (RULES, Inputs)
 --   OfClass1 B d           the board is set up for Class 1
 --   ClassOneKept B         the theorem
 -- Assumes nothing.
@@ -63,5 +63,5 @@ pub record ClassOneKept (B : Board) : Type 0 where
   pub drops-class-2 : (d : B.Record) (p : ℕ) (l m : List ℕ) → OfClass1 B d → BetweenLines opened (B.shows d) p
       → noCr l ≡ true → (l at 1 is "2") ≡ true → replyRoom ≤ length m
       → let bs = l ++ ascii "\r" in AnsweredAs B d p bs (swallowed (B.shows d).own) (B.receive d p bs m)
-  -- 02, L11: "the longest reply is 103"
+  -- RULES, Inputs: "the longest reply is 103"
   pub reply-short : (d : B.Record) (p : ℕ) (bs m : List ℕ) → OfClass1 B d → (B.receive d p bs m).length ≤ longestBefore

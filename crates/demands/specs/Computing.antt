@@ -1,5 +1,5 @@
--- One name that opens the definitions of every crate below, for computing on concrete records only (01, "Lines that
--- settle it"). The digest stays shut: no line is computed on a secured connection.
+-- One name that opens the definitions of every crate below, for computing on concrete records only (RULES,
+-- Commands). The digest stays shut: no line is computed on a secured connection.
 -- Assumes nothing.
 use Rattle.numbers.specs.Computing.{computing as numbers}
 use Rattle.lines.specs.Computing.{computing as lines}

@@ -1,18 +1,18 @@
 -- DEMAND 1. "Whatever bytes arrive, in whatever cuts, every call ends and stays inside its memory. A call that can't be
--- served gives the one number that the table in document 01 lists for it, returns the device record it was given (a
+-- served gives the one number that the table lists for it, returns the device record it was given (a
 -- refused set-up gives the blank record), and writes no byte of the reply memory."
 -- That a call ends is no field below: each call of a board is a function, and a Rattle function meets its contract only
 -- if it ends.
--- TO BELIEVE IT, believe, and nothing else: the rows below, against 01's table, those of opening, closing and
--- receiving as device/specs/Calls has them, those of a mark as record/specs/HostCalls has them (02, L8), with
--- `replyRoom` and `isNoPlace`, and `isShut`, `connectionAt`, `lowestShut` of record/specs/Places (02, L5), those of
--- storing and loading as form/specs/Form and stored/specs/Loading have them, against 02's order (L3), with numbers in
--- bytes as numbers/specs/HighestFirst has them; what is legal and what is in range (record/specs: Limits, Rules,
--- Legal, SetUp, and `blank` of Record; lines/specs: Bytes, Inputs, Texts; utf8/specs: Utf8); the length 168
--- (`commandRoom` of controller/specs/Writing); for the readers, the forms of lines (lines/specs: Forms, Commands;
--- `isBody` of requests/specs/Requests) and which parameter says what (answers/specs: Lists, Said, CanSay;
--- replies/specs: Words, Writings; `greets`, `randomIn` of controller/specs/Greetings); ours/specs/Board; here
--- Calls.
+-- TO BELIEVE IT, believe, and nothing else: the rows below, against the table of RULES, The numbers a call gives, those
+-- of opening, closing and receiving as device/specs/Calls has them, those of a mark as record/specs/HostCalls has them
+-- (RULES, Lamps), with `replyRoom` and `isNoPlace`, and `isShut`, `connectionAt`, `lowestShut` of record/specs/Places
+-- (RULES, Places), those of storing and loading as form/specs/Form and stored/specs/Loading have them, against the
+-- order of RULES, Stored form, with numbers in bytes as numbers/specs/HighestFirst has them; what is legal and what is
+-- in range (record/specs: Limits, Rules, Legal, SetUp, and `blank` of Record; lines/specs: Bytes, Inputs, Texts;
+-- utf8/specs: Utf8); the length 168 (`commandRoom` of controller/specs/Writing); for the readers, the forms of lines
+-- (lines/specs: Forms, Commands; `isBody` of requests/specs/Requests) and which parameter says what (answers/specs:
+-- Lists, Said, CanSay; replies/specs: Words, Writings; `greets`, `randomIn` of controller/specs/Greetings);
+-- ours/specs/Board; here Calls.
 --   rows_of d c         the rows that the call c can meet, in the table's order; so for set-up, writer and readers
 --   Inside m r          a call that is lent the memory m stays in it, and changes no byte past its reply
 --   Untouched m r       it took nothing, replied nothing and wrote nothing
@@ -56,7 +56,7 @@ rows_of d (marks fault) = (1 when isIllegal d) ∷ []
 rows_of d (reports errors) = (1 when isIllegal d) ∷ (3 when not (isErrors errors)) ∷ []
 rows_of d (enables lamp mark) = markRows d lamp mark
 
--- 02, L9: 8 after every 3
+-- RULES, Passwords: 8 after every 3
 abbrev pub setUpRows : Wanted → List Row
 setUpRows w = (3 when not (isInRange w)) ∷ (8 when not (isLongEnough (length w.password))) ∷ []
 
@@ -67,7 +67,7 @@ writerRows c secured password m =
 abbrev isErra : List ℕ → Bool
 isErra l = sameBy itself l erraLine
 
--- the ERRA line is known before the form is tested, which is that of the command's class (02, L14); whether the
+-- the ERRA line is known before the form is tested, which is that of the command's class (RULES, Class 2); whether the
 -- parameter is allowed is what it says (`Allowed`)
 abbrev pub readerRows : Command → List ℕ → Bool → List Row
 readerRows c l allowed =
@@ -124,7 +124,7 @@ pub record Demand1 (B : Board) : Type 0 where
   pub writer-stays-inside : (c : Command) (secured : Bool) (random : ℕ) (password m : List ℕ)
       → WroteInside m (B.write c secured random password m)
   pub store-stays-inside : (d : B.Record) (m : List ℕ) → WroteInside m (B.store d m)
-  -- "A call that can't be served gives the one number that the table in document 01 lists for it"
+  -- "A call that can't be served gives the one number that the table lists for it"
   pub number-is-first : (d : B.Record) (c : Call) → number_of B d c ≡ first_of (rows_of (B.shows d) c)
   pub set-up-number : (w : Wanted) → (B.set-up w).number ≡ first_of (setUpRows w)
   pub writer-number : (c : Command) (secured : Bool) (random : ℕ) (password m : List ℕ)
@@ -137,7 +137,7 @@ pub record Demand1 (B : Board) : Type 0 where
   -- "returns the device record it was given .., and writes no byte of the reply memory"
   pub refused-keeps : (d : B.Record) (c : Call) → (number_of B d c ≡ 0 → ⊥)
       → (after B d c ≡ d) × WritesNothing B d c
-  -- 02, L5: a refused opening tells no place but 0
+  -- RULES, Places: a refused opening tells no place but 0
   pub refused-opening-place : (d : B.Record) (random : ℕ) (m : List ℕ) → ((B.opening d random m).number ≡ 0 → ⊥)
       → B.place_opened d random m ≡ 0
   pub refused-writer-writes-nothing : (c : Command) (secured : Bool) (random : ℕ) (password m : List ℕ)
@@ -151,7 +151,7 @@ pub record Demand1 (B : Board) : Type 0 where
   pub refused-set-up-blank : (w : Wanted) → ((B.set-up w).number ≡ 0 → ⊥) → B.shows (B.set-up w).device ≡ blank
   pub blank-illegal : isLegal blank ≡ false
   pub set-up-legal : (w : Wanted) → (B.set-up w).number ≡ 0 → isLegal (B.shows (B.set-up w).device) ≡ true
-  -- 02, L3: so does a refused load, and an accepted one is legal
+  -- RULES, Stored form: so does a refused load, and an accepted one is legal
   pub refused-load-blank : (s : List ℕ) → ((B.load s).number ≡ 0 → ⊥) → B.shows (B.load s).device ≡ blank
   pub load-legal : (s : List ℕ) → (B.load s).number ≡ 0 → isLegal (B.shows (B.load s).device) ≡ true
   pub stays-legal : (d : B.Record) (c : Call) → isLegal (B.shows d) ≡ true

@@ -2,17 +2,17 @@
 -- the digest of RFC 1321. On an open connection between lines, for every command our writer makes without a digest and
 -- in every legal state, what our reader, told the command, takes from the reply is what the projector meant. On a
 -- secured connection a first line without the matching digest yields the refusal line only; power, input, mutes and
--- lamps stay." What the projector meant is `meant`, 01's table of commands (crate `meaning`), which knows no bytes but
--- a set-up's inputs, two characters each, by 01's table of types.
+-- lamps stay." What the projector meant is `meant`, the table of RULES, Commands (crate `meaning`), which knows no
+-- bytes but a set-up's inputs, two characters each, by the table of RULES, Inputs.
 -- TO BELIEVE IT, believe, and nothing else: MD5 and its digits (digest/specs); lines, inputs, texts and commands
 -- (lines/specs; for names also utf8/specs/Utf8), and requests (requests/specs/Requests); what an answer is and which
 -- bytes say it (answers/specs: Lists, Said, CanSay; replies/specs: Words, Writings); what a reading means and a
 -- greeting is (controller/specs: `meaning`, `LineSays` of Reading, `Exactly`, `greetedOn` of Greetings); what is meant
 -- and done (meaning/specs); how a line is answered and a connection greeted (device/specs: Answering, `isLedBy` of
 -- Receiving, and `greeting`, `greeted` of Calls); the record (record/specs); a stream in cuts (stream/specs/Machine);
--- ours/specs/Board; here Calls, CallsDone, Outsider. 02, L5: "Demand 2 holds place by place": what is said of a
--- connection is said of that at any place p, whatever the other places hold. 02, L14: lines, commands and set-ups are
--- of Class 1 or Class 2, and all is said of both; that a Class 1 set-up is as it was before is in ClassOne.
+-- ours/specs/Board; here Calls, CallsDone, Outsider. RULES, Places: "Demand 2 holds place by place": what is said of a
+-- connection is said of that at any place p, whatever the other places hold. RULES, Class 2: lines, commands and
+-- set-ups are of Class 1 or Class 2, and all is said of both; that a Class 1 set-up is as it was before is in ClassOne.
 --   BetweenLines phase d p   legal, at place p in that phase, no collected bytes and no overlong mark
 --   ReadBack B d p c w r     the command c, written as w and received as r, is read as it was meant and done
 --   AnsweredAs B d p bs a r  the bytes bs were all taken, and answered a
@@ -84,14 +84,14 @@ module _ (B : Board) where
         ≡ withPlace (B.shows d) (done (B.shows d).settings (B.shows d).own (Asks c)) p
         (openAgain (connectionAt (B.shows d) p))
 
-  -- ---- any line, from any controller: what it is answered by 01's tables, and what it leaves
+  -- ---- any line, from any controller: what it is answered by the tables of RULES, and what it leaves
   pub record AnsweredAs (d : B.Record) (p : ℕ) (bs : List ℕ) (a : Answered) (r : Lent B.Record) : Type 0 where
     pub number : r.number ≡ 0
     pub taken : r.taken ≡ length bs
     pub replied : reply r ≡ a.reply
     pub device : B.shows r.device ≡ withPlace (B.shows d) a.own p (openAgain (connectionAt (B.shows d) p))
 
-  -- ---- the class (02, L14)
+  -- ---- the class (RULES, Class 2)
 
   pub record Swallowed (d : B.Record) (p : ℕ) (w : Wrote) (r : Lent B.Record) : Type 0 where
     pub wrote : w.number ≡ 0
@@ -152,8 +152,8 @@ pub record RefusalOnly (B : Board) (d : B.Record) (p : ℕ) (out : Out B.Record)
 pub record Demand2 (B : Board) : Type 0 where
   -- "with the digest of RFC 1321"
   pub digest : (s : List ℕ) → B.md5 s ≡ md5Of s
-  -- "The projector's lines .. are those of PJLink Class 1", and of Class 2 (02, L14): any line of any controller, on an
-  -- open connection and behind the matching digest, is answered as 01's tables say
+  -- "The projector's lines .. are those of PJLink Class 1", and of Class 2 (RULES, Class 2): any line of any
+  -- controller, on an open connection and behind the matching digest, is answered as the tables of RULES say
   pub answers : (d : B.Record) (p : ℕ) (l m : List ℕ) → BetweenLines opened (B.shows d) p → noCr l ≡ true
       → replyRoom ≤ length m
       → let bs = l ++ ascii "\r" in AnsweredAs B d p bs (answerTo (B.shows d) l) (B.receive d p bs m)
@@ -161,7 +161,7 @@ pub record Demand2 (B : Board) : Type 0 where
       → length l ≤ commandMost → replyRoom ≤ length m
       → let bs = digestFor (B.shows d) p ++ l ++ ascii "\r" in
       AnsweredAs B d p bs (answerTo (B.shows d) l) (B.receive d p bs m)
-  -- 02, L14: an input's name, and eight around it; L11's 103 holds of Class 1 (ClassOne)
+  -- RULES, Class 2: an input's name, and eight around it; 103 holds of Class 1 (ClassOne)
   pub reply-short : (d : B.Record) (p : ℕ) (bs m : List ℕ) → (B.receive d p bs m).length ≤ longestReply
   -- "and the controller's reading of them": whatever line comes, what is read was said by it, and what it says is read;
   -- the ERRA line and no other is read as such
@@ -174,17 +174,17 @@ pub record Demand2 (B : Board) : Type 0 where
       → let w = B.write c secured random password m in
       w.number ≡ 0 → bytesWritten w ≡ ledBy secured random password ++ commandLine c
   -- "On an open connection between lines, for every command our writer makes without a digest and in every legal state,
-  -- what our reader, told the command, takes from the reply is what the projector meant"; 02, L14: by its class
+  -- what our reader, told the command, takes from the reply is what the projector meant"; RULES, Class 2: by its class
   pub reads-back : (d : B.Record) (p : ℕ) (c : Command) (random : ℕ) (password paper m : List ℕ)
       → BetweenLines opened (B.shows d) p → isCommand c ≡ true → commandRoom ≤ length paper → replyRoom ≤ length m
       → let w = B.write c false random password paper in ByClass B d p c w (B.receive d p (bytesWritten w) m)
-  -- 01, "Connection": "its reading holds as well on an awaiting connection between lines, for a command led by the
+  -- RULES, Connection: "its reading holds as well on an awaiting connection between lines, for a command led by the
   -- matching digest"
   pub reads-back-secured : (d : B.Record) (p : ℕ) (c : Command) (paper m : List ℕ)
       → BetweenLines awaiting (B.shows d) p → isCommand c ≡ true → commandRoom ≤ length paper → replyRoom ≤ length m
       → let w = B.write c true (connectionAt (B.shows d) p).random (passwordOf (B.shows d).settings) paper in
       ByClass B d p c w (B.receive d p (bytesWritten w) m)
-  -- 02, L2: a name that the projector accepts is one that our reader accepts
+  -- RULES, Texts: a name that the projector accepts is one that our reader accepts
   pub names-read : (w : Wanted) → (B.set-up w).number ≡ 0
       → B.read-reply (Query Name) (ascii "%1NAME=" ++ w.name ++ ascii "\r") ≡ meaning (textIs w.name)
   -- "On a secured connection a first line without the matching digest yields the refusal line only; power, input, mutes
@@ -205,7 +205,7 @@ pub record Demand2 (B : Board) : Type 0 where
       → ((p : ℕ) → p < placesCount → isShut (connectionAt (B.shows d) p) ≡ true)
       → ((p : ℕ) → p < placesCount → NeverMatched B p (passwordOf (B.shows d).settings) d unopened cs)
       → HostsAlone B d cs
-  -- 01, "Set-up", "Connection" and "Time": what the other calls leave, where they are accepted
+  -- RULES, The legal record, Connection and Time: what the other calls leave, where they are accepted
   pub set-up-shows : (w : Wanted) → Leaves B (B.set-up w) (started w)
   pub opens : (d : B.Record) (random : ℕ) (m : List ℕ) → (B.opening d random m).number ≡ 0
       → OpenedAs B d random (B.place_opened d random m) (B.opening d random m)
@@ -215,7 +215,7 @@ pub record Demand2 (B : Board) : Type 0 where
       → Leaves B (B.set-fault d fault) (withOwn (B.shows d) (withFault (B.shows d).own fault))
   pub reports : (d : B.Record) (errors : List ℕ)
       → Leaves B (B.set-errors d errors) (withOwn (B.shows d) (withErrors (B.shows d).own errors))
-  -- 02, L8: the lamp's mark, and nothing else
+  -- RULES, Lamps: the lamp's mark, and nothing else
   pub enables : (d : B.Record) (lamp : ℕ) (mark : Bool)
       → Leaves B (B.set-mark d lamp mark)
       (withOwn (B.shows d) (withMarks (B.shows d).own (set (B.shows d).own.enabled lamp mark)))
@@ -228,11 +228,11 @@ pub record Demand2 (B : Board) : Type 0 where
       let p = B.place_opened d random m in
       (r.number ≡ 0) × (B.read-greeting (reply r) ≡ greetedOn (connectionAt (B.shows r.device) p))
   pub greeting-is : (l : List ℕ) → Exactly l (B.read-greeting l)
-  -- 01, "Connection": "Handed on until all is taken, with no time between, a stream gives the same reply bytes and end
+  -- RULES, Connection: "Handed on until all is taken, with no time between, a stream gives the same reply bytes and end
   -- state however it is cut"
   pub same-however-cut : (d : B.Record) (p : ℕ) (m : List ℕ) (ps qs : List (List ℕ)) → isLegal (B.shows d) ≡ true
       → p < placesCount → isShut (connectionAt (B.shows d) p) ≡ false → replyRoom ≤ length m → uncut ps ≡ uncut qs
       → handedOn B m p d ps ≡ handedOn B m p d qs
-  -- 02, L5: "One place's bytes never touch another's connection"
+  -- RULES, Places: "One place's bytes never touch another's connection"
   pub others-untouched : (d : B.Record) (c : Call) (q : ℕ) → Elsewhere B d c q
       → connectionAt (B.shows (after B d c)) q ≡ connectionAt (B.shows d) q

@@ -6,10 +6,10 @@
 -- someone outside sees of a history, and his own clock (History, here); the stored form (form/specs/Form); the line
 -- of a command and the text of lamps (lines/specs: Commands; answers/specs: Said; numbers/specs: Decimal);
 -- ours/specs/Board; here Calls, CallsDone, and `BetweenLines` of Demand2, `meaning` of controller/specs/Reading.
---   Beginning           a history begins with a set-up, or with the load of a stored form (02, L3: "Loading is a fresh
---                       set-up, so the history of demand 3 begins there with the stored seconds"), of the newest
---                       version with its marks, or of an older one, which loads as Class 1: version 2 with its marks
---                       (02, L14), version 1 with none (02, L8)
+--   Beginning           a history begins with a set-up, or with the load of a stored form (RULES, Stored form: "Loading
+--                       is a fresh set-up, so the history of demand 3 begins there with the stored seconds"), of the
+--                       newest version with its marks, or of an older one, which loads as Class 1: version 2 with its
+--                       marks (RULES, Class 2), version 1 with none (RULES, Lamps)
 --   startMarks b w      the marks that it begins with: all set, or "after a load, as the form has them"
 --   Accepted B b w      the board accepts the settings w there
 --   historyOf B b w cs  what someone outside sees of the calls cs since then
@@ -96,7 +96,7 @@ eachPlace f k (x ∷ xs) = f k x ∷ eachPlace f (suc k) xs
 abbrev pub lampsThen : Wanted → List Bool → List Event → List LampHours
 lampsThen w ms es = eachPlace (lampThen w ms es) 0 w.lamps
 
--- the fleet's question (02, L8): the seconds of burning, each counted once for each mark that stood
+-- the fleet's question (RULES, Lamps): the seconds of burning, each counted once for each mark that stood
 abbrev pub countSet : List Bool → ℕ
 countSet [] = 0
 countSet (m ∷ ms) = (if m then 1 else 0) + countSet ms
@@ -129,17 +129,17 @@ pub record Demand3 (B : Board) : Type 0 where
   -- "From any legal state, letting a seconds pass and then b gives the very state that a + b gives at once, so long as
   -- a + b is at most 4,294,967,295"
   pub time-adds : TimeAdds B
-  -- 01, "Time": "The meaning is a definition of one second, applied n times"
+  -- RULES, Time: "The meaning is a definition of one second, applied n times"
   pub second-by-second : (d : B.Record) (n : ℕ) → Leaves B (B.pass d n) (times second n (B.shows d))
   -- "After any calls since set-up, refused ones counting as nothing, each lamp's stored seconds are its starting
-  -- seconds plus every second the history puts in warm-up or power-on, stopped at 359,999,999"; 02, L5: "the history is
-  -- the accepted calls of all places in the order made"
+  -- seconds plus every second the history puts in warm-up or power-on, stopped at 359,999,999"; RULES, Places: "the
+  -- history is the accepted calls of all places in the order made"
   pub lamps-tell-the-history : (b : Beginning) (w : Wanted) (cs : List Call) (place : ℕ) → Accepted B b w
       → place < length w.lamps
       → get_or (B.shows (run_of B b w cs)).own.lamps place 0
       ≡ lampWith (burning w (startMarks b w) place (historyOf B b w cs)) (get_or w.lamps place 0)
-  -- 02, L8: while no lamp reaches the limit, the sum over the lamps of the seconds gained is the seconds of burning,
-  -- each counted once for each mark that stood
+  -- RULES, Lamps: while no lamp reaches the limit, the sum over the lamps of the seconds gained is the seconds of
+  -- burning, each counted once for each mark that stood
   pub fleet-adds-up : (b : Beginning) (w : Wanted) (cs : List Call) → Accepted B b w
       → ((k : ℕ) → k < length w.lamps
       → get_or w.lamps k 0 + burning w (startMarks b w) k (historyOf B b w cs) ≤ lampLimit)

@@ -1,12 +1,12 @@
--- Demand 3's history (01, "Time"): what someone outside knows who sees the bytes handed over, the numbers, the counts
+-- Demand 3's history (RULES, Time): what someone outside knows who sees the bytes handed over, the numbers, the counts
 -- and the replies, and never a record.
 --   Streams               for each place all bytes that were taken there so far, in one row: no phases, no digests, no
---                         limits, and no connections, though a place may be closed and opened again (02, L5)
+--                         limits, and no connections, though a place may be closed and opened again (RULES, Places)
 --   powerSet s r          a power set was answered OK: the reply r says so, and the stream s ends in its line
 --   history B d w cs      the power sets answered OK, at whatever place, the seconds passed and the marks set, in the
 --                         order made; a refused call counts as nothing
 --   Stage                 the outsider's own clock, which starts off: steady, or on the way there for so many seconds
---   marksAfter ms es      his marks, one a lamp: those it began with, and the mark calls that gave 0 (02, L8)
+--   marksAfter ms es      his marks, one a lamp: those it began with, and the mark calls that gave 0 (RULES, Lamps)
 --   burning w ms k es     the seconds of a history that lie in warm-up or power-on with the mark of the lamp at place k
 --                         set, where it began with the marks ms
 --   lampWith n start      a lamp's seconds: what it started with and what it burnt, stopped at 359,999,999
@@ -115,7 +115,7 @@ abbrev pub isBurning : Stage → Bool
 isBurning (steady on) = on
 isBurning (towards on n) = on
 
--- the lamp at place k, if its mark is set (02, L8)
+-- the lamp at place k, if its mark is set (RULES, Lamps)
 abbrev pub burns : Stage → List Bool → ℕ → Event → ℕ
 burns g ms k (switched wanted) = 0
 burns g ms k aSecond = if isBurning g && get_or ms k false then 1 else 0

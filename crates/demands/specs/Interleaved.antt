@@ -1,7 +1,7 @@
--- Four places, one projector (02, L5: "One place's bytes never touch another's connection"): lines at several places,
--- cut anywhere and interleaved anyhow, give at each place what that place alone would have got, but for what the other
--- places' commands did to the projector. What the others do is seen at a place in one way only: by the own part of the
--- projector at the moments at which a line ends there.
+-- Four places, one projector (RULES, Places: "One place's bytes never touch another's connection"): lines at several
+-- places, cut anywhere and interleaved anyhow, give at each place what that place alone would have got, but for what
+-- the other places' commands did to the projector. What the others do is seen at a place in one way only: by the own
+-- part of the projector at the moments at which a line ends there.
 -- TO BELIEVE IT, believe, and nothing else: what a byte and a line's end do to one connection (device/specs/Receiving:
 -- `keepingLine`, `lineEnded`; stream/specs/Collecting: `collected`); the record (record/specs); ours/specs/Board;
 -- here Calls.
@@ -99,7 +99,7 @@ answeredFirst r a = record { reply = r ++ a.reply; connection = a.connection }
 abbrev pub firstOwn : List Own → Own
 firstOwn owns = get_or owns 0 blankOwn
 
--- 01, "Connection": a byte that is no CR is collected; CR ends the line, and the next one goes on with what that left
+-- RULES, Connection: a byte that is no CR is collected; CR ends the line, and the next one goes on with what that left
 unfoldable pub aloneAt : Settings → Connection → List Own → List ℕ → Alone
 aloneAt s c owns [] = record { reply = []; connection = c }
 aloneAt s c owns (b ∷ bs) =
@@ -128,7 +128,7 @@ module _ (B : Board) (q : ℕ) (d : B.Record) (cs : List Call) where
     pub lines : length (heard B q d cs).owns ≡ lineEnds (heard B q d cs).taken
 
 pub record Interleaved (B : Board) : Type 0 where
-  -- 01, "Connection": receiving "takes bytes up to and including the first CR, or all of them if none", whatever the
+  -- RULES, Connection: receiving "takes bytes up to and including the first CR, or all of them if none", whatever the
   -- other places hold
   pub takes-a-line : (d : B.Record) (q : ℕ) (bs m : List ℕ) → isLegal (B.shows d) ≡ true → q < placesCount
       → isShut (connectionAt (B.shows d) q) ≡ false → replyRoom ≤ length m

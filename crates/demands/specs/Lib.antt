@@ -9,6 +9,7 @@ pub mod ClassOne
 pub mod Demand3
 pub mod Interleaved
 pub mod BoardSwap
+pub mod Beside
 pub mod Sample
 pub mod OursBut
 pub mod WrongRefusals

@@ -1,5 +1,5 @@
 -- Someone who does not know the password (demand 2: "without the matching digest" he gets "the refusal line only"),
--- at one place, over any calls of everybody (02, L5). Said of the bytes taken and of the replies, as demand 3's
+-- at one place, over any calls of everybody (RULES, Places). Said of the bytes taken and of the replies, as demand 3's
 -- outsider sees them: no phase of a connection is named here.
 --   Session                  what is seen of a connection since it was opened: the random number that this opening was
 --                            lent, the bytes taken since, and the replies to received bytes

@@ -1,6 +1,6 @@
--- The device of 01's lines that settle it, on which wrong boards are tried and lines computed (crate `settled`):
--- W = 20, C = 60, one lamp at 0 s, input 11, texts empty, no password. Then the same device set up for Class 2 (02,
--- L14), with the inputs 11 and 6A, their names, a serial number and a version.
+-- The device of the lines that settle it, on which wrong boards are tried and lines computed (crate `settled`):
+-- W = 20, C = 60, one lamp at 0 s, input 11, texts empty, no password. Then the same device set up for Class 2 (RULES,
+-- Class 2), with the inputs 11 and 6A, their names, a serial number and a version.
 --   sample, class2Sample     what they are set up with
 --   memory                   the reply memory that is lent
 --   withCr t                 the line t with its CR

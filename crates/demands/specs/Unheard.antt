@@ -1,4 +1,4 @@
--- An outsider has no say (02, L6): "two runs of L5 from one fresh set-up with a password, with the same calls in the
+-- An outsider has no say (RULES, Places): "two runs from one fresh set-up with a password, with the same calls in the
 -- same order, which differ only in the bytes given to one secured place, and where in neither run that place ever
 -- matches its digest".
 --   Alike p a b                    the same call, or receiving at place p with other bytes

@@ -1,4 +1,4 @@
--- Wrong boards against demand 2, as to the class (02, L14); proofs/WrongClassesFall.antt has where each falls.
+-- Wrong boards against demand 2, as to the class (RULES, Class 2); proofs/WrongClassesFall.antt has where each falls.
 -- Assumes nothing.
 use Rattle.std.specs.Prelude.{◌&&◌, ◌++◌, take, drop, eqb, if◌then◌else◌}
 use Rattle.text.specs.Words.{ascii, ◌is◌}

@@ -1,4 +1,4 @@
--- Wrong boards against demand 3 (01, "What the promises have to exclude" and "Readings that look right");
+-- Wrong boards against demand 3 (RULES, What the product holds and Readings that look right);
 -- proofs/WrongClocksFall.antt has where each falls.
 -- Assumes nothing.
 use Rattle.std.specs.Prelude.{ℕ, ◌*◌, ◌/◌, Bool, false, not, ◌&&◌, ◌||◌, List, map, if◌then◌else◌}

@@ -1,6 +1,6 @@
 -- Wrong boards against demand 2, as to who is let in and what the other calls do; proofs/WrongDoorsFall.antt has where
 -- each falls.
---   securedSample     01's sample set-up, with the password of 000's example
+--   securedSample     the sample set-up, with the password of the specification's example
 -- Assumes nothing.
 use Rattle.std.specs.Prelude.{ℕ, [], length, eqb, if◌then◌else◌}
 use Rattle.text.specs.Words.{ascii}

@@ -1,5 +1,5 @@
--- Wrong boards against demand 3 with marks (02, L8); proofs/WrongLampsFall.antt has where each falls.
---   twoLamps      01's sample set-up with two lamps
+-- Wrong boards against demand 3 with marks (RULES, Lamps); proofs/WrongLampsFall.antt has where each falls.
+--   twoLamps      the sample set-up with two lamps
 -- Assumes nothing.
 use Rattle.std.specs.Prelude.{Bool, true, ◌&&◌, List, [], ◌∷◌, set, eqb, if◌then◌else◌}
 use Rattle.text.specs.Words.{ascii}

@@ -1,4 +1,4 @@
--- Wrong boards against demand 2, as to lines, their cuts and their reading (01, "What the promises have to exclude" and
+-- Wrong boards against demand 2, as to lines, their cuts and their reading (RULES, What the product holds and
 -- "Readings that look right"); proofs/WrongLinesFall.antt has where each falls.
 -- Assumes nothing.
 use Rattle.std.specs.Prelude.{ℕ, suc, not, ◌&&◌, List, [], ◌∷◌, ◌++◌, map, length, take, drop, if◌then◌else◌}

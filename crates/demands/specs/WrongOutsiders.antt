@@ -1,4 +1,4 @@
--- Wrong boards against 02, L6: each lets someone without the password have a say beyond his own place;
+-- Wrong boards against RULES, Places: each lets someone without the password have a say beyond his own place;
 -- proofs/WrongOutsidersFall.antt has where each falls.
 --   failsNow d p e       the connection at place p was awaiting in d, and has failed in e
 --   onFailure change     our board, but where a log-in fails the record is changed so

@@ -2,6 +2,8 @@
 //! link.
 #![tactic(auto)]
 
+pub mod wrong_boards;
+
 ghost use Rattle.ours.specs.Board.{ours};
 ghost use Rattle.demands.specs.Demand1.{Demand1};
 ghost use Rattle.demands.specs.Demand2.{Demand2};
@@ -10,6 +12,7 @@ ghost use Rattle.demands.specs.Interleaved.{Interleaved};
 ghost use Rattle.demands.specs.Unheard.{Unheard};
 ghost use Rattle.demands.specs.BoardSwap.{BoardSwap};
 ghost use Rattle.demands.specs.ClassOne.{ClassOneKept};
+ghost use Rattle.demands.specs.Beside.{RandomKept, UnheardThroughout, UnheardAnyhow};
 
 // Nothing is done: that it has this contract is that the theorems stand.
 pub fn ours_keeps_the_demands()
@@ -20,4 +23,11 @@ pub fn ours_keeps_the_demands()
     ensures outsider_unheard { Unheard ours }
     ensures survives_a_swap { BoardSwap ours }
     ensures class_1_kept { ClassOneKept ours }
+{}
+
+/// What our board keeps beside the demands. That an outsider is unheard needs its premise about openings.
+pub fn ours_keeps_more()
+    ensures random_number_kept { RandomKept ours }
+    ensures unheard_throughout { UnheardThroughout ours }
+    ensures openings_matter { UnheardAnyhow ours → ⊥ }
 {}

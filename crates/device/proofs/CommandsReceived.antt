@@ -1,7 +1,7 @@
 -- The projector's half of demand 2's reading back: on a legal record between lines, for every command that can be
 -- written, its line is taken whole, the reply says what the command means, and the record is what the command does to
 -- it. On an open connection, and on an awaiting one behind the matching digest, which is open afterwards. So for every
--- command of a class no higher than the set-up's; a higher one is taken and swallowed (02, L14).
+-- command of a class no higher than the set-up's; a higher one is taken and swallowed (RULES, Class 2).
 --   replyTo k m                  the reply that says m to the command k
 --   commandResult d p k n        the result of receiving it at place p where n bytes are taken
 --   swallowedAt d p n            the same of a command of a higher class: no reply, the connection open between lines

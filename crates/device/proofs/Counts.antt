@@ -1,4 +1,4 @@
--- How many bytes a call takes, in every phase (01, "Connection"): up to and including the first CR, or all of them; no
+-- How many bytes a call takes, in every phase (RULES, Connection): up to and including the first CR, or all of them; no
 -- bytes change nothing.
 -- Assumes nothing.
 use Prim.Native.Nat.{ℕ, ◌+◌, ◌≤◌}

@@ -1,4 +1,4 @@
--- The first line on an awaiting connection between lines, as the bytes before its CR (01, "Connection": "the first 32
+-- The first line on an awaiting connection between lines, as the bytes before its CR (RULES, Connection: "the first 32
 -- bytes are compared exactly with the lowercase hex digest .., and the line at most 167 bytes before CR").
 -- Assumes nothing.
 use Prim.Native.Nat.{ℕ, ◌≤◌, ◌<◌}

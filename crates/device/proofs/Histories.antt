@@ -1,7 +1,7 @@
--- What a history needs of receiving (01, "Time": power follows from the power sets answered OK and the seconds passed).
--- An outsider keeps all bytes taken, in a row. What the connection holds is the end of that stream; and a call either
--- leaves power, seconds left and lamps as they were, with a reply that is not `%1POWR=OK`, or it is the power set that
--- stands at the end of the stream, answered OK and carried out.
+-- What a history needs of receiving (RULES, Time: power follows from the power sets answered OK and the seconds
+-- passed). An outsider keeps all bytes taken, in a row. What the connection holds is the end of that stream; and a call
+-- either leaves power, seconds left and lamps as they were, with a reply that is not `%1POWR=OK`, or it is the power
+-- set that stands at the end of the stream, answered OK and carried out.
 --   StreamEffect s o w r k     the stream w, replied to by r, leaves the own part k of o
 --   Tells s o w r k e          that, the lamps and their marks kept, and what the connection e holds then
 -- Assumes nothing.

@@ -1,4 +1,4 @@
--- Any line, from any controller, handed on whole to a legal projector between lines (01, "Connection"): on an open
+-- Any line, from any controller, handed on whole to a legal projector between lines (RULES, Connection): on an open
 -- connection it is answered, past 135 bytes swallowed; behind the matching digest it is answered on an awaiting one,
 -- which is open afterwards.
 --   lineResult d p a n     the result at place p where the line is answered a and n bytes are taken

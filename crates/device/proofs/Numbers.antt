@@ -1,4 +1,4 @@
--- The number of a call is the first row of the table that applies (01, "The numbers a call gives").
+-- The number of a call is the first row of the table that applies (RULES, The numbers a call gives).
 -- Assumes nothing.
 use Prim.Native.Nat.{ℕ}
 use mathlib.Core.Path.{◌≡◌, refl}

@@ -1,4 +1,4 @@
--- Who does not know the password changes nothing of the projector's own part (01, "Connection").
+-- Who does not know the password changes nothing of the projector's own part (RULES, Connection).
 --   Outside o c e      what a refused digest leaves: the ERRA line, the own part o, the connection failed with age 0
 -- Assumes nothing.
 use Prim.Native.Nat.{ℕ}

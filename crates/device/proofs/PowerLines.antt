@@ -1,6 +1,6 @@
 -- What a line does to the power, as its bytes and its reply's bytes show it: nothing, and the reply is not `%1POWR=OK`
 -- in any case of letters; or the line is `%1POWR 0` or `%1POWR 1`, in any case of the body, answered OK and carried
--- out. POWR is a body of Class 1: a line of Class 2 sets no power (02, L14).
+-- out. POWR is a body of Class 1: a line of Class 2 sets no power (RULES, Class 2).
 --   isPowerOkay r          the reply r is `%1POWR=OK` and CR, in any case of letters
 --   powerLine a b c d w    the line that sets the power to w, with the body bytes a b c d
 --   PowerEffect s o l r k  the line l, replied to by r, leaves the own part k of o

@@ -1,5 +1,5 @@
--- A number other than 0 leaves the record that was given, takes nothing and writes nothing (01, "The numbers a call
--- gives").
+-- A number other than 0 leaves the record that was given, takes nothing and writes nothing (RULES, The numbers a call
+-- gives).
 -- Assumes nothing.
 use Prim.Native.Nat.{ℕ}
 use mathlib.Core.Path.{◌≡◌, refl}

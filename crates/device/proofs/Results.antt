@@ -1,36 +1,56 @@
--- The promises of open, close and receive leave one result each, lent memory included.
+-- The promises of open, close and receive leave one result each: what they say, the record and the lent memory.
 -- Assumes nothing.
 use Prim.Native.Nat.{ℕ}
 use mathlib.Core.Path.{◌≡◌}
 use mathlib.Core.List.{List}
 use lib.ListN.{length}
 use Rattle.text.specs.Words.{over}
-use Rattle.text.proofs.OneResult.{one-result, Left, one_left}
+use Rattle.text.proofs.OneResult.{one-result}
 use Rattle.record.specs.declared.types.Device.{Device}
-use Rattle.record.specs.declared.types.Changed.{Changed}
-use Rattle.device.specs.declared.calls.Opened.{Opened}
-use Rattle.device.specs.declared.calls.Received.{Received}
-use Rattle.device.specs.Calls.{received, openedBy, placeTaken, closedBy, toldReceived, toldOpened, toldChanged}
+use Rattle.device.specs.Calls.{Result, received, openedBy, placeTaken, closedBy}
+use Rattle.device.specs.Outcomes.{Told, told}
+
+-- what a call says and leaves, where it gives what r says; m is the lent memory
+pub record Leaves (r : Result Device) (m : List ℕ) (says : Told) (after : Device) (out : List ℕ) : Type 0 where
+  pub said : says ≡ told r
+  pub device : after ≡ r.device
+  pub reply : out ≡ over r.reply m
+
+pub record Same (says says' : Told) (after after' : Device) (out out' : List ℕ) : Type 0 where
+  pub said : says ≡ says'
+  pub device : after ≡ after'
+  pub reply : out ≡ out'
+
+one-left : {r : Result Device} {m : List ℕ} {a b : Told} {d e : Device} {x y : List ℕ}
+    → Leaves r m a d x → Leaves r m b e y → Same a b d e x y
+one-left p q = record {
+  said = one-result p.said q.said;
+  device = one-result p.device q.device;
+  reply = one-result p.reply q.reply;
+}
 
 module _ (d : Device) where
   -- out is the lent memory
   module _ (p : ℕ) (bs out : List ℕ) where
-    abbrev pub Receives : Received → List ℕ → Type 0
-    Receives =
-        let r = received d p bs (length out) in
-        Left (toldReceived r) (over r.reply out)
+    abbrev pub Receives : Told → Device → List ℕ → Type 0
+    Receives = Leaves (received d p bs (length out)) out
 
-    pub one-receiving : {r s : Received} {m n : List ℕ} → Receives r m → Receives s n → (r ≡ s) × (m ≡ n)
-    one-receiving p q = one_left p q
+    pub one-receiving : {a b : Told} {x y : Device} {m n : List ℕ} → Receives a x m → Receives b y n
+        → Same a b x y m n
+    one-receiving p q = one-left p q
 
   module _ (r : ℕ) (out : List ℕ) where
-    abbrev pub Opens : Opened → List ℕ → Type 0
-    Opens =
-        let o = openedBy d r (length out) in
-        Left (toldOpened (placeTaken d (length out)) o) (over o.reply out)
+    abbrev pub Opens : Told → ℕ → Device → List ℕ → Type 0
+    Opens a p x m = (p ≡ placeTaken d (length out)) × Leaves (openedBy d r (length out)) out a x m
 
-    pub one-opening : {a b : Opened} {m n : List ℕ} → Opens a m → Opens b n → (a ≡ b) × (m ≡ n)
-    one-opening p q = one_left p q
+    pub one-opening : {a b : Told} {p q : ℕ} {x y : Device} {m n : List ℕ} → Opens a p x m → Opens b q y n
+        → (p ≡ q) × Same a b x y m n
+    one-opening e f = (one-result e.0 f.0, one-left e.1 f.1)
 
-  pub one-closing : (p : ℕ) {a b : Changed} → a ≡ toldChanged (closedBy d p) → b ≡ toldChanged (closedBy d p) → a ≡ b
-  one-closing p e f = one-result e f
+  -- closing gives a number, and is lent no memory
+  module _ (p : ℕ) where
+    abbrev pub Closes : ℕ → Device → Type 0
+    Closes n x = (n ≡ (closedBy d p).number) × (x ≡ (closedBy d p).device)
+
+    pub one-closing : {n m : ℕ} {x y : Device} → Closes n x → Closes m y → (n ≡ m) × (x ≡ y)
+    one-closing e f = (one-result e.0 f.0, one-result e.1 f.1)

@@ -1,6 +1,6 @@
--- Handed on until all is taken, a stream gives the same reply bytes and end state however it is cut (01, "Connection"):
--- `same-however-cut` holds of every machine, and receiving at a place is one, seen through the whole record, whatever
--- the other places hold (02, L5).
+-- Handed on until all is taken, a stream gives the same reply bytes and end state however it is cut (RULES,
+-- Connection): `same-however-cut` holds of every machine, and receiving at a place is one, seen through the whole
+-- record, whatever the other places hold (RULES, Places).
 --   Live s m               the states in which bytes are taken: legal, and not closed
 --   receives room p d bs   what the call leaves of the whole record
 -- Assumes nothing.

@@ -1,5 +1,5 @@
--- No reply is longer than 136 bytes (02, L14): eight around a parameter of at most 128, 12 for the refused digest, at
--- most 18 for a greeting.
+-- No reply is longer than 136 bytes (RULES, Class 2): eight around a parameter of at most 128, 12 for the refused
+-- digest, at most 18 for a greeting.
 -- Assumes nothing.
 use Prim.Native.Nat.{ℕ, ◌≤◌}
 use Prim.Native.Char.{code}

@@ -51,7 +51,7 @@ module _ (d : Device) where
         received-by d p bs room (λ r. Keeps d.own r.device.own) (λ n z. itself-kept d.own)
         (λ h s t c. taken-keeps d.settings d.own (connectionAt d p) bs)
 
-    -- one place's bytes never touch another's connection (02, L5)
+    -- one place's bytes never touch another's connection (RULES, Places)
     pub receiving-keeps-others : (q : ℕ) → (q ≡ p → ⊥)
         → connectionAt (received d p bs room).device q ≡ connectionAt d q
     receiving-keeps-others q other =

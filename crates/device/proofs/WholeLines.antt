@@ -122,7 +122,7 @@ module _ (s : Settings) (o : Own) (settings : isSettings s ≡ true) (k : Comman
   abbrev known : SettingsTold s
   known = settings-told s settings
 
-  -- of a class higher than the set-up's: no form that it takes (02, L14)
+  -- of a class higher than the set-up's: no form that it takes (RULES, Class 2)
   pub higher-swallowed : s.class_number < commandClass k → lineAnswer s o (commandText k) ≡ swallowed o
   unfolding lineAnswer
   higher-swallowed higher =

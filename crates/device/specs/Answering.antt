@@ -1,9 +1,9 @@
--- A line that is received on an open connection, without its CR (01, "Connection" and "Commands").
+-- A line that is received on an open connection, without its CR (RULES, Connection and Commands).
 --   Answered            what a line leaves: the projector's own part, and the reply's bytes (none, or a whole reply)
 --   lineAsks l          what the line asks for
 --   lineAnswer s o l    a line of the form is answered: `%`, the class and the four body bytes as received, `=`, the
 --                       parameter, CR; any other is swallowed, with no reply, and so is one of a class higher than the
---                       set-up's (02, L14)
+--                       set-up's (RULES, Class 2)
 -- Assumes nothing.
 use Rattle.std.specs.Prelude.{ℕ, List, [], if◌then◌else◌}
 use Rattle.lines.specs.Bytes.{◌at◌}

@@ -1,14 +1,14 @@
--- The calls on the whole record, by the table of numbers (01, "The numbers a call gives" and "Connection"), each at one
--- of four places (02, L5: a place that there is not is 3; opening takes the lowest closed one, and none closed is 6).
+-- The calls on the whole record, by the table of numbers (RULES, The numbers a call gives and Connection), each at one
+-- of four places (RULES, Places: a place that there is not is 3; opening takes the lowest closed one, and none closed
+-- is 6).
 --   Result D              what a call gives over a record type D: its number, the bytes taken, the reply, the record
 --   receivingRows, openingRows, closingRows     when each call is refused, and with which number
 --   received d p bs room  receiving the bytes bs at place p with so much reply memory: refused, or what is taken in
 --   openedBy d r room     opening with the random number r: refused, or the greeting
 --   placeTaken d room     the place that opening takes and reports; 0 where it is refused
 --   closedBy d p          closing at place p: refused, or the closed connection
---   toldReceived, toldOpened, toldChanged     these results as the code returns them; the length is the reply's
 -- Assumes nothing.
-use Rattle.std.specs.Prelude.{ℕ, Bool, not, List, [], ◌∷◌, length, leb, ltb, eqb, if◌then◌else◌}
+use Rattle.std.specs.Prelude.{ℕ, Bool, not, List, [], ◌∷◌, leb, ltb, eqb, if◌then◌else◌}
 use Rattle.text.specs.Rows.{Row, ◌when◌, byRows}
 use Rattle.digest.specs.Hex.{hexDigits}
 use Rattle.lines.specs.Forms.{greetingOpen, greetingSecured, replyMost}
@@ -19,9 +19,6 @@ use Rattle.record.specs.Places.{connectionAt, withPlace, isShut, lowestShut}
 use Rattle.record.specs.declared.types.Settings.{Settings}
 use Rattle.record.specs.declared.types.Connection.{Connection}
 use Rattle.record.specs.declared.types.Device.{Device}
-use Rattle.record.specs.declared.types.Changed.{Changed}
-use Rattle.device.specs.declared.calls.Opened.{Opened}
-use Rattle.device.specs.declared.calls.Received.{Received}
 use Rattle.device.specs.Receiving.{Taken, begunIn, takenIn}
 
 pub record Result (D : Type 0) : Type 0 where
@@ -40,7 +37,7 @@ made d = record { number = 0; taken = 0; reply = []; device = d }
 abbrev pub replyRoom : ℕ
 replyRoom = replyMost
 
--- no reply is longer: an input's name, and eight around it (02, L14; 01's 72 was a projector's name)
+-- no reply is longer: an input's name, and eight around it (RULES, Class 2)
 abbrev pub longestReply : ℕ
 longestReply = 136
 
@@ -99,12 +96,3 @@ placeTaken d room = byRows (openingRows d room) (λ n. 0) (lowestShut d.connecti
 
 unfoldable pub closedBy : Device → ℕ → Result Device
 closedBy d p = byRows (closingRows d p) (λ n. refusedBy n d) (made (withPlace d d.own p closed))
-
-abbrev pub toldReceived : Result Device → Received
-toldReceived r = record { number = r.number; taken = r.taken; length = length r.reply; device = r.device }
-
-abbrev pub toldOpened : ℕ → Result Device → Opened
-toldOpened p r = record { number = r.number; length = length r.reply; place = p; device = r.device }
-
-abbrev pub toldChanged : Result Device → Changed
-toldChanged r = record { number = r.number; device = r.device }

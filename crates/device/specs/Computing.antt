@@ -1,4 +1,4 @@
--- One name that opens this crate's definitions, for computing on concrete records only (01, "Lines that settle it").
+-- One name that opens this crate's definitions, for computing on concrete records only (RULES, Commands).
 -- Assumes nothing.
 use Rattle.device.specs.Answering.{lineAnswer}
 use Rattle.device.specs.Receiving.{isMatch, lineEnded, keepingLine, takenIn}

@@ -1,6 +1,6 @@
 pub mod Ready
 pub mod Answering
 pub mod Receiving
-pub mod Told
 pub mod Calls
+pub mod Outcomes
 pub mod Computing

@@ -1,4 +1,4 @@
--- Receiving on the parts: settings, the projector's own part, and one connection (01, "Connection").
+-- Receiving on the parts: settings, the projector's own part, and one connection (RULES, Connection).
 --   begunIn phase r      a connection at the start of a phase: age 0, that random number, nothing collected
 --   turned c phase       the connection at the start of another phase, its random number kept
 --   isLedBy r p l        the bytes l of a line start with the digest of r and the password p, and are at most 167

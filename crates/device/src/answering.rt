@@ -6,18 +6,10 @@ ghost use Rattle.answers.specs.Said.{saidBytes};
 ghost use Rattle.answers.specs.Carried.{saidBy};
 ghost use Rattle.device.specs.Ready.{Ready};
 ghost use Rattle.device.specs.Answering.{lineAnswer};
-ghost use Rattle.device.specs.Told.{spokenOf};
 
 use answers::answer::Answer;
 use lines::form;
 use record::types::{Own, Settings};
-
-// What a line leaves: the projector's own part, and the length of the reply that now stands in the lent memory.
-#[derive(Clone, Copy)]
-pub struct Spoken {
-    pub own: Own,
-    pub length: usize,
-}
 
 // The reply to the body a b c d under the class byte h, from the start of the lent memory.
 fn put_reply(out: &mut [u8], h: u8, a: u8, b: u8, c: u8, d: u8, answer: Answer) -> usize
@@ -34,13 +26,14 @@ fn put_reply(out: &mut [u8], h: u8, a: u8, b: u8, c: u8, d: u8, answer: Answer) 
 
 // What the line asks is decided and answered; a line not of the form is swallowed.
 #[tactic(auto, unfolding(crate::specs::Answering::lineAnswer))]
-pub fn answer_line(s: Settings, o: Own, l: &[u8], out: &mut [u8]) -> Spoken
-    requires { Ready s o (length out.old) }
-    ensures value { result ≡ spokenOf (lineAnswer s o l.now) }
-    ensures out_after { out.new ≡ over (lineAnswer s o l.now).reply out.old }
+pub fn answer_line(s: &Settings, o: &mut Own, l: &[u8], out: &mut [u8]) -> usize
+    requires { Ready s.now o.old (length out.old) }
+    ensures value { result ≡ length (lineAnswer s.now o.old l.now).reply }
+    ensures own { o.new ≡ (lineAnswer s.now o.old l.now).own }
+    ensures out_after { out.new ≡ over (lineAnswer s.now o.old l.now).reply out.old }
 {
     if !form::is_command_form(s.class_number, l) {
-        return Spoken { own: o, length: 0 };
+        return 0;
     }
     let h = l[1];
     let a = l[2];
@@ -48,8 +41,6 @@ pub fn answer_line(s: Settings, o: Own, l: &[u8], out: &mut [u8]) -> Spoken
     let c = l[4];
     let d = l[5];
     let r = requests::request_of(form::class_named(h), a, b, c, d, &l[7..]);
-    let decided = meaning::decide(s, o, r);
-    let own = decided.own;
-    let length = put_reply(out, h, a, b, c, d, decided.answer);
-    Spoken { own, length }
+    let answer = meaning::decide(s, o, r);
+    put_reply(out, h, a, b, c, d, answer)
 }

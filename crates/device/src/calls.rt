@@ -1,78 +1,74 @@
-// The calls on the whole record: 1 for one that is not legal, else what `on_legal` does with it.
+// The calls on a record that is lent (RULES, Connection): each changes it where it lies, and leaves it and the lent
+// memory as they were where it refuses. The record is tested here, once a call; `on_legal` does the rest.
 ghost use Rattle.std.specs.Prelude.{◌≡◌, length};
 ghost use Rattle.text.specs.Words.{over};
+ghost use Rattle.record.specs.Refusals.{outcome_number};
 ghost use Rattle.device.specs.Calls.{received, openedBy, placeTaken, closedBy};
-ghost use Rattle.device.specs.Calls.{toldReceived, toldOpened, toldChanged};
+ghost use Rattle.device.specs.Outcomes.{told, receiving_told, opening_told, opened_place};
 
 use crate::on_legal;
-use record::legality;
-use record::types::{Changed, Device};
+use record::refusal::Refusal;
+use record::types::Device;
 
-#[repr(C)]
-#[derive(Clone, Copy)]
-pub struct Opened {
-    pub number: u32,
-    pub length: usize,
-    pub place: usize,
-    pub device: Device,
-}
-
-#[repr(C)]
+/// What receiving took of the bytes, and the length of the reply: it fills the start of the lent memory.
 #[derive(Clone, Copy)]
 pub struct Received {
-    pub number: u32,
     pub taken: usize,
     pub length: usize,
-    pub device: Device,
 }
 
-// Bytes from the network at a place: 1, 2, 3 and 4 in that order, even for no bytes.
+/// The place that a new connection has, and the length of the greeting.
+#[derive(Clone, Copy)]
+pub struct Opened {
+    pub place: usize,
+    pub length: usize,
+}
+
+/// Bytes from the network at a place: up to and including the first CR, or all. Refused, even for no bytes: `NotLegal`,
+/// `NoRoom` for less than 136 bytes of memory, `OutOfRange` for no such place, `Closed`, in that order.
 #[tactic(auto, unfolding(crate::specs::Calls::received))]
-pub fn receive(d: Device, place: usize, bytes: &[u8], out: &mut [u8]) -> Received
-    ensures value { result ≡ toldReceived (received d place bytes.now (length out.old)) }
-    ensures out_after { out.new ≡ over (received d place bytes.now (length out.old)).reply
+pub fn receive(
+    device: &mut Device,
+    place: usize,
+    bytes: &[u8],
+    out: &mut [u8],
+) -> Result<Received, Refusal>
+    ensures told { receiving_told result
+        ≡ told (received device.old place bytes.now (length out.old)) }
+    ensures device { device.new ≡ (received device.old place bytes.now (length out.old)).device }
+    ensures reply { out.new ≡ over (received device.old place bytes.now (length out.old)).reply
         out.old }
 {
-    if !legality::legal(d) {
-        return Received {
-            number: 1,
-            taken: 0,
-            length: 0,
-            device: d,
-        };
+    if !device.is_legal() {
+        return Err(Refusal::NotLegal);
     }
-    on_legal::receive(d, place, bytes, out)
+    on_legal::receive(device, place, bytes, out)
 }
 
-// A new connection, with the random number that the host lends: 1, 2 and 6 in that order.
+/// A new connection at the lowest closed place, with the random number that the host lends. Refused: `NotLegal`,
+/// `NoRoom` for less than 136 bytes of memory, `NoPlace` where none is closed, in that order.
 #[tactic(auto, unfolding(crate::specs::Calls::openedBy, crate::specs::Calls::placeTaken))]
-pub fn open(d: Device, random: u32, out: &mut [u8]) -> Opened
-    ensures value { result ≡ toldOpened (placeTaken d (length out.old))
-        (openedBy d random (length out.old)) }
-    ensures out_after { out.new ≡ over (openedBy d random (length out.old)).reply
+pub fn open(device: &mut Device, random: u32, out: &mut [u8]) -> Result<Opened, Refusal>
+    ensures told { opening_told result ≡ told (openedBy device.old random (length out.old)) }
+    ensures place { opened_place result ≡ placeTaken device.old (length out.old) }
+    ensures device { device.new ≡ (openedBy device.old random (length out.old)).device }
+    ensures reply { out.new ≡ over (openedBy device.old random (length out.old)).reply
         out.old }
 {
-    if !legality::legal(d) {
-        return Opened {
-            number: 1,
-            length: 0,
-            place: 0,
-            device: d,
-        };
+    if !device.is_legal() {
+        return Err(Refusal::NotLegal);
     }
-    on_legal::open(d, random, out)
+    on_legal::open(device, random, out)
 }
 
-// The connection at a place closed: 1, 3 and 4 in that order.
+/// The connection at a place closed. Refused: `NotLegal`, `OutOfRange` for no such place, `Closed`, in that order.
 #[tactic(auto, unfolding(crate::specs::Calls::closedBy))]
-pub fn close(d: Device, place: usize) -> Changed
-    ensures { result ≡ toldChanged (closedBy d place) }
+pub fn close(device: &mut Device, place: usize) -> Result<(), Refusal>
+    ensures number { outcome_number result ≡ (closedBy device.old place).number }
+    ensures device { device.new ≡ (closedBy device.old place).device }
 {
-    if !legality::legal(d) {
-        return Changed {
-            number: 1,
-            device: d,
-        };
+    if !device.is_legal() {
+        return Err(Refusal::NotLegal);
     }
-    on_legal::close(d, place)
+    on_legal::close(device, place)
 }

@@ -1,4 +1,4 @@
-// The projector's face: opening, closing and receiving (01, "Connection" and "Commands").
+// The projector's face: opening, closing and receiving (RULES, Connection and Commands).
 #![tactic(auto)]
 
 mod answering;
@@ -6,3 +6,4 @@ pub mod calls;
 pub mod on_legal;
 mod places;
 pub mod receiving;
+pub mod theorems;

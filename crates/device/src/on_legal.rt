@@ -1,62 +1,61 @@
 // What each of `calls` does with a record that is legal, by the same promise. A caller that has tested its record once
 // and keeps it legal calls these, as `floor` does; a host calls those of `calls`, which ask for nothing.
-//
-// Each has one record, changed where it lies, and one end: the compiler then copies it in and out, and once each.
 ghost use Rattle.std.specs.Prelude.{◌≡◌, true, ◌≤◌, length};
 ghost use Rattle.text.specs.Words.{over};
 ghost use Rattle.record.specs.Legal.{isLegal};
+ghost use Rattle.record.specs.Refusals.{outcome_number};
 ghost use Rattle.device.specs.Calls.{received, openedBy, placeTaken, closedBy, greeting, greeted};
-ghost use Rattle.device.specs.Calls.{toldReceived, toldOpened, toldChanged};
+ghost use Rattle.device.specs.Outcomes.{told, receiving_told, opening_told, opened_place};
 
 use crate::calls::{Opened, Received};
 use crate::{places, receiving};
 use record::connection::{AWAITING, OPENED, SHUT};
-use record::types::{Changed, Connection, Device, PLACES, Settings};
+use record::refusal::Refusal;
+use record::types::{Connection, Device, PLACES, Settings};
 
-// Bytes from the network at a place: 2, 3 and 4 in that order, even for no bytes.
+/// Room for the longest reply that the standard allows.
+pub const REPLY_ROOM: usize = 136;
+
+/// As `calls::receive`, but for `NotLegal`.
 #[tactic(auto, unfolding(crate::specs::Calls::received))]
-pub fn receive(d: Device, place: usize, bytes: &[u8], out: &mut [u8]) -> Received
-    requires { isLegal d ≡ true }
-    ensures value { result ≡ toldReceived (received d place bytes.now (length out.old)) }
-    ensures out_after { out.new ≡ over (received d place bytes.now (length out.old)).reply
+pub fn receive(
+    device: &mut Device,
+    place: usize,
+    bytes: &[u8],
+    out: &mut [u8],
+) -> Result<Received, Refusal>
+    requires { isLegal device.old ≡ true }
+    ensures told { receiving_told result
+        ≡ told (received device.old place bytes.now (length out.old)) }
+    ensures device { device.new ≡ (received device.old place bytes.now (length out.old)).device }
+    ensures reply { out.new ≡ over (received device.old place bytes.now (length out.old)).reply
         out.old }
 {
-    let mut device = d;
-    let mut number = 0;
-    let mut taken = 0;
-    let mut length = 0;
-    if out.len() < 136 {
-        number = 2;
-    } else if PLACES <= place {
-        number = 3;
-    } else {
-        let connection = device.connections[place];
-        if connection.phase == SHUT {
-            number = 4;
-        } else {
-            let took = receiving::take_in(device.settings, device.own, connection, bytes, out);
-            let own = took.own;
-            let next = took.connection;
-            device.own = own;
-            device.connections[place] = next;
-            taken = took.taken;
-            length = took.length;
-        }
+    if out.len() < REPLY_ROOM {
+        return Err(Refusal::NoRoom);
     }
-    Received {
-        number,
-        taken,
-        length,
-        device,
+    if PLACES <= place {
+        return Err(Refusal::OutOfRange);
     }
+    if device.connections[place].phase == SHUT {
+        return Err(Refusal::Closed);
+    }
+    let received = receiving::take_in(
+        &device.settings,
+        &mut device.own,
+        &mut device.connections[place],
+        bytes,
+        out,
+    );
+    Ok(received)
 }
 
 // The greeting, from the start of the lent memory; its length.
 #[tactic(auto, unfolding(crate::specs::Calls::greeting))]
-fn put_greeting(s: Settings, random: u32, out: &mut [u8]) -> usize
+fn put_greeting(s: &Settings, random: u32, out: &mut [u8]) -> usize
     requires { 136 ≤ length out.old }
-    ensures value { result ≡ length (greeting s random) }
-    ensures out_after { out.new ≡ over (greeting s random) out.old }
+    ensures length { result ≡ length (greeting s.now random) }
+    ensures reply { out.new ≡ over (greeting s.now random) out.old }
 {
     if s.password.len == 0 {
         text::put(out, 0, b"PJLINK 0\r");
@@ -69,73 +68,55 @@ fn put_greeting(s: Settings, random: u32, out: &mut [u8]) -> usize
     18
 }
 
+// The connection as a greeting leaves it: open where there is no password, else awaiting the digest.
 #[tactic(auto, unfolding(crate::specs::Calls::greeted))]
-fn greeted_connection(s: Settings, random: u32) -> Connection
-    ensures { result ≡ greeted s random }
+fn greet(s: &Settings, random: u32, c: &mut Connection)
+    ensures { c.new ≡ greeted s.now random }
 {
-    let closed = Connection::CLOSED;
-    let mut next = closed;
-    next.random = random;
+    *c = Connection::CLOSED;
+    c.random = random;
     if s.password.len == 0 {
-        next.phase = OPENED;
-        return next;
+        c.phase = OPENED;
+        return;
     }
-    next.phase = AWAITING;
-    next
+    c.phase = AWAITING;
 }
 
-// A new connection at the lowest closed place, with the random number that the host lends: 2 and 6 in that order.
+/// As `calls::open`, but for `NotLegal`.
 #[tactic(auto, unfolding(crate::specs::Calls::openedBy, crate::specs::Calls::placeTaken))]
-pub fn open(d: Device, random: u32, out: &mut [u8]) -> Opened
-    requires { isLegal d ≡ true }
-    ensures value { result ≡ toldOpened (placeTaken d (length out.old))
-        (openedBy d random (length out.old)) }
-    ensures out_after { out.new ≡ over (openedBy d random (length out.old)).reply
+pub fn open(device: &mut Device, random: u32, out: &mut [u8]) -> Result<Opened, Refusal>
+    requires { isLegal device.old ≡ true }
+    ensures told { opening_told result ≡ told (openedBy device.old random (length out.old)) }
+    ensures place { opened_place result ≡ placeTaken device.old (length out.old) }
+    ensures device { device.new ≡ (openedBy device.old random (length out.old)).device }
+    ensures reply { out.new ≡ over (openedBy device.old random (length out.old)).reply
         out.old }
 {
-    let mut device = d;
-    let mut number = 0;
-    let mut length = 0;
-    let mut place = 0;
-    if out.len() < 136 {
-        number = 2;
-    } else {
-        let connections = device.connections;
-        let lowest = places::lowest_shut(connections);
-        if PLACES <= lowest {
-            number = 6;
-        } else {
-            length = put_greeting(device.settings, random, out);
-            let connection = greeted_connection(device.settings, random);
-            device.connections[lowest] = connection;
-            place = lowest;
-        }
+    if out.len() < REPLY_ROOM {
+        return Err(Refusal::NoRoom);
     }
-    Opened {
-        number,
-        length,
-        place,
-        device,
+    let place = places::lowest_shut(&device.connections);
+    if PLACES <= place {
+        return Err(Refusal::NoPlace);
     }
+    let length = put_greeting(&device.settings, random, out);
+    greet(&device.settings, random, &mut device.connections[place]);
+    Ok(Opened { place, length })
 }
 
-// The connection at a place closed: 3 and 4 in that order.
+/// As `calls::close`, but for `NotLegal`.
 #[tactic(auto, unfolding(crate::specs::Calls::closedBy))]
-pub fn close(d: Device, place: usize) -> Changed
-    requires { isLegal d ≡ true }
-    ensures { result ≡ toldChanged (closedBy d place) }
+pub fn close(device: &mut Device, place: usize) -> Result<(), Refusal>
+    requires { isLegal device.old ≡ true }
+    ensures number { outcome_number result ≡ (closedBy device.old place).number }
+    ensures device { device.new ≡ (closedBy device.old place).device }
 {
-    let mut device = d;
-    let mut number = 0;
     if PLACES <= place {
-        number = 3;
-    } else {
-        let connection = device.connections[place];
-        if connection.phase == SHUT {
-            number = 4;
-        } else {
-            device.connections[place] = Connection::CLOSED;
-        }
+        return Err(Refusal::OutOfRange);
     }
-    Changed { number, device }
+    if device.connections[place].phase == SHUT {
+        return Err(Refusal::Closed);
+    }
+    device.connections[place] = Connection::CLOSED;
+    Ok(())
 }

@@ -1,4 +1,4 @@
-// The places for controllers (02, L5): which one opening takes.
+// The places for controllers (RULES, Places): which one opening takes.
 ghost use Rattle.std.specs.Prelude.{◌≡◌};
 ghost use Rattle.record.specs.Places.{lowestShut};
 
@@ -6,8 +6,8 @@ use record::connection::SHUT;
 use record::types::{Connection, PLACES};
 
 // The lowest closed place, or their number where none is closed.
-pub fn lowest_shut(connections: [Connection; PLACES]) -> usize
-    ensures { result ≡ lowestShut connections }
+pub fn lowest_shut(connections: &[Connection; PLACES]) -> usize
+    ensures { result ≡ lowestShut connections.now }
 {
     for (place, c) in connections.iter().enumerate() {
         if c.phase == SHUT {

@@ -1,9 +1,10 @@
-// The lines that settle it (01): each line as a controller sends it, and the reply of the projector that 01 sets up,
-// with W = 20, C = 60, one lamp at 0 s, input 11, texts empty and no password.
+// The lines that settle it: each line as a controller sends it, and the reply of a projector that is set up with
+// W = 20, C = 60, one lamp at 0 s, input 11, texts empty and no password.
 #![tactic(auto)]
 
+use clock::pass;
 use device::calls;
-use record::types::Device;
+use record::types::{Device, PLACES};
 use std::io;
 use std::io::{Stdout, Write};
 
@@ -18,65 +19,69 @@ fn write_line(out: &mut Stdout, mark: &[u8], line: &[u8]) -> io::Result<()> {
 }
 
 // A projector, and the place at which its controller is connected.
-#[derive(Clone, Copy)]
+#[derive(Drop)]
 struct Connected {
-    place: usize,
     device: Device,
+    place: usize,
 }
 
-fn at_place(place: usize, device: Device) -> Connected {
-    Connected { place, device }
-}
-
-// The projector as 01 sets it up, its controller connected.
+// The projector as it is set up, its controller connected. Nothing here is refused, and a refusal would leave the place
+// that no call takes.
 fn fresh() -> Connected {
     let lamps = [0u32; 1];
-    let started = setup::set_up(b"", b"", b"", b"", b"", b"11", &lamps, 20, 60);
+    let mut device = setup::set_up(b"", b"", b"", b"", b"", b"11", &lamps, 20, 60).device;
     let mut memory = [0u8; 136];
-    let opened = calls::open(started.device, 0, &mut memory);
-    at_place(opened.place, opened.device)
+    let place = match calls::open(&mut device, 0, &mut memory) {
+        Ok(opened) => opened.place,
+        Err(_) => PLACES,
+    };
+    Connected { device, place }
 }
 
-fn send(out: &mut Stdout, c: Connected, line: &[u8]) -> io::Result<Connected> {
+fn send(out: &mut Stdout, c: &mut Connected, line: &[u8]) -> io::Result<()> {
     let mut memory = [0u8; 136];
-    let received = calls::receive(c.device, c.place, line, &mut memory);
+    let length = match calls::receive(&mut c.device, c.place, line, &mut memory) {
+        Ok(received) => received.length,
+        Err(_) => 0,
+    };
     write_line(out, b"> ", line)?;
-    let length = received.length;
     if length <= 136 {
         write_line(out, b"< ", &memory[0..length])?;
     }
-    Ok(at_place(c.place, received.device))
+    Ok(())
 }
 
-fn wait(c: Connected, seconds: u32) -> Connected {
-    let passed = clock::pass::pass(c.device, seconds);
-    at_place(c.place, passed.device)
+fn wait(c: &mut Connected, seconds: u32) {
+    let _told = pass::pass(&mut c.device, seconds);
 }
 
 // One line to a projector that was never on.
 fn ask_off(out: &mut Stdout, line: &[u8]) -> io::Result<()> {
-    let _after = send(out, fresh(), line)?;
-    Ok(())
+    send(out, &mut fresh(), line)
 }
 
 // One line after power-on and so many seconds.
 fn ask_after(out: &mut Stdout, seconds: u32, title: &[u8], line: &[u8]) -> io::Result<()> {
     out.write_all(title)?;
-    let on = send(out, fresh(), b"%1POWR 1\r")?;
-    let _after = send(out, wait(on, seconds), line)?;
-    Ok(())
+    let mut c = fresh();
+    send(out, &mut c, b"%1POWR 1\r")?;
+    wait(&mut c, seconds);
+    send(out, &mut c, line)
 }
 
 // Power-on, 2,400 s, power-off, 60 s.
-fn one_round(out: &mut Stdout, c: Connected) -> io::Result<Connected> {
-    let on = wait(send(out, c, b"%1POWR 1\r")?, 2400);
-    Ok(wait(send(out, on, b"%1POWR 0\r")?, 60))
+fn one_round(out: &mut Stdout, c: &mut Connected) -> io::Result<()> {
+    send(out, c, b"%1POWR 1\r")?;
+    wait(c, 2400);
+    send(out, c, b"%1POWR 0\r")?;
+    wait(c, 60);
+    Ok(())
 }
 
 fn nine_rounds(out: &mut Stdout) -> io::Result<Connected> {
     let mut c = fresh();
     for _ in 0..9 {
-        c = one_round(out, c)?;
+        one_round(out, &mut c)?;
     }
     Ok(c)
 }
@@ -95,7 +100,6 @@ fn main(rt: HostRuntime) -> io::Result<()> {
     ask_after(&mut out, 3599, b"-- 3599 s after power-on\n", b"%1LAMP ?\r")?;
     ask_after(&mut out, 3600, b"-- 3600 s after power-on\n", b"%1LAMP ?\r")?;
     out.write_all(b"-- nine rounds of power-on, 2400 s, power-off, 60 s\n")?;
-    let rounds = nine_rounds(&mut out)?;
-    let _after = send(&mut out, rounds, b"%1LAMP ?\r")?;
-    Ok(())
+    let mut rounds = nine_rounds(&mut out)?;
+    send(&mut out, &mut rounds, b"%1LAMP ?\r")
 }

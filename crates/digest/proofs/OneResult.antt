@@ -6,18 +6,18 @@ use Rattle.digest.specs.Md5.{md5Of}
 use Rattle.digest.specs.Hex.{hexOf, hexDigits, hexValue, leadingDigest}
 use Rattle.digest.specs.declared.Digest.{Digest}
 
-md5 : (s : List ℕ) (r r' : Digest) → r.bytes ≡ md5Of s → r'.bytes ≡ md5Of s → r ≡ r'
+pub md5 : (s : List ℕ) (r r' : Digest) → r.bytes ≡ md5Of s → r'.bytes ≡ md5Of s → r ≡ r'
 md5 s r r' e e' = (λ i. record { bytes = one-result e e' i })
 
-hex : (d : Digest) (r r' : List ℕ) → r ≡ hexOf d.bytes → r' ≡ hexOf d.bytes → r ≡ r'
+pub hex : (d : Digest) (r r' : List ℕ) → r ≡ hexOf d.bytes → r' ≡ hexOf d.bytes → r ≡ r'
 hex d r r' = one-result
 
-hex8 : (x : ℕ) (r r' : List ℕ) → r ≡ hexDigits 8 x → r' ≡ hexDigits 8 x → r ≡ r'
+pub hex8 : (x : ℕ) (r r' : List ℕ) → r ≡ hexDigits 8 x → r' ≡ hexDigits 8 x → r ≡ r'
 hex8 x r r' = one-result
 
-hex-value : (s : List ℕ) (r r' : ℕ) → r ≡ hexValue s → r' ≡ hexValue s → r ≡ r'
+pub hex-value : (s : List ℕ) (r r' : ℕ) → r ≡ hexValue s → r' ≡ hexValue s → r ≡ r'
 hex-value s r r' = one-result
 
-leading-digest : (random : ℕ) (password r r' : List ℕ) → r ≡ leadingDigest random password
+pub leading-digest : (random : ℕ) (password r r' : List ℕ) → r ≡ leadingDigest random password
     → r' ≡ leadingDigest random password → r ≡ r'
 leading-digest random password r r' = one-result

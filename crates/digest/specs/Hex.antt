@@ -1,4 +1,5 @@
--- Digests and numbers as lowercase hexadecimal digits, and what a controller sends that knows the password (000, 5.1).
+-- Digests and numbers as lowercase hexadecimal digits, and what a controller sends that knows the password (PJLink
+-- 1.04, 5.1).
 --   hexDigit n            the digit of a number below 16
 --   hexDigits n x         the n lowest digits of the number x, the highest of them first
 --   hexWorth b            the number that the digit b stands for; 0 for any other byte

@@ -3,4 +3,5 @@ pub mod Padding
 pub mod Rounds
 pub mod Md5
 pub mod Hex
+pub mod TestSuite
 pub mod Computing

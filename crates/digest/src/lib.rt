@@ -4,6 +4,7 @@
 mod block;
 mod digits;
 mod tail;
+pub mod theorems;
 mod word;
 
 ghost use Rattle.std.specs.Prelude.{◌≡◌, ◌≤◌, ◌++◌, length};
@@ -90,7 +91,7 @@ pub fn hex_value(s: &[u8]) -> u32
     digits::value(s)
 }
 
-// What a controller that knows the password leads its first line with (000, 5.1).
+// What a controller that knows the password leads its first line with (PJLink 1.04, 5.1).
 pub fn leading_digest(random: u32, password: &[u8]) -> [u8; 32]
     ensures { result ≡ leadingDigest random password.now }
 {

@@ -1,5 +1,5 @@
--- What an event leaves of the places (02, L5): the one that a log drives may change, and every other is as much later
--- as the event lets pass.
+-- What an event leaves of the places (RULES, Floor log): the one that a log drives may change, and every other is as
+-- much later as the event lets pass.
 -- Assumes nothing.
 use Prim.Native.Nat.{ℕ}
 use mathlib.Core.Path.{◌≡◌, refl, sym, ap, subst, ◌∙◌}
@@ -18,15 +18,16 @@ use Rattle.clock.proofs.TimeAdds.{no-seconds}
 use Rattle.clock.proofs.Cases.{passed-by}
 use Rattle.device.specs.Calls.{replyRoom, greeted}
 use Rattle.device.proofs.Cases.{received-by, opened-by, closed-by}
-use Rattle.events.specs.declared.Printed.{Printed}
-use Rattle.events.specs.Events.{LogEvent, opens, receives, passes, closes, noSuch}
+use Rattle.logs.specs.declared.Says.{Says}
+use Rattle.logs.specs.declared.Says.TheVariants.{Opens, Receives, Passes, Closes, NoSuch}
+use Rattle.events.specs.Events.{LogEvent, opens, receives, passes, closes, noSuch, eventOf}
 use Rattle.events.specs.Doing.{logPlace, did}
-use Rattle.events.specs.Told.{secondsOf, printedOf, placesAfter, Drives}
+use Rattle.events.specs.Told.{secondsOf, placesAfter, Drives}
 use Rattle.events.proofs.LogOpenings.{log-opened-by}
 use Rattle.events.proofs.OnePlace.{first-is-lowest-shut}
 
 -- no second
-pub none-later : (cs : List Connection) → map (times connectionSecond 0) cs ≡ cs
+none-later : (cs : List Connection) → map (times connectionSecond 0) cs ≡ cs
 none-later cs =
     let d : Device = record { settings = blank.settings; own = blank.own; connections = cs } in
     ap (λ (e : Device). e.connections) (sym (parts-pass 0 d) ∙ no-seconds d)
@@ -49,9 +50,10 @@ module _ (d : Device) where
   abbrev Kept : Device → Type 0
   Kept after = set before logPlace (connectionAt after logPlace) ≡ after.connections
 
-  pub none_pass : (legal : Bool) (after : Device) → Kept after → Drives legal 0 d after
-  none_pass legal after kept =
-      ap (λ (cs : List Connection). set cs logPlace (connectionAt after logPlace)) (same-places legal before) ∙ kept
+  pub none_pass : (after : Device) → Kept after → Drives 0 d after
+  none_pass after kept =
+      ap (λ (cs : List Connection). set cs logPlace (connectionAt after logPlace)) (same-places (isLegal d) before)
+      ∙ kept
 
   pub itself-kept : Kept d
   itself-kept = set-get_or before logPlace noConnection
@@ -65,10 +67,10 @@ module _ (d : Device) where
       (λ (k : ℕ). set before logPlace (get_or (set before k new) logPlace noConnection) ≡ set before k new)
       (sym (first-is-lowest-shut before free)) (put-there before new)))
 
-  passing-drives : (n : ℕ) → Drives (isLegal d) n d (did d (passes n)).device
+  passing-drives : (n : ℕ) → Drives n d (did d (passes n)).device
   unfolding did
   passing-drives n =
-      passed-by (λ r. Drives (isLegal d) n d r.device) d n
+      passed-by (λ r. Drives n d r.device) d n
       (λ illegal. ap (λ (t : Bool). set (placesAfter t n before) logPlace (connectionAt d logPlace)) illegal
       ∙ itself-kept)
       (λ legal. let after = times second n d in
@@ -76,21 +78,29 @@ module _ (d : Device) where
       ∙ ap (λ (e : Device). set e.connections logPlace (connectionAt after logPlace)) (sym (parts-pass n d))
       ∙ set-get_or after.connections logPlace noConnection)
 
-  pub did-drives : (e : LogEvent) → Drives (isLegal d) (secondsOf e) d (did d e).device
+  pub did-drives : (e : LogEvent) → Drives (secondsOf e) d (did d e).device
   unfolding did
-  did-drives (opens r) = none_pass (isLegal d) (did d (opens r)).device (opening-kept r)
+  did-drives (opens r) = none_pass (did d (opens r)).device (opening-kept r)
   did-drives (receives bs) =
-      none_pass (isLegal d) (did d (receives bs)).device
+      none_pass (did d (receives bs)).device
       (received-by d logPlace bs replyRoom (λ q. Kept q.device) (λ n z. itself-kept)
       (λ h s t c. put-there before _))
   did-drives (passes n) = passing-drives n
   did-drives closes =
-      none_pass (isLegal d) (did d closes).device
+      none_pass (did d closes).device
       (closed-by d logPlace (λ q. Kept q.device) (λ n z. itself-kept) (λ h t c. put-there before _))
-  did-drives noSuch = none_pass (isLegal d) d itself-kept
+  did-drives noSuch = none_pass d itself-kept
 
-  pub printed-drives : (n : ℕ) (e : LogEvent) {legal : Bool} {r : Printed} → legal ≡ isLegal d → r ≡ printedOf n d e
-      → Drives legal r.seconds d r.device
-  printed-drives n e {legal} {r} tested told =
-      subst (λ (t : Bool). Drives t r.seconds d r.device) (sym tested)
-      (subst (λ (p : Printed). Drives (isLegal d) p.seconds d p.device) (sym told) (did-drives e))
+-- the seconds are the line's, whatever it would have received
+seconds-said : (says : Says) (bs : List ℕ) → secondsOf (eventOf says []) ≡ secondsOf (eventOf says bs)
+seconds-said (Opens x) bs = refl
+seconds-said Receives bs = refl
+seconds-said (Passes n) bs = refl
+seconds-said Closes bs = refl
+seconds-said NoSuch bs = refl
+
+pub driven : (d : Device) (says : Says) (bs : List ℕ) {after : Device} → after ≡ (did d (eventOf says bs)).device
+    → Drives (secondsOf (eventOf says [])) d after
+driven d says bs {after} left =
+    subst (λ (n : ℕ). Drives n d after) (sym (seconds-said says bs))
+    (subst (Drives (secondsOf (eventOf says bs)) d) (sym left) (did-drives d (eventOf says bs)))

@@ -4,5 +4,6 @@ pub mod EventsLeave
 pub mod OnePlace
 pub mod Driven
 pub mod PartsPut
+mod Calling
 mod Endings
 mod Printing

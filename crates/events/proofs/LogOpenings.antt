@@ -1,5 +1,5 @@
--- Opening in a log, case by case (02, L5): refused with 1, or with 5 where the place that the log drives is not closed;
--- else the device's own opening.
+-- Opening in a log, case by case (RULES, Places): refused with 1, or with 5 where the place that the log drives is not
+-- closed; else the device's own opening.
 -- Assumes nothing.
 use Prim.Native.Nat.{ℕ}
 use mathlib.Core.Path.{◌≡◌, refl, ap, ◌∙◌}

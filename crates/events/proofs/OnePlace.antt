@@ -1,5 +1,5 @@
--- A log drives one place only (02, L5): opening takes it where it is closed, since there is none lower, and every other
--- place that is closed stays so.
+-- A log drives one place only (RULES, Places): opening takes it where it is closed, since there is none lower, and
+-- every other place that is closed stays so.
 -- Assumes nothing.
 use Prim.Native.Nat.{ℕ, ◌≤◌, ◌<◌}
 use mathlib.Core.Path.{◌≡◌, sym, ap, ◌∙◌}

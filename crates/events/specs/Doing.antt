@@ -1,5 +1,5 @@
--- What an event of a log does and what is printed for it, by 01's definitions of the calls (02, L1).
---   logPlace            the place that a log drives (02, L5)
+-- What an event of a log does and what is printed for it, by the definitions of the calls (RULES, Floor log).
+--   logPlace            the place that a log drives (RULES, Places)
 --   openedInLog d r     opening there: a second `O` is refused with 5, by the replay's own test; else the device's
 --                       opening, which takes that place (proofs/OnePlace.antt)
 --   did d e             what the event e does to the device d: the call's number, its reply and the record that it
@@ -27,7 +27,7 @@ changedTo c = record { number = c.number; taken = 0; reply = []; device = c.devi
 abbrev pub logPlace : ℕ
 logPlace = 0
 
--- 5 stands where 01's table of opening had it; its 2 never applies, as a line is printed where there is room
+-- 5 stands where the table of opening had it; its 2 never applies, as a line is printed where there is room
 abbrev pub logOpeningRows : Device → List Row
 logOpeningRows d = (1 when not (isLegal d)) ∷ (5 when not (isShut (connectionAt d logPlace))) ∷ []
 

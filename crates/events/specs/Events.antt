@@ -1,4 +1,4 @@
--- What a line of a log asks for (02, L1).
+-- What a line of a log asks for (RULES, Floor log).
 --   LogEvent          a connection opened with a random number; bytes received; seconds passed; the connection closed;
 --                     or a line of no such form, which changes nothing
 --   eventOf says bs   the event of what a line says, where bs are the bytes that it would have received

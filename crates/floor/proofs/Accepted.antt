@@ -1,4 +1,5 @@
--- No call of a replay refuses while its state can go on and the numbers last: `play` plays, `finish` tells (02, L1).
+-- No call of a replay refuses while its state can go on and the numbers last: `play` plays, `finish` tells (RULES,
+-- Floor log).
 --   Going s        what a state needs to go on, kept by every byte
 -- Assumes nothing.
 use Prim.Native.Nat.{ℕ, ◌+◌, ◌≤◌, ◌<◌, ◌^◌}
@@ -12,11 +13,10 @@ use lib.Dec.{ltb}
 use borrow.Author.Tests.{le-ltb, lt-leb}
 use Rattle.stream.specs.Machine.{tookBytes}
 use Rattle.stream.proofs.SameHoweverCut.{live-run}
-use Rattle.floor.specs.declared.replay.Floor.{Floor}
 use Rattle.logs.specs.Lines.{lineMost}
 use Rattle.events.specs.Doing.{printRoom}
 use Rattle.floor.specs.Reading.{Reading, ended, more, logRun, playedIn, logFinished}
-use Rattle.floor.specs.Calls.{readingIn, finishRoom, callRefusal, stepped, endedAt}
+use Rattle.floor.specs.Calls.{finishRoom, callRefusal, stepped, endedAt}
 use Rattle.floor.proofs.Gathering.{kept-held, kept-long}
 use Rattle.floor.proofs.LinesPlayed.{after-long}
 use Rattle.floor.proofs.Refusals.{not-refused, gives_all}
@@ -38,23 +38,23 @@ more-goes s b g = record {
 pub run-goes : (s : Reading) (bs : List ℕ) → Going s → Going (logRun s bs).state
 run-goes = live-run (code "\n") Reading more ended Going (λ s b n. more-goes s b) ended-goes
 
-module _ (f : Floor) (m : List ℕ) (g : Going (readingIn f m)) where
-  accepted : (lines : ℕ) (short : Bool) → short ≡ false → f.number + lines < 2 ^ 64
-      → callRefusal f m lines short ≡ 0
+module _ (s : Reading) (g : Going s) where
+  accepted : (lines : ℕ) (short : Bool) → short ≡ false → s.number + lines < 2 ^ 64
+      → callRefusal s lines short ≡ 0
   accepted lines short e h =
-      not-refused f.begun.held f.number (length m) lines short
-      (λ i. e i || lt-leb (length m) lineMost g.memory i) g.held h
+      not-refused s.kept.held s.number (length s.kept.bytes) lines short
+      (λ i. e i || lt-leb (length s.kept.bytes) lineMost g.memory i) g.held h
 
-  pub play-plays : (bs : List ℕ) (room : ℕ) → printRoom ≤ room → f.number + length bs < 2 ^ 64
-      → stepped f m bs room ≡ record { number = 0; took = playedIn room (readingIn f m) bs }
+  pub play-plays : (bs : List ℕ) (room : ℕ) → printRoom ≤ room → s.number + length bs < 2 ^ 64
+      → stepped s bs room ≡ record { number = 0; took = playedIn room s bs }
   unfolding stepped
   play-plays bs room r h =
-      gives_all (readingIn f m) (playedIn room (readingIn f m) bs) refl
+      gives_all s (playedIn room s bs) refl
       (accepted (length bs) (ltb room printRoom) (le-ltb room printRoom r) h)
 
-  pub finish-tells : (room : ℕ) → finishRoom ≤ room → f.number + 1 < 2 ^ 64
-      → endedAt f m room ≡ record { number = 0; took = tookBytes 0 (logFinished (readingIn f m)) }
+  pub finish-tells : (room : ℕ) → finishRoom ≤ room → s.number + 1 < 2 ^ 64
+      → endedAt s room ≡ record { number = 0; took = tookBytes 0 (logFinished s) }
   unfolding endedAt
   finish-tells room r h =
-      gives_all (readingIn f m) (tookBytes 0 (logFinished (readingIn f m))) refl
+      gives_all s (tookBytes 0 (logFinished s)) refl
       (accepted 1 (ltb room finishRoom) (le-ltb room finishRoom r) h)

@@ -1,4 +1,4 @@
--- The promise of a call that takes bytes, carried along an equation for what is taken.
+-- The promise of a call that prints or takes bytes, carried along an equation for what it does.
 -- Assumes nothing.
 use Prim.Native.Nat.{ℕ}
 use mathlib.Core.Path.{◌≡◌, sym, subst}
@@ -8,7 +8,7 @@ use Rattle.floor.specs.declared.playing.Taken.{Taken}
 use Rattle.floor.specs.Reading.{Reading}
 use Rattle.floor.specs.Calls.{TakenAs}
 
--- r is what is returned, l the memory of the line, m that of what is printed
-pub carry : (out : List ℕ) {t u : Took Reading} → u ≡ t → {r : Taken} {l m : List ℕ} → TakenAs t out r l m
-    → TakenAs u out r l m
-carry out e {r} {l} {m} p = subst (λ (x : Took Reading). TakenAs x out r l m) (sym e) p
+-- r is what is returned, after the reading, m the memory of what is printed
+pub carry : (out : List ℕ) {t u : Took Reading} → u ≡ t → {r : Taken} {after : Reading} {m : List ℕ}
+    → TakenAs t out r after m → TakenAs u out r after m
+carry out e {r} {after} {m} p = subst (λ (x : Took Reading). TakenAs x out r after m) (sym e) p

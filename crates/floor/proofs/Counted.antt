@@ -1,5 +1,5 @@
--- What can be counted (02, L1): a log has at most one line a byte, so every log shorter than 2 ^ 63 bytes, and with it
--- every file, is countable, whatever its reads.
+-- What can be counted (RULES, Floor log): a log has at most one line a byte, so every log shorter than 2 ^ 63 bytes,
+-- and with it every file, is countable, whatever its reads.
 -- Assumes nothing.
 use Prim.Native.Nat.{ℕ, suc, ◌+◌, ◌≤◌, ◌<◌, ◌^◌}
 use mathlib.Core.Path.{◌≡◌, refl, ap, ◌∙◌}

@@ -1,5 +1,5 @@
--- How what is printed for a log ends (02, L1: "after the last, one line with power and lamp seconds"): as its last line
--- does, so for no log a line is printed last that ends in any other way.
+-- How what is printed for a log ends (RULES, Floor log: "after the last, one line with power and lamp seconds"): as its
+-- last line does, so for no log a line is printed last that ends in any other way.
 -- Assumes nothing.
 use Prim.Native.Nat.{ℕ}
 use mathlib.Core.Path.{◌≡◌}

@@ -1,6 +1,5 @@
 pub mod Gathering
 pub mod KeptText
-pub mod Driven
 pub mod LinesPlayed
 mod LoopPlayed
 mod Refusals

@@ -1,8 +1,8 @@
 -- What a call plays, line by line: one line, and what is played after it.
 --   addedTo n r t       t after n bytes taken and r printed
 --   onward left s bs    what is played of bs where there is room left to print a line; else nothing
---   LineTold s bs t     of one line: at least a byte and at most all are taken, at most one line more is counted, what
---                       is kept fits, the settings stay, and the record stays legal, or not legal
+--   LineTold s bs t     of one line: at least a byte and at most all are taken, at most one line more is counted, and
+--                       what is kept fits
 -- Assumes nothing.
 use Prim.Native.Nat.{ℕ, ◌+◌, ◌-◌, ◌≤◌}
 use Prim.Native.Char.{code}
@@ -18,16 +18,14 @@ use borrow.Author.Tests.{le-ltb, not-true}
 use Rattle.std.specs.Prelude.{if◌then◌else◌}
 use Rattle.text.specs.Scans.{every}
 use Rattle.text.proofs.Choices.{if_no, if-all, if-by, both_left, both_right}
-use Rattle.record.specs.Legal.{isLegal}
 use Rattle.record.specs.declared.types.Line.{Line}
 use Rattle.stream.specs.Machine.{Out, Took, unanswered, tookBytes, call_of}
 use Rattle.stream.proofs.UpToTheEnd.{notEnd, found}
 use Rattle.stream.proofs.OneCallGathers.{call-gathers, call_by}
 use Rattle.logs.specs.Lines.{lineMost}
 use Rattle.events.specs.Doing.{printRoom}
-use Rattle.events.proofs.EventsLeave.{did-settings, did-legality}
 use Rattle.floor.specs.Reading.{Reading, keptWith, lineAfter, ended, withKept, more, lineTaken, upToLf}
-use Rattle.floor.specs.Reading.{keptEvent, stepThen, playedIn, isBegun, lfMissing, endOfInput}
+use Rattle.floor.specs.Reading.{stepThen, playedIn, isBegun, lfMissing, endOfInput}
 use Rattle.floor.proofs.Gathering.{line-in-memory}
 
 abbrev pub addedTo : ℕ → List ℕ → Took Reading → Took Reading
@@ -122,8 +120,6 @@ pub record LineTold (s : Reading) (bs : List ℕ) (t : Took Reading) : Type 0 wh
   pub number : t.state.number ≤ s.number + 1
   pub held : t.state.kept.held ≤ lineMost
   pub long : length t.state.kept.bytes ≡ length s.kept.bytes
-  pub settings : t.state.device.settings ≡ s.device.settings
-  pub legality : isLegal t.state.device ≡ isLegal s.device
 
 pub line-told : (s : Reading) (bs : List ℕ) → s.kept.held ≤ lineMost → LineTold s bs (lineTaken s bs)
 unfolding ended
@@ -139,8 +135,6 @@ line-told s bs h =
       number = omega arith;
       held = omega arith;
       long = after-long g.line ∙ w.long;
-      settings = did-settings s.device (keptEvent g.line);
-      legality = did-legality s.device (keptEvent g.line);
     })
     (λ e. record {
       some = λ n. omega (arith, f.all e);
@@ -148,6 +142,4 @@ line-told s bs h =
       number = omega arith;
       held = w.held;
       long = w.long;
-      settings = refl;
-      legality = refl;
     }))

@@ -1,6 +1,6 @@
 -- The loop that plays line after line.
---   PlayedTo ..     it has come to a byte: what it printed is in memory, a line has room, legality is as it was
---   Turn before ..  what a turn of it leaves, where the call that takes a line returns r
+--   PlayedTo ..     it has come to a byte: what it printed is in memory, and a line has room
+--   Turn ..         what a turn of it leaves, where the call that takes a line returns r and leaves the reading `after`
 -- Assumes nothing.
 use Prim.Native.Nat.{ℕ, ◌+◌, ◌-◌, ◌≤◌, ◌<◌, ◌^◌}
 use mathlib.Core.Path.{◌≡◌, refl, sym, ap, ◌∙◌, subst}
@@ -12,14 +12,12 @@ use lib.Seq.{sets, drop-drop, take_all, length-sets}
 use borrow.Author.Tests.{lt-ltb, le-ltb}
 use Rattle.text.proofs.Choices.{if_yes, if_no}
 use Rattle.text.proofs.Stores.{sets_then, sets_over}
-use Rattle.record.specs.Legal.{isLegal}
 use Rattle.stream.specs.Machine.{Took}
-use Rattle.floor.specs.declared.replay.Floor.{Floor}
 use Rattle.floor.specs.declared.playing.Taken.{Taken}
 use Rattle.logs.specs.Lines.{lineMost}
 use Rattle.events.specs.Doing.{printRoom}
 use Rattle.floor.specs.Reading.{Reading, lineTaken, playedIn}
-use Rattle.floor.specs.Calls.{readingIn, floorOf, lineTakenOf, TakenAs}
+use Rattle.floor.specs.Calls.{taken_told, TakenAs}
 use Rattle.floor.proofs.Carrying.{carry}
 use Rattle.events.proofs.PartsPut.{partFrom, leftFrom, Put, part-put}
 use Rattle.floor.proofs.LinesPlayed.{addedTo, onward, added_twice, line_first, LineTold, line-told}
@@ -27,7 +25,6 @@ use Rattle.floor.proofs.LinesPlayed.{addedTo, onward, added_twice, line_first, L
 module _ (s : Reading) (bs out : List ℕ) where
   pub record PlayedTo (now : Reading) (m : List ℕ) (at used : ℕ) : Type 0 where
     pub inside : at ≤ length bs
-    pub legality : isLegal now.device ≡ isLegal s.device
     pub held : now.kept.held ≤ lineMost
     pub long : length now.kept.bytes ≡ length s.kept.bytes
     pub number : now.number + (length bs - at) < 2 ^ 64
@@ -37,18 +34,16 @@ module _ (s : Reading) (bs out : List ℕ) where
     pub stored : m ≡ sets out 0 printed
     pub rest : playedIn (length out) s bs ≡ addedTo at printed (playedIn (length out - used) now (drop at bs))
 
-  pub record Turn (before : Reading) (at used : ℕ) (r : Taken) (l left : List ℕ) : Type 0 where
+  pub record Turn (at used : ℕ) (r : Taken) (after : Reading) (left : List ℕ) : Type 0 where
     pub inside : at + r.taken ≤ length bs
     pub some : 1 ≤ r.taken
     pub fits : used + r.length ≤ length out
     pub long : length left ≡ length out
-    pub line-long : length l ≡ length s.kept.bytes
-    pub settings : r.floor.device.settings ≡ before.device.settings
-    pub stops : {f : Floor} → f ≡ r.floor → length out - (used + r.length) < printRoom
-        → TakenAs (playedIn (length out) s bs) out
-        (record { taken = at + r.taken; length = used + r.length; floor = f }) l left
-    pub goes_on : {f : Floor} → f ≡ r.floor → printRoom ≤ length out - (used + r.length)
-        → PlayedTo (readingIn f l) left (at + r.taken) (used + r.length)
+    pub stops : length out - (used + r.length) < printRoom
+        → TakenAs (playedIn (length out) s bs) out (record { taken = at + r.taken; length = used + r.length })
+        after left
+    pub goes_on : printRoom ≤ length out - (used + r.length)
+        → PlayedTo after left (at + r.taken) (used + r.length)
 
   pub memory-long : {now : Reading} {m : List ℕ} {at used : ℕ} → PlayedTo now m at used → length m ≡ length out
   memory-long p = ap length p.stored ∙ length-sets out 0 p.printed
@@ -110,7 +105,6 @@ module _ (s : Reading) (bs out : List ℕ) where
         → PlayedTo line.state k (at + line.taken) (used + length line.reply)
     one-played e h = record {
       inside = omega (arith, told.inside, bytes-long);
-      legality = told.legality ∙ p.legality;
       held = told.held;
       long = told.long ∙ p.long;
       number = omega (arith, told.number, told.inside, told.some (omega (arith, bytes-long)), bytes-long, p.number);
@@ -122,42 +116,34 @@ module _ (s : Reading) (bs out : List ℕ) where
     }
 
     turn-of : {left : List ℕ} → Put m line.reply used (length m) left
-        → Turn now at used (lineTakenOf line) line.state.kept.bytes left
+        → Turn at used (taken_told line) line.state left
     turn-of {left} w = record {
       inside = omega (arith, told.inside, bytes-long);
       some = told.some (omega (arith, bytes-long));
       fits = omega (arith, w.fits, memory-long p);
       long = w.long ∙ memory-long p;
-      line-long = told.long ∙ p.long;
-      settings = told.settings;
-      stops = λ e h. carry out (all-printed h)
+      stops = λ h. carry out (all-printed h)
           (record {
-            returned = (λ i. record {
-              taken = at + line.taken;
-              length = sym text-long i;
-              floor = e i;
-            });
-            line = refl;
+            returned = (λ i. record { taken = at + line.taken; length = sym text-long i });
+            left = refl;
             printed = text-stored w.stored ∙ sets_over text out (omega (arith, text-long, w.fits, memory-long p));
           });
-      goes_on = λ e h. subst (λ (f : Floor). PlayedTo (readingIn f line.state.kept.bytes) left
-          (at + line.taken) (used + length line.reply)) (sym e) (one-played w.stored h);
+      goes_on = λ h. one-played w.stored h;
     }
 
-    pub turn-told : {r : Taken} {l k : List ℕ}
-        → TakenAs (lineTaken now (take (length bs - at) (drop at bs))) (partFrom m used) r l k
-        → length k ≡ length (partFrom m used) → Turn now at used r l (leftFrom m used k)
-    turn-told {r} {l} {k} lent same =
-        let t : TakenAs line (partFrom m used) r l k =
-        subst (λ (x : List ℕ). TakenAs (lineTaken now x) (partFrom m used) r l k)
+    pub turn-told : {r : Taken} {after : Reading} {k : List ℕ}
+        → TakenAs (lineTaken now (take (length bs - at) (drop at bs))) (partFrom m used) r after k
+        → length k ≡ length (partFrom m used) → Turn at used r after (leftFrom m used k)
+    turn-told {r} {after} {k} lent same =
+        let t : TakenAs line (partFrom m used) r after k =
+        subst (λ (x : List ℕ). TakenAs (lineTaken now x) (partFrom m used) r after k)
         (take_all (length bs - at) bytes (omega (arith, bytes-long))) lent in
-        subst (λ (x : Taken). Turn now at used x l (leftFrom m used k)) (sym t.returned)
-        (subst (λ (x : List ℕ). Turn now at used (lineTakenOf line) x (leftFrom m used k)) (sym t.line)
+        subst (λ (x : Taken). Turn at used x after (leftFrom m used k)) (sym t.returned)
+        (subst (λ (x : Reading). Turn at used (taken_told line) x (leftFrom m used k)) (sym t.left)
         (turn-of (part-put m line.reply used (omega (arith, memory-long p, p.room)) t.printed same)))
 
   pub all-played : {now : Reading} {m : List ℕ} {at used : ℕ} → PlayedTo now m at used → length bs ≤ at
-      → TakenAs (playedIn (length out) s bs) out (record { taken = at; length = used; floor = floorOf now })
-      now.kept.bytes m
+      → TakenAs (playedIn (length out) s bs) out (record { taken = at; length = used }) now m
   unfolding playedIn
   all-played {now} {m} {at} {used} p h =
       carry out
@@ -165,7 +151,7 @@ module _ (s : Reading) (bs out : List ℕ) where
       ∙ ap (λ (l : List ℕ). addedTo at p.printed (playedIn (length out - used) now l)) (drop_of_length-le bs h)
       ∙ (λ i. record { taken = add-zero at i; state = now; reply = append-nil p.printed i }))
       (record {
-        returned = (λ i. record { taken = at; length = p.counted i; floor = floorOf now });
-        line = refl;
+        returned = (λ i. record { taken = at; length = p.counted i });
+        left = refl;
         printed = p.stored ∙ sets_over p.printed out (omega (arith, p.counted, p.room));
       })

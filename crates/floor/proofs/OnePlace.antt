@@ -1,4 +1,4 @@
--- A log drives one place only (02, L5): every other place is closed before a log and stays so.
+-- A log drives one place only (RULES, Places): every other place is closed before a log and stays so.
 -- Assumes nothing.
 use Prim.Native.Nat.{ℕ, ◌<◌}
 use mathlib.Core.Path.{◌≡◌, sym, ap, ◌∙◌}

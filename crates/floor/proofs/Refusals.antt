@@ -7,29 +7,30 @@ use native.Mathlib.Omega.{arith}
 use lib.Dec.{leb, ltb}
 use borrow.Author.Tests.{le-ltb, lt-leb, ltb-false, leb-false}
 use Rattle.text.proofs.Choices.{if_no, if-by}
-use Rattle.record.specs.Legal.{isLegal}
-use Rattle.record.specs.declared.types.Device.{Device}
+use lib.ListN.{length}
 use Rattle.stream.specs.Machine.{Took}
 use Rattle.logs.specs.Lines.{lineMost}
 use Rattle.floor.specs.Reading.{Reading}
-use Rattle.floor.specs.Calls.{refusal, CanPlay, giving}
+use Rattle.floor.specs.Calls.{refusal, CanPlay, callRefusal, giving}
 
 -- neither side of a disjunction that fails holds
 pub neither : (a b : Bool) → (a || b) ≡ false → (a ≡ false) × (b ≡ false)
 neither true b e = (cc, cc)
 neither false b e = (refl, e)
 
-pub no-refusal : {legal : Bool} {d : Device} → legal ≡ isLegal d → (held number memory lines least room : ℕ)
-    → refusal held number memory lines (ltb room least) ≡ 0 → CanPlay legal d held number lines memory least room
+pub no-refusal : (s : Reading) (lines least room : ℕ) → callRefusal s lines (ltb room least) ≡ 0
+    → CanPlay s lines least room
 unfolding refusal
-no-refusal {legal} {d} tested held number memory lines least room =
-    let Told : ℕ → Type 0 = λ n. n ≡ 0 → CanPlay legal d held number lines memory least room in
+no-refusal s lines least room =
+    let memory = length s.kept.bytes in
+    let held = s.kept.held in
+    let number = s.number in
+    let Told : ℕ → Type 0 = λ n. n ≡ 0 → CanPlay s lines least room in
     if-by Told (ltb room least || leb memory lineMost) (λ e f. absurd (omega arith)) (λ e.
     if-by Told (ltb lineMost held || leb (2 ^ 64) (number + lines)) (λ u f. absurd (omega arith)) (λ u f.
     let memories = neither (ltb room least) (leb memory lineMost) e in
     let state = neither (ltb lineMost held) (leb (2 ^ 64) (number + lines)) u in
     record {
-      tested = tested;
       kept = ltb-false lineMost held state.0;
       lent = leb-false memory lineMost memories.1;
       counted = leb-false (2 ^ 64) (number + lines) state.1;

@@ -1,4 +1,4 @@
--- A log read byte by byte does and prints what its events do (02, L1: "The replay's end state is the one 01's
+-- A log read byte by byte does and prints what its events do (RULES, Floor log: "The replay's end state is the one the
 -- definitions give for these events").
 --   Plays d n es o      the reading that o leaves, with its input ended, has done and printed the events es, from the
 --                       device d and the line n + 1 on

@@ -1,5 +1,5 @@
--- The floor log played back, over the calls (02, L1): from `start` through reads of any sizes to `finish` no call
--- refuses, what is printed is what the definitions print for the whole log, and the device is the one that 01's
+-- The floor log played back, over the calls (RULES, Floor log): from `start` through reads of any sizes to `finish` no
+-- call refuses, what is printed is what the definitions print for the whole log, and the device is the one that the
 -- definitions give for its events.
 --   stageOf s        a reading as the calls have it
 --   ReadyFor s bs    `play` takes of bs: the state can go on, and its lines can be counted
@@ -22,7 +22,7 @@ use Rattle.stream.proofs.SameHoweverCut.{outThrough, tookThrough, Taking, parts-
 use Rattle.logs.specs.Lines.{lineMost}
 use Rattle.events.specs.Doing.{printRoom}
 use Rattle.floor.specs.Reading.{Reading, more, ended, logRun, playedIn, logFinished, fresh}
-use Rattle.floor.specs.Calls.{floorOf, finishRoom}
+use Rattle.floor.specs.Calls.{finishRoom}
 use Rattle.floor.specs.WholeLog.{LogStage, startStage, callLeaves, playedBy, finishedBy, wholePlay}
 use Rattle.floor.specs.WholeLog.{noneLonger, Countable, PlaysBack}
 use Rattle.floor.proofs.Cuts.{played-runs, some-taken}
@@ -31,7 +31,7 @@ use Rattle.floor.proofs.Replayed.{end-state, all-printed}
 use Rattle.floor.proofs.Accepted.{Going, run-goes, play-plays, finish-tells}
 
 abbrev stageOf : Reading → LogStage
-stageOf s = record { number = 0; floor = floorOf s; line = s.kept.bytes }
+stageOf s = record { number = 0; reading = s }
 
 record ReadyFor (s : Reading) (bs : List ℕ) : Type 0 where
   goes : Going s
@@ -53,7 +53,7 @@ module _ (room : ℕ) (printable : printRoom ≤ room) where
       record {
         taken = n;
         some = some-taken room s bs;
-        runs = ap callLeaves (play-plays (floorOf s) s.kept.bytes r.goes bs room printable r.counts)
+        runs = ap callLeaves (play-plays s r.goes bs room printable r.counts)
             ∙ ap (tookThrough stageOf) (played-runs room s bs);
         ready = record {
           goes = run-goes s part r.goes;
@@ -110,7 +110,7 @@ module _ (room : ℕ) (d : Device) (m : List ℕ) (size : ℕ) (reads : List (Li
   unfolding finishedBy
   ends =
       ap callLeaves
-      (finish-tells (floorOf read.state) read.state.kept.bytes (run-goes (fresh d m) log starts) room printable
+      (finish-tells read.state (run-goes (fresh d m) log starts) room printable
       (omega (arith, counts, ends-lines [] log, countable.lines, countable.some)))
 
   abbrev finishing : Out LogStage → Out LogStage
@@ -128,5 +128,5 @@ module _ (room : ℕ) (d : Device) (m : List ℕ) (size : ℕ) (reads : List (Li
   whole-log-played-back = record {
     accepted = ap (λ (o : Out LogStage). o.state.number) plays;
     printed = ap (λ (o : Out LogStage). o.reply) plays ∙ all-printed d m lent log;
-    device = ap (λ (o : Out LogStage). o.state.floor.device) plays ∙ end-state d m lent log;
+    device = ap (λ (o : Out LogStage). o.state.reading.device) plays ∙ end-state d m lent log;
   }

@@ -1,4 +1,4 @@
--- A log as events (02, L1).
+-- A log as events (RULES, Floor log).
 --   event l           the event of the line l: a text is received with a CR after it
 --   lines_from g log  the lines of a log of which the first has begun with g: each ends with LF, the last perhaps
 --                     without

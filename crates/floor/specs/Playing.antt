@@ -1,7 +1,7 @@
--- What a log does and what is printed for it, event by event (02, L1).
+-- What a log does and what is printed for it, event by event (RULES, Floor log).
 --   stateAfter d es     the device after these events
 --   linesPrinted n d es what is printed for them, the first being line n + 1
---   sampleDevice        01's sample set-up: W 20, C 60, one lamp at 0 s, input 11, texts empty, no password
+--   sampleDevice        the sample set-up: W 20, C 60, one lamp at 0 s, input 11, texts empty, no password
 --   replayed d log      all that is printed for a log that begins with the device d
 -- Assumes nothing.
 use Rattle.std.specs.Prelude.{ℕ, ◌+◌, List, [], ◌∷◌, ◌++◌}

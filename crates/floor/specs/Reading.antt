@@ -1,5 +1,5 @@
--- A log that is read in parts (02, L1): the machine of crate `stream` over its lines, which end with LF. What is kept
--- between two reads, what a byte does, and what one call takes.
+-- A log that is read in parts (RULES, Floor log): the machine of crate `stream` over its lines, which end with LF. What
+-- is kept between two reads, what a byte does, and what one call takes.
 --   Reading             the device, how many lines were played, and what is kept of a line that has begun
 --   keptOf k m          a line of which k has begun, in the memory m lent for it; `begunOf`: back again
 --   keptWith k b        what is kept after one byte more that is no LF; past `lineMost` bytes only the mark is

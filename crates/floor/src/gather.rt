@@ -6,7 +6,7 @@ ghost use Rattle.floor.specs.Told.{gatheredTo};
 
 use logs::LINE_MOST;
 
-// What is kept of a line that has begun.
+/// What is kept of a line that has begun.
 #[derive(Clone, Copy)]
 pub struct Begun {
     pub held: usize,
@@ -20,6 +20,7 @@ impl Begun {
     };
 }
 
+/// What came of bytes: what is then kept of the line, how many of them are before LF, and whether LF came.
 #[derive(Clone, Copy)]
 pub struct Gathered {
     pub begun: Begun,
@@ -49,7 +50,7 @@ fn collect(k: Begun, line: &mut [u8], b: u8) -> Begun
     }
 }
 
-// The bytes before the first LF, or all; how many these are, and whether LF came.
+/// The bytes before the first LF, or all.
 pub fn gather(k: Begun, line: &mut [u8], bytes: &[u8]) -> Gathered
     requires { lineMost ≤ length line.old }
     ensures value { result ≡ gatheredTo (upToLf (keptOf k line.old) bytes.now) }

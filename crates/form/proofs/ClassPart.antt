@@ -1,4 +1,4 @@
--- The class and what Class 2 alone has, after C (02, L14), as the code writes them.
+-- The class and what Class 2 alone has, after C (RULES, Class 2), as the code writes them.
 -- Assumes nothing.
 use Prim.Native.Nat.{ℕ, ◌+◌, ◌≤◌}
 use mathlib.Core.Path.{◌≡◌, refl, sym, ap, ◌∙◌}

@@ -1,4 +1,4 @@
--- Marks written as bytes, one after the other (02, L8).
+-- Marks written as bytes, one after the other (RULES, Lamps).
 --   MarksPut lent p ms out i      the loop that writes the marks ms from the place p on has come to i
 -- Assumes nothing.
 use Prim.Native.Nat.{ℕ, zero, suc, ◌+◌, ◌<◌}

@@ -1,4 +1,4 @@
--- Names written one after the other, each after its count, and how long they are (02, L14).
+-- Names written one after the other, each after its count, and how long they are (RULES, Class 2).
 --   first names i              the first i of them, written
 --   NamesLong names long i     the loop that adds up their lengths has come to i
 -- Where the loop that writes them stands is said by `Wrote` of proofs/Written, over `first`.

@@ -1,4 +1,4 @@
--- Texts written one after the other, each after its count (02, L14): none, the first, and one more.
+-- Texts written one after the other, each after its count (RULES, Class 2): none, the first, and one more.
 -- Assumes nothing.
 use Prim.Native.Nat.{ℕ}
 use mathlib.Core.Path.{◌≡◌, refl}

@@ -1,4 +1,4 @@
--- One name that opens this crate's definitions, for computing on concrete records only (02, L3).
+-- One name that opens this crate's definitions, for computing on concrete records only (RULES, Stored form).
 -- Assumes nothing.
 use Rattle.form.specs.Form.{secondsBytes, textsBytes, classPart, formWith, storedBy}
 

@@ -1,8 +1,9 @@
--- The stored form (02, L3): "the version byte .., then sections in a fixed order, each after its count (of bytes,
--- inputs or lamps) in one byte: name, maker, model, other, password, inputs (two ASCII digits each), lamps (seconds as
--- four bytes); last W and C as two bytes each; all highest first". Version 2 has "a section of marks, one byte 0 or 1
--- each, after the lamps .. Each version has one form; the newest is written" (02, L8). Version 3 has the class after C
--- in one byte, and in Class 2 a serial number, a version and a name for each input, each after its count (02, L14).
+-- The stored form (RULES, Stored form): "the version byte .., then sections in a fixed order, each after its count (of
+-- bytes, inputs or lamps) in one byte: name, maker, model, other, password, inputs (two ASCII digits each), lamps
+-- (seconds as four bytes); last W and C as two bytes each; all highest first". Version 2 has "a section of marks, one
+-- byte 0 or 1 each, after the lamps .. Each version has one form; the newest is written" (RULES, Lamps). Version 3 has
+-- the class after C in one byte, and in Class 2 a serial number, a version and a name for each input, each after its
+-- count (RULES, Class 2).
 --   formVersion               the version byte of the newest form. Still loaded: markedVersion, which has marks and no
 --                             class; oldVersion, which has neither
 --   section count items       a section: its count, then what is counted

@@ -1,5 +1,6 @@
-// The stored form (02, L3, L8 and L14): a record's settings, seconds and marks in bytes, written.
+// The stored form (RULES, Stored form, Lamps and Class 2): a record's settings, seconds and marks in bytes, written.
 #![tactic(auto)]
 
 pub mod storing;
+pub mod theorems;
 mod writing;

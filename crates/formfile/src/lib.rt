@@ -1,5 +1,5 @@
-// The device that a log begins with: 01's sample set-up, or the one of a stored form (02, L3) in a file that an
-// argument names.
+// The device that a log begins with: the sample set-up, or the one of a stored form (RULES, Stored form) in a file that
+// an argument names.
 #![tactic(auto)]
 
 use floor::replay;
@@ -13,62 +13,47 @@ use stored::loading;
 // bytes left over.
 const ROOM: u64 = 68867;
 
-// `read`: the file could be read to its end; `number`: that of the load, 0 where the device may be used.
+/// Why there is no device to begin with.
 #[derive(Clone, Copy)]
-pub struct Begin {
-    pub read: bool,
-    pub number: u32,
-    pub device: Device,
+pub enum NotBegun {
+    /// The file could not be read to its end.
+    Unread,
+    /// The form does not load, with this number.
+    Refused(u32),
 }
 
-fn unread() -> Begin {
-    Begin {
-        read: false,
-        number: 0,
-        device: Device::BLANK,
+fn loaded(bytes: &[u8]) -> Result<Device, NotBegun> {
+    let loaded = loading::load(bytes);
+    if loaded.number != 0 {
+        return Err(NotBegun::Refused(loaded.number));
     }
+    Ok(loaded.device)
 }
 
-fn sample() -> Begin {
-    let floor = replay::start();
-    let device = floor.device;
-    Begin {
-        read: true,
-        number: 0,
-        device,
-    }
-}
-
-fn of_file(rt: &HostRuntime, path: &str) -> io::Result<Begin> {
+fn of_file(rt: &HostRuntime, path: &str) -> io::Result<Result<Device, NotBegun>> {
     let mut file = File::open(rt, path)?;
     let mut bytes = Vec::new(rt.alloc());
     (&mut file).take(ROOM).read_to_end(&mut bytes)?;
     // a read that fails where these bytes end is told too
     let mut more = [0u8; 1];
     file.read(&mut more)?;
-    let loaded = loading::load(&bytes);
-    let device = loaded.device;
-    Ok(Begin {
-        read: true,
-        number: loaded.number,
-        device,
-    })
+    Ok(loaded(&bytes))
 }
 
-fn by_argument(rt: &HostRuntime, place: usize) -> io::Result<Begin> {
+fn by_argument(rt: &HostRuntime, place: usize) -> io::Result<Result<Device, NotBegun>> {
     match env::args(rt)?.nth(place) {
-        None => Ok(sample()),
+        None => Ok(Ok(replay::sample())),
         Some(path) => of_file(rt, path.as_str()),
     }
 }
 
-// By the argument with that place, where there is one. What cannot be read is told on standard error.
-pub fn begun_by(rt: &HostRuntime, place: usize) -> Begin {
+/// By the argument with that place, where there is one. What cannot be read is told on standard error.
+pub fn begun_by(rt: &HostRuntime, place: usize) -> Result<Device, NotBegun> {
     match by_argument(rt, place) {
         Ok(begun) => begun,
         Err(error) => {
             let _told = eprintln!(rt; "form: {error}").is_ok();
-            unread()
+            Err(NotBegun::Unread)
         }
     }
 }

@@ -1,5 +1,6 @@
--- A set-up of Class 1 goes by the definitions that stood before Class 2 came (02, L14): a line is of its form exactly
--- if it was, and two characters name the input that they named; those that name one of Class 2 alone named none then.
+-- A set-up of Class 1 goes by the definitions that stood before Class 2 came (RULES, Class 2): a line is of its form
+-- exactly if it was, and two characters name the input that they named; those that name one of Class 2 alone named none
+-- then.
 --   InputKept now before     what two characters name is what it was, or such an input
 -- Assumes nothing.
 use Prim.Native.Nat.{ℕ, ◌+◌, ◌-◌}

@@ -1,4 +1,4 @@
--- The examples that 01 gives of its rules, and the same inputs and more of Class 2 (02, L14).
+-- The examples that RULES gives of its rules, and the same inputs and more of Class 2 (RULES, Class 2).
 -- Assumes nothing.
 use mathlib.Core.Path.{◌≡◌, refl}
 use mathlib.Core.Bool.{true, false}

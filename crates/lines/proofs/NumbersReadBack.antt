@@ -1,4 +1,5 @@
--- The character of an input's number, 1 to 9 and A to Z: read, it gives the number back, and is no other's (02, L14).
+-- The character of an input's number, 1 to 9 and A to Z: read, it gives the number back, and is no other's (RULES,
+-- Class 2).
 -- Assumes nothing.
 use Prim.Native.Nat.{ℕ, ◌+◌, ◌-◌, ◌%◌, ◌≤◌, ◌<◌}
 use Prim.Native.Char.{code}

@@ -1,7 +1,7 @@
--- The table of the bodies of both classes, and what 01's rules 1 to 4 ask of each (01, "Commands"; 02, L14). A row
+-- The table of the bodies of both classes, and what rules 1 to 4 ask of each (RULES, Commands and Class 2). A row
 -- stands here and nowhere else: under which class a body is asked for, what it is called, how it is set and when it is
 -- refused all come from it. INPT and INST are a body of each class, under one name.
---   bodies             every body, those of Class 1 in 01's order, then those of Class 2
+--   bodies             every body, those of Class 1 in the order of RULES, then those of Class 2
 --   rowOf b            its class; its letters; what it sets; whether `?` asks it; whether it is defined only where
 --                      there are lamps (rule 1); whether it is available, set or query, only when on (rule 4)
 --   class_of b         the class of the line that asks for it

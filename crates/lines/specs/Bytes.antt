@@ -1,4 +1,4 @@
--- Single bytes of a line (000, 2.1; 01, "Commands").
+-- Single bytes of a line (PJLink 1.04, 2.1; RULES, Commands).
 --   s at i           the byte of s at the place i
 --   isAlnum b        an ASCII letter or digit
 --   upperOf b        the upper case of a letter; any other byte as it is

@@ -1,4 +1,5 @@
--- The commands that our writer can write, and their lines (000, 2.1 and 4.1 to 4.14; 01, "Commands"; 02, L14).
+-- The commands that our writer can write, and their lines (PJLink 1.04, 2.1 and 4.1 to 4.14; RULES, Commands and Class
+-- 2).
 --   bodyText b           the four letters of a body
 --   bodyOf c             the body of a command
 --   commandClass c       the class of its line, and classDigit k the character of a class

@@ -1,5 +1,5 @@
 -- One name that opens this crate's definitions and, by their own name, those of `utf8`, for computing on concrete
--- records only (01, "Lines that settle it").
+-- records only (RULES, Commands).
 -- Assumes nothing.
 use Rattle.utf8.specs.Computing.{computing as utf8}
 use Rattle.lines.specs.Bytes.{noCr}

@@ -1,4 +1,4 @@
--- The forms of lines (000, 2.1, 2.2, 2.5 and 5.1; 01, "Connection", "Commands" and "Controller"; 02, L14).
+-- The forms of lines (PJLink 1.04, 2.1, 2.2, 2.5 and 5.1; RULES, Connection, Commands and Controller; RULES, Class 2).
 --   isHeaded m l             l starts with `%`, a byte for its class, four letters or digits and the mark m
 --   takesClass k b           a set-up of Class k takes a line with the class byte b: `1`, of Class 2 also `2`
 --   isCommandForm k l        a line as received, without its CR, that a set-up of Class k takes: headed by a space,

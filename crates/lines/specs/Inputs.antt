@@ -1,5 +1,5 @@
--- Inputs as two characters, read and written (01, "Set-up"; 000, 4.3; 02, L14). Which type is which stands in Sources,
--- and these definitions are proved to follow it (proofs/SourcesFollowed).
+-- Inputs as two characters, read and written (RULES, The legal record; PJLink 1.04, 4.3; RULES, Class 2). Which type is
+-- which stands in Sources, and these definitions are proved to follow it (proofs/SourcesFollowed).
 --   isInputText k a b    the two characters name an input of Class k: of Class 1 a type 1 to 5 and a number 1 to 9, so
 --                        11 and 59 do, and 10, 20 and 61 do not; of Class 2 also the type 6 and a number A to Z
 --   inputNamed a b       the input that they name

@@ -1,10 +1,10 @@
--- Texts of the set-up and of replies (01, "Set-up" and "Controller"; 000, 4.10 to 4.13 and 5.1).
+-- Texts of the set-up and of replies (RULES, The legal record and Controller; PJLink 1.04, 4.10 to 4.13 and 5.1).
 --   isRefusal s       s is exactly ERR1, ERR2, ERR3 or ERR4
 --   refusalOf s       its digit; 0 for any other bytes
 --   isText n s        0 to n bytes, each 0x20 to 0xFF, and no refusal: a reader couldn't tell it from one
---   isName s          the rule of the name: such a text of at most 64 bytes, in well-formed UTF-8 (02, L2)
---   isInfo s          the rule of maker, model, other information, serial number and version (02, L14)
---   isInputName s     the rule of an input's name (02, L14)
+--   isName s          the rule of the name: such a text of at most 64 bytes, in well-formed UTF-8 (RULES, Texts)
+--   isInfo s          the rule of maker, model, other information, serial number and version (RULES, Class 2)
+--   isInputName s     the rule of an input's name (RULES, Class 2)
 --   isPassword s      0 to 32 ASCII letters and digits
 -- 000 narrows INF1, INF2 and INFO to 0x20 to 0x7E; 01's rule stands for every text.
 -- Assumes nothing.

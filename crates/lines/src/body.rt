@@ -1,4 +1,4 @@
-// The bodies of both classes: a row for each (01, "Commands"; 000, 4.1 to 4.14; 02, L14).
+// The bodies of both classes: a row for each (RULES, Commands; PJLink 1.04, 4.1 to 4.14; RULES, Class 2).
 ghost use Rattle.std.specs.Prelude.{◌≡◌};
 ghost use Rattle.lines.specs.Bodies.{rowOf, hasSet, hasParameters, hasQuery};
 

@@ -1,4 +1,4 @@
-// The commands that our writer can write, and their lines (000, 2.1 and 4.1 to 4.14; 02, L14).
+// The commands that our writer can write, and their lines (PJLink 1.04, 2.1 and 4.1 to 4.14; RULES, Class 2).
 ghost use Rattle.std.specs.Prelude.{◌≡◌, ◌++◌, ◌+◌, ◌≤◌, length};
 ghost use Rattle.std.proofs.lemmas.List.Edits.{sets};
 ghost use Rattle.text.specs.Words.{ascii};

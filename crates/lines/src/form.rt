@@ -1,4 +1,4 @@
-// The forms of lines (000, 2.1 and 2.2; 01, "Connection" and "Controller"; 02, L14).
+// The forms of lines (PJLink 1.04, 2.1 and 2.2; RULES, Connection and Controller and Class 2).
 ghost use Rattle.std.specs.Prelude.{◌≡◌, ◌≤◌, length, eqb};
 ghost use Rattle.lines.specs.Commands.{classDigit};
 ghost use Rattle.lines.specs.Forms.{isHeaded, takesClass, isCommandForm, classNamed, isReplyForm};

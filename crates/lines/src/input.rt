@@ -1,4 +1,4 @@
-// Inputs and their two characters (01, "Set-up"; 000, 4.3; 02, L14).
+// Inputs and their two characters (RULES, The legal record; PJLink 1.04, 4.3; RULES, Class 2).
 ghost use Rattle.std.specs.Prelude.{◌≡◌, true};
 ghost use Rattle.lines.specs.Sources.{isNumberCharacter, numberFor, numberCharacter};
 ghost use Rattle.lines.specs.Inputs.{isInputText, sourceNamed, read_input, input_of, isInput, sourceDigit};

@@ -1,4 +1,4 @@
--- How the line ends that is printed for a line of a log (02, L1).
+-- How the line ends that is printed for a line of a log (RULES, Floor log).
 --   isFormed says       a line has one of the four forms
 --   endMark f n k       what is printed after a reply of k bytes without its CR: nothing; or `-`, the refusal n, or `?`
 --   ending f n k        that, and LF

@@ -1,4 +1,4 @@
--- The last line that is printed for a log (02, L1: "after the last, one line with power and lamp seconds").
+-- The last line that is printed for a log (RULES, Floor log: "after the last, one line with power and lamp seconds").
 --   lampShown x             a space and the seconds x of a lamp; lampsShown, those of each
 --   lampsRoom, lastRoom     so much room these, and the line, never need more than
 --   lastLineOf power lamps  the line

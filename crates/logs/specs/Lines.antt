@@ -1,4 +1,4 @@
--- What a line of a log says (02, L1: "one event a line").
+-- What a line of a log says (RULES, Floor log: "one event a line").
 --   lineMost            the most bytes of a line, without its LF
 --   l starts "O"        the line has that letter, a space and perhaps more
 --   randomSaid s        `O`: s is eight lowercase hex digits, the random number

@@ -20,16 +20,13 @@ fn put_lamps(out: &mut [u8], at: usize, lamps: [u32; LAMPS_MOST], count: usize) 
     place
 }
 
-// The last line for a device, from the start of the lent memory; its length.
-pub fn put_last(out: &mut [u8], d: Device) -> usize
+/// The last line for a device, from the start of the lent memory; its length.
+pub fn put_last(out: &mut [u8], d: &Device) -> usize
     requires { lastRoom ≤ length out.old }
-    ensures value { result ≡ length (lastLine d) }
-    ensures out_after { out.new ≡ over (lastLine d) out.old }
+    ensures value { result ≡ length (lastLine d.now) }
+    ensures out_after { out.new ≡ over (lastLine d.now) out.old }
 {
-    let settings = d.settings;
-    let own = d.own;
-    let lamps = own.lamps;
-    put_line(out, own.power, lamps, settings.lamp_count)
+    put_line(out, d.own.power, d.own.lamps, d.settings.lamp_count)
 }
 
 fn put_line(out: &mut [u8], power: u8, lamps: [u32; LAMPS_MOST], count: usize) -> usize

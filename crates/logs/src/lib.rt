@@ -1,4 +1,4 @@
-// What a line of a log says; how the line ends that is printed for it, and the last line of all (02, L1).
+// What a line of a log says; how the line ends that is printed for it, and the last line of all (RULES, Floor log).
 #![tactic(auto)]
 
 pub mod ending;

@@ -1,18 +1,22 @@
--- What a line leaves: the settings, the places but one (02, L5), a legal record; and its seconds.
+-- What a line leaves: the settings, the places but one, a legal record or one that is not; and its seconds.
 -- Assumes nothing.
-use Prim.Native.Nat.{◌≤◌}
-use mathlib.Core.Path.{◌≡◌, refl, subst, ◌∙◌}
+use Prim.Native.Nat.{ℕ, ◌≤◌}
+use mathlib.Core.Path.{◌≡◌, refl, sym, ap, subst, ◌∙◌}
 use mathlib.Core.Bool.{Bool, true, false}
 use native.Mathlib.Omega.{arith}
+use lib.ListN.{set}
 use Rattle.text.proofs.Choices.{if-all}
 use Rattle.record.specs.Legal.{isLegal}
+use Rattle.record.specs.HostCalls.{markSet}
+use Rattle.record.specs.Places.{connectionAt}
 use Rattle.record.specs.declared.types.Device.{Device}
 use Rattle.record.specs.declared.types.Line.{Line}
 use Rattle.record.specs.declared.types.Changed.{Changed}
-use Rattle.record.proofs.Calls.{mark-set-by}
+use Rattle.record.proofs.Calls.{mark-set-by, mark-not-legal}
 use Rattle.record.proofs.HostKept.{mark-legal}
 use Rattle.clock.specs.Passing.{secondsMost}
 use Rattle.stream.specs.Collecting.{lineText}
+use Rattle.events.specs.Doing.{logPlace}
 use Rattle.events.specs.Told.{Drives, secondsOf}
 use Rattle.events.proofs.Driven.{none_pass, itself-kept, did-drives}
 use Rattle.events.proofs.EventsLeave.{did-settings, did-legality}
@@ -30,21 +34,32 @@ module _ (d : Device) where
   done-settings (marked lamp mark) =
       mark-set-by d (λ (r : Changed). r.device.settings ≡ d.settings) lamp mark (λ n z. refl) (λ h i l p. refl)
 
-  pub done-legal : isLegal d ≡ true → (e : FloorEvent) → isLegal (doneBy d e) ≡ true
+  pub done-legality : (e : FloorEvent) → isLegal (doneBy d e) ≡ isLegal d
   unfolding doneBy
-  done-legal legal (logged e) = did-legality d e ∙ legal
-  done-legal legal (marked lamp mark) = mark-legal d legal lamp mark
+  done-legality (logged e) = did-legality d e
+  done-legality (marked lamp mark) = by (isLegal d) refl
+    where
+      by : (legal : Bool) → isLegal d ≡ legal → isLegal (markSet d lamp mark).device ≡ isLegal d
+      by true e = mark-legal d e lamp mark ∙ sym e
+      by false e = ap (λ (r : Changed). isLegal r.device) (mark-not-legal d lamp mark e)
 
-  pub done-drives : isLegal d ≡ true → (e : FloorEvent) → Drives true (secondsBy e) d (doneBy d e)
+  pub done-legal : isLegal d ≡ true → (e : FloorEvent) → isLegal (doneBy d e) ≡ true
+  done-legal legal e = done-legality e ∙ legal
+
+  pub done-drives : (e : FloorEvent) → Drives (secondsBy e) d (doneBy d e)
   unfolding doneBy
-  done-drives legal (logged e) =
-      subst (λ (t : Bool). Drives t (secondsOf e) d (doneBy d (logged e))) legal (did-drives d e)
-  done-drives legal (marked lamp mark) =
-      none_pass d true (doneBy d (marked lamp mark))
+  done-drives (logged e) = did-drives d e
+  done-drives (marked lamp mark) =
+      none_pass d (doneBy d (marked lamp mark))
       (mark-set-by d (λ (r : Changed). Stays r.device) lamp mark (λ n z. itself-kept d) (λ h i l p. itself-kept d))
     where
       Stays : Device → Type 0
-      Stays after = Drives false 0 d after
+      Stays after = set d.connections logPlace (connectionAt after logPlace) ≡ after.connections
+
+  -- along an equation for what is left
+  pub driven : (e : FloorEvent) {n : ℕ} {after : Device} → n ≡ secondsBy e → after ≡ doneBy d e → Drives n d after
+  driven e {n} {after} passed left =
+      subst (λ (k : ℕ). Drives k d after) (sym passed) (subst (Drives (secondsBy e) d) (sym left) (done-drives e))
 
 -- ---- the seconds of a line
 

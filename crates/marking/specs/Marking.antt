@@ -1,6 +1,6 @@
--- A log that is watched for its lamps has one form of line more than 02's L1 has, and every other line is what L1 says:
--- `M`, a space, a lamp's number from 1, a space, 0 or 1 is the mark call of L8. No projector has more than eight lamps,
--- so a number is one digit.
+-- A log that is watched for its lamps has one form of line more than a log that is played back, and every other line is
+-- what it is there: `M`, a space, a lamp's number from 1, a space, 0 or 1 is the mark call. No projector has more than
+-- eight lamps, so a number is one digit.
 --   isMarkLine l      l has that form
 --   markSaid l        the place of the lamp that it names, from 0, and the mark
 --   FloorEvent        an event of such a log

@@ -1,28 +1,19 @@
-// One line of a log that is watched for its lamps: what it does to the device.
+// One line of a log that is watched for its lamps: what it does to the device, where it lies.
 #![tactic(auto)]
 
-ghost use Rattle.std.specs.Prelude.{◌≡◌, true, ◌+◌, ◌-◌, ◌≤◌, ◌<◌, min, length, take, drop};
-ghost use Rattle.record.specs.Legal.{isLegal};
+ghost use Rattle.std.specs.Prelude.{◌≡◌, ◌+◌, ◌-◌, ◌≤◌, ◌<◌, min, length, take, drop};
 ghost use Rattle.device.specs.Calls.{replyRoom};
 ghost use Rattle.events.specs.Events.{eventOf};
+ghost use Rattle.events.specs.Told.{Drives};
 ghost use Rattle.floor.specs.Reading.{keptOf, lineAfter};
-ghost use Rattle.marking.specs.Marking.{logged, markSaid, keptMark, keptFloorEvent};
-ghost use Rattle.marking.specs.Done.{lineDid};
+ghost use Rattle.marking.specs.Marking.{logged, marked, markSaid, keptMark, keptFloorEvent, doneBy, secondsBy};
 
 use floor::gather::Begun;
 use floor::playing;
 use logs::Says;
-use record::host;
-use record::types::Device;
+use record::legality::Tested;
 
-// What a line did: the seconds that it let pass, and the record that it leaves.
-#[derive(Clone, Copy)]
-pub struct Done {
-    pub seconds: u32,
-    pub device: Device,
-}
-
-// The mark that a line asks for: of the lamp at a place from 0.
+/// The mark that a line asks for: of the lamp at a place from 0.
 #[derive(Clone, Copy)]
 pub enum MarkSaid {
     Sets(u8, bool),
@@ -71,40 +62,44 @@ fn kept_mark(k: Begun, line: &[u8]) -> MarkSaid
     mark_says(&line[0..held])
 }
 
-// The event of a kept line, which CR follows in the memory.
-fn log_event(d: Device, says: Says, held: usize, line: &[u8], reply: &mut [u8]) -> Done
-    requires d_value { isLegal d ≡ true }
-    requires held_in_bounds { held < length line.now }
-    requires reply_room_in_bounds { replyRoom ≤ length reply.old }
-    ensures { result ≡ lineDid d (logged (eventOf says (take (held + 1 - min 2 held)
+// The event of a kept line, which CR follows in the memory; the seconds that it lets pass.
+fn log_event(t: &mut Tested, says: Says, held: usize, line: &[u8], reply: &mut [u8]) -> u32
+    requires held { held < length line.now }
+    requires room { replyRoom ≤ length reply.old }
+    ensures seconds { result ≡ secondsBy (logged (eventOf says (take (held + 1 - min 2 held)
+        (drop (min 2 held) line.now)))) }
+    ensures device { t.new.device ≡ doneBy t.old.device (logged (eventOf says (take (held + 1 - min 2 held)
         (drop (min 2 held) line.now)))) }
 {
     let from = playing::least(2, held);
     let end = held + 1;
-    let called = events::call(true, d, says, &line[from..end], reply);
-    let device = called.device;
-    Done {
-        seconds: events::seconds_of(says),
-        device,
-    }
+    events::call(t, says, &line[from..end], reply);
+    events::seconds_of(says)
 }
 
-// The line that is kept, played on a legal record; CR stands after it in the memory.
-pub fn end_line(d: Device, k: Begun, line: &mut [u8], reply: &mut [u8]) -> Done
-    requires d_value { isLegal d ≡ true }
-    requires held_in_bounds { k.held < length line.old }
-    requires reply_room_in_bounds { replyRoom ≤ length reply.old }
-    ensures value { result ≡ lineDid d (keptFloorEvent (keptOf k line.old)) }
+// A lamp's mark is set, or not: the number is nothing to a log.
+fn set_mark(t: &mut Tested, lamp: u8, mark: bool)
+    ensures { t.new.device ≡ doneBy t.old.device (marked lamp mark) }
+{
+    let _told = t.device.set_mark(place(lamp), mark);
+}
+
+/// The line that is kept, played; CR stands after it in the memory. The seconds that it lets pass.
+pub fn end_line(t: &mut Tested, k: Begun, line: &mut [u8], reply: &mut [u8]) -> u32
+    requires held { k.held < length line.old }
+    requires room { replyRoom ≤ length reply.old }
+    ensures seconds { result ≡ secondsBy (keptFloorEvent (keptOf k line.old)) }
+    ensures device { t.new.device ≡ doneBy t.old.device (keptFloorEvent (keptOf k line.old)) }
     ensures line_after { line.new ≡ lineAfter (keptOf k line.old) }
+    ensures places { Drives result t.old.device t.new.device }
 {
     let mark = kept_mark(k, line);
     let says = playing::kept_says(k, line);
     match mark {
         MarkSaid::Sets(lamp, to) => {
-            let changed = host::set_mark(d, place(lamp), to);
-            let device = changed.device;
-            Done { seconds: 0, device }
+            set_mark(t, lamp, to);
+            0
         }
-        MarkSaid::NoMark => log_event(d, says, k.held, line, reply),
+        MarkSaid::NoMark => log_event(t, says, k.held, line, reply),
     }
 }

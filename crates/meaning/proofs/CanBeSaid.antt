@@ -37,7 +37,8 @@ use Rattle.record.proofs.Kept.{kept-length}
 use Rattle.record.proofs.Rules.{errors-long, errors-within, lamps-within}
 use Rattle.record.proofs.SettingsTold.{SettingsTold, settings-told, input-count-low, input-count-high, input-at}
 use Rattle.record.proofs.SettingsTold.{serial-told, version-told, name-at}
-use Rattle.record.proofs.OwnTold.{OwnTold, own-told}
+use Rattle.record.specs.Facts.{IsOwn}
+use Rattle.record.proofs.FactsTold.{own_is}
 use Rattle.meaning.specs.SetUpInputs.{noInput, inputOrNone, pairsOf, inputsOf, place_of}
 use Rattle.meaning.specs.Rules.{isUndefined, isUnlisted}
 use Rattle.meaning.proofs.LampsSaid.{said-length, each-said}
@@ -88,8 +89,8 @@ module _ (s : Settings) (o : Own) (settings : isSettings s ≡ true) (own : isOw
   abbrev set-up : SettingsTold s
   set-up = settings-told s settings
 
-  abbrev kept : OwnTold s o
-  kept = own-told s o own
+  abbrev kept : IsOwn s o
+  kept = (own_is s o).0 own
 
   lamps-many : length (lampsOf s o) ≡ s.lamp_count
   lamps-many =

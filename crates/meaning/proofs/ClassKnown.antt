@@ -1,4 +1,4 @@
--- The class of a legal set-up is 1 or 2 (02, L14), as bounds.
+-- The class of a legal set-up is 1 or 2 (RULES, Class 2), as bounds.
 -- Assumes nothing.
 use Prim.Native.Nat.{ℕ, ◌≤◌}
 use native.Mathlib.Omega.{arith}

@@ -18,14 +18,18 @@ use Rattle.lines.specs.declared.command.Command.TheVariants.{InputSet2, FreezeSe
 use Rattle.requests.specs.declared.Request.{Request}
 use Rattle.requests.specs.declared.Request.TheVariants.{Asks, Unlisted, UnknownBody}
 use Rattle.answers.specs.Said.{okay}
-use Rattle.record.specs.Limits.{off, on, cooling, warming, volumeMost}
-use Rattle.record.specs.Updates.{withPower, withChosen, withMutes, withFreeze}
-use Rattle.record.specs.Legal.{isLeft, isSettings, isOwn}
+use Rattle.record.specs.Limits.{off, on, volumeMost}
+use Rattle.record.specs.Updates.{withChosen, withMutes}
+use Rattle.record.specs.Legal.{isSettings, isOwn}
 use Rattle.record.specs.declared.types.Settings.{Settings}
 use Rattle.record.specs.declared.types.Own.{Own}
 use Rattle.record.proofs.SettingsTold.{SettingsTold, settings-told}
-use Rattle.record.proofs.OwnTold.{OwnTold, own-told, own-shown, frozen-told, volumes-told}
-use Rattle.record.proofs.OwnTold.{warming-left, cooling-left}
+use Rattle.record.specs.Facts.{IsOwn}
+use Rattle.record.specs.Views.{IsPower, with_power}
+use Rattle.record.specs.declared.views.Power.{Power}
+use Rattle.record.specs.declared.views.Power.TheVariants.{WarmUp, Cooling}
+use Rattle.record.proofs.PowerSeen.{written}
+use Rattle.record.proofs.FactsTold.{own_is}
 use Rattle.meaning.specs.SetUpInputs.{place_of, isListed}
 use Rattle.meaning.specs.Rules.{isOutOfParameter}
 use Rattle.meaning.specs.Meaning.{levelAfter, afterPower, afterMute, afterStep, requestAnswer, carriedOut, meant}
@@ -97,54 +101,26 @@ module _ (s : Settings) (o : Own) where
     abbrev set-up : SettingsTold s
     set-up = settings-told s settings
 
-    abbrev kept : OwnTold s o
-    kept = own-told s o own
+    abbrev kept : IsOwn s o
+    kept = (own_is s o).0 own
 
-    with-power-legal : (power left : ℕ) → isLeft power left s.warm s.cool ≡ true
-        → isOwn s (withPower o power left) ≡ true
-    with-power-legal power left h =
-        own-shown s (withPower o power left)
-        (record {
-          errors = kept.errors;
-          lamps = kept.lamps;
-          marks = kept.marks;
-          left = h;
-          chosen = kept.chosen;
-          volumes = kept.volumes;
-        })
+    with-power-legal : (p : Power) → IsPower s.warm s.cool p → isOwn s (with_power o p) ≡ true
+    with-power-legal p h = (own_is s _).1 (assumption (kept, written _ _ p h))
 
     power-legal : (wanted : Bool) → isOwn s (afterPower s o wanted) ≡ true
     unfolding afterPower
     power-legal wanted =
         let Legal : Own → Type 0 = λ k. isOwn s k ≡ true in
-        let warm = warming-left s.warm s.warm s.cool set-up.warm.low (omega arith) in
-        let cool = cooling-left s.cool s.warm s.cool set-up.cool.low (omega arith) in
-        if-all Legal (wanted && eqb o.power off) (with-power-legal warming s.warm warm)
-        (if-all Legal (not wanted && eqb o.power on) (with-power-legal cooling s.cool cool) own)
+        if-all Legal (wanted && eqb o.power off) (with-power-legal (WarmUp s.warm) (set-up.warm.low, omega arith))
+        (if-all Legal (not wanted && eqb o.power on)
+        (with-power-legal (Cooling s.cool) (set-up.cool.low, omega arith))
+        own)
 
     chosen-legal : (place : ℕ) → place < s.input_count → isOwn s (withChosen o place) ≡ true
-    chosen-legal place h =
-        own-shown s (withChosen o place)
-        (record {
-          errors = kept.errors;
-          lamps = kept.lamps;
-          marks = kept.marks;
-          left = kept.left;
-          chosen = h;
-          volumes = kept.volumes;
-        })
+    chosen-legal place h = (own_is s _).1 (assumption (kept, h))
 
     mutes-legal : (video audio : Bool) → isOwn s (withMutes o video audio) ≡ true
-    mutes-legal video audio =
-        own-shown s (withMutes o video audio)
-        (record {
-          errors = kept.errors;
-          lamps = kept.lamps;
-          marks = kept.marks;
-          left = kept.left;
-          chosen = kept.chosen;
-          volumes = kept.volumes;
-        })
+    mutes-legal video audio = (own_is s _).1 (assumption kept)
 
     mute-legal : (half : Half) (wanted : Bool) → isOwn s (afterMute o half wanted) ≡ true
     mute-legal VideoHalf wanted = mutes-legal wanted o.audio_muted
@@ -160,20 +136,8 @@ module _ (s : Settings) (o : Own) where
     step-within false level h = omega arith
 
     step-legal : (v : Volume) (up : Bool) → isOwn s (afterStep o v up) ≡ true
-    step-legal Speaker up =
-        own-shown s (afterStep o Speaker up)
-        (volumes-told s o kept (levelAfter up o.speaker) o.microphone
-        (record {
-          speaker = step-within up o.speaker kept.volumes.speaker;
-          microphone = kept.volumes.microphone;
-        }))
-    step-legal Microphone up =
-        own-shown s (afterStep o Microphone up)
-        (volumes-told s o kept o.speaker (levelAfter up o.microphone)
-        (record {
-          speaker = kept.volumes.speaker;
-          microphone = step-within up o.microphone kept.volumes.microphone;
-        }))
+    step-legal Speaker up = (own_is s _).1 (assumption (kept, step-within up o.speaker kept.speaker))
+    step-legal Microphone up = (own_is s _).1 (assumption (kept, step-within up o.microphone kept.microphone))
 
     after-legal : (r : Request) → isOutOfParameter s r ≡ false → isOwn s (carriedOut s o r) ≡ true
     after-legal (Asks (PowerSet wanted)) e = power-legal wanted
@@ -183,7 +147,7 @@ module _ (s : Settings) (o : Own) where
     after-legal (Asks (Query b)) e = own
     after-legal (Asks (InputSet2 i)) e =
         chosen-legal (place_of s i) (ltb-true (place_of s i) s.input_count (not-false (isListed s i) e))
-    after-legal (Asks (FreezeSet wanted)) e = own-shown s (withFreeze o wanted) (frozen-told s o kept wanted)
+    after-legal (Asks (FreezeSet wanted)) e = (own_is s _).1 (assumption kept)
     after-legal (Asks (VolumeStep v up)) e = step-legal v up
     after-legal (Asks (NameQuery i)) e = own
     after-legal (Unlisted b) e = own

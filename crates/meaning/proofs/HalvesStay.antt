@@ -1,4 +1,4 @@
--- 01, "Commands": of AVMT's two halves "the unnamed half stays", whatever becomes of the set.
+-- RULES, Commands: of AVMT's two halves "the unnamed half stays", whatever becomes of the set.
 -- Assumes nothing.
 use mathlib.Core.Path.{◌≡◌, refl}
 use mathlib.Core.Bool.{Bool}

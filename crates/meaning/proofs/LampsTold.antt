@@ -1,5 +1,5 @@
 -- LAMP: at each lamp's place, its seconds divided by 3,600, rounded down, and whether it is lit: enabled, in warm-up
--- or power-on (02, L8).
+-- or power-on (RULES, Lamps).
 -- Assumes nothing.
 use Prim.Native.Nat.{ℕ, ◌<◌, ◌≤◌}
 use mathlib.Core.Path.{◌≡◌, refl, ap, ◌∙◌}

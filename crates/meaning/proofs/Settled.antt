@@ -1,4 +1,4 @@
--- 01's "Lines that settle it", as far as they speak of one request to a device just set up; and the lamps' hours.
+-- The lines that settle it, as far as they speak of one request to a device just set up; and the lamps' hours.
 -- Assumes nothing.
 use Prim.Native.Nat.{ℕ}
 use mathlib.Core.Path.{◌≡◌, refl}

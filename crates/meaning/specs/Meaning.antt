@@ -1,8 +1,8 @@
--- What the projector answers to a request, and what the request does to it (01, "Commands").
---   tableAnswer s o c     01's table: what a command that no rule refuses is answered
+-- What the projector answers to a request, and what the request does to it (RULES, Commands).
+--   tableAnswer s o c     the table of RULES, Commands: what a command that no rule refuses is answered
 --   afterCommand s o c    the own part after it
---   inputNameOf s i            the name of the input i (02, L14)
---   levelAfter up level      a volume one step up or down, which stops at the ends (02, L14)
+--   inputNameOf s i            the name of the input i (RULES, Class 2)
+--   levelAfter up level      a volume one step up or down, which stops at the ends (RULES, Class 2)
 --   requestAnswer s o r, carriedOut s o r
 --                         the same of a request; one that is no command is always refused, so `nothing` is never said
 --   meant s o r           the answer to the request r
@@ -56,7 +56,7 @@ chosen_of s o = get_or (inputsOf s) o.chosen noInput
 abbrev pub lampSaid : Bool → ℕ → LampHours
 lampSaid lit seconds = record { hours = seconds / 3600; lit = lit }
 
--- only an enabled lamp shows as lit (02, L8)
+-- only an enabled lamp shows as lit (RULES, Lamps)
 unfoldable pub lampsSaid : Bool → List Bool → List ℕ → List LampHours
 lampsSaid lit marks [] = []
 lampsSaid lit [] (x ∷ xs) = lampSaid false x ∷ lampsSaid lit [] xs

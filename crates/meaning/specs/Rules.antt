@@ -1,11 +1,11 @@
--- When a request is refused: the four rules of 01, "Commands", in its order. 000, 2.5 names the four refusals. Which
--- body is query-only, which asks for lamps and which has to be on stands in its row (`rowOf` of `lines`).
+-- When a request is refused: the four rules of RULES, Commands, in its order. PJLink 1.04, 2.5 names the four refusals.
+-- Which body is query-only, which asks for lamps and which has to be on stands in its row (`rowOf` of `lines`).
 --   isUndefined s r          rule 1, ERR1: undefined command
 --   isOutOfParameter s r     rule 2, ERR2: out of parameter
 --   isFailure o r            rule 3, ERR4: projector failure
 --   isUnavailable o r        rule 4, ERR3: unavailable time
--- A request is what `lines` reads off a line: a command with a parameter that is `?` or one its body knows, a body with
--- any other parameter (Unlisted), or no body of its line's class. Class 2 has the same rules (02, L14).
+-- A request is what `requests` reads off a line: a command with a parameter that is `?` or one its body knows, a body with
+-- any other parameter (Unlisted), or no body of its line's class. Class 2 has the same rules (RULES, Class 2).
 -- Assumes nothing.
 use Rattle.std.specs.Prelude.{ℕ, Bool, true, false, not, ◌&&◌, ◌||◌, eqb}
 use Rattle.lines.specs.Bodies.{rowOf, hasSet, hasParameters, hasQuery}
@@ -48,13 +48,14 @@ isUnlisted s (FreezeSet wanted) = false
 isUnlisted s (VolumeStep v up) = false
 isUnlisted s (NameQuery i) = not (isListed s i)
 
--- 2. POWR, INPT or AVMT with a parameter neither `?` nor listed: ERR2. So for FREZ, SVOL, MVOL and INNM (02, L14).
+-- 2. POWR, INPT or AVMT with a parameter neither `?` nor listed: ERR2. So for FREZ, SVOL, MVOL and INNM (RULES, Class
+-- 2).
 abbrev pub isOutOfParameter : Settings → Request → Bool
 isOutOfParameter s UnknownBody = false
 isOutOfParameter s (Unlisted b) = hasParameters b
 isOutOfParameter s (Asks c) = isUnlisted s c
 
--- 3. POWR, INPT, AVMT, set or query, with the fault mark: ERR4. So for FREZ, SVOL and MVOL (02, L14).
+-- 3. POWR, INPT, AVMT, set or query, with the fault mark: ERR4. So for FREZ, SVOL and MVOL (RULES, Class 2).
 abbrev pub isFailure : Own → Request → Bool
 isFailure o UnknownBody = false
 isFailure o (Unlisted b) = hasSet b && o.fault
@@ -70,8 +71,8 @@ isUntimely power (FreezeSet wanted) = not (eqb power on)
 isUntimely power (VolumeStep v up) = not (eqb power on)
 isUntimely power (NameQuery i) = false
 
--- 4. POWR set in warm-up or cooling; INPT and AVMT, set or query, unless on: ERR3. So for FREZ, SVOL and MVOL (02,
--- L14).
+-- 4. POWR set in warm-up or cooling; INPT and AVMT, set or query, unless on: ERR3. So for FREZ, SVOL and MVOL (RULES,
+-- Class 2).
 abbrev pub isUnavailable : Own → Request → Bool
 isUnavailable o UnknownBody = false
 isUnavailable o (Unlisted b) = false

@@ -1,5 +1,5 @@
--- The inputs of a set-up, which keeps them as pairs of characters (01, "Set-up" and "Commands"). What a pair stands for
--- is 01's table (`inputFor`); past this file the meaning knows inputs only.
+-- The inputs of a set-up, which keeps them as pairs of characters (RULES, The legal record and Commands). What a pair
+-- stands for is the table of RULES, Inputs (`inputFor`); past this file the meaning knows inputs only.
 --   pairsOf s            the characters in use: the first 2 × input_count, and no more than the array has
 --   inputOfPair a b      the input for which a pair stands; one that stands for none is in no legal set-up
 --   inputsOfPairs cs     the inputs of pairs, in their order

@@ -1,4 +1,4 @@
-// The inputs of a set-up, which keeps them as pairs of characters (01, "Set-up").
+// The inputs of a set-up, which keeps them as pairs of characters (RULES, The legal record).
 ghost use Rattle.std.specs.Prelude.{◌≡◌, ◌*◌, take, get_or};
 ghost use Rattle.answers.specs.Said.{inputsAre};
 ghost use Rattle.answers.specs.Carried.{answer_of};
@@ -31,8 +31,8 @@ fn same_input(i: Input, j: Input) -> bool
 }
 
 // The first place of the input among the first pairs.
-fn place_in(i: Input, pairs: [u8; INPUT_ROOM], count: usize) -> usize
-    ensures { result ≡ place_in i (inputsOfPairs (take (2 * count) pairs)) }
+fn place_in(i: Input, pairs: &[u8; INPUT_ROOM], count: usize) -> usize
+    ensures { result ≡ place_in i (inputsOfPairs (take (2 * count) pairs.now)) }
 {
     let most = count.min(INPUTS_MOST);
     for k in 0..most {
@@ -43,21 +43,20 @@ fn place_in(i: Input, pairs: [u8; INPUT_ROOM], count: usize) -> usize
     most
 }
 
-pub fn place_of(s: Settings, i: Input) -> usize
-    ensures { result ≡ place_of s i }
+pub fn place_of(s: &Settings, i: Input) -> usize
+    ensures { result ≡ place_of s.now i }
 {
-    let pairs = s.inputs;
-    place_in(i, pairs, s.input_count)
+    place_in(i, &s.inputs, s.input_count)
 }
 
-pub fn is_listed(s: Settings, i: Input) -> bool
-    ensures { result ≡ isListed s i }
+pub fn is_listed(s: &Settings, i: Input) -> bool
+    ensures { result ≡ isListed s.now i }
 {
     place_of(s, i) < s.input_count
 }
 
-pub fn input_at(pairs: [u8; INPUT_ROOM], count: usize, place: usize) -> Input
-    ensures { result ≡ get_or (inputsOfPairs (take (2 * count) pairs)) place noInput }
+pub fn input_at(pairs: &[u8; INPUT_ROOM], count: usize, place: usize) -> Input
+    ensures { result ≡ get_or (inputsOfPairs (take (2 * count) pairs.now)) place noInput }
 {
     if INPUTS_MOST <= place {
         return NO_INPUT;
@@ -69,8 +68,8 @@ pub fn input_at(pairs: [u8; INPUT_ROOM], count: usize, place: usize) -> Input
 }
 
 // In set-up order.
-pub fn told_inputs(pairs: [u8; INPUT_ROOM], count: usize) -> Answer
-    ensures { result ≡ answer_of (inputsAre (inputsOfPairs (take (2 * count) pairs))) }
+pub fn told_inputs(pairs: &[u8; INPUT_ROOM], count: usize) -> Answer
+    ensures { result ≡ answer_of (inputsAre (inputsOfPairs (take (2 * count) pairs.now))) }
 {
     let mut inputs = [NO_INPUT; answer::INPUTS_MOST];
     let most = count.min(INPUTS_MOST);

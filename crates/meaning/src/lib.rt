@@ -1,13 +1,14 @@
-// What the projector answers to a request and what the request does to it (01, "Commands"), apart from any line.
+// What the projector answers to a request and what the request does to it (RULES, Commands), apart from any line.
 #![tactic(auto)]
 
 mod change;
 mod inputs;
 mod rules;
 mod table;
+pub mod theorems;
 
 ghost use Rattle.std.specs.Prelude.{◌≡◌};
-ghost use Rattle.answers.specs.Carried.{plain_of, answer_of};
+ghost use Rattle.answers.specs.Carried.{answer_of};
 ghost use Rattle.meaning.specs.Meaning.{tableAnswer, requestAnswer, afterCommand, carriedOut, decided};
 
 use answers::answer;
@@ -16,58 +17,51 @@ use lines::command::Command;
 use record::types::{Own, Settings};
 use requests::Request;
 
+// What a spec calls the answer and the own part that a request leaves; the code gives the one and changes the other.
 #[derive(Clone, Copy)]
 pub struct Decided {
     pub answer: Answer,
     pub own: Own,
 }
 
-fn unchanged(o: Own, k: Kind) -> Decided
-    ensures { result ≡ record { answer = plain_of k; own = o } }
-{
-    let answer = answer::plain(k);
-    Decided { answer, own: o }
-}
-
-fn carry_out(s: Settings, o: Own, c: Command) -> Decided
-    ensures { result ≡ record { answer = answer_of (tableAnswer s o c); own = afterCommand s o c } }
+fn carry_out(s: &Settings, o: &mut Own, c: Command) -> Answer
+    ensures value { result ≡ answer_of (tableAnswer s.now o.old c) }
+    ensures own { o.new ≡ afterCommand s.now o.old c }
 {
     let answer = table::table_answer(s, o, c);
-    let own = change::after_command(s, o, c);
-    Decided { answer, own }
+    change::carry_out(s, o, c);
+    answer
 }
 
 // Of a request that no rule refuses, and so of a command.
-fn accept(s: Settings, o: Own, r: Request) -> Decided
-    ensures { result ≡ record { answer = answer_of (requestAnswer s o r); own = carriedOut s o r } }
+fn accept(s: &Settings, o: &mut Own, r: Request) -> Answer
+    ensures value { result ≡ answer_of (requestAnswer s.now o.old r) }
+    ensures own { o.new ≡ carriedOut s.now o.old r }
 {
     match r {
         Request::Asks(c) => carry_out(s, o, c),
-        Request::Unlisted(_) => unchanged(o, Kind::Nothing),
-        Request::UnknownBody => unchanged(o, Kind::Nothing),
+        Request::Unlisted(_) => answer::plain(Kind::Nothing),
+        Request::UnknownBody => answer::plain(Kind::Nothing),
     }
 }
 
 // The first rule that applies decides.
 #[tactic(auto, unfolding(crate::specs::Meaning::meant, crate::specs::Meaning::done))]
-pub fn decide(s: Settings, o: Own, r: Request) -> Decided
-    ensures { result ≡ decided s o r }
+pub fn decide(s: &Settings, o: &mut Own, r: Request) -> Answer
+    ensures value { result ≡ (decided s.now o.old r).answer }
+    ensures own { o.new ≡ (decided s.now o.old r).own }
 {
-    let undefined = rules::is_undefined(s, r);
-    let out_of_parameter = rules::is_out_of_parameter(s, r);
-    let failure = rules::is_failure(o, r);
-    let unavailable = rules::is_unavailable(o, r);
-    if undefined {
-        return unchanged(o, Kind::Refused(1));
+    if rules::is_undefined(s, r) {
+        return answer::plain(Kind::Refused(1));
     }
-    if out_of_parameter {
-        return unchanged(o, Kind::Refused(2));
+    if rules::is_out_of_parameter(s, r) {
+        return answer::plain(Kind::Refused(2));
     }
-    if failure {
-        return unchanged(o, Kind::Refused(4));
+    if rules::is_failure(o, r) {
+        return answer::plain(Kind::Refused(4));
     }
-    if unavailable {
-        return unchanged(o, Kind::Refused(3));
+    if rules::is_unavailable(o, r) {
+        return answer::plain(Kind::Refused(3));
     }
     accept(s, o, r)
 }

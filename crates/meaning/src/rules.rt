@@ -1,4 +1,4 @@
-// When a request is refused: the four rules of 01, "Commands".
+// When a request is refused: the four rules of RULES, Commands.
 ghost use Rattle.std.specs.Prelude.{◌≡◌};
 ghost use Rattle.meaning.specs.Rules.{isNoQuery, isUndefined, isUnlisted, isOutOfParameter, isFailure};
 ghost use Rattle.meaning.specs.Rules.{isUntimely};
@@ -28,8 +28,8 @@ fn is_no_query(c: Command) -> bool
 }
 
 // Rule 1.
-pub fn is_undefined(s: Settings, r: Request) -> bool
-    ensures { result ≡ isUndefined s r }
+pub fn is_undefined(s: &Settings, r: Request) -> bool
+    ensures { result ≡ isUndefined s.now r }
 {
     match r {
         Request::UnknownBody => true,
@@ -40,8 +40,8 @@ pub fn is_undefined(s: Settings, r: Request) -> bool
     }
 }
 
-fn is_unlisted(s: Settings, c: Command) -> bool
-    ensures { result ≡ isUnlisted s c }
+fn is_unlisted(s: &Settings, c: Command) -> bool
+    ensures { result ≡ isUnlisted s.now c }
 {
     match c {
         Command::PowerSet(_) => false,
@@ -56,8 +56,8 @@ fn is_unlisted(s: Settings, c: Command) -> bool
 }
 
 // Rule 2.
-pub fn is_out_of_parameter(s: Settings, r: Request) -> bool
-    ensures { result ≡ isOutOfParameter s r }
+pub fn is_out_of_parameter(s: &Settings, r: Request) -> bool
+    ensures { result ≡ isOutOfParameter s.now r }
 {
     match r {
         Request::UnknownBody => false,
@@ -67,8 +67,8 @@ pub fn is_out_of_parameter(s: Settings, r: Request) -> bool
 }
 
 // Rule 3.
-pub fn is_failure(o: Own, r: Request) -> bool
-    ensures { result ≡ isFailure o r }
+pub fn is_failure(o: &Own, r: Request) -> bool
+    ensures { result ≡ isFailure o.now r }
 {
     match r {
         Request::UnknownBody => false,
@@ -93,8 +93,8 @@ fn is_untimely(power: u8, c: Command) -> bool
 }
 
 // Rule 4.
-pub fn is_unavailable(o: Own, r: Request) -> bool
-    ensures { result ≡ isUnavailable o r }
+pub fn is_unavailable(o: &Own, r: Request) -> bool
+    ensures { result ≡ isUnavailable o.now r }
 {
     match r {
         Request::UnknownBody => false,

@@ -1,4 +1,4 @@
-// What a command that no rule refuses is answered: the table of 01, "Commands".
+// What a command that no rule refuses is answered: the table of RULES, Commands.
 ghost use Rattle.std.specs.Prelude.{◌≡◌, ◌≤◌, length, take, get_or};
 ghost use Rattle.answers.specs.Said.{powerIs, chosenIs, errorsAre, lampsAre, inputsAre, textIs};
 ghost use Rattle.answers.specs.Carried.{textCarried, answer_of};
@@ -33,37 +33,35 @@ fn power_said(power: u8) -> Power
     }
 }
 
-fn told_power(o: Own) -> Answer
-    ensures { result ≡ answer_of (powerIs (powerSaid o.power)) }
+fn told_power(o: &Own) -> Answer
+    ensures { result ≡ answer_of (powerIs (powerSaid o.now.power)) }
 {
     let said = power_said(o.power);
     answer::plain(Kind::Powered(said))
 }
 
-fn told_chosen(s: Settings, o: Own) -> Answer
-    ensures { result ≡ answer_of (chosenIs (chosen_of s o)) }
+fn told_chosen(s: &Settings, o: &Own) -> Answer
+    ensures { result ≡ answer_of (chosenIs (chosen_of s.now o.now)) }
 {
-    let pairs = s.inputs;
-    let input = inputs::input_at(pairs, s.input_count, o.chosen);
+    let input = inputs::input_at(&s.inputs, s.input_count, o.chosen);
     answer::plain(Kind::Chosen(input))
 }
 
-fn told_errors(o: Own) -> Answer
-    ensures { result ≡ answer_of (errorsAre o.errors) }
+fn told_errors(o: &Own) -> Answer
+    ensures { result ≡ answer_of (errorsAre o.now.errors) }
 {
-    let errors = o.errors;
     let mut digits = [0; TEXT_MOST];
-    text::put(&mut digits, 0, &errors);
+    text::put(&mut digits, 0, &o.errors);
     answer::of_text(Kind::Errors, digits)
 }
 
 fn lamps_said(
-    seconds: [u32; LAMPS_MOST],
-    marks: [bool; LAMPS_MOST],
+    seconds: &[u32; LAMPS_MOST],
+    marks: &[bool; LAMPS_MOST],
     count: usize,
     lit: bool,
 ) -> Answer
-    ensures { result ≡ answer_of (lampsAre (lampsSaid lit marks (take count seconds))) }
+    ensures { result ≡ answer_of (lampsAre (lampsSaid lit marks.now (take count seconds.now))) }
 {
     let mut lamps = [NO_LAMP; LAMPS_MOST];
     let most = count.min(LAMPS_MOST);
@@ -76,19 +74,16 @@ fn lamps_said(
     answer::of_lamps(most, lamps)
 }
 
-fn told_lamps(s: Settings, o: Own) -> Answer
-    ensures { result ≡ answer_of (lampsAre (lampsOf s o)) }
+fn told_lamps(s: &Settings, o: &Own) -> Answer
+    ensures { result ≡ answer_of (lampsAre (lampsOf s.now o.now)) }
 {
-    let seconds = o.lamps;
-    let marks = o.enabled;
-    lamps_said(seconds, marks, s.lamp_count, own::is_lit(o.power))
+    lamps_said(&o.lamps, &o.enabled, s.lamp_count, own::is_lit(o.power))
 }
 
-fn told_inputs(s: Settings) -> Answer
-    ensures { result ≡ answer_of (inputsAre (inputsOf s)) }
+fn told_inputs(s: &Settings) -> Answer
+    ensures { result ≡ answer_of (inputsAre (inputsOf s.now)) }
 {
-    let pairs = s.inputs;
-    inputs::told_inputs(pairs, s.input_count)
+    inputs::told_inputs(&s.inputs, s.input_count)
 }
 
 fn said_text(bytes: &[u8]) -> Answer
@@ -100,48 +95,44 @@ fn said_text(bytes: &[u8]) -> Answer
     answer::of_text(Kind::Text(bytes.len()), kept)
 }
 
-fn told_text(t: Text) -> Answer
-    ensures { result ≡ answer_of (textSaid t) }
+fn told_text(t: &Text) -> Answer
+    ensures { result ≡ answer_of (textSaid t.now) }
 {
-    let bytes = t.bytes;
     let len = t.len;
     if TEXT_ROOM < len {
-        return said_text(&bytes);
+        return said_text(&t.bytes);
     }
-    said_text(&bytes[0..len])
+    said_text(&t.bytes[0..len])
 }
 
-fn name_said(n: InputName) -> Answer
-    ensures { result ≡ answer_of (textIs (nameBytes n)) }
+fn name_said(n: &InputName) -> Answer
+    ensures { result ≡ answer_of (textIs (nameBytes n.now)) }
 {
-    let bytes = n.bytes;
     let len = n.len;
     if INPUT_NAME_MOST < len {
-        return said_text(&bytes);
+        return said_text(&n.bytes);
     }
-    said_text(&bytes[0..len])
+    said_text(&n.bytes[0..len])
 }
 
 // The name at a place; past the list there is none.
-fn name_at(names: [InputName; INPUTS_MOST], place: usize) -> Answer
-    ensures { result ≡ answer_of (textIs (nameBytes (get_or names place blankName))) }
+fn name_at(names: &[InputName; INPUTS_MOST], place: usize) -> Answer
+    ensures { result ≡ answer_of (textIs (nameBytes (get_or names.now place blankName))) }
 {
     if INPUTS_MOST <= place {
         return said_text(b"");
     }
-    let name = names[place];
-    name_said(name)
+    name_said(&names[place])
 }
 
-fn told_name(s: Settings, i: Input) -> Answer
-    ensures { result ≡ answer_of (textIs (inputNameOf s i)) }
+fn told_name(s: &Settings, i: Input) -> Answer
+    ensures { result ≡ answer_of (textIs (inputNameOf s.now i)) }
 {
-    let names = s.names;
-    name_at(names, inputs::place_of(s, i))
+    name_at(&s.names, inputs::place_of(s, i))
 }
 
-fn queried(s: Settings, o: Own, b: Body) -> Answer
-    ensures { result ≡ answer_of (queried s o b) }
+fn queried(s: &Settings, o: &Own, b: Body) -> Answer
+    ensures { result ≡ answer_of (queried s.now o.now b) }
 {
     match b {
         Body::Powr => told_power(o),
@@ -150,24 +141,24 @@ fn queried(s: Settings, o: Own, b: Body) -> Answer
         Body::Erst => told_errors(o),
         Body::Lamp => told_lamps(s, o),
         Body::Inst => told_inputs(s),
-        Body::Name => told_text(s.name),
-        Body::Inf1 => told_text(s.maker),
-        Body::Inf2 => told_text(s.model),
-        Body::Info => told_text(s.other),
+        Body::Name => told_text(&s.name),
+        Body::Inf1 => told_text(&s.maker),
+        Body::Inf2 => told_text(&s.model),
+        Body::Info => told_text(&s.other),
         Body::Clss => answer::plain(Kind::Class(s.class_number)),
         Body::Frez => answer::plain(Kind::Frozen(o.frozen)),
         Body::Svol => answer::plain(Kind::Nothing),
         Body::Mvol => answer::plain(Kind::Nothing),
-        Body::Snum => told_text(s.serial),
-        Body::Sver => told_text(s.version),
+        Body::Snum => told_text(&s.serial),
+        Body::Sver => told_text(&s.version),
         Body::Innm => answer::plain(Kind::Nothing),
         Body::Inpt2 => told_chosen(s, o),
         Body::Inst2 => told_inputs(s),
     }
 }
 
-pub fn table_answer(s: Settings, o: Own, c: Command) -> Answer
-    ensures { result ≡ answer_of (tableAnswer s o c) }
+pub fn table_answer(s: &Settings, o: &Own, c: Command) -> Answer
+    ensures { result ≡ answer_of (tableAnswer s.now o.now c) }
 {
     match c {
         Command::PowerSet(_) => answer::plain(Kind::Ok),

@@ -45,14 +45,6 @@ high-in : (k n : ℕ) → 10 ≤ n → n / 10 < 10 ^ suc k
     → digitsIn (suc k) n ≡ digitsIn (suc k) (n / 10) ++ (lastDigit n ∷ [])
 high-in k n h f = simp (le-ltb n 10 h) (ap (λ (l : List ℕ). l ++ (lastDigit n ∷ [])) (sym (room k (n / 10) f)))
 
-pub digits_low : (n : ℕ) → n < 10 → digits n ≡ lastDigit n ∷ []
-unfolding digits
-digits_low n h = low-in 8 n h
-
-pub digits-high : (n : ℕ) → 10 ≤ n → n < 2 ^ 32 → digits n ≡ digits (n / 10) ++ (lastDigit n ∷ [])
-unfolding digits
-digits-high n h f = high-in 8 n h (omega arith)
-
 pub long-low : (n : ℕ) → n < 10 → longDigits n ≡ lastDigit n ∷ []
 unfolding longDigits
 long-low n h = low-in 18 n h
@@ -117,10 +109,6 @@ digits-at-least-1 n = (lengths-in 9 n).0
 pub digits-at-most-10 : (n : ℕ) → length (digits n) ≤ 10
 unfolding digits
 digits-at-most-10 n = (lengths-in 9 n).1
-
-pub long-at-least-1 : (n : ℕ) → 1 ≤ length (longDigits n)
-unfolding longDigits
-long-at-least-1 n = (lengths-in 19 n).0
 
 pub long-at-most-20 : (n : ℕ) → length (longDigits n) ≤ 20
 unfolding longDigits

@@ -1,4 +1,4 @@
--- No number is written with a leading zero (01, "Commands"), though one is read: only 0 begins with the digit 0.
+-- No number is written with a leading zero (RULES, Commands), though one is read: only 0 begins with the digit 0.
 -- Assumes nothing.
 use Prim.Native.Nat.{ℕ, ◌/◌, ◌^◌, ◌<◌, ◌≤◌}
 use Prim.Native.Char.{code}

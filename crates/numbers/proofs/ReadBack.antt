@@ -1,5 +1,5 @@
 -- What is read was written so, and below 100000; each writing of a number is read as that number, its own digits and
--- those with zeros before them (02, L4).
+-- those with zeros before them (RULES, Controller).
 -- Assumes nothing.
 use Prim.Native.Nat.{ℕ, zero, suc, ◌+◌, ◌<◌, ◌≤◌}
 use Prim.Native.Char.{code}

@@ -1,7 +1,7 @@
 -- Decimal numbers, as lines are written and read.
--- Document 01, "Commands": "the hours are written most significant digit first, no leading zeros".
--- Document 01, "Controller": "hours 0 to 99999 with no leading zero", which 02, L4, amends: "The number reader should
--- take one to five digits, leading zeros included".
+-- Document RULES, Commands: "the hours are written most significant digit first, no leading zeros".
+-- Document RULES, Controller: "hours 0 to 99999 with no leading zero", which RULES, Controller, amends: "The number
+-- reader should take one to five digits, leading zeros included".
 --   lastDigit n         the last digit of n, as a character
 --   decimalWorth b      the number that the digit b stands for
 --   decimalValue s      the number whose digits are s

@@ -1,4 +1,4 @@
--- Numbers in bytes: "W and C as two bytes each; all highest first" (02, L3).
+-- Numbers in bytes: "W and C as two bytes each; all highest first" (RULES, Stored form).
 --   highestFirst n x    the number x in n bytes
 --   number_in s         the number that the bytes s are
 -- Assumes nothing.

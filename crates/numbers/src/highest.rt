@@ -1,4 +1,4 @@
-// Numbers of two and four bytes, the highest first (02, L3).
+// Numbers of two and four bytes, the highest first (RULES, Stored form).
 ghost use Rattle.std.specs.Prelude.{◌≡◌, ◌+◌, ◌%◌, ◌≤◌, ◌<◌, length, take, drop};
 ghost use Rattle.std.proofs.lemmas.List.Edits.{sets};
 ghost use Rattle.numbers.specs.HighestFirst.{highestFirst, number_in};

@@ -2,6 +2,7 @@
 #![tactic(auto)]
 
 pub mod highest;
+pub mod theorems;
 
 ghost use Rattle.std.specs.Prelude.{◌≡◌, ◌+◌, ◌≤◌, length};
 ghost use Rattle.std.proofs.lemmas.List.Edits.{sets};
@@ -63,7 +64,7 @@ pub fn read_digits(s: &[u8]) -> Number
     Number::Value(v)
 }
 
-// The number that all of s spells: 0 to 99999, in one to five digits, leading zeros included (02, L4).
+// The number that all of s spells: 0 to 99999, in one to five digits, leading zeros included (RULES, Controller).
 #[tactic(auto, unfolding(crate::specs::Decimal::readNumber))]
 pub fn read_number(s: &[u8]) -> Number
     ensures { result ≡ readNumber s.now }

@@ -1,5 +1,6 @@
--- A board: anything that answers the calls of 01 and of 02, L3 and L8, with four places for controllers (02, L5), set
--- up for Class 1 or Class 2 (02, L14). The demands are stated over it, so that wrong boards can be tried.
+-- A board: anything that answers the calls of RULES, those of the stored form and of the lamps' marks too, with four
+-- places for controllers (RULES, Places), set up for Class 1 or Class 2 (RULES, Class 2). The demands are stated over
+-- it, so that wrong boards can be tried.
 --   Given R       what a call gives that is lent no memory: its number, and the record
 --   Lent R        what a call gives that is lent reply memory: its number, the bytes taken, the reply's length, the
 --                 memory as the call leaves it, and the record
@@ -104,13 +105,13 @@ ours = record {
   closing = λ d p. closedAs (closedBy d p);
   -- device::calls::receive
   receive = λ d p bs m. lent_by (received d p bs (length m)) m;
-  -- clock::pass::pass, and where the record lies clock::pass::pass_in_place
+  -- clock::pass::pass
   pass = λ d n. givenBy (passed d n);
-  -- record::host::set_fault
+  -- record::types::Device::set_fault (record/src/host.rt)
   set-fault = λ d mark. givenBy (faultSet d mark);
-  -- record::host::set_errors
+  -- record::types::Device::set_errors (record/src/host.rt)
   set-errors = λ d digits. givenBy (errorsSet d digits);
-  -- record::host::set_mark
+  -- record::types::Device::set_mark (record/src/host.rt)
   set-mark = λ d lamp mark. givenBy (markSet d lamp mark);
   -- form::storing::store
   store = λ d m. formBy (storedBy d (length m)) m;

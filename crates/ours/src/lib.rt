@@ -7,5 +7,4 @@ pub mod projector;
 pub mod reader;
 pub mod sums;
 pub mod swap;
-pub mod time;
 pub mod writer;

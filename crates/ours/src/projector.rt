@@ -1,13 +1,16 @@
-// `ours`'s set-up of either class (02, L14), opening with its place, closing, receiving, fault mark, error digits and
-// lamps' marks.
+// `ours`'s set-up of either class, opening with its place, closing, receiving, passing time, fault mark, error digits
+// and lamps' marks. Of a record that is lent: what the call says, what lies there afterwards, and the memory.
 ghost use Rattle.std.specs.Prelude.{◌≡◌};
 ghost use Rattle.record.specs.Wanted.{wantedOf, wantedOf2, namesIn};
+ghost use Rattle.record.specs.Refusals.{outcome_number};
+ghost use Rattle.device.specs.Outcomes.{receiving_told, opening_told, opened_place};
 ghost use Rattle.ours.specs.Board.{ours, givenBy};
-ghost use Rattle.ours.specs.Tied.{lentOpened, lentReceived};
+ghost use Rattle.ours.specs.Tied.{given_as, lent_as};
 
+use clock::pass;
 use device::calls;
 use device::calls::{Opened, Received};
-use record::host;
+use record::refusal::Refusal;
 use record::types::{Changed, Device};
 
 pub fn set_up(
@@ -54,39 +57,52 @@ pub fn set_up_2(
     )
 }
 
-pub fn opening(d: Device, random: u32, out: &mut [u8]) -> Opened
-    ensures out_after { lentOpened result out.new ≡ ours.opening d random out.old }
-    ensures place_value { result.place ≡ ours.place_opened d random out.old }
+pub fn open(device: &mut Device, random: u32, out: &mut [u8]) -> Result<Opened, Refusal>
+    ensures lent { lent_as (opening_told result) device.new out.new
+        ≡ ours.opening device.old random out.old }
+    ensures place { opened_place result ≡ ours.place_opened device.old random out.old }
 {
-    calls::open(d, random, out)
+    calls::open(device, random, out)
 }
 
-pub fn closing(d: Device, place: usize) -> Changed
-    ensures { givenBy result ≡ ours.closing d place }
+pub fn close(device: &mut Device, place: usize) -> Result<(), Refusal>
+    ensures { given_as (outcome_number result) device.new ≡ ours.closing device.old place }
 {
-    calls::close(d, place)
+    calls::close(device, place)
 }
 
-pub fn receive(d: Device, place: usize, bytes: &[u8], out: &mut [u8]) -> Received
-    ensures { lentReceived result out.new ≡ ours.receive d place bytes.now out.old }
+pub fn receive(
+    device: &mut Device,
+    place: usize,
+    bytes: &[u8],
+    out: &mut [u8],
+) -> Result<Received, Refusal>
+    ensures { lent_as (receiving_told result) device.new out.new
+        ≡ ours.receive device.old place bytes.now out.old }
 {
-    calls::receive(d, place, bytes, out)
+    calls::receive(device, place, bytes, out)
 }
 
-pub fn set_fault(d: Device, mark: bool) -> Changed
-    ensures { givenBy result ≡ ours.set-fault d mark }
+pub fn pass(device: &mut Device, seconds: u32) -> Result<(), Refusal>
+    ensures { given_as (outcome_number result) device.new ≡ ours.pass device.old seconds }
 {
-    host::set_fault(d, mark)
+    pass::pass(device, seconds)
 }
 
-pub fn set_errors(d: Device, digits: &[u8]) -> Changed
-    ensures { givenBy result ≡ ours.set-errors d digits.now }
+pub fn set_fault(device: &mut Device, mark: bool) -> Result<(), Refusal>
+    ensures { given_as (outcome_number result) device.new ≡ ours.set-fault device.old mark }
 {
-    host::set_errors(d, digits)
+    device.set_fault(mark)
 }
 
-pub fn set_mark(d: Device, lamp: usize, mark: bool) -> Changed
-    ensures { givenBy result ≡ ours.set-mark d lamp mark }
+pub fn set_errors(device: &mut Device, digits: &[u8]) -> Result<(), Refusal>
+    ensures { given_as (outcome_number result) device.new ≡ ours.set-errors device.old digits.now }
 {
-    host::set_mark(d, lamp, mark)
+    device.set_errors(digits)
+}
+
+pub fn set_mark(device: &mut Device, lamp: usize, mark: bool) -> Result<(), Refusal>
+    ensures { given_as (outcome_number result) device.new ≡ ours.set-mark device.old lamp mark }
+{
+    device.set_mark(lamp, mark)
 }

@@ -8,10 +8,10 @@ use form::storing::FormWritten;
 use record::types::{Changed, Device};
 use stored::loading;
 
-pub fn store(d: Device, out: &mut [u8]) -> FormWritten
-    ensures { wroteForm result out.new ≡ ours.store d out.old }
+pub fn store(device: &Device, out: &mut [u8]) -> FormWritten
+    ensures { wroteForm result out.new ≡ ours.store device.now out.old }
 {
-    storing::store(d, out)
+    storing::store(device, out)
 }
 
 pub fn load(s: &[u8]) -> Changed

@@ -1,4 +1,4 @@
--- Lines that 02's sentences leave to be read (docs/DECISIONS.md), each a stray: the ERRA line before a greeting, the
+-- Lines that the rules leave to be read (docs/DECISIONS.md), each a stray: the ERRA line before a greeting, the
 -- ERRA line and a second greeting with no command under way, and a second greeting with one.
 -- Assumes nothing.
 use Prim.Native.Nat.{ℕ, ◌-◌}

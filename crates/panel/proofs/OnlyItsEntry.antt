@@ -1,6 +1,6 @@
--- "The step touches only the named projector's entry" (02, L13): for any panel, any line and every other place, what
--- stood there stands there, and no projector comes or goes. So too for a command and for a connection that is gone; a
--- projector more leaves the others as they were.
+-- "The step touches only the named projector's entry" (RULES, Panel): for any panel, any line and every other place,
+-- what stood there stands there, and no projector comes or goes. So too for a command and for a connection that is
+-- gone; a projector more leaves the others as they were.
 -- Assumes nothing.
 use Prim.Native.Nat.{ℕ}
 use mathlib.Core.Path.{◌≡◌, refl}

@@ -1,6 +1,6 @@
--- "Otherwise the panel shows the last accepted reading, or unknown at first" (02, L13): what is shown changes by an
--- accepted reply, to what it says, and by ERRA, to unknown; by no other line, and by no other call. An OK or an error
--- changes no reading.
+-- "Otherwise the panel shows the last accepted reading, or unknown at first" (RULES, Panel): what is shown changes by
+-- an accepted reply, to what it says, and by ERRA, to unknown; by no other line, and by no other call. An OK or an
+-- error changes no reading.
 -- Assumes nothing.
 use Prim.Native.Nat.{ℕ}
 use mathlib.Core.Path.{◌≡◌, refl, ap}

@@ -34,10 +34,6 @@ module _ (t : Talk) where
         command = both_right (low && secured-or-none t) (isCommandKept t) h;
       }
 
-  pub talk-legal : TalkTold t → isTalk t ≡ true
-  unfolding isTalk
-  talk-legal k = both (both k.greeting k.secrets) k.command
-
   module _ (legal : isTalk t ≡ true) (waits : t.underWay ≡ true) where
     pub kept-parts : (not (eqb t.greeting ungreeted) && isNamed (commandOf t.command)) ≡ true
     unfolding isCommandKept

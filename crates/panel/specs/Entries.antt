@@ -1,6 +1,6 @@
--- What the panel keeps of a projector (02, L13: "each with its own password, greeting, one command under way, and last
--- known power, input and lamps", and "a per-projector count" of strays), in its parts. What is not known or not under
--- way is zero.
+-- What the panel keeps of a projector (RULES, Panel: "each with its own password, greeting, one command under way, and
+-- last known power, input and lamps", and "a per-projector count" of strays), in its parts. What is not known or not
+-- under way is zero.
 --   Talk                 where the talk with it stands: its greeting, whether the digest was sent, its command
 --   Shown                what is shown of it: power, input and lamps, each known or not
 --   talkOf e, shownOf e, passwordIn e     these parts of the entry e, and its password

@@ -1,4 +1,4 @@
--- The panel's calls (02, L13; the numbers in the order of 01's table, with 9 after them).
+-- The panel's calls (RULES, Panel; the numbers in the order of the table, with 9 after them).
 --   PanelAs                what a call gives: its number, the line to be sent, the panel
 --   panelKept n p          the number n, no line and the panel that was given
 --   noPanel                the panel of no projector

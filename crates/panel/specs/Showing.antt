@@ -1,4 +1,4 @@
--- What an accepted reply shows (02, L13: "an OK or error changes no reading", "the panel shows the last accepted
+-- What an accepted reply shows (RULES, Panel: "an OK or error changes no reading", "the panel shows the last accepted
 -- reading").
 --   withPowerShown, withInputShown, withLampsShown     what is shown, with that known besides
 --   showing s m          what was said is shown: a power, an input or lamps; anything else changes nothing

@@ -1,4 +1,4 @@
--- What each kind of line does, as a table (02, L13), whoever steps: the entry e, at the line l, becomes f. A legal
+-- What each kind of line does, as a table (RULES, Panel), whoever steps: the entry e, at the line l, becomes f. A legal
 -- entry steps by this table (proofs/StepsByTable), and no two rows give different entries.
 --   UnderWay e c       its greeting was accepted, and the command c is under way
 --   Stray e l          the line is late, foreign or malformed: by where the talk stands, or by the reader's number

@@ -1,4 +1,4 @@
--- The step on a lent line (02, L13). Each clause is a sentence there:
+-- The step on a lent line (RULES, Panel). Each clause is a sentence there:
 --   strayed e           "A late, foreign or malformed reply changes nothing but a per-projector count of such lines,
 --                       stopped at 65,535."
 --   greetedAs e g       "Until a greeting is accepted, any other line is malformed": the ERRA line too

@@ -1,5 +1,5 @@
-// The workroom panel (02, L13): up to eight projectors, each with a password, a greeting, one command under way, and
-// what was last read of its power, input and lamps.
+// The workroom panel (RULES, Panel): up to eight projectors, each with a password, a greeting, one command under way,
+// and what was last read of its power, input and lamps.
 #![tactic(auto)]
 
 pub mod calls;
@@ -9,4 +9,5 @@ mod ranges;
 mod sending;
 mod shown;
 mod step;
+pub mod theorems;
 pub mod types;

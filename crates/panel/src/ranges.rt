@@ -60,7 +60,7 @@ fn lamps_ok(e: Entry) -> bool
     let count = e.lamp_count;
     let hours = e.hours;
     let lit = e.lit;
-    lamp_count_ok(e.lamps_known, count) & hours_ok(hours, count) & own::none_marked(lit, count)
+    lamp_count_ok(e.lamps_known, count) & hours_ok(hours, count) & own::none_marked(&lit, count)
 }
 
 #[tactic(auto, unfolding(crate::specs::LegalPanels::isShown))]

@@ -1,4 +1,4 @@
-// A command to a projector, on its entry (02, L13).
+// A command to a projector, on its entry (RULES, Panel).
 ghost use Rattle.std.specs.Prelude.{◌≡◌, ◌≤◌, length};
 ghost use Rattle.text.specs.Words.{over};
 ghost use Rattle.record.specs.Limits.{textRoom};

@@ -1,4 +1,4 @@
-// The step on a lent line, on the entry of the projector that it came from (02, L13).
+// The step on a lent line, on the entry of the projector that it came from (RULES, Panel).
 ghost use Rattle.std.specs.Prelude.{◌≡◌, ◌+◌, min};
 ghost use Rattle.answers.specs.Carried.{saidBy};
 ghost use Rattle.controller.specs.Greetings.{readGreeting};

@@ -1,5 +1,5 @@
-// The panel's record (02, L13): numbers, bools, arrays and structs of these, so that it can cross to C. What is not
-// known, not under way or past a count is zero.
+// The panel's record (RULES, Panel): numbers, bools, arrays and structs of these, so that it can cross to C. What is
+// not known, not under way or past a count is zero.
 use codes::command::Coded;
 use record::types::Text;
 

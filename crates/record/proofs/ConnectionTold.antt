@@ -3,78 +3,33 @@
 --   ConnectionTold c      its line's room, its phase, age, random number and collected bytes
 -- Assumes nothing.
 use Prim.Native.Nat.{ℕ, ◌≤◌, ◌<◌}
-use mathlib.Core.Path.{◌≡◌, refl, sym, ap, ◌∙◌}
-use mathlib.Core.Bool.{Bool, true, false, not, ◌&&◌, ◌||◌, false≢true}
+use mathlib.Core.Path.{◌≡◌, refl, sym}
+use mathlib.Core.Bool.{Bool, true, false, ◌||◌, false≢true}
 use mathlib.Core.List.{[]}
 use native.Mathlib.Omega.{arith}
 use lib.Dec.{eqb}
-use borrow.Author.Tests.{leb-true, le-leb, ltb-true, lt-ltb, eqb-true, eq-eqb}
+use borrow.Author.Tests.{leb-true, le-leb, ltb-true, lt-ltb, eqb-true}
 use Rattle.std.specs.Prelude.{if◌then◌else◌}
 use Rattle.text.proofs.Choices.{both, both_left, both_right, if-by}
 use Rattle.lines.specs.Bytes.{noCr}
 use Rattle.lines.specs.Forms.{commandMost}
 use Rattle.lines.proofs.Characters.{no-cr-of}
-use Rattle.record.specs.Limits.{lineRoom, ageEnd, shut, awaiting, opened, failed, isPhase}
+use Rattle.record.specs.Limits.{lineRoom, ageEnd, shut, awaiting, opened}
 use Rattle.record.specs.Record.{closed}
-use Rattle.record.specs.Legal.{fillsRoom, isTimed, isCollecting, isAge, heldMost, is_held, isConnection}
+use Rattle.record.specs.Legal.{isTimed, isCollecting, isAge, heldMost, is_held, isConnection}
 use Rattle.record.specs.declared.types.Connection.{Connection}
-use Rattle.record.proofs.Kept.{Kept, kept-told, kept-shown, nothing-kept}
+use Rattle.record.specs.Facts.{IsConnection}
+use Rattle.record.proofs.FactsTold.{connection_is}
+use Rattle.record.proofs.Kept.{nothing-kept}
 
-pub record ConnectionTold (c : Connection) : Type 0 where
-  pub line : Kept lineRoom noCr c.line.bytes c.line.held
-  pub phase : c.phase ≤ failed
-  pub age : isAge c.phase c.age ≡ true
-  pub random : c.phase ≡ shut → c.random ≡ 0
-  pub held : is_held c.phase c.line.overlong c.line.held ≡ true
+abbrev pub ConnectionTold : Connection → Type 0
+ConnectionTold = IsConnection
 
--- the random number is 0 while closed
-random-told : (p r : ℕ) → (not (eqb p shut) || eqb r 0) ≡ true → p ≡ shut → r ≡ 0
-random-told p r h e = eqb-true r 0 (ap (λ (b : Bool). not b || eqb r 0) (sym (eq-eqb p shut e)) ∙ h)
+pub connection-told : (c : Connection) → isConnection c ≡ true → ConnectionTold c
+connection-told c = (connection_is c).0
 
-random-shown : (p r : ℕ) → (p ≡ shut → r ≡ 0) → (not (eqb p shut) || eqb r 0) ≡ true
-random-shown p r h = by-case (eqb p shut) (λ e. eq-eqb r 0 (h (eqb-true p shut e)))
-  where
-    by-case : (b : Bool) → (b ≡ true → eqb r 0 ≡ true) → (not b || eqb r 0) ≡ true
-    by-case true f = f refl
-    by-case false f = refl
-
-module _ (c : Connection) where
-  abbrev line_ok : Bool
-  line_ok = fillsRoom lineRoom noCr c.line.bytes c.line.held
-
-  abbrev to-phase : Bool
-  to-phase = line_ok && isPhase c.phase
-
-  abbrev to-age : Bool
-  to-age = to-phase && isAge c.phase c.age
-
-  abbrev random-ok : Bool
-  random-ok = not (eqb c.phase shut) || eqb c.random 0
-
-  abbrev held-ok : Bool
-  held-ok = is_held c.phase c.line.overlong c.line.held
-
-  pub connection-told : isConnection c ≡ true → ConnectionTold c
-  unfolding isConnection
-  connection-told h =
-      let h4 = both_left (to-age && random-ok) held-ok h in
-      let h3 = both_left to-age random-ok h4 in
-      let h2 = both_left to-phase (isAge c.phase c.age) h3 in
-      record {
-        line = kept-told lineRoom noCr _ _ (both_left line_ok (isPhase c.phase) h2);
-        phase = leb-true c.phase failed (both_right line_ok (isPhase c.phase) h2);
-        age = both_right to-phase (isAge c.phase c.age) h3;
-        random = random-told c.phase c.random (both_right to-age random-ok h4);
-        held = both_right (to-age && random-ok) held-ok h;
-      }
-
-  pub connection-shown : ConnectionTold c → isConnection c ≡ true
-  unfolding isConnection
-  connection-shown t =
-      both
-      (both (both (both (kept-shown lineRoom noCr _ _ t.line) (le-leb c.phase failed t.phase)) t.age)
-      (random-shown c.phase c.random t.random))
-      t.held
+pub connection-shown : (c : Connection) → ConnectionTold c → isConnection c ≡ true
+connection-shown c = (connection_is c).1
 
 pub closed-holds-none : closed.line.held ≡ 0
 unfolding closed

@@ -1,5 +1,5 @@
 -- The connections of a legal record: as many as there are places, each legal by itself; what is put in a place stands
--- there, and every other place is as it was (02, L5).
+-- there, and every other place is as it was (RULES, Places).
 -- Assumes nothing.
 use Prim.Native.Nat.{ℕ, zero, suc, ◌<◌}
 use mathlib.Core.Path.{◌≡◌, refl, ◌∙◌}

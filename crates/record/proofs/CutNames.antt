@@ -1,4 +1,4 @@
--- Names that are lent one after the other, each of its length (02, L14), and the loop that tests them.
+-- Names that are lent one after the other, each of its length (RULES, Class 2), and the loop that tests them.
 --   NamesPassed ns s at i ok      the loop has tested i names, to the place `at`, and ok is the answer for them
 -- Assumes nothing.
 use Prim.Native.Nat.{ℕ, zero, suc, ◌+◌, ◌-◌, ◌≤◌, ◌<◌}

@@ -3,58 +3,39 @@
 -- Assumes nothing.
 use Prim.Native.Nat.{ℕ, zero, suc, ◌+◌, ◌-◌, ◌≤◌, ◌<◌}
 use mathlib.Core.Path.{◌≡◌, refl, sym, ap, ◌∙◌}
-use mathlib.Core.Bool.{Bool, true, ◌&&◌}
+use mathlib.Core.Bool.{Bool, true}
 use mathlib.Core.List.{List, [], ◌∷◌, ◌++◌}
 use native.Mathlib.Omega.{arith}
 use native.Mathlib.Numerals.{add-one}
 use lib.ListN.{set, length-set, length, get_or, take, drop, length-append, length-drop, length-replicate}
 use lib.Seq.{drop-cons, drop-set-lt, take-suc-set, get_or-drop, length-take-le}
 use lib.Seq.{take-append_seam, drop-append_seam, take-append-le}
-use lib.Dec.{leb, eqb}
-use borrow.Author.Tests.{eqb-true, eq-eqb, leb-true, le-leb}
+use borrow.Author.Tests.{eqb-true, eq-eqb}
 use Rattle.text.specs.Scans.{every}
-use Rattle.text.proofs.Choices.{both, both_left, both_right}
+use Rattle.text.proofs.Choices.{both_left, both_right}
 use Rattle.text.proofs.Stores.{sets-snoc, sets_over}
 use Rattle.record.specs.Record.{zeros, inRoom}
-use Rattle.record.specs.Legal.{is_zero, isClear, fillsRoom}
+use Rattle.record.specs.Legal.{is_zero, fillsRoom}
 use Rattle.text.proofs.Scanning.{every-by-place}
+use Rattle.record.specs.Facts.{Fills}
+use Rattle.record.proofs.FactsTold.{fills_told}
 
 zero-at : (s : List ℕ) (k : ℕ) → every is_zero s ≡ true → get_or s k 0 ≡ 0
 zero-at [] k h = refl
 zero-at (x ∷ s) zero h = eqb-true x 0 (both_left (is_zero x) (every is_zero s) h)
 zero-at (x ∷ s) (suc k) h = zero-at s k (both_right (is_zero x) (every is_zero s) h)
 
+abbrev pub Kept : ℕ → (List ℕ → Bool) → List ℕ → ℕ → Type 0
+Kept = Fills
+
 module _ (room : ℕ) (rule : List ℕ → Bool) (s : List ℕ) (n : ℕ) where
-  pub record Kept : Type 0 where
-    pub long : length s ≡ room
-    pub inside : n ≤ room
-    pub clear : every is_zero (drop n s) ≡ true
-    pub follows : rule (take n s) ≡ true
+  pub kept-told : fillsRoom room rule s n ≡ true → Kept room rule s n
+  kept-told = (fills_told room rule s n).0
 
-  abbrev clear-test : Bool
-  clear-test = leb n (length s) && every is_zero (drop n s)
+  pub kept-shown : Kept room rule s n → fillsRoom room rule s n ≡ true
+  kept-shown = (fills_told room rule s n).1
 
-  pub kept-told : fillsRoom room rule s n ≡ true → Kept
-  unfolding fillsRoom isClear
-  kept-told h =
-      let front = both_left (eqb (length s) room && clear-test) (rule (take n s)) h in
-      let rest = both_right (eqb (length s) room) clear-test front in
-      let e = eqb-true (length s) room (both_left (eqb (length s) room) clear-test front) in
-      let l = leb-true n (length s) (both_left (leb n (length s)) (every is_zero (drop n s)) rest) in
-      record {
-        long = e;
-        inside = omega arith;
-        clear = both_right (leb n (length s)) (every is_zero (drop n s)) rest;
-        follows = both_right (eqb (length s) room && clear-test) (rule (take n s)) h;
-      }
-
-  pub kept-shown : Kept → fillsRoom room rule s n ≡ true
-  unfolding fillsRoom isClear
-  kept-shown k =
-      let inside = le-leb n (length s) (omega (arith, k.long, k.inside)) in
-      both (both (eq-eqb (length s) room k.long) (both inside k.clear)) k.follows
-
-  module _ (k : Kept) where
+  module _ (k : Kept room rule s n) where
     pub kept-length : length (take n s) ≡ n
     kept-length = length-take-le n s (omega (arith, k.long, k.inside))
 

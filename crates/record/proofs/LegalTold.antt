@@ -2,51 +2,49 @@
 -- Assumes nothing.
 use Prim.Native.Nat.{ℕ, ◌<◌}
 use mathlib.Core.Path.{◌≡◌}
-use mathlib.Core.Bool.{true, ◌&&◌}
+use mathlib.Core.Bool.{true}
 use lib.ListN.{length}
-use Rattle.text.proofs.Choices.{both, both_left, both_right}
+use Rattle.text.proofs.Choices.{both}
 use Rattle.record.specs.Limits.{placesCount}
 use Rattle.record.specs.Legal.{isSettings, isOwn, isConnection, isConnections, isLegal}
 use Rattle.record.specs.Places.{connectionAt}
 use Rattle.record.specs.declared.types.Device.{Device}
 use Rattle.record.proofs.SettingsTold.{SettingsTold, settings-told}
-use Rattle.record.proofs.OwnTold.{OwnTold, own-told}
-use Rattle.record.proofs.ConnectionTold.{ConnectionTold, connection-told}
-use Rattle.record.proofs.ConnectionsTold.{connections-long, connections-at}
+use Rattle.record.specs.Facts.{IsOwn, IsLegal}
+use Rattle.record.proofs.FactsTold.{own_is, connection_is, each_is, legal_is}
+use native.Mathlib.Omega.{arith}
+use Rattle.record.proofs.ConnectionTold.{ConnectionTold}
+use Rattle.record.proofs.ConnectionsTold.{connections-shown}
 
 module _ (d : Device) where
   module _ (h : isLegal d ≡ true) where
-    device-part : (isSettings d.settings && isOwn d.settings d.own) ≡ true
-    unfolding isLegal
-    device-part = both_left (isSettings d.settings && isOwn d.settings d.own)
-        (isConnections d.connections) h
+    abbrev legal : IsLegal d
+    legal = (legal_is d).0 h
 
     pub legal-settings : isSettings d.settings ≡ true
-    legal-settings = both_left (isSettings d.settings) (isOwn d.settings d.own) device-part
+    legal-settings = legal.settings
 
     pub legal-own : isOwn d.settings d.own ≡ true
-    legal-own = both_right (isSettings d.settings) (isOwn d.settings d.own) device-part
+    legal-own = (own_is _ _).1 legal.own
 
     pub legal-connections : isConnections d.connections ≡ true
-    unfolding isLegal
-    legal-connections =
-        both_right (isSettings d.settings && isOwn d.settings d.own) (isConnections d.connections) h
+    legal-connections = connections-shown _ legal.places ((each_is _).1 legal.connections)
 
     pub legal-places : length d.connections ≡ placesCount
-    legal-places = connections-long d.connections legal-connections
+    legal-places = legal.places
 
     module _ (p : ℕ) (there : p < placesCount) where
-      pub legal-connection : isConnection (connectionAt d p) ≡ true
-      legal-connection = connections-at d.connections legal-connections p there
-
       pub connection-of-legal : ConnectionTold (connectionAt d p)
-      connection-of-legal = connection-told (connectionAt d p) legal-connection
+      connection-of-legal = legal.connections p _ (omega (arith, legal.places))
+
+      pub legal-connection : isConnection (connectionAt d p) ≡ true
+      legal-connection = (connection_is _).1 connection-of-legal
 
     pub settings-of-legal : SettingsTold d.settings
-    settings-of-legal = settings-told d.settings legal-settings
+    settings-of-legal = settings-told d.settings legal.settings
 
-    pub own-of-legal : OwnTold d.settings d.own
-    own-of-legal = own-told d.settings d.own legal-own
+    pub own-of-legal : IsOwn d.settings d.own
+    own-of-legal = legal.own
 
   pub legal-by-parts : isSettings d.settings ≡ true → isOwn d.settings d.own ≡ true
       → isConnections d.connections ≡ true → isLegal d ≡ true

@@ -1,10 +1,13 @@
 pub mod Rooms
 pub mod Places
 pub mod Sifted
+mod Window
 pub mod Pairs
 pub mod Marks
 pub mod MarksTold
 pub mod Tested
+pub mod PowerSeen
+pub mod FactsTold
 pub mod Kept
 pub mod Filled
 pub mod Rules

@@ -1,5 +1,5 @@
--- The lowest closed place (02, L5): the loop's law, and that what opening takes is closed, with no closed place below
--- it.
+-- The lowest closed place (RULES, Places): the loop's law, and that what opening takes is closed, with no closed place
+-- below it.
 -- Assumes nothing.
 use Prim.Native.Nat.{ℕ, zero, suc, ◌+◌, ◌≤◌, ◌<◌}
 use mathlib.Core.Path.{◌≡◌, refl, sym, ap, ◌∙◌}

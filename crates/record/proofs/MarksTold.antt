@@ -1,4 +1,4 @@
--- What the enabled marks of a legal record tell, and how they are shown (02, L8): all set at a set-up, and one
+-- What the enabled marks of a legal record tell, and how they are shown (RULES, Lamps): all set at a set-up, and one
 -- replaced.
 -- Assumes nothing.
 use Prim.Native.Nat.{ℕ, zero, suc, ◌-◌, ◌+◌, ◌≤◌, ◌<◌}

@@ -1,4 +1,4 @@
--- The loop that keeps names which are lent one after the other, each of its length (02, L14).
+-- The loop that keeps names which are lent one after the other, each of its length (RULES, Class 2).
 --   NamesCopied ns s n list at i      the loop has kept i of n names, to the place `at`
 -- Assumes nothing.
 use Prim.Native.Nat.{ℕ, suc, ◌+◌, ◌-◌, ◌≤◌, ◌<◌}

@@ -1,4 +1,4 @@
--- What the names of a legal record tell (02, L14), and how they are shown: those that a set-up keeps.
+-- What the names of a legal record tell (RULES, Class 2), and how they are shown: those that a set-up keeps.
 --   nameBytes t         the bytes of a name
 --   NameKept t          a name of an input stands in its room
 --   NamesTold n ns      the first n places have a name each, the others none

@@ -1,5 +1,5 @@
 -- Which setting was it that set-up refused: where it gives 3 the first that is out of its range, where it gives 8 the
--- password (02, L9), and none exactly where it gives 0.
+-- password (RULES, Passwords), and none exactly where it gives 0.
 -- Assumes nothing.
 use mathlib.Core.Path.{◌≡◌, refl, sym, ap, ◌∙◌}
 use mathlib.Core.Bool.{Bool, true, false}

@@ -68,7 +68,7 @@ module _ (k : ℕ) (s : List ℕ) (h : isInputs k s ≡ true) where
   first_two : some ≡ true
   first_two = both_left some (leb (length s) inputRoom) counted
 
-  -- there is such a class (02, L14)
+  -- there is such a class (RULES, Class 2)
   pub inputs-class : isClass k ≡ true
   inputs-class = both_left (isClass k) (leb 2 (length s)) first_two
 

@@ -1,5 +1,5 @@
--- Set-ups of 01's "Lines that settle it" and of its own examples, inputs, passwords and classes on both sides of 02's
--- L11, L9 and L14, and which setting was refused, computed.
+-- Set-ups of The lines that settle it and of its own examples, inputs, passwords and classes on both sides of the
+-- rules for inputs, passwords and Class 2, and which setting was refused, computed.
 -- Assumes nothing.
 use Prim.Native.Nat.{ℕ}
 use Prim.Native.String.{String}
@@ -41,7 +41,7 @@ pub numbered : numbers ≡ 0 ∷ 0 ∷ 3 ∷ 3 ∷ 3 ∷ 3 ∷ 3 ∷ 3 ∷ 3 ∷
 unfolding computing
 numbered = refl
 
--- 32 inputs, and one more (02, L11)
+-- 32 inputs, and one more (RULES, Inputs)
 abbrev sockets : String
 sockets = "1112131415161718192122232425262728293132333435363738394142434445"
 
@@ -114,7 +114,7 @@ pub later-setting-told : which "" "" "" "" "abcdef7" "11" 0 20 0 ≡ SettingIs C
 unfolding computing firstFailing
 later-setting-told = refl
 
--- ---- Class 2 (02, L14)
+-- ---- Class 2 (RULES, Class 2)
 
 abbrev none : List (List ℕ)
 none = []

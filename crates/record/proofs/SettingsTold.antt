@@ -3,14 +3,11 @@
 -- Assumes nothing.
 use Prim.Native.Nat.{ℕ, ◌+◌, ◌*◌, ◌≤◌, ◌<◌}
 use mathlib.Core.Path.{◌≡◌, sym, ap, ◌∙◌}
-use mathlib.Core.Bool.{Bool, true, ◌&&◌}
+use mathlib.Core.Bool.{Bool, true}
 use mathlib.Core.List.{List}
 use native.Mathlib.Omega.{arith}
 use lib.ListN.{length, get_or, take}
 use lib.Seq.{get_or-take}
-use lib.Dec.{leb}
-use borrow.Author.Tests.{leb-true}
-use Rattle.text.proofs.Choices.{both_left, both_right}
 use Rattle.lines.specs.Bytes.{◌at◌}
 use Rattle.lines.specs.Texts.{isText, isName, isInfo, isPassword, infoMost, passwordMost}
 use Rattle.lines.specs.Inputs.{isInputText}
@@ -18,11 +15,12 @@ use Rattle.lines.proofs.InputsReadBack.{named-widely}
 use Rattle.record.specs.Limits.{textRoom, inputRoom, listedMost, lampsMost, stretchMost, isClass, onlyIn2}
 use Rattle.record.specs.Rules.{isLongEnough, isSetUpPassword, isInputs, isStretch}
 use Rattle.record.specs.Record.{blankName}
-use Rattle.record.specs.Legal.{fillsTextRoom, fillsRoom, isNames, isRestOf2, isSettings}
+use Rattle.record.specs.Legal.{fillsRoom, isRestOf2, isSettings}
 use Rattle.record.specs.declared.types.Text.{Text}
 use Rattle.record.specs.declared.types.Settings.{Settings}
 use Rattle.lines.proofs.TextsTold.{password-long}
-use Rattle.record.proofs.Kept.{Kept, kept-told, kept-length}
+use Rattle.record.proofs.FactsTold.{fills_told}
+use Rattle.record.proofs.Kept.{Kept, kept-length}
 use Rattle.record.proofs.Rules.{set-up-password-written, set-up-password-long, inputs-class, inputs-some}
 use Rattle.record.proofs.Rules.{only-in-2-within, text-wider}
 use Rattle.record.proofs.NamesTold.{NamesTold, NameKept, names-told, name-kept}
@@ -55,10 +53,7 @@ pub record SettingsTold (s : Settings) : Type 0 where
   pub names : NamesTold (onlyIn2 s.class_number s.input_count) s.names
 
 pub stretch-told : (n : ℕ) → isStretch n ≡ true → StretchTold n
-stretch-told n h = record {
-  low = leb-true 1 n (both_left (leb 1 n) (leb n stretchMost) h);
-  high = leb-true n stretchMost (both_right (leb 1 n) (leb n stretchMost) h);
-}
+stretch-told n h = record { low = grind (arith, h); high = grind (arith, h) }
 
 -- what a password of set-up tells: what the writer's does, and its length
 module _ (t : Text) (k : TextKept isSetUpPassword t) where
@@ -74,89 +69,28 @@ module _ (t : Text) (k : TextKept isSetUpPassword t) where
   password-long-enough =
       ap isLongEnough (sym (kept-length textRoom isSetUpPassword _ _ k)) ∙ set-up-password-long (bytes_of t) k.follows
 
-module _ (s : Settings) where
-  abbrev name-ok : Bool
-  name-ok = fillsTextRoom isName s.name
+fills : {room : ℕ} {rule : List ℕ → Bool} {l : List ℕ} {n : ℕ} → fillsRoom room rule l n ≡ true → Kept room rule l n
+fills h = (fills_told _ _ _ _).0 h
 
-  abbrev to-maker : Bool
-  to-maker = name-ok && fillsTextRoom isInfo s.maker
-
-  abbrev to-model : Bool
-  to-model = to-maker && fillsTextRoom isInfo s.model
-
-  abbrev to-other : Bool
-  to-other = to-model && fillsTextRoom isInfo s.other
-
-  abbrev password-ok : Bool
-  password-ok = fillsTextRoom isSetUpPassword s.password
-
-  abbrev to-password : Bool
-  to-password = to-other && password-ok
-
-  abbrev inputs-ok : Bool
-  inputs-ok = fillsRoom inputRoom (isInputs s.class_number) s.inputs (2 * s.input_count)
-
-  abbrev to-inputs : Bool
-  to-inputs = to-password && inputs-ok
-
-  abbrev to-lamps : Bool
-  to-lamps = to-inputs && leb s.lamp_count lampsMost
-
-  abbrev to-warm : Bool
-  to-warm = to-lamps && isStretch s.warm
-
-  abbrev to-cool : Bool
-  to-cool = to-warm && isStretch s.cool
-
-  -- of Class 2 alone
-  abbrev info-in-2 : Text → Bool
-  info-in-2 = fillsTextRoom (isText (onlyIn2 s.class_number infoMost))
-
-  abbrev names-ok : Bool
-  names-ok = isNames (onlyIn2 s.class_number s.input_count) s.names
-
-  abbrev rest_ok : Bool
-  rest_ok = isRestOf2 s.class_number s.input_count s.serial s.version s.names
-
-  module _ (h : rest_ok ≡ true) where
-    texts-of-2 : (info-in-2 s.serial && info-in-2 s.version) ≡ true
-    unfolding isRestOf2
-    texts-of-2 = both_left (info-in-2 s.serial && info-in-2 s.version) names-ok h
-
-    names-of-2 : names-ok ≡ true
-    unfolding isRestOf2
-    names-of-2 = both_right (info-in-2 s.serial && info-in-2 s.version) names-ok h
-
-  pub settings-told : isSettings s ≡ true → SettingsTold s
-  unfolding isSettings
-  settings-told h =
-      let rest = both_right to-cool rest_ok h in
-      let h9 = both_left to-cool rest_ok h in
-      let h8 = both_left to-warm (isStretch s.cool) h9 in
-      let h7 = both_left to-lamps (isStretch s.warm) h8 in
-      let h6 = both_left to-inputs (leb s.lamp_count lampsMost) h7 in
-      let h5 = both_left to-password inputs-ok h6 in
-      let h4 = both_left to-other password-ok h5 in
-      let p = kept-told textRoom isSetUpPassword _ _ (both_right to-other password-ok h5) in
-      let h3 = both_left to-model (fillsTextRoom isInfo s.other) h4 in
-      let h2 = both_left to-maker (fillsTextRoom isInfo s.model) h3 in
-      record {
-        name = kept-told textRoom isName _ _ (both_left name-ok (fillsTextRoom isInfo s.maker) h2);
-        maker = kept-told textRoom isInfo _ _ (both_right name-ok (fillsTextRoom isInfo s.maker) h2);
-        model = kept-told textRoom isInfo _ _ (both_right to-maker (fillsTextRoom isInfo s.model) h3);
-        other = kept-told textRoom isInfo _ _ (both_right to-model (fillsTextRoom isInfo s.other) h4);
-        password = password-told s.password p;
-        long-enough = password-long-enough s.password p;
-        inputs = kept-told inputRoom (isInputs s.class_number) _ _ (both_right to-password inputs-ok h6);
-        lamps = leb-true s.lamp_count lampsMost (both_right to-inputs (leb s.lamp_count lampsMost) h7);
-        warm = stretch-told s.warm (both_right to-lamps (isStretch s.warm) h8);
-        cool = stretch-told s.cool (both_right to-warm (isStretch s.cool) h9);
-        serial = kept-told textRoom _ _ _
-            (both_left (info-in-2 s.serial) (info-in-2 s.version) (texts-of-2 rest));
-        version = kept-told textRoom _ _ _
-            (both_right (info-in-2 s.serial) (info-in-2 s.version) (texts-of-2 rest));
-        names = names-told _ _ (names-of-2 rest);
-      }
+pub settings-told : (s : Settings) → isSettings s ≡ true → SettingsTold s
+unfolding isSettings isRestOf2
+settings-told s h =
+    let secret : TextKept isSetUpPassword s.password = fills (grind (arith, h)) in
+    record {
+      name = fills (grind (arith, h));
+      maker = fills (grind (arith, h));
+      model = fills (grind (arith, h));
+      other = fills (grind (arith, h));
+      password = password-told s.password secret;
+      long-enough = password-long-enough s.password secret;
+      inputs = fills (grind (arith, h));
+      lamps = grind (arith, h);
+      warm = stretch-told s.warm (grind (arith, h));
+      cool = stretch-told s.cool (grind (arith, h));
+      serial = fills (grind (arith, h));
+      version = fills (grind (arith, h));
+      names = names-told _ _ (grind (arith, h));
+    }
 
 -- from the settings: the password, the number of inputs, each input
 module _ (s : Settings) (t : SettingsTold s) where

@@ -27,7 +27,9 @@ use Rattle.record.proofs.Rules.{only-in-2-within, names-many, names-each, text-m
 use Rattle.record.proofs.NamesTold.{names-kept}
 use Rattle.record.proofs.Places.{pairs-even}
 use Rattle.record.proofs.Kept.{filled-kept, kept-shown}
-use Rattle.record.proofs.OwnTold.{own-shown, off-left}
+use Rattle.record.specs.declared.views.Power.TheVariants.{Off}
+use Rattle.record.proofs.PowerSeen.{written}
+use Rattle.record.proofs.FactsTold.{own_is}
 use Rattle.record.proofs.MarksTold.{all-marks-legal}
 use Rattle.record.proofs.ConnectionsTold.{all-closed-legal, all-closed-at}
 use Rattle.record.proofs.LegalTold.{legal-by-parts, settings-of-legal}
@@ -105,13 +107,14 @@ module _ (w : Wanted) where
 
     own-legal : isOwn (settingsOf w) (startOwn w.lamps) ≡ true
     unfolding isErrors
-    own-legal = own-shown _ (startOwn w.lamps) (record {
+    own-legal = (own_is _ (startOwn w.lamps)).1 (record {
       errors = refl;
       lamps = filled-kept lampsMost isLamps w.lamps (lamps-few w.lamps (met Lamps)) (met Lamps);
       marks = all-marks-legal (length w.lamps) (lamps-few w.lamps (met Lamps));
-      left = off-left w.warm w.cool;
+      power = written w.warm w.cool Off tt;
       chosen = omega (arith, inputs-some _ w.inputs (met Inputs));
-      volumes = record { speaker = omega arith; microphone = omega arith };
+      speaker = omega arith;
+      microphone = omega arith;
     })
 
     pub started-legal : isLegal (started w) ≡ true
@@ -123,7 +126,7 @@ module _ (w : Wanted) where
   unfolding started inRoom
   started-lamp k l = get_or-append w.lamps (drop (length w.lamps) (zeros lampsMost)) 0 k l
 
-  -- each lamp is enabled (02, L8)
+  -- each lamp is enabled (RULES, Lamps)
   pub started-marks : (started w).own.enabled ≡ allMarks (length w.lamps)
   unfolding started
   started-marks = refl

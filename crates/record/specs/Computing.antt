@@ -1,5 +1,5 @@
 -- One name that opens this crate's definitions and, by their own name, those of `lines`, for computing on concrete
--- records only (01, "Lines that settle it").
+-- records only (RULES, Commands).
 -- Assumes nothing.
 use Rattle.lines.specs.Computing.{computing as lines}
 use Rattle.record.specs.Rules.{isSetUpPassword, eachPair, is_none, isInputs, isLamps, isMarks, isErrors, areNames}

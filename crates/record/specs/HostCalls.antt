@@ -1,5 +1,5 @@
--- The host's calls: they replace the fault mark, or the six error digits (01, "Time"), or a lamp's enabled mark (02,
--- L8), and nothing else.
+-- The host's calls: they replace the fault mark, or the six error digits (RULES, Time), or a lamp's enabled mark
+-- (RULES, Lamps), and nothing else.
 --   faultSet d m        the call that sets the fault mark: 1 for an illegal record
 --   errorsSet d ds      the call that sets the error digits: 1, then 3 for what is not six digits 0 to 2
 --   isNoLamp d k        there is no such lamp

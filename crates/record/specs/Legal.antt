@@ -1,10 +1,11 @@
--- A legal record (01, "Set-up", last paragraph), a definition a part: settings alone, the own part with the settings,
--- each connection alone. An array of a record is a list of any length here, so each part says its arrays' lengths.
+-- A legal record (RULES, The legal record, last paragraph), a definition a part: settings alone, the own part with the
+-- settings, each connection alone. An array of a record is a list of any length here, so each part says its arrays'
+-- lengths.
 --   isClear s n               s has n places and more, and zero at each place from n on: its unused room
 --   fillsRoom room rule s n      the array s has that room; its first n places follow the rule, the rest is zero
 --   fillsTextRoom rule t         a text follows the rule
 --   fillsNameRoom most t         the name of an input has at most so many bytes
---   isNames n ns              the first n places have a name each (02, L14), the others none
+--   isNames n ns              the first n places have a name each (RULES, Class 2), the others none
 --   isRestOf2 ..              what Class 2 alone has is in range: in Class 1 it is empty
 --   isSettings s              the settings are in range
 --   isLeft power left w c     seconds left: 1 to w in warm-up, 1 to c in cooling, else 0
@@ -14,7 +15,7 @@
 --   heldMost phase            the most collected bytes: 167 while awaiting, 135 while open, none otherwise
 --   is_held phase mark n      n bytes may be collected: none under the overlong mark, which stands in those phases only
 --   isConnection c            the connection is legal
---   isConnections cs          a connection at each place, each legal (02, L5)
+--   isConnections cs          a connection at each place, each legal (RULES, Places)
 --   isLegal d                 the record is
 -- Assumes nothing.
 use Rattle.std.specs.Prelude.{ℕ, ◌*◌, Bool, not, ◌&&◌, ◌||◌, List, length, take, drop, leb, ltb, eqb, if◌then◌else◌}

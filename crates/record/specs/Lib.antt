@@ -1,11 +1,14 @@
 pub mod Limits
 pub mod Wanted
 pub mod Updates
+pub mod Views
 pub mod Record
 pub mod Rules
 pub mod Legal
+pub mod Facts
 pub mod Places
 pub mod SetUp
 pub mod OutOfRange
 pub mod HostCalls
+pub mod Refusals
 pub mod Computing

@@ -1,12 +1,12 @@
--- The numbers of the device record, each named once (01, "Set-up", "Connection" and "Commands").
+-- The numbers of the device record, each named once (RULES, The legal record, Connection and Commands).
 --   textRoom, listedMost, ..     the room of each array, and how much of it a set-up may use
---   passwordLeast                a password that secures has this many characters and more (02, L9)
+--   passwordLeast                a password that secures has this many characters and more (RULES, Passwords)
 --   lampLimit                    a lamp's seconds stop here: 99,999 hours and 3,599 seconds
---   volumeMost, volumeStart      a volume is 0 to this; that of set-up (02, L14)
---   isClass k                    there are two classes (02, L14)
+--   volumeMost, volumeStart      a volume is 0 to this; that of set-up (RULES, Class 2)
+--   isClass k                    there are two classes (RULES, Class 2)
 --   onlyIn2 k n                  what Class 2 alone has: n of it there, none in any other class
 --   stretchMost                  warm-up and cooling last 1 to this many seconds
---   placesCount                  so many controllers are connected at once (02, L5)
+--   placesCount                  so many controllers are connected at once (RULES, Places)
 --   ageEnd                       an awaiting or failed connection closes when its age reaches this
 --   off, on, cooling, warming    the power, as POWR answers it: isPower p says that p is one of them
 --   isLit power                  warm-up or on: the lamps burn
@@ -20,7 +20,7 @@ use Rattle.lines.specs.Texts.{nameMost}
 abbrev pub textRoom : ℕ
 textRoom = nameMost
 
--- of the inputs that a set-up lists (02, L11: as many as the standard allows)
+-- of the inputs that a set-up lists (RULES, Inputs: as many as the standard allows)
 abbrev pub listedMost : ℕ
 listedMost = 32
 

@@ -1,5 +1,6 @@
--- Which setting was it? Set-up's 3 names none (01, "The numbers a call gives"): of the same settings, the first that is
--- out of its range, in the order in which set-up is lent them. Where set-up gives 8, it was the password (02, L9).
+-- Which setting was it? Set-up's 3 names none (RULES, The numbers a call gives): of the same settings, the first that
+-- is out of its range, in the order in which set-up is lent them. Where set-up gives 8, it was the password (RULES,
+-- Passwords).
 --   settingPlace s            the place of a setting among them, from 1
 --   firstFailing f l          the first of l whose rule f is not met, or none
 --   firstOutOfRange w         the first setting out of its range, or none

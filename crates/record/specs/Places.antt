@@ -1,5 +1,5 @@
--- The places for controllers (02, L5): each has its own random number, collected bytes, mark, age and phase, and all
--- share the settings, the own part and the clock.
+-- The places for controllers (RULES, Places): each has its own random number, collected bytes, mark, age and phase, and
+-- all share the settings, the own part and the clock.
 --   noConnection           what an array of connections has past its end; no result holds it
 --   connectionAt d p       the connection at place p
 --   withPlace d o p c      the device with that own part, and the connection c at place p

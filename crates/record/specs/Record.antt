@@ -1,14 +1,14 @@
--- The records that 01 spells out (01, "Set-up" and "The numbers a call gives").
+-- The records that the rules spell out (RULES, The legal record and The numbers a call gives).
 --   zeros n              n zeros
 --   inRoom n s           s at the start of a room of n, and zeros after it
 --   text_of s            the text s in its room
---   name_of s            the name s of an input in its room (02, L14)
+--   name_of s            the name s of an input in its room (RULES, Class 2)
 --   namesKept ns         the names ns, an input each, at the start of the room for them
 --   closed               the closed connection: age 0, random number 0, no collected bytes, no overlong mark
---   allClosed            every place closed (02, L5)
+--   allClosed            every place closed (RULES, Places)
 --   blank                the blank record, all zero
 --   settingsOf w         the settings that set-up keeps
---   allMarks n           the enabled marks of n lamps, all set (02, L8)
+--   allMarks n           the enabled marks of n lamps, all set (RULES, Lamps)
 --   blankOwn             off, both mutes off, the first input, no fault, error status 000000, no mark: all zero
 --   startOwn lamps       the same, with the lamps' starting seconds, each lamp enabled, and both volumes half way
 --   started w            the device that an accepted set-up gives

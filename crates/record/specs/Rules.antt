@@ -1,20 +1,22 @@
--- What the settings have to be (01, "Set-up"). The rules of texts and of a password's characters are those of `lines`.
---   isLongEnough n       n characters are a password's: none, which is no security, or 8 and more (02, L9)
+-- What the settings have to be (RULES, The legal record). The rules of texts and of a password's characters are those
+-- of `lines`.
+--   isLongEnough n       n characters are a password's: none, which is no security, or 8 and more (RULES, Passwords)
 --   isSetUpPassword s    the rule of set-up: as the controller's writer has it (`isPassword`), and long enough
 --   eachPair f s         s is pairs, and each pair passes the test f, which also sees what follows it
 --   is_none a b s        the input a b is none of the inputs s: each of them is another (isOther)
 --   isNewInput k a b s   the characters a b name an input of the class k, which none of the later ones s repeats
 --   eachNamed k s        s is pairs, each of which names an input of the class k
 --   inputPlace a b       the place of the input a b, at which the code marks it
---   isInputs k s         there is a class k (02, L14), and s are 1 to 32 inputs of it, two characters each, all
+--   isInputs k s         there is a class k (RULES, Class 2), and s are 1 to 32 inputs of it, two characters each, all
 --                        different
 --   isLamp x             a lamp's seconds are at most the limit
 --   isLamps xs           0 to 8 lamps
---   isMarks n ms         the enabled marks of n lamps (02, L8): none past them, and one at least where there are lamps
+--   isMarks n ms         the enabled marks of n lamps (RULES, Lamps): none past them, and one at least where there are
+--                        lamps
 --   isStretch n          1 to 600 seconds, of warm-up or of cooling
 --   isErrors ds          six error digits, each 0 to 2
---   areNames n ns        the names of n inputs (02, L14)
---   isVolume v           a volume is 0 to 20 (02, L14)
+--   areNames n ns        the names of n inputs (RULES, Class 2)
+--   isVolume v           a volume is 0 to 20 (RULES, Class 2)
 -- Assumes nothing.
 use Rattle.std.specs.Prelude.{ℕ, ◌+◌, ◌-◌, ◌*◌, Bool, true, false, not, ◌&&◌, ◌||◌, List, [], ◌∷◌, length, drop}
 use Rattle.std.specs.Prelude.{leb, eqb}

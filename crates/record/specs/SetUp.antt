@@ -1,5 +1,5 @@
--- Set-up (01, "Set-up"; number 3 of "The numbers a call gives"; number 8 of 02, L9): which device it gives, for every
--- input.
+-- Set-up (RULES, The legal record; number 3 of "The numbers a call gives"; number 8 of RULES, Passwords): which device
+-- it gives, for every input.
 --   settingsInOrder           the settings, in the order in which set-up is lent them
 --   isSettingInRange w s      the setting s is in its range: a password of 1 to 7 characters is in its
 --   isInRange w               each setting is: every 3 is ruled out

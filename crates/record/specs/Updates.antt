@@ -1,11 +1,12 @@
--- The own part, a connection or the record with something else in one place, and all else as it was. There is no
--- update of a record in antt: the own part is spelled field by field here, and nowhere else but where it starts.
+-- The own part, a connection or the record with something else in one place, and all else as it was. The own part is
+-- spelled field by field here, and nowhere else but where it starts.
 --   withPower o power left      the power, with so many seconds left of warm-up or cooling
 --   withChosen o place          the place of the chosen input;    withMutes o video audio     both mutes
 --   withFault o mark            the fault mark;                   withErrors o digits         the error digits
---   withSeconds o s             the lamps' seconds;               withMarks o ms              their marks (02, L8)
---   withFreeze o mark           the freeze mark (02, L14)
---   withVolumes o speaker microphone     both volumes (02, L14)
+--   withSeconds o s             the lamps' seconds;               withMarks o ms              their marks (RULES,
+--                               Lamps)
+--   withFreeze o mark           the freeze mark (RULES, Class 2)
+--   withVolumes o speaker microphone     both volumes (RULES, Class 2)
 --   aged c age, withLine c l    the connection at that age; with that line
 --   withOwn d o                 the device with that own part
 -- Assumes nothing.

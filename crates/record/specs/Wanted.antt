@@ -1,7 +1,7 @@
--- What set-up is lent (01, "Set-up"), in its order.
+-- What set-up is lent (RULES, The legal record), in its order.
 --   Wanted                the nine settings: an input is two ASCII characters, lamps are their starting seconds. Then
---                         the class, and what Class 2 alone has (02, L14): a serial number, a version, a name for each
---                         input
+--                         the class, and what Class 2 alone has (RULES, Class 2): a serial number, a version, a name
+--                         for each input
 --   wantedOf ..           a Class 1 set-up, of what a call is lent, each setting by itself
 --   wantedOf2 ..          a Class 2 set-up
 --   withPassword p w      with another password

@@ -1,4 +1,4 @@
-// The two classes of a set-up (02, L14).
+// The two classes of a set-up (RULES, Class 2).
 ghost use Rattle.std.specs.Prelude.{◌≡◌};
 ghost use Rattle.record.specs.Limits.{isClass, onlyIn2};
 

@@ -1,4 +1,4 @@
-// The places for controllers (02, L5): each place's connection is legal by itself.
+// The places for controllers (RULES, Places): each place's connection is legal by itself.
 ghost use Rattle.std.specs.Prelude.{◌≡◌};
 ghost use Rattle.record.specs.Legal.{isConnections};
 
@@ -6,11 +6,11 @@ use crate::connection;
 use crate::types::{Connection, PLACES};
 
 #[tactic(auto, unfolding(crate::specs::Legal::isConnections))]
-pub fn connections_ok(connections: [Connection; PLACES]) -> bool
-    ensures { result ≡ isConnections connections }
+pub fn connections_ok(connections: &[Connection; PLACES]) -> bool
+    ensures { result ≡ isConnections connections.now }
 {
     let mut ok = true;
-    for &c in &connections {
+    for c in connections {
         ok = ok & connection::connection_ok(c);
     }
     ok

@@ -1,4 +1,5 @@
-// What a set-up or a load gives where it is refused, and the places of a fresh record (01, "Set-up"; 02, L5).
+// What a set-up or a load gives where it is refused, and the places of a fresh record (RULES, The legal record and
+// Places).
 ghost use Rattle.std.specs.Prelude.{◌≡◌};
 ghost use Rattle.record.specs.Record.{blank, allClosed, refused};
 

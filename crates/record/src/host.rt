@@ -1,114 +1,67 @@
-// The host's calls: they replace the fault mark, or the six error digits (01, "Time"), or a lamp's enabled mark (02,
-// L8), and nothing else.
-ghost use Rattle.std.specs.Prelude.{◌≡◌, ◌<◌, length, set};
-ghost use Rattle.record.specs.Limits.{lampsMost, errorsCount};
-ghost use Rattle.record.specs.Updates.{withOwn, withFault, withErrors, withMarks};
+// The host's calls (RULES, Time and Lamps): each replaces the fault mark, the six error digits or a lamp's enabled
+// mark where the record lies, and nothing else; a refused one leaves the record as it was.
+ghost use Rattle.std.specs.Prelude.{◌≡◌};
 ghost use Rattle.record.specs.HostCalls.{faultSet, errorsSet, markSet};
+ghost use Rattle.record.specs.Refusals.{outcome_number};
 
+use crate::own;
 use crate::own::OFF;
-use crate::types::{Changed, Device, ERRORS, Own};
-use crate::{legality, own};
+use crate::refusal::Refusal;
+use crate::types::Device;
 
-pub fn with_own(d: Device, o: Own) -> Device
-    ensures { result ≡ withOwn d o }
-{
-    let mut changed = d;
-    changed.own = o;
-    changed
-}
+impl Device {
+    /// The fault mark, from now on. Refused: `NotLegal`.
+    #[tactic(auto, unfolding(crate::specs::HostCalls::faultSet))]
+    pub fn set_fault(&mut self, mark: bool) -> Result<(), Refusal>
+        ensures number { outcome_number result ≡ (faultSet self.old mark).number }
+        ensures device { self.new ≡ (faultSet self.old mark).device }
+    {
+        if !self.is_legal() {
+            return Err(Refusal::NotLegal);
+        }
+        self.own.fault = mark;
+        Ok(())
+    }
 
-fn with_fault(o: Own, mark: bool) -> Own
-    ensures { result ≡ withFault o mark }
-{
-    let mut changed = o;
-    changed.fault = mark;
-    changed
-}
+    /// The error status: six digits 0 to 2, of fan, lamp, temperature, cover, filter and other. Refused: `NotLegal`,
+    /// then `OutOfRange` for any other digits.
+    #[tactic(auto, unfolding(crate::specs::HostCalls::errorsSet))]
+    pub fn set_errors(&mut self, digits: &[u8]) -> Result<(), Refusal>
+        ensures number { outcome_number result ≡ (errorsSet self.old digits.now).number }
+        ensures device { self.new ≡ (errorsSet self.old digits.now).device }
+    {
+        if !self.is_legal() {
+            return Err(Refusal::NotLegal);
+        }
+        if !own::errors_ok(digits) {
+            return Err(Refusal::OutOfRange);
+        }
+        self.own.errors.copy_from_slice(digits);
+        Ok(())
+    }
 
-fn with_errors(o: Own, digits: &[u8]) -> Own
-    requires { length digits.now ≡ errorsCount }
-    ensures { result ≡ withErrors o digits.now }
-{
-    let mut errors = [0u8; ERRORS];
-    text::put(&mut errors, 0, digits);
-    let mut changed = o;
-    changed.errors = errors;
-    changed
-}
-
-fn with_mark(o: Own, lamp: usize, mark: bool) -> Own
-    requires { lamp < lampsMost }
-    ensures { result ≡ withMarks o (set o.enabled lamp mark) }
-{
-    let mut marks = o.enabled;
-    marks[lamp] = mark;
-    let mut changed = o;
-    changed.enabled = marks;
-    changed
-}
-
-pub fn set_fault(d: Device, mark: bool) -> Changed
-    ensures { result ≡ faultSet d mark }
-{
-    if !legality::legal(d) {
-        return Changed {
-            number: 1,
-            device: d,
-        };
+    /// Whether the lamp, counted from 0, is enabled from now on. Refused: `NotLegal`, then `OutOfRange` for no such
+    /// lamp and for the last mark cleared, then `NotOff` unless the power is off.
+    #[tactic(auto, unfolding(crate::specs::HostCalls::markSet))]
+    pub fn set_mark(&mut self, lamp: usize, mark: bool) -> Result<(), Refusal>
+        ensures number { outcome_number result ≡ (markSet self.old lamp mark).number }
+        ensures device { self.new ≡ (markSet self.old lamp mark).device }
+    {
+        if !self.is_legal() {
+            return Err(Refusal::NotLegal);
+        }
+        if self.settings.lamp_count <= lamp {
+            return Err(Refusal::OutOfRange);
+        }
+        let mut marks = self.own.enabled;
+        marks[lamp] = mark;
+        if own::none_marked(&marks, 0) {
+            return Err(Refusal::OutOfRange);
+        }
+        if self.own.power != OFF {
+            return Err(Refusal::NotOff);
+        }
+        self.own.enabled = marks;
+        Ok(())
     }
-    let device = with_own(d, with_fault(d.own, mark));
-    Changed { number: 0, device }
-}
-
-pub fn set_errors(d: Device, digits: &[u8]) -> Changed
-    ensures { result ≡ errorsSet d digits.now }
-{
-    if !legality::legal(d) {
-        return Changed {
-            number: 1,
-            device: d,
-        };
-    }
-    if !own::errors_ok(digits) {
-        return Changed {
-            number: 3,
-            device: d,
-        };
-    }
-    let device = with_own(d, with_errors(d.own, digits));
-    Changed { number: 0, device }
-}
-
-// Whether the lamp is enabled from now on: 1; 3 for no such lamp and for the last mark cleared; 7 unless off.
-pub fn set_mark(d: Device, lamp: usize, mark: bool) -> Changed
-    ensures { result ≡ markSet d lamp mark }
-{
-    if !legality::legal(d) {
-        return Changed {
-            number: 1,
-            device: d,
-        };
-    }
-    if d.settings.lamp_count <= lamp {
-        return Changed {
-            number: 3,
-            device: d,
-        };
-    }
-    let own = with_mark(d.own, lamp, mark);
-    let marks = own.enabled;
-    if own::none_marked(marks, 0) {
-        return Changed {
-            number: 3,
-            device: d,
-        };
-    }
-    if d.own.power != OFF {
-        return Changed {
-            number: 7,
-            device: d,
-        };
-    }
-    let device = with_own(d, own);
-    Changed { number: 0, device }
 }

@@ -1,16 +1,37 @@
-// The legality of the whole record: a factor a part.
+// The legality of the whole record (RULES, The legal record): a factor a part.
 ghost use Rattle.std.specs.Prelude.{◌≡◌};
 ghost use Rattle.record.specs.Legal.{isLegal};
 
 use crate::types::Device;
 use crate::{connections, own, settings};
 
-#[tactic(auto, unfolding(crate::specs::Legal::isLegal))]
-pub fn legal(d: Device) -> bool
-    ensures { result ≡ isLegal d }
-{
-    let connections = d.connections;
-    settings::settings_ok(d.settings)
-        & own::own_ok(d.settings, d.own)
-        & connections::connections_ok(connections)
+impl Device {
+    /// Whether the record is one that set-up and calls can leave. No part is passed over when an earlier one is wrong,
+    /// so that the compiler takes many bytes at once.
+    #[tactic(auto, unfolding(crate::specs::Legal::isLegal))]
+    pub fn is_legal(&self) -> bool
+        ensures { result ≡ isLegal self.now }
+    {
+        settings::settings_ok(&self.settings)
+            & own::own_ok(&self.settings, &self.own)
+            & connections::connections_ok(&self.connections)
+    }
+}
+
+/// A record of which it is known whether it is legal: one that comes in is tested here, and then lent to calls that
+/// test nothing. It need not be legal, since a log can begin with any.
+#[derive(Drop)]
+pub struct Tested {
+    pub device: Device,
+    pub legal: bool,
+    ghost tested: { legal ≡ isLegal device },
+}
+
+impl Tested {
+    pub fn of(device: Device) -> Tested
+        ensures { result.device ≡ device }
+    {
+        let legal = device.is_legal();
+        Tested { device, legal }
+    }
 }

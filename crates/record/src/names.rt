@@ -1,4 +1,4 @@
-// The names that a set-up of Class 2 is lent (02, L14).
+// The names that a set-up of Class 2 is lent (RULES, Class 2).
 ghost use Rattle.std.specs.Prelude.{◌≡◌};
 ghost use Rattle.lines.specs.Texts.{isText, infoMost};
 ghost use Rattle.record.specs.Limits.{onlyIn2};

@@ -1,4 +1,4 @@
-// The power, and the legality of the projector's own part (01, "Set-up").
+// The power, and the legality of the projector's own part (RULES, The legal record).
 ghost use Rattle.std.specs.Prelude.{◌≡◌, not, drop};
 ghost use Rattle.text.specs.Scans.{every};
 ghost use Rattle.record.specs.Limits.{lampsMost, isLit, isBetween};
@@ -13,7 +13,7 @@ pub const LAMP_LIMIT: u32 = 359_999_999;
 
 pub const ERROR_MOST: u8 = 2;
 
-// A volume's levels, and that of set-up (02, L14).
+// A volume's levels, and that of set-up (RULES, Class 2).
 pub const VOLUME_MOST: u8 = 20;
 
 pub const VOLUME_START: u8 = 10;
@@ -49,8 +49,8 @@ pub fn lamps_ok(s: &[u32]) -> bool
     (s.len() <= LAMPS_MOST) & scan::numbers_within(s, LAMP_LIMIT)
 }
 
-fn lamp_list_ok(list: [u32; LAMPS_MOST], count: usize) -> bool
-    ensures { result ≡ fillsRoom lampsMost isLamps list count }
+fn lamp_list_ok(list: &[u32; LAMPS_MOST], count: usize) -> bool
+    ensures { result ≡ fillsRoom lampsMost isLamps list.now count }
 {
     if LAMPS_MOST < count {
         return false;
@@ -59,8 +59,8 @@ fn lamp_list_ok(list: [u32; LAMPS_MOST], count: usize) -> bool
 }
 
 // No lamp is enabled from this place on.
-pub fn none_marked(marks: [bool; LAMPS_MOST], from: usize) -> bool
-    ensures { result ≡ every not (drop from marks) }
+pub fn none_marked(marks: &[bool; LAMPS_MOST], from: usize) -> bool
+    ensures { result ≡ every not (drop from marks.now) }
 {
     let mut none = true;
     for i in from..LAMPS_MOST {
@@ -69,10 +69,10 @@ pub fn none_marked(marks: [bool; LAMPS_MOST], from: usize) -> bool
     none
 }
 
-// None past the lamps, and one at least where there are lamps (02, L8).
+// None past the lamps, and one at least where there are lamps (RULES, Lamps).
 #[tactic(auto, unfolding(crate::specs::Rules::isMarks))]
-fn marks_ok(marks: [bool; LAMPS_MOST], count: usize) -> bool
-    ensures { result ≡ isMarks count marks }
+fn marks_ok(marks: &[bool; LAMPS_MOST], count: usize) -> bool
+    ensures { result ≡ isMarks count marks.now }
 {
     none_marked(marks, count) & ((count == 0) | !none_marked(marks, 0))
 }
@@ -83,12 +83,6 @@ pub fn errors_ok(s: &[u8]) -> bool
     ensures { result ≡ isErrors s.now }
 {
     (s.len() == ERRORS) & scan::bytes_within(s, ERROR_MOST)
-}
-
-fn error_list_ok(list: [u8; ERRORS]) -> bool
-    ensures { result ≡ isErrors list }
-{
-    errors_ok(&list)
 }
 
 // Seconds left: 1 to `warm` in warm-up, 1 to `cool` in cooling, else 0.
@@ -106,15 +100,12 @@ fn left_ok(power: u8, left: u32, warm: u32, cool: u32) -> bool
 }
 
 #[tactic(auto, unfolding(crate::specs::Legal::isOwn))]
-pub fn own_ok(s: Settings, o: Own) -> bool
-    ensures { result ≡ isOwn s o }
+pub fn own_ok(s: &Settings, o: &Own) -> bool
+    ensures { result ≡ isOwn s.now o.now }
 {
-    let errors = o.errors;
-    let lamps = o.lamps;
-    let enabled = o.enabled;
-    error_list_ok(errors)
-        & lamp_list_ok(lamps, s.lamp_count)
-        & marks_ok(enabled, s.lamp_count)
+    errors_ok(&o.errors)
+        & lamp_list_ok(&o.lamps, s.lamp_count)
+        & marks_ok(&o.enabled, s.lamp_count)
         & left_ok(o.power, o.left, s.warm, s.cool)
         & (o.chosen < s.input_count)
         & (o.speaker <= VOLUME_MOST)

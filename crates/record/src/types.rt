@@ -1,24 +1,24 @@
-// The device record (01, "Set-up"): numbers, bools, arrays and structs of these, so that it can cross to C.
+// The device record (RULES, The legal record): numbers, bools, arrays and structs of these, so that it can cross to C.
 pub const TEXT_ROOM: usize = 64;
 
-// 02, L11: as many as the standard allows.
+// RULES, Inputs: as many as the standard allows.
 pub const INPUTS_MOST: usize = 32;
 
 pub const INPUT_ROOM: usize = 2 * INPUTS_MOST;
 
-// A password that secures has this many characters and more (02, L9).
+// A password that secures has this many characters and more (RULES, Passwords).
 pub const PASSWORD_LEAST: usize = 8;
 
 pub const LAMPS_MOST: usize = 8;
 
-// Of an input's name (02, L14).
+// Of an input's name (RULES, Class 2).
 pub const INPUT_NAME_MOST: usize = 128;
 
 pub const LINE_ROOM: usize = 167;
 
 pub const ERRORS: usize = 6;
 
-// Controllers that are connected at once (02, L5).
+// Controllers that are connected at once (RULES, Places).
 pub const PLACES: usize = 4;
 
 // A text in its room. Here and in every array: what is not used is zero.
@@ -29,7 +29,7 @@ pub struct Text {
     pub bytes: [u8; TEXT_ROOM],
 }
 
-// The name of an input in its room (02, L14).
+// The name of an input in its room (RULES, Class 2).
 #[repr(C)]
 #[derive(Clone, Copy)]
 pub struct InputName {
@@ -38,7 +38,7 @@ pub struct InputName {
 }
 
 // What set-up was given, but for the lamps' starting seconds. An input is two ASCII characters.
-// What Class 2 alone has, serial, version and a name for each input, is all zero in Class 1 (02, L14).
+// What Class 2 alone has, serial, version and a name for each input, is all zero in Class 1 (RULES, Class 2).
 #[repr(C)]
 #[derive(Clone, Copy)]
 pub struct Settings {
@@ -180,7 +180,7 @@ impl Device {
     };
 }
 
-// What a set-up is given, in the order in which it is tested (01, "Set-up"; 02, L14).
+// What a set-up is given, in the order in which it is tested (RULES, The legal record and Class 2).
 #[derive(Clone, Copy)]
 pub enum Setting {
     Name,

@@ -1,11 +1,11 @@
--- How a replay goes on, and how it ends where its log is cut short. 02's L1 speaks of logs that are read and printed to
--- their end; what is said of the others is the house's own rule.
+-- How a replay goes on, and how it ends where its log is cut short. RULES, Floor log, speaks of logs that are read and
+-- printed to their end; what is said of the others is the house's own rule.
 --   readWay got          what a read's answer means: none that it failed, 0 the end of the log, more that bytes came
 --   callWay written n    how the replay goes on after a call with the number n, whose output was written or not
 --   failureLine f        the last line then, in place of the line of power and lamps. No log prints it by itself: every
 --                        other line begins with a digit or with `power `, and no log's last line ends so
 --                        (`no-log-prints`)
---   numberLine n         the one line for a stored form that does not load, with its number (02, L3)
+--   numberLine n         the one line for a stored form that does not load, with its number (RULES, Stored form)
 --   failureRoom          so much room a failure line never needs more than
 -- Assumes nothing.
 use Rattle.std.specs.Prelude.{ℕ, zero, suc, Bool, not, List, ◌++◌, Option, None, Some, eqb, if◌then◌else◌}

@@ -1,6 +1,6 @@
-// The floor log played back (02, L1): a log on standard input, what its lines answer on standard output, from 01's
-// sample set-up or from that of the stored form in the file that an argument names. Where a read
-// fails, the last line says so, and there is no line of power and lamps; where a write fails, standard error says so.
+// The floor log played back (RULES, Floor log): a log on standard input, what its lines answer on standard output, from
+// the sample set-up or from that of the stored form in the file that an argument names. Where a read fails, the last
+// line says so, and there is no line of power and lamps; where a write fails, standard error says so.
 #![tactic(auto)]
 
 mod way;
@@ -8,18 +8,37 @@ mod way;
 use crate::way::{Failure, Way};
 use floor::replay;
 use floor::replay::Floor;
+use formfile::NotBegun;
 use record::types::Device;
 use std::io::{Read, Write};
 
 const ROOM: usize = 65536;
 
-// Where a replay stands: the bytes of the input memory from `at` to `end` are not yet taken.
+// How far the input is taken: the bytes of its memory from `at` to `end` are not yet.
 #[derive(Clone, Copy)]
 struct Place {
-    floor: Floor,
     at: usize,
     end: usize,
     way: Way,
+}
+
+impl Place {
+    fn empty(way: Way) -> Place {
+        Place { at: 0, end: 0, way }
+    }
+
+    // After so many bytes more: a call takes no more than there are. Where a test fails that the promises of `play` and
+    // `count` rule out, the replay ends as one without a line number.
+    fn further(self, taken: usize, way: Way) -> Place {
+        if self.end < self.at || self.end - self.at < taken {
+            return Place::empty(Way::Failed(Failure::Broken));
+        }
+        Place {
+            at: self.at + taken,
+            end: self.end,
+            way,
+        }
+    }
 }
 
 fn write_start<W: Write>(to: &mut W, out: &[u8], length: usize) -> bool {
@@ -29,44 +48,23 @@ fn write_start<W: Write>(to: &mut W, out: &[u8], length: usize) -> bool {
     false
 }
 
-// Where a test fails that the promises of `play` and `count` rule out, the replay ends as one without a line number.
-fn broken_off(floor: Floor) -> Place {
-    Place {
-        floor,
-        at: 0,
-        end: 0,
-        way: Way::Failed(Failure::Broken),
-    }
-}
-
-// The place after so many bytes more: a call takes no more than there are.
-fn further(floor: Floor, at: usize, end: usize, taken: usize, way: Way) -> Place {
-    if end < at {
-        return broken_off(floor);
-    }
-    if end - at < taken {
-        return broken_off(floor);
-    }
-    Place {
-        floor,
-        at: at + taken,
-        end,
-        way,
-    }
-}
-
 // What is left of the last read is played, and what it prints is written.
-fn play_rest(rt: &HostRuntime, p: Place, line: &mut [u8], rest: &[u8], out: &mut [u8]) -> Place {
-    let stepped = replay::play(p.floor, line, rest, out);
+fn play_rest(
+    rt: &HostRuntime,
+    floor: &mut Floor,
+    p: Place,
+    line: &mut [u8],
+    rest: &[u8],
+    out: &mut [u8],
+) -> Place {
+    let stepped = replay::play(floor, line, rest, out);
     let written = write_start(&mut rt.stdout(), out, stepped.length);
-    let next = way::after_call(written, stepped.number);
-    further(stepped.floor, p.at, p.end, stepped.taken, next)
+    p.further(stepped.taken, way::after_call(written, stepped.number))
 }
 
-fn read_more(rt: &HostRuntime, p: Place, input: &mut [u8]) -> Place {
+fn read_more(rt: &HostRuntime, input: &mut [u8]) -> Place {
     let got = rt.stdin().read(input).ok();
     Place {
-        floor: p.floor,
         at: 0,
         end: got.unwrap_or(0),
         way: way::after_read(got),
@@ -74,24 +72,26 @@ fn read_more(rt: &HostRuntime, p: Place, input: &mut [u8]) -> Place {
 }
 
 fn goes_on(p: Place) -> bool {
-    let way = p.way;
-    match way {
-        Way::On => true,
-        Way::Ended => false,
-        Way::Failed(_) => false,
-    }
+    matches!(p.way, Way::On)
 }
 
-fn turn(rt: &HostRuntime, p: Place, line: &mut [u8], input: &mut [u8], out: &mut [u8]) -> Place {
+fn turn(
+    rt: &HostRuntime,
+    floor: &mut Floor,
+    p: Place,
+    line: &mut [u8],
+    input: &mut [u8],
+    out: &mut [u8],
+) -> Place {
     let at = p.at;
     let end = p.end;
     if end <= at {
-        return read_more(rt, p, input);
+        return read_more(rt, input);
     }
     if input.len() < end {
-        return broken_off(p.floor);
+        return Place::empty(Way::Failed(Failure::Broken));
     }
-    play_rest(rt, p, line, &input[at..end], out)
+    play_rest(rt, floor, p, line, &input[at..end], out)
 }
 
 fn say<W: Write>(to: &mut W, failure: Failure) -> bool {
@@ -101,10 +101,8 @@ fn say<W: Write>(to: &mut W, failure: Failure) -> bool {
 }
 
 fn tell(rt: &HostRuntime, way: Way) {
-    match way {
-        Way::On => {}
-        Way::Ended => {}
-        Way::Failed(failure) => tell_failure(rt, failure),
+    if let Way::Failed(failure) = way {
+        tell_failure(rt, failure);
     }
 }
 
@@ -121,11 +119,10 @@ fn tell_failure(rt: &HostRuntime, failure: Failure) {
 }
 
 // The end of the log is played, and the line of power and lamps written; a replay that was cut short has neither.
-fn end(rt: &HostRuntime, p: Place, line: &mut [u8], out: &mut [u8]) {
-    let way = p.way;
+fn end(rt: &HostRuntime, floor: &mut Floor, way: Way, line: &mut [u8], out: &mut [u8]) {
     match way {
         Way::Ended => {
-            let finished = replay::finish(p.floor, line, out);
+            let finished = replay::finish(floor, line, out);
             let written = write_start(&mut rt.stdout(), out, finished.length);
             tell(rt, way::after_call(written, finished.number));
         }
@@ -143,35 +140,25 @@ fn tell_number(rt: &HostRuntime, number: u32) {
     }
 }
 
-fn run(rt: &HostRuntime, device: Device, line: &mut [u8], input: &mut [u8], out: &mut [u8]) {
-    let floor = replay::start_with(device);
-    let mut place = Place {
-        floor,
-        at: 0,
-        end: 0,
-        way: Way::On,
-    };
-    // a proved loop has to end: no log takes this many turns
-    let mut turns = u64::MAX;
-    while turns > 0 && goes_on(place) {
-        place = turn(rt, place, line, input, out);
-        turns -= 1;
-    }
-    end(rt, place, line, out);
-}
-
-fn main(rt: HostRuntime) {
-    let begun = formfile::begun_by(&rt, 1);
-    if !begun.read {
-        tell_failure(&rt, Failure::Read);
-        return;
-    }
-    if begun.number != 0 {
-        tell_number(&rt, begun.number);
-        return;
-    }
+fn run(rt: &HostRuntime, device: Device) {
     let mut line = [0u8; replay::LINE_ROOM];
     let mut input = [0u8; ROOM];
     let mut out = [0u8; ROOM];
-    run(&rt, begun.device, &mut line, &mut input, &mut out);
+    let mut floor = replay::start(device);
+    let mut place = Place::empty(Way::On);
+    // a proved loop has to end: no log takes this many turns
+    let mut turns = u64::MAX;
+    while turns > 0 && goes_on(place) {
+        place = turn(rt, &mut floor, place, &mut line, &mut input, &mut out);
+        turns -= 1;
+    }
+    end(rt, &mut floor, place.way, &mut line, &mut out);
+}
+
+fn main(rt: HostRuntime) {
+    match formfile::begun_by(&rt, 1) {
+        Ok(device) => run(&rt, device),
+        Err(NotBegun::Unread) => tell_failure(&rt, Failure::Read),
+        Err(NotBegun::Refused(number)) => tell_number(&rt, number),
+    }
 }

@@ -1,5 +1,5 @@
--- Lamps of other makers, read by computing (02, L4): leading zeros are taken, six digits and none are not. And what
--- Class 2 adds (02, L14).
+-- Lamps of other makers, read by computing (RULES, Controller): leading zeros are taken, six digits and none are not.
+-- And what Class 2 adds (RULES, Class 2).
 -- Assumes nothing.
 use mathlib.Core.Path.{◌≡◌, refl}
 use mathlib.Core.Bool.{true, false}

@@ -1,5 +1,5 @@
 -- THE LAW, the other way: what is read of a parameter was written there, and there is nothing that a parameter says
--- which is not read of it (01, "Controller"); so a parameter is refused exactly if it says nothing.
+-- which is not read of it (RULES, Controller); so a parameter is refused exactly if it says nothing.
 -- Assumes nothing.
 use Prim.Native.Nat.{ℕ}
 use mathlib.Core.Path.{◌≡◌, refl, sym, subst, ◌∙◌}

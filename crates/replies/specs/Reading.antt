@@ -1,5 +1,5 @@
--- The parameter of a reply, read for the command that it answers (01, "Controller"; 02, L14: the reader is not told the
--- class of the set-up, and takes what either class answers).
+-- The parameter of a reply, read for the command that it answers (RULES, Controller and Class 2: the reader is not told
+-- the class of the set-up, and takes what either class answers).
 -- ERR1 to ERR4 are tested first, alike for every command.
 --   p spells t             the bytes p are the text t
 --   lampOf hours lit       the lamp of two words: its hours, and 1 if it is lit, else 0

@@ -1,4 +1,4 @@
--- The words between single spaces that a list is read by, and things with a space before each (01, "Commands": "joined
+-- The words between single spaces that a list is read by, and things with a space before each (RULES, Commands: "joined
 -- by spaces"), where a thing may have more than one text.
 --   SpacedBy W xs s    s is the things xs, a space before each, each by one of the texts that W has for it; where s is
 --                      a space and p, the things are joined in p

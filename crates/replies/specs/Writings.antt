@@ -1,6 +1,7 @@
--- Which bytes say what (01, "Commands": the parameter of each answer; "Controller": "Sets allow OK and ERR1 to ERR4;
--- queries the values above or ERR1, ERR3, ERR4"; 02, L14: a query that names an input also ERR2). A relation, as lamps
--- have more than one writing (02, L4): other makers pad a lamp's hours with zeros, to five digits at most.
+-- Which bytes say what (RULES, Commands: the parameter of each answer; "Controller": "Sets allow OK and ERR1 to ERR4;
+-- queries the values above or ERR1, ERR3, ERR4"; RULES, Class 2: a query that names an input also ERR2). A relation, as
+-- lamps have more than one writing (RULES, Controller): other makers pad a lamp's hours with zeros, to five digits at
+-- most.
 --   WritesLamp l t     the bytes t are a writing of the lamp l: its hours in one to five digits, a space, 1 if lit,
 --                      else 0
 --   Writes m p         the bytes p are a writing of m: lamps, each in a writing of its own, joined by single spaces; of

@@ -1,7 +1,8 @@
-// The parameter of a reply, read for the command that it answers (01, "Controller").
+// The parameter of a reply, read for the command that it answers (RULES, Controller).
 #![tactic(auto)]
 
 mod list;
+pub mod theorems;
 mod values;
 
 ghost use Rattle.std.specs.Prelude.{◌≡◌};

@@ -1,4 +1,4 @@
-// Lists of lamps and of inputs, read into arrays word by word (01, "Controller").
+// Lists of lamps and of inputs, read into arrays word by word (RULES, Controller).
 ghost use Rattle.std.specs.Prelude.{◌≡◌, ◌≤◌, length};
 ghost use Rattle.answers.specs.Carried.{answer_of};
 ghost use Rattle.replies.specs.Words.{WordTo};

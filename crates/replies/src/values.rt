@@ -1,4 +1,4 @@
-// The value that a parameter has, for each kind of query (01, "Controller").
+// The value that a parameter has, for each kind of query (RULES, Controller).
 ghost use Rattle.std.specs.Prelude.{◌≡◌, true, ◌≤◌, length, if◌then◌else◌};
 ghost use Rattle.answers.specs.Said.{textIs, nothing};
 ghost use Rattle.answers.specs.declared.answer.Kind.TheVariants.{Nothing};

@@ -1,5 +1,5 @@
--- A set-up of Class 1 goes by the definitions that stood before Class 2 came (02, L14): a line asks for what it asked
--- for; but two characters that name an input of Class 2 alone named none then.
+-- A set-up of Class 1 goes by the definitions that stood before Class 2 came (RULES, Class 2): a line asks for what it
+-- asked for; but two characters that name an input of Class 2 alone named none then.
 --   KeptAs now before     a request is what it was, or asks for such an input where it was out of parameter
 -- Assumes nothing.
 use Prim.Native.Nat.{ℕ}

@@ -1,4 +1,4 @@
--- Requests of both classes (01, "Commands"; 02, L14).
+-- Requests of both classes (RULES, Commands and Class 2).
 -- Assumes nothing.
 use mathlib.Core.Path.{◌≡◌, refl}
 use mathlib.Core.List.{List, [], ◌∷◌, map}

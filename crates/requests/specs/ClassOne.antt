@@ -1,5 +1,6 @@
--- What a line asks for, as it stood before Class 2 came (02, L14): word for word the definitions of 01's Class 1, under
--- names with a 1. Nothing is built on them; proofs/ClassOneKept.antt has that a set-up of Class 1 goes by them still.
+-- What a line asks for, as it stood before Class 2 came (RULES, Class 2): word for word the definitions of Class 1,
+-- under names with a 1. Nothing is built on them; proofs/ClassOneKept.antt has that a set-up of Class 1 goes by them
+-- still.
 --   requestOf1 s p        what the body s with the parameter p asks for
 -- Assumes nothing.
 use Rattle.std.specs.Prelude.{Bool, ◌&&◌, List, [], ◌∷◌, ℕ, length, eqb, if◌then◌else◌}

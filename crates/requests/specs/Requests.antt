@@ -1,5 +1,5 @@
--- What a received class, body and parameter ask for (01, "Commands": bodies without regard to case, parameters exactly;
--- 02, L14: each body under its own class).
+-- What a received class, body and parameter ask for (RULES, Commands: bodies without regard to case, parameters
+-- exactly; RULES, Class 2: each body under its own class).
 --   isBody k s b           the bytes s name the body b of Class k, in any case of letters
 --   bodyNamed k s          the body that they name, or none
 --   requestOf k s p        what the body s with the parameter p asks for in a line of Class k:

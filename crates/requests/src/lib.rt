@@ -1,4 +1,4 @@
-// What a received class, body and parameter ask for (01, "Commands"; 02, L14).
+// What a received class, body and parameter ask for (RULES, Commands and Class 2).
 #![tactic(auto)]
 
 ghost use Rattle.std.specs.Prelude.{◌≡◌, true, false, [], ◌∷◌};

@@ -30,9 +30,6 @@ module _ (es ls : List ℕ) (out₀ : List ℤ) where
     pub room : length out ≡ length out₀
     pub stored : out ≡ sets out₀ 0 (take i (differences es ls))
 
-  pub none-placed : length es ≡ length ls → Placed out₀ 0
-  none-placed h = record { same = h; room = refl; stored = refl }
-
   module _ {out : List ℤ} {i : ℕ} (p : Placed out i) where
     pub one_placed : i < length es → {z : ℤ} → z ≡ get_or ls i 0 minus get_or es i 0 → Placed (set out i z) (i + 1)
     one_placed h g =

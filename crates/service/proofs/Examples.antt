@@ -18,7 +18,7 @@ second-and-third : compared (3600 ∷ 41 ∷ 9 ∷ []) (7200 ∷ 40 ∷ 0 ∷ []
 unfolding compared ◌minus◌
 second-and-third = refl
 
--- 01: "exact at both ends"
+-- RULES, Service: exact at both ends
 both_ends : compared (0 ∷ 4294967295 ∷ []) (4294967295 ∷ 0 ∷ []) 64
     ≡ record { told = Backwards 1; written = pos 4294967295 ∷ negsuc 4294967294 ∷ [] }
 unfolding compared ◌minus◌

@@ -1,11 +1,7 @@
 -- The place that is told is the lowest one where the lamp went backwards; none is told exactly where none did.
---   First es ls k       at k the later seconds are below the earlier, and at no place before it
---   None es ls          at no place are they
---   Means es ls room c  what each case says of the two tables
 -- Assumes nothing.
 use Prim.Native.Nat.{ℕ, zero, suc, ◌+◌, ◌≤◌, ◌<◌}
 use mathlib.Core.Path.{◌≡◌, refl, sym, ap, subst, ◌∙◌}
-use mathlib.Core.Bool.{true, false}
 use mathlib.Core.List.{List, [], ◌∷◌}
 use mathlib.Core.Logic.{⊎_elim}
 use native.Mathlib.Nat.{add-zero, add-suc, suc-add, zero-add}
@@ -15,19 +11,12 @@ use borrow.Author.Tests.{ltb-true, ltb-false}
 use Rattle.text.proofs.Choices.{if-by}
 use Rattle.text.proofs.Orders.{le-or-lt}
 use Rattle.service.specs.Differences.{◌minus◌, differences, isNegative, firstNegative}
-use Rattle.service.specs.Differences.{isComparable, ComparedAs, compared}
+use Rattle.service.specs.Differences.{ComparedAs, compared}
+use Rattle.service.specs.ComparedHolds.{FirstBack, NoneBack, ComparedHolds}
 use Rattle.service.specs.declared.Compared.{Compared}
 use Rattle.service.specs.declared.Compared.TheVariants.{Forwards, Backwards, Refused}
 use Rattle.service.proofs.Minus.{negative-is-backwards}
 use Rattle.service.proofs.Cases.{compared-by, compared-refused, compared-told, one-length}
-
-pub record First (es ls : List ℕ) (k : ℕ) : Type 0 where
-  pub inside : k < length es
-  pub back : get_or ls k 0 < get_or es k 0
-  pub kept : (j : ℕ) → j < k → get_or es j 0 ≤ get_or ls j 0
-
-abbrev pub None : List ℕ → List ℕ → Type 0
-None es ls = (j : ℕ) → j < length es → get_or es j 0 ≤ get_or ls j 0
 
 -- a place before those of a first one, and of none, where the lamp did not go backwards
 below : {e l : ℕ} (es ls : List ℕ) {n : ℕ} → e ≤ l → ((j : ℕ) → j < n → get_or es j 0 ≤ get_or ls j 0)
@@ -36,8 +25,8 @@ below es ls h k zero p = h
 below es ls h k (suc j) p = k j (omega arith)
 
 pub first_by : (P : Compared → Type 0) (n : ℕ) (es ls : List ℕ) → length es ≡ length ls
-    → ((k : ℕ) → First es ls k → P (Backwards (n + k)))
-    → (None es ls → P Forwards)
+    → ((k : ℕ) → FirstBack es ls k → P (Backwards (n + k)))
+    → (NoneBack es ls → P Forwards)
     → P (firstNegative n (differences es ls))
 first_by P n [] ls same told none = none (λ j h. absurd (omega arith))
 first_by P n (e ∷ es) [] same told none = absurd (omega arith)
@@ -58,32 +47,30 @@ first_by P n (e ∷ es) (l ∷ ls) same told none =
     (λ w. none (below es ls stays w)))
 
 -- there is one first place
-no_less : (es ls : List ℕ) {j k : ℕ} → First es ls j → First es ls k → j ≤ k
+no_less : (es ls : List ℕ) {j k : ℕ} → FirstBack es ls j → FirstBack es ls k → j ≤ k
 no_less es ls {j} {k} p q =
     ⊎_elim (λ h. h) (λ h. absurd (omega (arith, p.kept k h, q.back))) (le-or-lt j k)
 
-pub one-first : (es ls : List ℕ) {j k : ℕ} → First es ls j → First es ls k → j ≡ k
+pub one-first : (es ls : List ℕ) {j k : ℕ} → FirstBack es ls j → FirstBack es ls k → j ≡ k
 one-first es ls p q = omega (arith, no_less es ls p q, no_less es ls q p)
 
 -- at a first place some lamp went backwards
-not_none : (es ls : List ℕ) {k : ℕ} → First es ls k → None es ls → ⊥
+not_none : (es ls : List ℕ) {k : ℕ} → FirstBack es ls k → NoneBack es ls → ⊥
 not_none es ls {k} p w = omega (arith, w k p.inside, p.back)
 
 module _ (es ls : List ℕ) (room : ℕ) where
-  abbrev pub Means : Compared → Type 0
-  Means Forwards = (isComparable es ls room ≡ true) × None es ls
-  Means (Backwards k) = (isComparable es ls room ≡ true) × First es ls k
-  Means Refused = isComparable es ls room ≡ false
+  abbrev Means : Compared → Type 0
+  Means = ComparedHolds es ls room
 
   -- what is told holds
-  pub told-holds : Means (compared es ls room).told
+  pub told-holds : ComparedHolds es ls room (compared es ls room).told
   told-holds =
       compared-by es ls room (λ (c : ComparedAs). Means c.told) (λ f. f)
-      (λ f. first_by Means 0 es ls (one-length es ls room f) (λ k w. (f, subst (First es ls) (sym (zero-add k)) w))
+      (λ f. first_by Means 0 es ls (one-length es ls room f) (λ k w. (f, subst (FirstBack es ls) (sym (zero-add k)) w))
       (λ w. (f, w)))
 
   -- and what holds is told
-  pub holds-told : (c : Compared) → Means c → (compared es ls room).told ≡ c
+  pub holds-told : (c : Compared) → ComparedHolds es ls room c → (compared es ls room).told ≡ c
   holds-told Forwards m =
       ap (λ (c : ComparedAs). c.told) (compared-told es ls room m.0)
       ∙ first_by (λ (c : Compared). c ≡ Forwards) 0 es ls (one-length es ls room m.0)

@@ -43,7 +43,7 @@ module _ (l e : ℕ) where
       let ahead : ltb e (suc (e - suc l)) ≡ false = le-ltb e (suc (e - suc l)) (omega arith) in
       ap (λ (b : Bool). cond b (negsuc (suc (e - suc l) - suc e)) (pos (e - suc (e - suc l)))) ahead ∙ ap pos same)
 
-  -- 01: "a negative result marks a lamp that went backwards"
+  -- RULES, Service: a negative result marks a lamp that went backwards
   pub negative-is-backwards : isNegative (l minus e) ≡ ltb l e
   negative-is-backwards =
       minus-by (λ (z : ℤ). isNegative z ≡ ltb l e) l e (λ h. le-ltb (l - e) 0 zero-le ∙ sym (le-ltb l e h))

@@ -1,11 +1,11 @@
--- Two tables of lamp seconds, one list of differences (02, L10).
+-- Two tables of lamp seconds, one list of differences (RULES, Service).
 --   tableMost              the places that a table may have
 --   l minus e              the later seconds l minus the earlier e, an integer: below 0 where the lamp went backwards
 --   differences es ls      that, for each place of the two tables
 --   firstNegative k ds     the first place with a difference below 0, places counted from k on, or none
 --   isComparable es ls n   the tables are of one length, not too long, and a result list of n places has room
 --   compared es ls n       what is told, and what is written from the result list's first place on
---   reportOf c             the number of 01's table and the values of each case
+--   reportOf c             the number of the table and the values of each case
 -- Assumes nothing.
 use Rattle.std.specs.Prelude.{ℕ, suc, Bool, true, false, ◌&&◌, List, [], ◌∷◌, ℤ, pos, ◌-ℤ◌, length, leb, eqb}
 use Rattle.std.specs.Int.Signed.{lt_z}

@@ -1,1 +1,2 @@
 pub mod Differences
+pub mod ComparedHolds

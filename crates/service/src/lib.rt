@@ -1,5 +1,7 @@
-// Service reads all lamps each month: two tables of lamp seconds, compared (02, L10).
+// Service reads all lamps each month: two tables of lamp seconds, compared (RULES, Service).
 #![tactic(auto)]
+
+pub mod theorems;
 
 ghost use Rattle.std.specs.Prelude.{◌≡◌, ◌≤◌, length};
 ghost use Rattle.std.proofs.lemmas.List.Edits.{sets};
@@ -16,7 +18,7 @@ pub enum Compared {
     Refused,
 }
 
-// The number of 01's table, whether a lamp went backwards, and the first place where one did (0 where none did).
+// The number of the table, whether a lamp went backwards, and the first place where one did (0 where none did).
 #[repr(C)]
 #[derive(Clone, Copy)]
 pub struct Report {

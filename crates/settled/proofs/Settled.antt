@@ -1,4 +1,4 @@
--- 01's lines that settle it hold of our calls, and those of Class 2 (02, L14): each row is computed.
+-- the lines that settle it hold of our calls, and those of Class 2 (RULES, Class 2): each row is computed.
 -- Assumes nothing.
 use mathlib.Core.Path.{refl}
 use Rattle.ours.specs.Board.{ours}

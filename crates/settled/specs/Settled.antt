@@ -1,5 +1,5 @@
--- 01, "Lines that settle it", as one statement over the list. The device is `sample`, a connection opened; each row is
--- a line, its answer, and the calls before it. Then `class2Sample`, of Class 2 (02, L14).
+-- RULES, Commands, as one statement over the list. The device is `sample`, a connection opened; each row is
+-- a line, its answer, and the calls before it. Then `class2Sample`, of Class 2 (RULES, Class 2).
 --   t gives u after cs      the line t is answered u, after the calls cs
 --   Settles B               every row holds of the board B
 --   SettlesClass2 B         so does every row of Class 2

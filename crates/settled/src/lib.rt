@@ -1,4 +1,4 @@
-//! 01's lines that settle it, each computed on our calls. Definitions and laws only; there is no code here to link.
+//! the lines that settle it, each computed on our calls. Definitions and laws only; there is no code here to link.
 #![tactic(auto)]
 
 ghost use Rattle.ours.specs.Board.{ours};

@@ -1,4 +1,4 @@
-// What set-up keeps of the lent slices: each at the start of a cleared room (01, "Set-up").
+// What set-up keeps of the lent slices: each at the start of a cleared room (RULES, The legal record).
 ghost use Rattle.std.specs.Prelude.{◌≡◌, ◌≤◌, length, true};
 ghost use Rattle.lines.specs.Texts.{inputNameMost};
 ghost use Rattle.record.specs.Limits.{textRoom, inputRoom, listedMost, lampsMost};
@@ -35,7 +35,7 @@ pub fn name_of(s: &[u8]) -> InputName
     }
 }
 
-// So many names, one after the other in `bytes`, each of its length (02, L14).
+// So many names, one after the other in `bytes`, each of its length (RULES, Class 2).
 pub fn names_of(bytes: &[u8], lengths: &[usize], count: usize) -> [InputName; INPUTS_MOST]
     requires named { areNames count (namesIn lengths.now bytes.now) ≡ true }
     requires few { count ≤ listedMost }
@@ -69,7 +69,7 @@ pub fn lamp_room(s: &[u32]) -> [u32; LAMPS_MOST]
     list
 }
 
-// Each of so many lamps is enabled (02, L8).
+// Each of so many lamps is enabled (RULES, Lamps).
 pub fn mark_room(count: usize) -> [bool; LAMPS_MOST]
     requires { count ≤ lampsMost }
     ensures { result ≡ allMarks count }

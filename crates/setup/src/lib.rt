@@ -1,4 +1,4 @@
-// Set-up (01, "Set-up"): each setting is tested, then kept.
+// Set-up (RULES, The legal record): each setting is tested, then kept.
 #![tactic(auto)]
 
 pub mod fill;
@@ -144,7 +144,7 @@ pub fn set_up(
     )
 }
 
-// Of Class 2 (02, L14): the names one after the other, each of its length.
+// Of Class 2 (RULES, Class 2): the names one after the other, each of its length.
 pub fn set_up_2(
     name: &[u8],
     maker: &[u8],

@@ -1,5 +1,5 @@
-// Which setting is out of its range, or too short a password: set-up's numbers name none (01, "The numbers a call
-// gives"; 02, L9).
+// Which setting is out of its range, or too short a password: set-up's numbers name none (RULES, The numbers a call
+// gives; RULES, Passwords).
 ghost use Rattle.std.specs.Prelude.{◌≡◌};
 ghost use Rattle.record.specs.Wanted.{wantedIn, wantedOf, wantedOf2, namesIn};
 ghost use Rattle.record.specs.SetUp.{isInRange};
@@ -178,7 +178,7 @@ pub fn refused_setting(
     )
 }
 
-// Of a Class 2 set-up (02, L14).
+// Of a Class 2 set-up (RULES, Class 2).
 pub fn refused_setting_2(
     name: &[u8],
     maker: &[u8],

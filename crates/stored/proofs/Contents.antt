@@ -1,5 +1,5 @@
 -- The settings at the places of a form, as the code lends them to set-up; lamps that are too many; and the marks, by
--- the version (02, L8): the old one has none, and loads as the set-up itself.
+-- the version (RULES, Lamps): the old one has none, and loads as the set-up itself.
 -- Assumes nothing.
 use Prim.Native.Nat.{ℕ, ◌+◌, ◌*◌, ◌≤◌, ◌<◌}
 use mathlib.Core.Path.{◌≡◌, refl, sym, ap, ◌∙◌}
@@ -105,7 +105,7 @@ module _ (w : Wanted) where
         })
 
 module _ (s : List ℕ) where
-  -- versions 1 and 2 are of Class 1 (02, L14)
+  -- versions 1 and 2 are of Class 1 (RULES, Class 2)
   pub older-is-class-1 : hasClass s ≡ false → (settingsIn s).class ≡ 1
   unfolding settingsAt settingsWith
   older-is-class-1 e = if_no _ 1 e

@@ -1,5 +1,5 @@
--- Wherever a form of any version is cut, it is cut short (02, L3): what is left of it has its counts as far as they
--- go, and past its end none, so that what it says of its end lies past its end too.
+-- Wherever a form of any version is cut, it is cut short (RULES, Stored form): what is left of it has its counts as far
+-- as they go, and past its end none, so that what it says of its end lies past its end too.
 -- Assumes nothing.
 use Prim.Native.Nat.{ℕ, zero, suc, ◌+◌, ◌-◌, ◌*◌, ◌≤◌, ◌<◌}
 use mathlib.Core.Path.{◌≡◌, refl, sym, ap, ◌∙◌}

@@ -1,5 +1,5 @@
--- Bytes that load are their version's form of what stands in them (02, L3, L8 and L14): each section, written again, is
--- the bytes from which it was read.
+-- Bytes that load are their version's form of what stands in them (RULES, Stored form, Lamps and Class 2): each
+-- section, written again, is the bytes from which it was read.
 -- Assumes nothing.
 use Prim.Native.Nat.{ℕ, ◌+◌, ◌-◌, ◌*◌, ◌/◌, ◌≤◌}
 use mathlib.Core.Path.{◌≡◌, refl, sym, ap, ◌∙◌}

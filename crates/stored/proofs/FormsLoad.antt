@@ -1,6 +1,6 @@
--- What was stored loads (02, L3, L8 and L14): the form of settings that set-up takes, with marks of their lamps, is
--- loaded as their set-up with these marks; version 2's too, of settings of Class 1; version 1's as their set-up, in
--- which each lamp is enabled; what follows a form is left over.
+-- What was stored loads (RULES, Stored form, Lamps and Class 2): the form of settings that set-up takes, with marks of
+-- their lamps, is loaded as their set-up with these marks; version 2's too, of settings of Class 1; version 1's as
+-- their set-up, in which each lamp is enabled; what follows a form is left over.
 -- Assumes nothing.
 use Prim.Native.Nat.{ℕ, ◌+◌}
 use mathlib.Core.Path.{◌≡◌, refl, sym, ap, subst, ◌∙◌}

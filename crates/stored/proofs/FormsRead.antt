@@ -1,5 +1,5 @@
--- A form is read back (02, L3, L8 and L14), of each version: by its counts it ends where it ends, whatever follows it,
--- and has the settings of which it is the form, and its marks.
+-- A form is read back (RULES, Stored form, Lamps and Class 2), of each version: by its counts it ends where it ends,
+-- whatever follows it, and has the settings of which it is the form, and its marks.
 -- Assumes nothing.
 use Prim.Native.Nat.{ℕ, ◌+◌, ◌*◌, ◌/◌, ◌≤◌}
 use mathlib.Core.Path.{◌≡◌, refl, sym, ap, ◌∙◌}

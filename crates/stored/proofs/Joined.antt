@@ -1,4 +1,4 @@
--- Texts that were read, without their counts (02, L14): as set-up is lent them, and where each stands.
+-- Texts that were read, without their counts (RULES, Class 2): as set-up is lent them, and where each stands.
 -- Assumes nothing.
 use Prim.Native.Nat.{ℕ, suc, ◌+◌, ◌-◌, ◌≤◌}
 use mathlib.Core.Path.{◌≡◌, refl, sym, ap, ◌∙◌}

@@ -1,4 +1,4 @@
--- The marks of the lamps (02, L8): in their room, in bytes, written and read back, and no other bytes for them.
+-- The marks of the lamps (RULES, Lamps): in their room, in bytes, written and read back, and no other bytes for them.
 --   AreMarks n bytes      what bytes that are marks of n lamps tell
 -- Assumes nothing.
 use Prim.Native.Nat.{ℕ, zero, suc, ◌-◌, ◌≤◌}

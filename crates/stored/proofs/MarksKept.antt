@@ -1,4 +1,4 @@
--- Bytes kept as marks, one after the other (02, L8).
+-- Bytes kept as marks, one after the other (RULES, Lamps).
 --   MarksKept s list i      the loop that keeps the marks that the bytes s are has come to i
 -- Assumes nothing.
 use Prim.Native.Nat.{ℕ, zero, suc, ◌+◌, ◌-◌, ◌≤◌, ◌<◌}

@@ -1,6 +1,6 @@
--- Each version has one form (02, L3, L8 and L14): bytes that load are their version's form of what they load. So those
--- of the newest, stored again, are the same bytes; those of the old one become the newest form of the same, each lamp
--- enabled; and no two byte strings of one version load as one record.
+-- Each version has one form (RULES, Stored form, Lamps and Class 2): bytes that load are their version's form of what
+-- they load. So those of the newest, stored again, are the same bytes; those of the old one become the newest form of
+-- the same, each lamp enabled; and no two byte strings of one version load as one record.
 -- Assumes nothing.
 use Prim.Native.Nat.{ℕ}
 use mathlib.Core.Path.{◌≡◌, sym, ap, ◌∙◌}

@@ -1,4 +1,4 @@
--- The class and what Class 2 alone has, after C (02, L14): how it is read back.
+-- The class and what Class 2 alone has, after C (RULES, Class 2): how it is read back.
 --   restTexts w         the texts that follow the class of the settings w
 --   HasRest v rest w    the version v has these bytes after C, of the settings w
 -- Assumes nothing.

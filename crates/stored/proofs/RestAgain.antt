@@ -1,5 +1,5 @@
--- The class and what Class 2 alone has, after C (02, L14): written again it is as it was, and cut it says that it ends
--- past the cut.
+-- The class and what Class 2 alone has, after C (RULES, Class 2): written again it is as it was, and cut it says that
+-- it ends past the cut.
 -- Assumes nothing.
 use Prim.Native.Nat.{ℕ, zero, suc, ◌+◌, ◌≤◌, ◌<◌}
 use mathlib.Core.Path.{◌≡◌, refl, sym, ap, ◌∙◌}

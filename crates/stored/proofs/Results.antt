@@ -1,6 +1,6 @@
--- What loading gives (02, L3): the number is that of the first row that applies, for every byte string; a refused load
--- gives the blank record; a load that is accepted is a set-up with the marks that the form has (02, L8), and legal; and
--- the promise leaves one result.
+-- What loading gives (RULES, Stored form): the number is that of the first row that applies, for every byte string; a
+-- refused load gives the blank record; a load that is accepted is a set-up with the marks that the form has (RULES,
+-- Lamps), and legal; and the promise leaves one result.
 --   Accepted s        an accepted load: the version is known, the bytes are as long as their form, the contents legal
 -- Assumes nothing.
 use Prim.Native.Nat.{ℕ, ◌≤◌}
@@ -34,14 +34,8 @@ pub started-with-legal : (w : Wanted) (ms : List Bool) → isSetUp w ≡ true
 started-with-legal w ms ok h =
     let legal = started-legal w ok in
     let t = own-of-legal (started w) legal in
-    with-own-legal (started w) legal (withMarks (started w).own (markRoom ms)) (record {
-      errors = t.errors;
-      lamps = t.lamps;
-      marks = ap (λ (d : Device). isMarks d.settings.lamp_count (markRoom ms)) (started-parts w) ∙ h;
-      left = t.left;
-      chosen = t.chosen;
-      volumes = t.volumes;
-    })
+    with-own-legal (started w) legal (withMarks (started w).own (markRoom ms))
+    (assumption (t, ap (λ (d : Device). isMarks d.settings.lamp_count (markRoom ms)) (started-parts w) ∙ h))
 
 module _ (s : List ℕ) where
   abbrev given : Changed

@@ -1,5 +1,5 @@
--- A stored form of each version, printed by hand from 02, L3, L8 and L14: two lamps, three inputs, a name in Japanese;
--- stored and loaded by computing, and refused with each number of the reader.
+-- A stored form of each version, printed by hand from RULES, Stored form, Lamps and Class 2: two lamps, three inputs, a
+-- name in Japanese; stored and loaded by computing, and refused with each number of the reader.
 -- Assumes nothing.
 use Prim.Native.Nat.{ℕ, ◌+◌, ◌-◌, ◌*◌}
 use Prim.Native.String.{String}
@@ -113,7 +113,7 @@ old-printed-loaded = refl
 abbrev numberOn : List ℕ → ℕ
 numberOn s = (loaded s).number
 
--- a password that 01 does not allow; one lamp too many, all its bytes there
+-- a password that is not allowed; one lamp too many, all its bytes there
 abbrev spaced : List ℕ
 spaced = form_of (withPassword (ascii "she ars") cuttingRoom) onlyFirst
 
@@ -156,7 +156,7 @@ pub each-marked : map numberOn
 unfolding computing form-computing number-computing record-computing
 each-marked = refl
 
--- the longest form there is: every text, the inputs and the lamps as many as 01 allows
+-- the longest form there is: every text, the inputs and the lamps as many as are allowed
 abbrev widest : Wanted
 widest =
     wantedOf2 (replicate 64 (code "N")) (replicate 32 (code "M")) (replicate 32 (code "O")) (replicate 32 (code "I"))

@@ -1,6 +1,6 @@
--- A board swap (02, L3 and L8): what a legal record stores loads as the fresh set-up of its settings and of its lamps'
--- seconds as they are, each lamp with its mark, with the number 0. What is stored of a fresh set-up is what it was set
--- up with.
+-- A board swap (RULES, Stored form and Lamps): what a legal record stores loads as the fresh set-up of its settings and
+-- of its lamps' seconds as they are, each lamp with its mark, with the number 0. What is stored of a fresh set-up is
+-- what it was set up with.
 -- Assumes nothing.
 use Prim.Native.Nat.{ℕ, ◌/◌, ◌≤◌}
 use mathlib.Core.Path.{◌≡◌, refl, sym, ap, ◌∙◌}

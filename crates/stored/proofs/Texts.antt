@@ -1,5 +1,5 @@
--- Texts one after the other, each after its count (02, L14): read, one more read, written and read back, written again,
--- and cut.
+-- Texts one after the other, each after its count (RULES, Class 2): read, one more read, written and read back, written
+-- again, and cut.
 --   textAt t k      the text whose count stands at k
 -- Assumes nothing.
 use Prim.Native.Nat.{ℕ, zero, suc, ◌+◌, ◌-◌, ◌≤◌, ◌<◌}

@@ -1,4 +1,4 @@
--- Texts that were read, without their counts (02, L14): their lengths and their bytes, as loops copy them.
+-- Texts that were read, without their counts (RULES, Class 2): their lengths and their bytes, as loops copy them.
 --   LengthsRead s p m list place i      the loop that copies the lengths of the texts of s from the place p on has come
 --                                       to i
 --   BytesRead s p m list place to i     the loop that copies their bytes

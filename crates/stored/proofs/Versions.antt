@@ -1,4 +1,4 @@
--- The three versions (02, L8 and L14), as a form of each has its marks.
+-- The three versions (RULES, Lamps and Class 2), as a form of each has its marks.
 --   HasMarks v marks      the version v is known, and has these bytes between the lamps and W
 -- Assumes nothing.
 use Prim.Native.Nat.{ℕ}

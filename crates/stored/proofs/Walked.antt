@@ -1,5 +1,5 @@
 -- The places of a form, each by the one before it: what has them has the form's places; and the length of the marks, by
--- the version (02, L8).
+-- the version (RULES, Lamps).
 -- Assumes nothing.
 use Prim.Native.Nat.{ℕ, ◌+◌, ◌*◌}
 use mathlib.Core.Path.{◌≡◌, refl, sym, ap, subst, ◌∙◌}

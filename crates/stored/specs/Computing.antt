@@ -1,4 +1,4 @@
--- One name that opens this crate's definitions, for computing on concrete records only (02, L3).
+-- One name that opens this crate's definitions, for computing on concrete records only (RULES, Stored form).
 -- Assumes nothing.
 use Rattle.stored.specs.Loading.{sectionEnd, marksLong, places_of, textsLong, textsIn, restLong, textsAfter}
 use Rattle.stored.specs.Loading.{secondsIn, settingsWith, settingsAt, markRoom, marksAt, loaded}

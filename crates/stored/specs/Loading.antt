@@ -1,8 +1,8 @@
--- Loading a stored form (02, L3): "The reader answers new numbers 20 (unknown version), 21 (cut short), 22 (bytes left
--- over), 23 (contents not legal by 01), tested in that order; empty input is 21. .. A refused load gives the blank
--- record. .. Loading is a fresh set-up"; with the marks "as the form has them", and "version 1 loads with all set"
--- (02, L8); versions 1 and 2 as Class 1 (02, L14). A form says by its version, its counts and its class where it ends,
--- so these alone decide 21 and 22; the contents are looked at last.
+-- Loading a stored form (RULES, Stored form): "The reader answers new numbers 20 (unknown version), 21 (cut short), 22
+-- (bytes left over), 23 (contents not legal), tested in that order; empty input is 21. .. A refused load gives the
+-- blank record. .. Loading is a fresh set-up"; with the marks "as the form has them", and "version 1 loads with all
+-- set" (RULES, Lamps); versions 1 and 2 as Class 1 (RULES, Class 2). A form says by its version, its counts and its
+-- class where it ends, so these alone decide 21 and 22; the contents are looked at last.
 --   isOld s                   the version is the one without marks;    hasClass s    the one with a class
 --   isOtherVersion s          there is a first byte, and it is another version's
 --   sectionEnd s width p      where the section ends whose count stands at p, of items of so many bytes each; past the

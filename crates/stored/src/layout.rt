@@ -1,5 +1,5 @@
-// Where the sections of a stored form stand, by its version and its counts alone (02, L3 and L8). What lies between two
-// counts is not looked at, so that bytes of any length cost the same.
+// Where the sections of a stored form stand, by its version and its counts alone (RULES, Stored form and Lamps). What
+// lies between two counts is not looked at, so that bytes of any length cost the same.
 ghost use Rattle.std.specs.Prelude.{◌≡◌, ◌+◌, ◌*◌, ◌≤◌, drop};
 ghost use Rattle.lines.specs.Bytes.{◌at◌};
 ghost use Rattle.stored.specs.Loading.{isOld, hasClass, marksLong, places_of, classIn, manyTexts, textsLong};
@@ -7,7 +7,7 @@ ghost use Rattle.stored.specs.Loading.{restLong};
 
 use form::storing::VERSION;
 
-// Before the newest: with marks and no class (02, L8); with neither (02, L3). Both still load.
+// Before the newest: with marks and no class (RULES, Lamps); with neither (RULES, Stored form). Both still load.
 pub const MARKED_VERSION: u8 = 2;
 
 const OLD_VERSION: usize = 1;

@@ -1,6 +1,7 @@
-// Settings that survive a board swap (02, L3): a stored form, loaded.
+// Settings that survive a board swap (RULES, Stored form): a stored form, loaded.
 #![tactic(auto)]
 
 mod layout;
 pub mod loading;
 mod reading;
+pub mod theorems;

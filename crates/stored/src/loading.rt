@@ -1,4 +1,4 @@
-// Loading a stored form (02, L3 and L8): the version, then the layout, then the contents.
+// Loading a stored form (RULES, Stored form and Lamps): the version, then the layout, then the contents.
 ghost use Rattle.std.specs.Prelude.{◌≡◌, true, map, ◌+◌, ◌≤◌, length, drop, if◌then◌else◌};
 ghost use Rattle.lines.specs.Bytes.{◌at◌};
 ghost use Rattle.record.specs.Wanted.{namesIn};
@@ -16,7 +16,7 @@ use crate::{layout, reading};
 use form::storing::VERSION;
 use numbers::highest;
 use record::types::{Changed, Device, INPUTS_MOST, LAMPS_MOST};
-use record::{fresh, host, own, scan};
+use record::{fresh, own, scan};
 
 fn is_other_version(s: &[u8]) -> bool
     ensures { result ≡ isOtherVersion s.now }
@@ -133,13 +133,11 @@ fn enabled(d: Device, s: &[u8]) -> Changed
     if !scan::bytes_within(s, 1) {
         return fresh::refuse(23);
     }
-    let marks = reading::marks_of(s);
-    let mut changed = d.own;
-    changed.enabled = marks;
-    if !own::own_ok(d.settings, changed) {
+    let mut device = d;
+    device.own.enabled = reading::marks_of(s);
+    if !own::own_ok(&device.settings, &device.own) {
         return fresh::refuse(23);
     }
-    let device = host::with_own(d, changed);
     Changed { number: 0, device }
 }
 

@@ -1,4 +1,5 @@
-// What stands at the places of a form that has been walked: seconds, marks, and the texts of Class 2 (02, L3, L8, L14).
+// What stands at the places of a form that has been walked: seconds, marks, and the texts of Class 2 (RULES, Stored
+// form, Lamps and Class 2).
 ghost use Rattle.std.specs.Prelude.{◌≡◌, map, ◌+◌, ◌*◌, ◌≤◌, length, drop};
 ghost use Rattle.record.specs.Limits.{listedMost, lampsMost};
 ghost use Rattle.lines.specs.Bytes.{◌at◌};

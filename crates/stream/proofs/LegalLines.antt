@@ -65,7 +65,7 @@ gathered-legal phase l bs e p =
     up-to-keeps (code "\r") (collected (heldMost phase)) (LegalLine phase)
     (λ k b n. collected-legal phase k b e n) l bs p
 
--- between lines (01, "Connection": no collected bytes and no overlong mark) a legal line is the empty one
+-- between lines (RULES, Connection: no collected bytes and no overlong mark) a legal line is the empty one
 zeros_by : (s : List ℕ) → every is_zero s ≡ true → s ≡ zeros (length s)
 zeros_by [] e = refl
 zeros_by (x ∷ s) e =

@@ -1,4 +1,4 @@
--- Collecting a line (01, "Connection": "takes bytes up to and including the first CR, or all of them if none").
+-- Collecting a line (RULES, Connection: "takes bytes up to and including the first CR, or all of them if none").
 --   line_of xs               the line with the bytes xs collected, and its unused room zero
 --   lineText l               the bytes collected of a line
 --   emptyLine, overlongLine  the line with nothing collected; with the mark alone

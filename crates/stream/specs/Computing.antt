@@ -1,4 +1,4 @@
--- One name that opens this crate's definitions, for computing on concrete records only (01, "Lines that settle it").
+-- One name that opens this crate's definitions, for computing on concrete records only (RULES, Commands).
 -- Assumes nothing.
 use Rattle.stream.specs.Collecting.{emptyLine, overlongLine, collectedIn, gathered}
 use Rattle.stream.specs.Machine.{up_to, handed, handedParts, uncut}

@@ -1,4 +1,4 @@
--- Lines of a stream, each ended by one byte, and a stream handed on in any cuts (01, "Connection": "takes bytes up to
+-- Lines of a stream, each ended by one byte, and a stream handed on in any cuts (RULES, Connection: "takes bytes up to
 -- and including the first CR, or all of them if none"; "Handed on until all is taken, with no time between, a stream
 -- gives the same reply bytes and end state however it is cut"), over any byte that ends a line and any machine with a
 -- state D.

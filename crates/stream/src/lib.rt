@@ -1,4 +1,4 @@
-// Bytes taken up to the end of a line (01, "Connection"): collected, at most as many as the phase allows.
+// Bytes taken up to the end of a line (RULES, Connection): collected, at most as many as the phase allows.
 #![tactic(auto)]
 
 ghost use Rattle.std.specs.Prelude.{◌≡◌, ◌≤◌, length};
@@ -10,10 +10,18 @@ ghost use Rattle.stream.specs.Places.{index_of};
 use record::connection;
 use record::types::{LINE_ROOM, Line};
 
-// What one call makes of the bytes it is handed: the line so far, the bytes before CR, and whether there was one.
+// What one call makes of the bytes it is handed, as the specs say it: the line so far, the bytes before CR, and whether
+// there was one.
 #[derive(Clone, Copy)]
 pub struct Gathered {
     pub line: Line,
+    pub before: usize,
+    pub ended: bool,
+}
+
+// The same without the line, which changes where it lies.
+#[derive(Clone, Copy)]
+pub struct Passed {
     pub before: usize,
     pub ended: bool,
 }
@@ -27,29 +35,27 @@ impl Gathered {
 }
 
 // The bytes `more`, none of them CR, after those collected; or the overlong mark where there is no room for them all.
-fn collect(most: usize, l: Line, more: &[u8]) -> Line
+fn collect(most: usize, l: &mut Line, more: &[u8])
     requires { most ≤ lineRoom }
-    ensures { result ≡ collectedAll most l more.now }
+    ensures { l.new ≡ collectedAll most l.old more.now }
 {
     if l.overlong {
-        return l;
+        return;
     }
     if more.len() == 0 {
-        return l;
+        return;
     }
     let held = l.held;
     if most <= held {
-        return Gathered::OVERLONG;
+        *l = Gathered::OVERLONG;
+        return;
     }
     if most - held < more.len() {
-        return Gathered::OVERLONG;
+        *l = Gathered::OVERLONG;
+        return;
     }
-    let mut bytes = l.bytes;
-    text::put(&mut bytes, held, more);
-    let mut next = l;
-    next.bytes = bytes;
-    next.held = held + more.len();
-    next
+    text::put(&mut l.bytes, held, more);
+    l.held = held + more.len();
 }
 
 // The place of the first b in s, or the length of s.
@@ -61,13 +67,14 @@ pub fn find(s: &[u8], b: u8) -> usize
 }
 
 // The bytes up to the first CR, collected as the phase allows.
-pub fn gather(phase: u8, l: Line, bytes: &[u8]) -> Gathered
-    ensures { result ≡ gathered (heldMost phase) l bytes.now }
+pub fn gather(phase: u8, l: &mut Line, bytes: &[u8]) -> Passed
+    ensures line { l.new ≡ (gathered (heldMost phase) l.old bytes.now).line }
+    ensures before { result.before ≡ (gathered (heldMost phase) l.old bytes.now).before }
+    ensures ended { result.ended ≡ (gathered (heldMost phase) l.old bytes.now).ended }
 {
     let before = find(bytes, b'\r');
-    let line = collect(connection::held_most(phase), l, &bytes[0..before]);
-    Gathered {
-        line,
+    collect(connection::held_most(phase), l, &bytes[0..before]);
+    Passed {
         before,
         ended: before < bytes.len(),
     }

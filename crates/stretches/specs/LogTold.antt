@@ -1,5 +1,6 @@
 -- What a watched log tells of a lamp, beside demand 3's history of the same log.
---   callsBy d e        the calls that an event makes on our board, lent the device d: a second `O` makes none (02, L5)
+--   callsBy d e        the calls that an event makes on our board, lent the device d: a second `O` makes none (RULES,
+--                      Places)
 --   calls_of d es      those of events, one after the other
 --   isMarkedIn d k     the mark of the lamp at place k is set
 --   stretchesIn k ts   what is told of the lamp at place k, where ts is told of all lamps (crate `watch`)
@@ -73,10 +74,10 @@ pub record LogWatched (b : Beginning) (w : Wanted) (log : List ℕ) (o : Out Wat
       → StretchesTell w (startMarks b w) k (logHistory b w log) (stretchesIn k told)
   -- the seconds that it burnt
   pub burnt : (k : ℕ) → k < length w.lamps
-      → get_or o.state.watch.burnt k 0 ≡ burning w (startMarks b w) k (logHistory b w log)
+      → get_or o.state.watching.burnt k 0 ≡ burning w (startMarks b w) k (logHistory b w log)
   -- and what it has now
   pub lamps : (k : ℕ) → k < length w.lamps
-      → get_or o.state.watch.floor.device.own.lamps k 0
+      → get_or o.state.watching.device.own.lamps k 0
       ≡ lampWith (burning w (startMarks b w) k (logHistory b w log)) (get_or w.lamps k 0)
 
 abbrev pub LogsWatched : Type 0

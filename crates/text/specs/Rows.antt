@@ -1,4 +1,4 @@
--- Tables of numbers (01, "The numbers a call gives"): the first row that applies decides.
+-- Tables of numbers (RULES, The numbers a call gives): the first row that applies decides.
 --   n when t                    the row of the number n, which applies where t holds
 --   first_of rows               the number of the first row that applies, and 0 where none does
 --   byRows rows refuse done     what is refused with that number; what is done where no row applies

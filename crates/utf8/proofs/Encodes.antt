@@ -1,5 +1,5 @@
--- RFC 3629 by bytes and by numbers is one (02, L2): bytes are well-formed by the table of section 4 exactly where they
--- are what section 3 makes of a list of scalar values. Each row of the table is gone through once (`ladder`).
+-- RFC 3629 by bytes and by numbers is one (RULES, Texts): bytes are well-formed by the table of section 4 exactly where
+-- they are what section 3 makes of a list of scalar values. Each row of the table is gone through once (`ladder`).
 -- Assumes nothing.
 use Prim.Native.Nat.{ℕ, suc, ◌≤◌}
 use mathlib.Core.Path.{◌≡◌, refl, ap, ◌∙◌}
@@ -11,7 +11,7 @@ use Rattle.text.specs.Scans.{every}
 use Rattle.text.proofs.Choices.{if-by, both, both_left, both_right}
 use Rattle.text.proofs.Orders.{le-or-lt}
 use Rattle.utf8.specs.Utf8.{Range, ◌upto◌, ◌in_range◌, utf8Rows, noRest, restFrom, isFrom, isUtf8}
-use Rattle.utf8.specs.Utf8.{is_scalar, encoded, encodedAll}
+use Rattle.utf8.specs.Utf8.{is_scalar, encoded, encodedAll, Encodes}
 use Rattle.utf8.proofs.Rows.{is_row, in-range-low, in-range-high, past}
 use Rattle.utf8.proofs.Ladder.{Meant, Ladder, top, surrogates, rung, ladder, scalar}
 
@@ -129,11 +129,6 @@ read (r ∷ row) (b ∷ s) e =
       legal = after.legal;
       same = ap (λ (t : List ℕ). b ∷ t) after.same;
     }
-
-pub record Encodes (s : List ℕ) : Type 0 where
-  pub numbers : List ℕ
-  pub legal : every is_scalar numbers ≡ true
-  pub same : s ≡ encodedAll numbers
 
 no_row : (c : List ℕ) → is_row [] c ≡ true → c ≡ []
 no_row [] e = refl

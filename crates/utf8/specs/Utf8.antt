@@ -1,4 +1,4 @@
--- Well-formed UTF-8 (02, L2; RFC 3629), twice: by bytes and by numbers. The two are the same (proofs/Encodes), so
+-- Well-formed UTF-8 (RULES, Texts; RFC 3629), twice: by bytes and by numbers. The two are the same (proofs/Encodes), so
 -- that it is enough to believe either.
 -- By bytes, the RFC's section 4:
 --   utf8Rows           its table, a range for each byte of a character
@@ -10,9 +10,11 @@
 --   filled lead k n    the bits of n: six into each of the last k bytes, what is left into the first, under `lead`
 --   encoded n          the bytes of n, by the section's table of bit patterns
 --   encodedAll ns      those of each of ns, one after the other
+--   Encodes s          s is those of some scalar values
 -- Assumes nothing.
-use Rattle.std.specs.Prelude.{ℕ, zero, suc, ◌+◌, ◌/◌, ◌%◌, Bool, true, false, ◌&&◌, ◌||◌, List, [], ◌∷◌, ◌++◌, leb}
+use Rattle.std.specs.Prelude.{ℕ, zero, suc, ◌+◌, ◌/◌, ◌%◌, ◌≡◌, Bool, true, false, ◌&&◌, ◌||◌, List, [], ◌∷◌, ◌++◌, leb}
 use Rattle.std.specs.Prelude.{if◌then◌else◌}
+use Rattle.text.specs.Scans.{every}
 use Rattle.text.specs.InTurn.{eachInTurn}
 
 infix 70 ◌upto◌
@@ -81,3 +83,8 @@ encoded n =
 
 abbrev pub encodedAll : List ℕ → List ℕ
 encodedAll ns = eachInTurn encoded ns
+
+pub record Encodes (s : List ℕ) : Type 0 where
+  pub numbers : List ℕ
+  pub legal : every is_scalar numbers ≡ true
+  pub same : s ≡ encodedAll numbers

@@ -1,5 +1,7 @@
-// Well-formed UTF-8 (02, L2; RFC 3629, section 4).
+// Well-formed UTF-8 (RULES, Texts; RFC 3629, section 4).
 #![tactic(auto)]
+
+pub mod theorems;
 
 ghost use Rattle.std.specs.Prelude.{◌≡◌, List, ◌∷◌, ℕ};
 ghost use Rattle.utf8.specs.Utf8.{utf8Rows, restFrom, isFrom, isUtf8};

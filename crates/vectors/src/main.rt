@@ -1,5 +1,5 @@
 // The test suite of RFC 1321, A.5, in the RFC's format; digests of messages whose length is near a block's end; and the
-// example of 000, 5.1, with both spellings of its password. `stdout` was made by md5sum.
+// example of PJLink 1.04, 5.1, with both spellings of its password. `stdout` was made by md5sum.
 #![tactic(auto)]
 
 ghost use Rattle.std.specs.Prelude.{◌≤◌};

@@ -5,36 +5,32 @@
 use Prim.Native.Nat.{ℕ, ◌+◌, ◌-◌, ◌≤◌, ◌<◌}
 use mathlib.Core.Path.{◌≡◌, refl, sym, ap, subst, ◌∙◌}
 use mathlib.Core.Bool.{true, false, not}
-use mathlib.Core.List.{List, []}
+use mathlib.Core.List.{List}
 use native.Mathlib.Omega.{arith}
 use lib.ListN.{length, take, drop, length-drop}
 use lib.Seq.{take_all}
 use borrow.Author.Tests.{not-true, not-false}
 use Rattle.text.proofs.Choices.{both_left}
+use Rattle.record.specs.declared.types.Device.{Device}
 use Rattle.record.specs.declared.types.Line.{Line}
 use Rattle.stream.specs.Machine.{UpTo}
-use Rattle.events.specs.Told.{Drives}
 use Rattle.floor.specs.declared.gather.Gathered.{Gathered}
-use Rattle.floor.specs.declared.replay.Floor.{Floor}
 use Rattle.floor.specs.Reading.{keptOf, upToLf, lineAfter, nothingBegun}
 use Rattle.floor.specs.Told.{gatheredTo}
-use Rattle.marking.specs.declared.Done.{Done}
-use Rattle.marking.specs.Marking.{secondsBy, keptFloorEvent}
-use Rattle.marking.specs.Done.{lineDid}
-use Rattle.marking.proofs.LineDoes.{done-settings, done-drives, line-seconds}
-use Rattle.watch.specs.declared.watching.Watch.{Watch}
+use Rattle.marking.specs.Marking.{doneBy, secondsBy, keptFloorEvent}
+use Rattle.marking.proofs.LineDoes.{line-seconds}
 use Rattle.watch.specs.declared.watching.Seen.{Seen}
 use Rattle.watch.specs.declared.light.Light.{Light}
-use Rattle.watch.specs.Watching.{Watching, Watched, isBurningIn, isLong, isDark, watchedIn}
-use Rattle.watch.specs.WatchCalls.{watchingIn, watchOf, sight_of, SeenAs, CanWatch, CanDarken}
+use Rattle.watch.specs.Watching.{Watching, Watched, isBurningIn, isLong, isDark, watchKept, watchedIn}
+use Rattle.watch.specs.WatchCalls.{SeenAs, CanWatch, CanDarken}
 use Rattle.watch.specs.WatchCalls.{lightOf, darkAfter}
 use Rattle.watch.proofs.LinesDone.{can-darken}
 use Rattle.watch.proofs.Followed.{event-kept, device-after, onward-kept, dark-is, line-dark, line-lit, dark-from}
 use Rattle.watch.proofs.Turns.{WatchedTo, first, held, can-end-one, stays, place_inside, stops, goes_on, all-watched}
 
 -- the promise, along an equation for what is taken
-carried : {n : ℕ} {x y : Watched} {r : Seen} {l : List ℕ} → x ≡ y → SeenAs n y r l → SeenAs n x r l
-carried {n} {x} {y} {r} {l} e p = subst (λ (z : Watched). SeenAs n z r l) (sym e) p
+carried : {x y : Watched} {r : Seen} {after : Watching} → x ≡ y → SeenAs y r after → SeenAs x r after
+carried {x} {y} {r} {after} e p = subst (λ (z : Watched). SeenAs z r after) (sym e) p
 
 pub record LineGathered (s : Watching) (bytes : List ℕ) (now : Watching) (at : ℕ) (g : Gathered) (left : List ℕ)
     : Type 0 where
@@ -85,33 +81,14 @@ module _ {s : Watching} {bytes : List ℕ} {now : Watching} {at : ℕ} {g : Gath
       subst (λ (k : Line). k.held < length k.bytes) (sym same) (omega arith)
 
   -- no line ends
-  pub none-ends : {n k : ℕ} → k ≡ n → not g.ended ≡ true → SeenAs n (watchedIn s bytes)
-      (record {
-        taken = length bytes;
-        ended = false;
-        watch = record {
-          floor = record { device = now.device; number = k; begun = g.begun };
-          time = now.time;
-          from = now.from;
-          burnt = now.burnt;
-        };
-      })
-      left
-  none-ends number e =
-      let told : ◌≡◌ {A = Seen} _ _ = λ i. record {
-        taken = length bytes;
-        ended = false;
-        watch = record {
-          floor = record { device = now.device; number = number i; begun = (given i).begun };
-          time = now.time;
-          from = now.from;
-          burnt = now.burnt;
-        };
-      } in
+  pub none-ends : not g.ended ≡ true
+      → SeenAs (watchedIn s bytes) (record { taken = length bytes; ended = false })
+      (watchKept now (keptOf g.begun left))
+  none-ends e =
       carried (stays s bytes l.to l.inside (sym (ap (λ (x : Gathered). x.ended) given) ∙ not-true g.ended e))
-      (record { returned = told; line = given-line })
+      (record { returned = refl; left = λ i. watchKept now (same i) })
 
-  -- a line ends, which leaves d
+  -- a line ends, which lets n seconds pass and leaves d
   module _ (e : not g.ended ≡ false) where
     ends : found.ended ≡ true
     ends = sym (ap (λ (x : Gathered). x.ended) given) ∙ not-false g.ended e
@@ -121,26 +98,21 @@ module _ {s : Watching} {bytes : List ℕ} {now : Watching} {at : ℕ} {g : Gath
         subst (λ (x : Gathered). at + (x.before + 1) ≤ length bytes) (sym given)
         (place_inside s bytes l.to l.inside ends)
 
-    module _ {d : Done} (done : d ≡ lineDid now.device (keptFloorEvent (keptOf g.begun left))) where
-      did : d ≡ lineDid line.device (event-kept line)
-      did = done ∙ ap (λ (k : Line). lineDid now.device (keptFloorEvent k)) same
+    module _ {n : ℕ} {d : Device} (seconds : n ≡ secondsBy (keptFloorEvent (keptOf g.begun left)))
+        (done : d ≡ doneBy now.device (keptFloorEvent (keptOf g.begun left))) where
+      passed : n ≡ secondsBy (event-kept line)
+      passed = seconds ∙ ap (λ (k : Line). secondsBy (keptFloorEvent k)) same
 
-      pub line-settings : d.device.settings ≡ now.device.settings
-      line-settings = ap (λ (x : Done). x.device.settings) did ∙ done-settings line.device (event-kept line)
-
-      pub line-drives : Drives true d.seconds now.device d.device
-      line-drives =
-          subst (λ (x : Done). Drives true x.seconds line.device x.device) (sym did)
-          (done-drives line.device can.legal (event-kept line))
+      did : d ≡ device-after line
+      did = done ∙ ap (λ (k : Line). doneBy now.device (keptFloorEvent k)) same
 
       module _ {light : Light}
-          (lit : light ≡ lightOf (isBurningIn now.device) (isBurningIn d.device) d.seconds now.time now.from) where
+          (lit : light ≡ lightOf (isBurningIn now.device) (isBurningIn d) n now.time now.from) where
         lighted : light
             ≡ lightOf (isBurningIn line.device) (isBurningIn (device-after line)) (secondsBy (event-kept line))
             line.time line.from
         lighted =
-            lit
-            ∙ (λ i. lightOf (isBurningIn line.device) (isBurningIn (did i).device) (did i).seconds line.time line.from)
+            lit ∙ (λ i. lightOf (isBurningIn line.device) (isBurningIn (did i)) (passed i) line.time line.from)
 
         dark : light.dark ≡ isDark line
         dark = ap (λ (x : Light). x.dark) lighted ∙ sym (dark-is line)
@@ -156,30 +128,31 @@ module _ {s : Watching} {bytes : List ℕ} {now : Watching} {at : ℕ} {g : Gath
             (sym (dark-from line (device-after line) n (lineAfter line.kept) with))
             (can-darken line can.sound (both_left _ _ with) (line.time + n) (omega arith) (omega arith)))
 
-        module _ {n : ℕ} {floor : Floor} {memory : List ℕ}
-            (moved : floor ≡ record { device = d.device; number = n; begun = nothingBegun })
-            (line_after : memory ≡ lineAfter (keptOf g.begun left)) where
-          abbrev after : Watch
-          after = record { floor = floor; time = light.time; from = light.from; burnt = now.burnt }
-
-          followed : after ≡ watchOf n (onward-kept line)
-          followed = λ i. record {
-            floor = (moved ∙ (λ j. record { device = (did j).device; number = n; begun = nothingBegun })) i;
-            time = (lighted i).time;
-            from = (lighted i).from;
+        module _ {memory : List ℕ} (line_after : memory ≡ lineAfter (keptOf g.begun left)) where
+          abbrev pub after : Watching
+          after = record {
+            device = d;
+            time = light.time;
+            from = light.from;
             burnt = now.burnt;
+            kept = keptOf nothingBegun memory;
           }
 
           left-line : memory ≡ lineAfter line.kept
           left-line = line_after ∙ ap lineAfter same
 
-          state : watchingIn after memory ≡ onward-kept line
-          state = λ i. watchingIn (followed i) (left-line i)
+          state : after ≡ onward-kept line
+          state = λ i. record {
+            device = did i;
+            time = (lighted i).time;
+            from = (lighted i).from;
+            burnt = now.burnt;
+            kept = keptOf nothingBegun (left-line i);
+          }
 
-          pub goes-dark : {r : Seen} → light.dark ≡ true
-              → r ≡ sight_of floor.number (darkAfter (at + (g.before + 1)) (watchingIn after []))
-              → SeenAs n (watchedIn s bytes) r memory
-          goes-dark h told =
+          pub goes-dark : {r : Seen} {t : Watching} → light.dark ≡ true
+              → SeenAs (darkAfter (at + (g.before + 1)) after) r t → SeenAs (watchedIn s bytes) r t
+          goes-dark {r} {t} h told =
               let is = sym dark ∙ h in
               let all : Watching → Watched = λ x. record {
                 taken = at + (found.before + 1);
@@ -187,37 +160,17 @@ module _ {s : Watching} {bytes : List ℕ} {now : Watching} {at : ℕ} {g : Gath
                 state = x;
               } in
               carried (stops s bytes l.to l.inside ends is)
-              (record {
-                returned = told
-                    ∙ (λ i. sight_of (followed i).floor.number
-                    (darkAfter (at + ((given i).before + 1)) (watchingIn (followed i) [])))
-                    ∙ ap (λ (x : Watching). sight_of n (all x)) (sym (line-dark line is));
-                line = left-line ∙ ap (λ (x : Watching). x.kept.bytes) (sym (line-dark line is));
-              })
+              (subst (λ (x : Watched). SeenAs x r t)
+              ((λ i. darkAfter (at + ((given i).before + 1)) (state i)) ∙ ap all (sym (line-dark line is))) told)
 
-          pub stays-lit : light.dark ≡ false → WatchedTo s bytes (watchingIn after memory) (at + (g.before + 1))
+          pub stays-lit : light.dark ≡ false → WatchedTo s bytes after (at + (g.before + 1))
           stays-lit h =
               let is = sym dark ∙ h in
-              subst (λ (x : Gathered). WatchedTo s bytes (watchingIn after memory) (at + (x.before + 1))) (sym given)
+              subst (λ (x : Gathered). WatchedTo s bytes after (at + (x.before + 1))) (sym given)
               (subst (λ (x : Watching). WatchedTo s bytes x (at + (found.before + 1))) (line-lit line is ∙ sym state)
               (goes_on s bytes l.to l.inside ends is))
 
 -- all bytes are taken
-pub all-seen : {s : Watching} {bytes : List ℕ} {w : Watch} {memory : List ℕ} {n at : ℕ}
-    → WatchedTo s bytes (watchingIn w memory) at → w.floor.number ≡ n → length bytes ≤ at
-    → SeenAs n (watchedIn s bytes) (record { taken = at; ended = false; watch = w }) memory
-all-seen {s} {bytes} {w} {memory} {n} {at} to number h =
-    carried (all-watched s bytes to h)
-    (record {
-      returned = λ i. record {
-        taken = at;
-        ended = false;
-        watch = record {
-          floor = record { device = w.floor.device; number = number i; begun = w.floor.begun };
-          time = w.time;
-          from = w.from;
-          burnt = w.burnt;
-        };
-      };
-      line = refl;
-    })
+pub all-seen : {s : Watching} {bytes : List ℕ} {now : Watching} {at : ℕ} → WatchedTo s bytes now at
+    → length bytes ≤ at → SeenAs (watchedIn s bytes) (record { taken = at; ended = false }) now
+all-seen {s} {bytes} to h = carried (all-watched s bytes to h) (record { returned = refl; left = refl })

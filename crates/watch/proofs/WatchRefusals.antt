@@ -9,18 +9,15 @@ use native.Mathlib.Omega.{arith}
 use lib.ListN.{length}
 use lib.Dec.{leb, ltb}
 use borrow.Author.Tests.{leb-false, ltb-false, not-false, le-leb, lt-leb, lt-ltb, le-ltb, ne_eqb}
-use Rattle.std.specs.Prelude.{if◌then◌else◌}
 use Rattle.text.specs.Words.{◌is◌}
 use Rattle.text.proofs.Choices.{if_yes, if_no, if-by}
 use Rattle.record.specs.Legal.{isLegal}
 use Rattle.clock.specs.Passing.{secondsMost}
 use Rattle.logs.specs.Lines.{lineMost}
-use Rattle.floor.specs.Reading.{keptOf, begunOf}
 use Rattle.floor.proofs.Gathering.{kept-held, kept-long}
-use Rattle.watch.specs.Watching.{Watching, Watched, isBurningIn, watchKept, watchMore, watchStep, isDark, isLong}
-use Rattle.watch.specs.Watching.{watchedIn, darkened, closedAtEnd}
+use Rattle.watch.specs.Watching.{Watching, Watched, watchMore, watchStep, isDark}
+use Rattle.watch.specs.Watching.{watchedIn}
 use Rattle.watch.specs.WatchCalls.{isSound, watchRefusal, refusalIn, CanWatch, WatchStep, watchGiving, held_of}
-use Rattle.watch.specs.WatchCalls.{sight_of}
 use Rattle.watch.proofs.LinesDone.{line-goes}
 use Rattle.watch.proofs.Turns.{can-fewer}
 
@@ -118,10 +115,6 @@ module _ {n r : ℕ} (s : Watching) (x : Watched) (told : r ≡ n) where
   pub watch-all : r ≡ 0 → watchGiving n s x ≡ record { number = 0; watched = x }
   watch-all e = ap (λ (m : ℕ). watchGiving m s x) (sym told ∙ e)
 
--- a state with another memory for its line
-abbrev pub watchIn : Watching → List ℕ → Watching
-watchIn s m = watchKept s (keptOf (begunOf s.kept) m)
-
 -- ---- after any bytes
 
 pub more-goes : (s : Watching) (b n : ℕ) → CanWatch s n → CanWatch (watchMore s b) n
@@ -147,27 +140,3 @@ watched-goes (b ∷ bs) s can =
     if-by (λ (x : Watched). CanWatch x.state 0) (b is "\n" && isDark s)
     (λ e. can-fewer (omega arith) (line-goes s (length bs) more))
     (λ e. watched-goes bs (watchStep s b) (byte-goes s b (length bs) more))
-
--- ---- the end of a log looks at no byte of the line
-
-pub closed-anywhere : (n : ℕ) (told : Bool) (s : Watching) (m : List ℕ)
-    → sight_of n (closedAtEnd told (watchIn s m)) ≡ sight_of n (closedAtEnd told s)
-closed-anywhere n true s m = refl
-closed-anywhere n false s m = by (isBurningIn s.device)
-  where
-    by : (lit : Bool)
-        → sight_of n (if lit then record { taken = 0; told = isLong s; state = darkened (watchIn s m) } else held_of 0
-        (watchIn s m))
-        ≡ sight_of n (if lit then record { taken = 0; told = isLong s; state = darkened s } else held_of 0 s)
-    by true = refl
-    by false = refl
-
-pub closed-line : (told : Bool) (s : Watching) → (closedAtEnd told s).state.kept.bytes ≡ s.kept.bytes
-closed-line true s = refl
-closed-line false s = by (isBurningIn s.device)
-  where
-    by : (lit : Bool)
-        → (if lit then record { taken = 0; told = isLong s; state = darkened s } else held_of 0 s).state.kept.bytes
-        ≡ s.kept.bytes
-    by true = refl
-    by false = refl

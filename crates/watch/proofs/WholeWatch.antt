@@ -1,6 +1,6 @@
 -- A log watched over the calls: from `start` through reads of any sizes to `finish` no call refuses, what is printed is
 -- what the events of the whole log tell, and each lamp burnt what they say.
---   stageOf n s      a state as the calls have it, n the lines that `floor` would count, which stay
+--   stageOf s        a state as the calls have it
 --   Ahead size s rs  `play` takes every read of rs, each of at most `size` bytes
 -- Assumes nothing.
 use Prim.Native.Nat.{ℕ, ◌+◌, ◌^◌, ◌≤◌, ◌<◌}
@@ -29,7 +29,7 @@ use Rattle.floor.proofs.KeptLine.{none-held}
 use Rattle.floor.proofs.LinesCounted.{lineEnds, ends-append, ends-few, ends-lines}
 use Rattle.watch.specs.Watching.{Watching, isBurningIn, watchMore, watchedIn, watchEnded}
 use Rattle.watch.specs.WatchCalls.{isSound, CanWatch, watched, watchedToEnd}
-use Rattle.watch.specs.WatchCalls.{watchOf, watchingFrom}
+use Rattle.watch.specs.WatchCalls.{watchingFrom}
 use Rattle.watch.specs.WholeWatch.{floorEvents, WatchStage, watchBegun, callTells, playTells, finishTells}
 use Rattle.watch.specs.WholeWatch.{wholeWatch, Timeable, WatchesBack}
 use Rattle.watch.proofs.Turns.{can-fewer}
@@ -37,8 +37,8 @@ use Rattle.watch.proofs.WatchRefusals.{not-refused, watch-all}
 use Rattle.watch.proofs.LogRuns.{lineTells, watchRun, watched-runs, some-watched, run-goes}
 use Rattle.watch.proofs.EventsTold.{Sees, log-sees}
 
-abbrev stageOf : ℕ → Watching → WatchStage
-stageOf n s = record { number = 0; watch = watchOf n s; line = s.kept.bytes }
+abbrev stageOf : Watching → WatchStage
+stageOf s = record { number = 0; watching = s }
 
 abbrev ReadyFor : Watching → List ℕ → Type 0
 ReadyFor s bs = CanWatch s (length bs)
@@ -47,53 +47,52 @@ record Ahead (size : ℕ) (s : Watching) (reads : List (List ℕ)) : Type 0 wher
   sizes : noneLonger size reads ≡ true
   can : CanWatch s (lineEnds (uncut reads) + size)
 
-module _ (n : ℕ) where
-  play-tells : (s : Watching) (bs : List ℕ) → CanWatch s (length bs)
-      → watched (watchOf n s) s.kept.bytes bs ≡ record { number = 0; watched = watchedIn s bs }
-  unfolding watched
-  play-tells s bs can = watch-all s (watchedIn s bs) refl (not-refused s (length bs) can)
+play-tells : (s : Watching) (bs : List ℕ) → CanWatch s (length bs)
+    → watched s bs ≡ record { number = 0; watched = watchedIn s bs }
+unfolding watched
+play-tells s bs can = watch-all s (watchedIn s bs) refl (not-refused s (length bs) can)
 
-  finish-tells : (s : Watching) → CanWatch s 1
-      → watchedToEnd (watchOf n s) s.kept.bytes ≡ record { number = 0; watched = watchEnded s }
-  unfolding watchedToEnd
-  finish-tells s can = watch-all s (watchEnded s) refl (not-refused s 1 can)
+finish-tells : (s : Watching) → CanWatch s 1
+    → watchedToEnd s ≡ record { number = 0; watched = watchEnded s }
+unfolding watchedToEnd
+finish-tells s can = watch-all s (watchEnded s) refl (not-refused s 1 can)
 
-  -- a call takes some bytes and runs over these
-  one-call : (s : Watching) (bs : List ℕ) → ReadyFor s bs
-      → Taking (code "\n") Watching watchMore lineTells (stageOf n) playTells ReadyFor s bs
-  unfolding playTells
-  one-call s bs can =
-      let k = (watchedIn s bs).taken in
-      let part = take k bs in
+-- a call takes some bytes and runs over these
+one-call : (s : Watching) (bs : List ℕ) → ReadyFor s bs
+    → Taking (code "\n") Watching watchMore lineTells stageOf playTells ReadyFor s bs
+unfolding playTells
+one-call s bs can =
+    let k = (watchedIn s bs).taken in
+    let part = take k bs in
+    record {
+      taken = k;
+      some = some-watched s bs;
+      runs = ap callTells (play-tells s bs can) ∙ ap (tookThrough stageOf) (watched-runs s bs);
+      ready = run-goes part s (length (drop k bs))
+          (can-fewer (omega (arith, length-drop k bs, length-take k bs, ends-few part)) can);
+    }
+
+module _ (size : ℕ) (s : Watching) (p : List ℕ) (ps : List (List ℕ)) (a : Ahead size s (p ∷ ps)) where
+  first : ReadyFor s p
+  first =
+      let small = leb-true (length p) size (both_left (leb (length p) size) (noneLonger size ps) a.sizes) in
+      can-fewer (omega (arith, small)) a.can
+
+  next : Ahead size (watchRun s p).state ps
+  next =
+      let ends : lineEnds (uncut (p ∷ ps)) ≡ lineEnds p + lineEnds (uncut ps) =
+      ap lineEnds (uncut-more p ps) ∙ ends-append p (uncut ps) in
       record {
-        taken = k;
-        some = some-watched s bs;
-        runs = ap (callTells n) (play-tells s bs can) ∙ ap (tookThrough (stageOf n)) (watched-runs s bs);
-        ready = run-goes part s (length (drop k bs))
-            (can-fewer (omega (arith, length-drop k bs, length-take k bs, ends-few part)) can);
+        sizes = both_right (leb (length p) size) (noneLonger size ps) a.sizes;
+        can = run-goes p s (lineEnds (uncut ps) + size) (can-fewer (omega (arith, ends)) a.can);
       }
 
-  module _ (size : ℕ) (s : Watching) (p : List ℕ) (ps : List (List ℕ)) (a : Ahead size s (p ∷ ps)) where
-    first : ReadyFor s p
-    first =
-        let small = leb-true (length p) size (both_left (leb (length p) size) (noneLonger size ps) a.sizes) in
-        can-fewer (omega (arith, small)) a.can
-
-    next : Ahead size (watchRun s p).state ps
-    next =
-        let ends : lineEnds (uncut (p ∷ ps)) ≡ lineEnds p + lineEnds (uncut ps) =
-        ap lineEnds (uncut-more p ps) ∙ ends-append p (uncut ps) in
-        record {
-          sizes = both_right (leb (length p) size) (noneLonger size ps) a.sizes;
-          can = run-goes p s (lineEnds (uncut ps) + size) (can-fewer (omega (arith, ends)) a.can);
-        }
-
-  all-reads : (size : ℕ) (s : Watching) (reads : List (List ℕ)) → Ahead size s reads
-      → handedParts playTells (stageOf n s) reads ≡ outThrough (stageOf n) (watchRun s (uncut reads))
-  all-reads size =
-      parts-run (code "\n") Watching watchMore lineTells (stageOf n) playTells ReadyFor one-call (Ahead size)
-      (first size)
-      (next size)
+all-reads : (size : ℕ) (s : Watching) (reads : List (List ℕ)) → Ahead size s reads
+    → handedParts playTells (stageOf s) reads ≡ outThrough stageOf (watchRun s (uncut reads))
+all-reads size =
+    parts-run (code "\n") Watching watchMore lineTells stageOf playTells ReadyFor one-call (Ahead size)
+    (first size)
+    (next size)
 
 module _ (d : Device) (legal : isLegal d ≡ true) (m : List ℕ) (lent : lineMost < length m) (size : ℕ)
     (reads : List (List ℕ)) (timeable : Timeable size reads) where
@@ -120,20 +119,20 @@ module _ (d : Device) (legal : isLegal d ≡ true) (m : List ℕ) (lent : lineMo
       by true = refl
       by false = refl
 
-  all-taken : handedParts playTells (watchBegun d m) reads ≡ outThrough (stageOf 0) seen
-  all-taken = all-reads 0 size begun reads (record { sizes = timeable.sizes; can = starts })
+  all-taken : handedParts playTells (watchBegun d m) reads ≡ outThrough stageOf seen
+  all-taken = all-reads size begun reads (record { sizes = timeable.sizes; can = starts })
 
-  ends : finishTells (stageOf 0 seen.state) ≡ callTells 0 (record { number = 0; watched = watchEnded seen.state })
+  ends : finishTells (stageOf seen.state) ≡ callTells (record { number = 0; watched = watchEnded seen.state })
   unfolding finishTells
   ends =
-      ap (callTells 0) (finish-tells 0 seen.state
+      ap callTells (finish-tells seen.state
       (run-goes log begun 1 (can-fewer (omega (arith, timeable.some)) starts)))
 
   abbrev finishing : Out WatchStage → Out WatchStage
   finishing o = let last = finishTells o.state in record { state = last.state; reply = o.reply ++ last.reply }
 
   plays : wholeWatch d m reads
-      ≡ (let last = callTells 0 (record { number = 0; watched = watchEnded seen.state }) in
+      ≡ (let last = callTells (record { number = 0; watched = watchEnded seen.state }) in
       record { state = last.state; reply = seen.reply ++ last.reply })
   unfolding wholeWatch
   plays =
@@ -148,8 +147,8 @@ module _ (d : Device) (legal : isLegal d ≡ true) (m : List ℕ) (lent : lineMo
   whole-log-watched = record {
     accepted = ap (λ (o : Out WatchStage). o.state.number) plays;
     printed = ap (λ (o : Out WatchStage). o.reply) plays ∙ tells.prints;
-    burnt = ap (λ (o : Out WatchStage). o.state.watch.burnt) plays ∙ tells.burnt;
-    device = ap (λ (o : Out WatchStage). o.state.watch.floor.device) plays ∙ tells.device;
+    burnt = ap (λ (o : Out WatchStage). o.state.watching.burnt) plays ∙ tells.burnt;
+    device = ap (λ (o : Out WatchStage). o.state.watching.device) plays ∙ tells.device;
   }
 
 -- a log of fewer than 2 ^ 32 lines, those that one read could hold counted twice

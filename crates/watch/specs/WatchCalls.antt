@@ -1,13 +1,14 @@
 -- The calls by which a log is watched, for every state and every lent memory.
---   watchingIn w m           a state w and the memory m lent for a line;    watchOf n s    back again
+--   watchingIn w m           a state w and the memory m lent for a line
 --   isSound s                no lamp burnt longer than there was time, and the stretch under way began before now
 --   watchRefusal ..          the number of a call on so many bytes: 1 for a record that is not legal; 2 for too little
 --                            memory to keep a line in; 3 for a state that no log leaves, or whose seconds could pass 64
 --                            bits; else 0;    refusalIn s lines    that of a call on a state
 --   CanWatch s lines         what a call has that is not refused
 --   watchGiving n s x        what a call with the number n gives: x; nothing taken where n is a refusal
---   watched w m bs           what `play` gives;    watchedToEnd w m    what `finish` gives
---   WatchedAs ..             what a call returns and leaves in the lent memory
+--   watched s bs             what `play` gives;    watchedToEnd s    what `finish` gives
+--   SeenAs x ..              what an inner function returns and leaves, that takes x
+--   WatchedAs g ..           what a call returns and leaves, that gives g
 --   watchingFrom d           before a log
 -- Assumes nothing.
 use Rattle.std.specs.Prelude.{ℕ, ◌+◌, ◌-◌, ◌*◌, ◌^◌, ◌≤◌, ◌<◌, ◌≡◌, Bool, true, false, not, ◌&&◌, ◌||◌, if◌then◌else◌}
@@ -18,8 +19,7 @@ use Rattle.record.specs.Legal.{isLegal}
 use Rattle.record.specs.declared.types.Device.{Device}
 use Rattle.clock.specs.Passing.{secondsMost}
 use Rattle.logs.specs.Lines.{lineMost}
-use Rattle.floor.specs.declared.gather.Begun.{Begun}
-use Rattle.floor.specs.Reading.{keptOf, begunOf, nothingBegun}
+use Rattle.floor.specs.Reading.{keptOf, nothingBegun}
 use Rattle.watch.specs.declared.watching.Watch.{Watch}
 use Rattle.watch.specs.declared.watching.Seen.{Seen}
 use Rattle.watch.specs.declared.watching.Step.{Step}
@@ -28,25 +28,13 @@ use Rattle.watch.specs.Watching.{Watching, Watched, isBurningIn, isLong, darkene
 use Rattle.watch.specs.Watching.{watchedIn}
 use Rattle.watch.specs.Watching.{watchEnded}
 
-abbrev pub watchingWith : Watch → Begun → List ℕ → Watching
-watchingWith w k m = record {
-  device = w.floor.device;
+abbrev pub watchingIn : Watch → List ℕ → Watching
+watchingIn w m = record {
+  device = w.tested.device;
   time = w.time;
   from = w.from;
   burnt = w.burnt;
-  kept = keptOf k m;
-}
-
-abbrev pub watchingIn : Watch → List ℕ → Watching
-watchingIn w m = watchingWith w w.floor.begun m
-
--- lines are not counted here
-abbrev pub watchOf : ℕ → Watching → Watch
-watchOf n s = record {
-  floor = record { device = s.device; number = n; begun = begunOf s.kept };
-  time = s.time;
-  from = s.from;
-  burnt = s.burnt;
+  kept = keptOf w.begun m;
 }
 
 abbrev pub soundTop : Watching → ℕ
@@ -103,29 +91,25 @@ watchGiving n s x = record {
   watched = if eqb n 0 then x else held_of 0 s;
 }
 
-unfoldable pub watched : Watch → List ℕ → List ℕ → WatchStep
-watched w m bs =
-    let s = watchingIn w m in
-    watchGiving (refusalIn s (length bs)) s (watchedIn s bs)
+unfoldable pub watched : Watching → List ℕ → WatchStep
+watched s bs = watchGiving (refusalIn s (length bs)) s (watchedIn s bs)
 
-unfoldable pub watchedToEnd : Watch → List ℕ → WatchStep
-watchedToEnd w m =
-    let s = watchingIn w m in
-    watchGiving (refusalIn s 1) s (watchEnded s)
+unfoldable pub watchedToEnd : Watching → WatchStep
+watchedToEnd s = watchGiving (refusalIn s 1) s (watchEnded s)
 
-abbrev pub sight_of : ℕ → Watched → Seen
-sight_of n x = record { taken = x.taken; ended = x.told; watch = watchOf n x.state }
+abbrev pub seen_of : Watched → Seen
+seen_of x = record { taken = x.taken; ended = x.told }
 
-pub record SeenAs (n : ℕ) (x : Watched) (r : Seen) (line-left : List ℕ) : Type 0 where
-  pub returned : r ≡ sight_of n x
-  pub line : line-left ≡ x.state.kept.bytes
+pub record SeenAs (x : Watched) (r : Seen) (after : Watching) : Type 0 where
+  pub returned : r ≡ seen_of x
+  pub left : after ≡ x.state
 
-abbrev pub watchStepOf : ℕ → WatchStep → Step
-watchStepOf n g = record { number = g.number; seen = sight_of n g.watched }
+abbrev pub watchStepOf : WatchStep → Step
+watchStepOf g = record { number = g.number; taken = g.watched.taken; ended = g.watched.told }
 
-pub record WatchedAs (n : ℕ) (g : WatchStep) (r : Step) (line-left : List ℕ) : Type 0 where
-  pub returned : r ≡ watchStepOf n g
-  pub line : line-left ≡ g.watched.state.kept.bytes
+pub record WatchedAs (g : WatchStep) (r : Step) (after : Watching) : Type 0 where
+  pub returned : r ≡ watchStepOf g
+  pub left : after ≡ g.watched.state
 
 abbrev pub watchingFrom : Device → List ℕ → Watching
 watchingFrom d m = record {

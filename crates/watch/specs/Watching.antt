@@ -1,6 +1,6 @@
 -- A log watched for its lamps: what is kept between two lines, and what a line does. All lamps whose marks are set burn
--- at once, from warm-up on and until power is switched off, and marks change only while power is off (02, L8); so one
--- second is kept for all of them.
+-- at once, from warm-up on and until power is switched off, and marks change only while power is off (RULES, Lamps); so
+-- one second is kept for all of them.
 --   Watching              the device; the seconds gone since the log began; the second at which the lamps began to burn
 --                         last; the seconds that each lamp burnt in stretches that have ended; what is kept of a line
 --   isBurningIn d         the lamps burn, those whose marks are set

@@ -7,8 +7,8 @@
 --   toldLines ts          the lines that are printed
 --   burntAfter s es       the seconds that each lamp burnt, when the log has ended
 --   deviceAfter d es      the device after the events
---   WatchStage            how far the calls have come: the number of the first that refused, or 0; the state and the
---                         memory lent for a line, as the last call left them
+--   WatchStage            how far the calls have come: the number of the first that refused, or 0; the state, with the
+--                         memory lent for a line, as the last call left it
 --   playTells g bs        what `play` on the bytes bs leaves, and what is printed; after a refusal nobody calls again
 --   finishTells g         what `finish` leaves, and what is printed
 --   wholeWatch d m rs     all calls for the reads rs, of any sizes, empty ones too
@@ -16,20 +16,22 @@
 --                         seconds as its lines and `size` together could let pass have 64 bits
 --   WatchesBack d log o   all calls for a log leave o: none refused, what is printed is what the events of the log
 --                         tell, and so is what each lamp burnt
+--   LogsWatchedBack       so does every log that can be timed, from any legal device, in memory that has room
 -- Assumes nothing.
 use Rattle.std.specs.Prelude.{ℕ, ◌+◌, ◌*◌, ◌^◌, ◌≤◌, ◌<◌, ◌≡◌, Bool, true, false, ◌&&◌, if◌then◌else◌}
 use Rattle.std.specs.Prelude.{List, [], ◌∷◌, ◌++◌, map, length, eqb}
+use Rattle.record.specs.Legal.{isLegal}
 use Rattle.record.specs.declared.types.Device.{Device}
 use Rattle.clock.specs.Second.{marksIn}
 use Rattle.clock.specs.Passing.{secondsMost}
 use Rattle.stream.specs.Machine.{Out, Took, unanswered, tookBytes, handedParts, uncut}
+use Rattle.logs.specs.Lines.{lineMost}
 use Rattle.floor.specs.Events.{lines_of}
 use Rattle.floor.specs.WholeLog.{noneLonger}
 use Rattle.lamplines.specs.LampLines.{stretchLines}
 use Rattle.marking.specs.Marking.{FloorEvent, floorEvent, doneBy}
-use Rattle.watch.specs.declared.watching.Watch.{Watch}
 use Rattle.watch.specs.Watching.{Watching, isBurningIn, isLong, darkWith, watchedOn, closedAtEnd}
-use Rattle.watch.specs.WatchCalls.{WatchStep, watched, watchedToEnd, watchOf, watchingFrom}
+use Rattle.watch.specs.WatchCalls.{WatchStep, watched, watchedToEnd, watchingFrom}
 
 abbrev pub floorEvents : List ℕ → List FloorEvent
 floorEvents log = map floorEvent (lines_of log)
@@ -64,18 +66,17 @@ deviceAfter d (e ∷ es) = deviceAfter (doneBy d e) es
 
 pub record WatchStage : Type 0 where
   pub number : ℕ
-  pub watch : Watch
-  pub line : List ℕ
+  pub watching : Watching
 
 abbrev pub watchBegun : Device → List ℕ → WatchStage
-watchBegun d m = record { number = 0; watch = watchOf 0 (watchingFrom d []); line = m }
+watchBegun d m = record { number = 0; watching = watchingFrom d m }
 
-abbrev pub callTells : ℕ → WatchStep → Took WatchStage
-callTells n g =
+abbrev pub callTells : WatchStep → Took WatchStage
+callTells g =
     let x = g.watched in
     record {
       taken = x.taken;
-      state = record { number = g.number; watch = watchOf n x.state; line = x.state.kept.bytes };
+      state = record { number = g.number; watching = x.state };
       reply = toldLines (tellingIf x.told x.state);
     }
 
@@ -83,10 +84,10 @@ abbrev pub unlessStopped : WatchStage → Took WatchStage → Took WatchStage
 unlessStopped g t = if eqb g.number 0 then t else tookBytes 0 (unanswered g)
 
 unfoldable pub playTells : WatchStage → List ℕ → Took WatchStage
-playTells g bs = unlessStopped g (callTells g.watch.floor.number (watched g.watch g.line bs))
+playTells g bs = unlessStopped g (callTells (watched g.watching bs))
 
 unfoldable pub finishTells : WatchStage → Took WatchStage
-finishTells g = unlessStopped g (callTells g.watch.floor.number (watchedToEnd g.watch g.line))
+finishTells g = unlessStopped g (callTells (watchedToEnd g.watching))
 
 unfoldable pub wholeWatch : Device → List ℕ → List (List ℕ) → Out WatchStage
 wholeWatch d m reads =
@@ -102,5 +103,10 @@ pub record Timeable (size : ℕ) (reads : List (List ℕ)) : Type 0 where
 pub record WatchesBack (d : Device) (log : List ℕ) (o : Out WatchStage) : Type 0 where
   pub accepted : o.state.number ≡ 0
   pub printed : o.reply ≡ toldLines (tellings (watchingFrom d []) (floorEvents log))
-  pub burnt : o.state.watch.burnt ≡ burntAfter (watchingFrom d []) (floorEvents log)
-  pub device : o.state.watch.floor.device ≡ deviceAfter d (floorEvents log)
+  pub burnt : o.state.watching.burnt ≡ burntAfter (watchingFrom d []) (floorEvents log)
+  pub device : o.state.watching.device ≡ deviceAfter d (floorEvents log)
+
+abbrev pub LogsWatchedBack : Type 0
+LogsWatchedBack =
+    (d : Device) → isLegal d ≡ true → (m : List ℕ) → lineMost < length m → (size : ℕ) (reads : List (List ℕ))
+    → Timeable size reads → WatchesBack d (uncut reads) (wholeWatch d m reads)

@@ -5,3 +5,10 @@ mod dark;
 mod light;
 mod refusing;
 pub mod watching;
+
+ghost use Rattle.watch.specs.WholeWatch.{LogsWatchedBack};
+
+/// Nothing is done: that it has this contract is that every log is watched so.
+pub fn watches_back()
+    ensures { LogsWatchedBack }
+{}

@@ -1,20 +1,19 @@
-// When a call is refused, and what it gives then.
+// When a call is refused.
 ghost use Rattle.std.specs.Prelude.{◌≡◌, []};
-ghost use Rattle.watch.specs.WatchCalls.{watchingIn, isSound, watchRefusal, held_of, watchStepOf};
+ghost use Rattle.watch.specs.WatchCalls.{watchingIn, isSound, watchRefusal};
 
 use crate::light;
-use crate::watching::{Seen, Step, Watch};
+use crate::watching::Watch;
 use logs::LINE_MOST;
 use record::own;
 
 const SECONDS_MOST: u64 = 4294967295;
 
-pub fn is_sound(w: Watch) -> bool
-    ensures { result ≡ isSound (watchingIn w []) }
+pub fn is_sound(w: &Watch) -> bool
+    ensures { result ≡ isSound (watchingIn w.now []) }
 {
-    let top = light::begin(own::is_lit(w.floor.device.own.power), w.from, w.time);
-    let burnt = w.burnt;
-    (w.from <= w.time) & light::all_at_most(burnt, top)
+    let top = light::begin(own::is_lit(w.tested.device.own.power), w.from, w.time);
+    (w.from <= w.time) & light::all_at_most(w.burnt, top)
 }
 
 // 1 for a record that is not legal, 2 for too little memory, 3 for a state that cannot go on, else 0.
@@ -44,16 +43,4 @@ pub fn refusal_of(
         return 3;
     }
     0
-}
-
-pub fn refused(w: Watch, number: u32) -> Step
-    ensures { result ≡ watchStepOf w.floor.number
-        (record { number = number; watched = held_of 0 (watchingIn w []) }) }
-{
-    let seen = Seen {
-        taken: 0,
-        ended: false,
-        watch: w,
-    };
-    Step { number, seen }
 }

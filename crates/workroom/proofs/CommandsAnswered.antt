@@ -1,6 +1,6 @@
 -- A command that the panel sends on a joined connection: its line is one that the device takes whole, open or behind
 -- the digest. One of a class no higher than the device's is answered, and the reply is read as what the device meant;
--- a higher one is swallowed (02, L14).
+-- a higher one is swallowed (RULES, Class 2).
 -- Assumes nothing.
 use Prim.Native.Nat.{ℕ, ◌≤◌, ◌<◌}
 use mathlib.Core.Path.{◌≡◌, refl, sym, ap, subst, ◌∙◌}

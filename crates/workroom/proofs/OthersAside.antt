@@ -1,5 +1,5 @@
 -- What other controllers of a device do at their places, and the host with the device, is aside of a connection at its
--- place (02, L5).
+-- place (RULES, Places).
 -- Assumes nothing.
 use Prim.Native.Nat.{ℕ, ◌<◌}
 use mathlib.Core.Path.{◌≡◌, refl, sym, ap, ◌∙◌}

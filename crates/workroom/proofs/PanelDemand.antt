@@ -1,5 +1,5 @@
--- Our panel does what 02, L13 asks of one: by the table of what each kind of line does (`StepTo` of panel), which a
--- legal entry steps by.
+-- Our panel does what RULES, Panel asks of one: by the table of what each kind of line does (`StepTo` of panel), which
+-- a legal entry steps by.
 -- Assumes nothing.
 use Prim.Native.Nat.{ℕ}
 use mathlib.Core.Path.{◌≡◌, refl, sym, ap, subst, ◌∙◌}

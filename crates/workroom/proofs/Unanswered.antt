@@ -1,5 +1,5 @@
--- A command of a class higher than the device's, on a joined connection: no reply comes, and it stays under way (02,
--- L14).
+-- A command of a class higher than the device's, on a joined connection: no reply comes, and it stays under way (RULES,
+-- Class 2).
 -- Assumes nothing.
 use Prim.Native.Nat.{ℕ, ◌<◌}
 use mathlib.Core.Path.{◌≡◌, refl, sym, ap, subst}

@@ -1,5 +1,5 @@
--- A panel: anything that answers the calls on the panel record that 02, L13 speaks of. What is asked of one is stated
--- over it, so that wrong panels can be tried.
+-- A panel: anything that answers the calls on the panel record that RULES, Panel speaks of. What is asked of one is
+-- stated over it, so that wrong panels can be tried.
 --   AnyPanel       `add p s`: a projector more, with the password s; `command p i k room`: the command k to the
 --                  projector i, with so much memory for its line; `hear p i l`: the line l from the projector i;
 --                  `lose p i`: its connection is gone

@@ -6,7 +6,7 @@
 --                         did it is as they left it
 --   shownThrough s o v hs     what was shown, v, and on it all that was said, one after the other (`showing` of panel)
 --   ownThrough s o hs     its own part after all of it
---   IsWithin s m          m is a command of a class no higher than that of the settings s (02, L14), or none
+--   IsWithin s m          m is a command of a class no higher than that of the settings s (RULES, Class 2), or none
 -- Assumes nothing.
 use Rattle.std.specs.Prelude.{◌≤◌, List, [], ◌∷◌}
 use Rattle.lines.specs.Commands.{commandClass}

@@ -1,6 +1,6 @@
--- What 02, L13 asks of a panel's step, sentence by sentence, over any panel: on a legal panel, for a projector that it
--- has, whatever line comes. Which lines are late, foreign or malformed is `Stray` of panel/specs/StepTable, by the
--- reader's own numbers; what a line says is what the controller's readers take from it.
+-- What RULES, Panel asks of a panel's step, sentence by sentence, over any panel: on a legal panel, for a projector
+-- that it has, whatever line comes. Which lines are late, foreign or malformed is `Stray` of panel/specs/StepTable, by
+-- the reader's own numbers; what a line says is what the controller's readers take from it.
 -- TO BELIEVE IT, believe, and nothing else: the readers (controller/specs: Reading, Greetings), the codes
 -- (codes/specs/Commands), an entry's parts and what is shown (panel/specs: Entries, Showing), `UnderWay` and `Stray`
 -- (panel/specs/StepTable), a legal panel (panel/specs/LegalPanels); here AnyPanel.

@@ -1,10 +1,10 @@
--- THE PANEL SHOWS WHAT THE PROJECTOR MEANT (02, L13, joined with 01's projector). A projector of the panel is one of
--- our devices, joined to it by a connection at one of its places, whatever the other places hold (02, L5); any
--- commands of a class no higher than the device's (02, L14), in any order, with any seconds between, whatever other
--- controllers and the host do there meanwhile, and every reply delivered, in whatever cuts. After each reply what is
--- shown of its power, input and lamps is what was shown before, and on it what the device meant when it answered, open
--- or secured: so after all of them it is what the tables of `meaning` and `clock` make of the same commands and
--- seconds, and of what others left. A command of a higher class gets no reply, and stays under way.
+-- THE PANEL SHOWS WHAT THE PROJECTOR MEANT (RULES, Panel, joined with the projector). A projector of the panel is one
+-- of our devices, joined to it by a connection at one of its places, whatever the other places hold (RULES, Places);
+-- any commands of a class no higher than the device's (RULES, Class 2), in any order, with any seconds between,
+-- whatever other controllers and the host do there meanwhile, and every reply delivered, in whatever cuts. After each
+-- reply what is shown of its power, input and lamps is what was shown before, and on it what the device meant when it
+-- answered, open or secured: so after all of them it is what the tables of `meaning` and `clock` make of the same
+-- commands and seconds, and of what others left. A command of a higher class gets no reply, and stays under way.
 -- TO BELIEVE IT, believe, and nothing else: what is meant and done (meaning/specs), what a second does (clock/specs/
 -- Second), the codes of the commands (codes/specs/Commands) and their classes (lines/specs/Bodies), what is shown of
 -- what was said (`showing` of panel/specs/Showing), the records (record/specs, panel/specs: Entries, LegalPanels), a
@@ -143,7 +143,8 @@ module _ (i p : ℕ) where
     pub does : x.device.own ≡ own
     pub joined : Joined x
 
--- what the other controllers of a device do at their places, and the host, is aside of a connection at place p (02, L5)
+-- what the other controllers of a device do at their places, and the host, is aside of a connection at place p (RULES,
+-- Places)
 pub record OthersAside (p : ℕ) (d : Device) : Type 0 where
   pub receiving : (q : ℕ) (bs : List ℕ) (room : ℕ) → (p ≡ q → ⊥) → Aside p d (received d q bs room).device
   pub closing : (q : ℕ) → (p ≡ q → ⊥) → Aside p d (closedBy d q).device

@@ -1,5 +1,5 @@
 -- A panel, one of whose projectors is a device of ours, to which it is connected at one of the device's four places
--- (02, L5), and what happens in the workroom: any of this, in any order.
+-- (RULES, Places), and what happens in the workroom: any of this, in any order.
 --   cut_at ns l         the bytes l in parts: the first n bytes, for the first n of ns, and so on; the rest is the last
 --                       part. `uncut` joins them again, and no cutting is left out (proofs/Cuts)
 --   Workroom            the panel, and the device

@@ -1,27 +1,51 @@
--- A record that is not legal is refused with 1, where the line has a form.
+-- A record that is not legal is refused with 1, where the line has a form; and it stays as it was.
 use Rattle.std.proofs.Common.{ap, sym, refl, ◌∙◌, ℕ}
-use Rattle.text.proofs.Carried.{carried}
 use Rattle.text.proofs.Choices.{if_yes, if_no}
-use Rattle.record.specs.declared.types.Device.{Device}
-use Rattle.device.specs.Calls.{Result, refusedBy}
-use Rattle.events.specs.Told.{calledOf}
-use Rattle.events.proofs.EventsLeave.{did-illegal}
+use Rattle.record.specs.Legal.{isLegal}
+use Rattle.device.specs.Calls.{refusedBy}
+use Rattle.events.specs.Events.{eventOf}
+use Rattle.events.specs.Doing.{did}
+use Rattle.events.proofs.EventsLeave.{did-illegal, did-legality}
+use Rattle.events.proofs.Driven.{driven}
+use Rattle.events.proofs.Calling.{as-called}
 use Rattle.events.proofs.call.Goals as goal
+
+pub invariant_of-t : goal.invariant_of-t
+invariant_of-t c =
+    record {
+      tested = c.args.t.now.tested
+          ∙ sym (ap isLegal c.call_legal.ensures.device
+          ∙ did-legality c.args.t.now.device (eventOf c.args.says c.args.bytes.now));
+    }
+
+pub returns-then-t-clause-places : goal.returns-then-t-clause-places
+returns-then-t-clause-places c =
+    driven c.args.t.now.device c.args.says c.args.bytes.now c.call_legal.ensures.device
 
 pub returns-then-is_formed : goal.returns-then-is_formed
 returns-then-is_formed c =
-    let d = c.args.d in
-    let p = carried calledOf (λ (r : Result Device). r.reply) c.args.out.now
-    (did-illegal d c.args.says c.args.bytes.now (sym c.requires.legal_value ∙ c.if-legal.false)
+    let d = c.args.t.now.device in
+    let p = as-called (did d (eventOf c.args.says c.args.bytes.now)) (refusedBy 1 d)
+    (did-illegal d c.args.says c.args.bytes.now (sym c.args.t.now.tested ∙ c.if-t.false)
     ∙ ap (λ (n : ℕ). refusedBy n d) (if_yes _ _ (sym c.is_formed.ensures ∙ c.if-is_formed.true)))
-    c.gave.ensures refl in
-    record { value = p.0; out_after = p.1 }
+    (record { called = refl; device = refl; reply = refl }) in
+    record {
+      called = p.called;
+      device = p.device;
+      reply = p.reply;
+      places = driven d c.args.says c.args.bytes.now p.device;
+    }
 
-pub returns : goal.returns
-returns c =
-    let d = c.args.d in
-    let p = carried calledOf (λ (r : Result Device). r.reply) c.args.out.now
-    (did-illegal d c.args.says c.args.bytes.now (sym c.requires.legal_value ∙ c.if-legal.false)
+pub returns-else-is_formed : goal.returns-else-is_formed
+returns-else-is_formed c =
+    let d = c.args.t.now.device in
+    let p = as-called (did d (eventOf c.args.says c.args.bytes.now)) (refusedBy 0 d)
+    (did-illegal d c.args.says c.args.bytes.now (sym c.args.t.now.tested ∙ c.if-t.false)
     ∙ ap (λ (n : ℕ). refusedBy n d) (if_no _ _ (sym c.is_formed.ensures ∙ c.if-is_formed.false)))
-    c.gave-2.ensures refl in
-    record { value = p.0; out_after = p.1 }
+    (record { called = refl; device = refl; reply = refl }) in
+    record {
+      called = p.called;
+      device = p.device;
+      reply = p.reply;
+      places = driven d c.args.says c.args.bytes.now p.device;
+    }

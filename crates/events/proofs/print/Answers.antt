@@ -51,30 +51,30 @@ slice_bounds-call-count c = omega (arith, long-at-most-20 c.args.number)
 pub slice_bounds-call-start : goal.slice_bounds-call-start
 slice_bounds-call-start c = omega (arith, long-at-most-20 c.args.number)
 
-pub call-called-requires-clause-reply_room_in_bounds : goal.call-called-requires-clause-reply_room_in_bounds
-call-called-requires-clause-reply_room_in_bounds c =
+pub call-called-requires : goal.call-called-requires
+call-called-requires c =
     omega (arith, long-at-most-20 c.args.number, part-long c.put.new.out (c.put_long-space.result + 1))
 
 pub last_place-last-requires : goal.last_place-last-requires
 last_place-last-requires c =
-    let after = replied c.args.number c.args.d c.args.says c.args.bytes.now c.args.out.now
-    c.requires.print_room_in_bounds c.put_long-space.ensures.count c.put_long-space.ensures.bytes c.put.ensures
-    (omega arith) c.call-called.ensures.out_after c.call-called.auto.out in
-    omega (arith, ap (λ (x : Called). x.length) c.call-called.ensures.value, after.fits)
+    let after = replied c.args.number c.args.t.now.device c.args.says c.args.bytes.now c.args.out.now
+    c.requires c.put_long-space.ensures.count c.put_long-space.ensures.bytes c.put.ensures
+    (omega arith) c.call-called.ensures.reply c.call-called.auto.out in
+    omega (arith, ap (λ (x : Called). x.length) c.call-called.ensures.called, after.fits)
 
-pub put_ending-end-requires : goal.put_ending-end-requires
-put_ending-end-requires c =
+pub put_ending-requires : goal.put_ending-requires
+put_ending-requires c =
     ending-fits _ _ _ _ _
-    (replied c.args.number c.args.d c.args.says c.args.bytes.now c.args.out.now c.requires.print_room_in_bounds
+    (replied c.args.number c.args.t.now.device c.args.says c.args.bytes.now c.args.out.now c.requires
     c.put_long-space.ensures.count c.put_long-space.ensures.bytes c.put.ensures (omega arith)
-    c.call-called.ensures.out_after c.call-called.auto.out)
-    c.call-called.ensures.value c.is_formed.ensures c.last_place-last.ensures
+    c.call-called.ensures.reply c.call-called.auto.out)
+    c.call-called.ensures.called c.is_formed.ensures c.last_place-last.ensures
 
 pub returns : goal.returns
 returns c =
     line-printed _ _ _ _ _
-    (replied c.args.number c.args.d c.args.says c.args.bytes.now c.args.out.now c.requires.print_room_in_bounds
+    (replied c.args.number c.args.t.now.device c.args.says c.args.bytes.now c.args.out.now c.requires
     c.put_long-space.ensures.count c.put_long-space.ensures.bytes c.put.ensures (omega arith)
-    c.call-called.ensures.out_after c.call-called.auto.out)
-    c.call-called.ensures.value c.is_formed.ensures c.last_place-last.ensures c.put_ending-end.ensures.value
-    c.put_ending-end.ensures.out_after c.seconds_of.ensures
+    c.call-called.ensures.reply c.call-called.auto.out)
+    c.call-called.ensures.called c.is_formed.ensures c.last_place-last.ensures c.put_ending.ensures.value
+    c.call-called.ensures.device c.put_ending.ensures.out_after

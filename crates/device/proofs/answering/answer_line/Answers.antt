@@ -17,8 +17,6 @@ use Rattle.meaning.specs.Meaning.{meant, decided}
 use Rattle.meaning.specs.declared.Decided.{Decided}
 use Rattle.meaning.proofs.CanBeSaid.{meant-fits}
 use Rattle.device.specs.Answering.{Answered, lineAsks, lineAnswer, replied, swallowed}
-use Rattle.device.specs.Told.{spokenOf}
-use Rattle.device.specs.declared.answering.Spoken.{Spoken}
 use Rattle.device.proofs.answering.answer_line.Goals as goal
 
 module _ (s : Settings) (o : Own) (l out : List ℕ) (settings : isSettings s ≡ true) (own : isOwn s o ≡ true)
@@ -40,51 +38,85 @@ module _ (s : Settings) (o : Own) (l out : List ℕ) (settings : isSettings s �
   unfolding lineAnswer
   answers = if_yes (replied s o l) (swallowed o) formed
 
-  spoken : {n : ℕ} → n ≡ length (bytes (saidBy d.answer))
-      → ◌≡◌ {A = Spoken} (record { own = d.own; length = n }) (spokenOf (lineAnswer s o l))
+  spoken : {n : ℕ} → n ≡ length (bytes (saidBy d.answer)) → n ≡ length (lineAnswer s o l).reply
   spoken f =
-      (λ i. record { own = (e i).own; length = (f ∙ ap (λ (m : Said). length (bytes m)) said) i })
-      ∙ sym (ap spokenOf answers)
+      f ∙ ap (λ (m : Said). length (bytes m)) said ∙ sym (ap (λ (a : Answered). length a.reply) answers)
+
+  left : d.own ≡ (lineAnswer s o l).own
+  left = ap (λ (d : Decided). d.own) e ∙ sym (ap (λ (a : Answered). a.own) answers)
 
   put : {m : List ℕ} → m ≡ over (bytes (saidBy d.answer)) out → m ≡ over (lineAnswer s o l).reply out
   put f = f ∙ ap (λ (m : Said). over (bytes m) out) said ∙ sym (ap (λ (a : Answered). over a.reply out) answers)
 
 pub bounds-l-1 : goal.bounds-l-1
 bounds-l-1 c =
-    omega (arith, form-long c.args.s.class_number _ (sym c.is_command_form.ensures ∙ c.if-not-is_command_form.false))
+    omega (
+      arith,
+      form-long c.args.s.now.class_number _ (sym c.is_command_form.ensures ∙ c.if-not-is_command_form.false),
+    )
 
 pub bounds-l-2 : goal.bounds-l-2
 bounds-l-2 c =
-    omega (arith, form-long c.args.s.class_number _ (sym c.is_command_form.ensures ∙ c.if-not-is_command_form.false))
+    omega (
+      arith,
+      form-long c.args.s.now.class_number _ (sym c.is_command_form.ensures ∙ c.if-not-is_command_form.false),
+    )
 
 pub bounds-l-3 : goal.bounds-l-3
 bounds-l-3 c =
-    omega (arith, form-long c.args.s.class_number _ (sym c.is_command_form.ensures ∙ c.if-not-is_command_form.false))
+    omega (
+      arith,
+      form-long c.args.s.now.class_number _ (sym c.is_command_form.ensures ∙ c.if-not-is_command_form.false),
+    )
 
 pub bounds-l-4 : goal.bounds-l-4
 bounds-l-4 c =
-    omega (arith, form-long c.args.s.class_number _ (sym c.is_command_form.ensures ∙ c.if-not-is_command_form.false))
+    omega (
+      arith,
+      form-long c.args.s.now.class_number _ (sym c.is_command_form.ensures ∙ c.if-not-is_command_form.false),
+    )
 
 pub bounds-l-5 : goal.bounds-l-5
 bounds-l-5 c =
-    omega (arith, form-long c.args.s.class_number _ (sym c.is_command_form.ensures ∙ c.if-not-is_command_form.false))
+    omega (
+      arith,
+      form-long c.args.s.now.class_number _ (sym c.is_command_form.ensures ∙ c.if-not-is_command_form.false),
+    )
 
 pub slice_bounds-request_of-count : goal.slice_bounds-request_of-count
 slice_bounds-request_of-count c =
-    omega (arith, form-long c.args.s.class_number _ (sym c.is_command_form.ensures ∙ c.if-not-is_command_form.false))
+    omega (
+      arith,
+      form-long c.args.s.now.class_number _ (sym c.is_command_form.ensures ∙ c.if-not-is_command_form.false),
+    )
 
 pub slice_bounds-request_of-start : goal.slice_bounds-request_of-start
 slice_bounds-request_of-start c =
-    omega (arith, form-long c.args.s.class_number _ (sym c.is_command_form.ensures ∙ c.if-not-is_command_form.false))
+    omega (
+      arith,
+      form-long c.args.s.now.class_number _ (sym c.is_command_form.ensures ∙ c.if-not-is_command_form.false),
+    )
 
 pub returns-clause-value : goal.returns-clause-value
 returns-clause-value c =
-    spoken c.args.s c.args.o c.args.l.now c.args.out.now c.requires.settings c.requires.own
+    let made : ◌≡◌ {A = Decided} (record { answer = c.decide-answer.result; own = c.decide-answer.new.o }) _ =
+    λ i. record { answer = c.decide-answer.ensures.value i; own = c.decide-answer.ensures.own i } in
+    spoken c.args.s.now c.args.o.now c.args.l.now c.args.out.now c.requires.settings c.requires.own
     (sym c.is_command_form.ensures ∙ c.if-not-is_command_form.false) c.class_named.ensures c.request_of-r.ensures
-    c.decide-decided.ensures c.put_reply-length.ensures.value
+    made c.put_reply.ensures.value
+
+pub returns-clause-own : goal.returns-clause-own
+returns-clause-own c =
+    let made : ◌≡◌ {A = Decided} (record { answer = c.decide-answer.result; own = c.decide-answer.new.o }) _ =
+    λ i. record { answer = c.decide-answer.ensures.value i; own = c.decide-answer.ensures.own i } in
+    left c.args.s.now c.args.o.now c.args.l.now c.args.out.now c.requires.settings c.requires.own
+    (sym c.is_command_form.ensures ∙ c.if-not-is_command_form.false) c.class_named.ensures c.request_of-r.ensures
+    made
 
 pub returns-clause-out_after : goal.returns-clause-out_after
 returns-clause-out_after c =
-    put c.args.s c.args.o c.args.l.now c.args.out.now c.requires.settings c.requires.own
+    let made : ◌≡◌ {A = Decided} (record { answer = c.decide-answer.result; own = c.decide-answer.new.o }) _ =
+    λ i. record { answer = c.decide-answer.ensures.value i; own = c.decide-answer.ensures.own i } in
+    put c.args.s.now c.args.o.now c.args.l.now c.args.out.now c.requires.settings c.requires.own
     (sym c.is_command_form.ensures ∙ c.if-not-is_command_form.false) c.class_named.ensures c.request_of-r.ensures
-    c.decide-decided.ensures c.put_reply-length.ensures.out_after
+    made c.put_reply.ensures.out_after

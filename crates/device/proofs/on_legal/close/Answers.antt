@@ -3,6 +3,6 @@ use Rattle.record.proofs.Spelt.{closed-spelt}
 use Rattle.device.specs.Calls.{closedBy}
 use Rattle.device.proofs.on_legal.close.Goals as goal
 
-pub returns-else-connection-eq-SHUT : goal.returns-else-connection-eq-SHUT
+pub returns-clause-device : goal.returns-clause-device
 unfolding closedBy
-returns-else-connection-eq-SHUT c = rw closed-spelt (search rules)
+returns-clause-device c = rw closed-spelt (search rules)

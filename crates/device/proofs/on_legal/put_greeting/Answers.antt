@@ -7,11 +7,11 @@ use Rattle.device.proofs.Cases.{secured-greeting}
 use Rattle.device.proofs.Written.{greeting-written}
 use Rattle.device.proofs.on_legal.put_greeting.Goals as goal
 
-pub returns-clause-out_after : goal.returns-clause-out_after
-returns-clause-out_after c =
+pub returns-clause-reply : goal.returns-clause-reply
+returns-clause-reply c =
     let digits = hexDigits 8 c.args.random in
     let out = c.args.out.now in
     greeting-written digits out (hex-digits-length 8 c.args.random) c.requires c.put-2.ensures
     (c.put-3.ensures ∙ ap (sets c.put-2.new.out 9) c.hex8-digits.ensures) c.put-4.ensures
     ∙ ap (λ (l : List ℕ). over l out)
-    (sym (secured-greeting c.args.s c.args.random (ap not (ne_eqb _ _ c.if-s-eq0.false))))
+    (sym (secured-greeting c.args.s.now c.args.random (ap not (ne_eqb _ _ c.if-s-eq0.false))))

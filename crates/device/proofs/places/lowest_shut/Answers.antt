@@ -10,5 +10,5 @@ loop-place-preserved c = one-unshut _ c.loop-place.invariant (omega arith) (ne_e
 
 pub returns : goal.returns
 returns c =
-    let size : length c.args.connections ≡ 4 = search rules in
+    let size : length c.args.connections.now ≡ 4 = search rules in
     omega (arith, c.loop-place.invariant.inside, all-unshut _ c.loop-place.invariant (omega arith))

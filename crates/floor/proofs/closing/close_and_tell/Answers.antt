@@ -11,16 +11,16 @@ use Rattle.events.specs.Doing.{printRoom}
 use Rattle.events.proofs.PartsPut.{partFrom, leftFrom, Put, part-put, first-put}
 use Rattle.floor.specs.declared.playing.Taken.{Taken}
 use Rattle.floor.specs.Reading.{Reading, playedIn, lfMissing, endOfInput, logFinished}
-use Rattle.floor.specs.Calls.{readingIn, finishRoom, TakenAs}
+use Rattle.floor.specs.Calls.{readingIn, finishRoom, Prints, TakenAs}
 use Rattle.floor.proofs.LinesPlayed.{end-played}
 use Rattle.floor.proofs.Carrying.{carry}
 use Rattle.floor.proofs.closing.close_and_tell.Goals as goal
 
 -- the log is closed, its first part lent to print in
 module _ (s : Reading) (out : List ℕ) (room : finishRoom ≤ length out) {count : ℕ} (missing : count ≡ lfMissing s.kept)
-    {r : Taken} {line part : List ℕ}
+    {r : Taken} {after : Reading} {part : List ℕ}
     (played : TakenAs (playedIn (length (take printRoom out)) s (take (count - 0) (code "\n" ∷ [])))
-    (take printRoom out) r line part)
+    (take printRoom out) r after part)
     (same : length part ≡ length (take printRoom out)) where
   abbrev shut : Out Reading
   shut = endOfInput s
@@ -28,7 +28,7 @@ module _ (s : Reading) (out : List ℕ) (room : finishRoom ≤ length out) {coun
   abbrev left : List ℕ
   left = part ++ drop printRoom out
 
-  closed : TakenAs (tookBytes (lfMissing s.kept) shut) (take printRoom out) r line part
+  closed : TakenAs (tookBytes (lfMissing s.kept) shut) (take printRoom out) r after part
   closed =
       let lent = length (take printRoom out) in
       carry (take printRoom out)
@@ -45,15 +45,14 @@ module _ (s : Reading) (out : List ℕ) (room : finishRoom ≤ length out) {coun
   abbrev told : List ℕ
   told = lastLine shut.state.device
 
-  same_told : lastLine r.floor.device ≡ told
-  same_told = ap (λ (t : Taken). lastLine t.floor.device) closed.returned
+  same_told : lastLine after.device ≡ told
+  same_told = ap (λ (t : Reading). lastLine t.device) closed.left
 
   -- the last line is put
-  tells : {n : ℕ} {p : List ℕ} → n ≡ length (lastLine r.floor.device)
-      → p ≡ over (lastLine r.floor.device) (partFrom left r.length)
+  tells : {n : ℕ} {p : List ℕ} → n ≡ length (lastLine after.device)
+      → p ≡ over (lastLine after.device) (partFrom left r.length)
       → length p ≡ length (partFrom left r.length)
-      → TakenAs (tookBytes 0 (logFinished s)) out
-      (record { taken = 0; length = r.length + n; floor = r.floor }) line (leftFrom left r.length p)
+      → Prints (logFinished s) out (r.length + n) after (leftFrom left r.length p)
   unfolding logFinished
   tells {n} {p} e f g =
       let last : Put left told r.length (length left) (leftFrom left r.length p) =
@@ -64,14 +63,14 @@ module _ (s : Reading) (out : List ℕ) (room : finishRoom ≤ length out) {coun
       let whole : r.length + n ≡ length all = omega (arith, size, counted, length-append shut.reply told) in
       let place : r.length ≡ 0 + length shut.reply = omega (arith, counted) in
       record {
-        returned = (λ i. record { taken = 0; length = whole i; floor = (closed.returned i).floor });
-        line = closed.line;
+        returned = whole;
+        left = closed.left;
         printed = last.stored ∙ sets_then out 0 shut.reply told wrote.stored place
             ∙ sets_over all out (omega (arith, size, whole, last.fits, wrote.long));
       }
 
 pub returns : goal.returns
 returns c =
-    tells (readingIn c.args.f c.args.line.now) c.args.out.now c.requires.room-left c.missing_lf-count.ensures
-    c.play_on-played.ensures c.play_on-played.auto.out c.put_last-last.ensures.value c.put_last-last.ensures.out_after
-    c.put_last-last.auto.out
+    tells (readingIn c.args.f.now c.args.line.now) c.args.out.now c.requires.room-left c.missing_lf-count.ensures
+    c.play_on-played.ensures c.play_on-played.auto.out c.put_last.ensures.value c.put_last.ensures.out_after
+    c.put_last.auto.out

@@ -6,7 +6,7 @@ use Rattle.floor.proofs.playing.play_on.Given as goal
 
 abbrev pub invariant-loop-at : goal.invariant-loop-at
 invariant-loop-at l =
-    PlayedTo (readingIn l.fn.f l.fn.line) l.bytes l.fn.out (readingIn l.floor l.line) l.out l.at l.used
+    PlayedTo (readingIn l.fn.f l.fn.line) l.bytes l.fn.out (readingIn l.f l.line) l.out l.at l.used
 
 abbrev pub decreases-loop-at : goal.decreases-loop-at
 decreases-loop-at l = length l.bytes - l.at

@@ -4,4 +4,4 @@ use Rattle.floor.proofs.replay.play.Goals as goal
 
 pub play_on-played-requires : goal.play_on-played-requires
 play_on-played-requires c =
-    no-refusal c.legal.ensures _ _ _ _ _ _ (sym c.refusal_of-number.ensures ∙ c.if-number-ne0.false)
+    no-refusal _ _ _ _ (sym c.refusal_of-number.ensures ∙ c.if-number-ne0.false)

@@ -10,36 +10,36 @@ use Rattle.form.proofs.FormLong.{stored-form-long, legal_sized}
 use Rattle.form.proofs.storing.put_form.Goals as goal
 
 pub put_texts-lists-requires-clause-s_value : goal.put_texts-lists-requires-clause-s_value
-put_texts-lists-requires-clause-s_value c = legal-settings c.args.d c.requires.d_value
+put_texts-lists-requires-clause-s_value c = legal-settings c.args.d.now c.requires.d_value
 
 pub put_texts-lists-requires-clause-len_in_bounds : goal.put_texts-lists-requires-clause-len_in_bounds
-put_texts-lists-requires-clause-len_in_bounds c = omega (arith, stored-form-long c.args.d c.requires.d_value)
+put_texts-lists-requires-clause-len_in_bounds c = omega (arith, stored-form-long c.args.d.now c.requires.d_value)
 
 pub put_lists-rest-requires-clause-s_value : goal.put_lists-rest-requires-clause-s_value
-put_lists-rest-requires-clause-s_value c = legal-settings c.args.d c.requires.d_value
+put_lists-rest-requires-clause-s_value c = legal-settings c.args.d.now c.requires.d_value
 
 pub put_lists-rest-requires-clause-lamp_count_in_bounds : goal.put_lists-rest-requires-clause-lamp_count_in_bounds
 put_lists-rest-requires-clause-lamp_count_in_bounds c =
-    omega (arith, stored-form-long c.args.d c.requires.d_value)
+    omega (arith, stored-form-long c.args.d.now c.requires.d_value)
 
 pub put_rest-requires-clause-names_value : goal.put_rest-requires-clause-names_value
-put_rest-requires-clause-names_value c = (legal_sized c.args.d c.requires.d_value).names
+put_rest-requires-clause-names_value c = (legal_sized c.args.d.now c.requires.d_value).names
 
 pub put_rest-requires-clause-n_le_listed_most : goal.put_rest-requires-clause-n_le_listed_most
-put_rest-requires-clause-n_le_listed_most c = (legal_sized c.args.d c.requires.d_value).inputs
+put_rest-requires-clause-n_le_listed_most c = (legal_sized c.args.d.now c.requires.d_value).inputs
 
 pub put_rest-requires-clause-len_le_text_room : goal.put_rest-requires-clause-len_le_text_room
-put_rest-requires-clause-len_le_text_room c = (legal_sized c.args.d c.requires.d_value).serial
+put_rest-requires-clause-len_le_text_room c = (legal_sized c.args.d.now c.requires.d_value).serial
 
 pub put_rest-requires-clause-len_le_text_room_2 : goal.put_rest-requires-clause-len_le_text_room_2
-put_rest-requires-clause-len_le_text_room_2 c = (legal_sized c.args.d c.requires.d_value).version
+put_rest-requires-clause-len_le_text_room_2 c = (legal_sized c.args.d.now c.requires.d_value).version
 
 pub put_rest-requires-clause-names_in_bounds : goal.put_rest-requires-clause-names_in_bounds
-put_rest-requires-clause-names_in_bounds c = omega (arith, stored-form-long c.args.d c.requires.d_value)
+put_rest-requires-clause-names_in_bounds c = omega (arith, stored-form-long c.args.d.now c.requires.d_value)
 
 pub returns : goal.returns
 returns c =
-    let d = c.args.d in
+    let d = c.args.d.now in
     let h = c.requires.d_value in
     let out = c.args.out.now in
     let texts = c.put_texts-lists in

@@ -14,7 +14,7 @@ put-requires c =
       arith,
       part-some c.args.class
           (textStored c.args.serial ∷ textStored c.args.version
-          ∷ map nameStored (take (onlyIn2 c.args.class c.args.n) c.args.names)),
+          ∷ map nameStored (take (onlyIn2 c.args.class c.args.n) c.args.names.now)),
     )
 
 pub returns-then-class-ne2 : goal.returns-then-class-ne2
@@ -26,7 +26,7 @@ pub put_text-place-requires-clause-len_in_bounds : goal.put_text-place-requires-
 put_text-place-requires-clause-len_in_bounds c =
     omega (
       arith,
-      part-long _ c.args.n c.args.serial c.args.version c.args.names c.if-class-ne2.false (search rules)
+      part-long _ c.args.n c.args.serial c.args.version c.args.names.now c.if-class-ne2.false (search rules)
           (search rules),
     )
 
@@ -34,7 +34,7 @@ pub put_text-first-requires-clause-len_in_bounds : goal.put_text-first-requires-
 put_text-first-requires-clause-len_in_bounds c =
     omega (
       arith,
-      part-long _ c.args.n c.args.serial c.args.version c.args.names c.if-class-ne2.false (search rules)
+      part-long _ c.args.n c.args.serial c.args.version c.args.names.now c.if-class-ne2.false (search rules)
           (search rules),
     )
 
@@ -42,7 +42,7 @@ pub put_names-requires-clause-names_in_bounds : goal.put_names-requires-clause-n
 put_names-requires-clause-names_in_bounds c =
     omega (
       arith,
-      part-long _ c.args.n c.args.serial c.args.version c.args.names c.if-class-ne2.false (search rules)
+      part-long _ c.args.n c.args.serial c.args.version c.args.names.now c.if-class-ne2.false (search rules)
           (search rules),
     )
 
@@ -59,6 +59,7 @@ returns c =
     let w2 = wrote_then out p w1 (textSection version) {q = c.put_text-first.result}
     c.put_text-first.ensures.out_after
     (search rules) in
-    let w3 = wrote_then out p w2 (textsBytes (map nameStored (take c.args.n c.args.names))) c.put_names.ensures refl in
+    let w3 = wrote_then out p w2 (textsBytes (map nameStored (take c.args.n c.args.names.now)))
+    c.put_names.ensures refl in
     w3.bytes
-    ∙ ap (sets out p) (sym (part-with-names _ serial version c.args.n c.args.names c.if-class-ne2.false))
+    ∙ ap (sets out p) (sym (part-with-names _ serial version c.args.n c.args.names.now c.if-class-ne2.false))

@@ -8,25 +8,25 @@ use Rattle.form.proofs.Written.{wrote-text}
 use Rattle.form.proofs.storing.put_texts.Goals as goal
 
 pub put_text-maker-requires-clause-len_le_text_room : goal.put_text-maker-requires-clause-len_le_text_room
-put_text-maker-requires-clause-len_le_text_room c = (sized c.args.s c.requires.s_value).name
+put_text-maker-requires-clause-len_le_text_room c = (sized c.args.s.now c.requires.s_value).name
 
 pub put_text-model-requires-clause-len_le_text_room : goal.put_text-model-requires-clause-len_le_text_room
-put_text-model-requires-clause-len_le_text_room c = (sized c.args.s c.requires.s_value).maker
+put_text-model-requires-clause-len_le_text_room c = (sized c.args.s.now c.requires.s_value).maker
 
 pub put_text-other-requires-clause-len_le_text_room : goal.put_text-other-requires-clause-len_le_text_room
-put_text-other-requires-clause-len_le_text_room c = (sized c.args.s c.requires.s_value).model
+put_text-other-requires-clause-len_le_text_room c = (sized c.args.s.now c.requires.s_value).model
 
 pub put_text-password-requires-clause-len_le_text_room : goal.put_text-password-requires-clause-len_le_text_room
-put_text-password-requires-clause-len_le_text_room c = (sized c.args.s c.requires.s_value).other
+put_text-password-requires-clause-len_le_text_room c = (sized c.args.s.now c.requires.s_value).other
 
 pub put_text-requires-clause-len_le_text_room : goal.put_text-requires-clause-len_le_text_room
-put_text-requires-clause-len_le_text_room c = (sized c.args.s c.requires.s_value).password
+put_text-requires-clause-len_le_text_room c = (sized c.args.s.now c.requires.s_value).password
 
 pub returns-clause-out_after : goal.returns-clause-out_after
 returns-clause-out_after c =
-    let t = settings-told c.args.s c.requires.s_value in
+    let t = settings-told c.args.s.now c.requires.s_value in
     let out = c.args.out.now in
-    let s = c.args.s in
+    let s = c.args.s.now in
     let w0 : Wrote out 0 _ 1 (formVersion ∷ []) = record { bytes = c.put.ensures; place = refl } in
     let w1 = wrote-text out 0 w0 s.name t.name c.put_text-maker.ensures.out_after c.put_text-maker.ensures.value in
     let w2 = wrote-text out 0 w1 s.maker t.maker c.put_text-model.ensures.out_after c.put_text-model.ensures.value in

@@ -11,6 +11,6 @@ pub returns-clause-value : goal.returns-clause-value
 returns-clause-value c =
     omega (
       arith,
-      part-long _ c.args.n c.args.serial c.args.version c.args.names c.if-class-ne2.false (search rules)
+      part-long _ c.args.n c.args.serial c.args.version c.args.names.now c.if-class-ne2.false (search rules)
           (search rules),
     )

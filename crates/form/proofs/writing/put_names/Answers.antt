@@ -5,7 +5,7 @@ use Rattle.form.proofs.NamesWritten.{name-stored-long, name-stays}
 use Rattle.form.proofs.writing.put_names.Goals as goal
 
 pub loop-i-init : goal.loop-i-init
-loop-i-init c = no-name-put _ _ c.args.names
+loop-i-init c = no-name-put _ _ c.args.names.now
 
 pub put_name-at-requires-clause-len_le_input_name_most : goal.put_name-at-requires-clause-len_le_input_name_most
 put_name-at-requires-clause-len_le_input_name_most c =

@@ -8,18 +8,18 @@ use Rattle.meaning.proofs.inputs.input_at.Goals as goal
 
 pub returns-then-place-ge-INPUTS_MOST : goal.returns-then-place-ge-INPUTS_MOST
 returns-then-place-ge-INPUTS_MOST c =
-    let size : length c.args.pairs ≡ inputRoom = search rules in
-    let used = take (2 * c.args.count) c.args.pairs in
-    sym (no-input-past used c.args.place noInput (omega (arith, length-take (2 * c.args.count) c.args.pairs)))
+    let size : length c.args.pairs.now ≡ inputRoom = search rules in
+    let used = take (2 * c.args.count) c.args.pairs.now in
+    sym (no-input-past used c.args.place noInput (omega (arith, length-take (2 * c.args.count) c.args.pairs.now)))
 
 pub returns-then-count-place : goal.returns-then-count-place
 returns-then-count-place c =
-    let used = take (2 * c.args.count) c.args.pairs in
-    sym (no-input-past used c.args.place noInput (omega (arith, length-take (2 * c.args.count) c.args.pairs)))
+    let used = take (2 * c.args.count) c.args.pairs.now in
+    sym (no-input-past used c.args.place noInput (omega (arith, length-take (2 * c.args.count) c.args.pairs.now)))
 
 pub returns : goal.returns
 returns c =
-    let size : length c.args.pairs ≡ inputRoom = search rules in
-    let room : 2 * c.args.place + 1 < length c.args.pairs = omega arith in
+    let size : length c.args.pairs.now ≡ inputRoom = search rules in
+    let room : 2 * c.args.place + 1 < length c.args.pairs.now = omega arith in
     c.input_of_pair.ensures
-    ∙ sym (input-in-use c.args.pairs c.args.count c.args.place c.if-count-place.false room noInput)
+    ∙ sym (input-in-use c.args.pairs.now c.args.count c.args.place c.if-count-place.false room noInput)

@@ -17,26 +17,26 @@ compared i x pairs count k t h room e same =
 
 pub returns-then-same_input : goal.returns-then-same_input
 returns-then-same_input c =
-    let size : length c.args.pairs ≡ inputRoom = search rules in
-    let room : 2 * c.loop-k.k + 1 < length c.args.pairs = omega arith in
-    let here = compared c.args.i _ c.args.pairs c.args.count c.loop-k.k _ (omega arith) room
+    let size : length c.args.pairs.now ≡ inputRoom = search rules in
+    let room : 2 * c.loop-k.k + 1 < length c.args.pairs.now = omega arith in
+    let here = compared c.args.i _ c.args.pairs.now c.args.count c.loop-k.k _ (omega arith) room
     c.input_of_pair.ensures c.same_input.ensures in
     sym (found_here _ _ c.loop-k.invariant noInput
-    (place-in-use c.args.pairs c.args.count c.loop-k.k (omega arith) room) (here ∙ c.if-same_input.true))
+    (place-in-use c.args.pairs.now c.args.count c.loop-k.k (omega arith) room) (here ∙ c.if-same_input.true))
 
 pub loop-k-preserved : goal.loop-k-preserved
 loop-k-preserved c =
-    let size : length c.args.pairs ≡ inputRoom = search rules in
-    let room : 2 * c.loop-k.k + 1 < length c.args.pairs = omega arith in
-    let here = compared c.args.i _ c.args.pairs c.args.count c.loop-k.k _ (omega arith) room
+    let size : length c.args.pairs.now ≡ inputRoom = search rules in
+    let room : 2 * c.loop-k.k + 1 < length c.args.pairs.now = omega arith in
+    let here = compared c.args.i _ c.args.pairs.now c.args.count c.loop-k.k _ (omega arith) room
     c.input_of_pair.ensures c.same_input.ensures in
-    not-here _ _ c.loop-k.invariant noInput (place-in-use c.args.pairs c.args.count c.loop-k.k (omega arith) room)
+    not-here _ _ c.loop-k.invariant noInput (place-in-use c.args.pairs.now c.args.count c.loop-k.k (omega arith) room)
     (here ∙ c.if-same_input.false)
 
 pub returns : goal.returns
 returns c =
-    let size : length c.args.pairs ≡ inputRoom = search rules in
-    let pairs = c.args.pairs in
+    let size : length c.args.pairs.now ≡ inputRoom = search rules in
+    let pairs = c.args.pairs.now in
     let used = take (2 * c.args.count) pairs in
     omega (
       arith,

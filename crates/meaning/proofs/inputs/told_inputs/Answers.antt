@@ -9,12 +9,12 @@ use Rattle.meaning.proofs.inputs.told_inputs.Goals as goal
 
 pub loop-k-init : goal.loop-k-init
 unfolding inputsOfPairs
-loop-k-init c = none_filled (firstInputs c.args.pairs) noInputs _ refl
+loop-k-init c = none_filled (firstInputs c.args.pairs.now) noInputs _ refl
 
 pub loop-k-preserved : goal.loop-k-preserved
 loop-k-preserved c =
-    let size : length c.args.pairs ≡ inputRoom = search rules in
-    let pairs = c.args.pairs in
+    let size : length c.args.pairs.now ≡ inputRoom = search rules in
+    let pairs = c.args.pairs.now in
     let k = c.loop-k.k in
     let input : c.input_of_pair.result ≡ inputOfPair (get_or pairs (2 * k) 0) (get_or pairs (2 * k + 1) 0)
     = c.input_of_pair.ensures in

@@ -10,6 +10,6 @@ loop-k-init c = none_filled (firstSaid _ _ _) noLamps _ (none_said _ _)
 
 pub loop-k-preserved : goal.loop-k-preserved
 loop-k-preserved c =
-    let size : length c.args.seconds ≡ 8 = search rules in
-    one-filled (firstSaid c.args.lit c.args.marks c.args.seconds) noLamps _ _ c.loop-k.invariant (omega arith)
-    (one-more-said c.args.lit c.args.marks c.args.seconds c.loop-k.k (omega arith))
+    let size : length c.args.seconds.now ≡ 8 = search rules in
+    one-filled (firstSaid c.args.lit c.args.marks.now c.args.seconds.now) noLamps _ _ c.loop-k.invariant (omega arith)
+    (one-more-said c.args.lit c.args.marks.now c.args.seconds.now c.loop-k.k (omega arith))

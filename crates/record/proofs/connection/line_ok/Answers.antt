@@ -9,10 +9,10 @@ use Rattle.record.proofs.connection.line_ok.Goals as goal
 
 pub returns-then-held-gt-LINE_ROOM : goal.returns-then-held-gt-LINE_ROOM
 returns-then-held-gt-LINE_ROOM c =
-    let long : length c.args.l.bytes ≡ lineRoom = search rules in
+    let long : length c.args.l.now.bytes ≡ lineRoom = search rules in
     sym (kept-short lineRoom noCr _ _ long (omega arith))
 
 pub returns : goal.returns
 returns c =
-    let long : length c.args.l.bytes ≡ lineRoom = search rules in
+    let long : length c.args.l.now.bytes ≡ lineRoom = search rules in
     kept-sifted lineRoom _ _ long (omega arith) notCr noCr (plain-bytes _) c.line_room.ensures

@@ -7,10 +7,10 @@ use Rattle.record.proofs.own.lamp_list_ok.Goals as goal
 
 pub returns-then-count-gt-LAMPS_MOST : goal.returns-then-count-gt-LAMPS_MOST
 returns-then-count-gt-LAMPS_MOST c =
-    let long : length c.args.list ≡ lampsMost = search rules in
+    let long : length c.args.list.now ≡ lampsMost = search rules in
     sym (kept-short lampsMost isLamps _ _ long (omega arith))
 
 pub returns : goal.returns
 returns c =
-    let long : length c.args.list ≡ lampsMost = search rules in
+    let long : length c.args.list.now ≡ lampsMost = search rules in
     kept-apart lampsMost isLamps _ _ long (omega arith) c.numbers_within.ensures c.lamps_ok.ensures

@@ -1,18 +1,22 @@
-use Rattle.std.proofs.Common.{◌≡◌, ℕ, ◌≤◌, get_or, sym, ap, ◌∙◌, ltb, leb, arith, rules}
-use borrow.Author.Tests.{le-leb}
-use Rattle.text.proofs.Scanning.{no_more}
+-- Each byte is what the window wants at its place.
+use Rattle.std.proofs.Common.{ℕ, ◌≤◌, length, get_or, take, drop, ◌+◌, ◌-◌, ap, ◌∙◌, List, arith}
+use borrow.Author.Tests.{ltb-true, ltb-false}
 use Rattle.lines.specs.Texts.{isTextByte}
 use Rattle.record.specs.Legal.{is_zero}
-use Rattle.record.proofs.Sifted.{one-sifted, picked, passed-by}
+use Rattle.record.proofs.Sifted.{one-sifted}
+use Rattle.record.proofs.Window.{wanted-space, wanted-zero, low-used, low-unused}
 use Rattle.record.proofs.scan.text_room.Goals as goal
 
-pub loop-b-preserved : goal.loop-b-preserved
-loop-b-preserved c =
-    let at = ap (λ (k : ℕ). ltb k c.args.n) c.loop-b.invariant.0 in
-    let byte = get_or c.args.s.now c.loop-b.b-index 0 in
-    let small : byte ≤ 0xFF = omega (arith, c.type_inv.s c.loop-b.b-index) in
-    let whole : leb 0x20 byte ≡ isTextByte byte = sym (rw (le-leb byte 0xFF small) (no_more _)) in (
-      omega arith,
-      one-sifted isTextByte is_zero _ _ c.loop-b.invariant.1 (search rules)
-          (λ e. picked _ _ (at ∙ e) ∙ whole) (λ e. passed-by _ (is_zero byte) (at ∙ e)),
-    )
+pub loop-k-preserved : goal.loop-k-preserved
+loop-k-preserved c =
+    let n = c.args.n in
+    let m = length c.args.s.now in
+    let k = c.loop-k.k in
+    let b = get_or c.args.s.now k 0 in
+    let small : b ≤ 0xFF = omega (arith, c.type_inv.s k) in
+    let seen = ap (λ (l : List ℕ). get_or (take ((128 - n + m) - (128 - n)) (drop (128 - n) l)) k 0) c.window.ensures in
+    one-sifted isTextByte is_zero _ _ c.loop-k.invariant c.loop-k-test.true
+    (λ e. low-used b _ _ c.min.ensures small
+    (seen ∙ wanted-space n m k c.requires.used c.requires.room c.loop-k-test.true (ltb-true k n e)))
+    (λ e. low-unused b _ _ c.min.ensures
+    (seen ∙ wanted-zero n m k c.requires.used c.requires.room c.loop-k-test.true (ltb-false k n e)))

@@ -1,8 +1,7 @@
-use Rattle.std.proofs.Common.{◌≡◌}
 use Rattle.lines.specs.Texts.{isTextByte}
 use Rattle.record.specs.Legal.{is_zero}
 use Rattle.record.proofs.Sifted.{Sifted}
 use Rattle.record.proofs.scan.text_room.Given as goal
 
-abbrev pub invariant-loop-b : goal.invariant-loop-b
-invariant-loop-b l = (l.k ≡ l.b-index) × Sifted isTextByte is_zero l.s l.n l.b-index l.ok
+abbrev pub invariant-loop-k : goal.invariant-loop-k
+invariant-loop-k l = Sifted isTextByte is_zero l.s l.n l.k l.ok

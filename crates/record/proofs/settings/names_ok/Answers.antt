@@ -9,17 +9,17 @@ use Rattle.record.specs.declared.types.InputName.{InputName}
 use Rattle.record.proofs.Sifted.{Sifted, one-more-sifted}
 use Rattle.record.proofs.settings.names_ok.Goals as goal
 
-one_more : (n : ℕ) (names : List InputName) (d : InputName) {i most : ℕ} {ok x : Bool}
+one_more : (n : ℕ) (names : List InputName) (d : InputName) {i : ℕ} {ok x : Bool}
     → Sifted (fillsNameRoom inputNameMost) (fillsNameRoom 0) names n i ok → i < length names
-    → most ≡ (if ltb i n then inputNameMost else 0) → x ≡ fillsNameRoom most (get_or names i d)
+    → x ≡ fillsNameRoom (if ltb i n then inputNameMost else 0) (get_or names i d)
     → Sifted (fillsNameRoom inputNameMost) (fillsNameRoom 0) names n (i + 1) (ok && x)
-one_more n names d {i} p h e f =
+one_more n names d {i} p h f =
     let t = get_or names i d in
     one-more-sifted (fillsNameRoom inputNameMost) (fillsNameRoom 0) names n d p h
-    (λ g. f ∙ ap (λ (k : ℕ). fillsNameRoom k t) (e ∙ if_yes inputNameMost 0 g))
-    (λ g. f ∙ ap (λ (k : ℕ). fillsNameRoom k t) (e ∙ if_no inputNameMost 0 g))
+    (λ g. f ∙ ap (λ (k : ℕ). fillsNameRoom k t) (if_yes inputNameMost 0 g))
+    (λ g. f ∙ ap (λ (k : ℕ). fillsNameRoom k t) (if_no inputNameMost 0 g))
 
 pub loop-i-preserved : goal.loop-i-preserved
 loop-i-preserved c =
-    let long : length c.args.names ≡ listedMost = search rules in
-    one_more _ _ _ c.loop-i.invariant (omega arith) c.name_most.ensures c.input_name_ok-ok.ensures
+    let long : length c.args.names.now ≡ listedMost = search rules in
+    one_more _ _ _ c.loop-i.invariant (omega arith) c.place_ok-ok.ensures

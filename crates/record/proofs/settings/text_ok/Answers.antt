@@ -8,11 +8,11 @@ use Rattle.record.proofs.settings.text_ok.Goals as goal
 
 pub returns-then-most-len : goal.returns-then-most-len
 returns-then-most-len c =
-    let long : length c.args.t.bytes ≡ textRoom = search rules in
+    let long : length c.args.t.now.bytes ≡ textRoom = search rules in
     let most = c.args.most in
     sym (kept-over textRoom _ _ long (isText most) most c.if-most-len.true (λ l. text-longer l most))
 
 pub returns : goal.returns
 returns c =
-    let long : length c.args.t.bytes ≡ textRoom = search rules in
+    let long : length c.args.t.now.bytes ≡ textRoom = search rules in
     text-sifted textRoom _ _ long (omega arith) c.args.most (omega arith) c.text_room.ensures c.is_refusal.ensures

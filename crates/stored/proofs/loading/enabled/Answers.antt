@@ -5,14 +5,14 @@ use Rattle.text.proofs.Choices.{if_yes, if_no, by-not}
 use Rattle.record.specs.Updates.{withOwn, withMarks}
 use Rattle.record.specs.Record.{accepted}
 use Rattle.record.specs.Legal.{isOwn}
-use Rattle.record.proofs.OwnTold.{own-told, own-shown}
+use Rattle.record.proofs.FactsTold.{own_is}
 use Rattle.record.proofs.LegalTold.{settings-of-legal, own-of-legal}
 use Rattle.stored.specs.Loading.{isMarked, markRoom, areMarks}
 use Rattle.stored.proofs.MarkBytes.{marks-told, are-marks-shown}
 use Rattle.stored.proofs.loading.enabled.Goals as goal
 
-pub marks_of-marks-requires : goal.marks_of-marks-requires
-marks_of-marks-requires c = omega (arith, (settings-of-legal c.args.d c.requires).lamps)
+pub marks_of-device-requires : goal.marks_of-device-requires
+marks_of-device-requires c = omega (arith, (settings-of-legal c.args.d c.requires).lamps)
 
 pub returns-then-not-own_ok : goal.returns-then-not-own_ok
 returns-then-not-own_ok c =
@@ -22,7 +22,7 @@ returns-then-not-own_ok c =
     let marked = withMarks d.own (markRoom (map isMarked bytes)) in
     let o = own-of-legal d c.requires in
     let tested : c.own_ok.result ≡ isOwn d.settings marked =
-    c.own_ok.ensures ∙ ap (λ (l : List Bool). isOwn d.settings (withMarks d.own l)) c.marks_of-marks.ensures in
+    c.own_ok.ensures ∙ ap (λ (l : List Bool). isOwn d.settings (withMarks d.own l)) c.marks_of-device.ensures in
     c.refuse-then-not-own_ok.ensures
     ∙ sym
     (if_no _ _
@@ -31,14 +31,7 @@ returns-then-not-own_ok c =
     false≢true
     (sym c.if-not-own_ok.true
     ∙ tested
-    ∙ own-shown d.settings marked (record {
-      errors = o.errors;
-      lamps = o.lamps;
-      marks = (marks-told n bytes h).legal;
-      left = o.left;
-      chosen = o.chosen;
-      volumes = o.volumes;
-    })))))
+    ∙ (own_is d.settings marked).1 (assumption (o, (marks-told n bytes h).legal))))))
 
 pub returns : goal.returns
 returns c =
@@ -46,13 +39,11 @@ returns c =
     let bytes = c.args.s.now in
     let marked = withMarks d.own (markRoom (map isMarked bytes)) in
     let tested : c.own_ok.result ≡ isOwn d.settings marked =
-    c.own_ok.ensures ∙ ap (λ (l : List Bool). isOwn d.settings (withMarks d.own l)) c.marks_of-marks.ensures in
-    let legal = own-told d.settings marked (sym tested ∙ c.if-not-own_ok.false) in
+    c.own_ok.ensures ∙ ap (λ (l : List Bool). isOwn d.settings (withMarks d.own l)) c.marks_of-device.ensures in
+    let legal = (own_is d.settings marked).0 (sym tested ∙ c.if-not-own_ok.false) in
     let shown = are-marks-shown d.settings.lamp_count bytes (record {
       each = sym c.bytes_within.ensures ∙ c.if-not-bytes_within.false;
       many = omega arith;
       legal = legal.marks;
     }) in
-    ap accepted
-    (c.with_own-device.ensures ∙ ap (λ (l : List Bool). withOwn d (withMarks d.own l)) c.marks_of-marks.ensures)
-    ∙ sym (if_yes _ _ shown)
+    ap (λ (l : List Bool). accepted (withOwn d (withMarks d.own l))) c.marks_of-device.ensures ∙ sym (if_yes _ _ shown)

@@ -7,32 +7,33 @@ use Rattle.watch.proofs.watching.finish.Goals as goal
 pub returns-then-number-ne0 : goal.returns-then-number-ne0
 unfolding watchedToEnd
 returns-then-number-ne0 c =
-    let w = c.args.w in
+    let w = c.args.w.now in
     let line = c.args.line.now in
-    let number = number-of w line 1 c.legal.ensures c.is_sound.ensures c.refusal_of-number.ensures in
+    let number = number-of w line 1 c.is_sound.ensures c.refusal_of-number.ensures in
     refused-as w line 1 (watchEnded (watchingIn w line)) number c.if-number-ne0.true c.refused.ensures
 
 pub watch_on-last-requires-clause-can_watch : goal.watch_on-last-requires-clause-can_watch
 watch_on-last-requires-clause-can_watch c =
-    let w = c.args.w in
+    let w = c.args.w.now in
     let line = c.args.line.now in
-    let number = number-of w line 1 c.legal.ensures c.is_sound.ensures c.refusal_of-number.ensures in
-    can-end w line (can-call w line 1 (watchEnded (watchingIn w line)) number c.if-number-ne0.false) _
+    let number = number-of w line 1 c.is_sound.ensures c.refusal_of-number.ensures in
+    can-end (watchingIn w line) (can-call w line 1 (watchEnded (watchingIn w line)) number c.if-number-ne0.false) _
 
 pub close_log-seen-requires : goal.close_log-seen-requires
 close_log-seen-requires c =
-    let w = c.args.w in
+    let w = c.args.w.now in
     let line = c.args.line.now in
-    let number = number-of w line 1 c.legal.ensures c.is_sound.ensures c.refusal_of-number.ensures in
+    let number = number-of w line 1 c.is_sound.ensures c.refusal_of-number.ensures in
     let can = can-call w line 1 (watchEnded (watchingIn w line)) number c.if-number-ne0.false in
-    end-darkens w line can c.missing_lf-count.ensures c.watch_on-last.ensures
+    end-darkens (watchingIn w line) can c.missing_lf-count.ensures c.watch_on-last.ensures
 
 pub returns : goal.returns
 unfolding watchedToEnd
 returns c =
-    let w = c.args.w in
+    let w = c.args.w.now in
     let line = c.args.line.now in
-    let number = number-of w line 1 c.legal.ensures c.is_sound.ensures c.refusal_of-number.ensures in
+    let number = number-of w line 1 c.is_sound.ensures c.refusal_of-number.ensures in
     let can = can-call w line 1 (watchEnded (watchingIn w line)) number c.if-number-ne0.false in
     answered-as w line 1 (watchEnded (watchingIn w line)) number c.if-number-ne0.false
-    (end-seen w line can c.missing_lf-count.ensures c.watch_on-last.ensures c.close_log-seen.ensures)
+    (end-seen (watchingIn w line) can c.missing_lf-count.ensures c.watch_on-last.ensures
+    (c.close_log-seen.ensures c.watch_on-last.new.line))

@@ -1,0 +1,16 @@
+use Rattle.board.proofs.OneResult.{one-writing-by, one-reading-by, one-flat-greeting, one-flat-verdict, one-flat-plan}
+use Rattle.board.proofs.WhichSetting.{one-which}
+use Rattle.board.proofs.theorems.one_result.Goals as goal
+
+pub returns : goal.returns
+returns c = record {
+  command_written = λ k secured random password out r s m n p q.
+      one-writing-by k secured random password out
+      (record { told = p.0; memory = p.1 }) (record { told = q.0; memory = q.1 });
+  reply_read = λ k l r s. one-reading-by k l;
+  greeting_read = λ l r s. one-flat-greeting l;
+  verdict = λ d a r s. one-flat-verdict d a;
+  plan = λ d out r s m n p q.
+      one-flat-plan d out (record { told = p.0; memory = p.1 }) (record { told = q.0; memory = q.1 });
+  setting = λ w r s. one-which w;
+}

@@ -1,0 +1,29 @@
+-- What the projector's calls give, as the header's records have it.
+--   receiving_of t, opening_of t p     what a call says, beside a record that changes where it lies
+--   received_of r, opened_of p r       the same with the record, by value
+--   changed_of r                       of a call that gives a number and the record
+-- Assumes nothing.
+use Rattle.std.specs.Prelude.{ℕ, length}
+use Rattle.record.specs.declared.types.Device.{Device}
+use Rattle.record.specs.declared.types.Changed.{Changed}
+use Rattle.device.specs.Calls.{Result as Given}
+use Rattle.device.specs.Outcomes.{Told}
+use Rattle.board.specs.declared.results.Receiving.{Receiving}
+use Rattle.board.specs.declared.results.Opening.{Opening}
+use Rattle.board.specs.declared.results.Received.{Received}
+use Rattle.board.specs.declared.results.Opened.{Opened}
+
+abbrev pub receiving_of : Told → Receiving
+receiving_of t = record { number = t.number; taken = t.taken; length = t.length }
+
+abbrev pub opening_of : Told → ℕ → Opening
+opening_of t p = record { number = t.number; length = t.length; place = p }
+
+abbrev pub received_of : Given Device → Received
+received_of r = record { number = r.number; taken = r.taken; length = length r.reply; device = r.device }
+
+abbrev pub opened_of : ℕ → Given Device → Opened
+opened_of p r = record { number = r.number; length = length r.reply; place = p; device = r.device }
+
+abbrev pub changed_of : Given Device → Changed
+changed_of r = record { number = r.number; device = r.device }

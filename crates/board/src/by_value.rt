@@ -1,0 +1,154 @@
+// The same calls by value, for a host that keeps its record by copying: the record is given, and the changed one comes
+// back. Each is its call in place on a copy.
+ghost use Rattle.std.specs.Prelude.{◌≡◌, length};
+ghost use Rattle.text.specs.Words.{over};
+ghost use Rattle.record.specs.Legal.{isLegal};
+ghost use Rattle.record.specs.Wanted.{wantedOf, wantedOf2, namesIn};
+ghost use Rattle.record.specs.SetUp.{setUp};
+ghost use Rattle.record.specs.HostCalls.{faultSet, errorsSet, markSet};
+ghost use Rattle.clock.specs.Passing.{passed};
+ghost use Rattle.device.specs.Calls.{received, openedBy, placeTaken, closedBy};
+ghost use Rattle.board.specs.Results.{received_of, opened_of, changed_of};
+
+use crate::projector;
+use crate::results::{Opened, Opening, Received, Receiving};
+use record::types::{Changed, Device};
+
+#[unsafe(no_mangle)]
+pub extern "C" fn pj_set_up(
+    name: &[u8],
+    maker: &[u8],
+    model: &[u8],
+    other: &[u8],
+    password: &[u8],
+    inputs: &[u8],
+    lamps: &[u32],
+    warm: u32,
+    cool: u32,
+) -> Changed
+    ensures { result ≡ setUp (wantedOf name.now maker.now model.now other.now
+        password.now inputs.now lamps.now warm cool) }
+{
+    setup::set_up(
+        name, maker, model, other, password, inputs, lamps, warm, cool,
+    )
+}
+
+#[unsafe(no_mangle)]
+pub extern "C" fn pj_set_up_2(
+    name: &[u8],
+    maker: &[u8],
+    model: &[u8],
+    other: &[u8],
+    password: &[u8],
+    inputs: &[u8],
+    lamps: &[u32],
+    warm: u32,
+    cool: u32,
+    serial: &[u8],
+    version: &[u8],
+    names: &[u8],
+    lengths: &[usize],
+) -> Changed
+    ensures { result ≡ setUp (wantedOf2 name.now maker.now model.now other.now
+        password.now inputs.now lamps.now warm cool serial.now
+        version.now (namesIn lengths.now names.now)) }
+{
+    setup::set_up_2(
+        name, maker, model, other, password, inputs, lamps, warm, cool, serial, version, names,
+        lengths,
+    )
+}
+
+#[unsafe(no_mangle)]
+pub extern "C" fn pj_legal(d: Device) -> bool
+    ensures { result ≡ isLegal d }
+{
+    d.is_legal()
+}
+
+#[unsafe(no_mangle)]
+pub extern "C" fn pj_open(d: Device, random: u32, out: &mut [u8]) -> Opened
+    ensures value { result ≡ opened_of (placeTaken d (length out.old))
+        (openedBy d random (length out.old)) }
+    ensures out_after { out.new ≡ over (openedBy d random (length out.old)).reply
+        out.old }
+{
+    let mut device = d;
+    let Opening {
+        number,
+        length,
+        place,
+    } = projector::pj_open_in_place(&mut device, random, out);
+    Opened {
+        number,
+        length,
+        place,
+        device,
+    }
+}
+
+#[unsafe(no_mangle)]
+pub extern "C" fn pj_close(d: Device, place: usize) -> Changed
+    ensures { result ≡ changed_of (closedBy d place) }
+{
+    let mut device = d;
+    let number = projector::pj_close_in_place(&mut device, place);
+    Changed { number, device }
+}
+
+#[unsafe(no_mangle)]
+pub extern "C" fn pj_receive(d: Device, place: usize, bytes: &[u8], out: &mut [u8]) -> Received
+    ensures value { result ≡ received_of (received d place bytes.now (length out.old)) }
+    ensures out_after { out.new ≡ over (received d place bytes.now (length out.old)).reply
+        out.old }
+{
+    let mut device = d;
+    let Receiving {
+        number,
+        taken,
+        length,
+    } = projector::pj_receive_in_place(&mut device, place, bytes, out);
+    Received {
+        number,
+        taken,
+        length,
+        device,
+    }
+}
+
+#[unsafe(no_mangle)]
+pub extern "C" fn pj_set_fault(d: Device, mark: bool) -> Changed
+    ensures { result ≡ faultSet d mark }
+{
+    let mut device = d;
+    let number = projector::pj_set_fault_in_place(&mut device, mark);
+    Changed { number, device }
+}
+
+#[unsafe(no_mangle)]
+pub extern "C" fn pj_set_errors(d: Device, digits: &[u8]) -> Changed
+    ensures { result ≡ errorsSet d digits.now }
+{
+    let mut device = d;
+    let number = projector::pj_set_errors_in_place(&mut device, digits);
+    Changed { number, device }
+}
+
+#[unsafe(no_mangle)]
+pub extern "C" fn pj_set_mark(d: Device, lamp: usize, enabled: bool) -> Changed
+    ensures { result ≡ markSet d lamp enabled }
+{
+    let mut device = d;
+    let number = projector::pj_set_mark_in_place(&mut device, lamp, enabled);
+    Changed { number, device }
+}
+
+#[unsafe(no_mangle)]
+pub extern "C" fn pj_pass(d: Device, seconds: u32) -> Changed
+    ensures { result ≡ passed d seconds }
+{
+    let mut device = d;
+    let number = projector::pj_pass_in_place(&mut device, seconds);
+    Changed { number, device }
+}

@@ -1,0 +1,84 @@
+// What the projector's calls give, as C has it: an exported call returns no enum, so a refusal is its number.
+ghost use Rattle.std.specs.Prelude.{◌≡◌};
+ghost use Rattle.device.specs.Outcomes.{receiving_told, opening_told, opened_place};
+ghost use Rattle.board.specs.Results.{receiving_of, opening_of};
+
+use device::calls;
+use record::refusal::Refusal;
+use record::types::Device;
+
+/// What receiving gives beside the record: its number, the bytes taken, the length of the reply.
+#[repr(C)]
+#[derive(Clone, Copy)]
+pub struct Receiving {
+    pub number: u32,
+    pub taken: usize,
+    pub length: usize,
+}
+
+/// What opening gives beside the record: its number, the length of the greeting, the place.
+#[repr(C)]
+#[derive(Clone, Copy)]
+pub struct Opening {
+    pub number: u32,
+    pub length: usize,
+    pub place: usize,
+}
+
+/// What receiving gives by value.
+#[repr(C)]
+#[derive(Clone, Copy)]
+pub struct Received {
+    pub number: u32,
+    pub taken: usize,
+    pub length: usize,
+    pub device: Device,
+}
+
+/// What opening gives by value.
+#[repr(C)]
+#[derive(Clone, Copy)]
+pub struct Opened {
+    pub number: u32,
+    pub length: usize,
+    pub place: usize,
+    pub device: Device,
+}
+
+impl Receiving {
+    pub fn of(outcome: Result<calls::Received, Refusal>) -> Receiving
+        ensures { result ≡ receiving_of (receiving_told outcome) }
+    {
+        match outcome {
+            Ok(received) => Receiving {
+                number: 0,
+                taken: received.taken,
+                length: received.length,
+            },
+            Err(refusal) => Receiving {
+                number: refusal.number(),
+                taken: 0,
+                length: 0,
+            },
+        }
+    }
+}
+
+impl Opening {
+    pub fn of(outcome: Result<calls::Opened, Refusal>) -> Opening
+        ensures { result ≡ opening_of (opening_told outcome) (opened_place outcome) }
+    {
+        match outcome {
+            Ok(opened) => Opening {
+                number: 0,
+                length: opened.length,
+                place: opened.place,
+            },
+            Err(refusal) => Opening {
+                number: refusal.number(),
+                length: 0,
+                place: 0,
+            },
+        }
+    }
+}

@@ -1,0 +1,91 @@
+// What is proved beside the contracts of the functions. Nothing is done here: that these functions have their contracts
+// is that the theorems stand.
+ghost use Rattle.std.specs.Prelude.{◌≡◌, ◌<◌, ◌≤◌, ◌^◌, ℕ, true, List, false, length, Bool};
+ghost use Rattle.record.specs.declared.types.Device.{Device};
+ghost use Rattle.record.specs.Limits.{placesCount, opened, awaiting};
+ghost use Rattle.record.specs.Legal.{isLegal};
+ghost use Rattle.record.specs.Places.{connectionAt, lowestShut};
+ghost use Rattle.stream.specs.Collecting.{emptyLine};
+ghost use Rattle.codes.specs.declared.command.Coded.{Coded};
+ghost use Rattle.lines.specs.declared.command.Command.{Command};
+ghost use Rattle.codes.specs.Commands.{commandOf};
+ghost use Rattle.codes.specs.declared.command.MaybeCommand.TheVariants.{CommandIs};
+ghost use Rattle.lines.specs.Commands.{commandClass};
+ghost use Rattle.device.specs.Calls.{replyRoom, received, openedBy, placeTaken};
+ghost use Rattle.controller.specs.Writing.{commandRoom, toldWritten};
+ghost use Rattle.board.specs.Face.{written_by, read_by};
+ghost use Rattle.codes.specs.Readings.{saidFlat, flatGreeting};
+ghost use Rattle.meaning.specs.Meaning.{meant};
+ghost use Rattle.requests.specs.declared.Request.TheVariants.{Asks};
+ghost use Rattle.device.specs.Receiving.{passwordOf};
+ghost use Rattle.controller.specs.Greetings.{readGreeting, greetedOn};
+ghost use Rattle.day.specs.declared.check.Verdict.{Verdict};
+ghost use Rattle.board.specs.Days.{flatVerdict, flatPlan};
+ghost use Rattle.day.specs.declared.plan.Plan.{Plan};
+ghost use Rattle.record.specs.declared.types.MaybeSetting.{MaybeSetting};
+ghost use Rattle.board.specs.Which.{settingNumber};
+ghost use Rattle.controller.specs.declared.writing.Written.{Written};
+ghost use Rattle.text.specs.Words.{over};
+ghost use Rattle.codes.specs.declared.readings.FlatReading.{FlatReading};
+ghost use Rattle.codes.specs.declared.readings.FlatGreeting.{FlatGreeting};
+ghost use Rattle.day.specs.Days.{Day};
+ghost use Rattle.board.specs.declared.days.FlatVerdict.{FlatVerdict};
+ghost use Rattle.day.specs.Verdicts.{checked};
+ghost use Rattle.board.specs.declared.days.FlatPlan.{FlatPlan};
+ghost use Rattle.day.specs.Plans.{plan_of, rigsWritten};
+ghost use Rattle.record.specs.Wanted.{Wanted};
+ghost use Rattle.record.specs.OutOfRange.{refusedSetting};
+
+/// For every legal device, at every place between lines, and every code of a command of a class no higher than the
+/// device's, what is read of the reply to what was written is what the projector meant; so of the greeting.
+pub fn the_face_reads_back()
+    ensures read_back { (d : Device) (p : ℕ) → p < placesCount → isLegal d ≡ true
+        → (connectionAt d p).line ≡ emptyLine → (k : Coded) (c : Command) → commandOf k ≡ CommandIs c
+        → commandClass c ≤ d.settings.class_number
+        → (room : ℕ) → replyRoom ≤ room → (memory : ℕ) → commandRoom ≤ memory
+        → (connectionAt d p).phase ≡ opened → (random : ℕ) (password : List ℕ)
+        → let w = written_by (commandOf k) false random password memory in
+        let r = received d p w.bytes room in
+        (w.number ≡ 0) × (r.taken ≡ length w.bytes)
+        × (read_by (commandOf k) r.reply ≡ saidFlat (meant d.settings d.own (Asks c))) }
+    ensures read_back_secured { (d : Device) (p : ℕ) → p < placesCount → isLegal d ≡ true
+        → (connectionAt d p).line ≡ emptyLine → (k : Coded) (c : Command) → commandOf k ≡ CommandIs c
+        → commandClass c ≤ d.settings.class_number
+        → (room : ℕ) → replyRoom ≤ room → (memory : ℕ) → commandRoom ≤ memory
+        → (connectionAt d p).phase ≡ awaiting
+        → let w = written_by (commandOf k) true (connectionAt d p).random (passwordOf d.settings) memory in
+        let r = received d p w.bytes room in
+        (w.number ≡ 0) × (r.taken ≡ length w.bytes)
+        × (read_by (commandOf k) r.reply ≡ saidFlat (meant d.settings d.own (Asks c))) }
+    ensures greeting { (d : Device) (random room : ℕ) → isLegal d ≡ true → lowestShut d.connections < placesCount
+        → replyRoom ≤ room → random < 2 ^ 32 → let o = openedBy d random room in
+        flatGreeting (readGreeting o.reply) ≡ flatGreeting (greetedOn (connectionAt o.device (placeTaken d room))) }
+{}
+
+/// No two verdicts, no two answers of the planner and no two settings have the same numbers.
+pub fn numbers_tell_apart()
+    ensures verdicts { (v w : Verdict) → flatVerdict v ≡ flatVerdict w → v ≡ w }
+    ensures plans { (p q : Plan) → flatPlan p ≡ flatPlan q → p ≡ q }
+    ensures settings { (m n : MaybeSetting) → settingNumber m ≡ settingNumber n → m ≡ n }
+{}
+
+/// Two results that meet the promise of a call are equal, lent memory included.
+pub fn one_result()
+    ensures command_written { (k : Coded) (secured : Bool) (random : ℕ) (password out : List ℕ)
+        (r s : Written) (m n : List ℕ)
+        → let w = written_by (commandOf k) secured random password (length out) in
+        (r ≡ toldWritten w) × (m ≡ over w.bytes out)
+        → (s ≡ toldWritten w) × (n ≡ over w.bytes out) → (r ≡ s) × (m ≡ n) }
+    ensures reply_read { (k : Coded) (l : List ℕ) (r s : FlatReading)
+        → r ≡ read_by (commandOf k) l → s ≡ read_by (commandOf k) l → r ≡ s }
+    ensures greeting_read { (l : List ℕ) (r s : FlatGreeting)
+        → r ≡ flatGreeting (readGreeting l) → s ≡ flatGreeting (readGreeting l) → r ≡ s }
+    ensures verdict { (d : Day) (a : List ℕ) (r s : FlatVerdict)
+        → r ≡ flatVerdict (checked d a) → s ≡ flatVerdict (checked d a) → r ≡ s }
+    ensures plan { (d : Day) (out : List ℕ) (r s : FlatPlan) (m n : List ℕ)
+        → let room = length out in
+        (r ≡ flatPlan (plan_of d room)) × (m ≡ over (rigsWritten d room) out)
+        → (s ≡ flatPlan (plan_of d room)) × (n ≡ over (rigsWritten d room) out) → (r ≡ s) × (m ≡ n) }
+    ensures setting { (w : Wanted) (r s : ℕ)
+        → r ≡ settingNumber (refusedSetting w) → s ≡ settingNumber (refusedSetting w) → r ≡ s }
+{}

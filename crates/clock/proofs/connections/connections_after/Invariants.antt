@@ -1,8 +1,0 @@
--- Each connection passed is n seconds later, and the others stand as they were.
-use Rattle.std.proofs.Common.{◌≡◌}
-use Rattle.clock.specs.Second.{times, connectionSecond}
-use Rattle.clock.proofs.FirstChanged.{firstChanged}
-use Rattle.clock.proofs.connections.connections_after.Given as goal
-
-abbrev pub invariant-loop-place : goal.invariant-loop-place
-invariant-loop-place l = l.after ≡ firstChanged l.place (times connectionSecond l.n) l.fn.connections

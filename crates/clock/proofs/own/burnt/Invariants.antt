@@ -1,7 +1,0 @@
--- Up to k each enabled lamp has burnt its seconds, and the others stand as they were.
-use Rattle.clock.specs.Second.{times, oneMore}
-use Rattle.clock.proofs.ChangedWhere.{ChangedTo}
-use Rattle.clock.proofs.own.burnt.Given as goal
-
-abbrev pub invariant-loop-k : goal.invariant-loop-k
-invariant-loop-k l = ChangedTo (times oneMore l.n) l.lamps l.enabled l.count l.after l.k

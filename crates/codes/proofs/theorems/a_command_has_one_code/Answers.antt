@@ -1,0 +1,11 @@
+use Rattle.codes.proofs.CommandsCoded.{code-back}
+use Rattle.codes.proofs.CodesBack.{command-back, command-writable, one_code}
+use Rattle.codes.proofs.theorems.a_command_has_one_code.Goals as goal
+
+pub returns : goal.returns
+returns c = record {
+  code_back = code-back;
+  command_back = command-back;
+  command_writable = command-writable;
+  one_code = one_code;
+}

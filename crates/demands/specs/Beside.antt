@@ -1,0 +1,48 @@
+-- What is promised of a board beside the demands.
+--   ClosedOr random c       the connection c is closed, or has this random number
+--   RandomKept B            RULES, Connection: "Either way the random number is kept until closing", over any call
+--   UnheardThroughout B     an outsider is unheard at each moment of two such runs, and not at their end only
+--   UnheardAnyhow B         he is unheard whoever opens, which is not so (proofs/UnheardSamples)
+-- Assumes nothing.
+use Rattle.std.specs.Prelude.{ℕ, ◌≡◌, true, ◌⊎◌, List, take}
+use Rattle.record.specs.Limits.{shut}
+use Rattle.record.specs.Places.{connectionAt}
+use Rattle.record.specs.Wanted.{Wanted}
+use Rattle.record.specs.declared.types.Connection.{Connection}
+use Rattle.device.specs.Receiving.{passwordOf}
+use Rattle.device.specs.Calls.{isSecured}
+use Rattle.ours.specs.Board.{Board}
+use Rattle.demands.specs.Calls.{Call, after}
+use Rattle.demands.specs.Outsider.{unopened, NeverMatched}
+use Rattle.demands.specs.Unheard.{AllAlike, QuietOnceApart, HeardAlike}
+
+abbrev pub ClosedOr : ℕ → Connection → Type 0
+ClosedOr random c = (c.phase ≡ shut) ⊎ (c.random ≡ random)
+
+module _ (B : Board) where
+  -- whatever call comes, at whatever place, on a connection that is not closed
+  abbrev pub RandomKept : Type 0
+  RandomKept =
+      (d : B.Record) (p : ℕ) → ((connectionAt (B.shows d) p).phase ≡ shut → ⊥) → (c : Call)
+      → ClosedOr (connectionAt (B.shows d) p).random (connectionAt (B.shows (after B d c)) p)
+
+  abbrev pub UnheardThroughout : Type 0
+  UnheardThroughout =
+      (w : Wanted) (p : ℕ) (xs ys : List Call)
+      → let d = (B.set-up w).device in
+      let password = passwordOf (B.shows d).settings in
+      (B.set-up w).number ≡ 0 → isSecured (B.shows d).settings ≡ true
+      → AllAlike p xs ys
+      → NeverMatched B p password d unopened xs → NeverMatched B p password d unopened ys
+      → QuietOnceApart B p d d xs ys
+      → (n : ℕ) → HeardAlike B p d d (take n xs) (take n ys)
+
+  abbrev pub UnheardAnyhow : Type 0
+  UnheardAnyhow =
+      (w : Wanted) (p : ℕ) (xs ys : List Call)
+      → let d = (B.set-up w).device in
+      let password = passwordOf (B.shows d).settings in
+      (B.set-up w).number ≡ 0 → isSecured (B.shows d).settings ≡ true
+      → AllAlike p xs ys
+      → NeverMatched B p password d unopened xs → NeverMatched B p password d unopened ys
+      → HeardAlike B p d d xs ys

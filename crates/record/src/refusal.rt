@@ -1,0 +1,46 @@
+// Why a call is refused (RULES, The numbers a call gives).
+ghost use Rattle.std.specs.Prelude.{◌≡◌};
+ghost use Rattle.record.specs.Refusals.{refusal_number, outcome_number};
+
+/// Why a call on a device record is refused. The record, and the reply memory, are then as they were.
+#[derive(Clone, Copy)]
+pub enum Refusal {
+    /// 1: the record is not legal.
+    NotLegal,
+    /// 2: the lent memory is too short.
+    NoRoom,
+    /// 3: a place, a lamp or a digit that there is not, or the last mark of a lamp cleared.
+    OutOfRange,
+    /// 4: the connection is closed.
+    Closed,
+    /// 6: no place is closed, so that none can be opened.
+    NoPlace,
+    /// 7: the power is not off.
+    NotOff,
+}
+
+impl Refusal {
+    /// The number that a host is given.
+    pub fn number(self) -> u32
+        ensures { result ≡ refusal_number self }
+    {
+        match self {
+            Refusal::NotLegal => 1,
+            Refusal::NoRoom => 2,
+            Refusal::OutOfRange => 3,
+            Refusal::Closed => 4,
+            Refusal::NoPlace => 6,
+            Refusal::NotOff => 7,
+        }
+    }
+}
+
+/// The number of a call that gives nothing else: 0 where it was served.
+pub fn number_of(outcome: Result<(), Refusal>) -> u32
+    ensures { result ≡ outcome_number outcome }
+{
+    match outcome {
+        Ok(()) => 0,
+        Err(refusal) => refusal.number(),
+    }
+}

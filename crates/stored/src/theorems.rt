@@ -1,0 +1,36 @@
+// What is proved beside the contracts of the functions. Nothing is done here: that these functions have their contracts
+// is that the theorems stand.
+ghost use Rattle.std.specs.Prelude.{◌≡◌, ◌<◌, ◌≤◌, ◌∷◌, ◌++◌, true, List, Bool, ℕ, length, take};
+ghost use Rattle.record.specs.Wanted.{Wanted};
+ghost use Rattle.record.specs.SetUp.{isSetUp};
+ghost use Rattle.form.specs.Form.{form_of, markedFormOf, oldFormOf, storedForm, formMost};
+ghost use Rattle.stored.specs.Loading.{loaded};
+ghost use Rattle.record.specs.declared.types.Device.{Device};
+ghost use Rattle.record.specs.Legal.{isLegal};
+ghost use Rattle.record.specs.declared.types.Changed.{Changed};
+
+/// A form of any version that is cut anywhere is 21, and one with more after it 22.
+pub fn a_form_is_whole()
+    ensures cut_short { (w : Wanted) → isSetUp w ≡ true → (ms : List Bool) (k : ℕ) → k < length (form_of w ms)
+        → (loaded (take k (form_of w ms))).number ≡ 21 }
+    ensures cut_short_marked { (w : Wanted) → isSetUp w ≡ true → w.class ≡ 1 → (ms : List Bool) (k : ℕ)
+        → k < length (markedFormOf w ms) → (loaded (take k (markedFormOf w ms))).number ≡ 21 }
+    ensures cut_short_old { (w : Wanted) → isSetUp w ≡ true → w.class ≡ 1 → (k : ℕ) → k < length (oldFormOf w)
+        → (loaded (take k (oldFormOf w))).number ≡ 21 }
+    ensures left_over { (w : Wanted) → isSetUp w ≡ true → (ms : List Bool) (x : ℕ) (xs : List ℕ)
+        → (loaded (form_of w ms ++ x ∷ xs)).number ≡ 22 }
+    ensures left_over_marked { (w : Wanted) → isSetUp w ≡ true → w.class ≡ 1 → (ms : List Bool) (x : ℕ) (xs : List ℕ)
+        → (loaded (markedFormOf w ms ++ x ∷ xs)).number ≡ 22 }
+    ensures left_over_old { (w : Wanted) → isSetUp w ≡ true → w.class ≡ 1 → (x : ℕ) (xs : List ℕ)
+        → (loaded (oldFormOf w ++ x ∷ xs)).number ≡ 22 }
+{}
+
+/// Memory of this size is never too short for the form of a legal record.
+pub fn a_form_is_short()
+    ensures { (d : Device) → isLegal d ≡ true → length (storedForm d) ≤ formMost }
+{}
+
+/// Two results that meet the promise of a call are equal.
+pub fn one_result()
+    ensures { (bs : List ℕ) (r s : Changed) → r ≡ loaded bs → s ≡ loaded bs → r ≡ s }
+{}
