@@ -1,9 +1,8 @@
-//! Finds `libboard.a` (`./archive` writes it to target/native) and says how it is reached. The archive is
-//! for x86-64: there it is linked. On another processor a small host in C links it, built by a cross compiler, and the
-//! toolchain's emulator runs that.
+//! Finds `libboard.a` and says how it is reached. What `./archive` writes for this processor, target/native/libboard.a,
+//! is linked. One for another processor cannot be: where BOARD_EMULATOR names what runs that processor's programs, a
+//! small host in C links it, which the compiler that BOARD_CC names makes, and the emulator runs that.
 //!
-//! BOARD_ARCHIVE names another archive; BOARD_NATIVE one for the processor at hand, which is linked; BOARD_CC another
-//! cross compiler; BOARD_EMULATOR another emulator.
+//! BOARD_ARCHIVE names another archive.
 
 use std::env;
 use std::path::{Path, PathBuf};
@@ -11,13 +10,12 @@ use std::process::Command;
 
 fn main() {
     println!("cargo:rustc-check-cfg=cfg(board, values(\"linked\", \"apart\", \"missing\"))");
-    for variable in ["BOARD_ARCHIVE", "BOARD_NATIVE", "BOARD_CC", "BOARD_EMULATOR"] {
+    for variable in ["BOARD_ARCHIVE", "BOARD_CC", "BOARD_EMULATOR"] {
         println!("cargo:rerun-if-env-changed={variable}");
     }
     let here = PathBuf::from(env::var_os("CARGO_MANIFEST_DIR").unwrap());
     let root = here.parent().expect("second/ stands in the repository");
-    let native = env::var_os("BOARD_NATIVE");
-    let archive = match native.clone().or_else(|| env::var_os("BOARD_ARCHIVE")) {
+    let archive = match env::var_os("BOARD_ARCHIVE") {
         Some(path) => PathBuf::from(path),
         None => root.join("target/native/libboard.a"),
     };
@@ -26,13 +24,14 @@ fn main() {
     if !archive.exists() {
         println!("cargo:warning=no {}: `./archive` writes it; without it nothing is compared", archive.display());
         println!("cargo:rustc-cfg=board=\"missing\"");
-    } else if native.is_some() || env::var("CARGO_CFG_TARGET_ARCH").unwrap() == "x86_64" {
+    } else if let Ok(emulator) = env::var("BOARD_EMULATOR") {
+        host_apart(&here, root, &archive);
+        println!("cargo:rustc-env=BOARD_EMULATOR={emulator}");
+        println!("cargo:rustc-cfg=board=\"apart\"");
+    } else {
         plain_md5(&here);
         println!("cargo:rustc-link-search=native={}", archive.parent().unwrap().display());
         println!("cargo:rustc-cfg=board=\"linked\"");
-    } else {
-        host_apart(&here, root, &archive);
-        println!("cargo:rustc-cfg=board=\"apart\"");
     }
 }
 
@@ -46,32 +45,22 @@ fn plain_md5(here: &Path) {
     println!("cargo:rustc-link-arg-bin=bench={}", object.display());
 }
 
+/// The host is linked with its C library, so that the emulator needs none.
 fn host_apart(here: &Path, root: &Path, archive: &Path) {
     let source = here.join("host/host.c");
     println!("cargo:rerun-if-changed={}", source.display());
     println!("cargo:rerun-if-changed={}", root.join("include/ceiling.h").display());
     let host = PathBuf::from(env::var_os("OUT_DIR").unwrap()).join("host");
-    let compiler = env::var_os("BOARD_CC").unwrap_or_else(|| root.join(".ci/board-cc").into());
+    let compiler = env::var("BOARD_CC").expect("BOARD_CC names a compiler for the emulator's processor");
     let made = Command::new(&compiler)
-        .args(["-std=c11", "-O2", "-Wall", "-Wextra", "-I"])
+        .args(["-std=c11", "-O2", "-Wall", "-Wextra", "-static", "-I"])
         .arg(root.join("include"))
         .arg(&source)
         .arg(archive)
         .arg("-o")
         .arg(&host)
         .status()
-        .unwrap_or_else(|error| panic!("{}: {error}", compiler.display()));
+        .unwrap_or_else(|error| panic!("{compiler}: {error}"));
     assert!(made.success(), "host/host.c does not link with {}", archive.display());
-    let emulator = env::var_os("BOARD_EMULATOR").map_or_else(emulator, PathBuf::from);
     println!("cargo:rustc-env=BOARD_HOST={}", host.display());
-    println!("cargo:rustc-env=BOARD_EMULATOR={}", emulator.display());
-}
-
-/// The toolchain's emulator stands beside its compiler for this machine, in the folder of the `rt` that is on the path.
-fn emulator() -> PathBuf {
-    let paths = env::var_os("PATH").unwrap_or_default();
-    let rt =
-        env::split_paths(&paths).map(|folder| folder.join("rt")).find(|rt| rt.exists()).expect("rt is on the path");
-    let kit = rt.canonicalize().expect("rt is a file").ancestors().nth(2).expect("rt stands in bin/").to_path_buf();
-    kit.join("on").join(env::consts::ARCH).join("toolchain/bin/qemu-x86_64")
 }

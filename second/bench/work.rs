@@ -1,7 +1,8 @@
 //! What is measured: each piece of work, done by the archive, by the second program and, for MD5, by plain C.
 
-use second::face::{Changed, Command, Connection, Device, Lent, Lent2, Reading, linked};
-use second::reference::{calls, service};
+use second::face::{Changed, Command, Connection, Device, Lent, Lent2, Reading, Receiving, in_place, linked, swap};
+use second::reference::{calls, places, service, swap as reference_swap};
+use std::cell::RefCell;
 use std::hint::black_box;
 
 #[derive(Clone, Copy, PartialEq, Eq, Debug)]
@@ -50,6 +51,29 @@ pub fn all() -> Vec<Work> {
     add("pj_receive, 4,096 bytes of lines, handed on", false, Box::new(|| handing_on(opened(b""))));
     add("pj_receive, one byte, Class 2", false, Box::new(|| receiving(class_2(), b"%")));
     add("pj_receive, %2INNM ?6A, 128 bytes, Class 2", false, Box::new(|| receiving(class_2(), b"%2INNM ?6A\r")));
+    let name = "pj_receive_in_place, whole query %1LAMP ?, 8 lamps";
+    add(name, false, Box::new(|| receiving_in_place(opened(b""), b"%1LAMP ?\r")));
+    let name = "pj_receive_in_place, whole query %1NAME ?, 64 bytes";
+    add(name, false, Box::new(|| receiving_in_place(opened(b""), b"%1NAME ?\r")));
+    let name = "pj_receive_in_place, a line led by its digest";
+    add(name, false, Box::new(|| receiving_in_place(opened(b"panel123"), &led_by_digest())));
+    add("pj_receive_in_place, one byte", false, Box::new(|| receiving_in_place(opened(b""), b"%")));
+    add("pj_receive_in_place, one byte, four lines full", false, Box::new(|| receiving_in_place(full(134), b"%")));
+    let name = "pj_receive_in_place, 4,096 bytes of lines, handed on";
+    add(name, false, Box::new(|| handing_on_in_place(opened(b""))));
+    add("pj_receive_in_place, one byte, Class 2", false, Box::new(|| receiving_in_place(class_2(), b"%")));
+    let name = "pj_receive_in_place, %2INNM ?6A, 128 bytes, Class 2";
+    add(name, false, Box::new(|| receiving_in_place(class_2(), b"%2INNM ?6A\r")));
+    add("pj_open, secured", false, Box::new(|| opening(closed(b"panel123"))));
+    add("pj_open_in_place, secured", false, Box::new(|| opening_in_place(closed(b"panel123"))));
+    add("pj_close", false, Box::new(|| closing(opened(b""))));
+    add("pj_close_in_place", false, Box::new(|| closing_in_place(opened(b""))));
+    add("pj_set_up", false, Box::new(setting_up));
+    add("pj_set_up_in_place", false, Box::new(setting_up_in_place));
+    add("pj_store, Class 2", false, Box::new(|| storing(class_2())));
+    add("pj_store_in_place, Class 2", false, Box::new(|| storing_in_place(class_2())));
+    add("pj_load, Class 2", false, Box::new(|| loading(class_2())));
+    add("pj_load_in_place, Class 2", false, Box::new(|| loading_in_place(class_2())));
     add("pj_pass, n = 1", false, Box::new(|| passing(warming(), 1)));
     add("pj_pass, n = 1, short texts", false, Box::new(|| passing(short(), 1)));
     add("pj_pass, n = 1, four lines full", false, Box::new(|| passing(full(135), 1)));
@@ -57,11 +81,15 @@ pub fn all() -> Vec<Work> {
     add("pj_pass, n = 4,294,967,295", false, Box::new(|| passing(warming(), u32::MAX)));
     add("pj_pass_in_place, n = 1", false, Box::new(|| passing_in_place(warming(), 1)));
     add("pj_pass_in_place, n = 1, four lines full", false, Box::new(|| passing_in_place(full(135), 1)));
+    add("pj_pass_in_place, n = 1, Class 2", false, Box::new(|| passing_in_place(class_2(), 1)));
+    add("pj_pass_in_place, n = 1, kept where it lies", false, Box::new(|| kept_passing(class_2())));
     add("pj_legal", false, Box::new(|| legality(opened(b""))));
     add("pj_legal, four lines full", false, Box::new(|| legality(full(135))));
     add("pj_legal, short texts", false, Box::new(|| legality(short())));
     add("pj_legal, Class 2", false, Box::new(|| legality(class_2())));
     add("pj_legal, a name of 21 Japanese characters", false, Box::new(|| legality(japanese())));
+    add("pj_legal_in_place", false, Box::new(|| legality_in_place(opened(b""))));
+    add("pj_legal_in_place, Class 2", false, Box::new(|| legality_in_place(class_2())));
     add("pj_read_reply, longest LAMP", false, Box::new(|| reading(7, "LAMP", &["99999 1"; 8].join(" "))));
     add("pj_read_reply, longest INST", false, Box::new(|| reading(8, "INST", &["59"; 32].join(" "))));
     add("pj_read_reply, longest NAME", false, Box::new(|| reading(9, "NAME", &"n".repeat(64))));
@@ -104,7 +132,16 @@ fn japanese() -> Device {
 
 /// A set-up at its limits, opened: every text and list as long as it may be, so that legality has the most to look at.
 pub fn opened(password: &[u8]) -> Device {
-    made(Lent {
+    made(longest(password))
+}
+
+/// The same before anybody has connected.
+fn closed(password: &[u8]) -> Device {
+    calls::set_up(&longest(password)).device
+}
+
+fn longest(password: &[u8]) -> Lent {
+    Lent {
         name: vec![b'n'; 64],
         maker: vec![b'm'; 32],
         model: vec![b'o'; 32],
@@ -114,7 +151,7 @@ pub fn opened(password: &[u8]) -> Device {
         lamps: vec![359_000_000; 8],
         warm: 600,
         cool: 600,
-    })
+    }
 }
 
 /// The same in Class 2: every input of type 6 or with a letter, and every name as long as it may be.
@@ -229,6 +266,176 @@ fn handing_on(device: Device) -> Run {
     })
 }
 
+// In place a host makes no copy of the record. Where a call changes it, the caller here does, before the call, so that each
+// call finds the same one; only a stream is handed on, and time kept, on one record.
+
+fn receiving_in_place(device: Device, bytes: &[u8]) -> Run {
+    let bytes = bytes.to_vec();
+    Box::new(move |by| {
+        let (mut device, bytes) = (*black_box(&device), black_box(&bytes));
+        let mut out = [0; 136];
+        let received = received_in_place(by, &mut device, bytes, &mut out);
+        black_box((&received, &device, &out));
+    })
+}
+
+fn received_in_place(by: By, device: &mut Device, bytes: &[u8], out: &mut [u8]) -> Receiving {
+    match by {
+        By::Board => in_place::receive(device, PLACE, bytes, out),
+        _ => {
+            let received = calls::receive(device, PLACE, bytes, out);
+            *device = received.device;
+            Receiving { number: received.number, taken: received.taken, length: received.length }
+        }
+    }
+}
+
+fn handing_on_in_place(device: Device) -> Run {
+    let stream: Vec<u8> = b"%1POWR ?\r%1INPT ?\r%1LAMP ?\r".iter().copied().cycle().take(4096).collect();
+    Box::new(move |by| {
+        let mut device = *black_box(&device);
+        let mut rest = black_box(&stream).as_slice();
+        while !rest.is_empty() {
+            let mut out = [0; 136];
+            let received = received_in_place(by, &mut device, rest, &mut out);
+            rest = &rest[received.taken..];
+            black_box(&out);
+        }
+        black_box(&device);
+    })
+}
+
+const RANDOM: u32 = 0x498e_4a67;
+
+fn opening(device: Device) -> Run {
+    Box::new(move |by| {
+        let device = black_box(&device);
+        let mut out = [0; 136];
+        let opened = match by {
+            By::Board => linked::open(*device, RANDOM, &mut out),
+            _ => calls::open(device, RANDOM, &mut out),
+        };
+        black_box((&opened, &out));
+    })
+}
+
+fn opening_in_place(device: Device) -> Run {
+    Box::new(move |by| {
+        let mut device = *black_box(&device);
+        let mut out = [0; 136];
+        match by {
+            By::Board => drop(black_box(in_place::open(&mut device, RANDOM, &mut out))),
+            _ => device = calls::open(&device, RANDOM, &mut out).device,
+        }
+        black_box((&device, &out));
+    })
+}
+
+fn closing(device: Device) -> Run {
+    Box::new(move |by| {
+        let device = black_box(&device);
+        black_box(&match by {
+            By::Board => linked::close(*device, PLACE),
+            _ => places::close(device, PLACE),
+        });
+    })
+}
+
+fn closing_in_place(device: Device) -> Run {
+    Box::new(move |by| {
+        let mut device = *black_box(&device);
+        match by {
+            By::Board => drop(black_box(in_place::close(&mut device, PLACE))),
+            _ => device = places::close(&device, PLACE).device,
+        }
+        black_box(&device);
+    })
+}
+
+fn setting_up() -> Run {
+    let lent = longest(b"panel123");
+    Box::new(move |by| {
+        let lent = black_box(&lent);
+        black_box(&match by {
+            By::Board => linked::set_up(lent),
+            _ => calls::set_up(lent),
+        });
+    })
+}
+
+/// Into one record, which is full from the last time.
+fn setting_up_in_place() -> Run {
+    let lent = longest(b"panel123");
+    let place = RefCell::new(class_2());
+    Box::new(move |by| {
+        let (lent, mut device) = (black_box(&lent), place.borrow_mut());
+        match by {
+            By::Board => drop(black_box(in_place::set_up(&mut device, lent))),
+            _ => *device = calls::set_up(lent).device,
+        }
+        black_box(&*device);
+    })
+}
+
+fn storing(device: Device) -> Run {
+    Box::new(move |by| {
+        let device = black_box(&device);
+        let mut out = [0; FORM];
+        let written = match by {
+            By::Board => swap::store(*device, &mut out),
+            _ => reference_swap::store(device, &mut out),
+        };
+        black_box((&written, &out));
+    })
+}
+
+fn storing_in_place(device: Device) -> Run {
+    Box::new(move |by| {
+        let device = black_box(&device);
+        let mut out = [0; FORM];
+        let written = match by {
+            By::Board => in_place::store(device, &mut out),
+            _ => reference_swap::store(device, &mut out),
+        };
+        black_box((&written, &out));
+    })
+}
+
+/// The longest stored form.
+const FORM: usize = 4504;
+
+fn form_of(device: &Device) -> Vec<u8> {
+    let mut form = vec![0; FORM];
+    let written = reference_swap::store(device, &mut form);
+    form.truncate(written.length);
+    form
+}
+
+fn loading(device: Device) -> Run {
+    let form = form_of(&device);
+    Box::new(move |by| {
+        let form = black_box(&form);
+        black_box(&match by {
+            By::Board => swap::load(form),
+            _ => reference_swap::load(form),
+        });
+    })
+}
+
+/// Into one record, which is full from the last time.
+fn loading_in_place(device: Device) -> Run {
+    let form = form_of(&device);
+    let place = RefCell::new(device);
+    Box::new(move |by| {
+        let (form, mut device) = (black_box(&form), place.borrow_mut());
+        match by {
+            By::Board => drop(black_box(in_place::load(&mut device, form))),
+            _ => *device = reference_swap::load(form).device,
+        }
+        black_box(&*device);
+    })
+}
+
 fn passing(device: Device, seconds: u32) -> Run {
     Box::new(move |by| {
         let device = black_box(&device);
@@ -244,10 +451,23 @@ fn passing_in_place(device: Device, seconds: u32) -> Run {
     Box::new(move |by| {
         let mut device = *black_box(&device);
         match by {
-            By::Board => drop(black_box(linked::pass_in_place(&mut device, black_box(seconds)))),
+            By::Board => drop(black_box(in_place::pass(&mut device, black_box(seconds)))),
             _ => device = calls::pass(&device, black_box(seconds)).device,
         }
         black_box(&device);
+    })
+}
+
+/// A second at a time on one record, as a board keeps its own.
+fn kept_passing(device: Device) -> Run {
+    let place = RefCell::new(device);
+    Box::new(move |by| {
+        let mut device = place.borrow_mut();
+        match by {
+            By::Board => drop(black_box(in_place::pass(&mut device, black_box(1)))),
+            _ => *device = calls::pass(&device, black_box(1)).device,
+        }
+        black_box(&*device);
     })
 }
 
@@ -256,6 +476,16 @@ fn legality(device: Device) -> Run {
         let device = black_box(&device);
         black_box(match by {
             By::Board => linked::legal(*device),
+            _ => calls::legal(device),
+        });
+    })
+}
+
+fn legality_in_place(device: Device) -> Run {
+    Box::new(move |by| {
+        let device = black_box(&device);
+        black_box(match by {
+            By::Board => in_place::legal(device),
             _ => calls::legal(device),
         });
     })

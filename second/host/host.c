@@ -1,7 +1,8 @@
-/* A host of libboard.a for a comparison over pipes: reads a call from standard input, makes it, writes all that it
-   gives to standard output, until the input ends. src/face/wire.rs is the other end: every field in its order,
-   numbers with their lowest byte first, a size_t as eight bytes, a slice after its length. Calls and answers each
-   stand after eight bytes with their length. */
+/* A host of libboard.a for a comparison over pipes: reads a call from standard input, makes it, by value or in place as
+   it says, writes all that it gives to standard output, until the input ends. src/face/wire.rs is the other end: every
+   field in its order, numbers with their lowest byte first, a size_t as eight bytes, a slice after its length. Calls
+   and answers each stand after eight bytes with their length. In place, the record that is left there is part of the
+   answer, where by value it is that of the result, and at the end of the calls that only read it. */
 #include <stdio.h>
 #include <stdlib.h>
 #include <string.h>
@@ -99,6 +100,11 @@ static void put_changed(pj_changed c) {
     put_device(c.device);
 }
 
+static void put_left(uint32_t number, const pj_device *d) {
+    PUT(number);
+    put_device(*d);
+}
+
 /* The panel. */
 
 #define EACH_OF_ENTRY(DO, e)                                                                                           \
@@ -140,7 +146,7 @@ static pj_command get_command(void) {
 
 enum set_up { SET_UP, SET_UP_2, WHICH_SETTING };
 
-static void set_up(enum set_up which) {
+static void set_up(enum set_up which, pj_device d, bool in_place) {
     slice name = get_slice(), maker = get_slice(), model = get_slice(), other = get_slice();
     slice password = get_slice(), inputs = get_slice();
     size_t lamps = get_words(words[0]);
@@ -156,42 +162,76 @@ static void set_up(enum set_up which) {
         size_t n;
         GET(n);
         get(lengths, n * sizeof *lengths);
-        put_changed(pj_set_up_2(name.at, name.n, maker.at, maker.n, model.at, model.n, other.at, other.n, password.at,
-                                password.n, inputs.at, inputs.n, words[0], lamps, warm, cool, serial.at, serial.n,
-                                version.at, version.n, names.at, names.n, lengths, n));
+        if (in_place) {
+            uint32_t number = pj_set_up_2_in_place(&d, name.at, name.n, maker.at, maker.n, model.at, model.n, other.at,
+                                                   other.n, password.at, password.n, inputs.at, inputs.n, words[0],
+                                                   lamps, warm, cool, serial.at, serial.n, version.at, version.n,
+                                                   names.at, names.n, lengths, n);
+            put_left(number, &d);
+        } else {
+            put_changed(pj_set_up_2(name.at, name.n, maker.at, maker.n, model.at, model.n, other.at, other.n,
+                                    password.at, password.n, inputs.at, inputs.n, words[0], lamps, warm, cool,
+                                    serial.at, serial.n, version.at, version.n, names.at, names.n, lengths, n));
+        }
+    } else if (in_place) {
+        uint32_t number = pj_set_up_in_place(&d, name.at, name.n, maker.at, maker.n, model.at, model.n, other.at,
+                                             other.n, password.at, password.n, inputs.at, inputs.n, words[0], lamps,
+                                             warm, cool);
+        put_left(number, &d);
     } else {
         put_changed(pj_set_up(name.at, name.n, maker.at, maker.n, model.at, model.n, other.at, other.n, password.at,
                               password.n, inputs.at, inputs.n, words[0], lamps, warm, cool));
     }
 }
 
-static void open_connection(pj_device d) {
+static void open_connection(pj_device d, bool in_place) {
     uint32_t random;
     GET(random);
     slice out = get_slice();
-    pj_opened o = pj_open(d, random, out.at, out.n);
-    PUT(o.number);
-    PUT(o.length);
-    PUT(o.place);
-    put_device(o.device);
+    if (in_place) {
+        pj_opening o = pj_open_in_place(&d, random, out.at, out.n);
+        PUT(o.number);
+        PUT(o.length);
+        PUT(o.place);
+        put_device(d);
+    } else {
+        pj_opened o = pj_open(d, random, out.at, out.n);
+        PUT(o.number);
+        PUT(o.length);
+        PUT(o.place);
+        put_device(o.device);
+    }
     put_slice(out);
 }
 
-static void close_connection(pj_device d) {
+static void close_connection(pj_device d, bool in_place) {
     size_t place;
     GET(place);
-    put_changed(pj_close(d, place));
+    if (in_place) {
+        uint32_t number = pj_close_in_place(&d, place);
+        put_left(number, &d);
+    } else {
+        put_changed(pj_close(d, place));
+    }
 }
 
-static void receive(pj_device d) {
+static void receive(pj_device d, bool in_place) {
     size_t place;
     GET(place);
     slice bytes = get_slice(), out = get_slice();
-    pj_received r = pj_receive(d, place, bytes.at, bytes.n, out.at, out.n);
-    PUT(r.number);
-    PUT(r.taken);
-    PUT(r.length);
-    put_device(r.device);
+    if (in_place) {
+        pj_receiving r = pj_receive_in_place(&d, place, bytes.at, bytes.n, out.at, out.n);
+        PUT(r.number);
+        PUT(r.taken);
+        PUT(r.length);
+        put_device(d);
+    } else {
+        pj_received r = pj_receive(d, place, bytes.at, bytes.n, out.at, out.n);
+        PUT(r.number);
+        PUT(r.taken);
+        PUT(r.length);
+        put_device(r.device);
+    }
     put_slice(out);
 }
 
@@ -200,48 +240,69 @@ static void pass(pj_device d, bool in_place) {
     GET(seconds);
     if (in_place) {
         uint32_t number = pj_pass_in_place(&d, seconds);
-        PUT(number);
-        put_device(d);
+        put_left(number, &d);
     } else {
         put_changed(pj_pass(d, seconds));
     }
 }
 
-static void set_fault(pj_device d) {
+static void set_fault(pj_device d, bool in_place) {
     bool mark;
     GET(mark);
-    put_changed(pj_set_fault(d, mark));
+    if (in_place) {
+        uint32_t number = pj_set_fault_in_place(&d, mark);
+        put_left(number, &d);
+    } else {
+        put_changed(pj_set_fault(d, mark));
+    }
 }
 
-static void set_errors(pj_device d) {
+static void set_errors(pj_device d, bool in_place) {
     slice digits = get_slice();
-    put_changed(pj_set_errors(d, digits.at, digits.n));
+    if (in_place) {
+        uint32_t number = pj_set_errors_in_place(&d, digits.at, digits.n);
+        put_left(number, &d);
+    } else {
+        put_changed(pj_set_errors(d, digits.at, digits.n));
+    }
 }
 
-static void set_mark(pj_device d) {
+static void set_mark(pj_device d, bool in_place) {
     size_t lamp;
     bool enabled;
     GET(lamp);
     GET(enabled);
-    put_changed(pj_set_mark(d, lamp, enabled));
+    if (in_place) {
+        uint32_t number = pj_set_mark_in_place(&d, lamp, enabled);
+        put_left(number, &d);
+    } else {
+        put_changed(pj_set_mark(d, lamp, enabled));
+    }
 }
 
-static void legal(pj_device d) {
-    bool is = pj_legal(d);
+static void legal(pj_device d, bool in_place) {
+    bool is = in_place ? pj_legal_in_place(&d) : pj_legal(d);
     PUT(is);
+    if (in_place) put_device(d);
 }
 
-static void store(pj_device d) {
+static void store(pj_device d, bool in_place) {
     slice out = get_slice();
-    pj_written w = pj_store(d, out.at, out.n);
+    pj_written w = in_place ? pj_store_in_place(&d, out.at, out.n) : pj_store(d, out.at, out.n);
     PUT(w.number);
     PUT(w.length);
     put_slice(out);
+    if (in_place) put_device(d);
 }
 
-static void load(void) {
+static void load(pj_device d, bool in_place) {
     slice bytes = get_slice();
-    put_changed(pj_load(bytes.at, bytes.n));
+    if (in_place) {
+        uint32_t number = pj_load_in_place(&d, bytes.at, bytes.n);
+        put_left(number, &d);
+    } else {
+        put_changed(pj_load(bytes.at, bytes.n));
+    }
 }
 
 static void digest(void) {
@@ -355,19 +416,21 @@ static void cutting_day(bool planned) {
 }
 
 static void make_call(void) {
+    bool in_place;
+    GET(in_place);
     pj_device d = get_device();
     uint8_t which;
     GET(which);
     switch (which) {
-    case 0: set_up(SET_UP); break;
-    case 1: open_connection(d); break;
-    case 2: close_connection(d); break;
-    case 3: receive(d); break;
-    case 4: pass(d, false); break;
-    case 5: pass(d, true); break;
-    case 6: set_fault(d); break;
-    case 7: set_errors(d); break;
-    case 8: legal(d); break;
+    case 0: set_up(SET_UP, d, in_place); break;
+    case 1: open_connection(d, in_place); break;
+    case 2: close_connection(d, in_place); break;
+    case 3: receive(d, in_place); break;
+    case 4:
+    case 5: pass(d, in_place); break;
+    case 6: set_fault(d, in_place); break;
+    case 7: set_errors(d, in_place); break;
+    case 8: legal(d, in_place); break;
     case 9: digest(); break;
     case 10: write_command(); break;
     case 11: read_greeting(); break;
@@ -375,16 +438,16 @@ static void make_call(void) {
     case 13: compare_lamps(); break;
     case 14: cutting_day(false); break;
     case 15: cutting_day(true); break;
-    case 16: set_up(WHICH_SETTING); break;
-    case 17: store(d); break;
-    case 18: load(); break;
+    case 16: set_up(WHICH_SETTING, d, false); break;
+    case 17: store(d, in_place); break;
+    case 18: load(d, in_place); break;
     case 19: put_panel_changed(pj_panel_none()); break;
     case 20: add_to_panel(); break;
     case 21: command_of_panel(); break;
     case 22: line_to_panel(); break;
     case 23: lost_to_panel(); break;
-    case 24: set_mark(d); break;
-    case 25: set_up(SET_UP_2); break;
+    case 24: set_mark(d, in_place); break;
+    case 25: set_up(SET_UP_2, d, in_place); break;
     default: exit(EXIT_FAILURE);
     }
 }

@@ -105,7 +105,7 @@ fn compare(seed: u64) -> ExitCode {
     match run.all() {
         Ok(agreed) => {
             println!("{}", run.met);
-            println!("{agreed} comparisons agreed, seed {seed}");
+            println!("{agreed} comparisons agreed, {} of them in place too, seed {seed}", run.in_place);
             ExitCode::SUCCESS
         }
         Err(difference) => {

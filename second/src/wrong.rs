@@ -43,6 +43,10 @@ mod tests {
             unmistaken(|| Second.call(device, act))
         }
 
+        fn call_in_place(&mut self, device: &Device, act: &Act) -> Answer {
+            unmistaken(|| Second.call_in_place(device, act))
+        }
+
         fn cuts(&self) -> bool {
             true
         }
@@ -88,6 +92,19 @@ mod tests {
             ("pj_write", "!2 !3"),
             ("pj_read_greeting", "!10"),
             ("pj_read_reply", "!3 !10 !11 !12"),
+            ("pj_set_up_in_place", "served !3 !8"),
+            ("pj_set_up_2_in_place", "served !3 !8"),
+            ("pj_close_in_place", "served !1 !3 !4"),
+            ("pj_set_fault_in_place", "served !1"),
+            ("pj_set_errors_in_place", "served !1 !3"),
+            ("pj_set_mark_in_place", "served !1 !3 !7"),
+            ("pj_legal_in_place", "true false"),
+            ("pj_store_in_place", "served !1 !2"),
+            ("pj_load_in_place", "served !20 !21 !22 !23"),
+            ("pj_open_in_place", "!1 !2 !6"),
+            ("pj_receive_in_place", "!1 !2 !3 !4 none OK ERR1 ERR2 ERR3 ERR4 POWR %2OK %2INNM"),
+            ("streams in cuts, in place", "served !4"),
+            ("streams at four places, in place", "served"),
             ("pj_panel_add", "served !1 !3"),
             ("pj_panel_command", "led !1 !2 !3 !9"),
             ("pj_panel_line", "!1 !3 ERRA late shown ended"),

@@ -59,14 +59,24 @@ impl<B: Side> Run<'_, B> {
 #[derive(Default)]
 struct Digesting(BTreeMap<&'static str, (usize, [u8; 16])>);
 
+/// The one call that was made in place then was another, for itself.
+fn named_then(act: &Act) -> &'static str {
+    if matches!(act, Act::PassInPlace { .. }) { "pj_pass_in_place" } else { tally::call(act) }
+}
+
 impl Side for Digesting {
     fn cuts(&self) -> bool {
         true
     }
 
+    /// Nothing new: what was digested then was each call once.
+    fn call_in_place(&mut self, device: &Device, act: &Act) -> Answer {
+        Second.call(device, act)
+    }
+
     fn call(&mut self, device: &Device, act: &Act) -> Answer {
         let answer = Second.call(device, act);
-        let (count, digest) = self.0.entry(tally::call(act)).or_default();
+        let (count, digest) = self.0.entry(named_then(act)).or_default();
         let mut bytes = digest.to_vec();
         put_device(device, &mut bytes);
         put_act(act, &mut bytes);
@@ -150,6 +160,7 @@ fn put_answer(answer: &Answer, out: &mut Vec<u8>) {
             plan.put(out);
             rigs.put(out);
         }
+        Answer::Touched(_) => unreachable!("not of the second program"),
     }
 }
 
@@ -173,6 +184,10 @@ struct ByBoth {
 impl Side for ByBoth {
     fn cuts(&self) -> bool {
         true
+    }
+
+    fn call_in_place(&mut self, device: &Device, act: &Act) -> Answer {
+        Second.call(device, act)
     }
 
     fn call(&mut self, device: &Device, act: &Act) -> Answer {

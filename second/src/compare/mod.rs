@@ -15,6 +15,7 @@ pub mod every_panel;
 pub mod every_place;
 pub mod forms;
 pub mod histories;
+pub mod in_place;
 pub mod inputs;
 pub mod lines;
 pub mod messages;
@@ -33,7 +34,8 @@ pub mod shrink;
 pub mod tables;
 pub mod tally;
 
-use crate::face::{Act, Answer, Device, Lent, PLACES, PanelCall, Side};
+use crate::face::{Act, Answer, Device, InPlace, Lent, PLACES, PanelCall, Side};
+use crate::reference::in_place::mistaken;
 use crate::reference::rules::Rules;
 use crate::reference::side::Second;
 use random::Random;
@@ -71,7 +73,7 @@ impl Case {
     }
 }
 
-/// One run over one board: how many calls agreed so far, and what they gave.
+/// One run over one board: how many calls agreed so far, and what they gave. A call that is made in place too is one.
 pub struct Run<'a, B: Side> {
     random: Random,
     /// Of the cases in Class 2, so that they take nothing from the others.
@@ -80,6 +82,8 @@ pub struct Run<'a, B: Side> {
     rules: Rules,
     board: &'a mut B,
     pub agreed: usize,
+    /// Of these, made in place too.
+    pub in_place: usize,
     /// Of these, in the cases from before 02, L14.
     agreed_before: usize,
     pub met: Tally,
@@ -89,7 +93,7 @@ impl<'a, B: Side> Run<'a, B> {
     pub fn new(seed: u64, board: &'a mut B) -> Run<'a, B> {
         let (random, random_2) = (Random::new(seed), Random::new(!seed));
         let (rules, met) = (Rules::Now, Tally::default());
-        Run { random, random_2, rules, board, agreed: 0, agreed_before: 0, met }
+        Run { random, random_2, rules, board, agreed: 0, in_place: 0, agreed_before: 0, met }
     }
 
     /// Everything, until enough comparisons agreed; or the smallest difference found.
@@ -136,16 +140,19 @@ impl<'a, B: Side> Run<'a, B> {
     }
 
     fn compare_now(&mut self, case: Case) -> Compared {
-        let (agreed, met) = (&mut self.agreed, &mut self.met);
-        let count = |act: &Act, answer: &Answer| {
-            *agreed += 1;
-            met.count(act, answer);
+        let (agreed, in_place, met) = (&mut self.agreed, &mut self.in_place, &mut self.met);
+        let count = |made: Made, act: &Act, answer: &Answer| {
+            *match made {
+                Made::ByValue => &mut *agreed,
+                Made::InPlace => &mut *in_place,
+            } += 1;
+            met.count(made, act, answer);
         };
         if difference(&case, self.board, count).is_none() {
             return Ok(());
         }
-        let smallest = shrink::smallest(case, TRIES, |case| difference(case, self.board, |_, _| ()).is_some());
-        Err(Box::new(difference(&smallest, self.board, |_, _| ()).expect("it differed when it was found")))
+        let smallest = shrink::smallest(case, TRIES, |case| difference(case, self.board, |_, _, _| ()).is_some());
+        Err(Box::new(difference(&smallest, self.board, |_, _, _| ()).expect("it differed when it was found")))
     }
 
     fn compare_call(&mut self, device: Device, act: Act) -> Compared {
@@ -354,16 +361,36 @@ impl<'a, B: Side> Run<'a, B> {
     }
 }
 
-/// Where the two programs first differ in this case, if they do; `agree` hears of each call before that.
-fn difference(case: &Case, board: &mut impl Side, mut agree: impl FnMut(&Act, &Answer)) -> Option<Difference> {
+/// How a call is made: with a record by value, or on one that is lent and changes where it lies.
+#[derive(Clone, Copy, PartialEq, Eq, Debug)]
+pub enum Made {
+    ByValue,
+    InPlace,
+}
+
+/// Where the two programs first differ in this case, if they do; `agree` hears of each call before that. Each call that
+/// may be made in place is made by value and in place, on equal records but where it fills one.
+fn difference(case: &Case, board: &mut impl Side, mut agree: impl FnMut(Made, &Act, &Answer)) -> Option<Difference> {
     let mut device = *case.start;
     for (place, act) in case.acts.iter().enumerate() {
+        let difference = |made, device: &Device, expected, given| {
+            Some(Difference { case: case.clone(), place, made, device: *device, expected, given })
+        };
         let expected = Second.answer(&device, act);
         let given = board.answer(&device, act);
         if expected != given {
-            return Some(Difference { case: case.clone(), place, device, expected, given });
+            return difference(Made::ByValue, &device, expected, given);
         }
-        agree(act, &given);
+        agree(Made::ByValue, act, &given);
+        if act.has_in_place() {
+            let lent = in_place::there(&device, act);
+            let mistaken = mistaken(lent, act, &expected);
+            let left = InPlace(board).answer(lent, act);
+            if left != *mistaken.as_ref().unwrap_or(&expected) {
+                return difference(Made::InPlace, lent, mistaken.unwrap_or(expected), left);
+            }
+            agree(Made::InPlace, act, &left);
+        }
         device = given.device().copied().unwrap_or(device);
     }
     None

@@ -1,14 +1,15 @@
 //! A difference, said so that one can follow it by hand: the calls up to it, and the fields on which the two disagree.
 
-use super::Case;
+use super::{Case, Made};
 use crate::face::fields::{Fields, quoted};
 use crate::face::{Act, Answer, Device, Lent2, Panel, PanelAct, PanelCall};
 use std::fmt;
 
 pub struct Difference {
     pub case: Case,
-    /// The call that gives different answers, and the record that it is lent.
+    /// The call that gives different answers, how it is made, and the record that it is lent.
     pub place: usize,
+    pub made: Made,
     pub device: Device,
     pub expected: Answer,
     pub given: Answer,
@@ -20,18 +21,35 @@ impl fmt::Display for Difference {
         if *self.case.start != Device::BLANK {
             writeln!(f, "  from the record {}", record(&*self.case.start, &Device::BLANK))?;
         }
-        for act in &self.case.acts[..=self.place] {
+        for act in &self.case.acts[..self.place] {
             writeln!(f, "  {}", call(act))?;
         }
-        if self.place > 0 {
+        let act = &self.case.acts[self.place];
+        match self.made {
+            Made::ByValue => writeln!(f, "  {}", call(act))?,
+            Made::InPlace => writeln!(f, "  {}", in_place(&call(act)))?,
+        }
+        if self.place > 0 || self.device != *self.case.start {
             writeln!(f, "  which is lent the record {}", record(&self.device, &Device::BLANK))?;
         }
-        for ((field, expected), (_, given)) in self.expected.fields().iter().zip(self.given.fields()) {
+        let (expected, given) = match &self.given {
+            Answer::Touched(left) => (Answer::Touched(Box::new(self.device)), Answer::Touched(left.clone())),
+            given => (self.expected.clone(), given.clone()),
+        };
+        for ((field, expected), (_, given)) in expected.fields().iter().zip(given.fields()) {
             if *expected != given {
                 writeln!(f, "  {field}: by the rules {expected}, from libboard.a {given}")?;
             }
         }
         Ok(())
+    }
+}
+
+/// The call named as the one in place is.
+fn in_place(call: &str) -> String {
+    match call.split_once('(') {
+        Some((name, rest)) if name.starts_with("pj_") => format!("{name}_in_place({rest}"),
+        _ => call.replacen("pj_receive", "pj_receive_in_place", 1),
     }
 }
 
@@ -70,8 +88,7 @@ fn call(act: &Act) -> String {
             let parts: Vec<String> = parts.iter().map(|(place, bytes)| format!("{place} {}", quoted(bytes))).collect();
             format!("parts of streams handed to pj_receive, each at its place: {}", parts.join(", "))
         }
-        Act::Pass { seconds } => format!("pj_pass({seconds})"),
-        Act::PassInPlace { seconds } => format!("pj_pass_in_place({seconds})"),
+        Act::Pass { seconds } | Act::PassInPlace { seconds } => format!("pj_pass({seconds})"),
         Act::SetFault { mark } => format!("pj_set_fault({mark})"),
         Act::SetErrors { digits } => format!("pj_set_errors({digits:?})"),
         Act::SetMark { lamp, enabled } => format!("pj_set_mark({lamp}, {enabled})"),

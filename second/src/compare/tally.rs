@@ -1,6 +1,7 @@
 //! What a run met: how often each call gave each number, and each kind of reply or reading. A comparison that only ever
 //! saw refusals would say nothing.
 
+use super::Made;
 use crate::face::{Act, Answer, PLACES, Panel, PanelAct, PanelCall};
 use std::collections::BTreeMap;
 use std::fmt;
@@ -9,7 +10,11 @@ use std::fmt;
 pub struct Tally(BTreeMap<(&'static str, String), usize>);
 
 impl Tally {
-    pub fn count(&mut self, act: &Act, answer: &Answer) {
+    pub fn count(&mut self, made: Made, act: &Act, answer: &Answer) {
+        if made == Made::InPlace {
+            *self.0.entry((call_in_place(act), kind(act, answer))).or_default() += 1;
+            return;
+        }
         *self.0.entry((call(act), kind(act, answer))).or_default() += 1;
         if let Some((call, place)) = place(act, answer) {
             let said = if place < PLACES { place.to_string() } else { "none".to_string() };
@@ -48,8 +53,7 @@ pub fn call(act: &Act) -> &'static str {
         Act::Receive { .. } => "pj_receive",
         Act::HandOn { .. } => "streams in cuts",
         Act::Interleave { .. } => "streams at four places",
-        Act::Pass { .. } => "pj_pass",
-        Act::PassInPlace { .. } => "pj_pass_in_place",
+        Act::Pass { .. } | Act::PassInPlace { .. } => "pj_pass",
         Act::SetFault { .. } => "pj_set_fault",
         Act::SetErrors { .. } => "pj_set_errors",
         Act::SetMark { .. } => "pj_set_mark",
@@ -70,6 +74,26 @@ pub fn call(act: &Act) -> &'static str {
         Act::CompareLamps { .. } => "pj_compare_lamps",
         Act::CheckDay { .. } => "pj_check_day",
         Act::PlanDay { .. } => "pj_plan_day",
+    }
+}
+
+fn call_in_place(act: &Act) -> &'static str {
+    match act {
+        Act::SetUp(_) => "pj_set_up_in_place",
+        Act::SetUp2(_) => "pj_set_up_2_in_place",
+        Act::Open { .. } => "pj_open_in_place",
+        Act::Close { .. } => "pj_close_in_place",
+        Act::Receive { .. } => "pj_receive_in_place",
+        Act::HandOn { .. } => "streams in cuts, in place",
+        Act::Interleave { .. } => "streams at four places, in place",
+        Act::Pass { .. } | Act::PassInPlace { .. } => "pj_pass_in_place",
+        Act::SetFault { .. } => "pj_set_fault_in_place",
+        Act::SetErrors { .. } => "pj_set_errors_in_place",
+        Act::SetMark { .. } => "pj_set_mark_in_place",
+        Act::Legal => "pj_legal_in_place",
+        Act::Store { .. } => "pj_store_in_place",
+        Act::Load { .. } => "pj_load_in_place",
+        _ => unreachable!("not made in place"),
     }
 }
 
@@ -103,6 +127,7 @@ fn kind(act: &Act, answer: &Answer) -> String {
         Answer::Compared(compared, _) => refusal_or(compared.number, if compared.backwards { "back" } else { "none" }),
         Answer::Verdict(verdict) => refusal_or(verdict.number, &format!("rule {}", verdict.rule)),
         Answer::Plan(plan, _) => refusal_or(plan.number, if plan.planned { "planned" } else { "unplanned" }),
+        Answer::Touched(_) => "touched".to_string(),
     }
 }
 

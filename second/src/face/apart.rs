@@ -1,6 +1,5 @@
-//! The archive in a process of its own: where this program is compiled for another processor than the archive, a small
-//! host in C (`host/host.c`) links the archive, and the toolchain's emulator runs it. Calls and answers go through
-//! pipes.
+//! The archive in a process of its own: where it is for another processor than this program, a small host in C
+//! (`host/host.c`) links it, and an emulator runs that. Calls and answers go through pipes.
 
 use super::wire::{self, Wire};
 use super::{Act, Answer, Device, Side};
@@ -27,6 +26,16 @@ impl Board {
         Board { child, calls, answers, room: Vec::new() }
     }
 
+    /// Makes the call, by value or in place, and leaves its answer in the room.
+    fn make(&mut self, in_place: bool, device: &Device, act: &Act) {
+        self.room.clear();
+        self.room.extend_from_slice(&[0; 8]);
+        in_place.put(&mut self.room);
+        device.put(&mut self.room);
+        wire::put_act(act, &mut self.room);
+        self.exchange().unwrap_or_else(|error| panic!("libboard.a did not come back from {act:?}: {error}"));
+    }
+
     fn exchange(&mut self) -> std::io::Result<()> {
         let length = (self.room.len() as u64 - 8).to_le_bytes();
         self.room[..8].copy_from_slice(&length);
@@ -44,12 +53,22 @@ impl Side for Board {
     }
 
     fn call(&mut self, device: &Device, act: &Act) -> Answer {
-        self.room.clear();
-        self.room.extend_from_slice(&[0; 8]);
-        device.put(&mut self.room);
-        wire::put_act(act, &mut self.room);
-        self.exchange().unwrap_or_else(|error| panic!("libboard.a did not come back from {act:?}: {error}"));
+        self.make(false, device, act);
         wire::get_answer(act, &mut self.room.as_slice())
+    }
+
+    /// After the answer of a call that only reads the record stands the record that lies there then.
+    fn call_in_place(&mut self, device: &Device, act: &Act) -> Answer {
+        self.make(true, device, act);
+        let mut room = self.room.as_slice();
+        let answer = wire::get_answer(act, &mut room);
+        match answer.device() {
+            Some(_) => answer,
+            None => {
+                let left = Device::get(&mut room);
+                if left == *device { answer } else { Answer::Touched(Box::new(left)) }
+            }
+        }
     }
 }
 

@@ -39,6 +39,7 @@ pub enum Act {
     Pass {
         seconds: u32,
     },
+    /// As `Pass`. The cases from before every call was made in place too have the two apart.
     PassInPlace {
         seconds: u32,
     },
@@ -137,10 +138,35 @@ pub enum Answer {
     Compared(Compared, Vec<i64>),
     Verdict(Verdict),
     Plan(Plan, Vec<u8>),
+    /// Of no call by the rules: one that only reads the record that it is lent left this one there.
+    Touched(Box<Device>),
+}
+
+impl Act {
+    /// Whether the call has a form that changes the record where it lies, or reads it there: each of the projector's
+    /// calls, and what is made of these.
+    pub fn has_in_place(&self) -> bool {
+        match self {
+            Act::SetUp(_) | Act::SetUp2(_) | Act::Load { .. } => true,
+            Act::Open { .. } | Act::Close { .. } | Act::Receive { .. } => true,
+            Act::HandOn { .. } | Act::Interleave { .. } => true,
+            Act::Pass { .. } | Act::PassInPlace { .. } => true,
+            Act::SetFault { .. } | Act::SetErrors { .. } | Act::SetMark { .. } => true,
+            Act::Legal | Act::Store { .. } => true,
+            Act::WhichSetting(_) | Act::Digest { .. } => false,
+            Act::Write { .. } | Act::ReadGreeting { .. } | Act::ReadReply { .. } => false,
+            Act::Panel(_) | Act::CompareLamps { .. } | Act::CheckDay { .. } | Act::PlanDay { .. } => false,
+        }
+    }
+
+    /// Whether the call fills a record, whatever lies there.
+    pub fn fills(&self) -> bool {
+        matches!(self, Act::SetUp(_) | Act::SetUp2(_) | Act::Load { .. })
+    }
 }
 
 impl Answer {
-    /// The record that the call returns, if it returns one.
+    /// The record that the call returns, or leaves where it lies, if it is lent one to change.
     pub fn device(&self) -> Option<&Device> {
         match self {
             Answer::Changed(changed) => Some(&changed.device),

@@ -188,6 +188,7 @@ impl Fields for Answer {
                 plan.list(path, into);
                 into.push(("lent places".into(), format!("{rigs:?}")));
             }
+            Answer::Touched(device) => device.list("the record that was only to be read", into),
         }
     }
 }

@@ -3,8 +3,12 @@
 use super::{Act, Answer, Changed, Device, PLACES};
 
 pub trait Side {
-    /// Any call but `HandOn` and `Interleave`.
+    /// Any call but `HandOn` and `Interleave`, by value.
     fn call(&mut self, device: &Device, act: &Act) -> Answer;
+
+    /// The same in place, on a record that holds this one. It is for the acts that `has_in_place`, and the answer has the
+    /// record that lies there then.
+    fn call_in_place(&mut self, device: &Device, act: &Act) -> Answer;
 
     /// Whether a stream is handed on in the cuts that are asked for, or whole.
     fn cuts(&self) -> bool;
@@ -52,6 +56,23 @@ pub trait Side {
             told[*place].1.extend(replies);
         }
         Answer::Interleaved(Box::new(device), told)
+    }
+}
+
+/// A side with each of its calls made in place.
+pub struct InPlace<'a, S>(pub &'a mut S);
+
+impl<S: Side> Side for InPlace<'_, S> {
+    fn cuts(&self) -> bool {
+        self.0.cuts()
+    }
+
+    fn call(&mut self, device: &Device, act: &Act) -> Answer {
+        self.0.call_in_place(device, act)
+    }
+
+    fn call_in_place(&mut self, device: &Device, act: &Act) -> Answer {
+        self.0.call_in_place(device, act)
     }
 }
 

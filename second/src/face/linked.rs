@@ -3,7 +3,7 @@
 use super::{
     Act, Answer, Changed, Command, Compared, Device, Digest, Greeting, Lent, Opened, Reading, Received, Side, Written,
 };
-use super::{class_2, days, swap, workroom};
+use super::{class_2, days, in_place, swap, workroom};
 
 #[link(name = "board", kind = "static")]
 unsafe extern "C" {
@@ -56,7 +56,6 @@ unsafe extern "C" {
         out_length: usize,
     ) -> Received;
     fn pj_pass(device: Device, seconds: u32) -> Changed;
-    fn pj_pass_in_place(device: *mut Device, seconds: u32) -> u32;
     fn pj_set_fault(device: Device, mark: bool) -> Changed;
     fn pj_set_errors(device: Device, digits: *const u8, length: usize) -> Changed;
     fn pj_set_mark(device: Device, lamp: usize, enabled: bool) -> Changed;
@@ -128,10 +127,6 @@ pub fn pass(device: Device, seconds: u32) -> Changed {
     unsafe { pj_pass(device, seconds) }
 }
 
-pub fn pass_in_place(device: &mut Device, seconds: u32) -> u32 {
-    unsafe { pj_pass_in_place(device, seconds) }
-}
-
 pub fn set_fault(device: Device, mark: bool) -> Changed {
     unsafe { pj_set_fault(device, mark) }
 }
@@ -182,6 +177,10 @@ impl Side for Board {
         true
     }
 
+    fn call_in_place(&mut self, device: &Device, act: &Act) -> Answer {
+        in_place::answer(device, act)
+    }
+
     fn call(&mut self, device: &Device, act: &Act) -> Answer {
         let device = *device;
         match act {
@@ -197,12 +196,7 @@ impl Side for Board {
                 let mut out = lent.clone();
                 Answer::Received(receive(device, *place, bytes, &mut out), out)
             }
-            Act::Pass { seconds } => Answer::Changed(pass(device, *seconds)),
-            Act::PassInPlace { seconds } => {
-                let mut device = device;
-                let number = pass_in_place(&mut device, *seconds);
-                Answer::Changed(Changed { number, device })
-            }
+            Act::Pass { seconds } | Act::PassInPlace { seconds } => Answer::Changed(pass(device, *seconds)),
             Act::SetFault { mark } => Answer::Changed(set_fault(device, *mark)),
             Act::SetErrors { digits } => Answer::Changed(set_errors(device, digits)),
             Act::SetMark { lamp, enabled } => Answer::Changed(set_mark(device, *lamp, *enabled)),

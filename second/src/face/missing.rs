@@ -19,4 +19,8 @@ impl Side for Board {
     fn call(&mut self, _: &Device, _: &Act) -> Answer {
         unreachable!("Board::start does not return")
     }
+
+    fn call_in_place(&mut self, _: &Device, _: &Act) -> Answer {
+        unreachable!("Board::start does not return")
+    }
 }

@@ -11,7 +11,7 @@ mod service;
 pub mod wire;
 
 pub use call::{Act, Answer, Lent, Lent2};
-pub use hand_on::Side;
+pub use hand_on::{InPlace, Side};
 pub use panel::{Entry, Panel, PanelAct, PanelCall, PanelChanged, PanelSent};
 pub use service::{Compared, Day, Plan, Verdict};
 
@@ -24,6 +24,8 @@ pub use apart::Board;
 pub mod class_2;
 #[cfg(board = "linked")]
 pub mod days;
+#[cfg(board = "linked")]
+pub mod in_place;
 #[cfg(board = "linked")]
 pub mod linked;
 #[cfg(board = "linked")]
@@ -140,6 +142,24 @@ pub struct Received {
     pub taken: usize,
     pub length: usize,
     pub device: Device,
+}
+
+/// What receiving in place gives, whose record is where it was.
+#[repr(C)]
+#[derive(Clone, Copy, PartialEq, Eq, Debug)]
+pub struct Receiving {
+    pub number: u32,
+    pub taken: usize,
+    pub length: usize,
+}
+
+/// What opening in place gives.
+#[repr(C)]
+#[derive(Clone, Copy, PartialEq, Eq, Debug)]
+pub struct Opening {
+    pub number: u32,
+    pub length: usize,
+    pub place: usize,
 }
 
 #[repr(C)]

@@ -82,7 +82,8 @@ impl<T: Wire> Wire for Vec<T> {
     }
 }
 
-/// The call's number, then what it is lent; the record stands before all of it, wanted or not.
+/// The call's number, then what it is lent; before all of it stand whether it is made in place, and the record, wanted
+/// or not.
 pub fn put_act(act: &Act, out: &mut Vec<u8>) {
     match act {
         Act::SetUp(lent) => {

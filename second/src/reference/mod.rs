@@ -3,7 +3,8 @@
 //! `calls` has the calls that a host makes, with the numbers they give, `places` those of a controller's place (L5);
 //! `swap` (L3), `marks` (L8), `service` (L10), `days` (L12) and `panel` (L13) have those that 02 adds; the other files
 //! have what they mean, `utf8` what L2 says of names, `form` L3's bytes, `class` and `class_2` what L14 says of Class 2.
-//! `rules` holds the deliberate mistakes that `second wrong` switches on, one at a time; none is on otherwise.
+//! `rules` holds the deliberate mistakes that `second wrong` switches on, one at a time; none is on otherwise; those in
+//! the calls in place alone are made in `in_place`.
 
 pub mod calls;
 pub mod class;
@@ -19,6 +20,7 @@ pub mod flatten;
 pub mod form;
 #[cfg(test)]
 mod four;
+pub mod in_place;
 #[cfg(test)]
 mod marked;
 pub mod marks;

@@ -1,6 +1,6 @@
 //! The second program as one of the two that are compared.
 
-use super::{calls, days, marks, panel, service, swap};
+use super::{calls, days, in_place, marks, panel, service, swap};
 use crate::face::{Act, Answer, Device, PanelAct, PanelCall, Side};
 
 pub struct Second;
@@ -8,6 +8,11 @@ pub struct Second;
 impl Side for Second {
     fn cuts(&self) -> bool {
         false
+    }
+
+    fn call_in_place(&mut self, device: &Device, act: &Act) -> Answer {
+        let by_value = self.call(device, act);
+        in_place::mistaken(device, act, &by_value).unwrap_or(by_value)
     }
 
     fn call(&mut self, device: &Device, act: &Act) -> Answer {

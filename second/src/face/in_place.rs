@@ -1,0 +1,183 @@
+//! The calls on a record that is lent, linked: `linked` has those by value, and what makes each call safe.
+
+use super::{Act, Answer, Changed, Device, Lent, Lent2, Opened, Opening, Received, Receiving, Written};
+
+unsafe extern "C" {
+    #[rustfmt::skip]
+    fn pj_set_up_in_place(
+        device: *mut Device,
+        name: *const u8,
+        name_length: usize,
+        maker: *const u8,
+        maker_length: usize,
+        model: *const u8,
+        model_length: usize,
+        other: *const u8,
+        other_length: usize,
+        password: *const u8,
+        password_length: usize,
+        inputs: *const u8,
+        inputs_length: usize,
+        lamps: *const u32,
+        lamps_length: usize,
+        warm: u32,
+        cool: u32,
+    ) -> u32;
+    #[rustfmt::skip]
+    fn pj_set_up_2_in_place(
+        device: *mut Device,
+        name: *const u8,
+        name_length: usize,
+        maker: *const u8,
+        maker_length: usize,
+        model: *const u8,
+        model_length: usize,
+        other: *const u8,
+        other_length: usize,
+        password: *const u8,
+        password_length: usize,
+        inputs: *const u8,
+        inputs_length: usize,
+        lamps: *const u32,
+        lamps_length: usize,
+        warm: u32,
+        cool: u32,
+        serial: *const u8,
+        serial_length: usize,
+        version: *const u8,
+        version_length: usize,
+        names: *const u8,
+        names_length: usize,
+        name_lengths: *const usize,
+        name_lengths_length: usize,
+    ) -> u32;
+    fn pj_load_in_place(device: *mut Device, bytes: *const u8, length: usize) -> u32;
+    fn pj_store_in_place(device: *const Device, out: *mut u8, out_length: usize) -> Written;
+    fn pj_legal_in_place(device: *const Device) -> bool;
+    fn pj_open_in_place(device: *mut Device, random: u32, out: *mut u8, out_length: usize) -> Opening;
+    fn pj_close_in_place(device: *mut Device, place: usize) -> u32;
+    fn pj_receive_in_place(
+        device: *mut Device,
+        place: usize,
+        bytes: *const u8,
+        length: usize,
+        out: *mut u8,
+        out_length: usize,
+    ) -> Receiving;
+    fn pj_pass_in_place(device: *mut Device, seconds: u32) -> u32;
+    fn pj_set_fault_in_place(device: *mut Device, mark: bool) -> u32;
+    fn pj_set_errors_in_place(device: *mut Device, digits: *const u8, length: usize) -> u32;
+    fn pj_set_mark_in_place(device: *mut Device, lamp: usize, enabled: bool) -> u32;
+}
+
+// SAFETY, for every call below: as in `linked`; the record that a call changes is lent as `&mut` and overlaps nothing else.
+
+pub fn set_up(device: &mut Device, lent: &Lent) -> u32 {
+    let Lent { name, maker, model, other, password, inputs, lamps, warm, cool } = lent;
+    unsafe {
+        #[rustfmt::skip]
+        let number = pj_set_up_in_place(
+            device, name.as_ptr(), name.len(), maker.as_ptr(), maker.len(), model.as_ptr(), model.len(),
+            other.as_ptr(), other.len(), password.as_ptr(), password.len(), inputs.as_ptr(), inputs.len(),
+            lamps.as_ptr(), lamps.len(), *warm, *cool,
+        );
+        number
+    }
+}
+
+pub fn set_up_2(device: &mut Device, lent: &Lent2) -> u32 {
+    let Lent2 { lent, serial, version, names, name_lengths } = lent;
+    let Lent { name, maker, model, other, password, inputs, lamps, warm, cool } = lent;
+    unsafe {
+        #[rustfmt::skip]
+        let number = pj_set_up_2_in_place(
+            device, name.as_ptr(), name.len(), maker.as_ptr(), maker.len(), model.as_ptr(), model.len(),
+            other.as_ptr(), other.len(), password.as_ptr(), password.len(), inputs.as_ptr(), inputs.len(),
+            lamps.as_ptr(), lamps.len(), *warm, *cool, serial.as_ptr(), serial.len(), version.as_ptr(), version.len(),
+            names.as_ptr(), names.len(), name_lengths.as_ptr(), name_lengths.len(),
+        );
+        number
+    }
+}
+
+pub fn load(device: &mut Device, bytes: &[u8]) -> u32 {
+    unsafe { pj_load_in_place(device, bytes.as_ptr(), bytes.len()) }
+}
+
+pub fn store(device: &Device, out: &mut [u8]) -> Written {
+    unsafe { pj_store_in_place(device, out.as_mut_ptr(), out.len()) }
+}
+
+pub fn legal(device: &Device) -> bool {
+    unsafe { pj_legal_in_place(device) }
+}
+
+pub fn open(device: &mut Device, random: u32, out: &mut [u8]) -> Opening {
+    unsafe { pj_open_in_place(device, random, out.as_mut_ptr(), out.len()) }
+}
+
+pub fn close(device: &mut Device, place: usize) -> u32 {
+    unsafe { pj_close_in_place(device, place) }
+}
+
+pub fn receive(device: &mut Device, place: usize, bytes: &[u8], out: &mut [u8]) -> Receiving {
+    unsafe { pj_receive_in_place(device, place, bytes.as_ptr(), bytes.len(), out.as_mut_ptr(), out.len()) }
+}
+
+pub fn pass(device: &mut Device, seconds: u32) -> u32 {
+    unsafe { pj_pass_in_place(device, seconds) }
+}
+
+pub fn set_fault(device: &mut Device, mark: bool) -> u32 {
+    unsafe { pj_set_fault_in_place(device, mark) }
+}
+
+pub fn set_errors(device: &mut Device, digits: &[u8]) -> u32 {
+    unsafe { pj_set_errors_in_place(device, digits.as_ptr(), digits.len()) }
+}
+
+pub fn set_mark(device: &mut Device, lamp: usize, enabled: bool) -> u32 {
+    unsafe { pj_set_mark_in_place(device, lamp, enabled) }
+}
+
+/// The call made on a record that holds this one, and the record that lies there afterwards.
+pub fn answer(lent: &Device, act: &Act) -> Answer {
+    let mut device = *lent;
+    let number = match act {
+        Act::SetUp(lent) => set_up(&mut device, lent),
+        Act::SetUp2(lent) => set_up_2(&mut device, lent),
+        Act::Load { bytes } => load(&mut device, bytes),
+        Act::Open { random, lent } => {
+            let mut out = lent.clone();
+            let Opening { number, length, place } = open(&mut device, *random, &mut out);
+            return Answer::Opened(Opened { number, length, place, device }, out);
+        }
+        Act::Close { place } => close(&mut device, *place),
+        Act::Receive { place, bytes, lent } => {
+            let mut out = lent.clone();
+            let Receiving { number, taken, length } = receive(&mut device, *place, bytes, &mut out);
+            return Answer::Received(Received { number, taken, length, device }, out);
+        }
+        Act::Pass { seconds } | Act::PassInPlace { seconds } => pass(&mut device, *seconds),
+        Act::SetFault { mark } => set_fault(&mut device, *mark),
+        Act::SetErrors { digits } => set_errors(&mut device, digits),
+        Act::SetMark { lamp, enabled } => set_mark(&mut device, *lamp, *enabled),
+        Act::Legal | Act::Store { .. } => return only_read(lent, device, act),
+        _ => unreachable!("not made in place"),
+    };
+    Answer::Changed(Changed { number, device })
+}
+
+/// The two calls that leave the record as it was. It lies in room that may be written, or one that wrote there would not
+/// be seen to.
+fn only_read(lent: &Device, mut device: Device, act: &Act) -> Answer {
+    let device = std::hint::black_box(&mut device);
+    let answer = match act {
+        Act::Store { lent } => {
+            let mut out = lent.clone();
+            Answer::Written(store(device, &mut out), out)
+        }
+        _ => Answer::Legal(legal(device)),
+    };
+    if std::hint::black_box(&*device) == lent { answer } else { Answer::Touched(Box::new(*device)) }
+}
