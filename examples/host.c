@@ -1,9 +1,9 @@
 /* A host: it keeps one projector, feeds it bytes in odd cuts as a network would, lets time pass, and asks as a
    controller; service compares two tables of lamp seconds, the board is swapped, four controllers are connected at
    once, one lamp burns while the other rests, a projector of Class 2 is asked what one of Class 1 does not answer, and
-   a cutting day is planned and checked. Every number that a call gives is tested before anything else of its result is
-   used. What it must print, by the rules of documents 01 and 02, is in host.stdout: `0 < LINE` is a reply to the
-   controller at place 0. */
+   a cutting day is planned and checked. It lends its record to the calls in place, and makes one call by value. Every
+   number that a call gives is tested before anything else of its result is used. What it must print, by docs/RULES.md,
+   is in host.stdout: `0 < LINE` is a reply to the controller at place 0. */
 #include <stdio.h>
 #include <stdlib.h>
 #include <string.h>
@@ -28,9 +28,8 @@ static void served(uint32_t number, const char *call) {
 static size_t feed(size_t place, const uint8_t *bytes, size_t len) {
     size_t length = 0;
     for (size_t cut = 1; len > 0; cut++) {
-        pj_received r = pj_receive(device, place, bytes, cut < len ? cut : len, reply, sizeof reply);
-        served(r.number, "pj_receive");
-        device = r.device;
+        pj_receiving r = pj_receive_in_place(&device, place, bytes, cut < len ? cut : len, reply, sizeof reply);
+        served(r.number, "pj_receive_in_place");
         bytes += r.taken;
         len -= r.taken;
         length = r.length;
@@ -70,26 +69,24 @@ static void one_projector(void) {
     const uint32_t lamps[] = {0, 3600};
 
     /* warm-up and cooling of no seconds: set-up refuses, and the first setting out of its range is told */
-    pj_changed started = pj_set_up(TEXT("Table 3"), TEXT("maker"), TEXT("model"), TEXT(""), TEXT("JBMIAProjectorLink"),
-                                   TEXT("1132"), LIST(lamps), 0, 0);
-    printf("no warm-up: refused %d", started.number == PJ_OUT_OF_RANGE);
+    uint32_t started = pj_set_up_in_place(&device, TEXT("Table 3"), TEXT("maker"), TEXT("model"), TEXT(""),
+                                          TEXT("JBMIAProjectorLink"), TEXT("1132"), LIST(lamps), 0, 0);
+    printf("no warm-up: refused %d", started == PJ_OUT_OF_RANGE);
     printf(", for warm-up %d\n", pj_which_setting(TEXT("Table 3"), TEXT("maker"), TEXT("model"), TEXT(""),
                                                   TEXT("JBMIAProjectorLink"), TEXT("1132"), LIST(lamps), 0, 0)
                                       == PJ_SETTING_WARM);
     /* a name in UTF-8 whose last character is cut off */
-    started = pj_set_up(TEXT("\xE5\x8F\xB0 3 \xE5\x8F"), TEXT("maker"), TEXT("model"), TEXT(""), TEXT(""), TEXT("1132"),
-                        LIST(lamps), 20, 60);
-    printf("a character cut off: refused %d\n", started.number == PJ_OUT_OF_RANGE);
-    started = pj_set_up(TEXT("\xE5\x8F\xB0 3"), TEXT("maker"), TEXT("model"), TEXT(""), TEXT("JBMIAProjectorLink"),
-                        TEXT("1132"), LIST(lamps), 20, 60);
-    served(started.number, "pj_set_up");
-    device = started.device;
-    printf("set up: legal %d\n", pj_legal(device));
+    started = pj_set_up_in_place(&device, TEXT("\xE5\x8F\xB0 3 \xE5\x8F"), TEXT("maker"), TEXT("model"), TEXT(""),
+                                 TEXT(""), TEXT("1132"), LIST(lamps), 20, 60);
+    printf("a character cut off: refused %d\n", started == PJ_OUT_OF_RANGE);
+    started = pj_set_up_in_place(&device, TEXT("\xE5\x8F\xB0 3"), TEXT("maker"), TEXT("model"), TEXT(""),
+                                 TEXT("JBMIAProjectorLink"), TEXT("1132"), LIST(lamps), 20, 60);
+    served(started, "pj_set_up_in_place");
+    printf("set up: legal %d\n", pj_legal_in_place(&device));
 
     /* a real host draws the random number; this one has the specification's, to show its digest */
-    pj_opened opened = pj_open(device, 0x498e4a67, reply, sizeof reply);
-    served(opened.number, "pj_open");
-    device = opened.device;
+    pj_opening opened = pj_open_in_place(&device, 0x498e4a67, reply, sizeof reply);
+    served(opened.number, "pj_open_in_place");
     size_t place = opened.place; /* what the host names in every later call for this controller */
     pj_greeting greeting = pj_read_greeting(reply, opened.length);
     served(greeting.number, "pj_read_greeting");
@@ -108,7 +105,7 @@ static void one_projector(void) {
         set(place, PJ_POWR_SET, 0);
         pass(60);
         set(place, PJ_POWR_SET, 1);
-        pj_changed passed = pj_pass(device, 2400); /* the same by value */
+        pj_changed passed = pj_pass(device, 2400); /* the same by value: the record comes back in the result */
         served(passed.number, "pj_pass");
         device = passed.device;
     }
@@ -130,11 +127,8 @@ static void one_projector(void) {
     printf("gained: %lld s, %lld s, backwards at %zu\n", (long long)gained[0], (long long)gained[1], c.place);
 
     /* a refusal: the number alone says something, and the record and the reply memory are as they were */
-    pj_changed closed = pj_close(device, place + 1);
-    printf("close where nobody is: refused %d\n", closed.number == PJ_NOT_CONNECTED);
-    closed = pj_close(device, place);
-    served(closed.number, "pj_close");
-    device = closed.device;
+    printf("close where nobody is: refused %d\n", pj_close_in_place(&device, place + 1) == PJ_NOT_CONNECTED);
+    served(pj_close_in_place(&device, place), "pj_close_in_place");
     printf("close: phase %d\n", device.connections[place].phase);
 }
 
@@ -142,22 +136,19 @@ static void one_projector(void) {
 static void board_swap(void) {
     uint8_t form[PJ_FORM_MOST];
     pass(1800); /* half an hour more on the old board, which is on */
-    pj_written stored = pj_store(device, form, sizeof form);
-    served(stored.number, "pj_store");
+    pj_written stored = pj_store_in_place(&device, form, sizeof form);
+    served(stored.number, "pj_store_in_place");
     printf("stored: %zu bytes, version %d\n", stored.length, form[0]);
 
-    pj_changed loaded = pj_load(form, stored.length - 1);
-    printf("a byte lost: refused %d\n", loaded.number == PJ_CUT_SHORT);
-    loaded = pj_load(form, stored.length);
-    served(loaded.number, "pj_load");
-    device = loaded.device;
+    /* a load fills the record, and a refused one leaves the blank record there */
+    printf("a byte lost: refused %d\n", pj_load_in_place(&device, form, stored.length - 1) == PJ_CUT_SHORT);
+    served(pj_load_in_place(&device, form, stored.length), "pj_load_in_place");
     printf("loaded: off %d, %u s, %u s\n", device.own.power == PJ_POWER_OFF, (unsigned)device.own.lamps[0],
            (unsigned)device.own.lamps[1]);
 
     /* the other half of the hour, on the new board: the password is in the form too */
-    pj_opened opened = pj_open(device, 0x498e4a67, reply, sizeof reply);
-    served(opened.number, "pj_open");
-    device = opened.device;
+    pj_opening opened = pj_open_in_place(&device, 0x498e4a67, reply, sizeof reply);
+    served(opened.number, "pj_open_in_place");
     feed(opened.place, TEXT("5d8409bc1c3fa39749434aa3a5c38682%1POWR 1\r"));
     pass(1800);
     print_lamps(opened.place);
@@ -168,13 +159,12 @@ static const char *peers[PJ_PLACES];
 
 /* A controller connects. Where there is no place for it, the host closes the socket that it has just accepted. */
 static void comes(const char *who) {
-    pj_opened opened = pj_open(device, 0x498e4a67, reply, sizeof reply);
+    pj_opening opened = pj_open_in_place(&device, 0x498e4a67, reply, sizeof reply);
     if (opened.number == PJ_NO_PLACE) {
         printf("%s: no place\n", who);
         return;
     }
-    served(opened.number, "pj_open");
-    device = opened.device;
+    served(opened.number, "pj_open_in_place");
     peers[opened.place] = who;
     printf("%s: place %zu\n", who, opened.place);
 }
@@ -219,13 +209,10 @@ static void four_controllers(void) {
 /* One lamp burns and the other rests. Which, the host says while the power is off. */
 static void one_lamp(void) {
     set(0, PJ_POWR_SET, 0);
-    pj_changed marked = pj_set_mark(device, 1, false);
-    printf("while cooling: refused %d\n", marked.number == PJ_NOT_OFF);
+    printf("while cooling: refused %d\n", pj_set_mark_in_place(&device, 1, false) == PJ_NOT_OFF);
     wait_for(60);
-    marked = pj_set_mark(device, 1, false);
-    served(marked.number, "pj_set_mark");
-    device = marked.device;
-    printf("the last mark: refused %d\n", pj_set_mark(device, 0, false).number == PJ_OUT_OF_RANGE);
+    served(pj_set_mark_in_place(&device, 1, false), "pj_set_mark_in_place");
+    printf("the last mark: refused %d\n", pj_set_mark_in_place(&device, 0, false) == PJ_OUT_OF_RANGE);
     set(0, PJ_POWR_SET, 1);
     pass(3560);
     print_lamps(0);
@@ -233,11 +220,11 @@ static void one_lamp(void) {
 
     /* the marks are in the stored form, and loaded with it */
     uint8_t form[PJ_FORM_MOST];
-    pj_written stored = pj_store(device, form, sizeof form);
-    served(stored.number, "pj_store");
-    pj_changed loaded = pj_load(form, stored.length);
-    served(loaded.number, "pj_load");
-    printf("loaded: marks %d %d\n", loaded.device.own.enabled[0], loaded.device.own.enabled[1]);
+    pj_written stored = pj_store_in_place(&device, form, sizeof form);
+    served(stored.number, "pj_store_in_place");
+    pj_device loaded;
+    served(pj_load_in_place(&loaded, form, stored.length), "pj_load_in_place");
+    printf("loaded: marks %d %d\n", loaded.own.enabled[0], loaded.own.enabled[1]);
 }
 
 /* A projector of Class 2, with names for its inputs; what it replies to under `%1` is what one of Class 1 does. */
@@ -248,16 +235,16 @@ static void class_2(void) {
     /* the projector so far is of Class 1, and swallows a line of Class 2 */
     printf("Class 1: a reply of %zu bytes to %%2SNUM ?\n", feed(0, TEXT("%2SNUM ?\r")));
 
-    pj_changed started = pj_set_up_2(TEXT("Table 4"), TEXT("maker"), TEXT("model"), TEXT(""), TEXT(""), TEXT("116A"),
-                                     LIST(lamps), 20, 60, TEXT("S/N 7"), TEXT("1.4"), TEXT("RGB"), lengths, 1);
-    printf("two inputs and one name: refused %d\n", started.number == PJ_OUT_OF_RANGE);
-    started = pj_set_up_2(TEXT("Table 4"), TEXT("maker"), TEXT("model"), TEXT(""), TEXT(""), TEXT("116A"),
-                          LIST(lamps), 20, 60, TEXT("S/N 7"), TEXT("1.4"), TEXT("RGBplayer"), LIST(lengths));
-    served(started.number, "pj_set_up_2");
-    device = started.device;
-    pj_opened opened = pj_open(device, 0, reply, sizeof reply);
-    served(opened.number, "pj_open");
-    device = opened.device;
+    uint32_t started = pj_set_up_2_in_place(&device, TEXT("Table 4"), TEXT("maker"), TEXT("model"), TEXT(""), TEXT(""),
+                                            TEXT("116A"), LIST(lamps), 20, 60, TEXT("S/N 7"), TEXT("1.4"), TEXT("RGB"),
+                                            lengths, 1);
+    printf("two inputs and one name: refused %d\n", started == PJ_OUT_OF_RANGE);
+    started = pj_set_up_2_in_place(&device, TEXT("Table 4"), TEXT("maker"), TEXT("model"), TEXT(""), TEXT(""),
+                                   TEXT("116A"), LIST(lamps), 20, 60, TEXT("S/N 7"), TEXT("1.4"), TEXT("RGBplayer"),
+                                   LIST(lengths));
+    served(started, "pj_set_up_2_in_place");
+    pj_opening opened = pj_open_in_place(&device, 0, reply, sizeof reply);
+    served(opened.number, "pj_open_in_place");
     size_t place = opened.place;
 
     printf("class %d\n", ask(place, PJ_CLSS, 0).first);
@@ -284,14 +271,14 @@ static void class_2(void) {
 
     /* class, serial number, version and names are in the stored form; freeze and levels start anew */
     uint8_t form[PJ_FORM_MOST];
-    pj_written stored = pj_store(device, form, sizeof form);
-    served(stored.number, "pj_store");
+    pj_written stored = pj_store_in_place(&device, form, sizeof form);
+    served(stored.number, "pj_store_in_place");
     printf("stored: %zu bytes, version %d\n", stored.length, form[0]);
-    pj_changed loaded = pj_load(form, stored.length);
-    served(loaded.number, "pj_load");
-    const pj_settings *settings = &loaded.device.settings;
+    pj_device loaded;
+    served(pj_load_in_place(&loaded, form, stored.length), "pj_load_in_place");
+    const pj_settings *settings = &loaded.settings;
     printf("loaded: class %d, %.*s, frozen %d, speaker %d\n", settings->class_number, (int)settings->names[1].len,
-           (const char *)settings->names[1].bytes, loaded.device.own.frozen, loaded.device.own.speaker);
+           (const char *)settings->names[1].bytes, loaded.own.frozen, loaded.own.speaker);
 }
 
 static void one_day(void) {

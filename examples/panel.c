@@ -1,7 +1,7 @@
-/* A workroom panel (02, L13) and two projectors in one program: what each writes is handed to the other in memory,
+/* A workroom panel (RULES, Panel) and two projectors in one program: what each writes is handed to the other in memory,
    where a real host has a socket for each projector. Projector 0 has no password, projector 1 has one. Every number
-   that a call gives is tested before anything else of its result is used. What it must print, by the rules of documents
-   01 and 02, is in panel.stdout: `0 > LINE` goes to projector 0, `0 < LINE` comes from it, and after them stands what
+   that a call gives is tested before anything else of its result is used. What it must print, by docs/RULES.md, is
+   in panel.stdout: `0 > LINE` goes to projector 0, `0 < LINE` comes from it, and after them stands what
    the panel shows. */
 #include <stdio.h>
 #include <stdlib.h>
@@ -39,12 +39,12 @@ static void show(size_t projector) {
 
 static void set_up(size_t projector, const char *password) {
     static const uint32_t lamps[] = {0, 3600}, nearly_an_hour[] = {3580};
-    pj_changed c = projector == 0 ? pj_set_up(TEXT("Table 1"), TEXT("maker"), TEXT("model"), TEXT(""), TEXT(password),
-                                              TEXT("1132"), LIST(nearly_an_hour), 20, 60)
-                                  : pj_set_up(TEXT("Table 2"), TEXT("maker"), TEXT("model"), TEXT(""), TEXT(password),
-                                              TEXT("11"), LIST(lamps), 20, 60);
-    served(c.number, "pj_set_up");
-    devices[projector] = c.device;
+    uint32_t number = projector == 0
+        ? pj_set_up_in_place(&devices[0], TEXT("Table 1"), TEXT("maker"), TEXT("model"), TEXT(""), TEXT(password),
+                             TEXT("1132"), LIST(nearly_an_hour), 20, 60)
+        : pj_set_up_in_place(&devices[1], TEXT("Table 2"), TEXT("maker"), TEXT("model"), TEXT(""), TEXT(password),
+                             TEXT("11"), LIST(lamps), 20, 60);
+    served(number, "pj_set_up_in_place");
 }
 
 static void add(const char *password) {
@@ -64,9 +64,8 @@ static void comes(size_t projector, const uint8_t *bytes, size_t len) {
 /* The panel connects to the projector, whose greeting comes. A real host draws a random number for each connection;
    this one has the specification's each time, to show its digest. */
 static void connect_to(size_t projector) {
-    pj_opened o = pj_open(devices[projector], 0x498e4a67, line, sizeof line);
-    served(o.number, "pj_open");
-    devices[projector] = o.device;
+    pj_opening o = pj_open_in_place(&devices[projector], 0x498e4a67, line, sizeof line);
+    served(o.number, "pj_open_in_place");
     places[projector] = o.place;
     comes(projector, line, o.length);
 }
@@ -79,9 +78,8 @@ static size_t go(size_t projector, uint8_t code, uint8_t first, uint8_t second) 
     served(s.number, "pj_panel_command");
     panel = s.panel;
     printf("%zu > %.*s\n", projector, (int)s.length - 1, (const char *)sent);
-    pj_received r = pj_receive(devices[projector], places[projector], sent, s.length, line, sizeof line);
-    served(r.number, "pj_receive");
-    devices[projector] = r.device;
+    pj_receiving r = pj_receive_in_place(&devices[projector], places[projector], sent, s.length, line, sizeof line);
+    served(r.number, "pj_receive_in_place");
     return r.length;
 }
 

@@ -55,17 +55,14 @@ static uint64_t milliseconds(void) {
 
 /* Ends a connection on both sides: in the record, where time has not closed it already, and on the network. */
 static void hang_up(size_t place) {
-    if (device.connections[place].phase != PJ_PHASE_CLOSED) {
-        pj_changed closed = pj_close(device, place);
-        served(closed.number, "pj_close");
-        device = closed.device;
-    }
+    if (device.connections[place].phase != PJ_PHASE_CLOSED)
+        served(pj_close_in_place(&device, place), "pj_close_in_place");
     close(peers[place].socket);
     peers[place].socket = -1;
 }
 
 /* Whole seconds, as they pass; what is left of one counts next time. A real board saves device.own.lamps here from time
-   to time, and hands them to pj_set_up when it starts again. */
+   to time, and hands them to pj_set_up_in_place when it starts again. */
 static void pass_time(void) {
     uint64_t seconds = (milliseconds() - passed) / 1000;
     passed += seconds * 1000;
@@ -95,13 +92,12 @@ static void greet(int listener) {
     int peer = accept(listener, NULL, NULL);
     if (peer < 0) return; /* it has gone again */
     if (getrandom(&random, sizeof random, 0) != (ssize_t)sizeof random) die("getrandom");
-    pj_opened opened = pj_open(device, random, reply, sizeof reply);
+    pj_opening opened = pj_open_in_place(&device, random, reply, sizeof reply);
     if (opened.number == PJ_NO_PLACE) {
         close(peer);
         return;
     }
-    served(opened.number, "pj_open");
-    device = opened.device;
+    served(opened.number, "pj_open_in_place");
     peers[opened.place].socket = peer;
     answer(opened.place, reply, opened.length);
 }
@@ -116,9 +112,8 @@ static bool serve(size_t place) {
         return false;
     }
     for (size_t at = 0; peers[place].socket >= 0 && at < (size_t)got;) {
-        pj_received r = pj_receive(device, place, bytes + at, (size_t)got - at, reply, sizeof reply);
-        served(r.number, "pj_receive");
-        device = r.device;
+        pj_receiving r = pj_receive_in_place(&device, place, bytes + at, (size_t)got - at, reply, sizeof reply);
+        served(r.number, "pj_receive_in_place");
         at += r.taken;
         if (r.length > 0) answer(place, reply, r.length);
     }
@@ -158,25 +153,25 @@ static int listen_at(const char *address, const char *port) {
     return listener;
 }
 
-static pj_changed set_up(const char *password, bool class_2) {
+static uint32_t set_up(const char *password, bool class_2) {
     const uint32_t lamps[] = {0};
     const size_t lengths[] = {3, 0, 6}; /* of the inputs' names */
-    if (!class_2) return pj_set_up(TEXT("Table 3"), TEXT("maker"), TEXT("model"), TEXT("an example"), TEXT(password),
-                                   TEXT("1132"), lamps, 1, 20, 60);
-    return pj_set_up_2(TEXT("Table 3"), TEXT("maker"), TEXT("model"), TEXT("an example"), TEXT(password),
-                       TEXT("11326A"), lamps, 1, 2, 60, TEXT("S/N 3"), TEXT("1.4"), TEXT("RGBplayer"), lengths, 3);
+    if (!class_2) return pj_set_up_in_place(&device, TEXT("Table 3"), TEXT("maker"), TEXT("model"), TEXT("an example"),
+                                            TEXT(password), TEXT("1132"), lamps, 1, 20, 60);
+    return pj_set_up_2_in_place(&device, TEXT("Table 3"), TEXT("maker"), TEXT("model"), TEXT("an example"),
+                                TEXT(password), TEXT("11326A"), lamps, 1, 2, 60, TEXT("S/N 3"), TEXT("1.4"),
+                                TEXT("RGBplayer"), lengths, 3);
 }
 
 int main(int argc, char **argv) {
     const char *password = getenv("PJLINK_PASSWORD"), *class_number = getenv("PJLINK_CLASS");
     unsigned long idle = argc > 3 ? strtoul(argv[3], NULL, 10) : 300;
-    pj_changed made = set_up(password ? password : "", class_number != NULL && strcmp(class_number, "2") == 0);
-    if (made.number != PJ_SERVED || idle == 0 || argc > 4) {
+    uint32_t made = set_up(password ? password : "", class_number != NULL && strcmp(class_number, "2") == 0);
+    if (made != PJ_SERVED || idle == 0 || argc > 4) {
         fprintf(stderr, "projector [PORT [ADDRESS [IDLE]]], PJLINK_PASSWORD: 8 to %d letters, digits\n",
                 PJ_PASSWORD_MOST);
         return 2;
     }
-    device = made.device;
 
     int listener = listen_at(argc > 2 ? argv[2] : "127.0.0.1", argc > 1 ? argv[1] : "4352");
     for (size_t place = 0; place < PJ_PLACES; place++) peers[place].socket = -1;

@@ -1,4 +1,4 @@
-/* The control software of a ceiling projector: PJLink Class 1, version 1.04, and of Class 2 what document 02 asks for,
+/* The control software of a ceiling projector: PJLink Class 1, version 1.04, and of Class 2 what docs/RULES.md has of it,
    both sides, with the MD5 of RFC 1321.
 
    This declares what the archive libboard.a defines. `./archive` writes the archive for x86-64, whose calls are those
@@ -6,14 +6,16 @@
    AAPCS64. The layout of the records is the same on both.
 
    Every call ends, keeps to the memory that it is lent, allocates nothing and keeps no state. The projector is a
-   record, pj_device, and the host keeps it: a call takes the record, and the changed record comes back in what the
-   call gives. Store it over the one you had. A host with several threads makes the calls on one record one after the
-   other.
+   record, pj_device, and the host keeps it. It lends the record to the calls `.._in_place`, which change it where it
+   lies. Each has its like by value, which takes the record, gives the changed one in its result, to be stored over the
+   one it had, and costs some copies of the record more. A host with several threads makes the calls on one record one
+   after the other.
 
    A call asks only what C cannot say:
-   - A pointer is good for its length. It is never NULL, even with length 0.
+   - A pointer is good for its length, and one to a record for a record. It is never NULL, even with length 0.
    - A bool is 0 or 1.
-   - Memory that a call writes, be it reply memory or a result list, overlaps nothing else that is lent to that call.
+   - Memory that a call writes, be it reply memory, a result list or a record, overlaps nothing else that is lent to
+     that call.
 
    Text is bytes with a length, and no NUL ends it. A line ends with CR (0x0D) alone. */
 #ifndef CEILING_H
@@ -24,8 +26,8 @@
 #include <stdint.h>
 
 /* The version of this face. It moves with each landing that moves a struct or a call; docs/landings/README.md says what
-   moved. A host that was written for one version can ask for it: #if CEILING_FACE != 10 .. #error. */
-#define CEILING_FACE 10
+   moved. A host that was written for one version can ask for it: #if CEILING_FACE != 11 .. #error. */
+#define CEILING_FACE 11
 
 /* What stands before a call whose result has the record in it: a compiler warns where such a result is dropped. */
 #if defined(__cplusplus) && __cplusplus >= 201703L || defined(__STDC_VERSION__) && __STDC_VERSION__ >= 202311L
@@ -44,10 +46,10 @@ extern "C" {
 #endif
 
 /* The number that a call gives: PJ_SERVED, or the first of the others that applies, in this order. Below, each call
-   says with which it refuses. With 1 to 9 the record that was given comes back (from pj_set_up, pj_set_up_2 and
-   pj_load, with any number that is not 0, the blank record, all zero, which is not legal), counts and lengths are 0,
-   and no byte of the lent memory is written. With PJ_SERVED a reply fills the start of the reply memory for its length,
-   and every later byte there is as it was. */
+   says with which it refuses. With 1 to 9 the record that was given comes back, or stays as it was where it lies (from
+   pj_set_up, pj_set_up_2 and pj_load, with any number that is not 0, the blank record, all zero, which is not legal),
+   counts and lengths are 0, and no byte of the lent memory is written. With PJ_SERVED a reply fills the start of the
+   reply memory for its length, and every later byte there is as it was. */
 enum pj_number {
     PJ_SERVED = 0,
     PJ_NOT_LEGAL = 1,           /* the device record is not legal (pj_legal), or the panel's record is not */
@@ -305,10 +307,6 @@ pj_received pj_receive(pj_device d, size_t place, const uint8_t *bytes, size_t l
 CEILING_KEEP
 pj_changed pj_pass(pj_device d, uint32_t seconds);
 
-/* Lets seconds pass as pj_pass does, and changes the record where it lies: this is the board's own clock call.
-   Gives the number alone, PJ_SERVED or PJ_NOT_LEGAL. */
-uint32_t pj_pass_in_place(pj_device *d, uint32_t seconds);
-
 /* Replaces the fault mark, and nothing else: with it POWR, INPT and AVMT answer ERR4, and in Class 2 FREZ, SVOL and
    MVOL too. Refuses with PJ_NOT_LEGAL. */
 CEILING_KEEP
@@ -361,6 +359,61 @@ pj_written pj_store(pj_device d, uint8_t *out, size_t out_len);
 CEILING_KEEP
 pj_changed pj_load(const uint8_t *bytes, size_t len);
 
+/* The same calls on a record that is lent: each refuses as its like by value, with the same number, and serves as it
+   does; the record changes where it lies. A call that is refused leaves it as it was, but for set-up and loading, which
+   fill it, and leave the blank record there. A host's own calls are these. */
+
+typedef struct {
+    uint32_t number;
+    size_t taken, length;                   /* bytes taken; length of the reply, 0 where none is due */
+} pj_receiving;
+
+typedef struct {
+    uint32_t number;
+    size_t length;                          /* of the greeting */
+    size_t place;                           /* where it was opened; 0 with a refusal */
+} pj_opening;
+
+/* pj_set_up, into *d. */
+uint32_t pj_set_up_in_place(pj_device *d, const uint8_t *name, size_t name_len, const uint8_t *maker, size_t maker_len,
+                            const uint8_t *model, size_t model_len, const uint8_t *other, size_t other_len,
+                            const uint8_t *password, size_t password_len, const uint8_t *inputs, size_t inputs_len,
+                            const uint32_t *lamps, size_t lamp_count, uint32_t warm, uint32_t cool);
+
+/* pj_set_up_2, into *d. */
+uint32_t pj_set_up_2_in_place(pj_device *d, const uint8_t *name, size_t name_len,
+                              const uint8_t *maker, size_t maker_len, const uint8_t *model, size_t model_len,
+                              const uint8_t *other, size_t other_len, const uint8_t *password, size_t password_len,
+                              const uint8_t *inputs, size_t inputs_len, const uint32_t *lamps, size_t lamp_count,
+                              uint32_t warm, uint32_t cool, const uint8_t *serial, size_t serial_len,
+                              const uint8_t *version, size_t version_len, const uint8_t *names, size_t names_len,
+                              const size_t *name_lengths, size_t name_count);
+
+/* pj_load, into *d. */
+uint32_t pj_load_in_place(pj_device *d, const uint8_t *bytes, size_t len);
+
+/* pj_store and pj_legal, of *d, which they only read. */
+pj_written pj_store_in_place(const pj_device *d, uint8_t *out, size_t out_len);
+bool pj_legal_in_place(const pj_device *d);
+
+/* pj_open. */
+pj_opening pj_open_in_place(pj_device *d, uint32_t random, uint8_t *out, size_t out_len);
+
+/* pj_close. */
+uint32_t pj_close_in_place(pj_device *d, size_t place);
+
+/* pj_receive. */
+pj_receiving pj_receive_in_place(pj_device *d, size_t place, const uint8_t *bytes, size_t len,
+                                 uint8_t *out, size_t out_len);
+
+/* pj_pass: this is the board's own clock call. */
+uint32_t pj_pass_in_place(pj_device *d, uint32_t seconds);
+
+/* pj_set_fault, pj_set_errors and pj_set_mark. */
+uint32_t pj_set_fault_in_place(pj_device *d, bool mark);
+uint32_t pj_set_errors_in_place(pj_device *d, const uint8_t *digits, size_t count);
+uint32_t pj_set_mark_in_place(pj_device *d, size_t lamp, bool enabled);
+
 /* The digest. */
 
 typedef struct {
@@ -407,7 +460,7 @@ typedef struct {                            /* numbers, not characters; what a c
 /* Writes the command's line, to be sent to a projector. Where `secured`, the line is led by the digest of the random
    number and the password; otherwise neither of the two is looked at. `secured` is for the first command of a
    connection whose greeting was PJ_GREETING_SECURED, with the random number of that greeting, and for no later one:
-   document 000 says (5.3) that a digest before later commands does no harm, but by 01's rule on the form of a line
+   PJLink 1.04, 5.3 says that a digest before later commands does no harm, but by the rule on the form of a line
    the projector swallows such a line, and no reply comes. We follow 01.
    The writer does not know the projector's class: an input of type 6 or with a letter is written under `%1` too, and a
    projector that does not list it answers ERR2. PJ_CLSS asks for the class.
@@ -640,6 +693,8 @@ CEILING_IS(sizeof(pj_opened) == 5848 && offsetof(pj_opened, length) == 8 && offs
 CEILING_IS(offsetof(pj_opened, device) == 24);
 CEILING_IS(sizeof(pj_received) == 5848 && offsetof(pj_received, taken) == 8);
 CEILING_IS(offsetof(pj_received, length) == 16 && offsetof(pj_received, device) == 24);
+CEILING_IS(sizeof(pj_receiving) == 24 && offsetof(pj_receiving, taken) == 8 && offsetof(pj_receiving, length) == 16);
+CEILING_IS(sizeof(pj_opening) == 24 && offsetof(pj_opening, length) == 8 && offsetof(pj_opening, place) == 16);
 CEILING_IS(sizeof(pj_digest) == 16);
 CEILING_IS(sizeof(pj_command) == 3 && offsetof(pj_command, first) == 1 && offsetof(pj_command, second) == 2);
 CEILING_IS(sizeof(pj_written) == 16 && offsetof(pj_written, length) == 8);
