@@ -1,4 +1,5 @@
--- The promises of the controller's calls and of the two day calls leave one result each, lent memory included, and the
+-- The promises of the controller's calls, of the panel's and of the two day calls leave one result each, lent memory
+-- included, and the
 -- numbers of a day call are those of one verdict, of one plan. The other calls promise what the calls below them do, in
 -- the same words: that they leave one result is said there.
 -- Assumes nothing.
@@ -20,11 +21,15 @@ use Rattle.day.specs.declared.plan.Plan.{Plan}
 use Rattle.day.proofs.InNumbers.{verdict-by-numbers, plan-by-numbers}
 use Rattle.codes.specs.Commands.{commandOf}
 use Rattle.codes.specs.Readings.{flatGreeting}
+use Rattle.panel.specs.PanelCalls.{commanded}
+use Rattle.panel.specs.declared.types.Panel.{Panel}
 use Rattle.board.specs.Face.{written_by, read_by}
 use Rattle.board.specs.Days.{flatVerdict, flatPlan}
+use Rattle.board.specs.Results.{panel_sent_of}
 use Rattle.codes.specs.declared.command.Coded.{Coded}
 use Rattle.board.specs.declared.days.FlatVerdict.{FlatVerdict}
 use Rattle.board.specs.declared.days.FlatPlan.{FlatPlan}
+use Rattle.board.specs.declared.results.PanelSent.{PanelSent}
 use Rattle.codes.specs.declared.readings.FlatGreeting.{FlatGreeting}
 use Rattle.codes.specs.declared.readings.FlatReading.{FlatReading}
 
@@ -45,6 +50,13 @@ one-reading-by k l = one-result
 pub one-flat-greeting : (l : List ℕ) {r s : FlatGreeting} → r ≡ flatGreeting (readGreeting l)
     → s ≡ flatGreeting (readGreeting l) → r ≡ s
 one-flat-greeting l = one-result
+
+module _ (p : Panel) (i : ℕ) (k : Coded) (out : List ℕ) where
+  abbrev pub Sends : PanelSent → List ℕ → Type 0
+  Sends = let c = commanded p i k (length out) in Left (panel_sent_of c) (over c.line out)
+
+  pub one_panel_sent : {r s : PanelSent} {m n : List ℕ} → Sends r m → Sends s n → (r ≡ s) × (m ≡ n)
+  one_panel_sent q t = one_left q t
 
 pub one-flat-verdict : (d : Day) (a : List ℕ) {r s : FlatVerdict} → r ≡ flatVerdict (checked d a)
     → s ≡ flatVerdict (checked d a) → r ≡ s

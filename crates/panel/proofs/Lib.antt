@@ -2,9 +2,9 @@ pub mod PanelsTold
 pub mod TalksTold
 pub mod Cases
 pub mod StepsByTable
+pub mod Viewed
 pub mod OnlyItsEntry
 pub mod Refusals
-pub mod OneResult
 pub mod ShownLegal
 pub mod PanelsLegal
 pub mod ReadingsShown

@@ -1,12 +1,10 @@
-use Rattle.panel.proofs.OneResult.{one_none, one-addition, one-sending, one-stepping, one-loss}
+use Rattle.std.proofs.Common.{sym, ◌∙◌}
 use Rattle.panel.proofs.theorems.one_result.Goals as goal
 
 pub returns : goal.returns
 returns c = record {
-  none = λ r s. one_none;
-  added = λ p password r s. one-addition p password;
-  sent = λ panel i k out r s m n p q.
-      one-sending panel i k out (record { told = p.0; memory = p.1 }) (record { told = q.0; memory = q.1 });
-  stepped = λ p i l r s. one-stepping p i l;
-  lost = λ p i r s. one-loss p i;
+  added = λ p password r s x y e f. (e.0 ∙ sym f.0, e.1 ∙ sym f.1);
+  sent = λ p i k out r s v w x y m n e f. (e.0 ∙ sym f.0, e.1 ∙ sym f.1, e.2 ∙ sym f.2, e.3 ∙ sym f.3);
+  heard = λ p i l r s x y e f. (e.0 ∙ sym f.0, e.1 ∙ sym f.1);
+  lost = λ p i r s x y e f. (e.0 ∙ sym f.0, e.1 ∙ sym f.1);
 }

@@ -1,7 +1,0 @@
-use Rattle.std.proofs.Common.{arith, sym, ◌∙◌}
-use Rattle.lines.proofs.TextsTold.{password-long}
-use Rattle.panel.proofs.calls.add.Goals as goal
-
-pub text_of-requires : goal.text_of-requires
-text_of-requires c =
-    omega (arith, password-long c.args.password.now (sym c.is_password.ensures ∙ c.if-not-is_password.false))
