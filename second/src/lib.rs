@@ -1,5 +1,5 @@
-//! The second program: document 01's rules written a second time, plainly, by someone who did not look at the proved
-//! crates; then compared with them, call by call, through the archive that a host links (`libboard.a`).
+//! The second program: the rules (docs/RULES.md) written a second time, plainly, by someone who did not look at the
+//! proved crates; then compared with them, call by call, through the archive that a host links (`libboard.a`).
 
 pub mod burnt;
 pub mod burnts;

@@ -15,7 +15,7 @@ use std::time::{SystemTime, UNIX_EPOCH};
 const USAGE: &str = "\
 second compare [SEED]   compare with libboard.a; without a seed, a fresh one
 second wrong [SEED]     make each deliberate mistake; the comparison has to find it
-second replay [FORM]    play a log from standard input (02, L1), on the device of a stored form in that file
+second replay [FORM]    play a log from standard input (RULES, Floor log), on the device of a stored form in that file
 second burnt [FORM]     tell which lamp burnt when
 second logs SEED COUNT PROGRAM..
                         so many random logs, and some fixed ones, played by the program alike; `fresh` is a seed too

@@ -25,8 +25,8 @@ pub struct Steps {
 
 pub const RIGHT: Steps = Steps { device, mark, set_mark: Projector::set_mark, burns, last: |lamp, _, _| lamp.stretch };
 
-/// "`M`, a space, a lamp's number from 1, a space, 0 or 1, the mark call of L8". No device has more than eight lamps, so
-/// that a lamp's number is one digit.
+/// "`M`, a space, a lamp's number from 1, a space, 0 or 1, the mark call .." (RULES, Floor log). No device has more
+/// than eight lamps, so that a lamp's number is one digit.
 pub fn mark(text: &[u8]) -> Option<(usize, bool)> {
     match text {
         [b'M', b' ', lamp @ b'1'..=b'9', b' ', mark @ b'0'..=b'1'] => Some((usize::from(lamp - b'1'), *mark == b'1')),
@@ -34,7 +34,7 @@ pub fn mark(text: &[u8]) -> Option<(usize, bool)> {
     }
 }
 
-/// 02, L8: for a lamp count "only the seconds of warm-up or power-on with its own mark set".
+/// RULES, Lamps: for a lamp count "only the seconds of warm-up or power-on with its own mark set".
 fn burns(power: Power, enabled: bool) -> bool {
     enabled && matches!(power, Power::WarmUp(_) | Power::On)
 }
@@ -43,8 +43,8 @@ pub fn burnt(form: Option<&[u8]>, log: impl BufRead, out: impl Write) -> io::Res
     burnt_by(&RIGHT, form, log, out)
 }
 
-/// "prints for each lamp its stretches .. as soon as a stretch has ended, and at the end for each lamp its seconds at the
-/// start, burnt, and now"; "a form that does not load gives its number in one line, and nothing else".
+/// "prints for each lamp its stretches .. as soon as a stretch has ended, and at the end for each lamp its seconds at
+/// the start, burnt, and now"; "a form that does not load gives its number in one line, and nothing else".
 fn burnt_by(steps: &Steps, form: Option<&[u8]>, log: impl BufRead, mut out: impl Write) -> io::Result<()> {
     let projector = match (steps.device)(form) {
         Ok(projector) => projector,
