@@ -6,7 +6,7 @@ use crate::compare::random::Random;
 use crate::compare::{class_2, forms, records};
 use crate::face::{Changed, Device, Lent, Lent2};
 
-/// Two lamps, three inputs and a name in Japanese, byte by byte from the document.
+/// Two lamps, three inputs and a name in Japanese, byte by byte from the rules.
 #[rustfmt::skip]
 const BY_HAND: &[u8] = &[
     3,                                                                          // "version 3"
