@@ -14,3 +14,4 @@ pub mod PowerByTime
 pub mod FaultMark
 pub mod Results
 pub mod Samples
+pub mod OldSame

@@ -1,4 +1,5 @@
 pub mod Second
+pub mod OldSecond
 pub mod After
 pub mod Passing
 pub mod Computing
