@@ -14,4 +14,3 @@ pub mod PowerByTime
 pub mod FaultMark
 pub mod Results
 pub mod Samples
-pub mod OldSame
