@@ -139,7 +139,7 @@ impl<'a> Reader<'a> {
 
     fn until(&mut self, what: &str) -> Result<Part<'a>, String> {
         let at = self.at;
-        let length = self.rest().find(what).ok_or_else(|| self.says(&format!("no {what} follows")))?;
+        let length = self.rest().find(what).ok_or_else(|| self.here(&format!("no {what} follows")))?;
         self.at += length;
         Ok(Part { text: &self.text[at..self.at], at })
     }
@@ -149,10 +149,10 @@ impl<'a> Reader<'a> {
         let length = self.rest().find(|c: char| !c.is_ascii_alphanumeric() && c != '-' && c != ':');
         let name = &self.rest()[..length.unwrap_or(0)];
         self.at += name.len();
-        if name.is_empty() { Err(self.says("no name stands here")) } else { Ok(name) }
+        if name.is_empty() { Err(self.here("no name stands here")) } else { Ok(name) }
     }
 
-    fn says(&self, what: &str) -> String {
+    fn here(&self, what: &str) -> String {
         format!("byte {}: {what}", self.at)
     }
 
@@ -161,7 +161,7 @@ impl<'a> Reader<'a> {
         let start = self.at - "</".len();
         let name = self.name()?;
         if !self.takes(">") {
-            return Err(self.says("a closing tag does not end"));
+            return Err(self.here("a closing tag does not end"));
         }
         match self.open.pop() {
             Some(mut element) if element.name == name => {
@@ -193,10 +193,10 @@ impl<'a> Reader<'a> {
             let attribute = self.name()?;
             let value = if self.takes("=") { self.value()? } else { Part { text: "", at: self.at } };
             if attribute.starts_with("on") || value.text.trim_ascii_start().starts_with("javascript:") {
-                return Err(self.says("a script"));
+                return Err(self.here("a script"));
             }
             if attributes.iter().any(|(other, _)| *other == attribute) {
-                return Err(self.says(&format!("{attribute} stands twice")));
+                return Err(self.here(&format!("{attribute} stands twice")));
             }
             attributes.push((attribute, value));
         };

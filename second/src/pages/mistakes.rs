@@ -46,6 +46,16 @@ pub const MISTAKES: &[(&str, Wrong)] = &[
         ];
         Some(sheet.with([(bar.rect.range.clone(), String::new()), (other.range.end..other.range.end, moved.concat())]))
     }),
+    ("a bar lies under its band", |sheet, random| {
+        let (bar, drawn) = any(sheet.bars(), random)?;
+        let (range, lane) = (bar.rect.range.clone(), &sheet.page.rows[drawn.day].bands[drawn.lamp - 1].lane.range);
+        let moved = sheet.text[range.clone()].to_string();
+        Some(sheet.with([(range, String::new()), (lane.start..lane.start, moved)]))
+    }),
+    ("a bar is not drawn", |sheet, random| {
+        let name = any(sheet.bars(), random)?.0.rect.range.start + "<rect".len();
+        Some(sheet.with([(name..name, " display='none'".to_string())]))
+    }),
     ("a bar lies beside its band", |sheet, random| {
         let (bar, _) = any(sheet.bars(), random)?;
         Some(sheet.with([(bar.rect.y.range(), "100000".to_string())]))
@@ -140,7 +150,11 @@ pub const MISTAKES: &[(&str, Wrong)] = &[
     }),
     ("not all bands of a day are seen", |sheet, random| {
         let row = any(sheet.page.rows.iter().filter(|row| !row.bands.is_empty()).collect(), random)?;
-        Some(sheet.with([(row.height.range(), "8".to_string())]))
+        Some(sheet.with([(row.seen[3].range(), "8".to_string())]))
+    }),
+    ("a day is drawn smaller than another", |sheet, random| {
+        let row = any(sheet.page.rows.iter().collect(), random)?;
+        Some(sheet.with([(row.seen[2].range(), "2200".to_string())]))
     }),
     ("days are numbered from 0", |sheet, _| {
         let days = sheet.page.rows.iter().enumerate();

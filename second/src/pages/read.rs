@@ -31,8 +31,8 @@ pub struct Label<'a> {
 #[derive(Debug)]
 pub struct Row<'a> {
     pub range: Range<usize>,
-    /// The height of what can be seen of it.
-    pub height: Part<'a>,
+    /// What can be seen of it: 0, 0, its width and its height.
+    pub seen: [Part<'a>; 4],
     pub day: Label<'a>,
     pub bands: Vec<Band<'a>>,
 }
@@ -91,31 +91,40 @@ pub fn read(text: &str) -> Result<Page<'_>, String> {
     let mut page = Page { hours: Vec::new(), rows: Vec::new(), table: table(&all)?, styles, closings };
     let mut width = None;
     for drawing in all.iter().filter(|element| element.name == "svg") {
-        let [left, top, wide, height] = seen(drawing)?;
-        let wide = (left.text, top.text, wide.text);
-        if wide.0 != "0" || wide.1 != "0" || *width.get_or_insert(wide) != wide {
-            return Err(says(drawing, "it is drawn larger or smaller than another, or moved"));
+        let seen = seen(drawing)?;
+        let wide = hundredths(seen[2])?;
+        if *width.get_or_insert(wide) != wide || wide < LEFT + WIDE {
+            return Err(at(drawing, "a day is not all seen, or smaller than another"));
         }
-        page.draw(drawing, height)?;
+        page.draw(drawing, seen)?;
     }
     Ok(page)
 }
 
-/// The four numbers of a drawing that say what is seen of it: from left and top on, so wide and so high.
+/// The four numbers of a drawing that say what is seen of it: from 0 and 0 on, so wide and so high.
 fn seen<'a>(drawing: &Element<'a>) -> Result<[Part<'a>; 4], String> {
-    let part = needed(drawing, "viewBox")?;
-    let words =
-        part.text.split(' ').map(|text| Part { text, at: part.at + text.as_ptr().addr() - part.text.as_ptr().addr() });
-    let words: Vec<Part> = words.collect();
-    words.try_into().map_err(|_| says(drawing, "its viewBox is not four numbers"))
+    let all = needed(drawing, "viewBox")?;
+    let mut next = all.at;
+    let parts = all.text.split(' ').map(|text| {
+        let at = next;
+        next += text.len() + 1;
+        Part { text, at }
+    });
+    match parts.collect::<Vec<Part>>()[..] {
+        [left, top, wide, high] if left.text == "0" && top.text == "0" => Ok([left, top, wide, high]),
+        _ => Err(at(drawing, "its viewBox is not 0, 0, a width and a height")),
+    }
 }
 
+/// What may say so.
+const ELSEWHERE: [&str; 5] = ["transform", "style", "display", "visibility", "opacity"];
+
 impl<'a> Page<'a> {
-    fn draw(&mut self, drawing: &Element<'a>, height: Part<'a>) -> Result<(), String> {
+    fn draw(&mut self, drawing: &Element<'a>, seen: [Part<'a>; 4]) -> Result<(), String> {
         let (mut days, mut lamps, mut lanes, mut bars) = (Vec::new(), Vec::new(), Vec::new(), Vec::new());
         for element in drawing.all() {
-            if element.attribute("transform").is_some() {
-                return Err(says(element, "it is drawn elsewhere than it says"));
+            if let Some((name, _)) = element.attributes().find(|(name, _)| ELSEWHERE.contains(name)) {
+                return Err(at(element, &format!("by its {name} it is drawn elsewhere than it says, or not at all")));
             }
             let title = element.elements().find(|inside| inside.name == "title");
             match (element.name, title) {
@@ -128,19 +137,23 @@ impl<'a> Page<'a> {
                     bars.push(Bar { rect: rect(element)?, title: title.text()?, titled: title.range.clone() })
                 }
                 ("rect", None) => lanes.push(lane(element)?),
-                _ => (),
+                ("svg" | "g" | "title" | "path" | "line", _) => (),
+                _ => return Err(at(element, "it is none of what a page is drawn of")),
             }
         }
         let lowest = lanes.iter().map(|lane| lane.edges.end).max();
-        if lowest > Some(hundredths(height)?) {
-            return Err(says(drawing, "not all of it is seen"));
+        if lowest > Some(hundredths(seen[3])?) {
+            return Err(at(drawing, "not all its bands are seen"));
         }
         let mut bands: Vec<Band> = Vec::new();
         for lane in lanes {
             bands.push(Band { lamp: beside(&lane, &mut lamps)?, lane, bars: Vec::new() });
         }
         for bar in bars {
-            let on = bands.iter_mut().find(|band| bar.rect.edges == band.lane.edges);
+            // what comes later is drawn over what came before
+            let is_over =
+                |band: &&mut Band| bar.rect.edges == band.lane.edges && bar.rect.range.start > band.lane.range.end;
+            let on = bands.iter_mut().find(is_over);
             on.ok_or(format!("byte {}: a bar lies on no band", bar.rect.range.start))?.bars.push(bar);
         }
         for band in &mut bands {
@@ -148,9 +161,9 @@ impl<'a> Page<'a> {
         }
         let range = drawing.range.clone();
         match <[Label; 1]>::try_from(days) {
-            Ok([day]) if lamps.is_empty() => self.rows.push(Row { range, height, day, bands }),
+            Ok([day]) if lamps.is_empty() => self.rows.push(Row { range, seen, day, bands }),
             Err(days) if days.is_empty() && bands.is_empty() && self.rows.is_empty() => (),
-            _ => return Err(says(drawing, "it is neither the hours nor one day")),
+            _ => return Err(at(drawing, "it is neither the hours nor one day")),
         }
         Ok(())
     }
@@ -174,12 +187,12 @@ fn is_colour(fill: &str) -> bool {
     fill.strip_prefix('#').is_some_and(|digits| digits.len() == 6 && digits.bytes().all(is_hex))
 }
 
-fn says(element: &Element, what: &str) -> String {
+fn at(element: &Element, what: &str) -> String {
     format!("byte {}: <{}>: {what}", element.range.start, element.name)
 }
 
 fn needed<'a>(element: &Element<'a>, attribute: &str) -> Result<Part<'a>, String> {
-    element.attribute(attribute).ok_or_else(|| says(element, &format!("it says no {attribute}")))
+    element.attribute(attribute).ok_or_else(|| at(element, &format!("it says no {attribute}")))
 }
 
 fn label<'a>(element: &Element<'a>) -> Result<Label<'a>, String> {
@@ -202,7 +215,7 @@ fn rect<'a>(element: &Element<'a>) -> Result<Rect<'a>, String> {
 fn lane<'a>(element: &Element<'a>) -> Result<Rect<'a>, String> {
     let rect = rect(element)?;
     let is_day = hundredths(rect.x)? == LEFT && hundredths(rect.width)? == WIDE;
-    if is_day { Ok(rect) } else { Err(says(element, "it is no band, and no bar with a title")) }
+    if is_day { Ok(rect) } else { Err(at(element, "it is no band, and no bar with a title")) }
 }
 
 /// Takes the label whose base line is as high as that band.
@@ -215,13 +228,13 @@ fn beside<'a>(lane: &Rect, labels: &mut Vec<Label<'a>>) -> Result<Label<'a>, Str
 fn table<'a>(all: &[&Element<'a>]) -> Result<Table<'a>, String> {
     let place = all.iter().position(|element| element.name == "table").ok_or("there is no table")?;
     if all[place + 1..].iter().any(|element| ["table", "svg"].contains(&element.name)) {
-        return Err(says(all[place], "something stands below it"));
+        return Err(at(all[place], "something stands below it"));
     }
     let rows = all[place].all();
     let mut rows = rows.iter().filter(|element| element.name == "tr");
     let heads = cells(rows.next().ok_or("the table has no row")?)?;
     let total = |row: &&Element<'a>| {
-        let cells = cells(row)?.try_into().map_err(|_| says(row, "it has not four cells"))?;
+        let cells = cells(row)?.try_into().map_err(|_| at(row, "it has not four cells"))?;
         Ok(Total { range: row.range.clone(), cells })
     };
     Ok(Table { heads, totals: rows.map(total).collect::<Result<_, String>>()? })
