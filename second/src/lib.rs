@@ -6,6 +6,7 @@ pub mod burnts;
 pub mod compare;
 pub mod face;
 pub mod logs;
+pub mod pages;
 pub mod reference;
 pub mod replay;
 pub mod tally;

@@ -8,7 +8,7 @@ use crate::face::Lent;
 use crate::logs::every;
 
 /// The form, if there is one, and the log.
-type FormAndLog = (Option<Vec<u8>>, Vec<u8>);
+pub type FormAndLog = (Option<Vec<u8>>, Vec<u8>);
 
 pub const LOGS: [fn() -> FormAndLog; 8] = [
     every_byte,
