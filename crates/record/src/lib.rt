@@ -10,6 +10,7 @@ pub mod inputs;
 pub mod legality;
 pub mod names;
 pub mod own;
+pub mod rooms;
 pub mod refusal;
 pub mod scan;
 pub mod settings;
