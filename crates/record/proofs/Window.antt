@@ -92,7 +92,8 @@ text_filled room s n most long = ⊎_elim inside over (le-or-lt n room)
     inside h =
         let many : length (take n s) ≡ n = length-take-le n s (omega arith) in
         let rule = text_by_tests (take n s) most in
-        grind (arith, common_steps, used_blank is_zero room s n long h, used_not_blank is_zero room s n long h, rule, many)
+        let blank = used_blank is_zero room s n long h in
+        grind (arith, common_steps, blank, used_not_blank is_zero room s n long h, rule, many)
 
     over : room < n → fillsRoom room (isText most) s n
         ≡ (nat_le n most && nat_le n room && (every is_zero (drop n s) && every isTextByte (take n s))
