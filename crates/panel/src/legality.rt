@@ -88,7 +88,7 @@ fn entries_ok(entries: [Entry; PANEL_MOST]) -> bool
     ok
 }
 
-#[tactic(auto, using(record::proofs::RoomsTold::is_some_used), unfolding(crate::specs::LegalPanels::isPanel))]
+#[tactic(auto, using(crate::proofs::PanelsTold::panel_used))]
 pub fn legal(p: Panel) -> bool
     ensures { result ≡ isPanel p }
 {

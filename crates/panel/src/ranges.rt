@@ -46,7 +46,7 @@ fn hours_ok(hours: &[u32; LAMPS_MOST], count: usize) -> bool
     rooms::used(hours, count).is_some_and(|used| scan::numbers_within(used, HOURS_MOST))
 }
 
-#[tactic(auto, using(record::proofs::RoomsTold::is_some_used), unfolding(crate::specs::LegalPanels::isLitRoom))]
+#[tactic(auto, using(crate::proofs::PanelsTold::lit_used))]
 fn lit_ok(lit: &[bool; LAMPS_MOST], count: usize) -> bool
     requires { count ≤ lampsCarried }
     ensures { result ≡ isLitRoom lit.now count }
