@@ -1,6 +1,5 @@
 // The legality of the panel, a function a part.
-ghost use Rattle.std.specs.Prelude.{◌≡◌, drop};
-ghost use Rattle.text.specs.Scans.{every};
+ghost use Rattle.std.specs.Prelude.{◌≡◌};
 ghost use Rattle.lines.specs.Texts.{isPassword};
 ghost use Rattle.record.specs.Legal.{fillsTextRoom};
 ghost use Rattle.codes.specs.Commands.{commandOf};
@@ -13,22 +12,16 @@ use crate::types::{Entry, GREETED_SECURED, PANEL_MOST, Panel, STRAYS_MOST, UNGRE
 use codes::command;
 use codes::command::{Coded, MaybeCommand};
 use lines::texts;
-use record::scan;
-use record::types::{TEXT_ROOM, Text};
+use record::rooms;
+use record::rooms::Blank;
+use record::types::Text;
 
 // 0 to 32 letters and digits, in their room: those that the controller's writer takes.
-fn password_ok(t: Text) -> bool
-    ensures { result ≡ fillsTextRoom isPassword t }
+#[tactic(auto, using(record::proofs::RoomsTold::fills_used))]
+fn password_ok(t: &Text) -> bool
+    ensures { result ≡ fillsTextRoom isPassword t.now }
 {
-    let bytes = t.bytes;
-    let len = t.len;
-    if TEXT_ROOM < len {
-        return false;
-    }
-    if !scan::clear_from(&bytes, len) {
-        return false;
-    }
-    texts::is_password(&bytes[0..len])
+    rooms::used(&t.bytes, t.len).is_some_and(|s| texts::is_password(s))
 }
 
 fn is_named(k: Coded) -> bool
@@ -66,20 +59,22 @@ fn talk_ok(e: Entry) -> bool
 fn entry_ok(e: Entry) -> bool
     ensures { result ≡ isEntry e }
 {
-    password_ok(e.password) & talk_ok(e) & ranges::shown_ok(e) & (e.strays <= STRAYS_MOST)
+    password_ok(&e.password) & talk_ok(e) & ranges::shown_ok(e) & (e.strays <= STRAYS_MOST)
 }
 
 // Nothing is kept in the entry.
-#[tactic(auto, unfolding(crate::specs::LegalPanels::isUnused))]
-fn is_unused(e: Entry) -> bool
-    ensures { result ≡ isUnused e }
-{
-    (e.password.len == 0)
-        & (e.greeting == UNGREETED)
-        & !e.power_known
-        & !e.input_known
-        & !e.lamps_known
-        & (e.strays == 0)
+impl Blank for Entry {
+    ghost blank = { isUnused };
+
+    #[tactic(auto, unfolding(crate::specs::LegalPanels::isUnused))]
+    fn is_blank(&self) -> bool {
+        (self.password.len == 0)
+            & (self.greeting == UNGREETED)
+            & !self.power_known
+            & !self.input_known
+            & !self.lamps_known
+            & (self.strays == 0)
+    }
 }
 
 #[tactic(auto, unfolding(crate::specs::LegalPanels::isEntries))]
@@ -93,21 +88,10 @@ fn entries_ok(entries: [Entry; PANEL_MOST]) -> bool
     ok
 }
 
-fn unused_from(entries: [Entry; PANEL_MOST], count: usize) -> bool
-    ensures { result ≡ every isUnused (drop count entries) }
-{
-    let mut ok = true;
-    for i in count..PANEL_MOST {
-        ok = ok & is_unused(entries[i]);
-    }
-    ok
-}
-
-#[tactic(auto, unfolding(crate::specs::LegalPanels::isPanel))]
+#[tactic(auto, using(crate::proofs::PanelsTold::panel_used))]
 pub fn legal(p: Panel) -> bool
     ensures { result ≡ isPanel p }
 {
-    let count = p.count;
     let entries = p.entries;
-    (count <= PANEL_MOST) & entries_ok(entries) & unused_from(entries, count)
+    rooms::used(&entries, p.count).is_some() && entries_ok(entries)
 }

@@ -1,13 +1,13 @@
 // What is shown is in the reader's range, and what is not known is zero.
-ghost use Rattle.std.specs.Prelude.{◌≡◌};
+ghost use Rattle.std.specs.Prelude.{◌≡◌, ◌≤◌};
 ghost use Rattle.record.specs.Legal.{fillsRoom};
 ghost use Rattle.answers.specs.Carried.{lampsCarried};
 ghost use Rattle.panel.specs.Entries.{shownOf};
 ghost use Rattle.panel.specs.LegalPanels.{isPowerShown, isInputShown, isLampCount, isHours};
-ghost use Rattle.panel.specs.LegalPanels.{isLampsShown, isShown};
+ghost use Rattle.panel.specs.LegalPanels.{isLitRoom, isLampsShown, isShown};
 
 use crate::types::{Entry, HOURS_MOST, LAMPS_MOST};
-use record::own;
+use record::{rooms, scan};
 
 #[tactic(auto, unfolding(crate::specs::LegalPanels::isPowerShown))]
 fn power_ok(known: bool, power: u8) -> bool
@@ -39,28 +39,27 @@ fn lamp_count_ok(known: bool, count: usize) -> bool
     count == 0
 }
 
-fn hours_ok(hours: [u32; LAMPS_MOST], count: usize) -> bool
-    ensures { result ≡ fillsRoom lampsCarried isHours hours count }
+#[tactic(auto, using(record::proofs::RoomsTold::fills_used))]
+fn hours_ok(hours: &[u32; LAMPS_MOST], count: usize) -> bool
+    ensures { result ≡ fillsRoom lampsCarried isHours hours.now count }
 {
-    if LAMPS_MOST < count {
-        return false;
-    }
-    let mut ok = true;
-    for (i, h) in hours.iter().enumerate() {
-        let used = i < count;
-        ok = ok & ((used & (*h <= HOURS_MOST)) | (!used & (*h == 0)));
-    }
-    ok
+    rooms::used(hours, count).is_some_and(|used| scan::numbers_within(used, HOURS_MOST))
 }
 
-#[tactic(auto, unfolding(crate::specs::LegalPanels::isLampsShown, crate::specs::LegalPanels::isLitRoom))]
-fn lamps_ok(e: Entry) -> bool
-    ensures { result ≡ isLampsShown e.lamps_known e.lamp_count e.hours e.lit }
+#[tactic(auto, using(crate::proofs::PanelsTold::lit_used))]
+fn lit_ok(lit: &[bool; LAMPS_MOST], count: usize) -> bool
+    requires { count ≤ lampsCarried }
+    ensures { result ≡ isLitRoom lit.now count }
+{
+    rooms::used(lit, count).is_some()
+}
+
+#[tactic(auto, using(record::proofs::RoomsTold::fills_inside), unfolding(crate::specs::LegalPanels::isLampsShown))]
+fn lamps_ok(e: &Entry) -> bool
+    ensures { result ≡ isLampsShown e.now.lamps_known e.now.lamp_count e.now.hours e.now.lit }
 {
     let count = e.lamp_count;
-    let hours = e.hours;
-    let lit = e.lit;
-    lamp_count_ok(e.lamps_known, count) & hours_ok(hours, count) & own::none_marked(&lit, count)
+    lamp_count_ok(e.lamps_known, count) && hours_ok(&e.hours, count) && lit_ok(&e.lit, count)
 }
 
 #[tactic(auto, unfolding(crate::specs::LegalPanels::isShown))]
@@ -69,5 +68,5 @@ pub fn shown_ok(e: Entry) -> bool
 {
     power_ok(e.power_known, e.power)
         & input_ok(e.input_known, e.input_type, e.input_number)
-        & lamps_ok(e)
+        & lamps_ok(&e)
 }

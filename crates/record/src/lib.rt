@@ -11,6 +11,7 @@ pub mod legality;
 pub mod names;
 pub mod own;
 pub mod refusal;
+pub mod rooms;
 pub mod scan;
 pub mod settings;
 pub mod theorems;
