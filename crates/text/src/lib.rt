@@ -5,8 +5,8 @@ ghost use Rattle.std.specs.Prelude.{◌≡◌, ◌+◌, ◌≤◌, length};
 ghost use Rattle.std.proofs.lemmas.List.Edits.{sets};
 ghost use Rattle.text.specs.Scans.{sameBy, itself};
 
-/// All of `src` into `out`, from the place `at` on. A byte at a time: of two lent memories the compiler cannot know that
-/// they lie apart, so `copy_from_slice` would be `memmove`, which the archive does not ask a host for.
+/// All of `src` into `out`, from the place `at` on. A byte at a time: the compiler cannot know that two lent memories
+/// lie apart, so `copy_from_slice` would be `memmove`, which the archive does not ask a host for.
 pub fn put(out: &mut [u8], at: usize, src: &[u8])
     requires { at + length src.now ≤ length out.old }
     ensures { out.new ≡ sets out.old at src.now }
