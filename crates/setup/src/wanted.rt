@@ -1,0 +1,149 @@
+// What set-up is lent, and whether it can be set up (RULES, The legal record).
+ghost use Rattle.std.specs.Prelude.{◌≡◌};
+ghost use Rattle.record.specs.SetUp.{isSettingInRange, setUp};
+ghost use Rattle.record.specs.OutOfRange.{firstOutOfRange, refusedSetting};
+ghost use Rattle.record.specs.Wanted.{namesIn};
+ghost use Rattle.setup.specs.Asked.{asked, class_of, serial_of, version_of, names_of};
+ghost use Rattle.setup.specs.Told.{number_told, setting_told};
+
+use crate::error::SetUpError;
+use lines::texts;
+use record::types::Setting;
+use record::{inputs, names, own, settings};
+
+/// Texts one after the other in a row of bytes, each of its length (RULES, Class 2). Lengths that do not add up to the
+/// row name nothing.
+#[derive(Clone, Copy)]
+pub struct Names<'a> {
+    pub bytes: &'a [u8],
+    pub lengths: &'a [usize],
+}
+
+/// The class of a projector, with what it alone has (RULES, Class 2).
+#[derive(Clone, Copy)]
+pub enum Class<'a> {
+    One,
+    /// Serial number and software version, each of at most 32 bytes, and a name of at most 128 bytes for each input.
+    Two {
+        serial: &'a [u8],
+        version: &'a [u8],
+        names: Names<'a>,
+    },
+}
+
+/// The settings that a projector is to have (RULES, The legal record).
+#[derive(Clone, Copy)]
+pub struct Wanted<'a> {
+    /// At most 64 bytes, in UTF-8.
+    pub name: &'a [u8],
+    /// At most 32 bytes, as `model` and `other`.
+    pub maker: &'a [u8],
+    pub model: &'a [u8],
+    pub other: &'a [u8],
+    /// None, which is no security, or 8 to 32 ASCII letters and digits (RULES, Passwords).
+    pub password: &'a [u8],
+    /// 1 to 32 inputs of the class, all different: two ASCII characters each (RULES, Inputs).
+    pub inputs: &'a [u8],
+    /// The starting seconds of 0 to 8 lamps (RULES, Lamps).
+    pub lamps: &'a [u32],
+    /// The seconds of warm-up, 1 to 600.
+    pub warm: u32,
+    /// The seconds of cooling, 1 to 600.
+    pub cool: u32,
+    pub class: Class<'a>,
+}
+
+impl<'a> Class<'a> {
+    /// 1 or 2.
+    pub fn number(&self) -> u8
+        ensures { result ≡ class_of self.now }
+    {
+        match self {
+            Class::One => 1,
+            Class::Two { .. } => 2,
+        }
+    }
+
+    /// The serial number; none in Class 1.
+    pub fn serial(&self) -> &'a [u8]
+        ensures { result.now ≡ serial_of self.now }
+    {
+        match *self {
+            Class::One => &[],
+            Class::Two { serial, .. } => serial,
+        }
+    }
+
+    /// The software version; none in Class 1.
+    pub fn version(&self) -> &'a [u8]
+        ensures { result.now ≡ version_of self.now }
+    {
+        match *self {
+            Class::One => &[],
+            Class::Two { version, .. } => version,
+        }
+    }
+
+    /// The inputs' names; none in Class 1.
+    pub fn names(&self) -> Names<'a>
+        ensures { namesIn result.lengths.now result.bytes.now ≡ names_of self.now }
+    {
+        match *self {
+            Class::One => Names {
+                bytes: &[],
+                lengths: &[],
+            },
+            Class::Two { names, .. } => names,
+        }
+    }
+}
+
+impl<'a> Wanted<'a> {
+    fn is_in_range(&self, setting: Setting) -> bool
+        ensures { result ≡ isSettingInRange (asked self.now) setting }
+    {
+        let class = self.class.number();
+        match setting {
+            Setting::Name => texts::is_name(self.name),
+            Setting::Maker => texts::is_info(self.maker),
+            Setting::Model => texts::is_info(self.model),
+            Setting::Other => texts::is_info(self.other),
+            Setting::Password => texts::is_password(self.password),
+            Setting::Inputs => inputs::inputs_ok(class, self.inputs),
+            Setting::Lamps => own::lamps_ok(self.lamps),
+            Setting::WarmUp => settings::stretch_ok(self.warm),
+            Setting::Cooling => settings::stretch_ok(self.cool),
+            Setting::Serial => names::info_fits(class, self.class.serial()),
+            Setting::Version => names::info_fits(class, self.class.version()),
+            Setting::Names => {
+                let row = self.class.names();
+                names::names_fit(class, self.inputs.len() / 2, row.bytes, row.lengths)
+            }
+        }
+    }
+
+    /// The first setting that is out of its range: a short password is in its.
+    pub fn first_out_of_range(&self) -> Option<Setting>
+        ensures { result ≡ firstOutOfRange (asked self.now) }
+    {
+        Setting::IN_ORDER
+            .iter()
+            .copied()
+            .find(|s| !self.is_in_range(*s))
+    }
+
+    /// Whether this can be set up, and else why not: 3 before 8.
+    #[tactic(auto, using(crate::proofs::Refusals::numbers))]
+    pub fn check(&self) -> Result<(), SetUpError>
+        ensures number { number_told result ≡ (setUp (asked self.now)).number }
+        ensures setting { setting_told result ≡ refusedSetting (asked self.now) }
+    {
+        if let Some(setting) = self.first_out_of_range() {
+            return Err(SetUpError::OutOfRange(setting));
+        }
+        if !settings::long_enough(self.password.len()) {
+            return Err(SetUpError::ShortPassword);
+        }
+        Ok(())
+    }
+}
