@@ -11,19 +11,19 @@ use Rattle.setup.specs.declared.wanted.Wanted.{Wanted as Lent}
 
 abbrev pub class_of : Class → ℕ
 class_of One = 1
-class_of (Two serial version names) = 2
+class_of (Two serial version names lengths) = 2
 
 abbrev pub serial_of : Class → List ℕ
 serial_of One = []
-serial_of (Two serial version names) = serial.now
+serial_of (Two serial version names lengths) = serial.now
 
 abbrev pub version_of : Class → List ℕ
 version_of One = []
-version_of (Two serial version names) = version.now
+version_of (Two serial version names lengths) = version.now
 
 abbrev pub names_of : Class → List (List ℕ)
 names_of One = []
-names_of (Two serial version names) = namesIn names.lengths.now names.bytes.now
+names_of (Two serial version names lengths) = namesIn lengths.now names.now
 
 abbrev pub asked : Lent → Wanted
 asked w =

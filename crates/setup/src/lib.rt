@@ -25,7 +25,7 @@ fn settings_of(wanted: &Wanted<'_>) -> Settings
 {
     let class = wanted.class.number();
     let input_count = wanted.inputs.len() / 2;
-    let names = wanted.class.names();
+    let (names, lengths) = wanted.class.names();
     Settings {
         name: fill::text_of(wanted.name),
         maker: fill::text_of(wanted.maker),
@@ -41,8 +41,8 @@ fn settings_of(wanted: &Wanted<'_>) -> Settings
         serial: fill::text_of(wanted.class.serial()),
         version: fill::text_of(wanted.class.version()),
         names: fill::names_of(
-            names.bytes,
-            names.lengths,
+            names,
+            lengths,
             class::only_in_2(class, input_count),
         ),
     }

@@ -11,23 +11,17 @@ use lines::texts;
 use record::types::Setting;
 use record::{inputs, names, own, settings};
 
-/// Texts one after the other in a row of bytes, each of its length (RULES, Class 2). Lengths that do not add up to the
-/// row name nothing.
-#[derive(Clone, Copy)]
-pub struct Names<'a> {
-    pub bytes: &'a [u8],
-    pub lengths: &'a [usize],
-}
-
 /// The class of a projector, with what it alone has (RULES, Class 2).
 #[derive(Clone, Copy)]
 pub enum Class<'a> {
     One,
-    /// Serial number and software version, each of at most 32 bytes, and a name of at most 128 bytes for each input.
+    /// Serial number and software version, each of at most 32 bytes, and a name of at most 128 bytes for each input:
+    /// the names one after the other, each of its length. Lengths that do not add up to their bytes name nothing.
     Two {
         serial: &'a [u8],
         version: &'a [u8],
-        names: Names<'a>,
+        names: &'a [u8],
+        lengths: &'a [usize],
     },
 }
 
@@ -84,16 +78,13 @@ impl<'a> Class<'a> {
         }
     }
 
-    /// The inputs' names; none in Class 1.
-    pub fn names(&self) -> Names<'a>
-        ensures { namesIn result.lengths.now result.bytes.now ≡ names_of self.now }
+    /// The inputs' names one after the other, and their lengths; none in Class 1.
+    pub fn names(&self) -> (&'a [u8], &'a [usize])
+        ensures { namesIn result.1.now result.0.now ≡ names_of self.now }
     {
         match *self {
-            Class::One => Names {
-                bytes: &[],
-                lengths: &[],
-            },
-            Class::Two { names, .. } => names,
+            Class::One => (&[], &[]),
+            Class::Two { names, lengths, .. } => (names, lengths),
         }
     }
 }
@@ -116,8 +107,8 @@ impl<'a> Wanted<'a> {
             Setting::Serial => names::info_fits(class, self.class.serial()),
             Setting::Version => names::info_fits(class, self.class.version()),
             Setting::Names => {
-                let row = self.class.names();
-                names::names_fit(class, self.inputs.len() / 2, row.bytes, row.lengths)
+                let (row, lengths) = self.class.names();
+                names::names_fit(class, self.inputs.len() / 2, row, lengths)
             }
         }
     }

@@ -3,6 +3,7 @@ pub mod MarkBytes
 pub mod MarksKept
 pub mod Texts
 pub mod Walked
+pub mod DeviceMade
 pub mod Contents
 pub mod Cases
 pub mod Results
