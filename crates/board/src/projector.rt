@@ -6,7 +6,7 @@ ghost use Rattle.record.specs.Legal.{isLegal};
 ghost use Rattle.record.specs.Wanted.{wantedOf, wantedOf2, namesIn};
 ghost use Rattle.record.specs.SetUp.{setUp};
 ghost use Rattle.record.specs.HostCalls.{faultSet, errorsSet, markSet};
-ghost use Rattle.setup.specs.Told.{told as set_up_told};
+ghost use Rattle.setup.specs.Told.{set_up_told};
 ghost use Rattle.clock.specs.Passing.{passed};
 ghost use Rattle.device.specs.Calls.{received, openedBy, placeTaken, closedBy};
 ghost use Rattle.device.specs.Outcomes.{told};
@@ -39,15 +39,15 @@ fn fill(device: &mut Device, made: Result<Device, SetUpError>) -> u32
 
 /// Set-up of Class 1 into the record: 3, then 8.
 #[unsafe(no_mangle)]
-pub extern "C" fn pj_set_up_in_place(
+pub extern "C" fn pj_set_up_in_place<'a>(
     device: &mut Device,
-    name: &[u8],
-    maker: &[u8],
-    model: &[u8],
-    other: &[u8],
-    password: &[u8],
-    inputs: &[u8],
-    lamps: &[u32],
+    name: &'a [u8],
+    maker: &'a [u8],
+    model: &'a [u8],
+    other: &'a [u8],
+    password: &'a [u8],
+    inputs: &'a [u8],
+    lamps: &'a [u32],
     warm: u32,
     cool: u32,
 ) -> u32
@@ -74,21 +74,21 @@ pub extern "C" fn pj_set_up_in_place(
 
 /// Set-up of Class 2 into the record: the names one after the other, each of its length. 3, then 8.
 #[unsafe(no_mangle)]
-pub extern "C" fn pj_set_up_2_in_place(
+pub extern "C" fn pj_set_up_2_in_place<'a>(
     device: &mut Device,
-    name: &[u8],
-    maker: &[u8],
-    model: &[u8],
-    other: &[u8],
-    password: &[u8],
-    inputs: &[u8],
-    lamps: &[u32],
+    name: &'a [u8],
+    maker: &'a [u8],
+    model: &'a [u8],
+    other: &'a [u8],
+    password: &'a [u8],
+    inputs: &'a [u8],
+    lamps: &'a [u32],
     warm: u32,
     cool: u32,
-    serial: &[u8],
-    version: &[u8],
-    names: &[u8],
-    lengths: &[usize],
+    serial: &'a [u8],
+    version: &'a [u8],
+    names: &'a [u8],
+    lengths: &'a [usize],
 ) -> u32
     ensures number { result ≡ (setUp (wantedOf2 name.now maker.now model.now other.now
         password.now inputs.now lamps.now warm cool serial.now

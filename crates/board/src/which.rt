@@ -21,14 +21,14 @@ fn number_of(checked: Result<(), SetUpError>) -> u32
 /// 0 where set-up gives 0; the place of the first setting that is out of its range where it gives 3; the password's
 /// where it gives 8 (RULES, Passwords).
 #[unsafe(no_mangle)]
-pub extern "C" fn pj_which_setting(
-    name: &[u8],
-    maker: &[u8],
-    model: &[u8],
-    other: &[u8],
-    password: &[u8],
-    inputs: &[u8],
-    lamps: &[u32],
+pub extern "C" fn pj_which_setting<'a>(
+    name: &'a [u8],
+    maker: &'a [u8],
+    model: &'a [u8],
+    other: &'a [u8],
+    password: &'a [u8],
+    inputs: &'a [u8],
+    lamps: &'a [u32],
     warm: u32,
     cool: u32,
 ) -> u32

@@ -2,8 +2,8 @@
 // and lamps' marks. Of a record that is lent: what the call says, what lies there afterwards, and the memory.
 ghost use Rattle.std.specs.Prelude.{◌≡◌};
 ghost use Rattle.record.specs.Refusals.{outcome_number};
-ghost use Rattle.setup.specs.Asked.{asked};
-ghost use Rattle.setup.specs.Told.{told};
+ghost use Rattle.setup.specs.Lent.{wanted_settings};
+ghost use Rattle.setup.specs.Told.{set_up_told};
 ghost use Rattle.device.specs.Outcomes.{receiving_told, opening_told, opened_place};
 ghost use Rattle.ours.specs.Board.{ours, givenBy};
 ghost use Rattle.ours.specs.Tied.{given_as, lent_as};
@@ -17,7 +17,7 @@ use setup::error::SetUpError;
 use setup::wanted::Wanted;
 
 pub fn set_up(wanted: &Wanted<'_>) -> Result<Device, SetUpError>
-    ensures { givenBy (told result) ≡ ours.set-up (asked wanted.now) }
+    ensures { givenBy (set_up_told result) ≡ ours.set-up (wanted_settings wanted.now) }
 {
     setup::set_up(wanted)
 }

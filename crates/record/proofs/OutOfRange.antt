@@ -11,7 +11,7 @@ use lib.Dec.{ltb, eqb}
 use borrow.Author.Tests.{ltb-true, ltb-false, not-false}
 use Rattle.std.specs.Prelude.{not, Option, Some, None, if◌then◌else◌}
 use Rattle.text.specs.Scans.{every}
-use Rattle.text.proofs.Choices.{if_yes, if_no, if-by, both, both_left, both_right}
+use Rattle.text.proofs.Choices.{if_no, if-by, both, both_left, both_right}
 use Rattle.text.proofs.OneResult.{one-result}
 use Rattle.record.specs.Wanted.{Wanted}
 use Rattle.record.specs.SetUp.{settingsInOrder, isSettingInRange, isInRange, isSetUp}

@@ -1,6 +1,6 @@
 -- Settings that can be set up fit their rooms.
 -- Assumes nothing.
-use Rattle.std.proofs.Common.{◌≡◌, ℕ, ◌/◌, ◌≤◌, true, length, arith}
+use Rattle.std.proofs.Common.{◌≡◌, ◌/◌, ◌≤◌, true, length, arith}
 use Rattle.lines.specs.Texts.{infoMost}
 use Rattle.lines.proofs.TextsTold.{name-long, info-long, password-long}
 use Rattle.record.specs.Limits.{textRoom, inputRoom, listedMost, lampsMost, onlyIn2}
@@ -9,14 +9,14 @@ use Rattle.record.specs.Rules.{areNames}
 use Rattle.record.specs.SetUp.{isSetUp}
 use Rattle.record.specs.declared.types.Setting.TheVariants.{Name, Maker, Model, Other, Password, Inputs, Lamps}
 use Rattle.record.specs.declared.types.Setting.TheVariants.{Serial, Version, Names}
-use Rattle.setup.specs.Asked.{asked}
+use Rattle.setup.specs.Lent.{wanted_settings}
 use Rattle.setup.specs.declared.wanted.Wanted.{Wanted as Lent}
 use Rattle.record.proofs.Rules.{inputs-few, lamps-few, only-in-2-within, text-most}
 use Rattle.record.proofs.OutOfRange.{each-in-range}
 
-module _ (v : Lent) (h : isSetUp (asked v) ≡ true) where
+module _ (v : Lent) (h : isSetUp (wanted_settings v) ≡ true) where
   abbrev w : Wanted
-  w = asked v
+  w = wanted_settings v
 
   pub name_fits : length w.name ≤ textRoom
   name_fits = name-long _ (each-in-range w h Name)

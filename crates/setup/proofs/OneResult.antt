@@ -1,19 +1,20 @@
 -- The two clauses of set-up leave one result: its number and its record, and the setting for which it refuses.
 -- Assumes nothing.
-use Rattle.std.proofs.Common.{◌≡◌, ℕ, Option, Some, None, Result, Ok, Err, refl, sym, ap, ◌∙◌, arith}
+use Rattle.std.proofs.Common.{◌≡◌, Option, Some, None, Result, Ok, Err, refl, ap, arith}
 use Rattle.record.specs.declared.types.Changed.{Changed}
 use Rattle.record.specs.declared.types.Device.{Device}
 use Rattle.record.specs.declared.types.Setting.{Setting}
 use Rattle.setup.specs.declared.error.SetUpError.{SetUpError}
 use Rattle.setup.specs.declared.error.SetUpError.TheVariants.{OutOfRange, ShortPassword}
-use Rattle.setup.specs.Told.{told, setting_told}
+use Rattle.setup.specs.Told.{set_up_told, setting_told}
 
 -- the setting that an error's payload is told by
 abbrev payload : Option Setting → Setting → Setting
 payload (Some s) t = s
 payload None t = t
 
-pub one_by_told : (r s : Result Device SetUpError) → told r ≡ told s → setting_told r ≡ setting_told s → r ≡ s
+pub one_by_told : (r s : Result Device SetUpError) → set_up_told r ≡ set_up_told s
+    → setting_told r ≡ setting_told s → r ≡ s
 one_by_told (Ok d) (Ok b) e f = ap Ok (ap (λ (c : Changed). c.device) e)
 one_by_told (Ok d) (Err (OutOfRange t)) e f = absurd (omega (arith, ap (λ (c : Changed). c.number) e))
 one_by_told (Ok d) (Err ShortPassword) e f = absurd (omega (arith, ap (λ (c : Changed). c.number) e))

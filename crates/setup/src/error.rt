@@ -1,6 +1,6 @@
 // Why a set-up is refused (RULES, The numbers a call gives and Passwords).
 ghost use Rattle.std.specs.Prelude.{◌≡◌};
-ghost use Rattle.setup.specs.Told.{error_number, setting_of};
+ghost use Rattle.setup.specs.Told.{set_up_error_number, setting_of};
 
 use record::types::Setting;
 
@@ -16,7 +16,7 @@ pub enum SetUpError {
 impl SetUpError {
     /// The number that a host is given.
     pub fn number(self) -> u32
-        ensures { result ≡ error_number self }
+        ensures { result ≡ set_up_error_number self }
     {
         match self {
             SetUpError::OutOfRange(_) => 3,

@@ -10,8 +10,8 @@ ghost use Rattle.std.specs.Prelude.{◌≡◌, true};
 ghost use Rattle.record.specs.Record.{settingsOf};
 ghost use Rattle.record.specs.SetUp.{isSetUp, setUp};
 ghost use Rattle.record.specs.OutOfRange.{refusedSetting};
-ghost use Rattle.setup.specs.Asked.{asked};
-ghost use Rattle.setup.specs.Told.{told, setting_told};
+ghost use Rattle.setup.specs.Lent.{wanted_settings};
+ghost use Rattle.setup.specs.Told.{set_up_told, setting_told};
 
 use crate::error::SetUpError;
 use crate::wanted::Wanted;
@@ -20,8 +20,8 @@ use record::{class, fresh};
 
 #[tactic(auto, using(crate::proofs::Fits::fits))]
 fn settings_of(wanted: &Wanted<'_>) -> Settings
-    requires { isSetUp (asked wanted.now) ≡ true }
-    ensures { result ≡ settingsOf (asked wanted.now) }
+    requires { isSetUp (wanted_settings wanted.now) ≡ true }
+    ensures { result ≡ settingsOf (wanted_settings wanted.now) }
 {
     let class = wanted.class.number();
     let input_count = wanted.inputs.len() / 2;
@@ -52,8 +52,8 @@ fn settings_of(wanted: &Wanted<'_>) -> Settings
 /// range, else where the password is too short (RULES, The numbers a call gives and Passwords).
 #[tactic(auto, using(crate::proofs::Refusals::outcomes))]
 pub fn set_up(wanted: &Wanted<'_>) -> Result<Device, SetUpError>
-    ensures made { told result ≡ setUp (asked wanted.now) }
-    ensures setting { setting_told result ≡ refusedSetting (asked wanted.now) }
+    ensures made { set_up_told result ≡ setUp (wanted_settings wanted.now) }
+    ensures setting { setting_told result ≡ refusedSetting (wanted_settings wanted.now) }
 {
     wanted.check()?;
     Ok(Device {

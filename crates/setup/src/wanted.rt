@@ -3,8 +3,8 @@ ghost use Rattle.std.specs.Prelude.{◌≡◌};
 ghost use Rattle.record.specs.SetUp.{isSettingInRange, setUp};
 ghost use Rattle.record.specs.OutOfRange.{firstOutOfRange, refusedSetting};
 ghost use Rattle.record.specs.Wanted.{namesIn};
-ghost use Rattle.setup.specs.Asked.{asked, class_of, serial_of, version_of, names_of};
-ghost use Rattle.setup.specs.Told.{number_told, setting_told};
+ghost use Rattle.setup.specs.Lent.{wanted_settings, class_number, serial_of, version_of, names_of};
+ghost use Rattle.setup.specs.Told.{set_up_number, setting_told};
 
 use crate::error::SetUpError;
 use lines::texts;
@@ -50,7 +50,7 @@ pub struct Wanted<'a> {
 impl<'a> Class<'a> {
     /// 1 or 2.
     pub fn number(&self) -> u8
-        ensures { result ≡ class_of self.now }
+        ensures { result ≡ class_number self.now }
     {
         match self {
             Class::One => 1,
@@ -91,7 +91,7 @@ impl<'a> Class<'a> {
 
 impl<'a> Wanted<'a> {
     fn is_in_range(&self, setting: Setting) -> bool
-        ensures { result ≡ isSettingInRange (asked self.now) setting }
+        ensures { result ≡ isSettingInRange (wanted_settings self.now) setting }
     {
         let class = self.class.number();
         match setting {
@@ -115,7 +115,7 @@ impl<'a> Wanted<'a> {
 
     /// The first setting that is out of its range: a short password is in its.
     pub fn first_out_of_range(&self) -> Option<Setting>
-        ensures { result ≡ firstOutOfRange (asked self.now) }
+        ensures { result ≡ firstOutOfRange (wanted_settings self.now) }
     {
         Setting::IN_ORDER
             .iter()
@@ -126,8 +126,8 @@ impl<'a> Wanted<'a> {
     /// Whether this can be set up, and else why not: 3 before 8.
     #[tactic(auto, using(crate::proofs::Refusals::numbers))]
     pub fn check(&self) -> Result<(), SetUpError>
-        ensures number { number_told result ≡ (setUp (asked self.now)).number }
-        ensures setting { setting_told result ≡ refusedSetting (asked self.now) }
+        ensures number { set_up_number result ≡ (setUp (wanted_settings self.now)).number }
+        ensures setting { setting_told result ≡ refusedSetting (wanted_settings self.now) }
     {
         if let Some(setting) = self.first_out_of_range() {
             return Err(SetUpError::OutOfRange(setting));

@@ -1,18 +1,19 @@
 -- The device that set-up gives, or none where it is refused.
 -- Assumes nothing.
-use Rattle.std.proofs.Common.{◌≡◌, Bool, true, false, Option, Some, None, Result, Ok, Err, sym, ap, refl, ◌∙◌, arith, if◌then◌else◌}
+use Rattle.std.proofs.Common.{◌≡◌, Bool, true, false, Option, Some, None, Result, Ok, Err, sym, ap, refl, ◌∙◌, arith}
+use Rattle.std.proofs.Common.{if◌then◌else◌}
 use Rattle.std.specs.Result.{result_ok}
 use Rattle.std.proofs.lemmas.Option.{none-some}
 use Rattle.text.proofs.Choices.{if_yes, if_no, by-not}
 use Rattle.record.specs.Wanted.{Wanted}
-use Rattle.record.specs.Record.{started, accepted}
+use Rattle.record.specs.Record.{started}
 use Rattle.record.specs.SetUp.{isSetUp, setUp}
 use Rattle.record.specs.declared.types.Changed.{Changed}
 use Rattle.record.specs.declared.types.Device.{Device}
 use Rattle.record.proofs.Calls.{set-up-accepted, set-up-in-range}
 use Rattle.setup.specs.declared.error.SetUpError.{SetUpError}
 use Rattle.setup.specs.declared.error.SetUpError.TheVariants.{OutOfRange, ShortPassword}
-use Rattle.setup.specs.Told.{told}
+use Rattle.setup.specs.Told.{set_up_told}
 use Rattle.stored.specs.Loading.{device_of}
 
 abbrev value : Option Device → Device → Device
@@ -27,7 +28,7 @@ module _ (w : Wanted) where
   accepted-number : isSetUp w ≡ true → (setUp w).number ≡ 0
   accepted-number h = ap (λ (r : Changed). r.number) (set-up-accepted w h)
 
-  pub device-made : (r : Result Device SetUpError) → told r ≡ setUp w → result_ok r ≡ device_of w
+  pub device-made : (r : Result Device SetUpError) → set_up_told r ≡ setUp w → result_ok r ≡ device_of w
   device-made (Ok d) e =
       let h = set-up-in-range w (ap (λ (r : Changed). r.number) (sym e)) in
       ap Some (ap (λ (r : Changed). r.device) (e ∙ set-up-accepted w h)) ∙ sym (if_yes _ _ h)

@@ -7,6 +7,7 @@ pub mod DeviceMade
 pub mod Contents
 pub mod Cases
 pub mod Results
+pub mod OneOutcome
 pub mod Sections
 pub mod Joined
 pub mod TextsCopied

@@ -1,6 +1,6 @@
 // Why a stored form does not load (RULES, Stored form).
 ghost use Rattle.std.specs.Prelude.{◌≡◌};
-ghost use Rattle.stored.specs.Told.{error_number};
+ghost use Rattle.stored.specs.Told.{load_error_number};
 
 /// Why a stored form does not load: the first that holds. Nothing of it is then kept.
 #[derive(Clone, Copy)]
@@ -18,7 +18,7 @@ pub enum LoadError {
 impl LoadError {
     /// The number that a host is given.
     pub fn number(self) -> u32
-        ensures { result ≡ error_number self }
+        ensures { result ≡ load_error_number self }
     {
         match self {
             LoadError::OtherVersion => 20,

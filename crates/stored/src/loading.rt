@@ -4,12 +4,12 @@ ghost use Rattle.lines.specs.Bytes.{◌at◌};
 ghost use Rattle.record.specs.Updates.{withOwn, withMarks};
 ghost use Rattle.record.specs.Record.{blank, accepted, refused};
 ghost use Rattle.record.specs.Legal.{isLegal};
-ghost use Rattle.setup.specs.Asked.{class_of, serial_of, version_of, names_of};
+ghost use Rattle.setup.specs.Lent.{class_number, serial_of, version_of, names_of};
 ghost use Rattle.stored.specs.Loading.{isOtherVersion, Walked, isMarked};
 ghost use Rattle.stored.specs.Loading.{textsLong, textsIn, end_at};
 ghost use Rattle.stored.specs.Loading.{settingsWith, settingsBy, settingsAt, device_of};
 ghost use Rattle.stored.specs.Loading.{markRoom, areMarks, loaded};
-ghost use Rattle.stored.specs.Told.{told};
+ghost use Rattle.stored.specs.Told.{loading_told};
 
 use crate::error::LoadError;
 use crate::layout::{MARKED_VERSION, Places};
@@ -33,7 +33,7 @@ fn is_other_version(s: &[u8]) -> bool
 fn set_up_with(s: &[u8], p: Places, class: Class<'_>) -> Option<Device>
     requires walked { Walked s.now p }
     requires class_in_bounds { p.class ≤ length s.now }
-    ensures { result ≡ device_of (settingsWith s.now p (class_of class.entry) (serial_of class.entry)
+    ensures { result ≡ device_of (settingsWith s.now p (class_number class.entry) (serial_of class.entry)
         (version_of class.entry) (names_of class.entry)) }
 {
     let n = layout::count_at(s, p.lamps);
@@ -102,7 +102,7 @@ fn set_up_at(s: &[u8], p: Places) -> Option<Device>
 // are legal.
 fn enabled(d: Device, s: &[u8]) -> Result<Device, LoadError>
     requires { isLegal d ≡ true }
-    ensures { told result ≡ (if areMarks d.settings.lamp_count s.now
+    ensures { loading_told result ≡ (if areMarks d.settings.lamp_count s.now
         then accepted (withOwn d (withMarks d.own (markRoom (map isMarked s.now))))
         else refused 23 blank) }
 {
@@ -123,7 +123,7 @@ fn enabled(d: Device, s: &[u8]) -> Result<Device, LoadError>
 /// The device that a stored form is of, freshly set up: its lamps' seconds and marks are those of the form. The version
 /// is tested first, then what is cut short, then what is left over, then the contents (RULES, Stored form).
 pub fn load(s: &[u8]) -> Result<Device, LoadError>
-    ensures { told result ≡ loaded s.now }
+    ensures { loading_told result ≡ loaded s.now }
 {
     if is_other_version(s) {
         return Err(LoadError::OtherVersion);

@@ -33,7 +33,10 @@ returns-in_default c =
     let s = c.args.s.now in
     let ours = sym c.is_other_version.ensures ∙ c.if-is_other_version.false in
     let end = end-found s c.walk-p.ensures.value c.count_at.ensures.value c.rest_long.ensures.value in
-    let gave = sym c.in_default.is ∙ c.set_up_at.ensures ∙ ap (λ (p : Places). device_of (settingsAt s p)) c.walk-p.ensures.value in
+    let gave =
+    sym c.in_default.is
+    ∙ c.set_up_at.ensures
+    ∙ ap (λ (p : Places). device_of (settingsAt s p)) c.walk-p.ensures.value in
     loaded-refused s ours (omega arith) (omega arith) gave
 
 pub returns-then-is_old : goal.returns-then-is_old
@@ -41,7 +44,10 @@ returns-then-is_old c =
     let s = c.args.s.now in
     let ours = sym c.is_other_version.ensures ∙ c.if-is_other_version.false in
     let end = end-found s c.walk-p.ensures.value c.count_at.ensures.value c.rest_long.ensures.value in
-    let gave = sym c.in-Some.is ∙ c.set_up_at.ensures ∙ ap (λ (p : Places). device_of (settingsAt s p)) c.walk-p.ensures.value in
+    let gave =
+    sym c.in-Some.is
+    ∙ c.set_up_at.ensures
+    ∙ ap (λ (p : Places). device_of (settingsAt s p)) c.walk-p.ensures.value in
     loaded-old s ours (omega arith) (omega arith) gave (sym c.is_old.ensures ∙ c.if-is_old.true)
 
 pub overflow_add-p : goal.overflow_add-p
@@ -81,7 +87,10 @@ enabled-requires c =
     let s = c.args.s.now in
     let ours = sym c.is_other_version.ensures ∙ c.if-is_other_version.false in
     let end = end-found s c.walk-p.ensures.value c.count_at.ensures.value c.rest_long.ensures.value in
-    let gave = sym c.in-Some.is ∙ c.set_up_at.ensures ∙ ap (λ (p : Places). device_of (settingsAt s p)) c.walk-p.ensures.value in
+    let gave =
+    sym c.in-Some.is
+    ∙ c.set_up_at.ensures
+    ∙ ap (λ (p : Places). device_of (settingsAt s p)) c.walk-p.ensures.value in
     set-up-is-legal s ours (omega arith) (omega arith) gave
 
 pub returns : goal.returns
@@ -89,7 +98,10 @@ returns c =
     let s = c.args.s.now in
     let ours = sym c.is_other_version.ensures ∙ c.if-is_other_version.false in
     let end = end-found s c.walk-p.ensures.value c.count_at.ensures.value c.rest_long.ensures.value in
-    let gave = sym c.in-Some.is ∙ c.set_up_at.ensures ∙ ap (λ (p : Places). device_of (settingsAt s p)) c.walk-p.ensures.value in
+    let gave =
+    sym c.in-Some.is
+    ∙ c.set_up_at.ensures
+    ∙ ap (λ (p : Places). device_of (settingsAt s p)) c.walk-p.ensures.value in
     c.enabled.ensures
     ∙ ap (λ (p : Places). markedBy c.in-Some.made (between (p.marks + 1) p.warm s))
     c.walk-p.ensures.value

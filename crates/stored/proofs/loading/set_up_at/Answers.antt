@@ -1,5 +1,5 @@
 -- In Class 2 there are texts after the class, else none.
-use Rattle.std.proofs.Common.{◌≡◌, ◌∙◌, ℕ, drop, sym, ap, arith}
+use Rattle.std.proofs.Common.{◌≡◌, ◌∙◌, drop, sym, ap, arith}
 use Rattle.lines.specs.Bytes.{◌at◌}
 use Rattle.stored.specs.Loading.{classIn, settingsBy, device_of}
 use Rattle.stored.proofs.Rest.{texts-in-2, long-in-2, no-texts-in-1}
