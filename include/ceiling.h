@@ -461,7 +461,7 @@ typedef struct {                            /* numbers, not characters; what a c
    number and the password; otherwise neither of the two is looked at. `secured` is for the first command of a
    connection whose greeting was PJ_GREETING_SECURED, with the random number of that greeting, and for no later one:
    PJLink 1.04, 5.3 says that a digest before later commands does no harm, but by the rule on the form of a line
-   the projector swallows such a line, and no reply comes. We follow 01.
+   the projector swallows such a line, and no reply comes (RULES, Connection).
    The writer does not know the projector's class: an input of type 6 or with a letter is written under `%1` too, and a
    projector that does not list it answers ERR2. PJ_CLSS asks for the class.
    Refuses with PJ_NO_ROOM, then with PJ_OUT_OF_RANGE what is no command and, where `secured`, a password that is not

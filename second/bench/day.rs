@@ -1,5 +1,6 @@
-//! The largest cutting day (02, L12): 64 jobs, eight at a time, on 8 rigs that warm up and cool as long as they may.
-//! Every job finds its rig after all those below it are taken, and every rule of the checker is kept to the end.
+//! The largest cutting day (RULES, Cutting day): 64 jobs, eight at a time, on 8 rigs that warm up and cool as long as
+//! they may. Every job finds its rig after all those below it are taken, and every rule of the checker is kept to the
+//! end.
 
 use crate::work::{By, Run, Work};
 use second::face::{self, Day};

@@ -1,10 +1,11 @@
 //! `second compare [seed]`, `second wrong [seed]`, `second replay < log`, `second burnt < log`, `second logs`,
-//! `second burnts`, `second md5 < file`.
+//! `second burnts`, `second page log < page`, `second pages`, `second md5 < file`.
 
 use second::burnts::{self, Case, Played};
 use second::compare::Run;
 use second::face::Board;
 use second::logs::{self, Fed, Program};
+use second::pages;
 use second::reference::md5::{hex, md5};
 use second::{burnt, replay, wrong};
 use std::fs;
@@ -15,7 +16,7 @@ use std::time::{SystemTime, UNIX_EPOCH};
 const USAGE: &str = "\
 second compare [SEED]   compare with libboard.a; without a seed, a fresh one
 second wrong [SEED]     make each deliberate mistake; the comparison has to find it
-second replay [FORM]    play a log from standard input (02, L1), on the device of a stored form in that file
+second replay [FORM]    play a log from standard input (RULES, Floor log), on the device of a stored form in that file
 second burnt [FORM]     tell which lamp burnt when
 second logs SEED COUNT PROGRAM..
                         so many random logs, and some fixed ones, played by the program alike; `fresh` is a seed too
@@ -24,6 +25,11 @@ second burnts SEED COUNT PROGRAM..
 second replays SEED COUNT PROGRAM..
                         the same for a `burnt`, or for a `replay` that is given forms; one log in two comes with a form
 second burnts log SEED NUMBER, second burnts form SEED NUMBER
+                        that log, and the form that it comes with
+second page LOG [FORM]  read a page that `burnt --page` prints from standard input; it has to show what the log says
+second pages SEED COUNT PROGRAM..
+                        the same for so many random logs, and some fixed ones; the program's words have `--page` in them
+second pages log SEED NUMBER, second pages form SEED NUMBER
                         that log, and the form that it comes with
 second md5              the MD5 of standard input, in hex";
 
@@ -47,17 +53,17 @@ fn main() -> ExitCode {
         ["log", seed, number] => with_seed(seed, |seed| {
             with_count(number, |number| done(io::stdout().write_all(&Fed::nth(seed, number).log)))
         }),
-        ["burnts", part @ ("log" | "form"), seed, number] => with_seed(seed, |seed| {
-            with_count(number, |number| {
-                let Case { form, fed } = Case::nth(seed, number);
-                done(io::stdout().write_all(&if part == "log" { fed.log } else { form.unwrap_or_default() }))
-            })
-        }),
+        ["burnts", part @ ("log" | "form"), seed, number] => part_of(Case::nth, part, seed, number),
         ["burnts", seed, count, _, ..] => {
             with_seed(seed, |seed| with_count(count, |count| burnts(Played::Burnt, seed, count, &words[3..])))
         }
         ["replays", seed, count, _, ..] => {
             with_seed(seed, |seed| with_count(count, |count| burnts(Played::Replay, seed, count, &words[3..])))
+        }
+        ["page", log, ref form @ ..] if form.len() < 2 => with_form(form.first(), |form| page(log, form)),
+        ["pages", part @ ("log" | "form"), seed, number] => part_of(pages::nth, part, seed, number),
+        ["pages", seed, count, _, ..] => {
+            with_seed(seed, |seed| with_count(count, |count| pages(seed, count, &words[3..])))
         }
         ["md5"] => done(digest()),
         _ => {
@@ -86,6 +92,16 @@ fn with_count(word: &str, run: impl FnOnce(usize) -> ExitCode) -> ExitCode {
             ExitCode::from(2)
         }
     }
+}
+
+/// The log of that number, or its form.
+fn part_of(nth: fn(u64, usize) -> Case, part: &str, seed: &str, number: &str) -> ExitCode {
+    with_seed(seed, |seed| {
+        with_count(number, |number| {
+            let Case { form, fed } = nth(seed, number);
+            done(io::stdout().write_all(&if part == "log" { fed.log } else { form.unwrap_or_default() }))
+        })
+    })
 }
 
 /// With what stands in that file, if one is named.
@@ -145,6 +161,28 @@ fn burnts(played: Played, seed: u64, count: usize, words: &[&str]) -> ExitCode {
         Err(difference) => {
             let number = difference.number;
             println!("{difference}`second burnts log {seed} {number}` prints it whole, `.. form ..` its form");
+            ExitCode::FAILURE
+        }
+    }
+}
+
+fn page(log: &str, form: Option<&[u8]>) -> io::Result<()> {
+    let log = fs::read(log)?;
+    let mut page = Vec::new();
+    io::stdin().lock().read_to_end(&mut page)?;
+    pages::fault(&pages::expected(form, &log), &page).map_err(io::Error::other)
+}
+
+fn pages(seed: u64, count: usize, words: &[&str]) -> ExitCode {
+    println!("seed {seed}");
+    match pages::compare(&program(words), seed, count) {
+        Ok(met) => {
+            println!("{met}, seed {seed}");
+            verdict(met.missed().is_empty())
+        }
+        Err(difference) => {
+            let number = difference.number;
+            println!("{difference}`second pages log {seed} {number}` prints it whole, `.. form ..` its form");
             ExitCode::FAILURE
         }
     }

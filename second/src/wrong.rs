@@ -63,7 +63,8 @@ mod tests {
         assert!(agreed.is_ok(), "{}", agreed.unwrap_err());
     }
 
-    /// Every number that 01's table gives a call, every kind of reply and every kind of reading, and not just once.
+    /// Every number that the table of RULES gives a call, every kind of reply and every kind of reading, and not just
+    /// once.
     #[test]
     fn a_run_meets_everything() {
         let mut board = WithoutMistake;

@@ -4,29 +4,29 @@
 use Prim.Native.Nat.{ℕ}
 use mathlib.Core.Path.{◌≡◌, refl, ap}
 use native.Mathlib.Omega.{arith}
+use Rattle.std.specs.Prelude.{Option, Some, None}
 use Rattle.text.proofs.OneResult.{one-result}
 use Rattle.record.specs.Wanted.{Wanted}
 use Rattle.record.specs.SetUp.{setUp}
 use Rattle.record.specs.OutOfRange.{settingPlace, firstOutOfRange, refusedSetting}
+use Rattle.record.specs.declared.types.Setting.{Setting}
 use Rattle.record.specs.declared.types.Setting.TheVariants.{Password}
-use Rattle.record.specs.declared.types.MaybeSetting.{MaybeSetting}
-use Rattle.record.specs.declared.types.MaybeSetting.TheVariants.{SettingIs, NoSetting}
 use Rattle.record.proofs.OutOfRange.{one-setting-place, setting-place-within}
 use Rattle.record.proofs.RefusedSetting.{none-gives-0, gives-0-none, gives-3-first, gives-8-password}
 use Rattle.board.specs.Which.{settingNumber}
 
-pub setting-number-back : (m n : MaybeSetting) → settingNumber m ≡ settingNumber n → m ≡ n
-setting-number-back NoSetting NoSetting e = refl
-setting-number-back NoSetting (SettingIs t) e = absurd (omega (arith, setting-place-within t))
-setting-number-back (SettingIs s) NoSetting e = absurd (omega (arith, setting-place-within s))
-setting-number-back (SettingIs s) (SettingIs t) e = ap SettingIs (one-setting-place s t e)
+pub setting-number-back : (m n : Option Setting) → settingNumber m ≡ settingNumber n → m ≡ n
+setting-number-back None None e = refl
+setting-number-back None (Some t) e = absurd (omega (arith, setting-place-within t))
+setting-number-back (Some s) None e = absurd (omega (arith, setting-place-within s))
+setting-number-back (Some s) (Some t) e = ap Some (one-setting-place s t e)
 
 module _ (w : Wanted) where
   abbrev which : ℕ
   which = settingNumber (refusedSetting w)
 
   pub which-0-set-up : which ≡ 0 → (setUp w).number ≡ 0
-  which-0-set-up e = none-gives-0 w (setting-number-back _ NoSetting e)
+  which-0-set-up e = none-gives-0 w (setting-number-back _ None e)
 
   pub set-up-which-0 : (setUp w).number ≡ 0 → which ≡ 0
   set-up-which-0 e = ap settingNumber (gives-0-none w e)

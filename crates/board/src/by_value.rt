@@ -12,6 +12,7 @@ ghost use Rattle.board.specs.Results.{received_of, opened_of, changed_of};
 
 use crate::projector;
 use crate::results::{Opened, Opening, Received, Receiving};
+use record::fresh;
 use record::types::{Changed, Device};
 
 #[unsafe(no_mangle)]
@@ -29,9 +30,20 @@ pub extern "C" fn pj_set_up(
     ensures { result ≡ setUp (wantedOf name.now maker.now model.now other.now
         password.now inputs.now lamps.now warm cool) }
 {
-    setup::set_up(
-        name, maker, model, other, password, inputs, lamps, warm, cool,
-    )
+    let mut device = fresh::blank();
+    let number = projector::pj_set_up_in_place(
+        &mut device,
+        name,
+        maker,
+        model,
+        other,
+        password,
+        inputs,
+        lamps,
+        warm,
+        cool,
+    );
+    Changed { number, device }
 }
 
 #[unsafe(no_mangle)]
@@ -54,10 +66,24 @@ pub extern "C" fn pj_set_up_2(
         password.now inputs.now lamps.now warm cool serial.now
         version.now (namesIn lengths.now names.now)) }
 {
-    setup::set_up_2(
-        name, maker, model, other, password, inputs, lamps, warm, cool, serial, version, names,
+    let mut device = fresh::blank();
+    let number = projector::pj_set_up_2_in_place(
+        &mut device,
+        name,
+        maker,
+        model,
+        other,
+        password,
+        inputs,
+        lamps,
+        warm,
+        cool,
+        serial,
+        version,
+        names,
         lengths,
-    )
+    );
+    Changed { number, device }
 }
 
 #[unsafe(no_mangle)]

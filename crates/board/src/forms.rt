@@ -6,6 +6,7 @@ ghost use Rattle.stored.specs.Loading.{loaded};
 
 use form::storing;
 use form::storing::FormWritten;
+use record::fresh;
 use record::types::{Changed, Device};
 use stored::loading;
 
@@ -33,9 +34,16 @@ pub extern "C" fn pj_load_in_place(device: &mut Device, bytes: &[u8]) -> u32
     ensures number { result ≡ (loaded bytes.now).number }
     ensures device { device.new ≡ (loaded bytes.now).device }
 {
-    let made = loading::load(bytes);
-    *device = made.device;
-    made.number
+    match loading::load(bytes) {
+        Ok(made) => {
+            *device = made;
+            0
+        }
+        Err(error) => {
+            *device = fresh::blank();
+            error.number()
+        }
+    }
 }
 
 /// The same, by value.
@@ -43,5 +51,7 @@ pub extern "C" fn pj_load_in_place(device: &mut Device, bytes: &[u8]) -> u32
 pub extern "C" fn pj_load(bytes: &[u8]) -> Changed
     ensures { result ≡ loaded bytes.now }
 {
-    loading::load(bytes)
+    let mut device = fresh::blank();
+    let number = pj_load_in_place(&mut device, bytes);
+    Changed { number, device }
 }

@@ -6,6 +6,7 @@ ghost use Rattle.record.specs.Legal.{isLegal};
 ghost use Rattle.record.specs.Wanted.{wantedOf, wantedOf2, namesIn};
 ghost use Rattle.record.specs.SetUp.{setUp};
 ghost use Rattle.record.specs.HostCalls.{faultSet, errorsSet, markSet};
+ghost use Rattle.setup.specs.Told.{set_up_told};
 ghost use Rattle.clock.specs.Passing.{passed};
 ghost use Rattle.device.specs.Calls.{received, openedBy, placeTaken, closedBy};
 ghost use Rattle.device.specs.Outcomes.{told};
@@ -14,20 +15,39 @@ ghost use Rattle.board.specs.Results.{receiving_of, opening_of};
 use crate::results::{Opening, Receiving};
 use clock::pass;
 use device::calls;
-use record::refusal;
 use record::types::Device;
+use record::{fresh, refusal};
+use setup::error::SetUpError;
+use setup::wanted::{Class, Wanted};
+
+// What set-up gave, into the host's record: the blank one where it is refused.
+fn fill(device: &mut Device, made: Result<Device, SetUpError>) -> u32
+    ensures number { result ≡ (set_up_told made).number }
+    ensures device { device.new ≡ (set_up_told made).device }
+{
+    match made {
+        Ok(made) => {
+            *device = made;
+            0
+        }
+        Err(error) => {
+            *device = fresh::blank();
+            error.number()
+        }
+    }
+}
 
 /// Set-up of Class 1 into the record: 3, then 8.
 #[unsafe(no_mangle)]
-pub extern "C" fn pj_set_up_in_place(
+pub extern "C" fn pj_set_up_in_place<'a>(
     device: &mut Device,
-    name: &[u8],
-    maker: &[u8],
-    model: &[u8],
-    other: &[u8],
-    password: &[u8],
-    inputs: &[u8],
-    lamps: &[u32],
+    name: &'a [u8],
+    maker: &'a [u8],
+    model: &'a [u8],
+    other: &'a [u8],
+    password: &'a [u8],
+    inputs: &'a [u8],
+    lamps: &'a [u32],
     warm: u32,
     cool: u32,
 ) -> u32
@@ -36,30 +56,39 @@ pub extern "C" fn pj_set_up_in_place(
     ensures device { device.new ≡ (setUp (wantedOf name.now maker.now model.now other.now
         password.now inputs.now lamps.now warm cool)).device }
 {
-    let made = setup::set_up(
-        name, maker, model, other, password, inputs, lamps, warm, cool,
-    );
-    *device = made.device;
-    made.number
+    let class = Class::One;
+    let made = setup::set_up(&Wanted {
+        name,
+        maker,
+        model,
+        other,
+        password,
+        inputs,
+        lamps,
+        warm,
+        cool,
+        class,
+    });
+    fill(device, made)
 }
 
 /// Set-up of Class 2 into the record: the names one after the other, each of its length. 3, then 8.
 #[unsafe(no_mangle)]
-pub extern "C" fn pj_set_up_2_in_place(
+pub extern "C" fn pj_set_up_2_in_place<'a>(
     device: &mut Device,
-    name: &[u8],
-    maker: &[u8],
-    model: &[u8],
-    other: &[u8],
-    password: &[u8],
-    inputs: &[u8],
-    lamps: &[u32],
+    name: &'a [u8],
+    maker: &'a [u8],
+    model: &'a [u8],
+    other: &'a [u8],
+    password: &'a [u8],
+    inputs: &'a [u8],
+    lamps: &'a [u32],
     warm: u32,
     cool: u32,
-    serial: &[u8],
-    version: &[u8],
-    names: &[u8],
-    lengths: &[usize],
+    serial: &'a [u8],
+    version: &'a [u8],
+    names: &'a [u8],
+    lengths: &'a [usize],
 ) -> u32
     ensures number { result ≡ (setUp (wantedOf2 name.now maker.now model.now other.now
         password.now inputs.now lamps.now warm cool serial.now
@@ -68,12 +97,25 @@ pub extern "C" fn pj_set_up_2_in_place(
         password.now inputs.now lamps.now warm cool serial.now
         version.now (namesIn lengths.now names.now))).device }
 {
-    let made = setup::set_up_2(
-        name, maker, model, other, password, inputs, lamps, warm, cool, serial, version, names,
+    let class = Class::Two {
+        serial,
+        version,
+        names,
         lengths,
-    );
-    *device = made.device;
-    made.number
+    };
+    let made = setup::set_up(&Wanted {
+        name,
+        maker,
+        model,
+        other,
+        password,
+        inputs,
+        lamps,
+        warm,
+        cool,
+        class,
+    });
+    fill(device, made)
 }
 
 /// Whether the record is legal.

@@ -1,6 +1,6 @@
 // What is proved beside the contracts of the functions. Nothing is done here: that these functions have their contracts
 // is that the theorems stand.
-ghost use Rattle.std.specs.Prelude.{◌≡◌, ◌<◌, ◌≤◌, ◌^◌, ℕ, true, List, false, length, Bool, Some};
+ghost use Rattle.std.specs.Prelude.{◌≡◌, ◌<◌, ◌≤◌, ◌^◌, ℕ, true, List, false, length, Bool, Option, Some};
 ghost use Rattle.record.specs.declared.types.Device.{Device};
 ghost use Rattle.record.specs.Limits.{placesCount, opened, awaiting};
 ghost use Rattle.record.specs.Legal.{isLegal};
@@ -26,7 +26,7 @@ ghost use Rattle.board.specs.declared.results.PanelSent.{PanelSent};
 ghost use Rattle.panel.specs.PanelCalls.{panelMade, noPanel, addedTo, commanded, steppedAt, lostAt};
 ghost use Rattle.panel.specs.declared.types.Panel.{Panel};
 ghost use Rattle.day.specs.declared.plan.Plan.{Plan};
-ghost use Rattle.record.specs.declared.types.MaybeSetting.{MaybeSetting};
+ghost use Rattle.record.specs.declared.types.Setting.{Setting};
 ghost use Rattle.board.specs.Which.{settingNumber};
 ghost use Rattle.controller.specs.declared.writing.Written.{Written};
 ghost use Rattle.text.specs.Words.{over};
@@ -70,7 +70,7 @@ pub fn the_face_reads_back()
 pub fn numbers_tell_apart()
     ensures verdicts { (v w : Verdict) → flatVerdict v ≡ flatVerdict w → v ≡ w }
     ensures plans { (p q : Plan) → flatPlan p ≡ flatPlan q → p ≡ q }
-    ensures settings { (m n : MaybeSetting) → settingNumber m ≡ settingNumber n → m ≡ n }
+    ensures settings { (m n : Option Setting) → settingNumber m ≡ settingNumber n → m ≡ n }
 {}
 
 /// Two results that meet the promise of a call are equal, lent memory included.

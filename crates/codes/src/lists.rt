@@ -39,7 +39,7 @@ impl FlatLamps {
 
 impl FlatReading {
     /// Of a kind that says a text.
-    pub fn with_text(kind: u8, s: &[u8]) -> FlatReading
+    pub(crate) fn with_text(kind: u8, s: &[u8]) -> FlatReading
         requires { length s.now ≤ textCarried }
         ensures { result ≡ withText kind s.now }
     {
@@ -52,7 +52,7 @@ impl FlatReading {
     }
 
     /// Of the first `count` of the lamps.
-    pub fn with_lamps(lamps: &[LampHours; LAMPS_MOST], count: usize) -> FlatReading
+    pub(crate) fn with_lamps(lamps: &[LampHours; LAMPS_MOST], count: usize) -> FlatReading
         ensures { result ≡ withLamps (take (min count lampsCarried) lamps.now) }
     {
         let FlatLamps { count, hours, lit } = FlatLamps::of(lamps, count);
@@ -64,7 +64,7 @@ impl FlatReading {
     }
 
     /// Of the first `count` of the inputs, two characters each.
-    pub fn with_inputs(inputs: &[Input; INPUTS_MOST], count: usize) -> FlatReading
+    pub(crate) fn with_inputs(inputs: &[Input; INPUTS_MOST], count: usize) -> FlatReading
         ensures { result ≡ withInputs (take (min count inputsCarried) inputs.now) }
     {
         let mut pairs = [0u8; CHARACTERS];

@@ -106,7 +106,7 @@ impl FlatReading {
     }
 
     /// A kind and its two values.
-    pub fn plain(kind: u8, first: u8, second: u8) -> FlatReading
+    pub(crate) fn plain(kind: u8, first: u8, second: u8) -> FlatReading
         ensures { result ≡ plain kind first second }
     {
         let mut flat = FlatReading::meaningless(0);

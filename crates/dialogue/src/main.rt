@@ -5,6 +5,7 @@
 use clock::pass;
 use device::calls;
 use record::types::{Device, PLACES};
+use setup::wanted::{Class, Wanted};
 use std::io;
 use std::io::{Stdout, Write};
 
@@ -29,7 +30,20 @@ struct Connected {
 // that no call takes.
 fn fresh() -> Connected {
     let lamps = [0u32; 1];
-    let mut device = setup::set_up(b"", b"", b"", b"", b"", b"11", &lamps, 20, 60).device;
+    let class = Class::One;
+    let wanted = Wanted {
+        name: b"",
+        maker: b"",
+        model: b"",
+        other: b"",
+        password: b"",
+        inputs: b"11",
+        lamps: &lamps,
+        warm: 20,
+        cool: 60,
+        class,
+    };
+    let mut device = setup::set_up(&wanted).unwrap_or(Device::BLANK);
     let mut memory = [0u8; 136];
     let place = match calls::open(&mut device, 0, &mut memory) {
         Ok(opened) => opened.place,

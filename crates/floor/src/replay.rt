@@ -10,6 +10,7 @@ use crate::{closing, playing};
 use logs::LINE_MOST;
 use record::legality::Tested;
 use record::types::Device;
+use setup::wanted::{Class, Wanted};
 
 const FINISH_ROOM: usize = 268;
 
@@ -39,7 +40,23 @@ pub fn sample() -> Device
     ensures { result ≡ sampleDevice }
 {
     let lamps = [0u32; 1];
-    setup::set_up(b"", b"", b"", b"", b"", b"11", &lamps, 20, 60).device
+    let class = Class::One;
+    let wanted = Wanted {
+        name: b"",
+        maker: b"",
+        model: b"",
+        other: b"",
+        password: b"",
+        inputs: b"11",
+        lamps: &lamps,
+        warm: 20,
+        cool: 60,
+        class,
+    };
+    match setup::set_up(&wanted) {
+        Ok(device) => device,
+        Err(_) => record::fresh::blank(),
+    }
 }
 
 /// Before a log that begins with a device.

@@ -23,11 +23,7 @@ pub enum NotBegun {
 }
 
 fn loaded(bytes: &[u8]) -> Result<Device, NotBegun> {
-    let loaded = loading::load(bytes);
-    if loaded.number != 0 {
-        return Err(NotBegun::Refused(loaded.number));
-    }
-    Ok(loaded.device)
+    loading::load(bytes).map_err(|error| NotBegun::Refused(error.number()))
 }
 
 fn of_file(rt: &HostRuntime, path: &str) -> io::Result<Result<Device, NotBegun>> {

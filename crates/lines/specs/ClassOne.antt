@@ -1,5 +1,5 @@
 -- The form of a line and the inputs, as they stood before Class 2 came (RULES, Class 2): word for word the definitions
--- of 01's Class 1, under names with a 1. Nothing is built on them; proofs/ClassOneKept.antt has that a set-up of Class
+-- of Class 1 alone, under names with a 1. Nothing is built on them; proofs/ClassOneKept.antt has that a set-up of Class
 -- 1 goes by them still. What a line asked for stands in `requests`.
 --   isCommandForm1 l      `%1`, four letters or digits, a space, 0 to 128 bytes
 --   readInput1 a b        the input that two characters name: a type 1 to 5 and a number 1 to 9

@@ -6,7 +6,7 @@
 --   isInfo s          the rule of maker, model, other information, serial number and version (RULES, Class 2)
 --   isInputName s     the rule of an input's name (RULES, Class 2)
 --   isPassword s      0 to 32 ASCII letters and digits
--- 000 narrows INF1, INF2 and INFO to 0x20 to 0x7E; 01's rule stands for every text.
+-- PJLink 1.04, 4.11 to 4.13, narrow INF1, INF2 and INFO to 0x20 to 0x7E; the rule of RULES, Texts, stands for all.
 -- Assumes nothing.
 use Rattle.std.specs.Prelude.{ℕ, ◌-◌, Bool, not, ◌&&◌, List, length, leb, eqb, if◌then◌else◌}
 use Prim.Native.Char.{code}

@@ -4,8 +4,8 @@
 --   isOutOfParameter s r     rule 2, ERR2: out of parameter
 --   isFailure o r            rule 3, ERR4: projector failure
 --   isUnavailable o r        rule 4, ERR3: unavailable time
--- A request is what `requests` reads off a line: a command with a parameter that is `?` or one its body knows, a body with
--- any other parameter (Unlisted), or no body of its line's class. Class 2 has the same rules (RULES, Class 2).
+-- A request is what `requests` reads off a line: a command with a parameter that is `?` or one its body knows, a body
+-- with any other parameter (Unlisted), or no body of its line's class. Class 2 has the same rules (RULES, Class 2).
 -- Assumes nothing.
 use Rattle.std.specs.Prelude.{ℕ, Bool, true, false, not, ◌&&◌, ◌||◌, eqb}
 use Rattle.lines.specs.Bodies.{rowOf, hasSet, hasParameters, hasQuery}

@@ -96,7 +96,7 @@ abbrev pub ours : Board
 ours = record {
   Record = Device;
   shows = λ d. d;
-  -- setup::set_up of Class 1, setup::set_up_2 of Class 2; what neither can be lent is out of range
+  -- setup::set_up; what it cannot be lent, a class that there is not, is out of range
   set-up = λ w. givenBy (setUp w);
   -- device::calls::open
   opening = λ d random m. lent_by (openedBy d random (length m)) m;

@@ -1,6 +1,6 @@
 //! Our board as the demands speak of it (specs/Board), and code that is never linked: for each field of `ours` one
-//! function, for set-up one a class, that does nothing but call the product's function, and whose promise is that
-//! field's value. So a demand that spoke of another function than the linked one would not be proved.
+//! function that does nothing but call the product's function, and whose promise is that field's value. So a demand
+//! that spoke of another function than the linked one would not be proved.
 #![tactic(auto)]
 
 pub mod projector;

@@ -1,8 +1,9 @@
-// `ours`'s set-up of either class, opening with its place, closing, receiving, passing time, fault mark, error digits
+// `ours`'s set-up, opening with its place, closing, receiving, passing time, fault mark, error digits
 // and lamps' marks. Of a record that is lent: what the call says, what lies there afterwards, and the memory.
 ghost use Rattle.std.specs.Prelude.{◌≡◌};
-ghost use Rattle.record.specs.Wanted.{wantedOf, wantedOf2, namesIn};
 ghost use Rattle.record.specs.Refusals.{outcome_number};
+ghost use Rattle.setup.specs.Lent.{wanted_settings};
+ghost use Rattle.setup.specs.Told.{set_up_told};
 ghost use Rattle.device.specs.Outcomes.{receiving_told, opening_told, opened_place};
 ghost use Rattle.ours.specs.Board.{ours, givenBy};
 ghost use Rattle.ours.specs.Tied.{given_as, lent_as};
@@ -11,50 +12,14 @@ use clock::pass;
 use device::calls;
 use device::calls::{Opened, Received};
 use record::refusal::Refusal;
-use record::types::{Changed, Device};
+use record::types::Device;
+use setup::error::SetUpError;
+use setup::wanted::Wanted;
 
-pub fn set_up(
-    name: &[u8],
-    maker: &[u8],
-    model: &[u8],
-    other: &[u8],
-    password: &[u8],
-    inputs: &[u8],
-    lamps: &[u32],
-    warm: u32,
-    cool: u32,
-) -> Changed
-    ensures { givenBy result ≡ ours.set-up (wantedOf name.now maker.now model.now
-        other.now password.now inputs.now lamps.now warm cool) }
+pub fn set_up(wanted: &Wanted<'_>) -> Result<Device, SetUpError>
+    ensures { givenBy (set_up_told result) ≡ ours.set-up (wanted_settings wanted.now) }
 {
-    setup::set_up(
-        name, maker, model, other, password, inputs, lamps, warm, cool,
-    )
-}
-
-pub fn set_up_2(
-    name: &[u8],
-    maker: &[u8],
-    model: &[u8],
-    other: &[u8],
-    password: &[u8],
-    inputs: &[u8],
-    lamps: &[u32],
-    warm: u32,
-    cool: u32,
-    serial: &[u8],
-    version: &[u8],
-    names: &[u8],
-    lengths: &[usize],
-) -> Changed
-    ensures { givenBy result ≡ ours.set-up (wantedOf2 name.now maker.now model.now
-        other.now password.now inputs.now lamps.now warm cool
-        serial.now version.now (namesIn lengths.now names.now)) }
-{
-    setup::set_up_2(
-        name, maker, model, other, password, inputs, lamps, warm, cool, serial, version, names,
-        lengths,
-    )
+    setup::set_up(wanted)
 }
 
 pub fn open(device: &mut Device, random: u32, out: &mut [u8]) -> Result<Opened, Refusal>

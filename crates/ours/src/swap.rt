@@ -1,11 +1,13 @@
 // `ours`'s storing and loading.
 ghost use Rattle.std.specs.Prelude.{◌≡◌};
+ghost use Rattle.stored.specs.Told.{loading_told};
 ghost use Rattle.ours.specs.Board.{ours, givenBy};
 ghost use Rattle.ours.specs.Tied.{wroteForm};
 
 use form::storing;
 use form::storing::FormWritten;
-use record::types::{Changed, Device};
+use record::types::Device;
+use stored::error::LoadError;
 use stored::loading;
 
 pub fn store(device: &Device, out: &mut [u8]) -> FormWritten
@@ -14,8 +16,8 @@ pub fn store(device: &Device, out: &mut [u8]) -> FormWritten
     storing::store(device, out)
 }
 
-pub fn load(s: &[u8]) -> Changed
-    ensures { givenBy result ≡ ours.load s.now }
+pub fn load(s: &[u8]) -> Result<Device, LoadError>
+    ensures { givenBy (loading_told result) ≡ ours.load s.now }
 {
     loading::load(s)
 }

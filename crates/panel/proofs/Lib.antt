@@ -5,6 +5,7 @@ pub mod StepsByTable
 pub mod Viewed
 pub mod OnlyItsEntry
 pub mod Refusals
+pub mod OneResult
 pub mod ShownLegal
 pub mod PanelsLegal
 pub mod ReadingsShown

@@ -4,7 +4,8 @@
 -- Assumes nothing.
 use Prim.Native.Nat.{ℕ, ◌≤◌, ◌<◌}
 use mathlib.Core.Path.{◌≡◌}
-use mathlib.Core.Bool.{true, ◌&&◌}
+use mathlib.Core.Bool.{Bool, true, not, ◌&&◌}
+use mathlib.Core.List.{List}
 use native.Mathlib.Omega.{arith}
 use lib.ListN.{length, get_or, drop}
 use lib.Dec.{leb, eqb}
@@ -15,10 +16,14 @@ use Rattle.text.proofs.Scanning.{every-at}
 use Rattle.lines.specs.Texts.{isPassword}
 use Rattle.record.specs.Limits.{textRoom}
 use Rattle.record.specs.Legal.{fillsTextRoom}
+use Rattle.std.specs.Prelude.{is_some}
+use Rattle.answers.specs.Carried.{lampsCarried}
+use Rattle.record.specs.Rooms.{used}
 use Rattle.record.proofs.Kept.{kept-told}
+use Rattle.record.proofs.RoomsTold.{is_some_used}
 use Rattle.panel.specs.Entries.{talkOf, shownOf, passwordIn, blankEntry}
 use Rattle.panel.specs.Stepping.{straysMost}
-use Rattle.panel.specs.LegalPanels.{panelMost, isTalk, isShown, isEntry, isEntries, isUnused, isPanel}
+use Rattle.panel.specs.LegalPanels.{panelMost, isTalk, isLitRoom, isShown, isEntry, isEntries, isUnused, isPanel}
 use Rattle.panel.specs.PanelCalls.{entry_at}
 use Rattle.panel.specs.declared.types.Entry.{Entry}
 use Rattle.panel.specs.declared.types.Panel.{Panel}
@@ -104,3 +109,14 @@ module _ (p : Panel) where
 
     pub fits_there : (d : Entry) → (get_or p.entries i d).password.len ≤ textRoom
     fits_there d = password-fits (get_or p.entries i d) (legal-there d)
+
+-- the lit marks of so many lamps, and a panel, by what is used of their room
+pub lit_used : (ms : List Bool) (n : ℕ) → n ≤ lampsCarried → length ms ≡ lampsCarried → isLitRoom ms n
+    ≡ is_some (used not lampsCarried ms n)
+unfolding isLitRoom
+lit_used ms n few long = grind (arith, is_some_used not lampsCarried ms n long)
+
+pub panel_used : (p : Panel) → length p.entries ≡ panelMost → isPanel p
+    ≡ (is_some (used isUnused panelMost p.entries p.count) && isEntries p.entries)
+unfolding isPanel
+panel_used p long = grind (arith, is_some_used isUnused panelMost p.entries p.count long)

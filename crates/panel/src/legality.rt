@@ -1,6 +1,5 @@
 // The legality of the panel, a function a part.
-ghost use Rattle.std.specs.Prelude.{◌≡◌, drop};
-ghost use Rattle.text.specs.Scans.{every};
+ghost use Rattle.std.specs.Prelude.{◌≡◌};
 ghost use Rattle.lines.specs.Texts.{isPassword};
 ghost use Rattle.record.specs.Legal.{fillsTextRoom};
 ghost use Rattle.panel.specs.Entries.{talkOf};
@@ -9,20 +8,16 @@ ghost use Rattle.panel.specs.LegalPanels.{isCommandKept, isTalk, isEntry, isEntr
 use crate::types::{Entry, PANEL_MOST, Panel, STRAYS_MOST};
 use crate::views::{GREETED_SECURED, UNGREETED};
 use lines::texts;
-use record::scan;
-use record::types::{TEXT_ROOM, Text};
+use record::rooms;
+use record::rooms::Blank;
+use record::types::Text;
 
 // 0 to 32 letters and digits, in their room: those that the controller's writer takes.
+#[tactic(auto, using(record::proofs::RoomsTold::fills_used))]
 fn is_password(t: &Text) -> bool
     ensures { result ≡ fillsTextRoom isPassword t.now }
 {
-    if TEXT_ROOM < t.len {
-        return false;
-    }
-    if !scan::clear_from(&t.bytes, t.len) {
-        return false;
-    }
-    texts::is_password(&t.bytes[0..t.len])
+    rooms::used(&t.bytes, t.len).is_some_and(|s| texts::is_password(s))
 }
 
 impl Entry {
@@ -58,12 +53,14 @@ impl Entry {
             && self.is_shown()
             && self.strays <= STRAYS_MOST
     }
+}
 
-    /// Whether nothing is kept in the entry, where it is legal.
+// Nothing is kept in the entry, where it is legal.
+impl Blank for Entry {
+    ghost blank = { isUnused };
+
     #[tactic(auto, unfolding(crate::specs::LegalPanels::isUnused))]
-    pub fn is_unused(&self) -> bool
-        ensures { result ≡ isUnused self.now }
-    {
+    fn is_blank(&self) -> bool {
         self.password.len == 0
             && self.greeting == UNGREETED
             && !self.power_known
@@ -84,24 +81,12 @@ fn all_legal(entries: &[Entry; PANEL_MOST]) -> bool
     ok
 }
 
-fn unused_from(entries: &[Entry; PANEL_MOST], count: usize) -> bool
-    ensures { result ≡ every isUnused (drop count entries.now) }
-{
-    let mut ok = true;
-    for i in count..PANEL_MOST {
-        ok = ok & entries[i].is_unused();
-    }
-    ok
-}
-
 impl Panel {
     /// Whether the panel is legal.
-    #[tactic(auto, unfolding(crate::specs::LegalPanels::isPanel))]
+    #[tactic(auto, using(crate::proofs::PanelsTold::panel_used))]
     pub fn is_legal(&self) -> bool
         ensures { result ≡ isPanel self.now }
     {
-        self.count <= PANEL_MOST
-            && all_legal(&self.entries)
-            && unused_from(&self.entries, self.count)
+        rooms::used(&self.entries, self.count).is_some() && all_legal(&self.entries)
     }
 }

@@ -2,13 +2,13 @@
 //! and what was last read of its power, input and lamps.
 #![tactic(auto)]
 
-pub mod calls;
-pub mod legality;
-pub mod ranges;
+mod calls;
+mod legality;
+mod ranges;
 pub mod refusal;
-pub mod sending;
-pub mod shown;
-pub mod step;
+mod sending;
+mod shown;
+mod step;
 pub mod theorems;
 pub mod types;
 pub mod views;

@@ -1,26 +1,27 @@
 // What is shown is in the reader's range, and what is not known is zero.
-ghost use Rattle.std.specs.Prelude.{◌≡◌};
+ghost use Rattle.std.specs.Prelude.{◌≡◌, ◌≤◌};
 ghost use Rattle.record.specs.Legal.{fillsRoom};
 ghost use Rattle.answers.specs.Carried.{lampsCarried};
 ghost use Rattle.panel.specs.Entries.{shownOf};
 ghost use Rattle.panel.specs.LegalPanels.{isPowerShown, isInputShown, isLampCount, isHours};
-ghost use Rattle.panel.specs.LegalPanels.{isLampsShown, isShown};
+ghost use Rattle.panel.specs.LegalPanels.{isLitRoom, isLampsShown, isShown};
 
 use crate::types::{Entry, HOURS_MOST, LAMPS_MOST};
-use record::own;
+use record::{rooms, scan};
 
+#[tactic(auto, using(record::proofs::RoomsTold::fills_used))]
 fn is_hours(hours: &[u32; LAMPS_MOST], count: usize) -> bool
     ensures { result ≡ fillsRoom lampsCarried isHours hours.now count }
 {
-    if LAMPS_MOST < count {
-        return false;
-    }
-    let mut ok = true;
-    for (i, h) in hours.iter().enumerate() {
-        let used = i < count;
-        ok = ok & ((used & (*h <= HOURS_MOST)) | (!used & (*h == 0)));
-    }
-    ok
+    rooms::used(hours, count).is_some_and(|used| scan::numbers_within(used, HOURS_MOST))
+}
+
+#[tactic(auto, using(crate::proofs::PanelsTold::lit_used))]
+fn is_lit_room(lit: &[bool; LAMPS_MOST], count: usize) -> bool
+    requires { count ≤ lampsCarried }
+    ensures { result ≡ isLitRoom lit.now count }
+{
+    rooms::used(lit, count).is_some()
 }
 
 impl Entry {
@@ -57,19 +58,19 @@ impl Entry {
         self.lamp_count == 0
     }
 
-    #[tactic(auto, unfolding(crate::specs::LegalPanels::isLampsShown, crate::specs::LegalPanels::isLitRoom))]
+    #[tactic(auto, using(record::proofs::RoomsTold::fills_inside), unfolding(crate::specs::LegalPanels::isLampsShown))]
     fn is_lamps_shown(&self) -> bool
         ensures { result ≡ isLampsShown self.now.lamps_known self.now.lamp_count
             self.now.hours self.now.lit }
     {
         self.is_lamp_count()
             && is_hours(&self.hours, self.lamp_count)
-            && own::none_marked(&self.lit, self.lamp_count)
+            && is_lit_room(&self.lit, self.lamp_count)
     }
 
     /// Whether what is shown is in its ranges.
     #[tactic(auto, unfolding(crate::specs::LegalPanels::isShown))]
-    pub fn is_shown(&self) -> bool
+    pub(crate) fn is_shown(&self) -> bool
         ensures { result ≡ isShown (shownOf self.now) }
     {
         self.is_power_shown() && self.is_input_shown() && self.is_lamps_shown()

@@ -13,7 +13,7 @@ impl Entry {
     /// The line of the command, which the code stands for, from the start of the lent memory, led by the digest where
     /// it is the first after a secured greeting. The command is then under way. Its line's length.
     #[tactic(auto, unfolding(crate::specs::Stepping::commandSent))]
-    pub fn send(&mut self, coded: Coded, command: Command, out: &mut [u8]) -> usize
+    pub(crate) fn send(&mut self, coded: Coded, command: Command, out: &mut [u8]) -> usize
         requires { self.old.password.len ≤ textRoom }
         ensures length { result ≡ length (commandSent self.old command (length out.old)) }
         ensures line { out.new ≡ over (commandSent self.old command (length out.old)) out.old }

@@ -14,7 +14,7 @@ use lines::input::Input;
 
 impl Entry {
     /// All is unknown.
-    pub fn show_nothing(&mut self)
+    pub(crate) fn show_nothing(&mut self)
         ensures { self.new ≡ withShown self.old nothingShown }
     {
         self.power_known = false;
@@ -56,7 +56,7 @@ impl Entry {
 
     /// What an accepted reply says is shown: a power, an input or lamps; anything else changes nothing.
     #[tactic(auto, using(answers::proofs::Counts::said_by_kind))]
-    pub fn show(&mut self, a: &Answer)
+    pub(crate) fn show(&mut self, a: &Answer)
         ensures { self.new ≡ withShown self.old (showing (shownOf self.old) (saidBy a.now)) }
     {
         match a.kind {

@@ -33,7 +33,7 @@ impl Entry {
     }
 
     /// The connection is gone: a new greeting is awaited, and what is known stays.
-    pub fn lose(&mut self)
+    pub(crate) fn lose(&mut self)
         ensures { self.new ≡ lostEntry self.old }
     {
         self.begin(Greeted::NotYet);
@@ -95,7 +95,7 @@ impl Entry {
     }
 
     /// A line from the projector, with its CR. One with no command under way is late.
-    pub fn hear(&mut self, line: &[u8])
+    pub(crate) fn hear(&mut self, line: &[u8])
         ensures { self.new ≡ heardLine self.old line.now }
     {
         match self.awaits() {

@@ -3,14 +3,11 @@
 --   ConnectionTold c      its line's room, its phase, age, random number and collected bytes
 -- Assumes nothing.
 use Prim.Native.Nat.{ℕ, ◌≤◌, ◌<◌}
-use mathlib.Core.Path.{◌≡◌, refl, sym}
-use mathlib.Core.Bool.{Bool, true, false, ◌||◌, false≢true}
+use mathlib.Core.Path.{◌≡◌, refl}
+use mathlib.Core.Bool.{Bool, true, false}
 use mathlib.Core.List.{[]}
 use native.Mathlib.Omega.{arith}
-use lib.Dec.{eqb}
-use borrow.Author.Tests.{leb-true, le-leb, ltb-true, lt-ltb, eqb-true}
-use Rattle.std.specs.Prelude.{if◌then◌else◌}
-use Rattle.text.proofs.Choices.{both, both_left, both_right, if-by}
+use borrow.Author.Tests.{lt-ltb}
 use Rattle.lines.specs.Bytes.{noCr}
 use Rattle.lines.specs.Forms.{commandMost}
 use Rattle.lines.proofs.Characters.{no-cr-of}
@@ -39,13 +36,11 @@ closed-holds-none = refl
 module _ (phase : ℕ) where
   pub age-early : (age : ℕ) → isAge phase age ≡ true → age < ageEnd
   unfolding isAge
-  age-early age =
-      if-by (λ (b : Bool). b ≡ true → age < ageEnd) (isTimed phase) (λ t h. ltb-true age ageEnd h)
-      (λ t h. omega (arith, eqb-true age 0 h))
+  age-early age h = grind (arith, h)
 
   pub age-untimed : (age : ℕ) → isTimed phase ≡ false → isAge phase age ≡ true → age ≡ 0
   unfolding isAge
-  age-untimed age t h = eqb-true age 0 (rw t at h)
+  age-untimed age t h = grind (arith, t, h)
 
   pub timed-age : (age : ℕ) → isTimed phase ≡ true → age < ageEnd → isAge phase age ≡ true
   unfolding isAge
@@ -53,7 +48,7 @@ module _ (phase : ℕ) where
 
   pub zero-age : isAge phase 0 ≡ true
   unfolding isAge
-  zero-age = if-by (λ (b : Bool). b ≡ true) (isTimed phase) (λ t. refl) (λ t. refl)
+  zero-age = grind arith
 
 -- collected bytes, by the phase and the mark
 pub held-most-awaiting : heldMost awaiting ≡ lineRoom
@@ -66,40 +61,33 @@ held-most-opened = refl
 
 pub held-most-none : (phase : ℕ) → isCollecting phase ≡ false → heldMost phase ≡ 0
 unfolding heldMost
-held-most-none phase h = by-case (eqb phase awaiting) (eqb phase opened) h
-  where
-    by-case : (a b : Bool) → (a || b) ≡ false → (if a then lineRoom else if b then commandMost else 0) ≡ 0
-    by-case true b e = absurd (false≢true (sym e))
-    by-case false true e = absurd (false≢true (sym e))
-    by-case false false e = refl
+held-most-none phase h = grind (arith, h)
 
 pub held-most-room : (phase : ℕ) → heldMost phase ≤ lineRoom
 unfolding heldMost
-held-most-room phase =
-    if-by (λ (n : ℕ). n ≤ lineRoom) (eqb phase awaiting) (λ e. omega arith)
-    (λ e. if-by (λ (n : ℕ). n ≤ lineRoom) (eqb phase opened) (λ f. omega arith) (λ f. omega arith))
+held-most-room phase = grind arith
 
 module _ (phase n : ℕ) where
   pub held-within : (mark : Bool) → is_held phase mark n ≡ true → n ≤ heldMost phase
   unfolding is_held
-  held-within true h = omega (arith, eqb-true n 0 (both_right (isCollecting phase) (eqb n 0) h))
-  held-within false h = leb-true n (heldMost phase) h
+  held-within true h = grind (arith, h)
+  held-within false h = grind (arith, h)
 
   pub marked-none : is_held phase true n ≡ true → n ≡ 0
   unfolding is_held
-  marked-none h = eqb-true n 0 (both_right (isCollecting phase) (eqb n 0) h)
+  marked-none h = grind (arith, h)
 
   pub marked-collects : is_held phase true n ≡ true → isCollecting phase ≡ true
   unfolding is_held
-  marked-collects h = both_left (isCollecting phase) (eqb n 0) h
+  marked-collects h = grind (arith, h)
 
   pub unmarked-held : n ≤ heldMost phase → is_held phase false n ≡ true
   unfolding is_held
-  unmarked-held h = le-leb n (heldMost phase) h
+  unmarked-held h = grind (arith, h)
 
 pub marked-held : (phase : ℕ) → isCollecting phase ≡ true → is_held phase true 0 ≡ true
 unfolding is_held
-marked-held phase h = both h refl
+marked-held phase h = grind (arith, h)
 
 pub closed-legal : isConnection closed ≡ true
 unfolding closed

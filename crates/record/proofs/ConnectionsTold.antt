@@ -8,8 +8,6 @@ use mathlib.Core.List.{List, [], ◌∷◌}
 use native.Mathlib.Omega.{arith}
 use lib.ListN.{length, get_or, set, replicate, length-set}
 use lib.Seq.{get_or-set_same, get_or-set_other, set-get_or, set-set}
-use lib.Dec.{eqb}
-use borrow.Author.Tests.{eqb-true, eq-eqb}
 use Rattle.text.specs.Scans.{every}
 use Rattle.text.proofs.Choices.{both, both_left, both_right}
 use Rattle.text.proofs.Scanning.{every-at}
@@ -33,17 +31,16 @@ set-passes f (x ∷ l) (suc i) a e h =
 module _ (cs : List Connection) where
   pub connections-shown : length cs ≡ placesCount → every isConnection cs ≡ true → isConnections cs ≡ true
   unfolding isConnections
-  connections-shown long each = both (eq-eqb (length cs) placesCount long) each
+  connections-shown long each = grind (arith, long, each)
 
   module _ (legal : isConnections cs ≡ true) where
     pub connections-long : length cs ≡ placesCount
     unfolding isConnections
-    connections-long =
-        eqb-true (length cs) placesCount (both_left (eqb (length cs) placesCount) (every isConnection cs) legal)
+    connections-long = grind (arith, legal)
 
     pub connections-each : every isConnection cs ≡ true
     unfolding isConnections
-    connections-each = both_right (eqb (length cs) placesCount) (every isConnection cs) legal
+    connections-each = grind (arith, legal)
 
     pub connections-at : (p : ℕ) → p < placesCount → isConnection (get_or cs p noConnection) ≡ true
     connections-at p there =
@@ -53,8 +50,8 @@ module _ (cs : List Connection) where
     pub placed-legal : (p : ℕ) (c : Connection) → isConnection c ≡ true → isConnections (set cs p c) ≡ true
     unfolding isConnections
     placed-legal p c one =
-        both (eq-eqb (length (set cs p c)) placesCount (length-set cs p c ∙ connections-long))
-        (set-passes isConnection cs p c connections-each one)
+        let long : length (set cs p c) ≡ placesCount = length-set cs p c ∙ connections-long in
+        grind (arith, long, set-passes isConnection cs p c connections-each one)
 
 -- every place closed
 pub all-closed-legal : isConnections allClosed ≡ true

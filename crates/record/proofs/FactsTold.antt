@@ -3,7 +3,8 @@
 use Rattle.std.proofs.Common.{ℕ, arith, Bool, IsTrue, List, ◌↔◌}
 use Rattle.std.specs.Prelude.{All}
 use Rattle.text.specs.Scans.{every}
-use Rattle.record.specs.Legal.{isClear, fillsRoom, isOwn, isConnection, isConnections, isLegal}
+use Rattle.record.specs.Legal.{fillsRoom, isOwn, isConnection, isConnections, isLegal}
+use Rattle.record.specs.Rooms.{used}
 use Rattle.record.specs.Facts.{Fills, IsOwn, IsConnection, IsLegal}
 use Rattle.record.specs.declared.types.Settings.{Settings}
 use Rattle.record.specs.declared.types.Own.{Own}
@@ -15,7 +16,7 @@ use Rattle.record.proofs.PowerSeen.{power_is, left_is}
 
 pub fills_told : (room : ℕ) (rule : List ℕ → Bool) (s : List ℕ) (n : ℕ)
     → IsTrue (fillsRoom room rule s n) ↔ Fills room rule s n
-unfolding fillsRoom isClear
+unfolding fillsRoom used
 fills_told room rule s n = (
   λ h. record {
     long = grind (arith, h);

@@ -2,14 +2,12 @@
 -- Assumes nothing.
 use Prim.Native.Nat.{ℕ, ◌+◌, ◌*◌, ◌-◌, ◌<◌}
 use mathlib.Core.Path.{◌≡◌, sym, ap, ◌∙◌}
-use mathlib.Core.Bool.{Bool, true, not, ◌&&◌, false≢true}
+use mathlib.Core.Bool.{Bool, true, not, ◌&&◌}
 use mathlib.Core.List.{List}
 use native.Mathlib.Omega.{arith}
 use lib.ListN.{length, drop, length-drop}
 use lib.Seq.{get_or-drop}
 use lib.Dec.{eqb}
-use borrow.Author.Tests.{eq-eqb}
-use Rattle.text.proofs.Choices.{both, both_left, both_right}
 use Rattle.lines.specs.Bytes.{◌at◌}
 use Rattle.lines.specs.Inputs.{isInputText}
 use Rattle.record.specs.Rules.{isOther, is_none, isNewInput, isInputs}
@@ -24,15 +22,14 @@ module _ (c : ℕ) (s : List ℕ) (h : isInputs c s ≡ true) where
   new-at k l = pair-at (isNewInput c) s (inputs-new c s h) k l
 
   pub input-named : (k : ℕ) → 2 * k + 1 < length s → isInputText c (s at (2 * k)) (s at (2 * k + 1)) ≡ true
-  input-named k l =
-      both_left (isInputText c (s at (2 * k)) (s at (2 * k + 1))) (none-later k) (new-at k l)
+  input-named k l = grind (arith, new-at k l)
 
   module _ (j k : ℕ) (first : j < k) (l : 2 * k + 1 < length s) where
     abbrev place : ℕ
     place = k - j - 1
 
     none : none-later j ≡ true
-    none = both_right (isInputText c (s at (2 * j)) (s at (2 * j + 1))) (none-later j) (new-at j (omega arith))
+    none = grind (arith, new-at j (omega arith))
 
     other : not (eqb (s at (2 * k)) (s at (2 * j)) && eqb (s at (2 * k + 1)) (s at (2 * j + 1))) ≡ true
     unfolding is_none
@@ -47,6 +44,4 @@ module _ (c : ℕ) (s : List ℕ) (h : isInputs c s ≡ true) where
         (omega (arith, length-drop n s))
 
     pub inputs-differ : s at (2 * k) ≡ s at (2 * j) → s at (2 * k + 1) ≡ s at (2 * j + 1) → ⊥
-    inputs-differ e f =
-        let same = both (eq-eqb (s at (2 * k)) (s at (2 * j)) e) (eq-eqb (s at (2 * k + 1)) (s at (2 * j + 1)) f) in
-        false≢true (sym (ap not same) ∙ other)
+    inputs-differ e f = grind (arith, other, e, f)

@@ -78,9 +78,7 @@ one-more-kept room rule s n b k l h =
     record {
       long = length-set s n b ∙ k.long;
       inside = omega arith;
-      clear = rw (add-one n, rest)
-          (both_right (is_zero (get_or s n 0)) (every is_zero (drop (suc n) s))
-          (ap (every is_zero) (sym (drop-cons s n 0 inside)) ∙ k.clear));
+      clear = rw (add-one n, rest) (grind (arith, ap (every is_zero) (sym (drop-cons s n 0 inside)) ∙ k.clear));
       follows = rw (add-one n, take-suc-set s n b inside) h;
     }
 

@@ -1,11 +1,10 @@
-pub mod Rooms
+pub mod RoomsTold
 pub mod Places
 pub mod Sifted
-mod Window
+pub mod Window
 pub mod Pairs
 pub mod Marks
 pub mod MarksTold
-pub mod Tested
 pub mod PowerSeen
 pub mod FactsTold
 pub mod Kept

@@ -3,34 +3,26 @@
 -- Assumes nothing.
 use Prim.Native.Nat.{ℕ, zero, suc, ◌-◌, ◌+◌, ◌≤◌, ◌<◌}
 use mathlib.Core.Path.{◌≡◌, refl, sym, ap, ◌∙◌}
-use mathlib.Core.Bool.{Bool, true, false, not, ◌&&◌, ◌||◌}
+use mathlib.Core.Bool.{Bool, true, false, not}
 use mathlib.Core.List.{List, ◌∷◌, ◌++◌}
 use native.Mathlib.Numerals.{add-one}
 use native.Mathlib.Omega.{arith}
 use lib.ListN.{length, take, drop, set, replicate, length-set, length-append, length-replicate}
 use lib.Seq.{drop-set-lt, drop_at, length-take-le}
-use lib.Dec.{eqb}
-use borrow.Author.Tests.{eqb-true, eqb-false, eq-eqb}
 use Rattle.text.specs.Scans.{every}
-use Rattle.text.proofs.Choices.{both, both_left, both_right}
 use Rattle.record.specs.Limits.{lampsMost}
 use Rattle.record.specs.Rules.{isMarks}
 use Rattle.record.specs.Record.{allMarks}
 
 module _ (n : ℕ) (ms : List Bool) where
-  abbrev some : Bool
-  some = eqb n 0 || not (every not ms)
-
   module _ (legal : isMarks n ms ≡ true) where
-    first_two : (eqb (length ms) lampsMost && every not (drop n ms)) ≡ true
-    unfolding isMarks
-    first_two = both_left (eqb (length ms) lampsMost && every not (drop n ms)) some legal
-
     pub marks-long : length ms ≡ lampsMost
-    marks-long = eqb-true (length ms) lampsMost (both_left (eqb (length ms) lampsMost) _ first_two)
+    unfolding isMarks
+    marks-long = grind (arith, legal)
 
     pub marks-past : every not (drop n ms) ≡ true
-    marks-past = both_right (eqb (length ms) lampsMost) (every not (drop n ms)) first_two
+    unfolding isMarks
+    marks-past = grind (arith, legal)
 
     pub front-many : n ≤ lampsMost → length (take n ms) ≡ n
     front-many few = length-take-le n ms (omega (arith, marks-long))
@@ -38,12 +30,7 @@ module _ (n : ℕ) (ms : List Bool) where
   pub marks-shown : length ms ≡ lampsMost → every not (drop n ms) ≡ true → ((n ≡ 0 → ⊥) → every not ms ≡ false)
       → isMarks n ms ≡ true
   unfolding isMarks
-  marks-shown long past one =
-      both (both (eq-eqb (length ms) lampsMost long) past) (by (eqb n 0) refl)
-    where
-      by : (t : Bool) → eqb n 0 ≡ t → (t || not (every not ms)) ≡ true
-      by true e = refl
-      by false e = ap not (one (eqb-false n 0 e))
+  marks-shown long past one = grind (arith, long, past, one)
 
 -- one mark replaced, where one is left
 pub marked-legal : (n : ℕ) (ms : List Bool) (k : ℕ) (m : Bool) → isMarks n ms ≡ true → k < n

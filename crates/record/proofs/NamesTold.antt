@@ -5,18 +5,16 @@
 -- Assumes nothing.
 use Prim.Native.Nat.{ℕ, zero, suc, ◌-◌, ◌≤◌, ◌<◌}
 use mathlib.Core.Path.{◌≡◌, refl, sym, ap, ◌∙◌}
-use mathlib.Core.Bool.{Bool, true, ◌&&◌}
+use mathlib.Core.Bool.{true}
 use mathlib.Core.List.{List, [], ◌∷◌, map}
 use mathlib.Core.Logic.{⊎_elim}
 use native.Mathlib.Omega.{arith}
 use lib.ListN.{length, get_or, take, drop, replicate, length-append, length-replicate, take-append-drop}
 use lib.ListN.{get_or-eq_default}
 use lib.Seq.{take_at, drop_at}
-use lib.Dec.{eqb}
-use borrow.Author.Tests.{eqb-true, eq-eqb}
 use Rattle.text.specs.Scans.{every}
 use Rattle.text.proofs.Orders.{le-or-lt}
-use Rattle.text.proofs.Choices.{both, both_left, both_right}
+use Rattle.text.proofs.Choices.{both}
 use Rattle.text.proofs.Scanning.{every-at, every_append, every-implies, every_map}
 use Rattle.lines.specs.Texts.{isText, inputNameMost, isInputName}
 use Rattle.record.specs.Limits.{listedMost}
@@ -49,25 +47,13 @@ module _ (n : ℕ) (ns : List InputName) where
     pub used : every (fillsNameRoom inputNameMost) (take n ns) ≡ true
     pub unused : every (fillsNameRoom 0) (drop n ns) ≡ true
 
-  abbrev unused-ok : Bool
-  unused-ok = every (fillsNameRoom 0) (drop n ns)
-
-  abbrev used-ok : Bool
-  used-ok = every (fillsNameRoom inputNameMost) (take n ns)
-
   pub names-told : isNames n ns ≡ true → NamesTold
   unfolding isNames
-  names-told h =
-      let first = both_left (eqb (length ns) listedMost && unused-ok) used-ok h in
-      record {
-        long = eqb-true (length ns) listedMost (both_left (eqb (length ns) listedMost) unused-ok first);
-        used = both_right (eqb (length ns) listedMost && unused-ok) used-ok h;
-        unused = both_right (eqb (length ns) listedMost) unused-ok first;
-      }
+  names-told h = record { long = grind (arith, h); used = grind (arith, h); unused = grind (arith, h) }
 
   pub names-room-shown : NamesTold → isNames n ns ≡ true
   unfolding isNames
-  names-room-shown t = both (both (eq-eqb (length ns) listedMost t.long) t.unused) t.used
+  names-room-shown t = grind (arith, t.long, t.used, t.unused)
 
   -- a name stands at each place, one of the list or not: it may be empty
   pub name-kept : NamesTold → (k : ℕ) → NameKept (get_or ns k blankName)

@@ -8,10 +8,10 @@ use mathlib.Core.Bool.{Bool, true, false}
 use mathlib.Core.List.{List, [], ◌∷◌}
 use native.Mathlib.Omega.{arith}
 use lib.Dec.{ltb, eqb}
-use borrow.Author.Tests.{ltb-true, ltb-false}
-use Rattle.std.specs.Prelude.{if◌then◌else◌}
+use borrow.Author.Tests.{ltb-true, ltb-false, not-false}
+use Rattle.std.specs.Prelude.{not, Option, Some, None, if◌then◌else◌}
 use Rattle.text.specs.Scans.{every}
-use Rattle.text.proofs.Choices.{if_yes, if_no, if-by, both, both_left, both_right}
+use Rattle.text.proofs.Choices.{if_no, if-by, both, both_left, both_right}
 use Rattle.text.proofs.OneResult.{one-result}
 use Rattle.record.specs.Wanted.{Wanted}
 use Rattle.record.specs.SetUp.{settingsInOrder, isSettingInRange, isInRange, isSetUp}
@@ -20,8 +20,6 @@ use Rattle.record.specs.declared.types.Setting.{Setting}
 use Rattle.record.specs.declared.types.Setting.TheVariants.{Name, Maker, Model, Other, Password, Inputs}
 use Rattle.record.specs.declared.types.Setting.TheVariants.{Lamps, WarmUp, Cooling, Serial, Version}
 use Rattle.record.specs.declared.types.Setting.TheVariants.{Names}
-use Rattle.record.specs.declared.types.MaybeSetting.{MaybeSetting}
-use Rattle.record.specs.declared.types.MaybeSetting.TheVariants.{SettingIs, NoSetting}
 use Rattle.record.proofs.Calls.{set-up-ranged}
 
 -- ---- the places
@@ -83,22 +81,14 @@ in_order =
 
 -- ---- under any rules
 
+not-true : (b : Bool) → not b ≡ true → b ≡ false
+not-true false h = refl
+not-true true h = sym h
+
 never : {A : Type 0} (t : Bool) → t ≡ true → t ≡ false → A
 never t p q = let z : ◌≡◌ {A = ℕ} 0 1 = cc in absurd (omega arith)
 
 module _ (f : Setting → Bool) where
-  pub setting-passed : (s : Setting) (l : List Setting) → f s ≡ true → firstFailing f (s ∷ l) ≡ firstFailing f l
-  unfolding firstFailing
-  setting-passed s l h = if_yes _ _ h
-
-  pub setting-stops : (s : Setting) (l : List Setting) → f s ≡ false → firstFailing f (s ∷ l) ≡ SettingIs s
-  unfolding firstFailing
-  setting-stops s l h = if_no _ _ h
-
-  pub no-settings-left : firstFailing f [] ≡ NoSetting
-  unfolding firstFailing
-  no-settings-left = refl
-
   abbrev AllBelow : ℕ → Type 0
   AllBelow k = (t : Setting) → settingPlace t < k → f t ≡ true
 
@@ -111,50 +101,48 @@ module _ (f : Setting → Bool) where
 
   -- from the place k on, where all below it are in range
   holds-from : (k : ℕ) (l : List Setting) → Stepped k l → AllBelow k → SettingHolds f (firstFailing f l)
-  unfolding firstFailing
   holds-from k [] e known = λ s. known s (omega (arith, setting-place-within s))
   holds-from k (s ∷ l) steps known =
-      if-by (SettingHolds f) (f s) (λ h. holds-from (suc k) l steps.1 (one_more k s steps.0 h known))
-      (λ h. record { out = h; earlier = λ t below. known t (omega (arith, steps.0)) })
+      if-by (SettingHolds f) (not (f s))
+      (λ h. record { out = not-true (f s) h; earlier = λ t below. known t (omega (arith, steps.0)) })
+      (λ h. holds-from (suc k) l steps.1 (one_more k s steps.0 (not-false (f s) h) known))
 
-  one_holds : (m n : MaybeSetting) → SettingHolds f m → SettingHolds f n → m ≡ n
-  one_holds NoSetting NoSetting p q = refl
-  one_holds NoSetting (SettingIs t) p q = never (f t) (p t) q.out
-  one_holds (SettingIs s) NoSetting p q = never (f s) (q s) p.out
-  one_holds (SettingIs s) (SettingIs t) p q =
+  one_holds : (m n : Option Setting) → SettingHolds f m → SettingHolds f n → m ≡ n
+  one_holds None None p q = refl
+  one_holds None (Some t) p q = never (f t) (p t) q.out
+  one_holds (Some s) None p q = never (f s) (q s) p.out
+  one_holds (Some s) (Some t) p q =
       let not-before : settingPlace s < settingPlace t → ⊥ = λ l. never (f s) (q.earlier s l) p.out in
       let not_after : settingPlace t < settingPlace s → ⊥ = λ l. never (f t) (p.earlier t l) q.out in
-      ap SettingIs (one-setting-place s t (omega arith))
+      ap Some (one-setting-place s t (omega arith))
 
   -- what is told holds
   pub first_holds : SettingHolds f (firstFailing f settingsInOrder)
   first_holds = holds-from 1 settingsInOrder in_order (λ t below. absurd (omega (arith, setting-place-within t)))
 
   -- and what holds is told
-  pub holding-told : (m : MaybeSetting) → SettingHolds f m → firstFailing f settingsInOrder ≡ m
+  pub holding-told : (m : Option Setting) → SettingHolds f m → firstFailing f settingsInOrder ≡ m
   holding-told m h = one_holds _ m first_holds h
 
   -- none fails where all are met, and only there
-  pub none-failing : (l : List Setting) → every f l ≡ true → firstFailing f l ≡ NoSetting
-  unfolding firstFailing
+  pub none-failing : (l : List Setting) → every f l ≡ true → firstFailing f l ≡ None
   none-failing [] h = refl
   none-failing (s ∷ l) h =
-      if_yes _ _ (both_left (f s) (every f l) h) ∙ none-failing l (both_right (f s) (every f l) h)
+      if_no _ _ (ap not (both_left (f s) (every f l) h)) ∙ none-failing l (both_right (f s) (every f l) h)
 
-  pub all-met : (l : List Setting) → firstFailing f l ≡ NoSetting → every f l ≡ true
-  unfolding firstFailing
+  pub all-met : (l : List Setting) → firstFailing f l ≡ None → every f l ≡ true
   all-met [] = λ e. refl
-  all-met (s ∷ l) = if-by (λ (m : MaybeSetting). m ≡ NoSetting → every f (s ∷ l) ≡ true) (f s)
-      (λ h e. both h (all-met l e)) (λ h e. let z : ◌≡◌ {A = ℕ} 0 1 = cc in absurd (omega arith))
+  all-met (s ∷ l) = if-by (λ (m : Option Setting). m ≡ None → every f (s ∷ l) ≡ true) (not (f s))
+      (λ h e. let z : ◌≡◌ {A = ℕ} 0 1 = cc in absurd (omega arith)) (λ h e. both (not-false (f s) h) (all-met l e))
 
 -- ---- against set-up
 
 module _ (w : Wanted) where
-  pub none-in-range : firstOutOfRange w ≡ NoSetting → isInRange w ≡ true
+  pub none-in-range : firstOutOfRange w ≡ None → isInRange w ≡ true
   unfolding isInRange
   none-in-range = all-met (isSettingInRange w) settingsInOrder
 
-  pub in-range-none : isInRange w ≡ true → firstOutOfRange w ≡ NoSetting
+  pub in-range-none : isInRange w ≡ true → firstOutOfRange w ≡ None
   unfolding isInRange
   in-range-none = none-failing (isSettingInRange w) settingsInOrder
 
@@ -162,12 +150,12 @@ module _ (w : Wanted) where
   each-in-range h =
       subst (SettingHolds (isSettingInRange w)) (in-range-none (set-up-ranged w h)) (first_holds (isSettingInRange w))
 
-  pub some_out : (s : Setting) → firstOutOfRange w ≡ SettingIs s → isInRange w ≡ false
+  pub some_out : (s : Setting) → firstOutOfRange w ≡ Some s → isInRange w ≡ false
   some_out s e = by (isInRange w) refl
     where
       by : (b : Bool) → isInRange w ≡ b → b ≡ false
       by false h = refl
       by true h = let f = in-range-none h in let z : ◌≡◌ {A = ℕ} 0 1 = cc in absurd (omega arith)
 
-  pub one-setting : {r q : MaybeSetting} → r ≡ firstOutOfRange w → q ≡ firstOutOfRange w → r ≡ q
+  pub one-setting : {r q : Option Setting} → r ≡ firstOutOfRange w → q ≡ firstOutOfRange w → r ≡ q
   one-setting e f = one-result e f

@@ -8,18 +8,18 @@ use mathlib.Core.Path.{◌≡◌, refl}
 use mathlib.Core.Bool.{true, false}
 use mathlib.Core.List.{List, [], ◌∷◌, map}
 use lib.ListN.{take, replicate}
+use Rattle.std.specs.Prelude.{Option, Some, None}
 use Rattle.text.specs.Words.{ascii}
 use Rattle.record.specs.Limits.{lampLimit}
 use Rattle.record.specs.Wanted.{Wanted, wantedOf, wantedOf2, namesIn}
 use Rattle.record.specs.Record.{started}
 use Rattle.record.specs.Legal.{isLegal}
 use Rattle.record.specs.SetUp.{settingsInOrder, setUp}
-use Rattle.record.specs.OutOfRange.{firstFailing, refusedSetting}
+use Rattle.record.specs.OutOfRange.{refusedSetting}
 use Rattle.record.specs.Computing.{computing}
 use Rattle.record.specs.declared.types.Changed.{Changed}
 use Rattle.record.specs.declared.types.Setting.TheVariants.{Password, Cooling, Serial, Version, Names}
-use Rattle.record.specs.declared.types.MaybeSetting.{MaybeSetting}
-use Rattle.record.specs.declared.types.MaybeSetting.TheVariants.{SettingIs, NoSetting}
+use Rattle.record.specs.declared.types.Setting.{Setting}
 
 -- W = 20, C = 60, one lamp; the name and the inputs as given
 abbrev small : String → String → ℕ → Changed
@@ -78,14 +78,14 @@ unfolding computing
 eight-legal = refl
 
 -- one lamp
-abbrev which : (name maker model other password inputs : String) (lamp warm cool : ℕ) → MaybeSetting
+abbrev which : (name maker model other password inputs : String) (lamp warm cool : ℕ) → Option Setting
 which name maker model other password inputs lamp warm cool =
     refusedSetting
     (wantedOf (ascii name) (ascii maker) (ascii model) (ascii other) (ascii password) (ascii inputs) (lamp ∷ [])
     warm cool)
 
 -- each setting out of its range in turn, the others in theirs, but for C = c
-abbrev in_turn : ℕ → List MaybeSetting
+abbrev in_turn : ℕ → List (Option Setting)
 in_turn c =
     which "ERR1" "" "" "" "" "11" 0 20 c ∷ which "" "ERR1" "" "" "" "11" 0 20 c
     ∷ which "" "" "ERR1" "" "" "11" 0 20 c ∷ which "" "" "" "ERR1" "" "11" 0 20 c
@@ -93,25 +93,25 @@ in_turn c =
     ∷ which "" "" "" "" "" "11" 360000000 20 c ∷ which "" "" "" "" "" "11" 0 601 c ∷ which "" "" "" "" "" "11" 0 20 0
     ∷ []
 
-pub each-setting-told : in_turn 60 ≡ map SettingIs (take 9 settingsInOrder)
-unfolding computing firstFailing
+pub each-setting-told : in_turn 60 ≡ map Some (take 9 settingsInOrder)
+unfolding computing
 each-setting-told = refl
 
-pub first-of-two-told : in_turn 0 ≡ map SettingIs (take 9 settingsInOrder)
-unfolding computing firstFailing
+pub first-of-two-told : in_turn 0 ≡ map Some (take 9 settingsInOrder)
+unfolding computing
 first-of-two-told = refl
 
-pub no-setting-told : which "ERR5" "" "" "" "password" "1159" lampLimit 600 600 ≡ NoSetting
-unfolding computing firstFailing
+pub no-setting-told : which "ERR5" "" "" "" "password" "1159" lampLimit 600 600 ≡ None
+unfolding computing
 no-setting-told = refl
 
-pub short-password-told : which "" "" "" "" "abcdef7" "11" 0 20 60 ≡ SettingIs Password
-unfolding computing firstFailing
+pub short-password-told : which "" "" "" "" "abcdef7" "11" 0 20 60 ≡ Some Password
+unfolding computing
 short-password-told = refl
 
 -- a password of seven characters is in its range
-pub later-setting-told : which "" "" "" "" "abcdef7" "11" 0 20 0 ≡ SettingIs Cooling
-unfolding computing firstFailing
+pub later-setting-told : which "" "" "" "" "abcdef7" "11" 0 20 0 ≡ Some Cooling
+unfolding computing
 later-setting-told = refl
 
 -- ---- Class 2 (RULES, Class 2)
@@ -158,12 +158,12 @@ names-cut = refl
 pub names-short : namesIn (4 ∷ 2 ∷ []) (ascii "CastB") ≡ []
 names-short = refl
 
-abbrev which2 : (serial version : String) (names : List (List ℕ)) → MaybeSetting
+abbrev which2 : (serial version : String) (names : List (List ℕ)) → Option Setting
 which2 serial version names =
     refusedSetting (wantedOf2 [] [] [] [] [] (ascii "11") [] 20 60 (ascii serial) (ascii version) names)
 
 pub setting-of-2-told :
     (which2 "ERR1" "ERR1" none ∷ which2 "" "ERR1" none ∷ which2 "" "" none ∷ which2 "" "" ([] ∷ []) ∷ [])
-    ≡ SettingIs Serial ∷ SettingIs Version ∷ SettingIs Names ∷ NoSetting ∷ []
-unfolding computing firstFailing
+    ≡ Some Serial ∷ Some Version ∷ Some Names ∷ None ∷ []
+unfolding computing
 setting-of-2-told = refl

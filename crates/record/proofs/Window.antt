@@ -2,15 +2,23 @@
 --   window           128 spaces, and 128 zeros after them
 -- Assumes nothing.
 use Rattle.std.proofs.Common.{◌≡◌, ℕ, ◌+◌, ◌-◌, ◌<◌, ◌≤◌, min, List, ◌++◌, length, get_or, take, drop}
-use Rattle.std.proofs.Common.{replicate, ◌∙◌, eqb, arith, eq-eqb}
+use Rattle.std.proofs.Common.{replicate, ◌∙◌, eqb, arith, eq-eqb, false, not, ◌&&◌, zero, suc}
+use Rattle.std.specs.Prelude.{nat_le, ◌==◌, is_some}
 use Rattle.std.proofs.lemmas.Bool.{ne_eqb}
 use Rattle.std.proofs.lemmas.List.{get_or-take, get_or-drop, get_or-replicate, get_or_append_left, length-replicate}
 use Rattle.std.proofs.Math.Seq.{get_or-append_right}
 use borrow.Author.Tests.{le-leb, lt-leb}
 use mathlib.Core.Logic.{⊎_elim}
 use Rattle.text.proofs.Orders.{le-or-lt}
-use Rattle.lines.specs.Texts.{isTextByte}
-use Rattle.record.specs.Legal.{is_zero}
+use Rattle.text.specs.Scans.{every}
+use Rattle.lines.specs.Texts.{isTextByte, isText, isRefusal}
+use Rattle.lines.proofs.WithinLength.{text-within, text-longer}
+use Rattle.record.specs.Rooms.{used}
+use Rattle.record.specs.Legal.{is_zero, fillsRoom}
+use Rattle.record.proofs.Rules.{empty-text}
+use Rattle.record.proofs.RoomsTold.{used_many, used_blank, used_not_blank}
+use Rattle.std.proofs.Math.Seq.{length-take-le}
+use Rattle.std.proofs.lemmas.Grind.{common_steps}
 
 abbrev spaces : List ℕ
 spaces = replicate 128 0x20
@@ -60,3 +68,58 @@ module _ (b w r : ℕ) (low : r ≡ min b 0x20) where
 
       under : b < 1 → eqb r w ≡ is_zero b
       under g = rw (eq-eqb b 0 (omega arith)) (eq-eqb r w (omega arith))
+
+-- the rule of a text, by the tests of its length and of its bytes
+text_by_tests : (s : List ℕ) (m : ℕ) → isText m s ≡ (nat_le (length s) m && every isTextByte s && not (isRefusal s))
+text_by_tests s m = ⊎_elim short over (le-or-lt (length s) m)
+  where
+    short : length s ≤ m → isText m s ≡ (nat_le (length s) m && every isTextByte s && not (isRefusal s))
+    short h = grind (arith, common_steps, text-within s m h)
+
+    over : m < length s → isText m s ≡ (nat_le (length s) m && every isTextByte s && not (isRefusal s))
+    over h = grind (arith, common_steps, text-longer s m h)
+
+-- a text in its room, by what one pass finds: the tests in their order
+pub text_filled : (room : ℕ) (s : List ℕ) (n most : ℕ) → length s ≡ room → fillsRoom room (isText most) s n
+    ≡ (nat_le n most && nat_le n room && (every is_zero (drop n s) && every isTextByte (take n s))
+    && not (isRefusal (take n s)))
+unfolding fillsRoom
+text_filled room s n most long = ⊎_elim inside over (le-or-lt n room)
+  where
+    inside : n ≤ room → fillsRoom room (isText most) s n
+        ≡ (nat_le n most && nat_le n room && (every is_zero (drop n s) && every isTextByte (take n s))
+        && not (isRefusal (take n s)))
+    inside h =
+        let many : length (take n s) ≡ n = length-take-le n s (omega arith) in
+        let rule = text_by_tests (take n s) most in
+        let blank = used_blank is_zero room s n long h in
+        grind (arith, common_steps, blank, used_not_blank is_zero room s n long h, rule, many)
+
+    over : room < n → fillsRoom room (isText most) s n
+        ≡ (nat_le n most && nat_le n room && (every is_zero (drop n s) && every isTextByte (take n s))
+        && not (isRefusal (take n s)))
+    over h = grind (arith, common_steps, used_many is_zero room s n long h)
+
+-- no name in its room: nothing of it is used
+module _ (room : ℕ) (s : List ℕ) (long : length s ≡ room) where
+  none_named : fillsRoom room (isText 0) s 0 ≡ is_some (used is_zero room s 0)
+  unfolding fillsRoom used
+  none_named = grind (arith, common_steps, empty-text 0)
+
+  some_named : (n : ℕ) → 0 < n → fillsRoom room (isText 0) s n ≡ false
+  unfolding fillsRoom
+  some_named n some = ⊎_elim inside over (le-or-lt n room)
+    where
+      inside : n ≤ room → fillsRoom room (isText 0) s n ≡ false
+      inside h =
+          let many : length (take n s) ≡ n = length-take-le n s (omega arith) in
+          let longer = text-longer (take n s) 0 (omega arith) in
+          let blank = used_blank is_zero room s n long h in
+          grind (arith, common_steps, blank, used_not_blank is_zero room s n long h, longer)
+
+      over : room < n → fillsRoom room (isText 0) s n ≡ false
+      over h = grind (arith, common_steps, used_many is_zero room s n long h)
+
+  pub no_name : (n : ℕ) → fillsRoom room (isText 0) s n ≡ (n == 0 && is_some (used is_zero room s 0))
+  no_name zero = none_named
+  no_name (suc n) = grind (arith, some_named (suc n) (omega arith))

@@ -4,7 +4,8 @@
 use Rattle.lines.specs.Computing.{computing as lines}
 use Rattle.record.specs.Rules.{isSetUpPassword, eachPair, is_none, isInputs, isLamps, isMarks, isErrors, areNames}
 use Rattle.record.specs.Record.{inRoom, namesKept, closed, allMarks, started, blank}
-use Rattle.record.specs.Legal.{isClear, fillsRoom, isNames, isRestOf2, isSettings, isLeft, isOwn}
+use Rattle.record.specs.Rooms.{used}
+use Rattle.record.specs.Legal.{fillsRoom, isNames, isRestOf2, isSettings, isLeft, isOwn}
 use Rattle.record.specs.Legal.{isAge, heldMost, is_held, isConnection, isConnections, isLegal}
 use Rattle.record.specs.Places.{lowestShut}
 use Rattle.record.specs.SetUp.{isInRange, isSetUp, setUp}
@@ -13,6 +14,6 @@ use Rattle.record.specs.HostCalls.{faultSet, errorsSet, markSet}
 unfoldable pub computing : Unit {0}
 unfolding
     lines isSetUpPassword eachPair is_none isInputs isLamps isMarks isErrors areNames inRoom namesKept closed allMarks
-    started blank isClear fillsRoom isNames isRestOf2 isSettings isLeft isOwn isAge heldMost is_held isConnection
+    started blank used fillsRoom isNames isRestOf2 isSettings isLeft isOwn isAge heldMost is_held isConnection
     isConnections isLegal isInRange isSetUp setUp lowestShut faultSet errorsSet markSet
 computing = tt

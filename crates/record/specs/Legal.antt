@@ -1,7 +1,6 @@
 -- A legal record (RULES, The legal record, last paragraph), a definition a part: settings alone, the own part with the
 -- settings, each connection alone. An array of a record is a list of any length here, so each part says its arrays'
 -- lengths.
---   isClear s n               s has n places and more, and zero at each place from n on: its unused room
 --   fillsRoom room rule s n      the array s has that room; its first n places follow the rule, the rest is zero
 --   fillsTextRoom rule t         a text follows the rule
 --   fillsNameRoom most t         the name of an input has at most so many bytes
@@ -23,6 +22,7 @@ use Rattle.text.specs.Scans.{every}
 use Rattle.lines.specs.Bytes.{noCr}
 use Rattle.lines.specs.Texts.{isText, isName, isInfo, infoMost, inputNameMost}
 use Rattle.lines.specs.Forms.{commandMost}
+use Rattle.record.specs.Rooms.{used, holds}
 use Rattle.record.specs.Limits.{textRoom, listedMost, inputRoom, lampsMost, lineRoom, ageEnd}
 use Rattle.record.specs.Limits.{placesCount, onlyIn2, cooling, warming}
 use Rattle.record.specs.Limits.{shut, awaiting, opened, failed, isPower, isPhase}
@@ -37,11 +37,8 @@ use Rattle.record.specs.declared.types.Device.{Device}
 abbrev pub is_zero : ℕ → Bool
 is_zero x = eqb x 0
 
-unfoldable pub isClear : List ℕ → ℕ → Bool
-isClear s n = leb n (length s) && every is_zero (drop n s)
-
 unfoldable pub fillsRoom : ℕ → (List ℕ → Bool) → List ℕ → ℕ → Bool
-fillsRoom room rule s n = eqb (length s) room && isClear s n && rule (take n s)
+fillsRoom room rule s n = holds rule (used is_zero room s n)
 
 abbrev pub fillsTextRoom : (List ℕ → Bool) → Text → Bool
 fillsTextRoom rule t = fillsRoom textRoom rule t.bytes t.len

@@ -1,3 +1,4 @@
+pub mod Rooms
 pub mod Limits
 pub mod Wanted
 pub mod Updates

@@ -9,7 +9,9 @@
 --   FirstOut f s              s is the first: its rule is not met, and that of each earlier one is
 --   SettingHolds f m          what m says of the rules f: s is the first, or every rule is met
 -- Assumes nothing.
-use Rattle.std.specs.Prelude.{ℕ, ◌<◌, ◌≡◌, Bool, true, false, List, [], ◌∷◌, length, if◌then◌else◌}
+use Rattle.std.specs.Prelude.{ℕ, ◌<◌, ◌≡◌, Bool, true, false, not, List, length, Option, Some, None}
+use Rattle.std.specs.Prelude.{if◌then◌else◌}
+use Rattle.std.specs.List.{find}
 use Rattle.record.specs.Wanted.{Wanted}
 use Rattle.record.specs.Rules.{isLongEnough}
 use Rattle.record.specs.SetUp.{settingsInOrder, isSettingInRange}
@@ -17,8 +19,6 @@ use Rattle.record.specs.declared.types.Setting.{Setting}
 use Rattle.record.specs.declared.types.Setting.TheVariants.{Name, Maker, Model, Other, Password, Inputs}
 use Rattle.record.specs.declared.types.Setting.TheVariants.{Lamps, WarmUp, Cooling, Serial, Version}
 use Rattle.record.specs.declared.types.Setting.TheVariants.{Names}
-use Rattle.record.specs.declared.types.MaybeSetting.{MaybeSetting}
-use Rattle.record.specs.declared.types.MaybeSetting.TheVariants.{SettingIs, NoSetting}
 
 abbrev pub settingPlace : Setting → ℕ
 settingPlace Name = 1
@@ -34,24 +34,23 @@ settingPlace Serial = 10
 settingPlace Version = 11
 settingPlace Names = 12
 
-unfoldable pub firstFailing : (Setting → Bool) → List Setting → MaybeSetting
-firstFailing f [] = NoSetting
-firstFailing f (s ∷ l) = if f s then firstFailing f l else SettingIs s
+abbrev pub firstFailing : (Setting → Bool) → List Setting → Option Setting
+firstFailing f l = find (λ s. not (f s)) l
 
-abbrev pub firstOutOfRange : Wanted → MaybeSetting
+abbrev pub firstOutOfRange : Wanted → Option Setting
 firstOutOfRange w = firstFailing (isSettingInRange w) settingsInOrder
 
-abbrev pub orShort : Bool → MaybeSetting → MaybeSetting
-orShort long (SettingIs s) = SettingIs s
-orShort long NoSetting = if long then NoSetting else SettingIs Password
+abbrev pub orShort : Bool → Option Setting → Option Setting
+orShort long (Some s) = Some s
+orShort long None = if long then None else Some Password
 
-abbrev pub refusedSetting : Wanted → MaybeSetting
+abbrev pub refusedSetting : Wanted → Option Setting
 refusedSetting w = orShort (isLongEnough (length w.password)) (firstOutOfRange w)
 
 pub record FirstOut (f : Setting → Bool) (s : Setting) : Type 0 where
   pub out : f s ≡ false
   pub earlier : (t : Setting) → settingPlace t < settingPlace s → f t ≡ true
 
-abbrev pub SettingHolds : (Setting → Bool) → MaybeSetting → Type 0
-SettingHolds f (SettingIs s) = FirstOut f s
-SettingHolds f NoSetting = (s : Setting) → f s ≡ true
+abbrev pub SettingHolds : (Setting → Bool) → Option Setting → Type 0
+SettingHolds f (Some s) = FirstOut f s
+SettingHolds f None = (s : Setting) → f s ≡ true

@@ -2,7 +2,6 @@
 ghost use Rattle.std.specs.Prelude.{◌≡◌};
 ghost use Rattle.record.specs.Legal.{isConnections};
 
-use crate::connection;
 use crate::types::{Connection, PLACES};
 
 #[tactic(auto, unfolding(crate::specs::Legal::isConnections))]
@@ -11,7 +10,7 @@ pub fn connections_ok(connections: &[Connection; PLACES]) -> bool
 {
     let mut ok = true;
     for c in connections {
-        ok = ok & connection::connection_ok(c);
+        ok = ok & c.is_legal();
     }
     ok
 }

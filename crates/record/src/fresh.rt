@@ -1,19 +1,18 @@
-// What a set-up or a load gives where it is refused, and the places of a fresh record (RULES, The legal record and
-// Places).
+// The record that a refused set-up or load leaves, and the places of a fresh one (RULES, The legal record and Places).
 ghost use Rattle.std.specs.Prelude.{◌≡◌};
-ghost use Rattle.record.specs.Record.{blank, allClosed, refused};
+ghost use Rattle.record.specs.Record.{blank, allClosed};
 
-use crate::types::{Changed, Connection, Device, PLACES};
+use crate::types::{Connection, Device, PLACES};
 
-// A refusal: its number, and the blank record.
+/// The blank record, all zero: what a refused set-up, or a refused load, leaves. It is not legal.
 #[tactic(auto, unfolding(crate::specs::Record::blank, crate::specs::Record::closed))]
-pub fn refuse(number: u32) -> Changed
-    ensures { result ≡ refused number blank }
+pub fn blank() -> Device
+    ensures { result ≡ blank }
 {
-    let device = Device::BLANK;
-    Changed { number, device }
+    Device::BLANK
 }
 
+/// Every place closed.
 #[tactic(auto, unfolding(crate::specs::Record::closed))]
 pub fn all_closed() -> [Connection; PLACES]
     ensures { result ≡ allClosed }

@@ -55,7 +55,7 @@ impl Device {
         }
         let mut marks = self.own.enabled;
         marks[lamp] = mark;
-        if own::none_marked(&marks, 0) {
+        if own::none_marked(&marks) {
             return Err(Refusal::OutOfRange);
         }
         if self.own.power != OFF {

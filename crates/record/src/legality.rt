@@ -2,19 +2,18 @@
 ghost use Rattle.std.specs.Prelude.{◌≡◌};
 ghost use Rattle.record.specs.Legal.{isLegal};
 
+use crate::connections;
 use crate::types::Device;
-use crate::{connections, own, settings};
 
 impl Device {
-    /// Whether the record is one that set-up and calls can leave. No part is passed over when an earlier one is wrong,
-    /// so that the compiler takes many bytes at once.
+    /// Whether the record is one that set-up and calls can leave.
     #[tactic(auto, unfolding(crate::specs::Legal::isLegal))]
     pub fn is_legal(&self) -> bool
         ensures { result ≡ isLegal self.now }
     {
-        settings::settings_ok(&self.settings)
-            & own::own_ok(&self.settings, &self.own)
-            & connections::connections_ok(&self.connections)
+        self.settings.is_legal()
+            && self.own.is_legal(&self.settings)
+            && connections::connections_ok(&self.connections)
     }
 }
 

@@ -1,12 +1,12 @@
 // The power, and the legality of the projector's own part (RULES, The legal record).
-ghost use Rattle.std.specs.Prelude.{◌≡◌, not, drop};
+ghost use Rattle.std.specs.Prelude.{◌≡◌, ◌≤◌, not};
 ghost use Rattle.text.specs.Scans.{every};
 ghost use Rattle.record.specs.Limits.{lampsMost, isLit, isBetween};
 ghost use Rattle.record.specs.Rules.{isLamps, isMarks, isErrors};
 ghost use Rattle.record.specs.Legal.{fillsRoom, isLeft, isOwn};
 
-use crate::scan;
 use crate::types::{ERRORS, LAMPS_MOST, Own, Settings};
+use crate::{rooms, scan};
 
 // 99,999 hours and 3,599 seconds.
 pub const LAMP_LIMIT: u32 = 359_999_999;
@@ -49,32 +49,27 @@ pub fn lamps_ok(s: &[u32]) -> bool
     (s.len() <= LAMPS_MOST) & scan::numbers_within(s, LAMP_LIMIT)
 }
 
-fn lamp_list_ok(list: &[u32; LAMPS_MOST], count: usize) -> bool
-    ensures { result ≡ fillsRoom lampsMost isLamps list.now count }
+#[tactic(auto, unfolding(crate::specs::Legal::fillsRoom))]
+fn lamp_room_ok(room: &[u32; LAMPS_MOST], count: usize) -> bool
+    ensures { result ≡ fillsRoom lampsMost isLamps room.now count }
 {
-    if LAMPS_MOST < count {
-        return false;
-    }
-    scan::numbers_within(&list[count..], 0) & lamps_ok(&list[0..count])
+    rooms::used(room, count).is_some_and(|lamps| lamps_ok(lamps))
 }
 
-// No lamp is enabled from this place on.
-pub fn none_marked(marks: &[bool; LAMPS_MOST], from: usize) -> bool
-    ensures { result ≡ every not (drop from marks.now) }
+/// Whether no lamp is enabled.
+pub fn none_marked(marks: &[bool; LAMPS_MOST]) -> bool
+    ensures { result ≡ every not marks.now }
 {
-    let mut none = true;
-    for i in from..LAMPS_MOST {
-        none = none & !marks[i];
-    }
-    none
+    rooms::are_blank(marks)
 }
 
 // None past the lamps, and one at least where there are lamps (RULES, Lamps).
-#[tactic(auto, unfolding(crate::specs::Rules::isMarks))]
+#[tactic(auto, using(crate::proofs::RoomsTold::marks_used))]
 fn marks_ok(marks: &[bool; LAMPS_MOST], count: usize) -> bool
+    requires { count ≤ lampsMost }
     ensures { result ≡ isMarks count marks.now }
 {
-    none_marked(marks, count) & ((count == 0) | !none_marked(marks, 0))
+    rooms::used(marks, count).is_some() && (count == 0 || !none_marked(marks))
 }
 
 // Six error digits, each 0 to 2.
@@ -99,15 +94,18 @@ fn left_ok(power: u8, left: u32, warm: u32, cool: u32) -> bool
     (power <= WARMING) & (left == 0)
 }
 
-#[tactic(auto, unfolding(crate::specs::Legal::isOwn))]
-pub fn own_ok(s: &Settings, o: &Own) -> bool
-    ensures { result ≡ isOwn s.now o.now }
-{
-    errors_ok(&o.errors)
-        & lamp_list_ok(&o.lamps, s.lamp_count)
-        & marks_ok(&o.enabled, s.lamp_count)
-        & left_ok(o.power, o.left, s.warm, s.cool)
-        & (o.chosen < s.input_count)
-        & (o.speaker <= VOLUME_MOST)
-        & (o.microphone <= VOLUME_MOST)
+impl Own {
+    /// Whether the own part is one that calls can leave under these settings.
+    #[tactic(auto, using(crate::proofs::RoomsTold::fills_inside), unfolding(crate::specs::Legal::isOwn))]
+    pub fn is_legal(&self, s: &Settings) -> bool
+        ensures { result ≡ isOwn s.now self.now }
+    {
+        errors_ok(&self.errors)
+            && lamp_room_ok(&self.lamps, s.lamp_count)
+            && marks_ok(&self.enabled, s.lamp_count)
+            && left_ok(self.power, self.left, s.warm, s.cool)
+            && self.chosen < s.input_count
+            && self.speaker <= VOLUME_MOST
+            && self.microphone <= VOLUME_MOST
+    }
 }

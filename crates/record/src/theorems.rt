@@ -1,13 +1,11 @@
 // What is proved beside the contracts of the functions. Nothing is done here: that these functions have their contracts
 // is that the theorems stand.
-ghost use Rattle.std.specs.Prelude.{◌≡◌, Bool, true, List, ℕ};
+ghost use Rattle.std.specs.Prelude.{◌≡◌, Bool, true, List, ℕ, Option, Some, None};
 ghost use Rattle.record.specs.declared.types.Setting.{Setting};
 ghost use Rattle.record.specs.OutOfRange.{SettingHolds, firstFailing, firstOutOfRange};
 ghost use Rattle.record.specs.OutOfRange.{refusedSetting};
 ghost use Rattle.record.specs.SetUp.{settingsInOrder, isInRange, setUp};
-ghost use Rattle.record.specs.declared.types.MaybeSetting.{MaybeSetting};
 ghost use Rattle.record.specs.Wanted.{Wanted};
-ghost use Rattle.record.specs.declared.types.MaybeSetting.TheVariants.{NoSetting, SettingIs};
 ghost use Rattle.record.specs.declared.types.Setting.TheVariants.{Password};
 ghost use Rattle.record.specs.declared.types.Changed.{Changed};
 ghost use Rattle.record.specs.declared.types.Device.{Device};
@@ -17,26 +15,26 @@ ghost use Rattle.record.specs.HostCalls.{faultSet, errorsSet, markSet};
 /// The setting told is the first that is out of its range, or none where each is in it; and what holds is told.
 pub fn the_setting_told_holds()
     ensures told_holds { (f : Setting → Bool) → SettingHolds f (firstFailing f settingsInOrder) }
-    ensures holds_told { (f : Setting → Bool) (m : MaybeSetting)
+    ensures holds_told { (f : Setting → Bool) (m : Option Setting)
         → SettingHolds f m → firstFailing f settingsInOrder ≡ m }
-    ensures none_in_range { (w : Wanted) → firstOutOfRange w ≡ NoSetting → isInRange w ≡ true }
-    ensures in_range_none { (w : Wanted) → isInRange w ≡ true → firstOutOfRange w ≡ NoSetting }
+    ensures none_in_range { (w : Wanted) → firstOutOfRange w ≡ None → isInRange w ≡ true }
+    ensures in_range_none { (w : Wanted) → isInRange w ≡ true → firstOutOfRange w ≡ None }
 {}
 
 /// Which setting set-up refused, by the number that it gave.
 pub fn the_number_tells_the_setting()
     ensures out_of_range { (w : Wanted) → (setUp w).number ≡ 3 → refusedSetting w ≡ firstOutOfRange w }
-    ensures too_short { (w : Wanted) → (setUp w).number ≡ 8 → refusedSetting w ≡ SettingIs Password }
-    ensures none_where_accepted { (w : Wanted) → (setUp w).number ≡ 0 → refusedSetting w ≡ NoSetting }
-    ensures accepted_where_none { (w : Wanted) → refusedSetting w ≡ NoSetting → (setUp w).number ≡ 0 }
+    ensures too_short { (w : Wanted) → (setUp w).number ≡ 8 → refusedSetting w ≡ Some Password }
+    ensures none_where_accepted { (w : Wanted) → (setUp w).number ≡ 0 → refusedSetting w ≡ None }
+    ensures accepted_where_none { (w : Wanted) → refusedSetting w ≡ None → (setUp w).number ≡ 0 }
 {}
 
 /// Two results that meet the promise of a call are equal.
 pub fn one_result()
     ensures set_up { (w : Wanted) (r s : Changed) → r ≡ setUp w → s ≡ setUp w → r ≡ s }
-    ensures setting { (w : Wanted) (r s : MaybeSetting)
+    ensures setting { (w : Wanted) (r s : Option Setting)
         → r ≡ firstOutOfRange w → s ≡ firstOutOfRange w → r ≡ s }
-    ensures setting_refused { (w : Wanted) (r s : MaybeSetting)
+    ensures setting_refused { (w : Wanted) (r s : Option Setting)
         → r ≡ refusedSetting w → s ≡ refusedSetting w → r ≡ s }
     ensures legality { (d : Device) (r s : Bool) → r ≡ isLegal d → s ≡ isLegal d → r ≡ s }
     ensures fault { (d : Device) (mark : Bool) (r s : Changed)

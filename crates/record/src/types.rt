@@ -180,7 +180,7 @@ impl Device {
     };
 }
 
-// What a set-up is given, in the order in which it is tested (RULES, The legal record and Class 2).
+/// What a set-up is given, in the order in which it is tested (RULES, The legal record and Class 2).
 #[derive(Clone, Copy)]
 pub enum Setting {
     Name,
@@ -195,10 +195,4 @@ pub enum Setting {
     Serial,
     Version,
     Names,
-}
-
-#[derive(Clone, Copy)]
-pub enum MaybeSetting {
-    SettingIs(Setting),
-    NoSetting,
 }

@@ -1,1 +1,3 @@
-pub mod InOrder
+pub mod OneResult
+pub mod Refusals
+pub mod Fits

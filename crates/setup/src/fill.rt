@@ -11,6 +11,7 @@ use record::types::{
     INPUT_NAME_MOST, INPUT_ROOM, INPUTS_MOST, InputName, LAMPS_MOST, Own, TEXT_ROOM, Text,
 };
 
+/// A text in its room: at most 64 bytes.
 pub fn text_of(s: &[u8]) -> Text
     requires { length s.now ≤ textRoom }
     ensures { result ≡ text_of s.now }
@@ -23,6 +24,7 @@ pub fn text_of(s: &[u8]) -> Text
     }
 }
 
+/// An input's name in its room: at most 128 bytes (RULES, Class 2).
 pub fn name_of(s: &[u8]) -> InputName
     requires { length s.now ≤ inputNameMost }
     ensures { result ≡ name_of s.now }
@@ -35,7 +37,7 @@ pub fn name_of(s: &[u8]) -> InputName
     }
 }
 
-// So many names, one after the other in `bytes`, each of its length (RULES, Class 2).
+/// So many names, one after the other in `bytes`, each of its length (RULES, Class 2).
 pub fn names_of(bytes: &[u8], lengths: &[usize], count: usize) -> [InputName; INPUTS_MOST]
     requires named { areNames count (namesIn lengths.now bytes.now) ≡ true }
     requires few { count ≤ listedMost }
@@ -51,6 +53,7 @@ pub fn names_of(bytes: &[u8], lengths: &[usize], count: usize) -> [InputName; IN
     list
 }
 
+/// A list of inputs in its room: two characters each, at most 32 inputs (RULES, Inputs).
 pub fn input_room(s: &[u8]) -> [u8; INPUT_ROOM]
     requires { length s.now ≤ inputRoom }
     ensures { result ≡ inRoom inputRoom s.now }
@@ -60,6 +63,7 @@ pub fn input_room(s: &[u8]) -> [u8; INPUT_ROOM]
     list
 }
 
+/// The starting seconds of at most 8 lamps, in their room (RULES, Lamps).
 pub fn lamp_room(s: &[u32]) -> [u32; LAMPS_MOST]
     requires { length s.now ≤ lampsMost }
     ensures { result ≡ inRoom lampsMost s.now }
@@ -69,7 +73,7 @@ pub fn lamp_room(s: &[u32]) -> [u32; LAMPS_MOST]
     list
 }
 
-// Each of so many lamps is enabled (RULES, Lamps).
+/// Each of so many lamps is enabled (RULES, Lamps).
 pub fn mark_room(count: usize) -> [bool; LAMPS_MOST]
     requires { count ≤ lampsMost }
     ensures { result ≡ allMarks count }
@@ -81,8 +85,8 @@ pub fn mark_room(count: usize) -> [bool; LAMPS_MOST]
     list
 }
 
-// Off, both mutes off, the first input, no fault, error status 000000, and the lamps' starting seconds, each enabled,
-// and both volumes half way.
+/// Off, both mutes off, the first input, no fault, error status 000000, and the lamps' starting seconds, each enabled,
+/// and both volumes half way.
 pub fn start_own(lamps: &[u32]) -> Own
     requires { length lamps.now ≤ lampsMost }
     ensures { result ≡ startOwn lamps.now }

@@ -6,18 +6,18 @@ use mathlib.Core.Bool.{Bool, true, false, not, ◌&&◌}
 use mathlib.Core.List.{List, map}
 use lib.ListN.{length}
 use borrow.Author.Tests.{lt-ltb, le-ltb}
-use Rattle.std.specs.Prelude.{if◌then◌else◌}
-use Rattle.text.proofs.Choices.{if_yes, if_no, by-not}
+use Rattle.std.specs.Prelude.{Some, None, if◌then◌else◌}
+use Rattle.text.proofs.Choices.{if_yes, if_no}
 use Rattle.record.specs.Updates.{withOwn, withMarks}
 use Rattle.record.specs.Record.{started, blank, accepted, refused}
 use Rattle.record.specs.Legal.{isLegal}
-use Rattle.record.specs.SetUp.{isSetUp, setUp}
+use Rattle.record.specs.SetUp.{isSetUp}
 use Rattle.record.specs.declared.types.Device.{Device}
 use Rattle.record.specs.declared.types.Changed.{Changed}
-use Rattle.record.proofs.Calls.{set-up-accepted, set-up-in-range}
-use Rattle.record.proofs.Started.{started-parts, set-up-legal}
+use Rattle.record.proofs.Started.{started-parts, started-legal}
 use Rattle.stored.specs.Loading.{isOld, isOtherVersion, places_of, formEnd, between, settingsIn, markBytesIn}
-use Rattle.stored.specs.Loading.{isMarked, marksRead, markRoom, areMarks, startedWith, isContents, loaded}
+use Rattle.stored.specs.Loading.{device_of, isMarked, marksRead, markRoom, areMarks, startedWith, isContents, loaded}
+use Rattle.stored.proofs.DeviceMade.{some-set-up, none-refused}
 use Rattle.stored.proofs.Contents.{new-bytes, old-are-marks, old-started}
 
 otherwise : {A : Type 0} (a b : A) (t : Bool) → (if not t then a else b) ≡ (if t then b else a)
@@ -70,35 +70,30 @@ module _ (s : List ℕ) where
         loaded-by-marks e f = exact (λ i. e i && f i)
 
         -- by what set-up gave
-        module _ {r : Changed} (e : r ≡ setUp (settingsIn s)) where
-          pub loaded-refused : (r.number ≡ 0 → ⊥) → loaded s ≡ refused 23 blank
-          loaded-refused n =
-              loaded-wrong
-              (by-not (isSetUp (settingsIn s)) (λ h. n (ap (λ (c : Changed). c.number) (e ∙ set-up-accepted _ h))))
+        pub loaded-refused : None ≡ device_of (settingsIn s) → refused 23 blank ≡ loaded s
+        loaded-refused e = sym (loaded-wrong (none-refused (settingsIn s) e))
 
-          module _ (n : r.number ≡ 0) where
-            set-up-known : isSetUp (settingsIn s) ≡ true
-            set-up-known = set-up-in-range (settingsIn s) (ap (λ (c : Changed). c.number) (sym e) ∙ n)
+        module _ {d : Device} (e : Some d ≡ device_of (settingsIn s)) where
+          set-up-known : isSetUp (settingsIn s) ≡ true
+          set-up-known = (some-set-up (settingsIn s) e).0
 
-            pub set-up-is-legal : isLegal r.device ≡ true
-            set-up-is-legal =
-                ap (λ (c : Changed). isLegal c.device) e
-                ∙ set-up-legal (settingsIn s) (ap (λ (c : Changed). c.number) (sym e) ∙ n)
+          made : d ≡ started (settingsIn s)
+          made = (some-set-up (settingsIn s) e).1
 
-            pub loaded-old : isOld s ≡ true → r ≡ loaded s
-            loaded-old o =
-                e
-                ∙ set-up-accepted (settingsIn s) set-up-known
-                ∙ ap accepted (sym (old-started s o set-up-known))
-                ∙ sym (loaded-by-marks set-up-known (old-are-marks s o set-up-known))
+          pub set-up-is-legal : isLegal d ≡ true
+          set-up-is-legal = ap isLegal made ∙ started-legal (settingsIn s) set-up-known
 
-            -- the marks as the code reads them, for the device that set-up gave
-            pub loaded-new : isOld s ≡ false
-                → markedBy r.device (between ((places_of s).marks + 1) (places_of s).warm s) ≡ loaded s
-            loaded-new o =
-                ap (λ (c : Changed). markedBy c.device (between ((places_of s).marks + 1) (places_of s).warm s))
-                (e ∙ set-up-accepted (settingsIn s) set-up-known)
-                ∙ ap (markedBy (started (settingsIn s))) (sym (new-bytes s o))
-                ∙ ap (λ (n : ℕ). markedAs n (started (settingsIn s)) (markBytesIn s))
-                (ap (λ (d : Device). d.settings.lamp_count) (started-parts (settingsIn s)))
-                ∙ sym (loaded-by-marks set-up-known refl)
+          pub loaded-old : isOld s ≡ true → accepted d ≡ loaded s
+          loaded-old o =
+              ap accepted (made ∙ sym (old-started s o set-up-known))
+              ∙ sym (loaded-by-marks set-up-known (old-are-marks s o set-up-known))
+
+          -- the marks as the code reads them, for the device that set-up gave
+          pub loaded-new : isOld s ≡ false
+              → markedBy d (between ((places_of s).marks + 1) (places_of s).warm s) ≡ loaded s
+          loaded-new o =
+              ap (λ (x : Device). markedBy x (between ((places_of s).marks + 1) (places_of s).warm s)) made
+              ∙ ap (markedBy (started (settingsIn s))) (sym (new-bytes s o))
+              ∙ ap (λ (n : ℕ). markedAs n (started (settingsIn s)) (markBytesIn s))
+              (ap (λ (x : Device). x.settings.lamp_count) (started-parts (settingsIn s)))
+              ∙ sym (loaded-by-marks set-up-known refl)

@@ -7,6 +7,7 @@ use mathlib.Core.Bool.{Bool, true, false}
 use mathlib.Core.List.{List, map}
 use native.Mathlib.Omega.{arith}
 use lib.ListN.{length, take, drop, replicate, length-replicate}
+use Rattle.std.proofs.Common.{◌⊎◌, inl, inr, None}
 use Rattle.text.proofs.Choices.{if_yes, if_no, by-not}
 use Rattle.numbers.specs.HighestFirst.{number_in}
 use Rattle.lines.specs.Bytes.{◌at◌}
@@ -14,19 +15,18 @@ use Rattle.record.specs.Limits.{listedMost, lampsMost}
 use Rattle.record.specs.Wanted.{Wanted, wantedIn}
 use Rattle.record.specs.Rules.{isMarks}
 use Rattle.record.specs.Updates.{withOwn, withMarks}
-use Rattle.record.specs.Record.{allMarks, started, blank, refused}
-use Rattle.record.specs.SetUp.{isInRange, isSetUp, setUp}
+use Rattle.record.specs.Record.{allMarks, started}
+use Rattle.record.specs.SetUp.{isSetUp}
 use Rattle.record.specs.declared.types.Setting.TheVariants.{Inputs, Lamps}
-use Rattle.record.proofs.Rules.{inputs-few, lamps-few}
+use Rattle.record.proofs.Rules.{inputs-few, inputs-class, class-one-of, lamps-few}
 use Rattle.record.proofs.MarksTold.{all-marks-legal}
 use Rattle.record.proofs.OutOfRange.{each-in-range}
-use Rattle.record.proofs.InRange.{in-range-each}
 use Rattle.record.proofs.Started.{started-marks}
-use Rattle.record.proofs.Calls.{set-up-refused}
 use Rattle.stored.specs.Loading.{isOld, hasClass, places_of, between, secondsIn, classIn, textsAfter}
-use Rattle.stored.specs.Loading.{settingsWith, settingsBy, settingsAt, settingsIn, marksAt}
+use Rattle.stored.specs.Loading.{settingsWith, settingsBy, settingsAt, settingsIn, device_of, marksAt}
 use Rattle.stored.specs.Loading.{markBytesIn, isMarked, marksRead, markRoom, areMarks, startedWith}
 use Rattle.stored.specs.declared.layout.Places.{Places}
+use Rattle.stored.proofs.DeviceMade.{none-set-up}
 use Rattle.stored.proofs.Sections.{between-long}
 use Rattle.stored.proofs.Seconds.{read-many}
 use Rattle.stored.proofs.MarkBytes.{all_room, ones-marked, ones-are-bytes, are-marks-shown}
@@ -37,14 +37,14 @@ module _ (s : List ℕ) (p : Places) where
     abbrev w : Wanted
     w = settingsWith s p k serial version names
 
-    pub too-many-lamps : lampsMost < s at p.lamps → setUp w ≡ refused 3 blank
+    pub too-many-lamps : lampsMost < s at p.lamps → None ≡ device_of w
     unfolding settingsWith
     too-many-lamps l =
-        set-up-refused w
-        (by-not (isInRange w)
+        none-set-up w
+        (by-not (isSetUp w)
         (λ h. omega (
           arith,
-          lamps-few _ (in-range-each w h Lamps),
+          lamps-few _ (each-in-range w h Lamps),
           read-many (s at p.lamps) (drop (p.lamps + 1) s),
         )))
 
@@ -64,16 +64,29 @@ module _ (s : List ℕ) (p : Places) where
 
     -- inputs that are too many for a set-up, by their count
     pub too-many-inputs : p.lamps ≡ p.inputs + 1 + 2 * (s at p.inputs) → p.lamps ≤ length s
-        → listedMost < s at p.inputs → setUp w ≡ refused 3 blank
+        → listedMost < s at p.inputs → None ≡ device_of w
     unfolding settingsWith
     too-many-inputs e inside l =
-        set-up-refused w
-        (by-not (isInRange w)
+        none-set-up w
+        (by-not (isSetUp w)
         (λ h. omega (
           arith,
-          inputs-few _ _ (in-range-each w h Inputs),
+          inputs-few _ _ (each-in-range w h Inputs),
           between-long s (p.inputs + 1) p.lamps (omega arith) inside,
         )))
+
+  -- a class that there is not
+  pub no-such-class : (classIn s (drop p.class s) ≡ 1 → ⊥) → (classIn s (drop p.class s) ≡ 2 → ⊥)
+      → None ≡ device_of (settingsAt s p)
+  unfolding settingsAt settingsWith
+  no-such-class not1 not2 =
+      none-set-up (settingsAt s p)
+      (by-not (isSetUp (settingsAt s p))
+      (λ h. neither (class-one-of _ (inputs-class _ _ (each-in-range (settingsAt s p) h Inputs)))))
+    where
+      neither : (classIn s (drop p.class s) ≡ 1) ⊎ (classIn s (drop p.class s) ≡ 2) → ⊥
+      neither (inl e) = not1 e
+      neither (inr e) = not2 e
 
   -- the settings, by the list of the texts after the class
   pub settings-by : settingsAt s p

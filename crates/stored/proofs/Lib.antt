@@ -3,9 +3,11 @@ pub mod MarkBytes
 pub mod MarksKept
 pub mod Texts
 pub mod Walked
+pub mod DeviceMade
 pub mod Contents
 pub mod Cases
 pub mod Results
+pub mod OneOutcome
 pub mod Sections
 pub mod Joined
 pub mod TextsCopied

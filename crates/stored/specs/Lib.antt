@@ -1,2 +1,3 @@
 pub mod Loading
 pub mod Computing
+pub mod Told

@@ -22,6 +22,7 @@
 --   settingsWith s p k a b ns      the settings that stand at the places p, with the class k and what Class 2 alone has
 --   settingsBy s p k ts       the same by the list of those texts: serial number, version, names
 --   settingsAt s p            the same, with what stands after C;    settingsIn s    at the places that s says
+--   device_of w               the device that a set-up of w gives, or none where it is refused
 --   marksAt s p               the bytes of the marks there, each 1 where the version has none;    markBytesIn s
 --   isMarkByte b              it is 0 or 1;    isMarked b    it is 1: the lamp is enabled
 --   marksRead s                 the marks in s
@@ -35,7 +36,7 @@
 -- Assumes nothing.
 use Rattle.std.specs.Prelude.{ℕ, zero, suc, ◌+◌, ◌-◌, ◌*◌, ◌≡◌, Bool, false, not, ◌&&◌, List, [], ◌∷◌, ◌++◌}
 use Rattle.std.specs.Prelude.{map, length, get_or, take, drop, replicate, ltb, eqb}
-use Rattle.std.specs.Prelude.{if◌then◌else◌}
+use Rattle.std.specs.Prelude.{Option, Some, None, if◌then◌else◌}
 use Rattle.text.specs.Scans.{every}
 use Rattle.text.specs.InTurn.{eachInTurn}
 use Rattle.text.specs.Rows.{Row, ◌when◌, byRows}
@@ -159,6 +160,9 @@ settingsAt s p =
 
 abbrev pub settingsIn : List ℕ → Wanted
 settingsIn s = settingsAt s (places_of s)
+
+abbrev pub device_of : Wanted → Option Device
+device_of w = if isSetUp w then Some (started w) else None
 
 unfoldable pub marksAt : List ℕ → Places → List ℕ
 marksAt s p = if isOld s then replicate (s at p.lamps) 1 else between (p.marks + 1) p.warm s

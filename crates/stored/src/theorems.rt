@@ -1,6 +1,6 @@
 // What is proved beside the contracts of the functions. Nothing is done here: that these functions have their contracts
 // is that the theorems stand.
-ghost use Rattle.std.specs.Prelude.{◌≡◌, ◌<◌, ◌≤◌, ◌∷◌, ◌++◌, true, List, Bool, ℕ, length, take};
+ghost use Rattle.std.specs.Prelude.{◌≡◌, ◌<◌, ◌≤◌, ◌∷◌, ◌++◌, true, List, Bool, ℕ, length, take, Result};
 ghost use Rattle.record.specs.Wanted.{Wanted};
 ghost use Rattle.record.specs.SetUp.{isSetUp};
 ghost use Rattle.form.specs.Form.{form_of, markedFormOf, oldFormOf, storedForm, formMost};
@@ -8,6 +8,8 @@ ghost use Rattle.stored.specs.Loading.{loaded};
 ghost use Rattle.record.specs.declared.types.Device.{Device};
 ghost use Rattle.record.specs.Legal.{isLegal};
 ghost use Rattle.record.specs.declared.types.Changed.{Changed};
+ghost use Rattle.stored.specs.declared.error.LoadError.{LoadError};
+ghost use Rattle.stored.specs.Told.{loading_told};
 
 /// A form of any version that is cut anywhere is 21, and one with more after it 22.
 pub fn a_form_is_whole()
@@ -32,5 +34,7 @@ pub fn a_form_is_short()
 
 /// Two results that meet the promise of a call are equal.
 pub fn one_result()
-    ensures { (bs : List ℕ) (r s : Changed) → r ≡ loaded bs → s ≡ loaded bs → r ≡ s }
+    ensures number_and_record { (bs : List ℕ) (r s : Changed) → r ≡ loaded bs → s ≡ loaded bs → r ≡ s }
+    ensures outcome { (bs : List ℕ) (r s : Result Device LoadError)
+        → loading_told r ≡ loaded bs → loading_told s ≡ loaded bs → r ≡ s }
 {}

@@ -1,15 +1,14 @@
--- Runs of stores, `sets l i vs`: one after the other, one byte more, at the start of lent memory, and as a copied part.
--- None but the last two asks for room.
+-- Runs of stores, `sets l i vs`: one after the other, one byte more, and at the start of lent memory.
+-- None but the last asks for room.
 -- Assumes nothing.
-use mathlib.Core.Path.{◌≡◌, sym, ap, ◌∙◌, ◌≡⟨◌⟩◌, ◌∎}
-use mathlib.Core.List.{List, [], ◌∷◌, ◌++◌, append-nil, append_assoc}
-use Prim.Native.Nat.{ℕ, suc, ◌+◌, ◌-◌, ◌≤◌, ◌<◌}
+use mathlib.Core.Path.{◌≡◌, sym, ap, ◌∙◌}
+use mathlib.Core.List.{List, [], ◌∷◌, ◌++◌}
+use Prim.Native.Nat.{ℕ, suc, ◌+◌, ◌≤◌, ◌<◌}
 use native.Mathlib.Nat.{add-zero, add-suc, suc-add, zero-add}
 use native.Mathlib.Numerals.{add-one}
 use native.Mathlib.Omega.{arith}
-use borrow.Rule.Slice.PartMut.{put_mid}
-use lib.ListN.{length, get_or, set, take, drop, length-drop, drop_of_length-le}
-use lib.Seq.{sets, sets-eq, take-suc, take_all, take-length, length-take-le, drop-drop}
+use lib.ListN.{length, get_or, set, take, drop}
+use lib.Seq.{sets, sets-eq, take-suc, length-take-le}
 use Rattle.text.specs.Words.{over}
 
 pub sets-append {ℓ} : {A : Type ℓ} (l : List A) (i : ℕ) (xs ys : List A)
@@ -44,28 +43,3 @@ sets_more {A = A} l at src i d h e =
 pub sets_over : (r m : List ℕ) → length r ≤ length m → sets m 0 r ≡ over r m
 sets_over r m h = sets-eq r m 0 (omega (arith, zero-add (length r)))
     ∙ ap (λ (k : ℕ). r ++ drop k m) (zero-add (length r))
-
--- src put into the part of l from `at` on, and the part put back
-pub sets-part : (l src : List ℕ) (at : ℕ) {part : List ℕ} → at + length src ≤ length l
-    → part ≡ take (length src) src ++ drop (length src) (take (length l - at) (drop at l))
-    → take at l ++ (part ++ drop (length l - at) (drop at l)) ≡ sets l at src
-sets-part l src at {part} h e =
-    let whole : take (length l - at) (drop at l) ≡ drop at l = take_all (length l - at) (drop at l)
-    (omega (arith, length-drop at l)) in
-    let rest : drop (length l - at) (drop at l) ≡ [] = drop_of_length-le (drop at l) {i = length l - at}
-    (omega (arith, length-drop at l)) in
-    take at l ++ (part ++ drop (length l - at) (drop at l)) ≡⟨ ap (λ (k : List ℕ). take at l ++ (part ++ k)) rest ⟩
-    take at l ++ (part ++ []) ≡⟨ ap (λ (k : List ℕ). take at l ++ k) (append-nil part) ⟩
-    take at l ++ part ≡⟨ ap (λ (k : List ℕ). take at l ++ k) e ⟩
-    take at l ++ (take (length src) src ++ drop (length src) (take (length l - at) (drop at l)))
-    ≡⟨ (λ i. take at l ++ (take-length src i ++ (ap (drop (length src)) whole ∙ drop-drop (length src) at l) i)) ⟩
-    take at l ++ (src ++ drop (at + length src) l) ≡⟨ sym (append_assoc (take at l) src (drop (at + length src) l)) ⟩
-    take at l ++ src ++ drop (at + length src) l ≡⟨ sym (sets-eq src l at h) ⟩
-    sets l at src ∎
-
--- src put in the place of the k elements from `at` on, k as many as src
-pub sets_mid : (l src : List ℕ) (at k : ℕ) {part : List ℕ} → at + length src ≤ length l → k ≡ length src → part ≡ src
-    → put_mid at k l part ≡ sets l at src
-sets_mid l src at k {part} h n e =
-    rw (n, e) (ap (λ (r : List ℕ). take at l ++ (src ++ r)) (drop-drop (length src) at l)
-    ∙ sym (append_assoc (take at l) src (drop (at + length src) l)) ∙ sym (sets-eq src l at h))

@@ -5,12 +5,15 @@ ghost use Rattle.std.specs.Prelude.{◌≡◌, ◌+◌, ◌≤◌, length};
 ghost use Rattle.std.proofs.lemmas.List.Edits.{sets};
 ghost use Rattle.text.specs.Scans.{sameBy, itself};
 
-// All of src into out, from the place `at` on.
+/// All of `src` into `out`, from the place `at` on. A byte at a time: the compiler cannot know that two lent memories
+/// lie apart, so `copy_from_slice` would be `memmove`, which the archive does not ask a host for.
 pub fn put(out: &mut [u8], at: usize, src: &[u8])
     requires { at + length src.now ≤ length out.old }
     ensures { out.new ≡ sets out.old at src.now }
 {
-    out[at..at + src.len()].copy_from_slice(src);
+    for (i, &byte) in src.iter().enumerate() {
+        out[at + i] = byte;
+    }
 }
 
 // Whether a and b hold the same bytes.

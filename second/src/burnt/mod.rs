@@ -7,7 +7,8 @@ mod watch;
 use crate::reference::{Power, Projector};
 use crate::replay::{device, each_text, event, refuse};
 use std::io::{self, BufRead, Write};
-use watch::{Lamp, Stretch, Watch};
+use watch::{Lamp, Watch};
+pub use watch::{Stretch, Sum};
 
 /// What the program asks at each step, so that a mistake can answer one of them in another way.
 #[derive(Clone, Copy)]
@@ -25,8 +26,8 @@ pub struct Steps {
 
 pub const RIGHT: Steps = Steps { device, mark, set_mark: Projector::set_mark, burns, last: |lamp, _, _| lamp.stretch };
 
-/// "`M`, a space, a lamp's number from 1, a space, 0 or 1, the mark call of L8". No device has more than eight lamps, so
-/// that a lamp's number is one digit.
+/// "`M`, a space, a lamp's number from 1, a space, 0 or 1, the mark call .." (RULES, Floor log). No device has more
+/// than eight lamps, so that a lamp's number is one digit.
 pub fn mark(text: &[u8]) -> Option<(usize, bool)> {
     match text {
         [b'M', b' ', lamp @ b'1'..=b'9', b' ', mark @ b'0'..=b'1'] => Some((usize::from(lamp - b'1'), *mark == b'1')),
@@ -34,7 +35,7 @@ pub fn mark(text: &[u8]) -> Option<(usize, bool)> {
     }
 }
 
-/// 02, L8: for a lamp count "only the seconds of warm-up or power-on with its own mark set".
+/// RULES, Lamps: for a lamp count "only the seconds of warm-up or power-on with its own mark set".
 fn burns(power: Power, enabled: bool) -> bool {
     enabled && matches!(power, Power::WarmUp(_) | Power::On)
 }
@@ -43,28 +44,36 @@ pub fn burnt(form: Option<&[u8]>, log: impl BufRead, out: impl Write) -> io::Res
     burnt_by(&RIGHT, form, log, out)
 }
 
-/// "prints for each lamp its stretches .. as soon as a stretch has ended, and at the end for each lamp its seconds at the
-/// start, burnt, and now"; "a form that does not load gives its number in one line, and nothing else".
+/// "prints for each lamp its stretches .. as soon as a stretch has ended, and at the end for each lamp its seconds at
+/// the start, burnt, and now"; "a form that does not load gives its number in one line, and nothing else".
 fn burnt_by(steps: &Steps, form: Option<&[u8]>, log: impl BufRead, mut out: impl Write) -> io::Result<()> {
-    let projector = match (steps.device)(form) {
-        Ok(projector) => projector,
+    let watch = match (steps.device)(form) {
+        Ok(projector) => follow(Watch::new(steps, projector), log, |stretches| tell(stretches, &mut out))?,
         Err(number) => return refuse(number, out),
     };
-    let mut watch = Watch::new(steps, projector);
+    for (place, lamp) in watch.sums().enumerate() {
+        writeln!(out, "lamp {} start {} burnt {} now {}", place + 1, lamp.start, lamp.burnt, lamp.now)?;
+    }
+    out.flush()
+}
+
+/// Tells each stretch as soon as it has ended, and after the log those of lamps that burn there.
+fn follow<'a>(
+    mut watch: Watch<'a>,
+    log: impl BufRead,
+    mut tell: impl FnMut(&[(usize, Stretch)]) -> io::Result<()>,
+) -> io::Result<Watch<'a>> {
     each_text(log, |text| {
-        if let Some((lamp, enabled)) = (steps.mark)(text) {
+        if let Some((lamp, enabled)) = (watch.steps.mark)(text) {
             // "a mark call that is refused, changes nothing"
-            let _ = (steps.set_mark)(&mut watch.projector, lamp, enabled);
+            let _ = (watch.steps.set_mark)(&mut watch.projector, lamp, enabled);
         } else if let Some(event) = event(text) {
             watch.play(event);
         }
-        tell(&watch.ended(), &mut out)
+        tell(&watch.ended())
     })?;
-    tell(&watch.last(), &mut out)?;
-    for (place, (lamp, now)) in watch.lamps.iter().zip(&watch.projector.lamps).enumerate() {
-        writeln!(out, "lamp {} start {} burnt {} now {now}", place + 1, lamp.start, lamp.burnt)?;
-    }
-    out.flush()
+    tell(&watch.last())?;
+    Ok(watch)
 }
 
 /// "`lamp 1 from 0 to 2400`", in the order of the lamps, and at once.
@@ -78,6 +87,26 @@ fn tell(stretches: &[(usize, Stretch)], out: &mut impl Write) -> io::Result<()> 
 /// What a log in memory prints.
 pub fn burnt_on(form: Option<&[u8]>, log: &[u8]) -> Vec<u8> {
     in_memory(&RIGHT, form, log)
+}
+
+/// What a log comes to.
+pub struct Told {
+    /// Each with its lamp's place, in the order in which they are told.
+    pub stretches: Vec<(usize, Stretch)>,
+    pub lamps: Vec<Sum>,
+    /// The seconds of the log.
+    pub seconds: u128,
+}
+
+/// What is told of a log in memory, or the number of a form that does not load.
+pub fn told(form: Option<&[u8]>, log: &[u8]) -> Result<Told, u32> {
+    let mut stretches = Vec::new();
+    let watch = follow(Watch::new(&RIGHT, (RIGHT.device)(form)?), log, |ended| {
+        stretches.extend(ended);
+        Ok(())
+    });
+    let watch = watch.expect("memory is read");
+    Ok(Told { stretches, lamps: watch.sums().collect(), seconds: watch.second })
 }
 
 fn in_memory(steps: &Steps, form: Option<&[u8]>, log: &[u8]) -> Vec<u8> {

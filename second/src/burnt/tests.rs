@@ -13,7 +13,7 @@ fn lamps(seconds: &[u32], marks: &[u8]) -> Vec<u8> {
     marked(&Lent { lamps: seconds.to_vec(), warm: 2, cool: 3, ..least() }, marks)
 }
 
-/// 01's "nine rounds of power-on, 2,400 s, power-off, 60 s".
+/// RULES, Commands: "nine rounds of power-on, 2,400 s, power-off, 60 s".
 #[test]
 fn nine_rounds() {
     let log = format!("O 00000000\n{}", "R %1POWR 1\nT 2400\nR %1POWR 0\nT 60\n".repeat(9));
@@ -31,8 +31,8 @@ fn power() {
     assert_eq!(printed(None, &format!("{log}R %1POWR 1\nT 3\nR %1POWR 1\n")), told);
 }
 
-/// "at the end of the log a stretch still burning is told up to the log's last second"; "A stretch with no second is not
-/// printed."
+/// "at the end of the log a stretch still burning is told up to the log's last second"; "A stretch with no second is
+/// not printed."
 #[test]
 fn at_the_end() {
     let none = "lamp 1 start 0 burnt 0 now 0\n";
@@ -63,7 +63,8 @@ fn no_marks() {
     assert_eq!(printed(Some(&lamps(&[0, 0], &[0, 1])), &log), told);
 }
 
-/// "`burnt` is the sum of the lengths (also where the lamp's own counter stopped at its limit), `now` the lamp's counter."
+/// "`burnt` is the sum of the lengths (also where the lamp's own counter stopped at its limit), `now` the lamp's
+/// counter."
 #[test]
 fn at_the_limit() {
     let log = "O 00000000\nT 4294967295\nR %1POWR 1\nT 4294967295\nT 5\nR %1POWR 0\nT 3\nR %1POWR 1\nT 1\n";
@@ -72,7 +73,8 @@ fn at_the_limit() {
     assert_eq!(printed(Some(&lamps(&[359_999_998], &[1])), log), told);
 }
 
-/// "a form that does not load gives its number in one line, and nothing else"; "version 1 loads with all set" (02, L8).
+/// "a form that does not load gives its number in one line, and nothing else"; "version 1 loads with all set" (RULES,
+/// Stored form).
 #[test]
 fn forms() {
     let log = "O 00000000\nR %1POWR 1\nT 4\n";

@@ -30,12 +30,20 @@ impl Lamp {
     }
 }
 
+/// A lamp's seconds at the start, what it burnt, and its seconds now.
+#[derive(Clone, Copy, PartialEq, Eq, Debug)]
+pub struct Sum {
+    pub start: u32,
+    pub burnt: u128,
+    pub now: u32,
+}
+
 pub struct Watch<'a> {
-    steps: &'a Steps,
+    pub steps: &'a Steps,
     pub projector: Projector,
     /// Seconds since the log began: as many as any log can have.
-    second: u128,
-    pub lamps: Vec<Lamp>,
+    pub second: u128,
+    lamps: Vec<Lamp>,
 }
 
 impl Watch<'_> {
@@ -68,6 +76,12 @@ impl Watch<'_> {
             self.second += u128::from(part);
             rest -= part;
         }
+    }
+
+    /// Of each lamp, in their order.
+    pub fn sums(&self) -> impl Iterator<Item = Sum> {
+        let lamps = self.lamps.iter().zip(&self.projector.lamps);
+        lamps.map(|(lamp, &now)| Sum { start: lamp.start, burnt: lamp.burnt, now })
     }
 
     fn burns(&self, place: usize) -> bool {

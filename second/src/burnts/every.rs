@@ -1,5 +1,5 @@
-//! Logs that leave nothing to chance, each with its form: every byte in every place of an `M` line, every lamp's number,
-//! every number of seconds; a form of version 1, the longest form that loads, and the longest that there is.
+//! Logs that leave nothing to chance, each with its form: every byte in every place of an `M` line, every lamp's
+//! number, every number of seconds; a form of version 1, the longest form that loads, and the longest that there is.
 
 use super::forms::of_counts;
 use crate::compare::class_2::forms as of_class_2;
@@ -8,7 +8,7 @@ use crate::face::Lent;
 use crate::logs::every;
 
 /// The form, if there is one, and the log.
-type FormAndLog = (Option<Vec<u8>>, Vec<u8>);
+pub type FormAndLog = (Option<Vec<u8>>, Vec<u8>);
 
 pub const LOGS: [fn() -> FormAndLog; 8] = [
     every_byte,
@@ -21,7 +21,7 @@ pub const LOGS: [fn() -> FormAndLog; 8] = [
     || (Some(longest()[..longest().len() - 1].to_vec()), burns()),
 ];
 
-/// As long as its counts allow, whatever 01 does: no form is longer.
+/// As long as its counts allow, whatever the rules do: no form is longer.
 fn longest() -> Vec<u8> {
     of_counts(255, 255, 255)
 }
@@ -31,8 +31,8 @@ fn burns() -> Vec<u8> {
     b"O 00000000\nR %1POWR 1\nT 7".to_vec()
 }
 
-/// In every place, before the line and after it. After each line the lamps burn for two seconds, so that the marks show;
-/// then all marks are set.
+/// In every place, before the line and after it. After each line the lamps burn for two seconds, so that the marks
+/// show; then all marks are set.
 fn every_byte() -> FormAndLog {
     let mut log = b"O 00000000\n".to_vec();
     let line = b"M 2 0";

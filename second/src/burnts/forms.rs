@@ -82,7 +82,7 @@ fn marks(random: &mut Random, lamps: usize) -> Vec<u8> {
     marks
 }
 
-/// Counts over what 01 allows, and longer than any form that loads; whole, cut short or with bytes left over.
+/// Counts over what the rules allow, and longer than any form that loads; whole, cut short or with bytes left over.
 fn too_long(random: &mut Random) -> Vec<u8> {
     let inputs = random.pick(&[33, 100, 255]);
     let lamps = random.pick(&[1, 8, 255]);

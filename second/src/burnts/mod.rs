@@ -10,6 +10,7 @@ mod met;
 mod report;
 mod started;
 
+pub use every::FormAndLog;
 pub use met::Met;
 pub use report::Difference;
 
@@ -20,7 +21,7 @@ use crate::compare::shrink::{self, Smaller, simpler_forms};
 use crate::logs::workers::on_all;
 use crate::logs::{Fed, Program, TRIES};
 use crate::replay::{device, replayed_on, sample};
-use started::Started;
+pub use started::Started;
 
 /// The logs that have everything of a kind come first.
 const FIXED: usize = every::LOGS.len();
@@ -57,24 +58,34 @@ pub struct Case {
 }
 
 impl Case {
-    /// One log in two comes in small reads; one random log in two comes with a form.
+    /// The one of a seed with that number.
     pub fn nth(seed: u64, number: usize) -> Case {
         let mut random = Random::new(Random::new(seed.wrapping_add(number as u64)).number());
-        let (form, log) = match every::LOGS.get(number) {
-            Some(every) => every(),
+        match every::LOGS.get(number) {
+            Some(every) => Case::new(&mut random, every(), number),
             None => {
-                let form = (number / 2 % 2 == 1).then(|| forms::form(&mut random));
-                let start = device(form.as_deref()).unwrap_or_else(|_| sample());
-                let log = making::log(&mut random, start);
-                (form, log)
+                let case = made(&mut random, number);
+                Case::new(&mut random, case, number)
             }
-        };
-        Case { form, fed: Fed::new(&mut random, log, number % 2 == 1) }
+        }
+    }
+
+    /// One log in two comes in small reads.
+    pub fn new(random: &mut Random, (form, log): FormAndLog, number: usize) -> Case {
+        Case { form, fed: Fed::new(random, log, number % 2 == 1) }
     }
 
     pub fn form(&self) -> Option<&[u8]> {
         self.form.as_deref()
     }
+}
+
+/// A random log. One in two comes with a form.
+pub fn made(random: &mut Random, number: usize) -> FormAndLog {
+    let form = (number / 2 % 2 == 1).then(|| forms::form(random));
+    let start = device(form.as_deref()).unwrap_or_else(|_| sample());
+    let log = making::log(random, start);
+    (form, log)
 }
 
 impl Smaller for Case {

@@ -15,14 +15,20 @@ pub struct Difference {
     pub given: Vec<u8>,
 }
 
-impl fmt::Display for Difference {
+impl fmt::Display for Case {
     fn fmt(&self, f: &mut fmt::Formatter) -> fmt::Result {
-        writeln!(f, "log {} differs; cut down, in reads of {:?} bytes:", self.number, self.case.fed.reads)?;
-        match self.case.form() {
+        writeln!(f, "in reads of {:?} bytes:", self.fed.reads)?;
+        match self.form() {
             Some(form) => writeln!(f, "  on the form {}", shown(form))?,
             None => writeln!(f, "  on the sample set-up")?,
         }
-        lines(&self.case.fed.log).try_for_each(|line| writeln!(f, "  {}", shown(line)))?;
+        lines(&self.fed.log).try_for_each(|line| writeln!(f, "  {}", shown(line)))
+    }
+}
+
+impl fmt::Display for Difference {
+    fn fmt(&self, f: &mut fmt::Formatter) -> fmt::Result {
+        write!(f, "log {} differs; cut down, {}", self.number, self.case)?;
         let place = lines(&self.expected).zip(lines(&self.given)).take_while(|(a, b)| a == b).count();
         let printed = |out: &[u8]| lines(out).nth(place).map_or("nothing more".to_string(), shown);
         writeln!(f, "the rules print    {}", printed(&self.expected))?;

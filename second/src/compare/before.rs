@@ -1,9 +1,9 @@
-//! Every case from before 02, L14, is there still and gives the same bytes.
+//! Every case from before Class 2 landed is there still and gives the same bytes.
 //!
 //! The second program as it stood before that landing, over its own cases of one seed, digested what each call was lent
-//! and gave, call by call: the digest before, the record, the call, the answer. Made by the rules of then, the cases here
-//! have to give these digests again, in the layout of then. By the rules of now each of the calls gives the same as by
-//! those of then, but for the few that 02 amends, and these change as it says.
+//! and gave, call by call: the digest before, the record, the call, the answer. Made by the rules of then, the cases
+//! here have to give these digests again, in the layout of then. By the rules of now each of the calls gives the same
+//! as by those of then, but for the few that RULES, Class 2, amends, and these change as it says.
 
 use super::{ENOUGH, Run, tally};
 use crate::face::wire::{Wire, put_act};
@@ -204,7 +204,7 @@ impl Side for ByBoth {
     }
 }
 
-/// What 02, L14, amends: the form that is stored, a form of version 3, what a controller is told of Class 2.
+/// What RULES, Class 2, amends: the form that is stored, a form of version 3, what a controller is told of Class 2.
 fn is_amended(act: &Act) -> bool {
     match act {
         Act::Store { .. } => true,

@@ -1,4 +1,4 @@
-//! What Class 2 (02, L14) adds to a record, a set-up and a stored form, cut down: `shrink` has the rest.
+//! What Class 2 (RULES, Class 2) adds to a record, a set-up and a stored form, cut down: `shrink` has the rest.
 
 use super::shrink::shorter;
 use crate::face::{Device, Lent2, Name, Text};

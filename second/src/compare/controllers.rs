@@ -1,4 +1,4 @@
-//! Four controllers on one projector (02, L5): histories of several at once, and their streams in parts.
+//! Four controllers on one projector (RULES, Places): histories of several at once, and their streams in parts.
 
 use super::histories::{after, any_random, error_digits};
 use super::random::Random;

@@ -1,4 +1,4 @@
-//! Cutting days (02, L12).
+//! Cutting days (RULES, Cutting day).
 
 use super::random::Random;
 use super::shrink::{lower_at, shorter};

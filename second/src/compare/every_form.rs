@@ -1,4 +1,4 @@
-//! Stored forms (02, L3) that leave nothing to chance. `forms` has the random ones.
+//! Stored forms (RULES, Stored form) that leave nothing to chance. `forms` has the random ones.
 
 use super::forms::{common, least, most, of, old};
 use super::random::Random;
@@ -8,8 +8,8 @@ use crate::reference::calls;
 use crate::reference::rules::unmistaken;
 use crate::reference::set_up::LAMP_LIMIT;
 
-/// Of three forms, in both versions: each byte replaced, each prefix, bytes left over, each version. Then each count with all that it
-/// counts, each character of an input, numbers at their edges.
+/// Of three forms, in both versions: each byte replaced, each prefix, bytes left over, each version. Then each count
+/// with all that it counts, each character of an input, numbers at their edges.
 pub fn loads(random: &mut Random) -> Vec<Vec<u8>> {
     let mut all = vec![Vec::new()];
     for form in [least(), common(), most()].iter().flat_map(|lent| [of(lent), old(lent)]) {

@@ -1,4 +1,4 @@
-//! Lamps' marks (02, L8), leaving nothing to chance.
+//! Lamps' marks (RULES, Lamps), leaving nothing to chance.
 
 use super::histories::NO_PLACES;
 use super::random::Random;
@@ -49,8 +49,8 @@ fn every_pattern(random: &mut Random) -> Vec<Case> {
     all
 }
 
-/// Each lamp's mark, and that of lamps that there are not, set and cleared: in every power and under the fault mark, with
-/// one mark set, some, all, and on records that are not legal.
+/// Each lamp's mark, and that of lamps that there are not, set and cleared: in every power and under the fault mark,
+/// with one mark set, some, all, and on records that are not legal.
 fn every_lamp(random: &mut Random) -> Vec<Case> {
     let mut all = Vec::new();
     let singles = (0..8).map(|lamp| 1 << lamp);

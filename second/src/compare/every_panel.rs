@@ -1,5 +1,5 @@
-//! Panels (02, L13) that leave nothing to chance: each field of each entry replaced, in use or not; each number of a
-//! projector, each length of lent memory, each password. `panel_lines` has the lines, `panels` the histories.
+//! Panels (RULES, Panel) that leave nothing to chance: each field of each entry replaced, in use or not; each number of
+//! a projector, each length of lent memory, each password. `panel_lines` has the lines, `panels` the histories.
 
 use super::random::Random;
 use super::records::set_text;

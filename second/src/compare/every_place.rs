@@ -1,4 +1,4 @@
-//! Four places (02, L5), leaving nothing to chance. `controllers` has the random ones.
+//! Four places (RULES, Places), leaving nothing to chance. `controllers` has the random ones.
 
 use super::histories::NO_PLACES;
 use super::random::Random;
@@ -231,8 +231,8 @@ fn outsiders() -> Vec<Case> {
     all
 }
 
-/// One place awaiting or failed at each age, and each number of seconds to its closing and past it, while the others are
-/// open, or closed, or on their own way.
+/// One place awaiting or failed at each age, and each number of seconds to its closing and past it, while the others
+/// are open, or closed, or on their own way.
 fn timeouts() -> Vec<Case> {
     let mut all = Vec::new();
     for place in 0..PLACES {

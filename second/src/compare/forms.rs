@@ -1,5 +1,5 @@
-//! Stored forms (02, L3): of records in every state; damaged, cut and lengthened in every place; and bytes that are
-//! none.
+//! Stored forms (RULES, Stored form): of records in every state; damaged, cut and lengthened in every place; and bytes
+//! that are none.
 
 use super::random::Random;
 use super::{records, setups};

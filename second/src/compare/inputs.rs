@@ -1,4 +1,4 @@
-//! Inputs by their count (02, L11), in each of their places.
+//! Inputs by their count (RULES, Inputs), in each of their places.
 
 use super::random::Random;
 use super::{forms, records, setups};

@@ -1,7 +1,7 @@
 //! The comparison: the same calls on the same inputs in both programs, every number, count, record field and lent byte.
 //!
-//! The cases from before 02, L14, are made as they were, by the rules and the random numbers of then (`Rules::Before`), and
-//! compared by those of now; `before` holds that they are the same. Class 2 has its own, beside them.
+//! The cases from before Class 2 are made as they were, by the rules and the random numbers of then (`Rules::Before`),
+//! and compared by those of now; `before` holds that they are the same. Class 2 has its own, beside them.
 
 #[cfg(test)]
 mod before;
@@ -46,7 +46,7 @@ use tally::Tally;
 /// Nothing, or the smallest difference found.
 type Compared = Result<(), Box<Difference>>;
 
-/// A run has at least so many comparisons in the cases from before 02, L14, and as many rounds in Class 2.
+/// A run has at least so many comparisons in the cases from before Class 2, and as many rounds in Class 2.
 pub const ENOUGH: usize = 500_000;
 
 /// So many rounds come before what leaves nothing to chance, so that most differences are found early.
@@ -84,7 +84,7 @@ pub struct Run<'a, B: Side> {
     pub agreed: usize,
     /// Of these, made in place too.
     pub in_place: usize,
-    /// Of these, in the cases from before 02, L14.
+    /// Of these, in the cases from before Class 2.
     agreed_before: usize,
     pub met: Tally,
 }
@@ -109,7 +109,7 @@ impl<'a, B: Side> Run<'a, B> {
         Ok(self.agreed)
     }
 
-    /// Cases from before 02, L14, made by the rules of then.
+    /// Cases from before Class 2, made by the rules of then.
     fn before(&mut self, cases: impl FnOnce(&mut Self) -> Compared) -> Compared {
         let agreed = self.agreed;
         let compared = Rules::Before.by(|| cases(self));

@@ -1,4 +1,4 @@
-//! Names (02, L2): UTF-8 of every kind, and what is not quite UTF-8.
+//! Names (RULES, Texts): UTF-8 of every kind, and what is not quite UTF-8.
 
 use super::random::Random;
 use std::collections::BTreeSet;
@@ -185,9 +185,9 @@ fn change(random: &mut Random, name: &mut [u8]) {
 }
 
 /// Names that leave nothing to chance. Each character at an edge and each forbidden piece: alone, before, between and
-/// after other characters, and at the end of 64 and of 65 bytes. Each octet alone. Each octet that may begin a character
-/// of several, or looks as if, with each second one at an edge, and with as many others as it asks for, one fewer and
-/// one more.
+/// after other characters, and at the end of 64 and of 65 bytes. Each octet alone. Each octet that may begin a
+/// character of several, or looks as if, with each second one at an edge, and with as many others as it asks for, one
+/// fewer and one more.
 pub fn every() -> BTreeSet<Vec<u8>> {
     let mut names: BTreeSet<Vec<u8>> = (0..=0xFF).map(|octet| vec![octet]).collect();
     let edges = EDGES.concat().into_iter().map(|character| character.to_string().into_bytes());
@@ -240,8 +240,8 @@ mod tests {
         }
     }
 
-    /// 02, L2: "State that a name the projector accepts is one that our reader accepts." And the other way round, but
-    /// for what the reader takes for a refusal.
+    /// RULES, Texts: "State that a name the projector accepts is one that our reader accepts." And the other way round,
+    /// but for what the reader takes for a refusal.
     #[test]
     fn what_the_projector_accepts_the_reader_accepts() {
         let mut random = Random::new(2);

@@ -1,4 +1,5 @@
-//! Each kind of line at each moment of a panel's projector (02, L13), and after each command; strays up to the most.
+//! Each kind of line at each moment of a panel's projector (RULES, Panel), and after each command; strays up to the
+//! most.
 
 use super::every_panel::moments;
 use crate::face::{Command, Entry, Panel, PanelAct, PanelCall};

@@ -1,4 +1,4 @@
-//! Records of panels (02, L13): legal ones in every state, and damaged ones, field by field.
+//! Records of panels (RULES, Panel): legal ones in every state, and damaged ones, field by field.
 
 use super::random::Random;
 use super::records::{code, count, set_text, text};

@@ -1,4 +1,4 @@
-//! A call on a panel (02, L13) cut down: `shrink` has the other calls.
+//! A call on a panel (RULES, Panel) cut down: `shrink` has the other calls.
 
 use super::shrink::{memories, shorter, simpler_bytes, simpler_commands, zeroed};
 use crate::face::{Command, Entry, Panel, PanelAct, PanelCall, Text};

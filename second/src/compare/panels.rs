@@ -1,5 +1,5 @@
-//! Panels (02, L13) at work: several projectors at once, the second program's own at the other end of each line, and
-//! lines that nobody asked for among theirs. `panel_records` has the panels, `every_panel` what leaves nothing to
+//! Panels (RULES, Panel) at work: several projectors at once, the second program's own at the other end of each line,
+//! and lines that nobody asked for among theirs. `panel_records` has the panels, `every_panel` what leaves nothing to
 //! chance.
 
 use super::random::Random;

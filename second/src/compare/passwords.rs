@@ -1,4 +1,4 @@
-//! Passwords of every length (02, L9), in each of their places.
+//! Passwords of every length (RULES, Passwords), in each of their places.
 
 use super::random::Random;
 use super::{forms, records, setups};

@@ -142,7 +142,8 @@ fn padded(random: &mut Random, width: usize) -> String {
     format!("{:0width$}", random.below(10usize.pow(digits)))
 }
 
-/// Lamp hours of none to eight digits, around powers of ten and padded, of one lamp and among eight (02, L4).
+/// Lamp hours of none to eight digits, around powers of ten and padded, of one lamp and among eight (RULES,
+/// Controller).
 pub fn every_hours() -> Vec<Act> {
     let numbers = [0, 1, 7, 8, 9, 10, 11, 77, 99, 100, 412, 999, 1000, 9999, 10_000, 99_999, 100_000, 999_999];
     let numbers = numbers.into_iter().flat_map(|number: u32| (1..=8).map(move |width| format!("{number:0width$}")));

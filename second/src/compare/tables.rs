@@ -1,4 +1,4 @@
-//! Tables of lamp seconds (02, L10).
+//! Tables of lamp seconds (RULES, Service).
 
 use super::random::Random;
 use super::shrink::{lower_at, shorter};

@@ -24,15 +24,15 @@ pub enum Act {
         lent: Vec<u8>,
     },
     /// Not one call: a stream, handed on until all is taken. The board is handed it in these cuts, the second program
-    /// whole: 01 says that the reply bytes and the end state are the same.
+    /// whole: RULES, Connection, says that the reply bytes and the end state are the same.
     HandOn {
         place: usize,
         bytes: Vec<u8>,
         cuts: Vec<usize>,
     },
     /// Not one call: parts of streams, each at its place, in turn. The board is handed them as they come, the second
-    /// program each line whole, when its CR comes, and last what is left of each: 02, L5, says that "one place's bytes
-    /// never touch another's connection".
+    /// program each line whole, when its CR comes, and last what is left of each: RULES, Places, says that "one place's
+    /// bytes never touch another's connection".
     Interleave {
         parts: Vec<(usize, Vec<u8>)>,
     },

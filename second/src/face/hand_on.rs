@@ -6,8 +6,8 @@ pub trait Side {
     /// Any call but `HandOn` and `Interleave`, by value.
     fn call(&mut self, device: &Device, act: &Act) -> Answer;
 
-    /// The same in place, on a record that holds this one. It is for the acts that `has_in_place`, and the answer has the
-    /// record that lies there then.
+    /// The same in place, on a record that holds this one. It is for the acts that `has_in_place`, and the answer has
+    /// the record that lies there then.
     fn call_in_place(&mut self, device: &Device, act: &Act) -> Answer;
 
     /// Whether a stream is handed on in the cuts that are asked for, or whole.
@@ -23,8 +23,8 @@ pub trait Side {
         }
     }
 
-    /// 01: "Handed on until all is taken, with no time between, a stream gives the same reply bytes and end state
-    /// however it is cut."
+    /// RULES, Connection: "Handed on until all is taken, with no time between, a stream gives the same reply bytes and
+    /// end state however it is cut."
     fn hand_on(&mut self, device: &Device, place: usize, bytes: &[u8], cuts: &[usize]) -> Answer {
         let mut last = Changed { number: 0, device: *device };
         let mut replies = Vec::new();

@@ -108,7 +108,7 @@ pub struct Connection {
     pub line: Line,
 }
 
-/// 02, L5: so many controllers are connected at once.
+/// RULES, Places: so many controllers are connected at once.
 pub const PLACES: usize = 4;
 
 #[repr(C)]
@@ -222,7 +222,7 @@ impl Connection {
 }
 
 impl Device {
-    /// 01, "The numbers a call gives": "the blank record, all zero (not legal, having no input)".
+    /// RULES, The numbers a call gives: "the blank record, all zero (not legal, having no input)".
     pub const BLANK: Device = Device {
         settings: Settings {
             name: Text::EMPTY,

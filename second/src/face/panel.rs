@@ -1,4 +1,4 @@
-//! The workroom panel (02, L13): its records, field by field as `include/ceiling.h` has them, and the calls on it.
+//! The workroom panel (RULES, Panel): its records, field by field as `include/ceiling.h` has them, and the calls on it.
 
 use super::{Command, Text};
 

@@ -1,4 +1,5 @@
-//! What 02's changes add to the face: tables of lamp seconds compared (L10), cutting days checked and planned (L12).
+//! What stands beside the projector: tables of lamp seconds compared (RULES, Service), cutting days checked and planned
+//! (RULES, Cutting day).
 
 #[repr(C)]
 #[derive(Clone, Copy, PartialEq, Eq, Debug)]

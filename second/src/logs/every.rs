@@ -44,7 +44,7 @@ pub fn every_number() -> Vec<u8> {
     log
 }
 
-/// Texts of every length around what 01 and 02 speak of, answered and not.
+/// Texts of every length around what the rules speak of, answered and not.
 fn every_length() -> Vec<u8> {
     let mut log = b"O 00000000\n".to_vec();
     for length in (0..300).chain(LONGEST - 12..LONGEST + 12).chain(2 * LONGEST - 3..2 * LONGEST + 3) {

@@ -1,5 +1,6 @@
-//! 02, L1 by the thousand: for each log, made from a seed, the program prints what these rules print, byte for byte,
-//! whatever the sizes of the reads; and the logs of a run would show each deliberate mistake of `replay::mistakes`.
+//! The floor log (RULES) by the thousand: for each log, made from a seed, the program prints what these rules print,
+//! byte for byte, whatever the sizes of the reads; and the logs of a run would show each deliberate mistake of
+//! `replay::mistakes`.
 
 pub mod damage;
 pub mod every;

@@ -1,5 +1,5 @@
-//! The calls of a host, with 01's table of numbers: "Checks run in the order of the table; a call skips those it can't
-//! meet." A refused call gives the record it was given, counts 0, and writes no byte.
+//! The calls of a host, with the table of RULES, The numbers a call gives: "Checks run in the order of the table; a
+//! call skips those it can't meet." A refused call gives the record it was given, counts 0, and writes no byte.
 
 use super::class::{Class, Texts, names_of};
 use super::controller::{self, Command};
@@ -18,7 +18,7 @@ pub(super) const NOT_LEGAL: u32 = 1;
 pub(super) const ROOM_SHORT: u32 = 2;
 pub(super) const OUT_OF_RANGE: u32 = 3;
 pub(super) const IS_CLOSED: u32 = 4;
-/// 02, L5: "new number 6, tested where 5 stands".
+/// RULES, Places: "new number 6, tested where 5 stands".
 pub(super) const NO_PLACE: u32 = 6;
 const SHORT_PASSWORD: u32 = 8;
 
@@ -29,8 +29,8 @@ pub fn set_up(lent: &face::Lent) -> face::Changed {
     given(accepted(lent, Class::One))
 }
 
-/// 02, L14, by the header: as `pj_set_up`, of Class 2. "other than one name an input; lengths that do not add up to
-/// names_len" are 3 too.
+/// RULES, Class 2, by the header: as `pj_set_up`, of Class 2. "other than one name an input; lengths that do not add up
+/// to names_len" are 3 too.
 pub fn set_up_2(lent: &face::Lent2) -> face::Changed {
     let face::Lent2 { lent, serial, version, names, name_lengths } = lent;
     let mut of_class_1 = set_up::in_range(lent);
@@ -59,7 +59,7 @@ fn given(accepted: Result<Projector, u32>) -> face::Changed {
     }
 }
 
-/// The projector of a set-up; else 3, or 8 "after every 3 has been ruled out" (02, L9).
+/// The projector of a set-up; else 3, or 8 "after every 3 has been ruled out" (RULES, Passwords).
 pub(super) fn accepted(lent: &face::Lent, class: Class) -> Result<Projector, u32> {
     if is_short(&lent.password) && is_told_early(lent) {
         return Err(SHORT_PASSWORD);

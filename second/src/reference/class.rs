@@ -1,5 +1,5 @@
-//! 02, L14: "A set-up carries its class and, for Class 2 only, the serial number, the software version and a name for each
-//! input, of that specification's lengths and under 01's rule on bytes and on ERR1 to ERR4".
+//! RULES, Class 2: "A set-up carries its class and, for Class 2 only, the serial number, the software version and a
+//! name for each input, of that specification's lengths and under .. rule on bytes and on ERR1 to ERR4".
 
 use super::rules::{Mistake, made};
 use super::set_up::is_text;

@@ -1,5 +1,5 @@
-//! 02, L14: "the `%2` header, freeze, the volume steps, the serial number and software version queries, input names". The
-//! header of the archive has the table and the refusals.
+//! RULES, Class 2: "the `%2` header, freeze, the volume steps, the serial number and software version queries, input
+//! names". The header of the archive has the table and the refusals.
 
 use super::class::{Texts, Volume};
 use super::commands::Body;
@@ -79,7 +79,7 @@ enum Wish {
 }
 
 impl Projector {
-    /// The reply to a `%2` line in Class 2: as 01's, with the line's own class.
+    /// The reply to a `%2` line in Class 2: as that to a `%1` line, with the line's own class.
     pub fn answer_2(&mut self, texts: &Texts, body: &[u8; 4], parameter: &[u8]) -> Vec<u8> {
         let known = Body2::from_bytes(body).is_some();
         if !known && made(Mistake::OtherBodyUnderTwoDropped) {

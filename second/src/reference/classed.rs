@@ -1,4 +1,4 @@
-//! 02, L14, sentence by sentence.
+//! RULES, Class 2, sentence by sentence.
 
 use super::calls::{legal, open, pass, read_reply, receive, set_fault, set_up, set_up_2, which_setting, write};
 use crate::compare::class_2::{self, records, setups};
@@ -114,8 +114,8 @@ fn lines_of_class_2() {
     }
 }
 
-/// The header: "A level stops at 0 and at PJ_VOLUME_MOST, and a step that goes no further is OK too. Nothing but FREZ changes
-/// the freeze, and nothing but a step a level".
+/// The header: "A level stops at 0 and at PJ_VOLUME_MOST, and a step that goes no further is OK too. Nothing but FREZ
+/// changes the freeze, and nothing but a step a level".
 #[test]
 fn freeze_and_levels() {
     let mut device = on(of_class_2());
@@ -138,7 +138,7 @@ fn freeze_and_levels() {
     assert!(!device.own.frozen);
 }
 
-/// "a name for each input, of that specification's lengths and under 01's rule on bytes and on ERR1 to ERR4".
+/// "a name for each input, of that specification's lengths and under .. rule on bytes and on ERR1 to ERR4".
 #[test]
 fn set_ups() {
     let good = class_2::forms::common();
@@ -174,8 +174,8 @@ fn set_ups() {
     assert_eq!(set_up(&in_class_1).device.settings.class_number, 1);
 }
 
-/// The header: "1 or 2; what follows is all zero in Class 1"; "one an input, in the inputs' order; all zero past the inputs";
-/// "levels, 0 to PJ_VOLUME_MOST".
+/// The header: "1 or 2; what follows is all zero in Class 1"; "one an input, in the inputs' order; all zero past the
+/// inputs"; "levels, 0 to PJ_VOLUME_MOST".
 #[test]
 fn records_of_both_classes() {
     for base in [of_class_1(), of_class_2()] {
@@ -341,8 +341,8 @@ fn meant(device: &Device, command: Command) -> Reading {
     }
 }
 
-/// "Say once, over the class, that the reader returns what the projector meant, for every command of a class no higher than
-/// the set-up's; a higher one gets no reply and changes nothing but what swallowing a line does."
+/// "Say once, over the class, that the reader returns what the projector meant, for every command of a class no higher
+/// than the set-up's; a higher one gets no reply and changes nothing but what swallowing a line does."
 #[test]
 fn the_reader_returns_what_was_meant() {
     let mut random = Random::new(14);

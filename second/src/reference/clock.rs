@@ -1,4 +1,4 @@
-//! 01, "Time": "The meaning is a definition of one second, applied n times".
+//! RULES, Time: "The meaning is a definition of one second, applied n times".
 
 use super::record::CLOSING_AGE;
 use super::rules::{Mistake, made};
@@ -40,7 +40,8 @@ impl Projector {
         self.age_by_one();
     }
 
-    /// "Warm-up or on: every lamp gains one"; by 02, L8, "each enabled lamp". "The fault mark changes none of this."
+    /// "Warm-up or on: every lamp gains one"; by RULES, Lamps, "each enabled lamp". "The fault mark changes none of
+    /// this."
     fn burns(&self) -> bool {
         match self.power {
             _ if self.fault && made(Mistake::FaultStopsTime) => false,

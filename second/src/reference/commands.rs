@@ -1,4 +1,4 @@
-//! 01, "Commands".
+//! RULES, Commands.
 
 use super::rules::{Mistake, made};
 use super::set_up::MOST_INPUTS;
@@ -49,7 +49,7 @@ impl Body {
     }
 }
 
-/// "Set" in 01's table of bodies; the number is the input's place in the set-up.
+/// "Set" in the table of bodies; the number is the input's place in the set-up.
 enum Set {
     Power(bool),
     Input(usize),
@@ -57,7 +57,7 @@ enum Set {
 }
 
 impl Projector {
-    /// "The reply is `%1`, the four body bytes as received, case kept (002 says so too), `=`, the parameter, CR."
+    /// "The reply is `%1`, the four body bytes as received, case kept .., `=`, the parameter, CR."
     pub fn answer(&mut self, body: &[u8; 4], parameter: &[u8]) -> Vec<u8> {
         let echoed = if made(Mistake::BodyUpperCased) { body.to_ascii_uppercase() } else { body.to_vec() };
         let answered = self.answered_parameter(body, parameter);
@@ -103,7 +103,7 @@ impl Projector {
         }
     }
 
-    /// The sets that 01's table lists. "An input not in the set-up is not listed." "First digit of AVMT: 1 video, 2
+    /// The sets that the table lists. "An input not in the set-up is not listed." "First digit of AVMT: 1 video, 2
     /// audio, 3 both; second: 1 mute on, 0 off".
     fn listed(&self, body: Body, parameter: &[u8]) -> Option<Set> {
         match (body, parameter) {
@@ -184,7 +184,7 @@ impl Projector {
             Body::Inf1 => self.set_up.maker.clone(),
             Body::Inf2 => self.set_up.model.clone(),
             Body::Info => self.set_up.other.clone(),
-            // 02, L14: "CLSS .. amended for Class 2 only"
+            // RULES, Class 2: "CLSS .. amended for Class 2 only"
             Body::Clss if made(Mistake::ClassToldOne) => b"1".to_vec(),
             Body::Clss => vec![b'0' + self.set_up.class.number()],
         }
@@ -223,8 +223,8 @@ impl Projector {
         (0..self.lamps.len()).filter(|&lamp| self.enabled[lamp] || !made(Mistake::UnmarkedLeftOut))
     }
 
-    /// "hours, space, 1 (lit) in warm-up or on, else 0"; 02, L8: "Only enabled lamps .. show as lit." "Hours are seconds divided by 3,600, rounded down; the hours are
-    /// written most significant digit first, no leading zeros."
+    /// "hours, space, 1 (lit) in warm-up or on, else 0"; RULES, Lamps: "Only enabled lamps .. show as lit." "Hours are
+    /// seconds divided by 3,600, rounded down; the hours are written most significant digit first, no leading zeros."
     fn lamp_answer(&self, lamp: usize) -> Vec<u8> {
         let seconds = self.lamps[lamp];
         let hours = if made(Mistake::HoursRoundedUp) { seconds.div_ceil(3600) } else { seconds / 3600 };

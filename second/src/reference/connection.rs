@@ -1,4 +1,4 @@
-//! 01, "Connection".
+//! RULES, Connection.
 
 use super::class::{Class, Texts};
 use super::md5::{hex, md5};
@@ -33,8 +33,8 @@ impl Projector {
     }
 
     /// "Receiving takes bytes up to and including the first CR, or all of them if none, and reports how many it took."
-    /// The second part of the result is the reply, empty where none is due. 02, L5: "One place's bytes never touch
-    /// another's connection."
+    /// The second part of the result is the reply, empty where none is due. RULES, Places: "One place's bytes never
+    /// touch another's connection."
     pub fn receive(&mut self, place: usize, bytes: &[u8]) -> (usize, Vec<u8>) {
         for (at, &byte) in bytes.iter().enumerate() {
             if byte == CR || (byte == LF && made(Mistake::LineFeedEndsALine)) {
@@ -100,7 +100,8 @@ impl Projector {
     }
 
     /// "An overlong line is swallowed to its CR, with no reply. So is one not of the form `%1`, four ASCII letters or
-    /// digits, a space, 0 to 128 bytes." 02, L14: "A Class 1 set-up .. drops `%2` lines"; in Class 2 they have the form.
+    /// digits, a space, 0 to 128 bytes." RULES, Class 2: "A Class 1 set-up .. drops `%2` lines"; in Class 2 they have
+    /// the form.
     fn answer_line(&mut self, line: &Line) -> Vec<u8> {
         let Line::Collected(bytes) = line else { return Vec::new() };
         match bytes.as_slice() {

@@ -1,4 +1,4 @@
-//! 01, "Controller": commands written, greetings read. Replies are read in `replies`.
+//! RULES, Controller: commands written, greetings read. Replies are read in `replies`.
 
 use super::class_2::Body2;
 use super::commands::Body;
@@ -18,7 +18,7 @@ pub enum Command {
         on: bool,
     },
     Query(Body),
-    /// 02, L14: under `%2`.
+    /// RULES, Class 2: under `%2`.
     Class2(Command2),
 }
 
@@ -143,8 +143,8 @@ impl Command2 {
 }
 
 /// "The writer gives the command, preceded on request by the digest of a lent random number and password; an illegal
-/// input or password is 3." A password that is not used is not looked at. 02, L9: "The controller's writer still takes 1
-/// to 7."
+/// input or password is 3." A password that is not used is not looked at. RULES, Passwords: "The controller's writer
+/// still takes 1 to 7."
 pub fn written(command: face::Command, secured: bool, random: u32, password: &[u8]) -> Option<Vec<u8>> {
     let command = Command::read(command)?;
     let password_matters = secured || made(Mistake::PasswordAlwaysTested);

@@ -1,4 +1,4 @@
-//! 02, L12: "A cutting day, planned and checked." Jobs and rigs are numbered by their places, from 0.
+//! RULES, Cutting day: "A cutting day, planned and checked." Jobs and rigs are numbered by their places, from 0.
 
 use super::calls::OUT_OF_RANGE;
 use super::rules::{Mistake, made};

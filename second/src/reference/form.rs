@@ -1,10 +1,10 @@
-//! 02, L3: settings that survive a board swap. "The form is the version byte 1, then sections in a fixed order, each
-//! after its count (of bytes, inputs or lamps) in one byte: name, maker, model, other, password, inputs (two ASCII
-//! digits each), lamps (seconds as four bytes); last W and C as two bytes each; all highest first." By L8 it "becomes
-//! version 2 with a section of marks, one byte 0 or 1 each, after the lamps; version 1 loads with all set. Each version
-//! has one form; the newest is written." By L14 it "becomes version 3, with a last byte for the class and, after it for
-//! Class 2 only, those texts in that order, each after its count; an input there is its two characters. Versions 1 and 2
-//! load as Class 1."
+//! RULES, Stored form: settings that survive a board swap. "The form is the version byte 1, then sections in a fixed
+//! order, each after its count (of bytes, inputs or lamps) in one byte: name, maker, model, other, password, inputs
+//! (two ASCII digits each), lamps (seconds as four bytes); last W and C as two bytes each; all highest first." Since
+//! lamps have marks it "becomes version 2 with a section of marks, one byte 0 or 1 each, after the lamps; version 1
+//! loads with all set. Each version has one form; the newest is written." Since Class 2 it "becomes version 3, with a
+//! last byte for the class and, after it for Class 2 only, those texts in that order, each after its count; an input
+//! there is its two characters. Versions 1 and 2 load as Class 1."
 
 use super::class::{Class, LONGEST_INPUT_NAME, LONGEST_SERIAL, Texts};
 use super::rules::{Mistake, knows_class_2, made};
@@ -20,14 +20,14 @@ const BYTE: usize = 1;
 const INPUT: usize = 2;
 const LAMP: usize = 4;
 
-/// "The reader answers new numbers 20 (unknown version), 21 (cut short), 22 (bytes left over), 23 (contents not legal by
-/// 01), tested in that order".
+/// "The reader answers new numbers 20 (unknown version), 21 (cut short), 22 (bytes left over), 23 (contents not legal
+/// ..), tested in that order".
 pub const OTHER_VERSION: u32 = 20;
 pub const CUT_SHORT: u32 = 21;
 pub const LEFT_OVER: u32 = 22;
 pub const CONTENTS: u32 = 23;
 
-/// The version, eight counts, one input, W and C, and the class; and with every section as long as 01 and 02 allow: in
+/// The version, eight counts, one input, W and C, and the class; and with every section as long as the rules allow: in
 /// version 2, and in version 3 with the texts of Class 2.
 pub const SHORTEST: usize = 1 + 8 + INPUT + 4 + 1;
 pub const LONGEST_MARKED: usize = SHORTEST - 1 - INPUT
@@ -214,8 +214,8 @@ fn fill(stored: &mut Stored, rest: &mut &[u8], version: u8) -> Result<(), u32> {
     Ok(())
 }
 
-/// The header: "In Class 1 that is the last, and so is a byte that is no class. In Class 2 the serial number, the software
-/// version and a name for each of the inputs follow".
+/// The header: "In Class 1 that is the last, and so is a byte that is no class. In Class 2 the serial number, the
+/// software version and a name for each of the inputs follow".
 fn class_section(rest: &mut &[u8], inputs: usize, first: Option<u8>) -> Result<StoredClass, u32> {
     let mut byte = match first {
         Some(byte) => byte,
@@ -265,7 +265,7 @@ fn marks_section(rest: &mut &[u8], lamps: usize) -> Result<Vec<u8>, u32> {
     Ok(marks)
 }
 
-/// A section after its count. What 01 allows at most does not matter before all of the form is read.
+/// A section after its count. What the rules allow at most does not matter before all of the form is read.
 fn section<'a>(rest: &mut &'a [u8], size: usize, most: usize) -> Result<&'a [u8], u32> {
     let count = usize::from(take(rest, 1)?[0]);
     if count > most && made(Mistake::CountBeforeEnd) {

@@ -1,4 +1,4 @@
-//! 02, L5, rule by rule.
+//! RULES, Places, rule by rule.
 
 use super::calls::{close, legal, open, pass, receive, set_up};
 use super::connection::leading_digest;

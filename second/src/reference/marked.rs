@@ -1,4 +1,4 @@
-//! 02, L8, rule by rule.
+//! Lamps' marks (RULES, Lamps), rule by rule.
 
 use super::calls::{legal, open, pass, receive, set_up};
 use super::marks::set_mark;
@@ -45,8 +45,8 @@ fn all_at_first() {
     }
 }
 
-/// "set by the host while power is off and refused with new number 7 (after 3) otherwise; a lamp place that does not exist
-/// is 3. Clearing the last one is 3."
+/// "set by the host while power is off and refused with new number 7 (after 3) otherwise; a lamp place that does not
+/// exist is 3. Clearing the last one is 3."
 #[test]
 fn numbers_in_their_order() {
     for power in 0..4 {

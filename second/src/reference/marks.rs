@@ -1,4 +1,4 @@
-//! 02, L8: lamps that burn one at a time. "Each lamp gets an enabled mark, set by the host while power is off".
+//! RULES, Lamps: lamps that burn one at a time. "Each lamp gets an enabled mark, set by the host while power is off".
 
 use super::calls::{NOT_LEGAL, OUT_OF_RANGE};
 use super::rules::{Mistake, made};

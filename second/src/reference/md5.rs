@@ -110,7 +110,7 @@ mod tests {
         );
     }
 
-    /// 000's digest example: the spelling JBMIAProjectorLink gives what it prints.
+    /// The example of PJLink 1.04, 5.1: the spelling JBMIAProjectorLink gives what it prints.
     #[test]
     fn example_of_the_specification() {
         hashes_to("498e4a67JBMIAProjectorLink", "5d8409bc1c3fa39749434aa3a5c38682");

@@ -1,10 +1,11 @@
-//! Document 01's rules and 02's changes, written plainly. Every rule has the document's words beside it.
+//! The rules, written plainly. Every rule has beside it the words in which it was asked for, and the section of
+//! docs/RULES.md that has it as it stands.
 //!
-//! `calls` has the calls that a host makes, with the numbers they give, `places` those of a controller's place (L5);
-//! `swap` (L3), `marks` (L8), `service` (L10), `days` (L12) and `panel` (L13) have those that 02 adds; the other files
-//! have what they mean, `utf8` what L2 says of names, `form` L3's bytes, `class` and `class_2` what L14 says of Class 2.
-//! `rules` holds the deliberate mistakes that `second wrong` switches on, one at a time; none is on otherwise; those in
-//! the calls in place alone are made in `in_place`.
+//! `calls` has the calls that a host makes, with the numbers they give, `places` those of a controller's place; `swap`
+//! (RULES, Stored form), `marks` (Lamps), `service` (Service), `days` (Cutting day) and `panel` (Panel) have others;
+//! the other files have what they mean, `utf8` what is said of names, `form` the stored bytes, `class` and `class_2`
+//! Class 2. `rules` holds the deliberate mistakes that `second wrong` switches on, one at a time; none is on otherwise;
+//! those in the calls in place alone are made in `in_place`.
 
 pub mod calls;
 pub mod class;
@@ -47,7 +48,7 @@ use crate::face::PLACES;
 use class::Volume;
 use set_up::SetUp;
 
-/// A projector in a legal state. What a record can say and 01 forbids has no form here.
+/// A projector in a legal state. What a record can say and the rules forbid has no form here.
 #[derive(Clone, PartialEq, Eq, Debug)]
 pub struct Projector {
     pub set_up: SetUp,
@@ -57,13 +58,13 @@ pub struct Projector {
     pub video_muted: bool,
     pub audio_muted: bool,
     pub fault: bool,
-    /// 01: "six digits 0 to 2: fan, lamp, temperature, cover, filter, other".
+    /// RULES, Commands: "six digits 0 to 2: fan, lamp, temperature, cover, filter, other".
     pub errors: [u8; 6],
     /// Stored seconds, lamp by lamp.
     pub lamps: Vec<u32>,
-    /// 02, L8: "Each lamp gets an enabled mark". As many as there are lamps.
+    /// RULES, Lamps: "Each lamp gets an enabled mark". As many as there are lamps.
     pub enabled: Vec<bool>,
-    /// 02, L14: "freeze, the volume steps".
+    /// RULES, Class 2: "freeze, the volume steps".
     pub frozen: bool,
     pub speaker: Volume,
     pub microphone: Volume,
@@ -80,7 +81,7 @@ pub enum Power {
     WarmUp(u32),
 }
 
-/// 01: "A closed connection has age 0, random number 0, no collected bytes and no overlong mark."
+/// RULES, The legal record: "A closed connection has age 0, random number 0, no collected bytes and no overlong mark."
 #[derive(Clone, PartialEq, Eq, Debug)]
 pub enum Connection {
     Closed,

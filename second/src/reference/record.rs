@@ -1,4 +1,5 @@
-//! 01, "A record is legal if ..": the record that a host keeps, read into a projector and written back.
+//! "A record is legal if .." (RULES, The legal record): the record that a host keeps, read into a projector and written
+//! back.
 
 use super::class::{Class, LONGEST_INPUT_NAME, Texts, Volume};
 use super::rules::{Mistake, made};
@@ -111,8 +112,8 @@ fn read_set_up(settings: &face::Settings) -> Option<SetUp> {
     (kept || set_up.is_legal()).then_some(set_up)
 }
 
-/// The header: "1 or 2; what follows is all zero in Class 1"; names "one an input, in the inputs' order; all zero past the
-/// inputs".
+/// The header: "1 or 2; what follows is all zero in Class 1"; names "one an input, in the inputs' order; all zero past
+/// the inputs".
 fn read_class(settings: &face::Settings) -> Option<Class> {
     let face::Settings { class_number, serial, version, names, input_count, .. } = settings;
     let nothing_in = |names: &[face::Name]| names.iter().all(|name| *name == face::Name::EMPTY);
@@ -145,7 +146,8 @@ fn read_name(name: &face::Name) -> Option<Vec<u8>> {
     part_in_use(&name.bytes, name.len, LONGEST_INPUT_NAME)
 }
 
-/// 02, L8: "A legal record now includes the marks, at least one set if there are lamps"; one past the lamps is not set.
+/// RULES, Lamps: "A legal record now includes the marks, at least one set if there are lamps"; one past the lamps is
+/// not set.
 fn read_marks(own: &face::Own, lamps: usize) -> Option<Vec<bool>> {
     let marks = match part_in_use(&own.enabled, lamps, MOST_LAMPS) {
         None if made(Mistake::MarksPastLamps) => own.enabled[..lamps].to_vec(),
@@ -167,7 +169,7 @@ fn read_power(own: &face::Own, set_up: &SetUp) -> Option<Power> {
     }
 }
 
-/// 02, L5: "The record is legal if each place's part is."
+/// RULES, Places: "The record is legal if each place's part is."
 fn read_connections(connections: &[face::Connection; PLACES]) -> Option<[Connection; PLACES]> {
     let tested = match () {
         _ if made(Mistake::OnlyPlaceZeroTested) => 1,

@@ -1,4 +1,4 @@
-//! 01, "Controller": "The reply reader is told the command."
+//! RULES, Controller: "The reply reader is told the command."
 
 use super::class::{is_input_name, is_serial};
 use super::class_2::Body2;
@@ -26,13 +26,13 @@ pub enum Meaning {
     Freeze(bool),
 }
 
-/// The reply reader's refusals, with 01's numbers.
+/// The reply reader's refusals, with their numbers.
 pub const NO_REPLY_LINE: u32 = 10;
 pub const OTHER_COMMAND: u32 = 11;
 pub const PARAMETER_NOT_ALLOWED: u32 = 12;
 
 /// "It knows the ERRA line, then tests the form (`%1`, four letters or digits, `=`, 0 to 128 bytes with no CR, one CR
-/// at the end), then the body without case, then the parameter." 02, L14: the form has the command's own class.
+/// at the end), then the body without case, then the parameter." RULES, Class 2: the form has the command's own class.
 pub fn meaning(command: Command, line: &[u8]) -> Result<Meaning, u32> {
     if line == ERRA_LINE {
         return Ok(Meaning::Erra);
@@ -100,7 +100,7 @@ fn query_meaning(body: Body, parameter: &[u8]) -> Option<Meaning> {
         (Body::Name, _) => text(parameter, is_name(parameter) || is_old_name(parameter)).map(Meaning::Text),
         (Body::Inf1 | Body::Inf2 | Body::Info, _) => text(parameter, is_information(parameter)).map(Meaning::Text),
         (Body::Clss, b"1") => Some(Meaning::Class(1)),
-        // 02, L14: "on a `%1` reply it allows whatever a legal set-up of either class answers there"
+        // RULES, Class 2: "on a `%1` reply it allows whatever a legal set-up of either class answers there"
         (Body::Clss, b"2") if knows_class_2() && !made(Mistake::ReaderRefusesClass2) => Some(Meaning::Class(2)),
         (Body::Clss, b"3") if made(Mistake::ReaderTakesClass3) => Some(Meaning::Class(3)),
         _ => None,
@@ -169,14 +169,14 @@ fn inputs(parameter: &[u8]) -> Option<Vec<Input>> {
     (inputs.len() <= most && !refused).then_some(inputs)
 }
 
-/// "A text has at most 64 bytes (NAME) or 32, each 0x20 to 0xFF; ERR2 as a text is 12." By 02, L2, a name is UTF-8 here
-/// as in a set-up, and another is refused "with 12".
+/// "A text has at most 64 bytes (NAME) or 32, each 0x20 to 0xFF; ERR2 as a text is 12." By RULES, Texts, a name is
+/// UTF-8 here as in a set-up, and another is refused "with 12".
 fn text(parameter: &[u8], allowed: bool) -> Option<Vec<u8>> {
     let taken = allowed || (parameter == b"ERR2" && made(Mistake::Err2TextTaken));
     taken.then(|| parameter.to_vec())
 }
 
-/// 01's rule on names, which no longer holds.
+/// The rule on names as it was before, which no longer holds.
 fn is_old_name(parameter: &[u8]) -> bool {
     made(Mistake::ReaderKeepsOldNames) && is_text(parameter, LONGEST_NAME)
 }
@@ -200,7 +200,8 @@ mod tests {
         }
     }
 
-    /// 02, L4: "Our own projector still writes no leading zero, and our reader must still return what it meant."
+    /// RULES, Controller: "Our own projector still writes no leading zero, and our reader must still return what it
+    /// meant."
     #[test]
     fn own_hours_are_read_back() {
         let mut projector = sample();

@@ -1,5 +1,5 @@
-//! The deliberate mistakes. Each is a reading of 01 or 02 that someone might really ship; `second wrong` makes them one
-//! by one and expects that the comparison finds each.
+//! The deliberate mistakes. Each is a reading of the rules that someone might really ship; `second wrong` makes them
+//! one by one and expects that the comparison finds each.
 
 use std::cell::Cell;
 
@@ -322,8 +322,8 @@ thread_local! {
     static RULES: Cell<Rules> = const { Cell::new(Rules::Now) };
 }
 
-/// The rules as they stand now, or as they stood before 02, L14. The cases from then follow the latter, so that they are
-/// the same still.
+/// The rules as they stand now, or as they stood before Class 2. The cases from then follow the latter, so that they
+/// are the same still.
 #[derive(Clone, Copy, PartialEq, Eq, Debug)]
 pub enum Rules {
     Before,

@@ -1,4 +1,4 @@
-//! 02, L10: "Two tables, one list of differences."
+//! RULES, Service: "Two tables, one list of differences."
 
 use super::calls::OUT_OF_RANGE;
 use super::rules::{Mistake, made};

@@ -1,4 +1,4 @@
-//! 01, "Set-up".
+//! What a set-up takes and gives (RULES, The legal record).
 
 use super::class::{Class, Volume};
 use super::rules::{Mistake, made};
@@ -9,7 +9,7 @@ use crate::face::{self, PLACES};
 pub const LONGEST_NAME: usize = 64;
 pub const LONGEST_INFORMATION: usize = 32;
 pub const LONGEST_PASSWORD: usize = 32;
-/// 02, L11: "Raise 16 to 32."
+/// RULES, Inputs: "Raise 16 to 32."
 pub const MOST_INPUTS: usize = 32;
 pub const MOST_LAMPS: usize = 8;
 /// "359,999,999 (which is 99,999 hours and 3,599 seconds)".
@@ -29,12 +29,12 @@ pub struct SetUp {
 }
 
 impl SetUp {
-    /// 02, L9: "A record or a stored form with such a password is no longer legal".
+    /// RULES, Passwords: "A record or a stored form with such a password is no longer legal".
     pub fn is_legal(&self) -> bool {
         self.is_in_range() && !is_short(&self.password)
     }
 
-    /// 01's ranges, of which a short password is in the one for passwords.
+    /// The ranges, of which a short password is in the one for passwords.
     pub fn is_in_range(&self) -> bool {
         is_name(&self.name)
             && is_information(&self.maker)
@@ -48,8 +48,8 @@ impl SetUp {
     }
 
     /// "A device starts off, with both mutes off, the first input, no fault, error status 000000, connection closed."
-    /// 02, L8: the marks are "all" set "at first". L14, by the header: "not frozen and with both levels at
-    /// PJ_VOLUME_FIRST".
+    /// RULES, Lamps: the marks are "all" set "at first". RULES, Class 2, by the header: "not frozen and with both
+    /// levels at PJ_VOLUME_FIRST".
     pub fn fresh(self, lamps: Vec<u32>) -> Projector {
         Projector {
             set_up: self,
@@ -73,15 +73,15 @@ fn fresh_marks(lamps: usize) -> Vec<bool> {
     (0..lamps).map(|lamp| lamp == 0 || !made(Mistake::FirstMarkAlone)).collect()
 }
 
-/// "Every byte is 0x20 to 0xFF. No text is exactly ERR1, ERR2, ERR3 or ERR4". 01's words for the texts: name, maker,
+/// "Every byte is 0x20 to 0xFF. No text is exactly ERR1, ERR2, ERR3 or ERR4". So of the texts: name, maker,
 /// model and other information.
 pub fn is_text(bytes: &[u8], longest: usize) -> bool {
     let reads_as_refusal = [&b"ERR1"[..], b"ERR2", b"ERR3", b"ERR4"].contains(&bytes);
     bytes.len() <= longest && bytes.iter().all(|&b| b >= 0x20) && !reads_as_refusal
 }
 
-/// 02, L2: "the name must be well-formed UTF-8 by RFC 3629 (no overlong form, no surrogate) with no byte under 0x20."
-/// For the rest it is a text as before.
+/// RULES, Texts: "the name must be well-formed UTF-8 by RFC 3629 (no overlong form, no surrogate) with no byte under
+/// 0x20." For the rest it is a text as before.
 pub fn is_name(bytes: &[u8]) -> bool {
     let taken = is_text(bytes, LONGEST_NAME) && utf8::is_well_formed(bytes);
     taken && !(made(Mistake::ControlsRefused) && has_controls(bytes))
@@ -93,7 +93,7 @@ fn has_controls(bytes: &[u8]) -> bool {
     utf8::characters(bytes).is_some_and(|numbers| numbers.iter().any(is_control))
 }
 
-/// 02, L2: "Maker, model and other information keep the old rule."
+/// RULES, Texts: "Maker, model and other information keep the old rule."
 pub fn is_information(bytes: &[u8]) -> bool {
     let refused = made(Mistake::InformationInUtf8) && !utf8::is_well_formed(bytes);
     is_text(bytes, LONGEST_INFORMATION) && !refused
@@ -104,8 +104,8 @@ pub fn is_password(bytes: &[u8]) -> bool {
     bytes.len() <= LONGEST_PASSWORD && all_letters_or_digits(bytes)
 }
 
-/// 02, L9: "The insurer wants at least eight characters. A password of 1 to 7 is refused at set-up with new number 8".
-/// None is none: 01's "Length 0 means no security" stands.
+/// RULES, Passwords: "The insurer wants at least eight characters. A password of 1 to 7 is refused at set-up with new
+/// number 8". None is none: "Length 0 means no security" stands.
 pub fn is_short(password: &[u8]) -> bool {
     let fewest = if made(Mistake::NoPasswordIsShort) { 0 } else { 1 };
     let most = match () {

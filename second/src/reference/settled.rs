@@ -1,4 +1,4 @@
-//! 01, "Lines that settle it", on the sample set-up with its connection open.
+//! The lines that settle it (RULES, Commands), on the sample set-up with its connection open.
 
 use super::Projector;
 use crate::replay::sample;

@@ -1,4 +1,4 @@
-//! 02, L9, length by length.
+//! RULES, Passwords, length by length.
 
 use super::{calls, swap};
 use crate::compare::forms;

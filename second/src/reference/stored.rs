@@ -1,4 +1,4 @@
-//! 02, L3, in forms written out by hand, and what is said of every form.
+//! RULES, Stored form, in forms written out by hand, and what is said of every form.
 
 use super::form::{LONGEST, LONGEST_MARKED, SHORTEST};
 use super::{calls, form, swap};
@@ -6,7 +6,7 @@ use crate::compare::random::Random;
 use crate::compare::{class_2, forms, records};
 use crate::face::{Changed, Device, Lent, Lent2};
 
-/// Two lamps, three inputs and a name in Japanese, byte by byte from the document.
+/// Two lamps, three inputs and a name in Japanese, byte by byte from the rules.
 #[rustfmt::skip]
 const BY_HAND: &[u8] = &[
     3,                                                                          // "version 3"
@@ -38,7 +38,7 @@ const OF_CLASS_2: &[u8] = &[
     2, 0xFF, 0x20,                                                              // 0xFF and a space
 ];
 
-/// The same as `BY_HAND` in version 2, as boards wrote it before L14.
+/// The same as `BY_HAND` in version 2, as boards wrote it before Class 2.
 #[rustfmt::skip]
 const MARKED: &[u8] = &[
     2,                                                                          // "version 2"
@@ -53,7 +53,7 @@ const MARKED: &[u8] = &[
     0x00, 0x14, 0x02, 0x58,
 ];
 
-/// And in version 1, as boards wrote it before L8.
+/// And in version 1, as boards wrote it before lamps had marks.
 #[rustfmt::skip]
 const OLD: &[u8] = &[
     1,                                                                          // "the version byte 1"
@@ -116,8 +116,8 @@ fn by_hand_is_loaded_and_stored() {
     assert_eq!(stored(&calls::set_up_2(&of_class_2()).device), OF_CLASS_2);
 }
 
-/// 02, L8: "version 1 loads with all set. Each version has one form; the newest is written." L14: "Versions 1 and 2 load
-/// as Class 1."
+/// RULES, Stored form: "version 1 loads with all set. Each version has one form; the newest is written." RULES, Class 2:
+/// "Versions 1 and 2 load as Class 1."
 #[test]
 fn the_old_versions_are_loaded_and_the_newest_stored() {
     for old in [OLD, MARKED] {
@@ -158,7 +158,7 @@ fn classes_of_a_form() {
     assert_eq!(number(&[b"\x02", &OF_CLASS_2[1..end]].concat()), 23, "6A is of Class 2");
 }
 
-/// "of that specification's lengths and under 01's rule on bytes and on ERR1 to ERR4".
+/// "of that specification's lengths and under .. rule on bytes and on ERR1 to ERR4".
 #[test]
 fn texts_of_a_form() {
     let form = |text: &[u8], place: usize| {

@@ -1,4 +1,4 @@
-//! 02, L3: the calls on the stored form, which `form` lays out.
+//! RULES, Stored form: the calls on the stored form, which `form` lays out.
 
 use super::calls::{NOT_LEGAL, OUT_OF_RANGE, ROOM_SHORT, accepted};
 use super::class::{Class, Texts};
@@ -71,8 +71,8 @@ pub fn load(bytes: &[u8]) -> face::Changed {
     }
 }
 
-/// 02, L8: the marks are, "after a load, as the form has them"; "version 1 loads with all set". "one byte 0 or 1 each",
-/// as many as lamps, "at least one set if there are lamps"; else 23.
+/// RULES, Lamps and Stored form: the marks are, "after a load, as the form has them"; "version 1 loads with all set".
+/// "one byte 0 or 1 each", as many as lamps, "at least one set if there are lamps"; else 23.
 fn loaded_marks(marks: Option<Vec<u8>>, lamps: usize) -> Result<Vec<bool>, u32> {
     let Some(mut marks) = marks else {
         return Ok((0..lamps).map(|lamp| lamp == 0 || !made(Mistake::OldSetsTheFirst)).collect());

@@ -1,4 +1,4 @@
-//! Bytes that 01 speaks of: letters and digits, hex digits, decimal numbers, inputs.
+//! Bytes that the rules speak of: letters and digits, hex digits, decimal numbers, inputs.
 
 use super::rules::{Mistake, knows_class_2, made};
 
@@ -36,8 +36,8 @@ pub fn hex_number(digits: &[u8]) -> Option<u32> {
     Some(number)
 }
 
-/// "An input has a type 1 to 5 (RGB, VIDEO, DIGITAL, STORAGE, NETWORK) and a number 1 to 9." 02, L14, adds "inputs of type
-/// 6 and with letters", A to Z, whose numbers are 10 to 35. A set-up of Class 1 has none of these.
+/// "An input has a type 1 to 5 (RGB, VIDEO, DIGITAL, STORAGE, NETWORK) and a number 1 to 9." RULES, Class 2, adds
+/// "inputs of type 6 and with letters", A to Z, whose numbers are 10 to 35. A set-up of Class 1 has none of these.
 #[derive(Clone, Copy, PartialEq, Eq, Debug)]
 pub struct Input {
     pub kind: u8,
@@ -81,7 +81,7 @@ fn letter_a() -> u8 {
     if made(Mistake::LettersFromEleven) { 11 } else { 10 }
 }
 
-/// 02, L4: "The number reader should take one to five digits, leading zeros included; six digits stay 12."
+/// RULES, Controller: "The number reader should take one to five digits, leading zeros included; six digits stay 12."
 pub fn hours(digits: &[u8]) -> Option<u32> {
     if !digits.iter().all(|digit| digit.is_ascii_digit()) || hours_refused(digits) {
         return None;

@@ -1,4 +1,4 @@
-//! The device that a log is played on: "01's sample set-up, or the one of a stored form (L3) in the file that is named as
+//! The device that a log is played on: ".. sample set-up, or the one of a stored form .. in the file that is named as
 //! its argument".
 
 use crate::reference::Projector;

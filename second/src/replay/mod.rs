@@ -1,5 +1,5 @@
-//! 02, L1: a log from the floor, played on 01's sample set-up, or on the device of a stored form. `mistakes` has the
-//! deliberate ones.
+//! RULES, Floor log: a log from the floor, played on the sample set-up, or on the device of a stored form. `mistakes`
+//! has the deliberate ones.
 
 mod device;
 pub mod mistakes;
@@ -11,7 +11,7 @@ use crate::reference::places::NOT_CLOSED;
 use crate::reference::text::{CR, LF, hex_number};
 use std::io::{self, BufRead, Write};
 
-/// 02, L5: "L1's log drives place 0 only, and a second `O` there still prints `! 5`, by the program's own test."
+/// RULES, Places: ".. log drives place 0 only, and a second `O` there still prints `! 5`, by the program's own test."
 pub const PLACE: usize = 0;
 
 /// "over 4,096 bytes prints its number, a space and `?` and changes nothing".
@@ -163,7 +163,7 @@ mod tests {
         String::from_utf8(super::replayed(log)).unwrap()
     }
 
-    /// L1's own example.
+    /// The example of RULES, Floor log.
     #[test]
     fn example() {
         let log = b"O 00000000\nR %1POWR 1\nT 3600\nR %1LAMP ?\n";

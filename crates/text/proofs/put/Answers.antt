@@ -1,8 +1,7 @@
--- What `copy_from_slice` made of the part, put back, is the run of stores.
+-- A turn is one byte more of the run of stores.
 use Rattle.std.proofs.Common.{arith}
-use Rattle.text.proofs.Stores.{sets_mid}
+use Rattle.text.proofs.Stores.{sets_more}
 use Rattle.text.proofs.put.Goals as goal
 
-pub returns : goal.returns
-returns c =
-    sets_mid c.args.out.now c.args.src.now c.args.at _ c.requires (omega arith) c.copy_from_slice.ensures.after
+pub loop-i-preserved : goal.loop-i-preserved
+loop-i-preserved c = sets_more _ _ _ _ _ (omega arith) c.loop-i.invariant

@@ -21,7 +21,7 @@ pub const BURNT: &[(&str, Wrong)] = &[
             (warm < to).then(|| format!("lamp {lamp} from {from} to {warm}\nlamp {lamp} from {warm} to {to}"))
         }),
     ),
-    // "`M`, a space, a lamp's number from 1, a space, 0 or 1, the mark call of L8"
+    // "`M`, a space, a lamp's number from 1, a space, 0 or 1, the mark call .."
     (
         "M numbers lamps from 0",
         Takes(Steps {
@@ -60,7 +60,7 @@ pub const BURNT: &[(&str, Wrong)] = &[
     ),
     ("a mark is set and cleared in cooling", Call(Mistake::MarkedInCooling)),
     ("the last mark is cleared", Call(Mistake::LastMarkCleared)),
-    // "The device is 01's sample set-up, or the one of a stored form (L3)"
+    // "The device is .. sample set-up, or the one of a stored form .."
     (
         "a form of version 1 loads with no mark set",
         Takes(Steps {
@@ -146,7 +146,7 @@ pub const BURNT: &[(&str, Wrong)] = &[
     ("a lamp's seconds pass the limit", Call(Mistake::LampNotStopped)),
 ];
 
-/// "`replay` takes the same argument and without it does exactly what 02 says."
+/// `replay` takes the same argument, and without it plays on the sample set-up (RULES, Floor log).
 pub const REPLAY: &[(&str, Wrong)] = &[
     ("replay passes its form over", Plays(|_, log| replayed_on(None, log))),
     (

@@ -1,5 +1,5 @@
-//! The deliberate mistakes: each is a `burnt` that someone might really ship, and a few are a `replay` on a stored form.
-//! `second burnts` and `second replays` expect that their logs show each.
+//! The deliberate mistakes: each is a `burnt` that someone might really ship, and a few are a `replay` on a stored
+//! form. `second burnts` and `second replays` expect that their logs show each.
 
 mod list;
 
@@ -19,7 +19,7 @@ pub enum Wrong {
     Tells(fn(&Projector, &[u128]) -> Option<String>),
     /// What should be printed is printed so.
     Prints(fn(&str) -> String),
-    /// A mistake over 02 that a log can show too.
+    /// A mistake over the rules of a call that a log can show too.
     Call(Mistake),
     /// A form and a log are played so.
     Plays(fn(Option<&[u8]>, &[u8]) -> Vec<u8>),

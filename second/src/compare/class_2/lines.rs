@@ -6,7 +6,7 @@ use crate::face::Device;
 use crate::reference::class_2::BODIES_2;
 use crate::reference::commands::BODIES;
 
-/// Bodies of Class 2 that 02 does not ask for.
+/// Bodies of Class 2 that are not asked for (RULES, Class 2).
 const LEFT_OUT: [&[u8; 4]; 5] = [b"IRES", b"RRES", b"FILT", b"RLMP", b"RFIL"];
 
 /// A line for this device's connection at a place, with its CR more often than not.

@@ -1,5 +1,6 @@
-//! Class 2 (02, L14): set-ups, records, lines, replies, stored forms and panels of both classes, of Class 2 more often.
-//! What the cases share with those from before stands there; these take their random numbers from a source of their own.
+//! Class 2 (RULES, Class 2): set-ups, records, lines, replies, stored forms and panels of both classes, of Class 2 more
+//! often. What the cases share with those from before stands there; these take their random numbers from a source of
+//! their own.
 
 pub mod every_line;
 pub mod every_panel;

@@ -1,5 +1,5 @@
-//! 02, L13: the workroom panel. `record` reads the record that a host keeps, `calls` has the calls with their numbers;
-//! `known` has what is shown; here is what a line, a command and a lost connection mean.
+//! RULES, Panel: the workroom panel. `record` reads the record that a host keeps, `calls` has the calls with their
+//! numbers; `known` has what is shown; here is what a line, a command and a lost connection mean.
 
 pub mod calls;
 pub mod known;
@@ -71,7 +71,8 @@ impl Entry {
         }
     }
 
-    /// "Until a greeting is accepted, any other line is malformed". The ERRA line is no greeting that could be accepted.
+    /// "Until a greeting is accepted, any other line is malformed". The ERRA line is no greeting that could be
+    /// accepted.
     fn await_greeting(&mut self, line: &[u8]) {
         let secured = match controller::greeting(line) {
             Some(Greeting::Plain) => None,

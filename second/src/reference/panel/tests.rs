@@ -1,4 +1,4 @@
-//! 02, L13, sentence by sentence.
+//! RULES, Panel, sentence by sentence.
 
 use super::calls::{add, command, line, lost, none};
 use crate::face::{Command, Entry, Panel};
@@ -124,7 +124,7 @@ fn erra_and_lost() {
     assert_eq!(lost(&gone.panel, 1).panel, gone.panel);
 }
 
-/// "The first command after a secured greeting is led by the digest, no later one is." 000's example.
+/// "The first command after a secured greeting is led by the digest, no later one is." The example of PJLink 1.04, 5.1.
 #[test]
 fn the_digest_leads_the_first() {
     let greeted = hears(&two("JBMIAProjectorLink"), "PJLINK 1 498e4a67\r");

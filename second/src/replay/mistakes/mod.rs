@@ -1,5 +1,6 @@
-//! The deliberate mistakes over 02, L1: each is a replay that someone might really ship. Most read a log as if it were
-//! another; some play an event in another way, or print something else. `second logs` expects that its logs show each.
+//! The deliberate mistakes over RULES, Floor log: each is a replay that someone might really ship. Most read a log as
+//! if it were another; some play an event in another way, or print something else. `second logs` expects that its logs
+//! show each.
 
 mod playing;
 mod reading;
@@ -19,7 +20,7 @@ pub enum Wrong {
     Prints(fn(u64, &str) -> String),
     /// The output ends so, given what it should be.
     Ends(fn(&str) -> String),
-    /// A mistake over 01 that a log can show too.
+    /// A mistake over the rules of a call that a log can show too.
     Call(Mistake),
 }
 

@@ -114,7 +114,7 @@ pub const PLAYING: &[(&str, Wrong)] = &[
     ("the last line says on in warm-up", Ends(|out| out.replace("power 3", "power 1"))),
     ("the last line says off in cooling", Ends(|out| out.replace("power 2", "power 0"))),
     ("the last line has no LF", Ends(|out| out.trim_end().to_string())),
-    // 01, as the replay shows it
+    // the rules of a call, as the replay shows them
     ("lamps gain seconds in cooling too", Call(Mistake::CoolingBurns)),
     ("warm-up is left one second late", Call(Mistake::WarmUpLeftLate)),
     ("lamp seconds pass the limit", Call(Mistake::LampNotStopped)),

@@ -23,8 +23,7 @@ returns-then-not-own_ok c =
     let o = own-of-legal d c.requires in
     let tested : c.own_ok.result ≡ isOwn d.settings marked =
     c.own_ok.ensures ∙ ap (λ (l : List Bool). isOwn d.settings (withMarks d.own l)) c.marks_of-device.ensures in
-    c.refuse-then-not-own_ok.ensures
-    ∙ sym
+    sym
     (if_no _ _
     (by-not (areMarks n bytes)
     (λ h.

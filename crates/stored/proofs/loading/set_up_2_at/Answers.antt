@@ -6,9 +6,8 @@ use Rattle.lines.specs.Bytes.{◌at◌}
 use Rattle.record.specs.Limits.{listedMost}
 use Rattle.record.specs.Wanted.{namesIn}
 use Rattle.record.specs.Record.{inRoom}
-use Rattle.record.specs.SetUp.{setUp}
 use Rattle.record.proofs.Kept.{filled-take}
-use Rattle.stored.specs.Loading.{between, textsIn, joinedTexts, joinedMost, settingsWith, settingsBy}
+use Rattle.stored.specs.Loading.{between, textsIn, joinedTexts, joinedMost, settingsWith, settingsBy, device_of}
 use Rattle.stored.proofs.Texts.{texts-many}
 use Rattle.stored.proofs.Joined.{names-joined, joined-there, texts-in-turn, names-uncut}
 use Rattle.stored.proofs.Contents.{too-many-inputs}
@@ -29,9 +28,8 @@ returns-then-n-gt-INPUTS_MOST c =
     texts-in-turn s (p.class + 1) (s at p.inputs) c.count_at.ensures.value c.count_at-2.ensures.value
     c.count_at-n.ensures.value in
     let w = c.requires.walked in
-    c.refuse.ensures
-    ∙ sym (too-many-inputs s p 2 _ _ _ w.lamps (omega arith) (omega (arith, c.count_at-n.ensures.value)))
-    ∙ ap (λ (l : List (List ℕ)). setUp (settingsBy s p 2 l)) (sym texts)
+    too-many-inputs s p 2 _ _ _ w.lamps (omega arith) (omega (arith, c.count_at-n.ensures.value))
+    ∙ ap (λ (l : List (List ℕ)). device_of (settingsBy s p 2 l)) (sym texts)
 
 pub lengths_at-lengths-requires-clause-s_in_bounds : goal.lengths_at-lengths-requires-clause-s_in_bounds
 lengths_at-lengths-requires-clause-s_in_bounds c =
@@ -51,16 +49,16 @@ overflow_sub-total c =
           c.count_at-2.ensures.value c.count_at-n.ensures.value c.requires.s_in_bounds,
     )
 
-pub slice_bounds-set_up_with-end : goal.slice_bounds-set_up_with-end
-slice_bounds-set_up_with-end c =
+pub slice_bounds-class-end : goal.slice_bounds-class-end
+slice_bounds-class-end c =
     omega (
       arith,
       names-uncut c.args.s.now (c.args.p.class + 1) (c.args.s.now at c.args.p.inputs) c.count_at.ensures.value
           c.count_at-2.ensures.value c.count_at-n.ensures.value c.requires.s_in_bounds,
     )
 
-pub slice_bounds-set_up_with-end-2 : goal.slice_bounds-set_up_with-end-2
-slice_bounds-set_up_with-end-2 c =
+pub slice_bounds-class-end-2 : goal.slice_bounds-class-end-2
+slice_bounds-class-end-2 c =
     omega (
       arith,
       names-uncut c.args.s.now (c.args.p.class + 1) (c.args.s.now at c.args.p.inputs) c.count_at.ensures.value
@@ -89,6 +87,6 @@ returns c =
     (front joinedMost (joinedTexts these) {n = total} (omega arith) (omega arith) c.bytes_at-bytes.ensures i))
     ∙ names-joined these in
     c.set_up_with.ensures
-    ∙ ap (λ (l : List (List ℕ)). setUp
+    ∙ ap (λ (l : List (List ℕ)). device_of
     (settingsWith s p 2 (between (p.class + 1 + 1) version s) (between (version + 1) names s) l)) lent
-    ∙ ap (λ (l : List (List ℕ)). setUp (settingsBy s p 2 l)) (sym texts)
+    ∙ ap (λ (l : List (List ℕ)). device_of (settingsBy s p 2 l)) (sym texts)

@@ -1,17 +1,15 @@
 -- Each part is lent as it stands between its places.
-use Rattle.std.proofs.Common.{◌∙◌, ℕ, ◌+◌, take, drop, sym, ap, arith}
+use Rattle.std.proofs.Common.{◌∙◌, ℕ, ◌+◌, take, drop, ap, arith}
 use Rattle.text.proofs.Parts.{first_part}
-use Rattle.record.specs.Wanted.{namesIn}
-use Rattle.record.specs.SetUp.{setUp}
-use Rattle.stored.specs.Loading.{secondsIn}
+use Rattle.stored.specs.Loading.{secondsIn, device_of}
+use Rattle.stored.proofs.DeviceMade.{device-made}
 use Rattle.stored.proofs.Seconds.{room-read}
 use Rattle.stored.proofs.Contents.{too-many-lamps, settings-lent}
 use Rattle.stored.proofs.loading.set_up_with.Goals as goal
 
 pub returns-then-n-gt-LAMPS_MOST : goal.returns-then-n-gt-LAMPS_MOST
 returns-then-n-gt-LAMPS_MOST c =
-    c.refuse.ensures
-    ∙ sym (too-many-lamps c.args.s.now c.args.p _ _ _ _ (omega (arith, c.count_at-n.ensures.value)))
+    too-many-lamps c.args.s.now c.args.p _ _ _ _ (omega (arith, c.count_at-n.ensures.value))
 
 pub returns : goal.returns
 returns c =
@@ -24,7 +22,6 @@ returns c =
     ∙ ap (take n) c.seconds_at-seconds.ensures
     ∙ room-read n rest c.if-n-gt-LAMPS_MOST.false
     ∙ ap (λ (k : ℕ). secondsIn k rest) c.count_at-n.ensures.value in
-    c.set_up_in.ensures
-    ∙ ap setUp
-    (settings-lent s p c.args.class c.args.serial.now c.args.version.now
-    (namesIn c.args.lengths.now c.args.names.now) lamps c.two_at.ensures c.two_at-2.ensures)
+    c.ok.ensures.value
+    ∙ device-made _ c.set_up.result c.set_up.ensures.made
+    ∙ ap device_of (settings-lent s p _ _ _ _ lamps c.two_at.ensures c.two_at-2.ensures)

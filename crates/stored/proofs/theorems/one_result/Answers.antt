@@ -1,5 +1,6 @@
+use Rattle.stored.proofs.OneOutcome.{one-outcome}
 use Rattle.stored.proofs.Results.{one-loading}
 use Rattle.stored.proofs.theorems.one_result.Goals as goal
 
 pub returns : goal.returns
-returns c = λ bs r s. one-loading bs
+returns c = record { number_and_record = λ bs r s. one-loading bs; outcome = one-outcome }

@@ -1,0 +1,7 @@
+use Rattle.text.proofs.Scanning.{Gathered}
+use Rattle.lines.specs.Texts.{inputNameMost}
+use Rattle.record.specs.Legal.{fillsNameRoom}
+use Rattle.record.proofs.settings.are_names.Given as goal
+
+abbrev pub invariant-loop-name : goal.invariant-loop-name
+invariant-loop-name l = Gathered (fillsNameRoom inputNameMost) l.names l.name-index l.ok

@@ -1,0 +1,20 @@
+-- A list in a room of so many places (RULES, The legal record): its items from the start on, and the rest blank.
+--   used blank room s n       what is used of the array s, n items: none where it has no such room, or where a place
+--                             from n on is not blank
+--   holds rule u              something is used, and it follows the rule
+--   kept x room items         the room that holds these items, and x at each place after them
+-- Assumes nothing.
+use Rattle.std.specs.Prelude.{ℕ, ◌-◌, Bool, false, ◌&&◌, List, ◌++◌, length, take, drop, replicate}
+use Rattle.std.specs.Prelude.{nat_le, ◌==◌, Option, Some, None, if◌then◌else◌}
+use Rattle.text.specs.Scans.{every}
+
+unfoldable pub used : {A : Type 0} → (A → Bool) → ℕ → List A → ℕ → Option (List A)
+used blank room s n =
+    if length s == room && nat_le n room && every blank (drop n s) then Some (take n s) else None
+
+abbrev pub holds : {A : Type 0} → (List A → Bool) → Option (List A) → Bool
+holds rule None = false
+holds rule (Some s) = rule s
+
+abbrev pub kept : {A : Type 0} → A → ℕ → List A → List A
+kept x room items = items ++ replicate (room - length items) x

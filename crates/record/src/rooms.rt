@@ -1,0 +1,76 @@
+//! A room: an array of a record, of which so many places are used, from its start, and the others are blank
+//! (RULES, The legal record, "Unused room").
+ghost use Rattle.std.specs.Prelude.{◌≡◌, ◌==◌, ◌≤◌, Bool, not, length, option_map};
+ghost use Rattle.text.specs.Scans.{every};
+ghost use Rattle.record.specs.Rooms.{used, kept};
+
+/// What stands at a place that is not used: zero, of whatever type.
+pub trait Blank {
+    ghost blank: { Self → Bool };
+
+    /// Whether this is what stands there.
+    fn is_blank(&self) -> bool
+        ensures { result ≡ blank self.now };
+}
+
+impl Blank for u8 {
+    ghost blank = { λ x. x == 0 };
+
+    fn is_blank(&self) -> bool {
+        *self == 0
+    }
+}
+
+impl Blank for u32 {
+    ghost blank = { λ x. x == 0 };
+
+    fn is_blank(&self) -> bool {
+        *self == 0
+    }
+}
+
+impl Blank for bool {
+    ghost blank = { not };
+
+    fn is_blank(&self) -> bool {
+        !*self
+    }
+}
+
+/// Whether each of these places is blank. No turn leaves early, so that sixteen bytes go at once.
+pub fn are_blank<T: Blank>(places: &[T]) -> bool
+    ensures { result ≡ every T.blank places.now }
+{
+    let mut blank = true;
+    for place in places {
+        blank = blank & place.is_blank();
+    }
+    blank
+}
+
+/// What is used of a room, `n` items of it: none where it has no such room, or where what is unused is not blank.
+#[tactic(auto, using(crate::proofs::RoomsTold::used_by_tests))]
+pub fn used<T: Blank, const N: usize>(room: &[T; N], n: usize) -> Option<&[T]>
+    ensures { option_map (λ s. s.now) result ≡ used T.blank N room.now n }
+{
+    if N < n {
+        return None;
+    }
+    let places = &room[..];
+    let (items, rest) = places.split_at(n);
+    if !are_blank(rest) {
+        return None;
+    }
+    Some(items)
+}
+
+/// The room that holds these items, and `blank` at each place after them.
+#[tactic(auto, using(crate::proofs::RoomsTold::rest_kept))]
+pub fn kept<T: Copy, const N: usize>(items: &[T], blank: T) -> [T; N]
+    requires { length items.now ≤ N }
+    ensures { result ≡ kept blank N items.now }
+{
+    let mut room = [blank; N];
+    room[..items.len()].copy_from_slice(items);
+    room
+}

@@ -1,0 +1,140 @@
+// What set-up is lent, and whether it can be set up (RULES, The legal record).
+ghost use Rattle.std.specs.Prelude.{◌≡◌};
+ghost use Rattle.record.specs.SetUp.{isSettingInRange, setUp};
+ghost use Rattle.record.specs.OutOfRange.{firstOutOfRange, refusedSetting};
+ghost use Rattle.record.specs.Wanted.{namesIn};
+ghost use Rattle.setup.specs.Lent.{wanted_settings, class_number, serial_of, version_of, names_of};
+ghost use Rattle.setup.specs.Told.{set_up_number, setting_told};
+
+use crate::error::SetUpError;
+use lines::texts;
+use record::types::Setting;
+use record::{inputs, names, own, settings};
+
+/// The class of a projector, with what it alone has (RULES, Class 2).
+#[derive(Clone, Copy)]
+pub enum Class<'a> {
+    One,
+    /// Serial number and software version, each of at most 32 bytes, and a name of at most 128 bytes for each input:
+    /// the names one after the other, each of its length. Lengths that do not add up to their bytes name nothing.
+    Two {
+        serial: &'a [u8],
+        version: &'a [u8],
+        names: &'a [u8],
+        lengths: &'a [usize],
+    },
+}
+
+/// The settings that a projector is to have (RULES, The legal record).
+#[derive(Clone, Copy)]
+pub struct Wanted<'a> {
+    /// At most 64 bytes, in UTF-8.
+    pub name: &'a [u8],
+    /// At most 32 bytes, as `model` and `other`.
+    pub maker: &'a [u8],
+    pub model: &'a [u8],
+    pub other: &'a [u8],
+    /// None, which is no security, or 8 to 32 ASCII letters and digits (RULES, Passwords).
+    pub password: &'a [u8],
+    /// 1 to 32 inputs of the class, all different: two ASCII characters each (RULES, Inputs).
+    pub inputs: &'a [u8],
+    /// The starting seconds of 0 to 8 lamps (RULES, Lamps).
+    pub lamps: &'a [u32],
+    /// The seconds of warm-up, 1 to 600.
+    pub warm: u32,
+    /// The seconds of cooling, 1 to 600.
+    pub cool: u32,
+    pub class: Class<'a>,
+}
+
+impl<'a> Class<'a> {
+    /// 1 or 2.
+    pub fn number(&self) -> u8
+        ensures { result ≡ class_number self.now }
+    {
+        match self {
+            Class::One => 1,
+            Class::Two { .. } => 2,
+        }
+    }
+
+    /// The serial number; none in Class 1.
+    pub fn serial(&self) -> &'a [u8]
+        ensures { result.now ≡ serial_of self.now }
+    {
+        match *self {
+            Class::One => &[],
+            Class::Two { serial, .. } => serial,
+        }
+    }
+
+    /// The software version; none in Class 1.
+    pub fn version(&self) -> &'a [u8]
+        ensures { result.now ≡ version_of self.now }
+    {
+        match *self {
+            Class::One => &[],
+            Class::Two { version, .. } => version,
+        }
+    }
+
+    /// The inputs' names one after the other, and their lengths; none in Class 1.
+    pub fn names(&self) -> (&'a [u8], &'a [usize])
+        ensures { namesIn result.1.now result.0.now ≡ names_of self.now }
+    {
+        match *self {
+            Class::One => (&[], &[]),
+            Class::Two { names, lengths, .. } => (names, lengths),
+        }
+    }
+}
+
+impl<'a> Wanted<'a> {
+    fn is_in_range(&self, setting: Setting) -> bool
+        ensures { result ≡ isSettingInRange (wanted_settings self.now) setting }
+    {
+        let class = self.class.number();
+        match setting {
+            Setting::Name => texts::is_name(self.name),
+            Setting::Maker => texts::is_info(self.maker),
+            Setting::Model => texts::is_info(self.model),
+            Setting::Other => texts::is_info(self.other),
+            Setting::Password => texts::is_password(self.password),
+            Setting::Inputs => inputs::inputs_ok(class, self.inputs),
+            Setting::Lamps => own::lamps_ok(self.lamps),
+            Setting::WarmUp => settings::stretch_ok(self.warm),
+            Setting::Cooling => settings::stretch_ok(self.cool),
+            Setting::Serial => names::info_fits(class, self.class.serial()),
+            Setting::Version => names::info_fits(class, self.class.version()),
+            Setting::Names => {
+                let (row, lengths) = self.class.names();
+                names::names_fit(class, self.inputs.len() / 2, row, lengths)
+            }
+        }
+    }
+
+    /// The first setting that is out of its range: a short password is in its.
+    pub fn first_out_of_range(&self) -> Option<Setting>
+        ensures { result ≡ firstOutOfRange (wanted_settings self.now) }
+    {
+        Setting::IN_ORDER
+            .iter()
+            .copied()
+            .find(|s| !self.is_in_range(*s))
+    }
+
+    /// Whether this can be set up, and else why not: 3 before 8.
+    #[tactic(auto, using(crate::proofs::Refusals::numbers))]
+    pub fn check(&self) -> Result<(), SetUpError>
+        ensures number { set_up_number result ≡ (setUp (wanted_settings self.now)).number }
+        ensures setting { setting_told result ≡ refusedSetting (wanted_settings self.now) }
+    {
+        if let Some(setting) = self.first_out_of_range() {
+            return Err(SetUpError::OutOfRange(setting));
+        }
+        if !settings::long_enough(self.password.len()) {
+            return Err(SetUpError::ShortPassword);
+        }
+        Ok(())
+    }
+}

@@ -1,0 +1,30 @@
+// Why a stored form does not load (RULES, Stored form).
+ghost use Rattle.std.specs.Prelude.{◌≡◌};
+ghost use Rattle.stored.specs.Told.{load_error_number};
+
+/// Why a stored form does not load: the first that holds. Nothing of it is then kept.
+#[derive(Clone, Copy)]
+pub enum LoadError {
+    /// 20: the first byte is no version that is known.
+    OtherVersion,
+    /// 21: the bytes end before the form does.
+    CutShort,
+    /// 22: bytes are left over after the form.
+    LeftOver,
+    /// 23: what the form says cannot be set up, or its marks are not legal.
+    NotLegal,
+}
+
+impl LoadError {
+    /// The number that a host is given.
+    pub fn number(self) -> u32
+        ensures { result ≡ load_error_number self }
+    {
+        match self {
+            LoadError::OtherVersion => 20,
+            LoadError::CutShort => 21,
+            LoadError::LeftOver => 22,
+            LoadError::NotLegal => 23,
+        }
+    }
+}
