@@ -16,7 +16,7 @@ use crate::{layout, reading};
 use form::storing::VERSION;
 use numbers::highest;
 use record::types::{Changed, Device, INPUTS_MOST, LAMPS_MOST};
-use record::{fresh, own, scan};
+use record::{fresh, scan};
 
 fn is_other_version(s: &[u8]) -> bool
     ensures { result ≡ isOtherVersion s.now }
@@ -135,7 +135,7 @@ fn enabled(d: Device, s: &[u8]) -> Changed
     }
     let mut device = d;
     device.own.enabled = reading::marks_of(s);
-    if !own::own_ok(&device.settings, &device.own) {
+    if !device.own.is_legal(&device.settings) {
         return fresh::refuse(23);
     }
     Changed { number: 0, device }
