@@ -116,8 +116,8 @@ fn other_programs() {
     let _ = (fs::remove_file(large), fs::remove_file(empty));
 }
 
-/// Instructions of one call: those of 101 calls less those of one, divided. It fails where one is over its bar. 64 MB are left out: callgrind is slow, and
-/// 4,096 bytes say the same.
+/// Instructions of one call: those of 101 calls less those of one, divided. It fails where one is over its bar. 64 MB are
+/// left out: callgrind is slow, and 4,096 bytes say the same.
 fn counts() -> ExitCode {
     let mut over = 0;
     println!(

@@ -29,8 +29,18 @@ static __attribute__((noinline)) void measure(const char *name, void (*call)(voi
     const uint8_t *top = painted();
     call();
     size_t deep = depth(top);
-    printf("%-52s %s%zu bytes\n", name, deep < LEFT ? "under " : "", deep < LEFT ? LEFT : deep);
+    printf("%-56s %s%zu bytes\n", name, deep < LEFT ? "under " : "", deep < LEFT ? LEFT : deep);
 }
+
+/* The call in place, on a copy of the record, and then the one by value. */
+static void measure_both(const char *name, const char *in_place, void (*call_in_place)(void), void (*call)(void)) {
+    pj_device kept = device;
+    measure(in_place, call_in_place);
+    device = kept;
+    measure(name, call);
+}
+
+#define BOTH(call, rest, body) measure_both(#call rest, #call "_in_place" rest, body##_in_place, body)
 
 #define TEXT(s) (const uint8_t *)(s), strlen(s)
 #define CALL(name, body) \
@@ -63,7 +73,18 @@ CALL(call_which_setting, {
 CALL(call_open, { device = pj_open(device, 0x498e4a67, out, sizeof out).device; })
 CALL(call_receive, { device = pj_receive(device, 0, TEXT(line), out, sizeof out).device; })
 CALL(call_pass, { device = pj_pass(device, 4294967295u).device; })
-CALL(call_pass_in_place, { sink = pj_pass_in_place(&device, 1); })
+CALL(call_pass_in_place, { sink = pj_pass_in_place(&device, 4294967295u); })
+CALL(call_set_up_in_place, {
+    sink = pj_set_up_in_place(&device, TEXT("name"), TEXT("maker"), TEXT("model"), TEXT("other"), TEXT("panel123"),
+                              TEXT("11213141"), lamps, 8, 600, 600);
+})
+CALL(call_open_in_place, { sink = pj_open_in_place(&device, 0x498e4a67, out, sizeof out).number; })
+CALL(call_receive_in_place, { sink = pj_receive_in_place(&device, 0, TEXT(line), out, sizeof out).number; })
+CALL(call_set_mark_in_place, { sink = pj_set_mark_in_place(&device, 1, false); })
+CALL(call_legal_in_place, { sink = pj_legal_in_place(&device); })
+CALL(call_close_in_place, { sink = pj_close_in_place(&device, 0); })
+CALL(call_store_in_place, { stored = pj_store_in_place(&device, form, sizeof form).length; })
+CALL(call_load_in_place, { sink = pj_load_in_place(&device, form, stored); })
 CALL(call_set_fault, { device = pj_set_fault(device, true).device; })
 CALL(call_set_errors, { device = pj_set_errors(device, message, 6).device; })
 CALL(call_set_mark, { device = pj_set_mark(device, 1, false).device; })
@@ -90,35 +111,34 @@ CALL(call_plan_day, {
 })
 
 int main(void) {
-    measure("pj_set_up", call_set_up);
+    BOTH(pj_set_up, "", call_set_up);
     measure("pj_which_setting", call_which_setting);
-    measure("pj_open, secured", call_open);
+    BOTH(pj_open, ", secured", call_open);
     line = "0123456789abcdef0123456789abcdef%1POWR 1\r";
-    measure("pj_receive, a first line with a wrong digest", call_receive);
-    measure("pj_pass, n = 4,294,967,295", call_pass);
+    BOTH(pj_receive, ", a first line with a wrong digest", call_receive);
+    BOTH(pj_pass, ", n = 4,294,967,295", call_pass);
     device = pj_set_up(TEXT("name"), TEXT(""), TEXT(""), TEXT(""), TEXT(""), TEXT("11"), lamps, 8, 600, 600).device;
     device = pj_open(device, 1, out, sizeof out).device;
     line = "%1LAMP ?\r";
-    measure("pj_receive, %1LAMP ?", call_receive);
-    measure("pj_set_mark", call_set_mark); /* while it is off */
+    BOTH(pj_receive, ", %1LAMP ?", call_receive);
+    BOTH(pj_set_mark, "", call_set_mark); /* while it is off */
     line = "%1POWR 1\r";
-    measure("pj_receive, %1POWR 1", call_receive);
+    BOTH(pj_receive, ", %1POWR 1", call_receive);
     device = pj_pass(device, 600).device;
     line = "%1INPT 11\r";
-    measure("pj_receive, %1INPT 11", call_receive);
+    BOTH(pj_receive, ", %1INPT 11", call_receive);
     line = "%1INST ?\r";
-    measure("pj_receive, %1INST ?", call_receive);
-    measure("pj_pass_in_place", call_pass_in_place);
+    BOTH(pj_receive, ", %1INST ?", call_receive);
     measure("pj_set_fault", call_set_fault);
     measure("pj_set_errors", call_set_errors);
-    measure("pj_legal", call_legal);
-    measure("pj_close", call_close);
+    BOTH(pj_legal, "", call_legal);
+    BOTH(pj_close, "", call_close);
     measure("pj_set_up_2", call_set_up_2);
     device = pj_open(device, 1, out, sizeof out).device;
     line = "%2INNM ?6A\r";
-    measure("pj_receive, %2INNM ?6A", call_receive);
-    measure("pj_store, Class 2", call_store);
-    measure("pj_load, Class 2", call_load);
+    BOTH(pj_receive, ", %2INNM ?6A", call_receive);
+    BOTH(pj_store, ", Class 2", call_store);
+    BOTH(pj_load, ", Class 2", call_load);
     measure("pj_md5", call_md5);
     command = (pj_command){PJ_INPT_SET, 5, 9};
     measure("pj_write, secured", call_write);

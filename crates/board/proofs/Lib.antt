@@ -2,3 +2,5 @@ pub mod Refusals
 pub mod FaceReadsBack
 pub mod OneResult
 pub mod WhichSetting
+pub mod Zipping
+pub mod OneOfLists

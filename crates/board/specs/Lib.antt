@@ -1,4 +1,6 @@
 pub mod Face
+pub mod Lists
 pub mod Days
+pub mod Lamps
 pub mod Which
 pub mod Results

@@ -1,15 +1,15 @@
 // A cutting day, checked and planned.
-ghost use Rattle.std.specs.Prelude.{◌≡◌, length};
+ghost use Rattle.std.specs.Prelude.{◌≡◌, ◌≤◌, length, map};
 ghost use Rattle.text.specs.Words.{over};
-ghost use Rattle.day.specs.Days.{day};
-ghost use Rattle.day.specs.Verdicts.{checked};
-ghost use Rattle.day.specs.Plans.{plan_of, rigsWritten};
-ghost use Rattle.board.specs.Days.{flatVerdict, flatPlan};
+ghost use Rattle.board.specs.Lists.{lists};
+ghost use Rattle.board.specs.Days.{flat_verdict, flat_plan, Checks, ChecksInto, Plans, PlansInto};
 
-use day::check::Verdict;
-use day::plan::Plan;
-use day::{check, plan};
+use crate::lists::{NO_JOB, NO_PLACEMENT, NO_RIG, are_alike, put_jobs, put_plan, put_rigs};
+use day::check::{CheckError, check_day};
+use day::plan::{Plan, PlanError, plan_day};
+use day::{JOBS_MOST, Placement, RIGS_MOST};
 
+/// The number of the call, the rule broken, and the jobs or the rig concerned; 0 where there is none.
 #[repr(C)]
 #[derive(Clone, Copy)]
 pub struct FlatVerdict {
@@ -19,6 +19,7 @@ pub struct FlatVerdict {
     pub second: usize,
 }
 
+/// The number of the call, whether all jobs have a rig, and else the first that finds none.
 #[repr(C)]
 #[derive(Clone, Copy)]
 pub struct FlatPlan {
@@ -27,55 +28,90 @@ pub struct FlatPlan {
     pub job: usize,
 }
 
-fn broken(rule: u8, first: usize, second: usize) -> FlatVerdict
-    ensures { result ≡ record { number = 0; rule = rule; first = first; second = second } }
-{
-    FlatVerdict {
-        number: 0,
-        rule,
-        first,
-        second,
+impl FlatVerdict {
+    fn broken(rule: u8, first: usize, second: usize) -> FlatVerdict
+        ensures { result ≡ record { number = 0; rule = rule; first = first; second = second } }
+    {
+        FlatVerdict {
+            number: 0,
+            rule,
+            first,
+            second,
+        }
+    }
+
+    pub fn of(verdict: Result<(), CheckError>) -> FlatVerdict
+        ensures { result ≡ flat_verdict verdict }
+    {
+        match verdict {
+            Ok(()) => FlatVerdict::broken(0, 0, 0),
+            Err(CheckError::OutOfRange) => FlatVerdict {
+                number: 3,
+                rule: 0,
+                first: 0,
+                second: 0,
+            },
+            Err(CheckError::NoRig { job }) => FlatVerdict::broken(1, job, 0),
+            Err(CheckError::TooEarly { job }) => FlatVerdict::broken(2, job, 0),
+            Err(CheckError::Clash { job, other }) => FlatVerdict::broken(3, job, other),
+            Err(CheckError::Spent { rig }) => FlatVerdict::broken(4, rig, 0),
+        }
     }
 }
 
-pub fn flat_verdict(v: Verdict) -> FlatVerdict
-    ensures { result ≡ flatVerdict v }
-{
-    match v {
-        Verdict::OutOfRange => FlatVerdict {
-            number: 3,
-            rule: 0,
-            first: 0,
-            second: 0,
-        },
-        Verdict::Accepted => broken(0, 0, 0),
-        Verdict::NoRig(j) => broken(1, j, 0),
-        Verdict::TooEarly(j) => broken(2, j, 0),
-        Verdict::Clash(i, j) => broken(3, i, j),
-        Verdict::Spent(r) => broken(4, r, 0),
+impl FlatPlan {
+    pub fn of(answer: Result<(), PlanError>) -> FlatPlan
+        ensures { result ≡ flat_plan answer }
+    {
+        match answer {
+            Ok(()) => FlatPlan {
+                number: 0,
+                planned: true,
+                job: 0,
+            },
+            Err(PlanError::OutOfRange) => FlatPlan {
+                number: 3,
+                planned: false,
+                job: 0,
+            },
+            Err(PlanError::NoRig { job }) => FlatPlan {
+                number: 0,
+                planned: false,
+                job,
+            },
+        }
     }
 }
 
-pub fn flat_plan(p: Plan) -> FlatPlan
-    ensures { result ≡ flatPlan p }
+fn checked(
+    starts: &[u32],
+    lengths: &[u32],
+    allowed: &[u8],
+    rigs: &[u8],
+    warm: &[u32],
+    cool: &[u32],
+    life: &[u32],
+) -> Result<(), CheckError>
+    ensures { Checks (lists starts.now lengths.now allowed.now warm.now cool.now life.now) rigs.now result }
 {
-    match p {
-        Plan::OutOfRange => FlatPlan {
-            number: 3,
-            planned: false,
-            job: 0,
-        },
-        Plan::Planned => FlatPlan {
-            number: 0,
-            planned: true,
-            job: 0,
-        },
-        Plan::Unplaced(j) => FlatPlan {
-            number: 0,
-            planned: false,
-            job: j,
-        },
+    if !are_alike(starts.len(), lengths.len(), allowed.len()) || rigs.len() != starts.len() {
+        return Err(CheckError::OutOfRange);
     }
+    if !are_alike(warm.len(), cool.len(), life.len()) {
+        return Err(CheckError::OutOfRange);
+    }
+    // no room below for so many
+    if JOBS_MOST < starts.len() {
+        return Err(CheckError::OutOfRange);
+    }
+    if RIGS_MOST < warm.len() {
+        return Err(CheckError::OutOfRange);
+    }
+    let mut plan = [NO_PLACEMENT; JOBS_MOST];
+    put_plan(starts, lengths, allowed, rigs, &mut plan);
+    let mut fleet = [NO_RIG; RIGS_MOST];
+    put_rigs(warm, cool, life, &mut fleet);
+    check_day(&plan[..starts.len()], &fleet[..warm.len()])
 }
 
 #[unsafe(no_mangle)]
@@ -88,10 +124,50 @@ pub extern "C" fn pj_check_day(
     cool: &[u32],
     life: &[u32],
 ) -> FlatVerdict
-    ensures { result ≡ flatVerdict (checked (day starts.now lengths.now allowed.now
-        warm.now cool.now life.now) rigs.now) }
+    ensures { ChecksInto (lists starts.now lengths.now allowed.now warm.now cool.now life.now) rigs.now result }
 {
-    flat_verdict(check::check_day(starts, lengths, allowed, rigs, warm, cool, life))
+    FlatVerdict::of(checked(starts, lengths, allowed, rigs, warm, cool, life))
+}
+
+fn planned(
+    starts: &[u32],
+    lengths: &[u32],
+    allowed: &[u8],
+    warm: &[u32],
+    cool: &[u32],
+    life: &[u32],
+    out: &[u8],
+) -> Result<Plan, PlanError>
+    ensures { Plans (lists starts.now lengths.now allowed.now warm.now cool.now life.now) out.now result }
+{
+    if !are_alike(starts.len(), lengths.len(), allowed.len()) || out.len() < starts.len() {
+        return Err(PlanError::OutOfRange);
+    }
+    if !are_alike(warm.len(), cool.len(), life.len()) {
+        return Err(PlanError::OutOfRange);
+    }
+    // no room below for so many
+    if JOBS_MOST < starts.len() {
+        return Err(PlanError::OutOfRange);
+    }
+    if RIGS_MOST < warm.len() {
+        return Err(PlanError::OutOfRange);
+    }
+    let mut jobs = [NO_JOB; JOBS_MOST];
+    put_jobs(starts, lengths, allowed, &mut jobs);
+    let mut fleet = [NO_RIG; RIGS_MOST];
+    put_rigs(warm, cool, life, &mut fleet);
+    plan_day(&jobs[..starts.len()], &fleet[..warm.len()])
+}
+
+// The rigs of a plan, over the start of `out`.
+fn put_rigs_of(plan: &[Placement], out: &mut [u8])
+    requires { length plan.now ≤ length out.old }
+    ensures { out.new ≡ over (map (λ p. p.rig) plan.now) out.old }
+{
+    for j in 0..plan.len() {
+        out[j] = plan[j].rig;
+    }
 }
 
 #[unsafe(no_mangle)]
@@ -104,10 +180,13 @@ pub extern "C" fn pj_plan_day(
     life: &[u32],
     out: &mut [u8],
 ) -> FlatPlan
-    ensures value { result ≡ flatPlan (plan_of (day starts.now lengths.now allowed.now
-        warm.now cool.now life.now) (length out.old)) }
-    ensures out_after { out.new ≡ over (rigsWritten (day starts.now lengths.now allowed.now
-        warm.now cool.now life.now) (length out.old)) out.old }
+    ensures { PlansInto (lists starts.now lengths.now allowed.now warm.now cool.now life.now) out.old result out.new }
 {
-    flat_plan(plan::plan_day(starts, lengths, allowed, warm, cool, life, out))
+    match planned(starts, lengths, allowed, warm, cool, life, out) {
+        Ok(plan) => {
+            put_rigs_of(plan.placements(), out);
+            FlatPlan::of(Ok(()))
+        }
+        Err(error) => FlatPlan::of(Err(error)),
+    }
 }

@@ -1,16 +1,62 @@
 // Service's comparison of two tables of lamp seconds.
-ghost use Rattle.std.specs.Prelude.{◌≡◌, length};
-ghost use Rattle.std.proofs.lemmas.List.Edits.{sets};
-ghost use Rattle.service.specs.Differences.{compared, reportOf};
+ghost use Rattle.std.specs.Prelude.{◌≡◌};
+ghost use Rattle.board.specs.Lamps.{ComparesInto, report_of, not_compared};
 
-use service::Report;
+use crate::lists;
+use service::{CompareError, TABLE_MOST};
+
+/// The number of the call, whether a lamp went backwards, and the first place where one did; 0 where none did.
+#[repr(C)]
+#[derive(Clone, Copy)]
+pub struct Report {
+    pub number: u32,
+    pub backwards: bool,
+    pub place: usize,
+}
+
+impl Report {
+    // Of tables that are not compared.
+    fn not_compared() -> Report
+        ensures { result ≡ not_compared }
+    {
+        Report {
+            number: 3,
+            backwards: false,
+            place: 0,
+        }
+    }
+
+    pub fn of(answer: Result<Option<usize>, CompareError>) -> Report
+        ensures { result ≡ report_of answer }
+    {
+        match answer {
+            Ok(None) => Report {
+                number: 0,
+                backwards: false,
+                place: 0,
+            },
+            Ok(Some(place)) => Report {
+                number: 0,
+                backwards: true,
+                place,
+            },
+            Err(_) => Report::not_compared(),
+        }
+    }
+}
 
 #[unsafe(no_mangle)]
 pub extern "C" fn pj_compare_lamps(earlier: &[u32], later: &[u32], out: &mut [i64]) -> Report
-    ensures value { result ≡ reportOf (compared earlier.now later.now
-        (length out.old)).told }
-    ensures out_after { out.new ≡ sets out.old 0
-        (compared earlier.now later.now (length out.old)).written }
+    ensures { ComparesInto earlier.now later.now out.old result out.new }
 {
-    service::report_of(service::compare(earlier, later, out))
+    if later.len() != earlier.len() {
+        return Report::not_compared();
+    }
+    // no room below for so many
+    if TABLE_MOST < earlier.len() {
+        return Report::of(Err(CompareError::TooMany));
+    }
+    let mut readings = [lists::NO_READING; TABLE_MOST];
+    lists::put_readings(earlier, later, &mut readings);
+    Report::of(service::compare(&readings[..earlier.len()], out))
 }

@@ -5,6 +5,7 @@ pub mod by_value;
 pub mod days;
 pub mod forms;
 pub mod lamps;
+mod lists;
 pub mod projector;
 pub mod reader;
 pub mod results;

@@ -1,6 +1,7 @@
 // What is proved beside the contracts of the functions. Nothing is done here: that these functions have their contracts
 // is that the theorems stand.
-ghost use Rattle.std.specs.Prelude.{◌≡◌, ◌<◌, ◌≤◌, ◌^◌, ℕ, true, List, false, length, Bool, Option, Some};
+ghost use Rattle.std.specs.Prelude.{◌≡◌, ◌<◌, ◌≤◌, ◌^◌, ℕ, ℤ, true, List, false, length, Bool, Option, Some};
+ghost use Rattle.std.specs.Prelude.{Result};
 ghost use Rattle.record.specs.declared.types.Device.{Device};
 ghost use Rattle.record.specs.Limits.{placesCount, opened, awaiting};
 ghost use Rattle.record.specs.Legal.{isLegal};
@@ -18,25 +19,25 @@ ghost use Rattle.meaning.specs.Meaning.{meant};
 ghost use Rattle.requests.specs.declared.Request.TheVariants.{Asks};
 ghost use Rattle.device.specs.Receiving.{passwordOf};
 ghost use Rattle.controller.specs.Greetings.{readGreeting, greetedOn};
-ghost use Rattle.day.specs.declared.check.Verdict.{Verdict};
-ghost use Rattle.board.specs.Days.{flatVerdict, flatPlan};
+ghost use Rattle.day.specs.declared.check.CheckError.{CheckError};
+ghost use Rattle.day.specs.declared.plan.PlanError.{PlanError};
 ghost use Rattle.board.specs.Results.{panel_changed_of, panel_sent_of};
 ghost use Rattle.board.specs.declared.results.PanelChanged.{PanelChanged};
 ghost use Rattle.board.specs.declared.results.PanelSent.{PanelSent};
 ghost use Rattle.panel.specs.PanelCalls.{panelMade, noPanel, addedTo, commanded, steppedAt, lostAt};
 ghost use Rattle.panel.specs.declared.types.Panel.{Panel};
-ghost use Rattle.day.specs.declared.plan.Plan.{Plan};
+ghost use Rattle.board.specs.Lists.{Lists};
+ghost use Rattle.board.specs.Days.{flat_verdict, flat_plan, ChecksInto, PlansInto};
+ghost use Rattle.board.specs.Lamps.{ComparesInto};
+ghost use Rattle.board.specs.declared.lamps.Report.{Report};
 ghost use Rattle.record.specs.declared.types.Setting.{Setting};
 ghost use Rattle.board.specs.Which.{settingNumber};
 ghost use Rattle.controller.specs.declared.writing.Written.{Written};
 ghost use Rattle.text.specs.Words.{over};
 ghost use Rattle.codes.specs.declared.readings.FlatReading.{FlatReading};
 ghost use Rattle.codes.specs.declared.readings.FlatGreeting.{FlatGreeting};
-ghost use Rattle.day.specs.Days.{Day};
 ghost use Rattle.board.specs.declared.days.FlatVerdict.{FlatVerdict};
-ghost use Rattle.day.specs.Verdicts.{checked};
 ghost use Rattle.board.specs.declared.days.FlatPlan.{FlatPlan};
-ghost use Rattle.day.specs.Plans.{plan_of, rigsWritten};
 ghost use Rattle.record.specs.Wanted.{Wanted};
 ghost use Rattle.record.specs.OutOfRange.{refusedSetting};
 
@@ -68,8 +69,8 @@ pub fn the_face_reads_back()
 
 /// No two verdicts, no two answers of the planner and no two settings have the same numbers.
 pub fn numbers_tell_apart()
-    ensures verdicts { (v w : Verdict) → flatVerdict v ≡ flatVerdict w → v ≡ w }
-    ensures plans { (p q : Plan) → flatPlan p ≡ flatPlan q → p ≡ q }
+    ensures verdicts { (v w : Result (Unit {0}) CheckError) → flat_verdict v ≡ flat_verdict w → v ≡ w }
+    ensures plans { (p q : Result (Unit {0}) PlanError) → flat_plan p ≡ flat_plan q → p ≡ q }
     ensures settings { (m n : Option Setting) → settingNumber m ≡ settingNumber n → m ≡ n }
 {}
 
@@ -84,12 +85,12 @@ pub fn one_result()
         → r ≡ read_by (commandOf k) l → s ≡ read_by (commandOf k) l → r ≡ s }
     ensures greeting_read { (l : List ℕ) (r s : FlatGreeting)
         → r ≡ flatGreeting (readGreeting l) → s ≡ flatGreeting (readGreeting l) → r ≡ s }
-    ensures verdict { (d : Day) (a : List ℕ) (r s : FlatVerdict)
-        → r ≡ flatVerdict (checked d a) → s ≡ flatVerdict (checked d a) → r ≡ s }
-    ensures plan { (d : Day) (out : List ℕ) (r s : FlatPlan) (m n : List ℕ)
-        → let room = length out in
-        (r ≡ flatPlan (plan_of d room)) × (m ≡ over (rigsWritten d room) out)
-        → (s ≡ flatPlan (plan_of d room)) × (n ≡ over (rigsWritten d room) out) → (r ≡ s) × (m ≡ n) }
+    ensures verdict { (l : Lists) (a : List ℕ) (r s : FlatVerdict)
+        → ChecksInto l a r → ChecksInto l a s → r ≡ s }
+    ensures plan { (l : Lists) (out : List ℕ) (r s : FlatPlan) (m n : List ℕ)
+        → PlansInto l out r m → PlansInto l out s n → (r ≡ s) × (m ≡ n) }
+    ensures comparison { (es ls : List ℕ) (out : List ℤ) (r s : Report) (m n : List ℤ)
+        → ComparesInto es ls out r m → ComparesInto es ls out s n → (r ≡ s) × (m ≡ n) }
     ensures panel_made { (r s : PanelChanged)
         → r ≡ panel_changed_of (panelMade noPanel) → s ≡ panel_changed_of (panelMade noPanel) → r ≡ s }
     ensures projector_added { (p : Panel) (password : List ℕ) (r s : PanelChanged)

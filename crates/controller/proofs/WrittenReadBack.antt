@@ -12,13 +12,13 @@ use Rattle.record.specs.Legal.{isLegal}
 use Rattle.record.specs.Places.{connectionAt}
 use Rattle.record.specs.declared.types.Device.{Device}
 use Rattle.record.proofs.LegalTold.{legal-settings}
-use Rattle.record.proofs.SettingsTold.{settings-told}
 use Rattle.stream.specs.Collecting.{emptyLine}
 use Rattle.device.specs.Receiving.{passwordOf}
 use Rattle.device.specs.Calls.{replyRoom, received}
 use Rattle.controller.specs.Writing.{WrittenAs, commandRoom, writtenCommand}
 use Rattle.controller.proofs.Cases.{written-plain, written-led}
 use Rattle.controller.proofs.ReadsBack.{TakenAndRead, reads-back, reads-back-secured}
+use Rattle.record.proofs.FactsTold.{settings_is}
 
 module _ (d : Device) (p : ℕ) (there : p < placesCount) (legal : isLegal d ≡ true)
     (between : (connectionAt d p).line ≡ emptyLine) (c : Command) (writable : isCommand c ≡ true)
@@ -38,7 +38,7 @@ module _ (d : Device) (p : ℕ) (there : p < placesCount) (legal : isLegal d ≡
   pub written-reads-back-secured : (connectionAt d p).phase ≡ awaiting
       → Through (writtenCommand c true (connectionAt d p).random (passwordOf d.settings) memory)
   written-reads-back-secured phase =
-      let told = settings-told d.settings (legal-settings d legal) in
+      let told = (settings_is d.settings).0 (legal-settings d legal) in
       subst Through
       (sym (written-led c true (connectionAt d p).random (passwordOf d.settings) memory lent writable refl
       told.password.follows))

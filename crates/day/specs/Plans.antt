@@ -1,85 +1,51 @@
--- The planner (RULES, Cutting day): jobs in the order given, each on the lowest-numbered rig that keeps every rule with
--- those already placed.
---   rigFor d a             the lowest rig on which the next job, after those of a, keeps every rule with them; the
---                          number of rigs, where there is none
---   plannedFrom d m a      up to m more jobs placed after those of a: as many as find a rig, one after the other
---   planned d              the rigs of the jobs from the first on, up to the first that finds none
---   plan_of d room         the planner's answer, with room for so many rigs
---   rigsWritten d room     what it writes at the start of the lent list: all the rigs, or nothing
---   planNumber, isMade, job_of     an answer in numbers, as the paper has it
---   PlansInto d out r m    what planning leaves where the list out was lent: the answer r, and the list m
---   joins d a r            what the code asks of the next job on rig r: the rules as far as they concern that job
+-- What each answer of the planner says of jobs and rigs (RULES, Cutting day), in its words and apart from how it is
+-- found: the greedy assignment. Exactly one answer holds (src/theorems, the_plan_answered_holds).
+--   jobs_of ps               the jobs that are placed, in their order
+--   on_rig j k               the job j placed on the rig k
+--   LowestRig rigs ps j k    k is the lowest rig on which the job j keeps every rule with those placed before
+--   FindsNone rigs ps j      the job j keeps every rule with them on no rig
+--   Greedy rigs ps           each job placed is on its lowest rig
+--   FindsNoneAt jobs rigs j  each job before the job j is on its lowest rig, and j finds none
+--   PlanHolds jobs rigs p    what the answer p says
 -- Assumes nothing.
-use Rattle.std.specs.Prelude.{ℕ, zero, suc, ◌+◌, ◌≤◌, ◌≡◌, Bool, true, false, not, ◌&&◌, ltb, leb}
-use Rattle.std.specs.Prelude.{List, [], ◌∷◌, ◌++◌, length, take}
-use Rattle.std.specs.Prelude.{if◌then◌else◌}
-use Rattle.text.specs.Words.{over}
-use Rattle.day.specs.Finding.{first, each, ◌nth◌}
-use Rattle.day.specs.Days.{Day, jobs, rigs, isDay, isAllowed}
-use Rattle.day.specs.Rules.{burnt}
-use Rattle.day.specs.Tests.{meets}
-use Rattle.day.specs.Verdicts.{keepsRules}
-use Rattle.day.specs.declared.plan.Plan.{Plan}
-use Rattle.day.specs.declared.plan.Plan.TheVariants.{OutOfRange, Planned, Unplaced}
+use Rattle.std.specs.Prelude.{ℕ, ◌<◌, ◌≡◌, List, [], ◌∷◌, ◌++◌, length, take, map, Result, Ok, Err, Some}
+use Rattle.std.specs.Prelude.{slice_get, slice_index_or}
+use Rattle.day.specs.Days.{IsDay}
+use Rattle.day.specs.Rules.{Keeps}
+use Rattle.day.specs.declared.Job.{Job}
+use Rattle.day.specs.declared.Rig.{Rig}
+use Rattle.day.specs.declared.Placement.{Placement}
+use Rattle.day.specs.declared.plan.PlanError.{PlanError}
+use Rattle.day.specs.declared.plan.PlanError.TheVariants.{OutOfRange, NoRig}
 
-unfoldable pub rigFor : Day → List ℕ → ℕ
-rigFor d a = first (λ r. keepsRules d (a ++ (r ∷ []))) (rigs d)
+abbrev pub jobs_of : List Placement → List Job
+jobs_of ps = map (λ p. p.job) ps
 
-abbrev pub plannedFrom : Day → ℕ → List ℕ → List ℕ
-plannedFrom d zero a = a
-plannedFrom d (suc m) a = if ltb (rigFor d a) (rigs d) then plannedFrom d m (a ++ (rigFor d a ∷ [])) else a
+abbrev pub on_rig : Job → ℕ → Placement
+on_rig job k = record { job = job; rig = k }
 
-unfoldable pub planned : Day → List ℕ
-planned d = plannedFrom d (jobs d) []
+pub record LowestRig (rigs : List Rig) (ps : List Placement) (job : Job) (k : ℕ) : Type 0 where
+  pub keeps : Keeps rigs (ps ++ on_rig job k ∷ [])
+  pub lowest : (q : ℕ) → q < k → ¬ Keeps rigs (ps ++ on_rig job q ∷ [])
 
--- what the code has placed: so many jobs, and their rigs at the start of an array
-pub record Placed (d : Day) (count : ℕ) (array : List ℕ) : Type 0 where
-  pub inside : count ≤ jobs d
-  pub counted : count ≡ length (planned d)
-  pub placed : take count array ≡ planned d
+abbrev pub FindsNone : List Rig → List Placement → Job → Type 0
+FindsNone rigs ps job = (k : ℕ) → ¬ Keeps rigs (ps ++ on_rig job k ∷ [])
 
-abbrev pub isPlannable : Day → ℕ → Bool
-isPlannable d room = isDay d && leb (jobs d) room
+abbrev pub Greedy : List Rig → List Placement → Type 0
+Greedy rigs ps =
+    (j : ℕ) (d : Placement) → j < length ps
+    → LowestRig rigs (take j ps) (slice_index_or ps j d).job (slice_index_or ps j d).rig
 
-unfoldable pub plan_of : Day → ℕ → Plan
-plan_of d room =
-    if not (isPlannable d room) then OutOfRange
-    else if ltb (length (planned d)) (jobs d) then Unplaced (length (planned d))
-    else Planned
+pub record FindsNoneAt (jobs : List Job) (rigs : List Rig) (j : ℕ) : Type 0 where
+  pub placed : List Placement
+  pub before : jobs_of placed ≡ take j jobs
+  pub greedy : Greedy rigs placed
+  pub job : Job
+  pub next : slice_get jobs j ≡ Some job
+  pub none : FindsNone rigs placed job
 
-unfoldable pub rigsWritten : Day → ℕ → List ℕ
-rigsWritten d room = if isPlannable d room && leb (jobs d) (length (planned d)) then planned d else []
-
-abbrev pub PlansInto : Day → List ℕ → Plan → List ℕ → Type 0
-PlansInto d out r m = (r ≡ plan_of d (length out)) × (m ≡ over (rigsWritten d (length out)) out)
-
-abbrev pub planNumber : Plan → ℕ
-planNumber OutOfRange = 3
-planNumber Planned = 0
-planNumber (Unplaced j) = 0
-
-abbrev pub isMade : Plan → Bool
-isMade OutOfRange = false
-isMade Planned = true
-isMade (Unplaced j) = false
-
-abbrev pub job_of : Plan → ℕ
-job_of OutOfRange = 0
-job_of Planned = 0
-job_of (Unplaced j) = j
-
--- no job of a that is on rig r shares a second with the job j there
-module _ (starts lengths warm cool : List ℕ) where
-  abbrev pub isBeside : List ℕ → ℕ → ℕ → ℕ → Bool
-  isBeside a r j i = not (meets starts lengths warm cool a r i j)
-
-  abbrev pub isFree : List ℕ → ℕ → Bool
-  isFree a r = each (isBeside a r (length a)) (length a)
-
-unfoldable pub joins : Day → List ℕ → ℕ → Bool
-joins d a r =
-    let j = length a in
-    isAllowed (d.allowed nth j) r
-    && leb (d.warm nth r) (d.starts nth j)
-    && isFree d.starts d.lengths d.warm d.cool a r
-    && leb (burnt d.lengths d.warm a r + (d.warm nth r + d.lengths nth j)) (d.life nth r)
+module _ (jobs : List Job) (rigs : List Rig) where
+  abbrev pub PlanHolds : Result (List Placement) PlanError → Type 0
+  PlanHolds (Ok ps) = IsDay jobs rigs × Greedy rigs ps × (jobs_of ps ≡ jobs)
+  PlanHolds (Err OutOfRange) = ¬ IsDay jobs rigs
+  PlanHolds (Err (NoRig j)) = IsDay jobs rigs × FindsNoneAt jobs rigs j

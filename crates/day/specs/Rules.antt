@@ -1,40 +1,60 @@
--- The four rules (RULES, Cutting day), over jobs and rigs. An assignment a has a rig for each of the first jobs, in
--- their order: for the checker for all of them, for the planner for those already placed.
---   HasRig d a j           job j has a rig that exists and is allowed
---   InTime d a j           job j does not start before its rig's W
---   Occupies d r j t       on rig r job j occupies the second t: W seconds before its start, its length, C after it
---   Share d a i j          the two jobs are on one rig, and their stretches there share a second
---   burnt lengths warm a r what the jobs on rig r burn together, W plus its length each
---   Lasts d a r            rig r burns no more than it has left
---   Keeps d a              all four rules
+-- The four rules (RULES, Cutting day), over jobs that are placed on rigs.
+--   MayUse j k            bit k of the rigs that the job may use is set
+--   HasRig rigs p         the rig of the placement exists, and the job may use it
+--   IsOn rigs p r         r is the rig of the placement
+--   InTime rigs p         the job does not start before its rig's W
+--   Occupies r j t        on the rig the job occupies the second t: W seconds before its start, its length, C after it
+--   Meet r i j            on the rig the stretches of the two jobs share a second
+--   Share rigs p q        the two placements are on one rig, and meet there
+--   AreApart rigs p q     they do not
+--   burns_on k r p        what a placement burns on the rig r of number k: W plus its length, where it is there
+--   burnt k r ps          what the placements burn there together
+--   Lasts rigs ps k       rig k burns no more than it has left
+--   Keeps rigs ps         all four rules
 -- Assumes nothing.
-use Rattle.std.specs.Prelude.{ℕ, ◌+◌, ◌<◌, ◌≤◌, ◌≡◌, List, length, eqb, true, if◌then◌else◌}
-use Rattle.day.specs.Finding.{sum, ◌nth◌}
-use Rattle.day.specs.Days.{Day, rigs, isAllowed}
+use Rattle.std.specs.Prelude.{ℕ, ◌+◌, ◌/◌, ◌%◌, ◌^◌, ◌<◌, ◌≤◌, ◌≡◌, ◌==◌, List, length, Some, slice_get, All}
+use Rattle.std.specs.Prelude.{AllPairs, sum_by}
+use Rattle.std.specs.Prelude.{if◌then◌else◌}
+use Rattle.day.specs.declared.Job.{Job}
+use Rattle.day.specs.declared.Rig.{Rig}
+use Rattle.day.specs.declared.Placement.{Placement}
 
-abbrev pub HasRig : Day → List ℕ → ℕ → Type 0
-HasRig d a j = (a nth j < rigs d) × (isAllowed (d.allowed nth j) (a nth j) ≡ true)
+abbrev pub MayUse : Job → ℕ → Type 0
+MayUse j k = j.allowed / 2 ^ k % 2 ≡ 1
 
-abbrev pub InTime : Day → List ℕ → ℕ → Type 0
-InTime d a j = d.warm nth (a nth j) ≤ d.starts nth j
+abbrev pub HasRig : List Rig → Placement → Type 0
+HasRig rigs p = (p.rig < length rigs) × MayUse p.job p.rig
 
-abbrev pub Occupies : Day → ℕ → ℕ → ℕ → Type 0
-Occupies d r j t = (d.starts nth j ≤ t + d.warm nth r) × (t < d.starts nth j + d.lengths nth j + d.cool nth r)
+abbrev pub IsOn : List Rig → Placement → Rig → Type 0
+IsOn rigs p r = slice_get rigs p.rig ≡ Some r
 
-abbrev pub Share : Day → List ℕ → ℕ → ℕ → Type 0
-Share d a i j = (a nth i ≡ a nth j) × ((t : ℕ) × (Occupies d (a nth i) i t) × (Occupies d (a nth j) j t))
+abbrev pub InTime : List Rig → Placement → Type 0
+InTime rigs p = (r : Rig) → IsOn rigs p r → r.warm_up ≤ p.job.start
 
-abbrev pub burntBy : List ℕ → List ℕ → List ℕ → ℕ → ℕ → ℕ
-burntBy lengths warm a r j = if eqb (a nth j) r then warm nth r + lengths nth j else 0
+pub record Occupies (r : Rig) (j : Job) (t : ℕ) : Type 0 where
+  pub begun : j.start ≤ t + r.warm_up
+  pub lasting : t < j.start + j.length + r.cooling
 
-abbrev pub burnt : List ℕ → List ℕ → List ℕ → ℕ → ℕ
-burnt lengths warm a r = sum (burntBy lengths warm a r) (length a)
+abbrev pub Meet : Rig → Job → Job → Type 0
+Meet r i j = (t : ℕ) × Occupies r i t × Occupies r j t
 
-abbrev pub Lasts : Day → List ℕ → ℕ → Type 0
-Lasts d a r = burnt d.lengths d.warm a r ≤ d.life nth r
+abbrev pub Share : List Rig → Placement → Placement → Type 0
+Share rigs p q = (p.rig ≡ q.rig) × ((r : Rig) × IsOn rigs p r × Meet r p.job q.job)
 
-pub record Keeps (d : Day) (a : List ℕ) : Type 0 where
-  pub rigged : (j : ℕ) → j < length a → HasRig d a j
-  pub timely : (j : ℕ) → j < length a → InTime d a j
-  pub apart : (i j : ℕ) → i < j → j < length a → Share d a i j → ⊥
-  pub lasting : (r : ℕ) → r < rigs d → Lasts d a r
+abbrev pub AreApart : List Rig → Placement → Placement → Type 0
+AreApart rigs p q = ¬ Share rigs p q
+
+abbrev pub burns_on : ℕ → Rig → Placement → ℕ
+burns_on k r p = if p.rig == k then r.warm_up + p.job.length else 0
+
+abbrev pub burnt : ℕ → Rig → List Placement → ℕ
+burnt k r ps = sum_by (burns_on k r) ps
+
+abbrev pub Lasts : List Rig → List Placement → ℕ → Type 0
+Lasts rigs ps k = (r : Rig) → slice_get rigs k ≡ Some r → burnt k r ps ≤ r.life
+
+pub record Keeps (rigs : List Rig) (ps : List Placement) : Type 0 where
+  pub rigged : All (HasRig rigs) ps
+  pub timely : All (InTime rigs) ps
+  pub apart : AllPairs (AreApart rigs) ps
+  pub lasting : (k : ℕ) → Lasts rigs ps k

@@ -1,89 +1,74 @@
--- The checker's verdict (RULES, Cutting day): the first rule broken, in the rules' order, and the lowest job or rig
--- concerned.
---   unrigged d a j, early d a j, clashing d a i, spent d a r      the rules, each broken by a job or a rig
---   judged d a             the verdict on the first jobs of a day, of which a has the rigs
---   checked d a            the verdict on a whole day; out of range before anything else
---   keepsRules d a         all four rules hold of them
---   verdictNumber, ruleOf, firstConcerned, secondConcerned      a verdict in numbers, as the paper has it
+-- What each answer of the checker says of a plan (RULES, Cutting day), in its words and apart from how it is found.
+-- Exactly one answer holds (src/theorems, the_verdict_told_holds).
+--   InRange rigs ps            at most 64 jobs and 8 rigs, each in its range
+--   LowestBreaking rule ps k   of the jobs placed, k is the lowest one that breaks the rule
+--   ShareAt rigs ps i j        the jobs i and j share a second on a rig
+--   ApartAt rigs ps i j        they do not
+--   AloneAt rigs ps i          the job i shares none with a later one
+--   LowestPartner rigs ps i j  j is the lowest later job that shares one with i
+--   LowestClash rigs ps i j    of the pairs that share one, the one with the lowest first job, then second
+--   LowestSpent rigs ps k      of the rigs, k is the lowest one that burns more than it has left
+--   VerdictHolds rigs ps v     what the verdict v says; where it names a rule broken, all jobs keep those before it
 -- Assumes nothing.
-use Rattle.std.specs.Prelude.{ℕ, Bool, true, false, ◌&&◌, List, length, ltb, eqb, if◌then◌else◌}
-use Rattle.day.specs.Finding.{first}
-use Rattle.day.specs.Days.{Day, jobs, rigs, isDay}
-use Rattle.day.specs.Tests.{lacksRig, isEarly, hasClash, partner, isSpent}
-use Rattle.day.specs.declared.check.Verdict.{Verdict}
-use Rattle.day.specs.declared.check.Verdict.TheVariants.{OutOfRange, Accepted, NoRig, TooEarly, Clash, Spent}
+use Rattle.std.specs.Prelude.{ℕ, ◌<◌, ◌≤◌, List, length, Result, Ok, Err, All, AllPairs, slice_index_or}
+use Rattle.std.specs.List.{AllWithin, HoldsAt}
+use Rattle.day.specs.Days.{IsJob, IsRig}
+use Rattle.day.specs.Rules.{HasRig, InTime, Share, AreApart, Lasts, Keeps}
+use Rattle.day.specs.declared.Rig.{Rig}
+use Rattle.day.specs.declared.Placement.{Placement}
+use Rattle.day.specs.declared.TheConstants.{JOBS_MOST, RIGS_MOST}
+use Rattle.day.specs.declared.check.CheckError.{CheckError}
+use Rattle.day.specs.declared.check.CheckError.TheVariants.{OutOfRange, NoRig, TooEarly, Clash, Spent}
 
-infixr 10 ◌below◌gives◌else◌
--- a verdict that names the lowest number below n to pass the test f, or else another verdict
-abbrev pub ◌below◌gives◌else◌ : (ℕ → Bool) → ℕ → (ℕ → Verdict) → Verdict → Verdict
-f below n gives named else other = if ltb (first f n) n then named (first f n) else other
+pub record InRange (rigs : List Rig) (ps : List Placement) : Type 0 where
+  pub few_jobs : length ps ≤ JOBS_MOST
+  pub few_rigs : length rigs ≤ RIGS_MOST
+  pub all_jobs : All (λ p. IsJob p.job) ps
+  pub all_rigs : All IsRig rigs
 
-module _ (d : Day) (a : List ℕ) where
-  abbrev pub unrigged : ℕ → Bool
-  unrigged = lacksRig d.allowed (rigs d) a
+pub record LowestBreaking (rule : Placement → Type 0) (ps : List Placement) (k : ℕ) : Type 0 where
+  pub inside : k < length ps
+  pub breaks : HoldsAt (λ p. ¬ rule p) ps k
+  pub lower : AllWithin rule ps 0 k
 
-  abbrev pub early : ℕ → Bool
-  early = isEarly d.starts d.warm a
+module _ (rigs : List Rig) (ps : List Placement) where
+  abbrev pub ShareAt : ℕ → ℕ → Type 0
+  ShareAt i j = (d : Placement) → Share rigs (slice_index_or ps i d) (slice_index_or ps j d)
 
-  abbrev pub clashing : ℕ → Bool
-  clashing = hasClash d.starts d.lengths d.warm d.cool a
+  abbrev pub ApartAt : ℕ → ℕ → Type 0
+  ApartAt i j = (d : Placement) → AreApart rigs (slice_index_or ps i d) (slice_index_or ps j d)
 
-  abbrev pub clashWith : ℕ → ℕ
-  clashWith = partner d.starts d.lengths d.warm d.cool a
+  abbrev pub AloneAt : ℕ → Type 0
+  AloneAt i = (j : ℕ) → i < j → j < length ps → ApartAt i j
 
-  abbrev pub spent : ℕ → Bool
-  spent = isSpent d.lengths d.warm d.life a
+  pub record LowestPartner (i j : ℕ) : Type 0 where
+    pub later : i < j
+    pub inside : j < length ps
+    pub shares : ShareAt i j
+    pub lower_second : (l : ℕ) → i < l → l < j → ApartAt i l
 
-  unfoldable pub judged : Verdict
-  judged =
-      unrigged below length a gives NoRig else
-      early below length a gives TooEarly else
-      clashing below length a gives (λ i. Clash i (clashWith i)) else
-      spent below rigs d gives Spent else
-      Accepted
+  pub record LowestClash (i j : ℕ) : Type 0 where
+    pub partner : LowestPartner i j
+    pub lower_first : (k : ℕ) → k < i → AloneAt k
 
-unfoldable pub checked : Day → List ℕ → Verdict
-checked d a = if isDay d && eqb (length a) (jobs d) then judged d a else OutOfRange
+  pub record LowestSpent (k : ℕ) : Type 0 where
+    pub inside : k < length rigs
+    pub spends : ¬ Lasts rigs ps k
+    pub lower : (q : ℕ) → q < k → Lasts rigs ps q
 
-abbrev pub isAccepted : Verdict → Bool
-isAccepted OutOfRange = false
-isAccepted Accepted = true
-isAccepted (NoRig j) = false
-isAccepted (TooEarly j) = false
-isAccepted (Clash i j) = false
-isAccepted (Spent r) = false
+  abbrev pub AllRigged : Type 0
+  AllRigged = All (HasRig rigs) ps
 
-unfoldable pub keepsRules : Day → List ℕ → Bool
-keepsRules d a = isAccepted (judged d a)
+  abbrev pub AllTimely : Type 0
+  AllTimely = All (InTime rigs) ps
 
-abbrev pub verdictNumber : Verdict → ℕ
-verdictNumber OutOfRange = 3
-verdictNumber Accepted = 0
-verdictNumber (NoRig j) = 0
-verdictNumber (TooEarly j) = 0
-verdictNumber (Clash i j) = 0
-verdictNumber (Spent r) = 0
+  abbrev pub AllApart : Type 0
+  AllApart = AllPairs (AreApart rigs) ps
 
-abbrev pub ruleOf : Verdict → ℕ
-ruleOf OutOfRange = 0
-ruleOf Accepted = 0
-ruleOf (NoRig j) = 1
-ruleOf (TooEarly j) = 2
-ruleOf (Clash i j) = 3
-ruleOf (Spent r) = 4
-
-abbrev pub firstConcerned : Verdict → ℕ
-firstConcerned OutOfRange = 0
-firstConcerned Accepted = 0
-firstConcerned (NoRig j) = j
-firstConcerned (TooEarly j) = j
-firstConcerned (Clash i j) = i
-firstConcerned (Spent r) = r
-
-abbrev pub secondConcerned : Verdict → ℕ
-secondConcerned OutOfRange = 0
-secondConcerned Accepted = 0
-secondConcerned (NoRig j) = 0
-secondConcerned (TooEarly j) = 0
-secondConcerned (Clash i j) = j
-secondConcerned (Spent r) = 0
+  abbrev pub VerdictHolds : Result (Unit {0}) CheckError → Type 0
+  VerdictHolds (Ok _) = InRange rigs ps × Keeps rigs ps
+  VerdictHolds (Err OutOfRange) = ¬ InRange rigs ps
+  VerdictHolds (Err (NoRig j)) = InRange rigs ps × LowestBreaking (HasRig rigs) ps j
+  VerdictHolds (Err (TooEarly j)) = InRange rigs ps × AllRigged × LowestBreaking (InTime rigs) ps j
+  VerdictHolds (Err (Clash i j)) = InRange rigs ps × AllRigged × AllTimely × LowestClash i j
+  VerdictHolds (Err (Spent k)) = InRange rigs ps × AllRigged × AllTimely × AllApart × LowestSpent k

@@ -1,147 +1,130 @@
 // The checker: the first rule broken, and the lowest job or rig concerned.
-ghost use Rattle.std.specs.Prelude.{◌≡◌, ◌<◌, ◌≤◌, length};
-ghost use Rattle.day.specs.Finding.{first};
-ghost use Rattle.day.specs.Days.{day};
-ghost use Rattle.day.specs.Tests.{lacksRig, isEarly, partner, hasClash, isSpent};
-ghost use Rattle.day.specs.Verdicts.{judged, checked};
+ghost use Rattle.std.specs.Prelude.{◌≡◌, ◌↔◌, ◌*◌, ◌<◌, ◌≤◌, ◌^◌, ℕ, length, IsTrue, All, AllPairs, MatchOption};
+ghost use Rattle.day.specs.Days.{IsJob};
+ghost use Rattle.day.specs.Rules.{HasRig, InTime, AreApart, Lasts, burnt};
+ghost use Rattle.day.specs.Verdicts.{InRange, LowestBreaking, AloneAt, LowestPartner, LowestClash, LowestSpent};
+ghost use Rattle.day.specs.Verdicts.{VerdictHolds};
 
-use crate::{range, rules};
+use crate::{JOBS_MOST, Placement, RIGS_MOST, Rig, are_rigs};
 
-#[derive(Clone, Copy)]
-pub enum Verdict {
+/// Why a plan is not accepted: it is out of its ranges, or the first rule that it breaks, with the lowest job or rig
+/// concerned. Jobs are numbered from 0, in the order of the plan.
+#[derive(Clone, Copy, Debug, PartialEq, Eq)]
+pub enum CheckError {
+    /// More jobs or rigs than a day has, or one of them out of its ranges.
     OutOfRange,
-    Accepted,
-    NoRig(usize),
-    TooEarly(usize),
-    Clash(usize, usize),
-    Spent(usize),
+    /// The job has no rig that exists and that it may use.
+    NoRig { job: usize },
+    /// The job starts before its rig's W.
+    TooEarly { job: usize },
+    /// The job shares a second with the other, a later one, on one rig.
+    Clash { job: usize, other: usize },
+    /// The rig burns more than it has left.
+    Spent { rig: usize },
 }
 
-// The lowest job that lacks a rig which exists and is allowed.
-fn without_rig(allowed: &[u8], count: usize, rigs: &[u8]) -> usize
-    ensures { result ≡ first (lacksRig allowed.now count rigs.now) (length rigs.now) }
+fn are_jobs(plan: &[Placement]) -> bool
+    ensures { IsTrue result ↔ All (λ p. IsJob p.job) plan.now }
 {
-    (0..rigs.len())
-        .find(|&j| {
-            let rig = rules::byte_at(rigs, j);
-            !((rig < count) & rules::is_allowed(rules::byte_at(allowed, j), rig))
-        })
-        .unwrap_or(rigs.len())
+    plan.iter().all(|p| p.job.is_in_range())
+}
+
+fn is_in_range(plan: &[Placement], rigs: &[Rig]) -> bool
+    ensures { IsTrue result ↔ InRange rigs.now plan.now }
+{
+    plan.len() <= JOBS_MOST && rigs.len() <= RIGS_MOST && are_jobs(plan) && are_rigs(rigs)
+}
+
+// The lowest job that has no rig which exists and is allowed.
+fn without_rig(plan: &[Placement], rigs: &[Rig]) -> Option<usize>
+    requires { length rigs.now ≤ RIGS_MOST }
+    ensures { MatchOption result (All (HasRig rigs.now) plan.now) (LowestBreaking (HasRig rigs.now) plan.now) }
+{
+    plan.iter().position(|p| !p.has_rig(rigs))
 }
 
 // The lowest job that starts before its rig's W.
-fn too_early(starts: &[u32], warm: &[u32], rigs: &[u8]) -> usize
-    ensures { result ≡ first (isEarly starts.now warm.now rigs.now)
-        (length rigs.now) }
+fn too_early(plan: &[Placement], rigs: &[Rig]) -> Option<usize>
+    ensures { MatchOption result (All (InTime rigs.now) plan.now) (LowestBreaking (InTime rigs.now) plan.now) }
 {
-    (0..rigs.len())
-        .find(|&j| rules::at(starts, j) < rules::at(warm, rules::byte_at(rigs, j)))
-        .unwrap_or(rigs.len())
+    plan.iter().position(|p| !p.is_in_time(rigs))
 }
 
-// The lowest job after i that clashes with it.
-fn clash_with(
-    starts: &[u32],
-    lengths: &[u32],
-    warm: &[u32],
-    cool: &[u32],
-    rigs: &[u8],
-    i: usize,
-) -> usize
-    requires { i < length rigs.now }
-    ensures { result ≡ partner starts.now lengths.now warm.now cool.now
-        rigs.now i }
+// The lowest job after i that shares a second with it.
+fn partner(plan: &[Placement], rigs: &[Rig], i: usize) -> Option<usize>
+    requires inside { i < length plan.now }
+    requires in_range { All (λ p. IsJob p.job) plan.now }
+    ensures { MatchOption result (AloneAt rigs.now plan.now i) (LowestPartner rigs.now plan.now i) }
 {
-    for j in i + 1..rigs.len() {
-        if rules::meets_on(
-            starts,
-            lengths,
-            warm,
-            cool,
-            rigs,
-            rules::byte_at(rigs, j),
-            i,
-            j,
-        ) {
-            return j;
+    let first = plan[i];
+    for j in i + 1..plan.len() {
+        if first.shares(plan[j], rigs) {
+            return Some(j);
         }
     }
-    rigs.len()
+    None
 }
 
-// The lowest job that clashes with a later one.
-fn clashing(starts: &[u32], lengths: &[u32], warm: &[u32], cool: &[u32], rigs: &[u8]) -> usize
-    ensures { result ≡ first (hasClash starts.now lengths.now warm.now cool.now
-        rigs.now) (length rigs.now) }
+// The lowest job that shares a second with a later one, and the lowest such one.
+fn clash(plan: &[Placement], rigs: &[Rig]) -> Option<(usize, usize)>
+    requires { All (λ p. IsJob p.job) plan.now }
+    ensures { MatchOption result (AllPairs (AreApart rigs.now) plan.now)
+        (λ pair. LowestClash rigs.now plan.now pair.0 pair.1) }
 {
-    for i in 0..rigs.len() {
-        if clash_with(starts, lengths, warm, cool, rigs, i) < rigs.len() {
-            return i;
+    for i in 0..plan.len() {
+        if let Some(j) = partner(plan, rigs, i) {
+            return Some((i, j));
         }
     }
-    rigs.len()
+    None
+}
+
+// What the jobs burn on the rig of this number together: at most 64, each less than 2^33.
+pub(crate) fn burnt_on(plan: &[Placement], number: usize, rig: Rig) -> u64
+    requires { length plan.now ≤ JOBS_MOST }
+    ensures sum { result ≡ burnt number rig plan.now }
+    ensures fits { result ≤ 2 ^ 33 * JOBS_MOST }
+{
+    let mut total: u64 = 0;
+    for p in plan {
+        if p.rig as usize == number {
+            total += rig.warm_up as u64 + p.job.length as u64;
+        }
+    }
+    total
 }
 
 // The lowest rig that burns more than it has left.
-fn spent(lengths: &[u32], warm: &[u32], life: &[u32], rigs: &[u8]) -> usize
-    requires { length rigs.now ≤ 64 }
-    ensures { result ≡ first (isSpent lengths.now warm.now life.now rigs.now)
-        (length warm.now) }
+fn spent(plan: &[Placement], rigs: &[Rig]) -> Option<usize>
+    requires { length plan.now ≤ JOBS_MOST }
+    ensures { MatchOption result ((k : ℕ) → Lasts rigs.now plan.now k) (LowestSpent rigs.now plan.now) }
 {
-    (0..warm.len())
-        .find(|&r| (rules::at(life, r) as u64) < rules::burnt_on(lengths, warm, rigs, r))
-        .unwrap_or(warm.len())
+    for k in 0..rigs.len() {
+        if (rigs[k].life as u64) < burnt_on(plan, k, rigs[k]) {
+            return Some(k);
+        }
+    }
+    None
 }
 
-fn judge(
-    starts: &[u32],
-    lengths: &[u32],
-    allowed: &[u8],
-    rigs: &[u8],
-    warm: &[u32],
-    cool: &[u32],
-    life: &[u32],
-) -> Verdict
-    requires { length rigs.now ≤ 64 }
-    ensures { result ≡ judged (day starts.now lengths.now allowed.now warm.now
-        cool.now life.now) rigs.now }
+/// Checks a plan against the four rules, in their order.
+pub fn check_day(plan: &[Placement], rigs: &[Rig]) -> Result<(), CheckError>
+    ensures { VerdictHolds rigs.now plan.now result }
 {
-    let unrigged = without_rig(allowed, warm.len(), rigs);
-    if unrigged < rigs.len() {
-        return Verdict::NoRig(unrigged);
+    if !is_in_range(plan, rigs) {
+        return Err(CheckError::OutOfRange);
     }
-    let early = too_early(starts, warm, rigs);
-    if early < rigs.len() {
-        return Verdict::TooEarly(early);
+    if let Some(job) = without_rig(plan, rigs) {
+        return Err(CheckError::NoRig { job });
     }
-    let i = clashing(starts, lengths, warm, cool, rigs);
-    if i < rigs.len() {
-        return Verdict::Clash(i, clash_with(starts, lengths, warm, cool, rigs, i));
+    if let Some(job) = too_early(plan, rigs) {
+        return Err(CheckError::TooEarly { job });
     }
-    let rig = spent(lengths, warm, life, rigs);
-    if rig < warm.len() {
-        return Verdict::Spent(rig);
+    if let Some((job, other)) = clash(plan, rigs) {
+        return Err(CheckError::Clash { job, other });
     }
-    Verdict::Accepted
-}
-
-pub fn check_day(
-    starts: &[u32],
-    lengths: &[u32],
-    allowed: &[u8],
-    rigs: &[u8],
-    warm: &[u32],
-    cool: &[u32],
-    life: &[u32],
-) -> Verdict
-    ensures { result ≡ checked (day starts.now lengths.now allowed.now warm.now
-        cool.now life.now) rigs.now }
-{
-    if !range::is_day(starts, lengths, allowed, warm, cool, life) {
-        return Verdict::OutOfRange;
+    if let Some(rig) = spent(plan, rigs) {
+        return Err(CheckError::Spent { rig });
     }
-    if rigs.len() != starts.len() {
-        return Verdict::OutOfRange;
-    }
-    judge(starts, lengths, allowed, rigs, warm, cool, life)
+    Ok(())
 }

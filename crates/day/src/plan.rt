@@ -1,143 +1,161 @@
 // The planner: jobs in the order given, each on the lowest rig that keeps every rule with those already placed.
-ghost use Rattle.std.specs.Prelude.{◌≡◌, ◌≤◌, length};
-ghost use Rattle.text.specs.Words.{over};
-ghost use Rattle.day.specs.Finding.{first};
-ghost use Rattle.day.specs.Days.{day};
-ghost use Rattle.day.specs.Plans.{isFree, joins, Placed, plan_of, rigsWritten};
+ghost use Rattle.std.specs.Prelude.{◌≡◌, ◌↔◌, ◌<◌, ◌≤◌, length, IsTrue, List, [], ◌∷◌, ◌++◌, take, All};
+ghost use Rattle.std.specs.Prelude.{MatchOption};
+ghost use Rattle.day.specs.Days.{IsDay, IsJob};
+ghost use Rattle.day.specs.Rules.{AreApart, Lasts, Keeps};
+ghost use Rattle.day.specs.Plans.{LowestRig, FindsNone, PlanHolds};
 
-use crate::{range, rules};
+use crate::check::burnt_on;
+use crate::{JOBS_MOST, Job, Placement, RIGS_MOST, Rig, are_rigs, rig_at};
+use std::marker::Model;
 
-#[derive(Clone, Copy)]
-pub enum Plan {
+/// Why jobs are not planned.
+#[derive(Clone, Copy, Debug, PartialEq, Eq)]
+pub enum PlanError {
+    /// More jobs or rigs than a day has, or one of them out of its ranges.
     OutOfRange,
-    Planned,
-    Unplaced(usize),
+    /// The first job that finds no rig.
+    NoRig { job: usize },
 }
 
-// The rigs of the jobs that found one, and how many these are.
-#[derive(Clone, Copy)]
-struct Placing {
+/// Jobs that are placed, in their order.
+#[derive(Drop)]
+pub struct Plan {
+    placements: [Placement; JOBS_MOST],
     count: usize,
-    rigs: [u8; 64],
 }
 
-// No job placed on the rig shares a second there with the next one.
-fn is_free(
-    starts: &[u32],
-    lengths: &[u32],
-    warm: &[u32],
-    cool: &[u32],
-    placed: &[u8],
-    rig: usize,
-) -> bool
-    ensures { result ≡ isFree starts.now lengths.now warm.now cool.now
-        placed.now rig }
-{
-    let n = placed.len();
-    (0..n).all(|i| !rules::meets_on(starts, lengths, warm, cool, placed, rig, i, n))
+impl Model for Plan {
+    ghost use Rattle.std.specs.Prelude.{◌≤◌, List, take};
+    ghost use Rattle.day.specs.declared.Placement.{Placement};
+    ghost use Rattle.day.specs.declared.TheConstants.{JOBS_MOST};
+
+    ghost Value = { List Placement };
+
+    ghost view = { λ p. take p.count p.placements };
+
+    ghost invariant = { λ p. p.count ≤ JOBS_MOST };
 }
 
-// The rules, as far as they concern the next job on the rig.
-fn is_joining(
-    starts: &[u32],
-    lengths: &[u32],
-    allowed: &[u8],
-    warm: &[u32],
-    cool: &[u32],
-    life: &[u32],
-    placed: &[u8],
-    rig: usize,
-) -> bool
-    requires { length placed.now ≤ 64 }
-    ensures { result ≡ joins (day starts.now lengths.now allowed.now warm.now
-        cool.now life.now) placed.now rig }
-{
-    let j = placed.len();
-    let w = rules::at(warm, rig);
-    let burnt = rules::burnt_on(lengths, warm, placed, rig)
-        + (w as u64 + rules::at(lengths, j) as u64);
-    rules::is_allowed(rules::byte_at(allowed, j), rig)
-        & (w <= rules::at(starts, j))
-        & is_free(starts, lengths, warm, cool, placed, rig)
-        & (burnt <= rules::at(life, rig) as u64)
+impl Plan {
+    fn empty() -> Plan
+        ensures { result ≡ [] }
+    {
+        let job = Job {
+            start: 0,
+            length: 0,
+            allowed: 0,
+        };
+        Plan {
+            placements: [Placement { job, rig: 0 }; JOBS_MOST],
+            count: 0,
+        }
+    }
+
+    fn push(&mut self, placement: Placement)
+        requires { length self.old < JOBS_MOST }
+        ensures { self.new ≡ self.old ++ placement ∷ [] }
+    {
+        self.placements[self.count] = placement;
+        self.count += 1;
+    }
+
+    /// The placements, one a job.
+    pub fn placements(&self) -> &[Placement]
+        ensures { result.now ≡ self.now }
+    {
+        &self.placements[..self.count]
+    }
+}
+
+impl Placement {
+    // It shares no second on its rig with those placed.
+    fn is_free(self, placed: &[Placement], rigs: &[Rig]) -> bool
+        requires in_range { IsJob self.job }
+        requires all_in_range { All (λ p. IsJob p.job) placed.now }
+        ensures { IsTrue result ↔ All (λ p. AreApart rigs.now p self) placed.now }
+    {
+        for p in placed {
+            if p.shares(self, rigs) {
+                return false;
+            }
+        }
+        true
+    }
+
+    // With those placed, its rig burns no more than it has left.
+    fn is_lasting(self, placed: &[Placement], rigs: &[Rig]) -> bool
+        requires { length placed.now ≤ JOBS_MOST }
+        ensures { IsTrue result ↔ Lasts rigs.now (placed.now ++ self ∷ []) self.rig }
+    {
+        match rig_at(rigs, self.rig) {
+            Some(rig) => {
+                let burnt = burnt_on(placed, self.rig as usize, rig);
+                burnt + (rig.warm_up as u64 + self.job.length as u64) <= rig.life as u64
+            }
+            None => true,
+        }
+    }
+
+    // The rules, as far as they concern a job after those placed, which keep them.
+    fn is_joining(self, placed: &[Placement], rigs: &[Rig]) -> bool
+        requires few_rigs { length rigs.now ≤ RIGS_MOST }
+        requires few_jobs { length placed.now ≤ JOBS_MOST }
+        requires in_range { IsJob self.job }
+        requires all_in_range { All (λ p. IsJob p.job) placed.now }
+        requires keeping { Keeps rigs.now placed.now }
+        ensures { IsTrue result ↔ Keeps rigs.now (placed.now ++ self ∷ []) }
+    {
+        self.has_rig(rigs)
+            && self.is_in_time(rigs)
+            && self.is_free(placed, rigs)
+            && self.is_lasting(placed, rigs)
+    }
 }
 
 // The lowest rig for the next job.
-fn rig_for(
-    starts: &[u32],
-    lengths: &[u32],
-    allowed: &[u8],
-    warm: &[u32],
-    cool: &[u32],
-    life: &[u32],
-    placed: &[u8],
-) -> usize
-    requires { length placed.now ≤ 64 }
-    ensures { result ≡ first (joins (day starts.now lengths.now allowed.now
-        warm.now cool.now life.now) placed.now)
-        (length warm.now) }
+fn lowest_rig(job: Job, placed: &[Placement], rigs: &[Rig]) -> Option<u8>
+    requires few_rigs { length rigs.now ≤ RIGS_MOST }
+    requires few_jobs { length placed.now ≤ JOBS_MOST }
+    requires in_range { IsJob job }
+    requires all_in_range { All (λ p. IsJob p.job) placed.now }
+    requires keeping { Keeps rigs.now placed.now }
+    ensures { MatchOption result (FindsNone rigs.now placed.now job) (LowestRig rigs.now placed.now job) }
 {
-    (0..warm.len())
-        .find(|&r| is_joining(starts, lengths, allowed, warm, cool, life, placed, r))
-        .unwrap_or(warm.len())
-}
-
-// The jobs placed, one after the other, up to the first that finds no rig.
-fn place(
-    starts: &[u32],
-    lengths: &[u32],
-    allowed: &[u8],
-    warm: &[u32],
-    cool: &[u32],
-    life: &[u32],
-) -> Placing
-    requires { (length starts.now ≤ 64) × (length warm.now ≤ 8) }
-    ensures { Placed (day starts.now lengths.now allowed.now warm.now
-        cool.now life.now) result.count result.rigs }
-{
-    let mut rigs = [0; 64];
-    for j in 0..starts.len() {
-        let rig = rig_for(starts, lengths, allowed, warm, cool, life, &rigs[..j]);
-        if warm.len() <= rig {
-            return Placing {
-                count: j,
-                rigs: rigs,
-            };
+    for rig in 0..rigs.len() as u8 {
+        if (Placement { job, rig }).is_joining(placed, rigs) {
+            return Some(rig);
         }
-        rigs[j] = rig as u8;
     }
-    Placing {
-        count: starts.len(),
-        rigs: rigs,
-    }
+    None
 }
 
-pub fn plan_day(
-    starts: &[u32],
-    lengths: &[u32],
-    allowed: &[u8],
-    warm: &[u32],
-    cool: &[u32],
-    life: &[u32],
-    out: &mut [u8],
-) -> Plan
-    ensures value { result ≡ plan_of (day starts.now lengths.now allowed.now warm.now
-        cool.now life.now) (length out.old) }
-    ensures out_after { out.new ≡ over (rigsWritten (day starts.now lengths.now allowed.now
-        warm.now cool.now life.now) (length out.old)) out.old }
+fn are_jobs(jobs: &[Job]) -> bool
+    ensures { IsTrue result ↔ All IsJob jobs.now }
 {
-    if !range::is_day(starts, lengths, allowed, warm, cool, life) {
-        return Plan::OutOfRange;
+    jobs.iter().all(|job| job.is_in_range())
+}
+
+fn is_day(jobs: &[Job], rigs: &[Rig]) -> bool
+    ensures { IsTrue result ↔ IsDay jobs.now rigs.now }
+{
+    jobs.len() <= JOBS_MOST && rigs.len() <= RIGS_MOST && are_jobs(jobs) && are_rigs(rigs)
+}
+
+/// Places the jobs one after the other, each on its lowest rig.
+pub fn plan_day(jobs: &[Job], rigs: &[Rig]) -> Result<Plan, PlanError>
+    ensures { PlanHolds jobs.now rigs.now result }
+{
+    if !is_day(jobs, rigs) {
+        return Err(PlanError::OutOfRange);
     }
-    if out.len() < starts.len() {
-        return Plan::OutOfRange;
+    let mut plan = Plan::empty();
+    for j in 0..jobs.len() {
+        let job = jobs[j];
+        match lowest_rig(job, plan.placements(), rigs) {
+            Some(rig) => plan.push(Placement { job, rig }),
+            None => return Err(PlanError::NoRig { job: j }),
+        }
     }
-    let placing = place(starts, lengths, allowed, warm, cool, life);
-    let count = placing.count;
-    if count < starts.len() {
-        return Plan::Unplaced(count);
-    }
-    let rigs = placing.rigs;
-    text::put(out, 0, &rigs[..count]);
-    Plan::Planned
+    Ok(plan)
 }

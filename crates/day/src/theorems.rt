@@ -1,43 +1,40 @@
-// What is proved of verdicts and plans beside the contracts of their functions. Nothing is done here: that these
-// functions have their contracts is that the theorems stand.
-ghost use Rattle.std.specs.Prelude.{◌≡◌, ◌≤◌, ℕ, true, List};
-ghost use Rattle.day.specs.Days.{Day, jobs, isDay};
-ghost use Rattle.day.specs.Verdicts.{checked};
-ghost use Rattle.day.specs.VerdictHolds.{VerdictHolds};
-ghost use Rattle.day.specs.Plans.{planned, plan_of, rigsWritten, PlansInto};
-ghost use Rattle.day.specs.PlanHolds.{PlanHolds};
-ghost use Rattle.day.specs.declared.check.Verdict.{Verdict};
-ghost use Rattle.day.specs.declared.check.Verdict.TheVariants.{Accepted};
-ghost use Rattle.day.specs.declared.plan.Plan.{Plan};
-ghost use Rattle.day.specs.declared.plan.Plan.TheVariants.{Planned};
+// What is proved of verdicts and plans beside the contracts of their functions. Nothing is done here that they do not
+// do: that these functions have their contracts is that the theorems stand.
+ghost use Rattle.std.specs.Prelude.{◌≡◌, List, Result, Ok};
+ghost use Rattle.day.specs.Verdicts.{VerdictHolds};
+ghost use Rattle.day.specs.Plans.{PlanHolds};
+ghost use Rattle.day.specs.declared.Job.{Job};
+ghost use Rattle.day.specs.declared.Rig.{Rig};
+ghost use Rattle.day.specs.declared.Placement.{Placement};
+ghost use Rattle.day.specs.declared.check.CheckError.{CheckError};
+ghost use Rattle.day.specs.declared.plan.PlanError.{PlanError};
 
-/// What the checker tells holds of the jobs and rigs, and what holds it tells: so exactly one verdict holds.
-pub fn the_verdict_told_holds()
-    ensures told_holds { (d : Day) (a : List ℕ) → VerdictHolds d a (checked d a) }
-    ensures holds_told { (d : Day) (a : List ℕ) (v : Verdict) → VerdictHolds d a v → checked d a ≡ v }
-    ensures one_holds { (d : Day) (a : List ℕ) (v w : Verdict)
-        → VerdictHolds d a v → VerdictHolds d a w → v ≡ w }
-{}
+use crate::check::{CheckError, check_day};
+use crate::plan::{Plan, PlanError, plan_day};
+use crate::{Job, Placement, Rig};
 
-/// What the planner answers, with what it writes, holds of the jobs and rigs, and what holds it answers and writes: so
-/// exactly one answer holds.
-pub fn the_plan_answered_holds()
-    ensures told_holds { (d : Day) (room : ℕ) → PlanHolds d room (plan_of d room) (rigsWritten d room) }
-    ensures holds_told { (d : Day) (room : ℕ) (p : Plan) (w : List ℕ) → PlanHolds d room p w
-        → (plan_of d room ≡ p) × (rigsWritten d room ≡ w) }
-    ensures one_holds { (d : Day) (room : ℕ) (p q : Plan) (v w : List ℕ)
-        → PlanHolds d room p v → PlanHolds d room q w → (p ≡ q) × (v ≡ w) }
-{}
+/// What the checker tells holds of the plan, and what holds it tells: so exactly one verdict holds.
+pub fn the_verdict_told_holds(plan: &[Placement], rigs: &[Rig]) -> Result<(), CheckError>
+    ensures told_holds { VerdictHolds rigs.now plan.now result }
+    ensures holds_told { (v : Result (Unit {0}) CheckError) → VerdictHolds rigs.now plan.now v → result ≡ v }
+    ensures one_holds { (rs : List Rig) (ps : List Placement) (v w : Result (Unit {0}) CheckError)
+        → VerdictHolds rs ps v → VerdictHolds rs ps w → v ≡ w }
+{
+    check_day(plan, rigs)
+}
+
+/// What the planner answers holds of the jobs and rigs, and what holds it answers: so exactly one answer holds.
+pub fn the_plan_answered_holds(jobs: &[Job], rigs: &[Rig]) -> Result<Plan, PlanError>
+    ensures told_holds { PlanHolds jobs.now rigs.now result }
+    ensures holds_told { (p : Result (List Placement) PlanError) → PlanHolds jobs.now rigs.now p → result ≡ p }
+    ensures one_holds { (js : List Job) (rs : List Rig) (p q : Result (List Placement) PlanError)
+        → PlanHolds js rs p → PlanHolds js rs q → p ≡ q }
+{
+    plan_day(jobs, rigs)
+}
 
 /// What the planner plans the checker accepts.
 pub fn a_plan_is_accepted()
-    ensures { (d : Day) → isDay d ≡ true → (room : ℕ) → jobs d ≤ room → plan_of d room ≡ Planned
-        → checked d (planned d) ≡ Accepted }
-{}
-
-/// Two results that meet the promise of a call are equal, the rigs that it writes included.
-pub fn one_result()
-    ensures verdict { (d : Day) (a : List ℕ) (r s : Verdict) → r ≡ checked d a → s ≡ checked d a → r ≡ s }
-    ensures plan { (d : Day) (out : List ℕ) (r s : Plan) (m n : List ℕ)
-        → PlansInto d out r m → PlansInto d out s n → (r ≡ s) × (m ≡ n) }
+    ensures { (jobs : List Job) (rigs : List Rig) (plan : List Placement)
+        → PlanHolds jobs rigs (Ok plan) → VerdictHolds rigs plan (Ok tt) }
 {}

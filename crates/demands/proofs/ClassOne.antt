@@ -33,7 +33,7 @@ use Rattle.record.specs.declared.types.Settings.{Settings}
 use Rattle.record.specs.declared.types.Own.{Own}
 use Rattle.record.specs.declared.types.Device.{Device}
 use Rattle.record.proofs.LegalTold.{legal-settings}
-use Rattle.record.proofs.SettingsTold.{settings-told, input-of-class}
+use Rattle.record.proofs.SettingsTold.{input-of-class}
 use Rattle.meaning.specs.SetUpInputs.{noInput, inputOrNone, inputsOf, place_of, isListed}
 use Rattle.meaning.specs.Rules.{isUndefined, isOutOfParameter}
 use Rattle.meaning.specs.Meaning.{meant, done}
@@ -48,6 +48,7 @@ use Rattle.demands.specs.Demand2.{BetweenLines, AnsweredAs, answerTo, digestFor}
 use Rattle.demands.specs.ClassOne.{askedBefore, lineBefore, answerBefore, OfClass1, ClassOneKept}
 use Rattle.demands.proofs.LinesAnswered.{line-answered, led-line-answered}
 use Rattle.demands.proofs.ClassOneShort.{short-before}
+use Rattle.record.proofs.FactsTold.{settings_is}
 
 -- ---- what is listed
 
@@ -55,7 +56,7 @@ use Rattle.demands.proofs.ClassOneShort.{short-before}
 module _ (s : Settings) (settings : isSettings s ≡ true) (a b : ℕ) (named : isInputText 2 a b ≡ true) where
   listed-in-class : isListed s (inputNamed a b) ≡ true → isInputText s.class_number a b ≡ true
   listed-in-class listed =
-      let told = settings-told s settings in
+      let told = (settings_is s).0 settings in
       let k = place_of s (inputNamed a b) in
       let below = ltb-true k s.input_count listed in
       let room : 2 * k + 1 < length s.inputs = omega (arith, told.inputs.long, told.inputs.inside) in

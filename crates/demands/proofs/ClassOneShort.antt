@@ -41,7 +41,6 @@ use Rattle.record.specs.declared.types.Connection.{Connection}
 use Rattle.record.specs.declared.types.Device.{Device}
 use Rattle.record.proofs.Kept.{kept-told}
 use Rattle.record.proofs.Rules.{text-most}
-use Rattle.record.proofs.SettingsTold.{settings-told}
 use Rattle.record.proofs.LegalTold.{legal-settings, legal-own}
 use Rattle.meaning.specs.Rules.{isUndefined}
 use Rattle.meaning.specs.SetUpInputs.{place_of}
@@ -54,6 +53,7 @@ use Rattle.device.specs.Calls.{received}
 use Rattle.device.proofs.Cases.{received-by}
 use Rattle.device.proofs.LineCases.{answered-by, ended_by, taken-by}
 use Rattle.demands.specs.ClassOne.{longestBefore}
+use Rattle.record.proofs.FactsTold.{settings_is}
 
 abbrev parameterBefore : ℕ
 parameterBefore = 95
@@ -124,7 +124,7 @@ module _ (s : Settings) (o : Own) (settings : isSettings s ≡ true) (own : isOw
 
       named : k < length s.names → length (nameBytes (get_or s.names k blankName)) ≤ 0
       named h =
-          let told = settings-told s settings in
+          let told = (settings_is s).0 settings in
           let none : every (fillsNameRoom 0) s.names ≡ true
           = ap (λ (n : ℕ). every (fillsNameRoom 0) (drop (onlyIn2 n s.input_count) s.names)) (sym one)
           ∙ told.names.unused in

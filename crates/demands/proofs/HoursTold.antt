@@ -20,7 +20,7 @@ use Rattle.record.specs.Wanted.{Wanted}
 use Rattle.record.specs.declared.types.Settings.{Settings}
 use Rattle.record.specs.declared.types.Device.{Device}
 use Rattle.record.proofs.Rules.{class-one-of}
-use Rattle.record.proofs.SettingsTold.{settings-told, class-told}
+use Rattle.record.proofs.SettingsTold.{class-told}
 use Rattle.record.proofs.LegalTold.{legal-settings, own-of-legal}
 use Rattle.meaning.specs.Meaning.{lampSaid, lampsOf}
 use Rattle.meaning.proofs.LampsSaid.{said-length}
@@ -35,6 +35,7 @@ use Rattle.demands.specs.Demand2.{BetweenLines}
 use Rattle.demands.specs.Demand3.{lampThen, eachPlace, lampsThen, LampsTold}
 use Rattle.demands.proofs.LentMemory.{over-front}
 use Rattle.demands.proofs.Agrees.{Agrees, lit-shown}
+use Rattle.record.proofs.FactsTold.{settings_is}
 
 -- what stands at a place, each place told for itself
 each-length : {A : Type 0} (f : ℕ → ℕ → A) (k : ℕ) (l : List ℕ) → length (eachPlace f k l) ≡ length l
@@ -84,7 +85,7 @@ module _ (w : Wanted) (ms : List Bool) (es : List Event) {stream : Streams} {d :
   any-class : 1 ≤ d.settings.class_number
   any-class =
       let k = d.settings.class_number in
-      let told = settings-told d.settings (legal-settings d between.legal) in
+      let told = (settings_is d.settings).0 (legal-settings d between.legal) in
       ⊎_elim (λ (e : k ≡ 1). omega arith) (λ (e : k ≡ 2). omega arith) (class-one-of k (class-told d.settings told))
 
   pub hours-told : (m : List ℕ) → 1 ≤ length w.lamps → replyRoom ≤ length m

@@ -17,7 +17,6 @@ use Rattle.record.specs.Legal.{isLegal}
 use Rattle.record.specs.Places.{connectionAt, isShut, lowestShut}
 use Rattle.record.specs.declared.types.Device.{Device}
 use Rattle.record.proofs.LegalTold.{legal-settings}
-use Rattle.record.proofs.SettingsTold.{settings-told}
 use Rattle.record.proofs.LowestShut.{below-lowest}
 use Rattle.device.specs.Answering.{swallowed}
 use Rattle.device.specs.Receiving.{passwordOf}
@@ -33,6 +32,7 @@ use Rattle.controller.proofs.GreetsBack.{greets-back as greeted-back}
 use Rattle.ours.specs.Board.{bytesWritten, reply, lent_by, wroteBy, ours}
 use Rattle.demands.specs.Demand2.{BetweenLines, ReadBack, AnsweredAs, Swallowed, ByClass}
 use Rattle.demands.proofs.LentMemory.{over-front}
+use Rattle.record.proofs.FactsTold.{settings_is}
 
 -- what is read of the lent paper is the line
 pub line-written : (w : WrittenAs) (m : List ℕ) → bytesWritten (wroteBy w m) ≡ w.bytes
@@ -101,7 +101,7 @@ module _ (d : Device) (p : ℕ) (c : Command) (paper m : List ℕ) (writable : i
       let random = (connectionAt d p).random in
       let password = passwordOf d.settings in
       let empty = is-between d p between.there between.legal between.unmarked between.none-held in
-      let told = settings-told d.settings (legal-settings d between.legal) in
+      let told = (settings_is d.settings).0 (legal-settings d between.legal) in
       record {
         no-higher = λ within.
             on-memory (writtenCommand c true random password (length paper))

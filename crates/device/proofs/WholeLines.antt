@@ -37,7 +37,6 @@ use Rattle.record.specs.declared.types.Own.{Own}
 use Rattle.record.specs.declared.types.Line.{Line}
 use Rattle.record.specs.declared.types.Connection.{Connection}
 use Rattle.record.proofs.Kept.{filled-take, room-first}
-use Rattle.record.proofs.SettingsTold.{SettingsTold, settings-told}
 use Rattle.record.proofs.ConnectionTold.{held-most-opened, held-most-awaiting}
 use Rattle.stream.specs.Collecting.{lineText, line_of, emptyLine, gathered}
 use Rattle.stream.proofs.LinesCollected.{empty-is-none, line-gathered}
@@ -47,6 +46,8 @@ use Rattle.device.specs.Answering.{lineAsks, replied, swallowed, lineAnswer}
 use Rattle.device.specs.Receiving.{Ended, Taken, spoken, isMatch, digestLong, passwordOf}
 use Rattle.device.specs.Receiving.{lineEnded, taken_of, takenIn}
 use Rattle.device.proofs.LineCases.{ended-open, ended-match}
+use Rattle.record.specs.Facts.{IsSettings}
+use Rattle.record.proofs.FactsTold.{settings_is}
 
 map-itself : (xs : List ℕ) → map itself xs ≡ xs
 map-itself [] = refl
@@ -119,8 +120,8 @@ module _ (s : Settings) (o : Own) (c : Connection) (empty : c.line ≡ emptyLine
 
 -- a command's line
 module _ (s : Settings) (o : Own) (settings : isSettings s ≡ true) (k : Command) where
-  abbrev known : SettingsTold s
-  known = settings-told s settings
+  abbrev known : IsSettings s
+  known = (settings_is s).0 settings
 
   -- of a class higher than the set-up's: no form that it takes (RULES, Class 2)
   pub higher-swallowed : s.class_number < commandClass k → lineAnswer s o (commandText k) ≡ swallowed o

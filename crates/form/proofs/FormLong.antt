@@ -17,13 +17,13 @@ use Rattle.record.specs.Legal.{isNames, isSettings, isLegal}
 use Rattle.record.specs.declared.types.Settings.{Settings}
 use Rattle.record.specs.declared.types.Device.{Device}
 use Rattle.record.proofs.Kept.{kept-length}
-use Rattle.record.proofs.NamesTold.{names-room-shown}
-use Rattle.record.proofs.SettingsTold.{settings-told, input-count-high}
+use Rattle.record.proofs.SettingsTold.{input-count-high}
 use Rattle.record.proofs.LegalTold.{legal-settings, settings-of-legal, own-of-legal}
 use Rattle.record.proofs.MarksTold.{front-many}
 use Rattle.form.specs.Form.{formVersion, section, textSection, secondsBytes, markByte}
 use Rattle.form.specs.Form.{marksSection, textsOf2, classPart, formWith, storedOf, marksStored, storedForm}
 use Rattle.form.proofs.Seconds.{seconds-long}
+use Rattle.record.proofs.FactsTold.{names_is, settings_is}
 
 abbrev fiveLong : Wanted → ℕ
 fiveLong w = length w.name + length w.maker + length w.model + length w.other + length w.password
@@ -65,7 +65,7 @@ pub record Sized (s : Settings) : Type 0 where
 
 pub sized : (s : Settings) → isSettings s ≡ true → Sized s
 sized s h =
-    let t = settings-told s h in
+    let t = (settings_is s).0 h in
     record {
       name = t.name.inside;
       maker = t.maker.inside;
@@ -76,7 +76,7 @@ sized s h =
       lamps = t.lamps;
       serial = t.serial.inside;
       version = t.version.inside;
-      names = names-room-shown _ _ t.names;
+      names = (names_is _ _).1 t.names;
     }
 
 pub legal_sized : (d : Device) → isLegal d ≡ true → Sized d.settings

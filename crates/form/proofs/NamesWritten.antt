@@ -20,9 +20,9 @@ use Rattle.record.specs.Limits.{listedMost}
 use Rattle.record.specs.Legal.{fillsNameRoom, isNames}
 use Rattle.record.specs.declared.types.InputName.{InputName}
 use Rattle.record.proofs.Kept.{Kept, kept-told, kept-length}
-use Rattle.record.proofs.NamesTold.{names-told}
 use Rattle.form.specs.Form.{textSection, textsBytes, nameStored}
 use Rattle.form.proofs.TextsWritten.{texts-snoc}
+use Rattle.record.proofs.FactsTold.{names_is}
 
 -- what an array of names has past its end
 abbrev pub noName : InputName
@@ -93,7 +93,7 @@ module _ (names : List InputName) where
 -- a name of a legal record
 module _ (n : ℕ) (names : List InputName) (legal : isNames n names ≡ true) (few : n ≤ listedMost) where
   names-room : length names ≡ listedMost
-  names-room = (names-told n names legal).long
+  names-room = ((names_is n names).0 legal).long
 
   module _ (d : InputName) (i : ℕ) (more : i < n) where
     pub name-inside : i < length names
@@ -103,7 +103,7 @@ module _ (n : ℕ) (names : List InputName) (legal : isNames n names ≡ true) (
     kept =
         kept-told inputNameMost isInputName _ _
         (ap (fillsNameRoom inputNameMost) (sym (get_or-take n names i d more))
-        ∙ every-at (fillsNameRoom inputNameMost) (take n names) d (names-told n names legal).used i
+        ∙ every-at (fillsNameRoom inputNameMost) (take n names) d ((names_is n names).0 legal).used i
         (omega (arith, length-take-le n names (omega (arith, names-room)))))
 
     pub name-within : (get_or names i d).len ≤ inputNameMost

@@ -35,10 +35,10 @@ use Rattle.record.specs.declared.types.Settings.{Settings}
 use Rattle.record.specs.declared.types.Own.{Own}
 use Rattle.record.proofs.Kept.{kept-length}
 use Rattle.record.proofs.Rules.{errors-long, errors-within, lamps-within}
-use Rattle.record.proofs.SettingsTold.{SettingsTold, settings-told, input-count-low, input-count-high, input-at}
+use Rattle.record.proofs.SettingsTold.{input-count-low, input-count-high, input-at}
 use Rattle.record.proofs.SettingsTold.{serial-told, version-told, name-at}
-use Rattle.record.specs.Facts.{IsOwn}
-use Rattle.record.proofs.FactsTold.{own_is}
+use Rattle.record.specs.Facts.{IsOwn, IsSettings}
+use Rattle.record.proofs.FactsTold.{own_is, settings_is}
 use Rattle.meaning.specs.SetUpInputs.{noInput, inputOrNone, pairsOf, inputsOf, place_of}
 use Rattle.meaning.specs.Rules.{isUndefined, isUnlisted}
 use Rattle.meaning.proofs.LampsSaid.{said-length, each-said}
@@ -48,7 +48,7 @@ use Rattle.meaning.proofs.ClassKnown.{class_low, class-high}
 use Rattle.meaning.proofs.Cases.{Passes, meant-by}
 
 -- the inputs of a legal set-up
-module _ (s : Settings) (t : SettingsTold s) where
+module _ (s : Settings) (t : IsSettings s) where
   pub inputs-number : length (inputsOf s) ≡ s.input_count
   inputs-number = inputs-counted (pairsOf s) s.input_count
       (kept-length inputRoom (isInputs s.class_number) _ _ t.inputs)
@@ -86,8 +86,8 @@ set-refused s (VolumeStep v up) e = refl
 set-refused s (NameQuery i) e = refl
 
 module _ (s : Settings) (o : Own) (settings : isSettings s ≡ true) (own : isOwn s o ≡ true) where
-  abbrev set-up : SettingsTold s
-  set-up = settings-told s settings
+  abbrev set-up : IsSettings s
+  set-up = (settings_is s).0 settings
 
   abbrev kept : IsOwn s o
   kept = (own_is s o).0 own

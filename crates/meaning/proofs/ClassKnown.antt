@@ -6,9 +6,10 @@ use lib.Dec.{eqb}
 use borrow.Author.Tests.{eqb-true}
 use Rattle.lines.proofs.Characters.{either-by}
 use Rattle.record.specs.declared.types.Settings.{Settings}
-use Rattle.record.proofs.SettingsTold.{SettingsTold, class-told}
+use Rattle.record.proofs.SettingsTold.{class-told}
+use Rattle.record.specs.Facts.{IsSettings}
 
-module _ (s : Settings) (t : SettingsTold s) where
+module _ (s : Settings) (t : IsSettings s) where
   abbrev k : ℕ
   k = s.class_number
 

@@ -23,13 +23,12 @@ use Rattle.record.specs.Updates.{withChosen, withMutes}
 use Rattle.record.specs.Legal.{isSettings, isOwn}
 use Rattle.record.specs.declared.types.Settings.{Settings}
 use Rattle.record.specs.declared.types.Own.{Own}
-use Rattle.record.proofs.SettingsTold.{SettingsTold, settings-told}
-use Rattle.record.specs.Facts.{IsOwn}
+use Rattle.record.specs.Facts.{IsOwn, IsSettings}
 use Rattle.record.specs.Views.{IsPower, with_power}
 use Rattle.record.specs.declared.views.Power.{Power}
 use Rattle.record.specs.declared.views.Power.TheVariants.{WarmUp, Cooling}
 use Rattle.record.proofs.PowerSeen.{written}
-use Rattle.record.proofs.FactsTold.{own_is}
+use Rattle.record.proofs.FactsTold.{own_is, settings_is}
 use Rattle.meaning.specs.SetUpInputs.{place_of, isListed}
 use Rattle.meaning.specs.Rules.{isOutOfParameter}
 use Rattle.meaning.specs.Meaning.{levelAfter, afterPower, afterMute, afterStep, requestAnswer, carriedOut, meant}
@@ -98,8 +97,8 @@ module _ (s : Settings) (o : Own) where
       (λ a b c d n. refl) (λ p. told-or-kept r)
 
   module _ (settings : isSettings s ≡ true) (own : isOwn s o ≡ true) where
-    abbrev set-up : SettingsTold s
-    set-up = settings-told s settings
+    abbrev set-up : IsSettings s
+    set-up = (settings_is s).0 settings
 
     abbrev kept : IsOwn s o
     kept = (own_is s o).0 own

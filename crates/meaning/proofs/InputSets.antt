@@ -14,23 +14,23 @@ use Rattle.record.specs.Updates.{withChosen}
 use Rattle.record.specs.Legal.{isSettings}
 use Rattle.record.specs.declared.types.Settings.{Settings}
 use Rattle.record.specs.declared.types.Own.{Own}
-use Rattle.record.proofs.SettingsTold.{settings-told}
 use Rattle.meaning.specs.SetUpInputs.{noInput, inputsOf, place_of, isListed}
 use Rattle.meaning.specs.Meaning.{chosen_of, meant, done}
 use Rattle.meaning.proofs.InputsByPlace.{found-at-place}
 use Rattle.meaning.proofs.CanBeSaid.{inputs-number, listed-input}
 use Rattle.meaning.proofs.Cases.{decided-by, meant-passed}
+use Rattle.record.proofs.FactsTold.{settings_is}
 
 module _ (s : Settings) (settings : isSettings s ≡ true) (i : Input) where
   pub chosen-is-asked : (o : Own) → isListed s i ≡ true → chosen_of s (withChosen o (place_of s i)) ≡ i
   chosen-is-asked o listed =
       let below = ltb-true (place_of s i) s.input_count listed in
-      found-at-place i noInput (inputsOf s) (omega (arith, inputs-number s (settings-told s settings)))
+      found-at-place i noInput (inputsOf s) (omega (arith, inputs-number s ((settings_is s).0 settings)))
 
   -- an input that is listed is one that two characters can name
   pub listed-is-input : isListed s i ≡ true → isInput i ≡ true
   listed-is-input listed =
-      let told = settings-told s settings in
+      let told = (settings_is s).0 settings in
       let below = ltb-true (place_of s i) s.input_count listed in
       ap isInput (sym (found-at-place i noInput (inputsOf s) (omega (arith, inputs-number s told))))
       ∙ listed-input s told (place_of s i) below

@@ -1,11 +1,16 @@
 -- The tests of legality say the facts.
 -- Assumes nothing.
-use Rattle.std.proofs.Common.{ℕ, arith, Bool, IsTrue, List, ◌↔◌}
+use Rattle.std.proofs.Common.{◌≡◌, ℕ, arith, ap, sym, ◌∙◌, Bool, IsTrue, List, length, take, ◌↔◌}
+use Rattle.std.proofs.Math.Seq.{length-take-le}
 use Rattle.std.specs.Prelude.{All}
 use Rattle.text.specs.Scans.{every}
-use Rattle.record.specs.Legal.{fillsRoom, isOwn, isConnection, isConnections, isLegal}
+use Rattle.record.specs.Legal.{fillsRoom, isNames, isRestOf2, isSettings, isOwn, isConnection, isConnections, isLegal}
 use Rattle.record.specs.Rooms.{used}
-use Rattle.record.specs.Facts.{Fills, IsOwn, IsConnection, IsLegal}
+use Rattle.record.specs.Facts.{Fills, IsStretch, IsNames, IsSettings, IsOwn, IsConnection, IsLegal}
+use Rattle.lines.specs.Texts.{isPassword}
+use Rattle.record.specs.Limits.{textRoom}
+use Rattle.record.specs.Rules.{isLongEnough, isSetUpPassword, isStretch}
+use Rattle.record.specs.declared.types.InputName.{InputName}
 use Rattle.record.specs.declared.types.Settings.{Settings}
 use Rattle.record.specs.declared.types.Own.{Own}
 use Rattle.record.specs.declared.types.Connection.{Connection}
@@ -13,6 +18,7 @@ use Rattle.record.specs.declared.types.Device.{Device}
 use Rattle.record.specs.Record.{closed}
 use Rattle.text.proofs.Scanning.{every-at, every-by-place}
 use Rattle.record.proofs.PowerSeen.{power_is, left_is}
+use Rattle.record.proofs.Rules.{set-up-password-written, set-up-password-long, set-up-password-shown}
 
 pub fills_told : (room : ℕ) (rule : List ℕ → Bool) (s : List ℕ) (n : ℕ)
     → IsTrue (fillsRoom room rule s n) ↔ Fills room rule s n
@@ -27,12 +33,90 @@ fills_told room rule s n = (
   λ t. grind (arith, t.long, t.inside, t.clear, t.follows),
 )
 
+fills : {room : ℕ} {rule : List ℕ → Bool} {s : List ℕ} {n : ℕ} → IsTrue (fillsRoom room rule s n) → Fills room rule s n
+fills h = (fills_told _ _ _ _).0 h
+
+full : {room : ℕ} {rule : List ℕ → Bool} {s : List ℕ} {n : ℕ} → Fills room rule s n → IsTrue (fillsRoom room rule s n)
+full t = (fills_told _ _ _ _).1 t
+
+pub stretch_is : (n : ℕ) → IsTrue (isStretch n) ↔ IsStretch n
+stretch_is n = (λ h. record { low = grind (arith, h); high = grind (arith, h) }, λ t. grind (arith, t.low, t.high))
+
+pub names_is : (n : ℕ) (ns : List InputName) → IsTrue (isNames n ns) ↔ IsNames n ns
+unfolding isNames
+names_is n ns = (
+  λ h. record { long = grind (arith, h); used = grind (arith, h); unused = grind (arith, h) },
+  λ t. grind (arith, t.long, t.used, t.unused),
+)
+
+-- a password of set-up is one that the controller's writer takes, and long enough
+module _ (s : List ℕ) (n : ℕ) where
+  many : Fills textRoom isPassword s n → length (take n s) ≡ n
+  many t = length-take-le n s (omega (arith, t.long, t.inside))
+
+  password_fills : Fills textRoom isSetUpPassword s n → Fills textRoom isPassword s n
+  password_fills t = record {
+    long = t.long;
+    inside = t.inside;
+    clear = t.clear;
+    follows = set-up-password-written (take n s) t.follows;
+  }
+
+  password_long : Fills textRoom isSetUpPassword s n → IsTrue (isLongEnough n)
+  password_long t = ap isLongEnough (sym (many (password_fills t))) ∙ set-up-password-long (take n s) t.follows
+
+  set_up_password_fills : Fills textRoom isPassword s n → IsTrue (isLongEnough n) → Fills textRoom isSetUpPassword s n
+  set_up_password_fills t h = record {
+    long = t.long;
+    inside = t.inside;
+    clear = t.clear;
+    follows = set-up-password-shown (take n s) t.follows (ap isLongEnough (many t) ∙ h);
+  }
+
+pub settings_is : (s : Settings) → IsTrue (isSettings s) ↔ IsSettings s
+unfolding isSettings isRestOf2
+settings_is s = (
+  λ h.
+      let secret : Fills textRoom isSetUpPassword s.password.bytes s.password.len = fills (grind (arith, h)) in
+      record {
+        name = fills (grind (arith, h));
+        maker = fills (grind (arith, h));
+        model = fills (grind (arith, h));
+        other = fills (grind (arith, h));
+        password = password_fills _ _ secret;
+        long_enough = password_long _ _ secret;
+        inputs = fills (grind (arith, h));
+        lamps = grind (arith, h);
+        warm = (stretch_is _).0 (grind (arith, h));
+        cool = (stretch_is _).0 (grind (arith, h));
+        serial = fills (grind (arith, h));
+        version = fills (grind (arith, h));
+        names = (names_is _ _).0 (grind (arith, h));
+      },
+  λ t.
+      grind (
+        arith,
+        full t.name,
+        full t.maker,
+        full t.model,
+        full t.other,
+        full (set_up_password_fills _ _ t.password t.long_enough),
+        full t.inputs,
+        t.lamps,
+        (stretch_is _).1 t.warm,
+        (stretch_is _).1 t.cool,
+        full t.serial,
+        full t.version,
+        (names_is _ _).1 t.names,
+      ),
+)
+
 pub own_is : (s : Settings) (o : Own) → IsTrue (isOwn s o) ↔ IsOwn s o
 unfolding isOwn
 own_is s o = (
   λ h. record {
     errors = grind (arith, h);
-    lamps = (fills_told _ _ _ _).0 (grind (arith, h));
+    lamps = fills (grind (arith, h));
     marks = grind (arith, h);
     power = power_is _ _ _ _ (grind (arith, h));
     chosen = grind (arith, h);
@@ -43,7 +127,7 @@ own_is s o = (
       grind (
         arith,
         t.errors,
-        (fills_told _ _ _ _).1 t.lamps,
+        full t.lamps,
         t.marks,
         left_is _ _ _ _ t.power,
         t.chosen,
@@ -56,13 +140,13 @@ pub connection_is : (c : Connection) → IsTrue (isConnection c) ↔ IsConnectio
 unfolding isConnection
 connection_is c = (
   λ h. record {
-    line = (fills_told _ _ _ _).0 (grind (arith, h));
+    line = fills (grind (arith, h));
     phase = grind (arith, h);
     age = grind (arith, h);
     random = λ e. grind (arith, h, e);
     held = grind (arith, h);
   },
-  λ t. grind (arith, (fills_told _ _ _ _).1 t.line, t.phase, t.age, t.random, t.held),
+  λ t. grind (arith, full t.line, t.phase, t.age, t.random, t.held),
 )
 
 pub each_is : (cs : List Connection) → IsTrue (every isConnection cs) ↔ All IsConnection cs
@@ -75,10 +159,10 @@ pub legal_is : (d : Device) → IsTrue (isLegal d) ↔ IsLegal d
 unfolding isLegal isConnections
 legal_is d = (
   λ h. record {
-    settings = grind (arith, h);
+    settings = (settings_is _).0 (grind (arith, h));
     own = (own_is _ _).0 (grind (arith, h));
     places = grind (arith, h);
     connections = (each_is _).0 (grind (arith, h));
   },
-  λ t. grind (arith, t.settings, (own_is _ _).1 t.own, t.places, (each_is _).1 t.connections),
+  λ t. grind (arith, (settings_is _).1 t.settings, (own_is _ _).1 t.own, t.places, (each_is _).1 t.connections),
 )

@@ -9,9 +9,8 @@ use Rattle.record.specs.Limits.{placesCount}
 use Rattle.record.specs.Legal.{isSettings, isOwn, isConnection, isConnections, isLegal}
 use Rattle.record.specs.Places.{connectionAt}
 use Rattle.record.specs.declared.types.Device.{Device}
-use Rattle.record.proofs.SettingsTold.{SettingsTold, settings-told}
-use Rattle.record.specs.Facts.{IsOwn, IsLegal}
-use Rattle.record.proofs.FactsTold.{own_is, connection_is, each_is, legal_is}
+use Rattle.record.specs.Facts.{IsSettings, IsOwn, IsLegal}
+use Rattle.record.proofs.FactsTold.{settings_is, own_is, connection_is, each_is, legal_is}
 use native.Mathlib.Omega.{arith}
 use Rattle.record.proofs.ConnectionTold.{ConnectionTold}
 use Rattle.record.proofs.ConnectionsTold.{connections-shown}
@@ -22,7 +21,7 @@ module _ (d : Device) where
     legal = (legal_is d).0 h
 
     pub legal-settings : isSettings d.settings ≡ true
-    legal-settings = legal.settings
+    legal-settings = (settings_is _).1 legal.settings
 
     pub legal-own : isOwn d.settings d.own ≡ true
     legal-own = (own_is _ _).1 legal.own
@@ -40,8 +39,8 @@ module _ (d : Device) where
       pub legal-connection : isConnection (connectionAt d p) ≡ true
       legal-connection = (connection_is _).1 connection-of-legal
 
-    pub settings-of-legal : SettingsTold d.settings
-    settings-of-legal = settings-told d.settings legal.settings
+    pub settings-of-legal : IsSettings d.settings
+    settings-of-legal = legal.settings
 
     pub own-of-legal : IsOwn d.settings d.own
     own-of-legal = legal.own

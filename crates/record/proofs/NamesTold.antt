@@ -1,7 +1,6 @@
 -- What the names of a legal record tell (RULES, Class 2), and how they are shown: those that a set-up keeps.
 --   nameBytes t         the bytes of a name
 --   NameKept t          a name of an input stands in its room
---   NamesTold n ns      the first n places have a name each, the others none
 -- Assumes nothing.
 use Prim.Native.Nat.{ℕ, zero, suc, ◌-◌, ◌≤◌, ◌<◌}
 use mathlib.Core.Path.{◌≡◌, refl, sym, ap, ◌∙◌}
@@ -20,6 +19,8 @@ use Rattle.lines.specs.Texts.{isText, inputNameMost, isInputName}
 use Rattle.record.specs.Limits.{listedMost}
 use Rattle.record.specs.Record.{name_of, blankName, namesKept}
 use Rattle.record.specs.Legal.{fillsNameRoom, isNames}
+use Rattle.record.specs.Facts.{IsNames}
+use Rattle.record.proofs.FactsTold.{names_is}
 use Rattle.record.specs.declared.types.InputName.{InputName}
 use Rattle.record.proofs.Kept.{Kept, kept-told, kept-shown, filled-kept, nothing-kept}
 use Rattle.record.proofs.Rules.{text-most, text-wider, empty-text}
@@ -42,21 +43,8 @@ none-fits t h =
     })
 
 module _ (n : ℕ) (ns : List InputName) where
-  pub record NamesTold : Type 0 where
-    pub long : length ns ≡ listedMost
-    pub used : every (fillsNameRoom inputNameMost) (take n ns) ≡ true
-    pub unused : every (fillsNameRoom 0) (drop n ns) ≡ true
-
-  pub names-told : isNames n ns ≡ true → NamesTold
-  unfolding isNames
-  names-told h = record { long = grind (arith, h); used = grind (arith, h); unused = grind (arith, h) }
-
-  pub names-room-shown : NamesTold → isNames n ns ≡ true
-  unfolding isNames
-  names-room-shown t = grind (arith, t.long, t.used, t.unused)
-
   -- a name stands at each place, one of the list or not: it may be empty
-  pub name-kept : NamesTold → (k : ℕ) → NameKept (get_or ns k blankName)
+  pub name-kept : IsNames n ns → (k : ℕ) → NameKept (get_or ns k blankName)
   name-kept t k =
       ⊎_elim
       (λ (past : length ns ≤ k).
@@ -94,7 +82,7 @@ module _ (ns : List (List ℕ)) (few : length ns ≤ listedMost) where
 
   pub names-kept : every isInputName ns ≡ true → isNames (length ns) (namesKept ns) ≡ true
   unfolding namesKept
-  names-kept h = names-room-shown (length ns) (namesKept ns) (record {
+  names-kept h = (names_is (length ns) (namesKept ns)).1 (record {
     long = length-append (map name_of ns) rest
         ∙ omega (arith, as_many name_of ns, length-replicate (listedMost - length ns) blankName);
     used = ap (every (fillsNameRoom inputNameMost)) (take_at (map name_of ns) rest (length ns) (as_many name_of ns))

@@ -1,29 +1,27 @@
 -- What legal settings tell, and how they are shown (the crates above never open `isSettings`).
---   SettingsTold s      each text with its rule, the class and its inputs, the counts and stretches, the names
 -- Assumes nothing.
 use Prim.Native.Nat.{ℕ, ◌+◌, ◌*◌, ◌≤◌, ◌<◌}
-use mathlib.Core.Path.{◌≡◌, sym, ap, ◌∙◌}
+use mathlib.Core.Path.{◌≡◌, sym, ◌∙◌}
 use mathlib.Core.Bool.{Bool, true}
 use mathlib.Core.List.{List}
 use native.Mathlib.Omega.{arith}
 use lib.ListN.{length, get_or, take}
 use lib.Seq.{get_or-take}
 use Rattle.lines.specs.Bytes.{◌at◌}
-use Rattle.lines.specs.Texts.{isText, isName, isInfo, isPassword, infoMost, passwordMost}
+use Rattle.lines.specs.Texts.{isInfo, isPassword, infoMost, passwordMost}
 use Rattle.lines.specs.Inputs.{isInputText}
 use Rattle.lines.proofs.InputsReadBack.{named-widely}
-use Rattle.record.specs.Limits.{textRoom, inputRoom, listedMost, lampsMost, stretchMost, isClass, onlyIn2}
-use Rattle.record.specs.Rules.{isLongEnough, isSetUpPassword, isInputs, isStretch}
+use Rattle.record.specs.Limits.{textRoom, inputRoom, listedMost, isClass}
+use Rattle.record.specs.Rules.{isInputs}
 use Rattle.record.specs.Record.{blankName}
-use Rattle.record.specs.Legal.{fillsRoom, isRestOf2, isSettings}
 use Rattle.record.specs.declared.types.Text.{Text}
 use Rattle.record.specs.declared.types.Settings.{Settings}
 use Rattle.lines.proofs.TextsTold.{password-long}
-use Rattle.record.proofs.FactsTold.{fills_told}
+use Rattle.record.specs.Facts.{IsSettings}
 use Rattle.record.proofs.Kept.{Kept, kept-length}
-use Rattle.record.proofs.Rules.{set-up-password-written, set-up-password-long, inputs-class, inputs-some}
+use Rattle.record.proofs.Rules.{inputs-class, inputs-some}
 use Rattle.record.proofs.Rules.{only-in-2-within, text-wider}
-use Rattle.record.proofs.NamesTold.{NamesTold, NameKept, names-told, name-kept}
+use Rattle.record.proofs.NamesTold.{NameKept, name-kept}
 use Rattle.record.proofs.InputsTold.{input-named, inputs-differ}
 
 -- the bytes of a text
@@ -33,67 +31,8 @@ bytes_of t = take t.len t.bytes
 abbrev pub TextKept : (List ℕ → Bool) → Text → Type 0
 TextKept rule t = Kept textRoom rule t.bytes t.len
 
-pub record StretchTold (n : ℕ) : Type 0 where
-  pub low : 1 ≤ n
-  pub high : n ≤ stretchMost
-
-pub record SettingsTold (s : Settings) : Type 0 where
-  pub name : TextKept isName s.name
-  pub maker : TextKept isInfo s.maker
-  pub model : TextKept isInfo s.model
-  pub other : TextKept isInfo s.other
-  pub password : TextKept isPassword s.password
-  pub long-enough : isLongEnough s.password.len ≡ true
-  pub inputs : Kept inputRoom (isInputs s.class_number) s.inputs (2 * s.input_count)
-  pub lamps : s.lamp_count ≤ lampsMost
-  pub warm : StretchTold s.warm
-  pub cool : StretchTold s.cool
-  pub serial : TextKept (isText (onlyIn2 s.class_number infoMost)) s.serial
-  pub version : TextKept (isText (onlyIn2 s.class_number infoMost)) s.version
-  pub names : NamesTold (onlyIn2 s.class_number s.input_count) s.names
-
-pub stretch-told : (n : ℕ) → isStretch n ≡ true → StretchTold n
-stretch-told n h = record { low = grind (arith, h); high = grind (arith, h) }
-
--- what a password of set-up tells: what the writer's does, and its length
-module _ (t : Text) (k : TextKept isSetUpPassword t) where
-  password-told : TextKept isPassword t
-  password-told = record {
-    long = k.long;
-    inside = k.inside;
-    clear = k.clear;
-    follows = set-up-password-written (bytes_of t) k.follows;
-  }
-
-  password-long-enough : isLongEnough t.len ≡ true
-  password-long-enough =
-      ap isLongEnough (sym (kept-length textRoom isSetUpPassword _ _ k)) ∙ set-up-password-long (bytes_of t) k.follows
-
-fills : {room : ℕ} {rule : List ℕ → Bool} {l : List ℕ} {n : ℕ} → fillsRoom room rule l n ≡ true → Kept room rule l n
-fills h = (fills_told _ _ _ _).0 h
-
-pub settings-told : (s : Settings) → isSettings s ≡ true → SettingsTold s
-unfolding isSettings isRestOf2
-settings-told s h =
-    let secret : TextKept isSetUpPassword s.password = fills (grind (arith, h)) in
-    record {
-      name = fills (grind (arith, h));
-      maker = fills (grind (arith, h));
-      model = fills (grind (arith, h));
-      other = fills (grind (arith, h));
-      password = password-told s.password secret;
-      long-enough = password-long-enough s.password secret;
-      inputs = fills (grind (arith, h));
-      lamps = grind (arith, h);
-      warm = stretch-told s.warm (grind (arith, h));
-      cool = stretch-told s.cool (grind (arith, h));
-      serial = fills (grind (arith, h));
-      version = fills (grind (arith, h));
-      names = names-told _ _ (grind (arith, h));
-    }
-
 -- from the settings: the password, the number of inputs, each input
-module _ (s : Settings) (t : SettingsTold s) where
+module _ (s : Settings) (t : IsSettings s) where
   pub password-within : s.password.len ≤ passwordMost
   password-within =
       let long = kept-length textRoom isPassword _ _ t.password in

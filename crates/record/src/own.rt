@@ -41,7 +41,7 @@ pub fn is_between(power: u8) -> bool
     (power == WARMING) | (power == COOLING)
 }
 
-// 0 to 8 lamps, each within the limit.
+/// 0 to 8 lamps, each within the limit.
 #[tactic(auto, unfolding(crate::specs::Rules::isLamps))]
 pub fn lamps_ok(s: &[u32]) -> bool
     ensures { result ≡ isLamps s.now }
@@ -72,7 +72,7 @@ fn marks_ok(marks: &[bool; LAMPS_MOST], count: usize) -> bool
     rooms::used(marks, count).is_some() && (count == 0 || !none_marked(marks))
 }
 
-// Six error digits, each 0 to 2.
+/// Six error digits, each 0 to 2.
 #[tactic(auto, unfolding(crate::specs::Rules::isErrors))]
 pub fn errors_ok(s: &[u8]) -> bool
     ensures { result ≡ isErrors s.now }

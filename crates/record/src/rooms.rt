@@ -1,5 +1,5 @@
-//! A room: an array of a record, of which so many places are used, from its start, and the others are blank
-//! (RULES, The legal record, "Unused room").
+// A room: an array of a record, of which so many places are used, from its start, and the others are blank
+// (RULES, The legal record, "Unused room").
 ghost use Rattle.std.specs.Prelude.{◌≡◌, ◌==◌, ◌≤◌, Bool, not, length, option_map};
 ghost use Rattle.text.specs.Scans.{every};
 ghost use Rattle.record.specs.Rooms.{used, kept};

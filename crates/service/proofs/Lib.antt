@@ -1,11 +1,3 @@
-pub mod Minus
-pub mod ByPlace
-pub mod Looking
-pub mod Cases
-pub mod Fronts
-pub mod Written
-pub mod FirstBackwards
-pub mod Refusals
-pub mod Places
-pub mod OneResult
-mod Examples
+pub mod Filling
+pub mod OneAnswer
+pub mod Exact

@@ -1,24 +1,37 @@
--- What each answer of the comparison says of the two tables, the earlier es and the later ls, apart from how it is
--- found. That the answer told holds, and no other, is proved (proofs/FirstBackwards).
---   FirstBack es ls k            at k the later seconds are below the earlier, and at no place before it
---   NoneBack es ls               at no place are they
---   ComparedHolds es ls room c   what the answer c says, with room for so many differences
+-- What each answer of the comparison says of the readings, apart from how it is found. Exactly one holds (src/theorems,
+-- the_answer_told_holds).
+--   FirstBack rs k               at k the lamp went backwards, and at no place before it
+--   IsComparable rs room         as many readings as a table may have, and room for as many differences
+--   ComparedHolds rs room c      what the answer c says, with room for so many differences
+--   ComparedAs rs out c m        what a comparison leaves where the list out was lent: the answer c, and the list m
 -- Assumes nothing.
-use Rattle.std.specs.Prelude.{ℕ, ◌<◌, ◌≤◌, ◌≡◌, true, false, List, length, get_or}
-use Rattle.service.specs.Differences.{isComparable}
-use Rattle.service.specs.declared.Compared.{Compared}
-use Rattle.service.specs.declared.Compared.TheVariants.{Forwards, Backwards, Refused}
+use Rattle.std.specs.Prelude.{ℕ, ◌<◌, ◌≤◌, ◌≡◌, List, ◌++◌, ℤ, length, drop, All, Option, Some, None, Result}
+use Rattle.std.specs.Prelude.{Ok, Err, OnOk, OnErr}
+use Rattle.std.specs.List.{AllWithin, HoldsAt}
+use Rattle.service.specs.Differences.{IsBackwards, IsForwards, differences}
+use Rattle.service.specs.declared.Reading.{Reading}
+use Rattle.service.specs.declared.TheConstants.{TABLE_MOST}
+use Rattle.service.specs.declared.CompareError.{CompareError}
+use Rattle.service.specs.declared.CompareError.TheVariants.{TooMany, NoRoom}
 
-pub record FirstBack (es ls : List ℕ) (k : ℕ) : Type 0 where
-  pub inside : k < length es
-  pub back : get_or ls k 0 < get_or es k 0
-  pub kept : (j : ℕ) → j < k → get_or es j 0 ≤ get_or ls j 0
+pub record FirstBack (rs : List Reading) (k : ℕ) : Type 0 where
+  pub inside : k < length rs
+  pub back : HoldsAt IsBackwards rs k
+  pub kept : AllWithin IsForwards rs 0 k
 
-abbrev pub NoneBack : List ℕ → List ℕ → Type 0
-NoneBack es ls = (j : ℕ) → j < length es → get_or es j 0 ≤ get_or ls j 0
+pub record IsComparable (rs : List Reading) (room : ℕ) : Type 0 where
+  pub few : length rs ≤ TABLE_MOST
+  pub fits : length rs ≤ room
 
-module _ (es ls : List ℕ) (room : ℕ) where
-  abbrev pub ComparedHolds : Compared → Type 0
-  ComparedHolds Forwards = (isComparable es ls room ≡ true) × NoneBack es ls
-  ComparedHolds (Backwards k) = (isComparable es ls room ≡ true) × FirstBack es ls k
-  ComparedHolds Refused = isComparable es ls room ≡ false
+module _ (rs : List Reading) (room : ℕ) where
+  abbrev pub ComparedHolds : Result (Option ℕ) CompareError → Type 0
+  ComparedHolds (Ok None) = IsComparable rs room × All IsForwards rs
+  ComparedHolds (Ok (Some k)) = IsComparable rs room × FirstBack rs k
+  ComparedHolds (Err TooMany) = TABLE_MOST < length rs
+  ComparedHolds (Err NoRoom) = (length rs ≤ TABLE_MOST) × (room < length rs)
+
+pub record ComparedAs (rs : List Reading) (out : List ℤ) (c : Result (Option ℕ) CompareError) (m : List ℤ)
+    : Type 0 where
+  pub told : ComparedHolds rs (length out) c
+  pub written : OnOk c (m ≡ differences rs ++ drop (length rs) out)
+  pub kept : OnErr c (m ≡ out)

@@ -1,99 +1,70 @@
-// Service reads all lamps each month: two tables of lamp seconds, compared (RULES, Service).
+// Service reads all lamps each month: the seconds of two readings, compared (RULES, Service).
 #![tactic(auto)]
 
+#[cfg(test)]
+mod tests;
 pub mod theorems;
 
-ghost use Rattle.std.specs.Prelude.{◌≡◌, ◌≤◌, length};
-ghost use Rattle.std.proofs.lemmas.List.Edits.{sets};
-ghost use Rattle.service.specs.Differences.{◌minus◌, differences, firstNegative};
-ghost use Rattle.service.specs.Differences.{isComparable, compared, reportOf};
+ghost use Rattle.std.specs.Prelude.{◌≡◌, ◌≤◌, ◌++◌, length, drop, All, MatchOption, OnOk, OnErr};
+ghost use Rattle.service.specs.Differences.{IsForwards, difference_of, differences};
+ghost use Rattle.service.specs.ComparedHolds.{FirstBack, ComparedHolds};
 
-// The places that a table may have.
-const TABLE_MOST: usize = 64;
+/// The most lamps of a table.
+pub const TABLE_MOST: usize = 64;
 
-#[derive(Clone, Copy)]
-pub enum Compared {
-    Forwards,
-    Backwards(usize),
-    Refused,
+/// A lamp's seconds at two readings.
+#[derive(Clone, Copy, Debug, PartialEq, Eq)]
+pub struct Reading {
+    pub earlier: u32,
+    pub later: u32,
 }
 
-// The number of the table, whether a lamp went backwards, and the first place where one did (0 where none did).
-#[repr(C)]
-#[derive(Clone, Copy)]
-pub struct Report {
-    pub number: u32,
-    pub backwards: bool,
-    pub place: usize,
+/// Why readings are not compared.
+#[derive(Clone, Copy, Debug, PartialEq, Eq)]
+pub enum CompareError {
+    /// There are more of them than a table has.
+    TooMany,
+    /// The list for the differences has fewer places.
+    NoRoom,
 }
 
-#[tactic(auto, unfolding(crate::specs::Differences::reportOf))]
-pub fn report_of(c: Compared) -> Report
-    ensures { result ≡ reportOf c }
-{
-    match c {
-        Compared::Forwards => Report {
-            number: 0,
-            backwards: false,
-            place: 0,
-        },
-        Compared::Backwards(k) => Report {
-            number: 0,
-            backwards: true,
-            place: k,
-        },
-        Compared::Refused => Report {
-            number: 3,
-            backwards: false,
-            place: 0,
-        },
+impl Reading {
+    /// The later seconds minus the earlier: below 0 where the lamp went backwards, as one does that was exchanged.
+    pub fn difference(self) -> i64
+        ensures { result ≡ difference_of self }
+    {
+        self.later as i64 - self.earlier as i64
     }
 }
 
-// Any two 32-bit numbers have a difference that fits.
-fn difference(earlier: u32, later: u32) -> i64
-    ensures { result ≡ later minus earlier }
+fn put_differences(readings: &[Reading], out: &mut [i64])
+    requires { length readings.now ≤ length out.old }
+    ensures { out.new ≡ differences readings.now ++ drop (length readings.now) out.old }
 {
-    later as i64 - earlier as i64
-}
-
-fn put_differences(earlier: &[u32], later: &[u32], out: &mut [i64])
-    requires earlier_len { length earlier.now ≡ length later.now }
-    requires earlier_in_bounds { length earlier.now ≤ length out.old }
-    ensures { out.new ≡ sets out.old 0 (differences earlier.now later.now) }
-{
-    for i in 0..earlier.len() {
-        let d = difference(earlier[i], later[i]);
-        out[i] = d;
+    for i in 0..readings.len() {
+        out[i] = readings[i].difference();
     }
 }
 
-fn first_negative(d: &[i64]) -> Compared
-    ensures { result ≡ firstNegative 0 d.now }
+fn first_backwards(readings: &[Reading]) -> Option<usize>
+    ensures { MatchOption result (All IsForwards readings.now) (FirstBack readings.now) }
 {
-    for (i, x) in d.iter().enumerate() {
-        if *x < 0 {
-            return Compared::Backwards(i);
-        }
-    }
-    Compared::Forwards
+    readings.iter().position(|r| r.later < r.earlier)
 }
 
-fn is_comparable(earlier: &[u32], later: &[u32], room: usize) -> bool
-    ensures { result ≡ isComparable earlier.now later.now room }
+/// Writes each lamp's difference, from the first place of `out` on, and gives the first lamp that went backwards, if
+/// one did. Later places of `out` stay as they were, and all of them where the readings are not compared.
+pub fn compare(readings: &[Reading], out: &mut [i64]) -> Result<Option<usize>, CompareError>
+    ensures told { ComparedHolds readings.now (length out.old) result }
+    ensures written { OnOk result (out.new ≡ differences readings.now ++ drop (length readings.now) out.old) }
+    ensures kept { OnErr result (out.new ≡ out.old) }
 {
-    let n = earlier.len();
-    (n == later.len()) & (n <= TABLE_MOST) & (n <= room)
-}
-
-// Each place's difference from the first place of `out` on, and the first place where the lamp went backwards.
-pub fn compare(earlier: &[u32], later: &[u32], out: &mut [i64]) -> Compared
-    ensures value { result ≡ (compared earlier.now later.now (length out.old)).told }
-    ensures out_after { out.new ≡ sets out.old 0 (compared earlier.now later.now (length out.old)).written }
-{
-    if !is_comparable(earlier, later, out.len()) {
-        return Compared::Refused;
+    if TABLE_MOST < readings.len() {
+        return Err(CompareError::TooMany);
     }
-    put_differences(earlier, later, out);
-    first_negative(&out[..earlier.len()])
+    if out.len() < readings.len() {
+        return Err(CompareError::NoRoom);
+    }
+    put_differences(readings, out);
+    Ok(first_backwards(readings))
 }

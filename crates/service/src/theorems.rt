@@ -1,25 +1,35 @@
-// What is proved beside the contracts of the functions. Nothing is done here: that these functions have their contracts
-// is that the theorems stand.
-ghost use Rattle.std.specs.Prelude.{◌≡◌, List, ℕ, ℤ, length};
-ghost use Rattle.std.proofs.lemmas.List.Edits.{sets};
-ghost use Rattle.service.specs.ComparedHolds.{ComparedHolds};
-ghost use Rattle.service.specs.Differences.{compared, reportOf};
-ghost use Rattle.service.specs.declared.Compared.{Compared};
-ghost use Rattle.service.specs.declared.Report.{Report};
+// What is proved beside the contracts of the functions. Nothing is done here that they do not do: that these functions
+// have their contracts is that the theorems stand.
+ghost use Rattle.std.specs.Prelude.{◌≡◌, ◌↔◌, List, ℕ, ℤ, Result, Option, length, pos, ◌+ℤ◌, ◌<ℤ◌};
+ghost use Rattle.service.specs.ComparedHolds.{ComparedHolds, ComparedAs};
+ghost use Rattle.service.specs.Differences.{difference_of, IsBackwards};
+ghost use Rattle.service.specs.declared.Reading.{Reading};
+ghost use Rattle.service.specs.declared.CompareError.{CompareError};
 
-/// What is told of two tables holds, and what holds is told: the place is the lowest one where the lamp went backwards,
+use crate::{CompareError, Reading, compare};
+
+/// What is told of readings holds, and what holds is told: the place is the lowest one where the lamp went backwards,
 /// and none is told exactly where it went backwards nowhere.
-pub fn the_answer_told_holds()
-    ensures told_holds { (es ls : List ℕ) (room : ℕ) → ComparedHolds es ls room (compared es ls room).told }
-    ensures holds_told { (es ls : List ℕ) (room : ℕ) (c : Compared)
-        → ComparedHolds es ls room c → (compared es ls room).told ≡ c }
+pub fn the_answer_told_holds(
+    readings: &[Reading],
+    out: &mut [i64],
+) -> Result<Option<usize>, CompareError>
+    ensures told_holds { ComparedHolds readings.now (length out.old) result }
+    ensures holds_told { (c : Result (Option ℕ) CompareError)
+        → ComparedHolds readings.now (length out.old) c → result ≡ c }
+{
+    compare(readings, out)
+}
+
+/// Two results that meet the promise of a call are equal, the list of differences included.
+pub fn one_result()
+    ensures { (rs : List Reading) (out : List ℤ) (b c : Result (Option ℕ) CompareError) (m n : List ℤ)
+        → ComparedAs rs out b m → ComparedAs rs out c n → (b ≡ c) × (m ≡ n) }
 {}
 
-/// Two results that meet the promise of a call are equal, the result list included.
-pub fn one_result()
-    ensures comparison { (es ls : List ℕ) (out : List ℤ) (r s : Compared) (m n : List ℤ)
-        → let c = compared es ls (length out) in
-        (r ≡ c.told) × (m ≡ sets out 0 c.written)
-        → (s ≡ c.told) × (n ≡ sets out 0 c.written) → (r ≡ s) × (m ≡ n) }
-    ensures report { (c : Compared) (r s : Report) → r ≡ reportOf c → s ≡ reportOf c → r ≡ s }
+/// A difference is exact: with the earlier seconds it comes to the later, and it is below 0 exactly where the lamp went
+/// backwards.
+pub fn a_difference_is_exact()
+    ensures sum { (r : Reading) → pos r.earlier +ℤ difference_of r ≡ pos r.later }
+    ensures sign { (r : Reading) → (difference_of r <ℤ pos 0) ↔ IsBackwards r }
 {}

@@ -40,11 +40,7 @@ fn settings_of(wanted: &Wanted<'_>) -> Settings
         class_number: class,
         serial: fill::text_of(wanted.class.serial()),
         version: fill::text_of(wanted.class.version()),
-        names: fill::names_of(
-            names,
-            lengths,
-            class::only_in_2(class, input_count),
-        ),
+        names: fill::names_of(names, lengths, class::only_in_2(class, input_count)),
     }
 }
 

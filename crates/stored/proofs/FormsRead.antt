@@ -21,7 +21,6 @@ use Rattle.record.specs.declared.types.Setting.{Setting}
 use Rattle.record.specs.declared.types.Setting.TheVariants.{Inputs, Lamps, WarmUp, Cooling}
 use Rattle.record.proofs.Rules.{lamps-within}
 use Rattle.record.proofs.OutOfRange.{each-in-range}
-use Rattle.record.proofs.SettingsTold.{stretch-told}
 use Rattle.record.proofs.Started.{inputs-halved}
 use Rattle.form.specs.Form.{section, textSection, secondsBytes, formWith}
 use Rattle.form.proofs.Seconds.{seconds-long}
@@ -35,6 +34,7 @@ use Rattle.stored.proofs.Sections.{count-read, items-from, items-read, rest_read
 use Rattle.stored.proofs.Versions.{HasMarks}
 use Rattle.stored.proofs.Rest.{restTexts, rest-told, HasRest}
 use Rattle.stored.proofs.Contents.{settings-lent, settings-by}
+use Rattle.record.proofs.FactsTold.{stretch_is}
 
 in-turn : (v : ℕ) (a b c d e f g h i j k t : List ℕ) → (v ∷ (a ++ b ++ c ++ d ++ e ++ f ++ g ++ h ++ i ++ j ++ k)) ++ t
     ≡ v ∷ (a ++ (b ++ (c ++ (d ++ (e ++ (f ++ (g ++ (h ++ (i ++ (j ++ (k ++ t)))))))))))
@@ -178,12 +178,12 @@ module _ (v : ℕ) (marks rest : List ℕ) (has : HasMarks v marks) (w : Wanted)
   warm-read : number_in (take 2 (drop q.warm s)) ≡ w.warm
   warm-read =
       ap (λ (l : List ℕ). number_in (take 2 l)) at-warm
-      ∙ short w.warm from-cool (stretch-told w.warm (met WarmUp)).high
+      ∙ short w.warm from-cool ((stretch_is w.warm).0 (met WarmUp)).high
 
   cool-read : number_in (take 2 (drop (q.warm + 2) s)) ≡ w.cool
   cool-read =
       ap (λ (l : List ℕ). number_in (take 2 l)) at-cool
-      ∙ short w.cool from-class (stretch-told w.cool (met Cooling)).high
+      ∙ short w.cool from-class ((stretch_is w.cool).0 (met Cooling)).high
 
   -- the class and its texts
   inputs-many : s at q.inputs ≡ length w.inputs / 2

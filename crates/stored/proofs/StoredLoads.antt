@@ -9,15 +9,15 @@ use mathlib.Core.List.{List, [], ◌∷◌, map}
 use native.Mathlib.Omega.{arith}
 use lib.ListN.{length, take, length-map}
 use lib.Seq.{length-take-le}
-use borrow.Author.Tests.{eq-eqb, le-leb}
+use borrow.Author.Tests.{eq-eqb}
 use Rattle.text.specs.Scans.{every}
 use Rattle.text.proofs.Choices.{both, both_left, both_right}
 use Rattle.text.proofs.Scanning.{every_map}
 use Rattle.lines.specs.Texts.{isText, isInfo, isPassword, isInputName, infoMost, inputNameMost}
 use Rattle.lines.proofs.TextsTold.{name-long, info-long, password-long, input-name-long}
-use Rattle.record.specs.Limits.{textRoom, inputRoom, lampsMost, stretchMost, onlyIn2}
+use Rattle.record.specs.Limits.{textRoom, inputRoom, lampsMost, onlyIn2}
 use Rattle.record.specs.Wanted.{Wanted, wantedIn}
-use Rattle.record.specs.Rules.{isLongEnough, isStretch, isInputs, isLamps, isMarks, areNames}
+use Rattle.record.specs.Rules.{isLongEnough, isInputs, isLamps, isMarks, areNames}
 use Rattle.record.specs.Updates.{withOwn, withMarks}
 use Rattle.record.specs.Record.{inRoom, name_of, namesKept, started, accepted}
 use Rattle.record.specs.Legal.{fillsNameRoom, isLegal}
@@ -29,7 +29,7 @@ use Rattle.record.specs.declared.types.Setting.TheVariants.{Lamps, WarmUp, Cooli
 use Rattle.record.proofs.Kept.{kept-told, kept-length, filled-take}
 use Rattle.record.proofs.Rules.{inputs-few, lamps-few, only-in-2-within, names-many, names-each, names-shown, text-most}
 use Rattle.record.proofs.NamesTold.{names-first}
-use Rattle.record.proofs.SettingsTold.{StretchTold, input-count-high}
+use Rattle.record.proofs.SettingsTold.{input-count-high}
 use Rattle.record.proofs.LegalTold.{settings-of-legal, own-of-legal}
 use Rattle.record.proofs.OutOfRange.{each-in-range}
 use Rattle.record.proofs.InRange.{in-range-shown}
@@ -40,9 +40,7 @@ use Rattle.form.proofs.FormLong.{stored-long}
 use Rattle.stored.specs.Loading.{markRoom, isMarksOf, startedWith, loaded}
 use Rattle.stored.proofs.MarkBytes.{room-again, room-front}
 use Rattle.stored.proofs.FormsLoad.{form-loads}
-
-in-stretch : (n : ℕ) → StretchTold n → isStretch n ≡ true
-in-stretch n t = both (le-leb 1 n t.low) (le-leb n stretchMost t.high)
+use Rattle.record.proofs.FactsTold.{stretch_is}
 
 module _ (d : Device) (h : isLegal d ≡ true) where
   in-range : (s : Setting) → isSettingInRange (storedOf d) s ≡ true
@@ -53,8 +51,8 @@ module _ (d : Device) (h : isLegal d ≡ true) where
   in-range Password = (settings-of-legal d h).password.follows
   in-range Inputs = (settings-of-legal d h).inputs.follows
   in-range Lamps = (own-of-legal d h).lamps.follows
-  in-range WarmUp = in-stretch d.settings.warm (settings-of-legal d h).warm
-  in-range Cooling = in-stretch d.settings.cool (settings-of-legal d h).cool
+  in-range WarmUp = (stretch_is d.settings.warm).1 (settings-of-legal d h).warm
+  in-range Cooling = (stretch_is d.settings.cool).1 (settings-of-legal d h).cool
   in-range Serial = (settings-of-legal d h).serial.follows
   in-range Version = (settings-of-legal d h).version.follows
   in-range Names =
@@ -75,7 +73,7 @@ module _ (d : Device) (h : isLegal d ≡ true) where
   pub stored-in-range : isSetUp (storedOf d) ≡ true
   stored-in-range =
       let told = settings-of-legal d h in
-      let long = ap isLongEnough (kept-length textRoom isPassword _ _ told.password) ∙ told.long-enough in
+      let long = ap isLongEnough (kept-length textRoom isPassword _ _ told.password) ∙ told.long_enough in
       set-up-shown (storedOf d) (in-range-shown (storedOf d) in-range) long
 
   abbrev many : ℕ

@@ -16,8 +16,8 @@ use crate::layout::{MARKED_VERSION, Places};
 use crate::{layout, reading};
 use form::storing::VERSION;
 use numbers::highest;
+use record::scan;
 use record::types::{Device, INPUTS_MOST, LAMPS_MOST};
-use record::{own, scan};
 use setup::wanted::{Class, Wanted};
 
 fn is_other_version(s: &[u8]) -> bool
@@ -114,7 +114,7 @@ fn enabled(d: Device, s: &[u8]) -> Result<Device, LoadError>
     }
     let mut device = d;
     device.own.enabled = reading::marks_of(s);
-    if !own::own_ok(&device.settings, &device.own) {
+    if !device.own.is_legal(&device.settings) {
         return Err(LoadError::NotLegal);
     }
     Ok(device)

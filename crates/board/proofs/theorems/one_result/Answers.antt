@@ -1,6 +1,6 @@
 use Rattle.text.proofs.OneResult.{one-result}
-use Rattle.board.proofs.OneResult.{one-writing-by, one-reading-by, one-flat-greeting, one-flat-verdict, one-flat-plan}
-use Rattle.board.proofs.OneResult.{one_panel_sent}
+use Rattle.board.proofs.OneResult.{one-writing-by, one-reading-by, one-flat-greeting, one_panel_sent}
+use Rattle.board.proofs.OneOfLists.{one_flat_verdict, one_flat_plan, one_report}
 use Rattle.board.proofs.WhichSetting.{one-which}
 use Rattle.board.proofs.theorems.one_result.Goals as goal
 
@@ -11,9 +11,9 @@ returns c = record {
       (record { told = p.0; memory = p.1 }) (record { told = q.0; memory = q.1 });
   reply_read = λ k l r s. one-reading-by k l;
   greeting_read = λ l r s. one-flat-greeting l;
-  verdict = λ d a r s. one-flat-verdict d a;
-  plan = λ d out r s m n p q.
-      one-flat-plan d out (record { told = p.0; memory = p.1 }) (record { told = q.0; memory = q.1 });
+  verdict = one_flat_verdict;
+  plan = one_flat_plan;
+  comparison = one_report;
   panel_made = λ r s. one-result;
   projector_added = λ p password r s. one-result;
   command_sent = λ p i k out r s m n q t.

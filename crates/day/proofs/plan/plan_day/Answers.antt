@@ -1,51 +1,43 @@
--- What is out of range is told first; the rigs are written where all jobs have one, and only there.
-use Rattle.std.proofs.Common.{List, ℕ, length, take, arith, sym, ap, ◌∙◌}
-use Rattle.text.specs.Words.{over}
-use Rattle.text.proofs.Stores.{sets_over}
-use Rattle.day.proofs.Ranges.{few-jobs, few-rigs}
-use Rattle.day.proofs.Placing.{plan-no-day, plan-no-room, plan-fails, plan-made}
+use Rattle.std.proofs.Common.{◌+◌, List, refl, sym, subst}
+use Rattle.std.specs.Prelude.{All}
+use Rattle.std.proofs.Math.ListN.{get_or}
+use Rattle.std.proofs.lemmas.Option.{slice_get-get_or}
+use Rattle.day.specs.Days.{IsJob}
+use Rattle.day.specs.Rules.{Keeps}
+use Rattle.day.specs.Plans.{LowestRig, FindsNone}
+use Rattle.day.specs.declared.Placement.{Placement}
+use Rattle.day.proofs.Greedily.{nobody, Going, going_more, greedy_kept, all_in_range}
 use Rattle.day.proofs.plan.plan_day.Goals as goal
 
-pub returns-then-not-is_day-clause-value : goal.returns-then-not-is_day-clause-value
-returns-then-not-is_day-clause-value c = (plan-no-day _ _ (sym c.if-not-is_day.ensures)).0
+pub lowest_rig-requires-clause-all_in_range : goal.lowest_rig-requires-clause-all_in_range
+lowest_rig-requires-clause-all_in_range c =
+    let day = c.if-not-is_day.ensures.0 refl in
+    subst (λ (s : List Placement). All (λ p. IsJob p.job) s) (sym c.placements.ensures)
+    (all_in_range _ _ _ c.loop-j.invariant.before day.all_jobs)
 
-pub returns-then-not-is_day-clause-out_after : goal.returns-then-not-is_day-clause-out_after
-returns-then-not-is_day-clause-out_after c =
-    ap (λ (r : List ℕ). over r c.args.out.now) (sym (plan-no-day _ _ (sym c.if-not-is_day.ensures)).1)
+pub lowest_rig-requires-clause-keeping : goal.lowest_rig-requires-clause-keeping
+lowest_rig-requires-clause-keeping c =
+    subst (Keeps c.args.rigs.now) (sym c.placements.ensures) (greedy_kept _ _ c.loop-j.invariant.greedy)
 
-pub returns-then-out-starts-clause-value : goal.returns-then-out-starts-clause-value
-returns-then-out-starts-clause-value c = (plan-no-room _ _ (sym c.if-not-is_day.ensures) c.if-out-starts.true).0
+pub returns-in-None : goal.returns-in-None
+returns-in-None c = (
+  c.if-not-is_day.ensures.0 refl,
+  record {
+    placed = c.loop-j.plan;
+    before = c.loop-j.invariant.before;
+    greedy = c.loop-j.invariant.greedy;
+    job = get_or c.args.jobs.now c.loop-j.j nobody.job;
+    next = slice_get-get_or c.args.jobs.now c.loop-j.j nobody.job c.loop-j-test.true;
+    none = subst (λ (s : List Placement). FindsNone c.args.rigs.now s (get_or c.args.jobs.now c.loop-j.j nobody.job))
+        c.placements.ensures c.in-None.ensures;
+  },
+)
 
-pub returns-then-out-starts-clause-out_after : goal.returns-then-out-starts-clause-out_after
-returns-then-out-starts-clause-out_after c =
-    ap (λ (r : List ℕ). over r c.args.out.now)
-    (sym (plan-no-room _ _ (sym c.if-not-is_day.ensures) c.if-out-starts.true).1)
-
-pub place-placing-requires : goal.place-placing-requires
-place-placing-requires c = (few-jobs _ (sym c.if-not-is_day.ensures), few-rigs _ (sym c.if-not-is_day.ensures))
-
-pub returns-then-count-starts-clause-value : goal.returns-then-count-starts-clause-value
-returns-then-count-starts-clause-value c =
-    (plan-fails _ _ (sym c.if-not-is_day.ensures) c.if-out-starts.false c.place-placing.ensures.counted
-    c.if-count-starts.true).0
-
-pub returns-then-count-starts-clause-out_after : goal.returns-then-count-starts-clause-out_after
-returns-then-count-starts-clause-out_after c =
-    ap (λ (r : List ℕ). over r c.args.out.now)
-    (sym (plan-fails _ _ (sym c.if-not-is_day.ensures) c.if-out-starts.false c.place-placing.ensures.counted
-    c.if-count-starts.true).1)
-
-pub returns-clause-value : goal.returns-clause-value
-returns-clause-value c =
-    (plan-made _ _ (sym c.if-not-is_day.ensures) c.if-out-starts.false c.place-placing.ensures.counted
-    c.if-count-starts.false).0
-
-pub returns-clause-out_after : goal.returns-clause-out_after
-returns-clause-out_after c =
-    c.put.ensures
-    ∙ sets_over (take c.place-placing.result.count c.place-placing.result.rigs) c.args.out.now
-    (omega (arith, ap length c.place-placing.ensures.placed))
-    ∙ ap (λ (r : List ℕ). over r c.args.out.now)
-    (c.place-placing.ensures.placed
-    ∙ sym (plan-made _ _ (sym c.if-not-is_day.ensures) c.if-out-starts.false c.place-placing.ensures.counted
-    c.if-count-starts.false).1)
+pub loop-j-preserved : goal.loop-j-preserved
+loop-j-preserved c =
+    subst (λ (s : List Placement). Going c.args.jobs.now c.args.rigs.now s (c.loop-j.j + 1)) (sym c.push.ensures)
+    (going_more _ _ c.loop-j.invariant c.loop-j-test.true nobody.job
+    (subst
+    (λ (s : List Placement).
+    LowestRig c.args.rigs.now s (get_or c.args.jobs.now c.loop-j.j nobody.job) c.in-Some.rig)
+    c.placements.ensures c.in-Some.ensures))

@@ -1,9 +1,8 @@
-use Rattle.day.proofs.VerdictHolds.{verdict-told-holds, verdict-holds-told, one-verdict-holds}
+use Rattle.day.proofs.OneVerdict.{one_verdict}
 use Rattle.day.proofs.theorems.the_verdict_told_holds.Goals as goal
 
-pub returns : goal.returns
-returns c = record {
-  told_holds = verdict-told-holds;
-  holds_told = verdict-holds-told;
-  one_holds = one-verdict-holds;
-}
+pub returns-clause-holds_told : goal.returns-clause-holds_told
+returns-clause-holds_told c = λ v w. one_verdict _ _ _ v c.check_day.ensures w
+
+pub returns-clause-one_holds : goal.returns-clause-one_holds
+returns-clause-one_holds c = one_verdict

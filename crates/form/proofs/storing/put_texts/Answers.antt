@@ -1,11 +1,11 @@
 -- Each text stands after the one before it.
 use Rattle.std.proofs.Common.{[], ◌∷◌, refl}
 use Rattle.text.proofs.Written.{Wrote}
-use Rattle.record.proofs.SettingsTold.{settings-told}
 use Rattle.form.specs.Form.{formVersion}
 use Rattle.form.proofs.FormLong.{sized}
 use Rattle.form.proofs.Written.{wrote-text}
 use Rattle.form.proofs.storing.put_texts.Goals as goal
+use Rattle.record.proofs.FactsTold.{settings_is}
 
 pub put_text-maker-requires-clause-len_le_text_room : goal.put_text-maker-requires-clause-len_le_text_room
 put_text-maker-requires-clause-len_le_text_room c = (sized c.args.s.now c.requires.s_value).name
@@ -24,7 +24,7 @@ put_text-requires-clause-len_le_text_room c = (sized c.args.s.now c.requires.s_v
 
 pub returns-clause-out_after : goal.returns-clause-out_after
 returns-clause-out_after c =
-    let t = settings-told c.args.s.now c.requires.s_value in
+    let t = (settings_is c.args.s.now).0 c.requires.s_value in
     let out = c.args.out.now in
     let s = c.args.s.now in
     let w0 : Wrote out 0 _ 1 (formVersion ∷ []) = record { bytes = c.put.ensures; place = refl } in

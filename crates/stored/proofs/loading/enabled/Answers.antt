@@ -14,21 +14,21 @@ use Rattle.stored.proofs.loading.enabled.Goals as goal
 pub marks_of-device-requires : goal.marks_of-device-requires
 marks_of-device-requires c = omega (arith, (settings-of-legal c.args.d c.requires).lamps)
 
-pub returns-then-not-own_ok : goal.returns-then-not-own_ok
-returns-then-not-own_ok c =
+pub returns-then-not-is_legal : goal.returns-then-not-is_legal
+returns-then-not-is_legal c =
     let d = c.args.d in
     let bytes = c.args.s.now in
     let n = d.settings.lamp_count in
     let marked = withMarks d.own (markRoom (map isMarked bytes)) in
     let o = own-of-legal d c.requires in
-    let tested : c.own_ok.result ≡ isOwn d.settings marked =
-    c.own_ok.ensures ∙ ap (λ (l : List Bool). isOwn d.settings (withMarks d.own l)) c.marks_of-device.ensures in
+    let tested : c.is_legal.result ≡ isOwn d.settings marked =
+    c.is_legal.ensures ∙ ap (λ (l : List Bool). isOwn d.settings (withMarks d.own l)) c.marks_of-device.ensures in
     sym
     (if_no _ _
     (by-not (areMarks n bytes)
     (λ h.
     false≢true
-    (sym c.if-not-own_ok.true
+    (sym c.if-not-is_legal.true
     ∙ tested
     ∙ (own_is d.settings marked).1 (assumption (o, (marks-told n bytes h).legal))))))
 
@@ -37,9 +37,9 @@ returns c =
     let d = c.args.d in
     let bytes = c.args.s.now in
     let marked = withMarks d.own (markRoom (map isMarked bytes)) in
-    let tested : c.own_ok.result ≡ isOwn d.settings marked =
-    c.own_ok.ensures ∙ ap (λ (l : List Bool). isOwn d.settings (withMarks d.own l)) c.marks_of-device.ensures in
-    let legal = (own_is d.settings marked).0 (sym tested ∙ c.if-not-own_ok.false) in
+    let tested : c.is_legal.result ≡ isOwn d.settings marked =
+    c.is_legal.ensures ∙ ap (λ (l : List Bool). isOwn d.settings (withMarks d.own l)) c.marks_of-device.ensures in
+    let legal = (own_is d.settings marked).0 (sym tested ∙ c.if-not-is_legal.false) in
     let shown = are-marks-shown d.settings.lamp_count bytes (record {
       each = sym c.bytes_within.ensures ∙ c.if-not-bytes_within.false;
       many = omega arith;

@@ -1,0 +1,9 @@
+-- The places passed have what the lists have there.
+use Rattle.std.proofs.Common.{◌≡◌, take}
+use Rattle.std.specs.Prelude.{map}
+use Rattle.std.specs.List.{range_with_len}
+use Rattle.board.specs.Lists.{reading_from}
+use Rattle.board.proofs.lists.put_readings.Given as goal
+
+abbrev pub invariant-loop-k : goal.invariant-loop-k
+invariant-loop-k l = take l.k l.readings ≡ map (reading_from l.earlier l.later) (range_with_len 0 l.k)

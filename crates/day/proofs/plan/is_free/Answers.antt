@@ -1,7 +1,0 @@
-use Rattle.std.proofs.Common.{rules}
-use Rattle.std.proofs.iter.runs.Sources.{ranges}
-use Rattle.day.proofs.Finding.{each-by}
-use Rattle.day.proofs.plan.is_free.Goals as goal
-
-pub returns : goal.returns
-returns c = each-by _ _ _ (search (rules, ranges)) (search (rules, ranges))
