@@ -8,10 +8,7 @@ use mathlib.Core.Bool.{Bool, true, not, ◌&&◌}
 use mathlib.Core.List.{List}
 use native.Mathlib.Omega.{arith}
 use lib.ListN.{length, get_or, drop}
-use lib.Dec.{leb, eqb}
-use borrow.Author.Tests.{leb-true, le-leb, eqb-true, eq-eqb}
 use Rattle.text.specs.Scans.{every}
-use Rattle.text.proofs.Choices.{both, both_left, both_right}
 use Rattle.text.proofs.Scanning.{every-at}
 use Rattle.lines.specs.Texts.{isPassword}
 use Rattle.record.specs.Limits.{textRoom}
@@ -37,22 +34,16 @@ pub record EntryTold (e : Entry) : Type 0 where
 module _ (e : Entry) where
   pub entry-told : isEntry e ≡ true → EntryTold e
   unfolding isEntry
-  entry-told h =
-      let password = fillsTextRoom isPassword e.password in
-      let talk = isTalk (talkOf e) in
-      let three = both_left (password && talk && isShown (shownOf e)) (leb e.strays straysMost) h in
-      let two = both_left (password && talk) (isShown (shownOf e)) three in
-      record {
-        password = both_left password talk two;
-        talk = both_right password talk two;
-        shown = both_right (password && talk) (isShown (shownOf e)) three;
-        strays = leb-true e.strays straysMost
-            (both_right (password && talk && isShown (shownOf e)) (leb e.strays straysMost) h);
-      }
+  entry-told h = record {
+    password = grind (arith, h);
+    talk = grind (arith, h);
+    shown = grind (arith, h);
+    strays = grind (arith, h);
+  }
 
   pub entry-legal : EntryTold e → isEntry e ≡ true
   unfolding isEntry
-  entry-legal k = both (both (both k.password k.talk) k.shown) (le-leb e.strays straysMost k.strays)
+  entry-legal k = grind (arith, k.password, k.talk, k.shown, k.strays)
 
   -- its password is in its room, and one that the writer takes
   module _ (legal : isEntry e ≡ true) where
@@ -73,26 +64,16 @@ pub record PanelTold (p : Panel) : Type 0 where
 module _ (p : Panel) where
   pub panel-told : isPanel p ≡ true → PanelTold p
   unfolding isPanel isEntries
-  panel-told h =
-      let few = leb p.count panelMost in
-      let eight = eqb (length p.entries) panelMost in
-      let each = every isEntry p.entries in
-      let rest = every isUnused (drop p.count p.entries) in
-      let two = both_left (few && (eight && each)) rest h in
-      let all = both_right few (eight && each) two in
-      record {
-        count = leb-true p.count panelMost (both_left few (eight && each) two);
-        long = eqb-true (length p.entries) panelMost (both_left eight each all);
-        entries = both_right eight each all;
-        unused = both_right (few && (eight && each)) rest h;
-      }
+  panel-told h = record {
+    count = grind (arith, h);
+    long = grind (arith, h);
+    entries = grind (arith, h);
+    unused = grind (arith, h);
+  }
 
   pub panel-legal : PanelTold p → isPanel p ≡ true
   unfolding isPanel isEntries
-  panel-legal k =
-      let few = le-leb p.count panelMost k.count in
-      let eight = eq-eqb (length p.entries) panelMost k.long in
-      both (both few (both eight k.entries)) k.unused
+  panel-legal k = grind (arith, k.count, k.long, k.entries, k.unused)
 
   module _ (legal : isPanel p ≡ true) (i : ℕ) (there : i < p.count) where
     pub place-below : i < panelMost

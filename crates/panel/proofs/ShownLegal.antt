@@ -11,7 +11,7 @@ use lib.Seq.{sets-eq, drop-append_seam}
 use lib.Dec.{leb}
 use borrow.Author.Tests.{le-leb, eq-eqb}
 use Rattle.text.specs.Scans.{every}
-use Rattle.text.proofs.Choices.{both, both_left, both_right}
+use Rattle.text.proofs.Choices.{both}
 use Rattle.text.proofs.Scanning.{every_map}
 use Rattle.lines.specs.Inputs.{isInput}
 use Rattle.lines.specs.declared.input.Source.{Source}
@@ -46,16 +46,11 @@ pub record ShownTold (s : Shown) : Type 0 where
 module _ (s : Shown) where
   pub shown-told : isShown s ≡ true → ShownTold s
   unfolding isShown
-  shown-told h =
-      let power = isPowerShown s.powerKnown s.power in
-      let input = isInputShown s.inputKnown s.inputType s.inputNumber in
-      let lamps = isLampsShown s.lampsKnown s.lampCount s.hours s.lit in
-      let two = both_left (power && input) lamps h in
-      record {
-        power = both_left power input two;
-        input = both_right power input two;
-        lamps = both_right (power && input) lamps h;
-      }
+  shown-told h = record {
+    power = grind (arith, h);
+    input = grind (arith, h);
+    lamps = grind (arith, h);
+  }
 
   pub shown-legal : ShownTold s → isShown s ≡ true
   unfolding isShown

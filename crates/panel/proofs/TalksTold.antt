@@ -4,6 +4,7 @@
 use Prim.Native.Nat.{ℕ}
 use mathlib.Core.Path.{◌≡◌, refl, sym, ap, ◌∙◌}
 use mathlib.Core.Bool.{Bool, true, false, not, ◌&&◌, ◌||◌}
+use native.Mathlib.Omega.{arith}
 use lib.Dec.{leb, eqb}
 use Rattle.text.proofs.Choices.{if_yes, both, both_left, both_right}
 use Rattle.codes.specs.Commands.{commandOf}
@@ -25,14 +26,11 @@ pub record TalkTold (t : Talk) : Type 0 where
 module _ (t : Talk) where
   pub talk-told : isTalk t ≡ true → TalkTold t
   unfolding isTalk
-  talk-told h =
-      let low = leb t.greeting greetedSecured in
-      let two = both_left (low && secured-or-none t) (isCommandKept t) h in
-      record {
-        greeting = both_left low (secured-or-none t) two;
-        secrets = both_right low (secured-or-none t) two;
-        command = both_right (low && secured-or-none t) (isCommandKept t) h;
-      }
+  talk-told h = record {
+    greeting = grind (arith, h);
+    secrets = grind (arith, h);
+    command = grind (arith, h);
+  }
 
   module _ (legal : isTalk t ≡ true) (waits : t.underWay ≡ true) where
     pub kept-parts : (not (eqb t.greeting ungreeted) && isNamed (commandOf t.command)) ≡ true

@@ -2,14 +2,13 @@
 -- Assumes nothing.
 use Prim.Native.Nat.{ℕ, ◌<◌, ◌≤◌, ◌+◌, ◌-◌}
 use mathlib.Core.Path.{◌≡◌, refl, sym, ap, ◌∙◌}
-use mathlib.Core.Bool.{Bool, true, false, not, ◌&&◌, ◌||◌, false≢true}
+use mathlib.Core.Bool.{Bool, true, false, not, ◌&&◌}
 use mathlib.Core.List.{List, [], ◌∷◌}
 use native.Mathlib.Omega.{arith}
 use lib.ListN.{length, get_or, drop, replicate, length-drop}
 use lib.Seq.{get_or-drop}
 use lib.Dec.{eqb}
 use borrow.Author.Tests.{eqb-true, not-true}
-use Rattle.std.specs.Prelude.{if◌then◌else◌}
 use Rattle.text.specs.Scans.{every}
 use Rattle.text.proofs.Choices.{both_left, both_right}
 use Rattle.text.proofs.Scanning.{every-at}
@@ -19,9 +18,8 @@ use Rattle.record.specs.Record.{zeros}
 use Rattle.record.specs.Legal.{is_zero, fillsRoom}
 use Rattle.record.proofs.Kept.{kept-told}
 use Rattle.answers.specs.Carried.{lampsCarried}
-use Rattle.codes.specs.Commands.{commandOf}
 use Rattle.panel.specs.Entries.{talkOf, shownOf, ungreeted, blankEntry}
-use Rattle.panel.specs.LegalPanels.{isNamed, isNoneCoded, isCommandKept, isPowerShown, isInputShown, isLampCount}
+use Rattle.panel.specs.LegalPanels.{isNoneCoded, isCommandKept, isPowerShown, isInputShown, isLampCount}
 use Rattle.panel.specs.LegalPanels.{isHours, isLitRoom, isLampsShown, isEntry, isUnused, isPanel}
 use Rattle.panel.specs.PanelCalls.{entry_at}
 use Rattle.panel.specs.declared.types.Entry.{Entry}
@@ -61,30 +59,14 @@ pub record UnusedTold (e : Entry) : Type 0 where
 
 pub unused-told : (e : Entry) → isUnused e ≡ true → UnusedTold e
 unfolding isUnused
-unused-told e h =
-    let a = eqb e.password.len 0 in
-    let b = eqb e.greeting ungreeted in
-    let c = not e.power_known in
-    let d = not e.input_known in
-    let f = not e.lamps_known in
-    let g = eqb e.strays 0 in
-    let five = both_left (a && b && c && d && f) g h in
-    let four = both_left (a && b && c && d) f five in
-    let three = both_left (a && b && c) d four in
-    let two = both_left (a && b) c three in
-    record {
-      len = eqb-true e.password.len 0 (both_left a b two);
-      greeting = eqb-true e.greeting ungreeted (both_right a b two);
-      power = not-true e.power_known (both_right (a && b) c three);
-      input = not-true e.input_known (both_right (a && b && c) d four);
-      lamps = not-true e.lamps_known (both_right (a && b && c && d) f five);
-      strays = eqb-true e.strays 0 (both_right (a && b && c && d && f) g h);
-    }
-
--- without a greeting nothing is under way
-resting : (w g n z : Bool) → g ≡ true → (if w then not g && n else z) ≡ true → (w ≡ false) × (z ≡ true)
-resting true g n z greeted h = absurd (false≢true (sym (ap not greeted) ∙ both_left (not g) n h))
-resting false g n z greeted h = (refl, h)
+unused-told e h = record {
+  len = grind (arith, h);
+  greeting = grind (arith, h);
+  power = grind (arith, h);
+  input = grind (arith, h);
+  lamps = grind (arith, h);
+  strays = grind (arith, h);
+}
 
 module _ (e : Entry) (legal : isEntry e ≡ true) (unused : isUnused e ≡ true) where
   abbrev told : EntryTold e
@@ -100,39 +82,29 @@ module _ (e : Entry) (legal : isEntry e ≡ true) (unused : isUnused e ≡ true)
   shown = shown-told (shownOf e) told.shown
 
   secrets : (eqb e.random 0 && not e.led) ≡ true
-  secrets = sym (ap (λ (n : ℕ). eqb n 2 || (eqb e.random 0 && not e.led)) none.greeting) ∙ talk.secrets
+  secrets = grind (arith, talk.secrets, none.greeting)
 
   rests : (e.under_way ≡ false) × (isNoneCoded e.command ≡ true)
   unfolding isCommandKept
-  rests =
-      resting e.under_way (eqb e.greeting ungreeted) (isNamed (commandOf e.command))
-      (isNoneCoded e.command) (ap (λ (n : ℕ). eqb n ungreeted) none.greeting) talk.command
+  rests = (grind (arith, talk.command, none.greeting), grind (arith, talk.command, none.greeting))
 
   no_power : e.power ≡ 0
   unfolding isPowerShown
-  no_power = eqb-true e.power 0
-      (sym (ap (λ (k : Bool). isPowerShown k e.power) none.power) ∙ shown.power)
+  no_power = grind (arith, none.power, shown.power)
 
   no-input : (eqb e.input_type 0 && eqb e.input_number 0) ≡ true
   unfolding isInputShown
-  no-input =
-      sym (ap (λ (k : Bool). isInputShown k e.input_type e.input_number) none.input) ∙ shown.input
+  no-input = grind (arith, none.input, shown.input)
 
   lamp-parts : (isLampCount e.lamps_known e.lamp_count ≡ true)
       × ((fillsRoom lampsCarried isHours e.hours e.lamp_count ≡ true)
       × (isLitRoom e.lit e.lamp_count ≡ true))
   unfolding isLampsShown
-  lamp-parts =
-      let count = isLampCount e.lamps_known e.lamp_count in
-      let hours = fillsRoom lampsCarried isHours e.hours e.lamp_count in
-      let lit = isLitRoom e.lit e.lamp_count in
-      let two = both_left (count && hours) lit shown.lamps in
-      (both_left count hours two, (both_right count hours two, both_right (count && hours) lit shown.lamps))
+  lamp-parts = (grind (arith, shown.lamps), (grind (arith, shown.lamps), grind (arith, shown.lamps)))
 
   no-lamps : e.lamp_count ≡ 0
   unfolding isLampCount
-  no-lamps = eqb-true e.lamp_count 0
-      (sym (ap (λ (k : Bool). isLampCount k e.lamp_count) none.lamps) ∙ lamp-parts.0)
+  no-lamps = grind (arith, none.lamps, lamp-parts.0)
 
   none-lit : e.lit ≡ replicate lampsCarried false
   unfolding isLitRoom
@@ -148,18 +120,14 @@ module _ (e : Entry) (legal : isEntry e ≡ true) (unused : isUnused e ≡ true)
   unused-is-blank =
       let t = e.password in
       let bytes = unused-room textRoom isPassword t.bytes t.len told.password none.len in
-      let random = eqb-true e.random 0 (both_left (eqb e.random 0) (not e.led) secrets) in
-      let led = not-true e.led (both_right (eqb e.random 0) (not e.led) secrets) in
+      let random : e.random ≡ 0 = grind (arith, secrets) in
+      let led : e.led ≡ false = grind (arith, secrets) in
       let k = e.command in
-      let two = both_left (eqb k.code 0 && eqb k.first 0) (eqb k.second 0) rests.1 in
-      let code = eqb-true k.code 0 (both_left (eqb k.code 0) (eqb k.first 0) two) in
-      let first = eqb-true k.first 0 (both_right (eqb k.code 0) (eqb k.first 0) two) in
-      let second = eqb-true k.second 0
-      (both_right (eqb k.code 0 && eqb k.first 0) (eqb k.second 0) rests.1) in
-      let type = eqb-true e.input_type 0
-      (both_left (eqb e.input_type 0) (eqb e.input_number 0) no-input) in
-      let number = eqb-true e.input_number 0
-      (both_right (eqb e.input_type 0) (eqb e.input_number 0) no-input) in
+      let code : k.code ≡ 0 = grind (arith, rests.1) in
+      let first : k.first ≡ 0 = grind (arith, rests.1) in
+      let second : k.second ≡ 0 = grind (arith, rests.1) in
+      let type : e.input_type ≡ 0 = grind (arith, no-input) in
+      let number : e.input_number ≡ 0 = grind (arith, no-input) in
       let hours = unused-room lampsCarried isHours e.hours e.lamp_count lamp-parts.1.0 no-lamps in
       (λ i. record {
         password = record { len = none.len i; bytes = bytes i };
