@@ -7,6 +7,7 @@ use Prim.Native.Nat.{ℕ}
 use mathlib.Core.Path.{◌≡◌, refl, sym, ap, subst, ◌∙◌}
 use mathlib.Core.Bool.{Bool, true, false, ◌&&◌}
 use mathlib.Core.List.{List, [], ◌∷◌}
+use native.Mathlib.Omega.{arith}
 use lib.Dec.{leb, eqb}
 use borrow.Author.Tests.{eqb-true}
 use Rattle.std.specs.Prelude.{if◌then◌else◌, Option, Some, None, IfSome, option_map, option_and_then}
@@ -30,32 +31,21 @@ SwitchIs n o = IfSome o (λ on. bit on ≡ n)
 
 switch_there : (n : ℕ) → SwitchIs n (switch_at n)
 unfolding switch_at
-switch_there n =
-    if-by (SwitchIs n) (eqb n 0) (λ e. sym (eqb-true n 0 e)) (λ a.
-    if-by (SwitchIs n) (eqb n 1) (λ e. sym (eqb-true n 1 e)) (λ b. tt))
+switch_there n = grind arith
 
 abbrev SourceIs : ℕ → Option Source → Type 0
 SourceIs n o = IfSome o (λ s. sourceNumber s ≡ n)
 
 source_there : (n : ℕ) → SourceIs n (source_at n)
 unfolding source_at
-source_there n =
-    if-by (SourceIs n) (eqb n 1) (λ e. sym (eqb-true n 1 e)) (λ a.
-    if-by (SourceIs n) (eqb n 2) (λ e. sym (eqb-true n 2 e)) (λ b.
-    if-by (SourceIs n) (eqb n 3) (λ e. sym (eqb-true n 3 e)) (λ c.
-    if-by (SourceIs n) (eqb n 4) (λ e. sym (eqb-true n 4 e)) (λ d.
-    if-by (SourceIs n) (eqb n 5) (λ e. sym (eqb-true n 5 e)) (λ f.
-    if-by (SourceIs n) (eqb n 6) (λ e. sym (eqb-true n 6 e)) (λ g. tt))))))
+source_there n = grind arith
 
 abbrev HalfIs : ℕ → Option Half → Type 0
 HalfIs n o = IfSome o (λ h. halfNumber h ≡ n)
 
 half_there : (n : ℕ) → HalfIs n (half_at n)
 unfolding half_at
-half_there n =
-    if-by (HalfIs n) (eqb n 1) (λ e. sym (eqb-true n 1 e)) (λ a.
-    if-by (HalfIs n) (eqb n 2) (λ e. sym (eqb-true n 2 e)) (λ b.
-    if-by (HalfIs n) (eqb n 3) (λ e. sym (eqb-true n 3 e)) (λ c. tt)))
+half_there n = grind arith
 
 module _ (k type number : ℕ) where
   abbrev InputIs : Option Input → Type 0

@@ -2,7 +2,6 @@ pub mod PanelsTold
 pub mod TalksTold
 pub mod Cases
 pub mod StepsByTable
-pub mod Viewed
 pub mod OnlyItsEntry
 pub mod Refusals
 pub mod OneResult

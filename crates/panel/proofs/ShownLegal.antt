@@ -54,7 +54,7 @@ module _ (s : Shown) where
 
   pub shown-legal : ShownTold s → isShown s ≡ true
   unfolding isShown
-  shown-legal k = both (both k.power k.input) k.lamps
+  shown-legal k = grind (arith, k.power, k.input, k.lamps)
 
 power-shown : (p : Power) → isPowerShown true (powerNumber p) ≡ true
 unfolding isPowerShown

@@ -2,11 +2,11 @@
 --   TalkTold t      the parts of isTalk
 -- Assumes nothing.
 use Prim.Native.Nat.{ℕ}
-use mathlib.Core.Path.{◌≡◌, refl, sym, ap, ◌∙◌}
+use mathlib.Core.Path.{◌≡◌, refl, sym, ◌∙◌}
 use mathlib.Core.Bool.{Bool, true, false, not, ◌&&◌, ◌||◌}
 use native.Mathlib.Omega.{arith}
 use lib.Dec.{leb, eqb}
-use Rattle.text.proofs.Choices.{if_yes, both, both_left, both_right}
+use Rattle.text.proofs.Choices.{if_yes, both_right}
 use Rattle.codes.specs.Commands.{commandOf}
 use Rattle.codes.specs.declared.command.Coded.{Coded}
 use Rattle.panel.specs.Entries.{Talk, talkOf, ungreeted, greetedOpen, greetedSecured, isSecuredTalk, greetedBy}
@@ -40,24 +40,14 @@ module _ (t : Talk) where
   -- ending a command, and sending one
   pub rested-legal : isTalk t ≡ true → isTalk (restedOn t) ≡ true
   unfolding isTalk isCommandKept
-  rested-legal h =
-      let low = leb t.greeting greetedSecured in
-      both (both_left (low && secured-or-none t) (isCommandKept t) h) refl
+  rested-legal h = let told = talk-told h in grind (arith, told.greeting, told.secrets)
 
   pub sent-legal : isTalk t ≡ true → (k : Coded) → eqb t.greeting ungreeted ≡ false → isNamed (commandOf k) ≡ true
       → isTalk (sentOn t k) ≡ true
   unfolding isTalk isCommandKept
   sent-legal h k greeted named =
       let told = talk-told h in
-      both-sent told (isSecuredTalk t) refl
-    where
-      both-sent : TalkTold t → (s : Bool) → isSecuredTalk t ≡ s → isTalk (sentOn t k) ≡ true
-      both-sent told true e = both (both told.greeting (ap (λ (x : Bool). x || (eqb t.random 0 && not x)) e))
-          (both (ap not greeted) named)
-      both-sent told false e =
-          let zero : eqb t.random 0 ≡ true = both_left (eqb t.random 0) (not t.led)
-          (sym (ap (λ (x : Bool). x || (eqb t.random 0 && not t.led)) e) ∙ told.secrets) in
-          both (both told.greeting (λ i. e i || (zero i && not (e i)))) (both (ap not greeted) named)
+      grind (arith, told.greeting, told.secrets, greeted, named)
 
 pub no-talk-legal : isTalk noTalk ≡ true
 unfolding isTalk isCommandKept

@@ -3,13 +3,9 @@
 --   is_secured g                   it asks for a digest
 --   talk_begun g                   the talk that begins with it
 --   awaits_of e                    what is awaited of the projector
---   heard_in e a l                 what the line l does to the entry e where a is awaited
 -- Assumes nothing.
-use Rattle.std.specs.Prelude.{ℕ, Bool, true, false, List, eqb, if◌then◌else◌}
-use Rattle.controller.specs.Greetings.{readGreeting}
-use Rattle.codes.specs.Commands.{commandOf}
+use Rattle.std.specs.Prelude.{ℕ, Bool, true, false, eqb, if◌then◌else◌}
 use Rattle.panel.specs.Entries.{Talk, ungreeted, greetedOpen, greetedSecured, greetedBy, noTalk}
-use Rattle.panel.specs.Stepping.{strayed, greetedAs, repliedTo}
 use Rattle.panel.specs.declared.types.Entry.{Entry}
 use Rattle.panel.specs.declared.views.Greeted.{Greeted}
 use Rattle.panel.specs.declared.views.Greeted.TheVariants.{NotYet, Open, Secured}
@@ -37,8 +33,3 @@ awaits_of e =
     if eqb e.greeting ungreeted then Greeting
     else if e.under_way then Reply e.command
     else Nothing
-
-abbrev pub heard_in : Entry → Awaits → List ℕ → Entry
-heard_in e Greeting l = greetedAs e (readGreeting l)
-heard_in e Nothing l = strayed e
-heard_in e (Reply k) l = repliedTo e (commandOf k) l

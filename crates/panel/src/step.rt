@@ -95,6 +95,7 @@ impl Entry {
     }
 
     /// A line from the projector, with its CR. One with no command under way is late.
+    #[tactic(auto, unfolding(crate::specs::Stepping::heardLine))]
     pub(crate) fn hear(&mut self, line: &[u8])
         ensures { self.new ≡ heardLine self.old line.now }
     {
