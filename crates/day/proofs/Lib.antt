@@ -3,3 +3,4 @@ pub mod Keeping
 pub mod Greedily
 pub mod OneVerdict
 pub mod OnePlan
+pub mod WasSame

@@ -2,3 +2,4 @@ pub mod Days
 pub mod Rules
 pub mod Verdicts
 pub mod Plans
+pub mod Was

@@ -1,3 +1,4 @@
 pub mod Filling
 pub mod OneAnswer
 pub mod Exact
+pub mod WasSame

@@ -1,2 +1,3 @@
 pub mod Differences
 pub mod ComparedHolds
+pub mod Was
