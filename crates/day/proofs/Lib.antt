@@ -3,4 +3,3 @@ pub mod Keeping
 pub mod Greedily
 pub mod OneVerdict
 pub mod OnePlan
-pub mod WasSame

@@ -1,4 +1,3 @@
 pub mod Filling
 pub mod OneAnswer
 pub mod Exact
-pub mod WasSame
