@@ -13,7 +13,7 @@ use Rattle.text.specs.Words.{◌is◌}
 use Rattle.text.proofs.Choices.{if-all, if-by, both}
 use Rattle.stream.specs.Machine.{uncut}
 use Rattle.stream.proofs.WholeParts.{uncut-more}
-use Rattle.floor.specs.Events.{lines_from}
+use Rattle.textio.specs.Lines.{lines_from}
 use Rattle.floor.specs.WholeLog.{noneLonger, Countable}
 
 lines-few : (g bs : List ℕ) → length (lines_from g bs) ≤ length g + length bs

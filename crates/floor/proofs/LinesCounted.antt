@@ -13,7 +13,7 @@ use Rattle.text.specs.Words.{◌is◌}
 use Rattle.text.proofs.Choices.{if-all}
 use Rattle.stream.specs.Machine.{Out, unanswered}
 use Rattle.stream.proofs.LinesSpelt.{run_none, run_more}
-use Rattle.floor.specs.Events.{lines_from}
+use Rattle.textio.specs.Lines.{lines_from}
 use Rattle.floor.specs.Reading.{Reading, ended, more, logStep, logRun}
 
 abbrev pub lineEnds : List ℕ → ℕ

@@ -21,7 +21,8 @@ use Rattle.logs.specs.Lines.{lineMost}
 use Rattle.logs.specs.LastLine.{lastLine}
 use Rattle.events.specs.Events.{LogEvent}
 use Rattle.events.specs.Doing.{did, printed}
-use Rattle.floor.specs.Events.{event, lines_from, events}
+use Rattle.textio.specs.Lines.{lines_from}
+use Rattle.floor.specs.Events.{event, events}
 use Rattle.floor.specs.Playing.{stateAfter, linesPrinted, replayed}
 use Rattle.floor.specs.Reading.{Reading, keptOf, nothingBegun, keptWith, lineAfter, more, ended, logRun}
 use Rattle.floor.specs.Reading.{endOfInput}

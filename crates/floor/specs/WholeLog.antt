@@ -18,7 +18,8 @@ use Rattle.std.specs.Prelude.{ℕ, ◌+◌, ◌≤◌, ◌<◌, ◌^◌, ◌≡�
 use Rattle.text.specs.Scans.{every}
 use Rattle.record.specs.declared.types.Device.{Device}
 use Rattle.stream.specs.Machine.{Out, Took, unanswered, tookBytes, handedParts, uncut}
-use Rattle.floor.specs.Events.{lines_of, events}
+use Rattle.textio.specs.Lines.{lines_of}
+use Rattle.floor.specs.Events.{events}
 use Rattle.floor.specs.Playing.{stateAfter, replayed}
 use Rattle.floor.specs.Reading.{Reading, fresh}
 use Rattle.logs.specs.Lines.{lineMost}

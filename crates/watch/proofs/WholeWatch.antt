@@ -22,7 +22,7 @@ use Rattle.stream.specs.Machine.{Out, Took, handedParts, uncut}
 use Rattle.stream.proofs.WholeParts.{uncut-more}
 use Rattle.stream.proofs.SameHoweverCut.{outThrough, tookThrough, Taking, parts-run}
 use Rattle.logs.specs.Lines.{lineMost}
-use Rattle.floor.specs.Events.{lines_of}
+use Rattle.textio.specs.Lines.{lines_of}
 use Rattle.floor.specs.Reading.{keptOf, nothingBegun}
 use Rattle.floor.specs.WholeLog.{noneLonger}
 use Rattle.floor.proofs.KeptLine.{none-held}

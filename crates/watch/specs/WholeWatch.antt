@@ -26,7 +26,7 @@ use Rattle.clock.specs.Second.{marksIn}
 use Rattle.clock.specs.Passing.{secondsMost}
 use Rattle.stream.specs.Machine.{Out, Took, unanswered, tookBytes, handedParts, uncut}
 use Rattle.logs.specs.Lines.{lineMost}
-use Rattle.floor.specs.Events.{lines_of}
+use Rattle.textio.specs.Lines.{lines_of}
 use Rattle.floor.specs.WholeLog.{noneLonger}
 use Rattle.lamplines.specs.LampLines.{stretchLines}
 use Rattle.marking.specs.Marking.{FloorEvent, floorEvent, doneBy}
