@@ -1,14 +1,19 @@
-// The floor log played back (RULES, Floor log).
+// What a log of the floor is, and what it prints, as definitions; the device that it begins with; and its lines gathered
+// in lent memory (RULES, Floor log).
 #![tactic(auto)]
 
-pub mod closing;
 pub mod gather;
-pub mod playing;
-pub mod replay;
 
-ghost use Rattle.floor.specs.WholeLog.{LogsPlayedBack};
+ghost use Rattle.std.specs.Prelude.{◌≡◌};
+ghost use Rattle.floor.specs.Playing.{sampleDevice};
 
-/// Nothing is done: that it has this contract is that every log is played back so.
-pub fn plays_back()
-    ensures { LogsPlayedBack }
-{}
+use record::types::Device;
+
+/// The sample set-up, every place closed.
+#[tactic(auto, unfolding(crate::specs::Playing::sampleDevice))]
+pub fn sample() -> Device
+    ensures { result ≡ sampleDevice }
+{
+    let lamps = [0u32; 1];
+    setup::set_up(b"", b"", b"", b"", b"", b"11", &lamps, 20, 60).device
+}

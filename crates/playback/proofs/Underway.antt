@@ -17,7 +17,7 @@ use Rattle.text.specs.Words.{ascii}
 use Rattle.text.proofs.Orders.{le-or-lt}
 use Rattle.textio.specs.Lines.{lines_of, lines_from, countMost, HasEndlessLine, IsTooLong}
 use Rattle.textio.specs.Fronts.{WritesFront}
-use Rattle.textio.specs.NextLine.{IsNextLine, IsLine}
+use Rattle.textio.specs.NextLine.{IsNextLine, IsLine, FailureComesOf}
 use Rattle.record.specs.declared.types.Device.{Device}
 use Rattle.logs.specs.LastLine.{lastLine}
 use Rattle.logs.specs.Lines.{lineMost}
@@ -27,9 +27,9 @@ use Rattle.events.specs.Events.{LogEvent, eventOf, noSuch}
 use Rattle.events.specs.Doing.{did, printed}
 use Rattle.floor.specs.Events.{event, events}
 use Rattle.floor.specs.Playing.{stateAfter, linesPrinted, replayed}
-use Rattle.playback.specs.Replaying.{keptMost, IsReplayed, FailureComesOf}
-use Rattle.playback.specs.declared.Failure.{Failure}
-use Rattle.playback.specs.declared.Failure.TheVariants.{Read, Write, TooLong}
+use Rattle.playback.specs.Replaying.{keptMost, IsReplayed}
+use Rattle.textio.specs.declared.lines.Failure.{Failure}
+use Rattle.textio.specs.declared.lines.Failure.TheVariants.{Read, Write, TooLong}
 
 pub record Underway (d : Device) (log : List ℕ) (old now : Option (List ℕ)) (left : Option (List ℕ)) (n : ℕ) (device : Device)
     : Type 0 where
@@ -219,9 +219,9 @@ module _ {d device : Device} {log : List ℕ} {old now left : Option (List ℕ)}
     cut new f = front-more u.sofar text [] ends u.written f
 
 -- a failure to read a line is one to replay the log
-pub came : {d device : Device} {old now : Option (List ℕ)} {n : ℕ} (reads writes : Error → Type 0) (a left : Option (List ℕ))
+pub came : (d device : Device) (old now : Option (List ℕ)) (n : ℕ) (reads writes : Error → Type 0) (a left : Option (List ℕ))
     (e : Failure) → IfSome a (λ log. Underway d log old now left n device)
     → FailureComesOf reads writes HasEndlessLine left e → FailureComesOf reads writes IsTooLong a e
-came reads writes a left (Read e) u h = h
-came reads writes a left (Write e) u h = h
-came reads writes a left TooLong u h = each a _ _ (λ log x. endless x h) u
+came d device old now n reads writes a left (Read e) u h = h
+came d device old now n reads writes a left (Write e) u h = h
+came d device old now n reads writes a left TooLong u h = each a _ _ (λ log x. endless x h) u

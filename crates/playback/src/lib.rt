@@ -3,29 +3,22 @@
 
 mod playing;
 
+#[cfg(test)]
+mod tests;
+
 ghost use Rattle.std.specs.Prelude.{◌≡◌, IfOk, IfErr, IfSome};
 ghost use Rattle.textio.specs.Lines.{IsTooLong};
 ghost use Rattle.textio.specs.Fronts.{WritesFront};
 ghost use Rattle.textio.specs.Ahead.{left_in};
 ghost use Rattle.floor.specs.Playing.{replayed};
-ghost use Rattle.playback.specs.Replaying.{IsReplayed, FailureComesOf};
+ghost use Rattle.textio.specs.NextLine.{FailureComesOf};
+ghost use Rattle.playback.specs.Replaying.{IsReplayed};
 
 use record::legality::Tested;
 use record::types::Device;
-use std::io::Error;
+use textio::lines::Failure;
 use textio::reader::{ByteSource, Reader};
 use textio::writer::ByteSink;
-
-/// Why a log is not played to its end.
-#[derive(Debug, Drop)]
-pub enum Failure {
-    /// The source gave an error; a line that had begun is not played.
-    Read(Error),
-    /// The sink gave an error.
-    Write(Error),
-    /// No number of 64 bits is left for a line, or counts the bytes of one.
-    TooLong,
-}
 
 /// The log that a reader has left, played from a device, which need not be legal; what its lines are answered, and the
 /// line of power and lamps, go to a sink. It gives the device after the log. What is printed is handed on before each
@@ -45,14 +38,22 @@ pub fn replay<R: ByteSource, W: ByteSink>(
     let mut line = [0; playing::LINE_ROOM];
     let mut tested = Tested::of(begun);
     for played in 0..u64::MAX {
-        match playing::next(from, to, &mut line)? {
-            None => {
-                playing::finish(&tested.device, to).map_err(Failure::Write)?;
-                return Ok(tested.device);
+        match playing::read_line(from, to, &mut line) {
+            Ok(Some(held)) => {
+                match playing::play(&mut tested, played + 1, &mut line, held, to) {
+                    Ok(()) => {}
+                    Err(e) => return Err(Failure::Write(e)),
+                }
             }
-            Some(held) => playing::play(&mut tested, played + 1, &mut line, held, to)
-                .map_err(Failure::Write)?,
+            Ok(None) => match playing::finish(&tested.device, to) {
+                Ok(()) => return Ok(tested.device),
+                Err(e) => return Err(Failure::Write(e)),
+            },
+            Err(failure) => return Err(failure),
         }
     }
-    Err(Failure::TooLong)
+    match to.flush() {
+        Ok(()) => Err(Failure::TooLong),
+        Err(e) => Err(Failure::Write(e)),
+    }
 }

@@ -3,20 +3,19 @@ ghost use Rattle.std.specs.Prelude.{◌≡◌, ◌≤◌, ◌<◌, IfOk, IfErr, 
 ghost use Rattle.std.specs.Io.KnownBytes.{Appends, Keeps};
 ghost use Rattle.textio.specs.Lines.{HasEndlessLine};
 ghost use Rattle.textio.specs.Fronts.{WritesFront};
-ghost use Rattle.textio.specs.NextLine.{IsNextLine};
+ghost use Rattle.textio.specs.NextLine.{IsNextLine, FailureComesOf};
 ghost use Rattle.textio.specs.Ahead.{left_in};
 ghost use Rattle.logs.specs.LastLine.{lastLine};
 ghost use Rattle.events.specs.Doing.{did, printed};
 ghost use Rattle.floor.specs.Events.{event};
-ghost use Rattle.playback.specs.Replaying.{keptMost, FailureComesOf};
+ghost use Rattle.playback.specs.Replaying.{keptMost};
 
-use crate::Failure;
 use logs::{LINE_MOST, last};
 use record::legality::Tested;
 use record::types::Device;
 use std::io;
 use textio::lines;
-use textio::lines::NoLine;
+use textio::lines::Failure;
 use textio::reader::{ByteSource, Reader};
 use textio::writer;
 use textio::writer::ByteSink;
@@ -31,28 +30,20 @@ const PRINT_ROOM: usize = 157;
 
 const LAST_ROOM: usize = 111;
 
-// The next line of a log, from the start of the memory: what is kept of it, if there is one. What is printed is handed
-// on before a read.
-pub fn next<R: ByteSource, W: ByteSink>(
+// The next line of a log, from the start of the memory: what is kept of it, if there is one.
+pub fn read_line<R: ByteSource, W: ByteSink>(
     from: &mut Reader<R>,
     to: &mut W,
     line: &mut [u8; LINE_ROOM],
 ) -> Result<Option<usize>, Failure>
-    ensures keeps { Keeps (W.contents to.old) (W.contents to.new) }
     ensures next { IfOk result (λ held. IfSome (left_in R.remaining from.old) (λ log.
         IsNextLine log (left_in R.remaining from.new) (take keptMost line.new) held)) }
     ensures bound { IfOk result (λ held. IfSome held (λ n. n ≤ keptMost)) }
+    ensures keeps { Keeps (W.contents to.old) (W.contents to.new) }
     ensures err { IfErr result
         (FailureComesOf R.fails_with W.fails_with HasEndlessLine (left_in R.remaining from.old)) }
 {
-    if from.is_empty() {
-        to.flush().map_err(Failure::Write)?;
-    }
-    match lines::next_line(from, &mut line[..KEPT_MOST]) {
-        Ok(held) => Ok(held),
-        Err(NoLine::Failed(e)) => Err(Failure::Read(e)),
-        Err(NoLine::TooLong) => Err(Failure::TooLong),
-    }
+    lines::next_line(from, to, &mut line[..KEPT_MOST])
 }
 
 // The line of which so many bytes are kept, played and printed.

@@ -3,17 +3,18 @@
 --                       after them: at least `least`; what is then kept has as many bytes as there is memory
 --   ShowsPart ..        what is taken of a line at once, by how far it came
 --   IsNextLine ..       whether there is another line in a log, and what is kept of it
---   NoLineComesOf ..    why no line is read: an error that the source gives, or a line of more bytes than are counted
+--   FailureComesOf ..   why a log is not read to its end: an error that its source gives, or the sink of what is printed
+--                       for it, or that it is so long
 -- Assumes nothing.
 use Rattle.std.specs.Prelude.{ℕ, ◌≤◌, List, [], ◌∷◌, ◌++◌, ◌≡◌, ◌≢◌, length, take, None, Some, IfSome, All}
 use Rattle.std.specs.declared.option.Option.{Option}
 use Rattle.std.specs.declared.io.Error.{Error}
 use Rattle.std.specs.Io.KnownBytes.{Consumes, IsAtEnd, Keeps}
-use Rattle.textio.specs.Lines.{lines_of, HasEndlessLine}
+use Rattle.textio.specs.Lines.{lines_of}
 use Rattle.textio.specs.declared.lines.Shown.{Shown}
 use Rattle.textio.specs.declared.lines.Shown.TheVariants.{Part, Whole, End}
-use Rattle.textio.specs.declared.lines.NoLine.{NoLine}
-use Rattle.textio.specs.declared.lines.NoLine.TheVariants.{Failed, TooLong}
+use Rattle.textio.specs.declared.lines.Failure.{Failure}
+use Rattle.textio.specs.declared.lines.Failure.TheVariants.{Read, Write, TooLong}
 
 pub record TakesPart (old new : Option (List ℕ)) (least : ℕ) (before memory : List ℕ) (place : ℕ) (lf : List ℕ) : Type 0 where
   pub part : List ℕ
@@ -39,6 +40,7 @@ abbrev pub IsNextLine : List ℕ → Option (List ℕ) → List ℕ → Option �
 IsNextLine log new memory (Some held) = IsLine log new (length memory) (take held memory)
 IsNextLine log new memory None = log ≡ []
 
-abbrev pub NoLineComesOf : (Error → Type 0) → Option (List ℕ) → NoLine → Type 0
-NoLineComesOf fails log (Failed e) = fails e
-NoLineComesOf fails log TooLong = IfSome log HasEndlessLine
+abbrev pub FailureComesOf : (Error → Type 0) → (Error → Type 0) → (List ℕ → Type 0) → Option (List ℕ) → Failure → Type 0
+FailureComesOf reads writes long log (Read e) = reads e
+FailureComesOf reads writes long log (Write e) = writes e
+FailureComesOf reads writes long log TooLong = IfSome log long

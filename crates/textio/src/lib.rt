@@ -7,3 +7,6 @@ mod memory;
 pub mod reader;
 pub mod streams;
 pub mod writer;
+
+#[cfg(test)]
+mod tests;

@@ -1,19 +1,24 @@
 // The lines of a log, one at a time, in lent memory.
 ghost use Rattle.std.specs.Prelude.{◌≡◌, ◌≢◌, ◌++◌, ◌≤◌, ◌<◌, All, IfOk, IfErr, IfSome, length, take, slice_index};
+ghost use Rattle.std.specs.Io.KnownBytes.{Keeps};
+ghost use Rattle.textio.specs.Lines.{HasEndlessLine};
 ghost use Rattle.textio.specs.Ahead.{left_in};
-ghost use Rattle.textio.specs.NextLine.{ShowsPart, IsNextLine, NoLineComesOf};
+ghost use Rattle.textio.specs.NextLine.{ShowsPart, IsNextLine, FailureComesOf};
 
 use crate::memory;
 use crate::reader::{ByteSource, Reader};
+use crate::writer::ByteSink;
 use std::io;
 use std::io::Error;
 
-/// Why no line is read.
+/// Why a log is not read to its end.
 #[derive(Debug, Drop)]
-pub enum NoLine {
+pub enum Failure {
     /// The source gave an error; a line that had begun is no line.
-    Failed(Error),
-    /// More bytes than a number of 64 bits counts have come without LF.
+    Read(Error),
+    /// The sink of what is printed gave an error.
+    Write(Error),
+    /// A number of 64 bits counts no more lines, or no more bytes of a line.
     TooLong,
 }
 
@@ -63,27 +68,46 @@ fn take_shown<R: ByteSource>(
     Ok(Shown::Part(place))
 }
 
+// What waits at a sink is handed on before a read.
+fn flush_before_read<R: ByteSource, W: ByteSink>(from: &Reader<R>, to: &mut W) -> io::Result<()>
+    ensures keeps { Keeps (W.contents to.old) (W.contents to.new) }
+    ensures err { IfErr result W.fails_with }
+{
+    if from.is_empty() {
+        return to.flush();
+    }
+    Ok(())
+}
+
 /// The next line without its LF, from the start of the lent memory: its length, if there is one. Of a line that is longer
-/// than that memory only so much is kept.
-pub fn next_line<R: ByteSource>(
+/// than that memory only so much is kept. A read may wait, so what waits at the sink of what is printed is handed on
+/// before each.
+pub fn next_line<R: ByteSource, W: ByteSink>(
     from: &mut Reader<R>,
+    to: &mut W,
     line: &mut [u8],
-) -> Result<Option<usize>, NoLine>
+) -> Result<Option<usize>, Failure>
     requires { 0 < length line.old }
     ensures next { IfOk result (λ held. IfSome (left_in R.remaining from.old) (λ log.
         IsNextLine log (left_in R.remaining from.new) line.new held)) }
     ensures bound { IfOk result (λ held. IfSome held (λ n. n ≤ length line.new)) }
-    ensures err { IfErr result (NoLineComesOf R.fails_with (left_in R.remaining from.old)) }
+    ensures keeps { Keeps (W.contents to.old) (W.contents to.new) }
+    ensures err { IfErr result
+        (FailureComesOf R.fails_with W.fails_with HasEndlessLine (left_in R.remaining from.old)) }
 {
     let mut held = 0;
     for _ in 0..u64::MAX {
+        match flush_before_read(from, to) {
+            Ok(()) => {}
+            Err(e) => return Err(Failure::Write(e)),
+        }
         match take_shown(from, line, held) {
             Ok(Shown::Part(place)) => held = place,
             Ok(Shown::Whole(place)) => return Ok(Some(place)),
             Ok(Shown::End) if held == 0 => return Ok(None),
             Ok(Shown::End) => return Ok(Some(held)),
-            Err(e) => return Err(NoLine::Failed(e)),
+            Err(e) => return Err(Failure::Read(e)),
         }
     }
-    Err(NoLine::TooLong)
+    Err(Failure::TooLong)
 }

@@ -1,16 +1,18 @@
 -- the parts of the line that is read, up to its LF or to the end
 use Rattle.std.proofs.Common.{rules, ◌+◌, [], arith, subst, length, ℕ, List, sym}
+use Rattle.std.proofs.KnownBytes.{Keeps-refl, Keeps-trans}
 use Rattle.textio.specs.Ahead.{left_in}
 use Rattle.textio.specs.NextLine.{TakesPart}
 use Rattle.textio.proofs.Parts.{no-line, none-read, joined, whole-line, last-line, endless}
 use Rattle.textio.proofs.lines.next_line.Goals as goal
 
 pub loop-init : goal.loop-init
-loop-init g c = record { read = none-read _ c.args.line.now; room = search rules }
+loop-init g c = record { read = none-read _ c.args.line.now; keeps = Keeps-refl _; room = search rules }
 
 pub loop-preserved : goal.loop-preserved
 loop-preserved g c = record {
   read = joined c.loop.invariant.read (rw c.in-Ok-Part.field-0-is at c.in-Ok-Part.ensures.ok) (omega arith);
+  keeps = Keeps-trans _ _ _ c.loop.invariant.keeps c.flush_before_read.ensures.keeps;
   room = omega arith;
 }
 
