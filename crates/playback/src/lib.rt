@@ -2,7 +2,6 @@
 #![tactic(auto)]
 
 mod playing;
-
 #[cfg(test)]
 mod tests;
 

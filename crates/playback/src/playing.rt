@@ -14,11 +14,10 @@ use logs::{LINE_MOST, last};
 use record::legality::Tested;
 use record::types::Device;
 use std::io;
-use textio::lines;
 use textio::lines::Failure;
 use textio::reader::{ByteSource, Reader};
-use textio::writer;
 use textio::writer::ByteSink;
+use textio::{lines, writer};
 
 // of a longer line one byte more is kept, which tells it from the others
 const KEPT_MOST: usize = LINE_MOST + 1;

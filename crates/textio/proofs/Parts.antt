@@ -149,6 +149,7 @@ module _ (old new : Option (List ℕ)) (memory : List ℕ) where
         nothing : (part : List ℕ) → length (take (length memory) part) ≡ 0 → part ≡ []
         nothing [] e = refl
         nothing (x ∷ part) e = absurd (omega (arith, length-take (length memory) (x ∷ part), e, room))
+
         by : (a b : Option (List ℕ)) → Consumes a b (p.part ++ []) → IsAtEnd b
             → IfSome a (λ log. IsNextLine log new memory None)
         by None b taken end = tt
@@ -163,6 +164,7 @@ module _ (old new : Option (List ℕ)) (memory : List ℕ) where
       where
         long : countMost ≤ length p.part
         long = omega (arith, many, p.some)
+
         by : (a b : Option (List ℕ)) → Consumes a b (p.part ++ []) → IfSome a HasEndlessLine
         by None b taken = tt
         by (Some log) None taken = absurd taken

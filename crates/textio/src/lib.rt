@@ -6,7 +6,6 @@ pub mod lines;
 mod memory;
 pub mod reader;
 pub mod streams;
-pub mod writer;
-
 #[cfg(test)]
 mod tests;
+pub mod writer;

@@ -42,11 +42,7 @@ fn before_lf(bytes: &[u8]) -> usize
 }
 
 // What is read ahead of a line is taken, with its LF.
-fn take_shown<R: ByteSource>(
-    from: &mut Reader<R>,
-    line: &mut [u8],
-    at: usize,
-) -> io::Result<Shown>
+fn take_shown<R: ByteSource>(from: &mut Reader<R>, line: &mut [u8], at: usize) -> io::Result<Shown>
     requires { at ≤ length line.old }
     ensures ok { IfOk result
         (ShowsPart (left_in R.remaining from.old) (left_in R.remaining from.new) line.old at line.new) }
