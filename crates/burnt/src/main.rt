@@ -6,7 +6,7 @@
 mod place;
 
 use crate::place::Place;
-use floor::replay::LINE_ROOM;
+use floor::gather::LINE_ROOM;
 use formfile::NotBegun;
 use page::{Stretch, Totals};
 use record::types::Device;

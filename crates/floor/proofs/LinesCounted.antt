@@ -2,8 +2,7 @@
 --   lineEnds bs      how many LF are in bs
 -- Assumes nothing.
 use Prim.Native.Nat.{ℕ, ◌+◌, ◌≤◌}
-use Prim.Native.Char.{code}
-use mathlib.Core.Path.{◌≡◌, refl, ap, ◌∙◌}
+use mathlib.Core.Path.{◌≡◌}
 use mathlib.Core.Bool.{Bool, true, false}
 use mathlib.Core.List.{List, [], ◌∷◌, ◌++◌}
 use native.Mathlib.Omega.{arith}
@@ -11,10 +10,7 @@ use lib.ListN.{length}
 use Rattle.std.specs.Prelude.{if◌then◌else◌}
 use Rattle.text.specs.Words.{◌is◌}
 use Rattle.text.proofs.Choices.{if-all}
-use Rattle.stream.specs.Machine.{Out, unanswered}
-use Rattle.stream.proofs.LinesSpelt.{run_none, run_more}
-use Rattle.floor.specs.Events.{lines_from}
-use Rattle.floor.specs.Reading.{Reading, ended, more, logStep, logRun}
+use Rattle.textio.specs.Lines.{lines_from}
 
 abbrev pub lineEnds : List ℕ → ℕ
 lineEnds [] = 0
@@ -41,16 +37,3 @@ ends-lines g [] = omega arith
 ends-lines g (b ∷ bs) =
     line-or-more (b is "\n") (lineEnds bs) g (lines_from [] bs) (lines_from (g ++ (b ∷ [])) bs) (ends-lines [] bs)
     (ends-lines (g ++ (b ∷ [])) bs)
-
-step_counts : (s : Reading) (b : ℕ) (lf : Bool)
-    → (if lf then ended s else unanswered (more s b)).state.number ≡ s.number + (if lf then 1 else 0)
-unfolding ended
-step_counts s b true = refl
-step_counts s b false = omega arith
-
-pub run-counts : (s : Reading) (bs : List ℕ) → (logRun s bs).state.number ≡ s.number + lineEnds bs
-run-counts s [] =
-    ap (λ (o : Out Reading). o.state.number) (run_none (code "\n") Reading more ended s) ∙ omega arith
-run-counts s (b ∷ bs) =
-    ap (λ (o : Out Reading). o.state.number) (run_more (code "\n") Reading more ended s b bs)
-    ∙ omega (arith, run-counts (logStep s b).state bs, step_counts s b (b is "\n"))

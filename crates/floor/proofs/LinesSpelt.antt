@@ -7,7 +7,7 @@ use lib.ListN.{length}
 use lib.Dec.{eqb}
 use Rattle.std.specs.Prelude.{if◌then◌else◌}
 use Rattle.text.specs.Words.{◌is◌}
-use Rattle.floor.specs.Events.{lines_from}
+use Rattle.textio.specs.Lines.{lines_from}
 
 pub lines_end : (g : List ℕ) → lines_from g [] ≡ (if eqb (length g) 0 then [] else g ∷ [])
 unfolding lines_from

@@ -15,7 +15,7 @@ use Rattle.record.specs.declared.types.Line.{Line}
 use Rattle.clock.specs.Second.{marksIn}
 use Rattle.stream.specs.Machine.{Out, unanswered, replyThen}
 use Rattle.stream.proofs.LinesSpelt.{run_none, run_more}
-use Rattle.floor.specs.Events.{lines_from}
+use Rattle.textio.specs.Lines.{lines_from}
 use Rattle.floor.specs.Reading.{keptOf, nothingBegun, keptWith, lineAfter, isBegun}
 use Rattle.floor.proofs.KeptLine.{Holds, one_more, none_after, begun-some}
 use Rattle.floor.proofs.LinesSpelt.{lines_end, lines-byte}
