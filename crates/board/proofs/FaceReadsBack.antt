@@ -8,6 +8,7 @@ use Prim.Native.Nat.{ℕ, ◌^◌, ◌≤◌, ◌<◌}
 use mathlib.Core.Path.{◌≡◌, sym, ap, subst}
 use mathlib.Core.Bool.{true, false}
 use mathlib.Core.List.{List}
+use Rattle.std.specs.Prelude.{Option, Some}
 use Rattle.lines.specs.Commands.{commandClass}
 use Rattle.lines.specs.declared.command.Command.{Command}
 use Rattle.requests.specs.declared.Request.TheVariants.{Asks}
@@ -28,27 +29,26 @@ use Rattle.codes.specs.Commands.{commandOf}
 use Rattle.codes.specs.Readings.{flatGreeting, saidFlat, flat}
 use Rattle.board.specs.Face.{written_by, read_by}
 use Rattle.codes.specs.declared.command.Coded.{Coded}
-use Rattle.codes.specs.declared.command.MaybeCommand.{MaybeCommand}
-use Rattle.codes.specs.declared.command.MaybeCommand.TheVariants.{CommandIs}
 use Rattle.codes.proofs.CodesBack.{command-writable}
 
-pub record Told (d : Device) (p : ℕ) (m : MaybeCommand) (c : Command) (w : WrittenAs) (r : Result Device) : Type 0 where
+pub record Told (d : Device) (p : ℕ) (m : Option Command) (c : Command) (w : WrittenAs) (r : Result Device)
+    : Type 0 where
   pub written : w.number ≡ 0
   pub taken : TakenAndRead d p c w.bytes r
   pub read : read_by m r.reply ≡ saidFlat (meant d.settings d.own (Asks c))
 
 module _ (d : Device) (p : ℕ) (there : p < placesCount) (legal : isLegal d ≡ true)
     (between : (connectionAt d p).line ≡ emptyLine)
-    (k : Coded) (c : Command) (named : commandOf k ≡ CommandIs c)
+    (k : Coded) (c : Command) (named : commandOf k ≡ Some c)
     (within : commandClass c ≤ d.settings.class_number)
     (room : ℕ) (enough : replyRoom ≤ room) (memory : ℕ) (lent : commandRoom ≤ memory) where
   -- of the command itself, and so of its code
-  abbrev ToldBy : (MaybeCommand → WrittenAs) → MaybeCommand → Type 0
+  abbrev ToldBy : (Option Command → WrittenAs) → Option Command → Type 0
   ToldBy write m = Told d p m c (write m) (received d p (write m).bytes room)
 
-  told : (write : MaybeCommand → WrittenAs)
-      → ((write (CommandIs c)).number ≡ 0) × TakenAndRead d p c (write (CommandIs c)).bytes
-      (received d p (write (CommandIs c)).bytes room)
+  told : (write : Option Command → WrittenAs)
+      → ((write (Some c)).number ≡ 0) × TakenAndRead d p c (write (Some c)).bytes
+      (received d p (write (Some c)).bytes room)
       → ToldBy write (commandOf k)
   told write through =
       subst (ToldBy write) (sym named)

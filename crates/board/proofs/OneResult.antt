@@ -1,6 +1,6 @@
--- The promises of the controller's calls leave one result each, lent memory included; of the calls over lists
--- OneOfLists says so. The other calls promise what the calls below them do, in the same words: that they leave one
--- result is said there.
+-- The promises of the controller's calls and of the panel's leave one result each, lent memory included; of the calls
+-- over lists OneOfLists says so. The other calls promise what the calls below them do, in the same words: that they leave
+-- one result is said there.
 -- Assumes nothing.
 use Prim.Native.Nat.{ℕ}
 use mathlib.Core.Path.{◌≡◌}
@@ -14,8 +14,12 @@ use Rattle.controller.specs.Greetings.{readGreeting}
 use Rattle.controller.specs.declared.writing.Written.{Written}
 use Rattle.codes.specs.Commands.{commandOf}
 use Rattle.codes.specs.Readings.{flatGreeting}
+use Rattle.panel.specs.PanelCalls.{commanded}
+use Rattle.panel.specs.declared.types.Panel.{Panel}
 use Rattle.board.specs.Face.{written_by, read_by}
+use Rattle.board.specs.Results.{panel_sent_of}
 use Rattle.codes.specs.declared.command.Coded.{Coded}
+use Rattle.board.specs.declared.results.PanelSent.{PanelSent}
 use Rattle.codes.specs.declared.readings.FlatGreeting.{FlatGreeting}
 use Rattle.codes.specs.declared.readings.FlatReading.{FlatReading}
 
@@ -36,3 +40,10 @@ one-reading-by k l = one-result
 pub one-flat-greeting : (l : List ℕ) {r s : FlatGreeting} → r ≡ flatGreeting (readGreeting l)
     → s ≡ flatGreeting (readGreeting l) → r ≡ s
 one-flat-greeting l = one-result
+
+module _ (p : Panel) (i : ℕ) (k : Coded) (out : List ℕ) where
+  abbrev pub Sends : PanelSent → List ℕ → Type 0
+  Sends = let c = commanded p i k (length out) in Left (panel_sent_of c) (over c.line out)
+
+  pub one_panel_sent : {r s : PanelSent} {m n : List ℕ} → Sends r m → Sends s n → (r ≡ s) × (m ≡ n)
+  one_panel_sent q t = one_left q t

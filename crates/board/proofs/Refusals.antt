@@ -8,7 +8,7 @@ use mathlib.Core.Bool.{Bool, true, false, not}
 use mathlib.Core.List.{List, []}
 use lib.Dec.{ltb}
 use borrow.Author.Tests.{le-ltb}
-use Rattle.std.specs.Prelude.{if◌then◌else◌}
+use Rattle.std.specs.Prelude.{if◌then◌else◌, Option, Some, None}
 use Rattle.text.proofs.Choices.{if-all, if_no}
 use Rattle.lines.specs.Forms.{replyParameter}
 use Rattle.lines.specs.declared.command.Command.{Command}
@@ -25,8 +25,6 @@ use Rattle.codes.specs.Commands.{commandOf}
 use Rattle.codes.specs.Readings.{meaningless, flatAs, flat}
 use Rattle.board.specs.Face.{noneWritten, written_by, read_by}
 use Rattle.codes.specs.declared.command.Coded.{Coded}
-use Rattle.codes.specs.declared.command.MaybeCommand.{MaybeCommand}
-use Rattle.codes.specs.declared.command.MaybeCommand.TheVariants.{CommandIs, NoCommand}
 
 pub none-bytes : (room : ℕ) → (noneWritten room).bytes ≡ []
 unfolding noneWritten
@@ -40,30 +38,30 @@ none_number room = by (ltb room commandRoom)
     by true = refl
     by false = refl
 
-abbrev pub isWritableBy : MaybeCommand → Bool → List ℕ → Bool
-isWritableBy (CommandIs c) secured password = isWritable c secured password
-isWritableBy NoCommand secured password = false
+abbrev pub isWritableBy : Option Command → Bool → List ℕ → Bool
+isWritableBy (Some c) secured password = isWritable c secured password
+isWritableBy None secured password = false
 
 module _ (secured : Bool) (random : ℕ) (password : List ℕ) (room : ℕ) where
-  pub write-number : (m : MaybeCommand) → (written_by m secured random password room).number
+  pub write-number : (m : Option Command) → (written_by m secured random password room).number
       ≡ (if ltb room commandRoom then 2 else if not (isWritableBy m secured password) then 3 else 0)
-  write-number (CommandIs c) = written-number c secured random password room
-  write-number NoCommand = none_number room
+  write-number (Some c) = written-number c secured random password room
+  write-number None = none_number room
 
-  pub refused-writes-nothing : (m : MaybeCommand) → ((written_by m secured random password room).number ≡ 0 → ⊥)
+  pub refused-writes-nothing : (m : Option Command) → ((written_by m secured random password room).number ≡ 0 → ⊥)
       → (written_by m secured random password room).bytes ≡ []
-  refused-writes-nothing (CommandIs c) n = refusal-writes-nothing c secured random password room n
-  refused-writes-nothing NoCommand n = none-bytes room
+  refused-writes-nothing (Some c) n = refusal-writes-nothing c secured random password room n
+  refused-writes-nothing None n = none-bytes room
 
-  pub no-command-written : (k : Coded) → commandOf k ≡ NoCommand → commandRoom ≤ room
+  pub no-command-written : (k : Coded) → commandOf k ≡ None → commandRoom ≤ room
       → written_by (commandOf k) secured random password room ≡ nothingWritten 3
   unfolding noneWritten
   no-command-written k e enough =
-      ap (λ (m : MaybeCommand). written_by m secured random password room) e
+      ap (λ (m : Option Command). written_by m secured random password room) e
       ∙ if_no (nothingWritten 2) (nothingWritten 3) (le-ltb room commandRoom enough)
 
-pub no-command-read : (k : Coded) (l : List ℕ) → commandOf k ≡ NoCommand → read_by (commandOf k) l ≡ meaningless 3
-no-command-read k l e = ap (λ (m : MaybeCommand). read_by m l) e
+pub no-command-read : (k : Coded) (l : List ℕ) → commandOf k ≡ None → read_by (commandOf k) l ≡ meaningless 3
+no-command-read k l e = ap (λ (m : Option Command). read_by m l) e
 
 -- the number of a reading is its outcome's
 saying-number : (m : Said) → (flat (saying m)).number ≡ outcomeNumber (saying m).outcome
@@ -80,7 +78,7 @@ saying-number (classIs k) = refl
 saying-number (freezeIs on) = refl
 saying-number nothing = refl
 
-pub read_number : (c : Command) (l : List ℕ) → (read_by (CommandIs c) l).number ≡ outcomeNumber (readReply c l).outcome
+pub read_number : (c : Command) (l : List ℕ) → (read_by (Some c) l).number ≡ outcomeNumber (readReply c l).outcome
 read_number c l =
     reply-by c l (λ r. (flat r).number ≡ outcomeNumber r.outcome) (λ e. refl) (λ e f. refl) (λ f b. refl)
     (λ f b. saying-number (readParameter c (replyParameter l)))
@@ -94,8 +92,8 @@ flat-or-none NotALine m e n = refl
 flat-or-none OtherCommand m e n = refl
 flat-or-none NotAllowed m e n = refl
 
-pub refused-means-nothing : (m : MaybeCommand) (l : List ℕ) → ((read_by m l).number ≡ 0 → ⊥)
+pub refused-means-nothing : (m : Option Command) (l : List ℕ) → ((read_by m l).number ≡ 0 → ⊥)
     → read_by m l ≡ meaningless (read_by m l).number
-refused-means-nothing (CommandIs c) l n =
+refused-means-nothing (Some c) l n =
     flat-or-none (readReply c l).outcome (readReply c l).said (read_number c l) n
-refused-means-nothing NoCommand l n = refl
+refused-means-nothing None l n = refl

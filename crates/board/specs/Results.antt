@@ -1,17 +1,21 @@
--- What the projector's calls give, as the header's records have it.
+-- What the calls on a record give, as the header's records have it.
 --   receiving_of t, opening_of t p     what a call says, beside a record that changes where it lies
 --   received_of r, opened_of p r       the same with the record, by value
 --   changed_of r                       of a call that gives a number and the record
+--   panel_changed_of r, panel_sent_of r     of a panel's call, and of its command
 -- Assumes nothing.
 use Rattle.std.specs.Prelude.{ℕ, length}
 use Rattle.record.specs.declared.types.Device.{Device}
 use Rattle.record.specs.declared.types.Changed.{Changed}
 use Rattle.device.specs.Calls.{Result as Given}
 use Rattle.device.specs.Outcomes.{Told}
+use Rattle.panel.specs.PanelCalls.{PanelAs}
 use Rattle.board.specs.declared.results.Receiving.{Receiving}
 use Rattle.board.specs.declared.results.Opening.{Opening}
 use Rattle.board.specs.declared.results.Received.{Received}
 use Rattle.board.specs.declared.results.Opened.{Opened}
+use Rattle.board.specs.declared.results.PanelChanged.{PanelChanged}
+use Rattle.board.specs.declared.results.PanelSent.{PanelSent}
 
 abbrev pub receiving_of : Told → Receiving
 receiving_of t = record { number = t.number; taken = t.taken; length = t.length }
@@ -27,3 +31,9 @@ opened_of p r = record { number = r.number; length = length r.reply; place = p; 
 
 abbrev pub changed_of : Given Device → Changed
 changed_of r = record { number = r.number; device = r.device }
+
+abbrev pub panel_changed_of : PanelAs → PanelChanged
+panel_changed_of r = record { number = r.number; panel = r.panel }
+
+abbrev pub panel_sent_of : PanelAs → PanelSent
+panel_sent_of r = record { number = r.number; length = length r.line; panel = r.panel }

@@ -5,26 +5,25 @@ ghost use Rattle.codes.specs.Commands.{commandOf};
 ghost use Rattle.codes.specs.Readings.{flatGreeting};
 ghost use Rattle.board.specs.Face.{read_by};
 
-use codes::command::{Coded, MaybeCommand};
+use codes::command::Coded;
 use codes::readings::{FlatGreeting, FlatReading};
-use codes::{command, readings};
 use controller::{greeting, reading};
 
+/// What a projector greets with.
 #[unsafe(no_mangle)]
 pub extern "C" fn pj_read_greeting(line: &[u8]) -> FlatGreeting
     ensures { result ≡ flatGreeting (readGreeting line.now) }
 {
-    readings::flat_greeting(greeting::read_greeting(line))
+    FlatGreeting::of(greeting::read_greeting(line))
 }
 
-// What is no command is 3 at once.
+/// What a reply to the command says; what is no command is 3 at once.
 #[unsafe(no_mangle)]
 pub extern "C" fn pj_read_reply(k: Coded, line: &[u8]) -> FlatReading
     ensures { result ≡ read_by (commandOf k) line.now }
 {
-    let named = command::command_of(k);
-    match named {
-        MaybeCommand::CommandIs(c) => readings::flatten(reading::read_reply(c, line)),
-        MaybeCommand::NoCommand => readings::meaningless(3),
+    match k.command() {
+        Some(command) => FlatReading::of(&reading::read_reply(command, line)),
+        None => FlatReading::meaningless(3),
     }
 }

@@ -1,9 +1,10 @@
-// What the projector's calls give, as C has it: an exported call returns no enum, so a refusal is its number.
+// What the calls on a lent record give, as C has it: an exported call returns no enum, so a refusal is its number.
 ghost use Rattle.std.specs.Prelude.{◌≡◌};
 ghost use Rattle.device.specs.Outcomes.{receiving_told, opening_told, opened_place};
 ghost use Rattle.board.specs.Results.{receiving_of, opening_of};
 
 use device::calls;
+use panel::types::Panel;
 use record::refusal::Refusal;
 use record::types::Device;
 
@@ -43,6 +44,23 @@ pub struct Opened {
     pub length: usize,
     pub place: usize,
     pub device: Device,
+}
+
+/// What a panel's call gives: its number, and the panel (`pj_panel_changed`).
+#[repr(C)]
+#[derive(Clone, Copy)]
+pub struct PanelChanged {
+    pub number: u32,
+    pub panel: Panel,
+}
+
+/// What a panel's command gives: its number, the length of its line, and the panel (`pj_panel_sent`).
+#[repr(C)]
+#[derive(Clone, Copy)]
+pub struct PanelSent {
+    pub number: u32,
+    pub length: usize,
+    pub panel: Panel,
 }
 
 impl Receiving {

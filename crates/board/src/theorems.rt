@@ -1,6 +1,6 @@
 // What is proved beside the contracts of the functions. Nothing is done here: that these functions have their contracts
 // is that the theorems stand.
-ghost use Rattle.std.specs.Prelude.{◌≡◌, ◌<◌, ◌≤◌, ◌^◌, ℕ, ℤ, true, List, false, length, Bool, Option, Result};
+ghost use Rattle.std.specs.Prelude.{◌≡◌, ◌<◌, ◌≤◌, ◌^◌, ℕ, ℤ, true, List, false, length, Bool, Option, Some, Result};
 ghost use Rattle.record.specs.declared.types.Device.{Device};
 ghost use Rattle.record.specs.Limits.{placesCount, opened, awaiting};
 ghost use Rattle.record.specs.Legal.{isLegal};
@@ -9,7 +9,6 @@ ghost use Rattle.stream.specs.Collecting.{emptyLine};
 ghost use Rattle.codes.specs.declared.command.Coded.{Coded};
 ghost use Rattle.lines.specs.declared.command.Command.{Command};
 ghost use Rattle.codes.specs.Commands.{commandOf};
-ghost use Rattle.codes.specs.declared.command.MaybeCommand.TheVariants.{CommandIs};
 ghost use Rattle.lines.specs.Commands.{commandClass};
 ghost use Rattle.device.specs.Calls.{replyRoom, received, openedBy, placeTaken};
 ghost use Rattle.controller.specs.Writing.{commandRoom, toldWritten};
@@ -25,6 +24,11 @@ ghost use Rattle.board.specs.Lists.{Lists};
 ghost use Rattle.board.specs.Days.{flat_verdict, flat_plan, ChecksInto, PlansInto};
 ghost use Rattle.board.specs.Lamps.{ComparesInto};
 ghost use Rattle.board.specs.declared.lamps.Report.{Report};
+ghost use Rattle.board.specs.Results.{panel_changed_of, panel_sent_of};
+ghost use Rattle.board.specs.declared.results.PanelChanged.{PanelChanged};
+ghost use Rattle.board.specs.declared.results.PanelSent.{PanelSent};
+ghost use Rattle.panel.specs.PanelCalls.{panelMade, noPanel, addedTo, commanded, steppedAt, lostAt};
+ghost use Rattle.panel.specs.declared.types.Panel.{Panel};
 ghost use Rattle.record.specs.declared.types.Setting.{Setting};
 ghost use Rattle.board.specs.Which.{settingNumber};
 ghost use Rattle.controller.specs.declared.writing.Written.{Written};
@@ -40,7 +44,7 @@ ghost use Rattle.record.specs.OutOfRange.{refusedSetting};
 /// device's, what is read of the reply to what was written is what the projector meant; so of the greeting.
 pub fn the_face_reads_back()
     ensures read_back { (d : Device) (p : ℕ) → p < placesCount → isLegal d ≡ true
-        → (connectionAt d p).line ≡ emptyLine → (k : Coded) (c : Command) → commandOf k ≡ CommandIs c
+        → (connectionAt d p).line ≡ emptyLine → (k : Coded) (c : Command) → commandOf k ≡ Some c
         → commandClass c ≤ d.settings.class_number
         → (room : ℕ) → replyRoom ≤ room → (memory : ℕ) → commandRoom ≤ memory
         → (connectionAt d p).phase ≡ opened → (random : ℕ) (password : List ℕ)
@@ -49,7 +53,7 @@ pub fn the_face_reads_back()
         (w.number ≡ 0) × (r.taken ≡ length w.bytes)
         × (read_by (commandOf k) r.reply ≡ saidFlat (meant d.settings d.own (Asks c))) }
     ensures read_back_secured { (d : Device) (p : ℕ) → p < placesCount → isLegal d ≡ true
-        → (connectionAt d p).line ≡ emptyLine → (k : Coded) (c : Command) → commandOf k ≡ CommandIs c
+        → (connectionAt d p).line ≡ emptyLine → (k : Coded) (c : Command) → commandOf k ≡ Some c
         → commandClass c ≤ d.settings.class_number
         → (room : ℕ) → replyRoom ≤ room → (memory : ℕ) → commandRoom ≤ memory
         → (connectionAt d p).phase ≡ awaiting
@@ -86,6 +90,18 @@ pub fn one_result()
         → PlansInto l out r m → PlansInto l out s n → (r ≡ s) × (m ≡ n) }
     ensures comparison { (es ls : List ℕ) (out : List ℤ) (r s : Report) (m n : List ℤ)
         → ComparesInto es ls out r m → ComparesInto es ls out s n → (r ≡ s) × (m ≡ n) }
+    ensures panel_made { (r s : PanelChanged)
+        → r ≡ panel_changed_of (panelMade noPanel) → s ≡ panel_changed_of (panelMade noPanel) → r ≡ s }
+    ensures projector_added { (p : Panel) (password : List ℕ) (r s : PanelChanged)
+        → r ≡ panel_changed_of (addedTo p password) → s ≡ panel_changed_of (addedTo p password) → r ≡ s }
+    ensures command_sent { (p : Panel) (i : ℕ) (k : Coded) (out : List ℕ) (r s : PanelSent) (m n : List ℕ)
+        → let c = commanded p i k (length out) in
+        (r ≡ panel_sent_of c) × (m ≡ over c.line out)
+        → (s ≡ panel_sent_of c) × (n ≡ over c.line out) → (r ≡ s) × (m ≡ n) }
+    ensures line_heard { (p : Panel) (i : ℕ) (l : List ℕ) (r s : PanelChanged)
+        → r ≡ panel_changed_of (steppedAt p i l) → s ≡ panel_changed_of (steppedAt p i l) → r ≡ s }
+    ensures connection_lost { (p : Panel) (i : ℕ) (r s : PanelChanged)
+        → r ≡ panel_changed_of (lostAt p i) → s ≡ panel_changed_of (lostAt p i) → r ≡ s }
     ensures setting { (w : Wanted) (r s : ℕ)
         → r ≡ settingNumber (refusedSetting w) → s ≡ settingNumber (refusedSetting w) → r ≡ s }
 {}

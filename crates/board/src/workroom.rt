@@ -1,27 +1,37 @@
-// The workroom panel's calls (RULES, Panel).
+// The workroom panel's calls (RULES, Panel), by value: the panel is given, and the changed one comes back. Each is the
+// panel's own call on a copy.
 ghost use Rattle.std.specs.Prelude.{◌≡◌, length};
 ghost use Rattle.text.specs.Words.{over};
 ghost use Rattle.panel.specs.PanelCalls.{panelMade, noPanel, addedTo, commanded, steppedAt, lostAt};
-ghost use Rattle.panel.specs.PanelCalls.{toldPanel, toldSent};
+ghost use Rattle.board.specs.Results.{panel_changed_of, panel_sent_of};
 
+use crate::results::{PanelChanged, PanelSent};
 use codes::command::Coded;
-use panel::calls;
-use panel::types::{Panel, PanelChanged, PanelSent};
+use panel::refusal;
+use panel::types::Panel;
 
+/// The panel of no projector.
 #[unsafe(no_mangle)]
 pub extern "C" fn pj_panel_none() -> PanelChanged
-    ensures { result ≡ toldPanel (panelMade noPanel) }
+    ensures { result ≡ panel_changed_of (panelMade noPanel) }
 {
-    calls::none()
+    PanelChanged {
+        number: 0,
+        panel: Panel::new(),
+    }
 }
 
+/// A projector more: 1, then 3.
 #[unsafe(no_mangle)]
 pub extern "C" fn pj_panel_add(p: Panel, password: &[u8]) -> PanelChanged
-    ensures { result ≡ toldPanel (addedTo p password.now) }
+    ensures { result ≡ panel_changed_of (addedTo p password.now) }
 {
-    calls::add(p, password)
+    let mut panel = p;
+    let number = refusal::number_of(panel.add(password));
+    PanelChanged { number, panel }
 }
 
+/// A command to a projector: 1, 2, 3 and 9 in that order.
 #[unsafe(no_mangle)]
 pub extern "C" fn pj_panel_command(
     p: Panel,
@@ -29,23 +39,38 @@ pub extern "C" fn pj_panel_command(
     k: Coded,
     out: &mut [u8],
 ) -> PanelSent
-    ensures value { result ≡ toldSent (commanded p projector k (length out.old)) }
+    ensures value { result ≡ panel_sent_of (commanded p projector k (length out.old)) }
     ensures out_after { out.new ≡ over (commanded p projector k (length out.old)).line
         out.old }
 {
-    calls::send(p, projector, k, out)
+    let mut panel = p;
+    let (number, length) = match panel.send(projector, k, out) {
+        Ok(length) => (0, length),
+        Err(refusal) => (refusal.number(), 0),
+    };
+    PanelSent {
+        number,
+        length,
+        panel,
+    }
 }
 
+/// The step on a line from a projector: 1, then 3.
 #[unsafe(no_mangle)]
 pub extern "C" fn pj_panel_line(p: Panel, projector: usize, line: &[u8]) -> PanelChanged
-    ensures { result ≡ toldPanel (steppedAt p projector line.now) }
+    ensures { result ≡ panel_changed_of (steppedAt p projector line.now) }
 {
-    calls::line(p, projector, line)
+    let mut panel = p;
+    let number = refusal::number_of(panel.hear(projector, line));
+    PanelChanged { number, panel }
 }
 
+/// The connection to a projector is gone: 1, then 3.
 #[unsafe(no_mangle)]
 pub extern "C" fn pj_panel_lost(p: Panel, projector: usize) -> PanelChanged
-    ensures { result ≡ toldPanel (lostAt p projector) }
+    ensures { result ≡ panel_changed_of (lostAt p projector) }
 {
-    calls::lost(p, projector)
+    let mut panel = p;
+    let number = refusal::number_of(panel.lose(projector));
+    PanelChanged { number, panel }
 }

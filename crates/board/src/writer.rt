@@ -5,8 +5,7 @@ ghost use Rattle.controller.specs.Writing.{toldWritten};
 ghost use Rattle.codes.specs.Commands.{commandOf};
 ghost use Rattle.board.specs.Face.{noneWritten, written_by};
 
-use codes::command;
-use codes::command::{Coded, MaybeCommand};
+use codes::command::Coded;
 use controller::writing;
 use controller::writing::Written;
 
@@ -26,7 +25,7 @@ fn none_written(room: usize) -> Written
     }
 }
 
-// What is no command is 3, after 2.
+/// The line of a command: 2, then 3, also for what is no command.
 #[tactic(auto, unfolding(crate::specs::Face::noneWritten))]
 #[unsafe(no_mangle)]
 pub extern "C" fn pj_write(
@@ -41,9 +40,8 @@ pub extern "C" fn pj_write(
     ensures out_after { out.new ≡ over (written_by (commandOf k) secured random password.now
         (length out.old)).bytes out.old }
 {
-    let named = command::command_of(k);
-    match named {
-        MaybeCommand::CommandIs(c) => writing::write_command(c, secured, random, password, out),
-        MaybeCommand::NoCommand => none_written(out.len()),
+    match k.command() {
+        Some(command) => writing::write_command(command, secured, random, password, out),
+        None => none_written(out.len()),
     }
 }

@@ -1,10 +1,12 @@
 -- The commands by their codes (include/ceiling.h), a code and two numbers each.
 --   codes              what each code stands for, and which of the two numbers it uses
+--   switch_at n, input_at type number, half_at n     what the numbers of a command stand for, or nothing
 --   commandOf k        the command that k stands for, or none; what a code does not use is passed over
 --   code_of c          the code of a command, with 0 for what it does not use
 --   usedOf k           k with 0 for what its code does not use
 -- Assumes nothing.
 use Rattle.std.specs.Prelude.{ℕ, Bool, true, false, ◌&&◌, List, [], ◌∷◌, leb, eqb, if◌then◌else◌}
+use Rattle.std.specs.Prelude.{Option, Some, None, option_map, option_and_then}
 use Rattle.lines.specs.declared.input.Source.{Source}
 use Rattle.lines.specs.declared.input.Source.TheVariants.{Rgb, Video, Digital, Storage, Network, Internal}
 use Rattle.lines.specs.declared.input.Input.{Input}
@@ -18,8 +20,6 @@ use Rattle.lines.specs.declared.command.Command.{Command}
 use Rattle.lines.specs.declared.command.Command.TheVariants.{PowerSet, InputSet, MuteSet, InputSet2, FreezeSet}
 use Rattle.lines.specs.declared.command.Command.TheVariants.{VolumeStep, NameQuery, Query}
 use Rattle.codes.specs.declared.command.Coded.{Coded}
-use Rattle.codes.specs.declared.command.MaybeCommand.{MaybeCommand}
-use Rattle.codes.specs.declared.command.MaybeCommand.TheVariants.{CommandIs, NoCommand}
 
 infix 5 ◌means◌
 pub data CodedBy : Type 0 where
@@ -52,49 +52,50 @@ codes =
     ∷ (19 means query Sver) ∷ (20 means ofInput NameQuery) ∷ (21 means query Inpt2) ∷ (22 means ofInput InputSet2)
     ∷ (23 means query Inst2) ∷ []
 
-unfoldable pub switchCoded : (off on : Command) → ℕ → MaybeCommand
-switchCoded off on n =
-    if eqb n 0 then CommandIs off
-    else if eqb n 1 then CommandIs on
-    else NoCommand
+-- 0 off or down, 1 on or up
+unfoldable pub switch_at : ℕ → Option Bool
+switch_at n =
+    if eqb n 0 then Some false
+    else if eqb n 1 then Some true
+    else None
 
-unfoldable pub sourceAt : ℕ → Source
-sourceAt n =
-    if eqb n 1 then Rgb
-    else if eqb n 2 then Video
-    else if eqb n 3 then Digital
-    else if eqb n 4 then Storage
-    else if eqb n 5 then Network
-    else Internal
+-- a type, by the table's number
+unfoldable pub source_at : ℕ → Option Source
+source_at n =
+    if eqb n 1 then Some Rgb
+    else if eqb n 2 then Some Video
+    else if eqb n 3 then Some Digital
+    else if eqb n 4 then Some Storage
+    else if eqb n 5 then Some Network
+    else if eqb n 6 then Some Internal
+    else None
 
-abbrev pub input_at : (source number : ℕ) → Input
-input_at source number = record { source = sourceAt source; number = number }
+-- a type 1 to 6 and a number 1 to 35
+unfoldable pub input_at : (source number : ℕ) → Option Input
+input_at source number =
+    if leb 1 number && leb number 35 then option_map (λ s. record { source = s; number = number }) (source_at source)
+    else None
 
-unfoldable pub inputCoded : (source number : ℕ) → Command → MaybeCommand
-inputCoded source number c =
-    if leb 1 source && leb source 6 && leb 1 number && leb number 35 then CommandIs c else NoCommand
+-- 1 video, 2 audio, 3 both
+unfoldable pub half_at : ℕ → Option Half
+half_at n =
+    if eqb n 1 then Some VideoHalf
+    else if eqb n 2 then Some AudioHalf
+    else if eqb n 3 then Some BothHalves
+    else None
 
-unfoldable pub halfAt : ℕ → Half
-halfAt n =
-    if eqb n 1 then VideoHalf
-    else if eqb n 2 then AudioHalf
-    else BothHalves
+abbrev pub stands_for : CodedBy → (first second : ℕ) → Option Command
+stands_for (alone c) first second = Some c
+stands_for (switch f) first second = option_map f (switch_at first)
+stands_for (ofInput f) first second = option_map f (input_at first second)
+stands_for (ofHalf f) first second = option_and_then (λ half. option_map (f half) (switch_at second)) (half_at first)
 
-unfoldable pub halfCoded : (half on : ℕ) → Command → MaybeCommand
-halfCoded half on c = if leb 1 half && leb half 3 && leb on 1 then CommandIs c else NoCommand
-
-abbrev pub stands_for : CodedBy → (first second : ℕ) → MaybeCommand
-stands_for (alone c) first second = CommandIs c
-stands_for (switch f) first second = switchCoded (f false) (f true) first
-stands_for (ofInput f) first second = inputCoded first second (f (input_at first second))
-stands_for (ofHalf f) first second = halfCoded first second (f (halfAt first) (eqb second 1))
-
-abbrev pub commandAmong : List CodeRow → Coded → MaybeCommand
-commandAmong [] k = NoCommand
+abbrev pub commandAmong : List CodeRow → Coded → Option Command
+commandAmong [] k = None
 commandAmong (r ∷ rs) k =
     if eqb k.code r.code then stands_for r.by k.first k.second else commandAmong rs k
 
-unfoldable pub commandOf : Coded → MaybeCommand
+unfoldable pub commandOf : Coded → Option Command
 commandOf k = commandAmong codes k
 
 abbrev pub coded : ℕ → ℕ → ℕ → Coded

@@ -1,7 +1,7 @@
 -- One name that opens this crate's definitions, for computing on concrete records only (RULES, Commands).
 -- Assumes nothing.
-use Rattle.codes.specs.Commands.{switchCoded, sourceAt, inputCoded, halfAt, halfCoded, commandOf, usedOf}
+use Rattle.codes.specs.Commands.{switch_at, source_at, input_at, half_at, commandOf, usedOf}
 
 unfoldable pub computing : Unit {0}
-unfolding switchCoded sourceAt inputCoded halfAt halfCoded commandOf usedOf
+unfolding switch_at source_at input_at half_at commandOf usedOf
 computing = tt

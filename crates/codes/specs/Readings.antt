@@ -21,6 +21,7 @@ use Rattle.controller.specs.declared.greeting.Greeting.TheVariants.{Open, Secure
 use Rattle.controller.specs.declared.reading.Outcome.{Outcome}
 use Rattle.controller.specs.declared.reading.Outcome.TheVariants.{Means, Erra, NotALine, OtherCommand, NotAllowed}
 use Rattle.codes.specs.Commands.{bit, sourceNumber}
+use Rattle.codes.specs.declared.lists.FlatLamps.{FlatLamps}
 use Rattle.codes.specs.declared.readings.FlatGreeting.{FlatGreeting}
 use Rattle.codes.specs.declared.readings.FlatReading.{FlatReading}
 
@@ -83,6 +84,14 @@ hoursOf l = l.hours
 
 abbrev pub lit_of : LampHours → Bool
 lit_of l = l.lit
+
+-- the lamps in cleared rooms
+abbrev pub flatLamps : List LampHours → FlatLamps
+flatLamps ls = record {
+  count = length ls;
+  hours = filledTo 8 0 (map hoursOf ls);
+  lit = filledTo 8 false (map lit_of ls);
+}
 
 abbrev pub withLamps : List LampHours → FlatReading
 withLamps ls =

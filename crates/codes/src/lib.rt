@@ -1,4 +1,4 @@
-// Commands, greetings and readings as numbers, as C passes them: an exported call takes and returns no enum.
+//! Commands, greetings and readings as numbers, as C passes them: an exported call takes and returns no enum.
 #![tactic(auto)]
 
 pub mod command;

@@ -1,19 +1,18 @@
 // What the readers give, as numbers beside arrays, since an exported call returns no enum. What a kind does not use is
-// zero.
+// zero (RULES, Controller).
 ghost use Rattle.std.specs.Prelude.{◌≡◌};
 ghost use Rattle.answers.specs.Carried.{saidBy};
 ghost use Rattle.codes.specs.Commands.{bit, sourceNumber};
 ghost use Rattle.codes.specs.Readings.{flatGreeting, meaningless, plain, powerNumber, saidFlat, flatAs};
 
-use crate::lists;
 use answers::answer::{Answer, ERRORS_COUNT, INPUTS_MOST, Kind, LAMPS_MOST, Power, TEXT_MOST};
 use controller::greeting::Greeting;
 use controller::reading::{Outcome, Reading};
-use lines::input::{Input, Source};
+use lines::input::Source;
 
 pub const CHARACTERS: usize = 2 * INPUTS_MOST;
 
-// `pj_greeting`.
+/// What was read of a greeting (`pj_greeting`).
 #[repr(C)]
 #[derive(Clone, Copy)]
 pub struct FlatGreeting {
@@ -22,7 +21,7 @@ pub struct FlatGreeting {
     pub random: u32,
 }
 
-// `pj_reading`.
+/// What was read of a reply (`pj_reading`).
 #[repr(C)]
 #[derive(Clone, Copy)]
 pub struct FlatReading {
@@ -37,59 +36,7 @@ pub struct FlatReading {
     pub text: [u8; TEXT_MOST],
 }
 
-pub fn flat_greeting(g: Greeting) -> FlatGreeting
-    ensures { result ≡ flatGreeting g }
-{
-    match g {
-        Greeting::Open => FlatGreeting {
-            number: 0,
-            kind: 1,
-            random: 0,
-        },
-        Greeting::Secured(random) => FlatGreeting {
-            number: 0,
-            kind: 2,
-            random,
-        },
-        Greeting::Refused => FlatGreeting {
-            number: 0,
-            kind: 3,
-            random: 0,
-        },
-        Greeting::NotAGreeting => FlatGreeting {
-            number: 10,
-            kind: 0,
-            random: 0,
-        },
-    }
-}
-
-pub fn meaningless(number: u32) -> FlatReading
-    ensures { result ≡ meaningless number }
-{
-    FlatReading {
-        number,
-        kind: 0,
-        first: 0,
-        second: 0,
-        count: 0,
-        hours: [0; LAMPS_MOST],
-        lit: [false; LAMPS_MOST],
-        inputs: [0; CHARACTERS],
-        text: [0; TEXT_MOST],
-    }
-}
-
-pub fn plain(kind: u8, first: u8, second: u8) -> FlatReading
-    ensures { result ≡ plain kind first second }
-{
-    let mut flat = meaningless(0);
-    flat.kind = kind;
-    flat.first = first;
-    flat.second = second;
-    flat
-}
-
+/// The number of a power, 0 to 3, as a reply has it.
 pub fn power_number(p: Power) -> u8
     ensures { result ≡ powerNumber p }
 {
@@ -101,6 +48,7 @@ pub fn power_number(p: Power) -> u8
     }
 }
 
+/// The number of a type of inputs, 1 to 6.
 pub fn source_number(s: Source) -> u8
     ensures { result ≡ sourceNumber s }
 {
@@ -114,56 +62,91 @@ pub fn source_number(s: Source) -> u8
     }
 }
 
-fn input_of(i: Input) -> FlatReading
-    ensures { result ≡ plain 4 (sourceNumber i.source) i.number }
-{
-    let source = i.source;
-    plain(4, source_number(source), i.number)
-}
-
 fn bit(on: bool) -> u8
     ensures { result ≡ bit on }
 {
     if on { 1 } else { 0 }
 }
 
-#[tactic(auto, using(answers::proofs::Counts::said_by_kind))]
-fn said_flat(a: Answer) -> FlatReading
-    ensures { result ≡ saidFlat (saidBy a) }
-{
-    let kind = a.kind;
-    let text = a.text;
-    match kind {
-        Kind::Ok => plain(1, 0, 0),
-        Kind::Refused(n) => plain(2, n, 0),
-        Kind::Powered(p) => plain(3, power_number(p), 0),
-        Kind::Chosen(i) => input_of(i),
-        Kind::Muted(video, audio) => plain(5, bit(video), bit(audio)),
-        Kind::Errors => lists::text_of(6, text, ERRORS_COUNT),
-        Kind::Lamps(n) => {
-            let lamps = a.lamps;
-            lists::lamps_of(lamps, n)
+impl FlatGreeting {
+    /// The greeting by its kind: 1 open, 2 secured with its random number, 3 refused; else the number 10.
+    pub fn of(greeting: Greeting) -> FlatGreeting
+        ensures { result ≡ flatGreeting greeting }
+    {
+        let (number, kind, random) = match greeting {
+            Greeting::Open => (0, 1, 0),
+            Greeting::Secured(random) => (0, 2, random),
+            Greeting::Refused => (0, 3, 0),
+            Greeting::NotAGreeting => (10, 0, 0),
+        };
+        FlatGreeting {
+            number,
+            kind,
+            random,
         }
-        Kind::Inputs(n) => {
-            let inputs = a.inputs;
-            lists::inputs_of(inputs, n)
-        }
-        Kind::Text(n) => lists::text_of(9, text, n),
-        Kind::Class(k) => plain(10, k, 0),
-        Kind::Frozen(on) => plain(12, bit(on), 0),
-        Kind::Nothing => meaningless(12),
     }
 }
 
-pub fn flatten(r: Reading) -> FlatReading
-    ensures { result ≡ flatAs r.outcome (saidBy r.answer) }
-{
-    let outcome = r.outcome;
-    match outcome {
-        Outcome::Means => said_flat(r.answer),
-        Outcome::Erra => plain(11, 0, 0),
-        Outcome::NotALine => meaningless(10),
-        Outcome::OtherCommand => meaningless(11),
-        Outcome::NotAllowed => meaningless(12),
+impl FlatReading {
+    /// A line without a meaning, for the reason that the number says.
+    pub fn meaningless(number: u32) -> FlatReading
+        ensures { result ≡ meaningless number }
+    {
+        FlatReading {
+            number,
+            kind: 0,
+            first: 0,
+            second: 0,
+            count: 0,
+            hours: [0; LAMPS_MOST],
+            lit: [false; LAMPS_MOST],
+            inputs: [0; CHARACTERS],
+            text: [0; TEXT_MOST],
+        }
+    }
+
+    /// A kind and its two values.
+    pub(crate) fn plain(kind: u8, first: u8, second: u8) -> FlatReading
+        ensures { result ≡ plain kind first second }
+    {
+        let mut flat = FlatReading::meaningless(0);
+        flat.kind = kind;
+        flat.first = first;
+        flat.second = second;
+        flat
+    }
+
+    #[tactic(auto, using(answers::proofs::Counts::said_by_kind))]
+    fn said(a: &Answer) -> FlatReading
+        ensures { result ≡ saidFlat (saidBy a.now) }
+    {
+        match a.kind {
+            Kind::Ok => FlatReading::plain(1, 0, 0),
+            Kind::Refused(n) => FlatReading::plain(2, n, 0),
+            Kind::Powered(p) => FlatReading::plain(3, power_number(p), 0),
+            Kind::Chosen(i) => FlatReading::plain(4, source_number(i.source), i.number),
+            Kind::Muted(video, audio) => FlatReading::plain(5, bit(video), bit(audio)),
+            Kind::Errors => FlatReading::with_text(6, &a.text[0..ERRORS_COUNT]),
+            Kind::Lamps(n) => FlatReading::with_lamps(&a.lamps, n),
+            Kind::Inputs(n) => FlatReading::with_inputs(&a.inputs, n),
+            Kind::Text(n) => FlatReading::with_text(9, &a.text[0..n.min(TEXT_MOST)]),
+            Kind::Class(k) => FlatReading::plain(10, k, 0),
+            Kind::Frozen(on) => FlatReading::plain(12, bit(on), 0),
+            Kind::Nothing => FlatReading::meaningless(12),
+        }
+    }
+
+    /// What the reply reader gives: what was said, the ERRA line (kind 11), or 10, 11 or 12 for a line without a
+    /// meaning.
+    pub fn of(reading: &Reading) -> FlatReading
+        ensures { result ≡ flatAs reading.now.outcome (saidBy reading.now.answer) }
+    {
+        match reading.outcome {
+            Outcome::Means => FlatReading::said(&reading.answer),
+            Outcome::Erra => FlatReading::plain(11, 0, 0),
+            Outcome::NotALine => FlatReading::meaningless(10),
+            Outcome::OtherCommand => FlatReading::meaningless(11),
+            Outcome::NotAllowed => FlatReading::meaningless(12),
+        }
     }
 }

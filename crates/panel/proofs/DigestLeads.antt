@@ -8,7 +8,7 @@ use mathlib.Core.List.{List, [], ◌∷◌, ◌++◌}
 use mathlib.Core.Logic.{◌⊎◌, inl, inr, ⊎_elim}
 use lib.Dec.{eqb}
 use borrow.Author.Tests.{eqb-false, eq-eqb}
-use Rattle.std.specs.Prelude.{if◌then◌else◌}
+use Rattle.std.specs.Prelude.{if◌then◌else◌, Option, Some, None}
 use Rattle.text.specs.Scans.{every}
 use Rattle.text.proofs.Choices.{if_yes, if-by, both}
 use Rattle.digest.specs.Hex.{leadingDigest}
@@ -22,8 +22,6 @@ use Rattle.controller.specs.declared.reading.Outcome.TheVariants.{Means, Erra, N
 use Rattle.controller.proofs.Cases.{written-plain, written-led}
 use Rattle.codes.specs.Commands.{commandOf}
 use Rattle.codes.specs.declared.command.Coded.{Coded}
-use Rattle.codes.specs.declared.command.MaybeCommand.{MaybeCommand}
-use Rattle.codes.specs.declared.command.MaybeCommand.TheVariants.{CommandIs, NoCommand}
 use Rattle.codes.proofs.CodesBack.{command-writable}
 use Rattle.panel.specs.Entries.{Talk, talkOf, passwordIn, ungreeted, greetedOpen, greetedSecured, leadsNext}
 use Rattle.panel.specs.Entries.{greetedBy, isSecuredTalk, sentOn}
@@ -40,7 +38,7 @@ pub sent-written : (e : Entry) (c : Command) (room : ℕ) → commandSent e c ro
 unfolding commandSent
 sent-written e c room = refl
 
-module _ (e : Entry) (legal : isEntry e ≡ true) (k : Coded) (c : Command) (named : commandOf k ≡ CommandIs c)
+module _ (e : Entry) (legal : isEntry e ≡ true) (k : Coded) (c : Command) (named : commandOf k ≡ Some c)
     (room : ℕ) (enough : commandRoom ≤ room) where
   pub sent-led : leadsNext (talkOf e) ≡ true
       → commandSent e c room ≡ leadingDigest e.random (passwordIn e) ++ commandLine c
@@ -82,9 +80,9 @@ module _ (e : Entry) where
   outcome-goes OtherCommand m = inr refl
   outcome-goes NotAllowed m = inr refl
 
-  reply-goes : (m : MaybeCommand) (l : List ℕ) → Goes e (repliedTo e m l)
-  reply-goes (CommandIs c) l = outcome-goes (readReply c l).outcome (readReply c l).said
-  reply-goes NoCommand l = inr refl
+  reply-goes : (m : Option Command) (l : List ℕ) → Goes e (repliedTo e m l)
+  reply-goes (Some c) l = outcome-goes (readReply c l).outcome (readReply c l).said
+  reply-goes None l = inr refl
 
   line-goes : (l : List ℕ) → (e.greeting ≡ ungreeted → ⊥) → Goes e (heardLine e l)
   line-goes l greeted =

@@ -1,37 +1,29 @@
--- The promises of the panel's calls leave one result each, lent memory included.
+-- The promises of the panel's calls leave one result each: what they say, the panel and the lent memory.
+--   Leaves a n p          the number n, and the panel p, of a call that gives what a says
+--   Sends p i k m ..      the same of a command, with its line's length; m is the lent memory
 -- Assumes nothing.
 use Prim.Native.Nat.{ℕ}
 use mathlib.Core.Path.{◌≡◌}
 use mathlib.Core.List.{List}
 use lib.ListN.{length}
 use Rattle.text.specs.Words.{over}
-use Rattle.text.proofs.OneResult.{one-result, Left, one_left}
+use Rattle.text.proofs.OneResult.{one-result}
 use Rattle.codes.specs.declared.command.Coded.{Coded}
-use Rattle.panel.specs.PanelCalls.{panelMade, noPanel, addedTo, commanded, steppedAt, lostAt, toldPanel, toldSent}
+use Rattle.panel.specs.PanelCalls.{PanelAs, commanded}
 use Rattle.panel.specs.declared.types.Panel.{Panel}
-use Rattle.panel.specs.declared.types.PanelChanged.{PanelChanged}
-use Rattle.panel.specs.declared.types.PanelSent.{PanelSent}
 
-pub one_none : {r s : PanelChanged} → r ≡ toldPanel (panelMade noPanel) → s ≡ toldPanel (panelMade noPanel) → r ≡ s
-one_none = one-result
+abbrev pub Leaves : PanelAs → ℕ → Panel → Type 0
+Leaves a n p = (n ≡ a.number) × (p ≡ a.panel)
 
-module _ (p : Panel) where
-  pub one-addition : (password : List ℕ) {r s : PanelChanged} → r ≡ toldPanel (addedTo p password)
-      → s ≡ toldPanel (addedTo p password) → r ≡ s
-  one-addition password = one-result
+pub one_change : (a : PanelAs) {r s : ℕ} {x y : Panel} → Leaves a r x → Leaves a s y → (r ≡ s) × (x ≡ y)
+one_change a e f = (one-result e.0 f.0, one-result e.1 f.1)
 
-  module _ (i : ℕ) where
-    -- out is the lent memory
-    abbrev pub Sends : Coded → List ℕ → PanelSent → List ℕ → Type 0
-    Sends k out = let r = commanded p i k (length out) in Left (toldSent r) (over r.line out)
+module _ (p : Panel) (i : ℕ) (k : Coded) (out : List ℕ) where
+  abbrev pub Sends : ℕ → ℕ → Panel → List ℕ → Type 0
+  Sends n v x m =
+      let c = commanded p i k (length out) in
+      (n ≡ c.number) × (v ≡ length c.line) × (x ≡ c.panel) × (m ≡ over c.line out)
 
-    pub one-sending : (k : Coded) (out : List ℕ) {r s : PanelSent} {m n : List ℕ} → Sends k out r m → Sends k out s n
-        → (r ≡ s) × (m ≡ n)
-    one-sending k out q t = one_left q t
-
-    pub one-stepping : (l : List ℕ) {r s : PanelChanged} → r ≡ toldPanel (steppedAt p i l)
-        → s ≡ toldPanel (steppedAt p i l) → r ≡ s
-    one-stepping l = one-result
-
-    pub one-loss : {r s : PanelChanged} → r ≡ toldPanel (lostAt p i) → s ≡ toldPanel (lostAt p i) → r ≡ s
-    one-loss = one-result
+  pub one_sending : {r s v w : ℕ} {x y : Panel} {m n : List ℕ} → Sends r v x m → Sends s w y n
+      → (r ≡ s) × (v ≡ w) × (x ≡ y) × (m ≡ n)
+  one_sending e f = (one-result e.0 f.0, one-result e.1 f.1, one-result e.2 f.2, one-result e.3 f.3)

@@ -7,7 +7,7 @@ use mathlib.Core.Path.{◌≡◌}
 use mathlib.Core.Bool.{Bool, true, not, ◌&&◌}
 use mathlib.Core.List.{List}
 use native.Mathlib.Omega.{arith}
-use lib.ListN.{length, drop}
+use lib.ListN.{length, get_or, drop}
 use lib.Dec.{leb, eqb}
 use borrow.Author.Tests.{leb-true, le-leb, eqb-true, eq-eqb}
 use Rattle.text.specs.Scans.{every}
@@ -98,10 +98,17 @@ module _ (p : Panel) where
     pub place-below : i < panelMost
     place-below = let told = panel-told legal in omega (arith, told.count)
 
-    pub entry-at-legal : isEntry (entry_at p i) ≡ true
-    entry-at-legal =
+    -- whatever stands for what is past the end
+    legal-there : (d : Entry) → isEntry (get_or p.entries i d) ≡ true
+    legal-there d =
         let told = panel-told legal in
-        every-at isEntry p.entries blankEntry told.entries i (omega (arith, told.long, told.count))
+        every-at isEntry p.entries d told.entries i (omega (arith, told.long, told.count))
+
+    pub entry-at-legal : isEntry (entry_at p i) ≡ true
+    entry-at-legal = legal-there blankEntry
+
+    pub fits_there : (d : Entry) → (get_or p.entries i d).password.len ≤ textRoom
+    fits_there d = password-fits (get_or p.entries i d) (legal-there d)
 
 -- the lit marks of so many lamps, and a panel, by what is used of their room
 pub lit_used : (ms : List Bool) (n : ℕ) → n ≤ lampsCarried → length ms ≡ lampsCarried → isLitRoom ms n

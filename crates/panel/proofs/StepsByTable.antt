@@ -8,6 +8,7 @@ use mathlib.Core.List.{List}
 use native.Mathlib.Omega.{arith}
 use lib.Dec.{eqb}
 use borrow.Author.Tests.{eqb-true, eqb-false, eq-eqb, ne_eqb, not-true, not-false}
+use Rattle.std.specs.Prelude.{Option, Some, None}
 use Rattle.text.proofs.Choices.{if_yes, if_no, if-by}
 use Rattle.lines.specs.declared.command.Command.{Command}
 use Rattle.answers.specs.Said.{Said}
@@ -20,8 +21,6 @@ use Rattle.controller.specs.declared.reading.Outcome.TheVariants.{Means, Erra, N
 use Rattle.controller.proofs.Refusals.{erra-read}
 use Rattle.controller.proofs.ReadsSound.{erra-exactly}
 use Rattle.codes.specs.Commands.{commandOf}
-use Rattle.codes.specs.declared.command.MaybeCommand.{MaybeCommand}
-use Rattle.codes.specs.declared.command.MaybeCommand.TheVariants.{CommandIs, NoCommand}
 use Rattle.panel.specs.Entries.{ungreeted}
 use Rattle.panel.specs.Stepping.{strayed, greetedAs, heardAs, heardBy, repliedTo, heardLine}
 use Rattle.panel.specs.LegalPanels.{isNamed, isEntry}
@@ -56,7 +55,7 @@ module _ (e : Entry) (l : List ℕ) where
   unfolding heardLine
   step-replied c u =
       if_no _ _ (ne_eqb e.greeting ungreeted u.greeted) ∙ if_no _ _ (ap not u.waits)
-      ∙ ap (λ (m : MaybeCommand). repliedTo e m l) u.asked
+      ∙ ap (λ (m : Option Command). repliedTo e m l) u.asked
 
   -- each row is the step
   not-greeting : (g : Greeting) → isGreeting g ≡ false → greetedAs e g ≡ strayed e
@@ -112,9 +111,9 @@ module _ (e : Entry) (l : List ℕ) where
       step_by (StepTo e l) (λ g. greeting-row g (readGreeting l) refl) (λ g w. strays (late g w))
       (λ g w. by g w (commandOf e.command) refl)
     where
-      by : (e.greeting ≡ ungreeted → ⊥) → e.under_way ≡ true → (m : MaybeCommand) → commandOf e.command ≡ m
+      by : (e.greeting ≡ ungreeted → ⊥) → e.under_way ≡ true → (m : Option Command) → commandOf e.command ≡ m
           → StepTo e l (repliedTo e m l)
-      by g w (CommandIs c) a =
+      by g w (Some c) a =
           reply-row c (record { greeted = g; waits = w; asked = a }) (readReply c l).outcome (readReply c l).said refl
-      by g w NoCommand a =
+      by g w None a =
           absurd (false≢true (sym (ap isNamed a) ∙ under-way-named e legal w))

@@ -9,16 +9,16 @@
 --   isPanel p         up to eight projectors, and the entries past them unused
 -- Assumes nothing.
 use Rattle.std.specs.Prelude.{ℕ, Bool, true, false, not, ◌&&◌, ◌||◌, List, length, drop, leb, eqb, if◌then◌else◌}
+use Rattle.std.specs.Prelude.{Option, Some, None}
 use Rattle.text.specs.Scans.{every}
 use Rattle.lines.specs.Texts.{isPassword}
+use Rattle.lines.specs.declared.command.Command.{Command}
 use Rattle.record.specs.Rules.{at_most}
 use Rattle.record.specs.Legal.{fillsRoom, fillsTextRoom}
 use Rattle.answers.specs.Carried.{lampsCarried}
 use Rattle.answers.specs.CanSay.{hoursMost}
 use Rattle.codes.specs.Commands.{commandOf}
 use Rattle.codes.specs.declared.command.Coded.{Coded}
-use Rattle.codes.specs.declared.command.MaybeCommand.{MaybeCommand}
-use Rattle.codes.specs.declared.command.MaybeCommand.TheVariants.{CommandIs, NoCommand}
 use Rattle.panel.specs.Entries.{Talk, Shown, talkOf, shownOf, ungreeted, greetedSecured, isSecuredTalk}
 use Rattle.panel.specs.Stepping.{straysMost}
 use Rattle.panel.specs.declared.types.Entry.{Entry}
@@ -27,9 +27,9 @@ use Rattle.panel.specs.declared.types.Panel.{Panel}
 abbrev pub panelMost : ℕ
 panelMost = 8
 
-abbrev pub isNamed : MaybeCommand → Bool
-isNamed (CommandIs c) = true
-isNamed NoCommand = false
+abbrev pub isNamed : Option Command → Bool
+isNamed (Some c) = true
+isNamed None = false
 
 abbrev pub isNoneCoded : Coded → Bool
 isNoneCoded k = eqb k.code 0 && eqb k.first 0 && eqb k.second 0

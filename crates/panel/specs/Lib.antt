@@ -3,6 +3,8 @@ pub mod Showing
 pub mod Stepping
 pub mod LegalPanels
 pub mod PanelCalls
+pub mod Refusals
+pub mod Views
 pub mod StepTable
 pub mod Talks
 pub mod Computing

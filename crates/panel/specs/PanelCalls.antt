@@ -8,9 +8,8 @@
 --   commanded p i k room   the command k to the projector i: 1, 2, 3, 9, or its line
 --   steppedAt p i l        the line l from the projector i: 1, 3, or the step on its entry alone
 --   lostAt p i             its connection is gone: 1, 3
---   toldPanel, toldSent    these as the code returns them
 -- Assumes nothing.
-use Rattle.std.specs.Prelude.{ℕ, ◌+◌, not, List, [], ◌∷◌, length, get_or, set, replicate, leb, ltb}
+use Rattle.std.specs.Prelude.{ℕ, ◌+◌, not, List, [], ◌∷◌, get_or, set, replicate, leb, ltb}
 use Rattle.text.specs.Rows.{Row, ◌when◌, byRows}
 use Rattle.lines.specs.Texts.{isPassword}
 use Rattle.controller.specs.Writing.{commandRoom}
@@ -21,8 +20,6 @@ use Rattle.panel.specs.Stepping.{heardLine, lostEntry, sentEntry, isUnready, lin
 use Rattle.panel.specs.LegalPanels.{panelMost, isNamed, isPanel}
 use Rattle.panel.specs.declared.types.Entry.{Entry}
 use Rattle.panel.specs.declared.types.Panel.{Panel}
-use Rattle.panel.specs.declared.types.PanelChanged.{PanelChanged}
-use Rattle.panel.specs.declared.types.PanelSent.{PanelSent}
 
 pub record PanelAs : Type 0 where
   pub number : ℕ
@@ -77,9 +74,3 @@ steppedAt p i l =
 
 unfoldable pub lostAt : Panel → ℕ → PanelAs
 lostAt p i = byRows (projectorRows p i) (panelKept p) (panelMade (withEntry p i (lostEntry (entry_at p i))))
-
-abbrev pub toldPanel : PanelAs → PanelChanged
-toldPanel r = record { number = r.number; panel = r.panel }
-
-abbrev pub toldSent : PanelAs → PanelSent
-toldSent r = record { number = r.number; length = length r.line; panel = r.panel }

@@ -4,7 +4,7 @@
 --   Stray e l          the line is late, foreign or malformed: by where the talk stands, or by the reader's number
 --   StepTo e l f       the rows
 -- Assumes nothing.
-use Rattle.std.specs.Prelude.{ℕ, ◌≡◌, Bool, true, false, List}
+use Rattle.std.specs.Prelude.{ℕ, ◌≡◌, Bool, true, false, List, Some}
 use Rattle.lines.specs.Forms.{erraLine}
 use Rattle.lines.specs.declared.command.Command.{Command}
 use Rattle.answers.specs.Said.{Said}
@@ -13,7 +13,6 @@ use Rattle.controller.specs.Reading.{meaning, readReply, outcomeNumber}
 use Rattle.controller.specs.declared.greeting.Greeting.{Greeting}
 use Rattle.controller.specs.declared.greeting.Greeting.TheVariants.{Open, Secured, Refused, NotAGreeting}
 use Rattle.codes.specs.Commands.{commandOf}
-use Rattle.codes.specs.declared.command.MaybeCommand.TheVariants.{CommandIs}
 use Rattle.panel.specs.Entries.{ungreeted, greetedOpen, greetedSecured, greetedBy}
 use Rattle.panel.specs.Stepping.{strayed, withTalk, answeredEntry, erraEntry}
 use Rattle.panel.specs.declared.types.Entry.{Entry}
@@ -27,7 +26,7 @@ isGreeting NotAGreeting = false
 pub record UnderWay (e : Entry) (c : Command) : Type 0 where
   pub greeted : e.greeting ≡ ungreeted → ⊥
   pub waits : e.under_way ≡ true
-  pub asked : commandOf e.command ≡ CommandIs c
+  pub asked : commandOf e.command ≡ Some c
 
 pub data Stray (e : Entry) (l : List ℕ) : Type 0 where
   ungreeted-malformed : e.greeting ≡ ungreeted → isGreeting (readGreeting l) ≡ false → Stray e l

@@ -13,7 +13,7 @@
 --   lineSent e m room        the same of a command by its code; nothing of none
 -- Lines are read by the controller's own readers, readGreeting and readReply, and written by its writer.
 -- Assumes nothing.
-use Rattle.std.specs.Prelude.{ℕ, ◌+◌, min, Bool, not, ◌||◌, List, [], eqb, if◌then◌else◌}
+use Rattle.std.specs.Prelude.{ℕ, ◌+◌, min, Bool, not, ◌||◌, List, [], eqb, if◌then◌else◌, Option, Some, None}
 use Rattle.lines.specs.declared.command.Command.{Command}
 use Rattle.answers.specs.Said.{Said}
 use Rattle.controller.specs.Greetings.{readGreeting}
@@ -25,8 +25,6 @@ use Rattle.controller.specs.declared.reading.Outcome.{Outcome}
 use Rattle.controller.specs.declared.reading.Outcome.TheVariants.{Means, Erra, NotALine, OtherCommand, NotAllowed}
 use Rattle.codes.specs.Commands.{commandOf}
 use Rattle.codes.specs.declared.command.Coded.{Coded}
-use Rattle.codes.specs.declared.command.MaybeCommand.{MaybeCommand}
-use Rattle.codes.specs.declared.command.MaybeCommand.TheVariants.{CommandIs, NoCommand}
 use Rattle.panel.specs.Entries.{Talk, Shown, talkOf, shownOf, passwordIn, entryOf, ungreeted, greetedOpen}
 use Rattle.panel.specs.Entries.{greetedSecured, noTalk, greetedBy, leadsNext, sentOn, restedOn, nothingShown}
 use Rattle.panel.specs.Showing.{showing}
@@ -73,9 +71,9 @@ abbrev pub heardBy : Entry → ReadAs → Entry
 heardBy e r = heardAs e r.outcome r.said
 
 -- the command under way is one, in a legal entry
-abbrev pub repliedTo : Entry → MaybeCommand → List ℕ → Entry
-repliedTo e (CommandIs c) l = heardBy e (readReply c l)
-repliedTo e NoCommand l = strayed e
+abbrev pub repliedTo : Entry → Option Command → List ℕ → Entry
+repliedTo e (Some c) l = heardBy e (readReply c l)
+repliedTo e None l = strayed e
 
 unfoldable pub heardLine : Entry → List ℕ → Entry
 heardLine e l =
@@ -89,6 +87,6 @@ isUnready e = eqb e.greeting ungreeted || e.under_way
 unfoldable pub commandSent : Entry → Command → ℕ → List ℕ
 commandSent e c room = (writtenCommand c (leadsNext (talkOf e)) e.random (passwordIn e) room).bytes
 
-abbrev pub lineSent : Entry → MaybeCommand → ℕ → List ℕ
-lineSent e (CommandIs c) room = commandSent e c room
-lineSent e NoCommand room = []
+abbrev pub lineSent : Entry → Option Command → ℕ → List ℕ
+lineSent e (Some c) room = commandSent e c room
+lineSent e None room = []

@@ -1,155 +1,138 @@
-// The panel's calls: each tests the panel, finds the projector, and works on its entry alone.
+// The panel's calls, on a panel that is lent (RULES, Panel): each tests it, finds the projector, and works on that
+// one's entry alone. A refused call leaves the panel and the lent memory as they were.
 ghost use Rattle.std.specs.Prelude.{◌≡◌, length};
 ghost use Rattle.text.specs.Words.{over};
-ghost use Rattle.panel.specs.PanelCalls.{panelMade, noPanel, addedTo, commanded, steppedAt, lostAt};
-ghost use Rattle.panel.specs.PanelCalls.{toldPanel, toldSent};
+ghost use Rattle.panel.specs.Entries.{entryOf, noTalk, nothingShown};
+ghost use Rattle.panel.specs.PanelCalls.{noPanel, addedTo, commanded, steppedAt, lostAt};
+ghost use Rattle.panel.specs.Refusals.{panel_outcome_number, length_sent};
 
-use crate::types::{PANEL_MOST, Panel, PanelChanged, PanelSent};
-use crate::{entries, legality, sending, step};
-use codes::command;
-use codes::command::{Coded, MaybeCommand};
+use crate::refusal::Refusal;
+use crate::types::{Entry, LAMPS_MOST, NO_COMMAND, PANEL_MOST, Panel};
+use crate::views::Awaits;
+use codes::command::Coded;
 use lines::texts;
 use record::types::Text;
 use setup::fill;
 
-// The panel of no projector.
-pub fn none() -> PanelChanged
-    ensures { result ≡ toldPanel (panelMade noPanel) }
-{
-    let blank = entries::entry_of(Text::EMPTY);
-    let panel = Panel {
-        count: 0,
-        entries: [blank; PANEL_MOST],
-    };
-    PanelChanged { number: 0, panel }
-}
+/// Room for the longest line of a command, led by a digest.
+pub const COMMAND_ROOM: usize = 168;
 
-// A projector more: 1, then 3 for a password out of range or a ninth projector.
-#[tactic(auto, unfolding(crate::specs::PanelCalls::addedTo))]
-pub fn add(p: Panel, password: &[u8]) -> PanelChanged
-    ensures { result ≡ toldPanel (addedTo p password.now) }
-{
-    if !legality::legal(p) {
-        return PanelChanged {
-            number: 1,
-            panel: p,
-        };
-    }
-    if !texts::is_password(password) {
-        return PanelChanged {
-            number: 3,
-            panel: p,
-        };
-    }
-    let count = p.count;
-    if PANEL_MOST <= count {
-        return PanelChanged {
-            number: 3,
-            panel: p,
-        };
-    }
-    let fresh = entries::entry_of(fill::text_of(password));
-    let mut panel = entries::with_entry(p, count, fresh);
-    panel.count = count + 1;
-    PanelChanged { number: 0, panel }
-}
-
-// A command to a projector: 1, 2, 3 and 9 in that order.
-#[tactic(auto, unfolding(crate::specs::PanelCalls::commanded))]
-pub fn send(p: Panel, projector: usize, k: Coded, out: &mut [u8]) -> PanelSent
-    ensures value { result ≡ toldSent (commanded p projector k (length out.old)) }
-    ensures out_after { out.new ≡ over (commanded p projector k (length out.old)).line
-        out.old }
-{
-    if !legality::legal(p) {
-        return PanelSent {
-            number: 1,
-            length: 0,
-            panel: p,
-        };
-    }
-    if out.len() < 168 {
-        return PanelSent {
-            number: 2,
-            length: 0,
-            panel: p,
-        };
-    }
-    if p.count <= projector {
-        return PanelSent {
-            number: 3,
-            length: 0,
-            panel: p,
-        };
-    }
-    let named = command::command_of(k);
-    let MaybeCommand::CommandIs(c) = named else {
-        return PanelSent {
-            number: 3,
-            length: 0,
-            panel: p,
-        };
-    };
-    let entries = p.entries;
-    let e = entries::entry_in(entries, projector);
-    if sending::is_unready(e) {
-        return PanelSent {
-            number: 9,
-            length: 0,
-            panel: p,
-        };
-    }
-    let length = sending::put_line(e, c, out);
-    let panel = entries::with_entry(p, projector, sending::sent(e, k));
-    PanelSent {
-        number: 0,
-        length,
-        panel,
+impl Entry {
+    /// A projector with that password: its greeting is awaited, nothing is known, no strays.
+    pub fn new(password: Text) -> Entry
+        ensures { result ≡ entryOf password noTalk nothingShown 0 }
+    {
+        Entry {
+            password,
+            greeting: 0,
+            random: 0,
+            led: false,
+            under_way: false,
+            command: NO_COMMAND,
+            power_known: false,
+            input_known: false,
+            lamps_known: false,
+            power: 0,
+            input_type: 0,
+            input_number: 0,
+            lamp_count: 0,
+            hours: [0; LAMPS_MOST],
+            lit: [false; LAMPS_MOST],
+            strays: 0,
+        }
     }
 }
 
-// The step on a line from a projector: 1, then 3.
-#[tactic(auto, unfolding(crate::specs::PanelCalls::steppedAt))]
-pub fn line(p: Panel, projector: usize, line: &[u8]) -> PanelChanged
-    ensures { result ≡ toldPanel (steppedAt p projector line.now) }
-{
-    if !legality::legal(p) {
-        return PanelChanged {
-            number: 1,
-            panel: p,
-        };
+impl Panel {
+    /// The panel of no projector.
+    pub fn new() -> Panel
+        ensures { result ≡ noPanel }
+    {
+        Panel {
+            count: 0,
+            entries: [Entry::new(Text::EMPTY); PANEL_MOST],
+        }
     }
-    if p.count <= projector {
-        return PanelChanged {
-            number: 3,
-            panel: p,
-        };
-    }
-    let entries = p.entries;
-    let e = entries::entry_in(entries, projector);
-    let panel = entries::with_entry(p, projector, step::step(e, line));
-    PanelChanged { number: 0, panel }
-}
 
-// The connection to a projector is gone: 1, then 3.
-#[tactic(auto, unfolding(crate::specs::PanelCalls::lostAt))]
-pub fn lost(p: Panel, projector: usize) -> PanelChanged
-    ensures { result ≡ toldPanel (lostAt p projector) }
-{
-    if !legality::legal(p) {
-        return PanelChanged {
-            number: 1,
-            panel: p,
-        };
+    /// A projector more, numbered by how many there were. Refused: `NotLegal`, then `OutOfRange` for a password that is
+    /// not 0 to 32 letters and digits and for a ninth projector.
+    #[tactic(auto, unfolding(crate::specs::PanelCalls::addedTo))]
+    pub fn add(&mut self, password: &[u8]) -> Result<(), Refusal>
+        ensures number { panel_outcome_number result ≡ (addedTo self.old password.now).number }
+        ensures panel { self.new ≡ (addedTo self.old password.now).panel }
+    {
+        if !self.is_legal() {
+            return Err(Refusal::NotLegal);
+        }
+        if !texts::is_password(password) || PANEL_MOST <= self.count {
+            return Err(Refusal::OutOfRange);
+        }
+        self.entries[self.count] = Entry::new(fill::text_of(password));
+        self.count = self.count + 1;
+        Ok(())
     }
-    if p.count <= projector {
-        return PanelChanged {
-            number: 3,
-            panel: p,
+
+    /// A command to a projector: its line is written from the start of the lent memory, and is so long. Refused:
+    /// `NotLegal`, `NoRoom` for less than 168 bytes, `OutOfRange` for no such projector and for no command, `NotReady`
+    /// before the greeting or over another command, in that order.
+    #[tactic(auto, unfolding(crate::specs::PanelCalls::commanded))]
+    pub fn send(&mut self, projector: usize, coded: Coded, out: &mut [u8]) -> Result<usize, Refusal>
+        ensures number { panel_outcome_number result
+            ≡ (commanded self.old projector coded (length out.old)).number }
+        ensures length { length_sent result
+            ≡ length (commanded self.old projector coded (length out.old)).line }
+        ensures panel { self.new ≡ (commanded self.old projector coded (length out.old)).panel }
+        ensures line { out.new ≡ over (commanded self.old projector coded (length out.old)).line
+            out.old }
+    {
+        if !self.is_legal() {
+            return Err(Refusal::NotLegal);
+        }
+        if out.len() < COMMAND_ROOM {
+            return Err(Refusal::NoRoom);
+        }
+        if self.count <= projector {
+            return Err(Refusal::OutOfRange);
+        }
+        let Some(command) = coded.command() else {
+            return Err(Refusal::OutOfRange);
         };
+        let Awaits::Nothing = self.entries[projector].awaits() else {
+            return Err(Refusal::NotReady);
+        };
+        Ok(self.entries[projector].send(coded, command, out))
     }
-    let entries = p.entries;
-    let e = entries::entry_in(entries, projector);
-    let panel = entries::with_entry(p, projector, step::lose(e));
-    PanelChanged { number: 0, panel }
+
+    /// A line from a projector, with its CR: the step on its entry. Refused: `NotLegal`, then `OutOfRange` for no such
+    /// projector.
+    #[tactic(auto, unfolding(crate::specs::PanelCalls::steppedAt))]
+    pub fn hear(&mut self, projector: usize, line: &[u8]) -> Result<(), Refusal>
+        ensures number { panel_outcome_number result ≡ (steppedAt self.old projector line.now).number }
+        ensures panel { self.new ≡ (steppedAt self.old projector line.now).panel }
+    {
+        if !self.is_legal() {
+            return Err(Refusal::NotLegal);
+        }
+        if self.count <= projector {
+            return Err(Refusal::OutOfRange);
+        }
+        self.entries[projector].hear(line);
+        Ok(())
+    }
+
+    /// The connection to a projector is gone. Refused: `NotLegal`, then `OutOfRange` for no such projector.
+    #[tactic(auto, unfolding(crate::specs::PanelCalls::lostAt))]
+    pub fn lose(&mut self, projector: usize) -> Result<(), Refusal>
+        ensures number { panel_outcome_number result ≡ (lostAt self.old projector).number }
+        ensures panel { self.new ≡ (lostAt self.old projector).panel }
+    {
+        if !self.is_legal() {
+            return Err(Refusal::NotLegal);
+        }
+        if self.count <= projector {
+            return Err(Refusal::OutOfRange);
+        }
+        self.entries[projector].lose();
+        Ok(())
+    }
 }

@@ -1,13 +1,14 @@
-// The workroom panel (RULES, Panel): up to eight projectors, each with a password, a greeting, one command under way,
-// and what was last read of its power, input and lamps.
+//! The workroom panel (RULES, Panel): up to eight projectors, each with a password, a greeting, one command under way,
+//! and what was last read of its power, input and lamps.
 #![tactic(auto)]
 
-pub mod calls;
-mod entries;
-pub mod legality;
+mod calls;
+mod legality;
 mod ranges;
+pub mod refusal;
 mod sending;
 mod shown;
 mod step;
 pub mod theorems;
 pub mod types;
+pub mod views;

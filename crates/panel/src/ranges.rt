@@ -9,64 +9,70 @@ ghost use Rattle.panel.specs.LegalPanels.{isLitRoom, isLampsShown, isShown};
 use crate::types::{Entry, HOURS_MOST, LAMPS_MOST};
 use record::{rooms, scan};
 
-#[tactic(auto, unfolding(crate::specs::LegalPanels::isPowerShown))]
-fn power_ok(known: bool, power: u8) -> bool
-    ensures { result ≡ isPowerShown known power }
-{
-    if known {
-        return power <= 3;
-    }
-    power == 0
-}
-
-#[tactic(auto, unfolding(crate::specs::LegalPanels::isInputShown))]
-fn input_ok(known: bool, source: u8, number: u8) -> bool
-    ensures { result ≡ isInputShown known source number }
-{
-    if known {
-        return (1 <= source) & (source <= 6) & (1 <= number) & (number <= 35);
-    }
-    (source == 0) & (number == 0)
-}
-
-#[tactic(auto, unfolding(crate::specs::LegalPanels::isLampCount))]
-fn lamp_count_ok(known: bool, count: usize) -> bool
-    ensures { result ≡ isLampCount known count }
-{
-    if known {
-        return (1 <= count) & (count <= LAMPS_MOST);
-    }
-    count == 0
-}
-
 #[tactic(auto, using(record::proofs::RoomsTold::fills_used))]
-fn hours_ok(hours: &[u32; LAMPS_MOST], count: usize) -> bool
+fn is_hours(hours: &[u32; LAMPS_MOST], count: usize) -> bool
     ensures { result ≡ fillsRoom lampsCarried isHours hours.now count }
 {
     rooms::used(hours, count).is_some_and(|used| scan::numbers_within(used, HOURS_MOST))
 }
 
 #[tactic(auto, using(crate::proofs::PanelsTold::lit_used))]
-fn lit_ok(lit: &[bool; LAMPS_MOST], count: usize) -> bool
+fn is_lit_room(lit: &[bool; LAMPS_MOST], count: usize) -> bool
     requires { count ≤ lampsCarried }
     ensures { result ≡ isLitRoom lit.now count }
 {
     rooms::used(lit, count).is_some()
 }
 
-#[tactic(auto, using(record::proofs::RoomsTold::fills_inside), unfolding(crate::specs::LegalPanels::isLampsShown))]
-fn lamps_ok(e: &Entry) -> bool
-    ensures { result ≡ isLampsShown e.now.lamps_known e.now.lamp_count e.now.hours e.now.lit }
-{
-    let count = e.lamp_count;
-    lamp_count_ok(e.lamps_known, count) && hours_ok(&e.hours, count) && lit_ok(&e.lit, count)
-}
+impl Entry {
+    #[tactic(auto, unfolding(crate::specs::LegalPanels::isPowerShown))]
+    fn is_power_shown(&self) -> bool
+        ensures { result ≡ isPowerShown self.now.power_known self.now.power }
+    {
+        if self.power_known {
+            return self.power <= 3;
+        }
+        self.power == 0
+    }
 
-#[tactic(auto, unfolding(crate::specs::LegalPanels::isShown))]
-pub fn shown_ok(e: Entry) -> bool
-    ensures { result ≡ isShown (shownOf e) }
-{
-    power_ok(e.power_known, e.power)
-        & input_ok(e.input_known, e.input_type, e.input_number)
-        & lamps_ok(&e)
+    #[tactic(auto, unfolding(crate::specs::LegalPanels::isInputShown))]
+    fn is_input_shown(&self) -> bool
+        ensures { result ≡ isInputShown self.now.input_known self.now.input_type
+            self.now.input_number }
+    {
+        let source = self.input_type;
+        let number = self.input_number;
+        if self.input_known {
+            return 1 <= source && source <= 6 && 1 <= number && number <= 35;
+        }
+        source == 0 && number == 0
+    }
+
+    #[tactic(auto, unfolding(crate::specs::LegalPanels::isLampCount))]
+    fn is_lamp_count(&self) -> bool
+        ensures { result ≡ isLampCount self.now.lamps_known self.now.lamp_count }
+    {
+        if self.lamps_known {
+            return 1 <= self.lamp_count && self.lamp_count <= LAMPS_MOST;
+        }
+        self.lamp_count == 0
+    }
+
+    #[tactic(auto, using(record::proofs::RoomsTold::fills_inside), unfolding(crate::specs::LegalPanels::isLampsShown))]
+    fn is_lamps_shown(&self) -> bool
+        ensures { result ≡ isLampsShown self.now.lamps_known self.now.lamp_count
+            self.now.hours self.now.lit }
+    {
+        self.is_lamp_count()
+            && is_hours(&self.hours, self.lamp_count)
+            && is_lit_room(&self.lit, self.lamp_count)
+    }
+
+    /// Whether what is shown is in its ranges.
+    #[tactic(auto, unfolding(crate::specs::LegalPanels::isShown))]
+    pub(crate) fn is_shown(&self) -> bool
+        ensures { result ≡ isShown (shownOf self.now) }
+    {
+        self.is_power_shown() && self.is_input_shown() && self.is_lamps_shown()
+    }
 }

@@ -2,49 +2,30 @@
 ghost use Rattle.std.specs.Prelude.{◌≡◌, ◌≤◌, length};
 ghost use Rattle.text.specs.Words.{over};
 ghost use Rattle.record.specs.Limits.{textRoom};
-ghost use Rattle.panel.specs.Entries.{talkOf, leadsNext};
-ghost use Rattle.panel.specs.Stepping.{sentEntry, isUnready, commandSent};
+ghost use Rattle.panel.specs.Stepping.{sentEntry, commandSent};
 
-use crate::types::{Entry, GREETED_SECURED, UNGREETED};
+use crate::types::Entry;
 use codes::command::Coded;
 use controller::writing;
 use lines::command::Command;
 
-// Before the greeting, or over another command.
-pub fn is_unready(e: Entry) -> bool
-    ensures { result ≡ isUnready e }
-{
-    (e.greeting == UNGREETED) | e.under_way
-}
-
-// The digest leads the first command after a secured greeting, and no other.
-fn leads_next(e: Entry) -> bool
-    ensures { result ≡ leadsNext (talkOf e) }
-{
-    (e.greeting == GREETED_SECURED) & !e.led
-}
-
-// The command's line, from the start of the lent memory; its length.
-#[tactic(auto, unfolding(crate::specs::Stepping::commandSent))]
-pub fn put_line(e: Entry, c: Command, out: &mut [u8]) -> usize
-    requires { e.password.len ≤ textRoom }
-    ensures value { result ≡ length (commandSent e c (length out.old)) }
-    ensures out_after { out.new ≡ over (commandSent e c (length out.old)) out.old }
-{
-    let leads = leads_next(e);
-    let bytes = e.password.bytes;
-    let len = e.password.len;
-    let written = writing::write_command(c, leads, e.random, &bytes[0..len], out);
-    written.length
-}
-
-// The command k is under way.
-pub fn sent(e: Entry, k: Coded) -> Entry
-    ensures { result ≡ sentEntry e k }
-{
-    let mut next = e;
-    next.led = e.greeting == GREETED_SECURED;
-    next.under_way = true;
-    next.command = k;
-    next
+impl Entry {
+    /// The line of the command, which the code stands for, from the start of the lent memory, led by the digest where
+    /// it is the first after a secured greeting. The command is then under way. Its line's length.
+    #[tactic(auto, unfolding(crate::specs::Stepping::commandSent))]
+    pub(crate) fn send(&mut self, coded: Coded, command: Command, out: &mut [u8]) -> usize
+        requires { self.old.password.len ≤ textRoom }
+        ensures length { result ≡ length (commandSent self.old command (length out.old)) }
+        ensures line { out.new ≡ over (commandSent self.old command (length out.old)) out.old }
+        ensures entry { self.new ≡ sentEntry self.old coded }
+    {
+        let secured = self.greeted().is_secured();
+        let password = &self.password.bytes[0..self.password.len];
+        let leads = secured && !self.led;
+        let written = writing::write_command(command, leads, self.random, password, out);
+        self.led = secured;
+        self.under_way = true;
+        self.command = coded;
+        written.length
+    }
 }

@@ -8,80 +8,62 @@ ghost use Rattle.panel.specs.Stepping.{withShown};
 
 use crate::types::{Entry, LAMPS_MOST};
 use answers::answer::{Answer, Kind, LampHours, Power};
-use codes::{lists, readings};
+use codes::lists::FlatLamps;
+use codes::readings;
 use lines::input::Input;
 
-pub fn show_nothing(e: Entry) -> Entry
-    ensures { result ≡ withShown e nothingShown }
-{
-    let mut next = e;
-    next.power_known = false;
-    next.input_known = false;
-    next.lamps_known = false;
-    next.power = 0;
-    next.input_type = 0;
-    next.input_number = 0;
-    next.lamp_count = 0;
-    next.hours = [0; LAMPS_MOST];
-    next.lit = [false; LAMPS_MOST];
-    next
-}
+impl Entry {
+    /// All is unknown.
+    pub(crate) fn show_nothing(&mut self)
+        ensures { self.new ≡ withShown self.old nothingShown }
+    {
+        self.power_known = false;
+        self.input_known = false;
+        self.lamps_known = false;
+        self.power = 0;
+        self.input_type = 0;
+        self.input_number = 0;
+        self.lamp_count = 0;
+        self.hours = [0; LAMPS_MOST];
+        self.lit = [false; LAMPS_MOST];
+    }
 
-fn show_power(e: Entry, p: Power) -> Entry
-    ensures { result ≡ withShown e (showing (shownOf e) (powerIs p)) }
-{
-    let mut next = e;
-    next.power_known = true;
-    next.power = readings::power_number(p);
-    next
-}
+    fn show_power(&mut self, power: Power)
+        ensures { self.new ≡ withShown self.old (showing (shownOf self.old) (powerIs power)) }
+    {
+        self.power_known = true;
+        self.power = readings::power_number(power);
+    }
 
-fn show_input(e: Entry, i: Input) -> Entry
-    ensures { result ≡ withShown e (showing (shownOf e) (chosenIs i)) }
-{
-    let source = i.source;
-    let mut next = e;
-    next.input_known = true;
-    next.input_type = readings::source_number(source);
-    next.input_number = i.number;
-    next
-}
+    fn show_input(&mut self, input: Input)
+        ensures { self.new ≡ withShown self.old (showing (shownOf self.old) (chosenIs input)) }
+    {
+        self.input_known = true;
+        self.input_type = readings::source_number(input.source);
+        self.input_number = input.number;
+    }
 
-fn show_lamps(e: Entry, lamps: [LampHours; LAMPS_MOST], count: usize) -> Entry
-    ensures { result ≡ withShown e (showing (shownOf e) (lampsAre (take (min count lampsCarried) lamps))) }
-{
-    let flat = lists::lamps_of(lamps, count);
-    let hours = flat.hours;
-    let lit = flat.lit;
-    let mut next = e;
-    next.lamps_known = true;
-    next.lamp_count = flat.count;
-    next.hours = hours;
-    next.lit = lit;
-    next
-}
+    fn show_lamps(&mut self, lamps: &[LampHours; LAMPS_MOST], count: usize)
+        ensures { self.new ≡ withShown self.old (showing (shownOf self.old)
+            (lampsAre (take (min count lampsCarried) lamps.now))) }
+    {
+        let FlatLamps { count, hours, lit } = FlatLamps::of(lamps, count);
+        self.lamps_known = true;
+        self.lamp_count = count;
+        self.hours = hours;
+        self.lit = lit;
+    }
 
-// What an accepted reply says is shown: a power, an input or lamps; anything else changes nothing.
-#[tactic(auto, using(answers::proofs::Counts::said_by_kind))]
-pub fn show(e: Entry, a: Answer) -> Entry
-    ensures { result ≡ withShown e (showing (shownOf e) (saidBy a)) }
-{
-    let kind = a.kind;
-    match kind {
-        Kind::Powered(p) => show_power(e, p),
-        Kind::Chosen(i) => show_input(e, i),
-        Kind::Lamps(n) => {
-            let lamps = a.lamps;
-            show_lamps(e, lamps, n)
+    /// What an accepted reply says is shown: a power, an input or lamps; anything else changes nothing.
+    #[tactic(auto, using(answers::proofs::Counts::said_by_kind))]
+    pub(crate) fn show(&mut self, a: &Answer)
+        ensures { self.new ≡ withShown self.old (showing (shownOf self.old) (saidBy a.now)) }
+    {
+        match a.kind {
+            Kind::Powered(power) => self.show_power(power),
+            Kind::Chosen(input) => self.show_input(input),
+            Kind::Lamps(count) => self.show_lamps(&a.lamps, count),
+            _ => {}
         }
-        Kind::Ok => e,
-        Kind::Refused(_) => e,
-        Kind::Muted(_, _) => e,
-        Kind::Errors => e,
-        Kind::Inputs(_) => e,
-        Kind::Text(_) => e,
-        Kind::Class(_) => e,
-        Kind::Frozen(_) => e,
-        Kind::Nothing => e,
     }
 }

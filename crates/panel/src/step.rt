@@ -2,14 +2,14 @@
 ghost use Rattle.std.specs.Prelude.{◌≡◌, ◌+◌, min};
 ghost use Rattle.answers.specs.Carried.{saidBy};
 ghost use Rattle.controller.specs.Greetings.{readGreeting};
-ghost use Rattle.panel.specs.Entries.{talkOf, greetedBy, restedOn};
+ghost use Rattle.codes.specs.Commands.{commandOf};
+ghost use Rattle.panel.specs.Entries.{talkOf, restedOn};
 ghost use Rattle.panel.specs.Stepping.{straysMost, strayed, withTalk, erraEntry, lostEntry, greetedAs, heardAs};
-ghost use Rattle.panel.specs.Stepping.{heardLine};
+ghost use Rattle.panel.specs.Stepping.{repliedTo, heardLine};
 
-use crate::shown;
-use crate::types::{Entry, GREETED_OPEN, GREETED_SECURED, NO_COMMAND, STRAYS_MOST, UNGREETED};
-use codes::command;
-use codes::command::MaybeCommand;
+use crate::types::{Entry, NO_COMMAND, STRAYS_MOST};
+use crate::views::{Awaits, Greeted};
+use codes::command::Coded;
 use controller::greeting::Greeting;
 use controller::reading::{Outcome, Reading};
 use controller::{greeting, reading};
@@ -24,96 +24,84 @@ fn one_more(strays: u32) -> u32
     strays + 1
 }
 
-// A late, foreign or malformed line changes nothing but the count of such lines.
-fn stray(e: Entry) -> Entry
-    ensures { result ≡ strayed e }
-{
-    let mut next = e;
-    next.strays = one_more(e.strays);
-    next
-}
-
-// The talk begins anew: no digest was sent, and no command is under way.
-fn greeted(e: Entry, greeting: u8, random: u32) -> Entry
-    ensures { result ≡ withTalk e (greetedBy greeting random) }
-{
-    let none = NO_COMMAND;
-    let mut next = e;
-    next.greeting = greeting;
-    next.random = random;
-    next.led = false;
-    next.under_way = false;
-    next.command = none;
-    next
-}
-
-// The connection is gone: a new greeting is awaited, and what is known stays.
-pub fn lose(e: Entry) -> Entry
-    ensures { result ≡ lostEntry e }
-{
-    greeted(e, UNGREETED, 0)
-}
-
-// ERRA: a new greeting is awaited, and nothing is known.
-fn erra(e: Entry) -> Entry
-    ensures { result ≡ erraEntry e }
-{
-    shown::show_nothing(lose(e))
-}
-
-// No command is under way.
-fn rest(e: Entry) -> Entry
-    ensures { result ≡ withTalk e (restedOn (talkOf e)) }
-{
-    let none = NO_COMMAND;
-    let mut next = e;
-    next.under_way = false;
-    next.command = none;
-    next
-}
-
-// Until a greeting is accepted, any other line is malformed.
-fn greet(e: Entry, line: &[u8]) -> Entry
-    ensures { result ≡ greetedAs e (readGreeting line.now) }
-{
-    let heard = greeting::read_greeting(line);
-    match heard {
-        Greeting::Open => greeted(e, GREETED_OPEN, 0),
-        Greeting::Secured(random) => greeted(e, GREETED_SECURED, random),
-        Greeting::Refused => stray(e),
-        Greeting::NotAGreeting => stray(e),
+impl Entry {
+    // A late, foreign or malformed line changes nothing but the count of such lines.
+    fn stray(&mut self)
+        ensures { self.new ≡ strayed self.old }
+    {
+        self.strays = one_more(self.strays);
     }
-}
 
-// With a command under way: ERRA and an accepted reply end it, and any other line is malformed or foreign.
-fn reply(e: Entry, r: Reading) -> Entry
-    ensures { result ≡ heardAs e r.outcome (saidBy r.answer) }
-{
-    let outcome = r.outcome;
-    if let Outcome::Erra = outcome {
-        return erra(e);
+    /// The connection is gone: a new greeting is awaited, and what is known stays.
+    pub(crate) fn lose(&mut self)
+        ensures { self.new ≡ lostEntry self.old }
+    {
+        self.begin(Greeted::NotYet);
     }
-    let Outcome::Means = outcome else {
-        return stray(e);
-    };
-    let rested = rest(e);
-    shown::show(rested, r.answer)
-}
 
-// A line with no command under way is late. What is under way in a legal entry is a command.
-#[tactic(auto, unfolding(crate::specs::Stepping::heardLine))]
-pub fn step(e: Entry, line: &[u8]) -> Entry
-    ensures { result ≡ heardLine e line.now }
-{
-    if e.greeting == UNGREETED {
-        return greet(e, line);
+    // ERRA: a new greeting is awaited, and nothing is known.
+    fn erra(&mut self)
+        ensures { self.new ≡ erraEntry self.old }
+    {
+        self.lose();
+        self.show_nothing();
     }
-    if !e.under_way {
-        return stray(e);
+
+    // No command is under way.
+    fn rest(&mut self)
+        ensures { self.new ≡ withTalk self.old (restedOn (talkOf self.old)) }
+    {
+        self.under_way = false;
+        self.command = NO_COMMAND;
     }
-    let named = command::command_of(e.command);
-    let MaybeCommand::CommandIs(c) = named else {
-        return stray(e);
-    };
-    reply(e, reading::read_reply(c, line))
+
+    // Until a greeting is accepted, any other line is malformed.
+    fn greet(&mut self, line: &[u8])
+        ensures { self.new ≡ greetedAs self.old (readGreeting line.now) }
+    {
+        match greeting::read_greeting(line) {
+            Greeting::Open => self.begin(Greeted::Open),
+            Greeting::Secured(random) => self.begin(Greeted::Secured { random }),
+            Greeting::Refused => self.stray(),
+            Greeting::NotAGreeting => self.stray(),
+        }
+    }
+
+    // ERRA and an accepted reply end the command under way, and any other line is malformed or foreign.
+    fn take(&mut self, reading: &Reading)
+        ensures { self.new ≡ heardAs self.old reading.now.outcome (saidBy reading.now.answer) }
+    {
+        if let Outcome::Erra = reading.outcome {
+            self.erra();
+            return;
+        }
+        let Outcome::Means = reading.outcome else {
+            self.stray();
+            return;
+        };
+        self.rest();
+        self.show(&reading.answer);
+    }
+
+    // A line, where a command is under way: one, in a legal entry.
+    fn reply(&mut self, coded: Coded, line: &[u8])
+        ensures { self.new ≡ repliedTo self.old (commandOf coded) line.now }
+    {
+        let Some(command) = coded.command() else {
+            self.stray();
+            return;
+        };
+        self.take(&reading::read_reply(command, line));
+    }
+
+    /// A line from the projector, with its CR. One with no command under way is late.
+    pub(crate) fn hear(&mut self, line: &[u8])
+        ensures { self.new ≡ heardLine self.old line.now }
+    {
+        match self.awaits() {
+            Awaits::Greeting => self.greet(line),
+            Awaits::Nothing => self.stray(),
+            Awaits::Reply(coded) => self.reply(coded, line),
+        }
+    }
 }

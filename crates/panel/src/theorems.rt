@@ -1,20 +1,17 @@
 // What is proved beside the contracts of the functions. Nothing is done here: that these functions have their contracts
 // is that the theorems stand.
 ghost use Rattle.std.specs.Prelude.{◌≡◌, List, ℕ, true, not, length};
-ghost use Rattle.panel.specs.declared.types.Entry.{Entry};
+ghost use Rattle.text.specs.Scans.{every};
+ghost use Rattle.text.specs.Words.{over};
+ghost use Rattle.codes.specs.declared.command.Coded.{Coded};
+ghost use Rattle.panel.specs.Entries.{greetedBy, greetedSecured, greetedOpen};
+ghost use Rattle.panel.specs.Stepping.{heardLine, withTalk};
 ghost use Rattle.panel.specs.LegalPanels.{isEntry};
 ghost use Rattle.panel.specs.StepTable.{StepTo};
-ghost use Rattle.panel.specs.Stepping.{heardLine, withTalk};
 ghost use Rattle.panel.specs.Talks.{Happens, isFirstLed, ledInTalk};
-ghost use Rattle.panel.specs.Entries.{greetedBy, greetedSecured, greetedOpen};
-ghost use Rattle.text.specs.Scans.{every};
-ghost use Rattle.panel.specs.declared.types.PanelChanged.{PanelChanged};
-ghost use Rattle.panel.specs.PanelCalls.{toldPanel, panelMade, noPanel, addedTo, commanded};
-ghost use Rattle.panel.specs.PanelCalls.{toldSent, steppedAt, lostAt};
+ghost use Rattle.panel.specs.PanelCalls.{addedTo, commanded, steppedAt, lostAt};
+ghost use Rattle.panel.specs.declared.types.Entry.{Entry};
 ghost use Rattle.panel.specs.declared.types.Panel.{Panel};
-ghost use Rattle.codes.specs.declared.command.Coded.{Coded};
-ghost use Rattle.panel.specs.declared.types.PanelSent.{PanelSent};
-ghost use Rattle.text.specs.Words.{over};
 
 /// A legal entry steps by the table of lines, and what the table gives is what the step gives: so it gives one entry.
 pub fn a_line_steps_by_the_table()
@@ -32,18 +29,20 @@ pub fn the_digest_leads_the_first()
         → every not (ledInTalk (withTalk e (greetedBy greetedOpen 0)) xs) ≡ true }
 {}
 
-/// Two results that meet the promise of a call are equal, lent memory included.
+/// Two results that meet the promise of a call are equal: what it says, the panel and the lent memory.
 pub fn one_result()
-    ensures none { (r s : PanelChanged) → r ≡ toldPanel (panelMade noPanel) → s ≡ toldPanel (panelMade noPanel)
-        → r ≡ s }
-    ensures added { (p : Panel) (password : List ℕ) (r s : PanelChanged)
-        → r ≡ toldPanel (addedTo p password) → s ≡ toldPanel (addedTo p password) → r ≡ s }
-    ensures sent { (p : Panel) (i : ℕ) (k : Coded) (out : List ℕ) (r s : PanelSent) (m n : List ℕ)
+    ensures added { (p : Panel) (password : List ℕ) (r s : ℕ) (x y : Panel)
+        → let a = addedTo p password in
+        (r ≡ a.number) × (x ≡ a.panel) → (s ≡ a.number) × (y ≡ a.panel) → (r ≡ s) × (x ≡ y) }
+    ensures sent { (p : Panel) (i : ℕ) (k : Coded) (out : List ℕ) (r s v w : ℕ) (x y : Panel) (m n : List ℕ)
         → let c = commanded p i k (length out) in
-        (r ≡ toldSent c) × (m ≡ over c.line out)
-        → (s ≡ toldSent c) × (n ≡ over c.line out) → (r ≡ s) × (m ≡ n) }
-    ensures stepped { (p : Panel) (i : ℕ) (l : List ℕ) (r s : PanelChanged)
-        → r ≡ toldPanel (steppedAt p i l) → s ≡ toldPanel (steppedAt p i l) → r ≡ s }
-    ensures lost { (p : Panel) (i : ℕ) (r s : PanelChanged)
-        → r ≡ toldPanel (lostAt p i) → s ≡ toldPanel (lostAt p i) → r ≡ s }
+        (r ≡ c.number) × (v ≡ length c.line) × (x ≡ c.panel) × (m ≡ over c.line out)
+        → (s ≡ c.number) × (w ≡ length c.line) × (y ≡ c.panel) × (n ≡ over c.line out)
+        → (r ≡ s) × (v ≡ w) × (x ≡ y) × (m ≡ n) }
+    ensures heard { (p : Panel) (i : ℕ) (l : List ℕ) (r s : ℕ) (x y : Panel)
+        → let h = steppedAt p i l in
+        (r ≡ h.number) × (x ≡ h.panel) → (s ≡ h.number) × (y ≡ h.panel) → (r ≡ s) × (x ≡ y) }
+    ensures lost { (p : Panel) (i : ℕ) (r s : ℕ) (x y : Panel)
+        → let l = lostAt p i in
+        (r ≡ l.number) × (x ≡ l.panel) → (s ≡ l.number) × (y ≡ l.panel) → (r ≡ s) × (x ≡ y) }
 {}

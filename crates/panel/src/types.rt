@@ -1,24 +1,20 @@
 // The panel's record (RULES, Panel): numbers, bools, arrays and structs of these, so that it can cross to C. What is
-// not known, not under way or past a count is zero.
+// not known, not under way or past a count is zero. `views` says what the numbers mean.
 use codes::command::Coded;
 use record::types::Text;
 
+/// Projectors of a panel at most.
 pub const PANEL_MOST: usize = 8;
 
+/// Lamps that are shown of a projector at most.
 pub const LAMPS_MOST: usize = 8;
 
 pub const HOURS_MOST: u32 = 99_999;
 
+/// Where the count of strays stops.
 pub const STRAYS_MOST: u32 = 65_535;
 
-// The greeting that a projector has sent.
-pub const UNGREETED: u8 = 0;
-
-pub const GREETED_OPEN: u8 = 1;
-
-pub const GREETED_SECURED: u8 = 2;
-
-// `pj_entry`: one projector.
+/// One projector (`pj_entry`).
 #[repr(C)]
 #[derive(Clone, Copy)]
 pub struct Entry {
@@ -40,7 +36,7 @@ pub struct Entry {
     pub strays: u32,
 }
 
-// `pj_panel`.
+/// The panel (`pj_panel`): its projectors stand from the first entry on.
 #[repr(C)]
 #[derive(Clone, Copy)]
 pub struct Panel {
@@ -48,23 +44,7 @@ pub struct Panel {
     pub entries: [Entry; PANEL_MOST],
 }
 
-// `pj_panel_changed`.
-#[repr(C)]
-#[derive(Clone, Copy)]
-pub struct PanelChanged {
-    pub number: u32,
-    pub panel: Panel,
-}
-
-// `pj_panel_sent`.
-#[repr(C)]
-#[derive(Clone, Copy)]
-pub struct PanelSent {
-    pub number: u32,
-    pub length: usize,
-    pub panel: Panel,
-}
-
+/// The room of a command where none is under way.
 pub const NO_COMMAND: Coded = Coded {
     code: 0,
     first: 0,

@@ -10,6 +10,7 @@ use native.Mathlib.Omega.{arith}
 use lib.ListN.{length}
 use lib.Dec.{eqb}
 use borrow.Author.Tests.{ne_eqb}
+use Rattle.std.specs.Prelude.{Option, Some}
 use Rattle.text.proofs.Choices.{if_yes}
 use Rattle.digest.specs.Hex.{leadingDigest}
 use Rattle.lines.specs.Commands.{commandClass, isCommand, commandLine}
@@ -35,8 +36,6 @@ use Rattle.controller.specs.Reading.{meaning, readReply}
 use Rattle.controller.proofs.ReadsBack.{reply-read}
 use Rattle.codes.specs.Commands.{commandOf}
 use Rattle.codes.specs.declared.command.Coded.{Coded}
-use Rattle.codes.specs.declared.command.MaybeCommand.{MaybeCommand}
-use Rattle.codes.specs.declared.command.MaybeCommand.TheVariants.{CommandIs}
 use Rattle.codes.proofs.CodesBack.{command-writable}
 use Rattle.panel.specs.Entries.{Talk, talkOf, passwordIn, ungreeted, leadsNext}
 use Rattle.panel.specs.Stepping.{isUnready, lineSent}
@@ -80,7 +79,7 @@ module _ (i p : ℕ) (w : Workroom) (j : Joined i p w) where
       let rests = j.rests in
       (λ n. greeted n || rests n)
 
-  module _ (k : Coded) (c : Command) (is : commandOf k ≡ CommandIs c) where
+  module _ (k : Coded) (c : Command) (is : commandOf k ≡ Some c) where
     pub can-command : Commands w.panel i k commandRoom
     can-command = record {
       legal = j.acquainted.panel;
@@ -101,7 +100,7 @@ module _ (i p : ℕ) (w : Workroom) (j : Joined i p w) where
 
     spelt : sent ≡ ledBy (leadsNext (talkOf entry)) entry.random (passwordIn entry) ++ commandLine c
     spelt =
-        ap (λ (m : MaybeCommand). lineSent entry m commandRoom) is
+        ap (λ (m : Option Command). lineSent entry m commandRoom) is
         ∙ line-sent entry c commandRoom (entry-legal-there w.panel i joined-served) writable (omega arith)
 
     -- how the device takes a line

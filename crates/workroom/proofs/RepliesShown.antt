@@ -7,6 +7,7 @@ use mathlib.Core.Bool.{Bool, true, false, not, ◌&&◌, false≢true}
 use mathlib.Core.Logic.{⊎_elim}
 use mathlib.Core.List.{List}
 use borrow.Author.Tests.{ne_eqb}
+use Rattle.std.specs.Prelude.{Option, Some, None}
 use Rattle.text.proofs.Choices.{if_no}
 use Rattle.text.proofs.Orders.{le-or-lt}
 use Rattle.lines.specs.Commands.{commandClass}
@@ -28,8 +29,6 @@ use Rattle.device.proofs.Legal.{receiving-legal}
 use Rattle.controller.specs.Writing.{commandRoom}
 use Rattle.codes.specs.Commands.{commandOf}
 use Rattle.codes.specs.declared.command.Coded.{Coded}
-use Rattle.codes.specs.declared.command.MaybeCommand.{MaybeCommand}
-use Rattle.codes.specs.declared.command.MaybeCommand.TheVariants.{CommandIs, NoCommand}
 use Rattle.panel.specs.Entries.{talkOf, shownOf, passwordIn, isSecuredTalk, leadsNext}
 use Rattle.panel.specs.Showing.{showing}
 use Rattle.panel.specs.Stepping.{answeredEntry, sentEntry, heardLine}
@@ -62,7 +61,7 @@ module _ (i p : ℕ) (w : Workroom) (j : Joined i p w) where
   abbrev device : Device
   device = w.device
 
-  module _ (k : Coded) (c : Command) (is : commandOf k ≡ CommandIs c)
+  module _ (k : Coded) (c : Command) (is : commandOf k ≡ Some c)
       (within : commandClass c ≤ device.settings.class_number) (there back : List ℕ) where
     abbrev told : Said
     told = meant device.settings device.own (Asks c)
@@ -135,7 +134,7 @@ module _ (i p : ℕ) (w : Workroom) (j : Joined i p w) where
   as_it_was = record { shows = refl; strays = refl; settings = refl; does = refl; joined = j }
 
   -- of a code that stands for nothing nothing is sent
-  refused-so : (k : Coded) (there back : List ℕ) → commandOf k ≡ NoCommand
+  refused-so : (k : Coded) (there back : List ℕ) → commandOf k ≡ None
       → happened oursPanel i p w (asks k there back) ≡ w
   refused-so k there back none =
       commanded-by w.panel i k commandRoom (λ r. askedAs oursPanel i p r device there back ≡ w)
@@ -147,9 +146,9 @@ module _ (i p : ℕ) (w : Workroom) (j : Joined i p w) where
       → (ourConnection p (happened oursPanel i p w (asks k there back))).phase ≡ opened
   asked-open k there back named = by (commandOf k) refl
     where
-      by : (m : MaybeCommand) → commandOf k ≡ m
+      by : (m : Option Command) → commandOf k ≡ m
           → (ourConnection p (happened oursPanel i p w (asks k there back))).phase ≡ opened
-      by (CommandIs c) is =
+      by (Some c) is =
           ⊎_elim
           (λ (within : commandClass c ≤ device.settings.class_number).
           ap (λ (x : Workroom). (ourConnection p x).phase) (asked-so k c is within there back)
@@ -158,16 +157,16 @@ module _ (i p : ℕ) (w : Workroom) (j : Joined i p w) where
           ap (λ (x : Workroom). (ourConnection p x).phase) (swallowed-so i p w j k c is higher there back)
           ∙ ap (λ (q : Connection). q.phase) (swallowed-stands i p w j k c is higher there back))
           (le-or-lt (commandClass c) device.settings.class_number)
-      by NoCommand none = absurd (false≢true (sym (ap isNamed none) ∙ named))
+      by None none = absurd (false≢true (sym (ap isNamed none) ∙ named))
 
   pub open-asked : (k : Coded) (there back : List ℕ) → (connectionAt device p).phase ≡ opened
       → (ourConnection p (happened oursPanel i p w (asks k there back))).phase ≡ opened
   open-asked k there back stands = by (commandOf k) refl
     where
-      by : (m : MaybeCommand) → commandOf k ≡ m
+      by : (m : Option Command) → commandOf k ≡ m
           → (ourConnection p (happened oursPanel i p w (asks k there back))).phase ≡ opened
-      by (CommandIs c) is = asked-open k there back (ap isNamed is)
-      by NoCommand none =
+      by (Some c) is = asked-open k there back (ap isNamed is)
+      by None none =
           ap (λ (x : Workroom). (ourConnection p x).phase) (refused-so k there back none) ∙ stands
 
   pub command-shown : (k : Coded) (there back : List ℕ) → IsWithin device.settings (commandOf k)
@@ -175,9 +174,9 @@ module _ (i p : ℕ) (w : Workroom) (j : Joined i p w) where
       (doneFor device.settings device.own (commandOf k)) (happened oursPanel i p w (asks k there back))
   command-shown k there back = by (commandOf k) refl
     where
-      by : (m : MaybeCommand) → commandOf k ≡ m → IsWithin device.settings m
+      by : (m : Option Command) → commandOf k ≡ m → IsWithin device.settings m
           → ShownAs i p w (showing (shownOf entry) (saidTo device.settings device.own m))
           (doneFor device.settings device.own m) (happened oursPanel i p w (asks k there back))
-      by (CommandIs c) is within = reply-shown k c is within there back
-      by NoCommand none within =
+      by (Some c) is within = reply-shown k c is within there back
+      by None none within =
           subst (ShownAs i p w (shownOf entry) device.own) (sym (refused-so k there back none)) as_it_was

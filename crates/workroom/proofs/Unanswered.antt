@@ -4,6 +4,7 @@
 use Prim.Native.Nat.{ℕ, ◌<◌}
 use mathlib.Core.Path.{◌≡◌, refl, sym, ap, subst}
 use mathlib.Core.List.{List}
+use Rattle.std.specs.Prelude.{Some}
 use Rattle.lines.specs.Commands.{commandClass}
 use Rattle.lines.specs.declared.command.Command.{Command}
 use Rattle.record.specs.Limits.{opened}
@@ -16,7 +17,6 @@ use Rattle.device.proofs.CommandsReceived.{swallowedAt}
 use Rattle.controller.specs.Writing.{commandRoom}
 use Rattle.codes.specs.Commands.{commandOf}
 use Rattle.codes.specs.declared.command.Coded.{Coded}
-use Rattle.codes.specs.declared.command.MaybeCommand.TheVariants.{CommandIs}
 use Rattle.panel.specs.Entries.{shownOf}
 use Rattle.panel.specs.Stepping.{sentEntry}
 use Rattle.panel.specs.StepTable.{UnderWay}
@@ -30,7 +30,7 @@ use Rattle.workroom.proofs.EntriesStep.{entry-sent}
 use Rattle.workroom.proofs.CommandsAnswered.{fit-greeted, joined-served, can-command, higher-taken, sending}
 use Rattle.workroom.proofs.CommandsAnswered.{asked-as}
 
-module _ (i p : ℕ) (w : Workroom) (j : Joined i p w) (k : Coded) (c : Command) (is : commandOf k ≡ CommandIs c)
+module _ (i p : ℕ) (w : Workroom) (j : Joined i p w) (k : Coded) (c : Command) (is : commandOf k ≡ Some c)
     (higher : w.device.settings.class_number < commandClass c) (there back : List ℕ) where
   abbrev device : Device
   device = w.device

@@ -19,15 +19,15 @@ pub record AnyPanel : Type 0 where
 
 abbrev pub oursHearing : (Panel → ℕ → List ℕ → PanelAs) → AnyPanel
 oursHearing f = record {
-  -- panel::calls::add
+  -- Panel::add
   add = addedTo;
-  -- panel::calls::send
+  -- Panel::send
   command = commanded;
   hear = f;
-  -- panel::calls::lost
+  -- Panel::lose
   lose = lostAt;
 }
 
 abbrev pub oursPanel : AnyPanel
--- panel::calls::line
+-- Panel::hear
 oursPanel = oursHearing steppedAt

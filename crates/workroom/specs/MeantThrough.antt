@@ -8,8 +8,9 @@
 --   ownThrough s o hs     its own part after all of it
 --   IsWithin s m          m is a command of a class no higher than that of the settings s (RULES, Class 2), or none
 -- Assumes nothing.
-use Rattle.std.specs.Prelude.{◌≤◌, List, [], ◌∷◌}
+use Rattle.std.specs.Prelude.{◌≤◌, List, [], ◌∷◌, Option, Some, None}
 use Rattle.lines.specs.Commands.{commandClass}
+use Rattle.lines.specs.declared.command.Command.{Command}
 use Rattle.requests.specs.declared.Request.TheVariants.{Asks}
 use Rattle.answers.specs.Said.{Said, nothing}
 use Rattle.record.specs.declared.types.Settings.{Settings}
@@ -17,25 +18,23 @@ use Rattle.record.specs.declared.types.Own.{Own}
 use Rattle.clock.specs.Second.{times, ownSecond}
 use Rattle.meaning.specs.Meaning.{meant, done}
 use Rattle.codes.specs.Commands.{commandOf}
-use Rattle.codes.specs.declared.command.MaybeCommand.{MaybeCommand}
-use Rattle.codes.specs.declared.command.MaybeCommand.TheVariants.{CommandIs, NoCommand}
 use Rattle.panel.specs.Entries.{Shown}
 use Rattle.panel.specs.Showing.{showing}
 use Rattle.workroom.specs.Workroom.{RoomMove, asks, waits, asks-another, hears-another, meanwhile}
 
 module _ (s : Settings) where
   -- a code that stands for no command is refused by the panel
-  abbrev pub saidTo : Own → MaybeCommand → Said
-  saidTo o (CommandIs c) = meant s o (Asks c)
-  saidTo o NoCommand = nothing
+  abbrev pub saidTo : Own → Option Command → Said
+  saidTo o (Some c) = meant s o (Asks c)
+  saidTo o None = nothing
 
-  abbrev pub doneFor : Own → MaybeCommand → Own
-  doneFor o (CommandIs c) = done s o (Asks c)
-  doneFor o NoCommand = o
+  abbrev pub doneFor : Own → Option Command → Own
+  doneFor o (Some c) = done s o (Asks c)
+  doneFor o None = o
 
-  abbrev pub IsWithin : MaybeCommand → Type 0
-  IsWithin (CommandIs c) = commandClass c ≤ s.class_number
-  IsWithin NoCommand = Unit {0}
+  abbrev pub IsWithin : Option Command → Type 0
+  IsWithin (Some c) = commandClass c ≤ s.class_number
+  IsWithin None = Unit {0}
 
   abbrev pub saidAt : Own → RoomMove → Said
   saidAt o (asks k there back) = saidTo o (commandOf k)

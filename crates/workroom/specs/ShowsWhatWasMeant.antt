@@ -25,7 +25,7 @@
 --   BegunAs i w        nothing was heard yet
 --   PartedAs i w x     the connection is gone: what was shown stays, and they are apart
 -- Assumes nothing.
-use Rattle.std.specs.Prelude.{ℕ, ◌+◌, ◌<◌, ◌^◌, ◌≡◌, Bool, true, false, List, [], ◌∷◌}
+use Rattle.std.specs.Prelude.{ℕ, ◌+◌, ◌<◌, ◌^◌, ◌≡◌, Bool, true, false, List, [], ◌∷◌, Some}
 use Rattle.lines.specs.Commands.{commandClass}
 use Rattle.lines.specs.declared.command.Command.{Command}
 use Rattle.record.specs.Limits.{placesCount, ageEnd, awaiting, opened}
@@ -41,7 +41,6 @@ use Rattle.device.specs.Receiving.{passwordOf}
 use Rattle.device.specs.Calls.{replyRoom, received, openedBy, placeTaken, closedBy}
 use Rattle.codes.specs.Commands.{commandOf}
 use Rattle.codes.specs.declared.command.Coded.{Coded}
-use Rattle.codes.specs.declared.command.MaybeCommand.TheVariants.{CommandIs}
 use Rattle.panel.specs.Entries.{Talk, Shown, talkOf, shownOf, passwordIn, ungreeted, leadsNext, nothingShown}
 use Rattle.panel.specs.Showing.{showing}
 use Rattle.panel.specs.LegalPanels.{isNamed, isPanel}
@@ -175,7 +174,7 @@ pub record ShowsWhatWasMeant (P : AnyPanel) : Type 0 where
       ShownAs i p w (shownThrough s o (shownOf (ourEntry i w)) hs) (ownThrough s o hs) (allHappened P i p w hs)
   -- a command of a class higher than the device's gets no reply: it stays under way till the connection is gone
   pub unanswered : (i p : ℕ) (w : Workroom) (k : Coded) (c : Command) (there back : List ℕ) → Joined i p w
-      → commandOf k ≡ CommandIs c → w.device.settings.class_number < commandClass c
+      → commandOf k ≡ Some c → w.device.settings.class_number < commandClass c
       → UnansweredAs i w c (happened P i p w (asks k there back))
   -- whatever others do with the device meanwhile may be among it
   pub others : (p : ℕ) (d : Device) → isLegal d ≡ true → OthersAside p d

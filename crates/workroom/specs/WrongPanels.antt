@@ -2,16 +2,15 @@
 -- falls.
 --   hearingAs f      ours, but where a command is under way f takes the reading of the line
 -- Assumes nothing.
-use Rattle.std.specs.Prelude.{ℕ, ◌+◌, not, List, eqb, if◌then◌else◌}
+use Rattle.std.specs.Prelude.{ℕ, ◌+◌, not, List, eqb, if◌then◌else◌, Option, Some, None}
 use Rattle.lines.specs.declared.command.Command.TheVariants.{Query}
 use Rattle.lines.specs.declared.command.Body.TheVariants.{Powr}
+use Rattle.lines.specs.declared.command.Command.{Command}
 use Rattle.answers.specs.Said.{Said}
 use Rattle.controller.specs.Reading.{ReadAs, readReply}
 use Rattle.controller.specs.declared.reading.Outcome.{Outcome}
 use Rattle.controller.specs.declared.reading.Outcome.TheVariants.{Means, Erra, NotALine, OtherCommand, NotAllowed}
 use Rattle.codes.specs.Commands.{commandOf}
-use Rattle.codes.specs.declared.command.MaybeCommand.{MaybeCommand}
-use Rattle.codes.specs.declared.command.MaybeCommand.TheVariants.{CommandIs, NoCommand}
 use Rattle.panel.specs.Entries.{talkOf, shownOf, entryOf, restedOn}
 use Rattle.panel.specs.Stepping.{strayed, withTalk, answeredEntry, erraEntry, lostEntry, heardBy, heardLine, isUnready}
 use Rattle.panel.specs.PanelCalls.{panelMade, entry_at, withEntry}
@@ -21,9 +20,9 @@ use Rattle.workroom.specs.AnyPanel.{AnyPanel, oursHearing}
 abbrev steppingBy : (Entry → List ℕ → Entry) → AnyPanel
 steppingBy f = oursHearing (λ p i l. panelMade (withEntry p i (f (entry_at p i) l)))
 
-abbrev repliedAs : (Entry → List ℕ → ReadAs → Entry) → Entry → List ℕ → MaybeCommand → Entry
-repliedAs f e l (CommandIs c) = f e l (readReply c l)
-repliedAs f e l NoCommand = strayed e
+abbrev repliedAs : (Entry → List ℕ → ReadAs → Entry) → Entry → List ℕ → Option Command → Entry
+repliedAs f e l (Some c) = f e l (readReply c l)
+repliedAs f e l None = strayed e
 
 abbrev hearingAs : (Entry → List ℕ → ReadAs → Entry) → AnyPanel
 hearingAs f =

@@ -1,36 +1,42 @@
-// `oursPanel`'s calls.
+// `oursPanel`'s calls: what each says, the panel afterwards, and the memory that is lent for a line.
 ghost use Rattle.std.specs.Prelude.{◌≡◌, length};
 ghost use Rattle.text.specs.Words.{over};
-ghost use Rattle.panel.specs.PanelCalls.{toldPanel, toldSent};
+ghost use Rattle.panel.specs.Refusals.{panel_outcome_number, length_sent};
 ghost use Rattle.workroom.specs.AnyPanel.{oursPanel};
 
 use codes::command::Coded;
-use panel::calls;
-use panel::types::{Panel, PanelChanged, PanelSent};
+use panel::refusal::Refusal;
+use panel::types::Panel;
 
-pub fn adds(p: Panel, password: &[u8]) -> PanelChanged
-    ensures { result ≡ toldPanel (oursPanel.add p password.now) }
+pub fn adds(p: &mut Panel, password: &[u8]) -> Result<(), Refusal>
+    ensures number { panel_outcome_number result ≡ (oursPanel.add p.old password.now).number }
+    ensures panel { p.new ≡ (oursPanel.add p.old password.now).panel }
 {
-    calls::add(p, password)
+    p.add(password)
 }
 
-// What is returned, and the memory that is lent for the line.
-pub fn commands(p: Panel, projector: usize, k: Coded, out: &mut [u8]) -> PanelSent
-    ensures value { result ≡ toldSent (oursPanel.command p projector k (length out.old)) }
-    ensures out_after { out.new ≡ over (oursPanel.command p projector k (length out.old)).line
+pub fn commands(p: &mut Panel, projector: usize, k: Coded, out: &mut [u8]) -> Result<usize, Refusal>
+    ensures number { panel_outcome_number result
+        ≡ (oursPanel.command p.old projector k (length out.old)).number }
+    ensures length { length_sent result
+        ≡ length (oursPanel.command p.old projector k (length out.old)).line }
+    ensures panel { p.new ≡ (oursPanel.command p.old projector k (length out.old)).panel }
+    ensures line { out.new ≡ over (oursPanel.command p.old projector k (length out.old)).line
         out.old }
 {
-    calls::send(p, projector, k, out)
+    p.send(projector, k, out)
 }
 
-pub fn hears(p: Panel, projector: usize, line: &[u8]) -> PanelChanged
-    ensures { result ≡ toldPanel (oursPanel.hear p projector line.now) }
+pub fn hears(p: &mut Panel, projector: usize, line: &[u8]) -> Result<(), Refusal>
+    ensures number { panel_outcome_number result ≡ (oursPanel.hear p.old projector line.now).number }
+    ensures panel { p.new ≡ (oursPanel.hear p.old projector line.now).panel }
 {
-    calls::line(p, projector, line)
+    p.hear(projector, line)
 }
 
-pub fn loses(p: Panel, projector: usize) -> PanelChanged
-    ensures { result ≡ toldPanel (oursPanel.lose p projector) }
+pub fn loses(p: &mut Panel, projector: usize) -> Result<(), Refusal>
+    ensures number { panel_outcome_number result ≡ (oursPanel.lose p.old projector).number }
+    ensures panel { p.new ≡ (oursPanel.lose p.old projector).panel }
 {
-    calls::lost(p, projector)
+    p.lose(projector)
 }

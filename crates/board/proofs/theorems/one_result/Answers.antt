@@ -1,4 +1,5 @@
-use Rattle.board.proofs.OneResult.{one-writing-by, one-reading-by, one-flat-greeting}
+use Rattle.text.proofs.OneResult.{one-result}
+use Rattle.board.proofs.OneResult.{one-writing-by, one-reading-by, one-flat-greeting, one_panel_sent}
 use Rattle.board.proofs.OneOfLists.{one_flat_verdict, one_flat_plan, one_report}
 use Rattle.board.proofs.WhichSetting.{one-which}
 use Rattle.board.proofs.theorems.one_result.Goals as goal
@@ -13,5 +14,11 @@ returns c = record {
   verdict = one_flat_verdict;
   plan = one_flat_plan;
   comparison = one_report;
+  panel_made = λ r s. one-result;
+  projector_added = λ p password r s. one-result;
+  command_sent = λ p i k out r s m n q t.
+      one_panel_sent p i k out (record { told = q.0; memory = q.1 }) (record { told = t.0; memory = t.1 });
+  line_heard = λ p i l r s. one-result;
+  connection_lost = λ p i r s. one-result;
   setting = λ w r s. one-which w;
 }

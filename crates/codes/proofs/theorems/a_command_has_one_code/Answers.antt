@@ -1,5 +1,5 @@
 use Rattle.codes.proofs.CommandsCoded.{code-back}
-use Rattle.codes.proofs.CodesBack.{command-back, command-writable, one_code}
+use Rattle.codes.proofs.CodesBack.{command-back, command-writable, one_code, stands_for_its_command}
 use Rattle.codes.proofs.theorems.a_command_has_one_code.Goals as goal
 
 pub returns : goal.returns
@@ -8,4 +8,5 @@ returns c = record {
   command_back = command-back;
   command_writable = command-writable;
   one_code = one_code;
+  stands_for_its_command = stands_for_its_command;
 }

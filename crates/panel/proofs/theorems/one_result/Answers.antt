@@ -1,12 +1,11 @@
-use Rattle.panel.proofs.OneResult.{one_none, one-addition, one-sending, one-stepping, one-loss}
+use Rattle.panel.specs.PanelCalls.{addedTo, steppedAt, lostAt}
+use Rattle.panel.proofs.OneResult.{one_change, one_sending}
 use Rattle.panel.proofs.theorems.one_result.Goals as goal
 
 pub returns : goal.returns
 returns c = record {
-  none = λ r s. one_none;
-  added = λ p password r s. one-addition p password;
-  sent = λ panel i k out r s m n p q.
-      one-sending panel i k out (record { told = p.0; memory = p.1 }) (record { told = q.0; memory = q.1 });
-  stepped = λ p i l r s. one-stepping p i l;
-  lost = λ p i r s. one-loss p i;
+  added = λ p password r s x y. one_change (addedTo p password);
+  sent = λ p i k out r s v w x y m n. one_sending p i k out;
+  heard = λ p i l r s x y. one_change (steppedAt p i l);
+  lost = λ p i r s x y. one_change (lostAt p i);
 }

@@ -3,7 +3,7 @@ use Rattle.std.proofs.Common.{ℕ, Bool, List, map, take}
 use Rattle.answers.specs.declared.answer.LampHours.{LampHours}
 use Rattle.meaning.proofs.Filling.{Filled}
 use Rattle.codes.specs.Readings.{noHours, noneLit, hoursOf, lit_of}
-use Rattle.codes.proofs.lists.lamps_of.Given as goal
+use Rattle.codes.proofs.lists.FlatLamps.of.Given as goal
 
 pub record Passed (lamps : List LampHours) (count : ℕ) (hours : List ℕ) (lit : List Bool) (k : ℕ) : Type 0 where
   pub told : Filled (λ n. map hoursOf (take n lamps)) noHours count hours k

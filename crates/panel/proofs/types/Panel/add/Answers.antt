@@ -1,6 +1,6 @@
 use Rattle.std.proofs.Common.{arith, sym, ◌∙◌}
 use Rattle.lines.proofs.TextsTold.{password-long}
-use Rattle.panel.proofs.calls.add.Goals as goal
+use Rattle.panel.proofs.types.Panel.add.Goals as goal
 
 pub text_of-requires : goal.text_of-requires
 text_of-requires c =
