@@ -1,8 +1,7 @@
 pub mod Gathering
 pub mod KeptText
 pub mod KeptLine
-pub mod LinesSpelt
-pub mod LinesCounted
 pub mod EventSeconds
+pub mod PlayedSpelt
 pub mod OnePlace
 pub mod LastLine

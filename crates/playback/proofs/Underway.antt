@@ -1,32 +1,30 @@
 -- A log played line by line: what is printed so far and what the lines left print are what the log prints.
 --   Underway d log old now left n device    so far n lines are played, `now` is in the sink, the device is so
 -- Assumes nothing.
-use Prim.Native.Nat.{ℕ, suc, ◌+◌, ◌≤◌, ◌<◌}
+use Prim.Native.Nat.{ℕ, suc, ◌+◌, ◌≤◌}
 use mathlib.Core.Path.{◌≡◌, refl, sym, ap, subst, ◌∙◌}
 use mathlib.Core.List.{List, [], ◌∷◌, ◌++◌, append-nil, append_assoc, map}
 use native.Mathlib.Omega.{arith}
-use lib.ListN.{length, take, drop, length-append, length-take}
-use Rattle.std.proofs.Common.{None, Some, IfSome, Any, take_all, take-append-drop, ◌⊎◌, inl, inr}
+use lib.ListN.{length, take, drop, length-append}
+use Rattle.std.proofs.Common.{None, Some, IfSome, Any, take-append-drop, inl, inr}
 use lib.Seq.{length-take-le, take-take}
 use Rattle.std.proofs.Math.Seq.{take-append_seam}
 use Rattle.std.specs.declared.option.Option.{Option}
 use Rattle.std.specs.declared.io.Error.{Error}
 use Rattle.std.specs.Io.KnownBytes.{Keeps, Appends}
 use Rattle.std.proofs.KnownBytes.{Appends-nil, Appends-trans, Appends-kept}
-use Rattle.text.specs.Words.{ascii}
-use Rattle.text.proofs.Orders.{le-or-lt}
-use Rattle.textio.specs.Lines.{lines_of, lines_from, countMost, HasEndlessLine, IsTooLong}
+use Rattle.textio.specs.Lines.{lines_of, countMost, HasEndlessLine, IsTooLong}
 use Rattle.textio.specs.Fronts.{WritesFront}
+use Rattle.textio.proofs.LinesSpelt.{lines_end}
 use Rattle.textio.specs.NextLine.{IsNextLine, IsLine, FailureComesOf}
 use Rattle.record.specs.declared.types.Device.{Device}
 use Rattle.logs.specs.LastLine.{lastLine}
-use Rattle.logs.specs.Lines.{lineMost}
-use Rattle.logs.specs.declared.Says.{Says}
-use Rattle.logs.proofs.Forms.{line-overlong}
-use Rattle.events.specs.Events.{LogEvent, eventOf, noSuch}
+use Rattle.events.specs.Events.{LogEvent}
 use Rattle.events.specs.Doing.{did, printed}
 use Rattle.floor.specs.Events.{event, events}
 use Rattle.floor.specs.Playing.{stateAfter, linesPrinted, replayed}
+use Rattle.floor.proofs.KeptText.{event_of_front}
+use Rattle.floor.proofs.PlayedSpelt.{state_none, state_more, printed_none, printed_more, replayed_is}
 use Rattle.playback.specs.Replaying.{keptMost, IsReplayed}
 use Rattle.textio.specs.declared.lines.Failure.{Failure}
 use Rattle.textio.specs.declared.lines.Failure.TheVariants.{Read, Write, TooLong}
@@ -61,43 +59,31 @@ pub each : (a : Option (List ℕ)) (P Q : List ℕ → Type 0) → ((log : List 
 each None P Q f h = tt
 each (Some log) P Q f h = f log h
 
--- of an overlong line enough is kept
-overlong : (l : List ℕ) → lineMost < length l → event l ≡ noSuch
-unfolding event
-overlong l h = ap (λ (s : Says). eventOf s (drop 2 l ++ ascii "\r")) (line-overlong l h)
-
-event-kept : (l : List ℕ) → event (take keptMost l) ≡ event l
-event-kept l = by-size (le-or-lt (length l) keptMost)
-  where
-    by-size : (length l ≤ keptMost) ⊎ (keptMost < length l) → event (take keptMost l) ≡ event l
-    by-size (inl h) = ap event (take_all keptMost l h)
-    by-size (inr h) = overlong (take keptMost l) (omega (arith, length-take keptMost l)) ∙ sym (overlong l (omega arith))
-
 -- a front of it is written, whatever comes of the rest
-front-of : {old now : Option (List ℕ)} {all : List ℕ} (sofar rest : List ℕ) → all ≡ sofar ++ rest → Appends old now sofar
+front_of : {old now : Option (List ℕ)} {all : List ℕ} (sofar rest : List ℕ) → all ≡ sofar ++ rest → Appends old now sofar
     → WritesFront old now all
-front-of {old} {now} {all} sofar rest e w = record {
+front_of {old} {now} {all} sofar rest e w = record {
   count = length sofar;
   written = subst (Appends old now) (sym (ap (take (length sofar)) e ∙ take-append_seam sofar rest)) w;
 }
 
 -- some of the bytes that come next are written
-front-more : {old now new : Option (List ℕ)} {all : List ℕ} (sofar text rest : List ℕ) → all ≡ sofar ++ (text ++ rest)
+front_more : {old now new : Option (List ℕ)} {all : List ℕ} (sofar text rest : List ℕ) → all ≡ sofar ++ (text ++ rest)
     → Appends old now sofar → WritesFront now new text → WritesFront old new all
-front-more {old} {now} {new} {all} sofar text rest e w f =
+front_more {old} {now} {new} {all} sofar text rest e w f =
     let part = take f.count text in
-    front-of (sofar ++ part) (drop f.count text ++ rest)
+    front_of (sofar ++ part) (drop f.count text ++ rest)
     (e ∙ ap (λ (l : List ℕ). sofar ++ (l ++ rest)) (sym (take-append-drop f.count text))
     ∙ ap (λ (l : List ℕ). sofar ++ l) (append_assoc part _ rest) ∙ sym (append_assoc sofar part _))
     (Appends-trans old now new sofar part w f.written)
 
 -- one of the later lines is one of all
-later-of : (P : List ℕ → Type 0) (front ls : List (List ℕ)) → Any P ls → Any P (front ++ ls)
-later-of P [] ls h = h
-later-of P (x ∷ front) ls h = one-later x (front ++ ls) (later-of P front ls h)
+later_of : (P : List ℕ → Type 0) (front ls : List (List ℕ)) → Any P ls → Any P (front ++ ls)
+later_of P [] ls h = h
+later_of P (x ∷ front) ls h = one_later x (front ++ ls) (later_of P front ls h)
   where
-    one-later : (x : List ℕ) (ls : List (List ℕ)) → Any P ls → Any P (x ∷ ls)
-    one-later x ls (i, v, inside, is, p) = (suc i, v, omega (arith, inside), is, p)
+    one_later : (x : List ℕ) (ls : List (List ℕ)) → Any P ls → Any P (x ∷ ls)
+    one_later x ls (i, v, inside, is, p) = (suc i, v, omega (arith, inside), is, p)
 
 module _ {d device : Device} {log : List ℕ} {old now left : Option (List ℕ)} {n : ℕ}
     (u : Underway d log old now left n device) where
@@ -105,11 +91,10 @@ module _ {d device : Device} {log : List ℕ} {old now left : Option (List ℕ)}
   last = lastLine (stateAfter d (events log))
 
   whole : replayed d log ≡ u.sofar ++ (linesPrinted n device (events u.rest) ++ last)
-  unfolding replayed
-  whole = ap (λ (l : List ℕ). l ++ last) u.lines ∙ append_assoc u.sofar _ last
+  whole = replayed_is d log ∙ ap (λ (l : List ℕ). l ++ last) u.lines ∙ append_assoc u.sofar _ last
 
-  pub so-far : WritesFront old now (replayed d log)
-  so-far = front-of u.sofar _ whole u.written
+  pub so_far : WritesFront old now (replayed d log)
+  so_far = front_of u.sofar _ whole u.written
 
   pub flushed : (new : Option (List ℕ)) → Keeps now new → Underway d log old new left n device
   flushed new k = record {
@@ -124,99 +109,102 @@ module _ {d device : Device} {log : List ℕ} {old now left : Option (List ℕ)}
     parted = u.parted;
   }
 
-  pub too-many : countMost ≤ n → IsTooLong log
-  too-many h = inl (omega (arith, h, u.many, ap length u.parted, length-append u.front (lines_of u.rest)))
+  pub too_many : countMost ≤ n → IsTooLong log
+  too_many h = inl (omega (arith, h, u.many, ap length u.parted, length-append u.front (lines_of u.rest)))
 
   pub endless : IfSome left HasEndlessLine → IsTooLong log
   endless h =
       let rest = subst (λ (o : Option (List ℕ)). IfSome o HasEndlessLine) u.known h in
       inr (subst (λ (ls : List (List ℕ)). Any (λ (l : List ℕ). countMost ≤ length l) ls) (sym u.parted)
-      (later-of (λ (l : List ℕ). countMost ≤ length l) u.front (lines_of u.rest) rest))
+      (later_of (λ (l : List ℕ). countMost ≤ length l) u.front (lines_of u.rest) rest))
 
   -- a line comes next, of which enough is kept
-  module _ (left-then : Option (List ℕ)) (memory : List ℕ) (held : ℕ) (room : keptMost ≤ length memory) (inside : held ≤ keptMost)
-      (next : IfSome left (λ xs. IsNextLine xs left-then (take keptMost memory) (Some held))) where
-    abbrev line-is : IsLine u.rest left-then (length (take keptMost memory)) (take held (take keptMost memory))
-    line-is =
-        subst (λ (o : Option (List ℕ)). IfSome o (λ xs. IsNextLine xs left-then (take keptMost memory) (Some held))) u.known next
+  module _ (left_then : Option (List ℕ)) (memory : List ℕ) (held : ℕ) (room : keptMost ≤ length memory) (inside : held ≤ keptMost)
+      (next : IfSome left (λ xs. IsNextLine xs left_then (take keptMost memory) (Some held))) where
+    abbrev line_is : IsLine u.rest left_then (length (take keptMost memory)) (take held (take keptMost memory))
+    line_is =
+        subst (λ (o : Option (List ℕ)). IfSome o (λ xs. IsNextLine xs left_then (take keptMost memory) (Some held))) u.known next
 
     abbrev line : List ℕ
     line = take held memory
 
-    same : event line ≡ event line-is.first
+    same : event line ≡ event line_is.first
     same =
-        ap event (sym (take-take held keptMost memory inside) ∙ line-is.kept
-        ∙ ap (λ (k : ℕ). take k line-is.first) (length-take-le keptMost memory room))
-        ∙ event-kept line-is.first
+        ap event (sym (take-take held keptMost memory inside) ∙ line_is.kept
+        ∙ ap (λ (k : ℕ). take k line_is.first) (length-take-le keptMost memory room))
+        ∙ event_of_front keptMost line_is.first (omega arith)
 
-    rest-is : events u.rest ≡ event line-is.first ∷ events line-is.later
-    rest-is = ap (map event) line-is.lines
+    rest_is : events u.rest ≡ event line_is.first ∷ events line_is.later
+    rest_is = ap (map event) line_is.lines
 
     -- it is played and printed
     pub played : (text : List ℕ) (after : Device) (new : Option (List ℕ)) → after ≡ (did device (event line)).device
         → text ≡ printed (n + 1) (event line) (did device (event line)) → Appends now new text
-        → Underway d log old new left-then (n + 1) after
-    unfolding linesPrinted stateAfter
+        → Underway d log old new left_then (n + 1) after
     played text after new a t w = record {
-      rest = line-is.later;
-      known = line-is.left;
+      rest = line_is.later;
+      known = line_is.left;
       sofar = u.sofar ++ text;
       written = Appends-trans old now new u.sofar text u.written w;
-      lines = u.lines ∙ ap (λ (es : List LogEvent). u.sofar ++ linesPrinted n device es) rest-is
+      lines = u.lines ∙ ap (λ (es : List LogEvent). u.sofar ++ linesPrinted n device es) rest_is
           ∙ ap (λ (l : List ℕ). u.sofar ++ l)
-          (ap (λ (e : LogEvent). printed (n + 1) e (did device e) ++ linesPrinted (n + 1) (did device e).device (events line-is.later))
+          (printed_more n device (event line_is.first) (events line_is.later)
+          ∙ ap (λ (e : LogEvent). printed (n + 1) e (did device e) ++ linesPrinted (n + 1) (did device e).device (events line_is.later))
           (sym same)
-          ∙ (λ i. sym t i ++ linesPrinted (n + 1) (sym a i) (events line-is.later)))
+          ∙ (λ i. sym t i ++ linesPrinted (n + 1) (sym a i) (events line_is.later)))
           ∙ sym (append_assoc u.sofar text _);
-      state = u.state ∙ ap (stateAfter device) rest-is
-          ∙ ap (λ (e : LogEvent). stateAfter (did device e).device (events line-is.later)) (sym same)
-          ∙ ap (λ (x : Device). stateAfter x (events line-is.later)) (sym a);
-      front = u.front ++ (line-is.first ∷ []);
-      many = omega (arith, length-append u.front (line-is.first ∷ []), u.many);
-      parted = u.parted ∙ ap (λ (ls : List (List ℕ)). u.front ++ ls) line-is.lines
-          ∙ sym (append_assoc u.front (line-is.first ∷ []) (lines_of line-is.later));
+      state = u.state ∙ ap (stateAfter device) rest_is
+          ∙ state_more device (event line_is.first) (events line_is.later)
+          ∙ ap (λ (e : LogEvent). stateAfter (did device e).device (events line_is.later)) (sym same)
+          ∙ ap (λ (x : Device). stateAfter x (events line_is.later)) (sym a);
+      front = u.front ++ (line_is.first ∷ []);
+      many = omega (arith, length-append u.front (line_is.first ∷ []), u.many);
+      parted = u.parted ∙ ap (λ (ls : List (List ℕ)). u.front ++ ls) line_is.lines
+          ∙ sym (append_assoc u.front (line_is.first ∷ []) (lines_of line_is.later));
     }
 
     -- only some of what is printed for it could be written
     pub broken : (text : List ℕ) (new : Option (List ℕ)) → text ≡ printed (n + 1) (event line) (did device (event line))
         → WritesFront now new text → WritesFront old new (replayed d log)
-    unfolding linesPrinted
     broken text new t f =
-        let next-device = (did device (event line-is.first)).device in
-        let text-is : printed (n + 1) (event line-is.first) (did device (event line-is.first)) ≡ text =
+        let next_device = (did device (event line_is.first)).device in
+        let text_is : printed (n + 1) (event line_is.first) (did device (event line_is.first)) ≡ text =
         ap (λ (e : LogEvent). printed (n + 1) e (did device e)) (sym same) ∙ sym t in
-        let later = linesPrinted (n + 1) next-device (events line-is.later) in
-        front-more u.sofar text (later ++ last)
-        (whole ∙ ap (λ (es : List LogEvent). u.sofar ++ (linesPrinted n device es ++ last)) rest-is
-        ∙ ap (λ (l : List ℕ). u.sofar ++ ((l ++ later) ++ last)) text-is
+        let later = linesPrinted (n + 1) next_device (events line_is.later) in
+        front_more u.sofar text (later ++ last)
+        (whole ∙ ap (λ (es : List LogEvent). u.sofar ++ (linesPrinted n device es ++ last)) rest_is
+        ∙ ap (λ (l : List ℕ). u.sofar ++ (l ++ last))
+        (printed_more n device (event line_is.first) (events line_is.later) ∙ ap (λ (l : List ℕ). l ++ later) text_is)
         ∙ ap (λ (l : List ℕ). u.sofar ++ l) (append_assoc text later last))
         u.written f
 
   -- no line comes next
-  module _ (left-then : Option (List ℕ)) (memory text : List ℕ)
-      (next : IfSome left (λ xs. IsNextLine xs left-then memory None)) (t : text ≡ lastLine device) where
-    none-left : u.rest ≡ []
-    none-left = subst (λ (o : Option (List ℕ)). IfSome o (λ xs. IsNextLine xs left-then memory None)) u.known next
+  module _ (left_then : Option (List ℕ)) (memory text : List ℕ)
+      (next : IfSome left (λ xs. IsNextLine xs left_then memory None)) (t : text ≡ lastLine device) where
+    none_left : u.rest ≡ []
+    none_left = subst (λ (o : Option (List ℕ)). IfSome o (λ xs. IsNextLine xs left_then memory None)) u.known next
 
-    state-is : stateAfter d (events log) ≡ device
-    unfolding stateAfter lines_from
-    state-is = u.state ∙ ap (λ (r : List ℕ). stateAfter device (events r)) none-left
+    no_event : events u.rest ≡ []
+    no_event = ap events none_left ∙ ap (map event) (lines_end [])
+
+    state_is : stateAfter d (events log) ≡ device
+    state_is = u.state ∙ ap (stateAfter device) no_event ∙ state_none device
 
     ends : replayed d log ≡ u.sofar ++ (text ++ [])
-    unfolding linesPrinted lines_from
     ends =
-        whole ∙ ap (λ (r : List ℕ). u.sofar ++ (linesPrinted n device (events r) ++ last)) none-left
-        ∙ ap (λ (l : List ℕ). u.sofar ++ l) (ap lastLine state-is ∙ sym t ∙ sym (append-nil text))
+        whole ∙ ap (λ (es : List LogEvent). u.sofar ++ (linesPrinted n device es ++ last)) no_event
+        ∙ ap (λ (l : List ℕ). u.sofar ++ (l ++ last)) (printed_none n device)
+        ∙ ap (λ (l : List ℕ). u.sofar ++ l) (ap lastLine state_is ∙ sym t ∙ sym (append-nil text))
 
     pub ended : (new : Option (List ℕ)) → Appends now new text → IsReplayed d log old new device
     ended new w = record {
       printed = subst (Appends old new) (sym (ends ∙ ap (λ (l : List ℕ). u.sofar ++ l) (append-nil text)))
           (Appends-trans old now new u.sofar text u.written w);
-      device = sym state-is;
+      device = sym state_is;
     }
 
     pub cut : (new : Option (List ℕ)) → WritesFront now new text → WritesFront old new (replayed d log)
-    cut new f = front-more u.sofar text [] ends u.written f
+    cut new f = front_more u.sofar text [] ends u.written f
 
 -- a failure to read a line is one to replay the log
 pub came : (d device : Device) (old now : Option (List ℕ)) (n : ℕ) (reads writes : Error → Type 0) (a left : Option (List ℕ))

@@ -16,61 +16,61 @@ use Rattle.std.specs.Prelude.{if◌then◌else◌}
 use Rattle.text.specs.Words.{◌is◌}
 use Rattle.text.proofs.Choices.{if_no}
 use Rattle.textio.specs.Lines.{lines_from, lines_of, countMost, HasEndlessLine}
-use Rattle.textio.specs.NextLine.{TakesPart, IsNextLine, IsLine}
+use Rattle.textio.specs.NextLine.{TakesPart, IsNextLine}
 
 abbrev NoLf : List ℕ → Type 0
 NoLf = All (λ b. b ≢ 10)
 
-lines-whole : (g part rest : List ℕ) → NoLf part → lines_from g (part ++ 10 ∷ rest) ≡ (g ++ part) ∷ lines_of rest
+lines_whole : (g part rest : List ℕ) → NoLf part → lines_from g (part ++ 10 ∷ rest) ≡ (g ++ part) ∷ lines_of rest
 unfolding lines_from
-lines-whole g [] rest h = ap (λ (l : List ℕ). l ∷ lines_of rest) (sym (append-nil g))
-lines-whole g (b ∷ part) rest h =
+lines_whole g [] rest h = ap (λ (l : List ℕ). l ∷ lines_of rest) (sym (append-nil g))
+lines_whole g (b ∷ part) rest h =
     if_no _ _ (ne_eqb b 10 (All-head (λ b. b ≢ 10) b part h))
-    ∙ lines-whole (g ++ (b ∷ [])) part rest (All-tail (λ b. b ≢ 10) b part h)
+    ∙ lines_whole (g ++ (b ∷ [])) part rest (All-tail (λ b. b ≢ 10) b part h)
     ∙ ap (λ (l : List ℕ). l ∷ lines_of rest) (append_assoc g (b ∷ []) part)
 
-lines-begun : (g part rest : List ℕ) → NoLf part → lines_from g (part ++ rest) ≡ lines_from (g ++ part) rest
+lines_begun : (g part rest : List ℕ) → NoLf part → lines_from g (part ++ rest) ≡ lines_from (g ++ part) rest
 unfolding lines_from
-lines-begun g [] rest h = ap (λ (l : List ℕ). lines_from l rest) (sym (append-nil g))
-lines-begun g (b ∷ part) rest h =
+lines_begun g [] rest h = ap (λ (l : List ℕ). lines_from l rest) (sym (append-nil g))
+lines_begun g (b ∷ part) rest h =
     if_no _ _ (ne_eqb b 10 (All-head (λ b. b ≢ 10) b part h))
-    ∙ lines-begun (g ++ (b ∷ [])) part rest (All-tail (λ b. b ≢ 10) b part h)
+    ∙ lines_begun (g ++ (b ∷ [])) part rest (All-tail (λ b. b ≢ 10) b part h)
     ∙ ap (λ (l : List ℕ). lines_from l rest) (append_assoc g (b ∷ []) part)
 
-lines-last : (part : List ℕ) → NoLf part → 0 < length part → lines_of part ≡ part ∷ []
+lines_last : (part : List ℕ) → NoLf part → 0 < length part → lines_of part ≡ part ∷ []
 unfolding lines_from
-lines-last part h some =
-    ap lines_of (sym (append-nil part)) ∙ lines-begun [] part [] h
+lines_last part h some =
+    ap lines_of (sym (append-nil part)) ∙ lines_begun [] part [] h
     ∙ if_no _ _ (ne_eqb (length part) 0 (λ e. omega (arith, some, e)))
 
-take-kept : (m : ℕ) (xs ys : List ℕ) → take m (take m xs ++ ys) ≡ take m (xs ++ ys)
-take-kept zero xs ys = refl
-take-kept (suc m) [] ys = refl
-take-kept (suc m) (x ∷ xs) ys = ap (λ (l : List ℕ). x ∷ l) (take-kept m xs ys)
+take_kept : (m : ℕ) (xs ys : List ℕ) → take m (take m xs ++ ys) ≡ take m (xs ++ ys)
+take_kept zero xs ys = refl
+take_kept (suc m) [] ys = refl
+take_kept (suc m) (x ∷ xs) ys = ap (λ (l : List ℕ). x ∷ l) (take_kept m xs ys)
 
 abbrev AnyEndless : List (List ℕ) → Type 0
 AnyEndless ls = Any (λ (l : List ℕ). countMost ≤ length l) ls
 
-first-here : (g : List ℕ) (ls : List (List ℕ)) → countMost ≤ length g → AnyEndless (g ∷ ls)
-first-here g ls h = (0, g, omega arith, refl, h)
+first_here : (g : List ℕ) (ls : List (List ℕ)) → countMost ≤ length g → AnyEndless (g ∷ ls)
+first_here g ls h = (0, g, omega arith, refl, h)
 
 either : (lf : Bool) (g : List ℕ) (ls ms : List (List ℕ)) → countMost ≤ length g → AnyEndless ms
     → AnyEndless (if lf then g ∷ ls else ms)
-either true g ls ms h k = first-here g ls h
+either true g ls ms h k = first_here g ls h
 either false g ls ms h k = k
 
 -- a line that has begun so is the first
-first-long : (g rest : List ℕ) → countMost ≤ length g → AnyEndless (lines_from g rest)
+first_long : (g rest : List ℕ) → countMost ≤ length g → AnyEndless (lines_from g rest)
 unfolding lines_from
-first-long g [] h =
-    subst AnyEndless (sym (if_no _ _ (ne_eqb (length g) 0 (λ e. omega (arith, h, e))))) (first-here g [] h)
-first-long g (b ∷ bs) h =
+first_long g [] h =
+    subst AnyEndless (sym (if_no _ _ (ne_eqb (length g) 0 (λ e. omega (arith, h, e))))) (first_here g [] h)
+first_long g (b ∷ bs) h =
     either (b is "\n") g (lines_from [] bs) (lines_from (g ++ (b ∷ [])) bs) h
-    (first-long (g ++ (b ∷ [])) bs (omega (arith, h, length-append g (b ∷ []))))
+    (first_long (g ++ (b ∷ [])) bs (omega (arith, h, length-append g (b ∷ []))))
 
 -- before anything is read
-pub none-read : (a : Option (List ℕ)) (memory : List ℕ) → TakesPart a a 0 [] memory 0 []
-none-read a memory = record {
+pub none_read : (a : Option (List ℕ)) (memory : List ℕ) → TakesPart a a 0 [] memory 0 []
+none_read a memory = record {
   part = [];
   some = omega arith;
   one_line = All-nil (λ b. b ≢ 10);
@@ -97,14 +97,14 @@ joined {old} {mid} {new} {m} {n} {held} {place} {before} {after} {lf} p q long =
       one_line = All-append (λ b. b ≢ 10) p.part q.part p.one_line q.one_line;
       taken = subst (Consumes old new) both (Consumes-trans old mid new _ _ p.taken q.taken);
       kept = q.kept ∙ ap (λ (l : List ℕ). take (length after) (l ++ q.part)) front
-          ∙ take-kept (length after) p.part q.part;
+          ∙ take_kept (length after) p.part q.part;
       inside = q.inside;
     }
 
 module _ (old new : Option (List ℕ)) (memory : List ℕ) where
-  pub whole-line : (n held : ℕ) → TakesPart old new n [] memory held (10 ∷ [])
+  pub whole_line : (n held : ℕ) → TakesPart old new n [] memory held (10 ∷ [])
       → IfSome old (λ log. IsNextLine log new memory (Some held))
-  whole-line n held p = by old new p.taken
+  whole_line n held p = by old new p.taken
     where
       by : (a b : Option (List ℕ)) → Consumes a b (p.part ++ 10 ∷ [])
           → IfSome a (λ log. IsNextLine log b memory (Some held))
@@ -113,7 +113,7 @@ module _ (old new : Option (List ℕ)) (memory : List ℕ) where
       by (Some log) (Some rest) taken = record {
         first = p.part;
         later = rest;
-        lines = ap lines_of (taken ∙ append_assoc p.part (10 ∷ []) rest) ∙ lines-whole [] p.part rest p.one_line;
+        lines = ap lines_of (taken ∙ append_assoc p.part (10 ∷ []) rest) ∙ lines_whole [] p.part rest p.one_line;
         kept = p.kept;
         left = refl;
       }
@@ -123,10 +123,10 @@ module _ (old new : Option (List ℕ)) (memory : List ℕ) where
     all log rest taken end =
         taken ∙ append_assoc p.part [] rest ∙ ap (λ (l : List ℕ). p.part ++ l) end ∙ append-nil p.part
 
-    pub last-line : IsAtEnd mid → Keeps mid new → 0 < held
+    pub last_line : IsAtEnd mid → Keeps mid new → 0 < held
         → IfSome old (λ log. IsNextLine log new memory (Some held))
     unfolding lines_from
-    last-line end keeps some = by old mid new p.taken end keeps
+    last_line end keeps some = by old mid new p.taken end keeps
       where
         by : (a b c : Option (List ℕ)) → Consumes a b (p.part ++ []) → IsAtEnd b → Keeps b c
             → IfSome a (λ log. IsNextLine log c memory (Some held))
@@ -137,14 +137,14 @@ module _ (old new : Option (List ℕ)) (memory : List ℕ) where
           first = p.part;
           later = [];
           lines = ap lines_of (all log rest taken end)
-              ∙ lines-last p.part p.one_line
+              ∙ lines_last p.part p.one_line
               (omega (arith, some, p.inside, ap length p.kept, length-take held memory, length-take (length memory) p.part));
           kept = p.kept;
           left = ap Some (keeps ∙ end);
         }
 
-    pub no-line : IsAtEnd mid → held ≡ 0 → 0 < length memory → IfSome old (λ log. IsNextLine log new memory None)
-    no-line end none room = by old mid p.taken end
+    pub no_line : IsAtEnd mid → held ≡ 0 → 0 < length memory → IfSome old (λ log. IsNextLine log new memory None)
+    no_line end none room = by old mid p.taken end
       where
         nothing : (part : List ℕ) → length (take (length memory) part) ≡ 0 → part ≡ []
         nothing [] e = refl
@@ -170,5 +170,5 @@ module _ (old new : Option (List ℕ)) (memory : List ℕ) where
         by (Some log) None taken = absurd taken
         by (Some log) (Some rest) taken =
             subst AnyEndless
-            (sym (ap lines_of (taken ∙ append_assoc p.part [] rest) ∙ lines-begun [] p.part rest p.one_line))
-            (first-long p.part rest long)
+            (sym (ap lines_of (taken ∙ append_assoc p.part [] rest) ∙ lines_begun [] p.part rest p.one_line))
+            (first_long p.part rest long)

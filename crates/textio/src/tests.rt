@@ -1,7 +1,5 @@
 // What no clause says of std's streams: that a call which a signal interrupts is made again, and that a write which takes
 // nothing fails.
-ghost use Rattle.std.specs.Prelude.{◌≤◌, IfOk, length};
-ghost use Rattle.std.specs.Io.{ReadsAtMost, WritesAtMost};
 
 use crate::reader::ByteSource;
 use crate::streams::Stream;

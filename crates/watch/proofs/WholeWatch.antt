@@ -25,7 +25,7 @@ use Rattle.logs.specs.Lines.{lineMost}
 use Rattle.textio.specs.Lines.{lines_of}
 use Rattle.floor.specs.Reading.{keptOf, nothingBegun}
 use Rattle.floor.proofs.KeptLine.{none-held}
-use Rattle.floor.proofs.LinesCounted.{lineEnds, ends-append, ends-few, ends-lines}
+use Rattle.textio.proofs.LinesCounted.{lineEnds, ends-append, ends-few, ends-lines}
 use Rattle.watch.specs.Watching.{Watching, isBurningIn, watchMore, watchedIn, watchEnded}
 use Rattle.watch.specs.WatchCalls.{isSound, CanWatch, watched, watchedToEnd}
 use Rattle.watch.specs.WatchCalls.{watchingFrom}

@@ -1,9 +1,9 @@
 -- what is read ahead, with its LF, is what is taken
-use Rattle.std.proofs.Common.{◌≡◌, ◌++◌, ◌+◌, ◌<◌, ℕ, List, [], ◌∷◌, sym, ap, subst, ◌∙◌, arith, length, take, slice_index, take_all, length-take}
+use Rattle.std.proofs.Common.{◌≡◌, ◌++◌, ◌+◌, ℕ, [], ◌∷◌, sym, ap, subst, ◌∙◌, arith, length, take, take_all}
 use mathlib.Core.List.{append-nil}
 use Rattle.std.proofs.lemmas.List.{take_more}
 use Rattle.std.specs.Io.KnownBytes.{Consumes}
-use Rattle.textio.proofs.Known.{appended-front, Keeps-Consumes}
+use Rattle.textio.proofs.Known.{appended_front, kept_then_consumed}
 use Rattle.textio.proofs.lines.take_shown.Goals as goal
 
 pub returns-then-end-count-clause-ok : goal.returns-then-end-count-clause-ok
@@ -18,8 +18,8 @@ returns-then-end-count-clause-ok g c =
       part = take end.result shown;
       some = omega arith;
       one_line = end.ensures.before;
-      taken = subst (Consumes _ _) lf (Keeps-Consumes _ _ _ _ c.fill.ensures.keeps c.consume.ensures);
-      kept = appended-front c.args.line.now line.new.memory (take end.result shown) c.args.at line.result c.requires
+      taken = subst (Consumes _ _) lf (kept_then_consumed _ _ _ _ c.fill.ensures.keeps c.consume.ensures);
+      kept = appended_front c.args.line.now line.new.memory (take end.result shown) c.args.at line.result c.requires
           (omega arith) line.ensures.place line.ensures.appended;
       inside = omega (arith, line.ensures.place);
     }
@@ -37,8 +37,8 @@ returns-clause-ok g c =
       part = take end.result shown;
       some = omega (arith, ap length all, c.if-count-eq0.false);
       one_line = end.ensures.before;
-      taken = subst (Consumes _ _) front (Keeps-Consumes _ _ _ _ c.fill.ensures.keeps c.consume-2.ensures);
-      kept = appended-front c.args.line.now line.new.memory (take end.result shown) c.args.at line.result c.requires
+      taken = subst (Consumes _ _) front (kept_then_consumed _ _ _ _ c.fill.ensures.keeps c.consume-2.ensures);
+      kept = appended_front c.args.line.now line.new.memory (take end.result shown) c.args.at line.result c.requires
           (omega arith) line.ensures.place line.ensures.appended;
       inside = omega (arith, line.ensures.place);
     }
