@@ -1,12 +1,12 @@
 -- A log played line by line: what is printed so far and what the lines left print are what the log prints.
 --   Underway d log old now left n device    so far n lines are played, `now` is in the sink, the device is so
 -- Assumes nothing.
-use Prim.Native.Nat.{ℕ, suc, ◌+◌, ◌≤◌}
+use Prim.Native.Nat.{ℕ, suc, ◌+◌, ◌≤◌, ◌<◌}
 use mathlib.Core.Path.{◌≡◌, refl, sym, ap, subst, ◌∙◌}
 use mathlib.Core.List.{List, [], ◌∷◌, ◌++◌, append-nil, append_assoc, map}
 use native.Mathlib.Omega.{arith}
 use lib.ListN.{length, take, drop, length-append}
-use Rattle.std.proofs.Common.{None, Some, IfSome, Any, take-append-drop, inl, inr}
+use Rattle.std.proofs.Common.{None, Some, IfSome, IfErr, Result, Err, ◌≢◌, Any, take-append-drop, inl, inr}
 use lib.Seq.{length-take-le, take-take}
 use Rattle.std.proofs.Math.Seq.{take-append_seam}
 use Rattle.std.specs.declared.option.Option.{Option}
@@ -16,6 +16,7 @@ use Rattle.std.proofs.KnownBytes.{Appends-nil, Appends-trans, Appends-kept}
 use Rattle.textio.specs.Lines.{lines_of, countMost, HasEndlessLine, IsTooLong}
 use Rattle.textio.specs.Fronts.{WritesFront}
 use Rattle.textio.proofs.LinesSpelt.{lines_end}
+use Rattle.textio.proofs.LinesCounted.{too_long_bytes}
 use Rattle.textio.specs.NextLine.{IsNextLine, IsLine, FailureComesOf}
 use Rattle.record.specs.declared.types.Device.{Device}
 use Rattle.logs.specs.LastLine.{lastLine}
@@ -213,3 +214,12 @@ pub came : (d device : Device) (old now : Option (List ℕ)) (n : ℕ) (reads wr
 came d device old now n reads writes a left (Read e) u h = h
 came d device old now n reads writes a left (Write e) u h = h
 came d device old now n reads writes a left TooLong u h = each a _ _ (λ log x. endless x h) u
+
+-- a log with fewer bytes is not too long
+pub not_too_long : {T : Type 0} (a : Option (List ℕ)) (r : Result T Failure) (reads writes : Error → Type 0)
+    → IfErr r (FailureComesOf reads writes IsTooLong a)
+    → IfSome a (λ log. length log < countMost → r ≢ Err TooLong)
+not_too_long None r reads writes h = tt
+not_too_long {T} (Some log) r reads writes h =
+    λ short e. let long : IsTooLong log = subst (λ (x : Result T Failure). IfErr x (FailureComesOf reads writes IsTooLong (Some log))) e h in
+    omega (arith, short, too_long_bytes log long)

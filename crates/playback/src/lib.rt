@@ -5,8 +5,8 @@ mod playing;
 #[cfg(test)]
 mod tests;
 
-ghost use Rattle.std.specs.Prelude.{IfOk, IfErr, IfSome};
-ghost use Rattle.textio.specs.Lines.{IsTooLong};
+ghost use Rattle.std.specs.Prelude.{◌≢◌, ◌<◌, IfOk, IfErr, IfSome, Err, length};
+ghost use Rattle.textio.specs.Lines.{countMost, IsTooLong};
 ghost use Rattle.textio.specs.Fronts.{WritesFront};
 ghost use Rattle.textio.specs.Ahead.{left_in};
 ghost use Rattle.floor.specs.Playing.{replayed};
@@ -33,6 +33,8 @@ pub fn replay<R: ByteSource, W: ByteSink>(
         WritesFront (W.contents to.old) (W.contents to.new) (replayed begun log)) }
     ensures err { IfErr result
         (FailureComesOf R.fails_with W.fails_with IsTooLong (left_in R.remaining from.old)) }
+    ensures short { IfSome (left_in R.remaining from.old) (λ log. length log < countMost
+        → result ≢ Err Failure.TooLong) }
 {
     let mut line = [0; playing::LINE_ROOM];
     let mut tested = Tested::of(begun);
