@@ -40,6 +40,7 @@ impl FlatVerdict {
         }
     }
 
+    /// The verdict in numbers.
     pub fn of(verdict: Result<(), CheckError>) -> FlatVerdict
         ensures { result ≡ flat_verdict verdict }
     {
@@ -60,6 +61,7 @@ impl FlatVerdict {
 }
 
 impl FlatPlan {
+    /// The planner's answer in numbers; the rigs are in the list that the call was lent.
     pub fn of(answer: Result<(), PlanError>) -> FlatPlan
         ensures { result ≡ flat_plan answer }
     {
@@ -114,6 +116,7 @@ fn checked(
     check_day(&plan[..starts.len()], &fleet[..warm.len()])
 }
 
+/// Checks a day for which each job has a rig (RULES, Cutting day).
 #[unsafe(no_mangle)]
 pub extern "C" fn pj_check_day(
     starts: &[u32],
@@ -170,6 +173,7 @@ fn put_rigs_of(plan: &[Placement], out: &mut [u8])
     }
 }
 
+/// Plans a day, and writes the rigs over the start of `out` (RULES, Cutting day).
 #[unsafe(no_mangle)]
 pub extern "C" fn pj_plan_day(
     starts: &[u32],

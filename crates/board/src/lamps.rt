@@ -26,6 +26,7 @@ impl Report {
         }
     }
 
+    /// The answer in numbers; the differences are in the list that the call was lent.
     pub fn of(answer: Result<Option<usize>, CompareError>) -> Report
         ensures { result ≡ report_of answer }
     {
@@ -45,6 +46,7 @@ impl Report {
     }
 }
 
+/// Compares two tables of lamp seconds, and writes the differences over the start of `out` (RULES, Service).
 #[unsafe(no_mangle)]
 pub extern "C" fn pj_compare_lamps(earlier: &[u32], later: &[u32], out: &mut [i64]) -> Report
     ensures { ComparesInto earlier.now later.now out.old result out.new }

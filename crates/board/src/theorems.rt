@@ -1,7 +1,6 @@
 // What is proved beside the contracts of the functions. Nothing is done here: that these functions have their contracts
 // is that the theorems stand.
-ghost use Rattle.std.specs.Prelude.{◌≡◌, ◌<◌, ◌≤◌, ◌^◌, ℕ, ℤ, true, List, false, length, Bool, Option, Some};
-ghost use Rattle.std.specs.Prelude.{Result};
+ghost use Rattle.std.specs.Prelude.{◌≡◌, ◌<◌, ◌≤◌, ◌^◌, ℕ, ℤ, true, List, false, length, Bool, Option, Some, Result};
 ghost use Rattle.record.specs.declared.types.Device.{Device};
 ghost use Rattle.record.specs.Limits.{placesCount, opened, awaiting};
 ghost use Rattle.record.specs.Legal.{isLegal};
@@ -21,15 +20,15 @@ ghost use Rattle.device.specs.Receiving.{passwordOf};
 ghost use Rattle.controller.specs.Greetings.{readGreeting, greetedOn};
 ghost use Rattle.day.specs.declared.check.CheckError.{CheckError};
 ghost use Rattle.day.specs.declared.plan.PlanError.{PlanError};
+ghost use Rattle.board.specs.Lists.{Lists};
+ghost use Rattle.board.specs.Days.{flat_verdict, flat_plan, ChecksInto, PlansInto};
+ghost use Rattle.board.specs.Lamps.{ComparesInto};
+ghost use Rattle.board.specs.declared.lamps.Report.{Report};
 ghost use Rattle.board.specs.Results.{panel_changed_of, panel_sent_of};
 ghost use Rattle.board.specs.declared.results.PanelChanged.{PanelChanged};
 ghost use Rattle.board.specs.declared.results.PanelSent.{PanelSent};
 ghost use Rattle.panel.specs.PanelCalls.{panelMade, noPanel, addedTo, commanded, steppedAt, lostAt};
 ghost use Rattle.panel.specs.declared.types.Panel.{Panel};
-ghost use Rattle.board.specs.Lists.{Lists};
-ghost use Rattle.board.specs.Days.{flat_verdict, flat_plan, ChecksInto, PlansInto};
-ghost use Rattle.board.specs.Lamps.{ComparesInto};
-ghost use Rattle.board.specs.declared.lamps.Report.{Report};
 ghost use Rattle.record.specs.declared.types.Setting.{Setting};
 ghost use Rattle.board.specs.Which.{settingNumber};
 ghost use Rattle.controller.specs.declared.writing.Written.{Written};

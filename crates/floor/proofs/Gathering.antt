@@ -10,11 +10,12 @@ use mathlib.Core.Bool.{true, false}
 use mathlib.Core.List.{List, foldl}
 use native.Mathlib.Omega.{arith}
 use lib.ListN.{length, take, length-set}
+use Rattle.text.proofs.Choices.{if-all}
 use Rattle.record.specs.declared.types.Line.{Line}
 use Rattle.stream.proofs.UpToTheEnd.{up-to-keeps}
 use Rattle.stream.proofs.AllAtOnce.{more, collected-by, one-marked, one-fits, one-past}
 use Rattle.logs.specs.Lines.{lineMost}
-use Rattle.floor.specs.Reading.{keptWith, upToLf}
+use Rattle.floor.specs.Reading.{keptWith, lineAfter, upToLf}
 
 pub record InMemory (k now : Line) : Type 0 where
   pub held : now.held ≤ lineMost
@@ -51,3 +52,8 @@ module _ (k : Line) (bs : List ℕ) where
   pub record GoneTo (now : Line) (i : ℕ) : Type 0 where
     pub long : length now.bytes ≡ length k.bytes
     pub so_far : now ≡ foldl keptWith k (take i bs)
+
+pub after-long : (k : Line) → length (lineAfter k) ≡ length k.bytes
+after-long k =
+    if-all (λ (m : List ℕ). length m ≡ length k.bytes) k.overlong refl
+    (length-set k.bytes k.held (code "\r"))

@@ -21,8 +21,7 @@ use Rattle.floor.specs.Events.{event}
 use Rattle.floor.specs.Reading.{keptOf, nothingBegun, keptWith, keptEvent, lineAfter, isBegun}
 use Rattle.logs.proofs.Forms.{line-overlong}
 use Rattle.events.specs.Events.{eventOf}
-use Rattle.floor.proofs.Gathering.{kept-marked, kept_more, kept-past, kept-long}
-use Rattle.floor.proofs.LinesPlayed.{after-long}
+use Rattle.floor.proofs.Gathering.{kept-marked, kept_more, kept-past, kept-long, after-long}
 
 pub record Fits (g : List ℕ) (k : Line) : Type 0 where
   pub unmarked : k.overlong ≡ false

@@ -9,13 +9,16 @@ use mathlib.Core.Logic.{⊎_elim}
 use native.Mathlib.Numerals.{add-one}
 use native.Mathlib.Omega.{arith}
 use lib.ListN.{length, take, drop, set, drop_of_length-le}
-use lib.Seq.{take-suc-set, drop-append-le, length-take-le}
+use lib.Seq.{take-suc-set, take-set-le, drop-append-le, length-take-le}
+use Rattle.std.proofs.Common.{take_all}
 use Rattle.std.specs.Prelude.{if◌then◌else◌}
 use Rattle.text.specs.Words.{ascii}
 use Rattle.text.proofs.Orders.{le-or-lt}
 use Rattle.text.proofs.Parts.{drop-take}
 use Rattle.logs.specs.declared.Says.TheVariants.{NoSuch}
-use Rattle.logs.specs.Lines.{lineSaid}
+use Rattle.logs.specs.declared.Says.{Says}
+use Rattle.logs.specs.Lines.{lineMost, lineSaid}
+use Rattle.logs.proofs.Forms.{line-overlong}
 use Rattle.events.specs.Events.{noSuch, eventOf}
 use Rattle.floor.specs.declared.gather.Begun.{Begun}
 use Rattle.floor.specs.Events.{event}
@@ -51,3 +54,25 @@ event-lent k m inside from e = by k.overlong
         ≡ (if t then noSuch else event (take k.held m))
     by true = refl
     by false = ap (eventOf (lineSaid (take k.held m))) (text-lent m k.held inside from e)
+
+-- a line that stands in front of its memory, with CR after it: what it says, with the text that is lent, is its event
+pub event_of_memory : (m : List ℕ) (held from : ℕ) (says : Says) → held < length m → from ≡ min 2 held
+    → says ≡ lineSaid (take held (set m held (code "\r")))
+    → eventOf says (take (held + 1 - from) (drop from (set m held (code "\r")))) ≡ event (take held m)
+unfolding event
+event_of_memory m held from says inside e said =
+    ap (eventOf says) (text-lent m held inside from e)
+    ∙ ap (λ (s : Says). eventOf s (drop 2 (take held m) ++ ascii "\r"))
+    (said ∙ ap lineSaid (take-set-le held m held (code "\r") (omega arith)))
+
+event_overlong : (l : List ℕ) → lineMost < length l → event l ≡ noSuch
+unfolding event
+event_overlong l h = ap (λ (s : Says). eventOf s (drop 2 l ++ ascii "\r")) (line-overlong l h)
+
+-- of an overlong line a byte more than a line may have is enough
+pub event_of_front : (most : ℕ) (l : List ℕ) → lineMost < most → event (take most l) ≡ event l
+event_of_front most l more =
+    ⊎_elim (λ (h : length l ≤ most). ap event (take_all most l h))
+    (λ (h : most < length l).
+    event_overlong (take most l) (omega (arith, length-take-le most l (omega arith))) ∙ sym (event_overlong l (omega arith)))
+    (le-or-lt (length l) most)

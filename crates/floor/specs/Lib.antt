@@ -2,5 +2,3 @@ pub mod Events
 pub mod Playing
 pub mod Reading
 pub mod Told
-pub mod Calls
-pub mod WholeLog

@@ -1,10 +1,13 @@
 // Bytes of a log up to the end of a line, kept in lent memory until the line is whole.
-ghost use Rattle.std.specs.Prelude.{◌≡◌, ◌≤◌, length};
+ghost use Rattle.std.specs.Prelude.{◌≡◌, ◌≤◌, ◌<◌, [], min, length};
 ghost use Rattle.logs.specs.Lines.{lineMost};
-ghost use Rattle.floor.specs.Reading.{keptOf, begunOf, keptWith, upToLf};
+ghost use Rattle.floor.specs.Reading.{keptOf, begunOf, keptWith, keptSaid, lineAfter, lfMissing, upToLf};
 ghost use Rattle.floor.specs.Told.{gatheredTo};
 
-use logs::LINE_MOST;
+use logs::{LINE_MOST, Says};
+
+/// The memory that a line asks for: its bytes, and the CR with which a text is received.
+pub const LINE_ROOM: usize = 4097;
 
 /// What is kept of a line that has begun.
 #[derive(Clone, Copy)]
@@ -66,4 +69,37 @@ pub fn gather(k: Begun, line: &mut [u8], bytes: &[u8]) -> Gathered
         before,
         ended: before < bytes.len(),
     }
+}
+
+pub fn least(a: usize, b: usize) -> usize
+    ensures { result ≡ min a b }
+{
+    if a < b {
+        return a;
+    }
+    b
+}
+
+/// What the line that is kept says; CR stands after it in the memory.
+pub fn kept_says(k: Begun, line: &mut [u8]) -> Says
+    requires { k.held < length line.old }
+    ensures value { result ≡ keptSaid (keptOf k line.old) }
+    ensures line_after { line.new ≡ lineAfter (keptOf k line.old) }
+{
+    if k.overlong {
+        return Says::NoSuch;
+    }
+    let held = k.held;
+    line[held] = b'\r';
+    logs::line_says(&line[0..held])
+}
+
+/// 1 where a line has begun, which its LF would end; else 0.
+pub fn missing_lf(k: Begun) -> usize
+    ensures { result ≡ lfMissing (keptOf k []) }
+{
+    if k.overlong | (1 <= k.held) {
+        return 1;
+    }
+    0
 }

@@ -1,14 +1,36 @@
-// The floor log played back (RULES, Floor log).
+// What a log of the floor is, and what it prints, as definitions; the device that it begins with; and its lines gathered
+// in lent memory (RULES, Floor log).
 #![tactic(auto)]
 
-pub mod closing;
 pub mod gather;
-pub mod playing;
-pub mod replay;
 
-ghost use Rattle.floor.specs.WholeLog.{LogsPlayedBack};
+ghost use Rattle.std.specs.Prelude.{◌≡◌};
+ghost use Rattle.floor.specs.Playing.{sampleDevice};
 
-/// Nothing is done: that it has this contract is that every log is played back so.
-pub fn plays_back()
-    ensures { LogsPlayedBack }
-{}
+use record::types::Device;
+use setup::wanted::{Class, Wanted};
+
+/// The sample set-up, every place closed.
+#[tactic(auto, unfolding(crate::specs::Playing::sampleDevice))]
+pub fn sample() -> Device
+    ensures { result ≡ sampleDevice }
+{
+    let lamps = [0u32; 1];
+    let class = Class::One;
+    let wanted = Wanted {
+        name: b"",
+        maker: b"",
+        model: b"",
+        other: b"",
+        password: b"",
+        inputs: b"11",
+        lamps: &lamps,
+        warm: 20,
+        cool: 60,
+        class,
+    };
+    match setup::set_up(&wanted) {
+        Ok(device) => device,
+        Err(_) => record::fresh::blank(),
+    }
+}

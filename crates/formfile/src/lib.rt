@@ -2,7 +2,6 @@
 // an argument names.
 #![tactic(auto)]
 
-use floor::replay;
 use record::types::Device;
 use std::fs::File;
 use std::io::{Read, Write};
@@ -38,7 +37,7 @@ fn of_file(rt: &HostRuntime, path: &str) -> io::Result<Result<Device, NotBegun>>
 
 fn by_argument(rt: &HostRuntime, place: usize) -> io::Result<Result<Device, NotBegun>> {
     match env::args(rt)?.nth(place) {
-        None => Ok(Ok(replay::sample())),
+        None => Ok(Ok(floor::sample())),
         Some(path) => of_file(rt, path.as_str()),
     }
 }

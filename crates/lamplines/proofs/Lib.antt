@@ -1,1 +1,1 @@
-pub mod PartsTold
+pub mod Told

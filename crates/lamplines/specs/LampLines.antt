@@ -3,9 +3,10 @@
 --   stretchLine k f t        the lamp with the number k burnt from the second f to the second t
 --   stretchLines k ms f t    the line of a stretch for each lamp whose mark of ms is set, the first having the number k
 --   totalLine k a b c        it had a seconds at the start, burnt b, and has c now
---   stretchRoom, totalRoom   so much room a line never needs more than
+--   total_lines n as bs cs   that line for each of n lamps, the first having the number 1
 -- Assumes nothing.
-use Rattle.std.specs.Prelude.{ℕ, ◌+◌, Bool, List, [], ◌∷◌, ◌++◌, if◌then◌else◌}
+use Rattle.std.specs.Prelude.{ℕ, ◌+◌, Bool, List, [], ◌∷◌, ◌++◌, get_or, if◌then◌else◌}
+use Rattle.std.specs.List.{flat_map, range_with_len}
 use Rattle.text.specs.Words.{ascii}
 use Rattle.numbers.specs.Decimal.{longDigits}
 
@@ -25,9 +26,8 @@ totalLine lamp start burnt now =
     (((numbered (ascii "lamp ") lamp ++ numbered (ascii " start ") start) ++ numbered (ascii " burnt ") burnt)
     ++ numbered (ascii " now ") now) ++ ascii "\n"
 
--- the words with LF, 16 and 25 bytes, and numbers of 20 digits
-abbrev pub stretchRoom : ℕ
-stretchRoom = 76
+abbrev pub total_line_at : List ℕ → List ℕ → List ℕ → ℕ → List ℕ
+total_line_at starts burnt lasts k = totalLine (k + 1) (get_or starts k 0) (get_or burnt k 0) (get_or lasts k 0)
 
-abbrev pub totalRoom : ℕ
-totalRoom = 105
+unfoldable pub total_lines : ℕ → List ℕ → List ℕ → List ℕ → List ℕ
+total_lines lamps starts burnt lasts = flat_map (total_line_at starts burnt lasts) (range_with_len 0 lamps)

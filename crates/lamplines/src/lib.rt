@@ -1,47 +1,74 @@
-// What is printed of a lamp: a stretch that it burnt, and its seconds in all.
+// What is printed of a lamp: a stretch that it burnt, and its seconds in all (RULES, Floor log). Lamps are numbered
+// from 1, and lie at places from 0.
 #![tactic(auto)]
 
-ghost use Rattle.std.specs.Prelude.{◌≡◌, ◌+◌, ◌≤◌, length};
-ghost use Rattle.std.proofs.lemmas.List.Edits.{sets};
-ghost use Rattle.text.specs.Words.{over};
-ghost use Rattle.lamplines.specs.LampLines.{numbered, stretchLine, totalLine, stretchRoom, totalRoom};
+ghost use Rattle.std.specs.Prelude.{◌+◌, ◌<◌, ◌≤◌, [], length, if◌then◌else◌};
+ghost use Rattle.output.specs.Writing.{WritesText};
+ghost use Rattle.lamplines.specs.LampLines.{stretchLine, stretchLines, total_line_at, total_lines};
 
-// A word and a number, from the place `at` on; the place after them.
-#[tactic(auto, using(crate::proofs::PartsTold::digits_fit))]
-fn put_part(out: &mut [u8], at: usize, word: &[u8], n: u64) -> usize
-    requires { at + (length word.now + 20) ≤ length out.old }
-    ensures value { result ≡ at + length (numbered word.now n) }
-    ensures out_after { out.new ≡ sets out.old at (numbered word.now n) }
-{
-    text::put(out, at, word);
-    numbers::put_long(out, at + word.len(), n)
+use output::fill;
+use std::io;
+use std::io::Write;
+
+/// So many lamps a projector has at most.
+pub const LAMPS: usize = 8;
+
+/// The seconds of each of `count` lamps: when the log began, burnt in it, and now.
+#[derive(Clone, Copy)]
+pub struct Totals {
+    pub count: usize,
+    pub starts: [u32; LAMPS],
+    pub burnt: [u64; LAMPS],
+    pub lasts: [u32; LAMPS],
 }
 
-// The line of a stretch, from the start of the lent memory; its length.
-#[tactic(auto, using(crate::proofs::PartsTold::digits_fit))]
-pub fn put_stretch(out: &mut [u8], lamp: u64, from: u64, to: u64) -> usize
-    requires { stretchRoom ≤ length out.old }
-    ensures value { result ≡ length (stretchLine lamp from to) }
-    ensures out_after { out.new ≡ over (stretchLine lamp from to) out.old }
+// The line of a stretch, if the mark of the lamp is set.
+fn put_stretch<W: Write>(out: &mut W, k: usize, is_lit: bool, from: u64, to: u64) -> io::Result<()>
+    requires { k < 8 }
+    ensures { WritesText (W.contents out.old) (W.contents out.new) result
+        (if is_lit then stretchLine (k + 1) from to else []) }
 {
-    let named = put_part(out, 0, b"lamp ", lamp);
-    let begun = put_part(out, named, b" from ", from);
-    let ended = put_part(out, begun, b" to ", to);
-    text::put(out, ended, b"\n");
-    ended + 1
+    if !is_lit {
+        return Ok(());
+    }
+    fill(out, "lamp # from # to #\n", &[k as u64 + 1, from, to])
 }
 
-// The line of a lamp's seconds in all.
-#[tactic(auto, using(crate::proofs::PartsTold::digits_fit))]
-pub fn put_total(out: &mut [u8], lamp: u64, start: u64, burnt: u64, last: u64) -> usize
-    requires { totalRoom ≤ length out.old }
-    ensures value { result ≡ length (totalLine lamp start burnt last) }
-    ensures out_after { out.new ≡ over (totalLine lamp start burnt last) out.old }
+/// The line of a stretch, in seconds since the log began, of each lamp whose mark of `lit` is set.
+pub fn put_stretches<W: Write>(out: &mut W, lit: &[bool], from: u64, to: u64) -> io::Result<()>
+    requires { length lit.now ≤ 8 }
+    ensures { WritesText (W.contents out.old) (W.contents out.new) result (stretchLines 1 lit.now from to) }
 {
-    let named = put_part(out, 0, b"lamp ", lamp);
-    let begun = put_part(out, named, b" start ", start);
-    let gained = put_part(out, begun, b" burnt ", burnt);
-    let told = put_part(out, gained, b" now ", last);
-    text::put(out, told, b"\n");
-    told + 1
+    for (k, is_lit) in lit.iter().enumerate() {
+        put_stretch(out, k, *is_lit, from, to)?;
+    }
+    Ok(())
+}
+
+fn put_total<W: Write>(out: &mut W, t: Totals, k: usize) -> io::Result<()>
+    requires { k < 8 }
+    ensures { WritesText (W.contents out.old) (W.contents out.new) result (total_line_at t.starts t.burnt t.lasts k) }
+{
+    fill(
+        out,
+        "lamp # start # burnt # now #\n",
+        &[
+            k as u64 + 1,
+            t.starts[k] as u64,
+            t.burnt[k],
+            t.lasts[k] as u64,
+        ],
+    )
+}
+
+/// The line of each lamp's seconds in all.
+pub fn put_totals<W: Write>(out: &mut W, t: Totals) -> io::Result<()>
+    requires { t.count ≤ 8 }
+    ensures { WritesText (W.contents out.old) (W.contents out.new) result
+        (total_lines t.count t.starts t.burnt t.lasts) }
+{
+    for k in 0..t.count {
+        put_total(out, t, k)?;
+    }
+    Ok(())
 }

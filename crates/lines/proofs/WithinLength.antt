@@ -23,10 +23,6 @@ module _ (s : List ℕ) where
   unfolding isPassword
   password-within h = rw (le-leb (length s) passwordMost h)
 
-  pub password-longer : passwordMost < length s → isPassword s ≡ false
-  unfolding isPassword
-  password-longer h = rw (lt-leb (length s) passwordMost h)
-
   pub plain-bytes : noCr s ≡ every notCr s
   unfolding noCr
   plain-bytes = refl

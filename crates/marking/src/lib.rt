@@ -8,8 +8,8 @@ ghost use Rattle.events.specs.Told.{Drives};
 ghost use Rattle.floor.specs.Reading.{keptOf, lineAfter};
 ghost use Rattle.marking.specs.Marking.{logged, marked, markSaid, keptMark, keptFloorEvent, doneBy, secondsBy};
 
+use floor::gather;
 use floor::gather::Begun;
-use floor::playing;
 use logs::Says;
 use record::legality::Tested;
 
@@ -71,7 +71,7 @@ fn log_event(t: &mut Tested, says: Says, held: usize, line: &[u8], reply: &mut [
     ensures device { t.new.device ≡ doneBy t.old.device (logged (eventOf says (take (held + 1 - min 2 held)
         (drop (min 2 held) line.now)))) }
 {
-    let from = playing::least(2, held);
+    let from = gather::least(2, held);
     let end = held + 1;
     events::call(t, says, &line[from..end], reply);
     events::seconds_of(says)
@@ -94,7 +94,7 @@ pub fn end_line(t: &mut Tested, k: Begun, line: &mut [u8], reply: &mut [u8]) -> 
     ensures places { Drives result t.old.device t.new.device }
 {
     let mark = kept_mark(k, line);
-    let says = playing::kept_says(k, line);
+    let says = gather::kept_says(k, line);
     match mark {
         MarkSaid::Sets(lamp, to) => {
             set_mark(t, lamp, to);

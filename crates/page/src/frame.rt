@@ -1,12 +1,18 @@
 // What stands around the rows of the days: the head and the hours above them, the table of totals below.
-ghost use Rattle.std.specs.Prelude.{◌<◌};
+ghost use Rattle.std.specs.Prelude.{◌<◌, ◌≤◌};
+ghost use Rattle.output.specs.Writing.{WritesText};
+ghost use Rattle.page.specs.Frame.{head, hours, total_at, totals, table};
 
-use crate::{LAMPS, Totals};
-use sink::Sink;
+use lamplines::Totals;
+use output::{fill, put};
+use std::io;
 use std::io::Write;
 
-fn head<W: Write + Drop>(out: &mut Sink<W>) {
-    out.text(
+pub fn put_head<W: Write>(out: &mut W) -> io::Result<()>
+    ensures { WritesText (W.contents out.old) (W.contents out.new) result head }
+{
+    put(
+        out,
         b"<!DOCTYPE html>\n\
         <html lang=\"en\"><head><meta charset=\"utf-8\"><title>Which lamp burnt when</title>\n\
         <style>\n\
@@ -20,55 +26,65 @@ fn head<W: Write + Drop>(out: &mut Sink<W>) {
         table{border-collapse:collapse;margin-top:1em}\n\
         td,th{border:1px solid #888;padding:.25em .7em;text-align:right}\n\
         @media print{body{margin:0}.l,.b{-webkit-print-color-adjust:exact;print-color-adjust:exact}}\n\
-        </style></head><body>\n",
-    );
-    out.text(
-        b"<h1>Which lamp burnt when</h1>\n\
+        </style></head><body>\n\
+        <h1>Which lamp burnt when</h1>\n\
         <p>A row is a day since the log began, a band in it a lamp; a dark bar is a stretch that it burnt. \
         Rest on a bar to read its seconds.</p>\n",
-    );
+    )
 }
 
 // The hours along the top.
-fn hours<W: Write + Drop>(out: &mut Sink<W>) {
-    out.text(
+pub fn put_hours<W: Write>(out: &mut W) -> io::Result<()>
+    ensures { WritesText (W.contents out.old) (W.contents out.new) result hours }
+{
+    put(
+        out,
         b"<svg viewBox=\"0 0 1100 16\" role=\"img\" aria-label=\"hours of the day\"><g text-anchor=\"middle\">\
         <text y=\"12\" x=\"90\">0</text><text y=\"12\" x=\"170\">2</text><text y=\"12\" x=\"250\">4</text>\
         <text y=\"12\" x=\"330\">6</text><text y=\"12\" x=\"410\">8</text><text y=\"12\" x=\"490\">10</text>\
         <text y=\"12\" x=\"570\">12</text><text y=\"12\" x=\"650\">14</text><text y=\"12\" x=\"730\">16</text>\
         <text y=\"12\" x=\"810\">18</text><text y=\"12\" x=\"890\">20</text><text y=\"12\" x=\"970\">22</text>\
         <text y=\"12\" x=\"1050\">24</text></g></svg>\n",
-    );
+    )
 }
 
-pub fn above<W: Write + Drop>(out: &mut Sink<W>) {
-    head(out);
-    hours(out);
-}
-
-fn row<W: Write + Drop>(out: &mut Sink<W>, t: Totals, k: usize)
+// The row of the lamp at place k.
+fn put_total<W: Write>(out: &mut W, t: Totals, k: usize) -> io::Result<()>
     requires { k < 8 }
+    ensures { WritesText (W.contents out.old) (W.contents out.new) result
+        (total_at t.starts t.burnt t.lasts k) }
 {
-    let numbers = [
-        k as u64 + 1,
-        t.starts[k] as u64,
-        t.burnt[k],
-        t.lasts[k] as u64,
-    ];
-    out.fill(
-        b"<tr><th>#</th><td>#</td><td>#</td><td>#</td></tr>\n",
-        &numbers,
-    );
+    fill(
+        out,
+        "<tr><th>#</th><td>#</td><td>#</td><td>#</td></tr>\n",
+        &[
+            k as u64 + 1,
+            t.starts[k] as u64,
+            t.burnt[k],
+            t.lasts[k] as u64,
+        ],
+    )
 }
 
-pub fn below<W: Write + Drop>(out: &mut Sink<W>, t: Totals) {
-    out.text(
-        b"</svg>\n\
-        <table><caption>Seconds of each lamp</caption>\
-        <tr><th>lamp</th><th>at the start</th><th>burnt</th><th>now</th></tr>\n",
-    );
-    for k in 0..t.count.min(LAMPS) {
-        row(out, t, k);
+fn put_totals<W: Write>(out: &mut W, t: Totals) -> io::Result<()>
+    requires { t.count ≤ 8 }
+    ensures { WritesText (W.contents out.old) (W.contents out.new) result (totals t.count t.starts t.burnt t.lasts) }
+{
+    for k in 0..t.count {
+        put_total(out, t, k)?;
     }
-    out.text(b"</table>\n</body></html>\n");
+    Ok(())
+}
+
+pub fn put_table<W: Write>(out: &mut W, t: Totals) -> io::Result<()>
+    requires { t.count ≤ 8 }
+    ensures { WritesText (W.contents out.old) (W.contents out.new) result (table t.count t.starts t.burnt t.lasts) }
+{
+    put(
+        out,
+        b"<table><caption>Seconds of each lamp</caption>\
+        <tr><th>lamp</th><th>at the start</th><th>burnt</th><th>now</th></tr>\n",
+    )?;
+    put_totals(out, t)?;
+    put(out, b"</table>\n")
 }

@@ -1,47 +1,42 @@
 // One self-contained HTML document: a row for each day since a log began, in it a band for each lamp, lit stretches as
-// bars; the hours along the top; a table of totals. It is written as it comes: a stretch is drawn once it has ended,
-// and rows are opened up to its days. Bands stand apart by place and name, so that no colour has to be told from
-// another.
+// bars; the hours along the top; a table of totals (RULES, Floor log). It is written as it comes: a stretch is drawn
+// once it has ended, and rows are opened up to its days. Bands stand apart by place and name, so that no colour has to
+// be told from another.
 #![tactic(auto)]
 
-ghost use Rattle.std.specs.Prelude.{◌≡◌};
-ghost use Rattle.page.specs.Rows.{daysOf, rowsDrawn};
+ghost use Rattle.std.specs.Prelude.{◌≡◌, ◌≤◌, length, IfOk};
+ghost use Rattle.output.specs.Writing.{WritesText};
+ghost use Rattle.page.specs.Days.{days_of, rows_drawn, drawn};
+ghost use Rattle.page.specs.Frame.{page_begun, page_ended};
 
 mod days;
 mod frame;
 
-use sink::Sink;
+use lamplines::Totals;
+use output::put;
+use std::io;
 use std::io::Write;
-
-pub const LAMPS: usize = 8;
 
 const DAY: u64 = 86400;
 
-// Stretches that ended together, of each lamp whose mark is set, in seconds since the log began.
+/// A stretch that lamps burnt, in seconds since the log began; the second `to` is not in it.
 #[derive(Clone, Copy)]
 pub struct Stretch {
-    pub marks: [bool; LAMPS],
-    pub count: usize,
     pub from: u64,
     pub to: u64,
 }
 
-// Each lamp's seconds: when the log began, burnt in it, and now.
-#[derive(Clone, Copy)]
-pub struct Totals {
-    pub count: usize,
-    pub starts: [u32; LAMPS],
-    pub burnt: [u64; LAMPS],
-    pub lasts: [u32; LAMPS],
-}
-
-pub fn begin<W: Write + Drop>(out: &mut Sink<W>) {
-    frame::above(out);
+/// What stands above the rows.
+pub fn begin<W: Write>(out: &mut W) -> io::Result<()>
+    ensures { WritesText (W.contents out.old) (W.contents out.new) result page_begun }
+{
+    frame::put_head(out)?;
+    frame::put_hours(out)
 }
 
 // So many days have one of these seconds. A log of no seconds has its first day all the same.
-fn days_of(seconds: u64) -> u64
-    ensures { result ≡ daysOf seconds }
+fn days_until(seconds: u64) -> u64
+    ensures { result ≡ days_of seconds }
 {
     if 0 < seconds {
         return (seconds - 1) / DAY + 1;
@@ -49,22 +44,31 @@ fn days_of(seconds: u64) -> u64
     1
 }
 
-// There are rows for so many days; the last is open. The same, with what the stretches are drawn in.
-pub fn draw<W: Write + Drop>(out: &mut Sink<W>, days: u64, s: Stretch) -> u64
-    ensures { result ≡ rowsDrawn days s.from s.to }
+/// A stretch of the lamps whose marks are set, where there are so many rows, the last of them open; how many there are
+/// then.
+pub fn draw<W: Write>(out: &mut W, rows: u64, lit: &[bool], s: Stretch) -> io::Result<u64>
+    requires { length lit.now ≤ 8 }
+    ensures rows { IfOk result (λ n. n ≡ rows_drawn rows s.from s.to) }
+    ensures text { WritesText (W.contents out.old) (W.contents out.new) result (drawn rows lit.now s.from s.to) }
 {
     if s.to <= s.from {
-        return days;
+        return Ok(rows);
     }
-    let mut opened = days;
-    for before in s.from / DAY..days_of(s.to) {
-        opened = days::draw(out, opened, s, before + 1);
+    let mut opened = rows;
+    for before in s.from / DAY..days_until(s.to) {
+        opened = days::draw_in(out, opened, before + 1, lit, s)?;
     }
-    opened
+    Ok(opened)
 }
 
-// The rows up to the end of a log of so many seconds, and what stands below them.
-pub fn end<W: Write + Drop>(out: &mut Sink<W>, days: u64, seconds: u64, t: Totals) {
-    days::open_to(out, days, days_of(seconds), t.count);
-    frame::below(out, t);
+/// The rows up to the end of a log of so many seconds, and what stands below them.
+pub fn end<W: Write>(out: &mut W, rows: u64, seconds: u64, t: Totals) -> io::Result<()>
+    requires { t.count ≤ 8 }
+    ensures { WritesText (W.contents out.old) (W.contents out.new) result
+        (page_ended rows seconds t.count t.starts t.burnt t.lasts) }
+{
+    days::open_to(out, t.count as u64, rows, days_until(seconds))?;
+    put(out, b"</svg>\n")?;
+    frame::put_table(out, t)?;
+    put(out, b"</body></html>\n")
 }

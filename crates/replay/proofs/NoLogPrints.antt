@@ -9,17 +9,17 @@ use Rattle.text.specs.Words.{ascii}
 use Rattle.record.specs.declared.types.Device.{Device}
 use Rattle.floor.specs.Playing.{replayed}
 use Rattle.floor.proofs.LastLine.{no-log-ends-in}
-use Rattle.replay.specs.declared.way.Failure.{Failure}
-use Rattle.replay.specs.declared.way.Failure.TheVariants.{Read, Write, Broken}
+use Rattle.textio.specs.declared.lines.Failure.{Failure}
+use Rattle.textio.specs.declared.lines.Failure.TheVariants.{Read, Write, TooLong}
 use Rattle.replay.specs.Ways.{failureLine}
 
 pub no-log-prints : (f : Failure) (d : Device) (log before : List ℕ) → replayed d log ≡ before ++ failureLine f → ⊥
-no-log-prints Read d log before e =
+no-log-prints (Read x) d log before e =
     no-log-ends-in d log (before ++ ascii "! read faile") (code "d") refl
     (e ∙ sym (append_assoc before (ascii "! read faile") (ascii "d\n")))
-no-log-prints Write d log before e =
+no-log-prints (Write x) d log before e =
     no-log-ends-in d log (before ++ ascii "! write faile") (code "d") refl
     (e ∙ sym (append_assoc before (ascii "! write faile") (ascii "d\n")))
-no-log-prints Broken d log before e =
+no-log-prints TooLong d log before e =
     no-log-ends-in d log (before ++ ascii "! broken of") (code "f") refl
     (e ∙ sym (append_assoc before (ascii "! broken of") (ascii "f\n")))

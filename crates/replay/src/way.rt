@@ -1,71 +1,25 @@
-// How a replay goes on after a read or a call, and the line in which it ends where its log is cut short.
+// The line in which a replay ends where its log is cut short, or where its form does not load.
 ghost use Rattle.std.specs.Prelude.{◌≡◌, ◌≤◌, length};
 ghost use Rattle.text.specs.Words.{over};
-ghost use Rattle.replay.specs.Ways.{readWay, callWay, failureLine, failureRoom, numberLine};
+ghost use Rattle.replay.specs.Ways.{failureLine, numberRoom, numberLine};
 
-#[derive(Clone, Copy)]
-pub enum Failure {
-    Read,
-    Write,
-    // no number is left for a line
-    Broken,
-}
+use textio::lines::Failure;
 
-#[derive(Clone, Copy)]
-pub enum Way {
-    On,
-    Ended,
-    Failed(Failure),
-}
-
-// `got`: how many bytes a read gave, where it did not fail.
-pub fn after_read(got: Option<usize>) -> Way
-    ensures { result ≡ readWay got }
-{
-    match got {
-        None => Way::Failed(Failure::Read),
-        Some(0) => Way::Ended,
-        Some(_) => Way::On,
-    }
-}
-
-pub fn after_call(written: bool, number: u32) -> Way
-    ensures { result ≡ callWay written number }
-{
-    if !written {
-        return Way::Failed(Failure::Write);
-    }
-    if number == 0 {
-        return Way::On;
-    }
-    Way::Failed(Failure::Broken)
-}
-
-// The failure line, from the start of the lent memory; its length.
-pub fn put_failure(failure: Failure, out: &mut [u8]) -> usize
-    requires { failureRoom ≤ length out.old }
-    ensures value { result ≡ length (failureLine failure) }
-    ensures out_after { out.new ≡ over (failureLine failure) out.old }
+pub fn failure_line(failure: &Failure) -> &'static [u8]
+    ensures { result.now ≡ failureLine failure.now }
 {
     match failure {
-        Failure::Read => {
-            text::put(out, 0, b"! read failed\n");
-            14
-        }
-        Failure::Write => {
-            text::put(out, 0, b"! write failed\n");
-            15
-        }
-        Failure::Broken => {
-            text::put(out, 0, b"! broken off\n");
-            13
-        }
+        Failure::Read(_) => b"! read failed\n",
+        Failure::Write(_) => b"! write failed\n",
+        Failure::TooLong => b"! broken off\n",
     }
 }
 
-// The line of a form that does not load: its number.
+pub const NUMBER_ROOM: usize = 16;
+
+// The line of a form that does not load, from the start of the lent memory: its number. The line's length.
 pub fn put_number(number: u32, out: &mut [u8]) -> usize
-    requires { failureRoom ≤ length out.old }
+    requires { numberRoom ≤ length out.old }
     ensures value { result ≡ length (numberLine number) }
     ensures out_after { out.new ≡ over (numberLine number) out.old }
 {

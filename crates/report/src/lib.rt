@@ -1,48 +1,72 @@
-// What is told of a watched log: lines, or a page where one is wanted; and a last line where the log is cut short.
+// What is told of a watched log: lines, or a page where one is wanted; and a last line where the log is cut short
+// (RULES, Floor log).
 #![tactic(auto)]
 
-mod printed;
-pub mod way;
+pub mod cut;
 
-use page::{LAMPS, Stretch, Totals};
-use sink::Sink;
+ghost use Rattle.std.specs.Prelude.{◌≡◌, ◌≤◌, length, OnOk, OnErr};
+ghost use Rattle.output.specs.Writing.{WritesText};
+ghost use Rattle.report.specs.Reports.{report_new, begun_text, report_told, told_text, ended_text};
+
+use lamplines::Totals;
+use page::Stretch;
+use std::io;
 use std::io::Write;
 
-// `starts`: each lamp's seconds when the log began, which its end tells. A page has rows for so many days.
+/// How a log is told: as lines, or as a page that has so many rows.
 #[derive(Clone, Copy)]
-pub struct Report {
-    pub drawn: bool,
-    pub starts: [u32; LAMPS],
-    days: u64,
+pub enum Report {
+    Lines,
+    Page(u64),
 }
 
-pub fn begin<W: Write + Drop>(out: &mut Sink<W>, drawn: bool, starts: [u32; LAMPS]) -> Report {
-    if drawn {
-        page::begin(out);
+impl Report {
+    /// Before a log that is drawn on a page, or not.
+    pub fn new(drawn: bool) -> Report
+        ensures { result ≡ report_new drawn }
+    {
+        if drawn {
+            return Report::Page(0);
+        }
+        Report::Lines
     }
-    Report {
-        drawn,
-        starts,
-        days: 0,
-    }
-}
 
-pub fn tell<W: Write + Drop>(r: Report, out: &mut Sink<W>, s: Stretch) -> Report {
-    let mut report = r;
-    if r.drawn {
-        report.days = page::draw(out, r.days, s);
-    } else {
-        printed::stretches(out, s);
+    /// What stands before the first stretch.
+    pub fn begin<W: Write>(self, out: &mut W) -> io::Result<()>
+        ensures { WritesText (W.contents out.old) (W.contents out.new) result (begun_text self) }
+    {
+        match self {
+            Report::Lines => Ok(()),
+            Report::Page(_) => page::begin(out),
+        }
     }
-    report
-}
 
-// The end of a log of so many seconds.
-pub fn end<W: Write + Drop>(r: Report, out: &mut Sink<W>, seconds: u64, t: Totals) {
-    if r.drawn {
-        page::end(out, r.days, seconds, t);
-    } else {
-        printed::totals(out, t);
+    /// A stretch of the lamps whose marks of `lit` are set.
+    pub fn tell<W: Write>(&mut self, out: &mut W, lit: &[bool], s: Stretch) -> io::Result<()>
+        requires { length lit.now ≤ 8 }
+        ensures report { OnOk result (self.new ≡ report_told self.old s.from s.to) }
+        ensures kept { OnErr result (self.new ≡ self.old) }
+        ensures text { WritesText (W.contents out.old) (W.contents out.new) result
+            (told_text self.old lit.now s.from s.to) }
+    {
+        match *self {
+            Report::Lines => lamplines::put_stretches(out, lit, s.from, s.to),
+            Report::Page(rows) => {
+                *self = Report::Page(page::draw(out, rows, lit, s)?);
+                Ok(())
+            }
+        }
     }
-    out.flush();
+
+    /// The end of a log of so many seconds.
+    pub fn end<W: Write>(self, out: &mut W, seconds: u64, t: Totals) -> io::Result<()>
+        requires { t.count ≤ 8 }
+        ensures { WritesText (W.contents out.old) (W.contents out.new) result
+            (ended_text self seconds t.count t.starts t.burnt t.lasts) }
+    {
+        match self {
+            Report::Lines => lamplines::put_totals(out, t),
+            Report::Page(rows) => page::end(out, rows, seconds, t),
+        }
+    }
 }

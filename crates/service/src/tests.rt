@@ -29,7 +29,10 @@ fn both_ends(rt: HostRuntime) {
     let mut out = [7; 64];
     let readings = [reading(0, u32::MAX), reading(u32::MAX, 0)];
     assert_eq!(rt; compare(&readings, &mut out), Ok(Some(1)));
-    assert_eq!(rt; [out[0], out[1], out[2]], [4_294_967_295, -4_294_967_295, 7]);
+    assert_eq!(rt;
+        [out[0], out[1], out[2]],
+        [4_294_967_295, -4_294_967_295, 7]
+    );
 }
 
 #[test]
@@ -40,6 +43,9 @@ fn nothing_to_compare(rt: HostRuntime) {
 #[test]
 fn no_room(rt: HostRuntime) {
     let mut out = [7];
-    assert_eq!(rt; compare(&[reading(1, 1), reading(1, 2)], &mut out), Err(CompareError::NoRoom));
+    assert_eq!(rt;
+        compare(&[reading(1, 1), reading(1, 2)], &mut out),
+        Err(CompareError::NoRoom)
+    );
     assert_eq!(rt; out, [7]);
 }

@@ -1,3 +1,4 @@
 pub mod OneResult
 pub mod Refusals
 pub mod Fits
+pub mod KeptInRoom

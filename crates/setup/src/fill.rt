@@ -7,33 +7,30 @@ ghost use Rattle.record.specs.Rules.{areNames};
 ghost use Rattle.record.specs.Record.{inRoom, text_of, name_of, namesKept, allMarks, startOwn};
 
 use record::own::VOLUME_START;
-use record::types::{
-    INPUT_NAME_MOST, INPUT_ROOM, INPUTS_MOST, InputName, LAMPS_MOST, Own, TEXT_ROOM, Text,
-};
+use record::rooms;
+use record::types::{INPUT_ROOM, INPUTS_MOST, InputName, LAMPS_MOST, Own, Text};
 
 /// A text in its room: at most 64 bytes.
+#[tactic(auto, using(crate::proofs::KeptInRoom::kept_in_room))]
 pub fn text_of(s: &[u8]) -> Text
     requires { length s.now ≤ textRoom }
     ensures { result ≡ text_of s.now }
 {
-    let mut bytes = [0u8; TEXT_ROOM];
-    text::put(&mut bytes, 0, s);
     Text {
         len: s.len(),
-        bytes,
+        bytes: rooms::kept(s, 0),
     }
 }
 
 /// An input's name in its room: at most 128 bytes (RULES, Class 2).
+#[tactic(auto, using(crate::proofs::KeptInRoom::kept_in_room))]
 pub fn name_of(s: &[u8]) -> InputName
     requires { length s.now ≤ inputNameMost }
     ensures { result ≡ name_of s.now }
 {
-    let mut bytes = [0u8; INPUT_NAME_MOST];
-    text::put(&mut bytes, 0, s);
     InputName {
         len: s.len(),
-        bytes,
+        bytes: rooms::kept(s, 0),
     }
 }
 
@@ -54,23 +51,21 @@ pub fn names_of(bytes: &[u8], lengths: &[usize], count: usize) -> [InputName; IN
 }
 
 /// A list of inputs in its room: two characters each, at most 32 inputs (RULES, Inputs).
+#[tactic(auto, using(crate::proofs::KeptInRoom::kept_in_room))]
 pub fn input_room(s: &[u8]) -> [u8; INPUT_ROOM]
     requires { length s.now ≤ inputRoom }
     ensures { result ≡ inRoom inputRoom s.now }
 {
-    let mut list = [0u8; INPUT_ROOM];
-    text::put(&mut list, 0, s);
-    list
+    rooms::kept(s, 0)
 }
 
 /// The starting seconds of at most 8 lamps, in their room (RULES, Lamps).
+#[tactic(auto, using(crate::proofs::KeptInRoom::kept_in_room))]
 pub fn lamp_room(s: &[u32]) -> [u32; LAMPS_MOST]
     requires { length s.now ≤ lampsMost }
     ensures { result ≡ inRoom lampsMost s.now }
 {
-    let mut list = [0u32; LAMPS_MOST];
-    list[..s.len()].copy_from_slice(s);
-    list
+    rooms::kept(s, 0)
 }
 
 /// Each of so many lamps is enabled (RULES, Lamps).

@@ -15,10 +15,10 @@ use Rattle.record.specs.declared.types.Line.{Line}
 use Rattle.clock.specs.Second.{marksIn}
 use Rattle.stream.specs.Machine.{Out, unanswered, replyThen}
 use Rattle.stream.proofs.LinesSpelt.{run_none, run_more}
-use Rattle.floor.specs.Events.{lines_from}
+use Rattle.textio.specs.Lines.{lines_from}
 use Rattle.floor.specs.Reading.{keptOf, nothingBegun, keptWith, lineAfter, isBegun}
 use Rattle.floor.proofs.KeptLine.{Holds, one_more, none_after, begun-some}
-use Rattle.floor.proofs.LinesSpelt.{lines_end, lines-byte}
+use Rattle.textio.proofs.LinesSpelt.{lines_end, lines-byte}
 use Rattle.lamplines.specs.LampLines.{stretchLines}
 use Rattle.marking.specs.Marking.{FloorEvent, floorEvent}
 use Rattle.marking.proofs.KeptEvents.{event-kept}

@@ -16,7 +16,7 @@ use Rattle.record.specs.declared.types.Device.{Device}
 use Rattle.clock.specs.Second.{changedWhere, marksIn}
 use Rattle.clock.proofs.ChangedWhere.{where-length, where-at}
 use Rattle.floor.specs.Reading.{lineAfter}
-use Rattle.floor.proofs.LinesPlayed.{after-long}
+use Rattle.floor.proofs.Gathering.{after-long}
 use Rattle.marking.specs.Marking.{FloorEvent, doneBy, secondsBy, keptFloorEvent}
 use Rattle.marking.proofs.LineDoes.{done-legal, line-seconds}
 use Rattle.watch.specs.Watching.{Watching, isBurningIn, gainedBy, watchedOn, lineDone}

@@ -15,7 +15,7 @@ use Rattle.text.specs.Words.{◌is◌}
 use Rattle.text.proofs.Choices.{if-all}
 use Rattle.stream.specs.Machine.{Out, Took, unanswered, replyThen, tookBytes, oneStep, runOver}
 use Rattle.stream.proofs.LinesSpelt.{run_none, run_more}
-use Rattle.floor.proofs.LinesCounted.{lineEnds}
+use Rattle.textio.proofs.LinesCounted.{lineEnds}
 use Rattle.watch.specs.Watching.{Watching, Watched, lineDone, isDark, isLong, watchMore, takenMore}
 use Rattle.watch.specs.Watching.{watchedIn}
 use Rattle.watch.specs.WatchCalls.{CanWatch}

@@ -22,16 +22,15 @@ use Rattle.stream.specs.Machine.{Out, Took, handedParts, uncut}
 use Rattle.stream.proofs.WholeParts.{uncut-more}
 use Rattle.stream.proofs.SameHoweverCut.{outThrough, tookThrough, Taking, parts-run}
 use Rattle.logs.specs.Lines.{lineMost}
-use Rattle.floor.specs.Events.{lines_of}
+use Rattle.textio.specs.Lines.{lines_of}
 use Rattle.floor.specs.Reading.{keptOf, nothingBegun}
-use Rattle.floor.specs.WholeLog.{noneLonger}
 use Rattle.floor.proofs.KeptLine.{none-held}
-use Rattle.floor.proofs.LinesCounted.{lineEnds, ends-append, ends-few, ends-lines}
+use Rattle.textio.proofs.LinesCounted.{lineEnds, ends-append, ends-few, ends-lines}
 use Rattle.watch.specs.Watching.{Watching, isBurningIn, watchMore, watchedIn, watchEnded}
 use Rattle.watch.specs.WatchCalls.{isSound, CanWatch, watched, watchedToEnd}
 use Rattle.watch.specs.WatchCalls.{watchingFrom}
 use Rattle.watch.specs.WholeWatch.{floorEvents, WatchStage, watchBegun, callTells, playTells, finishTells}
-use Rattle.watch.specs.WholeWatch.{wholeWatch, Timeable, WatchesBack}
+use Rattle.watch.specs.WholeWatch.{wholeWatch, noneLonger, Timeable, WatchesBack}
 use Rattle.watch.proofs.Turns.{can-fewer}
 use Rattle.watch.proofs.WatchRefusals.{not-refused, watch-all}
 use Rattle.watch.proofs.LogRuns.{lineTells, watchRun, watched-runs, some-watched, run-goes}

@@ -12,6 +12,7 @@
 --   playTells g bs        what `play` on the bytes bs leaves, and what is printed; after a refusal nobody calls again
 --   finishTells g         what `finish` leaves, and what is printed
 --   wholeWatch d m rs     all calls for the reads rs, of any sizes, empty ones too
+--   noneLonger size rs    no read has more than `size` bytes
 --   Timeable size rs      the seconds of the log can be counted: no read has more than `size` bytes, and so many
 --                         seconds as its lines and `size` together could let pass have 64 bits
 --   WatchesBack d log o   all calls for a log leave o: none refused, what is printed is what the events of the log
@@ -19,15 +20,15 @@
 --   LogsWatchedBack       so does every log that can be timed, from any legal device, in memory that has room
 -- Assumes nothing.
 use Rattle.std.specs.Prelude.{ℕ, ◌+◌, ◌*◌, ◌^◌, ◌≤◌, ◌<◌, ◌≡◌, Bool, true, false, ◌&&◌, if◌then◌else◌}
-use Rattle.std.specs.Prelude.{List, [], ◌∷◌, ◌++◌, map, length, eqb}
+use Rattle.std.specs.Prelude.{List, [], ◌∷◌, ◌++◌, map, length, leb, eqb}
+use Rattle.text.specs.Scans.{every}
 use Rattle.record.specs.Legal.{isLegal}
 use Rattle.record.specs.declared.types.Device.{Device}
 use Rattle.clock.specs.Second.{marksIn}
 use Rattle.clock.specs.Passing.{secondsMost}
 use Rattle.stream.specs.Machine.{Out, Took, unanswered, tookBytes, handedParts, uncut}
 use Rattle.logs.specs.Lines.{lineMost}
-use Rattle.floor.specs.Events.{lines_of}
-use Rattle.floor.specs.WholeLog.{noneLonger}
+use Rattle.textio.specs.Lines.{lines_of}
 use Rattle.lamplines.specs.LampLines.{stretchLines}
 use Rattle.marking.specs.Marking.{FloorEvent, floorEvent, doneBy}
 use Rattle.watch.specs.Watching.{Watching, isBurningIn, isLong, darkWith, watchedOn, closedAtEnd}
@@ -94,6 +95,9 @@ wholeWatch d m reads =
     let played = handedParts playTells (watchBegun d m) reads in
     let last = finishTells played.state in
     record { state = last.state; reply = played.reply ++ last.reply }
+
+abbrev pub noneLonger : ℕ → List (List ℕ) → Bool
+noneLonger size reads = every (λ (r : List ℕ). leb (length r) size) reads
 
 pub record Timeable (size : ℕ) (reads : List (List ℕ)) : Type 0 where
   pub some : 1 ≤ size

@@ -6,8 +6,8 @@ ghost use Rattle.watch.specs.WatchCalls.{watchingIn, watchingFrom};
 ghost use Rattle.watch.specs.WatchCalls.{CanWatch, SeenAs, WatchedAs, watched, watchedToEnd};
 
 use crate::{dark, light, refusing};
+use floor::gather;
 use floor::gather::Begun;
-use floor::{closing, gather};
 use record::legality::Tested;
 use record::types::{Device, LAMPS_MOST};
 
@@ -141,7 +141,7 @@ pub fn finish(w: &mut Watch, line: &mut [u8]) -> Step
     }
     let mut reply = [0u8; REPLY_ROOM];
     let lf = [b'\n'; 1];
-    let count = closing::missing_lf(w.begun);
+    let count = gather::missing_lf(w.begun);
     let last = watch_on(w, line, &lf[0..count], &mut reply);
     let seen = dark::close_log(w, last.ended);
     Step {

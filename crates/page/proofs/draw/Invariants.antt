@@ -1,9 +1,14 @@
-use Rattle.std.proofs.Common.{◌≡◌, ◌<◌, ◌/◌, max}
+-- the days that were drawn in have their rows, and are drawn in
+use Rattle.std.proofs.Common.{◌≡◌, ◌+◌, ◌-◌, ◌/◌}
+use Rattle.std.specs.List.{flat_map, range_with_len}
+use Rattle.std.specs.Io.KnownBytes.{Appends}
+use Rattle.page.specs.Days.{rows_before, drawn_in}
 use Rattle.page.proofs.draw.Given as goal
 
--- the days that were drawn in have their rows
 abbrev pub invariant-loop-before : goal.invariant-loop-before
 invariant-loop-before g l = record {
-  none : l.before ≡ l.s.from / 86400 → l.opened ≡ l.days;
-  some : l.s.from / 86400 < l.before → l.opened ≡ max l.days l.before;
+  opened : l.opened ≡ rows_before l.rows l.s.from (l.before + 1);
+  written : Appends (g.W.Write.contents l.initial.out) (g.W.Write.contents l.out)
+      (flat_map (drawn_in l.rows l.lit l.s.from l.s.to)
+      (range_with_len (l.s.from / 86400 + 1) (l.before - l.s.from / 86400)));
 }

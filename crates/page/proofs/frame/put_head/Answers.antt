@@ -1,0 +1,6 @@
+use Rattle.page.specs.Frame.{head}
+use Rattle.page.proofs.frame.put_head.Goals as goal
+
+pub returns : goal.returns
+unfolding head
+returns g c = c.put.ensures

@@ -1,0 +1,2 @@
+pub mod Underway
+pub mod LinePlayed

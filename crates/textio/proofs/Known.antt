@@ -1,0 +1,66 @@
+-- What is known of a source and a sink behind memory: what is taken of the bytes read ahead, and the front of a line that
+-- is kept.
+-- Assumes nothing.
+use Prim.Native.Nat.{ℕ, ◌+◌, ◌-◌, ◌≤◌, min}
+use mathlib.Core.Path.{◌≡◌, sym, ap, ◌∙◌}
+use mathlib.Core.List.{List, ◌++◌, append_assoc}
+use native.Mathlib.Omega.{arith}
+use lib.ListN.{length, take, drop, length-take}
+use lib.Seq.{drop-append-le, length-take-le}
+use Rattle.std.proofs.Common.{slice_range, take-append-drop, drop-drop}
+use Rattle.std.proofs.Math.Seq.{take-append-add}
+use Rattle.std.proofs.lemmas.List.{take_min, drop-take}
+use Rattle.std.proofs.lemmas.Slice.{between_is}
+use Rattle.std.specs.Prelude.{None, Some}
+use Rattle.std.specs.declared.option.Option.{Option}
+use Rattle.std.specs.Io.KnownBytes.{Keeps, Consumes, prepend_known}
+
+-- taken of what stands before a source's bytes
+pub prepend_known_taken : (a : Option (List ℕ)) (old new front : List ℕ) → old ≡ front ++ new
+    → Consumes (prepend_known old a) (prepend_known new a) front
+prepend_known_taken None old new front e = tt
+prepend_known_taken (Some x) old new front e = ap (λ (l : List ℕ). l ++ x) e ∙ append_assoc front new x
+
+-- a range that begins later is what its front leaves
+pub range_later : (xs : List ℕ) (start end n : ℕ) → n ≤ length (slice_range xs start end)
+    → slice_range xs start end ≡ take n (slice_range xs start end) ++ slice_range xs (start + n) end
+range_later xs start end n h =
+    let k = end - (start + n) in
+    let whole : n + k ≡ end - start = omega (arith, length-take (end - start) (drop start xs)) in
+    sym (take-append-drop n (slice_range xs start end))
+    ∙ ap (λ (l : List ℕ). take n (slice_range xs start end) ++ l)
+    (ap (λ (m : ℕ). drop n (take m (drop start xs))) (sym whole) ∙ drop-take n k (drop start xs)
+    ∙ ap (take k) (drop-drop n start xs))
+
+-- what is appended to the front of a list that ends in a range is appended to the range
+pub range_grown : (old new bs : List ℕ) (start end after : ℕ) → start ≤ end → end ≤ length old
+    → take after new ≡ take end old ++ bs → slice_range new start after ≡ slice_range old start end ++ bs
+range_grown old new bs start end after h k e =
+    between_is new start after ∙ ap (drop start) e
+    ∙ drop-append-le start (take end old) bs (omega (arith, length-take-le end old k))
+    ∙ ap (λ (l : List ℕ). l ++ bs) (sym (between_is old start end))
+
+kept_front : (m : ℕ) (xs ys : List ℕ) → length xs ≤ m
+    → xs ++ take (min (length ys) (m - length xs)) ys ≡ take m (xs ++ ys)
+kept_front m xs ys h =
+    let whole : m ≡ length xs + (m - length xs) = omega arith in
+    let same : min (length ys) (m - length xs) ≡ min (m - length xs) (length ys) = omega arith in
+    ap (λ (k : ℕ). xs ++ take k ys) same
+    ∙ ap (λ (l : List ℕ). xs ++ l) (take_min (m - length xs) ys) ∙ sym (take-append-add xs ys (m - length xs))
+    ∙ ap (λ (n : ℕ). take n (xs ++ ys)) (sym whole)
+
+-- what is appended in memory is what there is room for
+pub appended_front : (old new bytes : List ℕ) (at place : ℕ) → at ≤ length old → length new ≡ length old
+    → place ≡ at + min (length bytes) (length old - at) → take place new ≡ take at old ++ take (place - at) bytes
+    → take place new ≡ take (length new) (take at old ++ bytes)
+appended_front old new bytes at place inside same e kept =
+    let long = length-take-le at old inside in
+    let count : place - at ≡ min (length bytes) (length new - length (take at old)) = omega (arith, long, same, e) in
+    kept ∙ ap (λ (k : ℕ). take at old ++ take k bytes) count
+    ∙ kept_front (length new) (take at old) bytes (omega (arith, long, same))
+
+pub kept_then_consumed : (a b c : Option (List ℕ)) (bs : List ℕ) → Keeps a b → Consumes b c bs → Consumes a c bs
+kept_then_consumed None b c bs p q = tt
+kept_then_consumed (Some x) None c bs p q = absurd p
+kept_then_consumed (Some x) (Some y) None bs p q = absurd q
+kept_then_consumed (Some x) (Some y) (Some z) bs p q = sym p ∙ q

@@ -1,0 +1,4 @@
+pub mod Parts
+pub mod Known
+pub mod LinesSpelt
+pub mod LinesCounted

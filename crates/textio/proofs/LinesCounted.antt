@@ -1,0 +1,86 @@
+-- Lines are counted one for each LF: no more than a log has lines, and no more than it has bytes.
+--   lineEnds bs      how many LF are in bs
+-- Assumes nothing.
+use Prim.Native.Nat.{ℕ, zero, suc, ◌+◌, ◌≤◌}
+use mathlib.Core.Path.{◌≡◌, sym, subst}
+use mathlib.Core.Bool.{Bool, true, false}
+use mathlib.Core.List.{List, [], ◌∷◌, ◌++◌}
+use native.Mathlib.Omega.{arith}
+use mathlib.Core.Logic.{⊎_elim}
+use lib.ListN.{length, length-append}
+use lib.Dec.{eqb}
+use borrow.Author.Tests.{eqb-false}
+use Rattle.std.proofs.Common.{Any, ◌⊎◌, inl, inr}
+use Rattle.std.specs.Prelude.{if◌then◌else◌}
+use Rattle.text.specs.Words.{◌is◌}
+use Rattle.text.proofs.Choices.{if-all, if-by}
+use Rattle.textio.specs.Lines.{lines_from, lines_of, countMost, HasEndlessLine, IsTooLong}
+
+abbrev pub lineEnds : List ℕ → ℕ
+lineEnds [] = 0
+lineEnds (b ∷ bs) = (if b is "\n" then 1 else 0) + lineEnds bs
+
+pub ends-append : (xs ys : List ℕ) → lineEnds (xs ++ ys) ≡ lineEnds xs + lineEnds ys
+ends-append [] ys = omega arith
+ends-append (b ∷ xs) ys = omega (arith, ends-append xs ys)
+
+pub ends-few : (bs : List ℕ) → lineEnds bs ≤ length bs
+ends-few [] = omega arith
+ends-few (b ∷ bs) =
+    let one : (if b is "\n" then 1 else 0) ≤ 1 = if-all (λ (n : ℕ). n ≤ 1) (b is "\n") (omega arith) (omega arith) in
+    omega (arith, ends-few bs, one)
+
+line-or-more : (lf : Bool) (n : ℕ) (g : List ℕ) (ls ms : List (List ℕ)) → n ≤ length ls → n ≤ length ms
+    → (if lf then 1 else 0) + n ≤ length (if lf then g ∷ ls else ms)
+line-or-more true n g ls ms h k = omega arith
+line-or-more false n g ls ms h k = omega arith
+
+pub ends-lines : (g bs : List ℕ) → lineEnds bs ≤ length (lines_from g bs)
+unfolding lines_from
+ends-lines g [] = omega arith
+ends-lines g (b ∷ bs) =
+    line-or-more (b is "\n") (lineEnds bs) g (lines_from [] bs) (lines_from (g ++ (b ∷ [])) bs) (ends-lines [] bs)
+    (ends-lines (g ++ (b ∷ [])) bs)
+
+-- what holds of a line holds of the first or of a later one
+any_line : (P : List ℕ → Type 0) (l : List ℕ) (ls : List (List ℕ)) → Any P (l ∷ ls) → P l ⊎ Any P ls
+any_line P l ls (zero, v, inside, same, p) = inl (subst P (sym same) p)
+any_line P l ls (suc i, v, inside, same, p) = inr (i, v, omega (arith, inside), same, p)
+
+no_line : (P : List ℕ → Type 0) → Any P [] → ⊥
+no_line P (i, v, inside, same, p) = omega (arith, inside)
+
+either_line : (P : List ℕ → Type 0) (Q : Type 0) (lf : Bool) (ls ms : List (List ℕ)) → (Any P ls → Q) → (Any P ms → Q)
+    → Any P (if lf then ls else ms) → Q
+either_line P Q true ls ms f g h = f h
+either_line P Q false ls ms f g h = g h
+
+-- no line is longer than its log
+line_fits : (m : ℕ) (g bs : List ℕ) → Any (λ (l : List ℕ). m ≤ length l) (lines_from g bs) → m ≤ length g + length bs
+unfolding lines_from
+line_fits m g [] h =
+    let P : List ℕ → Type 0 = λ l. m ≤ length l in
+    either_line P (m ≤ length g + 0) (eqb (length g) 0) [] (g ∷ []) (λ k. absurd (no_line P k))
+    (λ k. ⊎_elim (λ (e : m ≤ length g). omega (arith, e)) (λ (e : Any P []). absurd (no_line P e)) (any_line P g [] k)) h
+line_fits m g (b ∷ bs) h =
+    let P : List ℕ → Type 0 = λ l. m ≤ length l in
+    let later : Any P (lines_from [] bs) → m ≤ length bs = λ k. omega (arith, line_fits m [] bs k) in
+    either_line P (m ≤ length g + suc (length bs)) (b is "\n") (g ∷ lines_from [] bs) (lines_from (g ++ (b ∷ [])) bs)
+    (λ k. ⊎_elim (λ (e : m ≤ length g). omega (arith, e)) (λ (e : Any P (lines_from [] bs)). omega (arith, later e))
+    (any_line P g (lines_from [] bs) k))
+    (λ k. omega (arith, line_fits m (g ++ (b ∷ [])) bs k, length-append g (b ∷ []))) h
+
+lines_fit : (g bs : List ℕ) → length (lines_from g bs) ≤ length g + length bs
+unfolding lines_from
+lines_fit g [] =
+    if-by (λ (ls : List (List ℕ)). length ls ≤ length g + 0) (eqb (length g) 0) (λ e. omega arith)
+    (λ e. let h : length g ≡ 0 → ⊥ = eqb-false (length g) 0 e in omega arith)
+lines_fit g (b ∷ bs) =
+    if-all (λ (ls : List (List ℕ)). length ls ≤ length g + suc (length bs)) (b is "\n")
+    (omega (arith, lines_fit [] bs)) (omega (arith, lines_fit (g ++ (b ∷ [])) bs, length-append g (b ∷ [])))
+
+-- a log that is too long has as many bytes
+pub too_long_bytes : (log : List ℕ) → IsTooLong log → countMost ≤ length log
+too_long_bytes log h =
+    ⊎_elim (λ (e : countMost ≤ length (lines_of log)). omega (arith, e, lines_fit [] log))
+    (λ (e : HasEndlessLine log). omega (arith, line_fits countMost [] log e)) h

@@ -1,0 +1,5 @@
+pub mod Lines
+pub mod Ahead
+pub mod Waiting
+pub mod Fronts
+pub mod NextLine

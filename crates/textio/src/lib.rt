@@ -1,0 +1,11 @@
+// Lines read from any source of bytes, and bytes written to any sink, in fixed memory. Contracts say which bytes are read
+// and written whatever the source and the sink do, and that an error which a call hands on is one of theirs.
+#![tactic(auto)]
+
+pub mod lines;
+mod memory;
+pub mod reader;
+pub mod streams;
+#[cfg(test)]
+mod tests;
+pub mod writer;

@@ -1,0 +1,109 @@
+// The lines of a log, one at a time, in lent memory.
+ghost use Rattle.std.specs.Prelude.{◌≡◌, ◌≢◌, ◌≤◌, ◌<◌, All, IfOk, IfErr, IfSome, length, take, slice_index};
+ghost use Rattle.std.specs.Io.KnownBytes.{Keeps};
+ghost use Rattle.textio.specs.Lines.{HasEndlessLine};
+ghost use Rattle.textio.specs.Ahead.{left_in};
+ghost use Rattle.textio.specs.NextLine.{ShowsPart, IsNextLine, FailureComesOf};
+
+use crate::memory;
+use crate::reader::{ByteSource, Reader};
+use crate::writer::ByteSink;
+use std::io;
+use std::io::Error;
+
+/// Why a log is not read to its end.
+#[derive(Debug, Drop)]
+pub enum Failure {
+    /// The source gave an error; a line that had begun is no line.
+    Read(Error),
+    /// The sink of what is printed gave an error.
+    Write(Error),
+    /// A number of 64 bits counts no more lines, or no more bytes of a line.
+    TooLong,
+}
+
+// How far a line came; the place after what is kept of it.
+#[derive(Clone, Copy)]
+enum Shown {
+    Part(usize),
+    Whole(usize),
+    End,
+}
+
+fn before_lf(bytes: &[u8]) -> usize
+    ensures bound { result ≤ length bytes.now }
+    ensures before { All (λ b. b ≢ 10) (take result bytes.now) }
+    ensures lf { result < length bytes.now → slice_index bytes.now result ≡ 10 }
+{
+    bytes
+        .iter()
+        .position(|&b| b == b'\n')
+        .unwrap_or(bytes.len())
+}
+
+// What is read ahead of a line is taken, with its LF.
+fn take_shown<R: ByteSource>(from: &mut Reader<R>, line: &mut [u8], at: usize) -> io::Result<Shown>
+    requires { at ≤ length line.old }
+    ensures ok { IfOk result
+        (ShowsPart (left_in R.remaining from.old) (left_in R.remaining from.new) line.old at line.new) }
+    ensures err { IfErr result R.fails_with }
+{
+    from.fill()?;
+    let shown = from.ahead();
+    let count = shown.len();
+    if count == 0 {
+        return Ok(Shown::End);
+    }
+    let end = before_lf(shown);
+    let place = memory::append(line, at, &shown[..end]);
+    if end < count {
+        from.consume(end + 1);
+        return Ok(Shown::Whole(place));
+    }
+    from.consume(count);
+    Ok(Shown::Part(place))
+}
+
+// What waits at a sink is handed on before a read.
+fn flush_before_read<R: ByteSource, W: ByteSink>(from: &Reader<R>, to: &mut W) -> io::Result<()>
+    ensures keeps { Keeps (W.contents to.old) (W.contents to.new) }
+    ensures err { IfErr result W.fails_with }
+{
+    if from.is_empty() {
+        return to.flush();
+    }
+    Ok(())
+}
+
+/// The next line without its LF, from the start of the lent memory: its length, if there is one. Of a line that is longer
+/// than that memory only so much is kept. A read may wait, so what waits at the sink of what is printed is handed on
+/// before each.
+pub fn next_line<R: ByteSource, W: ByteSink>(
+    from: &mut Reader<R>,
+    to: &mut W,
+    line: &mut [u8],
+) -> Result<Option<usize>, Failure>
+    requires { 0 < length line.old }
+    ensures next { IfOk result (λ held. IfSome (left_in R.remaining from.old) (λ log.
+        IsNextLine log (left_in R.remaining from.new) line.new held)) }
+    ensures bound { IfOk result (λ held. IfSome held (λ n. n ≤ length line.new)) }
+    ensures keeps { Keeps (W.contents to.old) (W.contents to.new) }
+    ensures err { IfErr result
+        (FailureComesOf R.fails_with W.fails_with HasEndlessLine (left_in R.remaining from.old)) }
+{
+    let mut held = 0;
+    for _ in 0..u64::MAX {
+        match flush_before_read(from, to) {
+            Ok(()) => {}
+            Err(e) => return Err(Failure::Write(e)),
+        }
+        match take_shown(from, line, held) {
+            Ok(Shown::Part(place)) => held = place,
+            Ok(Shown::Whole(place)) => return Ok(Some(place)),
+            Ok(Shown::End) if held == 0 => return Ok(None),
+            Ok(Shown::End) => return Ok(Some(held)),
+            Err(e) => return Err(Failure::Read(e)),
+        }
+    }
+    Err(Failure::TooLong)
+}

@@ -1,0 +1,87 @@
+// Bytes that come from a source, with those that are read ahead.
+ghost use Rattle.std.specs.Prelude.{◌≡◌, ◌≤◌, ◌<◌, ◌↔◌, ℕ, List, Option, IsTrue, IfErr, OnOk, length, take};
+ghost use Rattle.std.specs.Io.{ReadsAtMost};
+ghost use Rattle.std.specs.Io.KnownBytes.{Keeps, Consumes, IsAtEnd, ReadConsumes};
+ghost use Rattle.std.specs.declared.io.Error.{Error};
+
+use std::io;
+
+/// Where bytes come from. It says what std's `Read` does of the bytes, and beside it which errors come.
+pub trait ByteSource {
+    /// The bytes that reads give from here on, where they are known.
+    ghost remaining: { Self → Option (List ℕ) };
+
+    /// The errors that reads give.
+    ghost fails_with: { Error → Type 0 };
+
+    /// Reads bytes into the front of `buf`, and gives their count: 0 at the end, or where `buf` is empty. After an error
+    /// none is lost.
+    fn read(&mut self, buf: &mut [u8]) -> io::Result<usize>
+        ensures bound { ReadsAtMost result buf.new }
+        ensures bytes { ReadConsumes (remaining self.old) (remaining self.new) result buf.new }
+        ensures err { IfErr result fails_with };
+}
+
+const ROOM: usize = 65536;
+
+/// A source, and the bytes that are read from it and not yet taken: those from `start` to `end`.
+#[derive(Drop)]
+pub struct Reader<R> {
+    inner: R,
+    bytes: [u8; ROOM],
+    start: usize,
+    end: usize,
+    ghost ordered: { start ≤ end },
+    ghost in_bounds: { end ≤ 65536 },
+}
+
+impl<R: ByteSource> Reader<R> {
+    ghost use Rattle.textio.specs.Ahead.{ahead_of, left_in};
+
+    pub fn new(inner: R) -> Reader<R>
+        ensures { left_in R.remaining result ≡ R.remaining inner }
+    {
+        Reader {
+            inner,
+            bytes: [0; ROOM],
+            start: 0,
+            end: 0,
+        }
+    }
+
+    /// Whether no byte is read ahead, so that the next line asks for a read, which may wait.
+    pub fn is_empty(&self) -> bool
+        ensures { IsTrue result ↔ (length (ahead_of self.now) ≡ 0) }
+    {
+        self.start == self.end
+    }
+
+    pub(crate) fn ahead(&self) -> &[u8]
+        ensures { result.now ≡ ahead_of self.now }
+    {
+        &self.bytes[self.start..self.end]
+    }
+
+    /// Reads where no byte is read ahead.
+    pub(crate) fn fill(&mut self) -> io::Result<()>
+        ensures keeps { Keeps (left_in R.remaining self.old) (left_in R.remaining self.new) }
+        ensures end { OnOk result (length (ahead_of self.new) ≡ 0 → IsAtEnd (left_in R.remaining self.new)) }
+        ensures err { IfErr result R.fails_with }
+    {
+        if self.start < self.end {
+            return Ok(());
+        }
+        let count = self.inner.read(&mut self.bytes)?;
+        self.start = 0;
+        self.end = count;
+        Ok(())
+    }
+
+    /// Takes bytes that are read ahead.
+    pub(crate) fn consume(&mut self, amount: usize)
+        requires { amount ≤ length (ahead_of self.old) }
+        ensures { Consumes (left_in R.remaining self.old) (left_in R.remaining self.new) (take amount (ahead_of self.old)) }
+    {
+        self.start += amount;
+    }
+}

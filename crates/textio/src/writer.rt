@@ -1,0 +1,134 @@
+// Bytes that go to a sink, with those that wait in memory.
+ghost use Rattle.std.specs.Prelude.{◌≡◌, ◌≤◌, ◌<◌, ℕ, List, Option, IfOk, IfErr, OnOk, length, take};
+ghost use Rattle.std.specs.Io.{WritesAtMost};
+ghost use Rattle.std.specs.Io.KnownBytes.{Keeps, Appends, WriteAppends};
+ghost use Rattle.textio.specs.Fronts.{WritesFront};
+ghost use Rattle.std.specs.declared.io.Error.{Error};
+
+use crate::memory;
+use std::io;
+
+/// Where bytes go. It says what std's `Write` does of the bytes, and beside it which errors come, and that some byte is
+/// taken where none does.
+pub trait ByteSink {
+    /// The bytes that it has got, where they are known.
+    ghost contents: { Self → Option (List ℕ) };
+
+    /// The errors that it gives.
+    ghost fails_with: { Error → Type 0 };
+
+    /// Takes bytes from the front of `buf`, and gives their count: 0 only where `buf` is empty. With an error it takes
+    /// none.
+    fn write(&mut self, buf: &[u8]) -> io::Result<usize>
+        ensures bound { WritesAtMost result buf.now }
+        ensures some { IfOk result (λ n. 0 < length buf.now → 0 < n) }
+        ensures bytes { WriteAppends (contents self.old) (contents self.new) result buf.now }
+        ensures err { IfErr result fails_with };
+
+    /// Hands on what waits.
+    fn flush(&mut self) -> io::Result<()>
+        ensures keeps { Keeps (contents self.old) (contents self.new) }
+        ensures err { IfErr result fails_with };
+}
+
+// Bytes written until all are, or until that fails; how many.
+fn hand_on<W: ByteSink>(to: &mut W, bytes: &[u8]) -> (usize, io::Result<()>)
+    ensures bound { result.0 ≤ length bytes.now }
+    ensures bytes { Appends (W.contents to.old) (W.contents to.new) (take result.0 bytes.now) }
+    ensures ok { OnOk result.1 (result.0 ≡ length bytes.now) }
+    ensures err { IfErr result.1 W.fails_with }
+{
+    let mut done = 0;
+    while done < bytes.len() {
+        match to.write(&bytes[done..]) {
+            Ok(count) => done += count,
+            Err(e) => return (done, Err(e)),
+        }
+    }
+    (done, Ok(()))
+}
+
+/// Writes all the bytes; where that fails, the sink has got a front of them.
+pub fn put<W: ByteSink>(to: &mut W, bytes: &[u8]) -> io::Result<()>
+    ensures whole { OnOk result (Appends (W.contents to.old) (W.contents to.new) bytes.now) }
+    ensures front { WritesFront (W.contents to.old) (W.contents to.new) bytes.now }
+    ensures err { IfErr result W.fails_with }
+{
+    let (_, told) = hand_on(to, bytes);
+    told
+}
+
+const ROOM: usize = 65536;
+
+/// A sink, and the bytes from `start` to `end` that it has yet to get.
+#[derive(Drop)]
+pub struct Writer<W> {
+    inner: W,
+    bytes: [u8; ROOM],
+    start: usize,
+    end: usize,
+    ghost ordered: { start ≤ end },
+    ghost in_bounds: { end ≤ 65536 },
+}
+
+impl<W: ByteSink> Writer<W> {
+    ghost use Rattle.textio.specs.Waiting.{held_by};
+
+    pub fn new(inner: W) -> Writer<W>
+        ensures { held_by W.contents result ≡ W.contents inner }
+    {
+        Writer {
+            inner,
+            bytes: [0; ROOM],
+            start: 0,
+            end: 0,
+        }
+    }
+
+    // What waits is written; what a failure leaves goes on waiting.
+    fn drain(&mut self) -> io::Result<()>
+        ensures keeps { Keeps (held_by W.contents self.old) (held_by W.contents self.new) }
+        ensures empty { OnOk result (self.new.end ≡ 0) }
+        ensures err { IfErr result W.fails_with }
+    {
+        let (start, end) = (self.start, self.end);
+        let all = &self.bytes[..];
+        let (count, told) = hand_on(&mut self.inner, &all[start..end]);
+        self.start += count;
+        told?;
+        self.start = 0;
+        self.end = 0;
+        Ok(())
+    }
+
+    fn make_room(&mut self) -> io::Result<()>
+        ensures keeps { Keeps (held_by W.contents self.old) (held_by W.contents self.new) }
+        ensures room { OnOk result (self.new.end < 65536) }
+        ensures err { IfErr result W.fails_with }
+    {
+        if self.end < ROOM {
+            return Ok(());
+        }
+        self.drain()
+    }
+}
+
+impl<W: ByteSink> ByteSink for Writer<W> {
+    ghost use Rattle.textio.specs.Waiting.{held_by};
+
+    ghost contents = { held_by W.contents };
+
+    ghost fails_with = { W.fails_with };
+
+    fn write(&mut self, buf: &[u8]) -> io::Result<usize> {
+        self.make_room()?;
+        let held = self.end;
+        self.end = memory::append(&mut self.bytes, held, buf);
+        Ok(self.end - held)
+    }
+
+    fn flush(&mut self) -> io::Result<()> {
+        self.drain()?;
+        self.inner.flush()
+    }
+}
