@@ -1,7 +1,7 @@
 -- What a writer is given, where it is known what it holds.
 --   AppendsFront old new text    a front of the text, perhaps all of it or nothing, was appended
---   WritesText old new r text        what a call that writes a text has done: all of it at `Ok`, a front of it else
---   form_filled form ns               the form with the next of the numbers in the place of each `#`
+--   WritesText old new r text    what a call that writes a text has done: all of it at `Ok`, a front of it else
+--   form_filled form ns          the form with the next of the numbers in the place of each `#`
 -- Assumes nothing.
 use Rattle.std.specs.Prelude.{ℕ, Bool, List, [], ◌∷◌, ◌++◌, ◌==◌, take}
 use Rattle.std.specs.List.{before_first, after_first}
