@@ -74,5 +74,6 @@ pub event_of_front : (most : ℕ) (l : List ℕ) → lineMost < most → event (
 event_of_front most l more =
     ⊎_elim (λ (h : length l ≤ most). ap event (take_all most l h))
     (λ (h : most < length l).
-    event_overlong (take most l) (omega (arith, length-take-le most l (omega arith))) ∙ sym (event_overlong l (omega arith)))
+    event_overlong (take most l) (omega (arith, length-take-le most l (omega arith)))
+    ∙ sym (event_overlong l (omega arith)))
     (le-or-lt (length l) most)

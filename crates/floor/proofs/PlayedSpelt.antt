@@ -14,7 +14,8 @@ pub state_none : (d : Device) → stateAfter d [] ≡ d
 unfolding stateAfter
 state_none d = refl
 
-pub state_more : (d : Device) (e : LogEvent) (es : List LogEvent) → stateAfter d (e ∷ es) ≡ stateAfter (did d e).device es
+pub state_more : (d : Device) (e : LogEvent) (es : List LogEvent)
+    → stateAfter d (e ∷ es) ≡ stateAfter (did d e).device es
 unfolding stateAfter
 state_more d e es = refl
 

@@ -1,5 +1,5 @@
-// What a log of the floor is, and what it prints, as definitions; the device that it begins with; and its lines gathered
-// in lent memory (RULES, Floor log).
+// What a log of the floor is, and what it prints, as definitions; the device that it begins with; and its lines
+// gathered in lent memory (RULES, Floor log).
 #![tactic(auto)]
 
 pub mod gather;

@@ -30,8 +30,8 @@ use Rattle.playback.specs.Replaying.{keptMost, IsReplayed}
 use Rattle.textio.specs.declared.lines.Failure.{Failure}
 use Rattle.textio.specs.declared.lines.Failure.TheVariants.{Read, Write, TooLong}
 
-pub record Underway (d : Device) (log : List ℕ) (old now : Option (List ℕ)) (left : Option (List ℕ)) (n : ℕ) (device : Device)
-    : Type 0 where
+pub record Underway (d : Device) (log : List ℕ) (old now : Option (List ℕ)) (left : Option (List ℕ)) (n : ℕ)
+    (device : Device) : Type 0 where
   pub rest : List ℕ
   pub known : left ≡ Some rest
   pub sofar : List ℕ
@@ -61,8 +61,8 @@ each None P Q f h = tt
 each (Some log) P Q f h = f log h
 
 -- a front of it is written, whatever comes of the rest
-front_of : {old now : Option (List ℕ)} {all : List ℕ} (sofar rest : List ℕ) → all ≡ sofar ++ rest → Appends old now sofar
-    → WritesFront old now all
+front_of : {old now : Option (List ℕ)} {all : List ℕ} (sofar rest : List ℕ) → all ≡ sofar ++ rest
+    → Appends old now sofar → WritesFront old now all
 front_of {old} {now} {all} sofar rest e w = record {
   count = length sofar;
   written = subst (Appends old now) (sym (ap (take (length sofar)) e ∙ take-append_seam sofar rest)) w;
@@ -120,11 +120,13 @@ module _ {d device : Device} {log : List ℕ} {old now left : Option (List ℕ)}
       (later_of (λ (l : List ℕ). countMost ≤ length l) u.front (lines_of u.rest) rest))
 
   -- a line comes next, of which enough is kept
-  module _ (left_then : Option (List ℕ)) (memory : List ℕ) (held : ℕ) (room : keptMost ≤ length memory) (inside : held ≤ keptMost)
+  module _ (left_then : Option (List ℕ)) (memory : List ℕ) (held : ℕ) (room : keptMost ≤ length memory)
+      (inside : held ≤ keptMost)
       (next : IfSome left (λ xs. IsNextLine xs left_then (take keptMost memory) (Some held))) where
     abbrev line_is : IsLine u.rest left_then (length (take keptMost memory)) (take held (take keptMost memory))
     line_is =
-        subst (λ (o : Option (List ℕ)). IfSome o (λ xs. IsNextLine xs left_then (take keptMost memory) (Some held))) u.known next
+        subst (λ (o : Option (List ℕ)). IfSome o (λ xs. IsNextLine xs left_then (take keptMost memory) (Some held)))
+        u.known next
 
     abbrev line : List ℕ
     line = take held memory
@@ -150,7 +152,8 @@ module _ {d device : Device} {log : List ℕ} {old now left : Option (List ℕ)}
       lines = u.lines ∙ ap (λ (es : List LogEvent). u.sofar ++ linesPrinted n device es) rest_is
           ∙ ap (λ (l : List ℕ). u.sofar ++ l)
           (printed_more n device (event line_is.first) (events line_is.later)
-          ∙ ap (λ (e : LogEvent). printed (n + 1) e (did device e) ++ linesPrinted (n + 1) (did device e).device (events line_is.later))
+          ∙ ap (λ (e : LogEvent). printed (n + 1) e (did device e)
+          ++ linesPrinted (n + 1) (did device e).device (events line_is.later))
           (sym same)
           ∙ (λ i. sym t i ++ linesPrinted (n + 1) (sym a i) (events line_is.later)))
           ∙ sym (append_assoc u.sofar text _);
@@ -208,8 +211,8 @@ module _ {d device : Device} {log : List ℕ} {old now left : Option (List ℕ)}
     cut new f = front_more u.sofar text [] ends u.written f
 
 -- a failure to read a line is one to replay the log
-pub came : (d device : Device) (old now : Option (List ℕ)) (n : ℕ) (reads writes : Error → Type 0) (a left : Option (List ℕ))
-    (e : Failure) → IfSome a (λ log. Underway d log old now left n device)
+pub came : (d device : Device) (old now : Option (List ℕ)) (n : ℕ) (reads writes : Error → Type 0)
+    (a left : Option (List ℕ)) (e : Failure) → IfSome a (λ log. Underway d log old now left n device)
     → FailureComesOf reads writes HasEndlessLine left e → FailureComesOf reads writes IsTooLong a e
 came d device old now n reads writes a left (Read e) u h = h
 came d device old now n reads writes a left (Write e) u h = h
@@ -221,5 +224,7 @@ pub not_too_long : {T : Type 0} (a : Option (List ℕ)) (r : Result T Failure) (
     → IfSome a (λ log. length log < countMost → r ≢ Err TooLong)
 not_too_long None r reads writes h = tt
 not_too_long {T} (Some log) r reads writes h =
-    λ short e. let long : IsTooLong log = subst (λ (x : Result T Failure). IfErr x (FailureComesOf reads writes IsTooLong (Some log))) e h in
+    λ short e.
+    let long : IsTooLong log =
+    subst (λ (x : Result T Failure). IfErr x (FailureComesOf reads writes IsTooLong (Some log))) e h in
     omega (arith, short, too_long_bytes log long)

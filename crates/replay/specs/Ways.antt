@@ -1,5 +1,5 @@
--- How a replay ends where its log is cut short. RULES, Floor log, speaks of logs that are read and printed to their end;
--- what is said of the others is the house's own rule.
+-- How a replay ends where its log is cut short. RULES, Floor log, speaks of logs that are read and printed to their
+-- end; what is said of the others is the house's own rule.
 --   failureLine f        the last line then, in place of the line of power and lamps. No log prints it by itself: every
 --                        other line begins with a digit or with `power `, and no log's last line ends so
 --                        (`no-log-prints`)

@@ -1,5 +1,5 @@
--- What is known of a source and a sink behind memory: what is taken of the bytes read ahead, and the front of a line that
--- is kept.
+-- What is known of a source and a sink behind memory: what is taken of the bytes read ahead, and the front of a line
+-- that is kept.
 -- Assumes nothing.
 use Prim.Native.Nat.{ℕ, ◌+◌, ◌-◌, ◌≤◌, min}
 use mathlib.Core.Path.{◌≡◌, sym, ap, ◌∙◌}

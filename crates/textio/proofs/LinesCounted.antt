@@ -61,7 +61,8 @@ unfolding lines_from
 line_fits m g [] h =
     let P : List ℕ → Type 0 = λ l. m ≤ length l in
     either_line P (m ≤ length g + 0) (eqb (length g) 0) [] (g ∷ []) (λ k. absurd (no_line P k))
-    (λ k. ⊎_elim (λ (e : m ≤ length g). omega (arith, e)) (λ (e : Any P []). absurd (no_line P e)) (any_line P g [] k)) h
+    (λ k. ⊎_elim (λ (e : m ≤ length g). omega (arith, e)) (λ (e : Any P []). absurd (no_line P e)) (any_line P g [] k))
+    h
 line_fits m g (b ∷ bs) h =
     let P : List ℕ → Type 0 = λ l. m ≤ length l in
     let later : Any P (lines_from [] bs) → m ≤ length bs = λ k. omega (arith, line_fits m [] bs k) in

@@ -138,7 +138,14 @@ module _ (old new : Option (List ℕ)) (memory : List ℕ) where
           later = [];
           lines = ap lines_of (all log rest taken end)
               ∙ lines_last p.part p.one_line
-              (omega (arith, some, p.inside, ap length p.kept, length-take held memory, length-take (length memory) p.part));
+              (omega (
+                arith,
+                some,
+                p.inside,
+                ap length p.kept,
+                length-take held memory,
+                length-take (length memory) p.part,
+              ));
           kept = p.kept;
           left = ap Some (keeps ∙ end);
         }

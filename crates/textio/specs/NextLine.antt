@@ -3,8 +3,8 @@
 --                       after them: at least `least`; what is then kept has as many bytes as there is memory
 --   ShowsPart ..        what is taken of a line at once, by how far it came
 --   IsNextLine ..       whether there is another line in a log, and what is kept of it
---   FailureComesOf ..   why a log is not read to its end: an error that its source gives, or the sink of what is printed
---                       for it, or that it is so long
+--   FailureComesOf ..   why a log is not read to its end: an error that its source gives, or the sink of what is
+--                       printed for it, or that it is so long
 -- Assumes nothing.
 use Rattle.std.specs.Prelude.{ℕ, ◌≤◌, List, [], ◌∷◌, ◌++◌, ◌≡◌, ◌≢◌, length, take, None, Some, IfSome, All}
 use Rattle.std.specs.declared.option.Option.{Option}
@@ -16,7 +16,8 @@ use Rattle.textio.specs.declared.lines.Shown.TheVariants.{Part, Whole, End}
 use Rattle.textio.specs.declared.lines.Failure.{Failure}
 use Rattle.textio.specs.declared.lines.Failure.TheVariants.{Read, Write, TooLong}
 
-pub record TakesPart (old new : Option (List ℕ)) (least : ℕ) (before memory : List ℕ) (place : ℕ) (lf : List ℕ) : Type 0 where
+pub record TakesPart (old new : Option (List ℕ)) (least : ℕ) (before memory : List ℕ) (place : ℕ) (lf : List ℕ)
+    : Type 0 where
   pub part : List ℕ
   pub some : least ≤ length part
   pub one_line : All (λ b. b ≢ 10) part

@@ -1,5 +1,5 @@
-// Lines read from any source of bytes, and bytes written to any sink, in fixed memory. Contracts say which bytes are read
-// and written whatever the source and the sink do, and that an error which a call hands on is one of theirs.
+// Lines read from any source of bytes, and bytes written to any sink, in fixed memory. Contracts say which bytes are
+// read and written whatever the source and the sink do, and that an error which a call hands on is one of theirs.
 #![tactic(auto)]
 
 pub mod lines;

@@ -14,8 +14,8 @@ pub trait ByteSource {
     /// The errors that reads give.
     ghost fails_with: { Error → Type 0 };
 
-    /// Reads bytes into the front of `buf`, and gives their count: 0 at the end, or where `buf` is empty. After an error
-    /// none is lost.
+    /// Reads bytes into the front of `buf`, and gives their count: 0 at the end, or where `buf` is empty. After an
+    /// error none is lost.
     fn read(&mut self, buf: &mut [u8]) -> io::Result<usize>
         ensures bound { ReadsAtMost result buf.new }
         ensures bytes { ReadConsumes (remaining self.old) (remaining self.new) result buf.new }
@@ -80,7 +80,8 @@ impl<R: ByteSource> Reader<R> {
     /// Takes bytes that are read ahead.
     pub(crate) fn consume(&mut self, amount: usize)
         requires { amount ≤ length (ahead_of self.old) }
-        ensures { Consumes (left_in R.remaining self.old) (left_in R.remaining self.new) (take amount (ahead_of self.old)) }
+        ensures { Consumes (left_in R.remaining self.old) (left_in R.remaining self.new)
+            (take amount (ahead_of self.old)) }
     {
         self.start += amount;
     }

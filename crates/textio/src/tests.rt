@@ -1,5 +1,5 @@
-// What no clause says of std's streams: that a call which a signal interrupts is made again, and that a write which takes
-// nothing fails.
+// What no clause says of std's streams: that a call which a signal interrupts is made again, and that a write which
+// takes nothing fails.
 
 use crate::reader::ByteSource;
 use crate::streams::Stream;

@@ -3,7 +3,8 @@ use Rattle.std.proofs.Common.{arith, IfSome, refl, sym, subst, take}
 use Rattle.textio.specs.Ahead.{left_in}
 use Rattle.record.specs.declared.types.Device.{Device}
 use Rattle.playback.specs.Replaying.{keptMost}
-use Rattle.playback.proofs.Underway.{Underway, begun, each, so_far, flushed, too_many, played, broken, ended, cut, came, not_too_long}
+use Rattle.playback.proofs.Underway.{Underway, begun, each, so_far, flushed, too_many, played, broken, ended, cut}
+use Rattle.playback.proofs.Underway.{came, not_too_long}
 use Rattle.playback.proofs.replay.Goals as goal
 
 pub loop-played-init : goal.loop-played-init
@@ -81,7 +82,9 @@ pub returns-in-Ok-flush-clause-err : goal.returns-in-Ok-flush-clause-err
 returns-in-Ok-flush-clause-err g c = each _ _ _ (λ log u. too_many u (omega arith)) c.loop-played.invariant
 
 pub returns-in-Err-clause-short : goal.returns-in-Err-clause-short
-returns-in-Err-clause-short g c = not_too_long _ _ g.R.ByteSource.fails_with g.W.ByteSink.fails_with (returns-in-Err-clause-err g c)
+returns-in-Err-clause-short g c =
+    not_too_long _ _ g.R.ByteSource.fails_with g.W.ByteSink.fails_with (returns-in-Err-clause-err g c)
 
 pub returns-in-Ok-flush-clause-short : goal.returns-in-Ok-flush-clause-short
-returns-in-Ok-flush-clause-short g c = not_too_long _ _ g.R.ByteSource.fails_with g.W.ByteSink.fails_with (returns-in-Ok-flush-clause-err g c)
+returns-in-Ok-flush-clause-short g c =
+    not_too_long _ _ g.R.ByteSource.fails_with g.W.ByteSink.fails_with (returns-in-Ok-flush-clause-err g c)

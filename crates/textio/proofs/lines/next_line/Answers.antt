@@ -19,7 +19,8 @@ loop-preserved g c = record {
 pub returns-in-Ok-Whole-clause-next : goal.returns-in-Ok-Whole-clause-next
 returns-in-Ok-Whole-clause-next g c =
     let read = joined c.loop.invariant.read (rw c.in-Ok-Whole.field-0-is at c.in-Ok-Whole.ensures.ok) (omega arith) in
-    whole_line (left_in g.R.ByteSource.remaining c.args.from.now) (left_in g.R.ByteSource.remaining c.take_shown.new.from)
+    whole_line (left_in g.R.ByteSource.remaining c.args.from.now)
+    (left_in g.R.ByteSource.remaining c.take_shown.new.from)
     c.take_shown.new.line (c.loop.counter + 0) c.in-Ok-Whole.place read
 
 pub returns-in-Ok-End-2-clause-next : goal.returns-in-Ok-End-2-clause-next
@@ -34,5 +35,6 @@ returns-in-Ok-End-2-clause-next g c =
 
 pub returns-clause-err : goal.returns-clause-err
 returns-clause-err g c =
-    endless (left_in g.R.ByteSource.remaining c.args.from.now) (left_in g.R.ByteSource.remaining c.loop.from) c.loop.line
+    endless (left_in g.R.ByteSource.remaining c.args.from.now) (left_in g.R.ByteSource.remaining c.loop.from)
+    c.loop.line
     (left_in g.R.ByteSource.remaining c.loop.from) c.loop.counter c.loop.held c.loop.invariant.read (omega arith)

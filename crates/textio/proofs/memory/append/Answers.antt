@@ -12,6 +12,7 @@ returns-clause-appended c =
     let put = c.copy_from_slice.ensures.after in
     let long = length-take-le n bytes (omega arith) in
     let count : at + n - at ≡ n = omega arith in
-    take-put_mid at (at + n - at) memory c.copy_from_slice.new.self (at + n) (omega (arith, ap length put, long)) c.requires
+    take-put_mid at (at + n - at) memory c.copy_from_slice.new.self (at + n)
+    (omega (arith, ap length put, long)) c.requires
     ∙ ap (λ (l : List ℕ). take at memory ++ l) put
     ∙ ap (λ (k : ℕ). take at memory ++ take k bytes) (sym count)
