@@ -1,4 +1,4 @@
-use Rattle.std.proofs.Common.{ℕ, ◌≡◌, ◌<◌, ◌≤◌, [], ◌∷◌, ◌++◌, sym, subst, ◌∙◌, ⊎_elim, arith}
+use Rattle.std.proofs.Common.{ℕ, ◌<◌, ◌≤◌, [], ◌∷◌, ◌++◌, sym, subst, ◌∙◌, ⊎_elim, arith}
 use Rattle.std.proofs.lemmas.Bool.{false≢true}
 use Rattle.text.proofs.Orders.{le-or-lt}
 use Rattle.day.specs.Rules.{Keeps}
@@ -11,9 +11,8 @@ loop-rig-preserved c q h k =
     let rig = c.loop-rig.rig in
     ⊎_elim
     (λ (l : rig ≤ q).
-    let here : q ≡ rig = omega arith in
     false≢true (sym c.if-is_joining.false ∙ c.is_joining.ensures.1
-    (subst (λ (q : ℕ). Keeps c.args.rigs.now (c.args.placed.now ++ on_rig c.args.job q ∷ [])) here k)))
+    (subst (λ (q : ℕ). Keeps c.args.rigs.now (c.args.placed.now ++ on_rig c.args.job q ∷ [])) (omega arith) k)))
     (λ (l : q < rig). c.loop-rig.invariant q l k) (le-or-lt rig q)
 
 pub returns : goal.returns
@@ -21,3 +20,10 @@ returns c q k =
     let rig = c.loop-rig.rig in
     let exists = (has_rig_last _ _ _ k).0 in
     ⊎_elim (λ (l : rig ≤ q). omega arith) (λ (l : q < rig). c.loop-rig.invariant q l k) (le-or-lt rig q)
+
+pub returns-then-is_joining : goal.returns-then-is_joining
+returns-then-is_joining c = record {
+  keeps = subst (λ (q : ℕ). Keeps c.args.rigs.now (c.args.placed.now ++ on_rig c.args.job q ∷ [])) (omega arith)
+      (c.is_joining.ensures.0 c.if-is_joining.true);
+  lowest = λ q h. c.loop-rig.invariant q (omega arith);
+}
