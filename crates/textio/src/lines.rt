@@ -1,5 +1,6 @@
 // The lines of a log, one at a time, in lent memory.
-ghost use Rattle.std.specs.Prelude.{[], OnErr, OnOk, ◌≡◌, ◌≢◌, ◌≤◌, ◌<◌, All, IfOk, IfErr, IfSome, length, take, slice_index};
+ghost use Rattle.std.specs.Prelude.{[], ◌≡◌, ◌≢◌, ◌≤◌, ◌<◌, All, length, take, slice_index};
+ghost use Rattle.std.specs.Prelude.{OnErr, OnOk, IfOk, IfErr, IfSome};
 ghost use Rattle.std.specs.Io.KnownBytes.{Keeps};
 ghost use Rattle.textio.specs.Lines.{HasEndlessLine};
 ghost use Rattle.textio.specs.Ahead.{ahead_of, left_in};
