@@ -5,12 +5,12 @@ mod playing;
 #[cfg(test)]
 mod tests;
 
-ghost use Rattle.std.specs.Prelude.{◌≢◌, ◌<◌, IfOk, IfErr, IfSome, Err, length};
+ghost use Rattle.std.specs.Prelude.{◌≡◌, ◌≢◌, ◌<◌, [], OnOk, IfOk, IfErr, IfSome, Err, length};
 ghost use Rattle.textio.specs.Lines.{countMost, IsTooLong};
 ghost use Rattle.textio.specs.Fronts.{WritesFront};
 ghost use Rattle.textio.specs.Ahead.{left_in};
 ghost use Rattle.floor.specs.Playing.{replayed};
-ghost use Rattle.textio.specs.NextLine.{FailureComesOf};
+ghost use Rattle.textio.specs.NextLine.{FailureComesOf, OnFailedRead};
 ghost use Rattle.playback.specs.Replaying.{IsReplayed};
 
 use record::legality::Tested;
@@ -31,6 +31,8 @@ pub fn replay<R: ByteSource, W: ByteSink>(
         IsReplayed begun log (W.contents to.old) (W.contents to.new) after)) }
     ensures front { IfSome (left_in R.remaining from.old) (λ log.
         WritesFront (W.contents to.old) (W.contents to.new) (replayed begun log)) }
+    ensures none_waits { OnOk result (W.waiting to.new ≡ []) }
+    ensures read { IfErr result (OnFailedRead (W.waiting to.new ≡ [])) }
     ensures err { IfErr result
         (FailureComesOf R.fails_with W.fails_with IsTooLong (left_in R.remaining from.old)) }
     ensures short { IfSome (left_in R.remaining from.old) (λ log. length log < countMost

@@ -1,9 +1,9 @@
 // The lines of a log, one after the other.
-ghost use Rattle.std.specs.Prelude.{◌≡◌, ◌≤◌, IfOk, IfErr, IfSome, OnOk, take};
+ghost use Rattle.std.specs.Prelude.{[], ◌≡◌, ◌≤◌, IfOk, IfErr, IfSome, OnOk, take};
 ghost use Rattle.std.specs.Io.KnownBytes.{Appends, Keeps};
 ghost use Rattle.textio.specs.Lines.{HasEndlessLine};
 ghost use Rattle.textio.specs.Fronts.{WritesFront};
-ghost use Rattle.textio.specs.NextLine.{IsNextLine, FailureComesOf};
+ghost use Rattle.textio.specs.NextLine.{IsNextLine, FailureComesOf, OnFailedRead};
 ghost use Rattle.textio.specs.Ahead.{left_in};
 ghost use Rattle.logs.specs.LastLine.{lastLine};
 ghost use Rattle.events.specs.Doing.{did, printed};
@@ -41,6 +41,7 @@ pub fn read_line<R: ByteSource, W: ByteSink>(
     ensures keeps { Keeps (W.contents to.old) (W.contents to.new) }
     ensures err { IfErr result
         (FailureComesOf R.fails_with W.fails_with HasEndlessLine (left_in R.remaining from.old)) }
+    ensures none_waits { IfErr result (OnFailedRead (W.waiting to.new ≡ [])) }
 {
     lines::next_line(from, to, &mut line[..KEPT_MOST])
 }
@@ -72,6 +73,7 @@ pub fn play<W: ByteSink>(
 pub fn finish<W: ByteSink>(device: &Device, to: &mut W) -> io::Result<()>
     ensures whole { OnOk result (Appends (W.contents to.old) (W.contents to.new) (lastLine device.now)) }
     ensures front { WritesFront (W.contents to.old) (W.contents to.new) (lastLine device.now) }
+    ensures none_waits { OnOk result (W.waiting to.new ≡ []) }
     ensures err { IfErr result W.fails_with }
 {
     let mut out = [0; LAST_ROOM];

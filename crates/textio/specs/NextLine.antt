@@ -5,8 +5,9 @@
 --   IsNextLine ..       whether there is another line in a log, and what is kept of it
 --   FailureComesOf ..   why a log is not read to its end: an error that its source gives, or the sink of what is
 --                       printed for it, or that it is so long
+--   OnFailedRead P f    P holds where the failure f is an error of the source
 -- Assumes nothing.
-use Rattle.std.specs.Prelude.{ℕ, ◌≤◌, List, [], ◌∷◌, ◌++◌, ◌≡◌, ◌≢◌, length, take, None, Some, IfSome, All}
+use Rattle.std.specs.Prelude.{⊤, ℕ, ◌≤◌, List, [], ◌∷◌, ◌++◌, ◌≡◌, ◌≢◌, length, take, None, Some, IfSome, All}
 use Rattle.std.specs.declared.option.Option.{Option}
 use Rattle.std.specs.declared.io.Error.{Error}
 use Rattle.std.specs.Io.KnownBytes.{Consumes, IsAtEnd, Keeps}
@@ -45,3 +46,8 @@ abbrev pub FailureComesOf : (Error → Type 0) → (Error → Type 0) → (List 
 FailureComesOf reads writes long log (Read e) = reads e
 FailureComesOf reads writes long log (Write e) = writes e
 FailureComesOf reads writes long log TooLong = IfSome log long
+
+abbrev pub OnFailedRead : Type 0 → Failure → Type 0
+OnFailedRead P (Read e) = P
+OnFailedRead P (Write e) = ⊤
+OnFailedRead P TooLong = ⊤

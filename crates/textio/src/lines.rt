@@ -1,9 +1,10 @@
 // The lines of a log, one at a time, in lent memory.
-ghost use Rattle.std.specs.Prelude.{◌≡◌, ◌≢◌, ◌≤◌, ◌<◌, All, IfOk, IfErr, IfSome, length, take, slice_index};
+ghost use Rattle.std.specs.Prelude.{[], ◌≡◌, ◌≢◌, ◌≤◌, ◌<◌, All, length, take, slice_index};
+ghost use Rattle.std.specs.Prelude.{OnErr, OnOk, IfOk, IfErr, IfSome};
 ghost use Rattle.std.specs.Io.KnownBytes.{Keeps};
 ghost use Rattle.textio.specs.Lines.{HasEndlessLine};
-ghost use Rattle.textio.specs.Ahead.{left_in};
-ghost use Rattle.textio.specs.NextLine.{ShowsPart, IsNextLine, FailureComesOf};
+ghost use Rattle.textio.specs.Ahead.{ahead_of, left_in};
+ghost use Rattle.textio.specs.NextLine.{ShowsPart, IsNextLine, FailureComesOf, OnFailedRead};
 
 use crate::memory;
 use crate::reader::{ByteSource, Reader};
@@ -47,6 +48,7 @@ fn take_shown<R: ByteSource>(from: &mut Reader<R>, line: &mut [u8], at: usize) -
     ensures ok { IfOk result
         (ShowsPart (left_in R.remaining from.old) (left_in R.remaining from.new) line.old at line.new) }
     ensures err { IfErr result R.fails_with }
+    ensures read { OnErr result (length (ahead_of from.old) ≡ 0) }
 {
     from.fill()?;
     let shown = from.ahead();
@@ -68,6 +70,7 @@ fn take_shown<R: ByteSource>(from: &mut Reader<R>, line: &mut [u8], at: usize) -
 fn flush_before_read<R: ByteSource, W: ByteSink>(from: &Reader<R>, to: &mut W) -> io::Result<()>
     ensures keeps { Keeps (W.contents to.old) (W.contents to.new) }
     ensures err { IfErr result W.fails_with }
+    ensures none_waits { OnOk result (length (ahead_of from.now) ≡ 0 → W.waiting to.new ≡ []) }
 {
     if from.is_empty() {
         return to.flush();
@@ -90,6 +93,7 @@ pub fn next_line<R: ByteSource, W: ByteSink>(
     ensures keeps { Keeps (W.contents to.old) (W.contents to.new) }
     ensures err { IfErr result
         (FailureComesOf R.fails_with W.fails_with HasEndlessLine (left_in R.remaining from.old)) }
+    ensures none_waits { IfErr result (OnFailedRead (W.waiting to.new ≡ [])) }
 {
     let mut held = 0;
     for _ in 0..u64::MAX {

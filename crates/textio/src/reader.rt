@@ -1,5 +1,5 @@
 // Bytes that come from a source, with those that are read ahead.
-ghost use Rattle.std.specs.Prelude.{◌≡◌, ◌≤◌, ◌<◌, ◌↔◌, ℕ, List, Option, IsTrue, IfErr, OnOk, length, take};
+ghost use Rattle.std.specs.Prelude.{◌≡◌, ◌≤◌, ◌<◌, ◌↔◌, ℕ, List, Option, IsTrue, OnErr, IfErr, OnOk, length, take};
 ghost use Rattle.std.specs.Io.{ReadsAtMost};
 ghost use Rattle.std.specs.Io.KnownBytes.{Keeps, Consumes, IsAtEnd, ReadConsumes};
 ghost use Rattle.std.specs.declared.io.Error.{Error};
@@ -67,6 +67,7 @@ impl<R: ByteSource> Reader<R> {
         ensures keeps { Keeps (left_in R.remaining self.old) (left_in R.remaining self.new) }
         ensures end { OnOk result (length (ahead_of self.new) ≡ 0 → IsAtEnd (left_in R.remaining self.new)) }
         ensures err { IfErr result R.fails_with }
+        ensures read { OnErr result (length (ahead_of self.old) ≡ 0) }
     {
         if self.start < self.end {
             return Ok(());

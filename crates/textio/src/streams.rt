@@ -1,5 +1,5 @@
 // Std's readers and writers as sources and sinks.
-ghost use Rattle.std.specs.Prelude.{◌<◌, IfOk, ⊤, length};
+ghost use Rattle.std.specs.Prelude.{[], ◌<◌, IfOk, ⊤, length};
 ghost use Rattle.std.specs.Io.{WritesAtMost};
 ghost use Rattle.std.specs.Io.KnownBytes.{WriteAppends};
 
@@ -43,6 +43,8 @@ fn write_some<W: Write>(to: &mut W, bytes: &[u8]) -> io::Result<usize>
 
 impl<W: Write> ByteSink for Stream<W> {
     ghost contents = { λ s. W.contents s.0 };
+
+    ghost waiting = { λ _. [] };
 
     ghost fails_with = { λ _. ⊤ };
 

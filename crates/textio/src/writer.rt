@@ -1,5 +1,5 @@
 // Bytes that go to a sink, with those that wait in memory.
-ghost use Rattle.std.specs.Prelude.{◌≡◌, ◌≤◌, ◌<◌, ℕ, List, Option, IfOk, IfErr, OnOk, length, take};
+ghost use Rattle.std.specs.Prelude.{◌≡◌, ◌≤◌, ◌<◌, ◌++◌, ℕ, List, [], Option, IfOk, IfErr, OnOk, length, take};
 ghost use Rattle.std.specs.Io.{WritesAtMost};
 ghost use Rattle.std.specs.Io.KnownBytes.{Keeps, Appends, WriteAppends};
 ghost use Rattle.textio.specs.Fronts.{WritesFront};
@@ -13,6 +13,9 @@ use std::io;
 pub trait ByteSink {
     /// The bytes that it has got, where they are known.
     ghost contents: { Self → Option (List ℕ) };
+
+    /// Of these, the bytes that wait in it, and are not handed on.
+    ghost waiting: { Self → List ℕ };
 
     /// The errors that it gives.
     ghost fails_with: { Error → Type 0 };
@@ -28,6 +31,7 @@ pub trait ByteSink {
     /// Hands on what waits.
     fn flush(&mut self) -> io::Result<()>
         ensures keeps { Keeps (contents self.old) (contents self.new) }
+        ensures none_waits { OnOk result (waiting self.new ≡ []) }
         ensures err { IfErr result fails_with };
 }
 
@@ -114,9 +118,11 @@ impl<W: ByteSink> Writer<W> {
 }
 
 impl<W: ByteSink> ByteSink for Writer<W> {
-    ghost use Rattle.textio.specs.Waiting.{held_by};
+    ghost use Rattle.textio.specs.Waiting.{waiting_in, held_by};
 
     ghost contents = { held_by W.contents };
+
+    ghost waiting = { λ w. W.waiting w.inner ++ waiting_in w };
 
     ghost fails_with = { W.fails_with };
 

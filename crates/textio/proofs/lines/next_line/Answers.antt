@@ -38,3 +38,8 @@ returns-clause-err g c =
     endless (left_in g.R.ByteSource.remaining c.args.from.now) (left_in g.R.ByteSource.remaining c.loop.from)
     c.loop.line
     (left_in g.R.ByteSource.remaining c.loop.from) c.loop.counter c.loop.held c.loop.invariant.read (omega arith)
+
+-- a read fails only where no byte was read ahead, and then nothing waits
+pub returns-in-Err-take_shown-clause-none_waits : goal.returns-in-Err-take_shown-clause-none_waits
+returns-in-Err-take_shown-clause-none_waits g c =
+    c.in-Ok.ensures.none_waits c.in-Err-take_shown.ensures.read
