@@ -9,7 +9,7 @@ use lamplines::{LAMPS, Totals};
 use page::Stretch;
 use record::types::Device;
 use report::Report;
-use report::cut::{Cut, written};
+use report::cut::{Cut, read, written};
 use std::io;
 use std::io::{BufRead, BufReader, Read, Write};
 use watch::watching;
@@ -89,9 +89,7 @@ pub fn tell_log<R: Read + Drop, W: Write>(
         if from.buffer().is_empty() {
             written(to.flush())?;
         }
-        let Ok(bytes) = from.fill_buf() else {
-            return Err(Cut::ReadFailed);
-        };
+        let bytes = read(from.fill_buf())?;
         if bytes.is_empty() {
             return end_log(&mut watch, report, starts, &mut line, to);
         }

@@ -1,5 +1,5 @@
 // Why a log is not told to its end, and the last line that then stands.
-ghost use Rattle.std.specs.Prelude.{◌≡◌, ◌↔◌, IsOk, IfErr};
+ghost use Rattle.std.specs.Prelude.{◌≡◌, ◌↔◌, IsOk, IfErr, Ok, Err};
 ghost use Rattle.output.specs.Writing.{WritesText};
 ghost use Rattle.report.specs.Cuts.{last_line, end_text, number_line};
 
@@ -26,6 +26,17 @@ impl Cut {
             Cut::WriteFailed => b"! write failed\n",
             Cut::BrokenOff => b"! broken off\n",
         }
+    }
+}
+
+/// A read that failed cuts the log short.
+pub fn read<T>(told: io::Result<T>) -> Result<T, Cut>
+    ensures ok { (bytes : T) → told ≡ Ok bytes → result ≡ Ok bytes }
+    ensures err { IfErr told (λ _. result ≡ Err Cut.ReadFailed) }
+{
+    match told {
+        Ok(bytes) => Ok(bytes),
+        Err(_) => Err(Cut::ReadFailed),
     }
 }
 
