@@ -1,5 +1,5 @@
 // A log from a source that gives it in odd pieces, or fails in mid-stream, to a sink that takes odd pieces, or fails.
-ghost use Rattle.std.specs.Prelude.{⊤, None, []};
+ghost use Rattle.std.specs.Prelude.{◌≤◌, ⊤, None, []};
 
 use floor::sample;
 use std::io;
