@@ -8,9 +8,9 @@ use Rattle.record.specs.HostCalls.{markSet}
 use Rattle.record.specs.declared.types.Device.{Device}
 use Rattle.clock.specs.Passing.{passed}
 use Rattle.device.specs.Calls.{Result, replyRoom, received, closedBy}
-use Rattle.events.specs.Events.{opens, receives, passes, closes, noSuch}
-use Rattle.events.specs.Doing.{logPlace, openedInLog}
-use Rattle.events.proofs.DidSpelt.{did-opening, did-receiving, did-passing, did-closing, did_nothing}
+use Rattle.floorlog.specs.Events.{opens, receives, passes, closes, noSuch}
+use Rattle.floorlog.specs.Doing.{logPlace, openedInLog}
+use Rattle.floorlog.proofs.DidSpelt.{did-opening, did-receiving, did-passing, did-closing, did_nothing}
 use Rattle.marking.specs.Marking.{logged, marked, doneBy}
 
 module _ (d : Device) where

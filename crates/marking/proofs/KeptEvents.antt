@@ -9,8 +9,8 @@ use lib.ListN.{length, take}
 use Rattle.text.proofs.Choices.{if_yes, if_no}
 use Rattle.text.proofs.Orders.{le-or-lt}
 use Rattle.record.specs.declared.types.Line.{Line}
-use Rattle.logs.specs.Lines.{lineMost}
-use Rattle.floor.proofs.KeptLine.{Holds, kept-event}
+use Rattle.floorlog.specs.Lines.{lineMost}
+use Rattle.floorlog.proofs.KeptLine.{Holds, kept-event}
 use Rattle.marking.specs.Marking.{markSaid, eventBy, floorEvent, keptMark, keptFloorEvent}
 use Rattle.marking.proofs.MarksSaid.{mark-length}
 

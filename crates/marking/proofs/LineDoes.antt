@@ -16,12 +16,12 @@ use Rattle.record.proofs.Calls.{mark-set-by, mark-not-legal}
 use Rattle.record.proofs.HostKept.{mark-legal}
 use Rattle.clock.specs.Passing.{secondsMost}
 use Rattle.stream.specs.Collecting.{lineText}
-use Rattle.events.specs.Doing.{logPlace}
-use Rattle.events.specs.Told.{Drives, secondsOf}
-use Rattle.events.proofs.Driven.{none_pass, itself-kept, did-drives}
-use Rattle.events.proofs.EventsLeave.{did-settings, did-legality}
-use Rattle.floor.specs.Reading.{keptEvent}
-use Rattle.floor.proofs.EventSeconds.{event-seconds}
+use Rattle.floorlog.specs.Doing.{logPlace}
+use Rattle.floorlog.specs.Told.{Drives, secondsOf}
+use Rattle.floorlog.specs.Gathering.{keptEvent}
+use Rattle.floorlog.proofs.Driven.{none_pass, itself-kept, did-drives}
+use Rattle.floorlog.proofs.EventsLeave.{did-settings, did-legality}
+use Rattle.floorlog.proofs.EventSeconds.{event-seconds}
 use Rattle.marking.specs.declared.MarkSaid.{MarkSaid}
 use Rattle.marking.specs.declared.MarkSaid.TheVariants.{Sets, NoMark}
 use Rattle.marking.specs.Marking.{FloorEvent, logged, marked, eventBy, doneBy, secondsBy}

@@ -12,10 +12,10 @@ use Rattle.std.specs.Prelude.{if◌then◌else◌}
 use Rattle.text.specs.Words.{◌is◌}
 use Rattle.text.proofs.Choices.{if_no}
 use Rattle.lines.specs.Bytes.{◌at◌}
-use Rattle.logs.specs.declared.Says.{Says}
-use Rattle.logs.specs.declared.Says.TheVariants.{Opens, Receives, Passes, Closes, NoSuch}
-use Rattle.events.specs.Events.{eventOf}
-use Rattle.events.specs.Told.{secondsOf}
+use Rattle.floorlog.specs.declared.line.Says.{Says}
+use Rattle.floorlog.specs.declared.line.Says.TheVariants.{Opens, Receives, Passes, Closes, NoSuch}
+use Rattle.floorlog.specs.Events.{eventOf}
+use Rattle.floorlog.specs.Told.{secondsOf}
 use Rattle.marking.specs.declared.MarkSaid.TheVariants.{Sets, NoMark}
 use Rattle.marking.specs.Marking.{markSaid}
 

@@ -17,11 +17,10 @@ use Rattle.record.specs.HostCalls.{markSet}
 use Rattle.record.specs.declared.types.Device.{Device}
 use Rattle.record.specs.declared.types.Line.{Line}
 use Rattle.stream.specs.Collecting.{lineText}
-use Rattle.events.specs.Events.{LogEvent}
-use Rattle.events.specs.Doing.{did}
-use Rattle.events.specs.Told.{secondsOf}
-use Rattle.floor.specs.Events.{event}
-use Rattle.floor.specs.Reading.{keptEvent}
+use Rattle.floorlog.specs.Events.{LogEvent, event}
+use Rattle.floorlog.specs.Doing.{did}
+use Rattle.floorlog.specs.Told.{secondsOf}
+use Rattle.floorlog.specs.Gathering.{keptEvent}
 use Rattle.marking.specs.declared.MarkSaid.{MarkSaid}
 use Rattle.marking.specs.declared.MarkSaid.TheVariants.{Sets, NoMark}
 

@@ -3,14 +3,14 @@
 
 ghost use Rattle.std.specs.Prelude.{◌≡◌, ◌+◌, ◌-◌, ◌≤◌, ◌<◌, min, length, take, drop};
 ghost use Rattle.device.specs.Calls.{replyRoom};
-ghost use Rattle.events.specs.Events.{eventOf};
-ghost use Rattle.events.specs.Told.{Drives};
-ghost use Rattle.floor.specs.Reading.{keptOf, lineAfter};
+ghost use Rattle.floorlog.specs.Events.{eventOf};
+ghost use Rattle.floorlog.specs.Told.{Drives};
+ghost use Rattle.floorlog.specs.Gathering.{keptOf, lineAfter};
 ghost use Rattle.marking.specs.Marking.{logged, marked, markSaid, keptMark, keptFloorEvent, doneBy, secondsBy};
 
-use floor::gather;
-use floor::gather::Begun;
-use logs::Says;
+use floorlog::gather::Begun;
+use floorlog::line::Says;
+use floorlog::{event, gather};
 use record::legality::Tested;
 
 /// The mark that a line asks for: of the lamp at a place from 0.
@@ -73,8 +73,8 @@ fn log_event(t: &mut Tested, says: Says, held: usize, line: &[u8], reply: &mut [
 {
     let from = gather::least(2, held);
     let end = held + 1;
-    events::call(t, says, &line[from..end], reply);
-    events::seconds_of(says)
+    event::call(t, says, &line[from..end], reply);
+    event::seconds_of(says)
 }
 
 // A lamp's mark is set, or not: the number is nothing to a log.

@@ -12,7 +12,7 @@ use Rattle.record.specs.Wanted.{Wanted}
 use Rattle.record.specs.declared.types.Device.{Device}
 use Rattle.record.proofs.LegalTold.{settings-of-legal}
 use Rattle.stream.specs.Machine.{uncut}
-use Rattle.logs.specs.Lines.{lineMost}
+use Rattle.floorlog.specs.Lines.{lineMost}
 use Rattle.ours.specs.Board.{ours}
 use Rattle.demands.specs.Calls.{run}
 use Rattle.demands.specs.Demand3.{Beginning, startMarks, begunBy, Accepted}

@@ -14,10 +14,10 @@ use Rattle.record.specs.Places.{connectionAt, isShut}
 use Rattle.record.specs.Wanted.{Wanted}
 use Rattle.record.specs.declared.types.Device.{Device}
 use Rattle.device.specs.Calls.{replyRoom}
-use Rattle.logs.specs.Lines.{lineMost}
 use Rattle.stream.specs.Machine.{Out, uncut}
-use Rattle.events.specs.Events.{opens, receives, passes, closes, noSuch}
-use Rattle.events.specs.Doing.{logPlace}
+use Rattle.floorlog.specs.Lines.{lineMost}
+use Rattle.floorlog.specs.Events.{opens, receives, passes, closes, noSuch}
+use Rattle.floorlog.specs.Doing.{logPlace}
 use Rattle.ours.specs.Board.{ours}
 use Rattle.demands.specs.Calls.{Call, opens as opens_at, receives as receivesAt, passes as passesBy}
 use Rattle.demands.specs.Calls.{closes as closes_at, enables}

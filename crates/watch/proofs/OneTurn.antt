@@ -14,9 +14,8 @@ use Rattle.text.proofs.Choices.{both_left}
 use Rattle.record.specs.declared.types.Device.{Device}
 use Rattle.record.specs.declared.types.Line.{Line}
 use Rattle.stream.specs.Machine.{UpTo}
-use Rattle.floor.specs.declared.gather.Gathered.{Gathered}
-use Rattle.floor.specs.Reading.{keptOf, upToLf, lineAfter, nothingBegun}
-use Rattle.floor.specs.Told.{gatheredTo}
+use Rattle.floorlog.specs.declared.gather.Gathered.{Gathered}
+use Rattle.floorlog.specs.Gathering.{keptOf, upToLf, lineAfter, nothingBegun, gatheredTo}
 use Rattle.marking.specs.Marking.{doneBy, secondsBy, keptFloorEvent}
 use Rattle.marking.proofs.LineDoes.{line-seconds}
 use Rattle.watch.specs.declared.watching.Seen.{Seen}

@@ -6,8 +6,8 @@ ghost use Rattle.watch.specs.WatchCalls.{watchingIn, watchingFrom};
 ghost use Rattle.watch.specs.WatchCalls.{CanWatch, SeenAs, WatchedAs, watched, watchedToEnd};
 
 use crate::{dark, light, refusing};
-use floor::gather;
-use floor::gather::Begun;
+use floorlog::gather;
+use floorlog::gather::Begun;
 use record::legality::Tested;
 use record::types::{Device, LAMPS_MOST};
 

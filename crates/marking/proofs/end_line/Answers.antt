@@ -1,7 +1,7 @@
 -- The mark that the line asks for is set, or its event done as floor does.
 use Rattle.std.proofs.Common.{◌≡◌, min, refl}
-use Rattle.floor.specs.Reading.{keptOf}
-use Rattle.floor.proofs.KeptText.{event-lent}
+use Rattle.floorlog.specs.Gathering.{keptOf}
+use Rattle.floorlog.proofs.KeptText.{event-lent}
 use Rattle.marking.specs.Marking.{doneBy, secondsBy, keptFloorEvent}
 use Rattle.marking.proofs.LineDoes.{driven}
 use Rattle.marking.proofs.end_line.Goals as goal

@@ -1,7 +1,7 @@
 -- The call of the event, whose text is the line's part.
 use Rattle.std.proofs.Common.{ℕ, List, ◌+◌, ◌-◌, ◌∙◌, min, take, drop, ap}
-use Rattle.events.specs.Events.{eventOf}
-use Rattle.events.specs.Doing.{did}
+use Rattle.floorlog.specs.Events.{eventOf}
+use Rattle.floorlog.specs.Doing.{did}
 use Rattle.marking.specs.Marking.{doneBy}
 use Rattle.marking.proofs.MarksSaid.{seconds-any}
 use Rattle.marking.proofs.log_event.Goals as goal
