@@ -33,9 +33,9 @@ use Rattle.demands.specs.History.{Event, switched, aSecond, markSwitched, Stream
 use Rattle.demands.specs.History.{powerSet}
 use Rattle.demands.proofs.Agrees.{powerOf, Agrees}
 use Rattle.demands.proofs.PowerSetsSeen.{one-or-none}
-use Rattle.marking.specs.Marking.{FloorEvent, logged, marked, doneBy, secondsBy}
-use Rattle.marking.proofs.DoneSpelt.{done-opening, done-receiving, done-passing, done-closing, done-nothing}
-use Rattle.marking.proofs.DoneSpelt.{done-marking}
+use Rattle.watch.specs.Marking.{FloorEvent, logged, marked, doneBy, secondsBy}
+use Rattle.watch.proofs.DoneSpelt.{done-opening, done-receiving, done-passing, done-closing, done-nothing}
+use Rattle.watch.proofs.DoneSpelt.{done-marking}
 use Rattle.stretches.specs.LogTold.{roomLent, callsBy}
 
 pub data Makes (d : Device) (e : FloorEvent) : Type 0 where

@@ -23,7 +23,7 @@ use Rattle.demands.specs.Calls.{Call, opens as opens_at, receives as receivesAt,
 use Rattle.demands.specs.Calls.{closes as closes_at, enables}
 use Rattle.demands.specs.Demand3.{Beginning, Accepted, startMarks, begunBy, historyOf}
 use Rattle.demands.specs.History.{Event, burning, lampWith}
-use Rattle.marking.specs.Marking.{FloorEvent, logged, marked, doneBy}
+use Rattle.watch.specs.Marking.{FloorEvent, logged, marked, doneBy}
 use Rattle.watch.specs.Watching.{Watching}
 use Rattle.watch.specs.WholeWatch.{floorEvents, Telling, tellings, toldLines, burntAfter, WatchStage}
 use Rattle.watch.specs.WholeWatch.{wholeWatch, Timeable}

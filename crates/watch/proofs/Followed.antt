@@ -7,7 +7,7 @@ use mathlib.Core.List.{List}
 use Rattle.std.specs.Prelude.{if◌then◌else◌}
 use Rattle.record.specs.declared.types.Device.{Device}
 use Rattle.floorlog.specs.Gathering.{keptOf, nothingBegun, lineAfter}
-use Rattle.marking.specs.Marking.{FloorEvent, doneBy, secondsBy, keptFloorEvent}
+use Rattle.watch.specs.Marking.{FloorEvent, doneBy, secondsBy, keptFloorEvent}
 use Rattle.watch.specs.Watching.{Watching, isBurningIn, gainedBy, darkWith, watchedBy, darkened}
 use Rattle.watch.specs.Watching.{lineDone, isDark}
 

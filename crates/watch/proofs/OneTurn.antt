@@ -16,13 +16,13 @@ use Rattle.record.specs.declared.types.Line.{Line}
 use Rattle.stream.specs.Machine.{UpTo}
 use Rattle.floorlog.specs.declared.gather.Gathered.{Gathered}
 use Rattle.floorlog.specs.Gathering.{keptOf, upToLf, lineAfter, nothingBegun, gatheredTo}
-use Rattle.marking.specs.Marking.{doneBy, secondsBy, keptFloorEvent}
-use Rattle.marking.proofs.LineDoes.{line-seconds}
+use Rattle.watch.specs.Marking.{doneBy, secondsBy, keptFloorEvent}
 use Rattle.watch.specs.declared.watching.Seen.{Seen}
 use Rattle.watch.specs.declared.light.Light.{Light}
 use Rattle.watch.specs.Watching.{Watching, Watched, isBurningIn, isLong, isDark, watchKept, watchedIn}
 use Rattle.watch.specs.WatchCalls.{SeenAs, CanWatch, CanDarken}
 use Rattle.watch.specs.WatchCalls.{lightOf, darkAfter}
+use Rattle.watch.proofs.LineLeaves.{line-seconds}
 use Rattle.watch.proofs.LinesDone.{can-darken}
 use Rattle.watch.proofs.Followed.{event-kept, device-after, onward-kept, dark-is, line-dark, line-lit, dark-from}
 use Rattle.watch.proofs.Turns.{WatchedTo, first, held, can-end-one, stays, place_inside, stops, goes_on, all-watched}

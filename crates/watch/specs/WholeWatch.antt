@@ -30,7 +30,7 @@ use Rattle.stream.specs.Machine.{Out, Took, unanswered, tookBytes, handedParts, 
 use Rattle.textio.specs.Lines.{lines_of}
 use Rattle.lamplines.specs.LampLines.{stretchLines}
 use Rattle.floorlog.specs.Lines.{lineMost}
-use Rattle.marking.specs.Marking.{FloorEvent, floorEvent, doneBy}
+use Rattle.watch.specs.Marking.{FloorEvent, floorEvent, doneBy}
 use Rattle.watch.specs.Watching.{Watching, isBurningIn, isLong, darkWith, watchedOn, closedAtEnd}
 use Rattle.watch.specs.WatchCalls.{WatchStep, watched, watchedToEnd, watchingFrom}
 

@@ -5,7 +5,7 @@ ghost use Rattle.watch.specs.Watching.{watchedIn};
 ghost use Rattle.watch.specs.WatchCalls.{watchingIn, watchingFrom};
 ghost use Rattle.watch.specs.WatchCalls.{CanWatch, SeenAs, WatchedAs, watched, watchedToEnd};
 
-use crate::{dark, light, refusing};
+use crate::{dark, light, marking, refusing};
 use floorlog::gather;
 use floorlog::gather::Begun;
 use record::legality::Tested;

@@ -1,10 +1,10 @@
--- The mark that the line asks for is set, or its event done as floor does.
+-- The mark that the line asks for is set, or its event done as in a log that is played back.
 use Rattle.std.proofs.Common.{◌≡◌, min, refl}
 use Rattle.floorlog.specs.Gathering.{keptOf}
 use Rattle.floorlog.proofs.KeptText.{event-lent}
-use Rattle.marking.specs.Marking.{doneBy, secondsBy, keptFloorEvent}
-use Rattle.marking.proofs.LineDoes.{driven}
-use Rattle.marking.proofs.end_line.Goals as goal
+use Rattle.watch.specs.Marking.{doneBy, secondsBy, keptFloorEvent}
+use Rattle.watch.proofs.LineLeaves.{driven}
+use Rattle.watch.proofs.marking.end_line.Goals as goal
 
 pub returns-in-Sets : goal.returns-in-Sets
 returns-in-Sets c =

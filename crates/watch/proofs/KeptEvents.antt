@@ -11,8 +11,8 @@ use Rattle.text.proofs.Orders.{le-or-lt}
 use Rattle.record.specs.declared.types.Line.{Line}
 use Rattle.floorlog.specs.Lines.{lineMost}
 use Rattle.floorlog.proofs.KeptLine.{Holds, kept-event}
-use Rattle.marking.specs.Marking.{markSaid, eventBy, floorEvent, keptMark, keptFloorEvent}
-use Rattle.marking.proofs.MarksSaid.{mark-length}
+use Rattle.watch.specs.Marking.{markSaid, eventBy, floorEvent, keptMark, keptFloorEvent}
+use Rattle.watch.proofs.MarksSaid.{mark-length}
 
 module _ (g : List ℕ) (k : Line) (h : Holds g k) where
   mark-kept : keptMark k ≡ markSaid g

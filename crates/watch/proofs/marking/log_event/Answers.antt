@@ -2,9 +2,9 @@
 use Rattle.std.proofs.Common.{ℕ, List, ◌+◌, ◌-◌, ◌∙◌, min, take, drop, ap}
 use Rattle.floorlog.specs.Events.{eventOf}
 use Rattle.floorlog.specs.Doing.{did}
-use Rattle.marking.specs.Marking.{doneBy}
-use Rattle.marking.proofs.MarksSaid.{seconds-any}
-use Rattle.marking.proofs.log_event.Goals as goal
+use Rattle.watch.specs.Marking.{doneBy}
+use Rattle.watch.proofs.MarksSaid.{seconds-any}
+use Rattle.watch.proofs.marking.log_event.Goals as goal
 
 pub returns-clause-seconds : goal.returns-clause-seconds
 returns-clause-seconds c =

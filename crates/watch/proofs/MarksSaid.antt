@@ -16,8 +16,8 @@ use Rattle.floorlog.specs.declared.line.Says.{Says}
 use Rattle.floorlog.specs.declared.line.Says.TheVariants.{Opens, Receives, Passes, Closes, NoSuch}
 use Rattle.floorlog.specs.Events.{eventOf}
 use Rattle.floorlog.specs.Told.{secondsOf}
-use Rattle.marking.specs.declared.MarkSaid.TheVariants.{Sets, NoMark}
-use Rattle.marking.specs.Marking.{markSaid}
+use Rattle.watch.specs.declared.marking.MarkSaid.TheVariants.{Sets, NoMark}
+use Rattle.watch.specs.Marking.{markSaid}
 
 regrouped : (a b c d e f : Bool) → (true && a && b && (true && c) && d && (e && f)) ≡ (a && b && c && d && e && f)
 regrouped false b c d e f = refl

@@ -11,7 +11,7 @@ use Rattle.device.specs.Calls.{Result, replyRoom, received, closedBy}
 use Rattle.floorlog.specs.Events.{opens, receives, passes, closes, noSuch}
 use Rattle.floorlog.specs.Doing.{logPlace, openedInLog}
 use Rattle.floorlog.proofs.DidSpelt.{did-opening, did-receiving, did-passing, did-closing, did_nothing}
-use Rattle.marking.specs.Marking.{logged, marked, doneBy}
+use Rattle.watch.specs.Marking.{logged, marked, doneBy}
 
 module _ (d : Device) where
   pub done-opening : (r : ℕ) → doneBy d (logged (opens r)) ≡ (openedInLog d r).device

@@ -1,7 +1,7 @@
 -- The tests that led to each return say what the line says.
 use Rattle.std.proofs.Common.{sym}
-use Rattle.marking.proofs.MarksSaid.{mark-length, mark-lamp, mark-by}
-use Rattle.marking.proofs.mark_says.Goals as goal
+use Rattle.watch.proofs.MarksSaid.{mark-length, mark-lamp, mark-by}
+use Rattle.watch.proofs.marking.mark_says.Goals as goal
 
 pub returns-then-l-ne5 : goal.returns-then-l-ne5
 returns-then-l-ne5 c = sym (mark-length _ c.if-l-ne5.true)

@@ -21,8 +21,8 @@ use Rattle.floorlog.specs.Events.{LogEvent, event}
 use Rattle.floorlog.specs.Doing.{did}
 use Rattle.floorlog.specs.Told.{secondsOf}
 use Rattle.floorlog.specs.Gathering.{keptEvent}
-use Rattle.marking.specs.declared.MarkSaid.{MarkSaid}
-use Rattle.marking.specs.declared.MarkSaid.TheVariants.{Sets, NoMark}
+use Rattle.watch.specs.declared.marking.MarkSaid.{MarkSaid}
+use Rattle.watch.specs.declared.marking.MarkSaid.TheVariants.{Sets, NoMark}
 
 abbrev pub isMarkLine : List ℕ → Bool
 isMarkLine l =

@@ -1,19 +1,17 @@
 // One line of a log that is watched for its lamps: what it does to the device, where it lies.
-#![tactic(auto)]
-
 ghost use Rattle.std.specs.Prelude.{◌≡◌, ◌+◌, ◌-◌, ◌≤◌, ◌<◌, min, length, take, drop};
 ghost use Rattle.device.specs.Calls.{replyRoom};
 ghost use Rattle.floorlog.specs.Events.{eventOf};
 ghost use Rattle.floorlog.specs.Told.{Drives};
 ghost use Rattle.floorlog.specs.Gathering.{keptOf, lineAfter};
-ghost use Rattle.marking.specs.Marking.{logged, marked, markSaid, keptMark, keptFloorEvent, doneBy, secondsBy};
+ghost use Rattle.watch.specs.Marking.{logged, marked, markSaid, keptMark, keptFloorEvent, doneBy, secondsBy};
 
 use floorlog::gather::Begun;
 use floorlog::line::Says;
 use floorlog::{event, gather};
 use record::legality::Tested;
 
-/// The mark that a line asks for: of the lamp at a place from 0.
+// The mark that a line asks for: of the lamp at a place from 0.
 #[derive(Clone, Copy)]
 pub enum MarkSaid {
     Sets(u8, bool),
@@ -84,7 +82,7 @@ fn set_mark(t: &mut Tested, lamp: u8, mark: bool)
     let _told = t.device.set_mark(place(lamp), mark);
 }
 
-/// The line that is kept, played; CR stands after it in the memory. The seconds that it lets pass.
+// The line that is kept, played; CR stands after it in the memory. The seconds that it lets pass.
 pub fn end_line(t: &mut Tested, k: Begun, line: &mut [u8], reply: &mut [u8]) -> u32
     requires held { k.held < length line.old }
     requires room { replyRoom ≤ length reply.old }

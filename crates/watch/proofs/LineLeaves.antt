@@ -22,10 +22,10 @@ use Rattle.floorlog.specs.Gathering.{keptEvent}
 use Rattle.floorlog.proofs.Driven.{none_pass, itself-kept, did-drives}
 use Rattle.floorlog.proofs.EventsLeave.{did-settings, did-legality}
 use Rattle.floorlog.proofs.EventSeconds.{event-seconds}
-use Rattle.marking.specs.declared.MarkSaid.{MarkSaid}
-use Rattle.marking.specs.declared.MarkSaid.TheVariants.{Sets, NoMark}
-use Rattle.marking.specs.Marking.{FloorEvent, logged, marked, eventBy, doneBy, secondsBy}
-use Rattle.marking.specs.Marking.{keptMark, keptFloorEvent}
+use Rattle.watch.specs.declared.marking.MarkSaid.{MarkSaid}
+use Rattle.watch.specs.declared.marking.MarkSaid.TheVariants.{Sets, NoMark}
+use Rattle.watch.specs.Marking.{FloorEvent, logged, marked, eventBy, doneBy, secondsBy}
+use Rattle.watch.specs.Marking.{keptMark, keptFloorEvent}
 
 module _ (d : Device) where
   pub done-settings : (e : FloorEvent) → (doneBy d e).settings ≡ d.settings

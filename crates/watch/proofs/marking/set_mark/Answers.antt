@@ -2,9 +2,9 @@
 use Rattle.std.proofs.Common.{ℕ, ap, sym, ◌∙◌}
 use Rattle.record.specs.Legal.{isLegal}
 use Rattle.record.specs.HostCalls.{markSet}
-use Rattle.marking.specs.Marking.{marked, doneBy}
-use Rattle.marking.proofs.LineDoes.{done-legality}
-use Rattle.marking.proofs.set_mark.Goals as goal
+use Rattle.watch.specs.Marking.{marked, doneBy}
+use Rattle.watch.proofs.LineLeaves.{done-legality}
+use Rattle.watch.proofs.marking.set_mark.Goals as goal
 
 pub invariant_of-t : goal.invariant_of-t
 unfolding doneBy
