@@ -245,7 +245,8 @@ pj_changed pj_set_up(const uint8_t *name, size_t name_len, const uint8_t *maker,
    The projector starts not frozen and with both levels at PJ_VOLUME_FIRST, as one of Class 1 does.
    Refuses with PJ_OUT_OF_RANGE what pj_set_up would, but inputs by the rule above; a serial number, a software version
    or a name that is out of its range; other than one name an input; lengths that do not add up to names_len. Then,
-   where all of that is in range, a password of 1 to 7 letters and digits with PJ_SHORT_PASSWORD. */
+   where all of that is in range, a password of 1 to 7 letters and digits with PJ_SHORT_PASSWORD. pj_which_setting_2
+   tells which it was. */
 CEILING_KEEP
 pj_changed pj_set_up_2(const uint8_t *name, size_t name_len, const uint8_t *maker, size_t maker_len,
                        const uint8_t *model, size_t model_len, const uint8_t *other, size_t other_len,
@@ -254,8 +255,8 @@ pj_changed pj_set_up_2(const uint8_t *name, size_t name_len, const uint8_t *make
                        const uint8_t *serial, size_t serial_len, const uint8_t *version, size_t version_len,
                        const uint8_t *names, size_t names_len, const size_t *name_lengths, size_t name_count);
 
-enum pj_setting {               /* in the order in which pj_set_up is lent them */
-    PJ_SETTING_NONE = 0,        /* pj_set_up gives PJ_SERVED */
+enum pj_setting {               /* in the order in which pj_set_up and pj_set_up_2 are lent them */
+    PJ_SETTING_NONE = 0,        /* set-up gives PJ_SERVED */
     PJ_SETTING_NAME = 1,
     PJ_SETTING_MAKER = 2,
     PJ_SETTING_MODEL = 3,
@@ -264,17 +265,30 @@ enum pj_setting {               /* in the order in which pj_set_up is lent them 
     PJ_SETTING_INPUTS = 6,
     PJ_SETTING_LAMPS = 7,
     PJ_SETTING_WARM = 8,
-    PJ_SETTING_COOL = 9
+    PJ_SETTING_COOL = 9,
+    PJ_SETTING_SERIAL = 10,     /* this and what follows of Class 2 alone */
+    PJ_SETTING_VERSION = 11,
+    PJ_SETTING_NAMES = 12       /* a name that is out of its range, other than one name an input, or lengths that do
+                                   not add up to names_len */
 };
 
 /* Tells why pj_set_up refuses: of the same settings the first that is out of its range, an enum pj_setting. A password
    of 1 to 7 letters and digits is in range for that, and is told where nothing else is wrong: PJ_SETTING_PASSWORD where
    pj_set_up gives PJ_SHORT_PASSWORD. It is PJ_SETTING_NONE exactly where pj_set_up gives PJ_SERVED. It is for Class 1:
-   what pj_set_up_2 alone takes is out of range here. Refuses nothing. */
+   inputs that pj_set_up_2 alone takes are out of range here. Refuses nothing. */
 uint32_t pj_which_setting(const uint8_t *name, size_t name_len, const uint8_t *maker, size_t maker_len,
                           const uint8_t *model, size_t model_len, const uint8_t *other, size_t other_len,
                           const uint8_t *password, size_t password_len, const uint8_t *inputs, size_t inputs_len,
                           const uint32_t *lamps, size_t lamp_count, uint32_t warm, uint32_t cool);
+
+/* Tells why pj_set_up_2 refuses, as pj_which_setting does of pj_set_up: inputs are in range by the rule of Class 2, and
+   after the cooling come the serial number, the software version and the names, in this order. Refuses nothing. */
+uint32_t pj_which_setting_2(const uint8_t *name, size_t name_len, const uint8_t *maker, size_t maker_len,
+                            const uint8_t *model, size_t model_len, const uint8_t *other, size_t other_len,
+                            const uint8_t *password, size_t password_len, const uint8_t *inputs, size_t inputs_len,
+                            const uint32_t *lamps, size_t lamp_count, uint32_t warm, uint32_t cool,
+                            const uint8_t *serial, size_t serial_len, const uint8_t *version, size_t version_len,
+                            const uint8_t *names, size_t names_len, const size_t *name_lengths, size_t name_count);
 
 /* Opens a connection where a controller has connected, at the lowest place that is closed, and tells the place: the
    host names it in every later call for that socket. The reply is the greeting, and the host sends it. The random

@@ -70,6 +70,10 @@ CALL(call_which_setting, {
     sink = pj_which_setting(TEXT("name"), TEXT("maker"), TEXT("model"), TEXT("other"), TEXT("panel123"),
                             TEXT("11213141"), lamps, 8, 600, 600);
 })
+CALL(call_which_setting_2, {
+    sink = pj_which_setting_2(TEXT("name"), TEXT("maker"), TEXT("model"), TEXT("other"), TEXT(""), TEXT("116A"), lamps, 8,
+                              600, 600, TEXT("serial"), TEXT("version"), TEXT("RGBLager"), name_lengths, 2);
+})
 CALL(call_open, { device = pj_open(device, 0x498e4a67, out, sizeof out).device; })
 CALL(call_receive, { device = pj_receive(device, 0, TEXT(line), out, sizeof out).device; })
 CALL(call_pass, { device = pj_pass(device, 4294967295u).device; })
@@ -134,6 +138,7 @@ int main(void) {
     BOTH(pj_legal, "", call_legal);
     BOTH(pj_close, "", call_close);
     measure("pj_set_up_2", call_set_up_2);
+    measure("pj_which_setting_2", call_which_setting_2);
     device = pj_open(device, 1, out, sizeof out).device;
     line = "%2INNM ?6A\r";
     BOTH(pj_receive, ", %2INNM ?6A", call_receive);

@@ -144,7 +144,7 @@ static pj_command get_command(void) {
     return c;
 }
 
-enum set_up { SET_UP, SET_UP_2, WHICH_SETTING };
+enum set_up { SET_UP, SET_UP_2, WHICH_SETTING, WHICH_SETTING_2 };
 
 static void set_up(enum set_up which, pj_device d, bool in_place) {
     slice name = get_slice(), maker = get_slice(), model = get_slice(), other = get_slice();
@@ -157,12 +157,18 @@ static void set_up(enum set_up which, pj_device d, bool in_place) {
         uint32_t setting = pj_which_setting(name.at, name.n, maker.at, maker.n, model.at, model.n, other.at, other.n,
                                             password.at, password.n, inputs.at, inputs.n, words[0], lamps, warm, cool);
         PUT(setting);
-    } else if (which == SET_UP_2) {
+    } else if (which == SET_UP_2 || which == WHICH_SETTING_2) {
         slice serial = get_slice(), version = get_slice(), names = get_slice();
         size_t n;
         GET(n);
         get(lengths, n * sizeof *lengths);
-        if (in_place) {
+        if (which == WHICH_SETTING_2) {
+            uint32_t setting = pj_which_setting_2(name.at, name.n, maker.at, maker.n, model.at, model.n, other.at,
+                                                  other.n, password.at, password.n, inputs.at, inputs.n, words[0],
+                                                  lamps, warm, cool, serial.at, serial.n, version.at, version.n,
+                                                  names.at, names.n, lengths, n);
+            PUT(setting);
+        } else if (in_place) {
             uint32_t number = pj_set_up_2_in_place(&d, name.at, name.n, maker.at, maker.n, model.at, model.n, other.at,
                                                    other.n, password.at, password.n, inputs.at, inputs.n, words[0],
                                                    lamps, warm, cool, serial.at, serial.n, version.at, version.n,
@@ -448,6 +454,7 @@ static void make_call(void) {
     case 23: lost_to_panel(); break;
     case 24: set_mark(d, in_place); break;
     case 25: set_up(SET_UP_2, d, in_place); break;
+    case 26: set_up(WHICH_SETTING_2, d, false); break;
     default: exit(EXIT_FAILURE);
     }
 }

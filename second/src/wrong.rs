@@ -123,6 +123,8 @@ mod tests {
         (1..=12).for_each(|kind| assert!(of_kind("pj_read_reply", kind) >= 100, "reading {kind}"));
         let told = |place| run.met.times("pj_which_setting", &format!("setting {place}"));
         (0..=9).for_each(|place| assert!(told(place) >= 100, "setting {place}: {}", told(place)));
+        let told = |place| run.met.times("pj_which_setting_2", &format!("setting {place}"));
+        (0..=12).for_each(|place| assert!(told(place) >= 50, "setting {place} of Class 2: {}", told(place)));
         ["PJLINK 0", "PJLINK 1"].iter().for_each(|greeting| assert!(run.met.times("pj_open", greeting) >= 100));
         assert!(run.met.times("pj_receive", "PJLINK E") >= 100);
         assert!(run.met.times("pj_panel_command", "not led") >= 100);

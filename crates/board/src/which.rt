@@ -1,6 +1,6 @@
 // Which setting set-up refuses, as a number, since an exported call returns no enum.
 ghost use Rattle.std.specs.Prelude.{◌≡◌};
-ghost use Rattle.record.specs.Wanted.{wantedOf};
+ghost use Rattle.record.specs.Wanted.{wantedOf, wantedOf2, namesIn};
 ghost use Rattle.record.specs.OutOfRange.{refusedSetting};
 ghost use Rattle.setup.specs.Told.{setting_told};
 ghost use Rattle.board.specs.Which.{settingNumber};
@@ -18,8 +18,8 @@ fn number_of(checked: Result<(), SetUpError>) -> u32
     }
 }
 
-/// 0 where set-up gives 0; the place of the first setting that is out of its range where it gives 3; the password's
-/// where it gives 8 (RULES, Passwords).
+/// Of a set-up of Class 1: 0 where it gives 0; the place, 1 to 9, of the first setting that is out of its range where
+/// it gives 3; the password's where it gives 8 (RULES, The legal record).
 #[unsafe(no_mangle)]
 pub extern "C" fn pj_which_setting<'a>(
     name: &'a [u8],
@@ -36,6 +36,48 @@ pub extern "C" fn pj_which_setting<'a>(
         other.now password.now inputs.now lamps.now warm cool)) }
 {
     let class = Class::One;
+    let wanted = Wanted {
+        name,
+        maker,
+        model,
+        other,
+        password,
+        inputs,
+        lamps,
+        warm,
+        cool,
+        class,
+    };
+    number_of(wanted.check())
+}
+
+/// The same of a set-up of Class 2: 0, or a place of 1 to 12.
+#[unsafe(no_mangle)]
+pub extern "C" fn pj_which_setting_2<'a>(
+    name: &'a [u8],
+    maker: &'a [u8],
+    model: &'a [u8],
+    other: &'a [u8],
+    password: &'a [u8],
+    inputs: &'a [u8],
+    lamps: &'a [u32],
+    warm: u32,
+    cool: u32,
+    serial: &'a [u8],
+    version: &'a [u8],
+    names: &'a [u8],
+    lengths: &'a [usize],
+) -> u32
+    ensures { result ≡ settingNumber (refusedSetting (wantedOf2 name.now maker.now model.now
+        other.now password.now inputs.now lamps.now warm cool serial.now
+        version.now (namesIn lengths.now names.now))) }
+{
+    let class = Class::Two {
+        serial,
+        version,
+        names,
+        lengths,
+    };
     let wanted = Wanted {
         name,
         maker,

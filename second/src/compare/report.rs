@@ -72,10 +72,11 @@ fn call(act: &Act) -> String {
             let texts: Vec<String> = texts.iter().map(|text| quoted(text)).collect();
             format!("{name}({}, lamps {:?}, warm {}, cool {})", texts.join(", "), lent.lamps, lent.warm, lent.cool)
         }
-        Act::SetUp2(lent) => {
+        Act::SetUp2(lent) | Act::WhichSetting2(lent) => {
+            let name = if matches!(act, Act::SetUp2(_)) { "pj_set_up_2(" } else { "pj_which_setting_2(" };
             let Lent2 { lent, serial, version, names, name_lengths } = &**lent;
             let texts = [serial, version, names].map(|text| quoted(text)).join(", ");
-            let first = call(&Act::SetUp(lent.clone())).replacen("pj_set_up(", "pj_set_up_2(", 1);
+            let first = call(&Act::SetUp(lent.clone())).replacen("pj_set_up(", name, 1);
             format!("{}, {texts}, lengths {name_lengths:?})", first.trim_end_matches(')'))
         }
         Act::Open { random, lent } => format!("pj_open({random:#010x}, {})", memory(lent)),

@@ -137,6 +137,10 @@ fn simpler(act: &Act) -> Vec<Act> {
             simpler.map(|lent| Act::SetUp2(Box::new(lent))).collect()
         }
         Act::WhichSetting(lent) => simpler_set_ups(lent).into_iter().map(Act::WhichSetting).collect(),
+        Act::WhichSetting2(lent) => {
+            let simpler = class_2_shrink::simpler_set_ups(lent).into_iter();
+            simpler.map(|lent| Act::WhichSetting2(Box::new(lent))).collect()
+        }
         Act::Open { random, lent } => {
             let numbers = lower(*random).map(|random| Act::Open { random, lent: lent.clone() });
             numbers.chain(memories(lent).map(|lent| Act::Open { random: *random, lent })).collect()

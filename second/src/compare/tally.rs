@@ -48,6 +48,7 @@ pub fn call(act: &Act) -> &'static str {
         Act::SetUp(_) => "pj_set_up",
         Act::SetUp2(_) => "pj_set_up_2",
         Act::WhichSetting(_) => "pj_which_setting",
+        Act::WhichSetting2(_) => "pj_which_setting_2",
         Act::Open { .. } => "pj_open",
         Act::Close { .. } => "pj_close",
         Act::Receive { .. } => "pj_receive",

@@ -11,6 +11,7 @@ pub enum Act {
     SetUp(Lent),
     SetUp2(Box<Lent2>),
     WhichSetting(Lent),
+    WhichSetting2(Box<Lent2>),
     Open {
         random: u32,
         lent: Vec<u8>,
@@ -107,7 +108,8 @@ pub struct Lent {
     pub cool: u32,
 }
 
-/// What a set-up of Class 2 is lent: the bytes of all names one after the other, and the length of each.
+/// What a set-up of Class 2 is lent, and the call that tells of it: the bytes of all names one after the other, and the
+/// length of each.
 #[derive(Clone, PartialEq, Eq, Debug, Default)]
 pub struct Lent2 {
     pub lent: Lent,
@@ -153,7 +155,7 @@ impl Act {
             Act::Pass { .. } | Act::PassInPlace { .. } => true,
             Act::SetFault { .. } | Act::SetErrors { .. } | Act::SetMark { .. } => true,
             Act::Legal | Act::Store { .. } => true,
-            Act::WhichSetting(_) | Act::Digest { .. } => false,
+            Act::WhichSetting(_) | Act::WhichSetting2(_) | Act::Digest { .. } => false,
             Act::Write { .. } | Act::ReadGreeting { .. } | Act::ReadReply { .. } => false,
             Act::Panel(_) | Act::CompareLamps { .. } | Act::CheckDay { .. } | Act::PlanDay { .. } => false,
         }

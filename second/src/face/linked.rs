@@ -187,6 +187,7 @@ impl Side for Board {
             Act::SetUp(lent) => Answer::Changed(set_up(lent)),
             Act::SetUp2(lent) => Answer::Changed(class_2::set_up_2(lent)),
             Act::WhichSetting(lent) => Answer::Setting(which_setting(lent)),
+            Act::WhichSetting2(lent) => Answer::Setting(class_2::which_setting_2(lent)),
             Act::Open { random, lent } => {
                 let mut out = lent.clone();
                 Answer::Opened(open(device, *random, &mut out), out)

@@ -98,6 +98,10 @@ pub fn put_act(act: &Act, out: &mut Vec<u8>) {
             16u8.put(out);
             put_settings(lent, out);
         }
+        Act::WhichSetting2(lent) => {
+            26u8.put(out);
+            put_settings_2(lent, out);
+        }
         Act::Open { random, lent } => {
             1u8.put(out);
             random.put(out);
@@ -250,7 +254,7 @@ pub fn get_answer(act: &Act, from: &mut &[u8]) -> Answer {
         | Act::SetErrors { .. }
         | Act::SetMark { .. }
         | Act::Load { .. } => Answer::Changed(Wire::get(from)),
-        Act::WhichSetting(_) => Answer::Setting(Wire::get(from)),
+        Act::WhichSetting(_) | Act::WhichSetting2(_) => Answer::Setting(Wire::get(from)),
         Act::Open { .. } => Answer::Opened(Wire::get(from), Wire::get(from)),
         Act::Receive { .. } => Answer::Received(Wire::get(from), Wire::get(from)),
         Act::HandOn { .. } | Act::Interleave { .. } => unreachable!("not one call"),

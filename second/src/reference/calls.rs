@@ -22,8 +22,9 @@ pub(super) const IS_CLOSED: u32 = 4;
 pub(super) const NO_PLACE: u32 = 6;
 const SHORT_PASSWORD: u32 = 8;
 
-/// The password's place among the settings.
+/// The places, from 0, of the password among the settings, and of the first that Class 2 alone has.
 const PASSWORD: usize = 4;
+const SERIAL: usize = 9;
 
 pub fn set_up(lent: &face::Lent) -> face::Changed {
     given(accepted(lent, Class::One))
@@ -98,9 +99,40 @@ fn is_told_early(lent: &face::Lent) -> bool {
 /// The header: "the first that is out of its range", in the order in which a set-up is lent them, from 1; a short
 /// password "is in range for that, and is told where nothing else is wrong"; else 0.
 pub fn which_setting(lent: &face::Lent) -> u32 {
-    let mut wrong = set_up::in_range(lent).map(|in_range| !in_range);
+    first_out_of_range(set_up::in_range(lent), is_short(&lent.password))
+}
+
+/// The header: "as pj_which_setting does of pj_set_up: inputs are in range by the rule of Class 2, and after the cooling
+/// come the serial number, the software version and the names".
+pub fn which_setting_2(lent: &face::Lent2) -> u32 {
+    let mut in_range = set_up::in_range_2(lent);
+    let is_short = is_short(&lent.lent.password);
+    let (of_class_1, of_class_2) = in_range.split_at_mut(SERIAL);
+    if !of_class_1.contains(&false) {
+        match of_class_2 {
+            [_, _, false] if made(Mistake::NamesToldFirst) => return 12,
+            [_, false, _] if made(Mistake::VersionToldFirst) => return 11,
+            [true, false, _] if is_short && made(Mistake::ShortToldForVersion) => return PASSWORD as u32 + 1,
+            [false, _, _] if made(Mistake::SerialIsEleven) => return 11,
+            [true, false, _] if made(Mistake::SerialIsEleven) => return 10,
+            _ => (),
+        }
+    }
+    let fewer_names = lent.name_lengths.len() < lent.lent.inputs.len() / 2;
+    of_class_2[2] |= fewer_names && made(Mistake::FewerNamesNotTold);
+    if made(Mistake::TextsNotTold) {
+        of_class_2.fill(true);
+    }
+    if made(Mistake::WhichKnowsClass1Alone) {
+        of_class_1[PASSWORD + 1] = set_up::in_range(&lent.lent)[PASSWORD + 1];
+    }
+    first_out_of_range(in_range, is_short)
+}
+
+fn first_out_of_range<const SETTINGS: usize>(in_range: [bool; SETTINGS], is_short: bool) -> u32 {
+    let mut wrong = in_range.map(|in_range| !in_range);
     let short_counts = !wrong.contains(&true) && !made(Mistake::ShortNotTold) || made(Mistake::ShortToldInTurn);
-    wrong[PASSWORD] |= short_counts && is_short(&lent.password);
+    wrong[PASSWORD] |= short_counts && is_short;
     let first = wrong.iter().position(|&wrong| wrong);
     let last = wrong.iter().rposition(|&wrong| wrong);
     let told = if made(Mistake::LastSettingTold) { last } else { first };

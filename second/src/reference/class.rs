@@ -37,21 +37,24 @@ impl Class {
         match self {
             Class::One if made(Mistake::LettersInClass1) => inputs.iter().all(|input| input.kind <= 5),
             Class::One => inputs.iter().all(|input| input.is_of_class_1()),
-            Class::Two(_) if made(Mistake::NoSixInClass2) && inputs.iter().any(|input| input.kind == 6) => false,
-            Class::Two(texts) => texts.are_in_range(inputs.len()),
+            Class::Two(texts) => are_of_class_2(inputs) && !texts.in_range(inputs.len()).contains(&false),
         }
     }
 }
 
 impl Texts {
-    fn are_in_range(&self, inputs: usize) -> bool {
+    /// Whether each is in its range beside so many inputs: serial number, software version, names.
+    pub fn in_range(&self, inputs: usize) -> [bool; 3] {
         let longest_serial = if made(Mistake::Serial33) { 33 } else { LONGEST_SERIAL };
         let longest_version = if made(Mistake::Version64) { 64 } else { LONGEST_SERIAL };
-        is_text(&self.serial, longest_serial)
-            && is_text(&self.version, longest_version)
-            && self.names.len() == inputs
-            && self.names.iter().all(|name| is_input_name(name))
+        let are_names = self.names.len() == inputs && self.names.iter().all(|name| is_input_name(name));
+        [is_text(&self.serial, longest_serial), is_text(&self.version, longest_version), are_names]
     }
+}
+
+/// Every input that there is; a mistake takes fewer.
+pub fn are_of_class_2(inputs: &[Input]) -> bool {
+    !(made(Mistake::NoSixInClass2) && inputs.iter().any(|input| input.kind == 6))
 }
 
 /// A serial number or a software version.

@@ -1,6 +1,7 @@
 //! RULES, Class 2, sentence by sentence.
 
-use super::calls::{legal, open, pass, read_reply, receive, set_fault, set_up, set_up_2, which_setting, write};
+use super::calls::{legal, open, pass, read_reply, receive, set_fault, set_up, set_up_2, write};
+use super::calls::{which_setting, which_setting_2};
 use crate::compare::class_2::{self, records, setups};
 use crate::compare::forms;
 use crate::compare::random::Random;
@@ -172,6 +173,41 @@ fn set_ups() {
     let in_class_1 = Lent { inputs: b"1159".to_vec(), ..good.lent };
     assert_eq!((set_up(&in_class_1).number, which_setting(&in_class_1)), (0, 0));
     assert_eq!(set_up(&in_class_1).device.settings.class_number, 1);
+}
+
+/// RULES, The legal record: "the place of the first setting out of its range, a password of 1 to 7 letters and digits
+/// being in its range; where it gives 8, that of the password; and 0 exactly where it gives 0".
+#[test]
+fn which_setting_it_was() {
+    let good = class_2::forms::common();
+    let with = |change: &dyn Fn(&mut Lent2)| {
+        let mut lent = good.clone();
+        change(&mut lent);
+        (set_up_2(&lent).number, which_setting_2(&lent))
+    };
+    assert_eq!(with(&|_| ()), (0, 0));
+    assert_eq!(with(&|lent| lent.lent.inputs = b"116A5z".to_vec()), (3, 6));
+    assert_eq!(with(&|lent| lent.lent.inputs = b"116A5".to_vec()), (3, 6));
+    assert_eq!(with(&|lent| lent.serial = vec![b's'; 33]), (3, 10));
+    assert_eq!(with(&|lent| lent.version = b"ERR1".to_vec()), (3, 11));
+    assert_eq!(with(&|lent| (lent.serial, lent.version) = (vec![0], vec![0])), (3, 10));
+    assert_eq!(with(&|lent| (lent.lent.cool, lent.serial) = (0, vec![0])), (3, 9));
+    for lengths in [vec![9, 0], vec![9, 0, 0, 0], vec![8, 0, 0], vec![10, 0, 0], vec![usize::MAX, 10, 0], Vec::new()] {
+        assert_eq!(with(&|lent| lent.name_lengths = lengths.clone()), (3, 12));
+        assert_eq!(with(&|lent| (lent.version, lent.name_lengths) = (vec![0], lengths.clone())), (3, 11));
+    }
+    let short = b"seven77".to_vec();
+    assert_eq!(with(&|lent| lent.lent.password = short.clone()), (8, 5));
+    assert_eq!(with(&|lent| (lent.lent.password, lent.version) = (short.clone(), vec![0])), (3, 11));
+
+    let mut random = Random::new(1);
+    for _ in 0..20_000 {
+        let lent = class_2::setups::any(&mut random);
+        match (set_up_2(&lent).number, which_setting_2(&lent)) {
+            (0, 0) | (8, 5) | (3, 1..=12) => (),
+            other => panic!("{other:?}: {lent:?}"),
+        }
+    }
 }
 
 /// The header: "1 or 2; what follows is all zero in Class 1"; "one an input, in the inputs' order; all zero past the

@@ -1,6 +1,6 @@
 //! What a set-up takes and gives (RULES, The legal record).
 
-use super::class::{Class, Volume};
+use super::class::{Class, Texts, Volume, are_of_class_2, names_of};
 use super::rules::{Mistake, made};
 use super::text::{Input, all_letters_or_digits};
 use super::{Connection, Power, Projector, utf8};
@@ -161,6 +161,19 @@ pub fn in_range(lent: &face::Lent) -> [bool; 9] {
         is_stretch(lent.warm),
         is_stretch(lent.cool),
     ]
+}
+
+/// The same for Class 2: after these serial number, software version, names. The header: names are out of their range
+/// too where there are "other than one name an input", or "lengths that do not add up to names_len".
+pub fn in_range_2(lent: &face::Lent2) -> [bool; 12] {
+    let face::Lent2 { lent, serial, version, names, name_lengths } = lent;
+    let [name, maker, model, other, password, _, lamps, warm, cool] = in_range(lent);
+    let inputs = inputs_of(&lent.inputs).is_some_and(|inputs| are_inputs(&inputs) && are_of_class_2(&inputs));
+    let named = names_of(names, name_lengths);
+    let add_up = named.is_some();
+    let texts = Texts { serial: serial.clone(), version: version.clone(), names: named.unwrap_or_default() };
+    let [serial, version, names] = texts.in_range(lent.inputs.len() / 2);
+    [name, maker, model, other, password, inputs, lamps, warm, cool, serial, version, names && add_up]
 }
 
 fn all_different(inputs: &[Input]) -> bool {

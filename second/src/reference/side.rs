@@ -20,6 +20,7 @@ impl Side for Second {
             Act::SetUp(lent) => Answer::Changed(calls::set_up(lent)),
             Act::SetUp2(lent) => Answer::Changed(calls::set_up_2(lent)),
             Act::WhichSetting(lent) => Answer::Setting(calls::which_setting(lent)),
+            Act::WhichSetting2(lent) => Answer::Setting(calls::which_setting_2(lent)),
             Act::Open { random, lent } => {
                 let mut out = lent.clone();
                 Answer::Opened(calls::open(device, *random, &mut out), out)

@@ -11,7 +11,7 @@ use crate::reference::calls;
 use crate::reference::class::{Texts, names_of};
 use crate::reference::rules::unmistaken;
 
-/// Settings lent to both set-ups, in forms of all versions and both classes, and in records.
+/// Settings lent to both set-ups and told of, in forms of all versions and both classes, and in records.
 pub fn calls(random: &mut Random) -> Vec<(Device, Act)> {
     let mut all = Vec::new();
     for lent in inputs() {
@@ -31,13 +31,14 @@ pub fn calls(random: &mut Random) -> Vec<(Device, Act)> {
         all.extend(lent_and_loaded(lent));
     }
     texts().into_iter().chain(lists()).for_each(|lent| all.extend(lent_and_loaded(lent)));
-    short_passwords(random).into_iter().for_each(|lent| all.extend(lent_and_loaded(lent)));
+    short_passwords(random).into_iter().chain(two_wrong(random)).for_each(|lent| all.extend(lent_and_loaded(lent)));
     all
 }
 
-fn lent_and_loaded(lent: Lent2) -> [(Device, Act); 2] {
+fn lent_and_loaded(lent: Lent2) -> [(Device, Act); 3] {
     let bytes = of(&lent);
-    [(Device::BLANK, Act::SetUp2(Box::new(lent))), (Device::BLANK, Act::Load { bytes })]
+    let lent = Box::new(lent);
+    [Act::SetUp2(lent.clone()), Act::WhichSetting2(lent), Act::Load { bytes }].map(|act| (Device::BLANK, act))
 }
 
 fn named(inputs: &[u8]) -> Lent2 {
@@ -135,6 +136,38 @@ fn short_passwords(random: &mut Random) -> Vec<Lent2> {
         ];
         all.extend(wrong);
         all.push(lent);
+    }
+    all
+}
+
+/// Each setting out of its range, in two ways the names, alone and beside each other one: with no password, with one that
+/// is short and one that is not.
+fn two_wrong(random: &mut Random) -> Vec<Lent2> {
+    let breaks: [fn(&mut Lent2); 13] = [
+        |lent| lent.lent.name = b"\xFF".to_vec(),
+        |lent| lent.lent.maker = b"ERR1".to_vec(),
+        |lent| lent.lent.model = vec![b' '; 33],
+        |lent| lent.lent.other = b"\x1F".to_vec(),
+        |lent| lent.lent.password = b"seven-7".to_vec(),
+        |lent| lent.lent.inputs = b"116A5z".to_vec(),
+        |lent| lent.lent.lamps = vec![0; 9],
+        |lent| lent.lent.warm = 0,
+        |lent| lent.lent.cool = 601,
+        |lent| lent.serial = vec![b's'; 33],
+        |lent| lent.version = b"ERR4".to_vec(),
+        |lent| (lent.names, lent.name_lengths) = (Vec::new(), vec![0, 0]),
+        |lent| (lent.names, lent.name_lengths) = (b"n".to_vec(), vec![0, 0, 0]),
+    ];
+    let mut all = Vec::new();
+    for length in [0, 7, 8] {
+        let mut lent = common();
+        lent.lent.password = random.letters_or_digits(length);
+        for (first, second) in (0..breaks.len()).flat_map(|first| (0..=first).map(move |second| (first, second))) {
+            let mut lent = lent.clone();
+            breaks[first](&mut lent);
+            breaks[second](&mut lent);
+            all.push(lent);
+        }
     }
     all
 }

@@ -36,8 +36,10 @@ impl<B: Side> Run<'_, B> {
                 calls.push((device, forms::load(random, &device)));
                 calls.push((device, forms::load(random, &device)));
             }
-            calls.push((Device::BLANK, Act::SetUp2(Box::new(setups::any(random)))));
-            calls.push((Device::BLANK, Act::SetUp2(Box::new(setups::legal(random)))));
+            for lent in [setups::any(random), setups::legal(random)].map(Box::new) {
+                calls.push((Device::BLANK, Act::SetUp2(lent.clone())));
+                calls.push((Device::BLANK, Act::WhichSetting2(lent)));
+            }
             calls.push((Device::BLANK, replies::write(random)));
             calls.push(histories::stream(random));
             calls.push(histories::interleaved(random));
