@@ -4,7 +4,7 @@ ghost use Rattle.clock.specs.Second.{marksIn};
 ghost use Rattle.output.specs.Writing.{WritesText};
 ghost use Rattle.report.specs.Reports.{report_told, told_text, ended_text};
 
-use floor::gather::LINE_ROOM;
+use floorlog::gather::LINE_ROOM;
 use lamplines::{LAMPS, Totals};
 use page::Stretch;
 use record::types::Device;

@@ -37,7 +37,7 @@ fn of_file(rt: &HostRuntime, path: &str) -> io::Result<Result<Device, NotBegun>>
 
 fn by_argument(rt: &HostRuntime, place: usize) -> io::Result<Result<Device, NotBegun>> {
     match env::args(rt)?.nth(place) {
-        None => Ok(Ok(floor::sample())),
+        None => Ok(Ok(floorlog::sample())),
         Some(path) => of_file(rt, path.as_str()),
     }
 }

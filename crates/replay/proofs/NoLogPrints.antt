@@ -7,10 +7,10 @@ use Prim.Native.Nat.{ℕ}
 use Prim.Native.Char.{code}
 use Rattle.text.specs.Words.{ascii}
 use Rattle.record.specs.declared.types.Device.{Device}
-use Rattle.floor.specs.Playing.{replayed}
-use Rattle.floor.proofs.LastLine.{no-log-ends-in}
 use Rattle.textio.specs.declared.lines.Failure.{Failure}
 use Rattle.textio.specs.declared.lines.Failure.TheVariants.{Read, Write, TooLong}
+use Rattle.floorlog.specs.Playing.{replayed}
+use Rattle.floorlog.proofs.LastLineEnds.{no-log-ends-in}
 use Rattle.replay.specs.Ways.{failureLine}
 
 pub no-log-prints : (f : Failure) (d : Device) (log before : List ℕ) → replayed d log ≡ before ++ failureLine f → ⊥

@@ -17,7 +17,7 @@ use textio::writer::Writer;
 fn run(rt: &HostRuntime, device: Device) -> Result<Device, Failure> {
     let mut from = Reader::new(Stream(rt.stdin()));
     let mut to = Writer::new(Stream(rt.stdout()));
-    playback::replay(device, &mut from, &mut to)
+    floorlog::replay(device, &mut from, &mut to)
 }
 
 // That a write failed goes to standard error, since more output would hide what is missing.

@@ -21,10 +21,10 @@ use Rattle.clock.proofs.ChangedWhere.{where-at, where-length}
 use Rattle.ours.specs.Board.{ours}
 use Rattle.demands.specs.Demand3.{Beginning, startMarks, begunBy, Accepted, historyOf}
 use Rattle.demands.specs.History.{burning}
-use Rattle.marking.specs.Marking.{FloorEvent, doneBy, secondsBy}
+use Rattle.watch.specs.Marking.{FloorEvent, doneBy, secondsBy}
 use Rattle.watch.specs.Watching.{Watching, Watched, isBurningIn, gainedBy, watchedOn, darkened}
 use Rattle.watch.specs.WatchCalls.{watchingFrom}
-use Rattle.marking.proofs.LineDoes.{done-settings}
+use Rattle.watch.proofs.LineLeaves.{done-settings}
 use Rattle.stretches.specs.Stretches.{Stretch, stretchIf, lengthsOf}
 use Rattle.stretches.specs.LogTold.{calls_of, isMarkedIn, toldOf, burntOf}
 use Rattle.watch.proofs.TellingsSpelt.{burnt-none, burnt-more}

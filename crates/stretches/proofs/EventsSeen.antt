@@ -22,9 +22,9 @@ use Rattle.record.specs.declared.types.Device.{Device}
 use Rattle.record.proofs.Calls.{mark-set-by}
 use Rattle.clock.proofs.Cases.{passed-accepted}
 use Rattle.device.specs.Calls.{Result, replyRoom, received, openedBy}
-use Rattle.events.specs.Events.{opens, receives, passes, closes, noSuch}
-use Rattle.events.specs.Doing.{logPlace}
-use Rattle.events.proofs.LogOpenings.{log-opened-again, log-opened-closed}
+use Rattle.floorlog.specs.Events.{opens, receives, passes, closes, noSuch}
+use Rattle.floorlog.specs.Doing.{logPlace}
+use Rattle.floorlog.proofs.LogOpenings.{log-opened-again, log-opened-closed}
 use Rattle.ours.specs.Board.{ours, reply}
 use Rattle.demands.specs.Calls.{Call, after}
 use Rattle.demands.specs.Calls.{opens as opens_at, receives as receivesAt, passes as passesBy, closes as closes_at}
@@ -33,9 +33,9 @@ use Rattle.demands.specs.History.{Event, switched, aSecond, markSwitched, Stream
 use Rattle.demands.specs.History.{powerSet}
 use Rattle.demands.proofs.Agrees.{powerOf, Agrees}
 use Rattle.demands.proofs.PowerSetsSeen.{one-or-none}
-use Rattle.marking.specs.Marking.{FloorEvent, logged, marked, doneBy, secondsBy}
-use Rattle.marking.proofs.DoneSpelt.{done-opening, done-receiving, done-passing, done-closing, done-nothing}
-use Rattle.marking.proofs.DoneSpelt.{done-marking}
+use Rattle.watch.specs.Marking.{FloorEvent, logged, marked, doneBy, secondsBy}
+use Rattle.watch.proofs.DoneSpelt.{done-opening, done-receiving, done-passing, done-closing, done-nothing}
+use Rattle.watch.proofs.DoneSpelt.{done-marking}
 use Rattle.stretches.specs.LogTold.{roomLent, callsBy}
 
 pub data Makes (d : Device) (e : FloorEvent) : Type 0 where

@@ -27,10 +27,10 @@ use Rattle.demands.proofs.Agrees.{Agrees, lit-shown}
 use Rattle.demands.proofs.AgreesThen.{Then, agrees-none}
 use Rattle.demands.proofs.CallsNoted.{noted}
 use Rattle.demands.proofs.HistoryTold.{agrees-started, set-up-too, marks-many, begins-so}
-use Rattle.marking.specs.Marking.{FloorEvent, doneBy, secondsBy}
+use Rattle.watch.specs.Marking.{FloorEvent, doneBy, secondsBy}
 use Rattle.watch.specs.Watching.{Watching, isBurningIn, watchedOn}
 use Rattle.watch.specs.WatchCalls.{watchingFrom}
-use Rattle.marking.proofs.LineDoes.{done-legal}
+use Rattle.watch.proofs.LineLeaves.{done-legal}
 use Rattle.stretches.specs.Stretches.{Stretch, stretchIf, stretchesFrom, stretchesOf, isLitThen, secondsLitFrom}
 use Rattle.stretches.specs.Stretches.{secondsLit, StretchesTell}
 use Rattle.stretches.specs.LogTold.{callsBy, calls_of, isMarkedIn, toldOf}

@@ -4,7 +4,7 @@ use Prim.Native.Nat.{ℕ}
 use mathlib.Core.Path.{◌≡◌, refl, sym, ap, ◌∙◌}
 use mathlib.Core.Bool.{Bool, true, false, ◌&&◌}
 use mathlib.Core.List.{List, [], ◌∷◌, ◌++◌, append_assoc}
-use Rattle.marking.specs.Marking.{FloorEvent}
+use Rattle.watch.specs.Marking.{FloorEvent}
 use Rattle.watch.specs.Watching.{Watching, isBurningIn, isLong, darkWith, watchedOn}
 use Rattle.watch.specs.WholeWatch.{Telling, tellingIf, tellings}
 use Rattle.watch.proofs.TellingsSpelt.{tellings-none, tellings-more}

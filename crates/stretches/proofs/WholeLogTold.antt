@@ -12,17 +12,17 @@ use Rattle.record.specs.Wanted.{Wanted}
 use Rattle.record.specs.declared.types.Device.{Device}
 use Rattle.record.proofs.LegalTold.{settings-of-legal}
 use Rattle.stream.specs.Machine.{uncut}
-use Rattle.logs.specs.Lines.{lineMost}
+use Rattle.floorlog.specs.Lines.{lineMost}
 use Rattle.ours.specs.Board.{ours}
 use Rattle.demands.specs.Calls.{run}
 use Rattle.demands.specs.Demand3.{Beginning, startMarks, begunBy, Accepted}
 use Rattle.demands.proofs.Demand3.{ours-3}
 use Rattle.demands.proofs.HistorySpelt.{run_none, run_more}
 use Rattle.demands.proofs.HistoryTold.{agrees-started, set-up-too, marks-many, begins-so}
-use Rattle.marking.specs.Marking.{FloorEvent, doneBy}
+use Rattle.watch.specs.Marking.{FloorEvent, doneBy}
 use Rattle.watch.specs.WatchCalls.{watchingFrom}
 use Rattle.watch.specs.WholeWatch.{floorEvents, tellings, deviceAfter, wholeWatch, Timeable, WatchesBack}
-use Rattle.marking.proofs.LineDoes.{done-legal}
+use Rattle.watch.proofs.LineLeaves.{done-legal}
 use Rattle.watch.proofs.TellingsSpelt.{device-none, device-more}
 use Rattle.watch.proofs.WholeWatch.{whole-log-watched}
 use Rattle.stretches.specs.LogTold.{callsBy, calls_of, LogWatched}

@@ -14,16 +14,16 @@ use Rattle.record.specs.Places.{connectionAt, isShut}
 use Rattle.record.specs.Wanted.{Wanted}
 use Rattle.record.specs.declared.types.Device.{Device}
 use Rattle.device.specs.Calls.{replyRoom}
-use Rattle.logs.specs.Lines.{lineMost}
 use Rattle.stream.specs.Machine.{Out, uncut}
-use Rattle.events.specs.Events.{opens, receives, passes, closes, noSuch}
-use Rattle.events.specs.Doing.{logPlace}
+use Rattle.floorlog.specs.Lines.{lineMost}
+use Rattle.floorlog.specs.Events.{opens, receives, passes, closes, noSuch}
+use Rattle.floorlog.specs.Doing.{logPlace}
 use Rattle.ours.specs.Board.{ours}
 use Rattle.demands.specs.Calls.{Call, opens as opens_at, receives as receivesAt, passes as passesBy}
 use Rattle.demands.specs.Calls.{closes as closes_at, enables}
 use Rattle.demands.specs.Demand3.{Beginning, Accepted, startMarks, begunBy, historyOf}
 use Rattle.demands.specs.History.{Event, burning, lampWith}
-use Rattle.marking.specs.Marking.{FloorEvent, logged, marked, doneBy}
+use Rattle.watch.specs.Marking.{FloorEvent, logged, marked, doneBy}
 use Rattle.watch.specs.Watching.{Watching}
 use Rattle.watch.specs.WholeWatch.{floorEvents, Telling, tellings, toldLines, burntAfter, WatchStage}
 use Rattle.watch.specs.WholeWatch.{wholeWatch, Timeable}

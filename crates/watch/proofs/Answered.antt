@@ -8,7 +8,7 @@ use mathlib.Core.List.{List, [], ◌∷◌}
 use native.Mathlib.Nat.{sub-zero}
 use native.Mathlib.Omega.{arith}
 use lib.ListN.{length, take, length-take}
-use Rattle.floor.specs.Reading.{lfMissing}
+use Rattle.floorlog.specs.Gathering.{lfMissing}
 use Rattle.watch.specs.declared.watching.Watch.{Watch}
 use Rattle.watch.specs.declared.watching.Step.{Step}
 use Rattle.watch.specs.declared.watching.Seen.{Seen}

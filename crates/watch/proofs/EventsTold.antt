@@ -16,16 +16,16 @@ use Rattle.clock.specs.Second.{marksIn}
 use Rattle.stream.specs.Machine.{Out, unanswered, replyThen}
 use Rattle.stream.proofs.LinesSpelt.{run_none, run_more}
 use Rattle.textio.specs.Lines.{lines_from}
-use Rattle.floor.specs.Reading.{keptOf, nothingBegun, keptWith, lineAfter, isBegun}
-use Rattle.floor.proofs.KeptLine.{Holds, one_more, none_after, begun-some}
 use Rattle.textio.proofs.LinesSpelt.{lines_end, lines-byte}
 use Rattle.lamplines.specs.LampLines.{stretchLines}
-use Rattle.marking.specs.Marking.{FloorEvent, floorEvent}
-use Rattle.marking.proofs.KeptEvents.{event-kept}
+use Rattle.floorlog.specs.Gathering.{keptOf, nothingBegun, keptWith, lineAfter, isBegun}
+use Rattle.floorlog.proofs.KeptLine.{Holds, one_more, none_after, begun-some}
+use Rattle.watch.specs.Marking.{FloorEvent, floorEvent}
 use Rattle.watch.specs.Watching.{Watching, Watched, isBurningIn, watchKept, watchMore}
 use Rattle.watch.specs.Watching.{watchedOn, darkWith, lineDone, isDark, isLong, watchedIn, darkened, closedAtEnd}
 use Rattle.watch.specs.Watching.{watchEnded}
 use Rattle.watch.specs.WholeWatch.{Telling, tellingIf, tellings, toldLines, burntAfter, deviceAfter}
+use Rattle.watch.proofs.KeptEvents.{event-kept}
 use Rattle.watch.proofs.LogRuns.{lineTells, watchRun}
 
 -- ---- the end of the input

@@ -6,8 +6,8 @@ use mathlib.Core.Bool.{Bool, true, false, not, ◌&&◌, false≢true}
 use mathlib.Core.List.{List}
 use Rattle.std.specs.Prelude.{if◌then◌else◌}
 use Rattle.record.specs.declared.types.Device.{Device}
-use Rattle.floor.specs.Reading.{keptOf, nothingBegun, lineAfter}
-use Rattle.marking.specs.Marking.{FloorEvent, doneBy, secondsBy, keptFloorEvent}
+use Rattle.floorlog.specs.Gathering.{keptOf, nothingBegun, lineAfter}
+use Rattle.watch.specs.Marking.{FloorEvent, doneBy, secondsBy, keptFloorEvent}
 use Rattle.watch.specs.Watching.{Watching, isBurningIn, gainedBy, darkWith, watchedBy, darkened}
 use Rattle.watch.specs.Watching.{lineDone, isDark}
 

@@ -1,3 +1,7 @@
+mod MarksSaid
+pub mod DoneSpelt
+pub mod LineLeaves
+mod KeptEvents
 pub mod LinesDone
 pub mod Followed
 pub mod Turns

@@ -15,12 +15,12 @@ use Rattle.text.proofs.Scanning.{every-by-place}
 use Rattle.record.specs.declared.types.Device.{Device}
 use Rattle.clock.specs.Second.{changedWhere, marksIn}
 use Rattle.clock.proofs.ChangedWhere.{where-length, where-at}
-use Rattle.floor.specs.Reading.{lineAfter}
-use Rattle.floor.proofs.Gathering.{after-long}
-use Rattle.marking.specs.Marking.{FloorEvent, doneBy, secondsBy, keptFloorEvent}
-use Rattle.marking.proofs.LineDoes.{done-legal, line-seconds}
+use Rattle.floorlog.specs.Gathering.{lineAfter}
+use Rattle.floorlog.proofs.Gathering.{after-long}
+use Rattle.watch.specs.Marking.{FloorEvent, doneBy, secondsBy, keptFloorEvent}
 use Rattle.watch.specs.Watching.{Watching, isBurningIn, gainedBy, watchedOn, lineDone}
 use Rattle.watch.specs.WatchCalls.{soundTop, isSound, CanWatch, CanDarken}
+use Rattle.watch.proofs.LineLeaves.{done-legal, line-seconds}
 
 -- ---- a sound state
 

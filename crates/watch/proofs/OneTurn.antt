@@ -14,16 +14,15 @@ use Rattle.text.proofs.Choices.{both_left}
 use Rattle.record.specs.declared.types.Device.{Device}
 use Rattle.record.specs.declared.types.Line.{Line}
 use Rattle.stream.specs.Machine.{UpTo}
-use Rattle.floor.specs.declared.gather.Gathered.{Gathered}
-use Rattle.floor.specs.Reading.{keptOf, upToLf, lineAfter, nothingBegun}
-use Rattle.floor.specs.Told.{gatheredTo}
-use Rattle.marking.specs.Marking.{doneBy, secondsBy, keptFloorEvent}
-use Rattle.marking.proofs.LineDoes.{line-seconds}
+use Rattle.floorlog.specs.declared.gather.Gathered.{Gathered}
+use Rattle.floorlog.specs.Gathering.{keptOf, upToLf, lineAfter, nothingBegun, gatheredTo}
+use Rattle.watch.specs.Marking.{doneBy, secondsBy, keptFloorEvent}
 use Rattle.watch.specs.declared.watching.Seen.{Seen}
 use Rattle.watch.specs.declared.light.Light.{Light}
 use Rattle.watch.specs.Watching.{Watching, Watched, isBurningIn, isLong, isDark, watchKept, watchedIn}
 use Rattle.watch.specs.WatchCalls.{SeenAs, CanWatch, CanDarken}
 use Rattle.watch.specs.WatchCalls.{lightOf, darkAfter}
+use Rattle.watch.proofs.LineLeaves.{line-seconds}
 use Rattle.watch.proofs.LinesDone.{can-darken}
 use Rattle.watch.proofs.Followed.{event-kept, device-after, onward-kept, dark-is, line-dark, line-lit, dark-from}
 use Rattle.watch.proofs.Turns.{WatchedTo, first, held, can-end-one, stays, place_inside, stops, goes_on, all-watched}

@@ -19,8 +19,8 @@ use Rattle.text.proofs.Choices.{if_yes, if_no, both_left, both_right}
 use Rattle.record.specs.declared.types.Line.{Line}
 use Rattle.stream.specs.Machine.{UpTo}
 use Rattle.stream.proofs.UpToTheEnd.{notEnd, up-to-by, found}
-use Rattle.floor.specs.Reading.{keptWith, upToLf}
-use Rattle.floor.proofs.Gathering.{line-in-memory, after-long}
+use Rattle.floorlog.specs.Gathering.{keptWith, upToLf}
+use Rattle.floorlog.proofs.Gathering.{line-in-memory, after-long}
 use Rattle.watch.specs.Watching.{Watching, Watched, watchKept, lineDone, isDark, isLong, takenMore, watchedIn}
 use Rattle.watch.specs.WatchCalls.{isSound, CanWatch, held_of}
 use Rattle.watch.proofs.LinesDone.{line-goes}

@@ -13,8 +13,8 @@ use Rattle.text.specs.Words.{◌is◌}
 use Rattle.text.proofs.Choices.{if_yes, if_no, if-by}
 use Rattle.record.specs.Legal.{isLegal}
 use Rattle.clock.specs.Passing.{secondsMost}
-use Rattle.logs.specs.Lines.{lineMost}
-use Rattle.floor.proofs.Gathering.{kept-held, kept-long}
+use Rattle.floorlog.specs.Lines.{lineMost}
+use Rattle.floorlog.proofs.Gathering.{kept-held, kept-long}
 use Rattle.watch.specs.Watching.{Watching, Watched, watchMore, watchStep, isDark}
 use Rattle.watch.specs.Watching.{watchedIn}
 use Rattle.watch.specs.WatchCalls.{isSound, watchRefusal, refusalIn, CanWatch, WatchStep, watchGiving, held_of}

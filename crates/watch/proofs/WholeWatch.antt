@@ -21,11 +21,11 @@ use Rattle.record.specs.declared.types.Device.{Device}
 use Rattle.stream.specs.Machine.{Out, Took, handedParts, uncut}
 use Rattle.stream.proofs.WholeParts.{uncut-more}
 use Rattle.stream.proofs.SameHoweverCut.{outThrough, tookThrough, Taking, parts-run}
-use Rattle.logs.specs.Lines.{lineMost}
 use Rattle.textio.specs.Lines.{lines_of}
-use Rattle.floor.specs.Reading.{keptOf, nothingBegun}
-use Rattle.floor.proofs.KeptLine.{none-held}
 use Rattle.textio.proofs.LinesCounted.{lineEnds, ends-append, ends-few, ends-lines}
+use Rattle.floorlog.specs.Lines.{lineMost}
+use Rattle.floorlog.specs.Gathering.{keptOf, nothingBegun}
+use Rattle.floorlog.proofs.KeptLine.{none-held}
 use Rattle.watch.specs.Watching.{Watching, isBurningIn, watchMore, watchedIn, watchEnded}
 use Rattle.watch.specs.WatchCalls.{isSound, CanWatch, watched, watchedToEnd}
 use Rattle.watch.specs.WatchCalls.{watchingFrom}

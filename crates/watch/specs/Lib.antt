@@ -1,3 +1,4 @@
+pub mod Marking
 pub mod Watching
 pub mod WatchCalls
 pub mod WholeWatch

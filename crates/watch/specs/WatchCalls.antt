@@ -18,8 +18,8 @@ use Rattle.record.specs.Limits.{lampsMost}
 use Rattle.record.specs.Legal.{isLegal}
 use Rattle.record.specs.declared.types.Device.{Device}
 use Rattle.clock.specs.Passing.{secondsMost}
-use Rattle.logs.specs.Lines.{lineMost}
-use Rattle.floor.specs.Reading.{keptOf, nothingBegun}
+use Rattle.floorlog.specs.Lines.{lineMost}
+use Rattle.floorlog.specs.Gathering.{keptOf, nothingBegun}
 use Rattle.watch.specs.declared.watching.Watch.{Watch}
 use Rattle.watch.specs.declared.watching.Seen.{Seen}
 use Rattle.watch.specs.declared.watching.Step.{Step}

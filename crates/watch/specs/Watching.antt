@@ -22,8 +22,8 @@ use Rattle.record.specs.Limits.{isLit}
 use Rattle.record.specs.declared.types.Device.{Device}
 use Rattle.record.specs.declared.types.Line.{Line}
 use Rattle.clock.specs.Second.{changedWhere, marksIn}
-use Rattle.floor.specs.Reading.{keptOf, nothingBegun, keptWith, lineAfter, lfMissing}
-use Rattle.marking.specs.Marking.{FloorEvent, keptFloorEvent, doneBy, secondsBy}
+use Rattle.floorlog.specs.Gathering.{keptOf, nothingBegun, keptWith, lineAfter, lfMissing}
+use Rattle.watch.specs.Marking.{FloorEvent, keptFloorEvent, doneBy, secondsBy}
 
 pub record Watching : Type 0 where
   pub device : Device

@@ -27,10 +27,10 @@ use Rattle.record.specs.declared.types.Device.{Device}
 use Rattle.clock.specs.Second.{marksIn}
 use Rattle.clock.specs.Passing.{secondsMost}
 use Rattle.stream.specs.Machine.{Out, Took, unanswered, tookBytes, handedParts, uncut}
-use Rattle.logs.specs.Lines.{lineMost}
 use Rattle.textio.specs.Lines.{lines_of}
 use Rattle.lamplines.specs.LampLines.{stretchLines}
-use Rattle.marking.specs.Marking.{FloorEvent, floorEvent, doneBy}
+use Rattle.floorlog.specs.Lines.{lineMost}
+use Rattle.watch.specs.Marking.{FloorEvent, floorEvent, doneBy}
 use Rattle.watch.specs.Watching.{Watching, isBurningIn, isLong, darkWith, watchedOn, closedAtEnd}
 use Rattle.watch.specs.WatchCalls.{WatchStep, watched, watchedToEnd, watchingFrom}
 

@@ -1,8 +1,10 @@
-// A log of the floor watched for its lamps: which burnt when.
+//! A log of the floor watched for its lamps: which burnt when (RULES, Floor log). Its lines are those that `floorlog`
+//! plays, and `M`, which sets or clears a lamp's mark.
 #![tactic(auto)]
 
 mod dark;
 mod light;
+mod marking;
 mod refusing;
 pub mod watching;
 

@@ -4,7 +4,7 @@ ghost use Rattle.watch.specs.WatchCalls.{watchingIn, isSound, watchRefusal};
 
 use crate::light;
 use crate::watching::Watch;
-use logs::LINE_MOST;
+use floorlog::line::LINE_MOST;
 use record::own;
 
 const SECONDS_MOST: u64 = 4294967295;

@@ -5,9 +5,9 @@ ghost use Rattle.watch.specs.Watching.{watchedIn};
 ghost use Rattle.watch.specs.WatchCalls.{watchingIn, watchingFrom};
 ghost use Rattle.watch.specs.WatchCalls.{CanWatch, SeenAs, WatchedAs, watched, watchedToEnd};
 
-use crate::{dark, light, refusing};
-use floor::gather;
-use floor::gather::Begun;
+use crate::{dark, light, marking, refusing};
+use floorlog::gather;
+use floorlog::gather::Begun;
 use record::legality::Tested;
 use record::types::{Device, LAMPS_MOST};
 

@@ -1,3 +1,0 @@
-pub mod Events
-pub mod Doing
-pub mod Told

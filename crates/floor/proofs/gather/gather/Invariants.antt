@@ -1,7 +1,0 @@
--- The bytes passed are collected one after the other.
-use Rattle.floor.specs.Reading.{keptOf}
-use Rattle.floor.proofs.Gathering.{GoneTo}
-use Rattle.floor.proofs.gather.gather.Given as goal
-
-abbrev pub invariant-loop-b : goal.invariant-loop-b
-invariant-loop-b l = GoneTo (keptOf l.fn.k l.fn.line) l.b-items (keptOf l.begun l.line) l.b-index

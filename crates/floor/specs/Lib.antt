@@ -1,4 +1,0 @@
-pub mod Events
-pub mod Playing
-pub mod Reading
-pub mod Told

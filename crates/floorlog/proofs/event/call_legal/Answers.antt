@@ -1,0 +1,16 @@
+-- Closing has no reply.
+use Rattle.std.proofs.Common.{ap, sym, ◌∙◌, List, ℕ}
+use Rattle.text.specs.Words.{over}
+use Rattle.device.proofs.EnoughRoom.{closing-quiet}
+use Rattle.floorlog.specs.declared.line.Says.{Says}
+use Rattle.floorlog.specs.Events.{eventOf}
+use Rattle.floorlog.specs.Doing.{logPlace, did}
+use Rattle.floorlog.proofs.event.call_legal.Goals as goal
+
+pub returns-in-Closes-clause-reply : goal.returns-in-Closes-clause-reply
+unfolding did
+returns-in-Closes-clause-reply c =
+    let d = c.args.device.now in
+    let out = c.args.out.now in
+    ap (λ (r : List ℕ). over r out) (sym (closing-quiet d logPlace))
+    ∙ ap (λ (s : Says). over (did d (eventOf s c.args.bytes.now)).reply out) (sym c.in-Closes.is)

@@ -1,0 +1,9 @@
+pub mod Lines
+pub mod Ending
+pub mod LastLine
+pub mod Events
+pub mod Doing
+pub mod Told
+pub mod Playing
+pub mod Gathering
+pub mod Replaying

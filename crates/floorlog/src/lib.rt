@@ -1,0 +1,94 @@
+//! The floor log (RULES, Floor log): what a line of it says, what its event does to the record and what is printed for
+//! it; its lines gathered in lent memory; and a whole log played back, from any source of bytes to any sink.
+#![tactic(auto)]
+
+mod ending;
+pub mod event;
+pub mod gather;
+mod last;
+pub mod line;
+mod playing;
+#[cfg(test)]
+mod tests;
+
+ghost use Rattle.std.specs.Prelude.{◌≡◌, ◌≢◌, ◌<◌, [], OnOk, IfOk, IfErr, IfSome, Err, length};
+ghost use Rattle.textio.specs.Lines.{countMost, IsTooLong};
+ghost use Rattle.textio.specs.Fronts.{WritesFront};
+ghost use Rattle.textio.specs.Ahead.{left_in};
+ghost use Rattle.textio.specs.NextLine.{FailureComesOf, OnFailedRead};
+ghost use Rattle.floorlog.specs.Playing.{sampleDevice, replayed};
+ghost use Rattle.floorlog.specs.Replaying.{IsReplayed};
+
+use record::legality::Tested;
+use record::types::Device;
+use setup::wanted::{Class, Wanted};
+use textio::lines::Failure;
+use textio::reader::{ByteSource, Reader};
+use textio::writer::ByteSink;
+
+/// The sample set-up, every place closed.
+#[tactic(auto, unfolding(crate::specs::Playing::sampleDevice))]
+pub fn sample() -> Device
+    ensures { result ≡ sampleDevice }
+{
+    let lamps = [0u32; 1];
+    let class = Class::One;
+    let wanted = Wanted {
+        name: b"",
+        maker: b"",
+        model: b"",
+        other: b"",
+        password: b"",
+        inputs: b"11",
+        lamps: &lamps,
+        warm: 20,
+        cool: 60,
+        class,
+    };
+    match setup::set_up(&wanted) {
+        Ok(device) => device,
+        Err(_) => record::fresh::blank(),
+    }
+}
+
+/// The log that a reader has left, played from a device, which need not be legal; what its lines are answered, and the
+/// line of power and lamps, go to a sink. It gives the device after the log. What is printed is handed on before each
+/// read, which may wait.
+pub fn replay<R: ByteSource, W: ByteSink>(
+    begun: Device,
+    from: &mut Reader<R>,
+    to: &mut W,
+) -> Result<Device, Failure>
+    ensures whole { IfOk result (λ after. IfSome (left_in R.remaining from.old) (λ log.
+        IsReplayed begun log (W.contents to.old) (W.contents to.new) after)) }
+    ensures front { IfSome (left_in R.remaining from.old) (λ log.
+        WritesFront (W.contents to.old) (W.contents to.new) (replayed begun log)) }
+    ensures none_waits { OnOk result (W.waiting to.new ≡ []) }
+    ensures read { IfErr result (OnFailedRead (W.waiting to.new ≡ [])) }
+    ensures err { IfErr result
+        (FailureComesOf R.fails_with W.fails_with IsTooLong (left_in R.remaining from.old)) }
+    ensures short { IfSome (left_in R.remaining from.old) (λ log. length log < countMost
+        → result ≢ Err Failure.TooLong) }
+{
+    let mut line = [0; playing::KEPT_ROOM];
+    let mut tested = Tested::of(begun);
+    for played in 0..u64::MAX {
+        match playing::read_line(from, to, &mut line) {
+            Ok(Some(held)) => {
+                match playing::play(&mut tested, played + 1, &mut line, held, to) {
+                    Ok(()) => {}
+                    Err(e) => return Err(Failure::Write(e)),
+                }
+            }
+            Ok(None) => match playing::finish(&tested.device, to) {
+                Ok(()) => return Ok(tested.device),
+                Err(e) => return Err(Failure::Write(e)),
+            },
+            Err(failure) => return Err(failure),
+        }
+    }
+    match to.flush() {
+        Ok(()) => Err(Failure::TooLong),
+        Err(e) => Err(Failure::Write(e)),
+    }
+}

@@ -1,3 +1,0 @@
-pub mod Lines
-pub mod Ending
-pub mod LastLine

@@ -1,4 +1,0 @@
-pub mod MarksSaid
-pub mod DoneSpelt
-pub mod LineDoes
-pub mod KeptEvents

@@ -1,0 +1,23 @@
+-- A record stays legal, or not legal.
+use Rattle.std.proofs.Common.{ℕ, ap, sym, ◌∙◌}
+use Rattle.record.specs.Legal.{isLegal}
+use Rattle.record.specs.HostCalls.{markSet}
+use Rattle.watch.specs.Marking.{marked, doneBy}
+use Rattle.watch.proofs.LineLeaves.{done-legality}
+use Rattle.watch.proofs.marking.set_mark.Goals as goal
+
+pub invariant_of-t : goal.invariant_of-t
+unfolding doneBy
+invariant_of-t c =
+    let d = c.args.t.now.device in
+    let done = c.set_mark-told.ensures.device
+    ∙ ap (λ (k : ℕ). (markSet d k c.args.mark).device) c.place.ensures in
+    record {
+      tested = c.args.t.now.tested ∙ sym (ap isLegal done ∙ done-legality d (marked c.args.lamp c.args.mark));
+    }
+
+pub returns : goal.returns
+unfolding doneBy
+returns c =
+    c.set_mark-told.ensures.device
+    ∙ ap (λ (k : ℕ). (markSet c.args.t.now.device k c.args.mark).device) c.place.ensures
