@@ -29,6 +29,7 @@ pub fn seconds_at(s: &[u8], p: usize, n: usize) -> [u32; LAMPS_MOST]
 }
 
 // The lengths of n texts from the place p on.
+#[inline(never)]
 pub fn lengths_at(s: &[u8], p: usize, n: usize) -> [usize; INPUTS_MOST]
     requires n_le_listed_most { n ≤ listedMost }
     requires s_in_bounds { p + textsLong n (drop p s.now) ≤ length s.now }
@@ -45,6 +46,7 @@ pub fn lengths_at(s: &[u8], p: usize, n: usize) -> [usize; INPUTS_MOST]
 }
 
 // The bytes of n texts from the place p on, without their counts.
+#[inline(never)]
 pub fn bytes_at(s: &[u8], p: usize, n: usize) -> [u8; JOINED_MOST]
     requires n_le_listed_most { n ≤ listedMost }
     requires s_in_bounds { p + textsLong n (drop p s.now) ≤ length s.now }
