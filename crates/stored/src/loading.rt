@@ -1,4 +1,5 @@
-// Loading a stored form (RULES, Stored form and Lamps): the version, then the layout, then the contents.
+// Loading a stored form (RULES, Stored form and Lamps): the version, then the layout, then the contents. What makes a
+// record is not put into its caller (`inline(never)`): its copies would lie on the stack while set-up runs.
 ghost use Rattle.std.specs.Prelude.{◌≡◌, true, map, ◌+◌, ◌≤◌, length, drop, if◌then◌else◌};
 ghost use Rattle.std.specs.Result.{result_ok};
 ghost use Rattle.lines.specs.Bytes.{◌at◌};
