@@ -18,8 +18,8 @@ use record::types::{Changed, Device};
 use setup::error::SetUpError;
 use setup::wanted::{Class, Wanted};
 
-// What set-up gave: the blank record where it is refused. Not put into its callers, whose copies of the record would lie
-// on the stack while set-up runs; so `fill` of `projector`, and both of `forms`.
+// What set-up gave: the blank record where it is refused. Not put into its callers: its copies of the record would lie
+// on the stack while set-up runs. So `fill` of `projector`, and both of `forms`.
 #[inline(never)]
 fn told(made: Result<Device, SetUpError>) -> Changed
     ensures { result ≡ set_up_told made }

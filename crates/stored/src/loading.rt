@@ -1,10 +1,9 @@
 // Loading a stored form (RULES, Stored form and Lamps): the version, then the layout, then the contents. What makes a
 // record is not put into its caller (`inline(never)`): its copies would lie on the stack while set-up runs.
-ghost use Rattle.std.specs.Prelude.{◌≡◌, true, map, ◌+◌, ◌≤◌, length, drop, if◌then◌else◌};
+ghost use Rattle.std.specs.Prelude.{◌≡◌, true, map, ◌+◌, ◌≤◌, length, drop};
 ghost use Rattle.std.specs.Result.{result_ok};
 ghost use Rattle.lines.specs.Bytes.{◌at◌};
 ghost use Rattle.record.specs.Updates.{withOwn, withMarks};
-ghost use Rattle.record.specs.Record.{blank, accepted, refused};
 ghost use Rattle.record.specs.Legal.{isLegal};
 ghost use Rattle.setup.specs.Lent.{class_number, serial_of, version_of, names_of};
 ghost use Rattle.stored.specs.Loading.{isOtherVersion, Walked, isMarked};
@@ -103,8 +102,8 @@ fn set_up_at(s: &[u8], p: Places) -> Result<Device, SetUpError>
     }
 }
 
-// The marks that the bytes are, if they are marks of its lamps: the record's own test says which marks are legal. Whether
-// they are.
+// The marks that the bytes are, if they are marks of its lamps, and whether they are: the record's own test says which
+// marks are legal.
 fn enable(device: &mut Device, s: &[u8]) -> bool
     requires { isLegal device.old ≡ true }
     ensures value { result ≡ areMarks device.old.settings.lamp_count s.now }

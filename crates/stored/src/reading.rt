@@ -1,6 +1,6 @@
 // What stands at the places of a form that has been walked: seconds, marks, and the texts of Class 2 (RULES, Stored
-// form, Lamps and Class 2). What makes a long list is not put into its caller (`inline(never)`): a copy of it would lie on
-// the stack while set-up runs.
+// form, Lamps and Class 2). What makes a long list is not put into its caller (`inline(never)`): a copy of it would lie
+// on the stack while set-up runs.
 ghost use Rattle.std.specs.Prelude.{◌≡◌, map, ◌+◌, ◌*◌, ◌≤◌, length, drop};
 ghost use Rattle.record.specs.Limits.{listedMost, lampsMost};
 ghost use Rattle.lines.specs.Bytes.{◌at◌};
