@@ -1,11 +1,12 @@
 // The same calls by value, for a host that keeps its record by copying: the record is given, and the changed one comes
-// back. Each is its call in place on a copy.
+// back. Each is its call in place on a copy, but for set-up, which has no record to change.
 ghost use Rattle.std.specs.Prelude.{◌≡◌, length};
 ghost use Rattle.text.specs.Words.{over};
 ghost use Rattle.record.specs.Legal.{isLegal};
 ghost use Rattle.record.specs.Wanted.{wantedOf, wantedOf2, namesIn};
 ghost use Rattle.record.specs.SetUp.{setUp};
 ghost use Rattle.record.specs.HostCalls.{faultSet, errorsSet, markSet};
+ghost use Rattle.setup.specs.Told.{set_up_told};
 ghost use Rattle.clock.specs.Passing.{passed};
 ghost use Rattle.device.specs.Calls.{received, openedBy, placeTaken, closedBy};
 ghost use Rattle.board.specs.Results.{received_of, opened_of, changed_of};
@@ -14,25 +15,41 @@ use crate::projector;
 use crate::results::{Opened, Opening, Received, Receiving};
 use record::fresh;
 use record::types::{Changed, Device};
+use setup::error::SetUpError;
+use setup::wanted::{Class, Wanted};
+
+// What set-up gave: the blank record where it is refused. Not put into its callers: its copies of the record would lie
+// on the stack while set-up runs. So `fill` of `projector`, and both of `forms`.
+#[inline(never)]
+fn told(made: Result<Device, SetUpError>) -> Changed
+    ensures { result ≡ set_up_told made }
+{
+    match made {
+        Ok(device) => Changed { number: 0, device },
+        Err(error) => Changed {
+            number: error.number(),
+            device: fresh::blank(),
+        },
+    }
+}
 
 #[unsafe(no_mangle)]
-pub extern "C" fn pj_set_up(
-    name: &[u8],
-    maker: &[u8],
-    model: &[u8],
-    other: &[u8],
-    password: &[u8],
-    inputs: &[u8],
-    lamps: &[u32],
+pub extern "C" fn pj_set_up<'a>(
+    name: &'a [u8],
+    maker: &'a [u8],
+    model: &'a [u8],
+    other: &'a [u8],
+    password: &'a [u8],
+    inputs: &'a [u8],
+    lamps: &'a [u32],
     warm: u32,
     cool: u32,
 ) -> Changed
     ensures { result ≡ setUp (wantedOf name.now maker.now model.now other.now
         password.now inputs.now lamps.now warm cool) }
 {
-    let mut device = fresh::blank();
-    let number = projector::pj_set_up_in_place(
-        &mut device,
+    let class = Class::One;
+    told(setup::set_up(&Wanted {
         name,
         maker,
         model,
@@ -42,33 +59,37 @@ pub extern "C" fn pj_set_up(
         lamps,
         warm,
         cool,
-    );
-    Changed { number, device }
+        class,
+    }))
 }
 
 #[unsafe(no_mangle)]
-pub extern "C" fn pj_set_up_2(
-    name: &[u8],
-    maker: &[u8],
-    model: &[u8],
-    other: &[u8],
-    password: &[u8],
-    inputs: &[u8],
-    lamps: &[u32],
+pub extern "C" fn pj_set_up_2<'a>(
+    name: &'a [u8],
+    maker: &'a [u8],
+    model: &'a [u8],
+    other: &'a [u8],
+    password: &'a [u8],
+    inputs: &'a [u8],
+    lamps: &'a [u32],
     warm: u32,
     cool: u32,
-    serial: &[u8],
-    version: &[u8],
-    names: &[u8],
-    lengths: &[usize],
+    serial: &'a [u8],
+    version: &'a [u8],
+    names: &'a [u8],
+    lengths: &'a [usize],
 ) -> Changed
     ensures { result ≡ setUp (wantedOf2 name.now maker.now model.now other.now
         password.now inputs.now lamps.now warm cool serial.now
         version.now (namesIn lengths.now names.now)) }
 {
-    let mut device = fresh::blank();
-    let number = projector::pj_set_up_2_in_place(
-        &mut device,
+    let class = Class::Two {
+        serial,
+        version,
+        names,
+        lengths,
+    };
+    told(setup::set_up(&Wanted {
         name,
         maker,
         model,
@@ -78,12 +99,8 @@ pub extern "C" fn pj_set_up_2(
         lamps,
         warm,
         cool,
-        serial,
-        version,
-        names,
-        lengths,
-    );
-    Changed { number, device }
+        class,
+    }))
 }
 
 #[unsafe(no_mangle)]

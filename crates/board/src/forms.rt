@@ -3,11 +3,13 @@ ghost use Rattle.std.specs.Prelude.{◌≡◌, length};
 ghost use Rattle.text.specs.Words.{over};
 ghost use Rattle.form.specs.Form.{storedBy, toldStored};
 ghost use Rattle.stored.specs.Loading.{loaded};
+ghost use Rattle.stored.specs.Told.{loading_told};
 
 use form::storing;
 use form::storing::FormWritten;
 use record::fresh;
 use record::types::{Changed, Device};
+use stored::error::LoadError;
 use stored::loading;
 
 /// The record's form into the lent memory: 1 and 2 in that order.
@@ -28,13 +30,13 @@ pub extern "C" fn pj_store(d: Device, out: &mut [u8]) -> FormWritten
     storing::store(&d, out)
 }
 
-/// The device that the form is of, into the record; the blank one where it is refused, with 20 to 23.
-#[unsafe(no_mangle)]
-pub extern "C" fn pj_load_in_place(device: &mut Device, bytes: &[u8]) -> u32
-    ensures number { result ≡ (loaded bytes.now).number }
-    ensures device { device.new ≡ (loaded bytes.now).device }
+// What loading gave, into the host's record: the blank one where it is refused.
+#[inline(never)]
+fn fill(device: &mut Device, made: Result<Device, LoadError>) -> u32
+    ensures number { result ≡ (loading_told made).number }
+    ensures device { device.new ≡ (loading_told made).device }
 {
-    match loading::load(bytes) {
+    match made {
         Ok(made) => {
             *device = made;
             0
@@ -46,12 +48,33 @@ pub extern "C" fn pj_load_in_place(device: &mut Device, bytes: &[u8]) -> u32
     }
 }
 
+// The same by value.
+#[inline(never)]
+fn told(made: Result<Device, LoadError>) -> Changed
+    ensures { result ≡ loading_told made }
+{
+    match made {
+        Ok(device) => Changed { number: 0, device },
+        Err(error) => Changed {
+            number: error.number(),
+            device: fresh::blank(),
+        },
+    }
+}
+
+/// The device that the form is of, into the record; the blank one where it is refused, with 20 to 23.
+#[unsafe(no_mangle)]
+pub extern "C" fn pj_load_in_place(device: &mut Device, bytes: &[u8]) -> u32
+    ensures number { result ≡ (loaded bytes.now).number }
+    ensures device { device.new ≡ (loaded bytes.now).device }
+{
+    fill(device, loading::load(bytes))
+}
+
 /// The same, by value.
 #[unsafe(no_mangle)]
 pub extern "C" fn pj_load(bytes: &[u8]) -> Changed
     ensures { result ≡ loaded bytes.now }
 {
-    let mut device = fresh::blank();
-    let number = pj_load_in_place(&mut device, bytes);
-    Changed { number, device }
+    told(loading::load(bytes))
 }

@@ -1,8 +1,9 @@
-// Loading a stored form (RULES, Stored form and Lamps): the version, then the layout, then the contents.
-ghost use Rattle.std.specs.Prelude.{◌≡◌, true, map, ◌+◌, ◌≤◌, length, drop, if◌then◌else◌};
+// Loading a stored form (RULES, Stored form and Lamps): the version, then the layout, then the contents. What makes a
+// record is not put into its caller (`inline(never)`): its copies would lie on the stack while set-up runs.
+ghost use Rattle.std.specs.Prelude.{◌≡◌, true, map, ◌+◌, ◌≤◌, length, drop};
+ghost use Rattle.std.specs.Result.{result_ok};
 ghost use Rattle.lines.specs.Bytes.{◌at◌};
 ghost use Rattle.record.specs.Updates.{withOwn, withMarks};
-ghost use Rattle.record.specs.Record.{blank, accepted, refused};
 ghost use Rattle.record.specs.Legal.{isLegal};
 ghost use Rattle.setup.specs.Lent.{class_number, serial_of, version_of, names_of};
 ghost use Rattle.stored.specs.Loading.{isOtherVersion, Walked, isMarked};
@@ -17,7 +18,8 @@ use crate::{layout, reading};
 use form::storing::VERSION;
 use numbers::highest;
 use record::scan;
-use record::types::{Device, INPUTS_MOST, LAMPS_MOST};
+use record::types::{Device, INPUTS_MOST, LAMPS_MOST, Setting};
+use setup::error::SetUpError;
 use setup::wanted::{Class, Wanted};
 
 fn is_other_version(s: &[u8]) -> bool
@@ -29,16 +31,17 @@ fn is_other_version(s: &[u8]) -> bool
     (s[0] != VERSION) & (s[0] != MARKED_VERSION) & !layout::is_old(s)
 }
 
-// Set up with what stands at the places, of a class: none where it is refused. Lamps that are too many are not copied.
-fn set_up_with(s: &[u8], p: Places, class: Class<'_>) -> Option<Device>
+// Set up with what stands at the places, of a class. Lamps that are too many are not copied.
+#[inline(never)]
+fn set_up_with(s: &[u8], p: Places, class: Class<'_>) -> Result<Device, SetUpError>
     requires walked { Walked s.now p }
     requires class_in_bounds { p.class ≤ length s.now }
-    ensures { result ≡ device_of (settingsWith s.now p (class_number class.entry) (serial_of class.entry)
+    ensures { result_ok result ≡ device_of (settingsWith s.now p (class_number class.entry) (serial_of class.entry)
         (version_of class.entry) (names_of class.entry)) }
 {
     let n = layout::count_at(s, p.lamps);
     if LAMPS_MOST < n {
-        return None;
+        return Err(SetUpError::OutOfRange(Setting::Lamps));
     }
     let seconds = reading::seconds_at(s, p.lamps + 1, n);
     setup::set_up(&Wanted {
@@ -53,16 +56,16 @@ fn set_up_with(s: &[u8], p: Places, class: Class<'_>) -> Option<Device>
         cool: highest::two_at(s, p.warm + 2),
         class,
     })
-    .ok()
 }
 
 // Set up of Class 2: the texts stand after the class, the names last. Names that are too many are not copied.
-fn set_up_2_at(s: &[u8], p: Places) -> Option<Device>
+#[inline(never)]
+fn set_up_2_at(s: &[u8], p: Places) -> Result<Device, SetUpError>
     requires walked { Walked s.now p }
     requires s_in_bounds { p.class + 1 + textsLong (2 + (s.now at p.inputs)) (drop (p.class + 1) s.now)
         ≤ length s.now }
     requires class_bound { p.class ≤ 65535 }
-    ensures { result ≡ device_of (settingsBy s.now p 2 (textsIn (2 + (s.now at p.inputs))
+    ensures { result_ok result ≡ device_of (settingsBy s.now p 2 (textsIn (2 + (s.now at p.inputs))
         (drop (p.class + 1) s.now))) }
 {
     let serial = p.class + 1;
@@ -70,7 +73,7 @@ fn set_up_2_at(s: &[u8], p: Places) -> Option<Device>
     let names = version + 1 + layout::count_at(s, version);
     let n = layout::count_at(s, p.inputs);
     if INPUTS_MOST < n {
-        return None;
+        return Err(SetUpError::OutOfRange(Setting::Inputs));
     }
     let lengths = reading::lengths_at(s, names, n);
     let bytes = reading::bytes_at(s, names, n);
@@ -84,44 +87,42 @@ fn set_up_2_at(s: &[u8], p: Places) -> Option<Device>
     set_up_with(s, p, class)
 }
 
-// Set up with what stands at the places: none where it is refused, or where there is no such class.
-fn set_up_at(s: &[u8], p: Places) -> Option<Device>
+// Set up with what stands at the places. Of a class that there is not no inputs are in their range.
+#[inline(never)]
+fn set_up_at(s: &[u8], p: Places) -> Result<Device, SetUpError>
     requires walked { Walked s.now p }
     requires p_in_bounds { end_at s.now p ≤ length s.now }
     requires class_bound { p.class ≤ 65535 }
-    ensures { result ≡ device_of (settingsAt s.now p) }
+    ensures { result_ok result ≡ device_of (settingsAt s.now p) }
 {
     match layout::class_in(s, p.class) {
         1 => set_up_with(s, p, Class::One),
         2 => set_up_2_at(s, p),
-        _ => None,
+        _ => Err(SetUpError::OutOfRange(Setting::Inputs)),
     }
 }
 
-// The device with the marks that the bytes are, if they are marks of its lamps: the record's own test says which marks
-// are legal.
-fn enabled(d: Device, s: &[u8]) -> Result<Device, LoadError>
-    requires { isLegal d ≡ true }
-    ensures { loading_told result ≡ (if areMarks d.settings.lamp_count s.now
-        then accepted (withOwn d (withMarks d.own (markRoom (map isMarked s.now))))
-        else refused 23 blank) }
+// The marks that the bytes are, if they are marks of its lamps, and whether they are: the record's own test says which
+// marks are legal.
+fn enable(device: &mut Device, s: &[u8]) -> bool
+    requires { isLegal device.old ≡ true }
+    ensures value { result ≡ areMarks device.old.settings.lamp_count s.now }
+    ensures device { result ≡ true
+        → device.new ≡ withOwn device.old (withMarks device.old.own (markRoom (map isMarked s.now))) }
 {
-    if s.len() != d.settings.lamp_count {
-        return Err(LoadError::NotLegal);
+    if s.len() != device.settings.lamp_count {
+        return false;
     }
     if !scan::bytes_within(s, 1) {
-        return Err(LoadError::NotLegal);
+        return false;
     }
-    let mut device = d;
     device.own.enabled = reading::marks_of(s);
-    if !device.own.is_legal(&device.settings) {
-        return Err(LoadError::NotLegal);
-    }
-    Ok(device)
+    device.own.is_legal(&device.settings)
 }
 
 /// The device that a stored form is of, freshly set up: its lamps' seconds and marks are those of the form. The version
 /// is tested first, then what is cut short, then what is left over, then the contents (RULES, Stored form).
+#[inline(never)]
 pub fn load(s: &[u8]) -> Result<Device, LoadError>
     ensures { loading_told result ≡ loaded s.now }
 {
@@ -136,11 +137,14 @@ pub fn load(s: &[u8]) -> Result<Device, LoadError>
     if end < s.len() {
         return Err(LoadError::LeftOver);
     }
-    let Some(made) = set_up_at(s, p) else {
+    let Ok(mut made) = set_up_at(s, p) else {
         return Err(LoadError::NotLegal);
     };
     if layout::is_old(s) {
         return Ok(made);
     }
-    enabled(made, &s[p.marks + 1..p.warm])
+    if !enable(&mut made, &s[p.marks + 1..p.warm]) {
+        return Err(LoadError::NotLegal);
+    }
+    Ok(made)
 }

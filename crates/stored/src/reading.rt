@@ -1,5 +1,6 @@
 // What stands at the places of a form that has been walked: seconds, marks, and the texts of Class 2 (RULES, Stored
-// form, Lamps and Class 2).
+// form, Lamps and Class 2). What makes a long list is not put into its caller (`inline(never)`): a copy of it would lie
+// on the stack while set-up runs.
 ghost use Rattle.std.specs.Prelude.{◌≡◌, map, ◌+◌, ◌*◌, ◌≤◌, length, drop};
 ghost use Rattle.record.specs.Limits.{listedMost, lampsMost};
 ghost use Rattle.lines.specs.Bytes.{◌at◌};
@@ -29,6 +30,7 @@ pub fn seconds_at(s: &[u8], p: usize, n: usize) -> [u32; LAMPS_MOST]
 }
 
 // The lengths of n texts from the place p on.
+#[inline(never)]
 pub fn lengths_at(s: &[u8], p: usize, n: usize) -> [usize; INPUTS_MOST]
     requires n_le_listed_most { n ≤ listedMost }
     requires s_in_bounds { p + textsLong n (drop p s.now) ≤ length s.now }
@@ -45,6 +47,7 @@ pub fn lengths_at(s: &[u8], p: usize, n: usize) -> [usize; INPUTS_MOST]
 }
 
 // The bytes of n texts from the place p on, without their counts.
+#[inline(never)]
 pub fn bytes_at(s: &[u8], p: usize, n: usize) -> [u8; JOINED_MOST]
     requires n_le_listed_most { n ≤ listedMost }
     requires s_in_bounds { p + textsLong n (drop p s.now) ≤ length s.now }

@@ -1,5 +1,8 @@
 -- Each `return` is one case of `loaded`.
+use Rattle.std.specs.Result.{result_ok}
 use Rattle.std.proofs.Common.{◌∙◌, ◌+◌, sym, ap, arith}
+use Rattle.text.proofs.Choices.{if_yes, if_no}
+use Rattle.record.specs.Record.{accepted}
 use Rattle.stored.specs.Loading.{between, settingsAt, device_of}
 use Rattle.stored.specs.declared.layout.Places.{Places}
 use Rattle.stored.proofs.Walked.{some-marks-long, walked_by, end-found}
@@ -34,7 +37,7 @@ returns-in_default c =
     let ours = sym c.is_other_version.ensures ∙ c.if-is_other_version.false in
     let end = end-found s c.walk-p.ensures.value c.count_at.ensures.value c.rest_long.ensures.value in
     let gave =
-    sym c.in_default.is
+    ap result_ok (sym c.in_default.is)
     ∙ c.set_up_at.ensures
     ∙ ap (λ (p : Places). device_of (settingsAt s p)) c.walk-p.ensures.value in
     loaded-refused s ours (omega arith) (omega arith) gave
@@ -45,7 +48,7 @@ returns-then-is_old c =
     let ours = sym c.is_other_version.ensures ∙ c.if-is_other_version.false in
     let end = end-found s c.walk-p.ensures.value c.count_at.ensures.value c.rest_long.ensures.value in
     let gave =
-    sym c.in-Some.is
+    ap result_ok (sym c.in-Ok.is)
     ∙ c.set_up_at.ensures
     ∙ ap (λ (p : Places). device_of (settingsAt s p)) c.walk-p.ensures.value in
     loaded-old s ours (omega arith) (omega arith) gave (sym c.is_old.ensures ∙ c.if-is_old.true)
@@ -58,40 +61,54 @@ overflow_add-p c =
       some-marks-long c.args.s.now c.walk-p.result.marks (sym c.is_old.ensures ∙ c.if-is_old.false),
     )
 
-pub slice_bounds-enabled-count : goal.slice_bounds-enabled-count
-slice_bounds-enabled-count c =
+pub slice_bounds-enable-count : goal.slice_bounds-enable-count
+slice_bounds-enable-count c =
     omega (
       arith,
       walked_by c.args.s.now c.walk-p.ensures.value,
       some-marks-long c.args.s.now c.walk-p.result.marks (sym c.is_old.ensures ∙ c.if-is_old.false),
     )
 
-pub slice_bounds-enabled-start : goal.slice_bounds-enabled-start
-slice_bounds-enabled-start c =
+pub slice_bounds-enable-start : goal.slice_bounds-enable-start
+slice_bounds-enable-start c =
     omega (
       arith,
       walked_by c.args.s.now c.walk-p.ensures.value,
       some-marks-long c.args.s.now c.walk-p.result.marks (sym c.is_old.ensures ∙ c.if-is_old.false),
     )
 
-pub slice_bounds-enabled-end : goal.slice_bounds-enabled-end
-slice_bounds-enabled-end c =
+pub slice_bounds-enable-end : goal.slice_bounds-enable-end
+slice_bounds-enable-end c =
     omega (
       arith,
       walked_by c.args.s.now c.walk-p.ensures.value,
       some-marks-long c.args.s.now c.walk-p.result.marks (sym c.is_old.ensures ∙ c.if-is_old.false),
     )
 
-pub enabled-requires : goal.enabled-requires
-enabled-requires c =
+pub enable-requires : goal.enable-requires
+enable-requires c =
     let s = c.args.s.now in
     let ours = sym c.is_other_version.ensures ∙ c.if-is_other_version.false in
     let end = end-found s c.walk-p.ensures.value c.count_at.ensures.value c.rest_long.ensures.value in
     let gave =
-    sym c.in-Some.is
+    ap result_ok (sym c.in-Ok.is)
     ∙ c.set_up_at.ensures
     ∙ ap (λ (p : Places). device_of (settingsAt s p)) c.walk-p.ensures.value in
     set-up-is-legal s ours (omega arith) (omega arith) gave
+
+pub returns-then-not-enable : goal.returns-then-not-enable
+returns-then-not-enable c =
+    let s = c.args.s.now in
+    let ours = sym c.is_other_version.ensures ∙ c.if-is_other_version.false in
+    let end = end-found s c.walk-p.ensures.value c.count_at.ensures.value c.rest_long.ensures.value in
+    let gave =
+    ap result_ok (sym c.in-Ok.is)
+    ∙ c.set_up_at.ensures
+    ∙ ap (λ (p : Places). device_of (settingsAt s p)) c.walk-p.ensures.value in
+    sym (if_no _ _ (sym c.enable.ensures.value ∙ c.if-not-enable.true))
+    ∙ ap (λ (p : Places). markedBy c.in-Ok.made (between (p.marks + 1) p.warm s))
+    c.walk-p.ensures.value
+    ∙ loaded-new s ours (omega arith) (omega arith) gave (sym c.is_old.ensures ∙ c.if-is_old.false)
 
 pub returns : goal.returns
 returns c =
@@ -99,10 +116,11 @@ returns c =
     let ours = sym c.is_other_version.ensures ∙ c.if-is_other_version.false in
     let end = end-found s c.walk-p.ensures.value c.count_at.ensures.value c.rest_long.ensures.value in
     let gave =
-    sym c.in-Some.is
+    ap result_ok (sym c.in-Ok.is)
     ∙ c.set_up_at.ensures
     ∙ ap (λ (p : Places). device_of (settingsAt s p)) c.walk-p.ensures.value in
-    c.enabled.ensures
-    ∙ ap (λ (p : Places). markedBy c.in-Some.made (between (p.marks + 1) p.warm s))
+    ap accepted (c.enable.ensures.device c.if-not-enable.false)
+    ∙ sym (if_yes _ _ (sym c.enable.ensures.value ∙ c.if-not-enable.false))
+    ∙ ap (λ (p : Places). markedBy c.in-Ok.made (between (p.marks + 1) p.warm s))
     c.walk-p.ensures.value
     ∙ loaded-new s ours (omega arith) (omega arith) gave (sym c.is_old.ensures ∙ c.if-is_old.false)
