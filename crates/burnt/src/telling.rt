@@ -41,7 +41,12 @@ fn tell_ended<W: ByteSink>(report: &mut Report, w: &Watch, to: &mut W) -> io::Re
 }
 
 // The end of the log, which began with these seconds of its lamps.
-fn tell_end<W: ByteSink>(report: Report, w: &Watch, starts: [u32; LAMPS], to: &mut W) -> io::Result<()>
+fn tell_end<W: ByteSink>(
+    report: Report,
+    w: &Watch,
+    starts: [u32; LAMPS],
+    to: &mut W,
+) -> io::Result<()>
     ensures { WritesText W.fails_with (W.contents to.old) (W.contents to.new) result (ended_text report w.now.time
         (min w.now.tested.device.settings.lamp_count 8) starts w.now.burnt w.now.tested.device.own.lamps) }
 {

@@ -6,9 +6,9 @@ ghost use Rattle.std.specs.Prelude.{◌+◌, ◌<◌, ◌≤◌, [], length, if�
 ghost use Rattle.textio.specs.Fronts.{WritesText};
 ghost use Rattle.lamplines.specs.LampLines.{stretchLine, stretchLines, total_line_at, total_lines};
 
+use std::io;
 use textio::forms::fill;
 use textio::writer::ByteSink;
-use std::io;
 
 /// So many lamps a projector has at most.
 pub const LAMPS: usize = 8;
@@ -23,7 +23,13 @@ pub struct Totals {
 }
 
 // The line of a stretch, if the mark of the lamp is set.
-fn put_stretch<W: ByteSink>(out: &mut W, k: usize, is_lit: bool, from: u64, to: u64) -> io::Result<()>
+fn put_stretch<W: ByteSink>(
+    out: &mut W,
+    k: usize,
+    is_lit: bool,
+    from: u64,
+    to: u64,
+) -> io::Result<()>
     requires { k < 8 }
     ensures { WritesText W.fails_with (W.contents out.old) (W.contents out.new) result
         (if is_lit then stretchLine (k + 1) from to else []) }

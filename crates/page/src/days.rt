@@ -6,9 +6,9 @@ ghost use Rattle.page.specs.Days.{band_top, band, bands, row_ended, day_row, row
 ghost use Rattle.page.specs.Days.{hundredths, bar_if, bars, bars_in};
 
 use crate::{DAY, Stretch};
+use std::io;
 use textio::forms::fill;
 use textio::writer::{ByteSink, put};
-use std::io;
 
 // A lamp's band with the gap below it.
 const BAND: u64 = 18;

@@ -4,9 +4,9 @@ ghost use Rattle.textio.specs.Fronts.{WritesText};
 ghost use Rattle.page.specs.Frame.{head, hours, total_at, totals, table};
 
 use lamplines::Totals;
+use std::io;
 use textio::forms::fill;
 use textio::writer::{ByteSink, put};
-use std::io;
 
 pub fn put_head<W: ByteSink>(out: &mut W) -> io::Result<()>
     ensures { WritesText W.fails_with (W.contents out.old) (W.contents out.new) result head }

@@ -13,8 +13,8 @@ mod days;
 mod frame;
 
 use lamplines::Totals;
-use textio::writer::{ByteSink, put};
 use std::io;
+use textio::writer::{ByteSink, put};
 
 const DAY: u64 = 86400;
 
