@@ -4,16 +4,18 @@
 #![tactic(auto)]
 
 mod telling;
+#[cfg(test)]
+mod tests;
 
 use formfile::NotBegun;
 use record::types::Device;
 use report::cut;
 use report::cut::Cut;
-use std::io::{BufReader, BufWriter, Write};
 use std::{env, io};
-
-// So many bytes are read at once, and so many wait at most to be written.
-const ROOM: usize = 65536;
+use textio::reader::Reader;
+use textio::streams::Stream;
+use textio::writer;
+use textio::writer::Writer;
 
 // Whether the first argument asks for the page.
 fn is_page(rt: &HostRuntime) -> bool {
@@ -26,25 +28,22 @@ fn is_page(rt: &HostRuntime) -> bool {
     }
 }
 
-fn show(rt: &HostRuntime, device: Device, drawn: bool) -> io::Result<Result<(), Cut>> {
-    let mut from = BufReader::with_capacity(rt.alloc(), ROOM, rt.stdin())?;
-    let mut to = BufWriter::with_capacity(rt.alloc(), ROOM, rt.stdout())?;
+fn show(rt: &HostRuntime, device: Device, drawn: bool) -> Result<(), Cut> {
+    let mut from = Reader::new(Stream(rt.stdin()));
+    let mut to = Writer::new(Stream(rt.stdout()));
     let told = telling::tell_log(device, drawn, &mut from, &mut to);
-    let told = cut::end_output(told, &mut to);
-    // what a failed write left is not written later
-    to.into_parts();
-    Ok(told)
+    cut::end_output(told, &mut to)
 }
 
 fn main(rt: HostRuntime) -> io::Result<()> {
     let drawn = is_page(&rt);
     let told = match formfile::begun_by(&rt, if drawn { 2 } else { 1 }) {
-        Ok(device) => show(&rt, device, drawn)?,
-        Err(NotBegun::Unread) => cut::end_output(Err(Cut::ReadFailed), &mut rt.stdout()),
-        Err(NotBegun::Refused(number)) => cut::tell_number(&mut rt.stdout(), number),
+        Ok(device) => show(&rt, device, drawn),
+        Err(NotBegun::Unread) => cut::end_output(Err(Cut::ReadFailed), &mut Stream(rt.stdout())),
+        Err(NotBegun::Refused(number)) => cut::tell_number(&mut Stream(rt.stdout()), number),
     };
     if let Err(cut) = told {
-        rt.stderr().write_all(cut.last_line())?;
+        writer::put(&mut Stream(rt.stderr()), cut.last_line())?;
     }
     Ok(())
 }

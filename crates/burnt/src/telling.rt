@@ -1,7 +1,7 @@
 // A log read to its end and told as it is watched, and its last line where it is cut short.
 ghost use Rattle.std.specs.Prelude.{◌≡◌, ◌≤◌, min, take, length, OnOk};
 ghost use Rattle.clock.specs.Second.{marksIn};
-ghost use Rattle.output.specs.Writing.{WritesText};
+ghost use Rattle.textio.specs.Fronts.{WritesText};
 ghost use Rattle.report.specs.Reports.{report_told, told_text, ended_text};
 
 use floorlog::gather::LINE_ROOM;
@@ -11,7 +11,9 @@ use record::types::Device;
 use report::Report;
 use report::cut::{Cut, read, written};
 use std::io;
-use std::io::{BufRead, BufReader, Read, Write};
+use textio::lines;
+use textio::reader::{ByteSource, Reader};
+use textio::writer::ByteSink;
 use watch::watching;
 use watch::watching::Watch;
 
@@ -24,9 +26,9 @@ fn first(marks: &[bool; LAMPS], count: usize) -> &[bool]
 }
 
 // The stretches that ended with the last call.
-fn tell_ended<W: Write>(report: &mut Report, w: &Watch, to: &mut W) -> io::Result<()>
+fn tell_ended<W: ByteSink>(report: &mut Report, w: &Watch, to: &mut W) -> io::Result<()>
     ensures report { OnOk result (report.new ≡ report_told report.old w.now.from w.now.time) }
-    ensures text { WritesText (W.contents to.old) (W.contents to.new) result (told_text report.old
+    ensures text { WritesText W.fails_with (W.contents to.old) (W.contents to.new) result (told_text report.old
         (marksIn w.now.tested.device.settings w.now.tested.device.own) w.now.from w.now.time) }
 {
     let device = &w.tested.device;
@@ -39,8 +41,13 @@ fn tell_ended<W: Write>(report: &mut Report, w: &Watch, to: &mut W) -> io::Resul
 }
 
 // The end of the log, which began with these seconds of its lamps.
-fn tell_end<W: Write>(report: Report, w: &Watch, starts: [u32; LAMPS], to: &mut W) -> io::Result<()>
-    ensures { WritesText (W.contents to.old) (W.contents to.new) result (ended_text report w.now.time
+fn tell_end<W: ByteSink>(
+    report: Report,
+    w: &Watch,
+    starts: [u32; LAMPS],
+    to: &mut W,
+) -> io::Result<()>
+    ensures { WritesText W.fails_with (W.contents to.old) (W.contents to.new) result (ended_text report w.now.time
         (min w.now.tested.device.settings.lamp_count 8) starts w.now.burnt w.now.tested.device.own.lamps) }
 {
     let device = &w.tested.device;
@@ -54,7 +61,7 @@ fn tell_end<W: Write>(report: Report, w: &Watch, starts: [u32; LAMPS], to: &mut 
 }
 
 // The end of the log ends the stretches that are under way.
-fn end_log<W: Write>(
+fn end_log<W: ByteSink>(
     watch: &mut Watch,
     mut report: Report,
     starts: [u32; LAMPS],
@@ -73,10 +80,10 @@ fn end_log<W: Write>(
 
 /// A log that begins with the device, from its reader: its lines are told as they come, and what is told is written out
 /// before a read that may wait. Where a read or a write fails, or a call refuses, nothing more of it is told.
-pub fn tell_log<R: Read + Drop, W: Write>(
+pub fn tell_log<R: ByteSource, W: ByteSink>(
     device: Device,
     drawn: bool,
-    from: &mut BufReader<R>,
+    from: &mut Reader<R>,
     to: &mut W,
 ) -> Result<(), Cut> {
     let mut line = [0u8; LINE_ROOM];
@@ -86,14 +93,12 @@ pub fn tell_log<R: Read + Drop, W: Write>(
     written(report.begin(to))?;
     // a proved loop has to end: no log takes this many turns
     for _ in 0..u64::MAX {
-        if from.buffer().is_empty() {
-            written(to.flush())?;
-        }
-        let bytes = read(from.fill_buf())?;
-        if bytes.is_empty() {
+        written(lines::flush_before_read(from, to))?;
+        read(from.fill())?;
+        if from.is_empty() {
             return end_log(&mut watch, report, starts, &mut line, to);
         }
-        let step = watching::play(&mut watch, &mut line, bytes);
+        let step = watching::play(&mut watch, &mut line, from.ahead());
         from.consume(step.taken);
         if step.number != 0 {
             return Err(Cut::BrokenOff);

@@ -3,8 +3,8 @@ use Rattle.std.proofs.Common.{◌≡◌, ℕ, zero, suc, ◌+◌, Bool, false, L
 use Rattle.std.proofs.Common.{◌∙◌, append_assoc, add-zero, zero-add, arith}
 use Rattle.std.specs.Prelude.{codes, if◌then◌else◌}
 use Rattle.std.specs.List.{flat_map, range_with_len}
-use Rattle.output.specs.Writing.{form_filled}
-use Rattle.output.proofs.Forms.{form_filled_none, form_filled_next}
+use Rattle.textio.specs.Forms.{form_filled}
+use Rattle.textio.proofs.FormsFilled.{form_filled_none, form_filled_next}
 use Rattle.numbers.specs.Decimal.{longDigits}
 use Rattle.lamplines.specs.LampLines.{stretchLine, stretchLines, totalLine}
 

@@ -3,12 +3,12 @@
 #![tactic(auto)]
 
 ghost use Rattle.std.specs.Prelude.{◌+◌, ◌<◌, ◌≤◌, [], length, if◌then◌else◌};
-ghost use Rattle.output.specs.Writing.{WritesText};
+ghost use Rattle.textio.specs.Fronts.{WritesText};
 ghost use Rattle.lamplines.specs.LampLines.{stretchLine, stretchLines, total_line_at, total_lines};
 
-use output::fill;
 use std::io;
-use std::io::Write;
+use textio::forms::fill;
+use textio::writer::ByteSink;
 
 /// So many lamps a projector has at most.
 pub const LAMPS: usize = 8;
@@ -23,9 +23,15 @@ pub struct Totals {
 }
 
 // The line of a stretch, if the mark of the lamp is set.
-fn put_stretch<W: Write>(out: &mut W, k: usize, is_lit: bool, from: u64, to: u64) -> io::Result<()>
+fn put_stretch<W: ByteSink>(
+    out: &mut W,
+    k: usize,
+    is_lit: bool,
+    from: u64,
+    to: u64,
+) -> io::Result<()>
     requires { k < 8 }
-    ensures { WritesText (W.contents out.old) (W.contents out.new) result
+    ensures { WritesText W.fails_with (W.contents out.old) (W.contents out.new) result
         (if is_lit then stretchLine (k + 1) from to else []) }
 {
     if !is_lit {
@@ -35,9 +41,10 @@ fn put_stretch<W: Write>(out: &mut W, k: usize, is_lit: bool, from: u64, to: u64
 }
 
 /// The line of a stretch, in seconds since the log began, of each lamp whose mark of `lit` is set.
-pub fn put_stretches<W: Write>(out: &mut W, lit: &[bool], from: u64, to: u64) -> io::Result<()>
+pub fn put_stretches<W: ByteSink>(out: &mut W, lit: &[bool], from: u64, to: u64) -> io::Result<()>
     requires { length lit.now ≤ 8 }
-    ensures { WritesText (W.contents out.old) (W.contents out.new) result (stretchLines 1 lit.now from to) }
+    ensures { WritesText W.fails_with (W.contents out.old) (W.contents out.new) result
+        (stretchLines 1 lit.now from to) }
 {
     for (k, is_lit) in lit.iter().enumerate() {
         put_stretch(out, k, *is_lit, from, to)?;
@@ -45,9 +52,10 @@ pub fn put_stretches<W: Write>(out: &mut W, lit: &[bool], from: u64, to: u64) ->
     Ok(())
 }
 
-fn put_total<W: Write>(out: &mut W, t: Totals, k: usize) -> io::Result<()>
+fn put_total<W: ByteSink>(out: &mut W, t: Totals, k: usize) -> io::Result<()>
     requires { k < 8 }
-    ensures { WritesText (W.contents out.old) (W.contents out.new) result (total_line_at t.starts t.burnt t.lasts k) }
+    ensures { WritesText W.fails_with (W.contents out.old) (W.contents out.new) result
+        (total_line_at t.starts t.burnt t.lasts k) }
 {
     fill(
         out,
@@ -62,9 +70,9 @@ fn put_total<W: Write>(out: &mut W, t: Totals, k: usize) -> io::Result<()>
 }
 
 /// The line of each lamp's seconds in all.
-pub fn put_totals<W: Write>(out: &mut W, t: Totals) -> io::Result<()>
+pub fn put_totals<W: ByteSink>(out: &mut W, t: Totals) -> io::Result<()>
     requires { t.count ≤ 8 }
-    ensures { WritesText (W.contents out.old) (W.contents out.new) result
+    ensures { WritesText W.fails_with (W.contents out.old) (W.contents out.new) result
         (total_lines t.count t.starts t.burnt t.lasts) }
 {
     for k in 0..t.count {

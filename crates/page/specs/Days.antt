@@ -15,7 +15,7 @@
 use Rattle.std.specs.Prelude.{ℕ, ◌+◌, ◌-◌, ◌*◌, ◌/◌, ◌%◌, min, max, nat_lt, Bool, false, List, [], ◌∷◌, ◌++◌}
 use Rattle.std.specs.Prelude.{length, get_or, codes, if◌then◌else◌}
 use Rattle.std.specs.List.{flat_map, range_with_len}
-use Rattle.output.specs.Writing.{form_filled}
+use Rattle.textio.specs.Forms.{form_filled}
 
 abbrev pub day_length : ℕ
 day_length = 86400

@@ -8,7 +8,7 @@
 -- Assumes nothing.
 use Rattle.std.specs.Prelude.{ℕ, ◌+◌, List, [], ◌∷◌, ◌++◌, get_or, codes}
 use Rattle.std.specs.List.{flat_map, range_with_len}
-use Rattle.output.specs.Writing.{form_filled}
+use Rattle.textio.specs.Forms.{form_filled}
 use Rattle.page.specs.Days.{days_of, rows_opened, row_ended}
 
 unfoldable pub head : List ℕ

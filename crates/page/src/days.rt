@@ -1,14 +1,14 @@
 // The rows of the days, and the bars in them. A row is 960 units for a day's hours, after room for the names; a second
 // is placed to a hundredth of a unit.
 ghost use Rattle.std.specs.Prelude.{◌≡◌, ◌-◌, ◌*◌, ◌<◌, ◌≤◌, max, nat_lt, [], ◌++◌, length, IfOk, if◌then◌else◌};
-ghost use Rattle.output.specs.Writing.{WritesText};
+ghost use Rattle.textio.specs.Fronts.{WritesText};
 ghost use Rattle.page.specs.Days.{band_top, band, bands, row_ended, day_row, rows_opened};
 ghost use Rattle.page.specs.Days.{hundredths, bar_if, bars, bars_in};
 
 use crate::{DAY, Stretch};
-use output::{fill, put};
 use std::io;
-use std::io::Write;
+use textio::forms::fill;
+use textio::writer::{ByteSink, put};
 
 // A lamp's band with the gap below it.
 const BAND: u64 = 18;
@@ -27,9 +27,9 @@ fn top(k: u64) -> u64
     k * BAND + 3
 }
 
-fn put_band<W: Write>(out: &mut W, k: u64) -> io::Result<()>
+fn put_band<W: ByteSink>(out: &mut W, k: u64) -> io::Result<()>
     requires { k < 8 }
-    ensures { WritesText (W.contents out.old) (W.contents out.new) result (band k) }
+    ensures { WritesText W.fails_with (W.contents out.old) (W.contents out.new) result (band k) }
 {
     let y = top(k);
     fill(
@@ -41,9 +41,9 @@ fn put_band<W: Write>(out: &mut W, k: u64) -> io::Result<()>
     )
 }
 
-fn put_bands<W: Write>(out: &mut W, lamps: u64) -> io::Result<()>
+fn put_bands<W: ByteSink>(out: &mut W, lamps: u64) -> io::Result<()>
     requires { lamps ≤ 8 }
-    ensures { WritesText (W.contents out.old) (W.contents out.new) result (bands lamps) }
+    ensures { WritesText W.fails_with (W.contents out.old) (W.contents out.new) result (bands lamps) }
 {
     for k in 0..lamps {
         put_band(out, k)?;
@@ -52,8 +52,9 @@ fn put_bands<W: Write>(out: &mut W, lamps: u64) -> io::Result<()>
 }
 
 // The row before it ends where this one begins.
-fn end_row<W: Write>(out: &mut W, day: u64) -> io::Result<()>
-    ensures { WritesText (W.contents out.old) (W.contents out.new) result (if nat_lt 1 day then row_ended else []) }
+fn end_row<W: ByteSink>(out: &mut W, day: u64) -> io::Result<()>
+    ensures { WritesText W.fails_with (W.contents out.old) (W.contents out.new) result
+        (if nat_lt 1 day then row_ended else []) }
 {
     if day <= 1 {
         return Ok(());
@@ -62,9 +63,9 @@ fn end_row<W: Write>(out: &mut W, day: u64) -> io::Result<()>
 }
 
 // A row for the day, counted from 1: its name, and for each lamp a band with its name.
-fn put_row<W: Write>(out: &mut W, lamps: u64, day: u64) -> io::Result<()>
+fn put_row<W: ByteSink>(out: &mut W, lamps: u64, day: u64) -> io::Result<()>
     requires { lamps ≤ 8 }
-    ensures { WritesText (W.contents out.old) (W.contents out.new) result (day_row lamps day) }
+    ensures { WritesText W.fails_with (W.contents out.old) (W.contents out.new) result (day_row lamps day) }
 {
     end_row(out, day)?;
     fill(
@@ -77,10 +78,11 @@ fn put_row<W: Write>(out: &mut W, lamps: u64, day: u64) -> io::Result<()>
 }
 
 // Rows up to that of the day `last`, where there are so many; how many there are then.
-pub fn open_to<W: Write>(out: &mut W, lamps: u64, rows: u64, last: u64) -> io::Result<u64>
+pub fn open_to<W: ByteSink>(out: &mut W, lamps: u64, rows: u64, last: u64) -> io::Result<u64>
     requires { lamps ≤ 8 }
     ensures rows { IfOk result (λ n. n ≡ max rows last) }
-    ensures text { WritesText (W.contents out.old) (W.contents out.new) result (rows_opened lamps rows last) }
+    ensures text { WritesText W.fails_with (W.contents out.old) (W.contents out.new) result
+        (rows_opened lamps rows last) }
 {
     for before in rows..last {
         put_row(out, lamps, before + 1)?;
@@ -108,9 +110,9 @@ struct Part {
 }
 
 // The bar of a lamp, if its mark is set.
-fn put_bar<W: Write>(out: &mut W, k: u64, is_lit: bool, p: Part) -> io::Result<()>
+fn put_bar<W: ByteSink>(out: &mut W, k: u64, is_lit: bool, p: Part) -> io::Result<()>
     requires { k < 8 }
-    ensures { WritesText (W.contents out.old) (W.contents out.new) result
+    ensures { WritesText W.fails_with (W.contents out.old) (W.contents out.new) result
         (bar_if is_lit p.whole.from p.whole.to p.x p.seconds k) }
 {
     if !is_lit {
@@ -139,9 +141,9 @@ fn put_bar<W: Write>(out: &mut W, k: u64, is_lit: bool, p: Part) -> io::Result<(
     )
 }
 
-fn put_bars<W: Write>(out: &mut W, lit: &[bool], p: Part) -> io::Result<()>
+fn put_bars<W: ByteSink>(out: &mut W, lit: &[bool], p: Part) -> io::Result<()>
     requires { length lit.now ≤ 8 }
-    ensures { WritesText (W.contents out.old) (W.contents out.new) result
+    ensures { WritesText W.fails_with (W.contents out.old) (W.contents out.new) result
         (bars lit.now p.whole.from p.whole.to p.x p.seconds) }
 {
     for (k, is_lit) in lit.iter().enumerate() {
@@ -151,11 +153,12 @@ fn put_bars<W: Write>(out: &mut W, lit: &[bool], p: Part) -> io::Result<()>
 }
 
 // What of the stretch lies in the day, counted from 1.
-fn put_bars_in<W: Write>(out: &mut W, day: u64, lit: &[bool], s: Stretch) -> io::Result<()>
+fn put_bars_in<W: ByteSink>(out: &mut W, day: u64, lit: &[bool], s: Stretch) -> io::Result<()>
     requires eight_at_most { length lit.now ≤ 8 }
     requires begun { (1 ≤ day) × ((day - 1) * 86400 < s.to) }
     requires from_le_to { s.from ≤ s.to }
-    ensures { WritesText (W.contents out.old) (W.contents out.new) result (bars_in day lit.now s.from s.to) }
+    ensures { WritesText W.fails_with (W.contents out.old) (W.contents out.new) result
+        (bars_in day lit.now s.from s.to) }
 {
     let midnight = (day - 1) * DAY;
     let x = s.from.saturating_sub(midnight);
@@ -175,7 +178,7 @@ fn put_bars_in<W: Write>(out: &mut W, day: u64, lit: &[bool], s: Stretch) -> io:
 }
 
 // Rows up to that of the day, and in it what of the stretch lies there; how many rows there are then.
-pub fn draw_in<W: Write>(
+pub fn draw_in<W: ByteSink>(
     out: &mut W,
     rows: u64,
     day: u64,
@@ -186,7 +189,7 @@ pub fn draw_in<W: Write>(
     requires begun { (1 ≤ day) × ((day - 1) * 86400 < s.to) }
     requires from_le_to { s.from ≤ s.to }
     ensures rows { IfOk result (λ n. n ≡ max rows day) }
-    ensures text { WritesText (W.contents out.old) (W.contents out.new) result
+    ensures text { WritesText W.fails_with (W.contents out.old) (W.contents out.new) result
         (rows_opened (length lit.now) rows day ++ bars_in day lit.now s.from s.to) }
 {
     let opened = open_to(out, lit.len() as u64, rows, day)?;

@@ -1,15 +1,15 @@
 // What stands around the rows of the days: the head and the hours above them, the table of totals below.
 ghost use Rattle.std.specs.Prelude.{◌<◌, ◌≤◌};
-ghost use Rattle.output.specs.Writing.{WritesText};
+ghost use Rattle.textio.specs.Fronts.{WritesText};
 ghost use Rattle.page.specs.Frame.{head, hours, total_at, totals, table};
 
 use lamplines::Totals;
-use output::{fill, put};
 use std::io;
-use std::io::Write;
+use textio::forms::fill;
+use textio::writer::{ByteSink, put};
 
-pub fn put_head<W: Write>(out: &mut W) -> io::Result<()>
-    ensures { WritesText (W.contents out.old) (W.contents out.new) result head }
+pub fn put_head<W: ByteSink>(out: &mut W) -> io::Result<()>
+    ensures { WritesText W.fails_with (W.contents out.old) (W.contents out.new) result head }
 {
     put(
         out,
@@ -34,8 +34,8 @@ pub fn put_head<W: Write>(out: &mut W) -> io::Result<()>
 }
 
 // The hours along the top.
-pub fn put_hours<W: Write>(out: &mut W) -> io::Result<()>
-    ensures { WritesText (W.contents out.old) (W.contents out.new) result hours }
+pub fn put_hours<W: ByteSink>(out: &mut W) -> io::Result<()>
+    ensures { WritesText W.fails_with (W.contents out.old) (W.contents out.new) result hours }
 {
     put(
         out,
@@ -49,9 +49,9 @@ pub fn put_hours<W: Write>(out: &mut W) -> io::Result<()>
 }
 
 // The row of the lamp at place k.
-fn put_total<W: Write>(out: &mut W, t: Totals, k: usize) -> io::Result<()>
+fn put_total<W: ByteSink>(out: &mut W, t: Totals, k: usize) -> io::Result<()>
     requires { k < 8 }
-    ensures { WritesText (W.contents out.old) (W.contents out.new) result
+    ensures { WritesText W.fails_with (W.contents out.old) (W.contents out.new) result
         (total_at t.starts t.burnt t.lasts k) }
 {
     fill(
@@ -66,9 +66,10 @@ fn put_total<W: Write>(out: &mut W, t: Totals, k: usize) -> io::Result<()>
     )
 }
 
-fn put_totals<W: Write>(out: &mut W, t: Totals) -> io::Result<()>
+fn put_totals<W: ByteSink>(out: &mut W, t: Totals) -> io::Result<()>
     requires { t.count ≤ 8 }
-    ensures { WritesText (W.contents out.old) (W.contents out.new) result (totals t.count t.starts t.burnt t.lasts) }
+    ensures { WritesText W.fails_with (W.contents out.old) (W.contents out.new) result
+        (totals t.count t.starts t.burnt t.lasts) }
 {
     for k in 0..t.count {
         put_total(out, t, k)?;
@@ -76,9 +77,10 @@ fn put_totals<W: Write>(out: &mut W, t: Totals) -> io::Result<()>
     Ok(())
 }
 
-pub fn put_table<W: Write>(out: &mut W, t: Totals) -> io::Result<()>
+pub fn put_table<W: ByteSink>(out: &mut W, t: Totals) -> io::Result<()>
     requires { t.count ≤ 8 }
-    ensures { WritesText (W.contents out.old) (W.contents out.new) result (table t.count t.starts t.burnt t.lasts) }
+    ensures { WritesText W.fails_with (W.contents out.old) (W.contents out.new) result
+        (table t.count t.starts t.burnt t.lasts) }
 {
     put(
         out,

@@ -5,7 +5,7 @@
 #![tactic(auto)]
 
 ghost use Rattle.std.specs.Prelude.{◌≡◌, ◌≤◌, length, IfOk};
-ghost use Rattle.output.specs.Writing.{WritesText};
+ghost use Rattle.textio.specs.Fronts.{WritesText};
 ghost use Rattle.page.specs.Days.{days_of, rows_drawn, drawn};
 ghost use Rattle.page.specs.Frame.{page_begun, page_ended};
 
@@ -13,9 +13,8 @@ mod days;
 mod frame;
 
 use lamplines::Totals;
-use output::put;
 use std::io;
-use std::io::Write;
+use textio::writer::{ByteSink, put};
 
 const DAY: u64 = 86400;
 
@@ -27,8 +26,8 @@ pub struct Stretch {
 }
 
 /// What stands above the rows.
-pub fn begin<W: Write>(out: &mut W) -> io::Result<()>
-    ensures { WritesText (W.contents out.old) (W.contents out.new) result page_begun }
+pub fn begin<W: ByteSink>(out: &mut W) -> io::Result<()>
+    ensures { WritesText W.fails_with (W.contents out.old) (W.contents out.new) result page_begun }
 {
     frame::put_head(out)?;
     frame::put_hours(out)
@@ -46,10 +45,11 @@ fn days_until(seconds: u64) -> u64
 
 /// A stretch of the lamps whose marks are set, where there are so many rows, the last of them open; how many there are
 /// then.
-pub fn draw<W: Write>(out: &mut W, rows: u64, lit: &[bool], s: Stretch) -> io::Result<u64>
+pub fn draw<W: ByteSink>(out: &mut W, rows: u64, lit: &[bool], s: Stretch) -> io::Result<u64>
     requires { length lit.now ≤ 8 }
     ensures rows { IfOk result (λ n. n ≡ rows_drawn rows s.from s.to) }
-    ensures text { WritesText (W.contents out.old) (W.contents out.new) result (drawn rows lit.now s.from s.to) }
+    ensures text { WritesText W.fails_with (W.contents out.old) (W.contents out.new) result
+        (drawn rows lit.now s.from s.to) }
 {
     if s.to <= s.from {
         return Ok(rows);
@@ -62,9 +62,9 @@ pub fn draw<W: Write>(out: &mut W, rows: u64, lit: &[bool], s: Stretch) -> io::R
 }
 
 /// The rows up to the end of a log of so many seconds, and what stands below them.
-pub fn end<W: Write>(out: &mut W, rows: u64, seconds: u64, t: Totals) -> io::Result<()>
+pub fn end<W: ByteSink>(out: &mut W, rows: u64, seconds: u64, t: Totals) -> io::Result<()>
     requires { t.count ≤ 8 }
-    ensures { WritesText (W.contents out.old) (W.contents out.new) result
+    ensures { WritesText W.fails_with (W.contents out.old) (W.contents out.new) result
         (page_ended rows seconds t.count t.starts t.burnt t.lasts) }
 {
     days::open_to(out, t.count as u64, rows, days_until(seconds))?;

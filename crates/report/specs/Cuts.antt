@@ -6,7 +6,7 @@
 -- Assumes nothing.
 use Rattle.std.specs.Prelude.{ℕ, List, [], ◌∷◌, codes, Ok, Err}
 use Rattle.std.specs.declared.result.Result.{Result}
-use Rattle.output.specs.Writing.{form_filled}
+use Rattle.textio.specs.Forms.{form_filled}
 use Rattle.report.specs.declared.cut.Cut.{Cut}
 use Rattle.report.specs.declared.cut.Cut.TheVariants.{ReadFailed, WriteFailed, BrokenOff}
 

@@ -1,10 +1,11 @@
 // Why a log is not told to its end, and the last line that then stands.
-ghost use Rattle.std.specs.Prelude.{◌≡◌, ◌↔◌, IsOk, IfErr, Ok, Err};
-ghost use Rattle.output.specs.Writing.{WritesText};
+ghost use Rattle.std.specs.Prelude.{[], ◌≡◌, ◌↔◌, IsOk, IfErr, OnOk, Ok, Err};
+ghost use Rattle.textio.specs.Fronts.{WritesText};
 ghost use Rattle.report.specs.Cuts.{last_line, end_text, number_line};
 
 use std::io;
-use std::io::Write;
+use textio::forms::fill;
+use textio::writer::{ByteSink, put};
 
 /// Why a log is cut short.
 #[derive(Clone, Copy)]
@@ -50,25 +51,27 @@ pub fn written(told: io::Result<()>) -> Result<(), Cut>
 
 /// What stands last where a log was cut short, and all that waits is written out. After a failed write nothing is
 /// written: what is left to tell is that it failed.
-pub fn end_output<W: Write>(told: Result<(), Cut>, to: &mut W) -> Result<(), Cut>
-    ensures cut { IfErr result (λ cut. cut ≡ Cut.WriteFailed) }
-    ensures text { WritesText (W.contents to.old) (W.contents to.new) result (end_text told) }
+pub fn end_output<W: ByteSink>(told: Result<(), Cut>, to: &mut W) -> Result<(), Cut>
+    ensures text { WritesText (λ cut. cut ≡ Cut.WriteFailed) (W.contents to.old) (W.contents to.new) result
+        (end_text told) }
+    ensures none_waits { OnOk result (W.waiting to.new ≡ []) }
 {
     match told {
         Ok(()) => written(to.flush()),
         Err(Cut::WriteFailed) => told,
         Err(cut) => {
-            written(output::put(to, cut.last_line()))?;
+            written(put(to, cut.last_line()))?;
             written(to.flush())
         }
     }
 }
 
 /// The one line for a form that does not load.
-pub fn tell_number<W: Write>(to: &mut W, number: u32) -> Result<(), Cut>
-    ensures cut { IfErr result (λ cut. cut ≡ Cut.WriteFailed) }
-    ensures text { WritesText (W.contents to.old) (W.contents to.new) result (number_line number) }
+pub fn tell_number<W: ByteSink>(to: &mut W, number: u32) -> Result<(), Cut>
+    ensures text { WritesText (λ cut. cut ≡ Cut.WriteFailed) (W.contents to.old) (W.contents to.new) result
+        (number_line number) }
+    ensures none_waits { OnOk result (W.waiting to.new ≡ []) }
 {
-    written(output::fill(to, "! #\n", &[number as u64]))?;
+    written(fill(to, "! #\n", &[number as u64]))?;
     written(to.flush())
 }

@@ -5,13 +5,13 @@
 pub mod cut;
 
 ghost use Rattle.std.specs.Prelude.{◌≡◌, ◌≤◌, length, OnOk, OnErr};
-ghost use Rattle.output.specs.Writing.{WritesText};
+ghost use Rattle.textio.specs.Fronts.{WritesText};
 ghost use Rattle.report.specs.Reports.{report_new, begun_text, report_told, told_text, ended_text};
 
 use lamplines::Totals;
 use page::Stretch;
 use std::io;
-use std::io::Write;
+use textio::writer::ByteSink;
 
 /// How a log is told: as lines, or as a page that has so many rows.
 #[derive(Clone, Copy)]
@@ -32,8 +32,8 @@ impl Report {
     }
 
     /// What stands before the first stretch.
-    pub fn begin<W: Write>(self, out: &mut W) -> io::Result<()>
-        ensures { WritesText (W.contents out.old) (W.contents out.new) result (begun_text self) }
+    pub fn begin<W: ByteSink>(self, out: &mut W) -> io::Result<()>
+        ensures { WritesText W.fails_with (W.contents out.old) (W.contents out.new) result (begun_text self) }
     {
         match self {
             Report::Lines => Ok(()),
@@ -42,11 +42,11 @@ impl Report {
     }
 
     /// A stretch of the lamps whose marks of `lit` are set.
-    pub fn tell<W: Write>(&mut self, out: &mut W, lit: &[bool], s: Stretch) -> io::Result<()>
+    pub fn tell<W: ByteSink>(&mut self, out: &mut W, lit: &[bool], s: Stretch) -> io::Result<()>
         requires { length lit.now ≤ 8 }
         ensures report { OnOk result (self.new ≡ report_told self.old s.from s.to) }
         ensures kept { OnErr result (self.new ≡ self.old) }
-        ensures text { WritesText (W.contents out.old) (W.contents out.new) result
+        ensures text { WritesText W.fails_with (W.contents out.old) (W.contents out.new) result
             (told_text self.old lit.now s.from s.to) }
     {
         match *self {
@@ -59,9 +59,9 @@ impl Report {
     }
 
     /// The end of a log of so many seconds.
-    pub fn end<W: Write>(self, out: &mut W, seconds: u64, t: Totals) -> io::Result<()>
+    pub fn end<W: ByteSink>(self, out: &mut W, seconds: u64, t: Totals) -> io::Result<()>
         requires { t.count ≤ 8 }
-        ensures { WritesText (W.contents out.old) (W.contents out.new) result
+        ensures { WritesText W.fails_with (W.contents out.old) (W.contents out.new) result
             (ended_text self seconds t.count t.starts t.burnt t.lasts) }
     {
         match self {

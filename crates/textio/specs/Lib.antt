@@ -3,3 +3,4 @@ pub mod Ahead
 pub mod Waiting
 pub mod Fronts
 pub mod NextLine
+pub mod Forms

@@ -66,8 +66,8 @@ fn take_shown<R: ByteSource>(from: &mut Reader<R>, line: &mut [u8], at: usize) -
     Ok(Shown::Part(place))
 }
 
-// What waits at a sink is handed on before a read.
-fn flush_before_read<R: ByteSource, W: ByteSink>(from: &Reader<R>, to: &mut W) -> io::Result<()>
+/// What waits at a sink is handed on where no byte is read ahead, so that a read comes next, which may wait.
+pub fn flush_before_read<R: ByteSource, W: ByteSink>(from: &Reader<R>, to: &mut W) -> io::Result<()>
     ensures keeps { Keeps (W.contents to.old) (W.contents to.new) }
     ensures err { IfErr result W.fails_with }
     ensures none_waits { OnOk result (length (ahead_of from.now) ≡ 0 → W.waiting to.new ≡ []) }

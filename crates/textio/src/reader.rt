@@ -56,14 +56,15 @@ impl<R: ByteSource> Reader<R> {
         self.start == self.end
     }
 
-    pub(crate) fn ahead(&self) -> &[u8]
+    /// The bytes that are read ahead.
+    pub fn ahead(&self) -> &[u8]
         ensures { result.now ≡ ahead_of self.now }
     {
         &self.bytes[self.start..self.end]
     }
 
-    /// Reads where no byte is read ahead.
-    pub(crate) fn fill(&mut self) -> io::Result<()>
+    /// Reads where no byte is read ahead. If none is after it, the source is at its end.
+    pub fn fill(&mut self) -> io::Result<()>
         ensures keeps { Keeps (left_in R.remaining self.old) (left_in R.remaining self.new) }
         ensures end { OnOk result (length (ahead_of self.new) ≡ 0 → IsAtEnd (left_in R.remaining self.new)) }
         ensures err { IfErr result R.fails_with }
@@ -79,7 +80,7 @@ impl<R: ByteSource> Reader<R> {
     }
 
     /// Takes bytes that are read ahead.
-    pub(crate) fn consume(&mut self, amount: usize)
+    pub fn consume(&mut self, amount: usize)
         requires { amount ≤ length (ahead_of self.old) }
         ensures { Consumes (left_in R.remaining self.old) (left_in R.remaining self.new)
             (take amount (ahead_of self.old)) }

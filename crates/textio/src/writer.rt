@@ -2,7 +2,7 @@
 ghost use Rattle.std.specs.Prelude.{◌≡◌, ◌≤◌, ◌<◌, ◌++◌, ℕ, List, [], Option, IfOk, IfErr, OnOk, length, take};
 ghost use Rattle.std.specs.Io.{WritesAtMost};
 ghost use Rattle.std.specs.Io.KnownBytes.{Keeps, Appends, WriteAppends};
-ghost use Rattle.textio.specs.Fronts.{WritesFront};
+ghost use Rattle.textio.specs.Fronts.{WritesText};
 ghost use Rattle.std.specs.declared.io.Error.{Error};
 
 use crate::memory;
@@ -54,9 +54,7 @@ fn hand_on<W: ByteSink>(to: &mut W, bytes: &[u8]) -> (usize, io::Result<()>)
 
 /// Writes all the bytes; where that fails, the sink has got a front of them.
 pub fn put<W: ByteSink>(to: &mut W, bytes: &[u8]) -> io::Result<()>
-    ensures whole { OnOk result (Appends (W.contents to.old) (W.contents to.new) bytes.now) }
-    ensures front { WritesFront (W.contents to.old) (W.contents to.new) bytes.now }
-    ensures err { IfErr result W.fails_with }
+    ensures { WritesText W.fails_with (W.contents to.old) (W.contents to.new) result bytes.now }
 {
     let (_, told) = hand_on(to, bytes);
     told

@@ -10,6 +10,7 @@ use mathlib.Core.Bool.{Bool, true, false, ◌&&◌}
 use mathlib.Core.List.{List, [], ◌∷◌, append-nil}
 use native.Mathlib.Omega.{arith}
 use lib.ListN.{length, take}
+use lib.Dec.{eqb}
 use Rattle.std.specs.Prelude.{if◌then◌else◌}
 use Rattle.text.specs.Words.{◌is◌}
 use Rattle.text.proofs.Choices.{if-all}
@@ -17,8 +18,8 @@ use Rattle.stream.specs.Machine.{Out, Took, unanswered, replyThen, tookBytes, on
 use Rattle.stream.proofs.LinesSpelt.{run_none, run_more}
 use Rattle.textio.proofs.LinesCounted.{lineEnds}
 use Rattle.watch.specs.Watching.{Watching, Watched, lineDone, isDark, isLong, watchMore, takenMore}
-use Rattle.watch.specs.Watching.{watchedIn}
-use Rattle.watch.specs.WatchCalls.{CanWatch}
+use Rattle.watch.specs.Watching.{watchStep, watchedIn}
+use Rattle.watch.specs.WatchCalls.{refusalIn, CanWatch, watched}
 use Rattle.watch.specs.WholeWatch.{tellingIf, toldLines}
 use Rattle.watch.proofs.LinesDone.{line-goes}
 use Rattle.watch.proofs.Turns.{can-fewer}
@@ -92,6 +93,19 @@ unfolding watchedIn
 some-watched s [] h = h
 some-watched s (b ∷ bs) h =
     if-all (λ (x : Watched). 1 ≤ x.taken) (b is "\n" && isDark s) (omega arith) (omega arith)
+
+watched_inside : (s : Watching) (bs : List ℕ) → (watchedIn s bs).taken ≤ length bs
+unfolding watchedIn
+watched_inside s [] = omega arith
+watched_inside s (b ∷ bs) =
+    if-all (λ (x : Watched). x.taken ≤ suc (length bs)) (b is "\n" && isDark s) (omega arith)
+    (omega (arith, watched_inside (watchStep s b) bs))
+
+-- a call takes no more bytes than there are
+pub play_inside : (s : Watching) (bs : List ℕ) → (watched s bs).watched.taken ≤ length bs
+unfolding watched
+play_inside s bs =
+    if-all (λ (x : Watched). x.taken ≤ length bs) (eqb (refusalIn s (length bs)) 0) (watched_inside s bs) (omega arith)
 
 -- so many lines fewer are left as there are in the bytes
 pub run-goes : (bs : List ℕ) (s : Watching) (n : ℕ) → CanWatch s (lineEnds bs + n) → CanWatch (watchRun s bs).state n

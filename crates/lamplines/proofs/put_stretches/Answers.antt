@@ -1,6 +1,6 @@
 use Rattle.std.proofs.Common.{ℕ, ◌≡◌, List, false, get_or, length, sym, arith}
-use Rattle.output.proofs.Each.{each_more, each_fails}
-use Rattle.output.proofs.Fronts.{writes_all}
+use Rattle.textio.proofs.Each.{each_more, each_fails}
+use Rattle.textio.proofs.Fronts.{writes_all}
 use Rattle.lamplines.proofs.Told.{line_if, stretches_each}
 use Rattle.lamplines.proofs.put_stretches.Goals as goal
 
@@ -15,7 +15,7 @@ returns-in_err-put_stretch g c =
     let shown : ℕ → List ℕ = λ k. line_if (get_or c.args.lit.now k false) c.args.from c.args.to k in
     rw (sym (stretches_each c.args.lit.now c.args.from c.args.to))
     (each_fails shown 0 c.loop-k.k (length c.args.lit.now) c.loop-k.k (omega arith) c.loop-k-test.true
-    c.loop-k.invariant c.put_stretch.ensures c.from_residual.ensures.0)
+    c.loop-k.invariant c.in_err-put_stretch.ensures c.from_residual.ensures)
 
 pub returns : goal.returns
 returns g c =

@@ -1,6 +1,6 @@
 use Rattle.std.proofs.Common.{◌≡◌, arith}
-use Rattle.output.proofs.Each.{each_more, each_fails}
-use Rattle.output.proofs.Fronts.{writes_all}
+use Rattle.textio.proofs.Each.{each_more, each_fails}
+use Rattle.textio.proofs.Fronts.{writes_all}
 use Rattle.lamplines.specs.LampLines.{total_line_at, total_lines}
 use Rattle.lamplines.proofs.put_totals.Goals as goal
 
@@ -15,7 +15,7 @@ unfolding total_lines
 returns-in_err-put_total g c =
     let shown = total_line_at c.args.t.starts c.args.t.burnt c.args.t.lasts in
     each_fails shown 0 c.loop-k.k c.args.t.count c.loop-k.k (omega arith) c.loop-k-test.true c.loop-k.invariant
-    c.put_total.ensures c.from_residual.ensures.0
+    c.in_err-put_total.ensures c.from_residual.ensures
 
 pub returns : goal.returns
 unfolding total_lines

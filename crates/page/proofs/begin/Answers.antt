@@ -1,10 +1,10 @@
-use Rattle.output.proofs.Fronts.{writes_then, writes_fails}
+use Rattle.textio.proofs.Fronts.{writes_then, writes_fails}
 use Rattle.page.specs.Frame.{page_begun}
 use Rattle.page.proofs.begin.Goals as goal
 
 pub returns-in_err-put_head : goal.returns-in_err-put_head
 unfolding page_begun
-returns-in_err-put_head g c = writes_fails _ c.put_head.ensures c.from_residual.ensures.0
+returns-in_err-put_head g c = writes_fails _ c.in_err-put_head.ensures c.from_residual.ensures
 
 pub returns : goal.returns
 unfolding page_begun

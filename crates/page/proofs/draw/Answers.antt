@@ -1,7 +1,7 @@
 use Rattle.std.proofs.Common.{◌≡◌, ◌+◌, ◌-◌, ◌/◌, ◌<◌, [], arith, ◌∙◌}
 use Rattle.std.proofs.KnownBytes.{Appends-nil}
-use Rattle.output.proofs.Each.{each_more, each_fails}
-use Rattle.output.proofs.Fronts.{writes_all}
+use Rattle.textio.proofs.Each.{each_more, each_fails}
+use Rattle.textio.proofs.Fronts.{writes_all}
 use Rattle.page.specs.Days.{days_of, drawn_in}
 use Rattle.page.proofs.Drawn.{drawn_none, drawn_some, rows_before_next, days_of_after}
 use Rattle.page.proofs.draw.Goals as goal
@@ -37,8 +37,8 @@ returns-in_err-opened-clause-text g c =
     let known = c.loop-before.invariant in
     rw (drawn_some rows c.args.lit.now s.from s.to c.if-s.false)
     (each_fails (drawn_in rows c.args.lit.now s.from s.to) (first + 1) (before - first) (days_of s.to - first)
-    (before + 1) (omega (arith, begun)) inside known.written (rw known.opened at c.draw_in.ensures.text)
-    c.from_residual.ensures.0)
+    (before + 1) (omega (arith, begun)) inside known.written (rw known.opened at c.in_err-opened.ensures.text)
+    c.from_residual.ensures)
 
 pub returns-clause-text : goal.returns-clause-text
 returns-clause-text g c =

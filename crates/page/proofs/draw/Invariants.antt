@@ -8,7 +8,7 @@ use Rattle.page.proofs.draw.Given as goal
 abbrev pub invariant-loop-before : goal.invariant-loop-before
 invariant-loop-before g l = record {
   opened : l.opened ≡ rows_before l.rows l.s.from (l.before + 1);
-  written : Appends (g.W.Write.contents l.initial.out) (g.W.Write.contents l.out)
+  written : Appends (g.W.ByteSink.contents l.initial.out) (g.W.ByteSink.contents l.out)
       (flat_map (drawn_in l.rows l.lit l.s.from l.s.to)
       (range_with_len (l.s.from / 86400 + 1) (l.before - l.s.from / 86400)));
 }

@@ -1,6 +1,6 @@
 use Rattle.std.proofs.Common.{◌≡◌, ◌+◌, ◌-◌, arith}
-use Rattle.output.proofs.Each.{each_more, each_fails}
-use Rattle.output.proofs.Fronts.{writes_all}
+use Rattle.textio.proofs.Each.{each_more, each_fails}
+use Rattle.textio.proofs.Fronts.{writes_all}
 use Rattle.page.specs.Days.{day_row, rows_opened}
 use Rattle.page.proofs.days.open_to.Goals as goal
 
@@ -18,7 +18,7 @@ unfolding rows_opened
 returns-in_err-put_row-clause-text g c =
     let at = c.loop-before.before in
     each_fails (day_row c.args.lamps) (c.args.rows + 1) (at - c.args.rows) (c.args.last - c.args.rows) (at + 1)
-    (omega arith) (omega arith) c.loop-before.invariant.written c.put_row.ensures c.from_residual.ensures.0
+    (omega arith) (omega arith) c.loop-before.invariant.written c.in_err-put_row.ensures c.from_residual.ensures
 
 pub returns-clause-text : goal.returns-clause-text
 unfolding rows_opened

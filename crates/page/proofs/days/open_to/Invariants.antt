@@ -7,6 +7,6 @@ use Rattle.page.proofs.days.open_to.Given as goal
 abbrev pub invariant-loop-before : goal.invariant-loop-before
 invariant-loop-before g l = record {
   within : l.before ≤ max l.rows l.last;
-  written : Appends (g.W.Write.contents l.initial.out) (g.W.Write.contents l.out)
+  written : Appends (g.W.ByteSink.contents l.initial.out) (g.W.ByteSink.contents l.out)
       (flat_map (day_row l.lamps) (range_with_len (l.rows + 1) (l.before - l.rows)));
 }

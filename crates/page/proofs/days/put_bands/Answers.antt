@@ -1,12 +1,12 @@
 use Rattle.std.proofs.Common.{◌≡◌, arith}
 use Rattle.std.proofs.KnownBytes.{Appends-nil}
-use Rattle.output.proofs.Each.{each_more, each_fails}
-use Rattle.output.proofs.Fronts.{writes_all}
+use Rattle.textio.proofs.Each.{each_more, each_fails}
+use Rattle.textio.proofs.Fronts.{writes_all}
 use Rattle.page.specs.Days.{band, bands}
 use Rattle.page.proofs.days.put_bands.Goals as goal
 
 pub loop-k-init : goal.loop-k-init
-loop-k-init g c = Appends-nil (g.W.Write.contents c.args.out.now)
+loop-k-init g c = Appends-nil (g.W.ByteSink.contents c.args.out.now)
 
 pub loop-k-preserved : goal.loop-k-preserved
 loop-k-preserved g c =
@@ -17,7 +17,7 @@ pub returns-in_err-put_band : goal.returns-in_err-put_band
 unfolding bands
 returns-in_err-put_band g c =
     each_fails band 0 c.loop-k.k c.args.lamps c.loop-k.k (omega arith) c.loop-k-test.true c.loop-k.invariant
-    c.put_band.ensures c.from_residual.ensures.0
+    c.in_err-put_band.ensures c.from_residual.ensures
 
 pub returns : goal.returns
 unfolding bands

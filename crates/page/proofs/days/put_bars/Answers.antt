@@ -1,6 +1,6 @@
 use Rattle.std.proofs.Common.{ℕ, List, ◌≡◌, false, get_or, length, arith}
-use Rattle.output.proofs.Each.{each_more, each_fails}
-use Rattle.output.proofs.Fronts.{writes_all}
+use Rattle.textio.proofs.Each.{each_more, each_fails}
+use Rattle.textio.proofs.Fronts.{writes_all}
 use Rattle.page.specs.Days.{bar_if, bars}
 use Rattle.page.proofs.days.put_bars.Goals as goal
 
@@ -17,7 +17,7 @@ returns-in_err-put_bar g c =
     let p = c.args.p in
     let shown : ℕ → List ℕ = λ k. bar_if (get_or c.args.lit.now k false) p.whole.from p.whole.to p.x p.seconds k in
     each_fails shown 0 c.loop-k.k (length c.args.lit.now) c.loop-k.k (omega arith) c.loop-k-test.true
-    c.loop-k.invariant c.put_bar.ensures c.from_residual.ensures.0
+    c.loop-k.invariant c.in_err-put_bar.ensures c.from_residual.ensures
 
 pub returns : goal.returns
 unfolding bars

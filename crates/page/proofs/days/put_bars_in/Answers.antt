@@ -1,6 +1,6 @@
 use Rattle.std.proofs.Common.{[]}
 use Rattle.std.proofs.KnownBytes.{Appends-nil}
-use Rattle.output.proofs.Fronts.{writes_all}
+use Rattle.textio.proofs.Fronts.{writes_all}
 use Rattle.page.proofs.Drawn.{bars_in_none, bars_in_some}
 use Rattle.page.proofs.days.put_bars_in.Goals as goal
 

@@ -1,15 +1,15 @@
-use Rattle.output.proofs.Fronts.{writes_then, writes_fails}
+use Rattle.textio.proofs.Fronts.{writes_then, writes_fails}
 use Rattle.page.specs.Days.{day_row}
 use Rattle.page.proofs.days.put_row.Goals as goal
 
 pub returns-in_err-end_row : goal.returns-in_err-end_row
 unfolding day_row
-returns-in_err-end_row g c = writes_fails _ c.end_row.ensures c.from_residual.ensures.0
+returns-in_err-end_row g c = writes_fails _ c.in_err-end_row.ensures c.from_residual.ensures
 
 pub returns-in_err-fill : goal.returns-in_err-fill
 unfolding day_row
 returns-in_err-fill g c =
-    writes_then c.in_ok-end_row.ensures (writes_fails _ c.fill.ensures c.from_residual-in_err-fill.ensures.0)
+    writes_then c.in_ok-end_row.ensures (writes_fails _ c.in_err-fill.ensures c.from_residual-in_err-fill.ensures)
 
 pub returns : goal.returns
 unfolding day_row

@@ -1,5 +1,5 @@
 use Rattle.std.proofs.Common.{length}
-use Rattle.output.proofs.+fill.Given as goal
+use Rattle.textio.proofs.forms.+fill.Given as goal
 
 abbrev pub decreases-fill : goal.decreases-fill
 decreases-fill g l = length l.numbers.now

@@ -2,7 +2,7 @@
 use Rattle.std.proofs.Common.{◌≡◌, ℕ, ◌<◌, ◌≤◌, List, [], ◌∷◌, ◌++◌, length, drop, get_or, refl, arith}
 use Rattle.std.specs.List.{before_first, after_first}
 use Rattle.numbers.specs.Decimal.{longDigits}
-use Rattle.output.specs.Writing.{is_gap, form_filled}
+use Rattle.textio.specs.Forms.{is_gap, form_filled}
 
 pub form_filled_none : (form : List ℕ) → form_filled form [] ≡ form
 unfolding form_filled

@@ -5,7 +5,7 @@ use lib.Seq.{take-append_seam}
 use Rattle.std.proofs.lemmas.List.Edits.{sets-eq}
 use Rattle.numbers.proofs.Digits.{long-at-most-20}
 use Rattle.numbers.specs.Decimal.{longDigits}
-use Rattle.output.proofs.put_number.Goals as goal
+use Rattle.textio.proofs.forms.put_number.Goals as goal
 
 pub put_long-length-requires : goal.put_long-length-requires
 put_long-length-requires g c = omega (arith, long-at-most-20 c.args.n)

@@ -1,14 +1,14 @@
 -- What a loop over places has written, a text for each place.
 use Rattle.std.proofs.Common.{◌≡◌, ℕ, zero, suc, ◌+◌, ◌-◌, ◌<◌, List, ◌++◌, refl, sym, ap, subst, ◌∙◌, append_assoc}
-use Rattle.std.proofs.Common.{append-nil, zero-add, add-zero, arith}
+use Rattle.std.proofs.Common.{append-nil, zero-add, add-zero, Err, arith}
 use Rattle.std.specs.declared.option.Option.{Option}
 use Rattle.std.specs.declared.result.Result.{Result}
-use Rattle.std.specs.Result.{IsErr}
+use Rattle.std.specs.Result.{IsErr, IsErrAnd}
 use Rattle.std.specs.List.{flat_map, range_with_len}
 use Rattle.std.specs.Io.KnownBytes.{Appends}
 use Rattle.std.proofs.KnownBytes.{Appends-trans}
-use Rattle.output.specs.Writing.{WritesText}
-use Rattle.output.proofs.Fronts.{writes_after, writes_fails}
+use Rattle.textio.specs.Fronts.{WritesText}
+use Rattle.textio.proofs.Fronts.{writes_after, writes_fails}
 
 -- so many numbers, and then more
 each_parts : (f : ℕ → List ℕ) (s i n : ℕ) → flat_map f (range_with_len s (i + n))
@@ -35,13 +35,14 @@ each_more f s i j m a b c more e p q = subst (Appends a c)
     (sym (ap (λ k. flat_map f (range_with_len s k)) more ∙ each_one f s i m e)) (Appends-trans a b c _ _ p q)
 
 -- a turn that failed, of n
-pub each_fails : {T U E F : Type 0} (f : ℕ → List ℕ) (s i n m : ℕ) {a b c : Option (List ℕ)} {r : Result T E}
-    {z : Result U F} → m ≡ s + i → i < n → Appends a b (flat_map f (range_with_len s i))
-    → WritesText b c r (f m) → IsErr z → WritesText a c z (flat_map f (range_with_len s n))
-each_fails f s i n m {a} {b} {c} {z = z} e h p q failed =
+pub each_fails : {T U E : Type 0} {fails : E → Type 0} (f : ℕ → List ℕ) (s i n m : ℕ) {a b c : Option (List ℕ)} {x : E}
+    {z : Result U E} → m ≡ s + i → i < n → Appends a b (flat_map f (range_with_len s i))
+    → WritesText {T = T} fails b c (Err x) (f m) → IsErr z × IsErrAnd z (λ y. y ≡ x)
+    → WritesText fails a c z (flat_map f (range_with_len s n))
+each_fails {fails = fails} f s i n m {a} {b} {c} {z = z} e h p q failed =
     let most = n - (i + 1) in
     let rest = flat_map f (range_with_len (s + i + 1) most) in
     let count : n ≡ i + suc most = omega (arith, h) in
     let whole = ap (λ k. flat_map f (range_with_len s k)) count ∙ each_parts f s i (suc most)
     ∙ ap (λ k. flat_map f (range_with_len s i) ++ (f k ++ rest)) (sym e) in
-    subst (WritesText a c z) (sym whole) (writes_after _ p (writes_fails rest q failed))
+    subst (WritesText fails a c z) (sym whole) (writes_after _ p (writes_fails rest q failed))

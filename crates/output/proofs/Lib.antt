@@ -1,3 +1,0 @@
-pub mod Each
-pub mod Forms
-pub mod Fronts

@@ -1,0 +1,43 @@
+// Numbers, and forms with numbers in them, written to any sink. Where a write fails, what was written is a front of it,
+// and the caller ends there: nothing is written after a gap.
+ghost use Rattle.std.specs.Prelude.{◌≡◌};
+ghost use Rattle.std.specs.List.{before_first, after_first};
+ghost use Rattle.numbers.specs.Decimal.{longDigits};
+ghost use Rattle.textio.specs.Fronts.{WritesText};
+ghost use Rattle.textio.specs.Forms.{is_gap, form_filled};
+
+use crate::writer::{ByteSink, put};
+use std::io;
+
+/// Writes the number in decimal digits, with no leading zero.
+pub fn put_number<W: ByteSink>(to: &mut W, n: u64) -> io::Result<()>
+    ensures { WritesText W.fails_with (W.contents to.old) (W.contents to.new) result (longDigits n) }
+{
+    let mut digits = [0u8; 20];
+    let length = numbers::put_long(&mut digits, 0, n);
+    put(to, &digits[..length])
+}
+
+/// Writes the form with the next of the numbers in the place of each `#`.
+pub fn fill<W: ByteSink>(to: &mut W, form: &str, numbers: &[u64]) -> io::Result<()>
+    ensures { WritesText W.fails_with (W.contents to.old) (W.contents to.new) result
+        (form_filled form.now numbers.now) }
+{
+    match numbers {
+        [] => put(to, form.as_bytes()),
+        [n, more @ ..] => {
+            let (before, after) = cut(form);
+            put(to, before.as_bytes())?;
+            put_number(to, *n)?;
+            fill(to, after, more)
+        }
+    }
+}
+
+// What stands before the first `#`, and what after it.
+fn cut(form: &str) -> (&str, &str)
+    ensures before { result.0.now ≡ before_first is_gap form.now }
+    ensures after { result.1.now ≡ after_first is_gap form.now }
+{
+    form.split_once('#').unwrap_or((form, ""))
+}
