@@ -1,5 +1,5 @@
 // A log read to its end and told as it is watched, and its last line where it is cut short.
-ghost use Rattle.std.specs.Prelude.{◌≡◌, ◌≤◌, min, take, length, OnOk};
+ghost use Rattle.std.specs.Prelude.{[], ◌≡◌, ◌≢◌, ◌≤◌, min, take, length, IfErr, OnOk};
 ghost use Rattle.clock.specs.Second.{marksIn};
 ghost use Rattle.textio.specs.Fronts.{WritesText};
 ghost use Rattle.report.specs.Reports.{report_told, told_text, ended_text};
@@ -67,7 +67,9 @@ fn end_log<W: ByteSink>(
     starts: [u32; LAMPS],
     line: &mut [u8],
     to: &mut W,
-) -> Result<(), Cut> {
+) -> Result<(), Cut>
+    ensures { IfErr result (λ cut. cut ≢ Cut.ReadFailed) }
+{
     let step = watching::finish(watch, line);
     if step.number != 0 {
         return Err(Cut::BrokenOff);
@@ -85,7 +87,9 @@ pub fn tell_log<R: ByteSource, W: ByteSink>(
     drawn: bool,
     from: &mut Reader<R>,
     to: &mut W,
-) -> Result<(), Cut> {
+) -> Result<(), Cut>
+    ensures { IfErr result (λ cut. cut ≡ Cut.ReadFailed → W.waiting to.new ≡ []) }
+{
     let mut line = [0u8; LINE_ROOM];
     let starts = device.own.lamps;
     let mut report = Report::new(drawn);
