@@ -2,7 +2,7 @@
 ghost use Rattle.std.specs.Prelude.{◌≤◌, ⊤, None, []};
 
 use crate::telling::tell_log;
-use floor::sample;
+use floorlog::sample;
 use report::cut;
 use report::cut::Cut;
 use std::io;
