@@ -19,7 +19,7 @@ use setup::error::SetUpError;
 use setup::wanted::{Class, Wanted};
 
 // What set-up gave: the blank record where it is refused. Not put into its callers: its copies of the record would lie
-// on the stack while set-up runs. So `fill` of `projector`, and both of `forms`.
+// on the stack while set-up runs. So `told` of `forms`.
 #[inline(never)]
 fn told(made: Result<Device, SetUpError>) -> Changed
     ensures { result ≡ set_up_told made }

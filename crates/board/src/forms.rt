@@ -31,7 +31,6 @@ pub extern "C" fn pj_store(d: Device, out: &mut [u8]) -> FormWritten
 }
 
 // What loading gave, into the host's record: the blank one where it is refused.
-#[inline(never)]
 fn fill(device: &mut Device, made: Result<Device, LoadError>) -> u32
     ensures number { result ≡ (loading_told made).number }
     ensures device { device.new ≡ (loading_told made).device }

@@ -21,7 +21,6 @@ use setup::error::SetUpError;
 use setup::wanted::{Class, Wanted};
 
 // What set-up gave, into the host's record: the blank one where it is refused.
-#[inline(never)]
 fn fill(device: &mut Device, made: Result<Device, SetUpError>) -> u32
     ensures number { result ≡ (set_up_told made).number }
     ensures device { device.new ≡ (set_up_told made).device }
