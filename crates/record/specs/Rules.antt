@@ -22,8 +22,8 @@ use Rattle.std.specs.Prelude.{ℕ, ◌+◌, ◌-◌, ◌*◌, Bool, true, false,
 use Rattle.std.specs.Prelude.{leb, eqb}
 use Prim.Native.Char.{code}
 use Rattle.text.specs.Scans.{every}
-use Rattle.lines.specs.Inputs.{isInputText}
-use Rattle.lines.specs.Texts.{isPassword, isInputName}
+use Rattle.words.specs.Inputs.{isInputText}
+use Rattle.words.specs.Texts.{isPassword, isInputName}
 use Rattle.record.specs.Limits.{passwordLeast, inputRoom, lampsMost, lampLimit, stretchMost}
 use Rattle.record.specs.Limits.{errorsCount, errorMost, isClass, volumeMost}
 

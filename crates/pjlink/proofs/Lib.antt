@@ -1,0 +1,42 @@
+pub mod Bodies
+pub mod CommandLines
+pub mod FormsSpelt
+pub mod ClassOneKept
+pub mod RepliesReadBack
+pub mod BodiesNamed
+pub mod CommandsAskedBack
+pub mod PowerAsked
+pub mod ClassOneAsked
+pub mod SaidCharacters
+pub mod Lamps
+pub mod Mapped
+pub mod Joined
+pub mod PutLists
+pub mod Counts
+pub mod SaidRows
+pub mod SaidBack
+pub mod SaidPlain
+pub mod Nothing
+pub mod OneResult
+pub mod OnlyOkay
+pub mod InputCharacters
+pub mod Inputs
+pub mod Errors
+pub mod Words
+pub mod Spaced
+pub mod ReadLists
+pub mod Parameters
+pub mod LampsBack
+pub mod ErrorsBack
+pub mod JoinedBack
+pub mod Written
+pub mod ReadsBack
+pub mod OneReading
+pub mod JoinedRead
+pub mod LampsRead
+pub mod ErrorsRead
+pub mod ReadSound
+pub mod ReadWritings
+mod ExamplesOfForms
+mod ExamplesOfRequests
+mod ExamplesOfReplies

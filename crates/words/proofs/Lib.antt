@@ -1,0 +1,8 @@
+pub mod ByPlaces
+pub mod Refusals
+pub mod TextsTold
+pub mod WithinLength
+pub mod Characters
+pub mod NumbersReadBack
+pub mod InputsReadBack
+pub mod SourcesFollowed

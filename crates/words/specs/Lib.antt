@@ -1,0 +1,5 @@
+pub mod Bytes
+pub mod Sources
+pub mod Inputs
+pub mod Texts
+pub mod Computing
