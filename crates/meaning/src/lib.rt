@@ -14,7 +14,7 @@ ghost use Rattle.meaning.specs.Meaning.{tableAnswer, requestAnswer, afterCommand
 use pjlink::answer;
 use pjlink::answer::{Answer, Kind};
 use pjlink::command::Command;
-use pjlink::request::Request;
+use pjlink::request::Unasked;
 use record::types::{Own, Settings};
 
 // What a spec calls the answer and the own part that a request leaves; the code gives the one and changes the other.
@@ -34,20 +34,19 @@ fn carry_out(s: &Settings, o: &mut Own, c: Command) -> Answer
 }
 
 // Of a request that no rule refuses, and so of a command.
-fn accept(s: &Settings, o: &mut Own, r: Request) -> Answer
+fn accept(s: &Settings, o: &mut Own, r: Result<Command, Unasked>) -> Answer
     ensures value { result ≡ answer_of (requestAnswer s.now o.old r) }
     ensures own { o.new ≡ carriedOut s.now o.old r }
 {
     match r {
-        Request::Asks(c) => carry_out(s, o, c),
-        Request::Unlisted(_) => answer::plain(Kind::Nothing),
-        Request::UnknownBody => answer::plain(Kind::Nothing),
+        Ok(c) => carry_out(s, o, c),
+        Err(_) => answer::plain(Kind::Nothing),
     }
 }
 
 // The first rule that applies decides.
 #[tactic(auto, unfolding(crate::specs::Meaning::meant, crate::specs::Meaning::done))]
-pub fn decide(s: &Settings, o: &mut Own, r: Request) -> Answer
+pub fn decide(s: &Settings, o: &mut Own, r: Result<Command, Unasked>) -> Answer
     ensures value { result ≡ (decided s.now o.old r).answer }
     ensures own { o.new ≡ (decided s.now o.old r).own }
 {

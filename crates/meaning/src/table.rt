@@ -11,7 +11,8 @@ ghost use Rattle.meaning.specs.Meaning.{queried, tableAnswer};
 use crate::inputs;
 use pjlink::answer;
 use pjlink::answer::{Answer, Kind, LampHours, NO_LAMP, Power, TEXT_MOST};
-use pjlink::command::{Body, Command};
+use pjlink::body::Body;
+use pjlink::command::Command;
 use record::own;
 use record::own::{COOLING, OFF, ON};
 use record::types::{

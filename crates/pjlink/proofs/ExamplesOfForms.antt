@@ -13,7 +13,7 @@ use Rattle.pjlink.specs.Commands.{commandLine}
 use Rattle.pjlink.specs.Forms.{isCommandForm}
 use Rattle.words.specs.declared.input.Source.TheVariants.{Rgb, Digital, Network, Internal}
 use Rattle.words.specs.declared.input.Input.{Input}
-use Rattle.pjlink.specs.declared.command.Body.TheVariants.{Snum}
+use Rattle.pjlink.specs.declared.body.Body.TheVariants.{Snum}
 use Rattle.pjlink.specs.declared.command.Volume.TheVariants.{Speaker, Microphone}
 use Rattle.pjlink.specs.declared.command.Command.TheVariants.{InputSet2, FreezeSet, VolumeStep}
 use Rattle.pjlink.specs.declared.command.Command.TheVariants.{NameQuery, Query}

@@ -9,7 +9,7 @@ use Rattle.numbers.specs.Computing.{computing as numbers}
 use Rattle.words.specs.declared.input.Source.TheVariants.{Digital, Internal}
 use Rattle.words.specs.declared.input.Input.{Input}
 use Rattle.pjlink.specs.declared.command.Command.TheVariants.{NameQuery, Query}
-use Rattle.pjlink.specs.declared.command.Body.TheVariants.{Lamp, Inst, Clss, Frez, Snum}
+use Rattle.pjlink.specs.declared.body.Body.TheVariants.{Lamp, Inst, Clss, Frez, Snum}
 use Rattle.pjlink.specs.Said.{refused, lampsAre, inputsAre, textIs, classIs, freezeIs, nothing}
 use Rattle.pjlink.specs.Reading.{readParameter}
 use Rattle.pjlink.specs.Computing.{computing}

@@ -3,14 +3,15 @@
 use mathlib.Core.Path.{◌≡◌, refl}
 use mathlib.Core.List.{List, [], ◌∷◌, map}
 use Prim.Native.Nat.{ℕ}
+use Rattle.std.specs.Prelude.{Ok, Err}
 use Rattle.text.specs.Words.{ascii}
 use Rattle.words.specs.declared.input.Source.TheVariants.{Digital}
 use Rattle.words.specs.declared.input.Input.{Input}
-use Rattle.pjlink.specs.declared.command.Body.TheVariants.{Inst, Snum, Svol, Innm, Inpt2}
+use Rattle.pjlink.specs.declared.body.Body.TheVariants.{Inst, Snum, Svol, Innm, Inpt2}
 use Rattle.pjlink.specs.declared.command.Command.TheVariants.{InputSet, InputSet2, NameQuery, Query}
 use Rattle.pjlink.specs.Requests.{requestOf}
 use Rattle.pjlink.specs.Computing.{computing}
-use Rattle.pjlink.specs.declared.request.Request.TheVariants.{Asks, Unlisted, UnknownBody}
+use Rattle.pjlink.specs.declared.request.Unasked.TheVariants.{Unlisted, UnknownBody}
 
 abbrev hdmi : Input
 hdmi = record { source = Digital; number = 1 }
@@ -29,9 +30,9 @@ requests : map (λ (l : Line). requestOf l.class l.body l.parameter)
     ∷ line 1 (ascii "INST") (ascii "?") ∷ line 2 (ascii "CLSS") (ascii "?") ∷ line 1 (ascii "SNUM") (ascii "?")
     ∷ line 2 (ascii "SNUM") (ascii "1") ∷ line 2 (ascii "SVOL") (ascii "?") ∷ line 2 (ascii "INNM") (ascii "?31")
     ∷ line 2 (ascii "INNM") (ascii "?") ∷ [])
-    ≡ Asks (InputSet hdmi) ∷ Asks (InputSet2 hdmi) ∷ Unlisted Inpt2
-    ∷ Asks (Query Inst) ∷ UnknownBody ∷ UnknownBody
-    ∷ Unlisted Snum ∷ Unlisted Svol ∷ Asks (NameQuery hdmi)
-    ∷ Unlisted Innm ∷ []
+    ≡ Ok (InputSet hdmi) ∷ Ok (InputSet2 hdmi) ∷ Err (Unlisted Inpt2)
+    ∷ Ok (Query Inst) ∷ Err UnknownBody ∷ Err UnknownBody
+    ∷ Err (Unlisted Snum) ∷ Err (Unlisted Svol) ∷ Ok (NameQuery hdmi)
+    ∷ Err (Unlisted Innm) ∷ []
 unfolding computing
 requests = refl

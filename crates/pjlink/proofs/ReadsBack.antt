@@ -22,8 +22,8 @@ use Rattle.pjlink.specs.declared.command.Command.{Command}
 use Rattle.pjlink.specs.declared.command.Command.TheVariants.{PowerSet, InputSet, MuteSet, InputSet2, FreezeSet}
 use Rattle.pjlink.specs.declared.command.Command.TheVariants.{VolumeStep, NameQuery, Query}
 use Rattle.pjlink.specs.declared.command.Volume.TheVariants.{Speaker, Microphone}
-use Rattle.pjlink.specs.declared.command.Body.{Body}
-use Rattle.pjlink.specs.declared.command.Body.TheVariants.{Clss, Frez, Innm}
+use Rattle.pjlink.specs.declared.body.Body.{Body}
+use Rattle.pjlink.specs.declared.body.Body.TheVariants.{Clss, Frez, Innm}
 use Rattle.words.proofs.TextsTold.{text-no-refusal, name-is-text}
 use Rattle.words.proofs.Refusals.{first-not-E, not-four-no-refusal, refusal-back}
 use Rattle.words.proofs.InputsReadBack.{input-of-text}

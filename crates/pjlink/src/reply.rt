@@ -5,8 +5,9 @@ ghost use Rattle.pjlink.specs.CanSay.{is_set, hasOwnParameter, isRefusalTo};
 ghost use Rattle.pjlink.specs.Reading.{readQueried, readValue, readParameter};
 
 use crate::answer::{Answer, Kind};
-use crate::command::{Body, Command};
-use crate::{answer, command, list, values};
+use crate::body::Body;
+use crate::command::Command;
+use crate::{answer, list, values};
 use words::texts;
 
 fn read_queried(b: Body, p: &[u8]) -> Answer
@@ -72,7 +73,7 @@ fn read_value(c: Command, p: &[u8]) -> Answer
     if is_set(c) {
         return answer::plain(values::read_exactly(p, b"OK", Kind::Ok));
     }
-    read_queried(command::body_of(c), p)
+    read_queried(c.body(), p)
 }
 
 // Whether ERRn is allowed in reply to c: ERR2 is none to `?`.

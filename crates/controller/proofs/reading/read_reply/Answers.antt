@@ -3,7 +3,7 @@ use Rattle.std.proofs.Common.{◌≡◌, sym, ap, ◌∙◌, ℕ, ◌-◌, ◌�
 use Rattle.std.specs.Prelude.{if◌then◌else◌}
 use Rattle.pjlink.specs.Forms.{isReplyForm, headBody, replyParameter}
 use Rattle.pjlink.specs.Commands.{bodyOf, commandClass}
-use Rattle.pjlink.specs.declared.command.Body.{Body}
+use Rattle.pjlink.specs.declared.body.Body.{Body}
 use Rattle.pjlink.specs.declared.command.Command.{Command}
 use Rattle.pjlink.proofs.RepliesReadBack.{reply-long}
 use Rattle.pjlink.specs.Requests.{isBody}

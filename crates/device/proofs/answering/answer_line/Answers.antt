@@ -6,7 +6,7 @@ use Rattle.text.proofs.Parts.{rest-whole}
 use Rattle.words.specs.Bytes.{◌at◌}
 use Rattle.pjlink.specs.Forms.{isCommandForm, lineClass, headBody, replyLine}
 use Rattle.pjlink.specs.Requests.{requestOf}
-use Rattle.pjlink.specs.declared.request.Request.{Request}
+use Rattle.pjlink.specs.Requests.{Request}
 use Rattle.pjlink.proofs.CommandLines.{form-long}
 use Rattle.pjlink.specs.Said.{Said, saidBytes}
 use Rattle.pjlink.specs.Carried.{saidBy}
