@@ -8,13 +8,6 @@ use crate::answer;
 use crate::answer::{Answer, INPUTS_MOST, Kind, LAMPS_MOST, LampHours, NO_INPUT, NO_LAMP};
 use words::input;
 use words::input::MaybeInput;
-use numbers::Number;
-
-#[derive(Clone, Copy)]
-pub enum MaybeLamp {
-    LampIs(LampHours),
-    NoLamp,
-}
 
 // Where the word ends that begins at `start`: at the next space, or at the end of p.
 fn word_end(p: &[u8], start: usize) -> usize
@@ -30,20 +23,19 @@ fn word_end(p: &[u8], start: usize) -> usize
 }
 
 // The lamp of two words.
-fn lamp_of(hours: &[u8], lit: &[u8]) -> MaybeLamp
+fn lamp_of(hours: &[u8], lit: &[u8]) -> Option<LampHours>
     ensures { result ≡ lampOf hours.now lit.now }
 {
     let on = text::same(lit, b"1");
     let off = text::same(lit, b"0");
     if !(on | off) {
-        return MaybeLamp::NoLamp;
+        return None;
     }
-    let number = numbers::read_number(hours);
-    let Number::Value(n) = number else {
-        return MaybeLamp::NoLamp;
+    let read = numbers::read_number(hours);
+    let Some(hours) = read else {
+        return None;
     };
-    let hours = n as u32;
-    MaybeLamp::LampIs(LampHours { hours, lit: on })
+    Some(LampHours { hours, lit: on })
 }
 
 pub fn read_lamps(p: &[u8]) -> Answer
@@ -59,7 +51,7 @@ pub fn read_lamps(p: &[u8]) -> Answer
         let second = mid + 1;
         let end = word_end(p, second);
         let found = lamp_of(&p[at..mid], &p[second..end]);
-        let MaybeLamp::LampIs(l) = found else {
+        let Some(l) = found else {
             return answer::plain(Kind::Nothing);
         };
         lamps[k] = l;

@@ -24,17 +24,17 @@ returns-in_default c =
 pub returns-then-p-end : goal.returns-then-p-end
 returns-then-p-end c =
     all-lamps _ c.of_lamps.ensures (omega arith)
-    (at-end c.loop-k.invariant c.in-LampIs.l _
+    (at-end c.loop-k.invariant c.in-Some.l _
     (lamp-here _ c.word_end-mid.ensures c.if-p-mid.false c.word_end-end.ensures c.lamp_of-found.ensures
-    c.in-LampIs.is)
+    c.in-Some.is)
     refl
     c.if-p-end.true)
 
 pub loop-k-preserved : goal.loop-k-preserved
 loop-k-preserved c =
-    one-read c.loop-k.invariant c.in-LampIs.l _
+    one-read c.loop-k.invariant c.in-Some.l _
     (lamp-here _ c.word_end-mid.ensures c.if-p-mid.false c.word_end-end.ensures c.lamp_of-found.ensures
-    c.in-LampIs.is)
+    c.in-Some.is)
     c.if-p-end.false
 
 pub returns : goal.returns
