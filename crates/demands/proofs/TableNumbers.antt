@@ -12,7 +12,7 @@ use Rattle.text.specs.Scans.{sameBy, itself}
 use Rattle.pjlink.specs.Forms.{erraLine, greetingOpen, isReplyForm, headBody, replyParameter}
 use Rattle.pjlink.specs.Commands.{bodyOf, commandClass}
 use Rattle.pjlink.specs.declared.command.Command.{Command}
-use Rattle.pjlink.specs.Requests.{isBody}
+use Rattle.pjlink.specs.Bodies.{isBody}
 use Rattle.pjlink.specs.Writings.{Allowed}
 use Rattle.record.specs.Wanted.{Wanted}
 use Rattle.record.specs.Legal.{isLegal}
@@ -21,7 +21,7 @@ use Rattle.record.proofs.Results.{set-up-number as set-up-table, fault-number, e
 use Rattle.clock.proofs.Results.{passed-number}
 use Rattle.device.proofs.Numbers.{received-number, opened-number, closed-number}
 use Rattle.controller.specs.Reading.{outcomeNumber}
-use Rattle.controller.specs.declared.reading.Outcome.TheVariants.{Means, Erra, NotALine, OtherCommand, NotAllowed}
+use Rattle.controller.specs.Reading.{Means, Erra, NotALine, OtherCommand, NotAllowed}
 use Rattle.controller.specs.Greetings.{greets, randomIn, readGreeting, greetingNumber}
 use Rattle.controller.proofs.Refusals.{written-number}
 use Rattle.controller.proofs.ReadsSound.{outcome-is-first}

@@ -8,7 +8,7 @@ use Rattle.words.specs.Bytes.{upperOf}
 use Rattle.pjlink.specs.Forms.{headBody}
 use Rattle.pjlink.specs.declared.command.Command.{Command}
 use Rattle.pjlink.specs.declared.body.Body.TheVariants.{Name}
-use Rattle.pjlink.specs.Requests.{isBody}
+use Rattle.pjlink.specs.Bodies.{isBody}
 use Rattle.pjlink.specs.Said.{textIs}
 use Rattle.record.specs.Updates.{withLine}
 use Rattle.record.specs.Record.{blank}
@@ -17,8 +17,8 @@ use Rattle.stream.specs.Collecting.{emptyLine}
 use Rattle.record.specs.Places.{connectionAt, withPlace}
 use Rattle.device.specs.Calls.{refusedBy}
 use Rattle.controller.specs.Reading.{ReadAs, meaning, without, readReply}
-use Rattle.controller.specs.declared.reading.Outcome.{Outcome}
-use Rattle.controller.specs.declared.reading.Outcome.TheVariants.{Means, Erra, NotALine, OtherCommand, NotAllowed}
+use Rattle.controller.specs.Reading.{Outcome}
+use Rattle.controller.specs.Reading.{Means, Erra, NotALine, OtherCommand, NotAllowed}
 use Rattle.ours.specs.Board.{Board, Given, Lent, ours, lent_by}
 use Rattle.demands.specs.OursBut.{butReceive, butReader}
 

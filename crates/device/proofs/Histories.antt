@@ -20,7 +20,7 @@ use Rattle.text.proofs.Choices.{if-by}
 use Rattle.pjlink.specs.Forms.{replyLine}
 use Rattle.pjlink.specs.declared.body.Body.TheVariants.{Powr}
 use Rattle.pjlink.specs.declared.command.Command.TheVariants.{PowerSet}
-use Rattle.pjlink.specs.Requests.{isBody}
+use Rattle.pjlink.specs.Bodies.{isBody}
 use Rattle.pjlink.specs.Said.{okay}
 use Rattle.record.specs.Limits.{shut, awaiting, opened, failed}
 use Rattle.record.specs.Legal.{isCollecting, heldMost, isConnection}

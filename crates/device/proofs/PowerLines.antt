@@ -21,7 +21,8 @@ use Rattle.pjlink.specs.Forms.{headBody, classNamed, lineClass, isCommandForm, c
 use Rattle.pjlink.specs.declared.body.Body.TheVariants.{Powr}
 use Rattle.pjlink.specs.declared.command.Command.TheVariants.{PowerSet}
 use Rattle.pjlink.proofs.FormsSpelt.{taken-by, form-takes, form-spelt}
-use Rattle.pjlink.specs.Requests.{isBody, asked_of}
+use Rattle.pjlink.specs.Bodies.{isBody}
+use Rattle.pjlink.specs.Requests.{asked_of}
 use Rattle.pjlink.proofs.PowerAsked.{isPowerSet, not-powr, powr-asked, power-parameter}
 use Rattle.pjlink.proofs.SaidRows.{said_row}
 use Rattle.pjlink.specs.Said.{Said, okay, saidBytes}

@@ -27,7 +27,8 @@ use Rattle.pjlink.specs.declared.command.Command.{Command}
 use Rattle.pjlink.proofs.BodiesNamed.{body-named}
 use Rattle.pjlink.proofs.CommandLines.{command-body, command-parameter, command-class, command-form}
 use Rattle.pjlink.proofs.CommandLines.{command-of-higher-class}
-use Rattle.pjlink.specs.Requests.{isBody, requestOf}
+use Rattle.pjlink.specs.Bodies.{isBody}
+use Rattle.pjlink.specs.Requests.{requestOf}
 use Rattle.pjlink.proofs.CommandsAskedBack.{command-asked-back}
 use Rattle.pjlink.specs.Said.{saidBytes}
 use Rattle.record.specs.Limits.{lineRoom, awaiting, opened}

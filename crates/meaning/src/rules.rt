@@ -1,11 +1,9 @@
-// When a request is refused: the four rules of RULES, Commands.
-ghost use Rattle.std.specs.Prelude.{◌≡◌};
-ghost use Rattle.meaning.specs.Rules.{isNoQuery, isUndefined, isUnlisted, isOutOfParameter, isFailure};
-ghost use Rattle.meaning.specs.Rules.{isUntimely, isUnavailable};
+//! When a command is refused: the four rules of RULES, Commands.
+ghost use Rattle.std.specs.Prelude.{◌≡◌, Ok};
+ghost use Rattle.meaning.specs.Rules.{isNoQuery, isUndefined, isOutOfParameter, isFailure, isUntimely, isUnavailable};
 
 use crate::inputs;
 use pjlink::command::Command;
-use pjlink::request::Unasked;
 use record::own;
 use record::own::ON;
 use record::types::{Own, Settings};
@@ -19,19 +17,16 @@ fn is_no_query(c: Command) -> bool
     }
 }
 
-/// Rule 1, ERR1: undefined command.
-pub fn is_undefined(s: &Settings, r: Result<Command, Unasked>) -> bool
-    ensures { result ≡ isUndefined s.now r }
+/// Rule 1: a query that there is not, or one of lamps where there are none.
+pub fn is_undefined(s: &Settings, c: Command) -> bool
+    ensures { result ≡ isUndefined s.now (Ok c) }
 {
-    match r {
-        Err(Unasked::UnknownBody) => true,
-        Err(Unasked::Unlisted(b)) => !b.has_parameters(),
-        Ok(c) => is_no_query(c) || (c.body().row().lamps && s.lamp_count == 0),
-    }
+    is_no_query(c) || (c.body().row().lamps && s.lamp_count == 0)
 }
 
-fn is_unlisted(s: &Settings, c: Command) -> bool
-    ensures { result ≡ isUnlisted s.now c }
+/// Rule 2: an input that is not in the set-up.
+pub fn is_out_of_parameter(s: &Settings, c: Command) -> bool
+    ensures { result ≡ isOutOfParameter s.now (Ok c) }
 {
     match c {
         Command::InputSet(i) | Command::InputSet2(i) | Command::NameQuery(i) => {
@@ -41,26 +36,11 @@ fn is_unlisted(s: &Settings, c: Command) -> bool
     }
 }
 
-/// Rule 2, ERR2: out of parameter.
-pub fn is_out_of_parameter(s: &Settings, r: Result<Command, Unasked>) -> bool
-    ensures { result ≡ isOutOfParameter s.now r }
+/// Rule 3: a set, where the projector is at fault.
+pub fn is_failure(o: &Own, c: Command) -> bool
+    ensures { result ≡ isFailure o.now (Ok c) }
 {
-    match r {
-        Err(Unasked::UnknownBody) => false,
-        Err(Unasked::Unlisted(b)) => b.has_parameters(),
-        Ok(c) => is_unlisted(s, c),
-    }
-}
-
-/// Rule 3, ERR4: projector failure.
-pub fn is_failure(o: &Own, r: Result<Command, Unasked>) -> bool
-    ensures { result ≡ isFailure o.now r }
-{
-    match r {
-        Err(Unasked::UnknownBody) => false,
-        Err(Unasked::Unlisted(b)) => b.has_set() && o.fault,
-        Ok(c) => c.body().has_set() && o.fault,
-    }
+    c.body().has_set() && o.fault
 }
 
 fn is_untimely(power: u8, c: Command) -> bool
@@ -72,12 +52,9 @@ fn is_untimely(power: u8, c: Command) -> bool
     }
 }
 
-/// Rule 4, ERR3: unavailable time.
-pub fn is_unavailable(o: &Own, r: Result<Command, Unasked>) -> bool
-    ensures { result ≡ isUnavailable o.now r }
+/// Rule 4: a command that the power does not allow now.
+pub fn is_unavailable(o: &Own, c: Command) -> bool
+    ensures { result ≡ isUnavailable o.now (Ok c) }
 {
-    match r {
-        Err(_) => false,
-        Ok(c) => is_untimely(o.power, c),
-    }
+    is_untimely(o.power, c)
 }

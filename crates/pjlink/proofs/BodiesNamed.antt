@@ -13,13 +13,12 @@ use Rattle.text.specs.Scans.{sameBy, itself}
 use Rattle.text.proofs.Choices.{both_left, both_right}
 use Rattle.text.proofs.Sameness.{same-turned, same_after}
 use Rattle.words.specs.Bytes.{upperOf}
-use Rattle.pjlink.specs.Bodies.{class_of, is_named, bodyNamed}
+use Rattle.pjlink.specs.Bodies.{class_of, is_named, bodyNamed, isBody}
 use Rattle.pjlink.specs.Commands.{bodyText}
 use Rattle.pjlink.specs.declared.body.TheConstants.{BODIES}
 use Rattle.pjlink.specs.declared.body.Row.{Row}
 use Rattle.pjlink.specs.declared.body.Body.{Body}
 use Rattle.pjlink.proofs.Bodies.{each-body, yes}
-use Rattle.pjlink.specs.Requests.{isBody}
 
 -- the body of Class k whose text is exactly s
 abbrev exactly : ℕ → List ℕ → Option Body

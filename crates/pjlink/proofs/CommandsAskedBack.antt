@@ -10,7 +10,8 @@ use Rattle.text.proofs.Choices.{if_yes, both}
 use Rattle.words.specs.declared.input.Input.{Input}
 use Rattle.words.proofs.InputsReadBack.{input-of-text}
 use Rattle.pjlink.specs.Commands.{bodyOf, commandClass, parameterOf, isCommand}
-use Rattle.pjlink.specs.Requests.{isBody, switch_of, halfNamed, mute_of, name_of, listed, asked_of, asked, requestOf}
+use Rattle.pjlink.specs.Bodies.{isBody}
+use Rattle.pjlink.specs.Requests.{switch_of, halfNamed, mute_of, name_of, listed, asked_of, asked, requestOf}
 use Rattle.pjlink.specs.declared.body.Body.{Body}
 use Rattle.pjlink.specs.declared.body.Body.TheVariants.{Inpt, Inpt2, Innm}
 use Rattle.pjlink.specs.declared.command.Volume.TheVariants.{Speaker, Microphone}

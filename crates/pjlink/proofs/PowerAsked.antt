@@ -17,10 +17,10 @@ use Rattle.text.specs.Scans.{every}
 use Rattle.text.proofs.Choices.{if-by, if-all, both_left, both_right}
 use Rattle.words.specs.Bytes.{◌at◌}
 use Rattle.pjlink.specs.Commands.{switchDigit}
-use Rattle.pjlink.specs.Bodies.{row_of, is_named, hasQuery}
+use Rattle.pjlink.specs.Bodies.{row_of, is_named, hasQuery, isBody}
 use Rattle.pjlink.specs.declared.body.TheConstants.{BODIES}
 use Rattle.pjlink.specs.declared.body.Row.{Row}
-use Rattle.pjlink.specs.Requests.{isBody, switch_of, mute_of, name_of, set_of, command_of}
+use Rattle.pjlink.specs.Requests.{switch_of, mute_of, name_of, set_of, command_of}
 use Rattle.pjlink.specs.Requests.{Request, listed, asked_of, asked, isQuestion, requestOf}
 use Rattle.words.specs.Inputs.{input_of}
 use Rattle.words.specs.declared.input.Input.{Input}

@@ -13,8 +13,8 @@ use Rattle.text.specs.Words.{ascii, ◌is◌, ◌from◌to◌}
 use Rattle.words.specs.Bytes.{◌at◌}
 use Rattle.words.specs.Inputs.{input_of}
 use Rattle.words.specs.declared.input.Input.{Input}
-use Rattle.pjlink.specs.Bodies.{bodies, row_of, is_named, bodyNamed, hasSet, hasParameters, hasQuery}
-use Rattle.pjlink.specs.Requests.{Request, isBody, switch_of, halfNamed, mute_of, name_of, set_of, isQuestion, listed}
+use Rattle.pjlink.specs.Bodies.{bodies, row_of, is_named, bodyNamed, hasSet, hasParameters, hasQuery, isBody}
+use Rattle.pjlink.specs.Requests.{Request, switch_of, halfNamed, mute_of, name_of, set_of, isQuestion, listed}
 use Rattle.pjlink.specs.Requests.{asked_of, asked, requestOf}
 use Rattle.pjlink.specs.declared.request.Unasked.TheVariants.{Unlisted, UnknownBody}
 use Rattle.pjlink.specs.declared.body.Row.{Row}

@@ -6,6 +6,7 @@
 --                      there are lamps (rule 1); whether it is available, set or query, only when on (rule 4)
 --   class_of b         the class of the line that asks for it
 --   is_named k s r      the bytes s name the body of the row r in a line of Class k, in any case of letters
+--   isBody k s b       they name the body b
 --   bodyNamed k s      the body that they name, or none
 --   hasSet b           it sets something (rule 3)
 --   hasParameters b    it knows a parameter besides `?`: one that it does not know is out of parameter (rules 1 and 2)
@@ -61,6 +62,9 @@ class_of b = (row_of b).class
 
 abbrev pub is_named : ℕ → List ℕ → Row → Bool
 is_named k s r = eqb k r.class && sameBy upperOf s r.letters
+
+abbrev pub isBody : ℕ → List ℕ → Body → Bool
+isBody k s b = is_named k s (row_of b)
 
 abbrev pub bodyNamed : ℕ → List ℕ → Option Body
 bodyNamed k s = option_map (λ (r : Row). r.body) (find (is_named k s) BODIES)

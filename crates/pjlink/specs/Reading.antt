@@ -13,12 +13,10 @@
 use Rattle.std.specs.Prelude.{ℕ, ◌-◌, Bool, true, false, ◌&&◌, ◌||◌, List, [], ◌∷◌, map, length, leb, eqb}
 use Rattle.std.specs.Prelude.{Option, Some, None}
 use Prim.Native.Char.{code}
-use Rattle.std.specs.Prelude.{if◌then◌else◌}
+use Rattle.std.specs.Prelude.{Option, Some, None, if◌then◌else◌}
 use Rattle.text.specs.Words.{ascii, ◌is◌, ◌from◌to◌}
 use Rattle.text.specs.Scans.{every, sameBy, itself}
 use Rattle.numbers.specs.Decimal.{readNumber}
-use Rattle.numbers.specs.declared.Number.{Number}
-use Rattle.numbers.specs.declared.Number.TheVariants.{Value, NotANumber}
 use Rattle.words.specs.Bytes.{◌at◌}
 use Rattle.words.specs.Inputs.{input_of}
 use Rattle.words.specs.Texts.{refusalOf, isName, isInfo, isInputName}
@@ -35,8 +33,6 @@ use Rattle.pjlink.specs.CanSay.{is_set, isRefusalTo}
 use Rattle.pjlink.specs.declared.answer.Power.TheVariants.{Off, On, Cooling, WarmUp}
 use Rattle.pjlink.specs.declared.answer.LampHours.{LampHours}
 use Rattle.pjlink.specs.Words.{words_of, Got, none, all, ◌andThen◌}
-use Rattle.pjlink.specs.declared.list.MaybeLamp.{MaybeLamp}
-use Rattle.pjlink.specs.declared.list.MaybeLamp.TheVariants.{LampIs, NoLamp}
 
 infix 40 ◌spells◌
 abbrev pub ◌spells◌ : List ℕ → List ℕ → Bool
@@ -84,19 +80,19 @@ errorOf b = b - code "0"
 unfoldable pub readErrors : List ℕ → Said
 readErrors p = if eqb (length p) errorsCarried && every isErrorText p then errorsAre (map errorOf p) else nothing
 
-abbrev pub lampOfHours : Bool → Number → MaybeLamp
-lampOfHours lit (Value n) = LampIs (record { hours = n; lit = lit })
-lampOfHours lit NotANumber = NoLamp
+abbrev pub lampOfHours : Bool → Option ℕ → Option LampHours
+lampOfHours lit (Some n) = Some (record { hours = n; lit = lit })
+lampOfHours lit None = None
 
-unfoldable pub lampOf : List ℕ → List ℕ → MaybeLamp
+unfoldable pub lampOf : List ℕ → List ℕ → Option LampHours
 lampOf hours lit =
     if lit spells ascii "1" || lit spells ascii "0"
     then lampOfHours (lit spells ascii "1") (readNumber hours)
-    else NoLamp
+    else None
 
-abbrev pub lampGot : MaybeLamp → Got LampHours
-lampGot (LampIs l) = all (l ∷ [])
-lampGot NoLamp = none
+abbrev pub lampGot : Option LampHours → Got LampHours
+lampGot (Some l) = all (l ∷ [])
+lampGot None = none
 
 abbrev pub lampsIn : List (List ℕ) → Got LampHours
 lampsIn [] = all []

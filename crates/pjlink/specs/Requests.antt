@@ -1,6 +1,5 @@
 -- What a received class, body and parameter ask for (RULES, Commands: bodies without regard to case, parameters
 -- exactly; RULES, Class 2: each body under its own class).
---   isBody k s b           the bytes s name the body b of Class k, in any case of letters
 --   switch_of p            the digit 0 or 1
 --   set_of set p           the command that the parameter p makes of a body that sets this, or none
 --   command_of b p         the command that it makes of the body b, or none
@@ -17,7 +16,7 @@ use Rattle.std.specs.Option.{option_map}
 use Rattle.text.specs.Words.{◌is◌, ◌from◌to◌}
 use Rattle.words.specs.Bytes.{◌at◌}
 use Rattle.words.specs.Inputs.{input_of}
-use Rattle.pjlink.specs.Bodies.{row_of, is_named, bodyNamed, hasQuery}
+use Rattle.pjlink.specs.Bodies.{row_of, bodyNamed, hasQuery}
 use Rattle.pjlink.specs.declared.body.Body.{Body}
 use Rattle.pjlink.specs.declared.command.Half.{Half}
 use Rattle.pjlink.specs.declared.command.Half.TheVariants.{VideoHalf, AudioHalf, BothHalves}
@@ -30,9 +29,6 @@ use Rattle.pjlink.specs.declared.body.Sets.TheVariants.{SetsPower, SetsInput, Se
 use Rattle.pjlink.specs.declared.body.Sets.TheVariants.{StepsSpeaker, StepsMicrophone, NamesInput, QueryOnly}
 use Rattle.pjlink.specs.declared.request.Unasked.{Unasked}
 use Rattle.pjlink.specs.declared.request.Unasked.TheVariants.{Unlisted, UnknownBody}
-
-abbrev pub isBody : ℕ → List ℕ → Body → Bool
-isBody k s b = is_named k s (row_of b)
 
 -- POWR, FREZ: off and on; SVOL, MVOL: down and up
 unfoldable pub switch_of : List ℕ → Option Bool

@@ -1,6 +1,6 @@
 // The bodies of both classes: THE table, a row for each (RULES, Commands; PJLink 1.04, 4.1 to 4.14; RULES, Class 2).
 ghost use Rattle.std.specs.Prelude.{◌≡◌};
-ghost use Rattle.pjlink.specs.Bodies.{row_of, is_named, bodyNamed, hasSet, hasParameters, hasQuery};
+ghost use Rattle.pjlink.specs.Bodies.{row_of, is_named, isBody, bodyNamed, hasSet, hasParameters, hasQuery};
 
 use words::byte;
 
@@ -85,6 +85,21 @@ pub const BODIES: [Row; 19] = [
     Row { body: Body::Inst2, class: 2, letters: *b"INST", set: Sets::QueryOnly,       asks: true,  lamps: false, on: false },
 ];
 
+impl Row {
+    /// Whether four letters name its body in a line of the class, whatever their case.
+    fn is_named(&self, class: u8, letters: [u8; 4]) -> bool
+        ensures { result ≡ is_named class letters self.now }
+    {
+        let [a, b, c, d] = letters;
+        let [w, x, y, z] = self.letters;
+        class == self.class
+            && byte::upper(a) == w
+            && byte::upper(b) == x
+            && byte::upper(c) == y
+            && byte::upper(d) == z
+    }
+}
+
 impl Body {
     /// Its row of the table.
     pub fn row(self) -> Row
@@ -97,8 +112,15 @@ impl Body {
     pub fn named(class: u8, letters: [u8; 4]) -> Option<Body>
         ensures { result ≡ bodyNamed class letters }
     {
-        let row = BODIES.iter().find(|row| is_named(class, letters, row))?;
+        let row = BODIES.iter().find(|row| row.is_named(class, letters))?;
         Some(row.body)
+    }
+
+    /// Whether four letters name it in a line of the class, whatever their case.
+    pub fn is_named(self, class: u8, letters: [u8; 4]) -> bool
+        ensures { result ≡ isBody class letters self }
+    {
+        self.row().is_named(class, letters)
     }
 
     /// Whether it sets something (rule 3).
@@ -121,13 +143,4 @@ impl Body {
     {
         self.row().asks
     }
-}
-
-/// Whether four letters name the row's body in a line of the class, whatever their case.
-pub fn is_named(class: u8, letters: [u8; 4], row: &Row) -> bool
-    ensures { result ≡ is_named class letters row.now }
-{
-    let [a, b, c, d] = letters;
-    let [w, x, y, z] = row.letters;
-    class == row.class && byte::upper(a) == w && byte::upper(b) == x && byte::upper(c) == y && byte::upper(d) == z
 }

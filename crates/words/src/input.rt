@@ -4,8 +4,9 @@ ghost use Rattle.words.specs.Sources.{isNumberCharacter, numberFor, numberCharac
 ghost use Rattle.words.specs.Inputs.{isInputText, sourceNamed, read_input, input_of, isInput, sourceDigit};
 ghost use Rattle.words.specs.Inputs.{numberDigit, inputText};
 
-#[derive(Clone, Copy)]
+#[derive(Clone, Copy, Default)]
 pub enum Source {
+    #[default]
     Rgb,
     Video,
     Digital,
@@ -15,7 +16,7 @@ pub enum Source {
 }
 
 // The number is 1 to 9, or 10 to 35 for A to Z.
-#[derive(Clone, Copy)]
+#[derive(Clone, Copy, Default)]
 pub struct Input {
     pub source: Source,
     pub number: u8,
