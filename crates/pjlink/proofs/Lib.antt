@@ -31,12 +31,9 @@ pub mod ErrorsBack
 pub mod JoinedBack
 pub mod Written
 pub mod ReadsBack
-pub mod OneReading
 pub mod JoinedRead
 pub mod LampsRead
 pub mod ErrorsRead
 pub mod ReadSound
 pub mod ReadWritings
-mod ExamplesOfForms
-mod ExamplesOfRequests
-mod ExamplesOfReplies
+mod Examples

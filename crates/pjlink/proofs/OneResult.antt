@@ -9,7 +9,9 @@ use lib.Seq.{sets}
 use Rattle.text.proofs.OneResult.{one-result, Left, one_left}
 use Rattle.words.specs.declared.input.Input.{Input}
 use Rattle.pjlink.specs.Said.{saidBytes}
-use Rattle.pjlink.specs.Carried.{plain_of, ofLamps, ofInputs, ofText, saidBy}
+use Rattle.pjlink.specs.Carried.{plain_of, ofLamps, ofInputs, ofText, saidBy, answer_of}
+use Rattle.pjlink.specs.Reading.{readParameter}
+use Rattle.pjlink.specs.declared.command.Command.{Command}
 use Rattle.pjlink.specs.declared.answer.LampHours.{LampHours}
 use Rattle.pjlink.specs.declared.answer.Kind.{Kind}
 use Rattle.pjlink.specs.declared.answer.Answer.{Answer}
@@ -31,3 +33,7 @@ pub one-writing : (out : List ℕ) (at : ℕ) (a : Answer) {r s : ℕ} {m n : Li
     → Left (at + length (saidBytes (saidBy a))) (sets out at (saidBytes (saidBy a))) s n
     → (r ≡ s) × (m ≡ n)
 one-writing out at a = one_left
+
+pub one-reading : (c : Command) (p : List ℕ) {r s : Answer} → r ≡ answer_of (readParameter c p)
+    → s ≡ answer_of (readParameter c p) → r ≡ s
+one-reading c p = one-result

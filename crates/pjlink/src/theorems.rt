@@ -13,7 +13,7 @@ ghost use Rattle.pjlink.specs.Reading.{readParameter};
 ghost use Rattle.pjlink.specs.Writings.{Says, Allowed};
 
 /// Two results that meet the promise of a call are equal, lent memory included.
-pub fn one_answer()
+pub fn one_result()
     ensures plain { (k : Kind) (r s : Answer) → r ≡ plain_of k → s ≡ plain_of k → r ≡ s }
     ensures lamps { (count : ℕ) (ls : List LampHours) (r s : Answer)
         → r ≡ ofLamps count ls → s ≡ ofLamps count ls → r ≡ s }
@@ -24,6 +24,8 @@ pub fn one_answer()
         → let said = saidBytes (saidBy a) in
         (r ≡ at + length said) × (m ≡ sets out at said)
         → (s ≡ at + length said) × (n ≡ sets out at said) → (r ≡ s) × (m ≡ n) }
+    ensures parameter_read { (c : Command) (p : List ℕ) (r s : Answer)
+        → r ≡ answer_of (readParameter c p) → s ≡ answer_of (readParameter c p) → r ≡ s }
 {}
 
 /// What is read of a parameter is an answer of which it is a writing, each writing of an answer is read as it, and
@@ -35,10 +37,4 @@ pub fn what_is_read_was_written()
     ensures one_meaning { (c : Command) (p : List ℕ) (m n : Said) → Says c m p → Says c n p → m ≡ n }
     ensures not_allowed { (c : Command) (p : List ℕ) → Allowed c p false → readParameter c p ≡ nothing }
     ensures allowed { (c : Command) (p : List ℕ) → Allowed c p true → readParameter c p ≡ nothing → ⊥ }
-{}
-
-/// Two results that meet the promise of a call are equal.
-pub fn one_reading()
-    ensures { (c : Command) (p : List ℕ) (r s : Answer)
-        → r ≡ answer_of (readParameter c p) → s ≡ answer_of (readParameter c p) → r ≡ s }
 {}
