@@ -9,7 +9,7 @@ use Rattle.text.specs.Scans.{sameBy}
 use Rattle.words.specs.Bytes.{◌at◌, upperOf}
 use Rattle.pjlink.specs.Bodies.{rowOf}
 use Rattle.pjlink.specs.Commands.{bodyText}
-use Rattle.pjlink.specs.ClassOne.{readInput1}
+use Rattle.words.specs.ClassOne.{readInput1}
 use Rattle.words.specs.declared.input.MaybeInput.{MaybeInput}
 use Rattle.words.specs.declared.input.MaybeInput.TheVariants.{InputIs, NoInput}
 use Rattle.pjlink.specs.declared.command.Body.{Body}
