@@ -4,9 +4,9 @@ ghost use Rattle.words.specs.Sources.{sameInput};
 ghost use Rattle.meaning.specs.SetUpInputs.{noInput, inputOfPair, inputsOfPairs, place_in, place_of, isListed};
 
 use arrayvec::ArrayVec;
-use words::input;
-use words::input::{Input, MaybeInput, Source};
 use record::types::{INPUT_ROOM, INPUTS_MOST, Settings};
+use words::input;
+use words::input::{Input, Source};
 
 const NO_INPUT: Input = Input {
     source: Source::Rgb,
@@ -17,11 +17,7 @@ const NO_INPUT: Input = Input {
 fn input_of_pair(a: u8, b: u8) -> Input
     ensures { result ≡ inputOfPair a b }
 {
-    let read = input::read_input(a, b);
-    match read {
-        MaybeInput::InputIs(i) => i,
-        MaybeInput::NoInput => NO_INPUT,
-    }
+    input::read_input(a, b).unwrap_or(NO_INPUT)
 }
 
 fn same_input(i: Input, j: Input) -> bool

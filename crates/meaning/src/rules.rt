@@ -5,6 +5,7 @@ ghost use Rattle.meaning.specs.Rules.{isNoQuery, isUndefined, isOutOfParameter, 
 
 use crate::inputs;
 use pjlink::command::Command;
+use pjlink::request::Request;
 use pjlink::{body, command};
 use record::own;
 use record::own::ON;

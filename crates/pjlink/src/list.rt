@@ -7,7 +7,6 @@ ghost use Rattle.pjlink.specs.Reading.{lampOf, readLamps, readInputs};
 use crate::answer::{Answer, INPUTS_MOST, LAMPS_MOST, LampHours};
 use arrayvec::ArrayVec;
 use words::input;
-use words::input::MaybeInput;
 
 // Where the word ends that begins at `start`: at the next space, or at the end of p.
 fn word_end(p: &[u8], start: usize) -> usize
@@ -73,7 +72,7 @@ pub fn read_inputs(p: &[u8]) -> Option<Answer<'_>>
     for k in 0..INPUTS_MOST {
         let end = word_end(p, at);
         let found = input::input_of(&p[at..end]);
-        let MaybeInput::InputIs(i) = found else {
+        let Some(i) = found else {
             return None;
         };
         inputs.push(i);

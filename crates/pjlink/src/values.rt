@@ -7,7 +7,6 @@ ghost use Rattle.pjlink.specs.Reading.{readErrors, readClass, readFreeze};
 
 use crate::answer::{Answer, ERRORS_COUNT, Power};
 use words::input;
-use words::input::MaybeInput;
 
 #[tactic(auto, unfolding(crate::specs::Reading::powerNamed))]
 fn power_named<'a>(b: u8) -> Option<Answer<'a>>
@@ -37,10 +36,8 @@ pub fn read_power(p: &[u8]) -> Option<Answer<'_>>
 pub fn read_chosen(p: &[u8]) -> Option<Answer<'_>>
     ensures { value_said result ≡ readChosen p.now }
 {
-    match input::input_of(p) {
-        MaybeInput::InputIs(i) => Some(Answer::Input(i)),
-        MaybeInput::NoInput => None,
-    }
+    let i = input::input_of(p)?;
+    Some(Answer::Input(i))
 }
 
 #[tactic(auto, unfolding(crate::specs::Reading::mutesNamed))]

@@ -20,14 +20,14 @@ pub returns-then-p-end : goal.returns-then-p-end
 unfolding readInputs
 returns-then-p-end c =
     sym
-    (at-end c.loop-k.invariant c.in-InputIs.i _ c.push.ensures.items
-    (input-here _ c.word_end-end.ensures c.input_of-found.ensures c.in-InputIs.is)
+    (at-end c.loop-k.invariant c.in-Some.i _ c.push.ensures.items
+    (input-here _ c.word_end-end.ensures c.input_of-found.ensures c.in-Some.is)
     inputsAre (omega arith) refl c.if-p-end.true)
 
 pub loop-k-preserved : goal.loop-k-preserved
 loop-k-preserved c =
-    one-read c.loop-k.invariant c.in-InputIs.i _ c.push.ensures.items
-    (input-here _ c.word_end-end.ensures c.input_of-found.ensures c.in-InputIs.is)
+    one-read c.loop-k.invariant c.in-Some.i _ c.push.ensures.items
+    (input-here _ c.word_end-end.ensures c.input_of-found.ensures c.in-Some.is)
     c.if-p-end.false
 
 pub returns : goal.returns
