@@ -2,8 +2,8 @@
 --   Named b          what the bodies' rows show of the letters of b
 -- Assumes nothing.
 use Prim.Native.Nat.{ℕ}
-use mathlib.Core.Path.{◌≡◌, refl, ap, ◌∙◌}
-use mathlib.Core.Bool.{Bool, true, ◌&&◌}
+use mathlib.Core.Path.{◌≡◌, refl, ◌∙◌}
+use mathlib.Core.Bool.{true, ◌&&◌}
 use mathlib.Core.List.{List, map}
 use lib.Dec.{eqb}
 use borrow.Author.Tests.{eqb-true, eq-eqb}
@@ -13,7 +13,7 @@ use Rattle.text.specs.Scans.{sameBy, itself}
 use Rattle.text.proofs.Choices.{both_left, both_right}
 use Rattle.text.proofs.Sameness.{same-turned, same_after}
 use Rattle.words.specs.Bytes.{upperOf}
-use Rattle.pjlink.specs.Bodies.{class_of, is_named, bodyNamed, isBody}
+use Rattle.pjlink.specs.Bodies.{class_of, bodyNamed, isBody}
 use Rattle.pjlink.specs.Commands.{bodyText}
 use Rattle.pjlink.specs.declared.body.TheConstants.{BODIES}
 use Rattle.pjlink.specs.declared.body.Row.{Row}

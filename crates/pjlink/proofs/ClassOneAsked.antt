@@ -16,13 +16,13 @@ use Rattle.words.specs.Bytes.{◌at◌}
 use Rattle.words.specs.Inputs.{isInputText, inputNamed, read_input, input_of}
 use Rattle.words.specs.declared.input.Input.{Input}
 use Rattle.pjlink.specs.Bodies.{row_of, hasQuery}
-use Rattle.pjlink.specs.ClassOne.{readInput1}
+use Rattle.words.specs.ClassOne.{readInput1}
 use Rattle.pjlink.specs.declared.body.Row.{Row}
 use Rattle.pjlink.specs.declared.body.Body.{Body}
 use Rattle.pjlink.specs.declared.body.Body.TheVariants.{Powr, Inpt, Avmt, Erst, Lamp, Inst, Name, Inf1, Inf2}
 use Rattle.pjlink.specs.declared.body.Body.TheVariants.{Info, Clss}
 use Rattle.pjlink.specs.declared.command.Command.TheVariants.{PowerSet, InputSet, MuteSet, Query}
-use Rattle.pjlink.proofs.ClassOneKept.{InputKept, input-as-before, input-of-class-2, inputs-kept, input-by-two}
+use Rattle.words.proofs.ClassOneKept.{InputKept, input-as-before, input-of-class-2, inputs-kept, input-by-two}
 use Rattle.pjlink.specs.Requests.{Request, switch_of, mute_of, halfNamed, set_of, isQuestion, listed}
 use Rattle.pjlink.specs.Requests.{asked_of, asked, requestOf}
 use Rattle.pjlink.specs.ClassOneAsked.{isBody1, bodyNamed1, powerAsked1, inputGiven1, inputAsked1, muteAsked1}

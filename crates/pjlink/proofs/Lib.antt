@@ -35,6 +35,4 @@ pub mod LampsRead
 pub mod ErrorsRead
 pub mod ReadSound
 pub mod ReadWritings
-mod ExamplesOfForms
-mod ExamplesOfRequests
-mod ExamplesOfReplies
+mod Examples

@@ -10,7 +10,7 @@ use native.Mathlib.Omega.{arith}
 use lib.ListN.{length, drop}
 use lib.Dec.{eqb}
 use borrow.Author.Tests.{eqb-true, eqb-false}
-use Rattle.std.specs.Prelude.{if◌then◌else◌, find, Option, Some, None, Ok, Err}
+use Rattle.std.specs.Prelude.{find, Option, Some, None, Ok, Err}
 use Rattle.std.specs.Option.{option_map}
 use Rattle.text.specs.Words.{◌is◌, ◌from◌to◌}
 use Rattle.text.specs.Scans.{every}
@@ -20,10 +20,9 @@ use Rattle.pjlink.specs.Commands.{switchDigit}
 use Rattle.pjlink.specs.Bodies.{row_of, is_named, hasQuery, isBody}
 use Rattle.pjlink.specs.declared.body.TheConstants.{BODIES}
 use Rattle.pjlink.specs.declared.body.Row.{Row}
-use Rattle.pjlink.specs.Requests.{switch_of, mute_of, name_of, set_of, command_of}
+use Rattle.pjlink.specs.Requests.{switch_of, mute_of, name_of, set_of}
 use Rattle.pjlink.specs.Requests.{Request, listed, asked_of, asked, isQuestion, requestOf}
 use Rattle.words.specs.Inputs.{input_of}
-use Rattle.words.specs.declared.input.Input.{Input}
 use Rattle.pjlink.specs.declared.body.Body.{Body}
 use Rattle.pjlink.specs.declared.body.Body.TheVariants.{Powr}
 use Rattle.pjlink.specs.declared.body.Sets.{Sets}
@@ -31,9 +30,9 @@ use Rattle.pjlink.specs.declared.body.Sets.TheVariants.{SetsPower, SetsInput, Se
 use Rattle.pjlink.specs.declared.body.Sets.TheVariants.{StepsSpeaker, StepsMicrophone, NamesInput, QueryOnly}
 use Rattle.pjlink.specs.declared.command.Volume.TheVariants.{Speaker, Microphone}
 use Rattle.pjlink.specs.declared.command.Command.{Command}
-use Rattle.pjlink.specs.declared.command.Command.TheVariants.{PowerSet, InputSet, MuteSet, InputSet2, FreezeSet}
+use Rattle.pjlink.specs.declared.command.Command.TheVariants.{PowerSet, InputSet, InputSet2, FreezeSet}
 use Rattle.pjlink.specs.declared.command.Command.TheVariants.{VolumeStep, NameQuery, Query}
-use Rattle.pjlink.specs.declared.request.Unasked.TheVariants.{Unlisted, UnknownBody}
+use Rattle.pjlink.specs.declared.request.Unasked.TheVariants.{Unlisted}
 use Rattle.words.proofs.ByPlaces.{by-places}
 use Rattle.words.proofs.Characters.{in-range}
 use Rattle.pjlink.proofs.BodiesNamed.{body-is-named}

@@ -12,7 +12,7 @@
 --   hasParameters b    it knows a parameter besides `?`: one that it does not know is out of parameter (rules 1 and 2)
 --   hasQuery b         `?` asks it
 -- Assumes nothing.
-use Rattle.std.specs.Prelude.{ℕ, Bool, true, false, ◌&&◌, List, [], ◌∷◌, map, eqb, get_or, find, Option}
+use Rattle.std.specs.Prelude.{ℕ, Bool, true, false, ◌&&◌, List, [], map, eqb, get_or, find, Option}
 use Rattle.std.specs.Option.{option_map}
 use Rattle.text.specs.Scans.{sameBy}
 use Rattle.words.specs.Bytes.{upperOf}

@@ -12,7 +12,7 @@ use Rattle.text.specs.Scans.{sameBy}
 use Rattle.words.specs.Bytes.{◌at◌, upperOf}
 use Rattle.words.specs.declared.input.Input.{Input}
 use Rattle.pjlink.specs.Bodies.{row_of}
-use Rattle.pjlink.specs.ClassOne.{readInput1}
+use Rattle.words.specs.ClassOne.{readInput1}
 use Rattle.pjlink.specs.declared.body.TheConstants.{BODIES}
 use Rattle.pjlink.specs.declared.body.Row.{Row}
 use Rattle.pjlink.specs.declared.body.Body.{Body}

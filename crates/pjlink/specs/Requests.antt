@@ -10,7 +10,7 @@
 --   asked_of b p           the request of the body b with the parameter p
 --   requestOf k s p        what the body s with the parameter p asks for in a line of Class k
 -- Assumes nothing.
-use Rattle.std.specs.Prelude.{ℕ, Bool, true, false, ◌&&◌, List, [], ◌∷◌, length, drop, eqb, if◌then◌else◌}
+use Rattle.std.specs.Prelude.{ℕ, Bool, ◌&&◌, List, length, drop, eqb, if◌then◌else◌}
 use Rattle.std.specs.Prelude.{Option, Some, None, Result, Ok, Err}
 use Rattle.std.specs.Option.{option_map}
 use Rattle.text.specs.Words.{◌is◌, ◌from◌to◌}

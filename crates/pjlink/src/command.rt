@@ -76,7 +76,9 @@ impl Command {
         ensures { result ≡ isCommand self }
     {
         match self {
-            Command::InputSet(i) | Command::InputSet2(i) | Command::NameQuery(i) => input::is_input(i),
+            Command::InputSet(i) | Command::InputSet2(i) | Command::NameQuery(i) => input::is_input(
+                i,
+            ),
             Command::Query(b) => b.has_query(),
             _ => true,
         }

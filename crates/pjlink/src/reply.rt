@@ -8,7 +8,7 @@ ghost use Rattle.pjlink.specs.Reading.{readQueried, readValue, readParameter};
 use crate::answer::{Answer, Refusal, Reply};
 use crate::body::Body;
 use crate::command::Command;
-use crate::{command, list, values};
+use crate::{list, values};
 use words::texts;
 
 fn read_queried(b: Body, p: &[u8]) -> Option<Answer<'_>>

@@ -36,10 +36,8 @@ pub fn read_power(p: &[u8]) -> Option<Answer<'_>>
 pub fn read_chosen(p: &[u8]) -> Option<Answer<'_>>
     ensures { value_said result ≡ readChosen p.now }
 {
-    match input::input_of(p) {
-        Some(i) => Some(Answer::Input(i)),
-        None => None,
-    }
+    let i = input::input_of(p)?;
+    Some(Answer::Input(i))
 }
 
 #[tactic(auto, unfolding(crate::specs::Reading::mutesNamed))]

@@ -6,3 +6,5 @@ pub mod Characters
 pub mod NumbersReadBack
 pub mod InputsReadBack
 pub mod SourcesFollowed
+pub mod ClassOneKept
+mod Examples
