@@ -3,7 +3,7 @@
 -- Assumes nothing.
 use Rattle.words.specs.Computing.{computing as words}
 use Rattle.pjlink.specs.Forms.{isCommandForm, isReplyForm}
-use Rattle.pjlink.specs.Requests.{switch_of, name_of, halfNamed, mute_of, asked_of, requestOf}
+use Rattle.pjlink.specs.Requests.{switch_of, name_query_of, halfNamed, mute_of, asked_of, requestOf}
 use Rattle.pjlink.specs.Lists.{gap}
 use Rattle.pjlink.specs.Said.{saidBytes}
 use Rattle.pjlink.specs.Reading.{powerNamed, readPower, mutesNamed, readMutes, readErrors, lampOf}
@@ -11,6 +11,6 @@ use Rattle.pjlink.specs.Reading.{readLamps, readInputs, readParameter}
 
 unfoldable pub computing : Unit {0}
 unfolding
-    words isCommandForm isReplyForm switch_of name_of halfNamed mute_of asked_of requestOf gap
+    words isCommandForm isReplyForm switch_of name_query_of halfNamed mute_of asked_of requestOf gap
     saidBytes powerNamed readPower mutesNamed readMutes readErrors lampOf readLamps readInputs readParameter
 computing = tt
