@@ -6,3 +6,4 @@ pub mod Characters
 pub mod NumbersReadBack
 pub mod InputsReadBack
 pub mod SourcesFollowed
+pub mod ListSteps
