@@ -7,19 +7,15 @@ ghost use Rattle.meaning.specs.SetUpInputs.{noInput, inputOfPair, inputsOfPairs,
 
 use pjlink::answer;
 use pjlink::answer::{Answer, NO_INPUT};
-use words::input;
-use words::input::{Input, MaybeInput};
 use record::types::{INPUT_ROOM, INPUTS_MOST, Settings};
+use words::input;
+use words::input::Input;
 
 // No legal set-up has a pair that stands for no input.
 fn input_of_pair(a: u8, b: u8) -> Input
     ensures { result ≡ inputOfPair a b }
 {
-    let read = input::read_input(a, b);
-    match read {
-        MaybeInput::InputIs(i) => i,
-        MaybeInput::NoInput => NO_INPUT,
-    }
+    input::read_input(a, b).unwrap_or(NO_INPUT)
 }
 
 fn same_input(i: Input, j: Input) -> bool

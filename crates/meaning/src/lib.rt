@@ -14,8 +14,8 @@ ghost use Rattle.meaning.specs.Meaning.{tableAnswer, requestAnswer, afterCommand
 use pjlink::answer;
 use pjlink::answer::{Answer, Kind};
 use pjlink::command::Command;
-use record::types::{Own, Settings};
 use pjlink::request::Request;
+use record::types::{Own, Settings};
 
 // What a spec calls the answer and the own part that a request leaves; the code gives the one and changes the other.
 #[derive(Clone, Copy)]

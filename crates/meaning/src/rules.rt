@@ -6,11 +6,11 @@ ghost use Rattle.meaning.specs.Rules.{isUnavailable};
 
 use crate::inputs;
 use pjlink::command::Command;
+use pjlink::request::Request;
 use pjlink::{body, command};
 use record::own;
 use record::own::ON;
 use record::types::{Own, Settings};
-use pjlink::request::Request;
 
 fn is_no_query(c: Command) -> bool
     ensures { result ≡ isNoQuery c }

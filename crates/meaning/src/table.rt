@@ -12,12 +12,12 @@ use crate::inputs;
 use pjlink::answer;
 use pjlink::answer::{Answer, Kind, LampHours, NO_LAMP, Power, TEXT_MOST};
 use pjlink::command::{Body, Command};
-use words::input::Input;
 use record::own;
 use record::own::{COOLING, OFF, ON};
 use record::types::{
     INPUT_NAME_MOST, INPUTS_MOST, InputName, LAMPS_MOST, Own, Settings, TEXT_ROOM, Text,
 };
+use words::input::Input;
 
 const HOUR: u32 = 3600;
 

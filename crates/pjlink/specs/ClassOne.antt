@@ -4,7 +4,7 @@
 --   isCommandForm1 l      `%1`, four letters or digits, a space, 0 to 128 bytes
 --   readInput1 a b        the input that two characters name: a type 1 to 5 and a number 1 to 9
 -- Assumes nothing.
-use Rattle.std.specs.Prelude.{ℕ, ◌-◌, Bool, ◌&&◌, List, length, leb, eqb, if◌then◌else◌}
+use Rattle.std.specs.Prelude.{ℕ, ◌-◌, Bool, ◌&&◌, List, length, leb, eqb, if◌then◌else◌, Option, Some, None}
 use Prim.Native.Char.{code}
 use Rattle.text.specs.Words.{◌is◌, ◌from◌to◌}
 use Rattle.words.specs.Bytes.{◌at◌, isAlnum}
@@ -12,8 +12,6 @@ use Rattle.words.specs.Bytes.{commandMost}
 use Rattle.words.specs.declared.input.Source.{Source}
 use Rattle.words.specs.declared.input.Source.TheVariants.{Rgb, Video, Digital, Storage, Network}
 use Rattle.words.specs.declared.input.Input.{Input}
-use Rattle.words.specs.declared.input.MaybeInput.{MaybeInput}
-use Rattle.words.specs.declared.input.MaybeInput.TheVariants.{InputIs, NoInput}
 
 abbrev pub isHeaded1 : ℕ → List ℕ → Bool
 isHeaded1 m l =
@@ -38,5 +36,5 @@ sourceNamed1 a =
 abbrev pub inputNamed1 : ℕ → ℕ → Input
 inputNamed1 a b = record { source = sourceNamed1 a; number = b - code "0" }
 
-unfoldable pub readInput1 : ℕ → ℕ → MaybeInput
-readInput1 a b = if isInputText1 a b then InputIs (inputNamed1 a b) else NoInput
+unfoldable pub readInput1 : ℕ → ℕ → Option Input
+readInput1 a b = if isInputText1 a b then Some (inputNamed1 a b) else None

@@ -11,6 +11,7 @@
 --   readParameter c p      what p says to c
 -- Assumes nothing.
 use Rattle.std.specs.Prelude.{ℕ, ◌-◌, Bool, true, false, ◌&&◌, ◌||◌, List, [], ◌∷◌, map, length, leb, eqb}
+use Rattle.std.specs.Prelude.{Option, Some, None}
 use Prim.Native.Char.{code}
 use Rattle.std.specs.Prelude.{Option, Some, None, if◌then◌else◌}
 use Rattle.text.specs.Words.{ascii, ◌is◌, ◌from◌to◌}
@@ -21,8 +22,6 @@ use Rattle.words.specs.Inputs.{input_of}
 use Rattle.words.specs.Texts.{refusalOf, isName, isInfo, isInputName}
 use Rattle.pjlink.specs.Commands.{bodyOf}
 use Rattle.words.specs.declared.input.Input.{Input}
-use Rattle.words.specs.declared.input.MaybeInput.{MaybeInput}
-use Rattle.words.specs.declared.input.MaybeInput.TheVariants.{InputIs, NoInput}
 use Rattle.pjlink.specs.declared.command.Command.{Command}
 use Rattle.pjlink.specs.declared.command.Body.{Body}
 use Rattle.pjlink.specs.declared.command.Body.TheVariants.{Powr, Inpt, Avmt, Erst, Lamp, Inst, Name, Inf1, Inf2, Info}
@@ -53,9 +52,9 @@ powerNamed b =
 unfoldable pub readPower : List ℕ → Said
 readPower p = if eqb (length p) 1 then powerNamed (p at 0) else nothing
 
-abbrev pub chosenOr : MaybeInput → Said
-chosenOr (InputIs i) = chosenIs i
-chosenOr NoInput = nothing
+abbrev pub chosenOr : Option Input → Said
+chosenOr (Some i) = chosenIs i
+chosenOr None = nothing
 
 abbrev pub readChosen : List ℕ → Said
 readChosen p = chosenOr (input_of p)
@@ -100,9 +99,9 @@ lampsIn [] = all []
 lampsIn (hours ∷ []) = none
 lampsIn (hours ∷ lit ∷ ws) = lampGot (lampOf hours lit) andThen lampsIn ws
 
-abbrev pub inputGot : MaybeInput → Got Input
-inputGot (InputIs i) = all (i ∷ [])
-inputGot NoInput = none
+abbrev pub inputGot : Option Input → Got Input
+inputGot (Some i) = all (i ∷ [])
+inputGot None = none
 
 abbrev pub inputsIn : List (List ℕ) → Got Input
 inputsIn [] = all []

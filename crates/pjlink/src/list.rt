@@ -7,7 +7,6 @@ ghost use Rattle.pjlink.specs.Reading.{lampOf, readLamps, readInputs};
 use crate::answer;
 use crate::answer::{Answer, INPUTS_MOST, Kind, LAMPS_MOST, LampHours, NO_INPUT, NO_LAMP};
 use words::input;
-use words::input::MaybeInput;
 
 // Where the word ends that begins at `start`: at the next space, or at the end of p.
 fn word_end(p: &[u8], start: usize) -> usize
@@ -71,7 +70,7 @@ pub fn read_inputs(p: &[u8]) -> Answer
     for k in 0..INPUTS_MOST {
         let end = word_end(p, at);
         let found = input::input_of(&p[at..end]);
-        let MaybeInput::InputIs(i) = found else {
+        let Some(i) = found else {
             return answer::plain(Kind::Nothing);
         };
         inputs[k] = i;

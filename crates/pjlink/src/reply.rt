@@ -4,10 +4,9 @@ ghost use Rattle.pjlink.specs.Carried.{answer_of};
 ghost use Rattle.pjlink.specs.CanSay.{is_set, hasOwnParameter, isRefusalTo};
 ghost use Rattle.pjlink.specs.Reading.{readQueried, readValue, readParameter};
 
-use crate::answer;
 use crate::answer::{Answer, Kind};
 use crate::command::{Body, Command};
-use crate::{command, list, values};
+use crate::{answer, command, list, values};
 use words::texts;
 
 fn read_queried(b: Body, p: &[u8]) -> Answer

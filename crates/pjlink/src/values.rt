@@ -9,7 +9,6 @@ ghost use Rattle.pjlink.specs.Reading.{readErrors, readClass, readFreeze};
 use crate::answer;
 use crate::answer::{Answer, ERRORS_COUNT, Kind, Power, TEXT_MOST};
 use words::input;
-use words::input::MaybeInput;
 
 // The kind k where p is exactly t.
 pub fn read_exactly(p: &[u8], t: &[u8], k: Kind) -> Kind
@@ -49,8 +48,8 @@ pub fn read_chosen(p: &[u8]) -> Kind
 {
     let found = input::input_of(p);
     match found {
-        MaybeInput::InputIs(i) => Kind::Chosen(i),
-        MaybeInput::NoInput => Kind::Nothing,
+        Some(i) => Kind::Chosen(i),
+        None => Kind::Nothing,
     }
 }
 

@@ -14,15 +14,15 @@ returns-in_default c =
 pub returns-then-p-end : goal.returns-then-p-end
 returns-then-p-end c =
     all-inputs _ c.of_inputs.ensures (omega arith)
-    (at-end c.loop-k.invariant c.in-InputIs.i _
-    (input-here _ c.word_end-end.ensures c.input_of-found.ensures c.in-InputIs.is)
+    (at-end c.loop-k.invariant c.in-Some.i _
+    (input-here _ c.word_end-end.ensures c.input_of-found.ensures c.in-Some.is)
     refl
     c.if-p-end.true)
 
 pub loop-k-preserved : goal.loop-k-preserved
 loop-k-preserved c =
-    one-read c.loop-k.invariant c.in-InputIs.i _
-    (input-here _ c.word_end-end.ensures c.input_of-found.ensures c.in-InputIs.is)
+    one-read c.loop-k.invariant c.in-Some.i _
+    (input-here _ c.word_end-end.ensures c.input_of-found.ensures c.in-Some.is)
     c.if-p-end.false
 
 pub returns : goal.returns
