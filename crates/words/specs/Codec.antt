@@ -12,8 +12,8 @@
 --   Plain legal text x t    t says the legal x as our own side says it, and in no other way
 --   Codec E legal text writes read    a legal value's own text says it; what says a value is read as it, where E holds
 --                      of what follows; what is read says the value
---   Says legal text writes read       the same of all of a parameter
---   seen r             what a reader of the code returned, apart from where the rest lies
+--   WholeCodec legal text writes read  the same of all of a parameter
+--   taken r            what a reader of the code returned, apart from where the rest lies
 -- Assumes nothing.
 use Rattle.std.specs.Prelude.{ℕ, zero, suc, ◌≡◌, Bool, true, List, [], ◌∷◌, ◌++◌, eqb, if◌then◌else◌}
 use Rattle.std.specs.Prelude.{Option, Some, None}
@@ -69,9 +69,6 @@ abbrev pub Ends : List ℕ → Type 0
 Ends [] = Unit {0}
 Ends (b ∷ s) = b ≡ code " "
 
-abbrev pub Anywhere : List ℕ → Type 0
-Anywhere s = Unit {0}
-
 abbrev pub Plain : {A : Type 0} → (A → Bool) → (A → List ℕ) → A → List ℕ → Type 0
 Plain legal text x t = (legal x ≡ true) × (t ≡ text x)
 
@@ -87,7 +84,7 @@ pub record Codec
   pub sound : (s : List ℕ) (x : A) (rest : List ℕ) → read s ≡ Some (x, rest)
       → (t : List ℕ) × writes x t × (s ≡ t ++ rest)
 
-pub record Says
+pub record WholeCodec
     {A : Type 0}
     (legal : A → Bool)
     (text : A → List ℕ)
@@ -97,6 +94,6 @@ pub record Says
   pub back : (x : A) (s : List ℕ) → writes x s → read s ≡ Some x
   pub sound : (s : List ℕ) (x : A) → read s ≡ Some x → writes x s
 
-abbrev pub seen : {A : Type 0} → Option (A × Bor (List ℕ)) → Option (A × List ℕ)
-seen None = None
-seen (Some x) = Some (x.0, x.1.now)
+abbrev pub taken : {A : Type 0} → Option (A × Bor (List ℕ)) → Option (A × List ℕ)
+taken None = None
+taken (Some x) = Some (x.0, x.1.now)

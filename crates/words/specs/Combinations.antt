@@ -1,7 +1,7 @@
 -- What is written by a combination of values is read back, and nothing else is read: one law for each combination. They
 -- stand in specs/ since the laws of a trait's values (Laws) rest on them, and are named from there.
 -- Assumes nothing.
-use Rattle.std.proofs.Common.{ℕ, zero, suc, ◌+◌, ◌≡◌, ◌≤◌, ◌⊎◌, inl, inr, Bool, true, false, List, [], ◌∷◌, ◌++◌}
+use Rattle.std.proofs.Common.{ℕ, zero, suc, ◌≡◌, ◌≤◌, ◌⊎◌, inl, inr, Bool, true, false, List, [], ◌∷◌, ◌++◌}
 use Rattle.std.proofs.Common.{refl, sym, ap, ◌∙◌, subst, arith, length, map}
 use Rattle.std.specs.Prelude.{Option, Some, None, eqb, leb, ◌&&◌, if◌then◌else◌}
 use Rattle.std.specs.Option.{option_or}
@@ -13,9 +13,9 @@ use Prim.Native.Char.{Char, code}
 use Rattle.text.specs.Words.{◌is◌}
 use Rattle.text.specs.Scans.{every}
 use Rattle.text.proofs.Choices.{if_yes, both, both_left, both_right}
-use Rattle.words.specs.Codec.{Codec, Says, Plain, Ends, Anywhere, named, letter, behind, spelled, past, pair_of}
+use Rattle.words.specs.Codec.{Codec, WholeCodec, Plain, Ends, named, letter, behind, spelled, past, pair_of}
 use Rattle.words.specs.Codec.{counted, whole, ended, ◌>>=◌}
-use Rattle.words.specs.Joined.{joined, JoinedBy, following, listed, is_list, WritesList}
+use Rattle.words.specs.Joined.{list_text, JoinedBy, following, listed, is_list, WritesList}
 
 pub bind_some : {A B : Type 0} (o : Option A) (f : A → Option B) {y : B} → (o >>= f) ≡ Some y
     → (x : A) × (o ≡ Some x) × (f x ≡ Some y)
@@ -237,7 +237,7 @@ module _
         let g : t ≡ s = sym (f ∙ ap (λ r. t ++ r) z ∙ append-nil t) in
         subst (λ x. writes x s) k (subst (λ s. writes r.0 s) g w)
 
-    pub whole_says : Says legal text writes (whole read)
+    pub whole_says : WholeCodec legal text writes (whole read)
     whole_says = record { own = it.own; back = whole-back; sound = whole-sound }
 
     list-back : (n : ℕ) (xs : List A) (s : List ℕ) → length xs ≤ n → JoinedBy writes xs s → listed read n s ≡ Some xs
@@ -277,25 +277,25 @@ module _
         let (t, w, f) = it.sound s r.0 r.1 p in
         list-next n (list-sound n) s xs r.0 t r.1 w f q
 
-    joined-own : (xs : List A) → 1 ≤ length xs → every legal xs ≡ true → JoinedBy writes xs (joined text xs)
-    joined-own [] l h = absurd (omega arith)
-    joined-own (x ∷ []) l h =
+    list-text-own : (xs : List A) → 1 ≤ length xs → every legal xs ≡ true → JoinedBy writes xs (list_text text xs)
+    list-text-own [] l h = absurd (omega arith)
+    list-text-own (x ∷ []) l h =
         subst (λ s. writes x s) (sym (append-nil (text x))) (it.own x (both_left (legal x) true h))
-    joined-own (x ∷ y ∷ xs) l h = (
+    list-text-own (x ∷ y ∷ xs) l h = (
       text x,
-      joined text (y ∷ xs),
+      list_text text (y ∷ xs),
       it.own x (both_left (legal x) (every legal (y ∷ xs)) h),
-      joined-own (y ∷ xs) (omega arith) (both_right (legal x) (every legal (y ∷ xs)) h),
+      list-text-own (y ∷ xs) (omega arith) (both_right (legal x) (every legal (y ∷ xs)) h),
       refl,
     )
 
-    list-own : (n : ℕ) (xs : List A) → is_list legal n xs ≡ true → WritesList writes n xs (joined text xs)
+    list-own : (n : ℕ) (xs : List A) → is_list legal n xs ≡ true → WritesList writes n xs (list_text text xs)
     list-own n xs h =
         let sizes = both_left (leb 1 (length xs) && leb (length xs) n) (every legal xs) h in (
           leb-true (length xs) n (both_right (leb 1 (length xs)) (leb (length xs) n) sizes),
-          joined-own xs (leb-true 1 (length xs) (both_left (leb 1 (length xs)) (leb (length xs) n) sizes))
+          list-text-own xs (leb-true 1 (length xs) (both_left (leb 1 (length xs)) (leb (length xs) n) sizes))
               (both_right (leb 1 (length xs) && leb (length xs) n) (every legal xs) h),
         )
 
-    pub list_says : (n : ℕ) → Says (is_list legal n) (joined text) (WritesList writes n) (listed read n)
+    pub list_says : (n : ℕ) → WholeCodec (is_list legal n) (list_text text) (WritesList writes n) (listed read n)
     list_says n = record { own = list-own n; back = λ xs s w. list-back n xs s w.0 w.1; sound = list-sound n }

@@ -1,6 +1,6 @@
 -- Lists: their things joined by single spaces (RULES, Commands: "lamps joined by spaces", "inputs .. joined by
 -- spaces").
---   joined text xs        as our own side says them
+--   list_text text xs     as our own side says them
 --   JoinedBy W xs s       s is one or more things, joined, each in one of the forms that W has for it
 --   listed read n s       the things that all of s says, one to n of them
 --   is_list legal n xs    one to n things, each legal
@@ -14,9 +14,9 @@ use Rattle.text.specs.Words.{◌is◌}
 use Rattle.text.specs.Scans.{every}
 use Rattle.words.specs.Codec.{◌>>=◌}
 
-abbrev pub joined : {A : Type 0} → (A → List ℕ) → List A → List ℕ
-joined text [] = []
-joined text (x ∷ xs) = text x ++ flat_map (λ y. code " " ∷ text y) xs
+abbrev pub list_text : {A : Type 0} → (A → List ℕ) → List A → List ℕ
+list_text text [] = []
+list_text text (x ∷ xs) = text x ++ flat_map (λ y. code " " ∷ text y) xs
 
 abbrev pub JoinedBy : {A : Type 0} → (A → List ℕ → Type 0) → List A → List ℕ → Type 0
 JoinedBy W [] s = ⊥

@@ -2,7 +2,7 @@
 -- (RULES, Controller): other makers pad the hours with zeros, to five digits at most.
 --   is_lamp_hours l      hours that five digits can tell
 --   lamp_text l          as our own side says a lamp
---   WritesLamp l t       the bytes t are a writing of the lamp l: its hours in one to five digits, a space, 1 if lit,
+--   WritesLampHours l t  the bytes t are a writing of the lamp l: its hours in one to five digits, a space, 1 if lit,
 --                        else 0
 --   lamp_read s          the lamp at the front of s
 -- Assumes nothing.
@@ -20,7 +20,7 @@ is_lamp_hours l = is_numeral l.hours
 abbrev pub lamp_text : LampHours → List ℕ
 lamp_text l = digits l.hours ++ code " " ∷ switch_code l.lit ∷ []
 
-pub record WritesLamp (l : LampHours) (t : List ℕ) : Type 0 where
+pub record WritesLampHours (l : LampHours) (t : List ℕ) : Type 0 where
   pub word : List ℕ
   pub hours : WritesNumber l.hours word
   pub text : t ≡ word ++ code " " ∷ switch_code l.lit ∷ []

@@ -1,9 +1,9 @@
 -- The law of each value on a line: its own text says it, what says it is read back, and what is read said it. A trait's
 -- law is named from specs/, so these stand here, and no reader has to believe them.
 -- Assumes nothing.
-use Rattle.std.proofs.Common.{ℕ, ◌+◌, ◌-◌, ◌%◌, ◌≡◌, Bool, true, false, List, [], ◌∷◌, ◌++◌, length, take, drop}
+use Rattle.std.proofs.Common.{ℕ, ◌+◌, ◌≡◌, Bool, true, false, List, [], ◌∷◌, ◌++◌, length, take, drop}
 use Rattle.std.proofs.Common.{refl, sym, ap, ◌∙◌, subst, arith, append_assoc}
-use Rattle.std.specs.Prelude.{Option, Some, None, leb, ◌&&◌}
+use Rattle.std.specs.Prelude.{Some, None, leb, ◌&&◌}
 use Rattle.std.proofs.lemmas.Bool.Decides.{nat_tests}
 use Rattle.std.proofs.lemmas.List.{take-append-drop}
 use Rattle.std.proofs.lemmas.Option.{same_Some, some_pair_parts}
@@ -20,7 +20,7 @@ use Rattle.words.specs.Powers.{power_code, powers, power_text, power_read, switc
 use Rattle.words.specs.Inputs.{isInputText, sourceNamed, inputNamed, isInput, inputText, sourceDigit, read_input}
 use Rattle.words.specs.Inputs.{input_read, numberDigit}
 use Rattle.words.specs.Sources.{isNumberCharacter, numberFor, numberCharacter}
-use Rattle.words.specs.Lamps.{lamp_text, lamp_hours, is_lamp_hours, WritesLamp, lamp_read}
+use Rattle.words.specs.Lamps.{lamp_text, lamp_hours, is_lamp_hours, WritesLampHours, lamp_read}
 use Rattle.words.specs.Muting.{halves_text, mutes_text, mutes_of, all_mutes, mutes_read}
 use Rattle.words.specs.ErrorDigits.{is_error_digit, error_named, is_errors, errors_text, errors_read}
 use Rattle.words.specs.Classes.{is_class, class_text, class_named, class_read}
@@ -104,7 +104,8 @@ source-is : (a : ℕ) → (a from "1" to "6") ≡ true → a ≡ sourceDigit (so
 unfolding sourceNamed
 source-is a h = grind (arith, nat_tests)
 
-number-is : (b : ℕ) → isNumberCharacter b ≡ true → (leb 1 (numberFor b) && leb (numberFor b) 35 ≡ true) × (b ≡ numberCharacter (numberFor b))
+number-is : (b : ℕ) → isNumberCharacter b ≡ true
+    → (leb 1 (numberFor b) && leb (numberFor b) 35 ≡ true) × (b ≡ numberCharacter (numberFor b))
 unfolding numberFor numberCharacter
 number-is b h = (grind (arith, nat_tests), grind (arith, nat_tests))
 
@@ -160,7 +161,7 @@ number_codec = record {
   sound = number-sound;
 }
 
-lamp-back : (l : LampHours) (t rest : List ℕ) → WritesLamp l t → Ends rest → lamp_read (t ++ rest) ≡ Some (l, rest)
+lamp-back : (l : LampHours) (t rest : List ℕ) → WritesLampHours l t → Ends rest → lamp_read (t ++ rest) ≡ Some (l, rest)
 lamp-back l t rest w h =
     ap (λ t. lamp_read (t ++ rest)) w.text
     ∙ ap lamp_read (append_assoc w.word (code " " ∷ switch_text l.lit) rest)
@@ -168,15 +169,15 @@ lamp-back l t rest w h =
     (code " " ∷ switch_text l.lit) rest w.hours (refl, refl) refl h
 
 lamp-sound : (s : List ℕ) (l : LampHours) (rest : List ℕ) → lamp_read s ≡ Some (l, rest)
-    → (t : List ℕ) × WritesLamp l t × (s ≡ t ++ rest)
+    → (t : List ℕ) × WritesLampHours l t × (s ≡ t ++ rest)
 lamp-sound s l rest e =
     let (n, on, a, b, wa, wb, k, f) =
         pair-sound lamp_hours number_codec (past_codec " " switch_codec) s l rest e in
-    let writes : WritesLamp (lamp_hours n on) (a ++ b) =
+    let writes : WritesLampHours (lamp_hours n on) (a ++ b) =
         record { word = a; hours = wa; text = ap (λ b. a ++ b) wb.1 } in
-    (a ++ b, subst (λ l. WritesLamp l (a ++ b)) k writes, f ∙ sym (append_assoc a b rest))
+    (a ++ b, subst (λ l. WritesLampHours l (a ++ b)) k writes, f ∙ sym (append_assoc a b rest))
 
-pub lamp_codec : Codec Ends is_lamp_hours lamp_text WritesLamp lamp_read
+pub lamp_codec : Codec Ends is_lamp_hours lamp_text WritesLampHours lamp_read
 lamp_codec = record {
   own = λ l h. record { word = digits l.hours; hours = number_codec.own l.hours h; text = refl };
   back = lamp-back;

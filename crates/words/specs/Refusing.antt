@@ -1,19 +1,23 @@
 -- The four refusals: ERR and a digit (PJLink 1.04, 2.4; RULES, Commands).
---   refusal_code r     1 undefined command, 2 out of parameter, 3 unavailable time, 4 failure
+--   refusal_number r   1 undefined command, 2 out of parameter, 3 unavailable time, 4 failure
 --   refusal_text r     ERR and that digit
 --   refusal_read s     the refusal at the front of s
 -- Assumes nothing.
 use Rattle.std.specs.Prelude.{ℕ, List, [], ◌∷◌, Option}
 use Prim.Native.Char.{code}
 use Rattle.words.specs.Codec.{named, letter, past}
+use Rattle.words.specs.Inputs.{numberDigit}
 use Rattle.words.specs.declared.refusal.Refusal.{Refusal}
 use Rattle.words.specs.declared.refusal.Refusal.TheVariants.{Undefined, OutOfParameter, Unavailable, Failure}
 
+abbrev pub refusal_number : Refusal → ℕ
+refusal_number Undefined = 1
+refusal_number OutOfParameter = 2
+refusal_number Unavailable = 3
+refusal_number Failure = 4
+
 abbrev pub refusal_code : Refusal → ℕ
-refusal_code Undefined = code "1"
-refusal_code OutOfParameter = code "2"
-refusal_code Unavailable = code "3"
-refusal_code Failure = code "4"
+refusal_code r = numberDigit (refusal_number r)
 
 abbrev pub refusals : List Refusal
 refusals = Undefined ∷ OutOfParameter ∷ Unavailable ∷ Failure ∷ []

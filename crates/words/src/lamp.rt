@@ -1,5 +1,5 @@
 // A lamp: its hours, a space, and whether it is lit (RULES, Commands; PJLink 1.04, 4.8).
-ghost use Rattle.words.specs.Lamps.{lamp_text, is_lamp_hours, WritesLamp, lamp_read};
+ghost use Rattle.words.specs.Lamps.{lamp_text, is_lamp_hours, WritesLampHours, lamp_read};
 ghost use Rattle.words.specs.Laws.{lamp_codec};
 
 use crate::codec::{Line, Wire};
@@ -18,7 +18,7 @@ impl Wire for LampHours {
 
     ghost text = { lamp_text };
 
-    ghost writes = { WritesLamp };
+    ghost writes = { WritesLampHours };
 
     ghost read = { lamp_read };
 

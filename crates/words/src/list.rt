@@ -2,15 +2,15 @@
 ghost use Rattle.std.specs.Prelude.{◌≡◌, ◌+◌, ◌≤◌, ◌++◌, length};
 ghost use Rattle.std.specs.Option.{option_map};
 ghost use Rattle.arrayvec.specs.ArrayVec.{array_vec_len};
-ghost use Rattle.words.specs.Joined.{joined, listed};
+ghost use Rattle.words.specs.Joined.{list_text, listed};
 
 use crate::codec::{LINE_MOST, Line, Wire};
 use arrayvec::ArrayVec;
 
 /// Puts the things of `xs`, a space between any two.
 pub fn put_list<T: Wire>(xs: &[T], out: &mut Line)
-    requires { array_vec_len out.old + length (joined T.text xs.now) ≤ LINE_MOST }
-    ensures { out.new.items ≡ out.old.items ++ joined T.text xs.now }
+    requires { array_vec_len out.old + length (list_text T.text xs.now) ≤ LINE_MOST }
+    ensures { out.new.items ≡ out.old.items ++ list_text T.text xs.now }
 {
     let [first, rest @ ..] = xs else {
         return;

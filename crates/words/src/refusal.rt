@@ -1,32 +1,36 @@
 // The four refusals: ERR and a digit (PJLink 1.04, 2.4; RULES, Commands).
 ghost use Rattle.std.specs.Prelude.{◌≡◌, true};
 ghost use Rattle.words.specs.Codec.{Plain};
-ghost use Rattle.words.specs.Refusing.{refusal_code, refusal_named, refusal_text, refusal_read};
+ghost use Rattle.words.specs.Refusing.{refusal_number, refusal_named, refusal_text, refusal_read};
 ghost use Rattle.words.specs.Laws.{refusal_codec};
 
 use crate::codec::{Line, Wire};
+use crate::input;
 
 /// Why a projector refuses a command.
 #[derive(Clone, Copy)]
 pub enum Refusal {
-    /// ERR1: there is no such command.
+    /// ERR1: an undefined command.
     Undefined,
-    /// ERR2: the command's parameter is none of its own.
+    /// ERR2: out of parameter.
     OutOfParameter,
-    /// ERR3: not at this time.
+    /// ERR3: unavailable time.
     Unavailable,
-    /// ERR4: the projector has a fault.
+    /// ERR4: a failure of the projector.
     Failure,
 }
 
-fn refusal_code(r: Refusal) -> u8
-    ensures { result ≡ refusal_code r }
-{
-    match r {
-        Refusal::Undefined => b'1',
-        Refusal::OutOfParameter => b'2',
-        Refusal::Unavailable => b'3',
-        Refusal::Failure => b'4',
+impl Refusal {
+    /// The digit after ERR, 1 to 4.
+    pub fn number(self) -> u8
+        ensures { result ≡ refusal_number self }
+    {
+        match self {
+            Refusal::Undefined => 1,
+            Refusal::OutOfParameter => 2,
+            Refusal::Unavailable => 3,
+            Refusal::Failure => 4,
+        }
     }
 }
 
@@ -55,7 +59,7 @@ impl Wire for Refusal {
         out.push(b'E');
         out.push(b'R');
         out.push(b'R');
-        out.push(refusal_code(self));
+        out.push(input::number_digit(self.number()));
     }
 
     fn take(s: &[u8]) -> Option<(Refusal, &[u8])> {

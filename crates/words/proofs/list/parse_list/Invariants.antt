@@ -5,4 +5,6 @@ use Rattle.words.proofs.list.parse_list.Given as goal
 
 abbrev pub invariant-loop-k : goal.invariant-loop-k
 invariant-loop-k g l =
-    (length l.xs.items ≡ l._k) × (listed g.T.Wire.read g.row.N l.fn.s ≡ after_those l.xs.items (listed g.T.Wire.read (g.row.N - l._k) l.rest))
+    (length l.xs.items ≡ l._k)
+    × (listed g.T.Wire.read g.row.N l.fn.s
+    ≡ after_those l.xs.items (listed g.T.Wire.read (g.row.N - l._k) l.rest))
