@@ -16,18 +16,13 @@ use Rattle.text.proofs.Sameness.{same-is}
 use Rattle.numbers.specs.Decimal.{WritesNumber, readNumber}
 use Rattle.numbers.proofs.ReadBack.{read_below, read-written}
 use Rattle.pjlink.specs.Commands.{switchDigit}
-use Rattle.pjlink.specs.Said.{lampsAre, nothing}
-use Rattle.pjlink.specs.Carried.{lampsCarried, noLamps, plain_of, ofLamps, answer_of}
 use Rattle.pjlink.specs.CanSay.{hoursMost, isLampHours}
 use Rattle.pjlink.specs.declared.answer.LampHours.{LampHours}
-use Rattle.pjlink.specs.declared.answer.Kind.TheVariants.{Nothing}
-use Rattle.pjlink.specs.declared.answer.Answer.{Answer}
 use Rattle.pjlink.specs.Words.{SpacedBy, no_more, one_more, words_of, wordsAfter, WordTo, none, ◌andThen◌}
-use Rattle.pjlink.specs.Reading.{◌spells◌, lampOfHours, lampOf, lampGot, lampsIn, listSays, readLamps}
+use Rattle.pjlink.specs.Reading.{◌spells◌, lampOfHours, lampOf, lampGot, lampsIn}
 use Rattle.pjlink.specs.Writings.{WritesLamp}
 use Rattle.pjlink.proofs.Words.{bySpaces, after-space, after-end}
 use Rattle.pjlink.proofs.JoinedRead.{Reads, not-read, read, nothing_read, reads_then}
-use Rattle.pjlink.proofs.ReadLists.{AllRead, listed}
 
 switch-text : (lit : List ℕ) (on : Bool) → (lit spells ascii "1") ≡ on → (on || lit spells ascii "0") ≡ true
     → lit ≡ switchDigit on ∷ []
@@ -102,15 +97,3 @@ module _ (p : List ℕ) {start mid : ℕ} (first : WordTo p start mid) where
 
   pub no_second : length p ≤ mid → lampsIn (words_of (drop start p)) ≡ none
   no_second h = ap lampsIn (first.words ∙ ap (λ (ws : List (List ℕ)). hours-word ∷ ws) (after-end p h))
-
-module _ (p : List ℕ) {r : Answer} where
-  pub no-lamps : r ≡ plain_of Nothing → listSays lampsAre lampsCarried (lampsIn (words_of p)) ≡ nothing
-      → r ≡ answer_of (readLamps p)
-  unfolding readLamps
-  no-lamps e n = e ∙ ap answer_of (sym n)
-
-  pub all-lamps : {arr : List LampHours} {k : ℕ} → r ≡ ofLamps k arr → k ≤ lampsCarried
-      → AllRead lampsIn noLamps p arr k
-      → r ≡ answer_of (readLamps p)
-  unfolding readLamps
-  all-lamps e h w = e ∙ (λ j. ofLamps (w.count j) (w.stored j)) ∙ ap answer_of (sym (listed lampsAre h w))

@@ -12,9 +12,7 @@ pub mod Lamps
 pub mod Mapped
 pub mod Joined
 pub mod PutLists
-pub mod Counts
 pub mod SaidRows
-pub mod SaidBack
 pub mod SaidPlain
 pub mod Nothing
 pub mod OneResult
@@ -31,7 +29,6 @@ pub mod ErrorsBack
 pub mod JoinedBack
 pub mod Written
 pub mod ReadsBack
-pub mod OneReading
 pub mod JoinedRead
 pub mod LampsRead
 pub mod ErrorsRead
