@@ -10,8 +10,8 @@
 --   whole read s       the value that all of s says
 --   Ends s             where a word may end: no byte follows, or a space
 --   Plain legal text x t    t says the legal x as our own side says it, and in no other way
---   Codec E legal text writes read    a legal value's own text says it; what says a value is read as it, where E holds
---                      of what follows; what is read says the value
+--   Codec E legal text writes read    a legal value's own text says it, and no other value is said; what says a value is
+--                      read as it, where E holds of what follows; what is read says the value
 --   WholeCodec legal text writes read  the same of all of a parameter
 --   taken r            what a reader of the code returned, apart from where the rest lies
 -- Assumes nothing.
@@ -80,6 +80,7 @@ pub record Codec
     (writes : A → List ℕ → Type 0)
     (read : List ℕ → Option (A × List ℕ)) : Type 0 where
   pub own : (x : A) → legal x ≡ true → writes x (text x)
+  pub told : (x : A) (t : List ℕ) → writes x t → legal x ≡ true
   pub back : (x : A) (t rest : List ℕ) → writes x t → E rest → read (t ++ rest) ≡ Some (x, rest)
   pub sound : (s : List ℕ) (x : A) (rest : List ℕ) → read s ≡ Some (x, rest)
       → (t : List ℕ) × writes x t × (s ≡ t ++ rest)
@@ -91,6 +92,7 @@ pub record WholeCodec
     (writes : A → List ℕ → Type 0)
     (read : List ℕ → Option A) : Type 0 where
   pub own : (x : A) → legal x ≡ true → writes x (text x)
+  pub told : (x : A) (t : List ℕ) → writes x t → legal x ≡ true
   pub back : (x : A) (s : List ℕ) → writes x s → read s ≡ Some x
   pub sound : (s : List ℕ) (x : A) → read s ≡ Some x → writes x s
 

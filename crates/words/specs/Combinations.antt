@@ -5,7 +5,7 @@ use Rattle.std.proofs.Common.{ℕ, zero, suc, ◌≡◌, ◌≤◌, ◌⊎◌, i
 use Rattle.std.proofs.Common.{refl, sym, ap, ◌∙◌, subst, arith, length, map}
 use Rattle.std.specs.Prelude.{Option, Some, None, eqb, leb, ◌&&◌, if◌then◌else◌}
 use Rattle.std.specs.Option.{option_or}
-use Rattle.std.proofs.lemmas.Bool.{eqb-true, eq-eqb, leb-true}
+use Rattle.std.proofs.lemmas.Bool.{eqb-true, eq-eqb, leb-true, le-leb}
 use Rattle.std.proofs.lemmas.Bool.Decides.{nat_tests}
 use Rattle.std.proofs.lemmas.List.{append-nil}
 use Rattle.std.proofs.lemmas.Option.{same_Some, some_pair_parts}
@@ -52,6 +52,7 @@ module _
     pub letter_codec : {E : List ℕ → Type 0} → Codec E legal (λ x. of x ∷ []) (Plain legal (λ x. of x ∷ [])) (letter f)
     letter_codec = record {
       own = λ x h. (h, refl);
+      told = λ x t w. w.0;
       back = λ x t rest w h. letter-back x t rest w;
       sound = letter-sound;
     }
@@ -93,6 +94,7 @@ module _
         (Plain (λ xs. eqb (length xs) n && every legal xs) (map of)) (counted n (letter f))
     counted_codec n = record {
       own = λ xs h. (h, refl);
+      told = λ xs t w. w.0;
       back = λ xs t rest w h.
           ap (λ t. counted n (letter f) (t ++ rest)) w.1
           ∙ ap (λ k. counted k (letter f) (map of xs ++ rest))
@@ -176,7 +178,7 @@ module _
         (code c ∷ text x, (w.0, refl), cc (eqb-true b (code c) y))
 
     pub past_codec : Codec E legal behind_it (Plain legal behind_it) (past c read)
-    past_codec = record { own = λ x h. (h, refl); back = past-back; sound = past-sound }
+    past_codec = record { own = λ x h. (h, refl); told = λ x t w. w.0; back = past-back; sound = past-sound }
 
 behind-is : (t s : List ℕ) {rest : List ℕ} → behind t s ≡ Some rest → s ≡ t ++ rest
 behind-is [] s e = same_Some _ _ e
@@ -208,6 +210,7 @@ module _ {A : Type 0} (text : A → List ℕ) where
       → Codec E (λ _. true) text (Plain (λ _. true) text) (spelled text xs)
   spelled_codec xs each = record {
     own = λ x h. (refl, refl);
+    told = λ x t w. refl;
     back = λ x t rest w h. ap (λ t. spelled text xs (t ++ rest)) w.1 ∙ each x rest;
     sound = λ s x rest e. (text x, (refl, refl), spelled-sound xs s x rest e);
   }
@@ -238,7 +241,7 @@ module _
         subst (λ x. writes x s) k (subst (λ s. writes r.0 s) g w)
 
     pub whole_says : WholeCodec legal text writes (whole read)
-    whole_says = record { own = it.own; back = whole-back; sound = whole-sound }
+    whole_says = record { own = it.own; told = it.told; back = whole-back; sound = whole-sound }
 
     list-back : (n : ℕ) (xs : List A) (s : List ℕ) → length xs ≤ n → JoinedBy writes xs s → listed read n s ≡ Some xs
     list-back n [] s h w = absurd w
@@ -297,5 +300,21 @@ module _
               (both_right (leb 1 (length xs) && leb (length xs) n) (every legal xs) h),
         )
 
+    joined-told : (xs : List A) (s : List ℕ) → JoinedBy writes xs s → (1 ≤ length xs) × (every legal xs ≡ true)
+    joined-told [] s w = absurd w
+    joined-told (x ∷ []) s w = (omega arith, both (it.told x s w) refl)
+    joined-told (x ∷ y ∷ xs) s (t, rest, w, more, e) =
+        (omega arith, both (it.told x t w) (joined-told (y ∷ xs) rest more).1)
+
+    list-told : (n : ℕ) (xs : List A) (s : List ℕ) → WritesList writes n xs s → is_list legal n xs ≡ true
+    list-told n xs s w =
+        let more = joined-told xs s w.1 in
+        both (both (le-leb 1 (length xs) more.0) (le-leb (length xs) n w.0)) more.1
+
     pub list_says : (n : ℕ) → WholeCodec (is_list legal n) (list_text text) (WritesList writes n) (listed read n)
-    list_says n = record { own = list-own n; back = λ xs s w. list-back n xs s w.0 w.1; sound = list-sound n }
+    list_says n = record {
+      own = list-own n;
+      told = list-told n;
+      back = λ xs s w. list-back n xs s w.0 w.1;
+      sound = list-sound n;
+    }

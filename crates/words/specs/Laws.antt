@@ -4,6 +4,7 @@
 use Rattle.std.proofs.Common.{ℕ, ◌+◌, ◌≡◌, Bool, true, false, List, [], ◌∷◌, ◌++◌, length, take, drop}
 use Rattle.std.proofs.Common.{refl, sym, ap, ◌∙◌, subst, arith, append_assoc}
 use Rattle.std.specs.Prelude.{Some, None, leb, ◌&&◌}
+use Rattle.std.proofs.lemmas.Bool.{le-leb}
 use Rattle.std.proofs.lemmas.Bool.Decides.{nat_tests}
 use Rattle.std.proofs.lemmas.List.{take-append-drop}
 use Rattle.std.proofs.lemmas.Option.{same_Some, some_pair_parts}
@@ -13,7 +14,7 @@ use Rattle.text.specs.Scans.{every}
 use Rattle.text.specs.Words.{◌from◌to◌}
 use Rattle.text.proofs.Choices.{if_yes, both, both_left, both_right}
 use Rattle.numbers.specs.Decimal.{isDigit, digits, readNumber, WritesNumber}
-use Rattle.numbers.proofs.ReadBack.{writing-read, digits-written, read-written}
+use Rattle.numbers.proofs.ReadBack.{writing-read, digits-written, read-written, read_below}
 use Rattle.words.specs.Codec.{Codec, Plain, Ends, ◌>>=◌}
 use Rattle.words.specs.Numerals.{is_numeral, figures, number_read}
 use Rattle.words.specs.Powers.{power_code, powers, power_text, power_read, switch_code, switch_text, switch_read}
@@ -129,7 +130,7 @@ input-sound (a ∷ b ∷ s) i rest e =
     (inputText i, (o.0, refl), ap (λ t. t ++ s) o.1 ∙ ap (λ r. inputText i ++ r) q.1)
 
 pub input_codec : Codec Ends isInput inputText (Plain isInput inputText) input_read
-input_codec = record { own = λ i h. (h, refl); back = input-back; sound = input-sound }
+input_codec = record { own = λ i h. (h, refl); told = λ i t w. w.0; back = input-back; sound = input-sound }
 
 -- digits end where a word does
 figures-back : (t rest : List ℕ) → every isDigit t ≡ true → Ends rest → figures (t ++ rest) ≡ length t
@@ -157,6 +158,7 @@ number-sound s n rest e =
 pub number_codec : Codec Ends is_numeral digits WritesNumber number_read
 number_codec = record {
   own = λ n h. digits-written n (grind (arith, nat_tests));
+  told = λ n t w. le-leb n 99999 (omega (arith, read_below t n (writing-read t w)));
   back = number-back;
   sound = number-sound;
 }
@@ -180,6 +182,7 @@ lamp-sound s l rest e =
 pub lamp_codec : Codec Ends is_lamp_hours lamp_text WritesLampHours lamp_read
 lamp_codec = record {
   own = λ l h. record { word = digits l.hours; hours = number_codec.own l.hours h; text = refl };
+  told = λ l t w. number_codec.told l.hours w.word w.hours;
   back = lamp-back;
   sound = lamp-sound;
 }
