@@ -3,7 +3,7 @@
 ghost use Rattle.std.specs.Prelude.{◌≡◌, ◌+◌, ℕ, List, Option, Result, length, false, true};
 ghost use Rattle.std.proofs.lemmas.List.Edits.{sets};
 ghost use Rattle.pjlink.specs.declared.answer.Answer.{Answer};
-ghost use Rattle.pjlink.specs.declared.answer.Refusal.{Refusal};
+ghost use Rattle.words.specs.declared.refusal.Refusal.{Refusal};
 ghost use Rattle.pjlink.specs.Carried.{parameter_said};
 ghost use Rattle.pjlink.specs.Said.{saidBytes, nothing, Said};
 ghost use Rattle.pjlink.specs.declared.command.Command.{Command};

@@ -1,4 +1,5 @@
 -- A number in decimal at the front of bytes, one to five digits, zeros in front allowed (RULES, Controller).
+--   hours_most       the greatest number of five digits
 --   is_numeral n     five digits can tell it
 --   figures s        how many digits stand at the front of s
 --   number_read s    the number at the front of s
@@ -8,8 +9,11 @@ use Rattle.std.specs.List.{prefix_len}
 use Rattle.numbers.specs.Decimal.{isDigit, readNumber}
 use Rattle.words.specs.Codec.{◌>>=◌}
 
+abbrev pub hours_most : ℕ
+hours_most = 99999
+
 abbrev pub is_numeral : ℕ → Bool
-is_numeral n = leb n 99999
+is_numeral n = leb n hours_most
 
 abbrev pub figures : List ℕ → ℕ
 figures s = prefix_len isDigit s
