@@ -18,8 +18,8 @@ use Rattle.controller.specs.Greetings.{greetingNumber}
 use Rattle.controller.specs.Reading.{ReadAs, outcomeNumber}
 use Rattle.controller.specs.declared.greeting.Greeting.{Greeting}
 use Rattle.controller.specs.declared.greeting.Greeting.TheVariants.{Open, Secured, Refused, NotAGreeting}
-use Rattle.controller.specs.declared.reading.Outcome.{Outcome}
-use Rattle.controller.specs.declared.reading.Outcome.TheVariants.{Means, Erra, NotALine, OtherCommand, NotAllowed}
+use Rattle.controller.specs.Reading.{Outcome}
+use Rattle.controller.specs.Reading.{Means, Erra, NotALine, OtherCommand, NotAllowed}
 use Rattle.codes.specs.Commands.{bit, sourceNumber}
 use Rattle.codes.specs.declared.lists.FlatLamps.{FlatLamps}
 use Rattle.codes.specs.declared.readings.FlatGreeting.{FlatGreeting}

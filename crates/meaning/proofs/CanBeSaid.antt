@@ -1,5 +1,5 @@
 -- Every answer of a legal projector is one that its command can have (`CanSay`), and so it fits a reply.
---   Fits m      m has room in the arrays and comes back out of them; its parameter has at most 128 bytes and no CR
+--   Fits m      the parameter that says m has at most 128 bytes and no CR
 -- Assumes nothing.
 use Prim.Native.Nat.{ℕ, ◌+◌, ◌*◌, ◌/◌, ◌<◌, ◌≤◌}
 use mathlib.Core.Path.{◌≡◌, refl, sym, ap, ◌∙◌}
@@ -24,11 +24,11 @@ use Rattle.words.specs.declared.input.Input.{Input}
 use Rattle.pjlink.specs.declared.request.Request.{Request}
 use Rattle.pjlink.specs.declared.request.Request.TheVariants.{Asks, Unlisted, UnknownBody}
 use Rattle.pjlink.specs.Said.{Said, saidBytes, saidMost}
-use Rattle.pjlink.specs.Carried.{inputsCarried, answer_of, saidBy, isSayable}
+use Rattle.pjlink.specs.Carried.{inputsCarried}
 use Rattle.pjlink.specs.CanSay.{hasOwnParameter, isRefusalTo}
 use Rattle.pjlink.specs.CanSay.{CanSay, done, refuses, power, input, mutes, errors, lamps, inputs, name, maker, model}
 use Rattle.pjlink.specs.CanSay.{other, class-is, freeze, serial, version, input-name, input-2, inputs-2, isLampHours}
-use Rattle.pjlink.proofs.SaidPlain.{can-sayable, can-said-back, said-most, said_plain}
+use Rattle.pjlink.proofs.SaidPlain.{said-most, said_plain}
 use Rattle.record.specs.Limits.{inputRoom, lampsMost, lampLimit, isLit}
 use Rattle.record.specs.Rules.{isLamp, isLamps, isInputs}
 use Rattle.record.specs.Legal.{isSettings, isOwn}
@@ -168,17 +168,10 @@ module _ (s : Settings) (o : Own) (settings : isSettings s ≡ true) (own : isOw
   answer-can-be-said UnknownBody = always-refused UnknownBody (λ p. false≢true (sym p.defined))
 
 pub record Fits (m : Said) : Type 0 where
-  pub sayable : isSayable m ≡ true
-  pub back : saidBy (answer_of m) ≡ m
   pub short : length (saidBytes m) ≤ saidMost
   pub no-cr : noCr (saidBytes m) ≡ true
 
 pub meant-fits : (s : Settings) (o : Own) → isSettings s ≡ true → isOwn s o ≡ true → (r : Request) → Fits (meant s o r)
 meant-fits s o settings own r =
     let w = answer-can-be-said s o settings own r in
-    record {
-      sayable = can-sayable w;
-      back = can-said-back w;
-      short = said-most w;
-      no-cr = (said_plain w).1;
-    }
+    record { short = said-most w; no-cr = (said_plain w).1 }
