@@ -5,7 +5,8 @@ ghost use Rattle.pjlink.specs.Carried.{textCarried, lampsCarried, inputsCarried}
 ghost use Rattle.codes.specs.Readings.{withText, flatLamps, withLamps, withInputs};
 
 use crate::readings::{CHARACTERS, FlatReading};
-use pjlink::answer::{INPUTS_MOST, LAMPS_MOST, LampHours, TEXT_MOST};
+use pjlink::answer::{INPUTS_MOST, LAMPS_MOST, TEXT_MOST};
+use words::lamp::LampHours;
 use words::input;
 use words::input::Input;
 

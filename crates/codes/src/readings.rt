@@ -5,7 +5,8 @@ ghost use Rattle.pjlink.specs.Carried.{saidBy};
 ghost use Rattle.codes.specs.Commands.{bit, sourceNumber};
 ghost use Rattle.codes.specs.Readings.{flatGreeting, meaningless, plain, powerNumber, saidFlat, flatAs};
 
-use pjlink::answer::{Answer, ERRORS_COUNT, INPUTS_MOST, Kind, LAMPS_MOST, Power, TEXT_MOST};
+use pjlink::answer::{Answer, ERRORS_COUNT, INPUTS_MOST, Kind, LAMPS_MOST, TEXT_MOST};
+use words::power::Power;
 use controller::greeting::Greeting;
 use controller::reading::{Outcome, Reading};
 use words::input::Source;

@@ -7,7 +7,9 @@ ghost use Rattle.panel.specs.Showing.{showing};
 ghost use Rattle.panel.specs.Stepping.{withShown};
 
 use crate::types::{Entry, LAMPS_MOST};
-use pjlink::answer::{Answer, Kind, LampHours, Power};
+use pjlink::answer::{Answer, Kind};
+use words::lamp::LampHours;
+use words::power::Power;
 use codes::lists::FlatLamps;
 use codes::readings;
 use words::input::Input;

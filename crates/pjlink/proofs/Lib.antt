@@ -10,7 +10,6 @@ pub mod ClassOneAsked
 pub mod SaidRows
 pub mod SaidPlain
 pub mod Nothing
-pub mod OneResult
 pub mod OnlyOkay
 pub mod Written
 pub mod NoRefusal

@@ -1,7 +1,6 @@
 // What is proved beside the contracts of the functions. Nothing is done here: that these functions have their contracts
 // is that the theorems stand.
-ghost use Rattle.std.specs.Prelude.{◌≡◌, ◌+◌, ℕ, List, Option, Result, length, false, true};
-ghost use Rattle.std.proofs.lemmas.List.Edits.{sets};
+ghost use Rattle.std.specs.Prelude.{◌≡◌, ◌++◌, ℕ, List, Option, Result, false, true};
 ghost use Rattle.pjlink.specs.declared.answer.Answer.{Answer};
 ghost use Rattle.words.specs.declared.refusal.Refusal.{Refusal};
 ghost use Rattle.pjlink.specs.Carried.{parameter_said};
@@ -10,11 +9,10 @@ ghost use Rattle.pjlink.specs.declared.command.Command.{Command};
 ghost use Rattle.pjlink.specs.Reading.{readParameter};
 ghost use Rattle.pjlink.specs.Writings.{Says, Allowed};
 
-/// Two results that meet the promise of a call are equal, lent memory included.
+/// Two lines that meet the promise of a call are equal.
 pub fn one_answer()
-    ensures answer_written { (out : List ℕ) (at : ℕ) (m : Said) (r s : ℕ) (k l : List ℕ)
-        → (r ≡ at + length (saidBytes m)) × (k ≡ sets out at (saidBytes m))
-        → (s ≡ at + length (saidBytes m)) × (l ≡ sets out at (saidBytes m)) → (r ≡ s) × (k ≡ l) }
+    ensures answer_written { (out : List ℕ) (m : Said) (k l : List ℕ)
+        → k ≡ out ++ saidBytes m → l ≡ out ++ saidBytes m → k ≡ l }
 {}
 
 /// What is read of a parameter is an answer of which it is a writing, each writing of an answer is read as it, and
