@@ -9,8 +9,7 @@ use Rattle.text.specs.InTurn.{eachInTurn}
 use Rattle.words.specs.Inputs.{inputText}
 use Rattle.words.specs.declared.input.Input.{Input}
 use Rattle.pjlink.specs.Said.{Said, okay, refused, powerIs, chosenIs, mutesAre, errorsAre, lampsAre, inputsAre}
-use Rattle.pjlink.specs.Said.{textIs, classIs, freezeIs, nothing}
-use Rattle.pjlink.specs.Carried.{textCarried}
+use Rattle.pjlink.specs.Said.{textIs, classIs, freezeIs, nothing, parameterMost}
 use Rattle.words.specs.declared.power.Power.{Power}
 use Rattle.words.specs.declared.power.Power.TheVariants.{Off, On, Cooling, WarmUp}
 use Rattle.words.specs.declared.lamp.LampHours.{LampHours}
@@ -54,7 +53,7 @@ abbrev pub noCharacters : List ℕ
 noCharacters = filledTo 64 0 []
 
 abbrev pub noBytes : List ℕ
-noBytes = filledTo textCarried 0 []
+noBytes = filledTo parameterMost 0 []
 
 abbrev pub flatOf : (number kind first second count : ℕ) (hours : List ℕ) (lit : List Bool) (inputs text : List ℕ)
     → FlatReading
@@ -77,7 +76,7 @@ abbrev pub plain : (kind first second : ℕ) → FlatReading
 plain kind first second = flatOf 0 kind first second 0 noHours noneLit noCharacters noBytes
 
 abbrev pub withText : ℕ → List ℕ → FlatReading
-withText kind s = flatOf 0 kind 0 0 (length s) noHours noneLit noCharacters (filledTo textCarried 0 s)
+withText kind s = flatOf 0 kind 0 0 (length s) noHours noneLit noCharacters (filledTo parameterMost 0 s)
 
 abbrev pub hoursOf : LampHours → ℕ
 hoursOf l = l.hours
