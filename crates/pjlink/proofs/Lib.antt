@@ -12,6 +12,7 @@ pub mod SaidPlain
 pub mod Nothing
 pub mod OnlyOkay
 pub mod Written
+pub mod WritingsAsBefore
 pub mod NoRefusal
 pub mod Joined
 pub mod ReadsBack
