@@ -29,7 +29,7 @@ use Rattle.pjlink.specs.declared.command.Half.TheVariants.{VideoHalf, AudioHalf,
 use Rattle.pjlink.specs.declared.command.Command.{Command}
 use Rattle.pjlink.specs.declared.command.Command.TheVariants.{PowerSet, InputSet, MuteSet, InputSet2, FreezeSet}
 use Rattle.pjlink.specs.declared.command.Command.TheVariants.{VolumeStep, NameQuery, Query}
-use Rattle.words.proofs.Characters.{alnum-not-cr}
+use Rattle.words.proofs.Characters.{no-cr-of, alnum-not-cr}
 use Rattle.words.proofs.InputsReadBack.{input-alnum}
 use Rattle.pjlink.proofs.Bodies.{four, body-spelt, class-is}
 use Rattle.pjlink.proofs.RepliesReadBack.{headed}
@@ -148,15 +148,14 @@ module _ (c : Command) where
     command-of-higher-class h = form-by-class ∙ lt-leb (commandClass c) k h
 
   pub command-no-cr : noCr (commandText c) ≡ true
-  unfolding noCr
   command-no-cr =
       let class = class-is (bodyOf c) in
       let digit : notCr h ≡ true = ap not (ne_eqb h (code "\r") (omega arith)) in
-      ap (every notCr) text
+      no-cr-of (commandText c) (ap (every notCr) text
       ∙ every_append notCr (ascii "%" ++ (h ∷ four body) ++ ascii " ") (parameterOf c)
       (both digit
       (every_append notCr (four body) (ascii " ") (every-implies isAlnum notCr alnum-not-cr (four body) letters) refl))
-      (parameter-no-cr c)
+      (parameter-no-cr c))
 
 -- a line of the form has its head
 pub form-long : (k : ℕ) (l : List ℕ) → isCommandForm k l ≡ true → 7 ≤ length l

@@ -17,6 +17,4 @@ pub mod Joined
 pub mod ReadsBack
 pub mod ReadSound
 pub mod ReadWritings
-mod ExamplesOfForms
-mod ExamplesOfRequests
-mod ExamplesOfReplies
+mod Examples

@@ -96,7 +96,7 @@ reply-long k l e =
 
 -- no reply of the form is the ERRA line
 pub form-not-erra : (k : ℕ) (l : List ℕ) → isReplyForm k l ≡ true → sameBy itself l erraLine ≡ false
-unfolding isReplyForm noCr
+unfolding isReplyForm
 form-not-erra k l formed = by (sameBy itself l erraLine) refl
   where
     by : (t : Bool) → sameBy itself l erraLine ≡ t → t ≡ false

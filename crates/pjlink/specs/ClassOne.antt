@@ -1,17 +1,12 @@
--- The form of a line and the inputs, as they stood before Class 2 came (RULES, Class 2): word for word the definitions
--- of Class 1 alone, under names with a 1. Nothing is built on them; proofs/ClassOneKept.antt has that a set-up of Class
--- 1 goes by them still. What a line asked for stands in `requests`.
+-- The form of a line, as it stood before Class 2 came (RULES, Class 2): word for word the definitions of Class 1 alone,
+-- under names with a 1. Nothing is built on them; proofs/ClassOneKept.antt has that a set-up of Class 1 goes by them
+-- still. The inputs stand in `words`, what a line asked for in ClassOneAsked.
 --   isCommandForm1 l      `%1`, four letters or digits, a space, 0 to 128 bytes
---   readInput1 a b        the input that two characters name: a type 1 to 5 and a number 1 to 9
 -- Assumes nothing.
-use Rattle.std.specs.Prelude.{ℕ, ◌-◌, Bool, ◌&&◌, List, length, leb, eqb, if◌then◌else◌, Option, Some, None}
+use Rattle.std.specs.Prelude.{ℕ, Bool, ◌&&◌, List, length, leb, eqb}
 use Prim.Native.Char.{code}
-use Rattle.text.specs.Words.{◌is◌, ◌from◌to◌}
-use Rattle.words.specs.Bytes.{◌at◌, isAlnum}
-use Rattle.words.specs.Bytes.{commandMost}
-use Rattle.words.specs.declared.input.Source.{Source}
-use Rattle.words.specs.declared.input.Source.TheVariants.{Rgb, Video, Digital, Storage, Network}
-use Rattle.words.specs.declared.input.Input.{Input}
+use Rattle.text.specs.Words.{◌is◌}
+use Rattle.words.specs.Bytes.{◌at◌, isAlnum, commandMost}
 
 abbrev pub isHeaded1 : ℕ → List ℕ → Bool
 isHeaded1 m l =
@@ -21,20 +16,3 @@ isHeaded1 m l =
 
 unfoldable pub isCommandForm1 : List ℕ → Bool
 isCommandForm1 l = leb 7 (length l) && leb (length l) commandMost && isHeaded1 (code " ") l
-
-abbrev pub isInputText1 : ℕ → ℕ → Bool
-isInputText1 a b = a from "1" to "5" && b from "1" to "9"
-
-unfoldable pub sourceNamed1 : ℕ → Source
-sourceNamed1 a =
-    if a is "1" then Rgb
-    else if a is "2" then Video
-    else if a is "3" then Digital
-    else if a is "4" then Storage
-    else Network
-
-abbrev pub inputNamed1 : ℕ → ℕ → Input
-inputNamed1 a b = record { source = sourceNamed1 a; number = b - code "0" }
-
-unfoldable pub readInput1 : ℕ → ℕ → Option Input
-readInput1 a b = if isInputText1 a b then Some (inputNamed1 a b) else None

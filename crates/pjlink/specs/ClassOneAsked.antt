@@ -10,7 +10,7 @@ use Rattle.words.specs.Bytes.{◌at◌, upperOf}
 use Rattle.words.specs.declared.input.Input.{Input}
 use Rattle.pjlink.specs.Bodies.{rowOf}
 use Rattle.pjlink.specs.Commands.{bodyText}
-use Rattle.pjlink.specs.ClassOne.{readInput1}
+use Rattle.words.specs.ClassOne.{readInput1}
 use Rattle.pjlink.specs.declared.command.Body.{Body}
 use Rattle.pjlink.specs.declared.command.Body.TheVariants.{Powr, Inpt, Avmt, Erst, Lamp, Inst, Name, Inf1, Inf2}
 use Rattle.pjlink.specs.declared.command.Body.TheVariants.{Info, Clss}

@@ -9,10 +9,13 @@ ghost use Rattle.pjlink.specs.declared.command.Command.{Command};
 ghost use Rattle.pjlink.specs.Reading.{readParameter};
 ghost use Rattle.pjlink.specs.Writings.{Says, Allowed};
 
-/// Two lines that meet the promise of a call are equal.
-pub fn one_answer()
+/// Two lines that meet the promise of a call are equal; two replies that are read say the same.
+pub fn one_result()
     ensures answer_written { (out : List ℕ) (m : Said) (k l : List ℕ)
         → k ≡ out ++ saidBytes m → l ≡ out ++ saidBytes m → k ≡ l }
+    ensures parameter_read { (c : Command) (p : List ℕ) (r s : Option (Result Answer Refusal))
+        → parameter_said r ≡ readParameter c p → parameter_said s ≡ readParameter c p
+        → parameter_said r ≡ parameter_said s }
 {}
 
 /// What is read of a parameter is an answer of which it is a writing, each writing of an answer is read as it, and
@@ -24,11 +27,4 @@ pub fn what_is_read_was_written()
     ensures one_meaning { (c : Command) (p : List ℕ) (m n : Said) → Says c m p → Says c n p → m ≡ n }
     ensures not_allowed { (c : Command) (p : List ℕ) → Allowed c p false → readParameter c p ≡ nothing }
     ensures allowed { (c : Command) (p : List ℕ) → Allowed c p true → readParameter c p ≡ nothing → ⊥ }
-{}
-
-/// Two results that meet the promise of a call say the same.
-pub fn one_reading()
-    ensures { (c : Command) (p : List ℕ) (r s : Option (Result Answer Refusal))
-        → parameter_said r ≡ readParameter c p → parameter_said s ≡ readParameter c p
-        → parameter_said r ≡ parameter_said s }
 {}

@@ -1,5 +1,5 @@
 -- What the settings have to be (RULES, The legal record). The rules of texts and of a password's characters are those
--- of `lines`.
+-- of `words`.
 --   isLongEnough n       n characters are a password's: none, which is no security, or 8 and more (RULES, Passwords)
 --   isSetUpPassword s    the rule of set-up: as the controller's writer has it (`isPassword`), and long enough
 --   eachPair f s         s is pairs, and each pair passes the test f, which also sees what follows it

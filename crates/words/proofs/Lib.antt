@@ -7,3 +7,5 @@ pub mod NumbersReadBack
 pub mod InputsReadBack
 pub mod SourcesFollowed
 pub mod ListSteps
+pub mod ClassOneKept
+mod Examples

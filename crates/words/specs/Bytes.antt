@@ -3,7 +3,7 @@
 --   isAlnum b        an ASCII letter or digit
 --   upperOf b        the upper case of a letter; any other byte as it is
 --   noCr s           no byte of s is CR, which ends a line
---   commandMost      no command that is received is longer, without its CR: a head of seven bytes and a parameter of 128
+--   commandMost      no command line is longer, without its CR: seven bytes of head and a parameter of 128
 -- Assumes nothing.
 use Rattle.std.specs.Prelude.{ℕ, ◌-◌, Bool, not, ◌||◌, List, get_or, if◌then◌else◌}
 use Rattle.text.specs.Words.{◌is◌, ◌from◌to◌}

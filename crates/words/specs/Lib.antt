@@ -13,4 +13,5 @@ pub mod Classes
 pub mod Refusing
 pub mod Combinations
 pub mod Laws
+pub mod ClassOne
 pub mod Computing

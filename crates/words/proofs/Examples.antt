@@ -1,4 +1,4 @@
--- The examples that RULES gives of its rules, and the same inputs and more of Class 2 (RULES, Class 2).
+-- The examples that RULES gives of inputs, and the same inputs and more of Class 2 (RULES, Inputs and Class 2).
 -- Assumes nothing.
 use mathlib.Core.Path.{◌≡◌, refl}
 use mathlib.Core.Bool.{true, false}
@@ -7,16 +7,9 @@ use Prim.Native.Nat.{ℕ}
 use Rattle.std.specs.Prelude.{Some, None}
 use Rattle.text.specs.Words.{ascii}
 use Rattle.words.specs.Bytes.{◌at◌}
-use Rattle.words.specs.Sources.{numberFor, numberCharacter, inputFor}
+use Rattle.words.specs.Sources.{numberFor, inputFor}
 use Rattle.words.specs.Inputs.{isInputText}
-use Rattle.pjlink.specs.Commands.{commandLine}
-use Rattle.pjlink.specs.Forms.{isCommandForm}
 use Rattle.words.specs.declared.input.Source.TheVariants.{Rgb, Digital, Network, Internal}
-use Rattle.words.specs.declared.input.Input.{Input}
-use Rattle.pjlink.specs.declared.command.Body.TheVariants.{Snum}
-use Rattle.pjlink.specs.declared.command.Volume.TheVariants.{Speaker, Microphone}
-use Rattle.pjlink.specs.declared.command.Command.TheVariants.{InputSet2, FreezeSet, VolumeStep}
-use Rattle.pjlink.specs.declared.command.Command.TheVariants.{NameQuery, Query}
 
 abbrev texts : List (List ℕ)
 texts = ascii "11" ∷ ascii "59" ∷ ascii "10" ∷ ascii "20" ∷ ascii "61" ∷ []
@@ -39,22 +32,3 @@ stand : map (λ (s : List ℕ). inputFor (s at 0) (s at 1))
     ∷ Some (record { source = Digital; number = 11 }) ∷ []
 unfolding inputFor numberFor
 stand = refl
-
-abbrev hdmi : Input
-hdmi = record { source = Digital; number = 1 }
-
--- lines of Class 2
-written : map commandLine
-    (InputSet2 hdmi ∷ FreezeSet true ∷ VolumeStep Speaker true ∷ VolumeStep Microphone false ∷ NameQuery hdmi
-    ∷ Query Snum ∷ [])
-    ≡ ascii "%2INPT 31\r" ∷ ascii "%2FREZ 1\r" ∷ ascii "%2SVOL 1\r" ∷ ascii "%2MVOL 0\r" ∷ ascii "%2INNM ?31\r"
-    ∷ ascii "%2SNUM ?\r" ∷ []
-unfolding numberCharacter
-written = refl
-
--- a Class 1 set-up takes no `%2` line, a Class 2 set-up takes both, and none takes `%3`
-forms : map (λ (k : ℕ). map (isCommandForm k) (ascii "%1INST ?" ∷ ascii "%2INST ?" ∷ ascii "%3INST ?" ∷ []))
-    (1 ∷ 2 ∷ [])
-    ≡ (true ∷ false ∷ false ∷ []) ∷ (true ∷ true ∷ false ∷ []) ∷ []
-unfolding isCommandForm
-forms = refl
