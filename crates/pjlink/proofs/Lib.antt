@@ -12,7 +12,6 @@ pub mod SaidPlain
 pub mod Nothing
 pub mod OnlyOkay
 pub mod Written
-pub mod NoRefusal
 pub mod Joined
 pub mod ReadsBack
 pub mod ReadSound

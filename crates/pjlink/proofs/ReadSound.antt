@@ -39,7 +39,7 @@ use Rattle.pjlink.specs.CanSay.{CanSay, done, refuses, power, input, mutes, erro
 use Rattle.pjlink.specs.CanSay.{model, other, class-is, freeze, serial, version, input-name, input-2, inputs-2}
 use Rattle.pjlink.specs.Reading.{said_or, text_or, readOk, readQueried, readValue, refusal_or, readParameter}
 use Rattle.pjlink.specs.Writings.{Says}
-use Rattle.pjlink.proofs.NoRefusal.{refusal-is}
+use Rattle.words.proofs.Refusals.{refusal-is}
 use Rattle.pjlink.proofs.Written.{row-is-written}
 
 pub data CanRead (c : Command) (p : List ℕ) : Said → Type 0 where

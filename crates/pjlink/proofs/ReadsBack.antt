@@ -46,7 +46,7 @@ use Rattle.pjlink.specs.CanSay.{CanSay, done, refuses, power, input, mutes, erro
 use Rattle.pjlink.specs.CanSay.{model, other, class-is, freeze, serial, version, input-name, input-2, inputs-2}
 use Rattle.pjlink.specs.Reading.{said_or, readOk, readQueried, readValue, refusal_or, readParameter}
 use Rattle.pjlink.specs.Writings.{Writes}
-use Rattle.pjlink.proofs.NoRefusal.{not-four, digit-first, text-no-refusal, refusal-back}
+use Rattle.words.proofs.Refusals.{not-four, digit-first, text-no-refusal, refusal-back}
 use Rattle.pjlink.proofs.SaidRows.{said_row}
 use Rattle.pjlink.proofs.Written.{list-legal, said-is-written}
 

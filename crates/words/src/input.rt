@@ -86,10 +86,7 @@ pub fn read_input(a: u8, b: u8) -> Option<Input>
 pub fn input_of(w: &[u8]) -> Option<Input>
     ensures { result ≡ input_of w.now }
 {
-    if w.len() != 2 {
-        return None;
-    }
-    read_input(w[0], w[1])
+    codec::parse(w)
 }
 
 // Whether two characters can name the input.
