@@ -1,7 +1,7 @@
 -- Whatever bytes come, what is read of them is an answer that the command can have, in the bytes that write it; or
 -- nothing.
 -- Assumes nothing.
-use Rattle.std.proofs.Common.{ℕ, ◌≡◌, ◌≤◌, Bool, true, List, [], ◌∷◌, ◌++◌, length, refl, sym, ap, ◌∙◌, subst, arith}
+use Rattle.std.proofs.Common.{ℕ, ◌≡◌, ◌≤◌, Bool, true, List, [], ◌∷◌, ◌++◌, length, refl, sym, ◌∙◌, arith}
 use Rattle.std.specs.Prelude.{Option, Some, None, eqb, leb, ◌&&◌, if◌then◌else◌}
 use Rattle.std.proofs.lemmas.Bool.{eqb-true, leb-true}
 use Rattle.std.proofs.lemmas.List.{append-nil}
@@ -20,7 +20,7 @@ use Rattle.words.specs.Lamps.{is_lamp_hours, lamp_read}
 use Rattle.words.specs.Laws.{power_codec, input_codec, mutes_codec, errors_codec, lamp_codec, class_codec, switch_codec}
 use Rattle.words.specs.Muting.{mutes_read}
 use Rattle.words.specs.Powers.{power_read, switch_read}
-use Rattle.words.specs.Refusing.{refusal_number, refusal_read}
+use Rattle.words.specs.Refusing.{refusal_digit, refusal_read}
 use Rattle.words.specs.Texts.{isName, isInfo, isInputName}
 use Rattle.words.specs.declared.input.Input.{Input}
 use Rattle.words.specs.declared.refusal.Refusal.{Refusal}
@@ -31,9 +31,9 @@ use Rattle.pjlink.specs.declared.command.Command.TheVariants.{VolumeStep, NameQu
 use Rattle.pjlink.specs.declared.command.Body.{Body}
 use Rattle.pjlink.specs.declared.command.Body.TheVariants.{Powr, Inpt, Avmt, Erst, Lamp, Inst, Name, Inf1, Inf2, Info}
 use Rattle.pjlink.specs.declared.command.Body.TheVariants.{Clss, Frez, Svol, Mvol, Snum, Sver, Innm, Inpt2, Inst2}
-use Rattle.pjlink.specs.Said.{Said, refused, powerIs, chosenIs, mutesAre, errorsAre, lampsAre, inputsAre, textIs}
+use Rattle.pjlink.specs.Said.{Said, powerIs, chosenIs, mutesAre, errorsAre, lampsAre, inputsAre, textIs}
 use Rattle.pjlink.specs.Said.{classIs, freezeIs, nothing, saidText}
-use Rattle.pjlink.specs.Carried.{lampsCarried, inputsCarried, errorsCarried}
+use Rattle.pjlink.specs.Carried.{lampsCarried, inputsCarried}
 use Rattle.pjlink.specs.CanSay.{is_set, isRefusalTo}
 use Rattle.pjlink.specs.CanSay.{CanSay, done, refuses, power, input, mutes, errors, lamps, inputs, name, maker}
 use Rattle.pjlink.specs.CanSay.{model, other, class-is, freeze, serial, version, input-name, input-2, inputs-2}
@@ -127,7 +127,9 @@ module _ (p : List ℕ) where
       found (λ c. classIs c.number) (whole class_read p) (λ c e.
       let w = (whole_says class_codec).sound p c e in
       let k = c.number in
-      by_row (class-is k (leb-true 1 k (both_left (leb 1 k) (leb k 2) w.0)) (leb-true k 2 (both_right (leb 1 k) (leb k 2) w.0)))
+      by_row
+      (class-is k (leb-true 1 k (both_left (leb 1 k) (leb k 2) w.0))
+      (leb-true k 2 (both_right (leb 1 k) (leb k 2) w.0)))
       w.1)
 
   -- the bytes themselves are the text
@@ -172,7 +174,7 @@ value-sound (VolumeStep v up) p = ok-sound (VolumeStep v up) p refl
 value-sound (NameQuery i) p = text-sound p (isInputName p) (input-name p refl)
 value-sound (Query b) p = queried-sound b p
 
-refusal-range : (r : Refusal) → (1 ≤ refusal_number r) × (refusal_number r ≤ 4)
+refusal-range : (r : Refusal) → (1 ≤ refusal_digit r) × (refusal_digit r ≤ 4)
 refusal-range Undefined = (omega arith, omega arith)
 refusal-range OutOfParameter = (omega arith, omega arith)
 refusal-range Unavailable = (omega arith, omega arith)
@@ -183,7 +185,7 @@ by-refusal : (c : Command) (p : List ℕ) (o : Option Refusal) → whole refusal
 by-refusal c p None e = value-sound c p
 by-refusal c p (Some r) e =
     let n = refusal-range r in
-    guarded (isRefusalTo c (refusal_number r)) (λ t. by_row (refuses (refusal_number r) n.0 n.1 t) (refusal-is p r e))
+    guarded (isRefusalTo c (refusal_digit r)) (λ t. by_row (refuses (refusal_digit r) n.0 n.1 t) (refusal-is p r e))
 
 pub read-sound : (c : Command) (p : List ℕ) → CanRead c p (readParameter c p)
 unfolding readParameter

@@ -1,9 +1,9 @@
 -- THE LAW: for every command and every answer that it can have, reading a writing of the answer gives the answer back;
 -- and so its bytes, which are a writing.
 -- Assumes nothing.
-use Rattle.std.proofs.Common.{ℕ, zero, suc, ◌≡◌, ◌≤◌, ◌+◌, Bool, true, false, List, [], ◌∷◌, ◌++◌, length, get_or, map}
+use Rattle.std.proofs.Common.{ℕ, zero, suc, ◌≡◌, ◌≤◌, Bool, true, false, List, [], ◌∷◌, ◌++◌, length, get_or}
 use Rattle.std.proofs.Common.{refl, sym, ap, ◌∙◌, subst, arith}
-use Rattle.std.specs.Prelude.{Option, Some, None}
+use Rattle.std.specs.Prelude.{Option, None}
 use Rattle.std.proofs.lemmas.Bool.{eq-eqb, le-leb}
 use Rattle.std.proofs.lemmas.List.{length-map}
 use Prim.Native.Char.{code}
@@ -14,15 +14,15 @@ use Rattle.numbers.specs.Decimal.{isDigit, WritesNumber}
 use Rattle.numbers.proofs.Digits.{digit-to}
 use Rattle.words.specs.Codec.{Codec, Ends, Plain, whole}
 use Rattle.words.specs.Combinations.{whole_says, list_says}
-use Rattle.words.specs.Classes.{class_number}
+use Rattle.words.specs.Classes.{class_told}
 use Rattle.words.specs.ErrorDigits.{is_error_digit, errors_text}
 use Rattle.words.specs.Inputs.{isInput, inputText, sourceDigit, numberDigit}
 use Rattle.words.specs.Joined.{JoinedBy, list_text}
-use Rattle.words.specs.Lamps.{is_lamp_hours, WritesLampHours}
+use Rattle.words.specs.Lamps.{WritesLampHours}
 use Rattle.words.specs.Laws.{power_codec, input_codec, mutes_codec, errors_codec, lamp_codec, class_codec, switch_codec}
 use Rattle.words.specs.Muting.{halves_text, mutes_of}
 use Rattle.words.specs.Powers.{power_text, switch_code}
-use Rattle.words.specs.Refusing.{refusal_number, refusal_read}
+use Rattle.words.specs.Refusing.{refusal_digit, refusal_read}
 use Rattle.words.specs.Texts.{isInputName, nameMost, infoMost, inputNameMost}
 use Rattle.words.specs.declared.input.Input.{Input}
 use Rattle.words.specs.declared.input.Source.{Source}
@@ -62,7 +62,7 @@ by c m same e = ap (readParameter c) (same ∙ said_row m) ∙ e
 ok-back : (c : Command) → is_set c ≡ true → readValue c (ascii "OK") ≡ okay
 ok-back c e = if_yes okay (readQueried (bodyOf c) (ascii "OK")) e
 
-refusal-numbered : (n : ℕ) → 1 ≤ n → n ≤ 4 → (r : Refusal) × (n ≡ refusal_number r)
+refusal-numbered : (n : ℕ) → 1 ≤ n → n ≤ 4 → (r : Refusal) × (n ≡ refusal_digit r)
 refusal-numbered zero l h = absurd (omega arith)
 refusal-numbered (suc zero) l h = (Undefined, refl)
 refusal-numbered (suc (suc zero)) l h = (OutOfParameter, refl)
@@ -70,11 +70,11 @@ refusal-numbered (suc (suc (suc zero))) l h = (Unavailable, refl)
 refusal-numbered (suc (suc (suc (suc zero)))) l h = (Failure, refl)
 refusal-numbered (suc (suc (suc (suc (suc n))))) l h = absurd (omega arith)
 
-refused-back : (c : Command) (r : Refusal) → isRefusalTo c (refusal_number r) ≡ true
-    → readParameter c (saidText (refused (refusal_number r))) ≡ refused (refusal_number r)
+refused-back : (c : Command) (r : Refusal) → isRefusalTo c (refusal_digit r) ≡ true
+    → readParameter c (saidText (refused (refusal_digit r))) ≡ refused (refusal_digit r)
 unfolding readParameter
 refused-back c r t =
-    ap (λ o. refusal_or c o (readValue c (saidText (refused (refusal_number r))))) (refusal-back r) ∙ if_yes _ nothing t
+    ap (λ o. refusal_or c o (readValue c (saidText (refused (refusal_digit r))))) (refusal-back r) ∙ if_yes _ nothing t
 
 -- an input's name is the answer to no set
 name-no-set : (c : Command) → bodyOf c ≡ Innm → is_set c ≡ false
@@ -138,8 +138,8 @@ module _
     {read : List ℕ → Option (A × List ℕ)}
     (it : Codec Ends legal text (Plain legal text) read)
   where
-  own-back : (says : A → Said) (x : A) → legal x ≡ true → said_or says (whole read (text x)) ≡ says x
-  own-back says x h = ap (said_or says) ((whole_says it).back x (text x) (h, refl))
+    own-back : (says : A → Said) (x : A) → legal x ≡ true → said_or says (whole read (text x)) ≡ says x
+    own-back says x h = ap (said_or says) ((whole_says it).back x (text x) (h, refl))
 
 inputs-back : (is : List Input) → 1 ≤ length is → length is ≤ inputsCarried → every isInput is ≡ true
     → readQueried Inst (list_text inputText is) ≡ inputsAre is
@@ -175,7 +175,9 @@ written_back (lamps ls l h e) p w =
     value _ p (digit-first p (lamps-first ls p w))
     (ap (said_or lampsAre) ((list_says lamp_codec lampsCarried).back ls p (h, w)))
 written_back (inputs is l h e) p w =
-    by _ _ w (value _ (list_text inputText is) (digit-first (list_text inputText is) (inputs-first is l)) (inputs-back is l h e))
+    by _ _ w
+    (value _ (list_text inputText is) (digit-first (list_text inputText is) (inputs-first is l))
+    (inputs-back is l h e))
 written_back (name s e) p w = by _ _ w (value _ s (text-no-refusal nameMost s (name-is-text s e)) (if_yes _ _ e))
 written_back (maker s e) p w = by _ _ w (value _ s (text-no-refusal infoMost s e) (if_yes _ _ e))
 written_back (model s e) p w = by _ _ w (value _ s (text-no-refusal infoMost s e) (if_yes _ _ e))
@@ -183,9 +185,11 @@ written_back (other s e) p w = by _ _ w (value _ s (text-no-refusal infoMost s e
 written_back (class-is k l h) p w =
     by _ _ w
     (value _ (numberDigit k ∷ []) (not-four (numberDigit k ∷ []) (λ e. omega arith))
-    (own-back class_codec (λ c. classIs c.number) (class_number k) (both (le-leb 1 k l) (le-leb k 2 h))))
+    (own-back class_codec (λ c. classIs c.number) (class_told k) (both (le-leb 1 k l) (le-leb k 2 h))))
 written_back (freeze on) p w =
-    by _ _ w (value _ (switch_code on ∷ []) (not-four (switch_code on ∷ []) (λ e. omega arith)) (own-back switch_codec freezeIs on refl))
+    by _ _ w
+    (value _ (switch_code on ∷ []) (not-four (switch_code on ∷ []) (λ e. omega arith))
+    (own-back switch_codec freezeIs on refl))
 written_back (serial s e) p w = by _ _ w (value _ s (text-no-refusal infoMost s e) (if_yes _ _ e))
 written_back (version s e) p w = by _ _ w (value _ s (text-no-refusal infoMost s e) (if_yes _ _ e))
 written_back {c} (input-name s b e) p w =
@@ -193,7 +197,9 @@ written_back {c} (input-name s b e) p w =
 written_back (input-2 i e) p w =
     by _ _ w (value _ (inputText i) (not-four (inputText i) (λ e. omega arith)) (own-back input_codec chosenIs i e))
 written_back (inputs-2 is l h e) p w =
-    by _ _ w (value _ (list_text inputText is) (digit-first (list_text inputText is) (inputs-first is l)) (inputs-back is l h e))
+    by _ _ w
+    (value _ (list_text inputText is) (digit-first (list_text inputText is) (inputs-first is l))
+    (inputs-back is l h e))
 
 pub reads-back : {c : Command} {m : Said} → CanSay c m → readParameter c (saidBytes m) ≡ m
 reads-back {c} {m} can = written_back can (saidBytes m) (said-is-written can)

@@ -52,7 +52,8 @@ pub data CanSay : Command → Said → Type 0 where
   power : (p : Power) → CanSay (Query Powr) (powerIs p)
   input : (i : Input) → isInput i ≡ true → CanSay (Query Inpt) (chosenIs i)
   mutes : (video audio : Bool) → CanSay (Query Avmt) (mutesAre video audio)
-  errors : (ds : List ℕ) → length ds ≡ errorsCarried → every is_error_digit ds ≡ true → CanSay (Query Erst) (errorsAre ds)
+  errors : (ds : List ℕ) → length ds ≡ errorsCarried → every is_error_digit ds ≡ true
+      → CanSay (Query Erst) (errorsAre ds)
   lamps : (ls : List LampHours) → 1 ≤ length ls → length ls ≤ lampsCarried → every is_lamp_hours ls ≡ true
       → CanSay (Query Lamp) (lampsAre ls)
   inputs : (is : List Input) → 1 ≤ length is → length is ≤ inputsCarried → every isInput is ≡ true

@@ -12,7 +12,7 @@ use Rattle.std.specs.Prelude.{ℕ, Option, Some, None, Result, Ok, Err}
 use Rattle.pjlink.specs.Said.{Said, okay, refused, powerIs, chosenIs, mutesAre, errorsAre, lampsAre, inputsAre}
 use Rattle.pjlink.specs.Said.{textIs, classIs, freezeIs, nothing}
 use Rattle.words.specs.declared.refusal.Refusal.{Refusal}
-use Rattle.words.specs.Refusing.{refusal_number}
+use Rattle.words.specs.Refusing.{refusal_digit}
 use Rattle.pjlink.specs.declared.answer.Answer.{Answer}
 use Rattle.pjlink.specs.declared.answer.Answer.TheVariants as an
 
@@ -39,7 +39,7 @@ answer_said (an.Freeze on) = freezeIs on
 
 abbrev pub said_by : Result Answer Refusal → Said
 said_by (Ok a) = answer_said a
-said_by (Err r) = refused (refusal_number r)
+said_by (Err r) = refused (refusal_digit r)
 
 abbrev pub value_said : Option Answer → Said
 value_said None = nothing

@@ -3,14 +3,14 @@
 --   bodyText b           the four letters of a body
 --   bodyOf c             the body of a command
 --   commandClass c       the class of its line, and classDigit k the character of a class
---   parameterOf c        its parameter: `?` asks, anything else sets (of a step, 1 is up and 0 is down); INNM's names the
---                        input that is asked for
+--   parameterOf c        its parameter: `?` asks, anything else sets (of a step, 1 is up and 0 is down); INNM's names
+--                        the input that is asked for
 --   parameterBytes p     the bytes of a parameter
 --   isCommand c          a command whose line can be written: its input is one, its query is one
 --   commandText c        `%` and the class, the body, a space, the parameter
 --   commandLine c        that and CR
 -- Assumes nothing.
-use Rattle.std.specs.Prelude.{Bool, true, false, List, [], ◌∷◌, ◌++◌, ℕ, ◌+◌}
+use Rattle.std.specs.Prelude.{Bool, true, List, [], ◌∷◌, ◌++◌, ℕ, ◌+◌}
 use Prim.Native.Char.{code}
 use Rattle.text.specs.Words.{ascii}
 use Rattle.words.specs.Inputs.{isInput, inputText}

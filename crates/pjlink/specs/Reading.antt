@@ -20,7 +20,7 @@ use Rattle.words.specs.Muting.{mutes_read}
 use Rattle.words.specs.ErrorDigits.{errors_read}
 use Rattle.words.specs.Lamps.{lamp_read}
 use Rattle.words.specs.Classes.{class_read}
-use Rattle.words.specs.Refusing.{refusal_number, refusal_read}
+use Rattle.words.specs.Refusing.{refusal_digit, refusal_read}
 use Rattle.words.specs.Texts.{isName, isInfo, isInputName}
 use Rattle.words.specs.declared.refusal.Refusal.{Refusal}
 use Rattle.pjlink.specs.Commands.{bodyOf}
@@ -73,7 +73,7 @@ readValue c p = if is_set c then readOk p else readQueried (bodyOf c) p
 
 abbrev pub refusal_or : Command → Option Refusal → Said → Said
 refusal_or c None m = m
-refusal_or c (Some r) m = if isRefusalTo c (refusal_number r) then refused (refusal_number r) else nothing
+refusal_or c (Some r) m = if isRefusalTo c (refusal_digit r) then refused (refusal_digit r) else nothing
 
 unfoldable pub readParameter : Command → List ℕ → Said
 readParameter c p = refusal_or c (whole refusal_read p) (readValue c p)

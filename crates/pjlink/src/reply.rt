@@ -1,6 +1,6 @@
 //! The parameter of a reply, read for the command that it answers (RULES, Controller).
 ghost use Rattle.std.specs.Prelude.{◌≡◌};
-ghost use Rattle.words.specs.Refusing.{refusal_number};
+ghost use Rattle.words.specs.Refusing.{refusal_digit};
 ghost use Rattle.pjlink.specs.Carried.{value_said, parameter_said};
 ghost use Rattle.pjlink.specs.CanSay.{is_set, hasOwnParameter, isRefusalTo};
 ghost use Rattle.pjlink.specs.Reading.{text_or, readQueried, readValue, readParameter};
@@ -97,7 +97,7 @@ fn read_value(c: Command, p: &[u8]) -> Option<Answer<'_>>
 
 // Whether a refusal is allowed in reply to c: ERR2 is none to `?`.
 fn may_refuse(c: Command, r: Refusal) -> bool
-    ensures { result ≡ isRefusalTo c (refusal_number r) }
+    ensures { result ≡ isRefusalTo c (refusal_digit r) }
 {
     has_own_parameter(c) | (r.number() != 2)
 }

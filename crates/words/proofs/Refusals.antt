@@ -1,7 +1,7 @@
 -- What is read as a refusal is its text, of four bytes; what is none: bytes that are not four, bytes that begin with a
 -- digit, and a legal text.
 -- Assumes nothing.
-use Rattle.std.proofs.Common.{ℕ, ◌≡◌, ◌≤◌, true, List, [], ◌∷◌, length, get_or, refl, sym, ap, ◌∙◌, arith}
+use Rattle.std.proofs.Common.{ℕ, ◌≡◌, ◌≤◌, true, List, length, get_or, refl, sym, ap, ◌∙◌, arith}
 use Rattle.std.specs.Prelude.{Option, Some, None, not, leb, eqb, ◌&&◌}
 use Rattle.std.proofs.lemmas.Bool.{eqb-true}
 use Prim.Native.Char.{code}

@@ -11,11 +11,11 @@ is_class c = leb 1 c.number && leb c.number 2
 abbrev pub class_text : ClassNumber → List ℕ
 class_text c = numberDigit c.number ∷ []
 
-abbrev pub class_number : ℕ → ClassNumber
-class_number k = record { number = k }
+abbrev pub class_told : ℕ → ClassNumber
+class_told k = record { number = k }
 
 abbrev pub class_named : ℕ → Option ClassNumber
-class_named b = named (λ c. numberDigit c.number) (class_number 1 ∷ class_number 2 ∷ []) b
+class_named b = named (λ c. numberDigit c.number) (class_told 1 ∷ class_told 2 ∷ []) b
 
 abbrev pub class_read : List ℕ → Option (ClassNumber × List ℕ)
 class_read s = letter class_named s

@@ -10,8 +10,8 @@
 --   whole read s       the value that all of s says
 --   Ends s             where a word may end: no byte follows, or a space
 --   Plain legal text x t    t says the legal x as our own side says it, and in no other way
---   Codec E legal text writes read    a legal value's own text says it, and no other value is said; what says a value is
---                      read as it, where E holds of what follows; what is read says the value
+--   Codec E legal text writes read     a legal value's own text says it, and no other value is said; what says a
+--                      value is read as it, where E holds of what follows; what is read says the value
 --   WholeCodec legal text writes read  the same of all of a parameter
 --   taken r            what a reader of the code returned, apart from where the rest lies
 -- Assumes nothing.

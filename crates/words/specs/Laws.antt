@@ -33,8 +33,8 @@ use Rattle.words.specs.declared.input.Source.TheVariants.{Rgb, Video, Digital, S
 use Rattle.words.specs.declared.lamp.LampHours.{LampHours}
 use Rattle.words.specs.declared.power.Power.TheVariants.{Off, On, Cooling, WarmUp}
 use Rattle.words.specs.declared.refusal.Refusal.TheVariants.{Undefined, OutOfParameter, Unavailable, Failure}
-use Rattle.words.specs.Combinations.{bind_some, cond_is, letter_codec, counted_codec, named_codec, pair-back, pair-sound, past_codec}
-use Rattle.words.specs.Combinations.{spelled_codec}
+use Rattle.words.specs.Combinations.{bind_some, cond_is, letter_codec, counted_codec, named_codec}
+use Rattle.words.specs.Combinations.{pair-back, pair-sound, past_codec, spelled_codec}
 
 pub power_codec : Codec Ends (λ _. true) power_text (Plain (λ _. true) power_text) power_read
 power_codec = named_codec power_code powers (elim [ Off ↦ refl | On ↦ refl | Cooling ↦ refl | WarmUp ↦ refl ])
@@ -174,9 +174,9 @@ lamp-sound : (s : List ℕ) (l : LampHours) (rest : List ℕ) → lamp_read s �
     → (t : List ℕ) × WritesLampHours l t × (s ≡ t ++ rest)
 lamp-sound s l rest e =
     let (n, on, a, b, wa, wb, k, f) =
-        pair-sound lamp_hours number_codec (past_codec " " switch_codec) s l rest e in
+    pair-sound lamp_hours number_codec (past_codec " " switch_codec) s l rest e in
     let writes : WritesLampHours (lamp_hours n on) (a ++ b) =
-        record { word = a; hours = wa; text = ap (λ b. a ++ b) wb.1 } in
+    record { word = a; hours = wa; text = ap (λ b. a ++ b) wb.1 } in
     (a ++ b, subst (λ l. WritesLampHours l (a ++ b)) k writes, f ∙ sym (append_assoc a b rest))
 
 pub lamp_codec : Codec Ends is_lamp_hours lamp_text WritesLampHours lamp_read

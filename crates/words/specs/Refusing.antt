@@ -1,5 +1,5 @@
 -- The four refusals: ERR and a digit (PJLink 1.04, 2.4; RULES, Commands).
---   refusal_number r   1 undefined command, 2 out of parameter, 3 unavailable time, 4 failure
+--   refusal_digit r   1 undefined command, 2 out of parameter, 3 unavailable time, 4 failure
 --   refusal_text r     ERR and that digit
 --   refusal_read s     the refusal at the front of s
 -- Assumes nothing.
@@ -10,14 +10,14 @@ use Rattle.words.specs.Inputs.{numberDigit}
 use Rattle.words.specs.declared.refusal.Refusal.{Refusal}
 use Rattle.words.specs.declared.refusal.Refusal.TheVariants.{Undefined, OutOfParameter, Unavailable, Failure}
 
-abbrev pub refusal_number : Refusal → ℕ
-refusal_number Undefined = 1
-refusal_number OutOfParameter = 2
-refusal_number Unavailable = 3
-refusal_number Failure = 4
+abbrev pub refusal_digit : Refusal → ℕ
+refusal_digit Undefined = 1
+refusal_digit OutOfParameter = 2
+refusal_digit Unavailable = 3
+refusal_digit Failure = 4
 
 abbrev pub refusal_code : Refusal → ℕ
-refusal_code r = numberDigit (refusal_number r)
+refusal_code r = numberDigit (refusal_digit r)
 
 abbrev pub refusals : List Refusal
 refusals = Undefined ∷ OutOfParameter ∷ Unavailable ∷ Failure ∷ []

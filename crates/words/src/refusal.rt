@@ -1,7 +1,7 @@
 // The four refusals: ERR and a digit (PJLink 1.04, 2.4; RULES, Commands).
 ghost use Rattle.std.specs.Prelude.{◌≡◌, true};
 ghost use Rattle.words.specs.Codec.{Plain};
-ghost use Rattle.words.specs.Refusing.{refusal_number, refusal_named, refusal_text, refusal_read};
+ghost use Rattle.words.specs.Refusing.{refusal_digit, refusal_named, refusal_text, refusal_read};
 ghost use Rattle.words.specs.Laws.{refusal_codec};
 
 use crate::codec::{Line, Wire};
@@ -23,7 +23,7 @@ pub enum Refusal {
 impl Refusal {
     /// The digit after ERR, 1 to 4.
     pub fn number(self) -> u8
-        ensures { result ≡ refusal_number self }
+        ensures { result ≡ refusal_digit self }
     {
         match self {
             Refusal::Undefined => 1,

@@ -3,26 +3,25 @@ use Rattle.std.proofs.Common.{◌≡◌, ◌≤◌, ◌+◌, ◌++◌, ℕ, List
 use Rattle.std.proofs.Math.Seq.{take-append_seam}
 use Rattle.std.proofs.lemmas.List.Edits.{sets, sets-eq}
 use Rattle.std.proofs.lemmas.List.{length-append}
-use Rattle.numbers.specs.Decimal.{digits}
 use Rattle.numbers.proofs.Digits.{digits-at-most-10}
 use Rattle.words.proofs.number.U32Wire.put.Goals as goal
 
 module _ (all t m : List ℕ) (n : ℕ) (room : length t ≤ length all) (same : m ≡ sets all 0 t) (long : n ≡ 0 + length t)
   where
-  front : take n m ≡ t
-  front =
-      ap (λ n. take n m) (long ∙ omega arith)
-      ∙ ap (take (length t)) (same ∙ sets-eq t all 0 (omega arith))
-      ∙ take-append_seam t (drop (0 + length t) all)
+    front : take n m ≡ t
+    front =
+        ap (λ n. take n m) (long ∙ omega arith)
+        ∙ ap (take (length t)) (same ∙ sets-eq t all 0 (omega arith))
+        ∙ take-append_seam t (drop (0 + length t) all)
 
-  inside : n ≤ length m
-  inside =
-      omega (
-        arith,
-        ap length same,
-        ap length (sets-eq t all 0 (omega arith)),
-        length-append t (drop (0 + length t) all),
-      )
+    inside : n ≤ length m
+    inside =
+        omega (
+          arith,
+          ap length same,
+          ap length (sets-eq t all 0 (omega arith)),
+          length-append t (drop (0 + length t) all),
+        )
 
 pub put_number-n-requires : goal.put_number-n-requires
 put_number-n-requires c = omega (arith, digits-at-most-10 c.args.self)
