@@ -4,3 +4,4 @@ pub mod OneResult
 pub mod WhichSetting
 pub mod Zipping
 pub mod OneOfLists
+pub mod Gives

@@ -14,7 +14,8 @@ use Rattle.device.specs.Outcomes.{Told}
 use Rattle.controller.specs.Reading.{ReadAs}
 use Rattle.controller.specs.declared.writing.Written.{Written}
 use Rattle.controller.specs.declared.reading.Reading.{Reading}
-use Rattle.ours.specs.Board.{Given, Lent, Wrote}
+use Rattle.ours.specs.Board.{Lent, Wrote}
+use Rattle.record.specs.Given.{Given}
 
 abbrev pub lent_as : Told → Device → List ℕ → Lent Device
 lent_as t d m = record { number = t.number; taken = t.taken; length = t.length; memory = m; device = d }

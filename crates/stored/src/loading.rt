@@ -19,7 +19,7 @@ use form::storing::VERSION;
 use numbers::highest;
 use record::scan;
 use record::types::{Device, INPUTS_MOST, LAMPS_MOST, Setting};
-use setup::error::SetUpError;
+use record::set_up_error::SetUpError;
 use setup::wanted::{Class, Wanted};
 
 fn is_other_version(s: &[u8]) -> bool
