@@ -3,5 +3,6 @@ pub mod FaceReadsBack
 pub mod OneResult
 pub mod WhichSetting
 pub mod Zipping
+mod FitsADay
 pub mod OneOfLists
 pub mod Gives

@@ -15,7 +15,7 @@ use Rattle.std.specs.Prelude.{Bool, not, ◌&&◌, List, [], ◌∷◌, ◌/◌,
 use Rattle.std.specs.Prelude.{Option, Some, None, Result, Ok, Err}
 use Rattle.std.specs.List.{find}
 use Rattle.text.specs.Scans.{every}
-use Rattle.lines.specs.Texts.{isText, isName, isInfo, isPassword, infoMost}
+use Rattle.words.specs.Texts.{isText, isName, isInfo, isPassword, infoMost}
 use Rattle.record.specs.Limits.{onlyIn2}
 use Rattle.record.specs.Wanted.{Wanted}
 use Rattle.record.specs.Rules.{isLongEnough, isInputs, isLamps, isStretch, areNames}

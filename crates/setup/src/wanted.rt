@@ -5,7 +5,7 @@ ghost use Rattle.record.specs.SetUpErrors.{outcome_of};
 ghost use Rattle.record.specs.Wanted.{namesIn};
 ghost use Rattle.setup.specs.Lent.{wanted_settings, class_number, serial_of, version_of, names_of};
 
-use lines::texts;
+use words::texts;
 use record::set_up_error::SetUpError;
 use record::types::Setting;
 use record::{inputs, names, own, settings};
