@@ -1,6 +1,5 @@
 -- What a call in place gives, as a host is told of it: the number, and the record that it leaves.
 -- Assumes nothing.
-use Prim.Native.Nat.{ℕ}
 use mathlib.Core.Path.{◌≡◌, ap, ◌∙◌}
 use Rattle.std.specs.Prelude.{Result, OnErr}
 use Rattle.record.specs.Given.{gives, left_by}

@@ -14,8 +14,8 @@ ghost use Rattle.board.specs.Results.{received_of, opened_of, changed_of, closin
 use crate::projector;
 use crate::results::{Changed, Opened, Opening, Received, Receiving};
 use record::fresh;
-use record::types::Device;
 use record::set_up_error::SetUpError;
+use record::types::Device;
 use setup::wanted::{Class, Wanted};
 
 // What set-up gave: the blank record where it is refused. Not put into its callers: its copies of the record would lie

@@ -18,9 +18,9 @@ ghost use Rattle.board.specs.Results.{receiving_of, opening_of};
 use crate::results::{Opening, Receiving};
 use clock::pass;
 use device::calls;
+use record::set_up_error::SetUpError;
 use record::types::Device;
 use record::{fresh, refusal};
-use record::set_up_error::SetUpError;
 use setup::wanted::{Class, Wanted};
 
 // What set-up gave, into the host's record: the blank one where it is refused.

@@ -1,7 +1,8 @@
 -- Demand 3 holds of our board.
 -- Assumes nothing.
-use mathlib.Core.Path.{refl, ap}
+use mathlib.Core.Path.{refl}
 use native.Mathlib.Omega.{arith}
+use Rattle.record.specs.declared.types.Device.{Device}
 use Rattle.record.specs.Given.{Given}
 use Rattle.clock.specs.Second.{times, second}
 use Rattle.clock.proofs.Cases.{passed-by}

@@ -8,6 +8,7 @@ use Rattle.pjlink.specs.declared.command.Command.TheVariants.{Query}
 use Rattle.pjlink.specs.declared.command.Body.TheVariants.{Name}
 use Rattle.pjlink.specs.Said.{textIs}
 use Rattle.record.specs.Wanted.{Wanted}
+use Rattle.record.specs.declared.types.Device.{Device}
 use Rattle.record.specs.Given.{Given}
 use Rattle.record.specs.declared.types.Setting.TheVariants.{Name as ItsName}
 use Rattle.record.proofs.Calls.{set-up-by}

@@ -95,8 +95,8 @@ module _ (w : Wanted) where
   -- what is tested, and what is then set up
   pub checked_set_up : Ok tt ≡ outcome_of (setUp w) → isSetUp w ≡ true
   checked_set_up =
-      set-up-cases (λ r. Ok tt ≡ outcome_of r → isSetUp w ≡ true) (λ s e h. absurd (ok-err h)) (λ k l h. absurd (ok-err h))
-      (λ k l h. set-up-shown k l)
+      set-up-cases (λ r. Ok tt ≡ outcome_of r → isSetUp w ≡ true) (λ s e h. absurd (ok-err h))
+      (λ k l h. absurd (ok-err h)) (λ k l h. set-up-shown k l)
 
   pub checked_refused : (e : SetUpError) → Err e ≡ outcome_of (setUp w) → Err e ≡ setUp w
   checked_refused e =

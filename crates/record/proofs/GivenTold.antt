@@ -1,6 +1,5 @@
 -- What a call in place gives, as a host is told of it: one outcome, one record.
 -- Assumes nothing.
-use Prim.Native.Nat.{ℕ}
 use mathlib.Core.Path.{◌≡◌, refl, sym, ap, ◌∙◌}
 use Rattle.std.specs.Prelude.{Result, Ok, Err, OnErr}
 use Rattle.record.specs.Given.{Given, gives, left_by, given_by}

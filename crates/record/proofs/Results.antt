@@ -16,7 +16,8 @@ use Rattle.record.specs.Wanted.{Wanted}
 use Rattle.record.specs.Rules.{isLongEnough, isErrors}
 use Rattle.record.specs.Limits.{off}
 use Rattle.record.specs.Record.{blank}
-use Rattle.record.specs.Given.{given_by, set_up_given}
+use Rattle.record.specs.Refusals.{outcome_number}
+use Rattle.record.specs.Given.{left_by, given_by, set_up_given}
 use Rattle.record.specs.Legal.{isLegal}
 use Rattle.record.specs.SetUp.{isInRange, setUp}
 use Rattle.record.specs.HostCalls.{faultSet, errorsSet, isNoLamp, isNoneLeft, markSet}
@@ -77,8 +78,8 @@ module _ (d : Device) where
   pub fault-number : (m : Bool) → (given_by d (faultSet d m)).number ≡ (if illegal then 1 else 0)
   unfolding faultSet
   fault-number m =
-      if-by (λ (r : Result Device Refusal). (given_by d r).number ≡ (if illegal then 1 else 0)) illegal (λ h. sym (if_yes _ _ h))
-      (λ h. sym (if_no _ _ h))
+      if-by (λ (r : Result Device Refusal). (given_by d r).number ≡ (if illegal then 1 else 0)) illegal
+      (λ h. sym (if_yes _ _ h)) (λ h. sym (if_no _ _ h))
 
   pub errors-number : (ds : List ℕ)
       → (given_by d (errorsSet d ds)).number ≡ (if illegal then 1 else if not (isErrors ds) then 3 else 0)
@@ -90,10 +91,10 @@ module _ (d : Device) where
       if-by P illegal (λ h. sym (if_yes _ _ h)) (λ h. if-by P wrong (λ k. sym (if_no _ _ h ∙ if_yes _ _ k))
       (λ k. sym (if_no _ _ h ∙ if_no _ _ k)))
 
-  pub fault-refusal : (m : Bool) → ((given_by d (faultSet d m)).number ≡ 0 → ⊥) → (given_by d (faultSet d m)).device ≡ d
+  pub fault-refusal : (m : Bool) → (outcome_number (faultSet d m) ≡ 0 → ⊥) → left_by d (faultSet d m) ≡ d
   fault-refusal m = fault-set-by d (λ r. (r.number ≡ 0 → ⊥) → r.device ≡ d) m (λ n. refl) (λ h n. absurd (n refl))
 
-  pub errors-refusal : (ds : List ℕ) → ((given_by d (errorsSet d ds)).number ≡ 0 → ⊥) → (given_by d (errorsSet d ds)).device ≡ d
+  pub errors-refusal : (ds : List ℕ) → (outcome_number (errorsSet d ds) ≡ 0 → ⊥) → left_by d (errorsSet d ds) ≡ d
   errors-refusal ds =
       errors-set-by d (λ r. (r.number ≡ 0 → ⊥) → r.device ≡ d) ds (λ n. refl) (λ n. refl) (λ h k n. absurd (n refl))
 
@@ -110,6 +111,6 @@ module _ (d : Device) where
       (λ k. if-by P busy (λ p. sym (if_no _ _ h ∙ if_no _ _ k ∙ if_yes _ _ p))
       (λ p. sym (if_no _ _ h ∙ if_no _ _ k ∙ if_no _ _ p))))
 
-  pub mark-refusal : (k : ℕ) (m : Bool) → ((given_by d (markSet d k m)).number ≡ 0 → ⊥) → (given_by d (markSet d k m)).device ≡ d
+  pub mark-refusal : (k : ℕ) (m : Bool) → (outcome_number (markSet d k m) ≡ 0 → ⊥) → left_by d (markSet d k m) ≡ d
   mark-refusal k m =
       mark-set-by d (λ r. (r.number ≡ 0 → ⊥) → r.device ≡ d) k m (λ n z e. refl) (λ h i l p n. absurd (n refl))

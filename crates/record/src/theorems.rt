@@ -1,6 +1,7 @@
 // What is proved beside the contracts of the functions. Nothing is done here: that these functions have their contracts
 // is that the theorems stand.
-ghost use Rattle.std.specs.Prelude.{◌≡◌, ◌≢◌, ◌+◌, ◌*◌, ◌<◌, ◌≤◌, Bool, IsTrue, true, List, ℕ, Option, Some, None, Result, OnErr};
+ghost use Rattle.std.specs.Prelude.{◌≡◌, ◌≢◌, ◌+◌, ◌*◌, ◌<◌, ◌≤◌, Bool, IsTrue, true, List, ℕ, Option, Some, None};
+ghost use Rattle.std.specs.Prelude.{Result, OnErr};
 ghost use Rattle.words.specs.Bytes.{◌at◌};
 ghost use Rattle.words.specs.Texts.{passwordMost};
 ghost use Rattle.record.specs.Limits.{ageEnd, errorsCount, errorMost};

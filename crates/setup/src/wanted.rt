@@ -5,10 +5,10 @@ ghost use Rattle.record.specs.SetUpErrors.{outcome_of};
 ghost use Rattle.record.specs.Wanted.{namesIn};
 ghost use Rattle.setup.specs.Lent.{wanted_settings, class_number, serial_of, version_of, names_of};
 
-use words::texts;
 use record::set_up_error::SetUpError;
 use record::types::Setting;
 use record::{inputs, names, own, settings};
+use words::texts;
 
 /// The class of a projector, with what it alone has (RULES, Class 2).
 #[derive(Clone, Copy)]

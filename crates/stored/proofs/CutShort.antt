@@ -15,6 +15,7 @@ use Rattle.text.proofs.Parts.{drop-take}
 use Rattle.words.specs.Bytes.{◌at◌}
 use Rattle.record.specs.Wanted.{Wanted}
 use Rattle.record.specs.SetUp.{isSetUp}
+use Rattle.record.specs.declared.types.Device.{Device}
 use Rattle.record.specs.Given.{Given}
 use Rattle.form.specs.Form.{formVersion, markedVersion, oldVersion, marksSection, formWith, form_of, markedFormOf}
 use Rattle.form.specs.Form.{oldFormOf}

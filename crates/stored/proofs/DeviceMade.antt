@@ -1,6 +1,6 @@
 -- The device that set-up gives, or none where it is refused.
 -- Assumes nothing.
-use Rattle.std.proofs.Common.{◌≡◌, Bool, true, false, Option, Some, None, Result, Ok, Err, sym, ap, refl, ◌∙◌, arith}
+use Rattle.std.proofs.Common.{◌≡◌, Bool, true, false, Option, Some, None, Result, Ok, Err, sym, ap, refl, ◌∙◌}
 use Rattle.std.proofs.Common.{if◌then◌else◌}
 use Rattle.std.specs.Result.{result_ok}
 use Rattle.std.proofs.lemmas.Option.{none-some}
@@ -12,7 +12,6 @@ use Rattle.record.specs.Given.{set_up_given}
 use Rattle.record.specs.declared.types.Device.{Device}
 use Rattle.record.proofs.Calls.{ok-err, set-up-accepted, set-up-in-range}
 use Rattle.record.specs.declared.set_up_error.SetUpError.{SetUpError}
-use Rattle.record.specs.declared.set_up_error.SetUpError.TheVariants.{OutOfRange, ShortPassword}
 use Rattle.stored.specs.Loading.{device_of}
 
 abbrev value : Option Device → Device → Device

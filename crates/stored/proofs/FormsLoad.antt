@@ -14,6 +14,7 @@ use Rattle.text.proofs.Choices.{both, both_right}
 use Rattle.words.specs.Bytes.{◌at◌}
 use Rattle.record.specs.Wanted.{Wanted}
 use Rattle.record.specs.Record.{started}
+use Rattle.record.specs.declared.types.Device.{Device}
 use Rattle.record.specs.Given.{Given, accepted, set_up_given}
 use Rattle.record.specs.SetUp.{isSetUp, setUp}
 use Rattle.record.proofs.Calls.{set-up-accepted}

@@ -8,6 +8,7 @@ use Rattle.record.specs.Limits.{ageEnd, shut, awaiting, opened}
 use Rattle.record.specs.Legal.{isTimed}
 use Rattle.record.specs.Places.{connectionAt, isShut}
 use Rattle.record.specs.declared.types.Connection.{Connection}
+use Rattle.record.specs.declared.types.Device.{Device}
 use Rattle.record.specs.Given.{left_by}
 use Rattle.std.specs.Prelude.{Result}
 use Rattle.record.specs.declared.refusal.Refusal.{Refusal}
