@@ -11,7 +11,7 @@ use Rattle.text.proofs.OneResult.{one-result}
 use Rattle.record.specs.Wanted.{Wanted}
 use Rattle.record.specs.SetUp.{firstOutOfRange, setUp}
 use Rattle.record.specs.OutOfRange.{settingPlace}
-use Rattle.record.specs.SetUpErrors.{setting_told, outcome_of}
+use Rattle.record.specs.SetUpErrors.{setting_told, check_of}
 use Rattle.record.specs.Given.{set_up_given}
 use Rattle.record.specs.declared.types.Setting.{Setting}
 use Rattle.record.specs.declared.types.Setting.TheVariants.{Password}
@@ -45,6 +45,6 @@ module _ (w : Wanted) where
   one-which = one-result
 
 -- what the check tells is what set-up tells
-pub checked : (r : Result Device SetUpError) → setting_told (outcome_of r) ≡ setting_told r
+pub checked : (r : Result Device SetUpError) → setting_told (check_of r) ≡ setting_told r
 checked (Ok d) = refl
 checked (Err e) = refl

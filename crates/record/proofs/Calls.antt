@@ -17,7 +17,7 @@ use Rattle.record.specs.Rules.{isLongEnough, isErrors}
 use Rattle.record.specs.Record.{allClosed, settingsOf, startOwn, started, blank}
 use Rattle.record.specs.Legal.{isLegal}
 use Rattle.record.specs.SetUp.{isInRange, isSetUp, firstOutOfRange, unless_out, setUp}
-use Rattle.record.specs.SetUpErrors.{outcome_of}
+use Rattle.record.specs.SetUpErrors.{check_of}
 use Rattle.record.specs.Given.{Given, accepted, refused, given_by, set_up_given}
 use Rattle.record.specs.Updates.{withOwn, withFault, withErrors, withMarks}
 use Rattle.record.specs.HostCalls.{faultSet, errorsSet, isNoLamp, isNoneLeft, markSet}
@@ -93,14 +93,14 @@ module _ (w : Wanted) where
   set-up-accepted h = none_refused (in-range-none w (set-up-ranged h)) (set-up-long h)
 
   -- what is tested, and what is then set up
-  pub checked_set_up : Ok tt ≡ outcome_of (setUp w) → isSetUp w ≡ true
+  pub checked_set_up : Ok tt ≡ check_of (setUp w) → isSetUp w ≡ true
   checked_set_up =
-      set-up-cases (λ r. Ok tt ≡ outcome_of r → isSetUp w ≡ true) (λ s e h. absurd (ok-err h))
+      set-up-cases (λ r. Ok tt ≡ check_of r → isSetUp w ≡ true) (λ s e h. absurd (ok-err h))
       (λ k l h. absurd (ok-err h)) (λ k l h. set-up-shown k l)
 
-  pub checked_refused : (e : SetUpError) → Err e ≡ outcome_of (setUp w) → Err e ≡ setUp w
+  pub checked_refused : (e : SetUpError) → Err e ≡ check_of (setUp w) → Err e ≡ setUp w
   checked_refused e =
-      set-up-cases (λ r. Err e ≡ outcome_of r → Err e ≡ r) (λ s f h. ap again h) (λ k l h. ap again h)
+      set-up-cases (λ r. Err e ≡ check_of r → Err e ≡ r) (λ s f h. ap again h) (λ k l h. ap again h)
       (λ k l h. absurd (ok-err (sym h)))
     where
       again : Result (Unit {0}) SetUpError → Result Device SetUpError

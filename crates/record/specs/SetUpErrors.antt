@@ -3,7 +3,7 @@
 --   set_up_number r          the number that a host is given: 0 where nothing is refused
 --   setting_of e             the setting for which it refuses
 --   setting_told r           the same of what set-up gives, or none
---   outcome_of r             what set-up gives, but for the device
+--   check_of r               what set-up gives, but for the device
 -- Assumes nothing.
 use Rattle.std.specs.Prelude.{ℕ, Option, Some, None, Result, Ok, Err}
 use Rattle.record.specs.declared.types.Setting.{Setting}
@@ -27,6 +27,6 @@ abbrev pub setting_told : {A : Type 0} → Result A SetUpError → Option Settin
 setting_told (Ok x) = None
 setting_told (Err e) = Some (setting_of e)
 
-abbrev pub outcome_of : {A : Type 0} → Result A SetUpError → Result (Unit {0}) SetUpError
-outcome_of (Ok x) = Ok tt
-outcome_of (Err e) = Err e
+abbrev pub check_of : {A : Type 0} → Result A SetUpError → Result (Unit {0}) SetUpError
+check_of (Ok x) = Ok tt
+check_of (Err e) = Err e

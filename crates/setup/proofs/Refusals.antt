@@ -4,22 +4,22 @@ use Rattle.std.proofs.Common.{◌≡◌, true, false, length, Some, None, Ok, Er
 use Rattle.record.specs.Wanted.{Wanted}
 use Rattle.record.specs.Rules.{isLongEnough}
 use Rattle.record.specs.SetUp.{firstOutOfRange, setUp}
-use Rattle.record.specs.SetUpErrors.{outcome_of}
+use Rattle.record.specs.SetUpErrors.{check_of}
 use Rattle.record.specs.declared.types.Setting.{Setting}
 use Rattle.record.specs.declared.set_up_error.SetUpError.TheVariants.{OutOfRange, ShortPassword}
 use Rattle.record.proofs.Calls.{refused_out, refused_short, none_refused, checked_set_up, checked_refused, set-up-made}
 use Rattle.setup.proofs.Fits.{lamps_fit}
 
 module _ (w : Wanted) where
-  pub out_checked : (s : Setting) → Some s ≡ firstOutOfRange w → Err (OutOfRange s) ≡ outcome_of (setUp w)
-  out_checked s e = sym (ap outcome_of (refused_out w s (sym e)))
+  pub out_checked : (s : Setting) → Some s ≡ firstOutOfRange w → Err (OutOfRange s) ≡ check_of (setUp w)
+  out_checked s e = sym (ap check_of (refused_out w s (sym e)))
 
   module _ (e : None ≡ firstOutOfRange w) where
-    pub short_checked : isLongEnough (length w.password) ≡ false → Err ShortPassword ≡ outcome_of (setUp w)
-    short_checked h = sym (ap outcome_of (refused_short w (sym e) h))
+    pub short_checked : isLongEnough (length w.password) ≡ false → Err ShortPassword ≡ check_of (setUp w)
+    short_checked h = sym (ap check_of (refused_short w (sym e) h))
 
-    pub all_checked : isLongEnough (length w.password) ≡ true → Ok tt ≡ outcome_of (setUp w)
-    all_checked h = sym (ap outcome_of (none_refused w (sym e) h))
+    pub all_checked : isLongEnough (length w.password) ≡ true → Ok tt ≡ check_of (setUp w)
+    all_checked h = sym (ap check_of (none_refused w (sym e) h))
 
 pub ruleset reasons = (short_checked, all_checked)
 

@@ -1,7 +1,7 @@
 // What set-up is lent, and whether it can be set up (RULES, The legal record).
 ghost use Rattle.std.specs.Prelude.{◌≡◌};
 ghost use Rattle.record.specs.SetUp.{isSettingInRange, firstOutOfRange, setUp};
-ghost use Rattle.record.specs.SetUpErrors.{outcome_of};
+ghost use Rattle.record.specs.SetUpErrors.{check_of};
 ghost use Rattle.record.specs.Wanted.{namesIn};
 ghost use Rattle.setup.specs.Lent.{wanted_settings, class_number, serial_of, version_of, names_of};
 
@@ -125,7 +125,7 @@ impl<'a> Wanted<'a> {
     /// Whether this can be set up, and else why not: a setting out of its range before a short password.
     #[tactic(auto, using(crate::proofs::Refusals::reasons))]
     pub fn check(&self) -> Result<(), SetUpError>
-        ensures { result ≡ outcome_of (setUp (wanted_settings self.now)) }
+        ensures { result ≡ check_of (setUp (wanted_settings self.now)) }
     {
         if let Some(setting) = self.first_out_of_range() {
             return Err(SetUpError::OutOfRange(setting));
