@@ -11,6 +11,8 @@ ghost use Rattle.device.specs.Answering.{lineAnswer};
 use pjlink::answer::Reply;
 use pjlink::{form, request, write};
 use record::types::{Own, Settings};
+use words::codec;
+use words::codec::Line;
 
 // The reply to a line of this class byte and these letters, from the start of the lent memory.
 fn put_reply(out: &mut [u8], class: u8, letters: [u8; 4], reply: &Reply<'_>) -> usize
@@ -22,10 +24,12 @@ fn put_reply(out: &mut [u8], class: u8, letters: [u8; 4], reply: &Reply<'_>) -> 
         (letters at 3) (saidBytes (said_by reply.now))) out.old }
 {
     let [a, b, c, d] = letters;
-    text::put(out, 0, &[b'%', class, a, b, c, d, b'=']);
-    let end = write::put_parameter(out, 7, reply);
-    out[end] = b'\r';
-    end + 1
+    let mut line = Line::new();
+    codec::put_all(&[b'%', class, a, b, c, d, b'='], &mut line);
+    write::put_parameter(reply, &mut line);
+    line.push(b'\r');
+    text::put(out, 0, line.as_slice());
+    line.len()
 }
 
 /// What the line asks is decided and answered; a line not of the form is swallowed.

@@ -11,10 +11,11 @@ ghost use Rattle.std.specs.Prelude.{◌≡◌, Ok};
 ghost use Rattle.pjlink.specs.Carried.{said_by};
 ghost use Rattle.meaning.specs.Meaning.{meant, done};
 
-use pjlink::answer::{Refusal, Reply};
+use pjlink::answer::Reply;
 use pjlink::command::Command;
 use pjlink::request::Unasked;
 use record::types::{Own, Settings};
+use words::refusal::Refusal;
 
 // A command: the first rule that applies refuses it; else it is answered, and then carried out.
 #[tactic(auto, unfolding(crate::specs::Meaning::meant, crate::specs::Meaning::done))]

@@ -6,7 +6,7 @@ ghost use Rattle.meaning.specs.Meaning.{powerSaid, lampsSaid, nameBytes, inputNa
 
 use crate::inputs;
 use arrayvec::ArrayVec;
-use pjlink::answer::{Answer, LampHours, Power};
+use pjlink::answer::Answer;
 use pjlink::body::Body;
 use pjlink::command::Command;
 use record::own;
@@ -15,6 +15,8 @@ use record::types::{
     INPUT_NAME_MOST, INPUTS_MOST, InputName, LAMPS_MOST, Own, Settings, TEXT_ROOM, Text,
 };
 use words::input::Input;
+use words::lamp::LampHours;
+use words::power::Power;
 
 const HOUR: u32 = 3600;
 

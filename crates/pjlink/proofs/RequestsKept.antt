@@ -14,7 +14,7 @@ use Rattle.words.specs.Bytes.{◌at◌}
 use Rattle.words.specs.Inputs.{input_of}
 use Rattle.words.specs.declared.input.Input.{Input}
 use Rattle.pjlink.specs.Bodies.{bodies, row_of, is_named, bodyNamed, hasSet, hasParameters, hasQuery, isBody}
-use Rattle.pjlink.specs.Requests.{Request, switch_of, halfNamed, mute_of, name_query_of, set_of, isQuestion, listed}
+use Rattle.pjlink.specs.Requests.{Request, switch_of, halfNamed, mute_of, name_query_of, set_of, isQuestion, or_unlisted}
 use Rattle.pjlink.specs.Requests.{asked_of, asked, requestOf}
 use Rattle.pjlink.specs.declared.request.Unasked.TheVariants.{Unlisted, UnknownBody}
 use Rattle.pjlink.specs.declared.body.Row.{Row}
@@ -162,29 +162,29 @@ requestBefore k s p = asked_before (firstNamed bodies_before k s) p
 
 module _ (b : Body) where
   switch-kept : (f : Bool → Command) (p : List ℕ)
-      → listed b (option_map f (switch_of p)) ≡ switchAsked b (f false) (f true) p
+      → or_unlisted b (option_map f (switch_of p)) ≡ switchAsked b (f false) (f true) p
   unfolding switch_of
   switch-kept f p = by (eqb (length p) 1 && p at 0 from "0" to "1") (p at 0 is "1")
     where
       by : (c t : Bool)
-          → listed b (option_map f (if c then Some t else None))
+          → or_unlisted b (option_map f (if c then Some t else None))
           ≡ (if c then Ok (if t then f true else f false) else Err (Unlisted b))
       by true true = refl
       by true false = refl
       by false t = refl
 
-  input-kept : (f : Input → Command) (m : Option Input) → listed b (option_map f m) ≡ inputAsked f b m
+  input-kept : (f : Input → Command) (m : Option Input) → or_unlisted b (option_map f m) ≡ inputAsked f b m
   input-kept f (Some i) = refl
   input-kept f None = refl
 
-  set-kept : (set : Sets) (p : List ℕ) → listed b (set_of set p) ≡ setBy set b p
+  set-kept : (set : Sets) (p : List ℕ) → or_unlisted b (set_of set p) ≡ setBy set b p
   unfolding mute_of name_query_of
   set-kept SetsPower p = switch-kept PowerSet p
   set-kept SetsInput p = input-kept InputSet (input_of p)
   set-kept SetsMute p = by (eqb (length p) 2 && (p at 0 from "1" to "3" && p at 1 from "0" to "1"))
     where
       by : (t : Bool)
-          → listed b (if t then Some (MuteSet (halfNamed (p at 0)) (p at 1 is "1")) else None)
+          → or_unlisted b (if t then Some (MuteSet (halfNamed (p at 0)) (p at 1 is "1")) else None)
           ≡ (if t then Ok (MuteSet (halfNamed (p at 0)) (p at 1 is "1")) else Err (Unlisted b))
       by true = refl
       by false = refl
@@ -195,7 +195,7 @@ module _ (b : Body) where
   set-kept NamesInput p = by (p at 0 is "?")
     where
       by : (t : Bool)
-          → listed b (if t then option_map NameQuery (input_of (drop 1 p)) else None)
+          → or_unlisted b (if t then option_map NameQuery (input_of (drop 1 p)) else None)
           ≡ (if t then inputAsked NameQuery b (input_of (drop 1 p)) else Err (Unlisted b))
       by true = input-kept NameQuery (input_of (drop 1 p))
       by false = refl
@@ -206,7 +206,7 @@ module _ (b : Body) where
   asked-of-kept p = by (hasQuery b && isQuestion p)
     where
       by : (t : Bool)
-          → listed b (if t then Some (Query b) else set_of (row_of b).set p)
+          → or_unlisted b (if t then Some (Query b) else set_of (row_of b).set p)
           ≡ (if t then Ok (Query b) else setBy (row_of b).set b p)
       by true = refl
       by false = set-kept (row_of b).set p

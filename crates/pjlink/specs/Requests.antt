@@ -70,12 +70,12 @@ command_of b p = if hasQuery b && isQuestion p then Some (Query b) else set_of (
 abbrev pub Request : Type 0
 Request = Result Command Unasked
 
-abbrev pub listed : Body → Option Command → Request
-listed b (Some c) = Ok c
-listed b None = Err (Unlisted b)
+abbrev pub or_unlisted : Body → Option Command → Request
+or_unlisted b (Some c) = Ok c
+or_unlisted b None = Err (Unlisted b)
 
 unfoldable pub asked_of : Body → List ℕ → Request
-asked_of b p = listed b (command_of b p)
+asked_of b p = or_unlisted b (command_of b p)
 
 abbrev pub asked : Option Body → List ℕ → Request
 asked (Some b) p = asked_of b p
