@@ -63,7 +63,8 @@ module _ (p : List ℕ) where
   set-none SetsPower b n = absurd (false≢true n)
   set-none SetsInput b n = none-of InputSet b (λ i. refl) (input_of p)
   set-none SetsMute b n =
-      if-all (λ m. No (or_unlisted b m)) (eqb (length p) 2 && (p at 0 from "1" to "3" && p at 1 from "0" to "1")) refl refl
+      if-all (λ m. No (or_unlisted b m)) (eqb (length p) 2 && (p at 0 from "1" to "3" && p at 1 from "0" to "1")) refl
+      refl
   set-none SetsInput2 b n = none-of InputSet2 b (λ i. refl) (input_of p)
   set-none SetsFreeze b n = none-of FreezeSet b (λ on. refl) (switch_of p)
   set-none StepsSpeaker b n = none-of (VolumeStep Speaker) b (λ up. refl) (switch_of p)

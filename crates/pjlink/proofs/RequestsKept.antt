@@ -14,7 +14,8 @@ use Rattle.words.specs.Bytes.{◌at◌}
 use Rattle.words.specs.Inputs.{input_of}
 use Rattle.words.specs.declared.input.Input.{Input}
 use Rattle.pjlink.specs.Bodies.{bodies, row_of, is_named, bodyNamed, hasSet, hasParameters, hasQuery, isBody}
-use Rattle.pjlink.specs.Requests.{Request, switch_of, halfNamed, mute_of, name_query_of, set_of, isQuestion, or_unlisted}
+use Rattle.pjlink.specs.Requests.{Request, switch_of, halfNamed, mute_of, name_query_of, set_of, isQuestion}
+use Rattle.pjlink.specs.Requests.{or_unlisted}
 use Rattle.pjlink.specs.Requests.{asked_of, asked, requestOf}
 use Rattle.pjlink.specs.declared.request.Unasked.TheVariants.{Unlisted, UnknownBody}
 use Rattle.pjlink.specs.declared.body.Row.{Row}
