@@ -9,7 +9,8 @@ use arrayvec::ArrayVec;
 use pjlink::answer::Answer;
 use words::lamp::LampHours;
 use words::power::Power;
-use pjlink::command::{Body, Command};
+use pjlink::body::Body;
+use pjlink::command::Command;
 use record::own;
 use record::own::{COOLING, OFF, ON};
 use record::types::{

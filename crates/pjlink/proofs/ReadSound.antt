@@ -28,9 +28,9 @@ use Rattle.words.specs.declared.refusal.Refusal.TheVariants.{Undefined, OutOfPar
 use Rattle.pjlink.specs.declared.command.Command.{Command}
 use Rattle.pjlink.specs.declared.command.Command.TheVariants.{PowerSet, InputSet, MuteSet, InputSet2, FreezeSet}
 use Rattle.pjlink.specs.declared.command.Command.TheVariants.{VolumeStep, NameQuery, Query}
-use Rattle.pjlink.specs.declared.command.Body.{Body}
-use Rattle.pjlink.specs.declared.command.Body.TheVariants.{Powr, Inpt, Avmt, Erst, Lamp, Inst, Name, Inf1, Inf2, Info}
-use Rattle.pjlink.specs.declared.command.Body.TheVariants.{Clss, Frez, Svol, Mvol, Snum, Sver, Innm, Inpt2, Inst2}
+use Rattle.pjlink.specs.declared.body.Body.{Body}
+use Rattle.pjlink.specs.declared.body.Body.TheVariants.{Powr, Inpt, Avmt, Erst, Lamp, Inst, Name, Inf1, Inf2, Info}
+use Rattle.pjlink.specs.declared.body.Body.TheVariants.{Clss, Frez, Svol, Mvol, Snum, Sver, Innm, Inpt2, Inst2}
 use Rattle.pjlink.specs.Said.{Said, powerIs, chosenIs, mutesAre, errorsAre, lampsAre, inputsAre, textIs}
 use Rattle.pjlink.specs.Said.{classIs, freezeIs, nothing, saidText}
 use Rattle.pjlink.specs.Carried.{lampsCarried, inputsCarried}

@@ -25,9 +25,9 @@ use Rattle.words.specs.Texts.{isName, isInfo, isInputName}
 use Rattle.words.specs.declared.refusal.Refusal.{Refusal}
 use Rattle.pjlink.specs.Commands.{bodyOf}
 use Rattle.pjlink.specs.declared.command.Command.{Command}
-use Rattle.pjlink.specs.declared.command.Body.{Body}
-use Rattle.pjlink.specs.declared.command.Body.TheVariants.{Powr, Inpt, Avmt, Erst, Lamp, Inst, Name, Inf1, Inf2, Info}
-use Rattle.pjlink.specs.declared.command.Body.TheVariants.{Clss, Frez, Svol, Mvol, Snum, Sver, Innm, Inpt2, Inst2}
+use Rattle.pjlink.specs.declared.body.Body.{Body}
+use Rattle.pjlink.specs.declared.body.Body.TheVariants.{Powr, Inpt, Avmt, Erst, Lamp, Inst, Name, Inf1, Inf2, Info}
+use Rattle.pjlink.specs.declared.body.Body.TheVariants.{Clss, Frez, Svol, Mvol, Snum, Sver, Innm, Inpt2, Inst2}
 use Rattle.pjlink.specs.Said.{Said, okay, refused, powerIs, chosenIs, mutesAre, errorsAre, lampsAre, inputsAre}
 use Rattle.pjlink.specs.Said.{textIs, classIs, freezeIs, nothing}
 use Rattle.pjlink.specs.Carried.{lampsCarried, inputsCarried}
