@@ -156,4 +156,3 @@ is_refused s o r = isUndefined s r || isOutOfParameter s r || isFailure o r || i
 
 unfoldable pub done : Settings → Own → Request → Own
 done s o r = if is_refused s o r then o else carriedOut s o r
-

@@ -4,15 +4,15 @@
 --   isOutOfParameter s r     rule 2, ERR2: out of parameter
 --   isFailure o r            rule 3, ERR4: projector failure
 --   isUnavailable o r        rule 4, ERR3: unavailable time
--- A request is what is read off a line (`requestOf`): a command with a parameter that is `?` or one its body knows, a body
--- with any other parameter (Unlisted), or no body of its line's class. Class 2 has the same rules (RULES, Class 2).
+-- A request is what is read off a line (`requestOf`): a command with a parameter that is `?` or one its body knows, a
+-- body with any other parameter (Unlisted), or no body of its line's class. Class 2 has the same rules (RULES, Class
+-- 2).
 -- Assumes nothing.
 use Rattle.std.specs.Prelude.{ℕ, Bool, true, false, not, ◌&&◌, ◌||◌, eqb, Ok, Err}
 use Rattle.pjlink.specs.Bodies.{row_of, hasSet, hasParameters, hasQuery}
 use Rattle.pjlink.specs.Commands.{bodyOf}
 use Rattle.pjlink.specs.declared.command.Command.{Command}
-use Rattle.pjlink.specs.declared.command.Command.TheVariants.{PowerSet, InputSet, MuteSet, Query}
-use Rattle.pjlink.specs.declared.command.Command.TheVariants.{InputSet2, FreezeSet, VolumeStep, NameQuery}
+use Rattle.pjlink.specs.declared.command.Command.TheVariants.{PowerSet, InputSet, Query, InputSet2, NameQuery}
 use Rattle.pjlink.specs.Requests.{Request}
 use Rattle.pjlink.specs.declared.request.Unasked.TheVariants.{Unlisted, UnknownBody}
 use Rattle.record.specs.Limits.{on, isBetween}

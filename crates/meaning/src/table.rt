@@ -89,7 +89,10 @@ fn queried<'a>(s: &'a Settings, o: &Own, b: Body) -> Option<Answer<'a>>
             let lit = own::is_lit(o.power);
             Some(Answer::Lamps(lamps_said(&o.lamps, &o.enabled, s.lamp_count, lit)))
         }
-        Body::Inst | Body::Inst2 => Some(Answer::Inputs(inputs::inputs_of(&s.inputs, s.input_count))),
+        Body::Inst | Body::Inst2 => Some(Answer::Inputs(inputs::inputs_of(
+            &s.inputs,
+            s.input_count,
+        ))),
         Body::Name => Some(Answer::Text(text_of(&s.name))),
         Body::Inf1 => Some(Answer::Text(text_of(&s.maker))),
         Body::Inf2 => Some(Answer::Text(text_of(&s.model))),

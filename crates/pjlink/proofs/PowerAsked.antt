@@ -20,7 +20,7 @@ use Rattle.words.specs.Powers.{switch_code}
 use Rattle.pjlink.specs.Bodies.{row_of, is_named, hasQuery, isBody}
 use Rattle.pjlink.specs.declared.body.TheConstants.{BODIES}
 use Rattle.pjlink.specs.declared.body.Row.{Row}
-use Rattle.pjlink.specs.Requests.{switch_of, mute_of, name_of, set_of}
+use Rattle.pjlink.specs.Requests.{switch_of, mute_of, name_query_of, set_of}
 use Rattle.pjlink.specs.Requests.{Request, listed, asked_of, asked, isQuestion, requestOf}
 use Rattle.words.specs.Inputs.{input_of}
 use Rattle.pjlink.specs.declared.body.Body.{Body}
@@ -59,7 +59,7 @@ setsOther b = isOther (row_of b).set
 -- only POWR does
 module _ (p : List ℕ) where
   set-none : (set : Sets) (b : Body) → isOther set ≡ true → No (listed b (set_of set p))
-  unfolding name_of mute_of
+  unfolding name_query_of mute_of
   set-none SetsPower b n = absurd (false≢true n)
   set-none SetsInput b n = none-of InputSet b (λ i. refl) (input_of p)
   set-none SetsMute b n =

@@ -1,5 +1,5 @@
--- What a line asks for is what it asked for where the table and the readers of a parameter stood as functions of a body:
--- the definitions before, and that each is the one that stands now.
+-- What a line asks for is what it asked for where the table and the readers of a parameter stood as functions of a
+-- body: the definitions before, and that each is the one that stands now.
 -- Assumes nothing.
 use Prim.Native.Nat.{ℕ}
 use mathlib.Core.Path.{◌≡◌, refl, ap, ◌∙◌}
@@ -14,7 +14,7 @@ use Rattle.words.specs.Bytes.{◌at◌}
 use Rattle.words.specs.Inputs.{input_of}
 use Rattle.words.specs.declared.input.Input.{Input}
 use Rattle.pjlink.specs.Bodies.{bodies, row_of, is_named, bodyNamed, hasSet, hasParameters, hasQuery, isBody}
-use Rattle.pjlink.specs.Requests.{Request, switch_of, halfNamed, mute_of, name_of, set_of, isQuestion, listed}
+use Rattle.pjlink.specs.Requests.{Request, switch_of, halfNamed, mute_of, name_query_of, set_of, isQuestion, listed}
 use Rattle.pjlink.specs.Requests.{asked_of, asked, requestOf}
 use Rattle.pjlink.specs.declared.request.Unasked.TheVariants.{Unlisted, UnknownBody}
 use Rattle.pjlink.specs.declared.body.Row.{Row}
@@ -34,7 +34,8 @@ use Rattle.pjlink.proofs.Bodies.{each-body}
 -- ---- the table
 
 abbrev row : Body → ℕ → List ℕ → Sets → Bool → Bool → Bool → Row
-row b k s set asks lamps on = record { body = b; class = k; letters = s; set = set; asks = asks; lamps = lamps; on = on }
+row b k s set asks lamps on =
+    record { body = b; class = k; letters = s; set = set; asks = asks; lamps = lamps; on = on }
 
 abbrev row_before : Body → Row
 row_before Powr = row Powr 1 (ascii "POWR") SetsPower true false false
@@ -177,7 +178,7 @@ module _ (b : Body) where
   input-kept f None = refl
 
   set-kept : (set : Sets) (p : List ℕ) → listed b (set_of set p) ≡ setBy set b p
-  unfolding mute_of name_of
+  unfolding mute_of name_query_of
   set-kept SetsPower p = switch-kept PowerSet p
   set-kept SetsInput p = input-kept InputSet (input_of p)
   set-kept SetsMute p = by (eqb (length p) 2 && (p at 0 from "1" to "3" && p at 1 from "0" to "1"))

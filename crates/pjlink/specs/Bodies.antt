@@ -29,33 +29,33 @@ abbrev pub bodies : List Body
 bodies = map (λ (r : Row). r.body) BODIES
 
 -- its place in the table
-abbrev pub place_of : Body → ℕ
-place_of Powr = 0
-place_of Inpt = 1
-place_of Avmt = 2
-place_of Erst = 3
-place_of Lamp = 4
-place_of Inst = 5
-place_of Name = 6
-place_of Inf1 = 7
-place_of Inf2 = 8
-place_of Info = 9
-place_of Clss = 10
-place_of Frez = 11
-place_of Svol = 12
-place_of Mvol = 13
-place_of Snum = 14
-place_of Sver = 15
-place_of Innm = 16
-place_of Inpt2 = 17
-place_of Inst2 = 18
+abbrev pub row_place : Body → ℕ
+row_place Powr = 0
+row_place Inpt = 1
+row_place Avmt = 2
+row_place Erst = 3
+row_place Lamp = 4
+row_place Inst = 5
+row_place Name = 6
+row_place Inf1 = 7
+row_place Inf2 = 8
+row_place Info = 9
+row_place Clss = 10
+row_place Frez = 11
+row_place Svol = 12
+row_place Mvol = 13
+row_place Snum = 14
+row_place Sver = 15
+row_place Innm = 16
+row_place Inpt2 = 17
+row_place Inst2 = 18
 
 -- no body lies past the table
 abbrev noRow : Body → Row
 noRow b = record { body = b; class = 0; letters = []; set = QueryOnly; asks = false; lamps = false; on = false }
 
 abbrev pub row_of : Body → Row
-row_of b = get_or BODIES (place_of b) (noRow b)
+row_of b = get_or BODIES (row_place b) (noRow b)
 
 abbrev pub class_of : Body → ℕ
 class_of b = (row_of b).class

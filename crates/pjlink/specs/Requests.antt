@@ -5,7 +5,8 @@
 --   command_of b p         the command that it makes of the body b, or none
 --   Request                what a line asks for:
 --                            Ok c                  the command c
---                            Err (Unlisted b)      the body b, with a parameter that is neither its query nor one it knows
+--                            Err (Unlisted b)      the body b, with a parameter that is neither its query nor one that it
+--                                                  knows
 --                            Err UnknownBody       no body of the line's class
 --   asked_of b p           the request of the body b with the parameter p
 --   requestOf k s p        what the body s with the parameter p asks for in a line of Class k
@@ -45,8 +46,8 @@ mute_of p =
     else None
 
 -- INNM: `?` and two characters that name an input
-unfoldable pub name_of : List ℕ → Option Command
-name_of p = if p at 0 is "?" then option_map NameQuery (input_of (drop 1 p)) else None
+unfoldable pub name_query_of : List ℕ → Option Command
+name_query_of p = if p at 0 is "?" then option_map NameQuery (input_of (drop 1 p)) else None
 
 -- INPT: two characters that name an input
 abbrev pub set_of : Sets → List ℕ → Option Command
@@ -57,7 +58,7 @@ set_of SetsInput2 p = option_map InputSet2 (input_of p)
 set_of SetsFreeze p = option_map FreezeSet (switch_of p)
 set_of StepsSpeaker p = option_map (VolumeStep Speaker) (switch_of p)
 set_of StepsMicrophone p = option_map (VolumeStep Microphone) (switch_of p)
-set_of NamesInput p = name_of p
+set_of NamesInput p = name_query_of p
 set_of QueryOnly p = None
 
 abbrev pub isQuestion : List ℕ → Bool

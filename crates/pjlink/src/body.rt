@@ -2,6 +2,10 @@
 ghost use Rattle.std.specs.Prelude.{◌≡◌};
 ghost use Rattle.pjlink.specs.Bodies.{row_of, is_named, isBody, bodyNamed, hasSet, hasParameters, hasQuery};
 
+use self::Sets::{
+    NamesInput, QueryOnly, SetsFreeze, SetsInput, SetsInput2, SetsMute, SetsPower, StepsMicrophone,
+    StepsSpeaker,
+};
 use words::byte;
 
 /// The four letters that name what a command is about, each under its own class: INPT and INST are a body of either.
@@ -64,25 +68,25 @@ pub struct Row {
 /// Every body, in the order of the enum: those of Class 1 in the order of RULES, then those of Class 2.
 #[rattlefmt::skip]
 pub const BODIES: [Row; 19] = [
-    Row { body: Body::Powr,  class: 1, letters: *b"POWR", set: Sets::SetsPower,       asks: true,  lamps: false, on: false },
-    Row { body: Body::Inpt,  class: 1, letters: *b"INPT", set: Sets::SetsInput,       asks: true,  lamps: false, on: true },
-    Row { body: Body::Avmt,  class: 1, letters: *b"AVMT", set: Sets::SetsMute,        asks: true,  lamps: false, on: true },
-    Row { body: Body::Erst,  class: 1, letters: *b"ERST", set: Sets::QueryOnly,       asks: true,  lamps: false, on: false },
-    Row { body: Body::Lamp,  class: 1, letters: *b"LAMP", set: Sets::QueryOnly,       asks: true,  lamps: true,  on: false },
-    Row { body: Body::Inst,  class: 1, letters: *b"INST", set: Sets::QueryOnly,       asks: true,  lamps: false, on: false },
-    Row { body: Body::Name,  class: 1, letters: *b"NAME", set: Sets::QueryOnly,       asks: true,  lamps: false, on: false },
-    Row { body: Body::Inf1,  class: 1, letters: *b"INF1", set: Sets::QueryOnly,       asks: true,  lamps: false, on: false },
-    Row { body: Body::Inf2,  class: 1, letters: *b"INF2", set: Sets::QueryOnly,       asks: true,  lamps: false, on: false },
-    Row { body: Body::Info,  class: 1, letters: *b"INFO", set: Sets::QueryOnly,       asks: true,  lamps: false, on: false },
-    Row { body: Body::Clss,  class: 1, letters: *b"CLSS", set: Sets::QueryOnly,       asks: true,  lamps: false, on: false },
-    Row { body: Body::Frez,  class: 2, letters: *b"FREZ", set: Sets::SetsFreeze,      asks: true,  lamps: false, on: true },
-    Row { body: Body::Svol,  class: 2, letters: *b"SVOL", set: Sets::StepsSpeaker,    asks: false, lamps: false, on: true },
-    Row { body: Body::Mvol,  class: 2, letters: *b"MVOL", set: Sets::StepsMicrophone, asks: false, lamps: false, on: true },
-    Row { body: Body::Snum,  class: 2, letters: *b"SNUM", set: Sets::QueryOnly,       asks: true,  lamps: false, on: false },
-    Row { body: Body::Sver,  class: 2, letters: *b"SVER", set: Sets::QueryOnly,       asks: true,  lamps: false, on: false },
-    Row { body: Body::Innm,  class: 2, letters: *b"INNM", set: Sets::NamesInput,      asks: false, lamps: false, on: false },
-    Row { body: Body::Inpt2, class: 2, letters: *b"INPT", set: Sets::SetsInput2,      asks: true,  lamps: false, on: true },
-    Row { body: Body::Inst2, class: 2, letters: *b"INST", set: Sets::QueryOnly,       asks: true,  lamps: false, on: false },
+    Row { body: Body::Powr, class: 1, letters: *b"POWR", set: SetsPower, asks: true, lamps: false, on: false },
+    Row { body: Body::Inpt, class: 1, letters: *b"INPT", set: SetsInput, asks: true, lamps: false, on: true },
+    Row { body: Body::Avmt, class: 1, letters: *b"AVMT", set: SetsMute, asks: true, lamps: false, on: true },
+    Row { body: Body::Erst, class: 1, letters: *b"ERST", set: QueryOnly, asks: true, lamps: false, on: false },
+    Row { body: Body::Lamp, class: 1, letters: *b"LAMP", set: QueryOnly, asks: true, lamps: true, on: false },
+    Row { body: Body::Inst, class: 1, letters: *b"INST", set: QueryOnly, asks: true, lamps: false, on: false },
+    Row { body: Body::Name, class: 1, letters: *b"NAME", set: QueryOnly, asks: true, lamps: false, on: false },
+    Row { body: Body::Inf1, class: 1, letters: *b"INF1", set: QueryOnly, asks: true, lamps: false, on: false },
+    Row { body: Body::Inf2, class: 1, letters: *b"INF2", set: QueryOnly, asks: true, lamps: false, on: false },
+    Row { body: Body::Info, class: 1, letters: *b"INFO", set: QueryOnly, asks: true, lamps: false, on: false },
+    Row { body: Body::Clss, class: 1, letters: *b"CLSS", set: QueryOnly, asks: true, lamps: false, on: false },
+    Row { body: Body::Frez, class: 2, letters: *b"FREZ", set: SetsFreeze, asks: true, lamps: false, on: true },
+    Row { body: Body::Svol, class: 2, letters: *b"SVOL", set: StepsSpeaker, asks: false, lamps: false, on: true },
+    Row { body: Body::Mvol, class: 2, letters: *b"MVOL", set: StepsMicrophone, asks: false, lamps: false, on: true },
+    Row { body: Body::Snum, class: 2, letters: *b"SNUM", set: QueryOnly, asks: true, lamps: false, on: false },
+    Row { body: Body::Sver, class: 2, letters: *b"SVER", set: QueryOnly, asks: true, lamps: false, on: false },
+    Row { body: Body::Innm, class: 2, letters: *b"INNM", set: NamesInput, asks: false, lamps: false, on: false },
+    Row { body: Body::Inpt2, class: 2, letters: *b"INPT", set: SetsInput2, asks: true, lamps: false, on: true },
+    Row { body: Body::Inst2, class: 2, letters: *b"INST", set: QueryOnly, asks: true, lamps: false, on: false },
 ];
 
 impl Row {

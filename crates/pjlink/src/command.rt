@@ -2,8 +2,7 @@
 ghost use Rattle.std.specs.Prelude.{◌≡◌, ◌++◌, ◌+◌, ◌≤◌, length};
 ghost use Rattle.std.proofs.lemmas.List.Edits.{sets};
 ghost use Rattle.text.specs.Words.{ascii};
-ghost use Rattle.words.specs.Inputs.{inputText};
-ghost use Rattle.pjlink.specs.Commands.{volumeBody, bodyOf, commandClass, classDigit, parameterOf};
+ghost use Rattle.pjlink.specs.Commands.{volumeBody, bodyOf, commandClass, parameterOf};
 ghost use Rattle.pjlink.specs.Commands.{parameterBytes, halfDigit, isCommand, commandLine};
 ghost use Rattle.words.specs.Powers.{switch_code};
 

@@ -1,6 +1,6 @@
 // What a received class, four letters and a parameter ask for (RULES, Commands and Class 2).
 ghost use Rattle.std.specs.Prelude.{◌≡◌};
-ghost use Rattle.pjlink.specs.Requests.{switch_of, halfNamed, mute_of, name_of, set_of, command_of, requestOf};
+ghost use Rattle.pjlink.specs.Requests.{switch_of, halfNamed, mute_of, name_query_of, set_of, command_of, requestOf};
 
 use crate::body::{Body, Sets};
 use crate::command::{Command, Half, Volume};
@@ -9,7 +9,8 @@ use words::input;
 /// Why a line of the form asks for no command.
 #[derive(Clone, Copy)]
 pub enum Unasked {
-    /// The body, with a parameter that is neither its query nor one that it knows: ERR2, or ERR1 of one that knows none.
+    /// The body, with a parameter that is neither its query nor one that it knows: ERR2, or ERR1 of a body that knows
+    /// none.
     Unlisted(Body),
     /// No body of the line's class has these letters: ERR1.
     UnknownBody,
@@ -51,9 +52,9 @@ fn mute_of(p: &[u8]) -> Option<Command>
 }
 
 // `?` and the input that is asked for.
-#[tactic(auto, unfolding(crate::specs::Requests::name_of))]
-fn name_of(p: &[u8]) -> Option<Command>
-    ensures { result ≡ name_of p.now }
+#[tactic(auto, unfolding(crate::specs::Requests::name_query_of))]
+fn name_query_of(p: &[u8]) -> Option<Command>
+    ensures { result ≡ name_query_of p.now }
 {
     match p {
         [b'?', named @ ..] => Some(Command::NameQuery(input::input_of(named)?)),
@@ -73,7 +74,7 @@ fn set_of(set: Sets, p: &[u8]) -> Option<Command>
         Sets::SetsFreeze => Some(Command::FreezeSet(switch_of(p)?)),
         Sets::StepsSpeaker => Some(Command::VolumeStep(Volume::Speaker, switch_of(p)?)),
         Sets::StepsMicrophone => Some(Command::VolumeStep(Volume::Microphone, switch_of(p)?)),
-        Sets::NamesInput => name_of(p),
+        Sets::NamesInput => name_query_of(p),
         Sets::QueryOnly => None,
     }
 }

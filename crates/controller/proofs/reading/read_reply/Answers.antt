@@ -1,7 +1,7 @@
 -- Each `return` is one case of `readReply`: the line is taken apart into what the cases speak of.
 use Rattle.std.proofs.Common.{◌≡◌, refl, sym, ap, ◌∙◌, ℕ, Bool, List}
 use Rattle.std.specs.Prelude.{Result, Ok, Err}
-use Rattle.pjlink.specs.Forms.{isReplyForm, headBody, replyParameter, IsReplyOf}
+use Rattle.pjlink.specs.Forms.{isReplyForm, headBody, IsReplyOf}
 use Rattle.pjlink.specs.Commands.{bodyOf, commandClass}
 use Rattle.pjlink.specs.declared.body.Body.{Body}
 use Rattle.pjlink.specs.declared.command.Command.{Command}
