@@ -7,7 +7,7 @@ ghost use Rattle.pjlink.specs.Reading.{readQueried, readValue, readParameter};
 
 use crate::answer::{Answer, Refusal, Reply};
 use crate::command::{Body, Command};
-use crate::{answer, command, list, values};
+use crate::{command, list, values};
 use words::texts;
 
 fn read_queried(b: Body, p: &[u8]) -> Option<Answer<'_>>
