@@ -35,7 +35,8 @@ use Rattle.clock.specs.Second.{times, second}
 use Rattle.clock.specs.Passing.{secondsMost}
 use Rattle.device.specs.Calls.{replyRoom}
 use Rattle.controller.specs.Reading.{meaning}
-use Rattle.ours.specs.Board.{Board, Given, reply}
+use Rattle.ours.specs.Board.{Board, reply}
+use Rattle.record.specs.Given.{Given}
 use Rattle.demands.specs.Calls.{Call, run}
 use Rattle.demands.specs.CallsDone.{Leaves}
 use Rattle.demands.specs.Demand2.{BetweenLines}

@@ -1,8 +1,8 @@
 // Why a set-up is refused (RULES, The numbers a call gives and Passwords).
 ghost use Rattle.std.specs.Prelude.{◌≡◌};
-ghost use Rattle.setup.specs.Told.{set_up_error_number, setting_of};
+ghost use Rattle.record.specs.SetUpErrors.{set_up_error_number, setting_of};
 
-use record::types::Setting;
+use crate::types::Setting;
 
 /// Why a set-up is refused: the first that holds.
 #[derive(Clone, Copy)]
