@@ -2,7 +2,7 @@
 ghost use Rattle.std.specs.Prelude.{◌≡◌, take, get_or};
 ghost use Rattle.pjlink.specs.Carried.{value_said};
 ghost use Rattle.record.specs.Record.{blankName};
-ghost use Rattle.meaning.specs.Meaning.{powerSaid, lampsSaid, nameBytes, inputNameOf, queried, tableAnswer};
+ghost use Rattle.meaning.specs.Meaning.{powerSaid, lampsSaid, nameBytes, queried, tableAnswer};
 
 use crate::inputs;
 use arrayvec::ArrayVec;

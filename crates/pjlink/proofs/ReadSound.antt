@@ -15,7 +15,7 @@ use Rattle.words.specs.Combinations.{whole_says, list_says}
 use Rattle.words.specs.ErrorDigits.{is_error_digit, errors_read}
 use Rattle.words.specs.Classes.{class_read}
 use Rattle.words.specs.Inputs.{isInput, inputText, input_read}
-use Rattle.words.specs.Joined.{list_text, JoinedBy, is_list, listed}
+use Rattle.words.specs.Joined.{list_text, JoinedBy, is_list, list_read}
 use Rattle.words.specs.Lamps.{is_lamp_hours, lamp_read}
 use Rattle.words.specs.Laws.{power_codec, input_codec, mutes_codec, errors_codec, lamp_codec, class_codec, switch_codec}
 use Rattle.words.specs.Muting.{mutes_read}
@@ -93,9 +93,9 @@ module _ (p : List ℕ) where
   inputs-sound : {b : Body}
       → ((is : List Input) → 1 ≤ length is → length is ≤ inputsCarried → every isInput is ≡ true
       → CanSay (Query b) (inputsAre is))
-      → CanRead (Query b) p (said_or inputsAre (listed input_read inputsCarried p))
+      → CanRead (Query b) p (said_or inputsAre (list_read input_read inputsCarried p))
   inputs-sound can =
-      found inputsAre (listed input_read inputsCarried p) (λ is e.
+      found inputsAre (list_read input_read inputsCarried p) (λ is e.
       let it = list_says input_codec inputsCarried in
       let w = it.sound p is e in
       let h = it.told is p w in
@@ -112,7 +112,7 @@ module _ (p : List ℕ) where
 
   lamps-sound : CanRead (Query Lamp) p (readQueried Lamp p)
   lamps-sound =
-      found lampsAre (listed lamp_read lampsCarried p) (λ ls e.
+      found lampsAre (list_read lamp_read lampsCarried p) (λ ls e.
       let it = list_says lamp_codec lampsCarried in
       let w = it.sound p ls e in
       let h = it.told ls p w in
