@@ -16,7 +16,7 @@ use crate::results::{Opened, Opening, Received, Receiving};
 use record::fresh;
 use record::types::{Changed, Device};
 use setup::error::SetUpError;
-use setup::wanted::{Class, Wanted};
+use setup::wanted::{Class, Names, Wanted};
 
 // What set-up gave: the blank record where it is refused. Not put into its callers: its copies of the record would lie
 // on the stack while set-up runs. So `told` of `forms`.
@@ -86,8 +86,10 @@ pub extern "C" fn pj_set_up_2<'a>(
     let class = Class::Two {
         serial,
         version,
-        names,
-        lengths,
+        names: Names::Row {
+            bytes: names,
+            lengths,
+        },
     };
     told(setup::set_up(&Wanted {
         name,

@@ -18,7 +18,7 @@ use device::calls;
 use record::types::Device;
 use record::{fresh, refusal};
 use setup::error::SetUpError;
-use setup::wanted::{Class, Wanted};
+use setup::wanted::{Class, Names, Wanted};
 
 // What set-up gave, into the host's record: the blank one where it is refused.
 fn fill(device: &mut Device, made: Result<Device, SetUpError>) -> u32
@@ -100,8 +100,10 @@ pub extern "C" fn pj_set_up_2_in_place<'a>(
     let class = Class::Two {
         serial,
         version,
-        names,
-        lengths,
+        names: Names::Row {
+            bytes: names,
+            lengths,
+        },
     };
     let made = setup::set_up(&Wanted {
         name,

@@ -6,7 +6,7 @@ ghost use Rattle.setup.specs.Told.{setting_told};
 ghost use Rattle.board.specs.Which.{settingNumber};
 
 use setup::error::SetUpError;
-use setup::wanted::{Class, Wanted};
+use setup::wanted::{Class, Names, Wanted};
 
 // The setting for which it refuses, or 0.
 fn number_of(checked: Result<(), SetUpError>) -> u32
@@ -75,8 +75,10 @@ pub extern "C" fn pj_which_setting_2<'a>(
     let class = Class::Two {
         serial,
         version,
-        names,
-        lengths,
+        names: Names::Row {
+            bytes: names,
+            lengths,
+        },
     };
     let wanted = Wanted {
         name,

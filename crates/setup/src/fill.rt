@@ -2,12 +2,14 @@
 ghost use Rattle.std.specs.Prelude.{◌≡◌, ◌≤◌, length, true};
 ghost use Rattle.lines.specs.Texts.{inputNameMost};
 ghost use Rattle.record.specs.Limits.{textRoom, inputRoom, listedMost, lampsMost};
-ghost use Rattle.record.specs.Wanted.{namesIn};
+ghost use Rattle.record.specs.Wanted.{namesIn, countedIn};
 ghost use Rattle.record.specs.Rules.{areNames};
 ghost use Rattle.record.specs.Record.{inRoom, text_of, name_of, namesKept, allMarks, startOwn};
+ghost use Rattle.setup.specs.Lent.{names_lent};
 
+use crate::wanted::Names;
 use record::own::VOLUME_START;
-use record::rooms;
+use record::{names, rooms};
 use record::types::{INPUT_ROOM, INPUTS_MOST, InputName, LAMPS_MOST, Own, Text};
 
 /// A text in its room: at most 64 bytes.
@@ -34,8 +36,36 @@ pub fn name_of(s: &[u8]) -> InputName
     }
 }
 
-/// So many names, one after the other in `bytes`, each of its length (RULES, Class 2).
-pub fn names_of(bytes: &[u8], lengths: &[usize], count: usize) -> [InputName; INPUTS_MOST]
+/// So many names, as they are lent (RULES, Class 2).
+pub fn names_of(lent: &Names<'_>, count: usize) -> [InputName; INPUTS_MOST]
+    requires named { areNames count (names_lent lent.now) ≡ true }
+    requires few { count ≤ listedMost }
+    ensures { result ≡ namesKept (names_lent lent.now) }
+{
+    match *lent {
+        Names::Row { bytes, lengths } => names_in(bytes, lengths, count),
+        Names::Counted { bytes, count: many } => counted_names(bytes, many),
+    }
+}
+
+// So many names, each after its length in one byte.
+fn counted_names(bytes: &[u8], count: usize) -> [InputName; INPUTS_MOST]
+    requires named { areNames count (countedIn count bytes.now) ≡ true }
+    requires few { count ≤ listedMost }
+    ensures { result ≡ namesKept (countedIn count bytes.now) }
+{
+    let mut list = [InputName::EMPTY; INPUTS_MOST];
+    let mut left = bytes;
+    for i in 0..count {
+        let (name, rest) = names::first_counted(left);
+        list[i] = name_of(name);
+        left = rest;
+    }
+    list
+}
+
+// So many names, one after the other in `bytes`, each of its length.
+fn names_in(bytes: &[u8], lengths: &[usize], count: usize) -> [InputName; INPUTS_MOST]
     requires named { areNames count (namesIn lengths.now bytes.now) ≡ true }
     requires few { count ≤ listedMost }
     ensures { result ≡ namesKept (namesIn lengths.now bytes.now) }

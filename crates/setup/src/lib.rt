@@ -25,7 +25,7 @@ fn settings_of(wanted: &Wanted<'_>) -> Settings
 {
     let class = wanted.class.number();
     let input_count = wanted.inputs.len() / 2;
-    let (names, lengths) = wanted.class.names();
+    let names = wanted.class.names();
     Settings {
         name: fill::text_of(wanted.name),
         maker: fill::text_of(wanted.maker),
@@ -40,7 +40,7 @@ fn settings_of(wanted: &Wanted<'_>) -> Settings
         class_number: class,
         serial: fill::text_of(wanted.class.serial()),
         version: fill::text_of(wanted.class.version()),
-        names: fill::names_of(names, lengths, class::only_in_2(class, input_count)),
+        names: fill::names_of(&names, class::only_in_2(class, input_count)),
     }
 }
 

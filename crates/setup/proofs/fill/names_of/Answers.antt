@@ -1,34 +1,20 @@
--- Each name passed is kept at its place, in a room of which no other place has one.
-use Rattle.std.proofs.Common.{arith}
-use Rattle.record.proofs.NamesCopied.{no-name-copied, counted-there, name-ends, name-short}
-use Rattle.record.proofs.NamesCopied.{one-name-copied, all-names-copied}
+-- Counted names of a set-up are as many as it wants.
+use Rattle.std.proofs.Common.{◌≡◌, ℕ, true, sym, ap, ◌∙◌, arith}
+use Rattle.record.specs.Wanted.{countedIn}
+use Rattle.record.specs.Rules.{areNames}
+use Rattle.record.proofs.CountedNames.{as_many_counted}
 use Rattle.setup.proofs.fill.names_of.Goals as goal
 
-pub loop-i-init : goal.loop-i-init
-loop-i-init c = no-name-copied _ _ _
+pub counted_names-requires-clause-named : goal.counted_names-requires-clause-named
+counted_names-requires-clause-named c =
+    let h : areNames c.args.count (countedIn c.in-Counted.many c.in-Counted.bytes.now) ≡ true
+    = rw c.in-Counted.is at c.requires.named in
+    ap (λ (m : ℕ). areNames m (countedIn c.in-Counted.many c.in-Counted.bytes.now))
+    (sym (as_many_counted _ _ _ h))
+    ∙ h
 
-pub bounds-lengths-i : goal.bounds-lengths-i
-bounds-lengths-i c =
-    counted-there _ _ _ c.requires.named c.requires.few c.loop-i.invariant c.loop-i-test.true
-
-pub overflow_add-end : goal.overflow_add-end
-overflow_add-end c =
-    let ends = name-ends _ _ _ c.requires.named c.requires.few c.loop-i.invariant c.loop-i-test.true in
-    omega arith
-
-pub slice_bounds-name_of-end : goal.slice_bounds-name_of-end
-slice_bounds-name_of-end c =
-    name-ends _ _ _ c.requires.named c.requires.few c.loop-i.invariant c.loop-i-test.true
-
-pub name_of-requires : goal.name_of-requires
-name_of-requires c =
-    name-short _ _ _ c.requires.named c.requires.few c.loop-i.invariant c.loop-i-test.true
-
-pub loop-i-preserved : goal.loop-i-preserved
-loop-i-preserved c =
-    one-name-copied _ _ _ c.requires.named c.requires.few c.loop-i.invariant c.loop-i-test.true
-    c.name_of.ensures
-
-pub returns : goal.returns
-returns c =
-    all-names-copied _ _ _ c.requires.named c.requires.few c.loop-i.invariant c.loop-i-test.false
+pub counted_names-requires-clause-few : goal.counted_names-requires-clause-few
+counted_names-requires-clause-few c =
+    let h : areNames c.args.count (countedIn c.in-Counted.many c.in-Counted.bytes.now) ≡ true
+    = rw c.in-Counted.is at c.requires.named in
+    omega (arith, as_many_counted c.args.count c.in-Counted.many c.in-Counted.bytes.now h)
