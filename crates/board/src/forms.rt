@@ -1,12 +1,12 @@
 // The stored form: settings that survive a board swap (RULES, Stored form).
 ghost use Rattle.std.specs.Prelude.{◌≡◌, length};
 ghost use Rattle.text.specs.Words.{over};
-ghost use Rattle.form.specs.Form.{storedBy, toldStored};
+ghost use Rattle.stored.specs.Form.{storedBy, toldStored};
 ghost use Rattle.stored.specs.Loading.{loaded};
 ghost use Rattle.stored.specs.Told.{loading_told};
 
-use form::storing;
-use form::storing::FormWritten;
+use stored::storing;
+use stored::storing::FormWritten;
 use record::fresh;
 use record::types::{Changed, Device};
 use stored::error::LoadError;

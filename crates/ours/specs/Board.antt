@@ -11,13 +11,13 @@
 use Rattle.std.specs.Prelude.{ℕ, Bool, List, length, take}
 use Rattle.text.specs.Words.{over}
 use Rattle.digest.specs.Md5.{md5Of}
-use Rattle.lines.specs.declared.command.Command.{Command}
+use Rattle.pjlink.specs.declared.command.Command.{Command}
 use Rattle.record.specs.declared.types.Device.{Device}
 use Rattle.record.specs.declared.types.Changed.{Changed}
 use Rattle.record.specs.Wanted.{Wanted}
 use Rattle.record.specs.SetUp.{setUp}
 use Rattle.record.specs.HostCalls.{faultSet, errorsSet, markSet}
-use Rattle.form.specs.Form.{StoredAs, storedBy}
+use Rattle.stored.specs.Form.{StoredAs, storedBy}
 use Rattle.stored.specs.Loading.{loaded}
 use Rattle.clock.specs.Passing.{passed}
 use Rattle.device.specs.Calls.{Result, openedBy, placeTaken, closedBy, received}
@@ -113,7 +113,7 @@ ours = record {
   set-errors = λ d digits. givenBy (errorsSet d digits);
   -- record::types::Device::set_mark (record/src/host.rt)
   set-mark = λ d lamp mark. givenBy (markSet d lamp mark);
-  -- form::storing::store
+  -- stored::storing::store
   store = λ d m. formBy (storedBy d (length m)) m;
   -- stored::loading::load
   load = λ s. givenBy (loaded s);

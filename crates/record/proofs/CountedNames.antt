@@ -5,17 +5,19 @@
 -- Assumes nothing.
 use Rattle.std.proofs.Common.{◌≡◌, ℕ, zero, suc, ◌+◌, ◌<◌, ◌≤◌, Bool, true, ◌&&◌, List, [], ◌∷◌, ◌++◌, length, take, drop}
 use Rattle.std.proofs.Common.{refl, sym, ap, ◌∙◌, arith, add-one, get_or, replicate, set}
+use lib.ListN.{drop_of_length-le}
+use lib.Seq.{drop-cons}
 use Rattle.text.specs.Scans.{every}
 use Rattle.std.proofs.Common.{eqb}
-use Rattle.text.proofs.Scanning.{every-at, Gathered, none-gathered, one-gathered, all-gathered}
-use Rattle.lines.specs.Bytes.{◌at◌}
-use Rattle.lines.specs.Texts.{isInputName, inputNameMost}
+use Rattle.text.proofs.Scanning.{every-at, no_more, Gathered}
+use Rattle.words.specs.Bytes.{◌at◌}
+use Rattle.words.specs.Texts.{isInputName, inputNameMost}
 use Rattle.record.specs.Limits.{listedMost}
 use Rattle.record.specs.Wanted.{countedIn}
 use Rattle.record.specs.Rules.{areNames}
 use Rattle.record.specs.Record.{name_of, blankName, namesKept}
 use Rattle.record.specs.declared.types.InputName.{InputName}
-use Rattle.record.proofs.NamesTold.{no_names}
+use Rattle.record.proofs.Sifted.{together}
 use Rattle.record.proofs.NamesCopied.{kept_more}
 use Rattle.record.proofs.Rules.{names-many, names-each, text-most}
 
@@ -54,12 +56,23 @@ counted_at (suc n) s (suc i) l = counted_at n (drop (suc (s at 0)) s) i (omega a
 
 -- ---- the loop that tests them
 
+module _ (ns : List (List ℕ)) {i : ℕ} {ok : Bool} (p : Gathered isInputName ns i ok) where
+  one_gathered : {x : Bool} → i < length ns → x ≡ isInputName (get_or ns i []) → Gathered isInputName ns (i + 1) (ok && x)
+  one_gathered {x} l e = record {
+    inside = omega arith;
+    rest = p.rest ∙ rw (add-one, drop-cons ns i [] l, ← e) (sym (together ok x (every isInputName (drop (suc i) ns))));
+  }
+
+  all_gathered : length ns ≤ i → ok ≡ every isInputName ns
+  all_gathered l =
+      sym (p.rest ∙ ap (λ (r : List (List ℕ)). ok && every isInputName r) (drop_of_length-le ns l) ∙ no_more ok)
+
 pub record CountedPassed (n : ℕ) (s left : List ℕ) (i : ℕ) (ok : Bool) : Type 0 where
   pub place : left ≡ after i s
   pub rest : Gathered isInputName (countedIn n s) i ok
 
 pub none_passed : (n : ℕ) (s : List ℕ) → CountedPassed n s s 0 true
-none_passed n s = record { place = refl; rest = none-gathered isInputName (countedIn n s) }
+none_passed n s = record { place = refl; rest = record { inside = omega arith; rest = refl } }
 
 module _ {n : ℕ} {s left : List ℕ} {i : ℕ} {ok : Bool} (p : CountedPassed n s left i ok) where
   pub one_passed : {name more : List ℕ} {x : Bool} → i < n → name ≡ take (left at 0) (drop 1 left)
@@ -69,12 +82,12 @@ module _ {n : ℕ} {s left : List ℕ} {i : ℕ} {ok : Bool} (p : CountedPassed 
       record {
         place = m ∙ ap (λ (r : List ℕ). drop (suc (r at 0)) r) p.place ∙ sym (after_more i s);
         rest =
-            one-gathered isInputName (countedIn n s) [] p.rest (omega (arith, counted_many n s))
+            one_gathered (countedIn n s) p.rest (omega (arith, counted_many n s))
             (h ∙ ap isInputName (here ∙ sym (counted_at n s i l)));
       }
 
   pub all_passed : n ≤ i → ok ≡ every isInputName (countedIn n s)
-  all_passed l = all-gathered isInputName (countedIn n s) [] p.rest (omega (arith, counted_many n s))
+  all_passed l = all_gathered (countedIn n s) p.rest (omega (arith, counted_many n s))
 
 pub counted_fits : (m n : ℕ) (s : List ℕ)
     → (eqb n m && every isInputName (countedIn n s)) ≡ areNames m (countedIn n s)

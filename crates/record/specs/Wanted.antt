@@ -11,7 +11,7 @@
 --   countedIn n s         n names that stand in s, each after its length in one byte
 -- Assumes nothing.
 use Rattle.std.specs.Prelude.{ℕ, zero, suc, ◌+◌, List, [], ◌∷◌, length, take, drop, eqb, if◌then◌else◌}
-use Rattle.lines.specs.Bytes.{◌at◌}
+use Rattle.words.specs.Bytes.{◌at◌}
 
 pub record Wanted : Type 0 where
   pub name : List ℕ

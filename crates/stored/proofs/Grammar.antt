@@ -13,8 +13,8 @@ use borrow.Author.Tests.{eqb-true, leb-true}
 use Rattle.text.specs.Scans.{every}
 use Rattle.text.proofs.Choices.{if_yes, if_no, both_right}
 use Rattle.text.proofs.Scanning.{every-at}
-use Rattle.lines.specs.Bytes.{◌at◌}
-use Rattle.lines.specs.Texts.{infoMost}
+use Rattle.words.specs.Bytes.{◌at◌}
+use Rattle.words.specs.Texts.{infoMost}
 use Rattle.numbers.specs.HighestFirst.{highestFirst}
 use Rattle.record.specs.Limits.{onlyIn2, lampLimit, stretchMost}
 use Rattle.record.specs.Wanted.{Wanted, wantedIn}

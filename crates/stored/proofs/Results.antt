@@ -11,7 +11,7 @@ use Rattle.text.specs.Rows.{first_of}
 use Rattle.text.proofs.ByRows.{by_rows, rows-number}
 use Rattle.text.proofs.Choices.{both_left, both_right}
 use Rattle.text.proofs.OneResult.{one-result}
-use Rattle.lines.specs.Bytes.{◌at◌}
+use Rattle.words.specs.Bytes.{◌at◌}
 use Rattle.record.specs.Wanted.{Wanted}
 use Rattle.record.specs.Rules.{isMarks}
 use Rattle.record.specs.Updates.{withMarks}

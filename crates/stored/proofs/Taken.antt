@@ -10,7 +10,7 @@ use lib.ListN.{take-append-drop, length-append}
 use lib.Seq.{length-take-le, take-append_seam, drop-append_seam, take_at}
 use borrow.Author.Tests.{le-ltb, ltb-false, eqb-true, eq-eqb}
 use Rattle.text.proofs.Choices.{if_yes, if_no}
-use Rattle.lines.specs.Bytes.{◌at◌}
+use Rattle.words.specs.Bytes.{◌at◌}
 use Rattle.numbers.specs.HighestFirst.{highestFirst, number_in}
 use Rattle.numbers.proofs.HighestFirst.{highest-one-form}
 use Rattle.record.specs.Wanted.{countedIn}
