@@ -15,6 +15,6 @@ use Rattle.demands.specs.History.{powerSet, history, marksAfter, reached, burnin
 
 unfoldable pub computing : Unit {0}
 unfolding
-    numbers pjlink records forms stored clock meaning stream device controller run powerSet
+    numbers pjlink records stored clock meaning stream device controller run powerSet
     history marksAfter reached burningFrom
 computing = tt
