@@ -3,6 +3,7 @@
 --   setting_of e             the setting for which it refuses
 --   set_up_number r          the number that a host is given: 0 where nothing is refused
 --   setting_told r           the setting for which it refuses, or none
+--   made_in r d              the device d, where it was made and nothing refused
 --   set_up_told r            the number, with the device that is set up or the blank record
 -- Assumes nothing.
 use Rattle.std.specs.Prelude.{ℕ, Option, Some, None, Result, Ok, Err}
@@ -29,6 +30,10 @@ set_up_number (Err e) = set_up_error_number e
 abbrev pub setting_told : {A : Type 0} → Result A SetUpError → Option Setting
 setting_told (Ok x) = None
 setting_told (Err e) = Some (setting_of e)
+
+abbrev pub made_in : {U E : Type 0} → Result U E → Device → Result Device E
+made_in (Ok u) d = Ok d
+made_in (Err e) d = Err e
 
 abbrev pub set_up_told : Result Device SetUpError → Changed
 set_up_told (Ok d) = accepted d

@@ -1,10 +1,10 @@
 // What set-up keeps of the lent slices: each at the start of a cleared room (RULES, The legal record).
-ghost use Rattle.std.specs.Prelude.{◌≡◌, ◌≤◌, length, true};
+ghost use Rattle.std.specs.Prelude.{◌≡◌, ◌≤◌, length, replicate, true};
 ghost use Rattle.words.specs.Texts.{inputNameMost};
 ghost use Rattle.record.specs.Limits.{textRoom, inputRoom, listedMost, lampsMost};
 ghost use Rattle.record.specs.Wanted.{namesIn, countedIn};
 ghost use Rattle.record.specs.Rules.{areNames};
-ghost use Rattle.record.specs.Record.{inRoom, text_of, name_of, namesKept, allMarks, startOwn};
+ghost use Rattle.record.specs.Record.{inRoom, text_of, name_of, blankName, namesKept, allMarks, startOwn};
 ghost use Rattle.setup.specs.Lent.{names_lent};
 
 use crate::wanted::Names;
@@ -36,48 +36,47 @@ pub fn name_of(s: &[u8]) -> InputName
     }
 }
 
-/// So many names, as they are lent (RULES, Class 2).
-pub fn names_of(lent: &Names<'_>, count: usize) -> [InputName; INPUTS_MOST]
+/// So many names, as they are lent, into the record's list (RULES, Class 2).
+pub fn keep_names(list: &mut [InputName; INPUTS_MOST], lent: &Names<'_>, count: usize)
     requires named { areNames count (names_lent lent.now) ≡ true }
     requires few { count ≤ listedMost }
-    ensures { result ≡ namesKept (names_lent lent.now) }
+    ensures { list.new ≡ namesKept (names_lent lent.now) }
 {
+    list.fill(InputName::EMPTY);
     match *lent {
-        Names::Row { bytes, lengths } => names_in(bytes, lengths, count),
-        Names::Counted { bytes, count: many } => counted_names(bytes, many),
+        Names::Row { bytes, lengths } => keep_row(list, bytes, lengths, count),
+        Names::Counted { bytes, count: many } => keep_counted(list, bytes, many),
     }
 }
 
 // So many names, each after its length in one byte.
-fn counted_names(bytes: &[u8], count: usize) -> [InputName; INPUTS_MOST]
+fn keep_counted(list: &mut [InputName; INPUTS_MOST], bytes: &[u8], count: usize)
+    requires empty { list.old ≡ replicate listedMost blankName }
     requires named { areNames count (countedIn count bytes.now) ≡ true }
     requires few { count ≤ listedMost }
-    ensures { result ≡ namesKept (countedIn count bytes.now) }
+    ensures { list.new ≡ namesKept (countedIn count bytes.now) }
 {
-    let mut list = [InputName::EMPTY; INPUTS_MOST];
     let mut left = bytes;
     for i in 0..count {
         let (name, rest) = names::first_counted(left);
         list[i] = name_of(name);
         left = rest;
     }
-    list
 }
 
 // So many names, one after the other in `bytes`, each of its length.
-fn names_in(bytes: &[u8], lengths: &[usize], count: usize) -> [InputName; INPUTS_MOST]
+fn keep_row(list: &mut [InputName; INPUTS_MOST], bytes: &[u8], lengths: &[usize], count: usize)
+    requires empty { list.old ≡ replicate listedMost blankName }
     requires named { areNames count (namesIn lengths.now bytes.now) ≡ true }
     requires few { count ≤ listedMost }
-    ensures { result ≡ namesKept (namesIn lengths.now bytes.now) }
+    ensures { list.new ≡ namesKept (namesIn lengths.now bytes.now) }
 {
-    let mut list = [InputName::EMPTY; INPUTS_MOST];
     let mut at = 0;
     for i in 0..count {
         let end = at + lengths[i];
         list[i] = name_of(&bytes[at..end]);
         at = end;
     }
-    list
 }
 
 /// A list of inputs in its room: two characters each, at most 32 inputs (RULES, Inputs).

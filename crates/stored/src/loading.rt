@@ -1,12 +1,12 @@
 // Loading a stored form (RULES, Stored form and Lamps): the version, then whether the bytes end with the form, then what
-// it says. What makes a record is not put into its caller (`inline(never)`): its copies would lie on the stack while
-// set-up runs.
-ghost use Rattle.std.specs.Prelude.{◌≡◌, ◌/◌, ◌≤◌, true, map, length};
+// it says. The record is made where it lies, so that no copy of it is on the stack.
+ghost use Rattle.std.specs.Prelude.{◌≡◌, ◌/◌, ◌≤◌, true, map, length, OnErr};
 ghost use Rattle.std.specs.Result.{result_ok};
 ghost use Rattle.record.specs.Limits.{lampsMost};
-ghost use Rattle.record.specs.Record.{inRoom};
+ghost use Rattle.record.specs.Record.{inRoom, blank};
 ghost use Rattle.record.specs.Updates.{withOwn, withMarks};
 ghost use Rattle.record.specs.Legal.{isLegal};
+ghost use Rattle.setup.specs.Told.{made_in};
 ghost use Rattle.stored.specs.Reading.{secondsIn};
 ghost use Rattle.stored.specs.Loading.{isOtherVersion, isMarked, markRoom, areMarks, device_of, contents, loaded};
 ghost use Rattle.stored.specs.Told.{loading_told};
@@ -17,8 +17,8 @@ use crate::form::{Form, MARKED_VERSION, OLD_VERSION};
 use crate::reader::Reader;
 use crate::storing::VERSION;
 use numbers::highest;
-use record::scan;
 use record::types::{Device, LAMPS_MOST, Setting};
+use record::{fresh, scan};
 use setup::error::SetUpError;
 use setup::wanted::Wanted;
 
@@ -75,9 +75,8 @@ fn enable(device: &mut Device, bytes: &[u8]) -> bool
 
 impl<'a> Form<'a> {
     // Set up with what the form says. Lamps that are too many are not copied.
-    #[inline(never)]
-    fn set_up(&self) -> Result<Device, SetUpError>
-        ensures { result_ok result ≡ device_of (said_of self.now).settings }
+    fn set_up_in(&self, device: &mut Device) -> Result<(), SetUpError>
+        ensures { result_ok (made_in result device.new) ≡ device_of (said_of self.now).settings }
     {
         let Some(class) = self.rest.class(self.inputs.len() / 2) else {
             return Err(SetUpError::OutOfRange(Setting::Inputs));
@@ -87,42 +86,43 @@ impl<'a> Form<'a> {
             return Err(SetUpError::OutOfRange(Setting::Lamps));
         }
         let seconds = seconds_of(self.lamps);
-        setup::set_up(&Wanted {
-            name: self.name,
-            maker: self.maker,
-            model: self.model,
-            other: self.other,
-            password: self.password,
-            inputs: self.inputs,
-            lamps: &seconds[0..n],
-            warm: self.warm,
-            cool: self.cool,
-            class,
-        })
+        setup::set_up_in(
+            device,
+            &Wanted {
+                name: self.name,
+                maker: self.maker,
+                model: self.model,
+                other: self.other,
+                password: self.password,
+                inputs: self.inputs,
+                lamps: &seconds[0..n],
+                warm: self.warm,
+                cool: self.cool,
+                class,
+            },
+        )
     }
 
     // And with its marks: all set where it has none.
-    fn device(&self) -> Result<Device, LoadError>
-        ensures { loading_told result ≡ contents (said_of self.now) }
+    fn load_in(&self, device: &mut Device) -> Result<(), LoadError>
+        ensures { loading_told (made_in result device.new) ≡ contents (said_of self.now) }
     {
-        let Ok(mut made) = self.set_up() else {
+        let Ok(()) = self.set_up_in(device) else {
             return Err(LoadError::NotLegal);
         };
         let Some(marks) = self.marks else {
-            return Ok(made);
+            return Ok(());
         };
-        if !enable(&mut made, marks) {
+        if !enable(device, marks) {
             return Err(LoadError::NotLegal);
         }
-        Ok(made)
+        Ok(())
     }
 }
 
-/// The device that a stored form is of, freshly set up: its lamps' seconds and marks are those of the form. The version
-/// is tested first, then what is cut short, then what is left over, then the contents (RULES, Stored form).
-#[inline(never)]
-pub fn load(bytes: &[u8]) -> Result<Device, LoadError>
-    ensures { loading_told result ≡ loaded bytes.now }
+// Where it is refused, what the record is then is not said.
+fn read_in(device: &mut Device, bytes: &[u8]) -> Result<(), LoadError>
+    ensures { loading_told (made_in result device.new) ≡ loaded bytes.now }
 {
     if is_other_version(bytes) {
         return Err(LoadError::OtherVersion);
@@ -132,5 +132,28 @@ pub fn load(bytes: &[u8]) -> Result<Device, LoadError>
     if !reader.is_empty() {
         return Err(LoadError::LeftOver);
     }
-    form.device()
+    form.load_in(device)
+}
+
+/// The record as a stored form has it, freshly set up: its lamps' seconds and marks are those of the form. The version
+/// is tested first, then what is cut short, then what is left over, then the contents; where it is refused, the record
+/// is the blank one (RULES, Stored form).
+pub fn load_in(device: &mut Device, bytes: &[u8]) -> Result<(), LoadError>
+    ensures made { loading_told (made_in result device.new) ≡ loaded bytes.now }
+    ensures refused { OnErr result (device.new ≡ blank) }
+{
+    let Err(error) = read_in(device, bytes) else {
+        return Ok(());
+    };
+    *device = fresh::blank();
+    Err(error)
+}
+
+/// The same, of a record of its own.
+pub fn load(bytes: &[u8]) -> Result<Device, LoadError>
+    ensures { loading_told result ≡ loaded bytes.now }
+{
+    let mut device = fresh::blank();
+    load_in(&mut device, bytes)?;
+    Ok(device)
 }

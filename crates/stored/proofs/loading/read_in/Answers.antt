@@ -7,7 +7,7 @@ use Rattle.stored.specs.Told.{load_error_number}
 use Rattle.stored.specs.declared.error.LoadError.{LoadError}
 use Rattle.stored.specs.declared.error.LoadError.TheVariants.{CutShort}
 use Rattle.stored.proofs.Cases.{loaded_other, loaded_cut, loaded_over, loaded_whole}
-use Rattle.stored.proofs.loading.load.Goals as goal
+use Rattle.stored.proofs.loading.read_in.Goals as goal
 
 pub returns-then-is_other_version : goal.returns-then-is_other_version
 returns-then-is_other_version c =
@@ -33,7 +33,7 @@ returns-then-not-is_empty c =
 pub returns : goal.returns
 returns c =
     let ours = sym c.is_other_version.ensures ∙ c.if-is_other_version.false in
-    c.device.ensures
+    c.load_in.ensures
     ∙ sym
     (loaded_whole c.args.bytes.now ours (ap form (sym c.new-reader.ensures) ∙ c.in_ok-form.ensures)
     (sym c.is_empty.ensures ∙ c.if-not-is_empty.false))

@@ -2,10 +2,10 @@
 use Rattle.std.proofs.Common.{arith}
 use Rattle.record.proofs.NamesCopied.{no-name-copied, counted-there, name-ends, name-short}
 use Rattle.record.proofs.NamesCopied.{one-name-copied, all-names-copied}
-use Rattle.setup.proofs.fill.names_in.Goals as goal
+use Rattle.setup.proofs.fill.keep_row.Goals as goal
 
 pub loop-i-init : goal.loop-i-init
-loop-i-init c = no-name-copied _ _ _
+loop-i-init c = rw c.requires.empty (no-name-copied _ _ _)
 
 pub bounds-lengths-i : goal.bounds-lengths-i
 bounds-lengths-i c =

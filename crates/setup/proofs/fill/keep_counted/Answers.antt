@@ -1,9 +1,9 @@
 use Rattle.std.proofs.Common.{arith}
 use Rattle.record.proofs.CountedNames.{none_kept, named_fits, one_kept, all_kept}
-use Rattle.setup.proofs.fill.counted_names.Goals as goal
+use Rattle.setup.proofs.fill.keep_counted.Goals as goal
 
 pub loop-i-init : goal.loop-i-init
-loop-i-init c = none_kept _
+loop-i-init c = rw c.requires.empty (none_kept _)
 
 pub name_of-requires : goal.name_of-requires
 name_of-requires c =
