@@ -6,7 +6,7 @@ ghost use Rattle.record.specs.Legal.{isLegal};
 ghost use Rattle.record.specs.Wanted.{wantedOf, wantedOf2, namesIn};
 ghost use Rattle.record.specs.SetUp.{setUp};
 ghost use Rattle.record.specs.HostCalls.{faultSet, errorsSet, markSet};
-ghost use Rattle.setup.specs.Told.{set_up_told};
+ghost use Rattle.setup.specs.Lent.{wanted_settings};
 ghost use Rattle.clock.specs.Passing.{passed};
 ghost use Rattle.device.specs.Calls.{received, openedBy, placeTaken, closedBy};
 ghost use Rattle.device.specs.Outcomes.{told};
@@ -16,24 +16,17 @@ use crate::results::{Opening, Receiving};
 use clock::pass;
 use device::calls;
 use record::types::Device;
-use record::{fresh, refusal};
-use setup::error::SetUpError;
+use record::refusal;
 use setup::wanted::{Class, Names, Wanted};
 
-// What set-up gave, into the host's record: the blank one where it is refused.
-fn fill(device: &mut Device, made: Result<Device, SetUpError>) -> u32
-    ensures number { result ≡ (set_up_told made).number }
-    ensures device { device.new ≡ (set_up_told made).device }
+// Sets the host's record up, and tells the number: where it is refused, the record is the blank one.
+pub fn set_up_in(device: &mut Device, wanted: &Wanted<'_>) -> u32
+    ensures number { result ≡ (setUp (wanted_settings wanted.now)).number }
+    ensures device { device.new ≡ (setUp (wanted_settings wanted.now)).device }
 {
-    match made {
-        Ok(made) => {
-            *device = made;
-            0
-        }
-        Err(error) => {
-            *device = fresh::blank();
-            error.number()
-        }
+    match setup::set_up_in(device, wanted) {
+        Ok(()) => 0,
+        Err(error) => error.number(),
     }
 }
 
@@ -57,7 +50,7 @@ pub extern "C" fn pj_set_up_in_place<'a>(
         password.now inputs.now lamps.now warm cool)).device }
 {
     let class = Class::One;
-    let made = setup::set_up(&Wanted {
+    set_up_in(device, &Wanted {
         name,
         maker,
         model,
@@ -68,8 +61,7 @@ pub extern "C" fn pj_set_up_in_place<'a>(
         warm,
         cool,
         class,
-    });
-    fill(device, made)
+    })
 }
 
 /// Set-up of Class 2 into the record: the names one after the other, each of its length. 3, then 8.
@@ -105,7 +97,7 @@ pub extern "C" fn pj_set_up_2_in_place<'a>(
             lengths,
         },
     };
-    let made = setup::set_up(&Wanted {
+    set_up_in(device, &Wanted {
         name,
         maker,
         model,
@@ -116,8 +108,7 @@ pub extern "C" fn pj_set_up_2_in_place<'a>(
         warm,
         cool,
         class,
-    });
-    fill(device, made)
+    })
 }
 
 /// Whether the record is legal.
