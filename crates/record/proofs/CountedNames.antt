@@ -3,10 +3,11 @@
 --   named i s            the name after these
 --   CountedPassed ..     the loop that tests the names of s has passed i of them
 -- Assumes nothing.
-use Rattle.std.proofs.Common.{◌≡◌, ℕ, zero, suc, ◌+◌, ◌<◌, ◌≤◌, Bool, true, ◌&&◌, List, [], ◌∷◌, ◌++◌, length, take, drop}
+use Rattle.std.proofs.Common.{◌≡◌, ℕ, zero, suc, ◌+◌, ◌<◌, ◌≤◌, Bool, true, ◌&&◌, List, [], ◌∷◌, ◌++◌}
+use Rattle.std.proofs.Common.{length, take, drop}
 use Rattle.std.proofs.Common.{refl, sym, ap, ◌∙◌, arith, add-one, get_or, replicate, set}
 use lib.ListN.{drop_of_length-le}
-use lib.Seq.{drop-cons}
+use lib.Seq.{drop-cons, take-append_seam, drop-append_seam}
 use Rattle.text.specs.Scans.{every}
 use Rattle.std.proofs.Common.{eqb}
 use Rattle.text.proofs.Scanning.{every-at, no_more, Gathered}
@@ -27,6 +28,16 @@ after (suc i) s = after i (drop (suc (s at 0)) s)
 
 abbrev pub named : ℕ → List ℕ → List ℕ
 named i s = let r = after i s in take (r at 0) (drop 1 r)
+
+-- a row of names, by its first
+pub counted_none : (s : List ℕ) → countedIn 0 s ≡ []
+unfolding countedIn
+counted_none s = refl
+
+pub counted_first : (n : ℕ) (t rest : List ℕ) → countedIn (suc n) (length t ∷ (t ++ rest)) ≡ t ∷ countedIn n rest
+unfolding countedIn
+counted_first n t rest =
+    (λ j. take-append_seam t rest j ∷ ap (countedIn n) (drop-append_seam t rest) j)
 
 pub counted_many : (n : ℕ) (s : List ℕ) → length (countedIn n s) ≡ n
 unfolding countedIn
@@ -57,7 +68,8 @@ counted_at (suc n) s (suc i) l = counted_at n (drop (suc (s at 0)) s) i (omega a
 -- ---- the loop that tests them
 
 module _ (ns : List (List ℕ)) {i : ℕ} {ok : Bool} (p : Gathered isInputName ns i ok) where
-  one_gathered : {x : Bool} → i < length ns → x ≡ isInputName (get_or ns i []) → Gathered isInputName ns (i + 1) (ok && x)
+  one_gathered : {x : Bool} → i < length ns → x ≡ isInputName (get_or ns i [])
+      → Gathered isInputName ns (i + 1) (ok && x)
   one_gathered {x} l e = record {
     inside = omega arith;
     rest = p.rest ∙ rw (add-one, drop-cons ns i [] l, ← e) (sym (together ok x (every isInputName (drop (suc i) ns))));

@@ -44,7 +44,8 @@ fn are_names(bytes: &[u8], lengths: &[usize], count: usize) -> bool
     (lengths.len() == count) & ok
 }
 
-/// The first name that stands in `row` after its length in one byte, and what follows it. Past the end there is no byte.
+/// The first name that stands in `row` after its length in one byte, and what follows it. Past the end there is no
+/// byte.
 pub fn first_counted(row: &[u8]) -> (&[u8], &[u8])
     ensures name { result.0.now ≡ take (row.now at 0) (drop 1 row.now) }
     ensures left { result.1.now ≡ drop (suc (row.now at 0)) row.now }

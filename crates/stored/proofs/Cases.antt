@@ -18,7 +18,7 @@ use Rattle.record.specs.declared.types.Setting.TheVariants.{Inputs, Lamps}
 use Rattle.record.proofs.OutOfRange.{each-in-range}
 use Rattle.record.proofs.Rules.{lamps-few, inputs-class}
 use Rattle.record.proofs.Started.{started-parts, started-legal}
-use Rattle.stored.specs.Reading.{ClassPart, alone, Said, form}
+use Rattle.stored.specs.Reading.{ClassPart, alone, FormSaid, form}
 use Rattle.stored.specs.Views.{class_said}
 use Rattle.stored.specs.declared.form.Rest.{Rest}
 use Rattle.stored.specs.Loading.{isOtherVersion, endsEarly, leavesMore, said, isLegalSaid, contents, loaded, device_of}
@@ -32,7 +32,7 @@ otherwise a b true = refl
 otherwise a b false = refl
 
 -- by the version, and by what reading gives
-abbrev decided : Bool → Option (Said × List ℕ) → Changed
+abbrev decided : Bool → Option (FormSaid × List ℕ) → Changed
 decided other read =
     byRows
     ((20 when other) ∷ (21 when endsEarly read) ∷ (22 when leavesMore read)
@@ -49,7 +49,7 @@ module _ (s : List ℕ) where
     unfolding loaded
     loaded_cut e = (λ j. decided (v j) (e j))
 
-    module _ {f : Said} {rest : List ℕ} (e : form s ≡ Some (f, rest)) where
+    module _ {f : FormSaid} {rest : List ℕ} (e : form s ≡ Some (f, rest)) where
       pub loaded_over : eqb (length rest) 0 ≡ false → loaded s ≡ refused 22 blank
       unfolding loaded
       loaded_over h = (λ j. decided (v j) (e j)) ∙ if_yes _ _ (ap not h)
@@ -90,7 +90,7 @@ markedAs n d bytes =
     if areMarks n bytes then accepted (withOwn d (withMarks d.own (markRoom (map isMarked bytes))))
     else refused 23 blank
 
-module _ (f : Said) where
+module _ (f : FormSaid) where
   pub contents_refused : None ≡ device_of f.settings → refused 23 blank ≡ contents f
   contents_refused e =
       sym

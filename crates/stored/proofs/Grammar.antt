@@ -27,7 +27,7 @@ use Rattle.record.proofs.Started.{inputs-halved}
 use Rattle.stored.specs.Form.{formVersion, oldVersion, section, textSection, secondsBytes, markByte, marksSection}
 use Rattle.stored.specs.Form.{textsBytes, textsOf2, classPart, formWith, versionForm}
 use Rattle.stored.specs.Reading.{Field, onward, ◌>>=◌, given, byte, number, counted, text, texts, secondsIn}
-use Rattle.stored.specs.Reading.{ClassPart, alone, texts_of_2, class_part, class_of, marks_of, Said, form}
+use Rattle.stored.specs.Reading.{ClassPart, alone, texts_of_2, class_part, class_in, marks_of, FormSaid, form}
 use Rattle.stored.proofs.BytesAgain.{Bytes, drop-bytes, take-bytes, seconds-again}
 use Rattle.stored.proofs.SecondsWritten.{seconds-long}
 use Rattle.stored.proofs.Seconds.{read-many, seconds-back}
@@ -100,9 +100,9 @@ module _ (w : Wanted) (ok : isSetUp w ≡ true) where
       by false e = ap (λ (c : ClassPart). Some (c, rest)) (sym (is-alone e))
 
   class_again : (v : ℕ) → (eqb v formVersion ≡ false → w.class ≡ 1) → (rest : List ℕ)
-      → class_of v n ((if eqb v formVersion then classPart w.class (textsOf2 w) else []) ++ rest)
+      → class_in v n ((if eqb v formVersion then classPart w.class (textsOf2 w) else []) ++ rest)
       ≡ Some (class-said w, rest)
-  unfolding class_of
+  unfolding class_in
   class_again v older rest = by (eqb v formVersion) refl
     where
       by : (new : Bool) → eqb v formVersion ≡ new
@@ -128,7 +128,7 @@ in-turn v a b c d e f g h i j k t = simp append_assoc
 
 module _ (v : ℕ) (w : Wanted) (ok : isSetUp w ≡ true) (older : eqb v formVersion ≡ false → w.class ≡ 1) (ms : List Bool) where
   -- what the form says
-  abbrev pub says : Said
+  abbrev pub says : FormSaid
   says = record { settings = w; marks = bytes_of v (length w.lamps) ms }
 
   pub form_again : (t : List ℕ) → form (versionForm v w ms ++ t) ≡ Some (says, t)
@@ -165,7 +165,7 @@ module _ (v : ℕ) (w : Wanted) (ok : isSetUp w ≡ true) (older : eqb v formVer
 -- ---- taken
 
 -- the form of the version v that says f
-abbrev pub formed : ℕ → Said → List ℕ
+abbrev pub formed : ℕ → FormSaid → List ℕ
 formed v f =
     formWith v (marksPart v f.marks)
     (if eqb v formVersion then classPart f.settings.class (textsOf2 f.settings) else []) f.settings
@@ -188,14 +188,14 @@ lamps_again s raw rest b e =
     ∙ ap (λ (l : List ℕ). take (length raw) l) (sym (append-nil raw)) ∙ take-append_seam raw [] in
     (λ j. sym (read-many n raw) j ∷ sym bytes j)
 
-module _ (s : List ℕ) (f : Said) (rest : List ℕ) where
+module _ (s : List ℕ) (f : FormSaid) (rest : List ℕ) where
   -- by what each field read
   module _ (v : ℕ) (name maker model other password inputs lamps marks : List ℕ) (warm cool : ℕ) (class : ClassPart)
       (left : List ℕ) where
     abbrev seconds : List ℕ
     seconds = secondsIn (length lamps / 4) lamps
 
-    abbrev told : Said
+    abbrev told : FormSaid
     told = record {
       settings = wantedIn class.class name maker model other password inputs seconds warm cool class.serial
           class.version class.names;
@@ -203,7 +203,7 @@ module _ (s : List ℕ) (f : Said) (rest : List ℕ) where
     }
 
     abbrev Same : Type 0
-    Same = ◌≡◌ {A = Said × List ℕ} (told, left) (f, rest)
+    Same = ◌≡◌ {A = FormSaid × List ℕ} (told, left) (f, rest)
 
     all_taken : Same
         → s ≡ v ∷ (textSection name ++ (textSection maker ++ (textSection model ++ (textSection other
@@ -268,19 +268,19 @@ module _ (s : List ℕ) (f : Said) (rest : List ℕ) where
       (λ lamps s8 r8 e8. reading (marks_of v (length lamps / 4)) e8
       (λ marks s9 r9 e9. reading (number 2) e9
       (λ warm s10 r10 e10. reading (number 2) e10
-      (λ cool s11 r11 e11. reading (class_of v (length inputs / 2)) e11
+      (λ cool s11 r11 e11. reading (class_in v (length inputs / 2)) e11
       (λ class s12 r12 e12.
       let two : Same v name maker model other password inputs lamps marks warm cool class s12 = same e12 in
       let first = first-byte s v s1 r1 in
       record {
         class = λ h.
-            ap (λ (z : Said × List ℕ). z.0.settings.class) (sym two)
+            ap (λ (z : FormSaid × List ℕ). z.0.settings.class) (sym two)
             ∙ older-class v (length inputs / 2) s11 class s12 (ap (λ (k : ℕ). eqb k formVersion) (sym first) ∙ h) r12;
         marks = λ h.
-            ap (λ (z : Said × List ℕ). z.0.marks) (sym two)
+            ap (λ (z : FormSaid × List ℕ). z.0.marks) (sym two)
             ∙ old-marked v (length lamps / 4) s8 marks s9 (ap (λ (k : ℕ). eqb k oldVersion) (sym first) ∙ h) r9
             ∙ ap (λ (n : ℕ). replicate n 1) (sym (read-many (length lamps / 4) lamps))
-            ∙ ap (λ (z : Said × List ℕ). replicate (length z.0.settings.lamps) 1) two;
+            ∙ ap (λ (z : FormSaid × List ℕ). replicate (length z.0.settings.lamps) 1) two;
       }))))))))))))
 
 -- ---- cut
@@ -289,8 +289,8 @@ extends-marks : (v n : ℕ) → Extends (marks_of v n)
 unfolding marks_of
 extends-marks v n = extends-if (eqb v oldVersion) (extends-given (replicate n 1)) (extends-counted 1)
 
-extends-class : (v n : ℕ) → Extends (class_of v n)
-unfolding class_of class_part texts_of_2
+extends-class : (v n : ℕ) → Extends (class_in v n)
+unfolding class_in class_part texts_of_2
 extends-class v n =
     extends-if (eqb v formVersion)
     (extends-then extends-byte
@@ -317,10 +317,10 @@ extends-form =
     (λ j. extends-then (extends-class v (length f / 2)) (λ k. extends-given _))))))))))))
 
 -- a front of what is read to its end
-pub cut_short : (s : List ℕ) (f : Said) (k : ℕ) → form s ≡ Some (f, []) → k < length s → form (take k s) ≡ None
+pub cut_short : (s : List ℕ) (f : FormSaid) (k : ℕ) → form s ≡ Some (f, []) → k < length s → form (take k s) ≡ None
 cut_short s f k e l = by (form (take k s)) refl
   where
-    by : (o : Option (Said × List ℕ)) → form (take k s) ≡ o → form (take k s) ≡ None
+    by : (o : Option (FormSaid × List ℕ)) → form (take k s) ≡ o → form (take k s) ≡ None
     by None h = h
     by (Some x) h =
         let more : form s ≡ Some (x.0, x.1 ++ drop k s)
@@ -329,7 +329,7 @@ cut_short s f k e l = by (form (take k s)) refl
         absurd
         (omega (
           arith,
-          ap (λ (z : Said × List ℕ). length z.1) two,
+          ap (λ (z : FormSaid × List ℕ). length z.1) two,
           length-append x.1 (drop k s),
           length-drop k s,
         ))

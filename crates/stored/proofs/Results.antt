@@ -24,7 +24,7 @@ use Rattle.record.proofs.LegalTold.{own-of-legal}
 use Rattle.record.proofs.HostKept.{with-own-legal}
 use Rattle.record.proofs.Started.{started-parts, started-legal}
 use Rattle.stored.specs.Form.{formVersion}
-use Rattle.stored.specs.Reading.{Said, form}
+use Rattle.stored.specs.Reading.{FormSaid, form}
 use Rattle.stored.specs.Loading.{isOtherVersion, endsEarly, leavesMore, said, said_in, settingsIn, markBytesIn, marksRead}
 use Rattle.stored.specs.Loading.{markRoom, areMarks, isLegalSaid, startedWith, loadRows, loaded}
 use Rattle.stored.proofs.MarkBytes.{marks-told}
@@ -40,7 +40,7 @@ started-with-legal w ms ok h =
     (assumption (t, ap (λ (d : Device). isMarks d.settings.lamp_count (markRoom ms)) (started-parts w) ∙ h))
 
 -- what neither ends early nor leaves more
-read-whole : (o : Option (Said × List ℕ)) → endsEarly o ≡ false → leavesMore o ≡ false → o ≡ Some (said o, [])
+read-whole : (o : Option (FormSaid × List ℕ)) → endsEarly o ≡ false → leavesMore o ≡ false → o ≡ Some (said o, [])
 read-whole None e l = absurd (cc)
 read-whole (Some x) e l =
     let none = eqb-true (length x.1) 0 (not-false (eqb (length x.1) 0) l) in

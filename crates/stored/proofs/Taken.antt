@@ -14,9 +14,10 @@ use Rattle.words.specs.Bytes.{◌at◌}
 use Rattle.numbers.specs.HighestFirst.{highestFirst, number_in}
 use Rattle.numbers.proofs.HighestFirst.{highest-one-form}
 use Rattle.record.specs.Wanted.{countedIn}
+use Rattle.record.proofs.CountedNames.{counted_none, counted_first, counted_many}
 use Rattle.stored.specs.Form.{formVersion, oldVersion, section, textSection, textsBytes, classPart}
 use Rattle.stored.specs.Reading.{Field, onward, ◌>>=◌, given, byte, bytes, number, counted, text, texts}
-use Rattle.stored.specs.Reading.{ClassPart, alone, texts_of_2, class_part, class_of, marks_of}
+use Rattle.stored.specs.Reading.{ClassPart, alone, texts_of_2, class_part, class_in, marks_of}
 use Rattle.stored.proofs.BytesAgain.{Bytes, drop-bytes, take-bytes}
 use Rattle.stored.proofs.TextsWritten.{texts-snoc}
 use Rattle.stored.proofs.Fields.{Takes, taking, reading, texts_again, texts_cut}
@@ -167,25 +168,20 @@ takes-texts n = record { back = λ s ts rest b e. (texts_taken n s ts rest e).sp
 
 -- ---- the texts in a row
 
-pub counted_many : (n : ℕ) (s : List ℕ) → length (countedIn n s) ≡ n
-unfolding countedIn
-counted_many zero s = refl
-counted_many (suc n) s = ap suc (counted_many n (drop (suc (s at 0)) s))
-
 pub counted_back : (ts : List (List ℕ)) (rest : List ℕ) → countedIn (length ts) (textsBytes ts ++ rest) ≡ ts
-unfolding countedIn textsBytes
-counted_back [] rest = refl
+unfolding textsBytes
+counted_back [] rest = counted_none rest
 counted_back (t ∷ ts) rest =
     (λ j. countedIn (suc (length ts)) (append_assoc (textSection t) (textsBytes ts) rest j))
-    ∙ (λ j. take-append_seam t (textsBytes ts ++ rest) j
-    ∷ (ap (countedIn (length ts)) (drop-append_seam t (textsBytes ts ++ rest)) ∙ counted_back ts rest) j)
+    ∙ counted_first (length ts) t (textsBytes ts ++ rest)
+    ∙ ap (λ (l : List (List ℕ)). t ∷ l) (counted_back ts rest)
 
 pub record TextsRead (s : List ℕ) (i : ℕ) (rest : List ℕ) : Type 0 where
   pub passed : s ≡ textsBytes (countedIn i s) ++ rest
 
 pub none_read : (s : List ℕ) → TextsRead s 0 s
-unfolding countedIn textsBytes
-none_read s = record { passed = refl }
+unfolding textsBytes
+none_read s = record { passed = ap (λ (ts : List (List ℕ)). textsBytes ts ++ s) (sym (counted_none s)) }
 
 module _ {s : List ℕ} {i : ℕ} {rest : List ℕ} (r : TextsRead s i rest) where
   abbrev ts : List (List ℕ)
@@ -286,8 +282,8 @@ takes-class-part n = record {
         ∙ (λ j. ((two j).0.class ∷ (if eqb (two j).0.class 2
         then textsBytes ((two j).0.serial ∷ (two j).0.version ∷ (two j).0.names) else [])) ++ (two j).1)
 
-pub takes-class : (v n : ℕ) → Takes (class_of v n) (restPart v)
-unfolding class_of
+pub takes-class : (v n : ℕ) → Takes (class_in v n) (restPart v)
+unfolding class_in
 takes-class v n = by (eqb v formVersion)
   where
     by : (new : Bool) → Takes (if new then class_part n else given (alone 1))
@@ -297,8 +293,8 @@ takes-class v n = by (eqb v formVersion)
 
 -- no older version is of another class
 pub older-class : (v n : ℕ) (s : List ℕ) (c : ClassPart) (rest : List ℕ) → eqb v formVersion ≡ false
-    → class_of v n s ≡ Some (c, rest) → c.class ≡ 1
-unfolding class_of
+    → class_in v n s ≡ Some (c, rest) → c.class ≡ 1
+unfolding class_in
 older-class v n s c rest h e =
     ap (λ (z : ClassPart × List ℕ). z.0.class)
     (sym (same (ap (λ (r : Field ClassPart). r s) (sym (if_no (class_part n) (given (alone 1)) h)) ∙ e)))

@@ -31,17 +31,17 @@ use Rattle.record.specs.SetUp.{isSetUp}
 use Rattle.record.specs.declared.types.Device.{Device}
 use Rattle.record.specs.declared.types.Changed.{Changed}
 use Rattle.stored.specs.Form.{formVersion, markedVersion, oldVersion}
-use Rattle.stored.specs.Reading.{Said, form}
+use Rattle.stored.specs.Reading.{FormSaid, form}
 
 abbrev pub isOtherVersion : List ℕ → Bool
 isOtherVersion [] = false
 isOtherVersion (v ∷ s) = not (eqb v formVersion) && not (eqb v markedVersion) && not (eqb v oldVersion)
 
-abbrev pub endsEarly : Option (Said × List ℕ) → Bool
+abbrev pub endsEarly : Option (FormSaid × List ℕ) → Bool
 endsEarly None = true
 endsEarly (Some f) = false
 
-abbrev pub leavesMore : Option (Said × List ℕ) → Bool
+abbrev pub leavesMore : Option (FormSaid × List ℕ) → Bool
 leavesMore None = false
 leavesMore (Some f) = not (eqb (length f.1) 0)
 
@@ -52,11 +52,11 @@ abbrev pub isLeftOver : List ℕ → Bool
 isLeftOver s = leavesMore (form s)
 
 -- nothing is said by what is cut short
-abbrev pub said : Option (Said × List ℕ) → Said
+abbrev pub said : Option (FormSaid × List ℕ) → FormSaid
 said None = record { settings = wantedOf [] [] [] [] [] [] [] 0 0; marks = [] }
 said (Some f) = f.0
 
-abbrev pub said_in : List ℕ → Said
+abbrev pub said_in : List ℕ → FormSaid
 said_in s = said (form s)
 
 abbrev pub settingsIn : List ℕ → Wanted
@@ -89,10 +89,10 @@ startedWith w ms = withOwn (started w) (withMarks (started w).own (markRoom ms))
 abbrev pub device_of : Wanted → Option Device
 device_of w = if isSetUp w then Some (started w) else None
 
-abbrev pub isLegalSaid : Said → Bool
+abbrev pub isLegalSaid : FormSaid → Bool
 isLegalSaid f = isSetUp f.settings && areMarks (length f.settings.lamps) f.marks
 
-abbrev pub contents : Said → Changed
+abbrev pub contents : FormSaid → Changed
 contents f =
     if isLegalSaid f then accepted (startedWith f.settings (map isMarked f.marks)) else refused 23 blank
 

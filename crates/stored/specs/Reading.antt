@@ -9,9 +9,9 @@
 --   texts n              so many texts, one after the other
 --   secondsIn n s        the first n numbers of four bytes in s
 --   ClassPart            the class, and what Class 2 alone has;    alone k    the class k, which has nothing more
---   class_part n         both, where there are n inputs: in the newest version. Every older one is of Class 1 (class_of)
+--   class_part n         both, where there are n inputs: in the newest version. Every older one is of Class 1 (class_in)
 --   marks_of v n         the bytes of n lamps' marks: each 1 in the version that has none
---   Said                 what a form says: the settings, the lamps' seconds among them, and the bytes of the marks
+--   FormSaid                 what a form says: the settings, the lamps' seconds among them, and the bytes of the marks
 --   form                 the form, of whatever version
 -- Assumes nothing.
 use Rattle.std.specs.Prelude.{ℕ, zero, suc, ◌*◌, ◌/◌, List, [], ◌∷◌, length, take, drop, replicate, ltb, eqb}
@@ -86,17 +86,17 @@ class_part n = do
   k ← byte
   if eqb k 2 then texts_of_2 n else given (alone k)
 
-unfoldable pub class_of : ℕ → ℕ → Field ClassPart
-class_of v n = if eqb v formVersion then class_part n else given (alone 1)
+unfoldable pub class_in : ℕ → ℕ → Field ClassPart
+class_in v n = if eqb v formVersion then class_part n else given (alone 1)
 
 unfoldable pub marks_of : ℕ → ℕ → Field (List ℕ)
 marks_of v n = if eqb v oldVersion then given (replicate n 1) else text
 
-pub record Said : Type 0 where
+pub record FormSaid : Type 0 where
   pub settings : Wanted
   pub marks : List ℕ
 
-unfoldable pub form : Field Said
+unfoldable pub form : Field FormSaid
 form = do
   v ← byte
   name ← text
@@ -109,7 +109,7 @@ form = do
   marks ← marks_of v (length lamps / 4)
   warm ← number 2
   cool ← number 2
-  rest ← class_of v (length inputs / 2)
+  rest ← class_in v (length inputs / 2)
   given (record {
     settings = wantedIn rest.class name maker model other password inputs (secondsIn (length lamps / 4) lamps)
         warm cool rest.serial rest.version rest.names;

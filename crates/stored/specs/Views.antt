@@ -12,7 +12,7 @@ use Rattle.setup.specs.Lent.{class_number, serial_of, version_of, names_of}
 use Rattle.setup.specs.declared.wanted.Class.{Class}
 use Rattle.stored.specs.declared.form.Rest.{Rest}
 use Rattle.stored.specs.declared.form.Form.{Form}
-use Rattle.stored.specs.Reading.{ClassPart, alone, Said, secondsIn}
+use Rattle.stored.specs.Reading.{ClassPart, alone, FormSaid, secondsIn}
 
 abbrev pub marks_said : ℕ → Option (Bor (List ℕ)) → List ℕ
 marks_said n None = replicate n 1
@@ -27,7 +27,7 @@ class_said n r =
 abbrev pub class_lent : Class → ClassPart
 class_lent c = record { class = class_number c; serial = serial_of c; version = version_of c; names = names_of c }
 
-abbrev pub said_of : Form → Said
+abbrev pub said_of : Form → FormSaid
 said_of f =
     let rest = class_said (length f.inputs.now / 2) f.rest in
     record {

@@ -1,7 +1,7 @@
 // A stored form, read from left to right as its grammar has it (RULES, Stored form, Lamps and Class 2).
 ghost use Rattle.std.specs.Prelude.{◌≡◌, false, IfSome, IsNone};
 ghost use Rattle.record.specs.Limits.{isClass};
-ghost use Rattle.stored.specs.Reading.{texts_of_2, class_part, class_of, marks_of, form};
+ghost use Rattle.stored.specs.Reading.{texts_of_2, class_part, class_in, marks_of, form};
 ghost use Rattle.stored.specs.Reads.{Reads};
 ghost use Rattle.stored.specs.Views.{marks_said, class_said, class_lent, said_of};
 
@@ -111,9 +111,9 @@ impl<'a> Reader<'a> {
         self.texts_of_2(n)
     }
 
-    #[tactic(auto, unfolding(crate::specs::Reading::class_of))]
-    fn class_of(&mut self, version: u8, n: usize) -> Result<Rest<'a>, LoadError>
-        ensures { Reads (class_said n) result self.new (class_of version n self.old) }
+    #[tactic(auto, unfolding(crate::specs::Reading::class_in))]
+    fn class_in(&mut self, version: u8, n: usize) -> Result<Rest<'a>, LoadError>
+        ensures { Reads (class_said n) result self.new (class_in version n self.old) }
     {
         if version != VERSION {
             return Ok(Rest::alone(1));
@@ -137,7 +137,7 @@ impl<'a> Reader<'a> {
         let marks = self.marks(version, lamps.len() / 4)?;
         let warm = self.number()?;
         let cool = self.number()?;
-        let rest = self.class_of(version, inputs.len() / 2)?;
+        let rest = self.class_in(version, inputs.len() / 2)?;
         Ok(Form {
             name,
             maker,
