@@ -3,12 +3,14 @@ ghost use Rattle.std.specs.Prelude.{◌≡◌, length};
 ghost use Rattle.text.specs.Words.{over};
 ghost use Rattle.stored.specs.Form.{storedBy, toldStored};
 ghost use Rattle.stored.specs.Loading.{loaded};
+ghost use Rattle.board.specs.Results.{changed_of};
 
+use crate::results::Changed;
+use record::fresh;
+use record::types::Device;
+use stored::loading;
 use stored::storing;
 use stored::storing::FormWritten;
-use record::fresh;
-use record::types::{Changed, Device};
-use stored::loading;
 
 /// The record's form into the lent memory: 1 and 2 in that order.
 #[unsafe(no_mangle)]
@@ -43,7 +45,7 @@ pub extern "C" fn pj_load_in_place(device: &mut Device, bytes: &[u8]) -> u32
 /// The same, by value.
 #[unsafe(no_mangle)]
 pub extern "C" fn pj_load(bytes: &[u8]) -> Changed
-    ensures { result ≡ loaded bytes.now }
+    ensures { result ≡ changed_of (loaded bytes.now) }
 {
     let mut changed = Changed {
         number: 0,

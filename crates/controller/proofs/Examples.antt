@@ -8,7 +8,7 @@ use Rattle.pjlink.specs.Computing.{computing as pjlink}
 use Rattle.pjlink.specs.declared.command.Body.TheVariants.{Powr, Name}
 use Rattle.pjlink.specs.declared.command.Command.TheVariants.{PowerSet, Query}
 use Rattle.pjlink.specs.Said.{okay, powerIs}
-use Rattle.pjlink.specs.declared.answer.Power.TheVariants.{WarmUp}
+use Rattle.words.specs.declared.power.Power.TheVariants.{WarmUp}
 use Rattle.digest.specs.Computing.{computing as digest}
 use Rattle.controller.specs.Writing.{nothingWritten, writtenCommand}
 use Rattle.controller.specs.Reading.{meaning, without, readReply}

@@ -10,6 +10,8 @@ ghost use Rattle.device.specs.Answering.{lineAnswer};
 use pjlink::answer::Reply;
 use pjlink::{form, write};
 use record::types::{Own, Settings};
+use words::codec;
+use words::codec::Line;
 
 // The reply to the body a b c d under the class byte h, from the start of the lent memory.
 fn put_reply(out: &mut [u8], h: u8, a: u8, b: u8, c: u8, d: u8, reply: &Reply<'_>) -> usize
@@ -18,11 +20,12 @@ fn put_reply(out: &mut [u8], h: u8, a: u8, b: u8, c: u8, d: u8, reply: &Reply<'_
     ensures value { result ≡ length (replyLine h a b c d (saidBytes (said_by reply.now))) }
     ensures out_after { out.new ≡ over (replyLine h a b c d (saidBytes (said_by reply.now))) out.old }
 {
-    let head = [b'%', h, a, b, c, d, b'='];
-    text::put(out, 0, &head);
-    let end = write::put_parameter(out, 7, reply);
-    out[end] = b'\r';
-    end + 1
+    let mut line = Line::new();
+    codec::put_all(&[b'%', h, a, b, c, d, b'='], &mut line);
+    write::put_parameter(reply, &mut line);
+    line.push(b'\r');
+    text::put(out, 0, line.as_slice());
+    line.len()
 }
 
 /// What the line asks is decided and answered; a line not of the form is swallowed.

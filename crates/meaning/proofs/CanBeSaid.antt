@@ -27,7 +27,8 @@ use Rattle.pjlink.specs.Said.{Said, saidBytes, saidMost}
 use Rattle.pjlink.specs.Carried.{inputsCarried}
 use Rattle.pjlink.specs.CanSay.{hasOwnParameter, isRefusalTo}
 use Rattle.pjlink.specs.CanSay.{CanSay, done, refuses, power, input, mutes, errors, lamps, inputs, name, maker, model}
-use Rattle.pjlink.specs.CanSay.{other, class-is, freeze, serial, version, input-name, input-2, inputs-2, isLampHours}
+use Rattle.pjlink.specs.CanSay.{other, class-is, freeze, serial, version, input-name, input-2, inputs-2}
+use Rattle.words.specs.Lamps.{is_lamp_hours}
 use Rattle.pjlink.proofs.SaidPlain.{said-most, said_plain}
 use Rattle.record.specs.Limits.{inputRoom, lampsMost, lampLimit, isLit}
 use Rattle.record.specs.Rules.{isLamp, isLamps, isInputs}
@@ -69,7 +70,7 @@ module _ (s : Settings) (t : IsSettings s) where
       every-by-place isInput noInput (inputsOf s) (λ k h. listed-input k (omega (arith, inputs-number)))
 
 -- a lamp within the limit has hours of five digits
-lamp-hours : (lit : Bool) (x : ℕ) → isLamp x ≡ true → isLampHours (lampSaid lit x) ≡ true
+lamp-hours : (lit : Bool) (x : ℕ) → isLamp x ≡ true → is_lamp_hours (lampSaid lit x) ≡ true
 lamp-hours lit x e = le-leb (x / 3600) 99999 (omega (arith, leb-true x lampLimit e))
 
 -- ERRn but ERR2 may refuse any command, ERR2 one with a parameter of its own
@@ -118,7 +119,7 @@ module _ (s : Settings) (o : Own) (settings : isSettings s ≡ true) (own : isOw
   told-can-be-said (Query Lamp) e =
       let some = eqb-false s.lamp_count 0 e in
       lamps (lampsOf s o) (omega (arith, lamps-many, some)) (omega (arith, lamps-many, set-up.lamps))
-      (each-said (isLit o.power) isLamp isLampHours lamp-hours o.enabled (take s.lamp_count o.lamps)
+      (each-said (isLit o.power) isLamp is_lamp_hours lamp-hours o.enabled (take s.lamp_count o.lamps)
       (lamps-within _ kept.lamps.follows))
   told-can-be-said (Query Inst) e = inputs (inputsOf s) inputs-some inputs-few (listed-inputs s set-up)
   told-can-be-said (Query Name) e = name _ set-up.name.follows

@@ -25,9 +25,9 @@ use Rattle.pjlink.specs.declared.request.Request.{Request}
 use Rattle.pjlink.specs.declared.request.Request.TheVariants.{Asks, Unlisted, UnknownBody}
 use Rattle.pjlink.specs.Said.{Said, okay, refused, powerIs, chosenIs, mutesAre, errorsAre, lampsAre, inputsAre}
 use Rattle.pjlink.specs.Said.{textIs, classIs, freezeIs, nothing}
-use Rattle.pjlink.specs.declared.answer.Power.{Power}
-use Rattle.pjlink.specs.declared.answer.Power.TheVariants.{Off, On, Cooling, WarmUp}
-use Rattle.pjlink.specs.declared.answer.LampHours.{LampHours}
+use Rattle.words.specs.declared.power.Power.{Power}
+use Rattle.words.specs.declared.power.Power.TheVariants.{Off, On, Cooling, WarmUp}
+use Rattle.words.specs.declared.lamp.LampHours.{LampHours}
 use Rattle.record.specs.Limits.{off, on, cooling, warming, isLit, volumeMost}
 use Rattle.record.specs.Updates.{withPower, withChosen, withMutes, withFreeze, withVolumes}
 use Rattle.record.specs.Record.{blankName}

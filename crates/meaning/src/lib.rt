@@ -12,7 +12,8 @@ ghost use Rattle.pjlink.specs.Carried.{said_by};
 ghost use Rattle.pjlink.specs.declared.request.Request.TheVariants.{Asks};
 ghost use Rattle.meaning.specs.Meaning.{meant, done};
 
-use pjlink::answer::{Refusal, Reply};
+use pjlink::answer::Reply;
+use words::refusal::Refusal;
 use pjlink::body;
 use pjlink::command::Command;
 use pjlink::request::Request;

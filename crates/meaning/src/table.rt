@@ -6,7 +6,9 @@ ghost use Rattle.meaning.specs.Meaning.{powerSaid, lampsSaid, nameBytes, inputNa
 
 use crate::inputs;
 use arrayvec::ArrayVec;
-use pjlink::answer::{Answer, LampHours, Power};
+use pjlink::answer::Answer;
+use words::lamp::LampHours;
+use words::power::Power;
 use pjlink::command::{Body, Command};
 use record::own;
 use record::own::{COOLING, OFF, ON};

@@ -10,7 +10,8 @@ use Rattle.record.specs.declared.types.Device.{Device}
 use Rattle.stored.specs.declared.storing.FormWritten.{FormWritten}
 use Rattle.device.specs.Outcomes.{Told}
 use Rattle.controller.specs.declared.writing.Written.{Written}
-use Rattle.ours.specs.Board.{Given, Lent, Wrote}
+use Rattle.record.specs.Given.{Given}
+use Rattle.ours.specs.Board.{Lent, Wrote}
 
 abbrev pub lent_as : Told → Device → List ℕ → Lent Device
 lent_as t d m = record { number = t.number; taken = t.taken; length = t.length; memory = m; device = d }

@@ -14,6 +14,7 @@ use Rattle.text.proofs.Choices.{if-all}
 use Rattle.words.specs.Bytes.{◌at◌}
 use Rattle.words.specs.Inputs.{isInputText, inputNamed, read_input, input_of}
 use Rattle.words.specs.ClassOne.{readInput1}
+use Rattle.words.specs.declared.input.Input.{Input}
 use Rattle.pjlink.specs.declared.command.Body.{Body}
 use Rattle.pjlink.specs.declared.command.Body.TheVariants.{Powr, Inpt, Avmt, Erst, Lamp, Inst, Name, Inf1, Inf2}
 use Rattle.pjlink.specs.declared.command.Body.TheVariants.{Info, Clss}

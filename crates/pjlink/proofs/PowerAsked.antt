@@ -15,7 +15,7 @@ use Rattle.text.specs.Words.{◌is◌, ◌from◌to◌}
 use Rattle.text.specs.Scans.{every}
 use Rattle.text.proofs.Choices.{if-by, if-all, both_left, both_right}
 use Rattle.words.specs.Bytes.{◌at◌}
-use Rattle.pjlink.specs.Commands.{switchDigit}
+use Rattle.words.specs.Powers.{switch_code}
 use Rattle.pjlink.specs.Bodies.{bodies, rowOf, hasQuery}
 use Rattle.pjlink.specs.Requests.{isBody, firstNamed, bodyNamed, switchAsked, inputAsked, nameAsked, muteAsked}
 use Rattle.pjlink.specs.Requests.{setBy, asked_of, asked, isQuestion, requestOf}
@@ -115,15 +115,15 @@ module _ (p : List ℕ) where
   powr-asked k h e = ap (λ (m : MaybeBody). asked m p) (body-is-named k h Powr e)
 
 -- and POWR with 0 or 1 only
-digit-of : (x : ℕ) (t : Bool) → x is "1" ≡ t → code "0" ≤ x → x ≤ code "1" → x ≡ switchDigit t
+digit-of : (x : ℕ) (t : Bool) → x is "1" ≡ t → code "0" ≤ x → x ≤ code "1" → x ≡ switch_code t
 digit-of x true e l h = eqb-true x (code "1") e
 digit-of x false e l h = omega (arith, eqb-false x (code "1") e)
 
 pub power-parameter : (p : List ℕ) (wanted : Bool) → asked_of Powr p ≡ Asks (PowerSet wanted)
-    → p ≡ switchDigit wanted ∷ []
+    → p ≡ switch_code wanted ∷ []
 unfolding asked_of switchAsked
 power-parameter p wanted =
-    let Told : Request → Type 0 = λ r. r ≡ Asks (PowerSet wanted) → p ≡ switchDigit wanted ∷ [] in
+    let Told : Request → Type 0 = λ r. r ≡ Asks (PowerSet wanted) → p ≡ switch_code wanted ∷ [] in
     let is_one = eqb (length p) 1 in
     let switch = p at 0 from "0" to "1" in
     if-by Told (isQuestion p) (λ t e. cc)

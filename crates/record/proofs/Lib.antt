@@ -30,3 +30,4 @@ pub mod HostKept
 pub mod Results
 pub mod RefusedSetting
 mod Samples
+pub mod GivenTold

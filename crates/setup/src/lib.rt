@@ -1,20 +1,18 @@
 // Set-up (RULES, The legal record): each setting is tested, then kept.
 #![tactic(auto)]
 
-pub mod error;
 pub mod fill;
 pub mod theorems;
 pub mod wanted;
 
 ghost use Rattle.std.specs.Prelude.{◌≡◌, true, OnErr};
 ghost use Rattle.record.specs.Record.{settingsOf, blank};
+ghost use Rattle.record.specs.Given.{gives};
 ghost use Rattle.record.specs.SetUp.{isSetUp, setUp};
-ghost use Rattle.record.specs.OutOfRange.{refusedSetting};
 ghost use Rattle.setup.specs.Lent.{wanted_settings};
-ghost use Rattle.setup.specs.Told.{made_in, set_up_told, setting_told};
 
-use crate::error::SetUpError;
 use crate::wanted::Wanted;
+use record::set_up_error::SetUpError;
 use record::types::{Device, Settings};
 use record::{class, fresh};
 
@@ -52,8 +50,7 @@ fn keep_settings(settings: &mut Settings, wanted: &Wanted<'_>)
 /// Passwords).
 #[tactic(auto, using(crate::proofs::Refusals::outcomes))]
 pub fn set_up_in(device: &mut Device, wanted: &Wanted<'_>) -> Result<(), SetUpError>
-    ensures made { set_up_told (made_in result device.new) ≡ setUp (wanted_settings wanted.now) }
-    ensures setting { setting_told result ≡ refusedSetting (wanted_settings wanted.now) }
+    ensures made { gives result device.new ≡ setUp (wanted_settings wanted.now) }
     ensures refused { OnErr result (device.new ≡ blank) }
 {
     if let Err(error) = wanted.check() {
@@ -68,8 +65,7 @@ pub fn set_up_in(device: &mut Device, wanted: &Wanted<'_>) -> Result<(), SetUpEr
 
 /// The same, of a record of its own.
 pub fn set_up(wanted: &Wanted<'_>) -> Result<Device, SetUpError>
-    ensures made { set_up_told result ≡ setUp (wanted_settings wanted.now) }
-    ensures setting { setting_told result ≡ refusedSetting (wanted_settings wanted.now) }
+    ensures { result ≡ setUp (wanted_settings wanted.now) }
 {
     let mut device = fresh::blank();
     set_up_in(&mut device, wanted)?;

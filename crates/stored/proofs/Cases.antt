@@ -9,11 +9,11 @@ use Rattle.text.proofs.Choices.{if_yes, if_no, by-not}
 use Rattle.record.specs.Limits.{lampsMost, isClass}
 use Rattle.record.specs.Wanted.{Wanted, countedIn}
 use Rattle.record.specs.Updates.{withOwn, withMarks}
-use Rattle.record.specs.Record.{started, blank, accepted, refused}
+use Rattle.record.specs.Record.{started, blank}
+use Rattle.record.specs.Given.{Given, accepted, refused}
 use Rattle.record.specs.Legal.{isLegal}
 use Rattle.record.specs.SetUp.{isSetUp}
 use Rattle.record.specs.declared.types.Device.{Device}
-use Rattle.record.specs.declared.types.Changed.{Changed}
 use Rattle.record.specs.declared.types.Setting.TheVariants.{Inputs, Lamps}
 use Rattle.record.proofs.OutOfRange.{each-in-range}
 use Rattle.record.proofs.Rules.{lamps-few, inputs-class}
@@ -32,7 +32,7 @@ otherwise a b true = refl
 otherwise a b false = refl
 
 -- by the version, and by what reading gives
-abbrev decided : Bool → Option (FormSaid × List ℕ) → Changed
+abbrev decided : Bool → Option (FormSaid × List ℕ) → Given Device
 decided other read =
     byRows
     ((20 when other) ∷ (21 when endsEarly read) ∷ (22 when leavesMore read)
@@ -85,7 +85,7 @@ said-class n r = by (eqb r.class 2) refl
     by false e = refl
 
 -- the device with the marks that the bytes are, if they are marks of n lamps
-abbrev pub markedAs : ℕ → Device → List ℕ → Changed
+abbrev pub markedAs : ℕ → Device → List ℕ → Given Device
 markedAs n d bytes =
     if areMarks n bytes then accepted (withOwn d (withMarks d.own (markRoom (map isMarked bytes))))
     else refused 23 blank

@@ -9,9 +9,10 @@ use borrow.Author.Tests.{ne_eqb}
 use Rattle.text.specs.Scans.{every}
 use Rattle.text.proofs.Choices.{if_yes, both, both_right}
 use Rattle.record.specs.Wanted.{Wanted}
-use Rattle.record.specs.Record.{blank, accepted, refused}
+use Rattle.record.specs.Record.{blank}
+use Rattle.record.specs.declared.types.Device.{Device}
+use Rattle.record.specs.Given.{Given, accepted, refused, set_up_given}
 use Rattle.record.specs.SetUp.{isSetUp, setUp}
-use Rattle.record.specs.declared.types.Changed.{Changed}
 use Rattle.record.proofs.Calls.{set-up-accepted}
 use Rattle.stored.specs.Form.{formVersion, markedVersion, oldVersion, markByte, formWith, form_of, markedFormOf}
 use Rattle.stored.specs.Form.{oldFormOf, versionForm}
@@ -49,12 +50,12 @@ module _ (v : ℕ) (known : isOtherVersion (v ∷ []) ≡ false) (w : Wanted) (o
 
   over : (x : ℕ) (xs : List ℕ) → (loaded (s ++ x ∷ xs)).number ≡ 22
   over x xs =
-      ap (λ (c : Changed). c.number) (loaded_over (s ++ x ∷ xs) (ours (x ∷ xs)) (form_again v w ok older ms (x ∷ xs))
+      ap (λ (c : Given Device). c.number) (loaded_over (s ++ x ∷ xs) (ours (x ∷ xs)) (form_again v w ok older ms (x ∷ xs))
       (ne_eqb (length (x ∷ xs)) 0 (λ e. omega (arith, e))))
 
   cut : (k : ℕ) → k < length s → (loaded (take k s)).number ≡ 21
   cut k l =
-      ap (λ (c : Changed). c.number)
+      ap (λ (c : Given Device). c.number)
       (loaded_cut (take k s) (cut-version k s first) (cut_short s (says v w ok older ms) k whole l))
 
   -- and with no other marks
@@ -67,7 +68,7 @@ module _ (v : ℕ) (known : isOtherVersion (v ∷ []) ≡ false) (w : Wanted) (o
           let none : 23 ≡ 0
           = ap (λ (t : Bool). (if t then accepted (startedWith w (map isMarked (bytes_of v (length w.lamps) ms)))
           else refused 23 blank).number) (sym h)
-          ∙ ap (λ (c : Changed). c.number) (sym made) ∙ e in
+          ∙ ap (λ (c : Given Device). c.number) (sym made) ∙ e in
           absurd (omega (arith, none))
 
 -- with marks of the lamps
@@ -132,8 +133,8 @@ module _ (w : Wanted) (ok : isSetUp w ≡ true) where
     pub cut-is-cut-short-old : (k : ℕ) → k < length (oldFormOf w) → (loaded (take k (oldFormOf w))).number ≡ 21
     cut-is-cut-short-old = cut oldVersion refl w ok (λ e. one) []
 
-    pub old-form-loads : loaded (oldFormOf w) ≡ setUp w
+    pub old-form-loads : loaded (oldFormOf w) ≡ set_up_given (setUp w)
     old-form-loads =
         made oldVersion refl w ok (λ e. one) []
         ∙ sym (contents_unmarked (says oldVersion w ok (λ e. one) []) (sym (if_yes _ _ ok)) refl)
-        ∙ sym (set-up-accepted w ok)
+        ∙ sym (ap set_up_given (set-up-accepted w ok))

@@ -13,7 +13,7 @@ use borrow.Author.Tests.{eqb-true}
 use Rattle.words.specs.Bytes.{◌at◌}
 use Rattle.record.specs.Wanted.{Wanted}
 use Rattle.record.specs.declared.types.Device.{Device}
-use Rattle.record.specs.declared.types.Changed.{Changed}
+use Rattle.record.specs.Given.{Given}
 use Rattle.stored.specs.Form.{textSection, marksSection, textsOf2, classPart, formWith}
 use Rattle.stored.specs.Form.{formVersion, oldVersion, form_of, oldFormOf, versionForm, storedOf, marksStored, storedForm}
 use Rattle.stored.specs.Loading.{said_in, settingsIn, markBytesIn, isMarked, marksRead, startedWith, loaded}
@@ -32,7 +32,7 @@ module _ (s : List ℕ) (b : Bytes s) (e : (loaded s).number ≡ 0) where
   told = accepted-told s e
 
   gave : d ≡ startedWith (settingsIn s) (marksRead s)
-  gave = ap (λ (c : Changed). c.device) (accepted-set-up s e)
+  gave = ap (λ (c : Given Device). c.device) (accepted-set-up s e)
 
   settings-stored : storedOf d ≡ settingsIn s
   settings-stored = ap storedOf gave ∙ started-stored (settingsIn s) told.contents

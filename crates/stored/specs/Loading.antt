@@ -26,10 +26,10 @@ use Rattle.record.specs.Limits.{lampsMost}
 use Rattle.record.specs.Wanted.{Wanted, wantedOf}
 use Rattle.record.specs.Rules.{at_most, isMarks}
 use Rattle.record.specs.Updates.{withOwn, withMarks}
-use Rattle.record.specs.Record.{started, blank, accepted, refused}
+use Rattle.record.specs.Record.{started, blank}
+use Rattle.record.specs.Given.{Given, accepted, refused}
 use Rattle.record.specs.SetUp.{isSetUp}
 use Rattle.record.specs.declared.types.Device.{Device}
-use Rattle.record.specs.declared.types.Changed.{Changed}
 use Rattle.stored.specs.Form.{formVersion, markedVersion, oldVersion}
 use Rattle.stored.specs.Reading.{FormSaid, form}
 
@@ -92,7 +92,7 @@ device_of w = if isSetUp w then Some (started w) else None
 abbrev pub isLegalSaid : FormSaid → Bool
 isLegalSaid f = isSetUp f.settings && areMarks (length f.settings.lamps) f.marks
 
-abbrev pub contents : FormSaid → Changed
+abbrev pub contents : FormSaid → Given Device
 contents f =
     if isLegalSaid f then accepted (startedWith f.settings (map isMarked f.marks)) else refused 23 blank
 
@@ -101,5 +101,5 @@ loadRows s =
     (20 when isOtherVersion s) ∷ (21 when isCutShort s) ∷ (22 when isLeftOver s)
     ∷ (23 when not (isLegalSaid (said_in s))) ∷ []
 
-unfoldable pub loaded : List ℕ → Changed
+unfoldable pub loaded : List ℕ → Given Device
 loaded s = byRows (loadRows s) (λ n. refused n blank) (accepted (startedWith (settingsIn s) (marksRead s)))

@@ -6,7 +6,7 @@ ghost use Rattle.record.specs.Limits.{lampsMost};
 ghost use Rattle.record.specs.Record.{inRoom, blank};
 ghost use Rattle.record.specs.Updates.{withOwn, withMarks};
 ghost use Rattle.record.specs.Legal.{isLegal};
-ghost use Rattle.setup.specs.Told.{made_in};
+ghost use Rattle.record.specs.Given.{gives};
 ghost use Rattle.stored.specs.Reading.{secondsIn};
 ghost use Rattle.stored.specs.Loading.{isOtherVersion, isMarked, markRoom, areMarks, device_of, contents, loaded};
 ghost use Rattle.stored.specs.Told.{loading_told};
@@ -17,9 +17,9 @@ use crate::form::{Form, MARKED_VERSION, OLD_VERSION};
 use crate::reader::Reader;
 use crate::storing::VERSION;
 use numbers::highest;
+use record::set_up_error::SetUpError;
 use record::types::{Device, LAMPS_MOST, Setting};
 use record::{fresh, scan};
-use setup::error::SetUpError;
 use setup::wanted::Wanted;
 
 fn is_other_version(bytes: &[u8]) -> bool
@@ -76,7 +76,7 @@ fn enable(device: &mut Device, bytes: &[u8]) -> bool
 impl<'a> Form<'a> {
     // Set up with what the form says. Lamps that are too many are not copied.
     fn set_up_in(&self, device: &mut Device) -> Result<(), SetUpError>
-        ensures { result_ok (made_in result device.new) ≡ device_of (said_of self.now).settings }
+        ensures { result_ok (gives result device.new) ≡ device_of (said_of self.now).settings }
     {
         let Some(class) = self.rest.class(self.inputs.len() / 2) else {
             return Err(SetUpError::OutOfRange(Setting::Inputs));
@@ -105,7 +105,7 @@ impl<'a> Form<'a> {
 
     // And with its marks: all set where it has none.
     fn load_in(&self, device: &mut Device) -> Result<(), LoadError>
-        ensures { loading_told (made_in result device.new) ≡ contents (said_of self.now) }
+        ensures { loading_told (gives result device.new) ≡ contents (said_of self.now) }
     {
         let Ok(()) = self.set_up_in(device) else {
             return Err(LoadError::NotLegal);
@@ -122,7 +122,7 @@ impl<'a> Form<'a> {
 
 // Where it is refused, what the record is then is not said.
 fn read_in(device: &mut Device, bytes: &[u8]) -> Result<(), LoadError>
-    ensures { loading_told (made_in result device.new) ≡ loaded bytes.now }
+    ensures { loading_told (gives result device.new) ≡ loaded bytes.now }
 {
     if is_other_version(bytes) {
         return Err(LoadError::OtherVersion);
@@ -139,7 +139,7 @@ fn read_in(device: &mut Device, bytes: &[u8]) -> Result<(), LoadError>
 /// is tested first, then what is cut short, then what is left over, then the contents; where it is refused, the record
 /// is the blank one (RULES, Stored form).
 pub fn load_in(device: &mut Device, bytes: &[u8]) -> Result<(), LoadError>
-    ensures made { loading_told (made_in result device.new) ≡ loaded bytes.now }
+    ensures made { loading_told (gives result device.new) ≡ loaded bytes.now }
     ensures refused { OnErr result (device.new ≡ blank) }
 {
     let Err(error) = read_in(device, bytes) else {

@@ -11,7 +11,7 @@ use Rattle.pjlink.specs.Said.{Said}
 use Rattle.pjlink.specs.Carried.{said_by, parameter_said}
 use Rattle.pjlink.specs.declared.answer.Answer.{Answer}
 use Rattle.pjlink.specs.declared.answer.Answer.TheVariants as an
-use Rattle.pjlink.specs.declared.answer.Refusal.{Refusal}
+use Rattle.words.specs.declared.refusal.Refusal.{Refusal}
 use Rattle.pjlink.specs.Reading.{readParameter}
 use Rattle.controller.specs.Reading.{meaning, saying, readReply}
 use Rattle.controller.proofs.Cases.{reply-erra, reply-unformed, reply-other, reply-said}

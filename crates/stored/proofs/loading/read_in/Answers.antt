@@ -1,7 +1,8 @@
 -- Each `return` is one case of `loaded`.
 use Rattle.std.proofs.Common.{◌≡◌, None, sym, ap, ◌∙◌}
 use Rattle.std.proofs.lemmas.Result.{err_from_is_err_and}
-use Rattle.record.specs.Record.{blank, refused}
+use Rattle.record.specs.Record.{blank}
+use Rattle.record.specs.Given.{refused}
 use Rattle.stored.specs.Reading.{form}
 use Rattle.stored.specs.Told.{load_error_number}
 use Rattle.stored.specs.declared.error.LoadError.{LoadError}

@@ -2,10 +2,9 @@
 use Rattle.std.specs.Result.{result_ok}
 use Rattle.std.proofs.Common.{◌≡◌, ℕ, ◌/◌, length, replicate, Option, Some, Result, Ok, sym, ap, ◌∙◌}
 use Rattle.text.proofs.Choices.{if_yes, if_no}
-use Rattle.record.specs.Record.{accepted}
 use Rattle.record.specs.declared.types.Device.{Device}
-use Rattle.setup.specs.Told.{made_in}
-use Rattle.setup.specs.declared.error.SetUpError.{SetUpError}
+use Rattle.record.specs.Given.{accepted, gives}
+use Rattle.record.specs.declared.set_up_error.SetUpError.{SetUpError}
 use Rattle.stored.specs.Views.{marks_said, said_of}
 use Rattle.stored.proofs.Seconds.{read-many}
 use Rattle.stored.proofs.Cases.{markedAs, contents_unmarked, contents_marked, set-up-is-legal}
@@ -13,8 +12,8 @@ use Rattle.stored.proofs.form.Form.load_in.Goals as goal
 
 -- what set-up gave
 given : (d : Device) {r : Result (Unit {0}) SetUpError} {o : Option Device} → r ≡ Ok tt
-    → result_ok (made_in r d) ≡ o → Some d ≡ o
-given d e h = ap (λ (r : Result (Unit {0}) SetUpError). result_ok (made_in r d)) (sym e) ∙ h
+    → result_ok (gives r d) ≡ o → Some d ≡ o
+given d e h = ap (λ (r : Result (Unit {0}) SetUpError). result_ok (gives r d)) (sym e) ∙ h
 
 pub returns-in_default-marks : goal.returns-in_default-marks
 returns-in_default-marks c =

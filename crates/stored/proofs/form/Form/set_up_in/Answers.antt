@@ -3,7 +3,7 @@ use Rattle.std.proofs.Common.{◌∙◌, ◌/◌, length, take, refl, ap, arith}
 use Rattle.record.specs.Limits.{isClass}
 use Rattle.record.specs.Wanted.{wantedIn}
 use Rattle.text.proofs.Parts.{first_part}
-use Rattle.setup.specs.Told.{made_in}
+use Rattle.record.specs.Given.{gives}
 use Rattle.stored.specs.Loading.{device_of}
 use Rattle.stored.specs.Views.{said_of}
 use Rattle.stored.proofs.DeviceMade.{device-made}
@@ -32,7 +32,7 @@ returns c =
     ∙ ap (take n) c.seconds_of-seconds.ensures
     ∙ room-read n f.lamps.now c.if-n-gt-LAMPS_MOST.false in
     let e = c.in-Some.ensures.lent in
-    device-made _ (made_in c.set_up_in.result c.set_up_in.new.device) c.set_up_in.ensures.made
+    device-made _ (gives c.set_up_in.result c.set_up_in.new.device) c.set_up_in.ensures.made
     ∙ ap device_of
     (λ j. wantedIn (e j).class f.name.now f.maker.now f.model.now f.other.now f.password.now f.inputs.now (lamps j) f.warm
     f.cool (e j).serial (e j).version (e j).names)
