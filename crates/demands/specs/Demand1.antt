@@ -35,7 +35,7 @@ use Rattle.record.specs.Limits.{off}
 use Rattle.record.specs.HostCalls.{isNoLamp, isNoneLeft}
 use Rattle.record.specs.SetUp.{isInRange}
 use Rattle.record.specs.declared.types.Device.{Device}
-use Rattle.form.specs.Form.{storingRows}
+use Rattle.stored.specs.Form.{storingRows}
 use Rattle.stored.specs.Loading.{loadRows}
 use Rattle.device.specs.Calls.{receivingRows, openingRows, closingRows}
 use Rattle.controller.specs.Writing.{commandRoom, isWritable}

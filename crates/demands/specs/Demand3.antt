@@ -30,7 +30,7 @@ use Rattle.record.specs.Limits.{lampLimit, opened}
 use Rattle.record.specs.Wanted.{Wanted}
 use Rattle.record.specs.Legal.{isLegal}
 use Rattle.record.specs.SetUp.{isSetUp}
-use Rattle.form.specs.Form.{form_of, markedFormOf, oldFormOf}
+use Rattle.stored.specs.Form.{form_of, markedFormOf, oldFormOf}
 use Rattle.clock.specs.Second.{times, second}
 use Rattle.clock.specs.Passing.{secondsMost}
 use Rattle.device.specs.Calls.{replyRoom}
