@@ -17,14 +17,14 @@ use Rattle.text.specs.Words.{ascii}
 use Rattle.text.specs.Scans.{every}
 use Rattle.digest.specs.Hex.{leadingDigest}
 use Rattle.digest.proofs.Laws.{leading-digest-length}
-use Rattle.lines.specs.Bytes.{notCr}
-use Rattle.lines.specs.Commands.{bodyText, bodyOf, commandClass, classDigit, isCommand, commandText}
-use Rattle.lines.specs.Commands.{commandLine}
-use Rattle.lines.specs.declared.command.Command.{Command}
-use Rattle.lines.proofs.Characters.{no-cr-each}
-use Rattle.lines.proofs.CommandLines.{command-length, command-no-cr}
-use Rattle.requests.specs.declared.Request.TheVariants.{Asks}
-use Rattle.answers.specs.Said.{Said, saidBytes}
+use Rattle.words.specs.Bytes.{notCr}
+use Rattle.pjlink.specs.Commands.{bodyText, bodyOf, commandClass, classDigit, isCommand, commandText}
+use Rattle.pjlink.specs.Commands.{commandLine}
+use Rattle.pjlink.specs.declared.command.Command.{Command}
+use Rattle.words.proofs.Characters.{no-cr-each}
+use Rattle.pjlink.proofs.CommandLines.{command-length, command-no-cr}
+use Rattle.pjlink.specs.declared.request.Request.TheVariants.{Asks}
+use Rattle.pjlink.specs.Said.{Said, saidBytes}
 use Rattle.record.specs.Limits.{placesCount, shut, awaiting, opened}
 use Rattle.record.specs.Legal.{isTimed, isLegal}
 use Rattle.record.specs.Places.{connectionAt, withPlace}

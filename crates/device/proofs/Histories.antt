@@ -16,12 +16,12 @@ use lib.Dec.{eqb}
 use borrow.Author.Tests.{eqb-true, eqb-false, ne_eqb}
 use Rattle.text.specs.Words.{ascii}
 use Rattle.text.proofs.Choices.{if-by}
-use Rattle.lines.specs.Forms.{replyLine}
-use Rattle.lines.specs.declared.command.Body.TheVariants.{Powr}
-use Rattle.lines.specs.declared.command.Command.TheVariants.{PowerSet}
-use Rattle.requests.specs.Requests.{isBody}
-use Rattle.requests.specs.declared.Request.TheVariants.{Asks}
-use Rattle.answers.specs.Said.{okay}
+use Rattle.pjlink.specs.Forms.{replyLine}
+use Rattle.pjlink.specs.declared.command.Body.TheVariants.{Powr}
+use Rattle.pjlink.specs.declared.command.Command.TheVariants.{PowerSet}
+use Rattle.pjlink.specs.Requests.{isBody}
+use Rattle.pjlink.specs.declared.request.Request.TheVariants.{Asks}
+use Rattle.pjlink.specs.Said.{okay}
 use Rattle.record.specs.Limits.{shut, awaiting, opened, failed}
 use Rattle.record.specs.Legal.{isCollecting, heldMost, isConnection}
 use Rattle.record.specs.Record.{closed}

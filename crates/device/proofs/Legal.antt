@@ -8,7 +8,7 @@ use native.Mathlib.Omega.{arith}
 use borrow.Author.Tests.{eqb-false}
 use lib.Dec.{eqb}
 use Rattle.text.proofs.Choices.{if-all, if-by}
-use Rattle.lines.specs.Forms.{isCommandForm}
+use Rattle.pjlink.specs.Forms.{isCommandForm}
 use Rattle.record.specs.Limits.{shut, awaiting, opened, failed}
 use Rattle.record.specs.Updates.{withLine}
 use Rattle.record.specs.Legal.{isCollecting, isSettings, isOwn, isConnection, isLegal}

@@ -6,7 +6,7 @@ use mathlib.Core.Path.{◌≡◌, refl, sym, ap, ◌∙◌}
 use mathlib.Core.Bool.{true, false, false≢true}
 use mathlib.Core.List.{List, []}
 use native.Mathlib.Omega.{arith}
-use Rattle.lines.specs.Forms.{erraLine}
+use Rattle.pjlink.specs.Forms.{erraLine}
 use Rattle.record.specs.Limits.{awaiting, failed}
 use Rattle.record.specs.Legal.{heldMost}
 use Rattle.record.specs.declared.types.Settings.{Settings}

@@ -15,7 +15,7 @@ use borrow.Author.Tests.{eqb-true, eq-eqb, ne_eqb}
 use Rattle.text.specs.Scans.{every}
 use Rattle.text.proofs.Choices.{if_yes, if_no, if-by, alike}
 use Rattle.text.proofs.Scanning.{no_more}
-use Rattle.lines.specs.Texts.{isInputName}
+use Rattle.words.specs.Texts.{isInputName}
 use Rattle.record.specs.Wanted.{total_of, cutBy, namesIn}
 use Rattle.record.specs.Rules.{areNames}
 use Rattle.record.proofs.Sifted.{together}

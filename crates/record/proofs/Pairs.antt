@@ -13,7 +13,7 @@ use lib.ListN.{length, get_or, drop, drop_of_length-le}
 use lib.Dec.{eqb}
 use borrow.Author.Tests.{eq-eqb, eqb-true}
 use Rattle.text.proofs.Choices.{both, both_left, both_right, by-not}
-use Rattle.lines.specs.Inputs.{isInputText}
+use Rattle.words.specs.Inputs.{isInputText}
 use Rattle.record.specs.Rules.{eachPair, is_none, isNewInput, eachNamed, isInputs}
 use Rattle.record.proofs.Places.{two-left, one_left}
 use Rattle.record.proofs.Rules.{inputs-new}
