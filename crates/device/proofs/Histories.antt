@@ -42,7 +42,7 @@ use Rattle.device.specs.Calls.{Result, received, greeted, openedBy, closedBy}
 use Rattle.device.proofs.Cases.{received-by, opened-by, closed-by}
 use Rattle.device.proofs.LineCases.{ended_by, taken-by}
 use Rattle.device.proofs.Legal.{collecting, line-legal}
-use Rattle.device.proofs.Untouched.{taken-keeps, receiving-keeps-others}
+use Rattle.device.proofs.Untouched.{taken-keeps}
 use Rattle.stream.proofs.LinesSpelt.{empty-held}
 use Rattle.stream.proofs.LastBytes.{Ends, ends_with, ends-trans, ends-unheld, gathered-ends, taken-with-cr}
 use Rattle.device.proofs.PowerLines.{isPowerOkay, powerLine, PowerEffect, quiet, sets, line_effect}
@@ -200,9 +200,3 @@ module _ (d : Device) (q : ℕ) (w : List ℕ) (known : Ends w (held (connection
   closing-tells p =
       closed-by d p Ending (λ n z. known)
       (λ h t c. placed-either EndsIt d d.own p _ q (ends-unheld w closed.line closed-holds-none) known)
-
-  -- what another place receives does not touch it
-  pub receiving-elsewhere-tells : (p : ℕ) (bs : List ℕ) (room : ℕ) → (q ≡ p → ⊥)
-      → Ends w (held (connectionAt (received d p bs room).device q))
-  receiving-elsewhere-tells p bs room other =
-      subst EndsIt (sym (receiving-keeps-others d p bs room q other)) known

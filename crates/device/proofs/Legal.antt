@@ -52,7 +52,7 @@ module _ (c : Connection) where
     pub line-legal : LegalLine c.phase c.line
     line-legal = record { kept = known.line; held = known.held }
 
-    pub with-line-legal : (l : Line) → LegalLine c.phase l → isConnection (withLine c l) ≡ true
+    with-line-legal : (l : Line) → LegalLine c.phase l → isConnection (withLine c l) ≡ true
     with-line-legal l p =
         connection-shown (withLine c l)
         (record {

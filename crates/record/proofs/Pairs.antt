@@ -27,9 +27,6 @@ module _ (f : ℕ → ℕ → Bool) (s : List ℕ) where
     pub inside : 2 * k ≤ length s
     pub rest : each s ≡ (ok && each (drop (2 * k) s))
 
-  pub none-paired : Paired 0 true
-  none-paired = record { inside = omega arith; rest = refl }
-
   module _ {k : ℕ} {ok : Bool} (p : Paired k ok) where
     pub one-paired : 2 * k + 1 < length s → Paired (k + 1) (ok && f (get_or s (2 * k) 0) (get_or s (2 * k + 1) 0))
     unfolding eachPair
