@@ -5,7 +5,7 @@ use Rattle.std.proofs.Math.Seq.{length-take-le}
 use Rattle.std.specs.Prelude.{All}
 use Rattle.text.specs.Scans.{every}
 use Rattle.record.specs.Legal.{fillsRoom, isNames, isRestOf2, isSettings, isOwn, isConnection, isConnections, isLegal}
-use Rattle.record.specs.Rooms.{used}
+use Rattle.text.specs.Rooms.{used}
 use Rattle.record.specs.Facts.{Fills, IsStretch, IsNames, IsSettings, IsOwn, IsConnection, IsLegal}
 use Rattle.words.specs.Texts.{isPassword}
 use Rattle.record.specs.Limits.{textRoom}

@@ -13,10 +13,10 @@ use Rattle.text.proofs.Orders.{le-or-lt}
 use Rattle.text.specs.Scans.{every}
 use Rattle.words.specs.Texts.{isTextByte, isText, isRefusal}
 use Rattle.words.proofs.WithinLength.{text-within, text-longer}
-use Rattle.record.specs.Rooms.{used}
+use Rattle.text.specs.Rooms.{used}
 use Rattle.record.specs.Legal.{is_zero, fillsRoom}
 use Rattle.record.proofs.Rules.{empty-text}
-use Rattle.record.proofs.RoomsTold.{used_many, used_blank, used_not_blank}
+use Rattle.text.proofs.RoomsTold.{used_many, used_blank, used_not_blank}
 use Rattle.std.proofs.Math.Seq.{length-take-le}
 use Rattle.std.proofs.lemmas.Grind.{common_steps}
 

@@ -4,7 +4,7 @@
 use Rattle.words.specs.Computing.{computing as words}
 use Rattle.record.specs.Rules.{isSetUpPassword, eachPair, is_none, isInputs, isLamps, isMarks, isErrors, areNames}
 use Rattle.record.specs.Record.{inRoom, namesKept, closed, allMarks, started, blank}
-use Rattle.record.specs.Rooms.{used}
+use Rattle.text.specs.Rooms.{used}
 use Rattle.record.specs.Legal.{fillsRoom, isNames, isRestOf2, isSettings, isLeft, isOwn}
 use Rattle.record.specs.Legal.{isAge, heldMost, is_held, isConnection, isConnections, isLegal}
 use Rattle.record.specs.Places.{lowestShut}

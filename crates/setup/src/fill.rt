@@ -7,8 +7,8 @@ ghost use Rattle.record.specs.Rules.{areNames};
 ghost use Rattle.record.specs.Record.{inRoom, text_of, name_of, namesKept, allMarks, startOwn};
 
 use record::own::VOLUME_START;
-use record::rooms;
 use record::types::{INPUT_ROOM, INPUTS_MOST, InputName, LAMPS_MOST, Own, Text};
+use text::rooms;
 
 /// A text in its room: at most 64 bytes.
 #[tactic(auto, using(crate::proofs::KeptInRoom::kept_in_room))]

@@ -3,3 +3,4 @@ pub mod Scans
 pub mod InTurn
 pub mod Rows
 pub mod Bases
+pub mod Rooms
