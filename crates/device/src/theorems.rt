@@ -2,8 +2,8 @@
 // is that the theorems stand.
 ghost use Rattle.std.specs.Prelude.{◌≡◌, ◌+◌, ◌<◌, ◌≤◌, ◌++◌, true, false, ℕ, List, [], length};
 ghost use Rattle.text.specs.Scans.{every};
-ghost use Rattle.lines.specs.Bytes.{notCr};
-ghost use Rattle.lines.specs.Forms.{greetingOpen, greetingSecured};
+ghost use Rattle.words.specs.Bytes.{notCr};
+ghost use Rattle.pjlink.specs.Forms.{greetingOpen, greetingSecured};
 ghost use Rattle.digest.specs.Hex.{hexDigits};
 ghost use Rattle.record.specs.Limits.{placesCount, awaiting, opened, failed};
 ghost use Rattle.record.specs.Legal.{isLegal};

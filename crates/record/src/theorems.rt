@@ -1,8 +1,8 @@
 // What is proved beside the contracts of the functions. Nothing is done here: that these functions have their contracts
 // is that the theorems stand.
 ghost use Rattle.std.specs.Prelude.{◌≡◌, ◌≢◌, ◌+◌, ◌*◌, ◌<◌, ◌≤◌, Bool, IsTrue, true, List, ℕ, Option, Some, None};
-ghost use Rattle.lines.specs.Bytes.{◌at◌};
-ghost use Rattle.lines.specs.Texts.{passwordMost};
+ghost use Rattle.words.specs.Bytes.{◌at◌};
+ghost use Rattle.words.specs.Texts.{passwordMost};
 ghost use Rattle.record.specs.Limits.{ageEnd, errorsCount, errorMost};
 ghost use Rattle.record.specs.Facts.{IsSettings, IsOwn, IsConnection};
 ghost use Rattle.record.specs.declared.types.Settings.{Settings};
