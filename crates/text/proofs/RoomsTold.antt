@@ -34,6 +34,12 @@ pub is_some_used : {A : Type 0} (blank : A → Bool) (room : ℕ) (s : List A) (
 unfolding used
 is_some_used blank room s n long = grind (arith, common_steps)
 
+pub holds_used : {A : Type 0} (blank : A → Bool) (room : ℕ) (rule : List A → Bool) (s : List A) (n : ℕ) → n ≤ room
+    → length s ≡ room → holds rule (used blank room s n) ≡ (every blank (drop n s) && rule (take n s))
+unfolding used
+holds_used blank room rule s n few long = grind (arith, common_steps)
+
+-- a room is used so where its tests hold
 pub uses_told : {A : Type 0} (blank : A → Bool) (room : ℕ) (rule : List A → Bool) (s : List A) (n : ℕ)
     → IsTrue (holds rule (used blank room s n)) ↔ Uses blank room rule s n
 unfolding used

@@ -4,3 +4,4 @@ pub mod InTurn
 pub mod Rows
 pub mod Bases
 pub mod Rooms
+pub mod Computing

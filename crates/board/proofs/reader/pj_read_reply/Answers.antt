@@ -6,7 +6,7 @@ use Rattle.controller.specs.Reading.{readReply}
 use Rattle.controller.specs.declared.reading.Reading.{Reading}
 use Rattle.controller.proofs.ReadingsSaid.{reading-said}
 use Rattle.codes.specs.Readings.{flatAs}
-use Rattle.board.specs.Face.{read_by}
+use Rattle.codes.specs.ByCode.{read_by}
 use Rattle.board.proofs.reader.pj_read_reply.Goals as goal
 
 pub returns-in-Some : goal.returns-in-Some
