@@ -14,7 +14,7 @@ use Rattle.controller.specs.Writing.{nothingWritten, writtenCommand}
 use Rattle.controller.specs.Reading.{meaning, without, readReply}
 use Rattle.controller.specs.Greetings.{readGreeting}
 use Rattle.controller.specs.Computing.{computing}
-use Rattle.controller.specs.declared.reading.Outcome.TheVariants.{NotALine, OtherCommand, NotAllowed}
+use Rattle.controller.specs.Reading.{NotALine, OtherCommand, NotAllowed}
 use Rattle.controller.specs.declared.greeting.Greeting.TheVariants.{Secured, NotAGreeting}
 
 power-on-written : writtenCommand (PowerSet true) false 0 [] 168 ≡ record { number = 0; bytes = ascii "%1POWR 1\r" }

@@ -5,5 +5,5 @@ pub mod GreetingsHeard
 pub mod Refusals
 pub mod OneResult
 pub mod ReadsSound
-pub mod ReadingsSaid
+pub mod ReadShort
 mod Examples

@@ -1,13 +1,12 @@
 -- What the reader takes from the reply to a command is what it says (RULES, Controller).
 -- Assumes nothing.
 use Prim.Native.Nat.{ℕ, ◌+◌, ◌≤◌}
-use mathlib.Core.Path.{◌≡◌, sym, ap, ◌∙◌}
+use mathlib.Core.Path.{◌≡◌, refl, sym, ap, ◌∙◌}
 use mathlib.Core.Bool.{true}
 use mathlib.Core.List.{List, ◌∷◌, ◌++◌}
 use lib.ListN.{length}
 use Rattle.text.specs.Words.{ascii}
 use Rattle.text.specs.Scans.{every}
-use Rattle.text.proofs.Choices.{if_no}
 use Rattle.words.specs.Bytes.{◌at◌, isAlnum, noCr}
 use Rattle.pjlink.specs.Forms.{replyLine}
 use Rattle.pjlink.specs.Commands.{bodyText, bodyOf, commandClass, classDigit}
@@ -16,19 +15,18 @@ use Rattle.pjlink.proofs.Bodies.{four, body-spelt}
 use Rattle.pjlink.proofs.RepliesReadBack.{reply-not-erra, reply-form, reply-parameter}
 use Rattle.pjlink.specs.Requests.{isBody}
 use Rattle.pjlink.proofs.BodiesNamed.{body-named}
-use Rattle.pjlink.specs.Said.{Said, saidBytes}
+use Rattle.pjlink.specs.Said.{Said, nothing, saidBytes}
 use Rattle.pjlink.specs.Reading.{readParameter}
 use Rattle.pjlink.specs.CanSay.{CanSay}
-use Rattle.pjlink.proofs.Nothing.{says-something}
+use Rattle.pjlink.proofs.Nothing.{cannot-say-nothing}
 use Rattle.pjlink.proofs.ReadsBack.{reads-back as parameter-reads-back}
-use Rattle.controller.specs.Reading.{ReadAs, meaning, saying, readReply}
-use Rattle.controller.specs.declared.reading.Outcome.{Outcome}
-use Rattle.controller.specs.declared.reading.Outcome.TheVariants.{Means, NotAllowed}
+use Rattle.controller.specs.Reading.{ReadAs, Outcome, Means, meaning, saying, readReply}
 use Rattle.controller.proofs.Cases.{reply-said}
 
 -- every answer that a command can have means something
 pub can-mean : {c : Command} {m : Said} → CanSay c m → (saying m).outcome ≡ Means
-can-mean can = if_no NotAllowed Means (says-something can)
+can-mean {m = nothing} can = absurd (cannot-say-nothing can)
+can-mean {m = m} can = refl
 
 -- the reply to a command, by what it says
 module _ (c : Command) {m : Said} (can : CanSay c m) (short : length (saidBytes m) ≤ 128)

@@ -17,7 +17,7 @@ use Rattle.std.specs.Prelude.{◌==◌}
 use Rattle.text.proofs.RoomsTold.{uses_told, kept_used}
 use Rattle.panel.specs.Passwords.{passwordRoom, password_of, isPasswordKept}
 use Rattle.controller.specs.Reading.{ReadAs, readReply}
-use Rattle.controller.specs.declared.reading.Outcome.TheVariants.{Means}
+use Rattle.controller.specs.Reading.{Means}
 use Rattle.controller.proofs.ReadsSound.{reads-sound}
 use Rattle.codes.specs.Commands.{commandOf}
 use Rattle.codes.specs.declared.command.Coded.{Coded}

@@ -4,9 +4,10 @@ use Prim.Native.Nat.{ℕ, ◌+◌, ◌-◌, ◌<◌, ◌≤◌}
 use Prim.Native.Char.{code}
 use mathlib.Core.Path.{◌≡◌, refl, sym, ap, ◌∙◌}
 use mathlib.Core.Bool.{Bool, and-false}
-use mathlib.Core.List.{List, map}
+use mathlib.Core.List.{List, map, ◌++◌, append-nil}
 use native.Mathlib.Nat.{zero-add}
-use lib.ListN.{length, get_or, set}
+use native.Mathlib.Omega.{arith}
+use lib.ListN.{length, get_or, set, replicate, drop_of_length-le, length-map}
 use lib.Seq.{sets, take_all}
 use lib.Dec.{leb}
 use borrow.Author.Tests.{eq-eqb, ne_eqb, le-leb, lt-leb}
@@ -14,18 +15,20 @@ use Rattle.std.specs.Prelude.{if◌then◌else◌}
 use Rattle.text.specs.Scans.{every}
 use Rattle.text.proofs.Choices.{both}
 use Rattle.text.proofs.Scanning.{Passed, one-passed, one-fails, all-passed}
+use Rattle.text.proofs.Stores.{sets_over}
 use Rattle.pjlink.specs.Said.{errorsAre, nothing}
-use Rattle.pjlink.specs.Carried.{errorsCarried, noText, ofText, answer_of}
-use Rattle.pjlink.specs.declared.answer.Kind.TheVariants.{Errors}
-use Rattle.pjlink.specs.declared.answer.Answer.{Answer}
+use Rattle.pjlink.specs.Carried.{errorsCarried}
 use Rattle.pjlink.proofs.Mapped.{Mapped, one-mapped}
 use Rattle.pjlink.specs.Reading.{isErrorText, errorOf, readErrors}
+
+abbrev no-errors : List ℕ
+no-errors = replicate errorsCarried 0
 
 -- the first i bytes of p are digits 0 to 2, and their numbers stand at the start of t
 pub record ErrorsTo (p t : List ℕ) (i : ℕ) : Type 0 where
   pub six : length p ≡ errorsCarried
   pub passed : Passed isErrorText p i
-  pub stored : Mapped errorOf noText 0 p t i
+  pub stored : Mapped errorOf no-errors 0 p t i
 
 pub not-six : (p : List ℕ) → (length p ≡ errorsCarried → ⊥) → readErrors p ≡ nothing
 unfolding readErrors
@@ -56,8 +59,13 @@ module _ {p t : List ℕ} {i : ℕ} (st : ErrorsTo p t i) where
     stored = one-mapped st.stored h (sym (zero-add i)) refl;
   }
 
-  pub all_told : length p ≤ i → {r : Answer} → r ≡ ofText Errors t → r ≡ answer_of (readErrors p)
-  all_told h e =
-      e
-      ∙ ap (ofText Errors) (st.stored.bytes ∙ ap (λ (l : List ℕ). sets noText 0 (map errorOf l)) (take_all i p h))
-      ∙ ap answer_of (sym (by-test p st.six (all-passed isErrorText p 0 st.passed h)))
+  pub all_told : length p ≤ i → errorsAre t ≡ readErrors p
+  all_told h =
+      let long : length (map errorOf p) ≡ errorsCarried = length-map p errorOf ∙ st.six in
+      let whole : sets no-errors 0 (map errorOf p) ≡ map errorOf p =
+      sets_over (map errorOf p) no-errors (omega (arith, long))
+      ∙ ap (λ (l : List ℕ). map errorOf p ++ l) (drop_of_length-le no-errors (omega (arith, long)))
+      ∙ append-nil (map errorOf p) in
+      ap errorsAre
+      (st.stored.bytes ∙ ap (λ (l : List ℕ). sets no-errors 0 (map errorOf l)) (take_all i p h) ∙ whole)
+      ∙ sym (by-test p st.six (all-passed isErrorText p 0 st.passed h))

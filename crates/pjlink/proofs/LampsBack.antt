@@ -7,6 +7,7 @@ use mathlib.Core.Bool.{Bool, true, false, not}
 use mathlib.Core.List.{List, [], ◌∷◌, ◌++◌, append_assoc}
 use native.Mathlib.Omega.{arith}
 use borrow.Author.Tests.{leb-true}
+use Rattle.std.specs.Prelude.{Option, Some}
 use Rattle.text.specs.Scans.{every}
 use Rattle.text.proofs.Scanning.{every-implies}
 use Rattle.numbers.specs.Decimal.{digits, isDigit, readNumber}
@@ -19,8 +20,6 @@ use Rattle.pjlink.specs.declared.answer.LampHours.{LampHours}
 use Rattle.pjlink.specs.Words.{words_of, all, ◌andThen◌}
 use Rattle.pjlink.specs.Reading.{lampOfHours, lampOf, lampGot, lampsIn}
 use Rattle.pjlink.specs.Writings.{WritesLamp}
-use Rattle.pjlink.specs.declared.list.MaybeLamp.{MaybeLamp}
-use Rattle.pjlink.specs.declared.list.MaybeLamp.TheVariants.{LampIs}
 use Rattle.pjlink.proofs.Words.{notSpace, word_first}
 
 lit-back : (hours : List ℕ) (on : Bool) → lampOf hours (switchDigit on ∷ []) ≡ lampOfHours on (readNumber hours)
@@ -33,7 +32,7 @@ lit-unspaced true = refl
 lit-unspaced false = refl
 
 module _ (x : LampHours) (u : List ℕ) (w : WritesLamp x u) where
-  lamp-back : lampOf w.word (switchDigit x.lit ∷ []) ≡ LampIs x
+  lamp-back : lampOf w.word (switchDigit x.lit ∷ []) ≡ Some x
   lamp-back =
       lit-back w.word x.lit ∙ ap (lampOfHours x.lit) (writing-read w.word w.hours)
 
@@ -51,7 +50,7 @@ module _ (x : LampHours) (u : List ℕ) (w : WritesLamp x u) where
       ap (λ (s : List ℕ). lampsIn (words_of s))
       (ap (λ (s : List ℕ). s ++ t) w.text ∙ append_assoc w.word (code " " ∷ lit) t)
       ∙ ap lampsIn split
-      ∙ ap (λ (m : MaybeLamp). lampGot m andThen lampsIn ws) lamp-back
+      ∙ ap (λ (m : Option LampHours). lampGot m andThen lampsIn ws) lamp-back
 
 -- a lamp as a projector of ours writes it
 pub lamp-written : (x : LampHours) → isLampHours x ≡ true → WritesLamp x (lampText x)

@@ -12,9 +12,7 @@ pub mod Lamps
 pub mod Mapped
 pub mod Joined
 pub mod PutLists
-pub mod Counts
 pub mod SaidRows
-pub mod SaidBack
 pub mod SaidPlain
 pub mod Nothing
 pub mod OneResult

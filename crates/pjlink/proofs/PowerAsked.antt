@@ -10,7 +10,7 @@ use native.Mathlib.Omega.{arith}
 use lib.ListN.{length, drop}
 use lib.Dec.{eqb}
 use borrow.Author.Tests.{eqb-true, eqb-false}
-use Rattle.std.specs.Prelude.{if◌then◌else◌}
+use Rattle.std.specs.Prelude.{if◌then◌else◌, Option, Some, None}
 use Rattle.text.specs.Words.{◌is◌, ◌from◌to◌}
 use Rattle.text.specs.Scans.{every}
 use Rattle.text.proofs.Choices.{if-by, if-all, both_left, both_right}
@@ -21,8 +21,6 @@ use Rattle.pjlink.specs.Requests.{isBody, firstNamed, bodyNamed, switchAsked, in
 use Rattle.pjlink.specs.Requests.{setBy, asked_of, asked, isQuestion, requestOf}
 use Rattle.words.specs.Inputs.{input_of}
 use Rattle.words.specs.declared.input.Input.{Input}
-use Rattle.words.specs.declared.input.MaybeInput.{MaybeInput}
-use Rattle.words.specs.declared.input.MaybeInput.TheVariants.{InputIs, NoInput}
 use Rattle.pjlink.specs.declared.command.Body.{Body}
 use Rattle.pjlink.specs.declared.command.Body.TheVariants.{Powr}
 use Rattle.pjlink.specs.declared.body.Sets.{Sets}
@@ -54,10 +52,10 @@ isPowerSet UnknownBody = false
 abbrev No : Request → Type 0
 No r = isPowerSet r ≡ false
 
-input_none : (f : Input → Command) (b : Body) → ((i : Input) → No (Asks (f i))) → (m : MaybeInput)
+input_none : (f : Input → Command) (b : Body) → ((i : Input) → No (Asks (f i))) → (m : Option Input)
     → No (inputAsked f b m)
-input_none f b none (InputIs i) = none i
-input_none f b none NoInput = refl
+input_none f b none (Some i) = none i
+input_none f b none None = refl
 
 switch-none : (b : Body) (off on : Command) (p : List ℕ) → No (Asks off) → No (Asks on) → No (switchAsked b off on p)
 unfolding switchAsked

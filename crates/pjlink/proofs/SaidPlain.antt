@@ -2,13 +2,13 @@
 -- Assumes nothing.
 use Prim.Native.Nat.{ℕ, ◌≤◌}
 use Prim.Native.Char.{code}
-use mathlib.Core.Path.{◌≡◌, refl, ap, subst}
+use mathlib.Core.Path.{◌≡◌, refl, ap}
 use mathlib.Core.Bool.{Bool, true, false, not}
 use mathlib.Core.List.{List, [], ◌∷◌, map}
 use native.Mathlib.Omega.{arith}
 use lib.ListN.{length, length-append, length-map}
 use lib.Dec.{leb}
-use borrow.Author.Tests.{le-leb, eq-eqb, ne_eqb, leb-true}
+use borrow.Author.Tests.{ne_eqb, leb-true}
 use Rattle.text.specs.Scans.{every}
 use Rattle.text.proofs.Choices.{both_left}
 use Rattle.text.proofs.Scanning.{every_append, every-implies}
@@ -22,11 +22,8 @@ use Rattle.pjlink.specs.declared.command.Command.{Command}
 use Rattle.words.proofs.Characters.{no-cr-of}
 use Rattle.words.proofs.TextsTold.{name-long, info-long, input-name-long}
 use Rattle.pjlink.proofs.CommandLines.{input-no-cr}
-use Rattle.pjlink.specs.Said.{Said, okay, refused, powerIs, chosenIs, mutesAre, errorsAre, lampsAre, inputsAre}
-use Rattle.pjlink.specs.Said.{textIs, classIs, freezeIs, nothing, lampText, powerText, mutesText, saidBytes}
+use Rattle.pjlink.specs.Said.{Said, textIs, lampText, powerText, mutesText, saidBytes}
 use Rattle.pjlink.specs.Said.{parameterMost, saidMost, bytesMost}
-use Rattle.pjlink.specs.Carried.{lampsCarried, inputsCarried, errorsCarried, textCarried, answer_of, saidBy}
-use Rattle.pjlink.specs.Carried.{isSayable}
 use Rattle.pjlink.specs.CanSay.{CanSay, done, refuses, power, input, mutes, errors, lamps, inputs, name, maker}
 use Rattle.pjlink.specs.CanSay.{model, other, class-is, freeze, serial, version, input-name, input-2, inputs-2}
 use Rattle.pjlink.specs.CanSay.{hoursMost, isLampHours}
@@ -37,32 +34,18 @@ use Rattle.words.proofs.TextsTold.{text-bytes, name-is-text}
 use Rattle.pjlink.proofs.SaidCharacters.{numbers-are-digits}
 use Rattle.pjlink.proofs.PutLists.{joined-long}
 use Rattle.pjlink.proofs.Joined.{joined-every}
-use Rattle.pjlink.proofs.SaidBack.{power-within, mutes-within, said-back, said-within}
 
--- every answer has room in the arrays, and so comes back out of them
-pub can-sayable : {c : Command} {m : Said} → CanSay c m → isSayable m ≡ true
-can-sayable (done s) = refl
-can-sayable (refuses n l h t) = refl
-can-sayable (power p) = refl
-can-sayable (input i e) = refl
-can-sayable (mutes v a) = refl
-can-sayable (errors ds h e) = eq-eqb (length ds) errorsCarried h
-can-sayable (lamps ls l h e) = le-leb (length ls) lampsCarried h
-can-sayable (inputs is l h e) = le-leb (length is) inputsCarried h
-can-sayable (name s e) = le-leb (length s) textCarried (omega (arith, name-long s e))
-can-sayable (maker s e) = le-leb (length s) textCarried (omega (arith, info-long s e))
-can-sayable (model s e) = le-leb (length s) textCarried (omega (arith, info-long s e))
-can-sayable (other s e) = le-leb (length s) textCarried (omega (arith, info-long s e))
-can-sayable (class-is k l h) = refl
-can-sayable (freeze on) = refl
-can-sayable (serial s e) = le-leb (length s) textCarried (omega (arith, info-long s e))
-can-sayable (version s e) = le-leb (length s) textCarried (omega (arith, info-long s e))
-can-sayable (input-name s b e) = le-leb (length s) textCarried (input-name-long s e)
-can-sayable (input-2 i e) = refl
-can-sayable (inputs-2 is l h e) = le-leb (length is) inputsCarried h
+power-within : (p : Power) → length (powerText p) ≤ 1
+power-within Off = omega arith
+power-within On = omega arith
+power-within Cooling = omega arith
+power-within WarmUp = omega arith
 
-pub can-said-back : {c : Command} {m : Said} → CanSay c m → saidBy (answer_of m) ≡ m
-can-said-back {c} {m} w = said-back m (can-sayable w)
+mutes-within : (v a : Bool) → length (mutesText v a) ≤ 2
+mutes-within true true = omega arith
+mutes-within true false = omega arith
+mutes-within false true = omega arith
+mutes-within false false = omega arith
 
 -- hours of five digits make a lamp of at most seven bytes
 lamp-of-seven : (x : LampHours) → isLampHours x ≡ true → length (lampText x) ≤ 7
@@ -95,22 +78,29 @@ said-long (input-name s b e) = omega arith
 said-long (input-2 i e) = omega arith
 said-long (inputs-2 is l h e) = omega (arith, joined-long inputText isInput 2 (λ x f. omega arith) is e l)
 
-most-within : (m : Said) → isSayable m ≡ true → bytesMost m ≤ saidMost
-most-within okay e = omega arith
-most-within (refused n) e = omega arith
-most-within (powerIs p) e = omega arith
-most-within (chosenIs i) e = omega arith
-most-within (mutesAre v a) e = omega arith
-most-within (errorsAre ds) e = omega arith
-most-within (lampsAre ls) e = omega arith
-most-within (inputsAre is) e = omega (arith, leb-true (length is) inputsCarried e)
-most-within (textIs s) e = omega (arith, leb-true (length s) textCarried e)
-most-within (classIs k) e = omega arith
-most-within (freezeIs on) e = omega arith
-most-within nothing e = omega arith
+most-within : {c : Command} {m : Said} → CanSay c m → bytesMost m ≤ saidMost
+most-within (done s) = omega arith
+most-within (refuses n l h t) = omega arith
+most-within (power p) = omega arith
+most-within (input i e) = omega arith
+most-within (mutes v a) = omega arith
+most-within (errors ds h e) = omega arith
+most-within (lamps ls l h e) = omega arith
+most-within (inputs is l h e) = omega arith
+most-within (name s e) = omega (arith, name-long s e)
+most-within (maker s e) = omega (arith, info-long s e)
+most-within (model s e) = omega (arith, info-long s e)
+most-within (other s e) = omega (arith, info-long s e)
+most-within (class-is k l h) = omega arith
+most-within (freeze on) = omega arith
+most-within (serial s e) = omega (arith, info-long s e)
+most-within (version s e) = omega (arith, info-long s e)
+most-within (input-name s b e) = omega (arith, input-name-long s e)
+most-within (input-2 i e) = omega arith
+most-within (inputs-2 is l h e) = omega arith
 
 pub said-most : {c : Command} {m : Said} → CanSay c m → length (saidBytes m) ≤ saidMost
-said-most {c} {m} w = omega (arith, said-long w, most-within m (can-sayable w))
+said-most w = omega (arith, said-long w, most-within w)
 
 digits-no-cr : (s : List ℕ) → every isDigit s ≡ true → every notCr s ≡ true
 digits-no-cr s e = every-implies isDigit notCr (λ b d. ap not (digit-isnt "\r" (omega arith) b d)) s e
@@ -167,10 +157,7 @@ no-cr (inputs-2 is l h e) = joined-every inputText isInput notCr (λ x t. input-
 
 pub said_plain : {c : Command} {m : Said} → CanSay c m
     → (length (saidBytes m) ≤ parameterMost) × (noCr (saidBytes m) ≡ true)
-said_plain {c} {m} w = (
-  subst (λ (q : Said). length (saidBytes q) ≤ parameterMost) (can-said-back w) (said-within (answer_of m)),
-  no-cr-of (saidBytes m) (no-cr w),
-)
+said_plain {c} {m} w = (said-most w, no-cr-of (saidBytes m) (no-cr w))
 
 -- a text is its own parameter
 pub text-said : (s : List ℕ) → saidBytes (textIs s) ≡ s

@@ -11,20 +11,17 @@
 --   readParameter c p      what p says to c
 -- Assumes nothing.
 use Rattle.std.specs.Prelude.{ℕ, ◌-◌, Bool, true, false, ◌&&◌, ◌||◌, List, [], ◌∷◌, map, length, leb, eqb}
+use Rattle.std.specs.Prelude.{Option, Some, None}
 use Prim.Native.Char.{code}
-use Rattle.std.specs.Prelude.{if◌then◌else◌}
+use Rattle.std.specs.Prelude.{Option, Some, None, if◌then◌else◌}
 use Rattle.text.specs.Words.{ascii, ◌is◌, ◌from◌to◌}
 use Rattle.text.specs.Scans.{every, sameBy, itself}
 use Rattle.numbers.specs.Decimal.{readNumber}
-use Rattle.numbers.specs.declared.Number.{Number}
-use Rattle.numbers.specs.declared.Number.TheVariants.{Value, NotANumber}
 use Rattle.words.specs.Bytes.{◌at◌}
 use Rattle.words.specs.Inputs.{input_of}
 use Rattle.words.specs.Texts.{refusalOf, isName, isInfo, isInputName}
 use Rattle.pjlink.specs.Commands.{bodyOf}
 use Rattle.words.specs.declared.input.Input.{Input}
-use Rattle.words.specs.declared.input.MaybeInput.{MaybeInput}
-use Rattle.words.specs.declared.input.MaybeInput.TheVariants.{InputIs, NoInput}
 use Rattle.pjlink.specs.declared.command.Command.{Command}
 use Rattle.pjlink.specs.declared.command.Body.{Body}
 use Rattle.pjlink.specs.declared.command.Body.TheVariants.{Powr, Inpt, Avmt, Erst, Lamp, Inst, Name, Inf1, Inf2, Info}
@@ -36,8 +33,6 @@ use Rattle.pjlink.specs.CanSay.{is_set, isRefusalTo}
 use Rattle.pjlink.specs.declared.answer.Power.TheVariants.{Off, On, Cooling, WarmUp}
 use Rattle.pjlink.specs.declared.answer.LampHours.{LampHours}
 use Rattle.pjlink.specs.Words.{words_of, Got, none, all, ◌andThen◌}
-use Rattle.pjlink.specs.declared.list.MaybeLamp.{MaybeLamp}
-use Rattle.pjlink.specs.declared.list.MaybeLamp.TheVariants.{LampIs, NoLamp}
 
 infix 40 ◌spells◌
 abbrev pub ◌spells◌ : List ℕ → List ℕ → Bool
@@ -57,9 +52,9 @@ powerNamed b =
 unfoldable pub readPower : List ℕ → Said
 readPower p = if eqb (length p) 1 then powerNamed (p at 0) else nothing
 
-abbrev pub chosenOr : MaybeInput → Said
-chosenOr (InputIs i) = chosenIs i
-chosenOr NoInput = nothing
+abbrev pub chosenOr : Option Input → Said
+chosenOr (Some i) = chosenIs i
+chosenOr None = nothing
 
 abbrev pub readChosen : List ℕ → Said
 readChosen p = chosenOr (input_of p)
@@ -85,28 +80,28 @@ errorOf b = b - code "0"
 unfoldable pub readErrors : List ℕ → Said
 readErrors p = if eqb (length p) errorsCarried && every isErrorText p then errorsAre (map errorOf p) else nothing
 
-abbrev pub lampOfHours : Bool → Number → MaybeLamp
-lampOfHours lit (Value n) = LampIs (record { hours = n; lit = lit })
-lampOfHours lit NotANumber = NoLamp
+abbrev pub lampOfHours : Bool → Option ℕ → Option LampHours
+lampOfHours lit (Some n) = Some (record { hours = n; lit = lit })
+lampOfHours lit None = None
 
-unfoldable pub lampOf : List ℕ → List ℕ → MaybeLamp
+unfoldable pub lampOf : List ℕ → List ℕ → Option LampHours
 lampOf hours lit =
     if lit spells ascii "1" || lit spells ascii "0"
     then lampOfHours (lit spells ascii "1") (readNumber hours)
-    else NoLamp
+    else None
 
-abbrev pub lampGot : MaybeLamp → Got LampHours
-lampGot (LampIs l) = all (l ∷ [])
-lampGot NoLamp = none
+abbrev pub lampGot : Option LampHours → Got LampHours
+lampGot (Some l) = all (l ∷ [])
+lampGot None = none
 
 abbrev pub lampsIn : List (List ℕ) → Got LampHours
 lampsIn [] = all []
 lampsIn (hours ∷ []) = none
 lampsIn (hours ∷ lit ∷ ws) = lampGot (lampOf hours lit) andThen lampsIn ws
 
-abbrev pub inputGot : MaybeInput → Got Input
-inputGot (InputIs i) = all (i ∷ [])
-inputGot NoInput = none
+abbrev pub inputGot : Option Input → Got Input
+inputGot (Some i) = all (i ∷ [])
+inputGot None = none
 
 abbrev pub inputsIn : List (List ℕ) → Got Input
 inputsIn [] = all []

@@ -1,20 +1,12 @@
-// Lists of lamps and of inputs, read into arrays word by word (RULES, Controller).
+//! Lists of lamps and of inputs, read word by word (RULES, Controller).
 ghost use Rattle.std.specs.Prelude.{◌≡◌, ◌≤◌, length};
-ghost use Rattle.pjlink.specs.Carried.{answer_of};
+ghost use Rattle.pjlink.specs.Carried.{value_said};
 ghost use Rattle.pjlink.specs.Words.{WordTo};
 ghost use Rattle.pjlink.specs.Reading.{lampOf, readLamps, readInputs};
 
-use crate::answer;
-use crate::answer::{Answer, INPUTS_MOST, Kind, LAMPS_MOST, LampHours, NO_INPUT, NO_LAMP};
+use crate::answer::{Answer, INPUTS_MOST, LAMPS_MOST, LampHours};
+use arrayvec::ArrayVec;
 use words::input;
-use words::input::MaybeInput;
-use numbers::Number;
-
-#[derive(Clone, Copy)]
-pub enum MaybeLamp {
-    LampIs(LampHours),
-    NoLamp,
-}
 
 // Where the word ends that begins at `start`: at the next space, or at the end of p.
 fn word_end(p: &[u8], start: usize) -> usize
@@ -30,63 +22,64 @@ fn word_end(p: &[u8], start: usize) -> usize
 }
 
 // The lamp of two words.
-fn lamp_of(hours: &[u8], lit: &[u8]) -> MaybeLamp
+fn lamp_of(hours: &[u8], lit: &[u8]) -> Option<LampHours>
     ensures { result ≡ lampOf hours.now lit.now }
 {
     let on = text::same(lit, b"1");
     let off = text::same(lit, b"0");
     if !(on | off) {
-        return MaybeLamp::NoLamp;
+        return None;
     }
-    let number = numbers::read_number(hours);
-    let Number::Value(n) = number else {
-        return MaybeLamp::NoLamp;
+    let read = numbers::read_number(hours);
+    let Some(hours) = read else {
+        return None;
     };
-    let hours = n as u32;
-    MaybeLamp::LampIs(LampHours { hours, lit: on })
+    Some(LampHours { hours, lit: on })
 }
 
-pub fn read_lamps(p: &[u8]) -> Answer
-    ensures { result ≡ answer_of (readLamps p.now) }
+/// The lamps that p tells of, two words each: 1 to 8 of them.
+pub fn read_lamps(p: &[u8]) -> Option<Answer<'_>>
+    ensures { value_said result ≡ readLamps p.now }
 {
-    let mut lamps = [NO_LAMP; LAMPS_MOST];
+    let mut lamps = ArrayVec::new();
     let mut at: usize = 0;
     for k in 0..LAMPS_MOST {
         let mid = word_end(p, at);
         if p.len() <= mid {
-            return answer::plain(Kind::Nothing);
+            return None;
         }
         let second = mid + 1;
         let end = word_end(p, second);
         let found = lamp_of(&p[at..mid], &p[second..end]);
-        let MaybeLamp::LampIs(l) = found else {
-            return answer::plain(Kind::Nothing);
+        let Some(l) = found else {
+            return None;
         };
-        lamps[k] = l;
+        lamps.push(l);
         if p.len() <= end {
-            return answer::of_lamps(k + 1, lamps);
+            return Some(Answer::Lamps(lamps));
         }
         at = end + 1;
     }
-    answer::plain(Kind::Nothing)
+    None
 }
 
-pub fn read_inputs(p: &[u8]) -> Answer
-    ensures { result ≡ answer_of (readInputs p.now) }
+/// The inputs that p tells of, a word each: 1 to 32 of them.
+pub fn read_inputs(p: &[u8]) -> Option<Answer<'_>>
+    ensures { value_said result ≡ readInputs p.now }
 {
-    let mut inputs = [NO_INPUT; INPUTS_MOST];
+    let mut inputs = ArrayVec::new();
     let mut at: usize = 0;
     for k in 0..INPUTS_MOST {
         let end = word_end(p, at);
         let found = input::input_of(&p[at..end]);
-        let MaybeInput::InputIs(i) = found else {
-            return answer::plain(Kind::Nothing);
+        let Some(i) = found else {
+            return None;
         };
-        inputs[k] = i;
+        inputs.push(i);
         if p.len() <= end {
-            return answer::of_inputs(k + 1, inputs);
+            return Some(Answer::Inputs(inputs));
         }
         at = end + 1;
     }
-    answer::plain(Kind::Nothing)
+    None
 }

@@ -1,22 +1,22 @@
-// The parameter of a reply, read for the command that it answers (RULES, Controller).
+//! The parameter of a reply, read for the command that it answers (RULES, Controller).
 ghost use Rattle.std.specs.Prelude.{◌≡◌};
-ghost use Rattle.pjlink.specs.Carried.{answer_of};
+ghost use Rattle.words.specs.Texts.{refusalOf};
+ghost use Rattle.pjlink.specs.Carried.{refusal_number, refusal_or_0, value_said, parameter_said};
 ghost use Rattle.pjlink.specs.CanSay.{is_set, hasOwnParameter, isRefusalTo};
 ghost use Rattle.pjlink.specs.Reading.{readQueried, readValue, readParameter};
 
-use crate::answer;
-use crate::answer::{Answer, Kind};
+use crate::answer::{Answer, Refusal, Reply};
 use crate::command::{Body, Command};
-use crate::{command, list, values};
+use crate::{answer, command, list, values};
 use words::texts;
 
-fn read_queried(b: Body, p: &[u8]) -> Answer
-    ensures { result ≡ answer_of (readQueried b p.now) }
+fn read_queried(b: Body, p: &[u8]) -> Option<Answer<'_>>
+    ensures { value_said result ≡ readQueried b p.now }
 {
     match b {
-        Body::Powr => answer::plain(values::read_power(p)),
-        Body::Inpt => answer::plain(values::read_chosen(p)),
-        Body::Avmt => answer::plain(values::read_mutes(p)),
+        Body::Powr => values::read_power(p),
+        Body::Inpt => values::read_chosen(p),
+        Body::Avmt => values::read_mutes(p),
         Body::Erst => values::read_errors(p),
         Body::Lamp => list::read_lamps(p),
         Body::Inst => list::read_inputs(p),
@@ -24,14 +24,14 @@ fn read_queried(b: Body, p: &[u8]) -> Answer
         Body::Inf1 => values::text_if(texts::is_info(p), p),
         Body::Inf2 => values::text_if(texts::is_info(p), p),
         Body::Info => values::text_if(texts::is_info(p), p),
-        Body::Clss => answer::plain(values::read_class(p)),
-        Body::Frez => answer::plain(values::read_freeze(p)),
-        Body::Svol => answer::plain(Kind::Nothing),
-        Body::Mvol => answer::plain(Kind::Nothing),
+        Body::Clss => values::read_class(p),
+        Body::Frez => values::read_freeze(p),
+        Body::Svol => None,
+        Body::Mvol => None,
         Body::Snum => values::text_if(texts::is_info(p), p),
         Body::Sver => values::text_if(texts::is_info(p), p),
         Body::Innm => values::text_if(texts::is_input_name(p), p),
-        Body::Inpt2 => answer::plain(values::read_chosen(p)),
+        Body::Inpt2 => values::read_chosen(p),
         Body::Inst2 => list::read_inputs(p),
     }
 }
@@ -67,32 +67,50 @@ fn has_own_parameter(c: Command) -> bool
     }
 }
 
-fn read_value(c: Command, p: &[u8]) -> Answer
-    ensures { result ≡ answer_of (readValue c p.now) }
+fn read_value(c: Command, p: &[u8]) -> Option<Answer<'_>>
+    ensures { value_said result ≡ readValue c p.now }
 {
     if is_set(c) {
-        return answer::plain(values::read_exactly(p, b"OK", Kind::Ok));
+        if text::same(p, b"OK") {
+            return Some(Answer::Done);
+        }
+        return None;
     }
     read_queried(command::body_of(c), p)
 }
 
-// Whether ERRn is allowed in reply to c: ERR2 is none to `?`.
-fn is_refusal_to(c: Command, n: u8) -> bool
-    ensures { result ≡ isRefusalTo c n }
+// Whether a refusal is allowed in reply to c: ERR2 is none to `?`.
+fn may_refuse(c: Command, r: Refusal) -> bool
+    ensures { result ≡ isRefusalTo c (refusal_number r) }
 {
-    has_own_parameter(c) | (n != 2)
+    has_own_parameter(c) | (r.number() != 2)
 }
 
-// What the parameter p says to the command c.
-pub fn read_parameter(c: Command, p: &[u8]) -> Answer
-    ensures { result ≡ answer_of (readParameter c p.now) }
+// The refusal that all of p is.
+fn refusal_in(p: &[u8]) -> Option<Refusal>
+    ensures { refusal_or_0 result ≡ refusalOf p.now }
 {
-    let n = texts::refusal_of(p);
-    if n == 0 {
-        return read_value(c, p);
+    match texts::refusal_of(p) {
+        1 => Some(Refusal::Undefined),
+        2 => Some(Refusal::OutOfParameter),
+        3 => Some(Refusal::Unavailable),
+        4 => Some(Refusal::Failure),
+        _ => None,
     }
-    if is_refusal_to(c, n) {
-        return answer::plain(Kind::Refused(n));
+}
+
+/// What the parameter p says to the command c; none where it is not allowed there.
+pub fn read_parameter(c: Command, p: &[u8]) -> Option<Reply<'_>>
+    ensures { parameter_said result ≡ readParameter c p.now }
+{
+    let Some(refusal) = refusal_in(p) else {
+        let Some(value) = read_value(c, p) else {
+            return None;
+        };
+        return Some(Ok(value));
+    };
+    if may_refuse(c, refusal) {
+        return Some(Err(refusal));
     }
-    answer::plain(Kind::Nothing)
+    None
 }

@@ -1,31 +1,21 @@
-// The parameter that an answer is said by (RULES, Commands).
-ghost use Rattle.std.specs.Prelude.{◌≡◌, [], ◌∷◌, map, ◌+◌, ◌≤◌, min, length, take};
+//! The parameter that a reply is said by (RULES, Commands).
+ghost use Rattle.std.specs.Prelude.{◌≡◌, [], ◌∷◌, map, ◌+◌, ◌≤◌, length};
 ghost use Rattle.std.proofs.lemmas.List.Edits.{sets};
 ghost use Rattle.words.specs.Inputs.{inputText, numberDigit};
 ghost use Rattle.pjlink.specs.Commands.{switchDigit};
 ghost use Rattle.pjlink.specs.Lists.{gap, joined};
 ghost use Rattle.pjlink.specs.Said.{powerText, mutesText, refusalText, lampText, saidBytes, parameterMost};
-ghost use Rattle.pjlink.specs.Carried.{lampsCarried, inputsCarried, errorsCarried, textCarried, saidBy};
+ghost use Rattle.pjlink.specs.Carried.{lampsCarried, inputsCarried, errorsCarried, refusal_number};
+ghost use Rattle.pjlink.specs.Carried.{answer_said, said_by};
 
-use crate::answer::{
-    Answer, ERRORS_COUNT, INPUTS_MOST, Kind, LAMPS_MOST, LampHours, Power, TEXT_MOST,
-};
+use crate::answer::{Answer, ERRORS_COUNT, LampHours, Power, Refusal, Reply};
 use words::input;
 use words::input::Input;
 
-fn least(n: usize, m: usize) -> usize
-    ensures { result ≡ min n m }
+fn refusal_text(r: Refusal) -> [u8; 4]
+    ensures { result ≡ refusalText (refusal_number r) }
 {
-    if n <= m {
-        return n;
-    }
-    m
-}
-
-fn refusal_text(n: u8) -> [u8; 4]
-    ensures { result ≡ refusalText n }
-{
-    [b'E', b'R', b'R', input::number_digit(n)]
+    [b'E', b'R', b'R', input::number_digit(r.number())]
 }
 
 fn power_text(p: Power) -> [u8; 1]
@@ -85,11 +75,11 @@ fn put_all(out: &mut [u8], at: usize, src: &[u8]) -> usize
     at + src.len()
 }
 
-// The first six numbers of `errors`, a digit each.
-fn put_errors(out: &mut [u8], at: usize, errors: [u8; TEXT_MOST]) -> usize
+// A digit for each of the six.
+fn put_errors(out: &mut [u8], at: usize, errors: &[u8; ERRORS_COUNT]) -> usize
     requires { at + errorsCarried ≤ length out.old }
-    ensures value { result ≡ at + length (map numberDigit (take errorsCarried errors)) }
-    ensures out_after { out.new ≡ sets out.old at (map numberDigit (take errorsCarried errors)) }
+    ensures value { result ≡ at + length (map numberDigit errors.now) }
+    ensures out_after { out.new ≡ sets out.old at (map numberDigit errors.now) }
 {
     for i in 0..ERRORS_COUNT {
         out[at + i] = input::number_digit(errors[i]);
@@ -120,79 +110,66 @@ fn put_gap(out: &mut [u8], at: usize, i: usize) -> usize
     at + 1
 }
 
-// Lists and texts: the first `count`, where a count past the array's end counts the whole array. Lamps and inputs are
-// joined by spaces.
-fn put_lamps(out: &mut [u8], at: usize, lamps: [LampHours; LAMPS_MOST], count: usize) -> usize
-    requires { at + parameterMost ≤ length out.old }
-    ensures value { result ≡ at + length (joined lampText (take (min count lampsCarried) lamps)) }
-    ensures out_after { out.new
-        ≡ sets out.old at (joined lampText (take (min count lampsCarried) lamps)) }
+// Lamps and inputs, joined by spaces.
+fn put_lamps(out: &mut [u8], at: usize, lamps: &[LampHours]) -> usize
+    requires few { length lamps.now ≤ lampsCarried }
+    requires room { at + parameterMost ≤ length out.old }
+    ensures value { result ≡ at + length (joined lampText lamps.now) }
+    ensures out_after { out.new ≡ sets out.old at (joined lampText lamps.now) }
 {
-    let most = least(count, LAMPS_MOST);
     let mut p = at;
-    for i in 0..most {
+    for i in 0..lamps.len() {
         p = put_gap(out, p, i);
         p = put_lamp(out, p, lamps[i]);
     }
     p
 }
 
-fn put_inputs(out: &mut [u8], at: usize, inputs: [Input; INPUTS_MOST], count: usize) -> usize
-    requires { at + parameterMost ≤ length out.old }
-    ensures value { result ≡ at + length (joined inputText (take (min count inputsCarried) inputs)) }
-    ensures out_after { out.new
-        ≡ sets out.old at (joined inputText (take (min count inputsCarried) inputs)) }
+fn put_inputs(out: &mut [u8], at: usize, inputs: &[Input]) -> usize
+    requires few { length inputs.now ≤ inputsCarried }
+    requires room { at + parameterMost ≤ length out.old }
+    ensures value { result ≡ at + length (joined inputText inputs.now) }
+    ensures out_after { out.new ≡ sets out.old at (joined inputText inputs.now) }
 {
-    let most = least(count, INPUTS_MOST);
     let mut p = at;
-    for i in 0..most {
+    for i in 0..inputs.len() {
         p = put_gap(out, p, i);
         p = put_all(out, p, &input::input_text(inputs[i]));
     }
     p
 }
 
-fn put_text(out: &mut [u8], at: usize, kept: [u8; TEXT_MOST], count: usize) -> usize
-    requires { at + textCarried ≤ length out.old }
-    ensures value { result ≡ at + length (take (min count textCarried) kept) }
-    ensures out_after { out.new ≡ sets out.old at (take (min count textCarried) kept) }
+#[tactic(auto, unfolding(crate::specs::Said::saidBytes))]
+fn put_answer(out: &mut [u8], at: usize, a: &Answer<'_>) -> usize
+    requires room { at + parameterMost ≤ length out.old }
+    requires short { length (saidBytes (answer_said a.now)) ≤ parameterMost }
+    ensures value { result ≡ at + length (saidBytes (answer_said a.now)) }
+    ensures out_after { out.new ≡ sets out.old at (saidBytes (answer_said a.now)) }
 {
-    let most = least(count, TEXT_MOST);
-    put_all(out, at, &kept[..most])
+    match a {
+        Answer::Done => put_all(out, at, b"OK"),
+        Answer::Power(p) => put_all(out, at, &power_text(*p)),
+        Answer::Input(i) => put_all(out, at, &input::input_text(*i)),
+        Answer::Mutes(video, audio) => put_all(out, at, &mutes_text(*video, *audio)),
+        Answer::Errors(errors) => put_errors(out, at, errors),
+        Answer::Lamps(lamps) => put_lamps(out, at, lamps.as_slice()),
+        Answer::Inputs(inputs) => put_inputs(out, at, inputs.as_slice()),
+        Answer::Text(text) => put_all(out, at, text),
+        Answer::Class(k) => put_all(out, at, &class_text(*k)),
+        Answer::Freeze(on) => put_all(out, at, &freeze_text(*on)),
+    }
 }
 
-// What the answer a says.
-#[tactic(auto, unfolding(crate::specs::Said::saidBytes, crate::specs::Carried::saidBy))]
-pub fn put_answer(out: &mut [u8], at: usize, a: Answer) -> usize
-    requires { at + parameterMost ≤ length out.old }
-    ensures value { result ≡ at + length (saidBytes (saidBy a)) }
-    ensures out_after { out.new ≡ sets out.old at (saidBytes (saidBy a)) }
+/// The reply's parameter into out, from the place `at` on; the place after it. It has at most 128 bytes.
+#[tactic(auto, unfolding(crate::specs::Said::saidBytes))]
+pub fn put_parameter(out: &mut [u8], at: usize, r: &Reply<'_>) -> usize
+    requires room { at + parameterMost ≤ length out.old }
+    requires short { length (saidBytes (said_by r.now)) ≤ parameterMost }
+    ensures value { result ≡ at + length (saidBytes (said_by r.now)) }
+    ensures out_after { out.new ≡ sets out.old at (saidBytes (said_by r.now)) }
 {
-    let k = a.kind;
-    match k {
-        Kind::Ok => put_all(out, at, b"OK"),
-        Kind::Refused(n) => put_all(out, at, &refusal_text(n)),
-        Kind::Powered(p) => put_all(out, at, &power_text(p)),
-        Kind::Chosen(i) => put_all(out, at, &input::input_text(i)),
-        Kind::Muted(video, audio) => put_all(out, at, &mutes_text(video, audio)),
-        Kind::Errors => {
-            let errors = a.text;
-            put_errors(out, at, errors)
-        }
-        Kind::Lamps(n) => {
-            let lamps = a.lamps;
-            put_lamps(out, at, lamps, n)
-        }
-        Kind::Inputs(n) => {
-            let inputs = a.inputs;
-            put_inputs(out, at, inputs, n)
-        }
-        Kind::Text(n) => {
-            let kept = a.text;
-            put_text(out, at, kept, n)
-        }
-        Kind::Class(n) => put_all(out, at, &class_text(n)),
-        Kind::Frozen(on) => put_all(out, at, &freeze_text(on)),
-        Kind::Nothing => at,
+    match r {
+        Ok(answer) => put_answer(out, at, answer),
+        Err(refusal) => put_all(out, at, &refusal_text(*refusal)),
     }
 }

@@ -9,6 +9,7 @@
 --   inputText i          its two characters
 -- Assumes nothing.
 use Rattle.std.specs.Prelude.{ℕ, ◌+◌, ◌%◌, Bool, ◌&&◌, List, [], ◌∷◌, length, leb, eqb, if◌then◌else◌}
+use Rattle.std.specs.Prelude.{Option, Some, None}
 use Prim.Native.Char.{code}
 use Rattle.text.specs.Words.{◌is◌, ◌from◌to◌}
 use Rattle.words.specs.Bytes.{◌at◌}
@@ -16,8 +17,6 @@ use Rattle.words.specs.Sources.{isNumberCharacter, numberFor, numberCharacter}
 use Rattle.words.specs.declared.input.Source.{Source}
 use Rattle.words.specs.declared.input.Source.TheVariants.{Rgb, Video, Digital, Storage, Network, Internal}
 use Rattle.words.specs.declared.input.Input.{Input}
-use Rattle.words.specs.declared.input.MaybeInput.{MaybeInput}
-use Rattle.words.specs.declared.input.MaybeInput.TheVariants.{InputIs, NoInput}
 
 abbrev pub isInputText : ℕ → ℕ → ℕ → Bool
 isInputText k a b =
@@ -35,11 +34,11 @@ sourceNamed a =
 abbrev pub inputNamed : ℕ → ℕ → Input
 inputNamed a b = record { source = sourceNamed a; number = numberFor b }
 
-unfoldable pub read_input : ℕ → ℕ → MaybeInput
-read_input a b = if isInputText 2 a b then InputIs (inputNamed a b) else NoInput
+unfoldable pub read_input : ℕ → ℕ → Option Input
+read_input a b = if isInputText 2 a b then Some (inputNamed a b) else None
 
-unfoldable pub input_of : List ℕ → MaybeInput
-input_of w = if eqb (length w) 2 then read_input (w at 0) (w at 1) else NoInput
+unfoldable pub input_of : List ℕ → Option Input
+input_of w = if eqb (length w) 2 then read_input (w at 0) (w at 1) else None
 
 abbrev pub isInput : Input → Bool
 isInput i = leb 1 i.number && leb i.number 35

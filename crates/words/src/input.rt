@@ -4,8 +4,9 @@ ghost use Rattle.words.specs.Sources.{isNumberCharacter, numberFor, numberCharac
 ghost use Rattle.words.specs.Inputs.{isInputText, sourceNamed, read_input, input_of, isInput, sourceDigit};
 ghost use Rattle.words.specs.Inputs.{numberDigit, inputText};
 
-#[derive(Clone, Copy)]
+#[derive(Clone, Copy, Default)]
 pub enum Source {
+    #[default]
     Rgb,
     Video,
     Digital,
@@ -15,16 +16,10 @@ pub enum Source {
 }
 
 // The number is 1 to 9, or 10 to 35 for A to Z.
-#[derive(Clone, Copy)]
+#[derive(Clone, Copy, Default)]
 pub struct Input {
     pub source: Source,
     pub number: u8,
-}
-
-#[derive(Clone, Copy)]
-pub enum MaybeInput {
-    InputIs(Input),
-    NoInput,
 }
 
 fn is_number_character(b: u8) -> bool
@@ -70,24 +65,24 @@ fn number_for(b: u8) -> u8
 
 // The input of either class that two characters name, or none.
 #[tactic(auto, unfolding(crate::specs::Inputs::read_input))]
-pub fn read_input(a: u8, b: u8) -> MaybeInput
+pub fn read_input(a: u8, b: u8) -> Option<Input>
     ensures { result ≡ read_input a b }
 {
     if !is_input_text(2, a, b) {
-        return MaybeInput::NoInput;
+        return None;
     }
     let source = source_named(a);
     let number = number_for(b);
-    MaybeInput::InputIs(Input { source, number })
+    Some(Input { source, number })
 }
 
 // The input of one word.
 #[tactic(auto, unfolding(crate::specs::Inputs::input_of))]
-pub fn input_of(w: &[u8]) -> MaybeInput
+pub fn input_of(w: &[u8]) -> Option<Input>
     ensures { result ≡ input_of w.now }
 {
     if w.len() != 2 {
-        return MaybeInput::NoInput;
+        return None;
     }
     read_input(w[0], w[1])
 }

@@ -7,7 +7,7 @@ use Rattle.pjlink.proofs.write.put_inputs.Goals as goal
 pub put_gap-p-requires : goal.put_gap-p-requires
 put_gap-p-requires c =
     let st = c.loop-i.invariant in
-    omega (arith, put-room st, put-within st 2 (λ x. omega arith))
+    omega (arith, put-room st, put-within st 2 (λ x. omega arith), c.requires.few)
 
 pub put_all-p-requires : goal.put_all-p-requires
 put_all-p-requires c =
@@ -18,6 +18,7 @@ put_all-p-requires c =
       put-within st 2 (λ x. omega arith),
       gap-short c.loop-i.i,
       ap length c.input_text.ensures,
+      c.requires.few,
     )
 
 pub loop-i-preserved : goal.loop-i-preserved

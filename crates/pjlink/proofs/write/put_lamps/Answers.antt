@@ -7,12 +7,12 @@ use Rattle.pjlink.proofs.write.put_lamps.Goals as goal
 pub put_gap-p-requires : goal.put_gap-p-requires
 put_gap-p-requires c =
     let st = c.loop-i.invariant in
-    omega (arith, put-room st, put-within st 12 lamp-short)
+    omega (arith, put-room st, put-within st 12 lamp-short, c.requires.few)
 
 pub put_lamp-p-requires : goal.put_lamp-p-requires
 put_lamp-p-requires c =
     let st = c.loop-i.invariant in
-    omega (arith, put-room st, put-within st 12 lamp-short, gap-short c.loop-i.i)
+    omega (arith, put-room st, put-within st 12 lamp-short, gap-short c.loop-i.i, c.requires.few)
 
 pub loop-i-preserved : goal.loop-i-preserved
 loop-i-preserved c =
