@@ -18,7 +18,8 @@ use Rattle.text.proofs.RoomsTold.{is_some_used, uses_told}
 use Rattle.panel.specs.Passwords.{passwordRoom, isPasswordKept}
 use Rattle.panel.specs.Entries.{talkOf, shownOf, passwordIn, blankEntry}
 use Rattle.panel.specs.Stepping.{straysMost}
-use Rattle.panel.specs.LegalPanels.{panelMost, isTalk, isHoursRoom, isLitRoom, isShown, isEntry, isEntries, isUnused, isPanel}
+use Rattle.panel.specs.LegalPanels.{panelMost, isTalk, isHoursRoom, isLitRoom, isShown, isEntry, isEntries}
+use Rattle.panel.specs.LegalPanels.{isUnused, isPanel}
 use Rattle.panel.specs.PanelCalls.{entry_at}
 use Rattle.panel.specs.declared.types.Entry.{Entry}
 use Rattle.panel.specs.declared.types.Panel.{Panel}

@@ -1,6 +1,6 @@
-// A password in its room: 0 to 32 ASCII letters and digits, those that the controller's writer takes (RULES, Passwords).
+// A password in its room: 0 to 32 ASCII letters and digits, as the controller's writer takes it (RULES, Passwords).
 ghost use Rattle.std.specs.Prelude.{◌≡◌, ◌≤◌, length};
-ghost use Rattle.panel.specs.Passwords.{passwordRoom, password_of, noPassword, isPasswordKept};
+ghost use Rattle.panel.specs.Passwords.{passwordRoom, password_of, isPasswordKept};
 
 use crate::types::{PASSWORD_ROOM, Password};
 use text::rooms;

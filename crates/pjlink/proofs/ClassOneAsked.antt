@@ -18,6 +18,7 @@ use Rattle.pjlink.specs.declared.command.Body.{Body}
 use Rattle.pjlink.specs.declared.command.Body.TheVariants.{Powr, Inpt, Avmt, Erst, Lamp, Inst, Name, Inf1, Inf2}
 use Rattle.pjlink.specs.declared.command.Body.TheVariants.{Info, Clss}
 use Rattle.pjlink.specs.declared.command.Command.TheVariants.{PowerSet, InputSet, Query}
+use Rattle.words.specs.declared.input.Input.{Input}
 use Rattle.words.proofs.ClassOneKept.{InputKept, input-as-before, input-of-class-2, inputs-kept, input-by-two}
 use Rattle.pjlink.specs.Requests.{bodyNamed, switchAsked, inputAsked, isQuestion, asked_of, asked, requestOf}
 use Rattle.pjlink.specs.ClassOneAsked.{isBody1, bodyNamed1, powerAsked1, inputGiven1, inputAsked1, askedOf1, asked1}

@@ -4,7 +4,8 @@ use Rattle.std.proofs.Common.{◌≡◌, ℕ, arith, ap, sym, ◌∙◌, Bool, I
 use Rattle.std.proofs.Math.Seq.{length-take-le}
 use Rattle.std.specs.Prelude.{All}
 use Rattle.text.specs.Scans.{every}
-use Rattle.record.specs.Legal.{is_zero, fillsRoom, isNames, isRestOf2, isSettings, isOwn, isConnection, isConnections, isLegal}
+use Rattle.record.specs.Legal.{is_zero, fillsRoom, isNames, isRestOf2, isSettings, isOwn, isConnection}
+use Rattle.record.specs.Legal.{isConnections, isLegal}
 use Rattle.text.proofs.RoomsTold.{uses_told}
 use Rattle.record.specs.Facts.{Fills, IsStretch, IsNames, IsSettings, IsOwn, IsConnection, IsLegal}
 use Rattle.words.specs.Texts.{isPassword}

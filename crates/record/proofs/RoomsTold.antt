@@ -21,7 +21,8 @@ pub names_used : (n : ℕ) (ns : List InputName) → n ≤ listedMost → length
     ≡ holds (every (fillsNameRoom inputNameMost)) (used (fillsNameRoom 0) listedMost ns n)
 unfolding isNames
 names_used n ns few long =
-    grind (arith, common_steps, holds_used (fillsNameRoom 0) listedMost (every (fillsNameRoom inputNameMost)) ns n few long)
+    let named = every (fillsNameRoom inputNameMost) in
+    grind (arith, common_steps, holds_used (fillsNameRoom 0) listedMost named ns n few long)
 
 pub marks_used : (n : ℕ) (ms : List Bool) → n ≤ lampsMost → length ms ≡ lampsMost → isMarks n ms
     ≡ (is_some (used not lampsMost ms n) && (n == 0 || not (every not ms)))

@@ -1,5 +1,5 @@
--- One name that opens this crate's definitions and, by their own name, those of `text` and `words`, for computing on concrete
--- records only (RULES, Commands).
+-- One name that opens this crate's definitions and, by their own name, those of `text` and `words`, for computing on
+-- concrete records only (RULES, Commands).
 -- Assumes nothing.
 use Rattle.text.specs.Computing.{computing as text}
 use Rattle.words.specs.Computing.{computing as words}
