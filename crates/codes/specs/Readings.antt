@@ -10,9 +10,9 @@ use Rattle.words.specs.Inputs.{inputText}
 use Rattle.words.specs.declared.input.Input.{Input}
 use Rattle.pjlink.specs.Said.{Said, okay, refused, powerIs, chosenIs, mutesAre, errorsAre, lampsAre, inputsAre}
 use Rattle.pjlink.specs.Said.{textIs, classIs, freezeIs, nothing, parameterMost}
-use Rattle.pjlink.specs.declared.answer.Power.{Power}
-use Rattle.pjlink.specs.declared.answer.Power.TheVariants.{Off, On, Cooling, WarmUp}
-use Rattle.pjlink.specs.declared.answer.LampHours.{LampHours}
+use Rattle.words.specs.declared.power.Power.{Power}
+use Rattle.words.specs.declared.power.Power.TheVariants.{Off, On, Cooling, WarmUp}
+use Rattle.words.specs.declared.lamp.LampHours.{LampHours}
 use Rattle.controller.specs.Greetings.{greetingNumber}
 use Rattle.controller.specs.Reading.{ReadAs, outcomeNumber}
 use Rattle.controller.specs.declared.greeting.Greeting.{Greeting}

@@ -5,7 +5,8 @@ ghost use Rattle.pjlink.specs.Carried.{lampsCarried, inputsCarried};
 ghost use Rattle.codes.specs.Readings.{withText, flatLamps, withLamps, withInputs};
 
 use crate::readings::{CHARACTERS, FlatReading, TEXT_MOST};
-use pjlink::answer::{LAMPS_MOST, LampHours};
+use pjlink::answer::LAMPS_MOST;
+use words::lamp::LampHours;
 use words::input;
 use words::input::Input;
 

@@ -9,7 +9,8 @@ ghost use Rattle.codes.specs.Readings.{flatGreeting, meaningless, plain, powerNu
 
 use controller::greeting::Greeting;
 use controller::reading::{Misread, Reading};
-use pjlink::answer::{Answer, INPUTS_MOST, LAMPS_MOST, Power};
+use pjlink::answer::{Answer, INPUTS_MOST, LAMPS_MOST};
+use words::power::Power;
 use words::input::Source;
 
 /// The characters of a reading's inputs.
@@ -122,7 +123,7 @@ impl FlatReading {
         flat
     }
 
-    #[tactic(auto, unfolding(pjlink::specs::Said::saidBytes))]
+    #[tactic(auto, using(pjlink::proofs::SaidRows::said_row))]
     fn said(a: &Answer<'_>) -> FlatReading
         requires { length (saidBytes (answer_said a.now)) ≤ parameterMost }
         ensures { result ≡ saidFlat (answer_said a.now) }

@@ -5,10 +5,10 @@ use mathlib.Core.Bool.{true, false}
 use mathlib.Core.List.{[]}
 use Rattle.text.specs.Words.{ascii}
 use Rattle.pjlink.specs.Computing.{computing as pjlink}
-use Rattle.pjlink.specs.declared.command.Body.TheVariants.{Powr, Name}
+use Rattle.pjlink.specs.declared.body.Body.TheVariants.{Powr, Name}
 use Rattle.pjlink.specs.declared.command.Command.TheVariants.{PowerSet, Query}
 use Rattle.pjlink.specs.Said.{okay, powerIs}
-use Rattle.pjlink.specs.declared.answer.Power.TheVariants.{WarmUp}
+use Rattle.words.specs.declared.power.Power.TheVariants.{WarmUp}
 use Rattle.digest.specs.Computing.{computing as digest}
 use Rattle.controller.specs.Writing.{nothingWritten, writtenCommand}
 use Rattle.controller.specs.Reading.{meaning, without, readReply}

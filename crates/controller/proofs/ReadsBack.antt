@@ -13,7 +13,7 @@ use Rattle.pjlink.specs.Commands.{bodyText, bodyOf, commandClass, classDigit}
 use Rattle.pjlink.specs.declared.command.Command.{Command}
 use Rattle.pjlink.proofs.Bodies.{four, body-spelt}
 use Rattle.pjlink.proofs.RepliesReadBack.{reply-not-erra, reply-form, reply-parameter}
-use Rattle.pjlink.specs.Requests.{isBody}
+use Rattle.pjlink.specs.Bodies.{isBody}
 use Rattle.pjlink.proofs.BodiesNamed.{body-named}
 use Rattle.pjlink.specs.Said.{Said, nothing, saidBytes}
 use Rattle.pjlink.specs.Reading.{readParameter}

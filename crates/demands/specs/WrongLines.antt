@@ -7,8 +7,8 @@ use Rattle.text.specs.Scans.{sameBy, itself}
 use Rattle.words.specs.Bytes.{upperOf}
 use Rattle.pjlink.specs.Forms.{headBody}
 use Rattle.pjlink.specs.declared.command.Command.{Command}
-use Rattle.pjlink.specs.declared.command.Body.TheVariants.{Name}
-use Rattle.pjlink.specs.Requests.{isBody}
+use Rattle.pjlink.specs.declared.body.Body.TheVariants.{Name}
+use Rattle.pjlink.specs.Bodies.{isBody}
 use Rattle.pjlink.specs.Said.{textIs}
 use Rattle.record.specs.Updates.{withLine}
 use Rattle.record.specs.Record.{blank}
@@ -19,7 +19,8 @@ use Rattle.device.specs.Calls.{refusedBy}
 use Rattle.controller.specs.Reading.{ReadAs, meaning, without, readReply}
 use Rattle.controller.specs.Reading.{Outcome}
 use Rattle.controller.specs.Reading.{Means, Erra, NotALine, OtherCommand, NotAllowed}
-use Rattle.ours.specs.Board.{Board, Given, Lent, ours, lent_by}
+use Rattle.ours.specs.Board.{Board, Lent, ours, lent_by}
+use Rattle.record.specs.Given.{Given}
 use Rattle.demands.specs.OursBut.{butReceive, butReader}
 
 -- takes every byte, and says this to them

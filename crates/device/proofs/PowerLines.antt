@@ -11,17 +11,18 @@ use mathlib.Core.Path.{◌≡◌, refl, sym, ap, ◌∙◌}
 use mathlib.Core.Bool.{Bool, true, false, not, ◌&&◌, false≢true, and-false}
 use mathlib.Core.List.{List, [], ◌∷◌, ◌++◌}
 use lib.Dec.{eqb}
+use Rattle.std.specs.Prelude.{Ok}
 use Rattle.text.specs.Words.{ascii}
 use Rattle.text.specs.Scans.{sameBy}
 use Rattle.text.proofs.Choices.{if-by}
 use Rattle.words.specs.Bytes.{◌at◌, upperOf}
-use Rattle.pjlink.specs.Commands.{switchDigit}
+use Rattle.words.specs.Powers.{switch_code}
 use Rattle.pjlink.specs.Forms.{headBody, classNamed, lineClass, isCommandForm, commandParameter, replyLine}
-use Rattle.pjlink.specs.declared.command.Body.TheVariants.{Powr}
+use Rattle.pjlink.specs.declared.body.Body.TheVariants.{Powr}
 use Rattle.pjlink.specs.declared.command.Command.TheVariants.{PowerSet}
 use Rattle.pjlink.proofs.FormsSpelt.{taken-by, form-takes, form-spelt}
-use Rattle.pjlink.specs.Requests.{isBody, asked_of}
-use Rattle.pjlink.specs.declared.request.Request.TheVariants.{Asks}
+use Rattle.pjlink.specs.Bodies.{isBody}
+use Rattle.pjlink.specs.Requests.{asked_of}
 use Rattle.pjlink.proofs.PowerAsked.{isPowerSet, not-powr, powr-asked, power-parameter}
 use Rattle.pjlink.proofs.SaidRows.{said_row}
 use Rattle.pjlink.specs.Said.{Said, okay, saidBytes}
@@ -71,18 +72,18 @@ okay-reply a b c d e = okay-by-parts a b c d (ascii "OK") ∙ ap (λ (t : Bool).
 
 -- a line of the form with a parameter of one byte is spelt by its parts
 abbrev pub powerLine : (a b c d : ℕ) (wanted : Bool) → List ℕ
-powerLine a b c d wanted = ascii "%1" ++ (a ∷ b ∷ c ∷ d ∷ []) ++ ascii " " ++ (switchDigit wanted ∷ [])
+powerLine a b c d wanted = ascii "%1" ++ (a ∷ b ∷ c ∷ d ∷ []) ++ ascii " " ++ (switch_code wanted ∷ [])
 
 -- with its CR it is read, in any case of letters, as a set to that power and to no other
 abbrev pub isPowerLine : Bool → List ℕ → Bool
-isPowerLine v l = sameBy upperOf l (ascii "%1POWR " ++ (switchDigit v ∷ ascii "\r"))
+isPowerLine v l = sameBy upperOf l (ascii "%1POWR " ++ (switch_code v ∷ ascii "\r"))
 
 abbrev isSame : Bool → Bool → Bool
 isSame true v = v
 isSame false v = not v
 
 switch-read : (w v : Bool)
-    → sameBy upperOf (switchDigit w ∷ ascii "\r") (switchDigit v ∷ ascii "\r") ≡ isSame w v
+    → sameBy upperOf (switch_code w ∷ ascii "\r") (switch_code v ∷ ascii "\r") ≡ isSame w v
 switch-read true true = refl
 switch-read true false = refl
 switch-read false true = refl
@@ -101,7 +102,7 @@ module _ (a b c d : ℕ) (powr : isBody 1 (a ∷ b ∷ c ∷ d ∷ []) Powr ≡ 
   line-by-parts v =
       four-and (eqb (upperOf a) (code "P")) (eqb (upperOf b) (code "O")) (eqb (upperOf c) (code "W"))
       (eqb (upperOf d) (code "R"))
-      (sameBy upperOf (switchDigit wanted ∷ ascii "\r") (switchDigit v ∷ ascii "\r"))
+      (sameBy upperOf (switch_code wanted ∷ ascii "\r") (switch_code v ∷ ascii "\r"))
       ∙ (λ i. powr i && switch-read wanted v i)
 
   pub power-line-read : isPowerLine wanted (powerLine a b c d wanted ++ ascii "\r") ≡ true
@@ -113,8 +114,8 @@ module _ (a b c d : ℕ) (powr : isBody 1 (a ∷ b ∷ c ∷ d ∷ []) Powr ≡ 
 pub data PowerEffect (s : Settings) (o : Own) (l reply : List ℕ) (k : Own) : Type 0 where
   quiet : isPowerOkay reply ≡ false → k.power ≡ o.power → k.left ≡ o.left → PowerEffect s o l reply k
   sets : (a b c d : ℕ) (wanted : Bool) → isBody 1 (a ∷ b ∷ c ∷ d ∷ []) Powr ≡ true → l ≡ powerLine a b c d wanted
-      → reply ≡ replyLine (code "1") a b c d (ascii "OK") → meant s o (Asks (PowerSet wanted)) ≡ okay
-      → k ≡ done s o (Asks (PowerSet wanted)) → PowerEffect s o l reply k
+      → reply ≡ replyLine (code "1") a b c d (ascii "OK") → meant s o (Ok (PowerSet wanted)) ≡ okay
+      → k ≡ done s o (Ok (PowerSet wanted)) → PowerEffect s o l reply k
 
 module _ (s : Settings) (o : Own) (l : List ℕ) where
   abbrev EffectOf : Answered → Type 0

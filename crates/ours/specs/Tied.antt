@@ -7,10 +7,11 @@
 -- Assumes nothing.
 use Rattle.std.specs.Prelude.{ℕ, List}
 use Rattle.record.specs.declared.types.Device.{Device}
-use Rattle.form.specs.declared.storing.FormWritten.{FormWritten}
+use Rattle.stored.specs.declared.storing.FormWritten.{FormWritten}
 use Rattle.device.specs.Outcomes.{Told}
 use Rattle.controller.specs.declared.writing.Written.{Written}
-use Rattle.ours.specs.Board.{Given, Lent, Wrote}
+use Rattle.record.specs.Given.{Given}
+use Rattle.ours.specs.Board.{Lent, Wrote}
 
 abbrev pub lent_as : Told → Device → List ℕ → Lent Device
 lent_as t d m = record { number = t.number; taken = t.taken; length = t.length; memory = m; device = d }

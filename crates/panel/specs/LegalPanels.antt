@@ -14,7 +14,7 @@ use Rattle.text.specs.Scans.{every}
 use Rattle.text.specs.Rooms.{used, holds}
 use Rattle.pjlink.specs.declared.command.Command.{Command}
 use Rattle.pjlink.specs.Carried.{lampsCarried}
-use Rattle.pjlink.specs.CanSay.{hoursMost}
+use Rattle.words.specs.Numerals.{hours_most}
 use Rattle.codes.specs.Commands.{commandOf}
 use Rattle.codes.specs.declared.command.Coded.{Coded}
 use Rattle.panel.specs.Entries.{Talk, Shown, talkOf, shownOf, ungreeted, greetedSecured, isSecuredTalk}
@@ -54,7 +54,7 @@ unfoldable pub isLampCount : Bool → ℕ → Bool
 isLampCount known count = if known then leb 1 count && leb count lampsCarried else eqb count 0
 
 abbrev pub isHours : List ℕ → Bool
-isHours hs = every (λ h. leb h hoursMost) hs
+isHours hs = every (λ h. leb h hours_most) hs
 
 abbrev pub isHoursRoom : List ℕ → ℕ → Bool
 isHoursRoom hours count = holds isHours (used (λ x. x == 0) lampsCarried hours count)

@@ -7,7 +7,9 @@ ghost use Rattle.panel.specs.Showing.{showing};
 ghost use Rattle.panel.specs.Stepping.{withShown};
 
 use crate::types::{Entry, LAMPS_MOST};
-use pjlink::answer::{Answer, LampHours, Power, Reply};
+use pjlink::answer::{Answer, Reply};
+use words::lamp::LampHours;
+use words::power::Power;
 use codes::lists::FlatLamps;
 use codes::readings;
 use words::input::Input;

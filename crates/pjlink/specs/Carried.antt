@@ -3,8 +3,6 @@
 --                     allows 1 to 32 inputs, repeats included, LAMP 1 to 8 lamps"): what a set-up may have is record's
 --                     to say
 --   errorsCarried     so many error digits
---   refusal_number r  the number after ERR
---   refusal_or_0 o    the same, where there is one
 --   answer_said a     what an answer says
 --   said_by r         what a reply says, an answer or a refusal
 --   value_said o      what is read as an answer, where there is one: a parameter that is none says nothing
@@ -13,8 +11,8 @@
 use Rattle.std.specs.Prelude.{ℕ, Option, Some, None, Result, Ok, Err}
 use Rattle.pjlink.specs.Said.{Said, okay, refused, powerIs, chosenIs, mutesAre, errorsAre, lampsAre, inputsAre}
 use Rattle.pjlink.specs.Said.{textIs, classIs, freezeIs, nothing}
-use Rattle.pjlink.specs.declared.answer.Refusal.{Refusal}
-use Rattle.pjlink.specs.declared.answer.Refusal.TheVariants.{Undefined, OutOfParameter, Unavailable, Failure}
+use Rattle.words.specs.declared.refusal.Refusal.{Refusal}
+use Rattle.words.specs.Refusing.{refusal_digit}
 use Rattle.pjlink.specs.declared.answer.Answer.{Answer}
 use Rattle.pjlink.specs.declared.answer.Answer.TheVariants as an
 
@@ -26,16 +24,6 @@ inputsCarried = 32
 
 abbrev pub errorsCarried : ℕ
 errorsCarried = 6
-
-abbrev pub refusal_number : Refusal → ℕ
-refusal_number Undefined = 1
-refusal_number OutOfParameter = 2
-refusal_number Unavailable = 3
-refusal_number Failure = 4
-
-abbrev pub refusal_or_0 : Option Refusal → ℕ
-refusal_or_0 None = 0
-refusal_or_0 (Some r) = refusal_number r
 
 abbrev pub answer_said : Answer → Said
 answer_said an.Done = okay
@@ -51,7 +39,7 @@ answer_said (an.Freeze on) = freezeIs on
 
 abbrev pub said_by : Result Answer Refusal → Said
 said_by (Ok a) = answer_said a
-said_by (Err r) = refused (refusal_number r)
+said_by (Err r) = refused (refusal_digit r)
 
 abbrev pub value_said : Option Answer → Said
 value_said None = nothing

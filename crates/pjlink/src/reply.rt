@@ -1,38 +1,54 @@
 //! The parameter of a reply, read for the command that it answers (RULES, Controller).
 ghost use Rattle.std.specs.Prelude.{◌≡◌};
-ghost use Rattle.words.specs.Texts.{refusalOf};
-ghost use Rattle.pjlink.specs.Carried.{refusal_number, refusal_or_0, value_said, parameter_said};
+ghost use Rattle.words.specs.Refusing.{refusal_digit};
+ghost use Rattle.pjlink.specs.Carried.{value_said, parameter_said};
 ghost use Rattle.pjlink.specs.CanSay.{is_set, hasOwnParameter, isRefusalTo};
-ghost use Rattle.pjlink.specs.Reading.{readQueried, readValue, readParameter};
+ghost use Rattle.pjlink.specs.Reading.{text_or, readQueried, readValue, readParameter};
 
-use crate::answer::{Answer, Refusal, Reply};
-use crate::command::{Body, Command};
-use crate::{answer, command, list, values};
-use words::texts;
+use crate::answer::{Answer, Reply};
+use crate::body::Body;
+use crate::command::Command;
+use words::class::ClassNumber;
+use words::mutes::Mutes;
+use words::refusal::Refusal;
+use words::{codec, list, texts};
+
+// The text p where it is a legal one.
+fn text_if(legal: bool, p: &[u8]) -> Option<Answer<'_>>
+    ensures { value_said result ≡ text_or legal p.now }
+{
+    if legal { Some(Answer::Text(p)) } else { None }
+}
 
 fn read_queried(b: Body, p: &[u8]) -> Option<Answer<'_>>
     ensures { value_said result ≡ readQueried b p.now }
 {
     match b {
-        Body::Powr => values::read_power(p),
-        Body::Inpt => values::read_chosen(p),
-        Body::Avmt => values::read_mutes(p),
-        Body::Erst => values::read_errors(p),
-        Body::Lamp => list::read_lamps(p),
-        Body::Inst => list::read_inputs(p),
-        Body::Name => values::text_if(texts::is_name(p), p),
-        Body::Inf1 => values::text_if(texts::is_info(p), p),
-        Body::Inf2 => values::text_if(texts::is_info(p), p),
-        Body::Info => values::text_if(texts::is_info(p), p),
-        Body::Clss => values::read_class(p),
-        Body::Frez => values::read_freeze(p),
+        Body::Powr => Some(Answer::Power(codec::parse(p)?)),
+        Body::Inpt => Some(Answer::Input(codec::parse(p)?)),
+        Body::Avmt => {
+            let m: Mutes = codec::parse(p)?;
+            Some(Answer::Mutes(m.video, m.audio))
+        }
+        Body::Erst => Some(Answer::Errors(codec::parse(p)?)),
+        Body::Lamp => Some(Answer::Lamps(list::parse_list(p)?)),
+        Body::Inst => Some(Answer::Inputs(list::parse_list(p)?)),
+        Body::Name => text_if(texts::is_name(p), p),
+        Body::Inf1 => text_if(texts::is_info(p), p),
+        Body::Inf2 => text_if(texts::is_info(p), p),
+        Body::Info => text_if(texts::is_info(p), p),
+        Body::Clss => {
+            let class: ClassNumber = codec::parse(p)?;
+            Some(Answer::Class(class.number))
+        }
+        Body::Frez => Some(Answer::Freeze(codec::parse(p)?)),
         Body::Svol => None,
         Body::Mvol => None,
-        Body::Snum => values::text_if(texts::is_info(p), p),
-        Body::Sver => values::text_if(texts::is_info(p), p),
-        Body::Innm => values::text_if(texts::is_input_name(p), p),
-        Body::Inpt2 => values::read_chosen(p),
-        Body::Inst2 => list::read_inputs(p),
+        Body::Snum => text_if(texts::is_info(p), p),
+        Body::Sver => text_if(texts::is_info(p), p),
+        Body::Innm => text_if(texts::is_input_name(p), p),
+        Body::Inpt2 => Some(Answer::Input(codec::parse(p)?)),
+        Body::Inst2 => Some(Answer::Inputs(list::parse_list(p)?)),
     }
 }
 
@@ -76,41 +92,27 @@ fn read_value(c: Command, p: &[u8]) -> Option<Answer<'_>>
         }
         return None;
     }
-    read_queried(command::body_of(c), p)
+    read_queried(c.body(), p)
 }
 
 // Whether a refusal is allowed in reply to c: ERR2 is none to `?`.
 fn may_refuse(c: Command, r: Refusal) -> bool
-    ensures { result ≡ isRefusalTo c (refusal_number r) }
+    ensures { result ≡ isRefusalTo c (refusal_digit r) }
 {
     has_own_parameter(c) | (r.number() != 2)
 }
 
-// The refusal that all of p is.
-fn refusal_in(p: &[u8]) -> Option<Refusal>
-    ensures { refusal_or_0 result ≡ refusalOf p.now }
-{
-    match texts::refusal_of(p) {
-        1 => Some(Refusal::Undefined),
-        2 => Some(Refusal::OutOfParameter),
-        3 => Some(Refusal::Unavailable),
-        4 => Some(Refusal::Failure),
-        _ => None,
-    }
-}
-
 /// What the parameter p says to the command c; none where it is not allowed there.
+#[tactic(auto, unfolding(crate::specs::Reading::readParameter))]
 pub fn read_parameter(c: Command, p: &[u8]) -> Option<Reply<'_>>
     ensures { parameter_said result ≡ readParameter c p.now }
 {
-    let Some(refusal) = refusal_in(p) else {
-        let Some(value) = read_value(c, p) else {
-            return None;
-        };
-        return Some(Ok(value));
-    };
-    if may_refuse(c, refusal) {
-        return Some(Err(refusal));
+    let refusal: Option<Refusal> = codec::parse(p);
+    if let Some(r) = refusal {
+        return if may_refuse(c, r) { Some(Err(r)) } else { None };
     }
-    None
+    let Some(value) = read_value(c, p) else {
+        return None;
+    };
+    Some(Ok(value))
 }

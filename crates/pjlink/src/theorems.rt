@@ -1,20 +1,18 @@
 // What is proved beside the contracts of the functions. Nothing is done here: that these functions have their contracts
 // is that the theorems stand.
-ghost use Rattle.std.specs.Prelude.{◌≡◌, ◌+◌, ℕ, List, Option, Result, length, false, true};
-ghost use Rattle.std.proofs.lemmas.List.Edits.{sets};
+ghost use Rattle.std.specs.Prelude.{◌≡◌, ◌++◌, ℕ, List, Option, Result, false, true};
 ghost use Rattle.pjlink.specs.declared.answer.Answer.{Answer};
-ghost use Rattle.pjlink.specs.declared.answer.Refusal.{Refusal};
+ghost use Rattle.words.specs.declared.refusal.Refusal.{Refusal};
 ghost use Rattle.pjlink.specs.Carried.{parameter_said};
 ghost use Rattle.pjlink.specs.Said.{saidBytes, nothing, Said};
 ghost use Rattle.pjlink.specs.declared.command.Command.{Command};
 ghost use Rattle.pjlink.specs.Reading.{readParameter};
 ghost use Rattle.pjlink.specs.Writings.{Says, Allowed};
 
-/// Two results that meet the promise of a call are equal, lent memory included; two that are read say the same.
+/// Two lines that meet the promise of a call are equal; two replies that are read say the same.
 pub fn one_result()
-    ensures answer_written { (out : List ℕ) (at : ℕ) (m : Said) (r s : ℕ) (k l : List ℕ)
-        → (r ≡ at + length (saidBytes m)) × (k ≡ sets out at (saidBytes m))
-        → (s ≡ at + length (saidBytes m)) × (l ≡ sets out at (saidBytes m)) → (r ≡ s) × (k ≡ l) }
+    ensures answer_written { (out : List ℕ) (m : Said) (k l : List ℕ)
+        → k ≡ out ++ saidBytes m → l ≡ out ++ saidBytes m → k ≡ l }
     ensures parameter_read { (c : Command) (p : List ℕ) (r s : Option (Result Answer Refusal))
         → parameter_said r ≡ readParameter c p → parameter_said s ≡ readParameter c p
         → parameter_said r ≡ parameter_said s }

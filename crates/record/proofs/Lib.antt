@@ -18,6 +18,7 @@ pub mod InputsTold
 pub mod NamesTold
 pub mod CutNames
 pub mod NamesCopied
+pub mod CountedNames
 pub mod SettingsTold
 pub mod OwnTold
 pub mod ConnectionTold
@@ -29,3 +30,4 @@ pub mod HostKept
 pub mod Results
 pub mod RefusedSetting
 mod Samples
+pub mod GivenTold

@@ -12,6 +12,7 @@ pub mod names;
 pub mod own;
 pub mod refusal;
 pub mod scan;
+pub mod set_up_error;
 pub mod setting;
 pub mod settings;
 pub mod theorems;

@@ -19,7 +19,8 @@ use Rattle.record.specs.Limits.{textRoom, inputRoom, lampsMost, onlyIn2}
 use Rattle.record.specs.Wanted.{Wanted, wantedIn}
 use Rattle.record.specs.Rules.{isLongEnough, isInputs, isLamps, isMarks, areNames}
 use Rattle.record.specs.Updates.{withOwn, withMarks}
-use Rattle.record.specs.Record.{inRoom, name_of, namesKept, started, accepted}
+use Rattle.record.specs.Record.{inRoom, name_of, namesKept, started}
+use Rattle.record.specs.Given.{accepted}
 use Rattle.record.specs.Legal.{fillsNameRoom, isLegal}
 use Rattle.record.specs.SetUp.{isSettingInRange, isSetUp}
 use Rattle.record.specs.declared.types.Device.{Device}
@@ -35,8 +36,8 @@ use Rattle.record.proofs.OutOfRange.{each-in-range}
 use Rattle.record.proofs.InRange.{in-range-shown}
 use Rattle.record.proofs.Calls.{set-up-shown}
 use Rattle.record.proofs.Started.{started-parts, inputs-halved}
-use Rattle.form.specs.Form.{nameStored, storedOf, marksStored, storedForm}
-use Rattle.form.proofs.FormLong.{stored-long}
+use Rattle.stored.specs.Form.{nameStored, storedOf, marksStored, storedForm}
+use Rattle.stored.proofs.FormLong.{stored-long}
 use Rattle.stored.specs.Loading.{markRoom, isMarksOf, startedWith, loaded}
 use Rattle.stored.proofs.MarkBytes.{room-again, room-front}
 use Rattle.stored.proofs.FormsLoad.{form-loads}

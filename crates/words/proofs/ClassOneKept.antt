@@ -6,15 +6,16 @@ use Prim.Native.Nat.{ℕ, ◌+◌, ◌-◌}
 use Prim.Native.Char.{code}
 use mathlib.Core.Path.{◌≡◌, refl, sym, ap, ◌∙◌}
 use mathlib.Core.Bool.{Bool, true, false, false≢true}
-use mathlib.Core.List.{List}
+use mathlib.Core.List.{List, [], ◌∷◌}
 use native.Mathlib.Omega.{arith}
 use lib.ListN.{length}
 use lib.Dec.{leb, eqb}
-use borrow.Author.Tests.{eqb-false, eq-eqb}
+use borrow.Author.Tests.{eqb-false, eq-eqb, ne_eqb}
 use Rattle.std.specs.Prelude.{Option, Some, None, if◌then◌else◌}
 use Rattle.text.specs.Words.{◌is◌, ◌from◌to◌}
-use Rattle.text.proofs.Choices.{if_yes, both_left, both_right}
+use Rattle.text.proofs.Choices.{if_yes, if_no, both_left, both_right}
 use Rattle.words.specs.Bytes.{◌at◌}
+use Rattle.words.specs.Codec.{whole, ◌>>=◌}
 use Rattle.words.specs.Sources.{numberFor}
 use Rattle.words.specs.Inputs.{isInputText, sourceNamed, inputNamed, read_input, input_of}
 use Rattle.words.specs.ClassOne.{isInputText1, sourceNamed1, inputNamed1, readInput1}
@@ -63,6 +64,21 @@ inputs-kept a b = by (isInputText1 a b) (isInputText 2 a b) refl refl
     by false false e f = input-as-before refl
 
 -- of two characters, and of none otherwise
+abbrev one : Option Input → List ℕ → Option (Input × List ℕ)
+one o s = o >>= λ i. Some (i, s)
+
 pub input-by-two : (p : List ℕ) → input_of p ≡ (if eqb (length p) 2 then read_input (p at 0) (p at 1) else None)
 unfolding input_of
-input-by-two p = refl
+input-by-two [] = refl
+input-by-two (a ∷ []) = refl
+input-by-two (a ∷ b ∷ []) = by (read_input a b)
+  where
+    by : (o : Option Input) → whole (one o) [] ≡ o
+    by None = refl
+    by (Some i) = refl
+input-by-two (a ∷ b ∷ c ∷ p) =
+    by (read_input a b) ∙ sym (if_no _ None (ne_eqb (length (a ∷ b ∷ c ∷ p)) 2 (λ e. omega arith)))
+  where
+    by : (o : Option Input) → whole (one o) (c ∷ p) ≡ None
+    by None = refl
+    by (Some i) = refl

@@ -2,7 +2,12 @@
 ghost use Rattle.std.specs.Prelude.{◌≡◌, true};
 ghost use Rattle.words.specs.Sources.{isNumberCharacter, numberFor, numberCharacter};
 ghost use Rattle.words.specs.Inputs.{isInputText, sourceNamed, read_input, input_of, isInput, sourceDigit};
-ghost use Rattle.words.specs.Inputs.{numberDigit, inputText};
+ghost use Rattle.words.specs.Inputs.{numberDigit, inputText, input_read};
+ghost use Rattle.words.specs.Codec.{Plain};
+ghost use Rattle.words.specs.Laws.{input_codec};
+
+use crate::codec;
+use crate::codec::{Line, Wire};
 
 #[derive(Clone, Copy, Default)]
 pub enum Source {
@@ -81,10 +86,7 @@ pub fn read_input(a: u8, b: u8) -> Option<Input>
 pub fn input_of(w: &[u8]) -> Option<Input>
     ensures { result ≡ input_of w.now }
 {
-    if w.len() != 2 {
-        return None;
-    }
-    read_input(w[0], w[1])
+    codec::parse(w)
 }
 
 // Whether two characters can name the input.
@@ -129,4 +131,30 @@ pub fn number_digit(n: u8) -> u8
     ensures { result ≡ numberDigit n }
 {
     b'0' + n % 10
+}
+
+impl Wire for Input {
+    ghost legal = { isInput };
+
+    ghost text = { inputText };
+
+    ghost writes = { Plain isInput inputText };
+
+    ghost read = { input_read };
+
+    fn put(self, out: &mut Line) {
+        codec::put_all(&input_text(self), out);
+    }
+
+    fn take(s: &[u8]) -> Option<(Input, &[u8])> {
+        let [a, b, rest @ ..] = s else {
+            return None;
+        };
+        let Some(i) = read_input(*a, *b) else {
+            return None;
+        };
+        Some((i, rest))
+    }
+
+    ghost codec = { input_codec };
 }

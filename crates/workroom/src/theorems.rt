@@ -1,6 +1,6 @@
 // What the two sides keep together: what is read at the face of C, and the panel joined with our projector. Nothing is
 // done here: that these functions have their contracts is that the theorems stand.
-ghost use Rattle.std.specs.Prelude.{◌≡◌, ◌<◌, ◌≤◌, ◌^◌, ℕ, true, List, false, length, Some};
+ghost use Rattle.std.specs.Prelude.{◌≡◌, ◌<◌, ◌≤◌, ◌^◌, ℕ, true, List, false, length, Some, Ok};
 ghost use Rattle.record.specs.declared.types.Device.{Device};
 ghost use Rattle.record.specs.Limits.{placesCount, opened, awaiting};
 ghost use Rattle.record.specs.Legal.{isLegal};
@@ -15,7 +15,6 @@ ghost use Rattle.controller.specs.Writing.{commandRoom};
 ghost use Rattle.codes.specs.ByCode.{written_by, read_by};
 ghost use Rattle.codes.specs.Readings.{saidFlat, flatGreeting};
 ghost use Rattle.meaning.specs.Meaning.{meant};
-ghost use Rattle.pjlink.specs.declared.request.Request.TheVariants.{Asks};
 ghost use Rattle.device.specs.Receiving.{passwordOf};
 ghost use Rattle.controller.specs.Greetings.{readGreeting};
 ghost use Rattle.demands.specs.Greeted.{greetedOn};
@@ -36,7 +35,7 @@ pub fn the_face_reads_back()
         → let w = written_by (commandOf k) false random password memory in
         let r = received d p w.bytes room in
         (w.number ≡ 0) × (r.taken ≡ length w.bytes)
-        × (read_by (commandOf k) r.reply ≡ saidFlat (meant d.settings d.own (Asks c))) }
+        × (read_by (commandOf k) r.reply ≡ saidFlat (meant d.settings d.own (Ok c))) }
     ensures read_back_secured { (d : Device) (p : ℕ) → p < placesCount → isLegal d ≡ true
         → (connectionAt d p).line ≡ emptyLine → (k : Coded) (c : Command) → commandOf k ≡ Some c
         → commandClass c ≤ d.settings.class_number
@@ -45,7 +44,7 @@ pub fn the_face_reads_back()
         → let w = written_by (commandOf k) true (connectionAt d p).random (passwordOf d.settings) memory in
         let r = received d p w.bytes room in
         (w.number ≡ 0) × (r.taken ≡ length w.bytes)
-        × (read_by (commandOf k) r.reply ≡ saidFlat (meant d.settings d.own (Asks c))) }
+        × (read_by (commandOf k) r.reply ≡ saidFlat (meant d.settings d.own (Ok c))) }
     ensures greeting { (d : Device) (random room : ℕ) → isLegal d ≡ true → lowestShut d.connections < placesCount
         → replyRoom ≤ room → random < 2 ^ 32 → let o = openedBy d random room in
         flatGreeting (readGreeting o.reply) ≡ flatGreeting (greetedOn (connectionAt o.device (placeTaken d room))) }

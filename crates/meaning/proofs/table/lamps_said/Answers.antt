@@ -1,5 +1,5 @@
 use Rattle.std.proofs.Common.{◌≡◌, ◌∷◌, ◌++◌, [], ◌∙◌, List, arith, length, sym, ap}
-use Rattle.pjlink.specs.declared.answer.LampHours.{LampHours}
+use Rattle.words.specs.declared.lamp.LampHours.{LampHours}
 use Rattle.meaning.proofs.LampsSaid.{none_said, one-more-said}
 use Rattle.meaning.proofs.table.lamps_said.Goals as goal
 

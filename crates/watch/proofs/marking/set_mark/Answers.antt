@@ -1,7 +1,9 @@
 -- A record stays legal, or not legal.
 use Rattle.std.proofs.Common.{ℕ, ap, sym, ◌∙◌}
+use Rattle.record.specs.Given.{left_by}
 use Rattle.record.specs.Legal.{isLegal}
 use Rattle.record.specs.HostCalls.{markSet}
+use Rattle.record.proofs.GivenTold.{device_given}
 use Rattle.watch.specs.Marking.{marked, doneBy}
 use Rattle.watch.proofs.LineLeaves.{done-legality}
 use Rattle.watch.proofs.marking.set_mark.Goals as goal
@@ -10,8 +12,8 @@ pub invariant_of-t : goal.invariant_of-t
 unfolding doneBy
 invariant_of-t c =
     let d = c.args.t.now.device in
-    let done = c.set_mark-told.ensures.device
-    ∙ ap (λ (k : ℕ). (markSet d k c.args.mark).device) c.place.ensures in
+    let done = device_given d _ _ c.set_mark-told.ensures.kept
+    ∙ ap (left_by d) (c.set_mark-told.ensures.given ∙ ap (λ (k : ℕ). markSet d k c.args.mark) c.place.ensures) in
     record {
       tested = c.args.t.now.tested ∙ sym (ap isLegal done ∙ done-legality d (marked c.args.lamp c.args.mark));
     }
@@ -19,5 +21,6 @@ invariant_of-t c =
 pub returns : goal.returns
 unfolding doneBy
 returns c =
-    c.set_mark-told.ensures.device
-    ∙ ap (λ (k : ℕ). (markSet c.args.t.now.device k c.args.mark).device) c.place.ensures
+    let d = c.args.t.now.device in
+    device_given d _ _ c.set_mark-told.ensures.kept
+    ∙ ap (left_by d) (c.set_mark-told.ensures.given ∙ ap (λ (k : ℕ). markSet d k c.args.mark) c.place.ensures)

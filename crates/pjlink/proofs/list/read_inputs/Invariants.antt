@@ -1,7 +1,0 @@
--- k inputs are read, and the words that are left decide for the whole.
-use Rattle.pjlink.specs.Reading.{inputsIn}
-use Rattle.pjlink.proofs.ReadLists.{ListAt}
-use Rattle.pjlink.proofs.list.read_inputs.Given as goal
-
-abbrev pub invariant-loop-k : goal.invariant-loop-k
-invariant-loop-k l = ListAt inputsIn l.p l.inputs.items l.k l.at
