@@ -23,7 +23,7 @@ use Rattle.std.specs.Prelude.{List, [], ◌∷◌, ◌++◌, length, get_or, set
 use Rattle.text.specs.Words.{ascii}
 use Rattle.pjlink.specs.Commands.{commandLine}
 use Rattle.pjlink.specs.declared.command.Command.TheVariants.{Query}
-use Rattle.pjlink.specs.declared.command.Body.TheVariants.{Lamp}
+use Rattle.pjlink.specs.declared.body.Body.TheVariants.{Lamp}
 use Rattle.pjlink.specs.Said.{lampsAre, saidBytes}
 use Rattle.words.specs.declared.lamp.LampHours.{LampHours}
 use Rattle.record.specs.Limits.{lampLimit, opened}
