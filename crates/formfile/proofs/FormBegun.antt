@@ -1,6 +1,6 @@
 -- A form that loads gives a legal record, and one that does not has a number of its own.
 -- Assumes nothing.
-use Rattle.std.proofs.Common.{◌≡◌, ℕ, ◌≤◌, true, List, Ok, Err, sym, ap, ◌∙◌, arith}
+use Rattle.std.proofs.Common.{◌≡◌, ℕ, ◌≤◌, true, List, Ok, sym, ap, ◌∙◌, arith}
 use Rattle.record.specs.Legal.{isLegal}
 use Rattle.record.specs.Given.{Given}
 use Rattle.record.specs.declared.types.Device.{Device}
