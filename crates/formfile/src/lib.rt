@@ -55,8 +55,8 @@ fn by_argument(rt: &HostRuntime, place: usize) -> io::Result<Result<Device, NotB
     }
 }
 
-/// By the argument with that place, where there is one: a legal record, or why there is none. What cannot be read is told
-/// on standard error.
+/// By the argument with that place, where there is one: a legal record, or why there is none. What cannot be read is
+/// told on standard error.
 pub fn begun_by(rt: &HostRuntime, place: usize) -> Result<Device, NotBegun>
     ensures { IsBegun result }
 {
