@@ -19,3 +19,4 @@ pub mod KeptLine
 mod PlayedSpelt
 mod LinePlayed
 mod Underway
+pub mod Samples
