@@ -1,13 +1,13 @@
 //! The floor log (RULES, Floor log): what a line of it says, what its event does to the record and what is printed for
-//! it; its lines gathered in lent memory; and a whole log played back, from any source of bytes to any sink.
+//! it; a whole log played back, from any source of bytes to any sink; and how one ends that cannot be played to its end.
 #![tactic(auto)]
 
+pub mod cut;
 mod ending;
 pub mod event;
-pub mod gather;
 mod last;
 pub mod line;
-mod playing;
+pub mod playing;
 #[cfg(test)]
 mod tests;
 

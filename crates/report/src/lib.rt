@@ -1,8 +1,5 @@
-// What is told of a watched log: lines, or a page where one is wanted; and a last line where the log is cut short
-// (RULES, Floor log).
+// What is told of a watched log: lines, or a page where one is wanted (RULES, Floor log).
 #![tactic(auto)]
-
-pub mod cut;
 
 ghost use Rattle.std.specs.Prelude.{◌≡◌, ◌≤◌, length, OnOk, OnErr};
 ghost use Rattle.textio.specs.Fronts.{WritesText};

@@ -71,7 +71,7 @@ line_fits m g (b ∷ bs) h =
     (any_line P g (lines_from [] bs) k))
     (λ k. omega (arith, line_fits m (g ++ (b ∷ [])) bs k, length-append g (b ∷ []))) h
 
-lines_fit : (g bs : List ℕ) → length (lines_from g bs) ≤ length g + length bs
+pub lines_fit : (g bs : List ℕ) → length (lines_from g bs) ≤ length g + length bs
 unfolding lines_from
 lines_fit g [] =
     if-by (λ (ls : List (List ℕ)). length ls ≤ length g + 0) (eqb (length g) 0) (λ e. omega arith)

@@ -9,15 +9,11 @@ use Rattle.watch.proofs.marking.set_mark.Goals as goal
 pub invariant_of-t : goal.invariant_of-t
 unfolding doneBy
 invariant_of-t c =
-    let d = c.args.t.now.device in
-    let done = c.set_mark-told.ensures.device
-    ∙ ap (λ (k : ℕ). (markSet d k c.args.mark).device) c.place.ensures in
+    let done = c.set_mark-told.ensures.device in
     record {
-      tested = c.args.t.now.tested ∙ sym (ap isLegal done ∙ done-legality d (marked c.args.lamp c.args.mark));
+      tested = c.args.t.now.tested ∙ sym (ap isLegal done ∙ done-legality c.args.t.now.device (marked c.args.lamp c.args.mark));
     }
 
 pub returns : goal.returns
 unfolding doneBy
-returns c =
-    c.set_mark-told.ensures.device
-    ∙ ap (λ (k : ℕ). (markSet c.args.t.now.device k c.args.mark).device) c.place.ensures
+returns c = c.set_mark-told.ensures.device
