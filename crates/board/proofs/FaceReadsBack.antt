@@ -9,9 +9,9 @@ use mathlib.Core.Path.{◌≡◌, sym, ap, subst}
 use mathlib.Core.Bool.{true, false}
 use mathlib.Core.List.{List}
 use Rattle.std.specs.Prelude.{Option, Some}
-use Rattle.lines.specs.Commands.{commandClass}
-use Rattle.lines.specs.declared.command.Command.{Command}
-use Rattle.requests.specs.declared.Request.TheVariants.{Asks}
+use Rattle.pjlink.specs.Commands.{commandClass}
+use Rattle.pjlink.specs.declared.command.Command.{Command}
+use Rattle.pjlink.specs.declared.request.Request.TheVariants.{Asks}
 use Rattle.record.specs.Limits.{placesCount, awaiting, opened}
 use Rattle.record.specs.Legal.{isLegal}
 use Rattle.record.specs.Places.{connectionAt, lowestShut}

@@ -3,4 +3,5 @@ pub mod FaceReadsBack
 pub mod OneResult
 pub mod WhichSetting
 pub mod Zipping
+mod FitsADay
 pub mod OneOfLists

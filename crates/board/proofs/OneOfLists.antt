@@ -15,7 +15,7 @@ use Rattle.day.specs.declared.plan.PlanError.TheVariants.{OutOfRange as NoDay, N
 use Rattle.day.proofs.OneVerdict.{one_verdict}
 use Rattle.day.proofs.OnePlan.{one_plan}
 use Rattle.service.proofs.OneAnswer.{one_comparison}
-use Rattle.board.specs.Lists.{Lists, job_from, jobs_in, rigs_in, plan_in, readings_in}
+use Rattle.board.specs.Lists.{Lists, job_at, jobs_in, rigs_in, plan_in, readings_in}
 use Rattle.board.specs.Days.{flat_verdict, flat_plan, without_plan, written_of, Checks, ChecksInto, Plans, PlansInto}
 use Rattle.board.specs.Lamps.{not_compared, report_of, ComparesInto}
 use Rattle.board.specs.declared.days.FlatVerdict.{FlatVerdict}
@@ -63,17 +63,17 @@ one_check l a v w (inr p) (inr q) = p.1 ∙ sym q.1
 pub one_flat_verdict : (l : Lists) (a : List ℕ) (r s : FlatVerdict) → ChecksInto l a r → ChecksInto l a s → r ≡ s
 one_flat_verdict l a r s (v, p, e) (w, q, f) = e ∙ ap flat_verdict (one_check l a v w p q) ∙ sym f
 
-one_planning : (l : Lists) (out : List ℕ) (p q : Result (List Placement) PlanError) → Plans l out p → Plans l out q
+one_planning : (l : Lists) (room : ℕ) (p q : Result (List Placement) PlanError) → Plans l room p → Plans l room q
     → p ≡ q
-one_planning l out p q (inl x) (inl y) = one_plan (jobs_in l) (rigs_in l) p q x.1 y.1
-one_planning l out p q (inl x) (inr y) = absurd (y.0 x.0)
-one_planning l out p q (inr x) (inl y) = absurd (x.0 y.0)
-one_planning l out p q (inr x) (inr y) = x.1 ∙ sym y.1
+one_planning l room p q (inl x) (inl y) = one_plan (jobs_in l) (rigs_in l) p q x.1 y.1
+one_planning l room p q (inl x) (inr y) = absurd (y.0 x.0)
+one_planning l room p q (inr x) (inl y) = absurd (x.0 y.0)
+one_planning l room p q (inr x) (inr y) = x.1 ∙ sym y.1
 
 pub one_flat_plan : (l : Lists) (out : List ℕ) (r s : FlatPlan) (m n : List ℕ) → PlansInto l out r m
     → PlansInto l out s n → (r ≡ s) × (m ≡ n)
 one_flat_plan l out r s m n (p, x, e, f) (q, y, g, h) =
-    let same = one_planning l out p q x y in (
+    let same = one_planning l (length out) p q x y in (
       e ∙ ap (λ (p : Result (List Placement) PlanError). flat_plan (without_plan p)) same ∙ sym g,
       f ∙ ap (λ (p : Result (List Placement) PlanError). over (written_of p) out) same ∙ sym h,
     )
@@ -88,11 +88,11 @@ one_report es ls out r s m n (inr (other, y, z)) (inl (same, x)) = absurd (other
 one_report es ls out r s m n (inr (_, e, f)) (inr (_, g, h)) = (e ∙ sym g, f ∙ sym h)
 
 -- what is planned has one rig for each place of the list of starts
-pub plan_fits : (l : Lists) (out : List ℕ) (ps : List Placement) → Plans l out (Ok ps) → length ps ≤ length out
-plan_fits l out ps (inl ((alike, room), holds)) =
+pub plan_fits : (l : Lists) (room : ℕ) (ps : List Placement) → Plans l room (Ok ps) → length ps ≤ room
+plan_fits l room ps (inl ((alike, enough), holds)) =
     let one_each = sym (length-map ps (λ (p : Placement). p.job)) ∙ ap length holds.2 in
-    omega (arith, one_each, length-map-range_with_len (job_from l.starts l.lengths l.allowed) 0 (length l.starts), room)
-plan_fits l out ps (inr (other, e)) = cc
+    omega (arith, one_each, length-map-range_with_len (job_at l) 0 (length l.starts), enough)
+plan_fits l room ps (inr (other, e)) = cc
 
 -- a later table with one place more is not compared
 one_place_short : (out : List ℤ) (r : Report) (m : List ℤ) → ComparesInto (1 ∷ []) (1 ∷ 2 ∷ []) out r m

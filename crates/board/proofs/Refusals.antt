@@ -10,11 +10,11 @@ use lib.Dec.{ltb}
 use borrow.Author.Tests.{le-ltb}
 use Rattle.std.specs.Prelude.{if◌then◌else◌, Option, Some, None}
 use Rattle.text.proofs.Choices.{if-all, if_no}
-use Rattle.lines.specs.Forms.{replyParameter}
-use Rattle.lines.specs.declared.command.Command.{Command}
-use Rattle.answers.specs.Said.{Said, okay, refused, powerIs, chosenIs, mutesAre, errorsAre, lampsAre, inputsAre}
-use Rattle.answers.specs.Said.{textIs, classIs, freezeIs, nothing}
-use Rattle.replies.specs.Reading.{readParameter}
+use Rattle.pjlink.specs.Forms.{replyParameter}
+use Rattle.pjlink.specs.declared.command.Command.{Command}
+use Rattle.pjlink.specs.Said.{Said, okay, refused, powerIs, chosenIs, mutesAre, errorsAre, lampsAre, inputsAre}
+use Rattle.pjlink.specs.Said.{textIs, classIs, freezeIs, nothing}
+use Rattle.pjlink.specs.Reading.{readParameter}
 use Rattle.controller.specs.Writing.{WrittenAs, nothingWritten, commandRoom, isWritable}
 use Rattle.controller.specs.Reading.{outcomeNumber, saying, readReply}
 use Rattle.controller.specs.declared.reading.Outcome.{Outcome}

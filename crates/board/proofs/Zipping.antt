@@ -8,11 +8,11 @@ use Rattle.std.proofs.lemmas.List.{take_more_set}
 use Rattle.std.proofs.lemmas.List.FromFn.{map-range_with_len_more}
 
 module _ {X : Type 0} (f : ℕ → X) (xs : List X) where
-  pub put_next : (i : ℕ) → i < length xs → take i xs ≡ map f (range_with_len 0 i)
-      → take (i + 1) (set xs i (f i)) ≡ map f (range_with_len 0 (i + 1))
-  put_next i h e =
-      take_more_set xs i (f i) h ∙ ap (λ (s : List X). s ++ f i ∷ []) e
-      ∙ sym (map-range_with_len_more f 0 i i (omega arith))
+  pub put_next : (i : ℕ) {x : X} → x ≡ f i → i < length xs → take i xs ≡ map f (range_with_len 0 i)
+      → take (i + 1) (set xs i x) ≡ map f (range_with_len 0 (i + 1))
+  put_next i {x} made h e =
+      ap (λ (y : X). take (i + 1) (set xs i y)) made ∙ take_more_set xs i (f i) h
+      ∙ ap (λ (s : List X). s ++ f i ∷ []) e ∙ sym (map-range_with_len_more f 0 i i (omega arith))
 
   pub put_all : {i n : ℕ} → i ≡ n → take i xs ≡ map f (range_with_len 0 i) → take n xs ≡ map f (range_with_len 0 n)
   put_all e = subst (λ (k : ℕ). take k xs ≡ map f (range_with_len 0 k)) e

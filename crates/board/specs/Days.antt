@@ -1,14 +1,13 @@
 -- A cutting day's verdict and plan in numbers, as the header has them (RULES, Cutting day).
 --   flat_verdict v        number, rule, and the job or rig concerned, with the other job of a clash
 --   flat_plan p           number, whether all jobs have a rig, and else the first job that finds none
---   HaveOneLength l       the lists of the jobs are of one length, and those of the rigs
---   IsCheckable l a       besides, there is one rig a job
---   IsPlannable l room    besides, there is room for one rig a job
+--   IsCheckable l a       the lists have one length, and there is one rig a job
+--   IsPlannable l room    the lists have one length, and there is room for one rig a job
 --   Checks l a v          the verdict v on such lists is day's on their jobs and rigs; on others it is out of range
 --   ChecksInto l a f      the same in numbers
 --   without_plan p        an answer without its plan
 --   written_of p          the rigs that it writes: those of a plan, else none
---   Plans l out p         the answer p on such lists is day's on their jobs and rigs; on others it is out of range
+--   Plans l room p        the answer p on such lists is day's on their jobs and rigs; on others it is out of range
 --   PlansInto l out f m   the same in numbers, and the rigs over the start of the list out
 -- Assumes nothing.
 use Rattle.std.specs.Prelude.{ℕ, ◌≡◌, ◌≤◌, ◌⊎◌, true, false, List, [], length, map, Result, Ok, Err}
@@ -20,7 +19,7 @@ use Rattle.day.specs.declared.check.CheckError.{CheckError}
 use Rattle.day.specs.declared.check.CheckError.TheVariants.{OutOfRange, NoRig, TooEarly, Clash, Spent}
 use Rattle.day.specs.declared.plan.PlanError.{PlanError}
 use Rattle.day.specs.declared.plan.PlanError.TheVariants.{OutOfRange as NoDay, NoRig as Unplaced}
-use Rattle.board.specs.Lists.{Lists, AreAlike, jobs_in, rigs_in, plan_in}
+use Rattle.board.specs.Lists.{Lists, HaveOneLength, jobs_in, rigs_in, plan_in}
 use Rattle.board.specs.declared.days.FlatVerdict.{FlatVerdict}
 use Rattle.board.specs.declared.days.FlatPlan.{FlatPlan}
 
@@ -36,10 +35,6 @@ abbrev pub flat_plan : Result (Unit {0}) PlanError → FlatPlan
 flat_plan (Ok _) = record { number = 0; planned = true; job = 0 }
 flat_plan (Err NoDay) = record { number = 3; planned = false; job = 0 }
 flat_plan (Err (Unplaced j)) = record { number = 0; planned = false; job = j }
-
-pub record HaveOneLength (l : Lists) : Type 0 where
-  pub jobs_alike : AreAlike (length l.starts) (length l.lengths) (length l.allowed)
-  pub rigs_alike : AreAlike (length l.warm) (length l.cool) (length l.life)
 
 abbrev pub IsCheckable : Lists → List ℕ → Type 0
 IsCheckable l a = HaveOneLength l × (length a ≡ length l.starts)
@@ -62,13 +57,11 @@ abbrev pub written_of : Result (List Placement) PlanError → List ℕ
 written_of (Ok ps) = map (λ p. p.rig) ps
 written_of (Err e) = []
 
-module _ (l : Lists) (out : List ℕ) where
-  abbrev pub Plans : Result (List Placement) PlanError → Type 0
-  Plans p =
-      IsPlannable l (length out) × PlanHolds (jobs_in l) (rigs_in l) p
-      ⊎ ¬ IsPlannable l (length out) × (p ≡ Err NoDay)
+module _ (l : Lists) where
+  abbrev pub Plans : ℕ → Result (List Placement) PlanError → Type 0
+  Plans room p = IsPlannable l room × PlanHolds (jobs_in l) (rigs_in l) p ⊎ ¬ IsPlannable l room × (p ≡ Err NoDay)
 
-  abbrev pub PlansInto : FlatPlan → List ℕ → Type 0
-  PlansInto f m =
-      (p : Result (List Placement) PlanError) × Plans p × (f ≡ flat_plan (without_plan p))
+  abbrev pub PlansInto : (out : List ℕ) → FlatPlan → List ℕ → Type 0
+  PlansInto out f m =
+      (p : Result (List Placement) PlanError) × Plans (length out) p × (f ≡ flat_plan (without_plan p))
       × (m ≡ over (written_of p) out)

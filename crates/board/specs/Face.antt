@@ -4,7 +4,7 @@
 --   read_by m l        what the reader gives of the line l
 -- Assumes nothing.
 use Rattle.std.specs.Prelude.{ℕ, Bool, List, ltb, if◌then◌else◌, Option, Some, None}
-use Rattle.lines.specs.declared.command.Command.{Command}
+use Rattle.pjlink.specs.declared.command.Command.{Command}
 use Rattle.controller.specs.Writing.{WrittenAs, nothingWritten, commandRoom, writtenCommand}
 use Rattle.controller.specs.Reading.{readReply}
 use Rattle.codes.specs.Readings.{meaningless, flat}

@@ -1,5 +1,6 @@
 pub mod Face
 pub mod Lists
+pub mod Lent
 pub mod Days
 pub mod Lamps
 pub mod Which

@@ -2,9 +2,10 @@
 ghost use Rattle.std.specs.Prelude.{◌≡◌, ◌≤◌, length, map};
 ghost use Rattle.text.specs.Words.{over};
 ghost use Rattle.board.specs.Lists.{lists};
+ghost use Rattle.board.specs.Lent.{day_lists};
 ghost use Rattle.board.specs.Days.{flat_verdict, flat_plan, Checks, ChecksInto, Plans, PlansInto};
 
-use crate::lists::{NO_JOB, NO_PLACEMENT, NO_RIG, are_alike, put_jobs, put_plan, put_rigs};
+use crate::lists::{DayLists, NO_JOB, NO_PLACEMENT, NO_RIG};
 use day::check::{CheckError, check_day};
 use day::plan::{Plan, PlanError, plan_day};
 use day::{JOBS_MOST, Placement, RIGS_MOST};
@@ -85,35 +86,42 @@ impl FlatPlan {
     }
 }
 
-fn checked(
-    starts: &[u32],
-    lengths: &[u32],
-    allowed: &[u8],
-    rigs: &[u8],
-    warm: &[u32],
-    cool: &[u32],
-    life: &[u32],
-) -> Result<(), CheckError>
-    ensures { Checks (lists starts.now lengths.now allowed.now warm.now cool.now life.now) rigs.now result }
-{
-    if !are_alike(starts.len(), lengths.len(), allowed.len()) || rigs.len() != starts.len() {
-        return Err(CheckError::OutOfRange);
+impl DayLists<'_> {
+    // The verdict on the jobs, each on its rig of the list.
+    fn check(&self, rigs: &[u8]) -> Result<(), CheckError>
+        ensures { Checks (day_lists self.now) rigs.now result }
+    {
+        if !self.have_one_length() || rigs.len() != self.starts.len() {
+            return Err(CheckError::OutOfRange);
+        }
+        // no room below for so many
+        if !self.fit_a_day() {
+            return Err(CheckError::OutOfRange);
+        }
+        let mut plan = [NO_PLACEMENT; JOBS_MOST];
+        self.put_plan(rigs, &mut plan);
+        let mut fleet = [NO_RIG; RIGS_MOST];
+        self.put_rigs(&mut fleet);
+        check_day(&plan[..self.starts.len()], &fleet[..self.warm.len()])
     }
-    if !are_alike(warm.len(), cool.len(), life.len()) {
-        return Err(CheckError::OutOfRange);
+
+    // The jobs planned, where there is room for their rigs.
+    fn plan(&self, room: usize) -> Result<Plan, PlanError>
+        ensures { Plans (day_lists self.now) room result }
+    {
+        if !self.have_one_length() || room < self.starts.len() {
+            return Err(PlanError::OutOfRange);
+        }
+        // no room below for so many
+        if !self.fit_a_day() {
+            return Err(PlanError::OutOfRange);
+        }
+        let mut jobs = [NO_JOB; JOBS_MOST];
+        self.put_jobs(&mut jobs);
+        let mut fleet = [NO_RIG; RIGS_MOST];
+        self.put_rigs(&mut fleet);
+        plan_day(&jobs[..self.starts.len()], &fleet[..self.warm.len()])
     }
-    // no room below for so many
-    if JOBS_MOST < starts.len() {
-        return Err(CheckError::OutOfRange);
-    }
-    if RIGS_MOST < warm.len() {
-        return Err(CheckError::OutOfRange);
-    }
-    let mut plan = [NO_PLACEMENT; JOBS_MOST];
-    put_plan(starts, lengths, allowed, rigs, &mut plan);
-    let mut fleet = [NO_RIG; RIGS_MOST];
-    put_rigs(warm, cool, life, &mut fleet);
-    check_day(&plan[..starts.len()], &fleet[..warm.len()])
 }
 
 /// Checks a day for which each job has a rig (RULES, Cutting day).
@@ -129,38 +137,15 @@ pub extern "C" fn pj_check_day(
 ) -> FlatVerdict
     ensures { ChecksInto (lists starts.now lengths.now allowed.now warm.now cool.now life.now) rigs.now result }
 {
-    FlatVerdict::of(checked(starts, lengths, allowed, rigs, warm, cool, life))
-}
-
-fn planned(
-    starts: &[u32],
-    lengths: &[u32],
-    allowed: &[u8],
-    warm: &[u32],
-    cool: &[u32],
-    life: &[u32],
-    out: &[u8],
-) -> Result<Plan, PlanError>
-    ensures { Plans (lists starts.now lengths.now allowed.now warm.now cool.now life.now) out.now result }
-{
-    if !are_alike(starts.len(), lengths.len(), allowed.len()) || out.len() < starts.len() {
-        return Err(PlanError::OutOfRange);
-    }
-    if !are_alike(warm.len(), cool.len(), life.len()) {
-        return Err(PlanError::OutOfRange);
-    }
-    // no room below for so many
-    if JOBS_MOST < starts.len() {
-        return Err(PlanError::OutOfRange);
-    }
-    if RIGS_MOST < warm.len() {
-        return Err(PlanError::OutOfRange);
-    }
-    let mut jobs = [NO_JOB; JOBS_MOST];
-    put_jobs(starts, lengths, allowed, &mut jobs);
-    let mut fleet = [NO_RIG; RIGS_MOST];
-    put_rigs(warm, cool, life, &mut fleet);
-    plan_day(&jobs[..starts.len()], &fleet[..warm.len()])
+    let lists = DayLists {
+        starts,
+        lengths,
+        allowed,
+        warm,
+        cool,
+        life,
+    };
+    FlatVerdict::of(lists.check(rigs))
 }
 
 // The rigs of a plan, over the start of `out`.
@@ -168,8 +153,8 @@ fn put_rigs_of(plan: &[Placement], out: &mut [u8])
     requires { length plan.now ≤ length out.old }
     ensures { out.new ≡ over (map (λ p. p.rig) plan.now) out.old }
 {
-    for j in 0..plan.len() {
-        out[j] = plan[j].rig;
+    for (j, placement) in plan.iter().enumerate() {
+        out[j] = placement.rig;
     }
 }
 
@@ -186,7 +171,15 @@ pub extern "C" fn pj_plan_day(
 ) -> FlatPlan
     ensures { PlansInto (lists starts.now lengths.now allowed.now warm.now cool.now life.now) out.old result out.new }
 {
-    match planned(starts, lengths, allowed, warm, cool, life, out) {
+    let lists = DayLists {
+        starts,
+        lengths,
+        allowed,
+        warm,
+        cool,
+        life,
+    };
+    match lists.plan(out.len()) {
         Ok(plan) => {
             put_rigs_of(plan.placements(), out);
             FlatPlan::of(Ok(()))

@@ -1,10 +1,10 @@
 // The lists of a call, one for each field, as jobs, rigs, placements and readings: the element at a place has the
 // number there of each list.
-ghost use Rattle.std.specs.Prelude.{◌≡◌, ◌≤◌, ◌↔◌, IsTrue, length, take, map};
-ghost use Rattle.std.specs.List.{range_with_len};
-ghost use Rattle.board.specs.Lists.{AreAlike, job_from, rig_from, placement_from, reading_from};
+ghost use Rattle.std.specs.Prelude.{◌≡◌, ◌≤◌, ◌<◌, ◌↔◌, IsTrue, length, take};
+ghost use Rattle.board.specs.Lists.{HaveOneLength, FitADay, job_at, jobs_in, rigs_in, plan_in, readings_in};
+ghost use Rattle.board.specs.Lent.{day_lists};
 
-use day::{Job, Placement, Rig};
+use day::{JOBS_MOST, Job, Placement, RIGS_MOST, Rig};
 use service::Reading;
 
 pub const NO_JOB: Job = Job {
@@ -29,66 +29,87 @@ pub const NO_READING: Reading = Reading {
     later: 0,
 };
 
-/// Three lists of so many places are of one length.
-pub fn are_alike(first: usize, second: usize, third: usize) -> bool
-    ensures { IsTrue result ↔ AreAlike first second third }
-{
-    second == first && third == first
+/// The lists of a day, as a call is lent them: one for each field of its jobs, and of its rigs.
+#[derive(Clone, Copy)]
+pub struct DayLists<'a> {
+    pub starts: &'a [u32],
+    pub lengths: &'a [u32],
+    pub allowed: &'a [u8],
+    pub warm: &'a [u32],
+    pub cool: &'a [u32],
+    pub life: &'a [u32],
 }
 
-/// The jobs, at the start of `jobs`.
-pub fn put_jobs(starts: &[u32], lengths: &[u32], allowed: &[u8], jobs: &mut [Job])
-    requires alike { AreAlike (length starts.now) (length lengths.now) (length allowed.now) }
-    requires room { length starts.now ≤ length jobs.old }
-    ensures { take (length starts.now) jobs.new
-        ≡ map (job_from starts.now lengths.now allowed.now) (range_with_len 0 (length starts.now)) }
-{
-    for j in 0..starts.len() {
-        jobs[j] = Job {
-            start: starts[j],
-            length: lengths[j],
-            allowed: allowed[j],
-        };
+impl DayLists<'_> {
+    /// The lists of the jobs are of one length, and those of the rigs.
+    pub fn have_one_length(&self) -> bool
+        ensures { IsTrue result ↔ HaveOneLength (day_lists self.now) }
+    {
+        self.lengths.len() == self.starts.len()
+            && self.allowed.len() == self.starts.len()
+            && self.cool.len() == self.warm.len()
+            && self.life.len() == self.warm.len()
     }
-}
 
-/// The rigs, at the start of `rigs`.
-pub fn put_rigs(warm: &[u32], cool: &[u32], life: &[u32], rigs: &mut [Rig])
-    requires alike { AreAlike (length warm.now) (length cool.now) (length life.now) }
-    requires room { length warm.now ≤ length rigs.old }
-    ensures { take (length warm.now) rigs.new
-        ≡ map (rig_from warm.now cool.now life.now) (range_with_len 0 (length warm.now)) }
-{
-    for k in 0..warm.len() {
-        rigs[k] = Rig {
-            warm_up: warm[k],
-            cooling: cool[k],
-            life: life[k],
-        };
+    /// There are no more than a day has.
+    pub fn fit_a_day(&self) -> bool
+        ensures { IsTrue result ↔ FitADay (day_lists self.now) }
+    {
+        self.starts.len() <= JOBS_MOST && self.warm.len() <= RIGS_MOST
     }
-}
 
-/// The jobs, each on its rig, at the start of `plan`.
-pub fn put_plan(
-    starts: &[u32],
-    lengths: &[u32],
-    allowed: &[u8],
-    rigs: &[u8],
-    plan: &mut [Placement],
-)
-    requires alike { AreAlike (length starts.now) (length lengths.now) (length allowed.now) }
-    requires one_each { length rigs.now ≡ length starts.now }
-    requires room { length starts.now ≤ length plan.old }
-    ensures { take (length starts.now) plan.new
-        ≡ map (placement_from starts.now lengths.now allowed.now rigs.now) (range_with_len 0 (length starts.now)) }
-{
-    for j in 0..starts.len() {
-        let job = Job {
-            start: starts[j],
-            length: lengths[j],
-            allowed: allowed[j],
-        };
-        plan[j] = Placement { job, rig: rigs[j] };
+    // The job at a place.
+    fn job(&self, j: usize) -> Job
+        requires alike { HaveOneLength (day_lists self.now) }
+        requires inside { j < length self.now.starts.now }
+        ensures { result ≡ job_at (day_lists self.now) j }
+    {
+        Job {
+            start: self.starts[j],
+            length: self.lengths[j],
+            allowed: self.allowed[j],
+        }
+    }
+
+    /// The jobs, at the start of `jobs`.
+    pub fn put_jobs(&self, jobs: &mut [Job])
+        requires alike { HaveOneLength (day_lists self.now) }
+        requires room { length self.now.starts.now ≤ length jobs.old }
+        ensures { take (length self.now.starts.now) jobs.new ≡ jobs_in (day_lists self.now) }
+    {
+        for j in 0..self.starts.len() {
+            jobs[j] = self.job(j);
+        }
+    }
+
+    /// The jobs, each on its rig of the list, at the start of `plan`.
+    pub fn put_plan(&self, rigs: &[u8], plan: &mut [Placement])
+        requires alike { HaveOneLength (day_lists self.now) }
+        requires one_each { length rigs.now ≡ length self.now.starts.now }
+        requires room { length self.now.starts.now ≤ length plan.old }
+        ensures { take (length self.now.starts.now) plan.new ≡ plan_in (day_lists self.now) rigs.now }
+    {
+        for j in 0..self.starts.len() {
+            plan[j] = Placement {
+                job: self.job(j),
+                rig: rigs[j],
+            };
+        }
+    }
+
+    /// The rigs, at the start of `rigs`.
+    pub fn put_rigs(&self, rigs: &mut [Rig])
+        requires alike { HaveOneLength (day_lists self.now) }
+        requires room { length self.now.warm.now ≤ length rigs.old }
+        ensures { take (length self.now.warm.now) rigs.new ≡ rigs_in (day_lists self.now) }
+    {
+        for k in 0..self.warm.len() {
+            rigs[k] = Rig {
+                warm_up: self.warm[k],
+                cooling: self.cool[k],
+                life: self.life[k],
+            };
+        }
     }
 }
 
@@ -96,8 +117,7 @@ pub fn put_plan(
 pub fn put_readings(earlier: &[u32], later: &[u32], readings: &mut [Reading])
     requires alike { length later.now ≡ length earlier.now }
     requires room { length earlier.now ≤ length readings.old }
-    ensures { take (length earlier.now) readings.new
-        ≡ map (reading_from earlier.now later.now) (range_with_len 0 (length earlier.now)) }
+    ensures { take (length earlier.now) readings.new ≡ readings_in earlier.now later.now }
 {
     for k in 0..earlier.len() {
         readings[k] = Reading {

@@ -9,7 +9,6 @@ use mathlib.Core.List.{List, [], ◌∷◌}
 use native.Mathlib.Numerals.{add-one}
 use native.Mathlib.Omega.{arith}
 use lib.ListN.{length, get_or, set, take}
-use lib.Seq.{take_all}
 use Rattle.std.specs.Prelude.{if◌then◌else◌}
 use Rattle.text.proofs.Choices.{if_no}
 use Rattle.record.specs.Limits.{lampsMost}
@@ -86,18 +85,7 @@ module _ (f : ℕ → ℕ) (l : List ℕ) (ms : List Bool) (count : ℕ) where
   none-changed = record { counted = omega arith; first = sym (where-none f l) }
 
   module _ {after : List ℕ} {k : ℕ} (done : ChangedTo after k) where
-    pub count-changed : count ≤ k → after ≡ changedWhere f (take count ms) l
-    count-changed h =
-        let same : k ≡ count = omega (arith, done.counted) in
-        done.first ∙ ap (λ (j : ℕ). changedWhere f (take j ms) l) same
-
     module _ (marks-long : length ms ≡ lampsMost) where
-      pub all_changed : lampsMost ≤ k → after ≡ changedWhere f (take count ms) l
-      all_changed h =
-          done.first
-          ∙ ap (λ (some : List Bool). changedWhere f some l)
-          (take_all k ms (omega arith) ∙ sym (take_all count ms (omega (arith, done.counted))))
-
       pub one-changed : length l ≡ lampsMost → k < lampsMost → k < count → {v : ℕ}
           → v ≡ (if get_or ms k false then f (get_or l k 0) else get_or l k 0)
           → ChangedTo (set after k v) (k + 1)

@@ -7,8 +7,6 @@ use Rattle.record.specs.Legal.{isLegal}
 use Rattle.record.specs.Record.{accepted}
 use Rattle.record.specs.Updates.{withOwn, withFault}
 use Rattle.record.specs.HostCalls.{faultSet}
-use Rattle.record.specs.declared.types.Settings.{Settings}
-use Rattle.record.specs.declared.types.Own.{Own}
 use Rattle.record.specs.declared.types.Device.{Device}
 use Rattle.record.specs.declared.types.Changed.{Changed}
 use Rattle.record.proofs.Calls.{fault-illegal, fault-accepted}
@@ -18,11 +16,6 @@ use Rattle.clock.specs.Passing.{passed}
 use Rattle.clock.proofs.Repeated.{times-commute}
 use Rattle.clock.proofs.Cases.{passed-by, passed-illegal, passed-accepted}
 use Rattle.clock.proofs.TimeLegal.{time-legal}
-
-pub mark-and-time : (n : ℕ) (s : Settings) (o : Own) (m : Bool)
-    → times (ownSecond s) n (withFault o m) ≡ withFault (times (ownSecond s) n o) m
-unfolding ownSecond
-mark-and-time n s o m = times-commute (ownSecond s) (λ (x : Own). withFault x m) (λ x. refl) n o
 
 abbrev marked : Bool → Device → Device
 marked m d = withOwn d (withFault d.own m)

@@ -33,7 +33,3 @@ module _ (d : Device) (n : ℕ) where
 
   pub pass-in-place-one : {r q : ℕ} {x y : Device} → InPlace r x → InPlace q y → (r ≡ q) × (x ≡ y)
   pass-in-place-one e f = (one-result e.0 f.0, one-result e.1 f.1)
-
-  pub in-place-as-by-value : {r : ℕ} {x : Device} → InPlace r x
-      → ◌≡◌ {A = Changed} (record { number = r; device = x }) (passed d n)
-  in-place-as-by-value e = (λ i. record { number = e.0 i; device = e.1 i })

@@ -1,5 +1,5 @@
 // What `pass` does with a record that is legal, by the same promise. A caller that has tested its record once and keeps
-// it legal calls this, as `floor` does; a host calls `pass`, which asks for nothing.
+// it legal calls this, as `floorlog` does; a host calls `pass`, which asks for nothing.
 ghost use Rattle.std.specs.Prelude.{◌≡◌, true};
 ghost use Rattle.record.specs.Legal.{isLegal};
 ghost use Rattle.clock.specs.Passing.{passed};

@@ -12,12 +12,12 @@ use lib.Dec.{leb, eqb}
 use borrow.Author.Tests.{eqb-true}
 use Rattle.std.specs.Prelude.{if◌then◌else◌, Option, Some, None, IfSome, option_map, option_and_then}
 use Rattle.text.proofs.Choices.{if_yes, if_no, if-by}
-use Rattle.lines.specs.Inputs.{isInput}
-use Rattle.lines.specs.Commands.{isCommand}
-use Rattle.lines.specs.declared.input.Source.{Source}
-use Rattle.lines.specs.declared.input.Input.{Input}
-use Rattle.lines.specs.declared.command.Half.{Half}
-use Rattle.lines.specs.declared.command.Command.{Command}
+use Rattle.words.specs.Inputs.{isInput}
+use Rattle.pjlink.specs.Commands.{isCommand}
+use Rattle.words.specs.declared.input.Source.{Source}
+use Rattle.words.specs.declared.input.Input.{Input}
+use Rattle.pjlink.specs.declared.command.Half.{Half}
+use Rattle.pjlink.specs.declared.command.Command.{Command}
 use Rattle.codes.specs.Commands.{CodedBy, alone, switch, ofInput, ofHalf, CodeRow, codes, switch_at, source_at}
 use Rattle.codes.specs.Commands.{input_at, half_at, stands_for, commandAmong, commandOf, coded, usedBy, usedAmong}
 use Rattle.codes.specs.Commands.{usedOf, bit, sourceNumber, halfNumber, inputCode, code_of}

@@ -6,20 +6,20 @@ use mathlib.Core.Bool.{Bool, true, false, ◌&&◌}
 use lib.Dec.{leb}
 use Rattle.std.specs.Prelude.{if◌then◌else◌, Some, None, option_map}
 use Rattle.text.proofs.Choices.{if_yes}
-use Rattle.lines.specs.Sources.{type_of}
-use Rattle.lines.specs.Bodies.{hasQuery}
-use Rattle.lines.specs.Commands.{isCommand}
-use Rattle.lines.specs.declared.input.Source.{Source}
-use Rattle.lines.specs.declared.input.Source.TheVariants.{Rgb, Video, Digital, Storage, Network, Internal}
-use Rattle.lines.specs.declared.input.Input.{Input}
-use Rattle.lines.specs.declared.command.Body.{Body}
-use Rattle.lines.specs.declared.command.Half.{Half}
-use Rattle.lines.specs.declared.command.Half.TheVariants.{VideoHalf, AudioHalf, BothHalves}
-use Rattle.lines.specs.declared.command.Volume.TheVariants.{Speaker, Microphone}
-use Rattle.lines.specs.declared.command.Command.{Command}
-use Rattle.lines.specs.declared.command.Command.TheVariants.{PowerSet, InputSet, MuteSet, InputSet2, FreezeSet}
-use Rattle.lines.specs.declared.command.Command.TheVariants.{VolumeStep, NameQuery, Query}
-use Rattle.lines.proofs.Bodies.{each-body}
+use Rattle.words.specs.Sources.{type_of}
+use Rattle.pjlink.specs.Bodies.{hasQuery}
+use Rattle.pjlink.specs.Commands.{isCommand}
+use Rattle.words.specs.declared.input.Source.{Source}
+use Rattle.words.specs.declared.input.Source.TheVariants.{Rgb, Video, Digital, Storage, Network, Internal}
+use Rattle.words.specs.declared.input.Input.{Input}
+use Rattle.pjlink.specs.declared.command.Body.{Body}
+use Rattle.pjlink.specs.declared.command.Half.{Half}
+use Rattle.pjlink.specs.declared.command.Half.TheVariants.{VideoHalf, AudioHalf, BothHalves}
+use Rattle.pjlink.specs.declared.command.Volume.TheVariants.{Speaker, Microphone}
+use Rattle.pjlink.specs.declared.command.Command.{Command}
+use Rattle.pjlink.specs.declared.command.Command.TheVariants.{PowerSet, InputSet, MuteSet, InputSet2, FreezeSet}
+use Rattle.pjlink.specs.declared.command.Command.TheVariants.{VolumeStep, NameQuery, Query}
+use Rattle.pjlink.proofs.Bodies.{each-body}
 use Rattle.codes.specs.Commands.{switch, ofInput, ofHalf, switch_at, source_at, input_at, half_at, stands_for}
 use Rattle.codes.specs.Commands.{commandOf, bit, sourceNumber, halfNumber, code_of}
 

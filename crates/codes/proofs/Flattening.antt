@@ -8,9 +8,9 @@ use lib.ListN.{length, get_or, set, take, length-append}
 use lib.Seq.{length-take-le}
 use Rattle.text.proofs.InTurn.{turns-long, one-turn-more}
 use Rattle.text.proofs.Stores.{sets-snoc}
-use Rattle.lines.specs.Sources.{numberCharacter}
-use Rattle.lines.specs.Inputs.{inputText, sourceDigit}
-use Rattle.lines.specs.declared.input.Input.{Input}
+use Rattle.words.specs.Sources.{numberCharacter}
+use Rattle.words.specs.Inputs.{inputText, sourceDigit}
+use Rattle.words.specs.declared.input.Input.{Input}
 use Rattle.codes.specs.Readings.{filledTo, noCharacters, characters}
 
 -- one turn: two stores for one input more

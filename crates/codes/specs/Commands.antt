@@ -7,18 +7,18 @@
 -- Assumes nothing.
 use Rattle.std.specs.Prelude.{ℕ, Bool, true, false, ◌&&◌, List, [], ◌∷◌, leb, eqb, if◌then◌else◌}
 use Rattle.std.specs.Prelude.{Option, Some, None, option_map, option_and_then}
-use Rattle.lines.specs.declared.input.Source.{Source}
-use Rattle.lines.specs.declared.input.Source.TheVariants.{Rgb, Video, Digital, Storage, Network, Internal}
-use Rattle.lines.specs.declared.input.Input.{Input}
-use Rattle.lines.specs.declared.command.Body.{Body}
-use Rattle.lines.specs.declared.command.Body.TheVariants.{Powr, Inpt, Avmt, Erst, Lamp, Inst, Name, Inf1, Inf2, Info}
-use Rattle.lines.specs.declared.command.Body.TheVariants.{Clss, Frez, Svol, Mvol, Snum, Sver, Innm, Inpt2, Inst2}
-use Rattle.lines.specs.declared.command.Half.{Half}
-use Rattle.lines.specs.declared.command.Half.TheVariants.{VideoHalf, AudioHalf, BothHalves}
-use Rattle.lines.specs.declared.command.Volume.TheVariants.{Speaker, Microphone}
-use Rattle.lines.specs.declared.command.Command.{Command}
-use Rattle.lines.specs.declared.command.Command.TheVariants.{PowerSet, InputSet, MuteSet, InputSet2, FreezeSet}
-use Rattle.lines.specs.declared.command.Command.TheVariants.{VolumeStep, NameQuery, Query}
+use Rattle.words.specs.declared.input.Source.{Source}
+use Rattle.words.specs.declared.input.Source.TheVariants.{Rgb, Video, Digital, Storage, Network, Internal}
+use Rattle.words.specs.declared.input.Input.{Input}
+use Rattle.pjlink.specs.declared.command.Body.{Body}
+use Rattle.pjlink.specs.declared.command.Body.TheVariants.{Powr, Inpt, Avmt, Erst, Lamp, Inst, Name, Inf1, Inf2, Info}
+use Rattle.pjlink.specs.declared.command.Body.TheVariants.{Clss, Frez, Svol, Mvol, Snum, Sver, Innm, Inpt2, Inst2}
+use Rattle.pjlink.specs.declared.command.Half.{Half}
+use Rattle.pjlink.specs.declared.command.Half.TheVariants.{VideoHalf, AudioHalf, BothHalves}
+use Rattle.pjlink.specs.declared.command.Volume.TheVariants.{Speaker, Microphone}
+use Rattle.pjlink.specs.declared.command.Command.{Command}
+use Rattle.pjlink.specs.declared.command.Command.TheVariants.{PowerSet, InputSet, MuteSet, InputSet2, FreezeSet}
+use Rattle.pjlink.specs.declared.command.Command.TheVariants.{VolumeStep, NameQuery, Query}
 use Rattle.codes.specs.declared.command.Coded.{Coded}
 
 infix 5 ◌means◌

@@ -6,14 +6,14 @@
 use Rattle.std.specs.Prelude.{ℕ, Bool, false, List, [], map, length, replicate}
 use Rattle.std.proofs.lemmas.List.Edits.{sets}
 use Rattle.text.specs.InTurn.{eachInTurn}
-use Rattle.lines.specs.Inputs.{inputText}
-use Rattle.lines.specs.declared.input.Input.{Input}
-use Rattle.answers.specs.Said.{Said, okay, refused, powerIs, chosenIs, mutesAre, errorsAre, lampsAre, inputsAre}
-use Rattle.answers.specs.Said.{textIs, classIs, freezeIs, nothing}
-use Rattle.answers.specs.Carried.{textCarried}
-use Rattle.answers.specs.declared.answer.Power.{Power}
-use Rattle.answers.specs.declared.answer.Power.TheVariants.{Off, On, Cooling, WarmUp}
-use Rattle.answers.specs.declared.answer.LampHours.{LampHours}
+use Rattle.words.specs.Inputs.{inputText}
+use Rattle.words.specs.declared.input.Input.{Input}
+use Rattle.pjlink.specs.Said.{Said, okay, refused, powerIs, chosenIs, mutesAre, errorsAre, lampsAre, inputsAre}
+use Rattle.pjlink.specs.Said.{textIs, classIs, freezeIs, nothing}
+use Rattle.pjlink.specs.Carried.{textCarried}
+use Rattle.pjlink.specs.declared.answer.Power.{Power}
+use Rattle.pjlink.specs.declared.answer.Power.TheVariants.{Off, On, Cooling, WarmUp}
+use Rattle.pjlink.specs.declared.answer.LampHours.{LampHours}
 use Rattle.controller.specs.Greetings.{greetingNumber}
 use Rattle.controller.specs.Reading.{ReadAs, outcomeNumber}
 use Rattle.controller.specs.declared.greeting.Greeting.{Greeting}

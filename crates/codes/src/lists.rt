@@ -1,13 +1,13 @@
 // Texts, lamps and inputs as a reading has them: as many as are counted, at the start of a cleared room. A count past
 // the array's end counts the whole array.
 ghost use Rattle.std.specs.Prelude.{◌≡◌, ◌≤◌, min, length, take};
-ghost use Rattle.answers.specs.Carried.{textCarried, lampsCarried, inputsCarried};
+ghost use Rattle.pjlink.specs.Carried.{textCarried, lampsCarried, inputsCarried};
 ghost use Rattle.codes.specs.Readings.{withText, flatLamps, withLamps, withInputs};
 
 use crate::readings::{CHARACTERS, FlatReading};
-use answers::answer::{INPUTS_MOST, LAMPS_MOST, LampHours, TEXT_MOST};
-use lines::input;
-use lines::input::Input;
+use pjlink::answer::{INPUTS_MOST, LAMPS_MOST, LampHours, TEXT_MOST};
+use words::input;
+use words::input::Input;
 
 /// Lamps, by their hours and by whether they are lit, each in a cleared room.
 #[derive(Clone, Copy)]

@@ -1,14 +1,14 @@
 // What the readers give, as numbers beside arrays, since an exported call returns no enum. What a kind does not use is
 // zero (RULES, Controller).
 ghost use Rattle.std.specs.Prelude.{◌≡◌};
-ghost use Rattle.answers.specs.Carried.{saidBy};
+ghost use Rattle.pjlink.specs.Carried.{saidBy};
 ghost use Rattle.codes.specs.Commands.{bit, sourceNumber};
 ghost use Rattle.codes.specs.Readings.{flatGreeting, meaningless, plain, powerNumber, saidFlat, flatAs};
 
-use answers::answer::{Answer, ERRORS_COUNT, INPUTS_MOST, Kind, LAMPS_MOST, Power, TEXT_MOST};
+use pjlink::answer::{Answer, ERRORS_COUNT, INPUTS_MOST, Kind, LAMPS_MOST, Power, TEXT_MOST};
 use controller::greeting::Greeting;
 use controller::reading::{Outcome, Reading};
-use lines::input::Source;
+use words::input::Source;
 
 pub const CHARACTERS: usize = 2 * INPUTS_MOST;
 
@@ -116,7 +116,7 @@ impl FlatReading {
         flat
     }
 
-    #[tactic(auto, using(answers::proofs::Counts::said_by_kind))]
+    #[tactic(auto, using(pjlink::proofs::Counts::said_by_kind))]
     fn said(a: &Answer) -> FlatReading
         ensures { result ≡ saidFlat (saidBy a.now) }
     {

@@ -1,8 +1,8 @@
 // What is proved beside the contracts of the functions. Nothing is done here: that these functions have their contracts
 // is that the theorems stand.
 ghost use Rattle.std.specs.Prelude.{◌≡◌, true, Some};
-ghost use Rattle.lines.specs.declared.command.Command.{Command};
-ghost use Rattle.lines.specs.Commands.{isCommand};
+ghost use Rattle.pjlink.specs.declared.command.Command.{Command};
+ghost use Rattle.pjlink.specs.Commands.{isCommand};
 ghost use Rattle.codes.specs.Commands.{commandOf, code_of, usedOf};
 ghost use Rattle.codes.specs.declared.command.Coded.{Coded};
 

@@ -12,9 +12,9 @@ use mathlib.Core.List.{List}
 use lib.ListN.{length, take, drop}
 use lib.Seq.{take-append_seam}
 use Rattle.text.specs.Words.{over}
-use Rattle.lines.specs.Commands.{commandClass, isCommand}
-use Rattle.lines.specs.declared.command.Command.{Command}
-use Rattle.requests.specs.declared.Request.TheVariants.{Asks}
+use Rattle.pjlink.specs.Commands.{commandClass, isCommand}
+use Rattle.pjlink.specs.declared.command.Command.{Command}
+use Rattle.pjlink.specs.declared.request.Request.TheVariants.{Asks}
 use Rattle.record.specs.Limits.{placesCount, awaiting, opened}
 use Rattle.record.specs.Legal.{isLegal}
 use Rattle.record.specs.Places.{connectionAt, withPlace, lowestShut}

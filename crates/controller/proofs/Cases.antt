@@ -11,12 +11,12 @@ use Rattle.text.specs.Scans.{sameBy, itself}
 use Rattle.text.proofs.Choices.{if_yes, if_no, if-by, both}
 use Rattle.text.proofs.Scanning.{long-differs}
 use Rattle.digest.specs.Hex.{leadingDigest, hexDigits}
-use Rattle.lines.specs.Texts.{isPassword}
-use Rattle.lines.specs.Commands.{isCommand, bodyOf, commandClass, commandLine}
-use Rattle.lines.specs.Forms.{erraLine, greetingOpen, greetingSecured, isReplyForm, headBody, replyParameter}
-use Rattle.lines.specs.declared.command.Command.{Command}
-use Rattle.requests.specs.Requests.{isBody}
-use Rattle.replies.specs.Reading.{readParameter}
+use Rattle.words.specs.Texts.{isPassword}
+use Rattle.pjlink.specs.Commands.{isCommand, bodyOf, commandClass, commandLine}
+use Rattle.pjlink.specs.Forms.{erraLine, greetingOpen, greetingSecured, isReplyForm, headBody, replyParameter}
+use Rattle.pjlink.specs.declared.command.Command.{Command}
+use Rattle.pjlink.specs.Requests.{isBody}
+use Rattle.pjlink.specs.Reading.{readParameter}
 use Rattle.controller.specs.Writing.{WrittenAs, nothingWritten, commandRoom, isWritable, ledBy, writtenCommand}
 use Rattle.controller.specs.Reading.{ReadAs, without, saying, readReply}
 use Rattle.controller.specs.Greetings.{greets, randomIn, readGreeting}

@@ -4,12 +4,11 @@ use mathlib.Core.Path.{◌≡◌, refl}
 use mathlib.Core.Bool.{true, false}
 use mathlib.Core.List.{[]}
 use Rattle.text.specs.Words.{ascii}
-use Rattle.lines.specs.Computing.{computing as lines}
-use Rattle.lines.specs.declared.command.Body.TheVariants.{Powr, Name}
-use Rattle.lines.specs.declared.command.Command.TheVariants.{PowerSet, Query}
-use Rattle.answers.specs.Said.{okay, powerIs}
-use Rattle.replies.specs.Computing.{computing as replies}
-use Rattle.answers.specs.declared.answer.Power.TheVariants.{WarmUp}
+use Rattle.pjlink.specs.Computing.{computing as pjlink}
+use Rattle.pjlink.specs.declared.command.Body.TheVariants.{Powr, Name}
+use Rattle.pjlink.specs.declared.command.Command.TheVariants.{PowerSet, Query}
+use Rattle.pjlink.specs.Said.{okay, powerIs}
+use Rattle.pjlink.specs.declared.answer.Power.TheVariants.{WarmUp}
 use Rattle.digest.specs.Computing.{computing as digest}
 use Rattle.controller.specs.Writing.{nothingWritten, writtenCommand}
 use Rattle.controller.specs.Reading.{meaning, without, readReply}
@@ -19,38 +18,38 @@ use Rattle.controller.specs.declared.reading.Outcome.TheVariants.{NotALine, Othe
 use Rattle.controller.specs.declared.greeting.Greeting.TheVariants.{Secured, NotAGreeting}
 
 power-on-written : writtenCommand (PowerSet true) false 0 [] 168 ≡ record { number = 0; bytes = ascii "%1POWR 1\r" }
-unfolding computing lines replies digest
+unfolding computing pjlink digest
 power-on-written = refl
 
 memory-167 : writtenCommand (PowerSet true) false 0 [] 167 ≡ nothingWritten 2
-unfolding computing lines replies digest
+unfolding computing pjlink digest
 memory-167 = refl
 
 in-any-case : readReply (PowerSet true) (ascii "%1powr=OK\r") ≡ meaning okay
-unfolding computing lines replies digest
+unfolding computing pjlink digest
 in-any-case = refl
 
 warm-up : readReply (Query Powr) (ascii "%1POWR=3\r") ≡ meaning (powerIs WarmUp)
-unfolding computing lines replies digest
+unfolding computing pjlink digest
 warm-up = refl
 
 err2-is-no-text : readReply (Query Name) (ascii "%1NAME=ERR2\r") ≡ without NotAllowed
-unfolding computing lines replies digest
+unfolding computing pjlink digest
 err2-is-no-text = refl
 
 another-body : readReply (Query Powr) (ascii "%1INPT=11\r") ≡ without OtherCommand
-unfolding computing lines replies digest
+unfolding computing pjlink digest
 another-body = refl
 
 without-cr : readReply (Query Powr) (ascii "%1POWR=3") ≡ without NotALine
-unfolding computing lines replies digest
+unfolding computing pjlink digest
 without-cr = refl
 
 -- the specification's random number
 random-heard : readGreeting (ascii "PJLINK 1 498e4a67\r") ≡ Secured 1234061927
-unfolding computing lines replies digest
+unfolding computing pjlink digest
 random-heard = refl
 
 upper-case-digits : readGreeting (ascii "PJLINK 1 498E4A67\r") ≡ NotAGreeting
-unfolding computing lines replies digest
+unfolding computing pjlink digest
 upper-case-digits = refl

@@ -14,7 +14,7 @@ use Rattle.text.specs.Scans.{sameBy, itself}
 use Rattle.text.proofs.Sameness.{same-is, turned_same}
 use Rattle.digest.specs.Hex.{hexDigits}
 use Rattle.digest.proofs.Laws.{hex-value-back, hex-value-below}
-use Rattle.lines.specs.Forms.{erraLine, greetingOpen, greetingSecured}
+use Rattle.pjlink.specs.Forms.{erraLine, greetingOpen, greetingSecured}
 use Rattle.record.specs.Limits.{placesCount}
 use Rattle.record.specs.Legal.{isLegal}
 use Rattle.record.specs.declared.types.Settings.{Settings}

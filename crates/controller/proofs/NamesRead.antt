@@ -6,12 +6,12 @@ use mathlib.Core.Bool.{true}
 use mathlib.Core.List.{List, ◌++◌}
 use native.Mathlib.Omega.{arith}
 use Rattle.text.specs.Words.{ascii}
-use Rattle.lines.specs.Texts.{isName}
-use Rattle.lines.specs.declared.command.Command.TheVariants.{Query}
-use Rattle.lines.specs.declared.command.Body.TheVariants.{Name}
-use Rattle.answers.specs.Said.{textIs}
-use Rattle.answers.specs.CanSay.{name}
-use Rattle.answers.proofs.SaidPlain.{said_plain, text-said}
+use Rattle.words.specs.Texts.{isName}
+use Rattle.pjlink.specs.declared.command.Command.TheVariants.{Query}
+use Rattle.pjlink.specs.declared.command.Body.TheVariants.{Name}
+use Rattle.pjlink.specs.Said.{textIs}
+use Rattle.pjlink.specs.CanSay.{name}
+use Rattle.pjlink.proofs.SaidPlain.{said_plain, text-said}
 use Rattle.controller.specs.Reading.{readReply, meaning}
 use Rattle.controller.proofs.ReadsBack.{reply-read}
 

@@ -7,7 +7,7 @@ use mathlib.Core.List.{List}
 use lib.ListN.{length}
 use Rattle.text.specs.Words.{over}
 use Rattle.text.proofs.OneResult.{one-result, Left, one_left}
-use Rattle.lines.specs.declared.command.Command.{Command}
+use Rattle.pjlink.specs.declared.command.Command.{Command}
 use Rattle.controller.specs.Writing.{writtenCommand, toldWritten}
 use Rattle.controller.specs.Reading.{readReply, reading_of}
 use Rattle.controller.specs.Greetings.{readGreeting}

@@ -5,7 +5,7 @@ use mathlib.Core.Path.{◌≡◌, ap, ◌∙◌}
 use mathlib.Core.Bool.{true}
 use mathlib.Core.List.{List}
 use lib.Dec.{eqb}
-use Rattle.lines.specs.declared.command.Command.{Command}
+use Rattle.pjlink.specs.declared.command.Command.{Command}
 use Rattle.record.specs.Limits.{placesCount, shut, awaiting}
 use Rattle.record.specs.Legal.{isLegal, heldMost}
 use Rattle.record.specs.Places.{connectionAt}

@@ -4,12 +4,12 @@ use Prim.Native.Nat.{ℕ}
 use mathlib.Core.Path.{◌≡◌, refl}
 use mathlib.Core.Bool.{true}
 use mathlib.Core.List.{List}
-use Rattle.lines.specs.declared.command.Command.{Command}
-use Rattle.answers.specs.Said.{Said}
-use Rattle.answers.specs.Carried.{answer_of, saidBy, isSayable}
-use Rattle.replies.proofs.ReadSound.{CanRead, answer, no_answer, read-sound}
-use Rattle.answers.proofs.SaidPlain.{can-sayable}
-use Rattle.answers.proofs.SaidBack.{said-back}
+use Rattle.pjlink.specs.declared.command.Command.{Command}
+use Rattle.pjlink.specs.Said.{Said}
+use Rattle.pjlink.specs.Carried.{answer_of, saidBy, isSayable}
+use Rattle.pjlink.proofs.ReadSound.{CanRead, answer, no_answer, read-sound}
+use Rattle.pjlink.proofs.SaidPlain.{can-sayable}
+use Rattle.pjlink.proofs.SaidBack.{said-back}
 use Rattle.controller.specs.Reading.{readReply}
 use Rattle.controller.proofs.Cases.{reply-by}
 

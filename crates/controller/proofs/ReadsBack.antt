@@ -17,22 +17,22 @@ use Rattle.text.specs.Scans.{every}
 use Rattle.text.proofs.Choices.{if_no}
 use Rattle.digest.specs.Hex.{leadingDigest}
 use Rattle.digest.proofs.Laws.{leading-digest-length}
-use Rattle.lines.specs.Bytes.{◌at◌, isAlnum, notCr, noCr}
-use Rattle.lines.specs.Forms.{replyLine}
-use Rattle.lines.specs.Commands.{bodyText, bodyOf, commandClass, classDigit, isCommand, commandText, commandLine}
-use Rattle.lines.specs.declared.command.Command.{Command}
-use Rattle.lines.proofs.Bodies.{four, body-spelt}
-use Rattle.lines.proofs.Characters.{no-cr-each}
-use Rattle.lines.proofs.CommandLines.{command-length, line-length, command-no-cr}
-use Rattle.lines.proofs.RepliesReadBack.{reply-not-erra, reply-form, reply-parameter}
-use Rattle.requests.specs.Requests.{isBody}
-use Rattle.requests.proofs.BodiesNamed.{body-named}
-use Rattle.requests.specs.declared.Request.TheVariants.{Asks}
-use Rattle.answers.specs.Said.{Said, saidBytes}
-use Rattle.replies.specs.Reading.{readParameter}
-use Rattle.answers.specs.CanSay.{CanSay}
-use Rattle.answers.proofs.Nothing.{says-something}
-use Rattle.replies.proofs.ReadsBack.{reads-back as parameter-reads-back}
+use Rattle.words.specs.Bytes.{◌at◌, isAlnum, notCr, noCr}
+use Rattle.pjlink.specs.Forms.{replyLine}
+use Rattle.pjlink.specs.Commands.{bodyText, bodyOf, commandClass, classDigit, isCommand, commandText, commandLine}
+use Rattle.pjlink.specs.declared.command.Command.{Command}
+use Rattle.pjlink.proofs.Bodies.{four, body-spelt}
+use Rattle.words.proofs.Characters.{no-cr-each}
+use Rattle.pjlink.proofs.CommandLines.{command-length, line-length, command-no-cr}
+use Rattle.pjlink.proofs.RepliesReadBack.{reply-not-erra, reply-form, reply-parameter}
+use Rattle.pjlink.specs.Requests.{isBody}
+use Rattle.pjlink.proofs.BodiesNamed.{body-named}
+use Rattle.pjlink.specs.declared.request.Request.TheVariants.{Asks}
+use Rattle.pjlink.specs.Said.{Said, saidBytes}
+use Rattle.pjlink.specs.Reading.{readParameter}
+use Rattle.pjlink.specs.CanSay.{CanSay}
+use Rattle.pjlink.proofs.Nothing.{says-something}
+use Rattle.pjlink.proofs.ReadsBack.{reads-back as parameter-reads-back}
 use Rattle.record.specs.Limits.{placesCount, shut, awaiting, opened}
 use Rattle.record.specs.Legal.{isLegal}
 use Rattle.record.specs.Places.{connectionAt, withPlace}

@@ -11,18 +11,18 @@ use Rattle.std.specs.Prelude.{if◌then◌else◌}
 use Rattle.text.specs.Scans.{sameBy, itself}
 use Rattle.text.proofs.Choices.{if_yes, if_no, if-all}
 use Rattle.text.proofs.Sameness.{same-is}
-use Rattle.lines.specs.Forms.{erraLine, isReplyForm, headBody, replyParameter}
-use Rattle.lines.specs.Commands.{bodyOf, commandClass}
-use Rattle.lines.specs.declared.command.Command.{Command}
-use Rattle.lines.proofs.RepliesReadBack.{form-not-erra}
-use Rattle.requests.specs.Requests.{isBody}
-use Rattle.answers.specs.Said.{Said}
-use Rattle.answers.specs.Carried.{answer_of, isNothing}
-use Rattle.answers.specs.CanSay.{CanSay}
-use Rattle.replies.specs.Reading.{readParameter}
-use Rattle.replies.specs.Writings.{Says, Allowed, says, says_nothing}
-use Rattle.replies.proofs.ReadSound.{CanRead, no_answer, answer, read-sound}
-use Rattle.replies.proofs.ReadWritings.{written-is-read, not-allowed-says-nothing}
+use Rattle.pjlink.specs.Forms.{erraLine, isReplyForm, headBody, replyParameter}
+use Rattle.pjlink.specs.Commands.{bodyOf, commandClass}
+use Rattle.pjlink.specs.declared.command.Command.{Command}
+use Rattle.pjlink.proofs.RepliesReadBack.{form-not-erra}
+use Rattle.pjlink.specs.Requests.{isBody}
+use Rattle.pjlink.specs.Said.{Said}
+use Rattle.pjlink.specs.Carried.{answer_of, isNothing}
+use Rattle.pjlink.specs.CanSay.{CanSay}
+use Rattle.pjlink.specs.Reading.{readParameter}
+use Rattle.pjlink.specs.Writings.{Says, Allowed, says, says_nothing}
+use Rattle.pjlink.proofs.ReadSound.{CanRead, no_answer, answer, read-sound}
+use Rattle.pjlink.proofs.ReadWritings.{written-is-read, not-allowed-says-nothing}
 use Rattle.controller.specs.Reading.{ReadAs, meaning, saying, readReply, LineSays}
 use Rattle.controller.specs.declared.reading.Outcome.{Outcome}
 use Rattle.controller.specs.declared.reading.Outcome.TheVariants.{Means, Erra, NotALine, OtherCommand}

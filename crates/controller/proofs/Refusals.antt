@@ -9,12 +9,12 @@ use lib.Dec.{ltb}
 use borrow.Author.Tests.{lt-ltb, le-ltb}
 use Rattle.std.specs.Prelude.{if◌then◌else◌}
 use Rattle.text.proofs.Choices.{if_yes, if_no, by-not-not}
-use Rattle.lines.specs.Forms.{erraLine}
-use Rattle.lines.specs.declared.command.Command.{Command}
-use Rattle.answers.specs.Said.{Said, nothing}
-use Rattle.answers.specs.Carried.{plain_of, answer_of}
-use Rattle.answers.specs.declared.answer.Kind.TheVariants.{Nothing}
-use Rattle.answers.proofs.Nothing.{is-nothing}
+use Rattle.pjlink.specs.Forms.{erraLine}
+use Rattle.pjlink.specs.declared.command.Command.{Command}
+use Rattle.pjlink.specs.Said.{Said, nothing}
+use Rattle.pjlink.specs.Carried.{plain_of, answer_of}
+use Rattle.pjlink.specs.declared.answer.Kind.TheVariants.{Nothing}
+use Rattle.pjlink.proofs.Nothing.{is-nothing}
 use Rattle.controller.specs.Writing.{commandRoom, isWritable, writtenCommand}
 use Rattle.controller.specs.Reading.{outcomeNumber, without, saying, readReply, reading_of}
 use Rattle.controller.specs.declared.reading.Outcome.TheVariants.{Means, Erra}

@@ -5,8 +5,8 @@ use Prim.Native.Nat.{ℕ, ◌≤◌, ◌<◌}
 use mathlib.Core.Path.{◌≡◌, refl, sym, subst}
 use mathlib.Core.Bool.{true, false}
 use mathlib.Core.List.{List}
-use Rattle.lines.specs.Commands.{commandClass, isCommand}
-use Rattle.lines.specs.declared.command.Command.{Command}
+use Rattle.pjlink.specs.Commands.{commandClass, isCommand}
+use Rattle.pjlink.specs.declared.command.Command.{Command}
 use Rattle.record.specs.Limits.{placesCount, awaiting, opened}
 use Rattle.record.specs.Legal.{isLegal}
 use Rattle.record.specs.Places.{connectionAt}

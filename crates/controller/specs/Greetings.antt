@@ -9,7 +9,7 @@
 use Rattle.std.specs.Prelude.{ℕ, ◌^◌, ◌<◌, ◌≡◌, Bool, List, take, drop, eqb, if◌then◌else◌}
 use Rattle.text.specs.Scans.{sameBy, itself}
 use Rattle.digest.specs.Hex.{hexDigits, hexValue}
-use Rattle.lines.specs.Forms.{erraLine, greetingOpen, greetingSecured}
+use Rattle.pjlink.specs.Forms.{erraLine, greetingOpen, greetingSecured}
 use Rattle.record.specs.Limits.{awaiting}
 use Rattle.record.specs.declared.types.Connection.{Connection}
 use Rattle.controller.specs.declared.greeting.Greeting.{Greeting}

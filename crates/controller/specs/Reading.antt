@@ -10,14 +10,14 @@
 -- Assumes nothing.
 use Rattle.std.specs.Prelude.{ℕ, ◌≡◌, true, not, List, if◌then◌else◌}
 use Rattle.text.specs.Scans.{sameBy, itself}
-use Rattle.lines.specs.Forms.{erraLine, isReplyForm, headBody, replyParameter}
-use Rattle.lines.specs.Commands.{bodyOf, commandClass}
-use Rattle.lines.specs.declared.command.Command.{Command}
-use Rattle.requests.specs.Requests.{isBody}
-use Rattle.answers.specs.Said.{Said, nothing}
-use Rattle.answers.specs.Carried.{answer_of, isNothing}
-use Rattle.replies.specs.Reading.{readParameter}
-use Rattle.replies.specs.Writings.{Says}
+use Rattle.pjlink.specs.Forms.{erraLine, isReplyForm, headBody, replyParameter}
+use Rattle.pjlink.specs.Commands.{bodyOf, commandClass}
+use Rattle.pjlink.specs.declared.command.Command.{Command}
+use Rattle.pjlink.specs.Requests.{isBody}
+use Rattle.pjlink.specs.Said.{Said, nothing}
+use Rattle.pjlink.specs.Carried.{answer_of, isNothing}
+use Rattle.pjlink.specs.Reading.{readParameter}
+use Rattle.pjlink.specs.Writings.{Says}
 use Rattle.controller.specs.declared.reading.Outcome.{Outcome}
 use Rattle.controller.specs.declared.reading.Outcome.TheVariants.{Means, Erra, NotALine, OtherCommand}
 use Rattle.controller.specs.declared.reading.Outcome.TheVariants.{NotAllowed}

@@ -8,9 +8,9 @@
 -- Assumes nothing.
 use Rattle.std.specs.Prelude.{ℕ, Bool, not, ◌&&◌, ◌||◌, List, [], ◌++◌, length, ltb, if◌then◌else◌}
 use Rattle.digest.specs.Hex.{leadingDigest}
-use Rattle.lines.specs.Texts.{isPassword}
-use Rattle.lines.specs.Commands.{isCommand, commandLine}
-use Rattle.lines.specs.declared.command.Command.{Command}
+use Rattle.words.specs.Texts.{isPassword}
+use Rattle.pjlink.specs.Commands.{isCommand, commandLine}
+use Rattle.pjlink.specs.declared.command.Command.{Command}
 use Rattle.controller.specs.declared.writing.Written.{Written}
 
 pub record WrittenAs : Type 0 where

@@ -2,10 +2,10 @@
 ghost use Rattle.std.specs.Prelude.{◌≡◌};
 ghost use Rattle.controller.specs.Reading.{readReply, reading_of, without};
 
-use answers::answer;
-use answers::answer::{Answer, Kind};
-use lines::command::Command;
-use lines::{command, form};
+use pjlink::answer;
+use pjlink::answer::{Answer, Kind};
+use pjlink::command::Command;
+use pjlink::{command, form};
 
 #[derive(Clone, Copy)]
 pub enum Outcome {
@@ -43,7 +43,7 @@ pub fn read_reply(c: Command, line: &[u8]) -> Reading
     if !form::is_reply_form(class, line) {
         return meaningless(Outcome::NotALine);
     }
-    if !requests::is_body(
+    if !pjlink::request::is_body(
         class,
         line[2],
         line[3],
@@ -54,7 +54,7 @@ pub fn read_reply(c: Command, line: &[u8]) -> Reading
         return meaningless(Outcome::OtherCommand);
     }
     let last = line.len() - 1;
-    let answer = replies::read_parameter(c, &line[7..last]);
+    let answer = pjlink::reply::read_parameter(c, &line[7..last]);
     let kind = answer.kind;
     let outcome = if answer::is_nothing(kind) {
         Outcome::NotAllowed

@@ -1,7 +1,7 @@
 // What is proved beside the contracts of the functions. Nothing is done here: that these functions have their contracts
 // is that the theorems stand.
 ghost use Rattle.std.specs.Prelude.{◌≡◌, Bool, ℕ, List, length};
-ghost use Rattle.lines.specs.declared.command.Command.{Command};
+ghost use Rattle.pjlink.specs.declared.command.Command.{Command};
 ghost use Rattle.controller.specs.declared.writing.Written.{Written};
 ghost use Rattle.controller.specs.Writing.{writtenCommand, toldWritten};
 ghost use Rattle.text.specs.Words.{over};

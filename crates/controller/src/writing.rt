@@ -3,8 +3,9 @@ ghost use Rattle.std.specs.Prelude.{◌≡◌, length};
 ghost use Rattle.text.specs.Words.{over};
 ghost use Rattle.controller.specs.Writing.{writtenCommand, toldWritten};
 
-use lines::command::Command;
-use lines::{command, texts};
+use pjlink::command::Command;
+use words::texts;
+use pjlink::command;
 
 #[repr(C)]
 #[derive(Clone, Copy)]

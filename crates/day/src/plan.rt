@@ -75,12 +75,7 @@ impl Placement {
         requires all_in_range { All (λ p. IsJob p.job) placed.now }
         ensures { IsTrue result ↔ All (λ p. AreApart rigs.now p self) placed.now }
     {
-        for p in placed {
-            if p.shares(self, rigs) {
-                return false;
-            }
-        }
-        true
+        placed.iter().all(|p| !p.shares(self, rigs))
     }
 
     // With those placed, its rig burns no more than it has left.
@@ -150,8 +145,7 @@ pub fn plan_day(jobs: &[Job], rigs: &[Rig]) -> Result<Plan, PlanError>
         return Err(PlanError::OutOfRange);
     }
     let mut plan = Plan::empty();
-    for j in 0..jobs.len() {
-        let job = jobs[j];
+    for (j, &job) in jobs.iter().enumerate() {
         match lowest_rig(job, plan.placements(), rigs) {
             Some(rig) => plan.push(Placement { job, rig }),
             None => return Err(PlanError::NoRig { job: j }),

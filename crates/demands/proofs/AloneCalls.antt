@@ -11,8 +11,8 @@ use lib.ListN.{length, take, length-append}
 use lib.Seq.{take-length, take_at}
 use Rattle.text.specs.Scans.{every}
 use Rattle.text.proofs.Choices.{if_yes, if_no}
-use Rattle.lines.specs.Bytes.{notCr}
-use Rattle.lines.proofs.Characters.{no-cr-of}
+use Rattle.words.specs.Bytes.{notCr}
+use Rattle.words.proofs.Characters.{no-cr-of}
 use Rattle.record.specs.Limits.{shut, failed}
 use Rattle.record.specs.declared.types.Settings.{Settings}
 use Rattle.record.specs.declared.types.Own.{Own}

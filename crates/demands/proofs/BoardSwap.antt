@@ -9,7 +9,7 @@ use lib.ListN.{length, get_or}
 use lib.Seq.{get_or-take, length-take-le, ext_get_or}
 use borrow.Author.Tests.{leb-true, eq-eqb, ne_eqb}
 use Rattle.text.specs.Scans.{every}
-use Rattle.lines.specs.Bytes.{◌at◌}
+use Rattle.words.specs.Bytes.{◌at◌}
 use Rattle.text.proofs.Scanning.{every-at}
 use Rattle.record.specs.Wanted.{Wanted}
 use Rattle.record.specs.Rules.{at_most}

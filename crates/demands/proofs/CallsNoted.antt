@@ -12,9 +12,9 @@ use lib.Dec.{eqb}
 use borrow.Author.Tests.{eqb-true, eqb-false, eq-eqb, ne_eqb}
 use Rattle.std.specs.Prelude.{if◌then◌else◌}
 use Rattle.text.proofs.Choices.{if_yes}
-use Rattle.lines.specs.declared.command.Command.TheVariants.{PowerSet}
-use Rattle.requests.specs.declared.Request.TheVariants.{Asks}
-use Rattle.answers.specs.Said.{okay}
+use Rattle.pjlink.specs.declared.command.Command.TheVariants.{PowerSet}
+use Rattle.pjlink.specs.declared.request.Request.TheVariants.{Asks}
+use Rattle.pjlink.specs.Said.{okay}
 use Rattle.record.specs.Limits.{isBetween}
 use Rattle.record.specs.Wanted.{Wanted}
 use Rattle.record.specs.Places.{connectionAt}

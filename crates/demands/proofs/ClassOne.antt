@@ -13,20 +13,21 @@ use borrow.Author.Tests.{ltb-true, eqb-true}
 use Rattle.std.specs.Prelude.{if◌then◌else◌}
 use Rattle.text.specs.Words.{ascii, ◌is◌}
 use Rattle.text.proofs.Choices.{if_yes, if_no, if-by, if-all}
-use Rattle.lines.specs.Bytes.{◌at◌, noCr}
-use Rattle.lines.specs.Inputs.{isInputText, inputNamed, inputText}
-use Rattle.lines.specs.Forms.{headBody, commandParameter, commandMost, isCommandForm, classNamed, replyLine}
-use Rattle.lines.specs.ClassOne.{isCommandForm1}
-use Rattle.lines.specs.declared.command.Body.TheVariants.{Inpt}
-use Rattle.lines.specs.declared.command.Command.TheVariants.{InputSet}
-use Rattle.lines.proofs.InputsReadBack.{named-text}
-use Rattle.lines.proofs.SourcesFollowed.{named-stands}
-use Rattle.lines.proofs.ClassOneKept.{form-kept, class-byte-1}
-use Rattle.requests.specs.Requests.{requestOf}
-use Rattle.requests.specs.declared.Request.{Request}
-use Rattle.requests.specs.declared.Request.TheVariants.{Asks, Unlisted}
-use Rattle.requests.proofs.ClassOneKept.{KeptAs, as_before, of-class-2, asked-kept}
-use Rattle.answers.specs.Said.{saidBytes}
+use Rattle.words.specs.Bytes.{◌at◌, noCr}
+use Rattle.words.specs.Inputs.{isInputText, inputNamed, inputText}
+use Rattle.pjlink.specs.Forms.{headBody, commandParameter, isCommandForm, classNamed, replyLine}
+use Rattle.words.specs.Bytes.{commandMost}
+use Rattle.pjlink.specs.ClassOne.{isCommandForm1}
+use Rattle.pjlink.specs.declared.command.Body.TheVariants.{Inpt}
+use Rattle.pjlink.specs.declared.command.Command.TheVariants.{InputSet}
+use Rattle.words.proofs.InputsReadBack.{named-text}
+use Rattle.words.proofs.SourcesFollowed.{named-stands}
+use Rattle.pjlink.proofs.ClassOneKept.{form-kept, class-byte-1}
+use Rattle.pjlink.specs.Requests.{requestOf}
+use Rattle.pjlink.specs.declared.request.Request.{Request}
+use Rattle.pjlink.specs.declared.request.Request.TheVariants.{Asks, Unlisted}
+use Rattle.pjlink.proofs.ClassOneAsked.{KeptAs, as_before, of-class-2, asked-kept}
+use Rattle.pjlink.specs.Said.{saidBytes}
 use Rattle.record.specs.Legal.{isLegal, isSettings}
 use Rattle.record.specs.Limits.{awaiting, opened}
 use Rattle.record.specs.declared.types.Settings.{Settings}

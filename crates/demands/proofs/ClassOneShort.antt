@@ -14,21 +14,21 @@ use borrow.Author.Tests.{not-false}
 use Rattle.text.specs.Scans.{every}
 use Rattle.text.proofs.Orders.{le-or-lt}
 use Rattle.text.proofs.Scanning.{every-at}
-use Rattle.lines.specs.Bodies.{hasSet, hasParameters, hasQuery, rowOf}
-use Rattle.lines.specs.Commands.{bodyOf}
-use Rattle.lines.specs.Texts.{isText, inputNameMost}
-use Rattle.lines.specs.declared.command.Body.{Body}
-use Rattle.lines.specs.declared.command.Volume.TheVariants.{Speaker, Microphone}
-use Rattle.lines.specs.declared.command.Command.{Command}
-use Rattle.lines.specs.declared.command.Command.TheVariants.{PowerSet, InputSet, MuteSet, InputSet2, FreezeSet}
-use Rattle.lines.specs.declared.command.Command.TheVariants.{VolumeStep, NameQuery, Query}
-use Rattle.lines.proofs.TextsTold.{name-long, info-long}
-use Rattle.requests.specs.declared.Request.{Request}
-use Rattle.requests.specs.declared.Request.TheVariants.{Asks, Unlisted, UnknownBody}
-use Rattle.answers.specs.Said.{Said, saidBytes, bytesMost, refused}
-use Rattle.answers.specs.CanSay.{CanSay, done as does, refuses, power, input, mutes, errors, lamps, inputs, name, maker}
-use Rattle.answers.specs.CanSay.{model, other, class-is, freeze, serial, version, input-name, input-2, inputs-2}
-use Rattle.answers.proofs.SaidPlain.{said-long, text-said}
+use Rattle.pjlink.specs.Bodies.{hasSet, hasParameters, hasQuery, rowOf}
+use Rattle.pjlink.specs.Commands.{bodyOf}
+use Rattle.words.specs.Texts.{isText, inputNameMost}
+use Rattle.pjlink.specs.declared.command.Body.{Body}
+use Rattle.pjlink.specs.declared.command.Volume.TheVariants.{Speaker, Microphone}
+use Rattle.pjlink.specs.declared.command.Command.{Command}
+use Rattle.pjlink.specs.declared.command.Command.TheVariants.{PowerSet, InputSet, MuteSet, InputSet2, FreezeSet}
+use Rattle.pjlink.specs.declared.command.Command.TheVariants.{VolumeStep, NameQuery, Query}
+use Rattle.words.proofs.TextsTold.{name-long, info-long}
+use Rattle.pjlink.specs.declared.request.Request.{Request}
+use Rattle.pjlink.specs.declared.request.Request.TheVariants.{Asks, Unlisted, UnknownBody}
+use Rattle.pjlink.specs.Said.{Said, saidBytes, bytesMost, refused}
+use Rattle.pjlink.specs.CanSay.{CanSay, done as does, refuses, power, input, mutes, errors, lamps, inputs, name, maker}
+use Rattle.pjlink.specs.CanSay.{model, other, class-is, freeze, serial, version, input-name, input-2, inputs-2}
+use Rattle.pjlink.proofs.SaidPlain.{said-long, text-said}
 use Rattle.record.specs.Limits.{onlyIn2}
 use Rattle.record.specs.Record.{blankName}
 use Rattle.record.specs.Legal.{fillsNameRoom, isSettings, isOwn}

@@ -11,8 +11,8 @@ use borrow.Author.Tests.{not-true}
 use Rattle.text.specs.Words.{◌is◌}
 use Rattle.text.specs.Scans.{every}
 use Rattle.text.proofs.Choices.{if_no, both_left, both_right, alike}
-use Rattle.lines.specs.Bytes.{notCr, noCr}
-use Rattle.lines.proofs.Characters.{no-cr-each}
+use Rattle.words.specs.Bytes.{notCr, noCr}
+use Rattle.words.proofs.Characters.{no-cr-each}
 use Rattle.device.specs.Receiving.{isLedBy}
 use Rattle.demands.specs.Outsider.{firstLine}
 

@@ -10,11 +10,11 @@ use native.Mathlib.Nat.{add-zero, zero-add}
 use native.Mathlib.Omega.{arith}
 use lib.ListN.{length, take, get_or, length-take}
 use lib.Seq.{ext_get_or}
-use Rattle.lines.specs.Commands.{commandLine}
-use Rattle.lines.specs.declared.command.Command.TheVariants.{Query}
-use Rattle.lines.specs.declared.command.Body.TheVariants.{Lamp}
-use Rattle.answers.specs.Said.{lampsAre}
-use Rattle.answers.specs.declared.answer.LampHours.{LampHours}
+use Rattle.pjlink.specs.Commands.{commandLine}
+use Rattle.pjlink.specs.declared.command.Command.TheVariants.{Query}
+use Rattle.pjlink.specs.declared.command.Body.TheVariants.{Lamp}
+use Rattle.pjlink.specs.Said.{lampsAre}
+use Rattle.pjlink.specs.declared.answer.LampHours.{LampHours}
 use Rattle.record.specs.Limits.{opened, isLit}
 use Rattle.record.specs.Wanted.{Wanted}
 use Rattle.record.specs.declared.types.Settings.{Settings}

@@ -13,8 +13,8 @@ use Rattle.text.specs.Words.{ascii}
 use Rattle.text.proofs.Choices.{if_yes, if_no}
 use Rattle.text.proofs.Orders.{le-or-lt}
 use Rattle.digest.proofs.Laws.{leading-digest-length}
-use Rattle.lines.specs.Bytes.{noCr}
-use Rattle.lines.specs.Forms.{commandMost}
+use Rattle.words.specs.Bytes.{noCr}
+use Rattle.words.specs.Bytes.{commandMost}
 use Rattle.record.specs.Limits.{awaiting, opened}
 use Rattle.record.specs.Places.{connectionAt}
 use Rattle.record.specs.declared.types.Device.{Device}

@@ -12,8 +12,8 @@ use borrow.Author.Tests.{not-true}
 use Rattle.std.specs.Prelude.{if◌then◌else◌}
 use Rattle.text.specs.Scans.{every}
 use Rattle.text.proofs.Choices.{if_no, both_left, both_right}
-use Rattle.lines.specs.Bytes.{notCr, noCr}
-use Rattle.lines.proofs.WithinLength.{plain-bytes}
+use Rattle.words.specs.Bytes.{notCr, noCr}
+use Rattle.words.proofs.WithinLength.{plain-bytes}
 use Rattle.demands.specs.Interleaved.{lineEnds, toFirstCr}
 
 abbrev pub cr : List ℕ

@@ -4,9 +4,9 @@ use mathlib.Core.Path.{◌≡◌}
 use mathlib.Core.List.{◌++◌}
 use native.Mathlib.Omega.{arith}
 use Rattle.text.specs.Words.{ascii}
-use Rattle.lines.specs.declared.command.Command.TheVariants.{Query}
-use Rattle.lines.specs.declared.command.Body.TheVariants.{Name}
-use Rattle.answers.specs.Said.{textIs}
+use Rattle.pjlink.specs.declared.command.Command.TheVariants.{Query}
+use Rattle.pjlink.specs.declared.command.Body.TheVariants.{Name}
+use Rattle.pjlink.specs.Said.{textIs}
 use Rattle.record.specs.Wanted.{Wanted}
 use Rattle.record.specs.declared.types.Changed.{Changed}
 use Rattle.record.specs.declared.types.Setting.TheVariants.{Name as ItsName}

@@ -9,7 +9,7 @@ use mathlib.Core.List.{List, ◌∷◌, ◌++◌, append_assoc}
 use lib.ListN.{length}
 use Rattle.text.specs.Words.{ascii}
 use Rattle.text.proofs.Choices.{if_yes}
-use Rattle.lines.specs.Bytes.{noCr}
+use Rattle.words.specs.Bytes.{noCr}
 use Rattle.record.specs.Limits.{awaiting}
 use Rattle.record.specs.Places.{connectionAt}
 use Rattle.record.specs.declared.types.Device.{Device}

@@ -5,7 +5,7 @@ use mathlib.Core.Path.{◌≡◌, ap}
 use mathlib.Core.Bool.{Bool}
 use mathlib.Core.List.{List}
 use lib.ListN.{length}
-use Rattle.lines.specs.declared.command.Command.{Command}
+use Rattle.pjlink.specs.declared.command.Command.{Command}
 use Rattle.record.specs.declared.types.Device.{Device}
 use Rattle.record.proofs.Results.{fault-refusal, errors-refusal, mark-refusal}
 use Rattle.form.specs.Form.{storedBy}

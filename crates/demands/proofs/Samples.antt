@@ -7,7 +7,7 @@ use mathlib.Core.List.{[], ◌∷◌}
 use native.Mathlib.Omega.{arith}
 use lib.ListN.{replicate}
 use Rattle.text.specs.Words.{ascii}
-use Rattle.lines.specs.Texts.{inputNameMost}
+use Rattle.words.specs.Texts.{inputNameMost}
 use Rattle.record.specs.Limits.{opened}
 use Rattle.record.specs.Wanted.{Wanted, wantedOf, wantedOf2}
 use Rattle.record.specs.declared.types.Device.{Device}

@@ -14,8 +14,8 @@ use lib.ListN.{length, take}
 use lib.Seq.{take-length}
 use Rattle.text.specs.Scans.{every}
 use Rattle.text.proofs.Scanning.{every_append}
-use Rattle.lines.specs.Bytes.{notCr}
-use Rattle.lines.specs.Forms.{erraLine}
+use Rattle.words.specs.Bytes.{notCr}
+use Rattle.pjlink.specs.Forms.{erraLine}
 use Rattle.record.specs.Limits.{shut, awaiting, failed, lineRoom}
 use Rattle.record.specs.Updates.{aged, withLine}
 use Rattle.record.specs.Legal.{heldMost}

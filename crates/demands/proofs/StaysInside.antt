@@ -7,9 +7,9 @@ use mathlib.Core.List.{List}
 use native.Mathlib.Omega.{arith}
 use lib.ListN.{length, length-append}
 use Rattle.digest.proofs.Laws.{leading-digest-length}
-use Rattle.lines.specs.Commands.{commandLine}
-use Rattle.lines.specs.declared.command.Command.{Command}
-use Rattle.lines.proofs.CommandLines.{command-length, line-length}
+use Rattle.pjlink.specs.Commands.{commandLine}
+use Rattle.pjlink.specs.declared.command.Command.{Command}
+use Rattle.pjlink.proofs.CommandLines.{command-length, line-length}
 use Rattle.record.specs.declared.types.Device.{Device}
 use Rattle.form.specs.Form.{storedBy}
 use Rattle.form.proofs.Results.{storing-by}

@@ -9,11 +9,11 @@ use Rattle.std.specs.Prelude.{if◌then◌else◌}
 use Rattle.text.specs.Rows.{◌when◌, first_of}
 use Rattle.text.proofs.Choices.{if_yes, if_no}
 use Rattle.text.specs.Scans.{sameBy, itself}
-use Rattle.lines.specs.Forms.{erraLine, greetingOpen, isReplyForm, headBody, replyParameter}
-use Rattle.lines.specs.Commands.{bodyOf, commandClass}
-use Rattle.lines.specs.declared.command.Command.{Command}
-use Rattle.requests.specs.Requests.{isBody}
-use Rattle.replies.specs.Writings.{Allowed}
+use Rattle.pjlink.specs.Forms.{erraLine, greetingOpen, isReplyForm, headBody, replyParameter}
+use Rattle.pjlink.specs.Commands.{bodyOf, commandClass}
+use Rattle.pjlink.specs.declared.command.Command.{Command}
+use Rattle.pjlink.specs.Requests.{isBody}
+use Rattle.pjlink.specs.Writings.{Allowed}
 use Rattle.record.specs.Wanted.{Wanted}
 use Rattle.record.specs.Legal.{isLegal}
 use Rattle.record.specs.declared.types.Device.{Device}

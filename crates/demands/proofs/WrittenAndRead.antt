@@ -10,8 +10,8 @@ use native.Mathlib.Omega.{arith}
 use lib.ListN.{length}
 use Rattle.text.proofs.Orders.{le-or-lt}
 use Rattle.digest.specs.Hex.{leadingDigest}
-use Rattle.lines.specs.Commands.{isCommand, commandLine}
-use Rattle.lines.specs.declared.command.Command.{Command}
+use Rattle.pjlink.specs.Commands.{isCommand, commandLine}
+use Rattle.pjlink.specs.declared.command.Command.{Command}
 use Rattle.record.specs.Limits.{placesCount, awaiting, opened}
 use Rattle.record.specs.Legal.{isLegal}
 use Rattle.record.specs.Places.{connectionAt, isShut, lowestShut}

@@ -7,12 +7,12 @@ use mathlib.Core.List.{[]}
 use native.Mathlib.Omega.{arith}
 use lib.ListN.{length, replicate}
 use Rattle.text.specs.Words.{ascii}
-use Rattle.lines.specs.declared.input.Source.TheVariants.{Internal}
-use Rattle.lines.specs.declared.input.Input.{Input}
-use Rattle.lines.specs.declared.command.Command.TheVariants.{Query}
-use Rattle.lines.specs.declared.command.Body.TheVariants.{Inpt, Snum}
-use Rattle.answers.specs.Said.{chosenIs}
-use Rattle.answers.specs.CanSay.{input}
+use Rattle.words.specs.declared.input.Source.TheVariants.{Internal}
+use Rattle.words.specs.declared.input.Input.{Input}
+use Rattle.pjlink.specs.declared.command.Command.TheVariants.{Query}
+use Rattle.pjlink.specs.declared.command.Body.TheVariants.{Inpt, Snum}
+use Rattle.pjlink.specs.Said.{chosenIs}
+use Rattle.pjlink.specs.CanSay.{input}
 use Rattle.record.specs.Limits.{opened, on, volumeMost, volumeStart}
 use Rattle.record.specs.Updates.{withOwn, withPower, withVolumes}
 use Rattle.record.specs.declared.types.Device.{Device}

@@ -8,11 +8,11 @@ use mathlib.Core.List.{List, [], ◌∷◌}
 use native.Mathlib.Omega.{arith}
 use lib.ListN.{length}
 use Rattle.text.specs.Words.{ascii}
-use Rattle.lines.specs.Bytes.{◌at◌}
-use Rattle.lines.specs.declared.command.Command.TheVariants.{Query}
-use Rattle.lines.specs.declared.command.Body.TheVariants.{Name}
-use Rattle.answers.specs.Said.{textIs, saidBytes}
-use Rattle.answers.specs.CanSay.{name}
+use Rattle.words.specs.Bytes.{◌at◌}
+use Rattle.pjlink.specs.declared.command.Command.TheVariants.{Query}
+use Rattle.pjlink.specs.declared.command.Body.TheVariants.{Name}
+use Rattle.pjlink.specs.Said.{textIs, saidBytes}
+use Rattle.pjlink.specs.CanSay.{name}
 use Rattle.record.specs.Limits.{opened}
 use Rattle.record.specs.declared.types.Device.{Device}
 use Rattle.stream.specs.Machine.{Out}

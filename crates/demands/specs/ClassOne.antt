@@ -13,12 +13,13 @@
 -- Assumes nothing.
 use Rattle.std.specs.Prelude.{ℕ, ◌≤◌, ◌≡◌, true, List, ◌++◌, length, leb, if◌then◌else◌}
 use Rattle.text.specs.Words.{ascii, ◌is◌}
-use Rattle.lines.specs.Bytes.{◌at◌, noCr}
-use Rattle.lines.specs.Forms.{headBody, commandParameter, commandMost}
-use Rattle.lines.specs.ClassOne.{isCommandForm1}
-use Rattle.requests.specs.ClassOne.{requestOf1}
-use Rattle.requests.specs.declared.Request.{Request}
-use Rattle.answers.specs.Said.{saidBytes}
+use Rattle.words.specs.Bytes.{◌at◌, noCr}
+use Rattle.pjlink.specs.Forms.{headBody, commandParameter}
+use Rattle.words.specs.Bytes.{commandMost}
+use Rattle.pjlink.specs.ClassOne.{isCommandForm1}
+use Rattle.pjlink.specs.ClassOneAsked.{requestOf1}
+use Rattle.pjlink.specs.declared.request.Request.{Request}
+use Rattle.pjlink.specs.Said.{saidBytes}
 use Rattle.record.specs.Limits.{awaiting, opened}
 use Rattle.record.specs.declared.types.Settings.{Settings}
 use Rattle.record.specs.declared.types.Own.{Own}

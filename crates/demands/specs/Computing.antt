@@ -2,10 +2,7 @@
 -- Commands). The digest stays shut: no line is computed on a secured connection.
 -- Assumes nothing.
 use Rattle.numbers.specs.Computing.{computing as numbers}
-use Rattle.lines.specs.Computing.{computing as lines}
-use Rattle.requests.specs.Computing.{computing as requests}
-use Rattle.answers.specs.Computing.{computing as answers}
-use Rattle.replies.specs.Computing.{computing as replies}
+use Rattle.pjlink.specs.Computing.{computing as pjlink}
 use Rattle.record.specs.Computing.{computing as records}
 use Rattle.form.specs.Computing.{computing as forms}
 use Rattle.stored.specs.Computing.{computing as stored}
@@ -19,6 +16,6 @@ use Rattle.demands.specs.History.{powerSet, history, marksAfter, reached, burnin
 
 unfoldable pub computing : Unit {0}
 unfolding
-    numbers lines requests answers replies records forms stored clock meaning stream device controller run powerSet
+    numbers pjlink records forms stored clock meaning stream device controller run powerSet
     history marksAfter reached burningFrom
 computing = tt

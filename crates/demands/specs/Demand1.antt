@@ -20,12 +20,12 @@
 use Rattle.std.specs.Prelude.{ℕ, ◌≤◌, ◌≡◌, Bool, true, false, not, List, [], ◌∷◌, length, drop, ltb}
 use Rattle.text.specs.Rows.{Row, ◌when◌, first_of}
 use Rattle.text.specs.Scans.{sameBy, itself}
-use Rattle.lines.specs.Forms.{erraLine, greetingOpen, isReplyForm, headBody, replyParameter}
-use Rattle.lines.specs.Commands.{bodyOf, commandClass}
-use Rattle.lines.specs.declared.command.Command.{Command}
-use Rattle.requests.specs.Requests.{isBody}
-use Rattle.answers.specs.Said.{nothing}
-use Rattle.replies.specs.Writings.{Allowed}
+use Rattle.pjlink.specs.Forms.{erraLine, greetingOpen, isReplyForm, headBody, replyParameter}
+use Rattle.pjlink.specs.Commands.{bodyOf, commandClass}
+use Rattle.pjlink.specs.declared.command.Command.{Command}
+use Rattle.pjlink.specs.Requests.{isBody}
+use Rattle.pjlink.specs.Said.{nothing}
+use Rattle.pjlink.specs.Writings.{Allowed}
 use Rattle.record.specs.Wanted.{Wanted}
 use Rattle.record.specs.Rules.{isLongEnough, isErrors}
 use Rattle.record.specs.Legal.{isLegal}

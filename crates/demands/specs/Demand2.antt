@@ -29,14 +29,15 @@ use Rattle.std.specs.Prelude.{if◌then◌else◌}
 use Rattle.text.specs.Words.{ascii}
 use Rattle.digest.specs.Md5.{md5Of}
 use Rattle.digest.specs.Hex.{leadingDigest}
-use Rattle.lines.specs.Bytes.{noCr}
-use Rattle.lines.specs.Forms.{erraLine, commandMost}
-use Rattle.lines.specs.Commands.{isCommand, commandClass, commandLine}
-use Rattle.lines.specs.declared.command.Body.TheVariants.{Name}
-use Rattle.lines.specs.declared.command.Command.{Command}
-use Rattle.lines.specs.declared.command.Command.TheVariants.{Query}
-use Rattle.requests.specs.declared.Request.TheVariants.{Asks}
-use Rattle.answers.specs.Said.{Said, textIs}
+use Rattle.words.specs.Bytes.{noCr}
+use Rattle.pjlink.specs.Forms.{erraLine}
+use Rattle.words.specs.Bytes.{commandMost}
+use Rattle.pjlink.specs.Commands.{isCommand, commandClass, commandLine}
+use Rattle.pjlink.specs.declared.command.Body.TheVariants.{Name}
+use Rattle.pjlink.specs.declared.command.Command.{Command}
+use Rattle.pjlink.specs.declared.command.Command.TheVariants.{Query}
+use Rattle.pjlink.specs.declared.request.Request.TheVariants.{Asks}
+use Rattle.pjlink.specs.Said.{Said, textIs}
 use Rattle.record.specs.Limits.{placesCount, awaiting, opened, failed}
 use Rattle.record.specs.Wanted.{Wanted}
 use Rattle.record.specs.Legal.{isLegal}

@@ -16,7 +16,7 @@ use Rattle.std.specs.Prelude.{List, [], ◌∷◌, ◌++◌, length, take, drop,
 use Prim.Native.String.{String}
 use Rattle.text.specs.Words.{ascii}
 use Rattle.text.specs.Scans.{sameBy}
-use Rattle.lines.specs.Bytes.{upperOf}
+use Rattle.words.specs.Bytes.{upperOf}
 use Rattle.record.specs.Limits.{lampLimit}
 use Rattle.record.specs.Wanted.{Wanted}
 use Rattle.ours.specs.Board.{Board, reply}

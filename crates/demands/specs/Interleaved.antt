@@ -19,7 +19,7 @@
 use Rattle.std.specs.Prelude.{ℕ, suc, ◌≤◌, ◌<◌, ◌≡◌, true, false, List, [], ◌∷◌, ◌++◌, length, take, drop, get_or, eqb}
 use Rattle.std.specs.Prelude.{if◌then◌else◌}
 use Rattle.text.specs.Words.{◌is◌}
-use Rattle.lines.specs.Bytes.{noCr}
+use Rattle.words.specs.Bytes.{noCr}
 use Rattle.record.specs.Limits.{placesCount}
 use Rattle.record.specs.Legal.{heldMost, isLegal}
 use Rattle.record.specs.Record.{blankOwn}

@@ -19,8 +19,8 @@
 -- Assumes nothing.
 use Rattle.std.specs.Prelude.{ℕ, ◌≡◌, Bool, true, false, not, ◌&&◌, List, [], ◌∷◌, ◌++◌, take, eqb, if◌then◌else◌}
 use Rattle.text.specs.Words.{◌is◌}
-use Rattle.lines.specs.Bytes.{noCr}
-use Rattle.lines.specs.Forms.{erraLine}
+use Rattle.words.specs.Bytes.{noCr}
+use Rattle.pjlink.specs.Forms.{erraLine}
 use Rattle.device.specs.Receiving.{isLedBy}
 use Rattle.ours.specs.Board.{Board, Lent, reply}
 use Rattle.demands.specs.Calls.{Call, opens, closes, receives, passes, marks, reports, enables, after, run}

@@ -3,8 +3,8 @@
 use Rattle.std.specs.Prelude.{◌&&◌, ◌++◌, take, drop, eqb, if◌then◌else◌}
 use Rattle.text.specs.Words.{ascii, ◌is◌}
 use Rattle.text.specs.Scans.{sameBy, itself}
-use Rattle.lines.specs.Bytes.{◌at◌, upperOf}
-use Rattle.lines.specs.Forms.{replyParameter}
+use Rattle.words.specs.Bytes.{◌at◌, upperOf}
+use Rattle.pjlink.specs.Forms.{replyParameter}
 use Rattle.record.specs.Limits.{volumeMost}
 use Rattle.record.specs.Updates.{withOwn, withVolumes}
 use Rattle.record.specs.declared.types.Device.{Device}

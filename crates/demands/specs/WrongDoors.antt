@@ -4,7 +4,7 @@
 -- Assumes nothing.
 use Rattle.std.specs.Prelude.{ℕ, [], length, eqb, if◌then◌else◌}
 use Rattle.text.specs.Words.{ascii}
-use Rattle.lines.specs.Forms.{greetingOpen}
+use Rattle.pjlink.specs.Forms.{greetingOpen}
 use Rattle.record.specs.Limits.{awaiting, opened, failed}
 use Rattle.record.specs.Wanted.{Wanted, withPassword}
 use Rattle.record.specs.declared.types.Device.{Device}

@@ -4,12 +4,12 @@
 use Rattle.std.specs.Prelude.{ℕ, suc, not, ◌&&◌, List, [], ◌∷◌, ◌++◌, map, length, take, drop, if◌then◌else◌}
 use Rattle.text.specs.Words.{ascii}
 use Rattle.text.specs.Scans.{sameBy, itself}
-use Rattle.lines.specs.Bytes.{upperOf}
-use Rattle.lines.specs.Forms.{headBody}
-use Rattle.lines.specs.declared.command.Command.{Command}
-use Rattle.lines.specs.declared.command.Body.TheVariants.{Name}
-use Rattle.requests.specs.Requests.{isBody}
-use Rattle.answers.specs.Said.{textIs}
+use Rattle.words.specs.Bytes.{upperOf}
+use Rattle.pjlink.specs.Forms.{headBody}
+use Rattle.pjlink.specs.declared.command.Command.{Command}
+use Rattle.pjlink.specs.declared.command.Body.TheVariants.{Name}
+use Rattle.pjlink.specs.Requests.{isBody}
+use Rattle.pjlink.specs.Said.{textIs}
 use Rattle.record.specs.Updates.{withLine}
 use Rattle.record.specs.Record.{blank}
 use Rattle.record.specs.declared.types.Device.{Device}

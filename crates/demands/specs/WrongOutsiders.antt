@@ -5,7 +5,7 @@
 -- Assumes nothing.
 use Rattle.std.specs.Prelude.{ℕ, ◌+◌, min, Bool, ◌&&◌, ◌||◌, List, [], get_or, set, length, eqb, if◌then◌else◌}
 use Rattle.text.specs.Words.{over}
-use Rattle.lines.specs.Forms.{erraLine}
+use Rattle.pjlink.specs.Forms.{erraLine}
 use Rattle.record.specs.Limits.{awaiting, failed, placesCount, errorMost}
 use Rattle.record.specs.Record.{closed}
 use Rattle.record.specs.Updates.{withOwn, withErrors}

@@ -12,7 +12,7 @@ use Rattle.text.specs.Rows.{Row, byRows, NoneOf, isNumbered}
 use Rattle.text.proofs.ByRows.{by_rows, rows-done}
 use Rattle.text.proofs.Choices.{if_yes, if_no, both_left, both_right}
 use Rattle.digest.specs.Hex.{hexDigits}
-use Rattle.lines.specs.Forms.{greetingOpen, greetingSecured}
+use Rattle.pjlink.specs.Forms.{greetingOpen, greetingSecured}
 use Rattle.record.specs.Limits.{placesCount, awaiting, opened}
 use Rattle.record.specs.Legal.{isLegal}
 use Rattle.record.specs.Record.{closed}

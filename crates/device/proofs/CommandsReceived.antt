@@ -17,14 +17,14 @@ use Rattle.text.specs.Words.{ascii}
 use Rattle.text.specs.Scans.{every}
 use Rattle.digest.specs.Hex.{leadingDigest}
 use Rattle.digest.proofs.Laws.{leading-digest-length}
-use Rattle.lines.specs.Bytes.{notCr}
-use Rattle.lines.specs.Commands.{bodyText, bodyOf, commandClass, classDigit, isCommand, commandText}
-use Rattle.lines.specs.Commands.{commandLine}
-use Rattle.lines.specs.declared.command.Command.{Command}
-use Rattle.lines.proofs.Characters.{no-cr-each}
-use Rattle.lines.proofs.CommandLines.{command-length, command-no-cr}
-use Rattle.requests.specs.declared.Request.TheVariants.{Asks}
-use Rattle.answers.specs.Said.{Said, saidBytes}
+use Rattle.words.specs.Bytes.{notCr}
+use Rattle.pjlink.specs.Commands.{bodyText, bodyOf, commandClass, classDigit, isCommand, commandText}
+use Rattle.pjlink.specs.Commands.{commandLine}
+use Rattle.pjlink.specs.declared.command.Command.{Command}
+use Rattle.words.proofs.Characters.{no-cr-each}
+use Rattle.pjlink.proofs.CommandLines.{command-length, command-no-cr}
+use Rattle.pjlink.specs.declared.request.Request.TheVariants.{Asks}
+use Rattle.pjlink.specs.Said.{Said, saidBytes}
 use Rattle.record.specs.Limits.{placesCount, shut, awaiting, opened}
 use Rattle.record.specs.Legal.{isTimed, isLegal}
 use Rattle.record.specs.Places.{connectionAt, withPlace}
@@ -66,6 +66,15 @@ swallowedAt d p n = record {
 plain-text : (k : Command) → every notCr (commandText k) ≡ true
 plain-text k = no-cr-each (commandText k) (command-no-cr k)
 
+-- an open connection between lines stays as it was
+pub open-again : (d : Device) (p : ℕ) → p < placesCount → isLegal d ≡ true → (connectionAt d p).phase ≡ opened
+    → (connectionAt d p).line ≡ emptyLine → turned (connectionAt d p) opened ≡ connectionAt d p
+open-again d p there legal phase empty =
+    let c = connectionAt d p in
+    let young : c.age ≡ 0 =
+    age-untimed c.phase c.age (ap isTimed phase) (connection-told c (legal-connection d legal p there)).age in
+    (λ i. record { phase = sym phase i; age = sym young i; random = c.random; line = sym empty i })
+
 module _ (d : Device) (p : ℕ) (there : p < placesCount) (room : ℕ) (legal : isLegal d ≡ true)
     (enough : replyRoom ≤ room) (unmarked : (connectionAt d p).line.overlong ≡ false)
     (none : (connectionAt d p).line.held ≡ 0) (k : Command) where
@@ -74,13 +83,6 @@ module _ (d : Device) (p : ℕ) (there : p < placesCount) (room : ℕ) (legal : 
 
   empty : c.line ≡ emptyLine
   empty = between-lines c.phase c.line (line-legal c (legal-connection d legal p there)) unmarked none
-
-  -- an open connection stays as it was
-  pub open-again : c.phase ≡ opened → turned c opened ≡ c
-  open-again phase =
-      let known = connection-told c (legal-connection d legal p there) in
-      let young : c.age ≡ 0 = age-untimed c.phase c.age (ap isTimed phase) known.age in
-      (λ i. record { phase = sym phase i; age = sym young i; random = c.random; line = sym empty i })
 
   -- its line is taken whole, whatever it is answered
   abbrev spokenAfter : ℕ → Answered → Result Device

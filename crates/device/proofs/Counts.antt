@@ -11,7 +11,7 @@ use lib.ListN.{length}
 use lib.Dec.{eqb}
 use Rattle.text.specs.Scans.{every}
 use Rattle.text.proofs.Choices.{if-all}
-use Rattle.lines.specs.Bytes.{notCr}
+use Rattle.words.specs.Bytes.{notCr}
 use Rattle.record.specs.Limits.{failed}
 use Rattle.record.specs.Legal.{heldMost}
 use Rattle.record.specs.Places.{connectionAt}

@@ -14,8 +14,8 @@ use Rattle.text.specs.Scans.{sameBy, itself}
 use Rattle.text.proofs.Choices.{both, both_left, both_right, alike}
 use Rattle.text.proofs.Orders.{le-or-lt}
 use Rattle.digest.specs.Hex.{leadingDigest}
-use Rattle.lines.specs.Bytes.{noCr}
-use Rattle.lines.proofs.Characters.{no-cr-each}
+use Rattle.words.specs.Bytes.{noCr}
+use Rattle.words.proofs.Characters.{no-cr-each}
 use Rattle.record.specs.Limits.{lineRoom, awaiting}
 use Rattle.record.specs.Legal.{heldMost}
 use Rattle.record.specs.declared.types.Settings.{Settings}

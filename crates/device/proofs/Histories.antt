@@ -16,12 +16,12 @@ use lib.Dec.{eqb}
 use borrow.Author.Tests.{eqb-true, eqb-false, ne_eqb}
 use Rattle.text.specs.Words.{ascii}
 use Rattle.text.proofs.Choices.{if-by}
-use Rattle.lines.specs.Forms.{replyLine}
-use Rattle.lines.specs.declared.command.Body.TheVariants.{Powr}
-use Rattle.lines.specs.declared.command.Command.TheVariants.{PowerSet}
-use Rattle.requests.specs.Requests.{isBody}
-use Rattle.requests.specs.declared.Request.TheVariants.{Asks}
-use Rattle.answers.specs.Said.{okay}
+use Rattle.pjlink.specs.Forms.{replyLine}
+use Rattle.pjlink.specs.declared.command.Body.TheVariants.{Powr}
+use Rattle.pjlink.specs.declared.command.Command.TheVariants.{PowerSet}
+use Rattle.pjlink.specs.Requests.{isBody}
+use Rattle.pjlink.specs.declared.request.Request.TheVariants.{Asks}
+use Rattle.pjlink.specs.Said.{okay}
 use Rattle.record.specs.Limits.{shut, awaiting, opened, failed}
 use Rattle.record.specs.Legal.{isCollecting, heldMost, isConnection}
 use Rattle.record.specs.Record.{closed}
@@ -42,7 +42,7 @@ use Rattle.device.specs.Calls.{Result, received, greeted, openedBy, closedBy}
 use Rattle.device.proofs.Cases.{received-by, opened-by, closed-by}
 use Rattle.device.proofs.LineCases.{ended_by, taken-by}
 use Rattle.device.proofs.Legal.{collecting, line-legal}
-use Rattle.device.proofs.Untouched.{taken-keeps, receiving-keeps-others}
+use Rattle.device.proofs.Untouched.{taken-keeps}
 use Rattle.stream.proofs.LinesSpelt.{empty-held}
 use Rattle.stream.proofs.LastBytes.{Ends, ends_with, ends-trans, ends-unheld, gathered-ends, taken-with-cr}
 use Rattle.device.proofs.PowerLines.{isPowerOkay, powerLine, PowerEffect, quiet, sets, line_effect}
@@ -200,9 +200,3 @@ module _ (d : Device) (q : ℕ) (w : List ℕ) (known : Ends w (held (connection
   closing-tells p =
       closed-by d p Ending (λ n z. known)
       (λ h t c. placed-either EndsIt d d.own p _ q (ends-unheld w closed.line closed-holds-none) known)
-
-  -- what another place receives does not touch it
-  pub receiving-elsewhere-tells : (p : ℕ) (bs : List ℕ) (room : ℕ) → (q ≡ p → ⊥)
-      → Ends w (held (connectionAt (received d p bs room).device q))
-  receiving-elsewhere-tells p bs room other =
-      subst EndsIt (sym (receiving-keeps-others d p bs room q other)) known

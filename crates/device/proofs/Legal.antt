@@ -8,7 +8,7 @@ use native.Mathlib.Omega.{arith}
 use borrow.Author.Tests.{eqb-false}
 use lib.Dec.{eqb}
 use Rattle.text.proofs.Choices.{if-all, if-by}
-use Rattle.lines.specs.Forms.{isCommandForm}
+use Rattle.pjlink.specs.Forms.{isCommandForm}
 use Rattle.record.specs.Limits.{shut, awaiting, opened, failed}
 use Rattle.record.specs.Updates.{withLine}
 use Rattle.record.specs.Legal.{isCollecting, isSettings, isOwn, isConnection, isLegal}
@@ -52,7 +52,7 @@ module _ (c : Connection) where
     pub line-legal : LegalLine c.phase c.line
     line-legal = record { kept = known.line; held = known.held }
 
-    pub with-line-legal : (l : Line) → LegalLine c.phase l → isConnection (withLine c l) ≡ true
+    with-line-legal : (l : Line) → LegalLine c.phase l → isConnection (withLine c l) ≡ true
     with-line-legal l p =
         connection-shown (withLine c l)
         (record {

@@ -9,7 +9,7 @@ use lib.Dec.{eqb}
 use borrow.Author.Tests.{eqb-true, eqb-false}
 use borrow.Author.Tests.{eq-eqb, ne_eqb}
 use Rattle.text.proofs.Choices.{if_yes, if_no, if-by}
-use Rattle.lines.specs.Forms.{isCommandForm}
+use Rattle.pjlink.specs.Forms.{isCommandForm}
 use Rattle.record.specs.Limits.{awaiting, opened, failed}
 use Rattle.record.specs.Updates.{withLine}
 use Rattle.record.specs.Legal.{heldMost}

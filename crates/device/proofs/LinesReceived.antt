@@ -14,9 +14,9 @@ use lib.Dec.{eqb}
 use Rattle.text.specs.Words.{ascii}
 use Rattle.text.specs.Scans.{every}
 use Rattle.digest.specs.Hex.{leadingDigest}
-use Rattle.lines.specs.Bytes.{notCr, noCr}
-use Rattle.lines.specs.Forms.{commandMost}
-use Rattle.lines.proofs.Characters.{no-cr-each}
+use Rattle.words.specs.Bytes.{notCr, noCr}
+use Rattle.words.specs.Bytes.{commandMost}
+use Rattle.words.proofs.Characters.{no-cr-each}
 use Rattle.record.specs.Limits.{placesCount, shut, awaiting, opened}
 use Rattle.record.specs.Legal.{heldMost, isLegal}
 use Rattle.record.specs.Places.{connectionAt}

@@ -11,7 +11,7 @@ use native.Mathlib.Omega.{arith}
 use lib.Dec.{eqb}
 use Rattle.std.specs.Prelude.{if◌then◌else◌}
 use Rattle.text.specs.Words.{◌is◌}
-use Rattle.lines.specs.Forms.{erraLine}
+use Rattle.pjlink.specs.Forms.{erraLine}
 use Rattle.record.specs.Limits.{placesCount, shut, awaiting, failed}
 use Rattle.record.specs.Updates.{withLine}
 use Rattle.record.specs.Legal.{heldMost, isLegal}

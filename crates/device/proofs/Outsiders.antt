@@ -6,7 +6,7 @@ use mathlib.Core.Path.{◌≡◌, refl, sym, ap, ◌∙◌}
 use mathlib.Core.Bool.{true, false, false≢true}
 use mathlib.Core.List.{List, []}
 use native.Mathlib.Omega.{arith}
-use Rattle.lines.specs.Forms.{erraLine}
+use Rattle.pjlink.specs.Forms.{erraLine}
 use Rattle.record.specs.Limits.{awaiting, failed}
 use Rattle.record.specs.Legal.{heldMost}
 use Rattle.record.specs.declared.types.Settings.{Settings}
@@ -42,10 +42,6 @@ module _ (s : Settings) (o : Own) (c : Connection) where
     mismatch-refused l m = rw (ended-erra s o c l phase m)
         (record { reply = refl; own = refl; phase = refl; age = refl; random = refl; line = refl })
 
-    pub unmatched-keeps-own : (bs : List ℕ) → Unmatched s c bs → (takenIn s o c bs).ended.own ≡ o
-    unmatched-keeps-own bs n =
-        taken-by s o c bs (λ t. t.ended.own ≡ o) (λ e. (mismatch-refused _ (n e)).own) (λ e. refl)
-
     pub unmatched-line-refused : (bs : List ℕ) → Unmatched s c bs
         → (gathered (heldMost c.phase) c.line bs).ended ≡ true → Outside o c (takenIn s o c bs).ended
     unmatched-line-refused bs n cr =
@@ -64,12 +60,6 @@ module _ (s : Settings) (o : Own) (c : Connection) where
 module _ (d : Device) (p : ℕ) (bs : List ℕ) (room : ℕ) where
   abbrev here : Connection
   here = connectionAt d p
-
-  pub outsider-keeps-own : here.phase ≡ awaiting → Unmatched d.settings here bs
-      → (received d p bs room).device.own ≡ d.own
-  outsider-keeps-own waits n =
-      received-by d p bs room (λ r. r.device.own ≡ d.own) (λ n z. refl)
-      (λ h s t c. unmatched-keeps-own d.settings d.own here waits bs n)
 
   module _ (phase : here.phase ≡ failed) where
     pub failed-keeps-record : (received d p bs room).device ≡ d

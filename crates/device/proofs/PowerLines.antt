@@ -14,17 +14,17 @@ use lib.Dec.{eqb}
 use Rattle.text.specs.Words.{ascii}
 use Rattle.text.specs.Scans.{sameBy}
 use Rattle.text.proofs.Choices.{if-by}
-use Rattle.lines.specs.Bytes.{◌at◌, upperOf}
-use Rattle.lines.specs.Commands.{switchDigit}
-use Rattle.lines.specs.Forms.{headBody, classNamed, lineClass, isCommandForm, commandParameter, replyLine}
-use Rattle.lines.specs.declared.command.Body.TheVariants.{Powr}
-use Rattle.lines.specs.declared.command.Command.TheVariants.{PowerSet}
-use Rattle.lines.proofs.FormsSpelt.{taken-by, form-takes, form-spelt}
-use Rattle.requests.specs.Requests.{isBody, asked_of}
-use Rattle.requests.specs.declared.Request.TheVariants.{Asks}
-use Rattle.requests.proofs.PowerAsked.{isPowerSet, not-powr, powr-asked, power-parameter}
-use Rattle.answers.proofs.SaidRows.{said_row}
-use Rattle.answers.specs.Said.{Said, okay, saidBytes}
+use Rattle.words.specs.Bytes.{◌at◌, upperOf}
+use Rattle.pjlink.specs.Commands.{switchDigit}
+use Rattle.pjlink.specs.Forms.{headBody, classNamed, lineClass, isCommandForm, commandParameter, replyLine}
+use Rattle.pjlink.specs.declared.command.Body.TheVariants.{Powr}
+use Rattle.pjlink.specs.declared.command.Command.TheVariants.{PowerSet}
+use Rattle.pjlink.proofs.FormsSpelt.{taken-by, form-takes, form-spelt}
+use Rattle.pjlink.specs.Requests.{isBody, asked_of}
+use Rattle.pjlink.specs.declared.request.Request.TheVariants.{Asks}
+use Rattle.pjlink.proofs.PowerAsked.{isPowerSet, not-powr, powr-asked, power-parameter}
+use Rattle.pjlink.proofs.SaidRows.{said_row}
+use Rattle.pjlink.specs.Said.{Said, okay, saidBytes}
 use Rattle.record.specs.declared.types.Settings.{Settings}
 use Rattle.record.specs.declared.types.Own.{Own}
 use Rattle.meaning.specs.Meaning.{meant, done}

@@ -5,14 +5,14 @@ use mathlib.Core.Path.{◌≡◌, refl}
 use mathlib.Core.Bool.{Bool}
 use mathlib.Core.List.{List}
 use Prim.Native.Nat.{ℕ}
-use Rattle.lines.specs.declared.command.Body.TheVariants.{Powr}
-use Rattle.lines.specs.declared.command.Command.TheVariants.{PowerSet, Query}
-use Rattle.requests.specs.Requests.{asked_of}
-use Rattle.requests.specs.declared.Request.{Request}
-use Rattle.requests.specs.declared.Request.TheVariants.{Asks, Unlisted}
-use Rattle.requests.proofs.PowerAsked.{powr-by}
-use Rattle.answers.specs.Said.{Said, okay}
-use Rattle.answers.proofs.OnlyOkay.{NotOkay, refusal-not-okay, power-not-okay, nothing-not-okay}
+use Rattle.pjlink.specs.declared.command.Body.TheVariants.{Powr}
+use Rattle.pjlink.specs.declared.command.Command.TheVariants.{PowerSet, Query}
+use Rattle.pjlink.specs.Requests.{asked_of}
+use Rattle.pjlink.specs.declared.request.Request.{Request}
+use Rattle.pjlink.specs.declared.request.Request.TheVariants.{Asks, Unlisted}
+use Rattle.pjlink.proofs.PowerAsked.{powr-by}
+use Rattle.pjlink.specs.Said.{Said, okay}
+use Rattle.pjlink.proofs.OnlyOkay.{NotOkay, refusal-not-okay, power-not-okay, nothing-not-okay}
 use Rattle.record.specs.declared.types.Settings.{Settings}
 use Rattle.record.specs.declared.types.Own.{Own}
 use Rattle.meaning.specs.Meaning.{powerSaid, meant, done}

@@ -27,7 +27,7 @@ use Rattle.record.proofs.ConnectionsTold.{placed-legal, placed-here, placed-agai
 use Rattle.record.proofs.ConnectionTold.{connection-told}
 use Rattle.stream.specs.Machine.{Took, runOver, oneCall, handedParts, uncut}
 use Rattle.stream.proofs.LegalLines.{collected-legal}
-use Rattle.stream.proofs.SameHoweverCut.{outThrough, tookThrough, calls-run}
+use Rattle.stream.proofs.SameHoweverCut.{outThrough, tookThrough, calls-run, same-however-cut}
 use Rattle.device.specs.Receiving.{lineEnded, keepingLine, takenIn}
 use Rattle.device.specs.Calls.{Result, replyRoom, acceptedTaken, received}
 use Rattle.device.proofs.Cases.{received-taken}
@@ -144,8 +144,7 @@ module _ (room : ℕ) (enough : replyRoom ≤ room) (p : ℕ) (there : p < place
     pub received-however-cut : (ps qs : List (List ℕ)) → uncut ps ≡ uncut qs
         → handedParts (receives room p) d ps ≡ handedParts (receives room p) d qs
     received-however-cut ps qs same =
-        received-as-run ps
-        ∙ ap
-        (λ (bs : List ℕ). outThrough (deviceAt d p) (runOver (code "\r") State collects (ends s) (parts_at d p) bs))
-        same
-        ∙ sym (received-as-run qs)
+        ap (λ (k : Device). handedParts (receives room p) k ps) (sym (placed-itself d p))
+        ∙ same-however-cut (code "\r") State collects (ends s) (Live s) (ready-collect s) (ready-ends s) (deviceAt d p)
+        (receives room p) receiving-is-call (parts_at d p) ps qs ready-parts same
+        ∙ ap (λ (k : Device). handedParts (receives room p) k qs) (placed-itself d p)

@@ -11,7 +11,7 @@ use lib.ListN.{length, length-append}
 use Rattle.text.proofs.Choices.{if-all}
 use Rattle.digest.specs.Hex.{hexDigits}
 use Rattle.digest.proofs.Laws.{hex-digits-length}
-use Rattle.lines.specs.Forms.{isCommandForm}
+use Rattle.pjlink.specs.Forms.{isCommandForm}
 use Rattle.record.specs.Legal.{isSettings, isOwn}
 use Rattle.record.specs.Places.{connectionAt}
 use Rattle.record.specs.declared.types.Settings.{Settings}
@@ -20,7 +20,7 @@ use Rattle.record.specs.declared.types.Line.{Line}
 use Rattle.record.specs.declared.types.Connection.{Connection}
 use Rattle.record.specs.declared.types.Device.{Device}
 use Rattle.record.proofs.LegalTold.{legal-settings, legal-own}
-use Rattle.answers.specs.Said.{saidBytes, saidMost}
+use Rattle.pjlink.specs.Said.{saidBytes, saidMost}
 use Rattle.meaning.specs.Meaning.{meant}
 use Rattle.meaning.proofs.CanBeSaid.{meant-fits}
 use Rattle.device.specs.Answering.{Answered, lineAsks, lineAnswer}

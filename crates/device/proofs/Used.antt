@@ -8,7 +8,7 @@ use native.Mathlib.Omega.{arith}
 use lib.ListN.{length, take, drop, length-take, drop_of_length-le}
 use Rattle.text.proofs.Orders.{le-or-lt}
 use Rattle.text.proofs.Parts.{drop-take}
-use Rattle.answers.proofs.Counts.{take_min}
+use Rattle.pjlink.proofs.Counts.{take_min}
 
 module _ (n room : ℕ) (s : List ℕ) (long : length s ≡ room) where
   pub used-from : (from : ℕ) {held start : ℕ} → held ≡ min n room → start ≡ min from held

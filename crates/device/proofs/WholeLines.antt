@@ -18,17 +18,18 @@ use Rattle.text.proofs.Scanning.{every_append}
 use Rattle.text.proofs.Sameness.{turned_same}
 use Rattle.digest.specs.Hex.{leadingDigest}
 use Rattle.digest.proofs.Laws.{leading-digest-length, hex-are-digits, digits-have-no-cr}
-use Rattle.lines.specs.Bytes.{notCr, noCr}
-use Rattle.lines.specs.Forms.{commandMost, headBody}
-use Rattle.lines.specs.Commands.{bodyText, bodyOf, commandClass, classDigit, isCommand, commandText}
-use Rattle.lines.specs.declared.command.Command.{Command}
-use Rattle.requests.proofs.BodiesNamed.{body-named}
-use Rattle.lines.proofs.CommandLines.{command-body, command-parameter, command-class, command-form}
-use Rattle.lines.proofs.CommandLines.{command-of-higher-class}
-use Rattle.requests.specs.Requests.{isBody, requestOf}
-use Rattle.requests.specs.declared.Request.TheVariants.{Asks}
-use Rattle.requests.proofs.CommandsAskedBack.{command-asked-back}
-use Rattle.answers.specs.Said.{saidBytes}
+use Rattle.words.specs.Bytes.{notCr, noCr}
+use Rattle.pjlink.specs.Forms.{headBody}
+use Rattle.words.specs.Bytes.{commandMost}
+use Rattle.pjlink.specs.Commands.{bodyText, bodyOf, commandClass, classDigit, isCommand, commandText}
+use Rattle.pjlink.specs.declared.command.Command.{Command}
+use Rattle.pjlink.proofs.BodiesNamed.{body-named}
+use Rattle.pjlink.proofs.CommandLines.{command-body, command-parameter, command-class, command-form}
+use Rattle.pjlink.proofs.CommandLines.{command-of-higher-class}
+use Rattle.pjlink.specs.Requests.{isBody, requestOf}
+use Rattle.pjlink.specs.declared.request.Request.TheVariants.{Asks}
+use Rattle.pjlink.proofs.CommandsAskedBack.{command-asked-back}
+use Rattle.pjlink.specs.Said.{saidBytes}
 use Rattle.record.specs.Limits.{lineRoom, awaiting, opened}
 use Rattle.record.specs.Record.{inRoom}
 use Rattle.record.specs.Legal.{heldMost, isSettings}

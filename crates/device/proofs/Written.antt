@@ -9,7 +9,7 @@ use lib.ListN.{length, set, length-append}
 use lib.Seq.{sets}
 use Rattle.text.specs.Words.{ascii, over}
 use Rattle.text.proofs.Stores.{sets-snoc, sets_then, sets_over}
-use Rattle.lines.specs.Forms.{replyLine, greetingSecured}
+use Rattle.pjlink.specs.Forms.{replyLine, greetingSecured}
 
 pub reply-long : (h a b c d : ℕ) (p : List ℕ) → length (replyLine h a b c d p) ≡ 7 + length p + 1
 reply-long h a b c d p = omega (arith, length-append p (code "\r" ∷ []))

@@ -6,11 +6,11 @@
 --                       set-up's (RULES, Class 2)
 -- Assumes nothing.
 use Rattle.std.specs.Prelude.{ℕ, List, [], if◌then◌else◌}
-use Rattle.lines.specs.Bytes.{◌at◌}
-use Rattle.lines.specs.Forms.{isCommandForm, lineClass, headBody, commandParameter, replyLine}
-use Rattle.requests.specs.Requests.{requestOf}
-use Rattle.requests.specs.declared.Request.{Request}
-use Rattle.answers.specs.Said.{saidBytes}
+use Rattle.words.specs.Bytes.{◌at◌}
+use Rattle.pjlink.specs.Forms.{isCommandForm, lineClass, headBody, commandParameter, replyLine}
+use Rattle.pjlink.specs.Requests.{requestOf}
+use Rattle.pjlink.specs.declared.request.Request.{Request}
+use Rattle.pjlink.specs.Said.{saidBytes}
 use Rattle.record.specs.declared.types.Settings.{Settings}
 use Rattle.record.specs.declared.types.Own.{Own}
 use Rattle.meaning.specs.Meaning.{meant, done}

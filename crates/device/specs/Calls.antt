@@ -11,7 +11,7 @@
 use Rattle.std.specs.Prelude.{ℕ, Bool, not, List, [], ◌∷◌, leb, ltb, eqb, if◌then◌else◌}
 use Rattle.text.specs.Rows.{Row, ◌when◌, byRows}
 use Rattle.digest.specs.Hex.{hexDigits}
-use Rattle.lines.specs.Forms.{greetingOpen, greetingSecured, replyMost}
+use Rattle.pjlink.specs.Forms.{greetingOpen, greetingSecured, replyMost}
 use Rattle.record.specs.Limits.{placesCount, awaiting, opened}
 use Rattle.record.specs.Legal.{isLegal}
 use Rattle.record.specs.Record.{closed}

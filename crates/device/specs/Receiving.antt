@@ -10,7 +10,7 @@
 use Rattle.std.specs.Prelude.{ℕ, ◌+◌, Bool, not, ◌&&◌, List, [], length, take, drop, leb, eqb, if◌then◌else◌}
 use Rattle.text.specs.Scans.{sameBy, itself}
 use Rattle.digest.specs.Hex.{leadingDigest}
-use Rattle.lines.specs.Forms.{erraLine}
+use Rattle.pjlink.specs.Forms.{erraLine}
 use Rattle.record.specs.Limits.{lineRoom, awaiting, opened, failed}
 use Rattle.record.specs.Updates.{withLine}
 use Rattle.record.specs.Legal.{heldMost}

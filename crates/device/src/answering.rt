@@ -1,14 +1,14 @@
 // A line on an open connection: decided over what it asks, then written.
 ghost use Rattle.std.specs.Prelude.{◌≡◌, ◌≤◌, length};
 ghost use Rattle.text.specs.Words.{over};
-ghost use Rattle.lines.specs.Forms.{replyLine};
-ghost use Rattle.answers.specs.Said.{saidBytes};
-ghost use Rattle.answers.specs.Carried.{saidBy};
+ghost use Rattle.pjlink.specs.Forms.{replyLine};
+ghost use Rattle.pjlink.specs.Said.{saidBytes};
+ghost use Rattle.pjlink.specs.Carried.{saidBy};
 ghost use Rattle.device.specs.Ready.{Ready};
 ghost use Rattle.device.specs.Answering.{lineAnswer};
 
-use answers::answer::Answer;
-use lines::form;
+use pjlink::answer::Answer;
+use pjlink::form;
 use record::types::{Own, Settings};
 
 // The reply to the body a b c d under the class byte h, from the start of the lent memory.
@@ -19,7 +19,7 @@ fn put_reply(out: &mut [u8], h: u8, a: u8, b: u8, c: u8, d: u8, answer: Answer) 
 {
     let head = [b'%', h, a, b, c, d, b'='];
     text::put(out, 0, &head);
-    let end = answers::write::put_answer(out, 7, answer);
+    let end = pjlink::write::put_answer(out, 7, answer);
     out[end] = b'\r';
     end + 1
 }
@@ -40,7 +40,7 @@ pub fn answer_line(s: &Settings, o: &mut Own, l: &[u8], out: &mut [u8]) -> usize
     let b = l[3];
     let c = l[4];
     let d = l[5];
-    let r = requests::request_of(form::class_named(h), a, b, c, d, &l[7..]);
+    let r = pjlink::request::request_of(form::class_named(h), a, b, c, d, &l[7..]);
     let answer = meaning::decide(s, o, r);
     put_reply(out, h, a, b, c, d, answer)
 }

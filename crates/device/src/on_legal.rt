@@ -1,5 +1,5 @@
 // What each of `calls` does with a record that is legal, by the same promise. A caller that has tested its record once
-// and keeps it legal calls these, as `floor` does; a host calls those of `calls`, which ask for nothing.
+// and keeps it legal calls these, as `floorlog` does; a host calls those of `calls`, which ask for nothing.
 ghost use Rattle.std.specs.Prelude.{◌≡◌, true, ◌≤◌, length};
 ghost use Rattle.text.specs.Words.{over};
 ghost use Rattle.record.specs.Legal.{isLegal};

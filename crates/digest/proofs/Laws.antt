@@ -1,16 +1,15 @@
 -- What a crate above may use of `md5Of`, `hexOf` and `hexDigits`, which it leaves shut: their lengths, and that each
 -- byte of a hex text is a digit. `leadingDigest` is such a text, `hexOf (md5Of ..)`.
---   BetweenDigits b     b is a digit, by its bounds
 -- Assumes nothing.
-use Rattle.std.proofs.Common.{◌≡◌, ℕ, ◌*◌, ◌^◌, ◌<◌, ◌≤◌, Bool, true, false, not, ◌&&◌, ◌||◌, eqb, leb, ◌⊎◌, List}
-use Rattle.std.proofs.Common.{length, get_or, refl, ap, ◌∙◌, inl, inr, arith, ne_eqb, leb-true}
+use Rattle.std.proofs.Common.{◌≡◌, ℕ, ◌*◌, ◌^◌, ◌<◌, ◌≤◌, true, false, not, ◌&&◌, eqb, leb, List}
+use Rattle.std.proofs.Common.{length, get_or, refl, ap, ◌∙◌, arith, ne_eqb, leb-true}
 use Prim.Native.Char.{code}
 use Rattle.text.specs.Words.{◌is◌, ◌from◌to◌}
 use Rattle.text.specs.Scans.{every}
 use Rattle.text.proofs.Choices.{if-by, both_left, both_right}
 use Rattle.text.proofs.Bases.{low-digits-length, low-digits-pass, low-digits-back, value-below}
 use Rattle.text.proofs.InTurn.{turns-long, turns-pass}
-use Rattle.text.proofs.Scanning.{every-at, every-implies}
+use Rattle.text.proofs.Scanning.{every-implies}
 use Rattle.digest.specs.Md5.{md5Of}
 use Rattle.digest.specs.Hex.{hexDigit, hexWorth, hexOf, hexDigits, hexValue, isHexDigit, leadingDigest}
 use Rattle.digest.proofs.Tables.{digit-is-hex, digit-worth}
@@ -56,22 +55,8 @@ pub hex-are-digits : (xs : List ℕ) → every isHexDigit (hexOf xs) ≡ true
 unfolding hexOf
 hex-are-digits = turns-pass (hexDigits 2) isHexDigit (hex-digits-are-digits 2)
 
-abbrev pub BetweenDigits : ℕ → Type 0
-BetweenDigits b = ((code "0" ≤ b) × (b ≤ code "9")) ⊎ ((code "a" ≤ b) × (b ≤ code "f"))
-
-pub digit-bounds : (b : ℕ) → isHexDigit b ≡ true → BetweenDigits b
-digit-bounds b = by (b from "0" to "9") refl
-  where
-    by : (n : Bool) → b from "0" to "9" ≡ n → (n || b from "a" to "f") ≡ true → BetweenDigits b
-    by true p e = inl (between (code "0") (code "9") b p)
-    by false p e = inr (between (code "a") (code "f") b e)
-
 no_digit : (x : ℕ) → isHexDigit x ≡ false → (b : ℕ) → isHexDigit b ≡ true → not (eqb b x) ≡ true
 no_digit x n b e = ap not (ne_eqb b x (λ p. let z : ◌≡◌ {A = ℕ} 0 1 = cc in absurd (omega arith)))
-
--- of any list of digits: each by its bounds, and none of them a byte that is no digit, as CR
-pub digit_at : (xs : List ℕ) → every isHexDigit xs ≡ true → (i : ℕ) → i < length xs → BetweenDigits (get_or xs i 0)
-digit_at xs e i h = digit-bounds (get_or xs i 0) (every-at isHexDigit xs 0 e i h)
 
 pub digits-have-no : (x : ℕ) → isHexDigit x ≡ false → (xs : List ℕ) → every isHexDigit xs ≡ true
     → every (λ b. not (eqb b x)) xs ≡ true

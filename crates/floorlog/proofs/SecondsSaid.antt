@@ -12,7 +12,7 @@ use Rattle.text.specs.Words.{◌is◌}
 use Rattle.text.proofs.Choices.{if-all, if-by, both_right}
 use Rattle.numbers.specs.Decimal.{isDigit, decimalValue}
 use Rattle.digest.specs.Hex.{isHexDigit}
-use Rattle.lines.specs.Bytes.{◌at◌, noCr}
+use Rattle.words.specs.Bytes.{◌at◌, noCr}
 use Rattle.clock.specs.Passing.{secondsMost}
 use Rattle.floorlog.specs.declared.line.Says.{Says}
 use Rattle.floorlog.specs.declared.line.Says.TheVariants.{Opens, Receives, Passes, Closes, NoSuch}

@@ -12,7 +12,7 @@ use Rattle.text.specs.Words.{◌is◌}
 use Rattle.text.specs.Scans.{every}
 use Rattle.numbers.specs.Decimal.{isDigit, decimalValue}
 use Rattle.digest.specs.Hex.{isHexDigit, hexValue}
-use Rattle.lines.specs.Bytes.{◌at◌, noCr}
+use Rattle.words.specs.Bytes.{◌at◌, noCr}
 use Rattle.clock.specs.Passing.{secondsMost}
 use Rattle.floorlog.specs.declared.line.Says.{Says}
 use Rattle.floorlog.specs.declared.line.Says.TheVariants.{Opens, Receives, Passes, Closes, NoSuch}

@@ -74,7 +74,7 @@ pub fn line_says(l: &[u8]) -> Says
     if LINE_MOST < l.len() {
         return Says::NoSuch;
     }
-    if !lines::byte::no_cr(l) {
+    if !words::byte::no_cr(l) {
         return Says::NoSuch;
     }
     form_says(l)

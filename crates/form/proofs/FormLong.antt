@@ -9,7 +9,7 @@ use native.Mathlib.Omega.{arith}
 use lib.ListN.{length, length-append, length-map}
 use Rattle.numbers.specs.HighestFirst.{highestFirst}
 use Rattle.numbers.proofs.HighestFirst.{highest-length}
-use Rattle.lines.specs.Texts.{isName, isInfo, isPassword}
+use Rattle.words.specs.Texts.{isName, isInfo, isPassword}
 use Rattle.record.specs.Limits.{textRoom, inputRoom, listedMost, lampsMost, onlyIn2}
 use Rattle.record.specs.Wanted.{Wanted}
 use Rattle.record.specs.Rules.{isInputs, isLamps}

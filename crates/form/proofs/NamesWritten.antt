@@ -15,7 +15,7 @@ use lib.ListN.{length, get_or, take, length-append}
 use lib.Seq.{sets, take-suc, get_or-take, length-take-le}
 use Rattle.text.proofs.Scanning.{every-at}
 use Rattle.text.proofs.Written.{Wrote, wrote_then}
-use Rattle.lines.specs.Texts.{isInputName, inputNameMost}
+use Rattle.words.specs.Texts.{isInputName, inputNameMost}
 use Rattle.record.specs.Limits.{listedMost}
 use Rattle.record.specs.Legal.{fillsNameRoom, isNames}
 use Rattle.record.specs.declared.types.InputName.{InputName}

@@ -2,7 +2,7 @@
 // form, Lamps and Class 2).
 ghost use Rattle.std.specs.Prelude.{◌≡◌, true, map, ◌+◌, ◌*◌, ◌≤◌, length, take};
 ghost use Rattle.std.proofs.lemmas.List.Edits.{sets};
-ghost use Rattle.lines.specs.Texts.{inputNameMost};
+ghost use Rattle.words.specs.Texts.{inputNameMost};
 ghost use Rattle.record.specs.Limits.{textRoom, listedMost, lampsMost};
 ghost use Rattle.record.specs.Legal.{isNames};
 ghost use Rattle.form.specs.Form.{section, textSection, secondsBytes, textStored};

@@ -9,25 +9,25 @@ use lib.ListN.{length, get_or, take}
 use borrow.Author.Tests.{leb-true, le-leb, eqb-false, not-false}
 use Rattle.text.specs.Scans.{every}
 use Rattle.text.proofs.Scanning.{every-by-place}
-use Rattle.lines.specs.Bytes.{noCr}
-use Rattle.lines.specs.Inputs.{isInput}
-use Rattle.lines.specs.Bodies.{hasParameters}
-use Rattle.lines.specs.declared.input.MaybeInput.{MaybeInput}
-use Rattle.lines.specs.declared.command.Body.TheVariants.{Powr, Inpt, Avmt, Erst, Lamp, Inst, Name, Inf1, Inf2, Info}
-use Rattle.lines.specs.declared.command.Body.TheVariants.{Clss, Frez, Svol, Mvol, Snum, Sver, Innm, Inpt2, Inst2}
-use Rattle.lines.specs.declared.command.Command.{Command}
-use Rattle.lines.specs.declared.command.Command.TheVariants.{PowerSet, InputSet, MuteSet, Query}
-use Rattle.lines.specs.declared.command.Command.TheVariants.{InputSet2, FreezeSet, VolumeStep, NameQuery}
-use Rattle.lines.proofs.InputsReadBack.{named-is-input}
-use Rattle.lines.proofs.SourcesFollowed.{named-stands}
-use Rattle.requests.specs.declared.Request.{Request}
-use Rattle.requests.specs.declared.Request.TheVariants.{Asks, Unlisted, UnknownBody}
-use Rattle.answers.specs.Said.{Said, saidBytes, saidMost}
-use Rattle.answers.specs.Carried.{inputsCarried, answer_of, saidBy, isSayable}
-use Rattle.answers.specs.CanSay.{hasOwnParameter, isRefusalTo}
-use Rattle.answers.specs.CanSay.{CanSay, done, refuses, power, input, mutes, errors, lamps, inputs, name, maker, model}
-use Rattle.answers.specs.CanSay.{other, class-is, freeze, serial, version, input-name, input-2, inputs-2, isLampHours}
-use Rattle.answers.proofs.SaidPlain.{can-sayable, can-said-back, said-most, said_plain}
+use Rattle.words.specs.Bytes.{noCr}
+use Rattle.words.specs.Inputs.{isInput}
+use Rattle.pjlink.specs.Bodies.{hasParameters}
+use Rattle.words.specs.declared.input.MaybeInput.{MaybeInput}
+use Rattle.pjlink.specs.declared.command.Body.TheVariants.{Powr, Inpt, Avmt, Erst, Lamp, Inst, Name, Inf1, Inf2, Info}
+use Rattle.pjlink.specs.declared.command.Body.TheVariants.{Clss, Frez, Svol, Mvol, Snum, Sver, Innm, Inpt2, Inst2}
+use Rattle.pjlink.specs.declared.command.Command.{Command}
+use Rattle.pjlink.specs.declared.command.Command.TheVariants.{PowerSet, InputSet, MuteSet, Query}
+use Rattle.pjlink.specs.declared.command.Command.TheVariants.{InputSet2, FreezeSet, VolumeStep, NameQuery}
+use Rattle.words.proofs.InputsReadBack.{named-is-input}
+use Rattle.words.proofs.SourcesFollowed.{named-stands}
+use Rattle.pjlink.specs.declared.request.Request.{Request}
+use Rattle.pjlink.specs.declared.request.Request.TheVariants.{Asks, Unlisted, UnknownBody}
+use Rattle.pjlink.specs.Said.{Said, saidBytes, saidMost}
+use Rattle.pjlink.specs.Carried.{inputsCarried, answer_of, saidBy, isSayable}
+use Rattle.pjlink.specs.CanSay.{hasOwnParameter, isRefusalTo}
+use Rattle.pjlink.specs.CanSay.{CanSay, done, refuses, power, input, mutes, errors, lamps, inputs, name, maker, model}
+use Rattle.pjlink.specs.CanSay.{other, class-is, freeze, serial, version, input-name, input-2, inputs-2, isLampHours}
+use Rattle.pjlink.proofs.SaidPlain.{can-sayable, can-said-back, said-most, said_plain}
 use Rattle.record.specs.Limits.{inputRoom, lampsMost, lampLimit, isLit}
 use Rattle.record.specs.Rules.{isLamp, isLamps, isInputs}
 use Rattle.record.specs.Legal.{isSettings, isOwn}

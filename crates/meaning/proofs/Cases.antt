@@ -5,8 +5,8 @@ use mathlib.Core.Path.{◌≡◌, refl, ◌∙◌}
 use mathlib.Core.Bool.{Bool, true, false, ◌||◌}
 use Rattle.std.specs.Prelude.{if◌then◌else◌}
 use Rattle.text.proofs.Choices.{if_yes, if_no}
-use Rattle.requests.specs.declared.Request.{Request}
-use Rattle.answers.specs.Said.{Said, refused}
+use Rattle.pjlink.specs.declared.request.Request.{Request}
+use Rattle.pjlink.specs.Said.{Said, refused}
 use Rattle.record.specs.declared.types.Settings.{Settings}
 use Rattle.record.specs.declared.types.Own.{Own}
 use Rattle.meaning.specs.Rules.{isUndefined, isOutOfParameter, isFailure, isUnavailable}

@@ -4,7 +4,7 @@ use Prim.Native.Nat.{ℕ, ◌≤◌}
 use native.Mathlib.Omega.{arith}
 use lib.Dec.{eqb}
 use borrow.Author.Tests.{eqb-true}
-use Rattle.lines.proofs.Characters.{either-by}
+use Rattle.words.proofs.Characters.{either-by}
 use Rattle.record.specs.declared.types.Settings.{Settings}
 use Rattle.record.proofs.SettingsTold.{class-told}
 use Rattle.record.specs.Facts.{IsSettings}

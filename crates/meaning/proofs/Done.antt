@@ -9,15 +9,15 @@ use native.Mathlib.Omega.{arith}
 use lib.Dec.{ltb, eqb}
 use borrow.Author.Tests.{ltb-true, not-false}
 use Rattle.text.proofs.Choices.{if-all, if-by}
-use Rattle.lines.specs.declared.command.Half.{Half}
-use Rattle.lines.specs.declared.command.Half.TheVariants.{VideoHalf, AudioHalf, BothHalves}
-use Rattle.lines.specs.declared.command.Volume.{Volume}
-use Rattle.lines.specs.declared.command.Volume.TheVariants.{Speaker, Microphone}
-use Rattle.lines.specs.declared.command.Command.TheVariants.{PowerSet, InputSet, MuteSet, Query}
-use Rattle.lines.specs.declared.command.Command.TheVariants.{InputSet2, FreezeSet, VolumeStep, NameQuery}
-use Rattle.requests.specs.declared.Request.{Request}
-use Rattle.requests.specs.declared.Request.TheVariants.{Asks, Unlisted, UnknownBody}
-use Rattle.answers.specs.Said.{okay}
+use Rattle.pjlink.specs.declared.command.Half.{Half}
+use Rattle.pjlink.specs.declared.command.Half.TheVariants.{VideoHalf, AudioHalf, BothHalves}
+use Rattle.pjlink.specs.declared.command.Volume.{Volume}
+use Rattle.pjlink.specs.declared.command.Volume.TheVariants.{Speaker, Microphone}
+use Rattle.pjlink.specs.declared.command.Command.TheVariants.{PowerSet, InputSet, MuteSet, Query}
+use Rattle.pjlink.specs.declared.command.Command.TheVariants.{InputSet2, FreezeSet, VolumeStep, NameQuery}
+use Rattle.pjlink.specs.declared.request.Request.{Request}
+use Rattle.pjlink.specs.declared.request.Request.TheVariants.{Asks, Unlisted, UnknownBody}
+use Rattle.pjlink.specs.Said.{okay}
 use Rattle.record.specs.Limits.{off, on, volumeMost}
 use Rattle.record.specs.Updates.{withChosen, withMutes}
 use Rattle.record.specs.Legal.{isSettings, isOwn}

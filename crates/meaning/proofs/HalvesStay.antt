@@ -2,9 +2,9 @@
 -- Assumes nothing.
 use mathlib.Core.Path.{◌≡◌, refl}
 use mathlib.Core.Bool.{Bool}
-use Rattle.lines.specs.declared.command.Half.TheVariants.{VideoHalf, AudioHalf}
-use Rattle.lines.specs.declared.command.Command.TheVariants.{MuteSet}
-use Rattle.requests.specs.declared.Request.TheVariants.{Asks}
+use Rattle.pjlink.specs.declared.command.Half.TheVariants.{VideoHalf, AudioHalf}
+use Rattle.pjlink.specs.declared.command.Command.TheVariants.{MuteSet}
+use Rattle.pjlink.specs.declared.request.Request.TheVariants.{Asks}
 use Rattle.record.specs.declared.types.Settings.{Settings}
 use Rattle.record.specs.declared.types.Own.{Own}
 use Rattle.meaning.specs.Meaning.{done}

@@ -4,12 +4,12 @@ use mathlib.Core.Path.{◌≡◌, refl, sym, ap, ◌∙◌}
 use mathlib.Core.Bool.{true}
 use native.Mathlib.Omega.{arith}
 use borrow.Author.Tests.{ltb-true, not-false}
-use Rattle.lines.specs.Inputs.{isInput}
-use Rattle.lines.specs.declared.input.Input.{Input}
-use Rattle.lines.specs.declared.command.Body.TheVariants.{Inpt}
-use Rattle.lines.specs.declared.command.Command.TheVariants.{InputSet, Query}
-use Rattle.requests.specs.declared.Request.TheVariants.{Asks}
-use Rattle.answers.specs.Said.{okay, chosenIs}
+use Rattle.words.specs.Inputs.{isInput}
+use Rattle.words.specs.declared.input.Input.{Input}
+use Rattle.pjlink.specs.declared.command.Body.TheVariants.{Inpt}
+use Rattle.pjlink.specs.declared.command.Command.TheVariants.{InputSet, Query}
+use Rattle.pjlink.specs.declared.request.Request.TheVariants.{Asks}
+use Rattle.pjlink.specs.Said.{okay, chosenIs}
 use Rattle.record.specs.Updates.{withChosen}
 use Rattle.record.specs.Legal.{isSettings}
 use Rattle.record.specs.declared.types.Settings.{Settings}

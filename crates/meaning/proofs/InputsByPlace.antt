@@ -12,9 +12,9 @@ use lib.ListN.{length, get_or, take, drop, length-take, drop_of_length-le}
 use lib.Seq.{get_or-take, drop-cons}
 use Rattle.std.specs.Prelude.{if◌then◌else◌}
 use Rattle.text.proofs.Choices.{if_yes, if_no, if-by}
-use Rattle.lines.specs.Sources.{sameInput}
-use Rattle.lines.specs.declared.input.Input.{Input}
-use Rattle.lines.proofs.SourcesFollowed.{same-input}
+use Rattle.words.specs.Sources.{sameInput}
+use Rattle.words.specs.declared.input.Input.{Input}
+use Rattle.words.proofs.SourcesFollowed.{same-input}
 use Rattle.meaning.specs.SetUpInputs.{inputOfPair, inputsOfPairs, place_in}
 
 -- twice k, in a form that computes by k

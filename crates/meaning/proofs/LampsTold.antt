@@ -8,11 +8,11 @@ use native.Mathlib.Omega.{arith}
 use lib.ListN.{length, get_or, take, length-take}
 use lib.Seq.{get_or-take}
 use borrow.Author.Tests.{ne_eqb}
-use Rattle.lines.specs.declared.command.Body.TheVariants.{Lamp}
-use Rattle.lines.specs.declared.command.Command.TheVariants.{Query}
-use Rattle.requests.specs.declared.Request.TheVariants.{Asks}
-use Rattle.answers.specs.Said.{lampsAre}
-use Rattle.answers.specs.declared.answer.LampHours.{LampHours}
+use Rattle.pjlink.specs.declared.command.Body.TheVariants.{Lamp}
+use Rattle.pjlink.specs.declared.command.Command.TheVariants.{Query}
+use Rattle.pjlink.specs.declared.request.Request.TheVariants.{Asks}
+use Rattle.pjlink.specs.Said.{lampsAre}
+use Rattle.pjlink.specs.declared.answer.LampHours.{LampHours}
 use Rattle.record.specs.Limits.{isLit}
 use Rattle.record.specs.declared.types.Settings.{Settings}
 use Rattle.record.specs.declared.types.Own.{Own}

@@ -2,7 +2,7 @@
 -- Assumes nothing.
 use mathlib.Core.Path.{◌≡◌}
 use Rattle.text.proofs.OneResult.{one-result}
-use Rattle.requests.specs.declared.Request.{Request}
+use Rattle.pjlink.specs.declared.request.Request.{Request}
 use Rattle.record.specs.declared.types.Settings.{Settings}
 use Rattle.record.specs.declared.types.Own.{Own}
 use Rattle.meaning.specs.Meaning.{decided}

@@ -5,13 +5,13 @@ use mathlib.Core.Path.{◌≡◌, refl}
 use mathlib.Core.Bool.{true}
 use mathlib.Core.List.{List, [], ◌∷◌, map}
 use Rattle.text.specs.Words.{ascii}
-use Rattle.lines.specs.declared.input.Source.TheVariants.{Rgb}
-use Rattle.lines.specs.declared.command.Body.TheVariants.{Powr, Inpt, Lamp, Name, Clss}
-use Rattle.lines.specs.declared.command.Command.TheVariants.{PowerSet, InputSet, Query}
-use Rattle.lines.specs.Computing.{computing as lines-computing}
-use Rattle.requests.specs.declared.Request.{Request}
-use Rattle.requests.specs.declared.Request.TheVariants.{Asks, Unlisted, UnknownBody}
-use Rattle.answers.specs.Said.{Said, okay, refused, lampsAre, classIs}
+use Rattle.words.specs.declared.input.Source.TheVariants.{Rgb}
+use Rattle.pjlink.specs.declared.command.Body.TheVariants.{Powr, Inpt, Lamp, Name, Clss}
+use Rattle.pjlink.specs.declared.command.Command.TheVariants.{PowerSet, InputSet, Query}
+use Rattle.pjlink.specs.Computing.{computing as pjlink-computing}
+use Rattle.pjlink.specs.declared.request.Request.{Request}
+use Rattle.pjlink.specs.declared.request.Request.TheVariants.{Asks, Unlisted, UnknownBody}
+use Rattle.pjlink.specs.Said.{Said, okay, refused, lampsAre, classIs}
 use Rattle.record.specs.Limits.{warming, on}
 use Rattle.record.specs.Wanted.{wantedOf}
 use Rattle.record.specs.Updates.{withPower}
@@ -37,7 +37,7 @@ requests =
 -- POWR 1, POWR 2, ABCD x, NAME x, CLSS ?, INPT ?, INPT 12
 pub settled : map (meant settings own) requests
     ≡ okay ∷ refused 2 ∷ refused 1 ∷ refused 1 ∷ classIs 1 ∷ refused 3 ∷ refused 2 ∷ []
-unfolding computing record-computing lines-computing
+unfolding computing record-computing pjlink-computing
 settled = refl
 
 -- POWR 1 starts warm-up with W left

@@ -11,25 +11,25 @@
 -- Assumes nothing.
 use Rattle.std.specs.Prelude.{ℕ, ◌+◌, ◌-◌, ◌/◌, Bool, false, not, ◌&&◌, ◌||◌, List, [], ◌∷◌, take, get_or, ltb, eqb}
 use Rattle.std.specs.Prelude.{if◌then◌else◌}
-use Rattle.lines.specs.declared.input.Input.{Input}
-use Rattle.lines.specs.declared.command.Body.{Body}
-use Rattle.lines.specs.declared.command.Body.TheVariants.{Powr, Inpt, Avmt, Erst, Lamp, Inst, Name, Inf1, Inf2, Info}
-use Rattle.lines.specs.declared.command.Body.TheVariants.{Clss, Frez, Svol, Mvol, Snum, Sver, Innm, Inpt2, Inst2}
-use Rattle.lines.specs.declared.command.Half.{Half}
-use Rattle.lines.specs.declared.command.Half.TheVariants.{VideoHalf, AudioHalf, BothHalves}
-use Rattle.lines.specs.declared.command.Volume.{Volume}
-use Rattle.lines.specs.declared.command.Volume.TheVariants.{Speaker, Microphone}
-use Rattle.lines.specs.declared.command.Command.{Command}
-use Rattle.lines.specs.declared.command.Command.TheVariants.{PowerSet, InputSet, MuteSet, Query}
-use Rattle.lines.specs.declared.command.Command.TheVariants.{InputSet2, FreezeSet, VolumeStep, NameQuery}
-use Rattle.requests.specs.declared.Request.{Request}
-use Rattle.requests.specs.declared.Request.TheVariants.{Asks, Unlisted, UnknownBody}
-use Rattle.answers.specs.Said.{Said, okay, refused, powerIs, chosenIs, mutesAre, errorsAre, lampsAre, inputsAre}
-use Rattle.answers.specs.Said.{textIs, classIs, freezeIs, nothing}
-use Rattle.answers.specs.Carried.{answer_of}
-use Rattle.answers.specs.declared.answer.Power.{Power}
-use Rattle.answers.specs.declared.answer.Power.TheVariants.{Off, On, Cooling, WarmUp}
-use Rattle.answers.specs.declared.answer.LampHours.{LampHours}
+use Rattle.words.specs.declared.input.Input.{Input}
+use Rattle.pjlink.specs.declared.command.Body.{Body}
+use Rattle.pjlink.specs.declared.command.Body.TheVariants.{Powr, Inpt, Avmt, Erst, Lamp, Inst, Name, Inf1, Inf2, Info}
+use Rattle.pjlink.specs.declared.command.Body.TheVariants.{Clss, Frez, Svol, Mvol, Snum, Sver, Innm, Inpt2, Inst2}
+use Rattle.pjlink.specs.declared.command.Half.{Half}
+use Rattle.pjlink.specs.declared.command.Half.TheVariants.{VideoHalf, AudioHalf, BothHalves}
+use Rattle.pjlink.specs.declared.command.Volume.{Volume}
+use Rattle.pjlink.specs.declared.command.Volume.TheVariants.{Speaker, Microphone}
+use Rattle.pjlink.specs.declared.command.Command.{Command}
+use Rattle.pjlink.specs.declared.command.Command.TheVariants.{PowerSet, InputSet, MuteSet, Query}
+use Rattle.pjlink.specs.declared.command.Command.TheVariants.{InputSet2, FreezeSet, VolumeStep, NameQuery}
+use Rattle.pjlink.specs.declared.request.Request.{Request}
+use Rattle.pjlink.specs.declared.request.Request.TheVariants.{Asks, Unlisted, UnknownBody}
+use Rattle.pjlink.specs.Said.{Said, okay, refused, powerIs, chosenIs, mutesAre, errorsAre, lampsAre, inputsAre}
+use Rattle.pjlink.specs.Said.{textIs, classIs, freezeIs, nothing}
+use Rattle.pjlink.specs.Carried.{answer_of}
+use Rattle.pjlink.specs.declared.answer.Power.{Power}
+use Rattle.pjlink.specs.declared.answer.Power.TheVariants.{Off, On, Cooling, WarmUp}
+use Rattle.pjlink.specs.declared.answer.LampHours.{LampHours}
 use Rattle.record.specs.Limits.{off, on, cooling, warming, isLit, volumeMost}
 use Rattle.record.specs.Updates.{withPower, withChosen, withMutes, withFreeze, withVolumes}
 use Rattle.record.specs.Record.{blankName}

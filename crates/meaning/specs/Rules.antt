@@ -1,20 +1,20 @@
 -- When a request is refused: the four rules of RULES, Commands, in its order. PJLink 1.04, 2.5 names the four refusals.
--- Which body is query-only, which asks for lamps and which has to be on stands in its row (`rowOf` of `lines`).
+-- Which body is query-only, which asks for lamps and which has to be on stands in its row (`rowOf` of `pjlink`).
 --   isUndefined s r          rule 1, ERR1: undefined command
 --   isOutOfParameter s r     rule 2, ERR2: out of parameter
 --   isFailure o r            rule 3, ERR4: projector failure
 --   isUnavailable o r        rule 4, ERR3: unavailable time
--- A request is what `requests` reads off a line: a command with a parameter that is `?` or one its body knows, a body
+-- A request is what `pjlink` reads off a line: a command with a parameter that is `?` or one its body knows, a body
 -- with any other parameter (Unlisted), or no body of its line's class. Class 2 has the same rules (RULES, Class 2).
 -- Assumes nothing.
 use Rattle.std.specs.Prelude.{ℕ, Bool, true, false, not, ◌&&◌, ◌||◌, eqb}
-use Rattle.lines.specs.Bodies.{rowOf, hasSet, hasParameters, hasQuery}
-use Rattle.lines.specs.Commands.{bodyOf}
-use Rattle.lines.specs.declared.command.Command.{Command}
-use Rattle.lines.specs.declared.command.Command.TheVariants.{PowerSet, InputSet, MuteSet, Query}
-use Rattle.lines.specs.declared.command.Command.TheVariants.{InputSet2, FreezeSet, VolumeStep, NameQuery}
-use Rattle.requests.specs.declared.Request.{Request}
-use Rattle.requests.specs.declared.Request.TheVariants.{Asks, Unlisted, UnknownBody}
+use Rattle.pjlink.specs.Bodies.{rowOf, hasSet, hasParameters, hasQuery}
+use Rattle.pjlink.specs.Commands.{bodyOf}
+use Rattle.pjlink.specs.declared.command.Command.{Command}
+use Rattle.pjlink.specs.declared.command.Command.TheVariants.{PowerSet, InputSet, MuteSet, Query}
+use Rattle.pjlink.specs.declared.command.Command.TheVariants.{InputSet2, FreezeSet, VolumeStep, NameQuery}
+use Rattle.pjlink.specs.declared.request.Request.{Request}
+use Rattle.pjlink.specs.declared.request.Request.TheVariants.{Asks, Unlisted, UnknownBody}
 use Rattle.record.specs.Limits.{on, isBetween}
 use Rattle.record.specs.declared.types.Settings.{Settings}
 use Rattle.record.specs.declared.types.Own.{Own}

@@ -9,11 +9,11 @@
 --   isListed s i         the input i is in the set-up
 -- Assumes nothing.
 use Rattle.std.specs.Prelude.{ℕ, suc, ◌*◌, Bool, List, [], ◌∷◌, take, ltb, if◌then◌else◌}
-use Rattle.lines.specs.Sources.{sameInput, inputFor}
-use Rattle.lines.specs.declared.input.Source.TheVariants.{Rgb}
-use Rattle.lines.specs.declared.input.Input.{Input}
-use Rattle.lines.specs.declared.input.MaybeInput.{MaybeInput}
-use Rattle.lines.specs.declared.input.MaybeInput.TheVariants.{InputIs, NoInput}
+use Rattle.words.specs.Sources.{sameInput, inputFor}
+use Rattle.words.specs.declared.input.Source.TheVariants.{Rgb}
+use Rattle.words.specs.declared.input.Input.{Input}
+use Rattle.words.specs.declared.input.MaybeInput.{MaybeInput}
+use Rattle.words.specs.declared.input.MaybeInput.TheVariants.{InputIs, NoInput}
 use Rattle.record.specs.declared.types.Settings.{Settings}
 
 abbrev pub pairsOf : Settings → List ℕ

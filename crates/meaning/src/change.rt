@@ -3,7 +3,7 @@ ghost use Rattle.std.specs.Prelude.{◌≡◌};
 ghost use Rattle.meaning.specs.Meaning.{afterPower, afterMute, levelAfter, afterStep, afterCommand};
 
 use crate::inputs;
-use lines::command::{Command, Half, Volume};
+use pjlink::command::{Command, Half, Volume};
 use record::own::{OFF, ON, VOLUME_MOST};
 use record::types::{Own, Settings};
 use record::views::Power;

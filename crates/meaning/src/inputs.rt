@@ -1,14 +1,14 @@
 // The inputs of a set-up, which keeps them as pairs of characters (RULES, The legal record).
 ghost use Rattle.std.specs.Prelude.{◌≡◌, ◌*◌, take, get_or};
-ghost use Rattle.answers.specs.Said.{inputsAre};
-ghost use Rattle.answers.specs.Carried.{answer_of};
-ghost use Rattle.lines.specs.Sources.{sameInput};
+ghost use Rattle.pjlink.specs.Said.{inputsAre};
+ghost use Rattle.pjlink.specs.Carried.{answer_of};
+ghost use Rattle.words.specs.Sources.{sameInput};
 ghost use Rattle.meaning.specs.SetUpInputs.{noInput, inputOfPair, inputsOfPairs, place_in, place_of, isListed};
 
-use answers::answer;
-use answers::answer::{Answer, NO_INPUT};
-use lines::input;
-use lines::input::{Input, MaybeInput};
+use pjlink::answer;
+use pjlink::answer::{Answer, NO_INPUT};
+use words::input;
+use words::input::{Input, MaybeInput};
 use record::types::{INPUT_ROOM, INPUTS_MOST, Settings};
 
 // No legal set-up has a pair that stands for no input.

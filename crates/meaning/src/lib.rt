@@ -8,14 +8,14 @@ mod table;
 pub mod theorems;
 
 ghost use Rattle.std.specs.Prelude.{◌≡◌};
-ghost use Rattle.answers.specs.Carried.{answer_of};
+ghost use Rattle.pjlink.specs.Carried.{answer_of};
 ghost use Rattle.meaning.specs.Meaning.{tableAnswer, requestAnswer, afterCommand, carriedOut, decided};
 
-use answers::answer;
-use answers::answer::{Answer, Kind};
-use lines::command::Command;
+use pjlink::answer;
+use pjlink::answer::{Answer, Kind};
+use pjlink::command::Command;
 use record::types::{Own, Settings};
-use requests::Request;
+use pjlink::request::Request;
 
 // What a spec calls the answer and the own part that a request leaves; the code gives the one and changes the other.
 #[derive(Clone, Copy)]

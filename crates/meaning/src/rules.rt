@@ -5,12 +5,12 @@ ghost use Rattle.meaning.specs.Rules.{isUntimely};
 ghost use Rattle.meaning.specs.Rules.{isUnavailable};
 
 use crate::inputs;
-use lines::command::Command;
-use lines::{body, command};
+use pjlink::command::Command;
+use pjlink::{body, command};
 use record::own;
 use record::own::ON;
 use record::types::{Own, Settings};
-use requests::Request;
+use pjlink::request::Request;
 
 fn is_no_query(c: Command) -> bool
     ensures { result ≡ isNoQuery c }

@@ -1,7 +1,7 @@
 // What a command that no rule refuses is answered: the table of RULES, Commands.
 ghost use Rattle.std.specs.Prelude.{◌≡◌, ◌≤◌, length, take, get_or};
-ghost use Rattle.answers.specs.Said.{powerIs, chosenIs, errorsAre, lampsAre, inputsAre, textIs};
-ghost use Rattle.answers.specs.Carried.{textCarried, answer_of};
+ghost use Rattle.pjlink.specs.Said.{powerIs, chosenIs, errorsAre, lampsAre, inputsAre, textIs};
+ghost use Rattle.pjlink.specs.Carried.{textCarried, answer_of};
 ghost use Rattle.record.specs.Record.{blankName};
 ghost use Rattle.meaning.specs.SetUpInputs.{inputsOf};
 ghost use Rattle.meaning.specs.Meaning.{powerSaid, chosen_of, lampsSaid, lampsOf, textSaid, nameBytes};
@@ -9,10 +9,10 @@ ghost use Rattle.meaning.specs.Meaning.{inputNameOf};
 ghost use Rattle.meaning.specs.Meaning.{queried, tableAnswer};
 
 use crate::inputs;
-use answers::answer;
-use answers::answer::{Answer, Kind, LampHours, NO_LAMP, Power, TEXT_MOST};
-use lines::command::{Body, Command};
-use lines::input::Input;
+use pjlink::answer;
+use pjlink::answer::{Answer, Kind, LampHours, NO_LAMP, Power, TEXT_MOST};
+use pjlink::command::{Body, Command};
+use words::input::Input;
 use record::own;
 use record::own::{COOLING, OFF, ON};
 use record::types::{

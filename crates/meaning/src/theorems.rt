@@ -3,7 +3,7 @@
 ghost use Rattle.std.specs.Prelude.{◌≡◌};
 ghost use Rattle.record.specs.declared.types.Settings.{Settings};
 ghost use Rattle.record.specs.declared.types.Own.{Own};
-ghost use Rattle.requests.specs.declared.Request.{Request};
+ghost use Rattle.pjlink.specs.declared.request.Request.{Request};
 ghost use Rattle.meaning.specs.declared.Decided.{Decided};
 ghost use Rattle.meaning.specs.Meaning.{decided};
 

@@ -2,10 +2,10 @@
 -- back out of the other.
 -- Assumes nothing.
 use Prim.Native.Nat.{ℕ}
-use mathlib.Core.Path.{◌≡◌, sym, ap, ◌∙◌}
+use mathlib.Core.Path.{◌≡◌, ap}
 use mathlib.Core.List.{List}
-use Rattle.lines.specs.declared.command.Command.{Command}
-use Rattle.answers.specs.Said.{Said}
+use Rattle.pjlink.specs.declared.command.Command.{Command}
+use Rattle.pjlink.specs.Said.{Said}
 use Rattle.controller.specs.Reading.{reading_of}
 use Rattle.controller.proofs.ReadingsSaid.{reading-said}
 use Rattle.ours.specs.Board.{ours}
@@ -14,8 +14,3 @@ use Rattle.ours.specs.Tied.{readAs}
 -- whatever line comes, what our reader says of it has room in the code's form, and comes back out of it
 pub reading-back : (c : Command) (l : List ℕ) → readAs (reading_of (ours.read-reply c l)) ≡ ours.read-reply c l
 reading-back c l = ap (λ (m : Said). record { outcome = (ours.read-reply c l).outcome; said = m }) (reading-said c l)
-
--- so two readings of ours that differ are two in the code's form
-pub readings-apart : (c d : Command) (l m : List ℕ)
-    → reading_of (ours.read-reply c l) ≡ reading_of (ours.read-reply d m) → ours.read-reply c l ≡ ours.read-reply d m
-readings-apart c d l m e = sym (reading-back c l) ∙ ap readAs e ∙ reading-back d m

@@ -11,7 +11,7 @@
 use Rattle.std.specs.Prelude.{ℕ, Bool, List, length, take}
 use Rattle.text.specs.Words.{over}
 use Rattle.digest.specs.Md5.{md5Of}
-use Rattle.lines.specs.declared.command.Command.{Command}
+use Rattle.pjlink.specs.declared.command.Command.{Command}
 use Rattle.record.specs.declared.types.Device.{Device}
 use Rattle.record.specs.declared.types.Changed.{Changed}
 use Rattle.record.specs.Wanted.{Wanted}

@@ -7,7 +7,7 @@
 --   readAs r           the outcome, and what the answer says
 -- Assumes nothing.
 use Rattle.std.specs.Prelude.{ℕ, List}
-use Rattle.answers.specs.Carried.{saidBy}
+use Rattle.pjlink.specs.Carried.{saidBy}
 use Rattle.record.specs.declared.types.Device.{Device}
 use Rattle.form.specs.declared.storing.FormWritten.{FormWritten}
 use Rattle.device.specs.Outcomes.{Told}

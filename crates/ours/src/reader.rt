@@ -7,7 +7,7 @@ ghost use Rattle.ours.specs.Tied.{readAs};
 use controller::greeting::Greeting;
 use controller::reading::Reading;
 use controller::{greeting, reading};
-use lines::command::Command;
+use pjlink::command::Command;
 
 // The code gives a form with room for every answer. What was read comes back out of it, so nothing is lost in it.
 pub fn read_reply(c: Command, line: &[u8]) -> Reading

@@ -5,7 +5,7 @@ ghost use Rattle.ours.specs.Tied.{wroteAs};
 
 use controller::writing;
 use controller::writing::Written;
-use lines::command::Command;
+use pjlink::command::Command;
 
 pub fn write(c: Command, secured: bool, random: u32, password: &[u8], out: &mut [u8]) -> Written
     ensures { wroteAs result out.new

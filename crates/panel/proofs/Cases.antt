@@ -8,7 +8,7 @@ use mathlib.Core.List.{List}
 use borrow.Author.Tests.{leb-false, lt-leb, ltb-false, le-ltb, not-false}
 use Rattle.text.specs.Rows.{byRows}
 use Rattle.text.proofs.ByRows.{by_rows, rows-done}
-use Rattle.lines.specs.Texts.{isPassword}
+use Rattle.words.specs.Texts.{isPassword}
 use Rattle.controller.specs.Writing.{commandRoom}
 use Rattle.codes.specs.Commands.{commandOf}
 use Rattle.codes.specs.declared.command.Coded.{Coded}

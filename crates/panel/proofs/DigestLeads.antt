@@ -12,9 +12,9 @@ use Rattle.std.specs.Prelude.{if◌then◌else◌, Option, Some, None}
 use Rattle.text.specs.Scans.{every}
 use Rattle.text.proofs.Choices.{if_yes, if-by, both}
 use Rattle.digest.specs.Hex.{leadingDigest}
-use Rattle.lines.specs.Commands.{commandLine}
-use Rattle.lines.specs.declared.command.Command.{Command}
-use Rattle.answers.specs.Said.{Said}
+use Rattle.pjlink.specs.Commands.{commandLine}
+use Rattle.pjlink.specs.declared.command.Command.{Command}
+use Rattle.pjlink.specs.Said.{Said}
 use Rattle.controller.specs.Writing.{WrittenAs, commandRoom, writtenCommand}
 use Rattle.controller.specs.Reading.{readReply}
 use Rattle.controller.specs.declared.reading.Outcome.{Outcome}

@@ -9,11 +9,11 @@ use lib.ListN.{length}
 use lib.Dec.{leb, eqb}
 use Rattle.text.specs.Words.{◌is◌}
 use Rattle.text.specs.Scans.{sameBy, itself}
-use Rattle.lines.specs.Computing.{computing as lines}
-use Rattle.lines.specs.Bytes.{◌at◌, noCr}
-use Rattle.lines.specs.Commands.{commandClass, classDigit}
-use Rattle.lines.specs.Forms.{erraLine, greetingOpen, greetingSecured, replyMost, isReplyForm, replyParameter}
-use Rattle.lines.specs.declared.command.Command.{Command}
+use Rattle.pjlink.specs.Computing.{computing as pjlink}
+use Rattle.words.specs.Bytes.{◌at◌, noCr}
+use Rattle.pjlink.specs.Commands.{commandClass, classDigit}
+use Rattle.pjlink.specs.Forms.{erraLine, greetingOpen, greetingSecured, replyMost, isReplyForm, replyParameter}
+use Rattle.pjlink.specs.declared.command.Command.{Command}
 use Rattle.controller.specs.Reading.{ReadAs, outcomeNumber}
 use Rattle.controller.proofs.Cases.{reply-unformed, greeting-refused}
 use Rattle.panel.specs.Entries.{ungreeted}
@@ -48,12 +48,12 @@ module _ (e : Entry) where
         (malformed c waits (ap (λ (r : ReadAs). outcomeNumber r.outcome) (reply-unformed c l line form)))
 
     pub greeting-malformed : heardLine e greetingOpen ≡ strayed e
-    unfolding lines
+    unfolding pjlink
     greeting-malformed = unformed-strays greetingOpen refl refl
 
     -- whatever its random number
     pub secured-greeting-malformed : (digits : List ℕ) → heardLine e (greetingSecured digits) ≡ strayed e
-    unfolding lines
+    unfolding pjlink
     secured-greeting-malformed digits =
         let l = greetingSecured digits in
         unformed-strays l refl

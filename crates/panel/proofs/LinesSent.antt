@@ -6,8 +6,8 @@ use mathlib.Core.Path.{◌≡◌, refl, ap}
 use mathlib.Core.Bool.{Bool, true, false, not, ◌||◌}
 use mathlib.Core.List.{◌++◌}
 use Rattle.text.proofs.Choices.{both}
-use Rattle.lines.specs.Commands.{isCommand, commandLine}
-use Rattle.lines.specs.declared.command.Command.{Command}
+use Rattle.pjlink.specs.Commands.{isCommand, commandLine}
+use Rattle.pjlink.specs.declared.command.Command.{Command}
 use Rattle.controller.specs.Writing.{WrittenAs, commandRoom, ledBy}
 use Rattle.controller.proofs.Cases.{written-line}
 use Rattle.panel.specs.Entries.{talkOf, passwordIn, leadsNext}

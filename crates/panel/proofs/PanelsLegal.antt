@@ -10,9 +10,9 @@ use lib.ListN.{length, get_or, set, drop, replicate, length-set, length-replicat
 use lib.Seq.{drop-cons, drop-set-lt}
 use Rattle.text.specs.Scans.{every}
 use Rattle.text.proofs.Choices.{both, both_left, both_right}
-use Rattle.lines.specs.Texts.{isPassword}
-use Rattle.lines.proofs.TextsTold.{password-long}
-use Rattle.lines.proofs.WithinLength.{password-within}
+use Rattle.words.specs.Texts.{isPassword}
+use Rattle.words.proofs.TextsTold.{password-long}
+use Rattle.words.proofs.WithinLength.{password-within}
 use Rattle.record.specs.Limits.{textRoom}
 use Rattle.record.proofs.Kept.{kept-shown, filled-kept, nothing-kept}
 use Rattle.controller.specs.Reading.{ReadAs, readReply}

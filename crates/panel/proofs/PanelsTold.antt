@@ -10,11 +10,11 @@ use native.Mathlib.Omega.{arith}
 use lib.ListN.{length, get_or, drop}
 use Rattle.text.specs.Scans.{every}
 use Rattle.text.proofs.Scanning.{every-at}
-use Rattle.lines.specs.Texts.{isPassword}
+use Rattle.words.specs.Texts.{isPassword}
 use Rattle.record.specs.Limits.{textRoom}
 use Rattle.record.specs.Legal.{fillsTextRoom}
 use Rattle.std.specs.Prelude.{is_some}
-use Rattle.answers.specs.Carried.{lampsCarried}
+use Rattle.pjlink.specs.Carried.{lampsCarried}
 use Rattle.record.specs.Rooms.{used}
 use Rattle.record.proofs.Kept.{kept-told}
 use Rattle.record.proofs.RoomsTold.{is_some_used}

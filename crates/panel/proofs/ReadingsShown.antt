@@ -6,9 +6,9 @@ use Prim.Native.Nat.{ℕ}
 use mathlib.Core.Path.{◌≡◌, refl, ap}
 use mathlib.Core.Bool.{true}
 use mathlib.Core.List.{List}
-use Rattle.lines.specs.Forms.{erraLine}
-use Rattle.lines.specs.declared.command.Command.{Command}
-use Rattle.answers.specs.Said.{Said, okay, refused}
+use Rattle.pjlink.specs.Forms.{erraLine}
+use Rattle.pjlink.specs.declared.command.Command.{Command}
+use Rattle.pjlink.specs.Said.{Said, okay, refused}
 use Rattle.controller.specs.Reading.{meaning, readReply}
 use Rattle.codes.specs.declared.command.Coded.{Coded}
 use Rattle.panel.specs.Entries.{Shown, talkOf, shownOf, nothingShown, freshEntry}

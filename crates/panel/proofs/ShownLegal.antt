@@ -13,23 +13,23 @@ use borrow.Author.Tests.{le-leb, eq-eqb}
 use Rattle.text.specs.Scans.{every}
 use Rattle.text.proofs.Choices.{both}
 use Rattle.text.proofs.Scanning.{every_map}
-use Rattle.lines.specs.Inputs.{isInput}
-use Rattle.lines.specs.declared.input.Source.{Source}
-use Rattle.lines.specs.declared.input.Source.TheVariants.{Rgb, Video, Digital, Storage, Network, Internal}
-use Rattle.lines.specs.declared.input.Input.{Input}
-use Rattle.lines.specs.declared.command.Command.{Command}
+use Rattle.words.specs.Inputs.{isInput}
+use Rattle.words.specs.declared.input.Source.{Source}
+use Rattle.words.specs.declared.input.Source.TheVariants.{Rgb, Video, Digital, Storage, Network, Internal}
+use Rattle.words.specs.declared.input.Input.{Input}
+use Rattle.pjlink.specs.declared.command.Command.{Command}
 use Rattle.record.specs.Rules.{at_most}
 use Rattle.record.specs.Legal.{fillsRoom}
 use Rattle.record.proofs.Kept.{kept-shown, filled-kept}
 use Rattle.record.proofs.Filled.{room-filled}
-use Rattle.answers.specs.Said.{Said, chosenIs}
-use Rattle.answers.specs.Carried.{lampsCarried}
-use Rattle.answers.specs.CanSay.{CanSay, done, refuses, power, input, mutes, errors, lamps, inputs, name, maker}
-use Rattle.answers.specs.CanSay.{model, other, class-is, freeze, serial, version, input-name, input-2, inputs-2}
-use Rattle.answers.specs.CanSay.{hoursMost, isLampHours}
-use Rattle.answers.specs.declared.answer.Power.{Power}
-use Rattle.answers.specs.declared.answer.Power.TheVariants.{Off, On, Cooling, WarmUp}
-use Rattle.answers.specs.declared.answer.LampHours.{LampHours}
+use Rattle.pjlink.specs.Said.{Said, chosenIs}
+use Rattle.pjlink.specs.Carried.{lampsCarried}
+use Rattle.pjlink.specs.CanSay.{CanSay, done, refuses, power, input, mutes, errors, lamps, inputs, name, maker}
+use Rattle.pjlink.specs.CanSay.{model, other, class-is, freeze, serial, version, input-name, input-2, inputs-2}
+use Rattle.pjlink.specs.CanSay.{hoursMost, isLampHours}
+use Rattle.pjlink.specs.declared.answer.Power.{Power}
+use Rattle.pjlink.specs.declared.answer.Power.TheVariants.{Off, On, Cooling, WarmUp}
+use Rattle.pjlink.specs.declared.answer.LampHours.{LampHours}
 use Rattle.codes.specs.Commands.{sourceNumber}
 use Rattle.codes.specs.Readings.{filledTo, hoursOf, lit_of, powerNumber}
 use Rattle.panel.specs.Entries.{Shown, nothingShown}

@@ -10,8 +10,8 @@ use lib.Dec.{eqb}
 use borrow.Author.Tests.{eqb-true, eqb-false, eq-eqb, ne_eqb, not-true, not-false}
 use Rattle.std.specs.Prelude.{Option, Some, None}
 use Rattle.text.proofs.Choices.{if_yes, if_no, if-by}
-use Rattle.lines.specs.declared.command.Command.{Command}
-use Rattle.answers.specs.Said.{Said}
+use Rattle.pjlink.specs.declared.command.Command.{Command}
+use Rattle.pjlink.specs.Said.{Said}
 use Rattle.controller.specs.Greetings.{readGreeting}
 use Rattle.controller.specs.Reading.{ReadAs, readReply, outcomeNumber}
 use Rattle.controller.specs.declared.greeting.Greeting.{Greeting}

@@ -12,12 +12,12 @@ use borrow.Author.Tests.{eqb-true, not-true}
 use Rattle.text.specs.Scans.{every}
 use Rattle.text.proofs.Choices.{both_left, both_right}
 use Rattle.text.proofs.Scanning.{every-at}
-use Rattle.lines.specs.Texts.{isPassword}
+use Rattle.words.specs.Texts.{isPassword}
 use Rattle.record.specs.Limits.{textRoom}
 use Rattle.record.specs.Record.{zeros}
 use Rattle.record.specs.Legal.{is_zero, fillsRoom}
 use Rattle.record.proofs.Kept.{kept-told}
-use Rattle.answers.specs.Carried.{lampsCarried}
+use Rattle.pjlink.specs.Carried.{lampsCarried}
 use Rattle.panel.specs.Entries.{talkOf, shownOf, ungreeted, blankEntry}
 use Rattle.panel.specs.LegalPanels.{isNoneCoded, isCommandKept, isPowerShown, isInputShown, isLampCount}
 use Rattle.panel.specs.LegalPanels.{isHours, isLitRoom, isLampsShown, isEntry, isUnused, isPanel}

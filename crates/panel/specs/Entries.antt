@@ -17,7 +17,7 @@
 use Rattle.std.specs.Prelude.{ℕ, Bool, true, false, not, ◌&&◌, List, take, replicate, eqb}
 use Rattle.record.specs.Record.{text_of, blankText}
 use Rattle.record.specs.declared.types.Text.{Text}
-use Rattle.answers.specs.Carried.{lampsCarried}
+use Rattle.pjlink.specs.Carried.{lampsCarried}
 use Rattle.codes.specs.Commands.{coded}
 use Rattle.codes.specs.declared.command.Coded.{Coded}
 use Rattle.panel.specs.declared.types.Entry.{Entry}

@@ -11,12 +11,12 @@
 use Rattle.std.specs.Prelude.{ℕ, Bool, true, false, not, ◌&&◌, ◌||◌, List, length, drop, leb, eqb, if◌then◌else◌}
 use Rattle.std.specs.Prelude.{Option, Some, None}
 use Rattle.text.specs.Scans.{every}
-use Rattle.lines.specs.Texts.{isPassword}
-use Rattle.lines.specs.declared.command.Command.{Command}
+use Rattle.words.specs.Texts.{isPassword}
+use Rattle.pjlink.specs.declared.command.Command.{Command}
 use Rattle.record.specs.Rules.{at_most}
 use Rattle.record.specs.Legal.{fillsRoom, fillsTextRoom}
-use Rattle.answers.specs.Carried.{lampsCarried}
-use Rattle.answers.specs.CanSay.{hoursMost}
+use Rattle.pjlink.specs.Carried.{lampsCarried}
+use Rattle.pjlink.specs.CanSay.{hoursMost}
 use Rattle.codes.specs.Commands.{commandOf}
 use Rattle.codes.specs.declared.command.Coded.{Coded}
 use Rattle.panel.specs.Entries.{Talk, Shown, talkOf, shownOf, ungreeted, greetedSecured, isSecuredTalk}

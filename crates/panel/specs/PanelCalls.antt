@@ -11,7 +11,7 @@
 -- Assumes nothing.
 use Rattle.std.specs.Prelude.{ℕ, ◌+◌, not, List, [], ◌∷◌, get_or, set, replicate, leb, ltb}
 use Rattle.text.specs.Rows.{Row, ◌when◌, byRows}
-use Rattle.lines.specs.Texts.{isPassword}
+use Rattle.words.specs.Texts.{isPassword}
 use Rattle.controller.specs.Writing.{commandRoom}
 use Rattle.codes.specs.Commands.{commandOf}
 use Rattle.codes.specs.declared.command.Coded.{Coded}

@@ -4,9 +4,9 @@
 --   showing s m          what was said is shown: a power, an input or lamps; anything else changes nothing
 -- Assumes nothing.
 use Rattle.std.specs.Prelude.{ℕ, Bool, true, false, List, map, length}
-use Rattle.answers.specs.Said.{Said, okay, refused, powerIs, chosenIs, mutesAre, errorsAre, lampsAre, inputsAre}
-use Rattle.answers.specs.Said.{textIs, classIs, freezeIs, nothing}
-use Rattle.answers.specs.Carried.{lampsCarried}
+use Rattle.pjlink.specs.Said.{Said, okay, refused, powerIs, chosenIs, mutesAre, errorsAre, lampsAre, inputsAre}
+use Rattle.pjlink.specs.Said.{textIs, classIs, freezeIs, nothing}
+use Rattle.pjlink.specs.Carried.{lampsCarried}
 use Rattle.codes.specs.Commands.{sourceNumber}
 use Rattle.codes.specs.Readings.{filledTo, hoursOf, lit_of, powerNumber}
 use Rattle.panel.specs.Entries.{Shown}

@@ -5,9 +5,9 @@
 --   StepTo e l f       the rows
 -- Assumes nothing.
 use Rattle.std.specs.Prelude.{ℕ, ◌≡◌, Bool, true, false, List, Some}
-use Rattle.lines.specs.Forms.{erraLine}
-use Rattle.lines.specs.declared.command.Command.{Command}
-use Rattle.answers.specs.Said.{Said}
+use Rattle.pjlink.specs.Forms.{erraLine}
+use Rattle.pjlink.specs.declared.command.Command.{Command}
+use Rattle.pjlink.specs.Said.{Said}
 use Rattle.controller.specs.Greetings.{readGreeting}
 use Rattle.controller.specs.Reading.{meaning, readReply, outcomeNumber}
 use Rattle.controller.specs.declared.greeting.Greeting.{Greeting}

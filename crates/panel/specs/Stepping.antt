@@ -14,8 +14,8 @@
 -- Lines are read by the controller's own readers, readGreeting and readReply, and written by its writer.
 -- Assumes nothing.
 use Rattle.std.specs.Prelude.{ℕ, ◌+◌, min, Bool, not, ◌||◌, List, [], eqb, if◌then◌else◌, Option, Some, None}
-use Rattle.lines.specs.declared.command.Command.{Command}
-use Rattle.answers.specs.Said.{Said}
+use Rattle.pjlink.specs.declared.command.Command.{Command}
+use Rattle.pjlink.specs.Said.{Said}
 use Rattle.controller.specs.Greetings.{readGreeting}
 use Rattle.controller.specs.Reading.{ReadAs, readReply}
 use Rattle.controller.specs.Writing.{writtenCommand}

@@ -10,7 +10,7 @@ use crate::refusal::Refusal;
 use crate::types::{Entry, LAMPS_MOST, NO_COMMAND, PANEL_MOST, Panel};
 use crate::views::Awaits;
 use codes::command::Coded;
-use lines::texts;
+use words::texts;
 use record::types::Text;
 use setup::fill;
 

@@ -1,13 +1,13 @@
 // The legality of the panel, a function a part.
 ghost use Rattle.std.specs.Prelude.{◌≡◌};
-ghost use Rattle.lines.specs.Texts.{isPassword};
+ghost use Rattle.words.specs.Texts.{isPassword};
 ghost use Rattle.record.specs.Legal.{fillsTextRoom};
 ghost use Rattle.panel.specs.Entries.{talkOf};
 ghost use Rattle.panel.specs.LegalPanels.{isCommandKept, isTalk, isEntry, isEntries, isUnused, isPanel};
 
 use crate::types::{Entry, PANEL_MOST, Panel, STRAYS_MOST};
 use crate::views::{GREETED_SECURED, UNGREETED};
-use lines::texts;
+use words::texts;
 use record::rooms;
 use record::rooms::Blank;
 use record::types::Text;

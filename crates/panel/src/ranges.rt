@@ -1,7 +1,7 @@
 // What is shown is in the reader's range, and what is not known is zero.
 ghost use Rattle.std.specs.Prelude.{◌≡◌, ◌≤◌};
 ghost use Rattle.record.specs.Legal.{fillsRoom};
-ghost use Rattle.answers.specs.Carried.{lampsCarried};
+ghost use Rattle.pjlink.specs.Carried.{lampsCarried};
 ghost use Rattle.panel.specs.Entries.{shownOf};
 ghost use Rattle.panel.specs.LegalPanels.{isPowerShown, isInputShown, isLampCount, isHours};
 ghost use Rattle.panel.specs.LegalPanels.{isLitRoom, isLampsShown, isShown};

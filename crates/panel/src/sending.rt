@@ -7,7 +7,7 @@ ghost use Rattle.panel.specs.Stepping.{sentEntry, commandSent};
 use crate::types::Entry;
 use codes::command::Coded;
 use controller::writing;
-use lines::command::Command;
+use pjlink::command::Command;
 
 impl Entry {
     /// The line of the command, which the code stands for, from the start of the lent memory, led by the digest where

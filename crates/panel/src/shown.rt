@@ -1,16 +1,16 @@
 // What is shown of a projector: the last power, input and lamps that it told.
 ghost use Rattle.std.specs.Prelude.{◌≡◌, min, take};
-ghost use Rattle.answers.specs.Said.{powerIs, chosenIs, lampsAre};
-ghost use Rattle.answers.specs.Carried.{saidBy, lampsCarried};
+ghost use Rattle.pjlink.specs.Said.{powerIs, chosenIs, lampsAre};
+ghost use Rattle.pjlink.specs.Carried.{saidBy, lampsCarried};
 ghost use Rattle.panel.specs.Entries.{shownOf, nothingShown};
 ghost use Rattle.panel.specs.Showing.{showing};
 ghost use Rattle.panel.specs.Stepping.{withShown};
 
 use crate::types::{Entry, LAMPS_MOST};
-use answers::answer::{Answer, Kind, LampHours, Power};
+use pjlink::answer::{Answer, Kind, LampHours, Power};
 use codes::lists::FlatLamps;
 use codes::readings;
-use lines::input::Input;
+use words::input::Input;
 
 impl Entry {
     /// All is unknown.
@@ -55,7 +55,7 @@ impl Entry {
     }
 
     /// What an accepted reply says is shown: a power, an input or lamps; anything else changes nothing.
-    #[tactic(auto, using(answers::proofs::Counts::said_by_kind))]
+    #[tactic(auto, using(pjlink::proofs::Counts::said_by_kind))]
     pub(crate) fn show(&mut self, a: &Answer)
         ensures { self.new ≡ withShown self.old (showing (shownOf self.old) (saidBy a.now)) }
     {

@@ -1,6 +1,6 @@
 // The step on a lent line, on the entry of the projector that it came from (RULES, Panel).
 ghost use Rattle.std.specs.Prelude.{◌≡◌, ◌+◌, min};
-ghost use Rattle.answers.specs.Carried.{saidBy};
+ghost use Rattle.pjlink.specs.Carried.{saidBy};
 ghost use Rattle.controller.specs.Greetings.{readGreeting};
 ghost use Rattle.codes.specs.Commands.{commandOf};
 ghost use Rattle.panel.specs.Entries.{talkOf, restedOn};

@@ -99,10 +99,6 @@ module _ (d : Device) where
   unfolding faultSet
   fault-set-by P m refuse accept = if-by P (not (isLegal d)) (λ h. refuse) (λ h. accept (not-false (isLegal d) h))
 
-  pub errors-illegal : (ds : List ℕ) → isLegal d ≡ false → errorsSet d ds ≡ refused 1 d
-  unfolding errorsSet
-  errors-illegal ds h = rw h
-
   pub errors-wrong : (ds : List ℕ) → isLegal d ≡ true → isErrors ds ≡ false → errorsSet d ds ≡ refused 3 d
   unfolding errorsSet
   errors-wrong ds h k = rw (h, k)

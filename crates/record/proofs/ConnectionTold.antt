@@ -8,9 +8,9 @@ use mathlib.Core.Bool.{Bool, true, false}
 use mathlib.Core.List.{[]}
 use native.Mathlib.Omega.{arith}
 use borrow.Author.Tests.{lt-ltb}
-use Rattle.lines.specs.Bytes.{noCr}
-use Rattle.lines.specs.Forms.{commandMost}
-use Rattle.lines.proofs.Characters.{no-cr-of}
+use Rattle.words.specs.Bytes.{noCr}
+use Rattle.words.specs.Bytes.{commandMost}
+use Rattle.words.proofs.Characters.{no-cr-of}
 use Rattle.record.specs.Limits.{lineRoom, ageEnd, shut, awaiting, opened}
 use Rattle.record.specs.Record.{closed}
 use Rattle.record.specs.Legal.{isTimed, isCollecting, isAge, heldMost, is_held, isConnection}

@@ -10,7 +10,6 @@ use lib.ListN.{length, get_or, set, replicate, length-set}
 use lib.Seq.{get_or-set_same, get_or-set_other, set-get_or, set-set}
 use Rattle.text.specs.Scans.{every}
 use Rattle.text.proofs.Choices.{both, both_left, both_right}
-use Rattle.text.proofs.Scanning.{every-at}
 use Rattle.record.specs.Limits.{placesCount}
 use Rattle.record.specs.Legal.{isConnection, isConnections}
 use Rattle.record.specs.Record.{closed, allClosed}
@@ -41,10 +40,6 @@ module _ (cs : List Connection) where
     pub connections-each : every isConnection cs ≡ true
     unfolding isConnections
     connections-each = grind (arith, legal)
-
-    pub connections-at : (p : ℕ) → p < placesCount → isConnection (get_or cs p noConnection) ≡ true
-    connections-at p there =
-        every-at isConnection cs noConnection connections-each p (omega (arith, connections-long))
 
     -- a legal connection put in any place
     pub placed-legal : (p : ℕ) (c : Connection) → isConnection c ≡ true → isConnections (set cs p c) ≡ true

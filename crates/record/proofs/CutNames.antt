@@ -1,9 +1,9 @@
 -- Names that are lent one after the other, each of its length (RULES, Class 2), and the loop that tests them.
 --   NamesPassed ns s at i ok      the loop has tested i names, to the place `at`, and ok is the answer for them
 -- Assumes nothing.
-use Prim.Native.Nat.{ℕ, zero, suc, ◌+◌, ◌-◌, ◌≤◌, ◌<◌}
+use Prim.Native.Nat.{ℕ, zero, suc, ◌+◌, ◌≤◌, ◌<◌}
 use mathlib.Core.Path.{◌≡◌, refl, sym, ap, ◌∙◌}
-use mathlib.Core.Bool.{Bool, true, ◌&&◌}
+use mathlib.Core.Bool.{Bool, ◌&&◌}
 use mathlib.Core.List.{List, [], ◌∷◌}
 use native.Mathlib.Nat.{add-zero}
 use native.Mathlib.Numerals.{add-one}
@@ -15,10 +15,9 @@ use borrow.Author.Tests.{eqb-true, eq-eqb, ne_eqb}
 use Rattle.text.specs.Scans.{every}
 use Rattle.text.proofs.Choices.{if_yes, if_no, if-by, alike}
 use Rattle.text.proofs.Scanning.{no_more}
-use Rattle.lines.specs.Texts.{isInputName}
+use Rattle.words.specs.Texts.{isInputName}
 use Rattle.record.specs.Wanted.{total_of, cutBy, namesIn}
 use Rattle.record.specs.Rules.{areNames}
-use Rattle.record.proofs.Sifted.{together}
 
 -- ---- lengths and parts
 
@@ -66,9 +65,6 @@ module _ (ns s : List ℕ) where
     pub left : total_of ns ≡ at + total_of (drop i ns)
     pub rest : every isInputName (cutBy ns s) ≡ (ok && every isInputName (cutBy (drop i ns) (drop at s)))
 
-  pub no-name-passed : NamesPassed 0 0 true
-  no-name-passed = record { inside = omega arith; left = omega arith; rest = refl }
-
   -- nothing is named, so that as many are wanted as none
   module _ (count : ℕ) where
     pub none-wanted : (total_of ns ≡ length s → ⊥) → eqb count 0 ≡ areNames count (namesIn ns s)
@@ -84,24 +80,6 @@ module _ (ns s : List ℕ) where
       -- a name that goes past the end
       pub name-past : length s < at + get_or ns i 0 → total_of ns ≡ length s → ⊥
       name-past h e = omega (arith, p.left, ap total_of next)
-
-      pub one-name-passed : {x : Bool} → at + get_or ns i 0 ≤ length s
-          → x ≡ isInputName (take (at + get_or ns i 0 - at) (drop at s))
-          → NamesPassed (at + get_or ns i 0) (i + 1) (ok && x)
-      one-name-passed {x} h e =
-          let n = get_or ns i 0 in
-          let long : at + n - at ≡ n = omega arith in
-          let more : drop n (drop at s) ≡ drop (at + n) s = drop-drop n at s in
-          record {
-            inside = h;
-            left = omega (arith, p.left, ap total_of next);
-            rest =
-                p.rest
-                ∙ ap (λ (l : List ℕ). ok && every isInputName (cutBy l (drop at s))) next
-                ∙ (λ j. ok && (sym (e ∙ ap (λ (k : ℕ). isInputName (take k (drop at s))) long) j
-                && every isInputName (cutBy (drop (i + 1) ns) (more j))))
-                ∙ sym (together ok x (every isInputName (cutBy (drop (i + 1) ns) (drop (at + n) s))));
-          }
 
     module _ (count : ℕ) (ended : length ns ≤ i) where
       none_left : drop i ns ≡ []

@@ -7,7 +7,7 @@ use Rattle.text.specs.Scans.{every}
 use Rattle.record.specs.Legal.{fillsRoom, isNames, isRestOf2, isSettings, isOwn, isConnection, isConnections, isLegal}
 use Rattle.record.specs.Rooms.{used}
 use Rattle.record.specs.Facts.{Fills, IsStretch, IsNames, IsSettings, IsOwn, IsConnection, IsLegal}
-use Rattle.lines.specs.Texts.{isPassword}
+use Rattle.words.specs.Texts.{isPassword}
 use Rattle.record.specs.Limits.{textRoom}
 use Rattle.record.specs.Rules.{isLongEnough, isSetUpPassword, isStretch}
 use Rattle.record.specs.declared.types.InputName.{InputName}

@@ -1,11 +1,11 @@
 -- A cleared room that is filled from its start: as the code stores it, and what the test of legality finds in it.
 -- Assumes nothing.
 use Prim.Native.Nat.{ℕ, ◌+◌, ◌≤◌, ◌<◌}
-use mathlib.Core.Path.{◌≡◌, refl, sym, ap, ◌∙◌}
-use mathlib.Core.List.{List, ◌++◌, append-nil}
+use mathlib.Core.Path.{◌≡◌, sym, ap, ◌∙◌}
+use mathlib.Core.List.{List}
 use native.Mathlib.Nat.{zero-add}
 use native.Mathlib.Omega.{arith}
-use lib.ListN.{length, get_or, set, take, length-replicate, drop_of_length-le}
+use lib.ListN.{length, get_or, set, take, length-replicate}
 use lib.Seq.{sets, take_all}
 use Rattle.text.proofs.Stores.{sets_over, sets_more}
 use Rattle.record.specs.Record.{zeros, inRoom}
@@ -15,22 +15,11 @@ module _ (n : ℕ) (s : List ℕ) where
   unfolding inRoom
   room-filled h = sets_over s (zeros n) (omega (arith, length-replicate {A = ℕ} n 0))
 
-  -- a room that is filled to its end
-  pub room-full : length s ≡ n → sets (zeros n) 0 s ≡ s
-  room-full h =
-      sets_over s (zeros n) (omega (arith, length-replicate {A = ℕ} n 0))
-      ∙ ap (λ (k : List ℕ). s ++ k)
-      (drop_of_length-le (zeros n) {i = length s} (omega (arith, length-replicate {A = ℕ} n 0)))
-      ∙ append-nil s
-
 -- a room that a loop fills, element by element
 module _ (n : ℕ) (s : List ℕ) where
   pub record Copied (l : List ℕ) (i : ℕ) : Type 0 where
     pub inside : i ≤ length s
     pub stored : l ≡ sets (zeros n) 0 (take i s)
-
-  pub none-copied : Copied (zeros n) 0
-  none-copied = record { inside = omega arith; stored = refl }
 
   module _ {l : List ℕ} {i : ℕ} (p : Copied l i) where
     pub one-copied : i < length s → Copied (set l i (get_or s i 0)) (i + 1)

@@ -8,8 +8,8 @@ use native.Mathlib.Omega.{arith}
 use lib.ListN.{length, drop, length-drop}
 use lib.Seq.{get_or-drop}
 use lib.Dec.{eqb}
-use Rattle.lines.specs.Bytes.{◌at◌}
-use Rattle.lines.specs.Inputs.{isInputText}
+use Rattle.words.specs.Bytes.{◌at◌}
+use Rattle.words.specs.Inputs.{isInputText}
 use Rattle.record.specs.Rules.{isOther, is_none, isNewInput, isInputs}
 use Rattle.record.proofs.Rules.{inputs-new}
 use Rattle.record.proofs.Places.{pair-at}

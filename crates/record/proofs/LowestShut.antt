@@ -20,9 +20,6 @@ module _ (cs : List Connection) where
     pub inside : i ≤ length cs
     pub rest : lowestShut cs ≡ i + lowestShut (drop i cs)
 
-  pub none-unshut : Unshut 0
-  none-unshut = record { inside = omega arith; rest = omega arith }
-
   module _ {i : ℕ} (p : Unshut i) (here : i < length cs) where
     abbrev c : Connection
     c = get_or cs i noConnection

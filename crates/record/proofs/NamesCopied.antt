@@ -10,7 +10,7 @@ use native.Mathlib.Omega.{arith}
 use lib.ListN.{length, get_or, set, take, drop, replicate, length-append}
 use lib.Seq.{drop-cons, take-suc, take_all, set_at, length-take-le}
 use Rattle.text.proofs.Scanning.{every-at}
-use Rattle.lines.specs.Texts.{inputNameMost, isInputName}
+use Rattle.words.specs.Texts.{inputNameMost, isInputName}
 use Rattle.record.specs.Limits.{listedMost}
 use Rattle.record.specs.Wanted.{total_of, namesIn}
 use Rattle.record.specs.Rules.{areNames}

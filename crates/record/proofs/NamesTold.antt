@@ -15,7 +15,7 @@ use Rattle.text.specs.Scans.{every}
 use Rattle.text.proofs.Orders.{le-or-lt}
 use Rattle.text.proofs.Choices.{both}
 use Rattle.text.proofs.Scanning.{every-at, every_append, every-implies, every_map}
-use Rattle.lines.specs.Texts.{isText, inputNameMost, isInputName}
+use Rattle.words.specs.Texts.{isText, inputNameMost, isInputName}
 use Rattle.record.specs.Limits.{listedMost}
 use Rattle.record.specs.Record.{name_of, blankName, namesKept}
 use Rattle.record.specs.Legal.{fillsNameRoom, isNames}

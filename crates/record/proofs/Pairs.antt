@@ -13,7 +13,7 @@ use lib.ListN.{length, get_or, drop, drop_of_length-le}
 use lib.Dec.{eqb}
 use borrow.Author.Tests.{eq-eqb, eqb-true}
 use Rattle.text.proofs.Choices.{both, both_left, both_right, by-not}
-use Rattle.lines.specs.Inputs.{isInputText}
+use Rattle.words.specs.Inputs.{isInputText}
 use Rattle.record.specs.Rules.{eachPair, is_none, isNewInput, eachNamed, isInputs}
 use Rattle.record.proofs.Places.{two-left, one_left}
 use Rattle.record.proofs.Rules.{inputs-new}
@@ -26,9 +26,6 @@ module _ (f : ℕ → ℕ → Bool) (s : List ℕ) where
   pub record Paired (k : ℕ) (ok : Bool) : Type 0 where
     pub inside : 2 * k ≤ length s
     pub rest : each s ≡ (ok && each (drop (2 * k) s))
-
-  pub none-paired : Paired 0 true
-  none-paired = record { inside = omega arith; rest = refl }
 
   module _ {k : ℕ} {ok : Bool} (p : Paired k ok) where
     pub one-paired : 2 * k + 1 < length s → Paired (k + 1) (ok && f (get_or s (2 * k) 0) (get_or s (2 * k + 1) 0))

@@ -6,7 +6,7 @@ use Rattle.std.specs.Prelude.{is_some, nat_le, not, ◌==◌, ◌||◌}
 use Rattle.std.proofs.lemmas.List.{drop-replicate}
 use Rattle.std.proofs.lemmas.Grind.{common_steps}
 use Rattle.text.specs.Scans.{every}
-use Rattle.lines.specs.Texts.{inputNameMost}
+use Rattle.words.specs.Texts.{inputNameMost}
 use Rattle.record.specs.Limits.{listedMost, lampsMost}
 use Rattle.record.specs.Rules.{isMarks}
 use Rattle.record.specs.Rooms.{used, holds, kept}

@@ -11,9 +11,9 @@ use lib.Dec.{eqb}
 use Rattle.text.specs.Scans.{every}
 use Rattle.text.proofs.Orders.{le-or-lt}
 use Rattle.text.proofs.Choices.{if-all, by-not}
-use Rattle.lines.specs.Texts.{isRefusal, isText, isPassword, isInputName}
-use Rattle.lines.proofs.Refusals.{refusal-long}
-use Rattle.lines.proofs.WithinLength.{text-within, text-longer}
+use Rattle.words.specs.Texts.{isRefusal, isText, isPassword, isInputName}
+use Rattle.words.proofs.Refusals.{refusal-long}
+use Rattle.words.proofs.WithinLength.{text-within, text-longer}
 use Rattle.record.specs.Limits.{inputRoom, lampsMost, errorsCount, errorMost, isClass, onlyIn2}
 use Rattle.record.specs.Rules.{isLongEnough, isSetUpPassword}
 use Rattle.record.specs.Rules.{at_most, eachPair, isNewInput, isInputs, isLamp, isLamps, isErrors}

@@ -7,16 +7,16 @@ use mathlib.Core.List.{List}
 use native.Mathlib.Omega.{arith}
 use lib.ListN.{length, get_or, take}
 use lib.Seq.{get_or-take}
-use Rattle.lines.specs.Bytes.{◌at◌}
-use Rattle.lines.specs.Texts.{isInfo, isPassword, infoMost, passwordMost}
-use Rattle.lines.specs.Inputs.{isInputText}
-use Rattle.lines.proofs.InputsReadBack.{named-widely}
+use Rattle.words.specs.Bytes.{◌at◌}
+use Rattle.words.specs.Texts.{isInfo, isPassword, infoMost, passwordMost}
+use Rattle.words.specs.Inputs.{isInputText}
+use Rattle.words.proofs.InputsReadBack.{named-widely}
 use Rattle.record.specs.Limits.{textRoom, inputRoom, listedMost, isClass}
 use Rattle.record.specs.Rules.{isInputs}
 use Rattle.record.specs.Record.{blankName}
 use Rattle.record.specs.declared.types.Text.{Text}
 use Rattle.record.specs.declared.types.Settings.{Settings}
-use Rattle.lines.proofs.TextsTold.{password-long}
+use Rattle.words.proofs.TextsTold.{password-long}
 use Rattle.record.specs.Facts.{IsSettings}
 use Rattle.record.proofs.Kept.{Kept, kept-length}
 use Rattle.record.proofs.Rules.{inputs-class, inputs-some}

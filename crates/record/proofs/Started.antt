@@ -8,7 +8,7 @@ use native.Mathlib.Omega.{arith}
 use lib.ListN.{length, get_or, drop, get_or-append}
 use borrow.Author.Tests.{le-leb}
 use Rattle.text.proofs.Choices.{both, by-not}
-use Rattle.lines.specs.Texts.{isText, isName, isInfo, infoMost}
+use Rattle.words.specs.Texts.{isText, isName, isInfo, infoMost}
 use Rattle.record.specs.Limits.{textRoom, inputRoom, lampsMost, placesCount, onlyIn2}
 use Rattle.record.specs.Wanted.{Wanted}
 use Rattle.record.specs.Rules.{isSetUpPassword, isNewInput, isInputs, isLamps, isErrors}
@@ -21,7 +21,7 @@ use Rattle.record.specs.declared.types.Setting.{Setting}
 use Rattle.record.specs.declared.types.Setting.TheVariants.{Name, Maker, Model, Other, Password, Inputs}
 use Rattle.record.specs.declared.types.Setting.TheVariants.{Lamps, WarmUp, Cooling, Serial, Version}
 use Rattle.record.specs.declared.types.Setting.TheVariants.{Names}
-use Rattle.lines.proofs.TextsTold.{name-long, info-long, password-long}
+use Rattle.words.proofs.TextsTold.{name-long, info-long, password-long}
 use Rattle.record.proofs.Rules.{set-up-password-shown, inputs-some, inputs-few, inputs-new, lamps-few}
 use Rattle.record.proofs.Rules.{only-in-2-within, names-many, names-each, text-most}
 use Rattle.record.proofs.NamesTold.{names-kept}

@@ -11,8 +11,8 @@ use borrow.Author.Tests.{le-leb, lt-leb}
 use mathlib.Core.Logic.{⊎_elim}
 use Rattle.text.proofs.Orders.{le-or-lt}
 use Rattle.text.specs.Scans.{every}
-use Rattle.lines.specs.Texts.{isTextByte, isText, isRefusal}
-use Rattle.lines.proofs.WithinLength.{text-within, text-longer}
+use Rattle.words.specs.Texts.{isTextByte, isText, isRefusal}
+use Rattle.words.proofs.WithinLength.{text-within, text-longer}
 use Rattle.record.specs.Rooms.{used}
 use Rattle.record.specs.Legal.{is_zero, fillsRoom}
 use Rattle.record.proofs.Rules.{empty-text}

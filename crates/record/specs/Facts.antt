@@ -10,8 +10,8 @@
 -- Assumes nothing.
 use Rattle.std.specs.Prelude.{ℕ, ◌*◌, ◌≤◌, ◌<◌, ◌≡◌, IsTrue, Bool, List, All, length, take, drop}
 use Rattle.text.specs.Scans.{every}
-use Rattle.lines.specs.Bytes.{noCr}
-use Rattle.lines.specs.Texts.{isText, isName, isInfo, isPassword, infoMost, inputNameMost}
+use Rattle.words.specs.Bytes.{noCr}
+use Rattle.words.specs.Texts.{isText, isName, isInfo, isPassword, infoMost, inputNameMost}
 use Rattle.record.specs.Limits.{textRoom, listedMost, inputRoom, lampsMost, lineRoom, placesCount, onlyIn2}
 use Rattle.record.specs.Limits.{stretchMost, shut, failed, volumeMost}
 use Rattle.record.specs.Rules.{isLongEnough, isInputs, isLamps, isMarks, isErrors}

@@ -19,9 +19,9 @@
 -- Assumes nothing.
 use Rattle.std.specs.Prelude.{ℕ, ◌*◌, Bool, not, ◌&&◌, ◌||◌, List, length, take, drop, leb, ltb, eqb, if◌then◌else◌}
 use Rattle.text.specs.Scans.{every}
-use Rattle.lines.specs.Bytes.{noCr}
-use Rattle.lines.specs.Texts.{isText, isName, isInfo, infoMost, inputNameMost}
-use Rattle.lines.specs.Forms.{commandMost}
+use Rattle.words.specs.Bytes.{noCr}
+use Rattle.words.specs.Texts.{isText, isName, isInfo, infoMost, inputNameMost}
+use Rattle.words.specs.Bytes.{commandMost}
 use Rattle.record.specs.Rooms.{used, holds}
 use Rattle.record.specs.Limits.{textRoom, listedMost, inputRoom, lampsMost, lineRoom, ageEnd}
 use Rattle.record.specs.Limits.{placesCount, onlyIn2, cooling, warming}

@@ -14,7 +14,7 @@
 --   shut, awaiting, opened, failed    the phase of a connection: isPhase p says that p is one of them
 -- Assumes nothing.
 use Rattle.std.specs.Prelude.{ℕ, ◌*◌, Bool, ◌||◌, leb, eqb, if◌then◌else◌}
-use Rattle.lines.specs.Texts.{nameMost}
+use Rattle.words.specs.Texts.{nameMost}
 
 -- of the longest text
 abbrev pub textRoom : ℕ

@@ -17,7 +17,7 @@
 -- Assumes nothing.
 use Rattle.std.specs.Prelude.{ℕ, ◌-◌, ◌/◌, Bool, true, false, List, ◌++◌, map, length, replicate}
 use Rattle.text.specs.Words.{over}
-use Rattle.lines.specs.Texts.{inputNameMost}
+use Rattle.words.specs.Texts.{inputNameMost}
 use Rattle.record.specs.Limits.{textRoom, inputRoom, listedMost, lampsMost, lineRoom}
 use Rattle.record.specs.Limits.{errorsCount, placesCount, off, shut, volumeStart}
 use Rattle.record.specs.Wanted.{Wanted}

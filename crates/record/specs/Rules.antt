@@ -1,5 +1,5 @@
 -- What the settings have to be (RULES, The legal record). The rules of texts and of a password's characters are those
--- of `lines`.
+-- of `words`.
 --   isLongEnough n       n characters are a password's: none, which is no security, or 8 and more (RULES, Passwords)
 --   isSetUpPassword s    the rule of set-up: as the controller's writer has it (`isPassword`), and long enough
 --   eachPair f s         s is pairs, and each pair passes the test f, which also sees what follows it
@@ -22,8 +22,8 @@ use Rattle.std.specs.Prelude.{ℕ, ◌+◌, ◌-◌, ◌*◌, Bool, true, false,
 use Rattle.std.specs.Prelude.{leb, eqb}
 use Prim.Native.Char.{code}
 use Rattle.text.specs.Scans.{every}
-use Rattle.lines.specs.Inputs.{isInputText}
-use Rattle.lines.specs.Texts.{isPassword, isInputName}
+use Rattle.words.specs.Inputs.{isInputText}
+use Rattle.words.specs.Texts.{isPassword, isInputName}
 use Rattle.record.specs.Limits.{passwordLeast, inputRoom, lampsMost, lampLimit, stretchMost}
 use Rattle.record.specs.Limits.{errorsCount, errorMost, isClass, volumeMost}
 

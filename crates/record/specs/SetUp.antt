@@ -9,7 +9,7 @@
 -- Assumes nothing.
 use Rattle.std.specs.Prelude.{Bool, not, ◌&&◌, List, [], ◌∷◌, ◌/◌, length, if◌then◌else◌}
 use Rattle.text.specs.Scans.{every}
-use Rattle.lines.specs.Texts.{isText, isName, isInfo, isPassword, infoMost}
+use Rattle.words.specs.Texts.{isText, isName, isInfo, isPassword, infoMost}
 use Rattle.record.specs.Limits.{onlyIn2}
 use Rattle.record.specs.Wanted.{Wanted}
 use Rattle.record.specs.Rules.{isLongEnough, isInputs, isLamps, isStretch, areNames}

@@ -1,12 +1,12 @@
 // The names that a set-up of Class 2 is lent (RULES, Class 2).
 ghost use Rattle.std.specs.Prelude.{◌≡◌};
-ghost use Rattle.lines.specs.Texts.{isText, infoMost};
+ghost use Rattle.words.specs.Texts.{isText, infoMost};
 ghost use Rattle.record.specs.Limits.{onlyIn2};
 ghost use Rattle.record.specs.Wanted.{namesIn};
 ghost use Rattle.record.specs.Rules.{areNames};
 
 use crate::class;
-use lines::texts;
+use words::texts;
 
 // A text of at most 32 bytes, of Class 2 alone.
 pub fn info_fits(class: u8, s: &[u8]) -> bool

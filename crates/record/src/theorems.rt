@@ -1,15 +1,22 @@
 // What is proved beside the contracts of the functions. Nothing is done here: that these functions have their contracts
 // is that the theorems stand.
-ghost use Rattle.std.specs.Prelude.{◌≡◌, Bool, true, List, ℕ, Option, Some, None};
+ghost use Rattle.std.specs.Prelude.{◌≡◌, ◌≢◌, ◌+◌, ◌*◌, ◌<◌, ◌≤◌, Bool, IsTrue, true, List, ℕ, Option, Some, None};
+ghost use Rattle.words.specs.Bytes.{◌at◌};
+ghost use Rattle.words.specs.Texts.{passwordMost};
+ghost use Rattle.record.specs.Limits.{ageEnd, errorsCount, errorMost};
+ghost use Rattle.record.specs.Facts.{IsSettings, IsOwn, IsConnection};
+ghost use Rattle.record.specs.declared.types.Settings.{Settings};
+ghost use Rattle.record.specs.declared.types.Own.{Own};
+ghost use Rattle.record.specs.declared.types.Connection.{Connection};
 ghost use Rattle.record.specs.declared.types.Setting.{Setting};
 ghost use Rattle.record.specs.OutOfRange.{SettingHolds, firstFailing, firstOutOfRange};
 ghost use Rattle.record.specs.OutOfRange.{refusedSetting};
-ghost use Rattle.record.specs.SetUp.{settingsInOrder, isInRange, setUp};
+ghost use Rattle.record.specs.SetUp.{settingsInOrder, isSettingInRange, isInRange, setUp};
 ghost use Rattle.record.specs.Wanted.{Wanted};
 ghost use Rattle.record.specs.declared.types.Setting.TheVariants.{Password};
 ghost use Rattle.record.specs.declared.types.Changed.{Changed};
 ghost use Rattle.record.specs.declared.types.Device.{Device};
-ghost use Rattle.record.specs.Legal.{isLegal};
+ghost use Rattle.record.specs.Legal.{isCollecting, isLegal};
 ghost use Rattle.record.specs.HostCalls.{faultSet, errorsSet, markSet};
 
 /// The setting told is the first that is out of its range, or none where each is in it; and what holds is told.
@@ -19,6 +26,7 @@ pub fn the_setting_told_holds()
         → SettingHolds f m → firstFailing f settingsInOrder ≡ m }
     ensures none_in_range { (w : Wanted) → firstOutOfRange w ≡ None → isInRange w ≡ true }
     ensures in_range_none { (w : Wanted) → isInRange w ≡ true → firstOutOfRange w ≡ None }
+    ensures each_in_range { (w : Wanted) → isInRange w ≡ true → (s : Setting) → isSettingInRange w s ≡ true }
 {}
 
 /// Which setting set-up refused, by the number that it gave.
@@ -43,4 +51,16 @@ pub fn one_result()
         → r ≡ errorsSet d digits → s ≡ errorsSet d digits → r ≡ s }
     ensures mark { (d : Device) (lamp : ℕ) (mark : Bool) (r s : Changed)
         → r ≡ markSet d lamp mark → s ≡ markSet d lamp mark → r ≡ s }
+{}
+
+/// What legality says, part by part, in numbers (RULES, The legal record).
+pub fn legal_parts_keep_the_rules()
+    ensures password { (s : Settings) → IsSettings s → s.password.len ≤ passwordMost }
+    ensures inputs_differ { (s : Settings) (j k : ℕ) → IsSettings s → j < k → k < s.input_count
+        → (s.inputs at (2 * k)) ≡ (s.inputs at (2 * j))
+        → (s.inputs at (2 * k + 1)) ≢ (s.inputs at (2 * j + 1)) }
+    ensures errors { (s : Settings) (o : Own) (k : ℕ) → IsOwn s o → k < errorsCount
+        → o.errors at k ≤ errorMost }
+    ensures age { (c : Connection) → IsConnection c → c.age < ageEnd }
+    ensures overlong { (c : Connection) → IsConnection c → IsTrue c.line.overlong → IsTrue (isCollecting c.phase) }
 {}

@@ -41,8 +41,8 @@ fn put_differences(readings: &[Reading], out: &mut [i64])
     requires { length readings.now ≤ length out.old }
     ensures { out.new ≡ differences readings.now ++ drop (length readings.now) out.old }
 {
-    for i in 0..readings.len() {
-        out[i] = readings[i].difference();
+    for (i, reading) in readings.iter().enumerate() {
+        out[i] = reading.difference();
     }
 }
 

@@ -1,8 +1,8 @@
 -- Settings that can be set up fit their rooms.
 -- Assumes nothing.
 use Rattle.std.proofs.Common.{◌≡◌, ◌/◌, ◌≤◌, true, length, arith}
-use Rattle.lines.specs.Texts.{infoMost}
-use Rattle.lines.proofs.TextsTold.{name-long, info-long, password-long}
+use Rattle.words.specs.Texts.{infoMost}
+use Rattle.words.proofs.TextsTold.{name-long, info-long, password-long}
 use Rattle.record.specs.Limits.{textRoom, inputRoom, listedMost, lampsMost, onlyIn2}
 use Rattle.record.specs.Wanted.{Wanted}
 use Rattle.record.specs.Rules.{areNames}

@@ -1,6 +1,6 @@
 // What set-up keeps of the lent slices: each at the start of a cleared room (RULES, The legal record).
 ghost use Rattle.std.specs.Prelude.{◌≡◌, ◌≤◌, length, true};
-ghost use Rattle.lines.specs.Texts.{inputNameMost};
+ghost use Rattle.words.specs.Texts.{inputNameMost};
 ghost use Rattle.record.specs.Limits.{textRoom, inputRoom, listedMost, lampsMost};
 ghost use Rattle.record.specs.Wanted.{namesIn};
 ghost use Rattle.record.specs.Rules.{areNames};

@@ -7,7 +7,7 @@ ghost use Rattle.setup.specs.Lent.{wanted_settings, class_number, serial_of, ver
 ghost use Rattle.setup.specs.Told.{set_up_number, setting_told};
 
 use crate::error::SetUpError;
-use lines::texts;
+use words::texts;
 use record::types::Setting;
 use record::{inputs, names, own, settings};
 

@@ -10,7 +10,7 @@ use lib.ListN.{length, take, drop, replicate, length-replicate}
 use Rattle.std.proofs.Common.{◌⊎◌, inl, inr, None}
 use Rattle.text.proofs.Choices.{if_yes, if_no, by-not}
 use Rattle.numbers.specs.HighestFirst.{number_in}
-use Rattle.lines.specs.Bytes.{◌at◌}
+use Rattle.words.specs.Bytes.{◌at◌}
 use Rattle.record.specs.Limits.{listedMost, lampsMost}
 use Rattle.record.specs.Wanted.{Wanted, wantedIn}
 use Rattle.record.specs.Rules.{isMarks}

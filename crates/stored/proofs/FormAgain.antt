@@ -10,7 +10,7 @@ use lib.ListN.{length, take, drop, length-drop, length-map, take-append-drop}
 use lib.Seq.{drop-drop}
 use Rattle.std.specs.Prelude.{if◌then◌else◌}
 use Rattle.numbers.specs.HighestFirst.{highestFirst}
-use Rattle.lines.specs.Bytes.{◌at◌}
+use Rattle.words.specs.Bytes.{◌at◌}
 use Rattle.record.specs.Wanted.{Wanted}
 use Rattle.form.specs.Form.{section, textSection, secondsBytes, markByte, marksSection, textsOf2, classPart, formWith}
 use Rattle.form.specs.Form.{versionForm}

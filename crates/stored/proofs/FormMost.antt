@@ -11,8 +11,8 @@ use borrow.Author.Tests.{eqb-true}
 use Rattle.std.specs.Prelude.{if◌then◌else◌}
 use Rattle.text.specs.Scans.{every}
 use Rattle.text.proofs.Choices.{both_left, both_right}
-use Rattle.lines.specs.Texts.{isInputName, infoMost}
-use Rattle.lines.proofs.TextsTold.{name-long, info-long, password-long, input-name-long}
+use Rattle.words.specs.Texts.{isInputName, infoMost}
+use Rattle.words.proofs.TextsTold.{name-long, info-long, password-long, input-name-long}
 use Rattle.record.specs.Wanted.{Wanted}
 use Rattle.record.specs.Legal.{isLegal}
 use Rattle.record.specs.SetUp.{isSettingInRange, isSetUp}

@@ -11,7 +11,7 @@ use lib.ListN.{length, length-map}
 use lib.Dec.{eqb}
 use Rattle.text.specs.Scans.{every}
 use Rattle.text.proofs.Choices.{both, both_right}
-use Rattle.lines.specs.Bytes.{◌at◌}
+use Rattle.words.specs.Bytes.{◌at◌}
 use Rattle.record.specs.Wanted.{Wanted}
 use Rattle.record.specs.Record.{started, accepted}
 use Rattle.record.specs.SetUp.{isSetUp, setUp}

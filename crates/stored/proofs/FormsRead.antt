@@ -12,7 +12,7 @@ use borrow.Author.Tests.{leb-true}
 use Rattle.text.proofs.Scanning.{every-at}
 use Rattle.numbers.specs.HighestFirst.{highestFirst, number_in}
 use Rattle.numbers.proofs.HighestFirst.{highest-length, highest-back}
-use Rattle.lines.specs.Bytes.{◌at◌}
+use Rattle.words.specs.Bytes.{◌at◌}
 use Rattle.record.specs.Limits.{lampLimit, stretchMost}
 use Rattle.record.specs.Wanted.{Wanted, wantedIn}
 use Rattle.record.specs.Rules.{isLamp}

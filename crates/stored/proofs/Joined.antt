@@ -9,7 +9,7 @@ use lib.ListN.{length, take, drop, length-append, length-drop}
 use lib.Seq.{drop-append_seam, take-append_seam, get_or-drop, drop-drop, length-take-le}
 use borrow.Author.Tests.{eq-eqb}
 use Rattle.text.proofs.Choices.{if_yes}
-use Rattle.lines.specs.Bytes.{◌at◌}
+use Rattle.words.specs.Bytes.{◌at◌}
 use Rattle.record.specs.Wanted.{total_of, cutBy, namesIn}
 use Rattle.form.specs.Form.{textsBytes}
 use Rattle.form.proofs.TextsWritten.{no-texts, first-text}

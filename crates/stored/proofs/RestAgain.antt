@@ -11,7 +11,7 @@ use lib.Seq.{take_all}
 use lib.Dec.{eqb}
 use Rattle.std.specs.Prelude.{if◌then◌else◌}
 use Rattle.text.proofs.Choices.{if_yes, if_no}
-use Rattle.lines.specs.Bytes.{◌at◌}
+use Rattle.words.specs.Bytes.{◌at◌}
 use Rattle.form.specs.Form.{textsBytes, classPart}
 use Rattle.form.proofs.ClassPart.{class-part}
 use Rattle.stored.specs.Loading.{hasClass, textsLong, textsIn, classIn, manyTexts, restLong, textsAfter}

@@ -8,7 +8,7 @@ use native.Mathlib.Numerals.{add-one}
 use native.Mathlib.Omega.{arith}
 use lib.ListN.{length, take, drop, length-drop, take-append-drop}
 use lib.Seq.{drop-cons, get_or-drop, drop-drop, take-append_seam, drop-append_seam, length-take-le}
-use Rattle.lines.specs.Bytes.{◌at◌}
+use Rattle.words.specs.Bytes.{◌at◌}
 use Rattle.stored.specs.Loading.{between}
 
 module _ (s : List ℕ) (p : ℕ) (n : ℕ) (items rest : List ℕ) (h : drop p s ≡ n ∷ (items ++ rest)) where

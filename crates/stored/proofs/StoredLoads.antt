@@ -13,8 +13,8 @@ use borrow.Author.Tests.{eq-eqb}
 use Rattle.text.specs.Scans.{every}
 use Rattle.text.proofs.Choices.{both, both_left, both_right}
 use Rattle.text.proofs.Scanning.{every_map}
-use Rattle.lines.specs.Texts.{isText, isInfo, isPassword, isInputName, infoMost, inputNameMost}
-use Rattle.lines.proofs.TextsTold.{name-long, info-long, password-long, input-name-long}
+use Rattle.words.specs.Texts.{isText, isInfo, isPassword, isInputName, infoMost, inputNameMost}
+use Rattle.words.proofs.TextsTold.{name-long, info-long, password-long, input-name-long}
 use Rattle.record.specs.Limits.{textRoom, inputRoom, lampsMost, onlyIn2}
 use Rattle.record.specs.Wanted.{Wanted, wantedIn}
 use Rattle.record.specs.Rules.{isLongEnough, isInputs, isLamps, isMarks, areNames}

@@ -12,7 +12,7 @@ use lib.ListN.{length, take, drop, length-append, length-drop}
 use lib.Seq.{drop-drop, get_or-drop, get_or-take, take-add, take-append_seam, drop-append_seam, length-take-le}
 use Rattle.text.proofs.Orders.{le-or-lt}
 use Rattle.text.proofs.Parts.{drop-take}
-use Rattle.lines.specs.Bytes.{◌at◌}
+use Rattle.words.specs.Bytes.{◌at◌}
 use Rattle.form.specs.Form.{textsBytes}
 use Rattle.form.proofs.TextsWritten.{no-texts, first-text}
 use Rattle.stored.specs.Loading.{textsLong, textsIn}

@@ -12,7 +12,7 @@ use lib.ListN.{length, set, take, drop, length-append, length-map, length-drop}
 use lib.Seq.{sets, get_or-drop, drop-drop, length-take-le}
 use Rattle.text.proofs.InTurn.{turns-snoc}
 use Rattle.text.proofs.Stores.{sets-snoc, sets_then}
-use Rattle.lines.specs.Bytes.{◌at◌}
+use Rattle.words.specs.Bytes.{◌at◌}
 use Rattle.record.specs.Record.{zeros, inRoom}
 use Rattle.record.proofs.Filled.{room-filled}
 use Rattle.stored.specs.Loading.{textsLong, textsIn, joinedTexts}

@@ -8,7 +8,7 @@ use mathlib.Core.List.{List, [], ◌++◌, map}
 use native.Mathlib.Omega.{arith}
 use lib.ListN.{length, drop, length-map}
 use lib.Dec.{eqb}
-use Rattle.lines.specs.Bytes.{◌at◌}
+use Rattle.words.specs.Bytes.{◌at◌}
 use Rattle.form.specs.Form.{formVersion, markedVersion, oldVersion, markByte, marksSection}
 use Rattle.stored.specs.Loading.{marksLong}
 use Rattle.stored.proofs.Walked.{no-marks-long, some-marks-long}

@@ -8,7 +8,7 @@ use mathlib.Core.List.{List}
 use native.Mathlib.Omega.{arith}
 use lib.ListN.{drop}
 use Rattle.text.proofs.Choices.{if_yes, if_no}
-use Rattle.lines.specs.Bytes.{◌at◌}
+use Rattle.words.specs.Bytes.{◌at◌}
 use Rattle.stored.specs.Loading.{isOld, sectionEnd, marksLong, places_of, restLong, end_at, formEnd, Walked}
 use Rattle.stored.specs.declared.layout.Places.{Places}
 

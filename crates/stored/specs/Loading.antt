@@ -41,7 +41,7 @@ use Rattle.text.specs.Scans.{every}
 use Rattle.text.specs.InTurn.{eachInTurn}
 use Rattle.text.specs.Rows.{Row, ◌when◌, byRows}
 use Rattle.numbers.specs.HighestFirst.{number_in}
-use Rattle.lines.specs.Bytes.{◌at◌}
+use Rattle.words.specs.Bytes.{◌at◌}
 use Rattle.record.specs.Limits.{listedMost, lampsMost, onlyIn2}
 use Rattle.record.specs.Wanted.{Wanted, wantedIn}
 use Rattle.record.specs.Rules.{at_most, isMarks}

@@ -1,7 +1,7 @@
 // Where the sections of a stored form stand, by its version and its counts alone (RULES, Stored form and Lamps). What
 // lies between two counts is not looked at, so that bytes of any length cost the same.
 ghost use Rattle.std.specs.Prelude.{◌≡◌, ◌+◌, ◌*◌, ◌≤◌, drop};
-ghost use Rattle.lines.specs.Bytes.{◌at◌};
+ghost use Rattle.words.specs.Bytes.{◌at◌};
 ghost use Rattle.stored.specs.Loading.{isOld, hasClass, marksLong, places_of, classIn, manyTexts, textsLong};
 ghost use Rattle.stored.specs.Loading.{restLong};
 

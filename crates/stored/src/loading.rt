@@ -2,7 +2,7 @@
 // record is not put into its caller (`inline(never)`): its copies would lie on the stack while set-up runs.
 ghost use Rattle.std.specs.Prelude.{◌≡◌, true, map, ◌+◌, ◌≤◌, length, drop};
 ghost use Rattle.std.specs.Result.{result_ok};
-ghost use Rattle.lines.specs.Bytes.{◌at◌};
+ghost use Rattle.words.specs.Bytes.{◌at◌};
 ghost use Rattle.record.specs.Updates.{withOwn, withMarks};
 ghost use Rattle.record.specs.Legal.{isLegal};
 ghost use Rattle.setup.specs.Lent.{class_number, serial_of, version_of, names_of};

@@ -3,7 +3,7 @@
 // on the stack while set-up runs.
 ghost use Rattle.std.specs.Prelude.{◌≡◌, map, ◌+◌, ◌*◌, ◌≤◌, length, drop};
 ghost use Rattle.record.specs.Limits.{listedMost, lampsMost};
-ghost use Rattle.lines.specs.Bytes.{◌at◌};
+ghost use Rattle.words.specs.Bytes.{◌at◌};
 ghost use Rattle.record.specs.Record.{inRoom};
 ghost use Rattle.stored.specs.Loading.{secondsIn, isMarked};
 ghost use Rattle.stored.specs.Loading.{textsLong, textsIn, joinedTexts, joinedMost};

@@ -7,7 +7,7 @@ use mathlib.Core.Bool.{true, false}
 use mathlib.Core.List.{List}
 use lib.ListN.{length}
 use Rattle.text.specs.Scans.{every}
-use Rattle.lines.specs.Bytes.{notCr}
+use Rattle.words.specs.Bytes.{notCr}
 use Rattle.record.specs.declared.types.Line.{Line}
 use Rattle.stream.specs.Collecting.{collected, collectedAll, gatheredOf, gathered}
 use Rattle.stream.proofs.UpToTheEnd.{plain-up-to, found}

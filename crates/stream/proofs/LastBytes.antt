@@ -3,7 +3,7 @@
 -- Assumes nothing.
 use Prim.Native.Nat.{ℕ, ◌+◌, ◌<◌}
 use Prim.Native.Char.{code}
-use mathlib.Core.Path.{◌≡◌, refl, sym, ap, ◌∙◌}
+use mathlib.Core.Path.{◌≡◌, sym, ap, ◌∙◌}
 use mathlib.Core.Bool.{Bool, true, false≢true}
 use mathlib.Core.List.{List, [], ◌∷◌, ◌++◌, append_assoc, append-nil}
 use native.Mathlib.Omega.{arith}
@@ -26,19 +26,10 @@ pub record Ends (w h : List ℕ) : Type 0 where
   pub before : List ℕ
   pub split : w ≡ before ++ h
 
-pub ends-itself : (w : List ℕ) → Ends w w
-ends-itself w = record { before = []; split = refl }
-
 pub ends-none : (w : List ℕ) → Ends w []
 ends-none w = record { before = w; split = sym (append-nil w) }
 
--- more in front, more behind
-pub ends-after : (v : List ℕ) {w h : List ℕ} → Ends w h → Ends (v ++ w) h
-ends-after v {w} {h} e = record {
-  before = v ++ e.before;
-  split = ap (λ (x : List ℕ). v ++ x) e.split ∙ sym (append_assoc v e.before h);
-}
-
+-- more behind
 pub ends_with : {w h : List ℕ} (x : List ℕ) → Ends w h → Ends (w ++ x) (h ++ x)
 ends_with {w} {h} x e = record {
   before = e.before;

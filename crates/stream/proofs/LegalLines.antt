@@ -12,8 +12,8 @@ use borrow.Author.Tests.{eqb-true, ne_eqb}
 use Rattle.text.specs.Scans.{every}
 use Rattle.text.proofs.Choices.{both, both_left, both_right}
 use Rattle.text.proofs.Scanning.{every_append}
-use Rattle.lines.specs.Bytes.{notCr, noCr}
-use Rattle.lines.proofs.Characters.{no-cr-of, no-cr-each}
+use Rattle.words.specs.Bytes.{notCr, noCr}
+use Rattle.words.proofs.Characters.{no-cr-of, no-cr-each}
 use Rattle.record.specs.Limits.{lineRoom}
 use Rattle.record.specs.Record.{zeros}
 use Rattle.record.specs.Legal.{is_zero, isCollecting, heldMost, is_held}

@@ -9,7 +9,7 @@ use mathlib.Core.List.{List, [], ◌∷◌, ◌++◌, append_assoc, append-nil}
 use native.Mathlib.Omega.{arith}
 use lib.ListN.{length, length-append}
 use Rattle.text.specs.Scans.{every}
-use Rattle.lines.specs.Bytes.{notCr}
+use Rattle.words.specs.Bytes.{notCr}
 use Rattle.record.specs.Limits.{lineRoom}
 use Rattle.record.specs.declared.types.Line.{Line}
 use Rattle.record.proofs.Kept.{room-empty, room-more}

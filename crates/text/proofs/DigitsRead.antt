@@ -2,26 +2,23 @@
 --   ReadTo base worth isOne s v i     the loop has come to i with the value v; isOne is its test of a digit
 -- Assumes nothing.
 use Prim.Native.Nat.{ℕ, ◌+◌, ◌*◌, ◌^◌, ◌<◌, ◌≤◌}
-use mathlib.Core.Path.{◌≡◌, refl, ap, ◌∙◌}
+use mathlib.Core.Path.{◌≡◌, ap, ◌∙◌}
 use mathlib.Core.Bool.{Bool, true}
 use mathlib.Core.List.{List}
-use native.Mathlib.Nat.{pow-zero, pow-suc, pow-le-pow_right}
+use native.Mathlib.Nat.{pow-suc, pow-le-pow_right}
 use native.Mathlib.Numerals.{add-one}
 use native.Mathlib.Omega.{arith}
 use lib.ListN.{length, get_or, drop, drop_of_length-le}
 use lib.Seq.{drop-cons}
 use Rattle.text.specs.Bases.{valueIn}
 use Rattle.text.proofs.Bases.{value_grows}
-use Rattle.text.proofs.Scanning.{Passed, none_passed, one-passed}
+use Rattle.text.proofs.Scanning.{Passed, one-passed}
 
 module _ (base : ℕ) (worth : ℕ → ℕ) (isOne : ℕ → Bool) (s : List ℕ) where
   pub record ReadTo (v i : ℕ) : Type 0 where
     pub passed : Passed isOne s i
     pub value : valueIn base worth 0 s ≡ valueIn base worth v (drop i s)
     pub below : v < base ^ i
-
-  pub none_read : ReadTo 0 0
-  none_read = record { passed = none_passed isOne s; value = refl; below = omega (arith, pow-zero base) }
 
   module _ {v i : ℕ} (p : ReadTo v i) where
     pub one-read : i < length s → isOne (get_or s i 0) ≡ true → worth (get_or s i 0) < base

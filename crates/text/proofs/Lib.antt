@@ -1,6 +1,5 @@
 pub mod ByRows
 pub mod Bases
-pub mod Carried
 pub mod Choices
 pub mod DigitsRead
 pub mod EachBelow

@@ -8,8 +8,8 @@ use mathlib.Core.List.{List}
 use native.Mathlib.Omega.{arith}
 use lib.ListN.{length}
 use lib.Seq.{get_or-set_same}
-use Rattle.lines.specs.Texts.{isPassword}
-use Rattle.lines.proofs.TextsTold.{password-long}
+use Rattle.words.specs.Texts.{isPassword}
+use Rattle.words.proofs.TextsTold.{password-long}
 use Rattle.record.specs.Limits.{placesCount, textRoom}
 use Rattle.record.specs.Legal.{isLegal}
 use Rattle.record.specs.Places.{lowestShut}

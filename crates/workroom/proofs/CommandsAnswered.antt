@@ -13,10 +13,10 @@ use borrow.Author.Tests.{ne_eqb}
 use Rattle.std.specs.Prelude.{Option, Some}
 use Rattle.text.proofs.Choices.{if_yes}
 use Rattle.digest.specs.Hex.{leadingDigest}
-use Rattle.lines.specs.Commands.{commandClass, isCommand, commandLine}
-use Rattle.lines.specs.declared.command.Command.{Command}
-use Rattle.requests.specs.declared.Request.TheVariants.{Asks}
-use Rattle.answers.specs.Said.{Said}
+use Rattle.pjlink.specs.Commands.{commandClass, isCommand, commandLine}
+use Rattle.pjlink.specs.declared.command.Command.{Command}
+use Rattle.pjlink.specs.declared.request.Request.TheVariants.{Asks}
+use Rattle.pjlink.specs.Said.{Said}
 use Rattle.record.specs.Limits.{shut, awaiting, opened}
 use Rattle.record.specs.Places.{connectionAt, isShut}
 use Rattle.record.specs.declared.types.Line.{Line}

@@ -9,7 +9,7 @@ use mathlib.Core.List.{List}
 use native.Mathlib.Omega.{arith}
 use lib.ListN.{get_or}
 use Rattle.text.proofs.Orders.{le-or-lt}
-use Rattle.lines.specs.Forms.{greetingOpen, greetingSecured}
+use Rattle.pjlink.specs.Forms.{greetingOpen, greetingSecured}
 use Rattle.digest.specs.Hex.{hexDigits}
 use Rattle.record.specs.Limits.{placesCount, awaiting, opened}
 use Rattle.record.specs.Legal.{isConnection}

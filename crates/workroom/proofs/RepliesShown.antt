@@ -10,10 +10,10 @@ use borrow.Author.Tests.{ne_eqb}
 use Rattle.std.specs.Prelude.{Option, Some, None}
 use Rattle.text.proofs.Choices.{if_no}
 use Rattle.text.proofs.Orders.{le-or-lt}
-use Rattle.lines.specs.Commands.{commandClass}
-use Rattle.lines.specs.declared.command.Command.{Command}
-use Rattle.requests.specs.declared.Request.TheVariants.{Asks}
-use Rattle.answers.specs.Said.{Said}
+use Rattle.pjlink.specs.Commands.{commandClass}
+use Rattle.pjlink.specs.declared.command.Command.{Command}
+use Rattle.pjlink.specs.declared.request.Request.TheVariants.{Asks}
+use Rattle.pjlink.specs.Said.{Said}
 use Rattle.record.specs.Limits.{opened}
 use Rattle.record.specs.Legal.{isLegal}
 use Rattle.record.specs.Places.{connectionAt, withPlace}

@@ -9,8 +9,8 @@ use mathlib.Core.List.{[], ◌∷◌}
 use native.Mathlib.Omega.{arith}
 use lib.ListN.{replicate}
 use Rattle.text.specs.Words.{ascii}
-use Rattle.lines.specs.declared.command.Command.TheVariants.{Query}
-use Rattle.lines.specs.declared.command.Body.TheVariants.{Powr, Lamp}
+use Rattle.pjlink.specs.declared.command.Command.TheVariants.{Query}
+use Rattle.pjlink.specs.declared.command.Body.TheVariants.{Powr, Lamp}
 use Rattle.record.specs.Limits.{opened}
 use Rattle.record.specs.Record.{text_of, started}
 use Rattle.record.specs.Wanted.{wantedOf}

@@ -5,8 +5,8 @@ use Prim.Native.Nat.{ℕ, ◌<◌}
 use mathlib.Core.Path.{◌≡◌, refl, sym, ap, subst}
 use mathlib.Core.List.{List}
 use Rattle.std.specs.Prelude.{Some}
-use Rattle.lines.specs.Commands.{commandClass}
-use Rattle.lines.specs.declared.command.Command.{Command}
+use Rattle.pjlink.specs.Commands.{commandClass}
+use Rattle.pjlink.specs.declared.command.Command.{Command}
 use Rattle.record.specs.Limits.{opened}
 use Rattle.record.specs.Places.{connectionAt, withPlace}
 use Rattle.record.specs.declared.types.Device.{Device}

@@ -1,10 +1,7 @@
 -- One name that opens the definitions of every crate below, for computing on concrete records only (RULES,
 -- Commands). The digest stays shut: no line is computed on a secured connection.
 -- Assumes nothing.
-use Rattle.lines.specs.Computing.{computing as lines}
-use Rattle.requests.specs.Computing.{computing as requests}
-use Rattle.answers.specs.Computing.{computing as answers}
-use Rattle.replies.specs.Computing.{computing as replies}
+use Rattle.pjlink.specs.Computing.{computing as pjlink}
 use Rattle.record.specs.Computing.{computing as records}
 use Rattle.meaning.specs.Computing.{computing as meaning}
 use Rattle.stream.specs.Computing.{computing as stream}
@@ -14,5 +11,5 @@ use Rattle.codes.specs.Computing.{computing as codes}
 use Rattle.panel.specs.Computing.{computing as panel}
 
 unfoldable pub computing : Unit {0}
-unfolding lines requests answers replies records meaning stream device controller codes panel
+unfolding pjlink records meaning stream device controller codes panel
 computing = tt

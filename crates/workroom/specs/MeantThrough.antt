@@ -9,10 +9,10 @@
 --   IsWithin s m          m is a command of a class no higher than that of the settings s (RULES, Class 2), or none
 -- Assumes nothing.
 use Rattle.std.specs.Prelude.{◌≤◌, List, [], ◌∷◌, Option, Some, None}
-use Rattle.lines.specs.Commands.{commandClass}
-use Rattle.lines.specs.declared.command.Command.{Command}
-use Rattle.requests.specs.declared.Request.TheVariants.{Asks}
-use Rattle.answers.specs.Said.{Said, nothing}
+use Rattle.pjlink.specs.Commands.{commandClass}
+use Rattle.pjlink.specs.declared.command.Command.{Command}
+use Rattle.pjlink.specs.declared.request.Request.TheVariants.{Asks}
+use Rattle.pjlink.specs.Said.{Said, nothing}
 use Rattle.record.specs.declared.types.Settings.{Settings}
 use Rattle.record.specs.declared.types.Own.{Own}
 use Rattle.clock.specs.Second.{times, ownSecond}

@@ -13,9 +13,9 @@
 --                      it was the ERRA line and f shows nothing
 -- Assumes nothing.
 use Rattle.std.specs.Prelude.{ℕ, ◌+◌, ◌<◌, min, ◌≡◌, true, List}
-use Rattle.lines.specs.Forms.{erraLine}
-use Rattle.lines.specs.declared.command.Command.{Command}
-use Rattle.answers.specs.Said.{Said}
+use Rattle.pjlink.specs.Forms.{erraLine}
+use Rattle.pjlink.specs.declared.command.Command.{Command}
+use Rattle.pjlink.specs.Said.{Said}
 use Rattle.controller.specs.Greetings.{readGreeting}
 use Rattle.controller.specs.Reading.{meaning, readReply}
 use Rattle.controller.specs.declared.greeting.Greeting.TheVariants.{Open, Secured}

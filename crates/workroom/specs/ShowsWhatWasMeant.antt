@@ -26,8 +26,8 @@
 --   PartedAs i w x     the connection is gone: what was shown stays, and they are apart
 -- Assumes nothing.
 use Rattle.std.specs.Prelude.{ℕ, ◌+◌, ◌<◌, ◌^◌, ◌≡◌, Bool, true, false, List, [], ◌∷◌, Some}
-use Rattle.lines.specs.Commands.{commandClass}
-use Rattle.lines.specs.declared.command.Command.{Command}
+use Rattle.pjlink.specs.Commands.{commandClass}
+use Rattle.pjlink.specs.declared.command.Command.{Command}
 use Rattle.record.specs.Limits.{placesCount, ageEnd, awaiting, opened}
 use Rattle.record.specs.Legal.{isLegal}
 use Rattle.record.specs.Places.{connectionAt, isShut, lowestShut}

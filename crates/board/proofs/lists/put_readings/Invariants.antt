@@ -2,8 +2,8 @@
 use Rattle.std.proofs.Common.{◌≡◌, take}
 use Rattle.std.specs.Prelude.{map}
 use Rattle.std.specs.List.{range_with_len}
-use Rattle.board.specs.Lists.{reading_from}
+use Rattle.board.specs.Lists.{reading_at}
 use Rattle.board.proofs.lists.put_readings.Given as goal
 
 abbrev pub invariant-loop-k : goal.invariant-loop-k
-invariant-loop-k l = take l.k l.readings ≡ map (reading_from l.earlier l.later) (range_with_len 0 l.k)
+invariant-loop-k l = take l.k l.readings ≡ map (reading_at l.earlier l.later) (range_with_len 0 l.k)

@@ -4,7 +4,7 @@ use Rattle.std.proofs.lemmas.List.Edits.{sets}
 use Rattle.text.specs.Words.{ascii}
 use Rattle.text.specs.Scans.{sameBy, itself}
 use Rattle.digest.specs.Hex.{hexDigits, hexValue}
-use Rattle.lines.specs.Forms.{greetingSecured}
+use Rattle.pjlink.specs.Forms.{greetingSecured}
 use Rattle.controller.specs.Greetings.{greets, randomIn}
 use Rattle.controller.specs.declared.greeting.Greeting.TheVariants.{Secured}
 use Rattle.controller.proofs.Cases.{greeting-secured, greeting-none, greeting-not-18}

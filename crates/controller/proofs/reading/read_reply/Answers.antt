@@ -1,15 +1,15 @@
 -- Each `return` is one case of `readReply`. What has the form has its eight bytes.
 use Rattle.std.proofs.Common.{◌≡◌, sym, ap, ◌∙◌, ℕ, ◌-◌, ◌≤◌, Bool, List, length, take, drop, arith}
 use Rattle.std.specs.Prelude.{if◌then◌else◌}
-use Rattle.lines.specs.Forms.{isReplyForm, headBody, replyParameter}
-use Rattle.lines.specs.Commands.{bodyOf, commandClass}
-use Rattle.lines.specs.declared.command.Body.{Body}
-use Rattle.lines.specs.declared.command.Command.{Command}
-use Rattle.lines.proofs.RepliesReadBack.{reply-long}
-use Rattle.requests.specs.Requests.{isBody}
-use Rattle.answers.specs.Carried.{answer_of, isNothing}
-use Rattle.answers.specs.declared.answer.Answer.{Answer}
-use Rattle.replies.specs.Reading.{readParameter}
+use Rattle.pjlink.specs.Forms.{isReplyForm, headBody, replyParameter}
+use Rattle.pjlink.specs.Commands.{bodyOf, commandClass}
+use Rattle.pjlink.specs.declared.command.Body.{Body}
+use Rattle.pjlink.specs.declared.command.Command.{Command}
+use Rattle.pjlink.proofs.RepliesReadBack.{reply-long}
+use Rattle.pjlink.specs.Requests.{isBody}
+use Rattle.pjlink.specs.Carried.{answer_of, isNothing}
+use Rattle.pjlink.specs.declared.answer.Answer.{Answer}
+use Rattle.pjlink.specs.Reading.{readParameter}
 use Rattle.controller.specs.Reading.{saying, readReply, reading_of}
 use Rattle.controller.specs.declared.reading.Outcome.TheVariants.{Means, NotAllowed}
 use Rattle.controller.specs.declared.reading.Reading.{Reading}

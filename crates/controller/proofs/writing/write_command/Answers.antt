@@ -5,8 +5,8 @@ use Rattle.text.specs.Words.{over}
 use Rattle.text.proofs.Stores.{sets_then, sets_over}
 use Rattle.digest.specs.Hex.{leadingDigest}
 use Rattle.digest.proofs.Laws.{leading-digest-length}
-use Rattle.lines.specs.Commands.{commandLine}
-use Rattle.lines.proofs.CommandLines.{line-at-most-11}
+use Rattle.pjlink.specs.Commands.{commandLine}
+use Rattle.pjlink.proofs.CommandLines.{line-at-most-11}
 use Rattle.controller.specs.Writing.{WrittenAs}
 use Rattle.controller.proofs.Cases.{written-plain, written-led}
 use Rattle.controller.proofs.writing.write_command.Goals as goal

@@ -3,13 +3,13 @@ use Rattle.std.proofs.Common.{◌≡◌, sym, ap, ◌∙◌, true, ℕ, ◌-◌,
 use Rattle.text.specs.Words.{over}
 use Rattle.text.proofs.Choices.{if_yes}
 use Rattle.text.proofs.Parts.{rest-whole}
-use Rattle.lines.specs.Bytes.{◌at◌}
-use Rattle.lines.specs.Forms.{isCommandForm, lineClass, headBody, replyLine}
-use Rattle.requests.specs.Requests.{requestOf}
-use Rattle.requests.specs.declared.Request.{Request}
-use Rattle.lines.proofs.CommandLines.{form-long}
-use Rattle.answers.specs.Said.{Said, saidBytes}
-use Rattle.answers.specs.Carried.{saidBy}
+use Rattle.words.specs.Bytes.{◌at◌}
+use Rattle.pjlink.specs.Forms.{isCommandForm, lineClass, headBody, replyLine}
+use Rattle.pjlink.specs.Requests.{requestOf}
+use Rattle.pjlink.specs.declared.request.Request.{Request}
+use Rattle.pjlink.proofs.CommandLines.{form-long}
+use Rattle.pjlink.specs.Said.{Said, saidBytes}
+use Rattle.pjlink.specs.Carried.{saidBy}
 use Rattle.record.specs.Legal.{isSettings, isOwn}
 use Rattle.record.specs.declared.types.Settings.{Settings}
 use Rattle.record.specs.declared.types.Own.{Own}

@@ -1,6 +1,6 @@
 -- Head, parameter and CR one after the other are the reply.
 use Rattle.std.proofs.Common.{arith}
-use Rattle.answers.proofs.SaidBack.{said-within}
+use Rattle.pjlink.proofs.SaidBack.{said-within}
 use Rattle.device.proofs.Written.{reply-written}
 use Rattle.device.proofs.answering.put_reply.Goals as goal
 

@@ -1,6 +1,6 @@
 -- The reader follows the table.
 use Rattle.std.proofs.Common.{ap, ◌∙◌}
-use Rattle.lines.proofs.SourcesFollowed.{reader-follows}
+use Rattle.words.proofs.SourcesFollowed.{reader-follows}
 use Rattle.meaning.specs.SetUpInputs.{inputOrNone}
 use Rattle.meaning.proofs.inputs.input_of_pair.Goals as goal
 

@@ -1,7 +1,7 @@
 use Rattle.std.proofs.Common.{◌≡◌, ◌+◌, ◌*◌, ◌<◌, ℕ, Bool, List, sym, ap, ◌∙◌, arith, rules, get_or, length, take}
 use lib.ListN.{length-take}
-use Rattle.lines.specs.Sources.{sameInput}
-use Rattle.lines.specs.declared.input.Input.{Input}
+use Rattle.words.specs.Sources.{sameInput}
+use Rattle.words.specs.declared.input.Input.{Input}
 use Rattle.record.specs.Limits.{inputRoom}
 use Rattle.meaning.specs.SetUpInputs.{noInput, inputsOfPairs, inputOfPair}
 use Rattle.meaning.proofs.InputsByPlace.{all-sought, found_here, not-here, at-most-inputs}

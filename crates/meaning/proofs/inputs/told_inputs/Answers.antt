@@ -1,5 +1,5 @@
 use Rattle.std.proofs.Common.{◌≡◌, ◌+◌, ◌*◌, arith, rules, refl, get_or, length, ◌∙◌}
-use Rattle.answers.specs.Carried.{noInputs}
+use Rattle.pjlink.specs.Carried.{noInputs}
 use Rattle.record.specs.Limits.{inputRoom}
 use Rattle.meaning.specs.SetUpInputs.{inputOfPair, inputsOfPairs}
 use Rattle.meaning.proofs.Filling.{none_filled, one-filled}

@@ -1,7 +1,7 @@
 -- The array has the inputs of the pairs passed.
 use Rattle.std.proofs.Common.{ℕ, ◌*◌, List, take}
-use Rattle.lines.specs.declared.input.Input.{Input}
-use Rattle.answers.specs.Carried.{noInputs}
+use Rattle.words.specs.declared.input.Input.{Input}
+use Rattle.pjlink.specs.Carried.{noInputs}
 use Rattle.meaning.specs.SetUpInputs.{inputsOfPairs}
 use Rattle.meaning.proofs.Filling.{Filled}
 use Rattle.meaning.proofs.inputs.told_inputs.Given as goal

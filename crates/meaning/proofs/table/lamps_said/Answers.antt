@@ -1,5 +1,5 @@
 use Rattle.std.proofs.Common.{◌≡◌, arith, rules, length}
-use Rattle.answers.specs.Carried.{noLamps}
+use Rattle.pjlink.specs.Carried.{noLamps}
 use Rattle.meaning.proofs.Filling.{none_filled, one-filled}
 use Rattle.meaning.proofs.LampsSaid.{none_said, one-more-said}
 use Rattle.meaning.proofs.table.lamps_said.Invariants.{firstSaid}

@@ -1,7 +1,7 @@
 -- The array has the hours of the lamps passed.
 use Rattle.std.proofs.Common.{ℕ, Bool, List, take}
-use Rattle.answers.specs.Carried.{noLamps}
-use Rattle.answers.specs.declared.answer.LampHours.{LampHours}
+use Rattle.pjlink.specs.Carried.{noLamps}
+use Rattle.pjlink.specs.declared.answer.LampHours.{LampHours}
 use Rattle.meaning.specs.Meaning.{lampsSaid}
 use Rattle.meaning.proofs.Filling.{Filled}
 use Rattle.meaning.proofs.table.lamps_said.Given as goal

@@ -1,5 +1,5 @@
 use Rattle.std.proofs.Common.{◌≡◌, ◌+◌, ◌*◌, ◌/◌, ◌<◌, length, arith}
-use Rattle.lines.specs.Inputs.{isInputText}
+use Rattle.words.specs.Inputs.{isInputText}
 use Rattle.record.specs.Rules.{eachNamed}
 use Rattle.record.proofs.Pairs.{one-paired, all-paired}
 use Rattle.record.proofs.inputs.all_named.Goals as goal

@@ -1,4 +1,4 @@
-use Rattle.lines.specs.Inputs.{isInputText}
+use Rattle.words.specs.Inputs.{isInputText}
 use Rattle.record.proofs.Pairs.{Paired}
 use Rattle.record.proofs.inputs.all_named.Given as goal
 

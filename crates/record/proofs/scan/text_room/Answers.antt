@@ -1,7 +1,7 @@
 -- Each byte is what the window wants at its place.
 use Rattle.std.proofs.Common.{ℕ, ◌≤◌, length, get_or, take, drop, ◌+◌, ◌-◌, ap, ◌∙◌, List, arith}
 use borrow.Author.Tests.{ltb-true, ltb-false}
-use Rattle.lines.specs.Texts.{isTextByte}
+use Rattle.words.specs.Texts.{isTextByte}
 use Rattle.record.specs.Legal.{is_zero}
 use Rattle.record.proofs.Sifted.{one-sifted}
 use Rattle.record.proofs.Window.{wanted-space, wanted-zero, low-used, low-unused}

@@ -1,4 +1,4 @@
-use Rattle.lines.specs.Texts.{isTextByte}
+use Rattle.words.specs.Texts.{isTextByte}
 use Rattle.record.specs.Legal.{is_zero}
 use Rattle.record.proofs.Sifted.{Sifted}
 use Rattle.record.proofs.scan.text_room.Given as goal

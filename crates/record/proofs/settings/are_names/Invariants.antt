@@ -1,5 +1,5 @@
 use Rattle.text.proofs.Scanning.{Gathered}
-use Rattle.lines.specs.Texts.{inputNameMost}
+use Rattle.words.specs.Texts.{inputNameMost}
 use Rattle.record.specs.Legal.{fillsNameRoom}
 use Rattle.record.proofs.settings.are_names.Given as goal
 

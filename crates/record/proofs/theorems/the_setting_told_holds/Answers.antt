@@ -1,4 +1,5 @@
 use Rattle.record.proofs.OutOfRange.{first_holds, holding-told, none-in-range, in-range-none}
+use Rattle.record.proofs.InRange.{in-range-each}
 use Rattle.record.proofs.theorems.the_setting_told_holds.Goals as goal
 
 pub returns : goal.returns
@@ -7,4 +8,5 @@ returns c = record {
   holds_told = holding-told;
   none_in_range = none-in-range;
   in_range_none = in-range-none;
+  each_in_range = in-range-each;
 }

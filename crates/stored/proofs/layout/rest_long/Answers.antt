@@ -1,7 +1,7 @@
 -- By the version there is a class, and by the class there are texts.
 use Rattle.std.proofs.Common.{◌≡◌, ◌∙◌, ℕ, ◌+◌, drop, sym, ap, add-zero}
 use Rattle.std.proofs.Math.Seq.{get_or-drop, drop-drop}
-use Rattle.lines.specs.Bytes.{◌at◌}
+use Rattle.words.specs.Bytes.{◌at◌}
 use Rattle.stored.specs.Loading.{manyTexts, textsLong}
 use Rattle.stored.proofs.Rest.{no-rest-long, some-rest-long}
 use Rattle.stored.proofs.layout.rest_long.Goals as goal

@@ -2,7 +2,7 @@
 use Rattle.std.proofs.Common.{◌≡◌, ◌∙◌, ◌≤◌, ◌+◌, ◌-◌, ℕ, true, List, map, length, take, drop, sym, ap, arith}
 use Rattle.std.proofs.lemmas.List.{length-map}
 use Rattle.text.proofs.Parts.{first_part}
-use Rattle.lines.specs.Bytes.{◌at◌}
+use Rattle.words.specs.Bytes.{◌at◌}
 use Rattle.record.specs.Limits.{listedMost}
 use Rattle.record.specs.Wanted.{namesIn}
 use Rattle.record.specs.Record.{inRoom}

@@ -1,6 +1,6 @@
 -- In Class 2 there are texts after the class, else none.
 use Rattle.std.proofs.Common.{◌≡◌, ◌∙◌, drop, sym, ap, arith}
-use Rattle.lines.specs.Bytes.{◌at◌}
+use Rattle.words.specs.Bytes.{◌at◌}
 use Rattle.stored.specs.Loading.{classIn, settingsBy, device_of}
 use Rattle.stored.proofs.Rest.{texts-in-2, long-in-2, no-texts-in-1}
 use Rattle.stored.proofs.Contents.{settings-by, no-such-class}

@@ -1,6 +1,6 @@
 -- The two arrays have the hours and the lit marks of the lamps passed.
 use Rattle.std.proofs.Common.{ℕ, Bool, List, map, take}
-use Rattle.answers.specs.declared.answer.LampHours.{LampHours}
+use Rattle.pjlink.specs.declared.answer.LampHours.{LampHours}
 use Rattle.meaning.proofs.Filling.{Filled}
 use Rattle.codes.specs.Readings.{noHours, noneLit, hoursOf, lit_of}
 use Rattle.codes.proofs.lists.FlatLamps.of.Given as goal

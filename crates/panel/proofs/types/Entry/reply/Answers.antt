@@ -1,7 +1,7 @@
 -- What was read comes back out of the form in which it is handed on.
 use Rattle.std.proofs.Common.{sym, ap, ◌∙◌, Option}
-use Rattle.lines.specs.declared.command.Command.{Command}
-use Rattle.answers.specs.Carried.{saidBy}
+use Rattle.pjlink.specs.declared.command.Command.{Command}
+use Rattle.pjlink.specs.Carried.{saidBy}
 use Rattle.controller.specs.Reading.{readReply}
 use Rattle.controller.specs.declared.reading.Reading.{Reading}
 use Rattle.controller.proofs.ReadingsSaid.{reading-said}

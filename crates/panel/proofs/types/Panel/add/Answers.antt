@@ -1,5 +1,5 @@
 use Rattle.std.proofs.Common.{arith, sym, ◌∙◌}
-use Rattle.lines.proofs.TextsTold.{password-long}
+use Rattle.words.proofs.TextsTold.{password-long}
 use Rattle.panel.proofs.types.Panel.add.Goals as goal
 
 pub text_of-requires : goal.text_of-requires

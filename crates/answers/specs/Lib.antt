@@ -1,5 +1,0 @@
-pub mod Lists
-pub mod Said
-pub mod Carried
-pub mod CanSay
-pub mod Computing

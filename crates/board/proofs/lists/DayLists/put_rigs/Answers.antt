@@ -1,0 +1,12 @@
+use Rattle.std.proofs.Common.{refl, arith}
+use Rattle.board.specs.Lists.{rig_at}
+use Rattle.board.specs.Lent.{day_lists}
+use Rattle.board.proofs.Zipping.{put_next, put_all}
+use Rattle.board.proofs.lists.DayLists.put_rigs.Goals as goal
+
+pub loop-k-preserved : goal.loop-k-preserved
+loop-k-preserved c =
+    put_next (rig_at (day_lists c.args.self.now)) c.loop-k.rigs c.loop-k.k refl (omega arith) c.loop-k.invariant
+
+pub returns : goal.returns
+returns c = put_all (rig_at (day_lists c.args.self.now)) c.loop-k.rigs (omega arith) c.loop-k.invariant

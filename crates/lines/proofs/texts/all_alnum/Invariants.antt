@@ -1,6 +1,0 @@
-use Rattle.text.proofs.Scanning.{Gathered}
-use Rattle.lines.specs.Bytes.{isAlnum}
-use Rattle.lines.proofs.texts.all_alnum.Given as goal
-
-abbrev pub invariant-loop-b : goal.invariant-loop-b
-invariant-loop-b l = Gathered isAlnum l.s l.b-index l.ok

@@ -1,6 +1,0 @@
-use Rattle.text.proofs.Scanning.{Gathered}
-use Rattle.lines.specs.Texts.{isTextByte}
-use Rattle.lines.proofs.texts.all_text.Given as goal
-
-abbrev pub invariant-loop-b : goal.invariant-loop-b
-invariant-loop-b l = Gathered isTextByte l.s l.b-index l.ok

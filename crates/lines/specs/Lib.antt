@@ -1,9 +1,0 @@
-pub mod Bytes
-pub mod Sources
-pub mod Inputs
-pub mod Bodies
-pub mod Texts
-pub mod Commands
-pub mod ClassOne
-pub mod Forms
-pub mod Computing

@@ -1,0 +1,14 @@
+pub mod Bodies
+pub mod Commands
+pub mod Forms
+pub mod ClassOne
+pub mod Requests
+pub mod ClassOneAsked
+pub mod Lists
+pub mod Said
+pub mod Carried
+pub mod CanSay
+pub mod Words
+pub mod Reading
+pub mod Writings
+pub mod Computing

@@ -1,0 +1,14 @@
+// The vocabulary of PJLink, Classes 1 and 2, as both sides of the wire use it: bodies, commands, what a line asks for,
+// answers, and how each is written and read.
+#![tactic(auto)]
+
+pub mod answer;
+pub mod body;
+pub mod command;
+pub mod form;
+mod list;
+pub mod reply;
+pub mod request;
+pub mod theorems;
+mod values;
+pub mod write;

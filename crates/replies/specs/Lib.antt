@@ -1,4 +1,0 @@
-pub mod Words
-pub mod Reading
-pub mod Writings
-pub mod Computing

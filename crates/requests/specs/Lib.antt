@@ -1,3 +1,0 @@
-pub mod Requests
-pub mod ClassOne
-pub mod Computing

@@ -1,0 +1,10 @@
+pub mod ByPlaces
+pub mod Refusals
+pub mod TextsTold
+pub mod WithinLength
+pub mod Characters
+pub mod NumbersReadBack
+pub mod InputsReadBack
+pub mod SourcesFollowed
+pub mod ClassOneKept
+mod Examples

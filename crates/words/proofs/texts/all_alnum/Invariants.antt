@@ -1,0 +1,6 @@
+use Rattle.text.proofs.Scanning.{Gathered}
+use Rattle.words.specs.Bytes.{isAlnum}
+use Rattle.words.proofs.texts.all_alnum.Given as goal
+
+abbrev pub invariant-loop-b : goal.invariant-loop-b
+invariant-loop-b l = Gathered isAlnum l.s l.b-index l.ok

@@ -1,0 +1,35 @@
+// Single bytes of a line (PJLink 1.04, 2.1).
+ghost use Rattle.std.specs.Prelude.{◌≡◌};
+ghost use Rattle.words.specs.Bytes.{isAlnum, upperOf, noCr};
+
+// An ASCII letter or digit.
+pub fn is_alnum(b: u8) -> bool
+    ensures { result ≡ isAlnum b }
+{
+    ((b'0' <= b) & (b <= b'9')) | ((b'A' <= b) & (b <= b'Z')) | ((b'a' <= b) & (b <= b'z'))
+}
+
+// The upper case of a letter; any other byte as it is.
+pub fn upper(b: u8) -> u8
+    ensures { result ≡ upperOf b }
+{
+    if b < b'a' {
+        return b;
+    }
+    if b'z' < b {
+        return b;
+    }
+    b - (b'a' - b'A')
+}
+
+// Whether no byte of s is CR.
+#[tactic(auto, unfolding(crate::specs::Bytes::noCr))]
+pub fn no_cr(s: &[u8]) -> bool
+    ensures { result ≡ noCr s.now }
+{
+    let mut ok = true;
+    for &b in s {
+        ok = ok & (b != b'\r');
+    }
+    ok
+}

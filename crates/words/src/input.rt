@@ -1,0 +1,137 @@
+// Inputs and their two characters (RULES, The legal record; PJLink 1.04, 4.3; RULES, Class 2).
+ghost use Rattle.std.specs.Prelude.{◌≡◌, true};
+ghost use Rattle.words.specs.Sources.{isNumberCharacter, numberFor, numberCharacter};
+ghost use Rattle.words.specs.Inputs.{isInputText, sourceNamed, read_input, input_of, isInput, sourceDigit};
+ghost use Rattle.words.specs.Inputs.{numberDigit, inputText};
+
+#[derive(Clone, Copy)]
+pub enum Source {
+    Rgb,
+    Video,
+    Digital,
+    Storage,
+    Network,
+    Internal,
+}
+
+// The number is 1 to 9, or 10 to 35 for A to Z.
+#[derive(Clone, Copy)]
+pub struct Input {
+    pub source: Source,
+    pub number: u8,
+}
+
+#[derive(Clone, Copy)]
+pub enum MaybeInput {
+    InputIs(Input),
+    NoInput,
+}
+
+fn is_number_character(b: u8) -> bool
+    ensures { result ≡ isNumberCharacter b }
+{
+    ((b'1' <= b) & (b <= b'9')) | ((b'A' <= b) & (b <= b'Z'))
+}
+
+// Whether two characters name an input of Class k: 11 and 59 do; 10 and 20 do not; 61 and 1A do of Class 2 only.
+pub fn is_input_text(k: u8, a: u8, b: u8) -> bool
+    ensures { result ≡ isInputText k a b }
+{
+    if k == 1 {
+        return ((b'1' <= a) & (a <= b'5')) & ((b'1' <= b) & (b <= b'9'));
+    }
+    ((b'1' <= a) & (a <= b'6')) & is_number_character(b)
+}
+
+#[tactic(auto, unfolding(crate::specs::Inputs::sourceNamed))]
+fn source_named(a: u8) -> Source
+    ensures { result ≡ sourceNamed a }
+{
+    match a {
+        b'1' => Source::Rgb,
+        b'2' => Source::Video,
+        b'3' => Source::Digital,
+        b'4' => Source::Storage,
+        b'5' => Source::Network,
+        _ => Source::Internal,
+    }
+}
+
+#[tactic(auto, unfolding(crate::specs::Sources::numberFor))]
+fn number_for(b: u8) -> u8
+    requires { isNumberCharacter b ≡ true }
+    ensures { result ≡ numberFor b }
+{
+    if b <= b'9' {
+        return b - b'0';
+    }
+    10 + (b - b'A')
+}
+
+// The input of either class that two characters name, or none.
+#[tactic(auto, unfolding(crate::specs::Inputs::read_input))]
+pub fn read_input(a: u8, b: u8) -> MaybeInput
+    ensures { result ≡ read_input a b }
+{
+    if !is_input_text(2, a, b) {
+        return MaybeInput::NoInput;
+    }
+    let source = source_named(a);
+    let number = number_for(b);
+    MaybeInput::InputIs(Input { source, number })
+}
+
+// The input of one word.
+#[tactic(auto, unfolding(crate::specs::Inputs::input_of))]
+pub fn input_of(w: &[u8]) -> MaybeInput
+    ensures { result ≡ input_of w.now }
+{
+    if w.len() != 2 {
+        return MaybeInput::NoInput;
+    }
+    read_input(w[0], w[1])
+}
+
+// Whether two characters can name the input.
+pub fn is_input(i: Input) -> bool
+    ensures { result ≡ isInput i }
+{
+    (1 <= i.number) & (i.number <= 35)
+}
+
+// The two characters, the source's first.
+pub fn source_digit(s: Source) -> u8
+    ensures { result ≡ sourceDigit s }
+{
+    match s {
+        Source::Rgb => b'1',
+        Source::Video => b'2',
+        Source::Digital => b'3',
+        Source::Storage => b'4',
+        Source::Network => b'5',
+        Source::Internal => b'6',
+    }
+}
+
+#[tactic(auto, unfolding(crate::specs::Sources::numberCharacter))]
+pub fn number_character(n: u8) -> u8
+    ensures { result ≡ numberCharacter n }
+{
+    if n <= 9 {
+        return b'0' + n;
+    }
+    b'A' + (n - 10) % 26
+}
+
+pub fn input_text(i: Input) -> [u8; 2]
+    ensures { result ≡ inputText i }
+{
+    let source = i.source;
+    [source_digit(source), number_character(i.number)]
+}
+
+pub fn number_digit(n: u8) -> u8
+    ensures { result ≡ numberDigit n }
+{
+    b'0' + n % 10
+}
