@@ -3,7 +3,7 @@
 --                                                     sink, and report and state are so
 -- Assumes nothing.
 use Prim.Native.Nat.{ℕ, ◌+◌, ◌^◌, ◌≤◌, ◌<◌}
-use mathlib.Core.Path.{◌≡◌, refl, sym, ap, subst, ◌∙◌}
+use mathlib.Core.Path.{◌≡◌, sym, ap, subst, ◌∙◌}
 use mathlib.Core.List.{List, [], ◌∷◌, ◌++◌, map}
 use mathlib.Core.Logic.{⊎_elim}
 use native.Mathlib.Omega.{arith}
@@ -22,7 +22,7 @@ use Rattle.textio.proofs.Underway.{Underway, each, begun, line_is, played, broke
 use Rattle.floorlog.specs.Replaying.{keptMost}
 use Rattle.watch.specs.Marking.{FloorEvent, floorEvent, secondsBy}
 use Rattle.watch.specs.Watching.{Watching, watchedOn}
-use Rattle.watch.specs.Telling.{floorEvents, toldOn, toldAtEnd, secondsIn}
+use Rattle.watch.specs.Telling.{floorEvents, toldOn, toldAtEnd, secondsTogether}
 use Rattle.watch.proofs.LinesKept.{floor_event_of_line}
 use Rattle.watch.proofs.TellingsSpelt.{seconds-more, seconds-most}
 use Rattle.report.specs.declared.Report.{Report}
@@ -34,7 +34,7 @@ abbrev pub all_told : List ℕ → Report × Watching → List (List ℕ) → Li
 all_told starts s ls = told_from starts s.0 s.1 (map floorEvent ls)
 
 abbrev pub all_seconds : Report × Watching → List (List ℕ) → ℕ
-all_seconds s ls = s.1.time + secondsIn (map floorEvent ls)
+all_seconds s ls = s.1.time + secondsTogether (map floorEvent ls)
 
 abbrev pub Told : List ℕ → Report → Watching → List ℕ → Option (List ℕ) → Option (List ℕ) → Option (List ℕ) → ℕ
     → Report → Watching → Type 0
@@ -50,8 +50,8 @@ none_told starts r s at a w e =
 abbrev pub last_text : List ℕ → Report → Watching → List ℕ
 last_text starts r s = tellings_text r (toldAtEnd s) ++ totals_text (report_after r (toldAtEnd s)) starts s
 
-module _ (starts : List ℕ) {r report : Report} {s at : Watching} {log : List ℕ} {old now left : Option (List ℕ)} {n : ℕ}
-    (u : Told starts r s log old now left n report at) where
+module _ (starts : List ℕ) {r report : Report} {s at : Watching} {log : List ℕ} {old now left : Option (List ℕ)}
+    {n : ℕ} (u : Told starts r s log old now left n report at) where
   module _ (left_then : Option (List ℕ)) (memory : List ℕ) (held : ℕ) (room : keptMost ≤ length memory)
       (inside : held ≤ keptMost)
       (next : IfSome left (λ xs. IsNextLine xs left_then (take keptMost memory) (Some held))) where
@@ -74,7 +74,7 @@ module _ (starts : List ℕ) {r report : Report} {s at : Watching} {log : List �
     seconds_then : (ls : List (List ℕ)) → all_seconds (report, at) (line ∷ ls)
         ≡ all_seconds (report_after report (toldOn at event), watchedOn at event) ls
     seconds_then ls =
-        ap (λ (e : FloorEvent). at.time + secondsIn (e ∷ map floorEvent ls)) (sym same)
+        ap (λ (e : FloorEvent). at.time + secondsTogether (e ∷ map floorEvent ls)) (sym same)
         ∙ ap (λ (k : ℕ). at.time + k) (seconds-more event (map floorEvent ls)) ∙ omega arith
 
     -- the line is played, and what ended with it told
@@ -99,17 +99,19 @@ module _ (starts : List ℕ) {r report : Report} {s at : Watching} {log : List �
     line_uncounted h zero =
         let l = line_is u left_then (take keptMost memory) held next in
         let all = u.state ∙ ap (all_seconds (report, at)) l.lines
-        ∙ ap (λ (e : FloorEvent). at.time + secondsIn (e ∷ map floorEvent (lines_of l.later))) (sym same)
+        ∙ ap (λ (e : FloorEvent). at.time + secondsTogether (e ∷ map floorEvent (lines_of l.later))) (sym same)
         ∙ ap (λ (k : ℕ). at.time + k) (seconds-more event (map floorEvent (lines_of l.later))) in
         inr (omega (arith, all, h, zero))
 
   -- no line comes next
   module _ (left_then : Option (List ℕ)) (memory : List ℕ)
       (next : IfSome left (λ xs. IsNextLine xs left_then memory None)) (new : Option (List ℕ)) where
-    pub end_told : Appends now new (last_text starts report at) → Appends old new (told_from starts r s (floorEvents log))
+    pub end_told : Appends now new (last_text starts report at)
+        → Appends old new (told_from starts r s (floorEvents log))
     end_told w = ended u left_then memory next (told_none starts report at) new w
 
-    pub end_cut : WritesFront now new (last_text starts report at) → WritesFront old new (told_from starts r s (floorEvents log))
+    pub end_cut : WritesFront now new (last_text starts report at)
+        → WritesFront old new (told_from starts r s (floorEvents log))
     end_cut f = cut u left_then memory next (told_none starts report at) new f
 
 -- why it cannot be told on
@@ -137,7 +139,7 @@ line_came reads writes a s e TooLong u h =
 untold_bytes : (log : List ℕ) → IsUntold log → 2 ^ 32 ≤ length log
 untold_bytes log h =
     ⊎_elim (λ (e : IsTooLong log). omega (arith, too_long_bytes log e))
-    (λ (e : 2 ^ 64 ≤ secondsIn (floorEvents log)).
+    (λ (e : 2 ^ 64 ≤ secondsTogether (floorEvents log)).
     let most = seconds-most (lines_of log) in
     let fit = lines_fit [] log in
     omega (arith, e, most, fit)) h

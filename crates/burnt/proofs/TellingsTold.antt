@@ -2,13 +2,11 @@
 -- Assumes nothing.
 use Prim.Native.Nat.{ℕ}
 use mathlib.Core.Path.{◌≡◌, refl, sym, ap, ◌∙◌}
-use mathlib.Core.Bool.{Bool, ◌&&◌}
 use mathlib.Core.List.{List, [], ◌∷◌, ◌++◌, append_assoc}
 use Rattle.clock.specs.Second.{marksIn}
 use Rattle.watch.specs.Marking.{FloorEvent}
-use Rattle.watch.specs.Watching.{Watching, watchedOn, darkWith, isLong}
-use Rattle.watch.specs.Telling.{Telling, tellingIf, toldOn, toldAtEnd, tellings, afterLog}
-use Rattle.watch.specs.States.{IsWatched}
+use Rattle.watch.specs.Watching.{Watching, watchedOn}
+use Rattle.watch.specs.Telling.{Telling, toldOn, toldAtEnd, tellings, afterLog}
 use Rattle.watch.proofs.TellingsSpelt.{tellings-none, tellings-more, after-none, after-more}
 use Rattle.report.specs.Reports.{report_told, told_text}
 use Rattle.report.specs.declared.Report.{Report}
@@ -46,10 +44,3 @@ module _ (starts : List ℕ) (r : Report) (s : Watching) where
       ∙ (λ i. text_append r now later i
       ++ totals_text (report_append r now later i) starts (afterLog (watchedOn s e) es))
       ∙ append_assoc (tellings_text r now) (tellings_text (report_after r now) later) _
-
--- what a line is told to have ended is what its event tells
-pub telling_is : {s after : Watching} {e : FloorEvent} {ended : Bool} → IsWatched s e after ended
-    → tellingIf ended after ≡ toldOn s e
-telling_is {s} {after} {e} w =
-    ap (λ (b : Bool). tellingIf b after) w.told
-    ∙ ap (λ (t : Watching). tellingIf (darkWith s t.device && isLong t) t) w.state

@@ -47,7 +47,10 @@ fn main(rt: HostRuntime) -> io::Result<()> {
         Err(NotBegun::Refused(number)) => cut::tell_number(&mut Stream(rt.stdout()), number),
     };
     if let Err(error) = told {
-        writer::put(&mut Stream(rt.stderr()), cut::last_line(&Failure::Write(error)))?;
+        writer::put(
+            &mut Stream(rt.stderr()),
+            cut::last_line(&Failure::Write(error)),
+        )?;
     }
     Ok(())
 }

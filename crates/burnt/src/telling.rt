@@ -1,7 +1,6 @@
 // A log read to its end, of which is told which lamp burnt when.
 ghost use Rattle.std.specs.Prelude.{[], ◌≡◌, ◌≢◌, ◌≤◌, ◌<◌, ◌^◌, ◌++◌, min, take, length, IfErr, OnOk, IfSome, Err};
 ghost use Rattle.std.specs.Io.KnownBytes.{Appends};
-ghost use Rattle.clock.specs.Second.{marksIn};
 ghost use Rattle.textio.specs.Fronts.{WritesFront, WritesText};
 ghost use Rattle.textio.specs.Ahead.{left_in};
 ghost use Rattle.textio.specs.NextLine.{FailureComesOf, OnFailedRead};
@@ -10,7 +9,6 @@ ghost use Rattle.watch.specs.Marking.{floorEvent};
 ghost use Rattle.watch.specs.Watching.{watchingFrom};
 ghost use Rattle.watch.specs.Telling.{floorEvents, tellingIf, toldOn, toldAtEnd};
 ghost use Rattle.watch.specs.States.{stateOf};
-ghost use Rattle.report.specs.Reports.{report_told, told_text, ended_text};
 ghost use Rattle.burnt.specs.Told.{tellings_text, report_after, totals_text, told_from, log_told, IsUntold, IsTold};
 ghost use Rattle.burnt.specs.Told.{LineFails};
 

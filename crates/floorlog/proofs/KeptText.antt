@@ -49,6 +49,11 @@ event_of_memory m held from says inside e said =
     ap (eventOf says) (text-lent m held inside from e)
     ∙ ap (λ (s : Says). eventOf s (drop 2 (take held m) ++ ascii "\r")) said
 
+-- the event of what a line says
+pub event_said : (l : List ℕ) → event l ≡ eventOf (lineSaid l) (drop 2 l ++ ascii "\r")
+unfolding event
+event_said l = refl
+
 event_overlong : (l : List ℕ) → lineMost < length l → event l ≡ noSuch
 unfolding event
 event_overlong l h = ap (λ (s : Says). eventOf s (drop 2 l ++ ascii "\r")) (line-overlong l h)

@@ -1,5 +1,6 @@
 //! The floor log (RULES, Floor log): what a line of it says, what its event does to the record and what is printed for
-//! it; a whole log played back, from any source of bytes to any sink; and how one ends that cannot be played to its end.
+//! it; a whole log played back, from any source of bytes to any sink; and the last line of one that cannot be played to
+//! its end.
 #![tactic(auto)]
 
 pub mod cut;
@@ -10,6 +11,7 @@ pub mod line;
 pub mod playing;
 #[cfg(test)]
 mod tests;
+pub mod theorems;
 
 ghost use Rattle.std.specs.Prelude.{◌≡◌, ◌≢◌, ◌<◌, [], OnOk, IfOk, IfErr, IfSome, Err, length};
 ghost use Rattle.textio.specs.Lines.{countMost, IsTooLong};

@@ -3,7 +3,8 @@
 --   rows_drawn rows from to   the rows once a stretch is drawn, from the second `from` up to `to`: none closes, and
 --                             they reach the day of its last second; what has no second opens none
 --   day_row lamps day         a row for the day, counted from 1, which ends the row before it; a `band` for each lamp,
---                             which has its place, from 0; lamps are numbered from 1
+--                             which has its place, from 0; lamps are numbered from 1. It is as high as its bands, and
+--                             as one where there is none, so that its name is seen
 --   rows_opened n rows day    rows of n lamps up to that of the day, where there are `rows`
 --   hundredths seconds        of a unit: "90 seconds a unit; x and width of a bar are in hundredths, rounded down"
 --   bar from to x n k         from the second x of a day on, n seconds of a stretch of the lamp at place k: "The bar's
@@ -46,7 +47,7 @@ row_ended = codes "</svg>\n"
 unfoldable pub day_row : ℕ → ℕ → List ℕ
 day_row lamps day = (if nat_lt 1 day then row_ended else []) ++ (form_filled
     (codes "<svg viewBox=\"0 0 1100 #\" role=\"img\"><text x=\"0\" y=\"15\" font-weight=\"bold\">day #</text>")
-    ((lamps * 18 + 8) ∷ day ∷ []) ++ bands lamps)
+    ((max lamps 1 * 18 + 8) ∷ day ∷ []) ++ bands lamps)
 
 unfoldable pub rows_opened : ℕ → ℕ → ℕ → List ℕ
 rows_opened lamps rows day = flat_map (day_row lamps) (range_with_len (rows + 1) (day - rows))

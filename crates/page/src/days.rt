@@ -62,7 +62,8 @@ fn end_row<W: ByteSink>(out: &mut W, day: u64) -> io::Result<()>
     put(out, b"</svg>\n")
 }
 
-// A row for the day, counted from 1: its name, and for each lamp a band with its name.
+// A row for the day, counted from 1: its name, and for each lamp a band with its name. Where there is none there is
+// room for one, so that the name is seen.
 fn put_row<W: ByteSink>(out: &mut W, lamps: u64, day: u64) -> io::Result<()>
     requires { lamps ≤ 8 }
     ensures { WritesText W.fails_with (W.contents out.old) (W.contents out.new) result (day_row lamps day) }
@@ -72,7 +73,7 @@ fn put_row<W: ByteSink>(out: &mut W, lamps: u64, day: u64) -> io::Result<()>
         out,
         "<svg viewBox=\"0 0 1100 #\" role=\"img\">\
         <text x=\"0\" y=\"15\" font-weight=\"bold\">day #</text>",
-        &[lamps * BAND + 8, day],
+        &[lamps.max(1) * BAND + 8, day],
     )?;
     put_bands(out, lamps)
 }

@@ -1,6 +1,6 @@
-// The floor log played back (RULES, Floor log): a log on standard input, what its lines are answered on standard output,
-// from the sample set-up or from that of the stored form in the file that an argument names. Where a read fails, the
-// last line says so, and there is no line of power and lamps; where a write fails, standard error says so.
+// The floor log played back (RULES, Floor log): a log on standard input, what its lines are answered on standard
+// output, from the sample set-up or from that of the stored form in the file that an argument names. Where a read
+// fails, the last line says so, and there is no line of power and lamps; where a write fails, standard error says so.
 #![tactic(auto)]
 
 use floorlog::cut;

@@ -69,7 +69,8 @@ module _ (k : ℕ) where
       let d = doneBy s.device e in
       let t = watchedOn s e in
       let kept : k < d.settings.lamp_count = rw (done-settings s.device e) counted in
-      let burnt : burntOf k s (e ∷ es) ≡ burntOf k t es = ap (λ (x : Watching). get_or (burntBy x) k 0) (after-more s e es) in
+      let burnt : burntOf k s (e ∷ es) ≡ burntOf k t es =
+      ap (λ (x : Watching). get_or (burntBy x) k 0) (after-more s e es) in
       let told = ap lengthsOf (told_more k s e es) in
       let rest = adds es t kept (longer (isBurningIn s.device && not (isBurningIn d))) in
       let here = now (isBurningIn s.device) (isBurningIn d) kept in

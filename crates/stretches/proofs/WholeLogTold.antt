@@ -1,7 +1,7 @@
 -- What is told of a whole log is, of each lamp, its stretches in demand 3's history of the same log, what it burnt, and
 -- what it has now.
 -- Assumes nothing.
-use Prim.Native.Nat.{ℕ, ◌<◌}
+use Prim.Native.Nat.{ℕ}
 use mathlib.Core.Path.{◌≡◌, sym, ap, ◌∙◌}
 use mathlib.Core.Bool.{true}
 use mathlib.Core.List.{List, [], ◌∷◌, ◌++◌}

@@ -1,8 +1,8 @@
 -- A log read line by line, of which something is written as it comes: what is written so far, and what the lines left
 -- give, are what all of its lines give.
---   Underway told last s log old now left n at     `told s ls` is what is written for the lines ls from the state s on,
---                                                  `last s ls` what they leave. From s on n lines of the log are played:
---                                                  the state is `at`, and `now` is in the sink
+--   Underway told last s log old now left n at
+--       `told s ls` is what is written for the lines ls from the state s on, `last s ls` what they leave. From s on n
+--       lines of the log are played: the state is `at`, and `now` is in the sink
 -- Assumes nothing.
 use Prim.Native.Nat.{ℕ, suc, ◌+◌, ◌≤◌}
 use mathlib.Core.Path.{◌≡◌, refl, sym, ap, subst, ◌∙◌}

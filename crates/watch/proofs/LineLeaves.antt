@@ -15,7 +15,7 @@ use Rattle.record.proofs.Calls.{mark-set-by, mark-not-legal}
 use Rattle.record.proofs.HostKept.{mark-legal}
 use Rattle.clock.specs.Passing.{secondsMost}
 use Rattle.floorlog.specs.Doing.{logPlace}
-use Rattle.floorlog.specs.Told.{Drives, secondsOf}
+use Rattle.floorlog.specs.Told.{Drives}
 use Rattle.floorlog.specs.Events.{event}
 use Rattle.floorlog.proofs.Driven.{none_pass, itself-kept, did-drives}
 use Rattle.floorlog.proofs.EventsLeave.{did-settings, did-legality}

@@ -1,6 +1,6 @@
 -- One line of a log that is watched, by what the functions that play it give.
 -- Assumes nothing.
-use Prim.Native.Nat.{ℕ, ◌+◌, ◌-◌, ◌^◌, ◌≤◌, ◌<◌}
+use Prim.Native.Nat.{ℕ, ◌+◌, ◌-◌, ◌^◌, ◌<◌}
 use mathlib.Core.Path.{◌≡◌, refl, sym, ap, subst, ◌∙◌}
 use mathlib.Core.Bool.{Bool, true, not, ◌&&◌}
 use mathlib.Core.List.{List, [], ◌++◌}
@@ -11,18 +11,18 @@ use Rattle.std.specs.Prelude.{if◌then◌else◌}
 use Rattle.text.specs.Words.{ascii}
 use Rattle.text.proofs.Choices.{both_left}
 use Rattle.record.specs.declared.types.Device.{Device}
-use Rattle.clock.specs.Second.{changedWhere, marksIn}
 use Rattle.floorlog.specs.declared.line.Says.{Says}
 use Rattle.floorlog.specs.Lines.{lineSaid}
-use Rattle.floorlog.specs.Events.{event, eventOf}
+use Rattle.floorlog.specs.Events.{LogEvent, event, eventOf}
+use Rattle.floorlog.proofs.KeptText.{event_said}
 use Rattle.watch.specs.declared.marking.MarkSaid.{MarkSaid}
 use Rattle.watch.specs.declared.marking.MarkSaid.TheVariants.{Sets, NoMark}
 use Rattle.watch.specs.declared.light.Light.{Light}
-use Rattle.watch.specs.Marking.{FloorEvent, markSaid, eventBy, floorEvent, doneBy, secondsBy}
+use Rattle.watch.specs.Marking.{markSaid, eventBy, floorEvent, doneBy, secondsBy}
 use Rattle.watch.specs.Watching.{Watching, isBurningIn, gainedBy, watchedBy, watchedOn, isSound}
 use Rattle.watch.specs.States.{lightOf, IsWatched}
 use Rattle.watch.proofs.MarksSaid.{seconds-any}
-use Rattle.watch.proofs.Sound.{sound-from, sound-after, burnt-fits}
+use Rattle.watch.proofs.Sound.{sound-after, burnt-fits}
 
 module _ (l : List ℕ) {mark : MarkSaid} (m : mark ≡ markSaid l) where
   event_is : eventBy mark (event l) ≡ floorEvent l
@@ -31,12 +31,13 @@ module _ (l : List ℕ) {mark : MarkSaid} (m : mark ≡ markSaid l) where
 
   pub seconds_is : {says : Says} {n : ℕ} → says ≡ lineSaid l → n ≡ secondsBy (eventBy mark (eventOf says []))
       → n ≡ secondsBy (floorEvent l)
-  unfolding event
   seconds_is {says} said e =
       let bs = drop 2 l ++ ascii "\r" in
-      e ∙ by mark bs ∙ ap (λ (x : Says). secondsBy (eventBy mark (eventOf x bs))) said ∙ ap secondsBy event_is
+      e ∙ by mark bs ∙ ap (λ (x : Says). secondsBy (eventBy mark (eventOf x bs))) said
+      ∙ ap (λ (e : LogEvent). secondsBy (eventBy mark e)) (sym (event_said l)) ∙ ap secondsBy event_is
     where
-      by : (x : MarkSaid) (bs : List ℕ) → secondsBy (eventBy x (eventOf says [])) ≡ secondsBy (eventBy x (eventOf says bs))
+      by : (x : MarkSaid) (bs : List ℕ)
+          → secondsBy (eventBy x (eventOf says [])) ≡ secondsBy (eventBy x (eventOf says bs))
       by (Sets lamp to) bs = refl
       by NoMark bs = seconds-any says bs
 
@@ -79,11 +80,13 @@ module _ (l : List ℕ) {mark : MarkSaid} (m : mark ≡ markSaid l) where
       }
 
       pub stays_sound : isSound s ≡ true → isSound after ≡ true
-      stays_sound sound = subst (λ (x : Watching). isSound x ≡ true) (sym watched_is) (sound-after s sound (floorEvent l))
+      stays_sound sound =
+          subst (λ (x : Watching). isSound x ≡ true) (sym watched_is) (sound-after s sound (floorEvent l))
 
     -- the lamps burn no longer
     pub can_gain : isSound s ≡ true → {t : ℕ} (n : ℕ) → t ≡ s.time + n → t < 2 ^ 64 → {was : Bool} (is : Bool)
         → was ≡ isBurningIn s.device → {light : Light} → light ≡ lightOf was is t s.from → light.dark ≡ true
         → (k : ℕ) → get_or s.burnt k 0 + (t - s.from) < 2 ^ 64
     can_gain sound {t} n timed fits is before lit dark =
-        burnt-fits s sound (sym before ∙ both_left _ _ (sym (ap (λ (x : Light). x.dark) lit) ∙ dark)) t (omega arith) fits
+        burnt-fits s sound (sym before ∙ both_left _ _ (sym (ap (λ (x : Light). x.dark) lit) ∙ dark)) t
+        (omega arith) fits

@@ -8,7 +8,7 @@ use lib.ListN.{length}
 use Rattle.clock.specs.Passing.{secondsMost}
 use Rattle.watch.specs.Marking.{FloorEvent, floorEvent, secondsBy}
 use Rattle.watch.specs.Watching.{Watching, watchedOn}
-use Rattle.watch.specs.Telling.{toldOn, toldAtEnd, tellings, afterLog, secondsIn}
+use Rattle.watch.specs.Telling.{toldOn, toldAtEnd, tellings, afterLog, secondsTogether}
 use Rattle.watch.proofs.LineLeaves.{floor-seconds}
 
 module _ (s : Watching) where
@@ -29,16 +29,16 @@ module _ (s : Watching) where
     unfolding afterLog
     after-more = refl
 
-pub seconds-none : secondsIn [] ≡ 0
-unfolding secondsIn
+pub seconds-none : secondsTogether [] ≡ 0
+unfolding secondsTogether
 seconds-none = refl
 
-pub seconds-more : (e : FloorEvent) (es : List FloorEvent) → secondsIn (e ∷ es) ≡ secondsBy e + secondsIn es
-unfolding secondsIn
+pub seconds-more : (e : FloorEvent) (es : List FloorEvent) → secondsTogether (e ∷ es) ≡ secondsBy e + secondsTogether es
+unfolding secondsTogether
 seconds-more e es = refl
 
 -- a log of so many lines lets no more seconds pass than each could
-pub seconds-most : (ls : List (List ℕ)) → secondsIn (map floorEvent ls) ≤ length ls * secondsMost
-unfolding secondsIn
+pub seconds-most : (ls : List (List ℕ)) → secondsTogether (map floorEvent ls) ≤ length ls * secondsMost
+unfolding secondsTogether
 seconds-most [] = omega arith
 seconds-most (l ∷ ls) = omega (arith, floor-seconds l, seconds-most ls)

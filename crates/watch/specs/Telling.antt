@@ -6,7 +6,7 @@
 --   tellings s es         what is told with the events es, from the state s on, and at their end
 --   afterLog s es         the state that they leave
 --   burntAfter s es       the seconds that each lamp burnt, when the log has ended
---   secondsIn es          the seconds that they let pass
+--   secondsTogether es          the seconds that they let pass
 --   IsUncounted log       a log lets more seconds pass than 64 bits count
 -- Assumes nothing.
 use Rattle.std.specs.Prelude.{ℕ, ◌+◌, ◌^◌, ◌≤◌, Bool, ◌&&◌, if◌then◌else◌, List, [], ◌∷◌, ◌++◌, map}
@@ -43,9 +43,9 @@ afterLog s (e ∷ es) = afterLog (watchedOn s e) es
 abbrev pub burntAfter : Watching → List FloorEvent → List ℕ
 burntAfter s es = burntBy (afterLog s es)
 
-unfoldable pub secondsIn : List FloorEvent → ℕ
-secondsIn [] = 0
-secondsIn (e ∷ es) = secondsBy e + secondsIn es
+unfoldable pub secondsTogether : List FloorEvent → ℕ
+secondsTogether [] = 0
+secondsTogether (e ∷ es) = secondsBy e + secondsTogether es
 
 abbrev pub IsUncounted : List ℕ → Type 0
-IsUncounted log = 2 ^ 64 ≤ secondsIn (floorEvents log)
+IsUncounted log = 2 ^ 64 ≤ secondsTogether (floorEvents log)

@@ -52,8 +52,8 @@ pub fn gained_if(
     burnt
 }
 
-// What a line does to the light: whether the lamps burn no longer after it, the second at which they began to burn last,
-// and whether stretches ended that are not empty.
+// What a line does to the light: whether the lamps burn no longer after it, the second at which they began to burn
+// last, and whether stretches ended that are not empty.
 #[derive(Clone, Copy)]
 pub struct Light {
     pub dark: bool,

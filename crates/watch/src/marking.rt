@@ -71,13 +71,7 @@ fn call(t: &mut Tested, says: Says, line: &mut [u8; KEPT_ROOM], held: usize)
 }
 
 // The line, which says so, is played.
-pub fn end_line(
-    t: &mut Tested,
-    mark: MarkSaid,
-    says: Says,
-    line: &mut [u8; KEPT_ROOM],
-    held: usize,
-)
+pub fn end_line(t: &mut Tested, mark: MarkSaid, says: Says, line: &mut [u8; KEPT_ROOM], held: usize)
     requires says { says ≡ lineSaid (take held line.old) }
     requires inside { held ≤ keptMost }
     ensures { t.new.device ≡ doneBy t.old.device (eventBy mark (event (take held line.old))) }

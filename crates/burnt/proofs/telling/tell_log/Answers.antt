@@ -1,5 +1,4 @@
 -- what stands before the first stretch, and then what is told of the log
-use Rattle.std.specs.Io.KnownBytes.{Appends}
 use Rattle.textio.proofs.Fronts.{front_then, front_more}
 use Rattle.textio.proofs.Underway.{each}
 use Rattle.burnt.proofs.LinesTold.{told_where_short, of_any}

@@ -22,7 +22,8 @@ gained_if-burnt-requires c =
     let timed : c.in-Some.time ≡ c.args.self.now.time + c.seconds_of-seconds.result = omega arith in
     λ dark.
     can_gain l c.mark_says-mark.ensures (stateOf c.args.self.now) c.end_line.ensures c.args.self.now.sound
-    c.seconds_of-seconds.result timed (omega arith) c.is_lit-is.result c.is_lit-was.ensures c.light_after-next.ensures dark
+    c.seconds_of-seconds.result timed (omega arith) c.is_lit-is.result c.is_lit-was.ensures
+    c.light_after-next.ensures dark
 
 pub invariant_of-self : goal.invariant_of-self
 invariant_of-self c =

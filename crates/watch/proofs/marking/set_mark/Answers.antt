@@ -1,7 +1,6 @@
 -- A record stays legal, or not legal.
-use Rattle.std.proofs.Common.{ℕ, ap, sym, ◌∙◌}
+use Rattle.std.proofs.Common.{ap, sym, ◌∙◌}
 use Rattle.record.specs.Legal.{isLegal}
-use Rattle.record.specs.HostCalls.{markSet}
 use Rattle.watch.specs.Marking.{marked, doneBy}
 use Rattle.watch.proofs.LineLeaves.{done-legality}
 use Rattle.watch.proofs.marking.set_mark.Goals as goal
@@ -11,7 +10,8 @@ unfolding doneBy
 invariant_of-t c =
     let done = c.set_mark-told.ensures.device in
     record {
-      tested = c.args.t.now.tested ∙ sym (ap isLegal done ∙ done-legality c.args.t.now.device (marked c.args.lamp c.args.mark));
+      tested = c.args.t.now.tested
+          ∙ sym (ap isLegal done ∙ done-legality c.args.t.now.device (marked c.args.lamp c.args.mark));
     }
 
 pub returns : goal.returns
