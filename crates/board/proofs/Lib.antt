@@ -5,3 +5,4 @@ pub mod WhichSetting
 pub mod Zipping
 mod FitsADay
 pub mod OneOfLists
+pub mod Gives

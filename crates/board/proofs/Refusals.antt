@@ -17,8 +17,8 @@ use Rattle.pjlink.specs.Said.{textIs, classIs, freezeIs, nothing}
 use Rattle.pjlink.specs.Reading.{readParameter}
 use Rattle.controller.specs.Writing.{WrittenAs, nothingWritten, commandRoom, isWritable}
 use Rattle.controller.specs.Reading.{outcomeNumber, saying, readReply}
-use Rattle.controller.specs.declared.reading.Outcome.{Outcome}
-use Rattle.controller.specs.declared.reading.Outcome.TheVariants.{Means, Erra, NotALine, OtherCommand, NotAllowed}
+use Rattle.controller.specs.Reading.{Outcome}
+use Rattle.controller.specs.Reading.{Means, Erra, NotALine, OtherCommand, NotAllowed}
 use Rattle.controller.proofs.Cases.{reply-by}
 use Rattle.controller.proofs.Refusals.{refusal-writes-nothing, written-number}
 use Rattle.codes.specs.Commands.{commandOf}

@@ -6,23 +6,23 @@ ghost use Rattle.record.specs.Legal.{isLegal};
 ghost use Rattle.record.specs.Wanted.{wantedOf, wantedOf2, namesIn};
 ghost use Rattle.record.specs.SetUp.{setUp};
 ghost use Rattle.record.specs.HostCalls.{faultSet, errorsSet, markSet};
-ghost use Rattle.setup.specs.Told.{set_up_told};
+ghost use Rattle.record.specs.Given.{given_by, set_up_given};
 ghost use Rattle.clock.specs.Passing.{passed};
 ghost use Rattle.device.specs.Calls.{received, openedBy, placeTaken, closedBy};
-ghost use Rattle.board.specs.Results.{received_of, opened_of, changed_of};
+ghost use Rattle.board.specs.Results.{received_of, opened_of, changed_of, closing_given};
 
 use crate::projector;
-use crate::results::{Opened, Opening, Received, Receiving};
+use crate::results::{Changed, Opened, Opening, Received, Receiving};
 use record::fresh;
-use record::types::{Changed, Device};
-use setup::error::SetUpError;
+use record::set_up_error::SetUpError;
+use record::types::Device;
 use setup::wanted::{Class, Wanted};
 
 // What set-up gave: the blank record where it is refused. Not put into its callers: its copies of the record would lie
 // on the stack while set-up runs. So `told` of `forms`.
 #[inline(never)]
 fn told(made: Result<Device, SetUpError>) -> Changed
-    ensures { result ≡ set_up_told made }
+    ensures { result ≡ changed_of (set_up_given made) }
 {
     match made {
         Ok(device) => Changed { number: 0, device },
@@ -45,8 +45,8 @@ pub extern "C" fn pj_set_up<'a>(
     warm: u32,
     cool: u32,
 ) -> Changed
-    ensures { result ≡ setUp (wantedOf name.now maker.now model.now other.now
-        password.now inputs.now lamps.now warm cool) }
+    ensures { result ≡ changed_of (set_up_given (setUp (wantedOf name.now maker.now model.now other.now
+        password.now inputs.now lamps.now warm cool))) }
 {
     let class = Class::One;
     told(setup::set_up(&Wanted {
@@ -79,9 +79,9 @@ pub extern "C" fn pj_set_up_2<'a>(
     names: &'a [u8],
     lengths: &'a [usize],
 ) -> Changed
-    ensures { result ≡ setUp (wantedOf2 name.now maker.now model.now other.now
+    ensures { result ≡ changed_of (set_up_given (setUp (wantedOf2 name.now maker.now model.now other.now
         password.now inputs.now lamps.now warm cool serial.now
-        version.now (namesIn lengths.now names.now)) }
+        version.now (namesIn lengths.now names.now)))) }
 {
     let class = Class::Two {
         serial,
@@ -133,7 +133,7 @@ pub extern "C" fn pj_open(d: Device, random: u32, out: &mut [u8]) -> Opened
 
 #[unsafe(no_mangle)]
 pub extern "C" fn pj_close(d: Device, place: usize) -> Changed
-    ensures { result ≡ changed_of (closedBy d place) }
+    ensures { result ≡ changed_of (closing_given (closedBy d place)) }
 {
     let mut device = d;
     let number = projector::pj_close_in_place(&mut device, place);
@@ -162,7 +162,7 @@ pub extern "C" fn pj_receive(d: Device, place: usize, bytes: &[u8], out: &mut [u
 
 #[unsafe(no_mangle)]
 pub extern "C" fn pj_set_fault(d: Device, mark: bool) -> Changed
-    ensures { result ≡ faultSet d mark }
+    ensures { result ≡ changed_of (given_by d (faultSet d mark)) }
 {
     let mut device = d;
     let number = projector::pj_set_fault_in_place(&mut device, mark);
@@ -171,7 +171,7 @@ pub extern "C" fn pj_set_fault(d: Device, mark: bool) -> Changed
 
 #[unsafe(no_mangle)]
 pub extern "C" fn pj_set_errors(d: Device, digits: &[u8]) -> Changed
-    ensures { result ≡ errorsSet d digits.now }
+    ensures { result ≡ changed_of (given_by d (errorsSet d digits.now)) }
 {
     let mut device = d;
     let number = projector::pj_set_errors_in_place(&mut device, digits);
@@ -180,7 +180,7 @@ pub extern "C" fn pj_set_errors(d: Device, digits: &[u8]) -> Changed
 
 #[unsafe(no_mangle)]
 pub extern "C" fn pj_set_mark(d: Device, lamp: usize, enabled: bool) -> Changed
-    ensures { result ≡ markSet d lamp enabled }
+    ensures { result ≡ changed_of (given_by d (markSet d lamp enabled)) }
 {
     let mut device = d;
     let number = projector::pj_set_mark_in_place(&mut device, lamp, enabled);
@@ -189,7 +189,7 @@ pub extern "C" fn pj_set_mark(d: Device, lamp: usize, enabled: bool) -> Changed
 
 #[unsafe(no_mangle)]
 pub extern "C" fn pj_pass(d: Device, seconds: u32) -> Changed
-    ensures { result ≡ passed d seconds }
+    ensures { result ≡ changed_of (given_by d (passed d seconds)) }
 {
     let mut device = d;
     let number = projector::pj_pass_in_place(&mut device, seconds);

@@ -4,11 +4,13 @@ ghost use Rattle.text.specs.Words.{over};
 ghost use Rattle.form.specs.Form.{storedBy, toldStored};
 ghost use Rattle.stored.specs.Loading.{loaded};
 ghost use Rattle.stored.specs.Told.{loading_told};
+ghost use Rattle.board.specs.Results.{changed_of};
 
+use crate::results::Changed;
 use form::storing;
 use form::storing::FormWritten;
 use record::fresh;
-use record::types::{Changed, Device};
+use record::types::Device;
 use stored::error::LoadError;
 use stored::loading;
 
@@ -50,7 +52,7 @@ fn fill(device: &mut Device, made: Result<Device, LoadError>) -> u32
 // The same by value.
 #[inline(never)]
 fn told(made: Result<Device, LoadError>) -> Changed
-    ensures { result ≡ loading_told made }
+    ensures { result ≡ changed_of (loading_told made) }
 {
     match made {
         Ok(device) => Changed { number: 0, device },
@@ -73,7 +75,7 @@ pub extern "C" fn pj_load_in_place(device: &mut Device, bytes: &[u8]) -> u32
 /// The same, by value.
 #[unsafe(no_mangle)]
 pub extern "C" fn pj_load(bytes: &[u8]) -> Changed
-    ensures { result ≡ loaded bytes.now }
+    ensures { result ≡ changed_of (loaded bytes.now) }
 {
     told(loading::load(bytes))
 }

@@ -6,7 +6,10 @@ ghost use Rattle.record.specs.Legal.{isLegal};
 ghost use Rattle.record.specs.Wanted.{wantedOf, wantedOf2, namesIn};
 ghost use Rattle.record.specs.SetUp.{setUp};
 ghost use Rattle.record.specs.HostCalls.{faultSet, errorsSet, markSet};
-ghost use Rattle.setup.specs.Told.{set_up_told};
+ghost use Rattle.record.specs.Record.{blank};
+ghost use Rattle.record.specs.Refusals.{outcome_number};
+ghost use Rattle.record.specs.SetUpErrors.{set_up_number};
+ghost use Rattle.record.specs.Given.{left_by};
 ghost use Rattle.clock.specs.Passing.{passed};
 ghost use Rattle.device.specs.Calls.{received, openedBy, placeTaken, closedBy};
 ghost use Rattle.device.specs.Outcomes.{told};
@@ -15,15 +18,15 @@ ghost use Rattle.board.specs.Results.{receiving_of, opening_of};
 use crate::results::{Opening, Receiving};
 use clock::pass;
 use device::calls;
+use record::set_up_error::SetUpError;
 use record::types::Device;
 use record::{fresh, refusal};
-use setup::error::SetUpError;
 use setup::wanted::{Class, Wanted};
 
 // What set-up gave, into the host's record: the blank one where it is refused.
 fn fill(device: &mut Device, made: Result<Device, SetUpError>) -> u32
-    ensures number { result ≡ (set_up_told made).number }
-    ensures device { device.new ≡ (set_up_told made).device }
+    ensures number { result ≡ set_up_number made }
+    ensures device { device.new ≡ left_by blank made }
 {
     match made {
         Ok(made) => {
@@ -51,10 +54,10 @@ pub extern "C" fn pj_set_up_in_place<'a>(
     warm: u32,
     cool: u32,
 ) -> u32
-    ensures number { result ≡ (setUp (wantedOf name.now maker.now model.now other.now
-        password.now inputs.now lamps.now warm cool)).number }
-    ensures device { device.new ≡ (setUp (wantedOf name.now maker.now model.now other.now
-        password.now inputs.now lamps.now warm cool)).device }
+    ensures number { result ≡ set_up_number (setUp (wantedOf name.now maker.now model.now other.now
+        password.now inputs.now lamps.now warm cool)) }
+    ensures device { device.new ≡ left_by blank (setUp (wantedOf name.now maker.now model.now other.now
+        password.now inputs.now lamps.now warm cool)) }
 {
     let class = Class::One;
     let made = setup::set_up(&Wanted {
@@ -90,12 +93,12 @@ pub extern "C" fn pj_set_up_2_in_place<'a>(
     names: &'a [u8],
     lengths: &'a [usize],
 ) -> u32
-    ensures number { result ≡ (setUp (wantedOf2 name.now maker.now model.now other.now
+    ensures number { result ≡ set_up_number (setUp (wantedOf2 name.now maker.now model.now other.now
         password.now inputs.now lamps.now warm cool serial.now
-        version.now (namesIn lengths.now names.now))).number }
-    ensures device { device.new ≡ (setUp (wantedOf2 name.now maker.now model.now other.now
+        version.now (namesIn lengths.now names.now))) }
+    ensures device { device.new ≡ left_by blank (setUp (wantedOf2 name.now maker.now model.now other.now
         password.now inputs.now lamps.now warm cool serial.now
-        version.now (namesIn lengths.now names.now))).device }
+        version.now (namesIn lengths.now names.now))) }
 {
     let class = Class::Two {
         serial,
@@ -166,36 +169,40 @@ pub extern "C" fn pj_receive_in_place(
 
 /// The fault mark: 1.
 #[unsafe(no_mangle)]
+#[tactic(auto, using(crate::proofs::Gives::number_as, crate::proofs::Gives::device_as))]
 pub extern "C" fn pj_set_fault_in_place(device: &mut Device, mark: bool) -> u32
-    ensures number { result ≡ (faultSet device.old mark).number }
-    ensures device { device.new ≡ (faultSet device.old mark).device }
+    ensures number { result ≡ outcome_number (faultSet device.old mark) }
+    ensures device { device.new ≡ left_by device.old (faultSet device.old mark) }
 {
     refusal::number_of(device.set_fault(mark))
 }
 
 /// The six error digits: 1 and 3 in that order.
 #[unsafe(no_mangle)]
+#[tactic(auto, using(crate::proofs::Gives::number_as, crate::proofs::Gives::device_as))]
 pub extern "C" fn pj_set_errors_in_place(device: &mut Device, digits: &[u8]) -> u32
-    ensures number { result ≡ (errorsSet device.old digits.now).number }
-    ensures device { device.new ≡ (errorsSet device.old digits.now).device }
+    ensures number { result ≡ outcome_number (errorsSet device.old digits.now) }
+    ensures device { device.new ≡ left_by device.old (errorsSet device.old digits.now) }
 {
     refusal::number_of(device.set_errors(digits))
 }
 
 /// A lamp's enabled mark: 1, 3 and 7 in that order.
 #[unsafe(no_mangle)]
+#[tactic(auto, using(crate::proofs::Gives::number_as, crate::proofs::Gives::device_as))]
 pub extern "C" fn pj_set_mark_in_place(device: &mut Device, lamp: usize, enabled: bool) -> u32
-    ensures number { result ≡ (markSet device.old lamp enabled).number }
-    ensures device { device.new ≡ (markSet device.old lamp enabled).device }
+    ensures number { result ≡ outcome_number (markSet device.old lamp enabled) }
+    ensures device { device.new ≡ left_by device.old (markSet device.old lamp enabled) }
 {
     refusal::number_of(device.set_mark(lamp, enabled))
 }
 
 /// So many seconds pass: 1.
 #[unsafe(no_mangle)]
+#[tactic(auto, using(crate::proofs::Gives::number_as, crate::proofs::Gives::device_as))]
 pub extern "C" fn pj_pass_in_place(device: &mut Device, seconds: u32) -> u32
-    ensures number { result ≡ (passed device.old seconds).number }
-    ensures device { device.new ≡ (passed device.old seconds).device }
+    ensures number { result ≡ outcome_number (passed device.old seconds) }
+    ensures device { device.new ≡ left_by device.old (passed device.old seconds) }
 {
     refusal::number_of(pass::pass(device, seconds))
 }

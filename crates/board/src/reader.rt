@@ -1,4 +1,4 @@
-// The controller's readers.
+//! The controller's readers.
 ghost use Rattle.std.specs.Prelude.{◌≡◌};
 ghost use Rattle.controller.specs.Greetings.{readGreeting};
 ghost use Rattle.codes.specs.Commands.{commandOf};

@@ -63,6 +63,14 @@ pub struct PanelSent {
     pub panel: Panel,
 }
 
+/// What set-up, loading, closing, passing time and the host's three calls give by value.
+#[repr(C)]
+#[derive(Clone, Copy)]
+pub struct Changed {
+    pub number: u32,
+    pub device: Device,
+}
+
 impl Receiving {
     pub fn of(outcome: Result<calls::Received, Refusal>) -> Receiving
         ensures { result ≡ receiving_of (receiving_told outcome) }

@@ -38,7 +38,8 @@ ghost use Rattle.codes.specs.declared.readings.FlatGreeting.{FlatGreeting};
 ghost use Rattle.board.specs.declared.days.FlatVerdict.{FlatVerdict};
 ghost use Rattle.board.specs.declared.days.FlatPlan.{FlatPlan};
 ghost use Rattle.record.specs.Wanted.{Wanted};
-ghost use Rattle.record.specs.OutOfRange.{refusedSetting};
+ghost use Rattle.record.specs.SetUp.{setUp};
+ghost use Rattle.record.specs.SetUpErrors.{setting_told};
 
 /// For every legal device, at every place between lines, and every code of a command of a class no higher than the
 /// device's, what is read of the reply to what was written is what the projector meant; so of the greeting.
@@ -103,5 +104,5 @@ pub fn one_result()
     ensures connection_lost { (p : Panel) (i : ℕ) (r s : PanelChanged)
         → r ≡ panel_changed_of (lostAt p i) → s ≡ panel_changed_of (lostAt p i) → r ≡ s }
     ensures setting { (w : Wanted) (r s : ℕ)
-        → r ≡ settingNumber (refusedSetting w) → s ≡ settingNumber (refusedSetting w) → r ≡ s }
+        → r ≡ settingNumber (setting_told (setUp w)) → s ≡ settingNumber (setting_told (setUp w)) → r ≡ s }
 {}

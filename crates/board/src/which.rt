@@ -1,11 +1,11 @@
 // Which setting set-up refuses, as a number, since an exported call returns no enum.
 ghost use Rattle.std.specs.Prelude.{◌≡◌};
 ghost use Rattle.record.specs.Wanted.{wantedOf, wantedOf2, namesIn};
-ghost use Rattle.record.specs.OutOfRange.{refusedSetting};
-ghost use Rattle.setup.specs.Told.{setting_told};
+ghost use Rattle.record.specs.SetUp.{setUp};
+ghost use Rattle.record.specs.SetUpErrors.{setting_told};
 ghost use Rattle.board.specs.Which.{settingNumber};
 
-use setup::error::SetUpError;
+use record::set_up_error::SetUpError;
 use setup::wanted::{Class, Wanted};
 
 // The setting for which it refuses, or 0.
@@ -21,6 +21,7 @@ fn number_of(checked: Result<(), SetUpError>) -> u32
 /// Of a set-up of Class 1: 0 where it gives 0; the place, 1 to 9, of the first setting that is out of its range where
 /// it gives 3; the password's where it gives 8 (RULES, The legal record).
 #[unsafe(no_mangle)]
+#[tactic(auto, using(crate::proofs::WhichSetting::checked))]
 pub extern "C" fn pj_which_setting<'a>(
     name: &'a [u8],
     maker: &'a [u8],
@@ -32,8 +33,8 @@ pub extern "C" fn pj_which_setting<'a>(
     warm: u32,
     cool: u32,
 ) -> u32
-    ensures { result ≡ settingNumber (refusedSetting (wantedOf name.now maker.now model.now
-        other.now password.now inputs.now lamps.now warm cool)) }
+    ensures { result ≡ settingNumber (setting_told (setUp (wantedOf name.now maker.now model.now
+        other.now password.now inputs.now lamps.now warm cool))) }
 {
     let class = Class::One;
     let wanted = Wanted {
@@ -53,6 +54,7 @@ pub extern "C" fn pj_which_setting<'a>(
 
 /// The same of a set-up of Class 2: 0, or a place of 1 to 12.
 #[unsafe(no_mangle)]
+#[tactic(auto, using(crate::proofs::WhichSetting::checked))]
 pub extern "C" fn pj_which_setting_2<'a>(
     name: &'a [u8],
     maker: &'a [u8],
@@ -68,9 +70,9 @@ pub extern "C" fn pj_which_setting_2<'a>(
     names: &'a [u8],
     lengths: &'a [usize],
 ) -> u32
-    ensures { result ≡ settingNumber (refusedSetting (wantedOf2 name.now maker.now model.now
+    ensures { result ≡ settingNumber (setting_told (setUp (wantedOf2 name.now maker.now model.now
         other.now password.now inputs.now lamps.now warm cool serial.now
-        version.now (namesIn lengths.now names.now))) }
+        version.now (namesIn lengths.now names.now)))) }
 {
     let class = Class::Two {
         serial,

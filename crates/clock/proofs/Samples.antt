@@ -18,7 +18,7 @@ use Rattle.record.specs.declared.types.Settings.{Settings}
 use Rattle.record.specs.declared.types.Own.{Own}
 use Rattle.record.specs.declared.types.Connection.{Connection}
 use Rattle.record.specs.declared.types.Device.{Device}
-use Rattle.record.specs.declared.types.Changed.{Changed}
+use Rattle.record.specs.Given.{Given, given_by}
 use Rattle.clock.specs.Second.{times, oneMore, ownSecond, connectionSecond}
 use Rattle.clock.specs.Passing.{secondsMost, passed}
 use Rattle.clock.specs.Computing.{computing}
@@ -56,18 +56,18 @@ fresh = started (wantedOf [] [] [] [] [] (ascii "11") (0 ∷ []) 20 60)
 abbrev warmed : Device
 warmed = withOwn fresh (withPower fresh.own warming 20)
 
-abbrev number-power-left-lamp : Changed → List ℕ
+abbrev number-power-left-lamp : Given Device → List ℕ
 number-power-left-lamp r =
     r.number ∷ r.device.own.power ∷ r.device.own.left ∷ get_or r.device.own.lamps 0 0 ∷ []
 
-pub passed-19 : number-power-left-lamp (passed warmed 19) ≡ 0 ∷ warming ∷ 1 ∷ 19 ∷ []
+pub passed-19 : number-power-left-lamp (given_by warmed (passed warmed 19)) ≡ 0 ∷ warming ∷ 1 ∷ 19 ∷ []
 unfolding computing computing-record
 passed-19 = refl
 
-pub passed-20 : number-power-left-lamp (passed warmed 20) ≡ 0 ∷ on ∷ 0 ∷ 20 ∷ []
+pub passed-20 : number-power-left-lamp (given_by warmed (passed warmed 20)) ≡ 0 ∷ on ∷ 0 ∷ 20 ∷ []
 unfolding computing computing-record
 passed-20 = refl
 
-pub passed-3600 : number-power-left-lamp (passed warmed 3600) ≡ 0 ∷ on ∷ 0 ∷ 3600 ∷ []
+pub passed-3600 : number-power-left-lamp (given_by warmed (passed warmed 3600)) ≡ 0 ∷ on ∷ 0 ∷ 3600 ∷ []
 unfolding computing computing-record
 passed-3600 = refl

@@ -31,6 +31,7 @@ use Rattle.record.proofs.FactsTold.{connection_is, legal_is}
 use Rattle.std.proofs.lemmas.List.Elements.{All-map}
 use Rattle.clock.specs.Second.{times, changedWhere, oneMore, lampsSecond}
 use Rattle.clock.specs.Second.{marksIn, ownSecond, connectionSecond, second}
+use Rattle.record.specs.Given.{left_by}
 use Rattle.clock.specs.Passing.{passed}
 use Rattle.clock.proofs.Repeated.{times-keeps}
 use Rattle.clock.proofs.ChangedWhere.{where-length, where-at, where-unmarked}
@@ -108,9 +109,9 @@ pub time-legal : (n : ℕ) (d : Device) → isLegal d ≡ true → isLegal (time
 time-legal n d h = (legal_is _).1 (times-keeps IsLegal second second-legal n d ((legal_is d).0 h))
 
 -- and the call keeps it legal, or not legal
-pub passed-legality : (d : Device) (n : ℕ) → isLegal (passed d n).device ≡ isLegal d
+pub passed-legality : (d : Device) (n : ℕ) → isLegal (left_by d (passed d n)) ≡ isLegal d
 passed-legality d n =
     passed-by (λ r. isLegal r.device ≡ isLegal d) d n (λ h. refl) (λ h. time-legal n d h ∙ sym h)
 
-pub passed-legal : (d : Device) (n : ℕ) → isLegal d ≡ true → isLegal (passed d n).device ≡ true
+pub passed-legal : (d : Device) (n : ℕ) → isLegal d ≡ true → isLegal (left_by d (passed d n)) ≡ true
 passed-legal d n h = passed-legality d n ∙ h

@@ -11,6 +11,7 @@ use Rattle.record.specs.declared.types.Settings.{Settings}
 use Rattle.record.specs.declared.types.Own.{Own}
 use Rattle.record.specs.declared.types.Device.{Device}
 use Rattle.clock.specs.Second.{times, ownSecond, second}
+use Rattle.record.specs.Given.{left_by}
 use Rattle.clock.specs.Passing.{passed}
 use Rattle.clock.proofs.ConnectionsAge.{untimed-stays}
 use Rattle.clock.proofs.InOneGo.{parts-pass, place-passes}
@@ -44,7 +45,7 @@ time-leaves n d = record {
   connection = λ p untimed. place-passes n d p ∙ untimed-stays n (connectionAt d p) untimed;
 }
 
-pub passed-leaves : (d : Device) (n : ℕ) → Untouched d (passed d n).device
+pub passed-leaves : (d : Device) (n : ℕ) → Untouched d (left_by d (passed d n))
 passed-leaves d n =
     passed-by (λ r. Untouched d r.device) d n
     (λ h. record { settings = refl; own = refl; connection = λ p e. refl })

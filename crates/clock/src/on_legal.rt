@@ -1,6 +1,6 @@
 // What `pass` does with a record that is legal, by the same promise. A caller that has tested its record once and keeps
 // it legal calls this, as `floorlog` does; a host calls `pass`, which asks for nothing.
-ghost use Rattle.std.specs.Prelude.{◌≡◌, true};
+ghost use Rattle.std.specs.Prelude.{◌≡◌, true, Ok};
 ghost use Rattle.record.specs.Legal.{isLegal};
 ghost use Rattle.clock.specs.Passing.{passed};
 
@@ -10,8 +10,7 @@ use record::types::Device;
 /// So many seconds pass. No legal record is refused.
 pub fn pass(device: &mut Device, seconds: u32)
     requires { isLegal device.old ≡ true }
-    ensures number { 0 ≡ (passed device.old seconds).number }
-    ensures device { device.new ≡ (passed device.old seconds).device }
+    ensures { Ok device.new ≡ passed device.old seconds }
 {
     own::pass(&device.settings, &mut device.own, seconds);
     connections::age(&mut device.connections, seconds);

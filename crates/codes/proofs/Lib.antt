@@ -1,3 +1,4 @@
 pub mod Flattening
 pub mod CommandsCoded
 pub mod CodesBack
+pub mod Filling

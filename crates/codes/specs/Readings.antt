@@ -9,17 +9,16 @@ use Rattle.text.specs.InTurn.{eachInTurn}
 use Rattle.words.specs.Inputs.{inputText}
 use Rattle.words.specs.declared.input.Input.{Input}
 use Rattle.pjlink.specs.Said.{Said, okay, refused, powerIs, chosenIs, mutesAre, errorsAre, lampsAre, inputsAre}
-use Rattle.pjlink.specs.Said.{textIs, classIs, freezeIs, nothing}
-use Rattle.pjlink.specs.Carried.{textCarried}
-use Rattle.pjlink.specs.declared.answer.Power.{Power}
-use Rattle.pjlink.specs.declared.answer.Power.TheVariants.{Off, On, Cooling, WarmUp}
-use Rattle.pjlink.specs.declared.answer.LampHours.{LampHours}
+use Rattle.pjlink.specs.Said.{textIs, classIs, freezeIs, nothing, parameterMost}
+use Rattle.words.specs.declared.power.Power.{Power}
+use Rattle.words.specs.declared.power.Power.TheVariants.{Off, On, Cooling, WarmUp}
+use Rattle.words.specs.declared.lamp.LampHours.{LampHours}
 use Rattle.controller.specs.Greetings.{greetingNumber}
 use Rattle.controller.specs.Reading.{ReadAs, outcomeNumber}
 use Rattle.controller.specs.declared.greeting.Greeting.{Greeting}
 use Rattle.controller.specs.declared.greeting.Greeting.TheVariants.{Open, Secured, Refused, NotAGreeting}
-use Rattle.controller.specs.declared.reading.Outcome.{Outcome}
-use Rattle.controller.specs.declared.reading.Outcome.TheVariants.{Means, Erra, NotALine, OtherCommand, NotAllowed}
+use Rattle.controller.specs.Reading.{Outcome}
+use Rattle.controller.specs.Reading.{Means, Erra, NotALine, OtherCommand, NotAllowed}
 use Rattle.codes.specs.Commands.{bit, sourceNumber}
 use Rattle.codes.specs.declared.lists.FlatLamps.{FlatLamps}
 use Rattle.codes.specs.declared.readings.FlatGreeting.{FlatGreeting}
@@ -54,7 +53,7 @@ abbrev pub noCharacters : List ℕ
 noCharacters = filledTo 64 0 []
 
 abbrev pub noBytes : List ℕ
-noBytes = filledTo textCarried 0 []
+noBytes = filledTo parameterMost 0 []
 
 abbrev pub flatOf : (number kind first second count : ℕ) (hours : List ℕ) (lit : List Bool) (inputs text : List ℕ)
     → FlatReading
@@ -77,7 +76,7 @@ abbrev pub plain : (kind first second : ℕ) → FlatReading
 plain kind first second = flatOf 0 kind first second 0 noHours noneLit noCharacters noBytes
 
 abbrev pub withText : ℕ → List ℕ → FlatReading
-withText kind s = flatOf 0 kind 0 0 (length s) noHours noneLit noCharacters (filledTo textCarried 0 s)
+withText kind s = flatOf 0 kind 0 0 (length s) noHours noneLit noCharacters (filledTo parameterMost 0 s)
 
 abbrev pub hoursOf : LampHours → ℕ
 hoursOf l = l.hours

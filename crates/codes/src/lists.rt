@@ -1,11 +1,12 @@
-// Texts, lamps and inputs as a reading has them: as many as are counted, at the start of a cleared room. A count past
-// the array's end counts the whole array.
-ghost use Rattle.std.specs.Prelude.{◌≡◌, ◌≤◌, min, length, take};
-ghost use Rattle.pjlink.specs.Carried.{textCarried, lampsCarried, inputsCarried};
+//! Texts, lamps and inputs as a reading has them: counted, at the start of a cleared room.
+ghost use Rattle.std.specs.Prelude.{◌≡◌, ◌≤◌, length};
+ghost use Rattle.pjlink.specs.Said.{parameterMost};
+ghost use Rattle.pjlink.specs.Carried.{lampsCarried, inputsCarried};
 ghost use Rattle.codes.specs.Readings.{withText, flatLamps, withLamps, withInputs};
 
-use crate::readings::{CHARACTERS, FlatReading};
-use pjlink::answer::{INPUTS_MOST, LAMPS_MOST, LampHours, TEXT_MOST};
+use crate::readings::{CHARACTERS, FlatReading, TEXT_MOST};
+use pjlink::answer::LAMPS_MOST;
+use words::lamp::LampHours;
 use words::input;
 use words::input::Input;
 
@@ -18,19 +19,19 @@ pub struct FlatLamps {
 }
 
 impl FlatLamps {
-    /// The first `count` of the lamps.
-    pub fn of(lamps: &[LampHours; LAMPS_MOST], count: usize) -> FlatLamps
-        ensures { result ≡ flatLamps (take (min count lampsCarried) lamps.now) }
+    /// At most eight lamps.
+    pub fn of(lamps: &[LampHours]) -> FlatLamps
+        requires { length lamps.now ≤ lampsCarried }
+        ensures { result ≡ flatLamps lamps.now }
     {
         let mut hours = [0u32; LAMPS_MOST];
         let mut lit = [false; LAMPS_MOST];
-        let most = count.min(LAMPS_MOST);
-        for k in 0..most {
+        for k in 0..lamps.len() {
             hours[k] = lamps[k].hours;
             lit[k] = lamps[k].lit;
         }
         FlatLamps {
-            count: most,
+            count: lamps.len(),
             hours,
             lit,
         }
@@ -40,7 +41,7 @@ impl FlatLamps {
 impl FlatReading {
     /// Of a kind that says a text.
     pub(crate) fn with_text(kind: u8, s: &[u8]) -> FlatReading
-        requires { length s.now ≤ textCarried }
+        requires { length s.now ≤ parameterMost }
         ensures { result ≡ withText kind s.now }
     {
         let mut text = [0u8; TEXT_MOST];
@@ -51,11 +52,12 @@ impl FlatReading {
         flat
     }
 
-    /// Of the first `count` of the lamps.
-    pub(crate) fn with_lamps(lamps: &[LampHours; LAMPS_MOST], count: usize) -> FlatReading
-        ensures { result ≡ withLamps (take (min count lampsCarried) lamps.now) }
+    /// Of at most eight lamps.
+    pub(crate) fn with_lamps(lamps: &[LampHours]) -> FlatReading
+        requires { length lamps.now ≤ lampsCarried }
+        ensures { result ≡ withLamps lamps.now }
     {
-        let FlatLamps { count, hours, lit } = FlatLamps::of(lamps, count);
+        let FlatLamps { count, hours, lit } = FlatLamps::of(lamps);
         let mut flat = FlatReading::plain(7, 0, 0);
         flat.count = count;
         flat.hours = hours;
@@ -63,19 +65,19 @@ impl FlatReading {
         flat
     }
 
-    /// Of the first `count` of the inputs, two characters each.
-    pub(crate) fn with_inputs(inputs: &[Input; INPUTS_MOST], count: usize) -> FlatReading
-        ensures { result ≡ withInputs (take (min count inputsCarried) inputs.now) }
+    /// Of at most 32 inputs, two characters each.
+    pub(crate) fn with_inputs(inputs: &[Input]) -> FlatReading
+        requires { length inputs.now ≤ inputsCarried }
+        ensures { result ≡ withInputs inputs.now }
     {
         let mut pairs = [0u8; CHARACTERS];
-        let most = count.min(INPUTS_MOST);
-        for k in 0..most {
+        for k in 0..inputs.len() {
             let i = inputs[k];
             pairs[2 * k] = input::source_digit(i.source);
             pairs[2 * k + 1] = input::number_character(i.number);
         }
         let mut flat = FlatReading::plain(8, 0, 0);
-        flat.count = most;
+        flat.count = inputs.len();
         flat.inputs = pairs;
         flat
     }

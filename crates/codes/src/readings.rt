@@ -1,16 +1,23 @@
-// What the readers give, as numbers beside arrays, since an exported call returns no enum. What a kind does not use is
-// zero (RULES, Controller).
-ghost use Rattle.std.specs.Prelude.{◌≡◌};
-ghost use Rattle.pjlink.specs.Carried.{saidBy};
+//! What the readers give, as numbers beside arrays, since an exported call returns no enum. What a kind does not use is
+//! zero (RULES, Controller).
+ghost use Rattle.std.specs.Prelude.{◌≡◌, ◌≤◌, length};
+ghost use Rattle.pjlink.specs.Said.{saidBytes, parameterMost};
+ghost use Rattle.pjlink.specs.Carried.{answer_said};
+ghost use Rattle.controller.specs.Reading.{read_as};
 ghost use Rattle.codes.specs.Commands.{bit, sourceNumber};
-ghost use Rattle.codes.specs.Readings.{flatGreeting, meaningless, plain, powerNumber, saidFlat, flatAs};
+ghost use Rattle.codes.specs.Readings.{flatGreeting, meaningless, plain, powerNumber, saidFlat, flat};
 
-use pjlink::answer::{Answer, ERRORS_COUNT, INPUTS_MOST, Kind, LAMPS_MOST, Power, TEXT_MOST};
 use controller::greeting::Greeting;
-use controller::reading::{Outcome, Reading};
+use controller::reading::{Misread, Reading};
+use pjlink::answer::{Answer, INPUTS_MOST, LAMPS_MOST};
+use words::power::Power;
 use words::input::Source;
 
+/// The characters of a reading's inputs.
 pub const CHARACTERS: usize = 2 * INPUTS_MOST;
+
+/// The bytes of a reading's text: no parameter of a reply is longer.
+pub const TEXT_MOST: usize = 128;
 
 /// What was read of a greeting (`pj_greeting`).
 #[repr(C)]
@@ -116,37 +123,36 @@ impl FlatReading {
         flat
     }
 
-    #[tactic(auto, using(pjlink::proofs::Counts::said_by_kind))]
-    fn said(a: &Answer) -> FlatReading
-        ensures { result ≡ saidFlat (saidBy a.now) }
+    #[tactic(auto, unfolding(pjlink::specs::Said::saidBytes))]
+    fn said(a: &Answer<'_>) -> FlatReading
+        requires { length (saidBytes (answer_said a.now)) ≤ parameterMost }
+        ensures { result ≡ saidFlat (answer_said a.now) }
     {
-        match a.kind {
-            Kind::Ok => FlatReading::plain(1, 0, 0),
-            Kind::Refused(n) => FlatReading::plain(2, n, 0),
-            Kind::Powered(p) => FlatReading::plain(3, power_number(p), 0),
-            Kind::Chosen(i) => FlatReading::plain(4, source_number(i.source), i.number),
-            Kind::Muted(video, audio) => FlatReading::plain(5, bit(video), bit(audio)),
-            Kind::Errors => FlatReading::with_text(6, &a.text[0..ERRORS_COUNT]),
-            Kind::Lamps(n) => FlatReading::with_lamps(&a.lamps, n),
-            Kind::Inputs(n) => FlatReading::with_inputs(&a.inputs, n),
-            Kind::Text(n) => FlatReading::with_text(9, &a.text[0..n.min(TEXT_MOST)]),
-            Kind::Class(k) => FlatReading::plain(10, k, 0),
-            Kind::Frozen(on) => FlatReading::plain(12, bit(on), 0),
-            Kind::Nothing => FlatReading::meaningless(12),
+        match a {
+            Answer::Done => FlatReading::plain(1, 0, 0),
+            Answer::Power(p) => FlatReading::plain(3, power_number(*p), 0),
+            Answer::Input(i) => FlatReading::plain(4, source_number(i.source), i.number),
+            Answer::Mutes(video, audio) => FlatReading::plain(5, bit(*video), bit(*audio)),
+            Answer::Errors(digits) => FlatReading::with_text(6, digits),
+            Answer::Lamps(lamps) => FlatReading::with_lamps(lamps.as_slice()),
+            Answer::Inputs(inputs) => FlatReading::with_inputs(inputs.as_slice()),
+            Answer::Text(text) => FlatReading::with_text(9, text),
+            Answer::Class(k) => FlatReading::plain(10, *k, 0),
+            Answer::Freeze(on) => FlatReading::plain(12, bit(*on), 0),
         }
     }
 
     /// What the reply reader gives: what was said, the ERRA line (kind 11), or 10, 11 or 12 for a line without a
     /// meaning.
-    pub fn of(reading: &Reading) -> FlatReading
-        ensures { result ≡ flatAs reading.now.outcome (saidBy reading.now.answer) }
+    pub fn of(reading: &Result<Reading<'_>, Misread>) -> FlatReading
+        requires { length (saidBytes (read_as reading.now).said) ≤ parameterMost }
+        ensures { result ≡ flat (read_as reading.now) }
     {
-        match reading.outcome {
-            Outcome::Means => FlatReading::said(&reading.answer),
-            Outcome::Erra => FlatReading::plain(11, 0, 0),
-            Outcome::NotALine => FlatReading::meaningless(10),
-            Outcome::OtherCommand => FlatReading::meaningless(11),
-            Outcome::NotAllowed => FlatReading::meaningless(12),
+        match reading {
+            Ok(Reading::Means(Ok(answer))) => FlatReading::said(answer),
+            Ok(Reading::Means(Err(refusal))) => FlatReading::plain(2, refusal.number(), 0),
+            Ok(Reading::Erra) => FlatReading::plain(11, 0, 0),
+            Err(misread) => FlatReading::meaningless(misread.number()),
         }
     }
 }

@@ -26,10 +26,9 @@ use Rattle.device.specs.Calls.{replyRoom, received, openedBy}
 use Rattle.device.specs.Outcomes.{Told}
 use Rattle.device.proofs.Results.{Receives, Opens}
 use Rattle.controller.specs.Writing.{commandRoom, writtenCommand}
-use Rattle.controller.specs.Reading.{meaning, readReply, reading_of}
+use Rattle.controller.specs.Reading.{ReadAs, meaning, readReply}
 use Rattle.controller.specs.Greetings.{readGreeting, greetedOn}
 use Rattle.controller.specs.declared.writing.Written.{Written}
-use Rattle.controller.specs.declared.reading.Reading.{Reading}
 use Rattle.controller.specs.declared.greeting.Greeting.{Greeting}
 use Rattle.controller.proofs.ReadsBack.{TakenAndRead}
 use Rattle.controller.proofs.WrittenReadBack.{written-reads-back, written-reads-back-secured}
@@ -40,23 +39,23 @@ use Rattle.controller.proofs.OneResult.{Writes}
 lent : (bs out : List ℕ) {n : ℕ} {m : List ℕ} → n ≡ length bs → m ≡ over bs out → take n m ≡ bs
 lent bs out e f = (λ i. take (e i) (f i)) ∙ take-append_seam bs (drop (length bs) out)
 
-pub record CalledBack (d : Device) (p : ℕ) (c : Command) (w : Written) (r : Told) (e : Device) (x : Reading)
+pub record CalledBack (d : Device) (p : ℕ) (c : Command) (w : Written) (r : Told) (e : Device) (x : ReadAs)
     : Type 0 where
   pub wrote : w.number ≡ 0
   pub number : r.number ≡ 0
   pub taken : r.taken ≡ w.length
   pub device : e ≡ withPlace d (done d.settings d.own (Asks c)) p (turned (connectionAt d p) opened)
-  pub read : x ≡ reading_of (meaning (meant d.settings d.own (Asks c)))
+  pub read : x ≡ meaning (meant d.settings d.own (Asks c))
 
 -- paper is the memory lent to the writer, out that lent to the projector; m and n are what the calls leave in them
 module _ (d : Device) (p : ℕ) (c : Command)
-    (paper out : List ℕ) {w : Written} {r : Told} {e : Device} {x : Reading}
+    (paper out : List ℕ) {w : Written} {r : Told} {e : Device} {x : ReadAs}
     {m n : List ℕ} where
   called-back : (secured : Bool) (random : ℕ) (password : List ℕ)
       → let s = writtenCommand c secured random password (length paper) in
       s.number ≡ 0 → TakenAndRead d p c s.bytes (received d p s.bytes (length out))
       → Writes c secured random password paper w m → Receives d p (take w.length m) out r e n
-      → x ≡ reading_of (readReply c (take r.length n))
+      → x ≡ readReply c (take r.length n)
       → CalledBack d p c w r e x
   called-back secured random password number back writes receives reads =
       let s = writtenCommand c secured random password (length paper) in
@@ -70,7 +69,7 @@ module _ (d : Device) (p : ℕ) (c : Command)
         taken = ap (λ (v : Told). v.taken) took.said ∙ back.taken
             ∙ sym (ap (λ (v : Written). v.length) writes.told);
         device = took.device ∙ back.device;
-        read = reads ∙ ap (λ (b : List ℕ). reading_of (readReply c b)) heard ∙ ap reading_of back.said;
+        read = reads ∙ ap (readReply c) heard ∙ back.said;
       }
 
   module _ (there : p < placesCount) (legal : isLegal d ≡ true) (between : (connectionAt d p).line ≡ emptyLine)
@@ -79,7 +78,7 @@ module _ (d : Device) (p : ℕ) (c : Command)
       (roomy : commandRoom ≤ length paper) (enough : replyRoom ≤ length out) where
     pub calls-read-back : (connectionAt d p).phase ≡ opened → (random : ℕ) (password : List ℕ)
         → Writes c false random password paper w m → Receives d p (take w.length m) out r e n
-        → x ≡ reading_of (readReply c (take r.length n))
+        → x ≡ readReply c (take r.length n)
         → CalledBack d p c w r e x
     calls-read-back phase random password =
         let through = written-reads-back d p there legal between c writable within (length out) enough
@@ -90,7 +89,7 @@ module _ (d : Device) (p : ℕ) (c : Command)
     pub calls-read-back-secured : (connectionAt d p).phase ≡ awaiting
         → Writes c true (connectionAt d p).random (passwordOf d.settings) paper w m
         → Receives d p (take w.length m) out r e n
-        → x ≡ reading_of (readReply c (take r.length n))
+        → x ≡ readReply c (take r.length n)
         → CalledBack d p c w r e x
     calls-read-back-secured phase =
         let through = written-reads-back-secured d p there legal between c writable within (length out) enough

@@ -20,7 +20,7 @@ use Rattle.pjlink.specs.Reading.{readParameter}
 use Rattle.controller.specs.Writing.{WrittenAs, nothingWritten, commandRoom, isWritable, ledBy, writtenCommand}
 use Rattle.controller.specs.Reading.{ReadAs, without, saying, readReply}
 use Rattle.controller.specs.Greetings.{greets, randomIn, readGreeting}
-use Rattle.controller.specs.declared.reading.Outcome.TheVariants.{Erra, NotALine, OtherCommand}
+use Rattle.controller.specs.Reading.{Erra, NotALine, OtherCommand}
 use Rattle.controller.specs.declared.greeting.Greeting.{Greeting}
 use Rattle.controller.specs.declared.greeting.Greeting.TheVariants.{Open, Secured, Refused, NotAGreeting}
 

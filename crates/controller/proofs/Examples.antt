@@ -8,13 +8,13 @@ use Rattle.pjlink.specs.Computing.{computing as pjlink}
 use Rattle.pjlink.specs.declared.command.Body.TheVariants.{Powr, Name}
 use Rattle.pjlink.specs.declared.command.Command.TheVariants.{PowerSet, Query}
 use Rattle.pjlink.specs.Said.{okay, powerIs}
-use Rattle.pjlink.specs.declared.answer.Power.TheVariants.{WarmUp}
+use Rattle.words.specs.declared.power.Power.TheVariants.{WarmUp}
 use Rattle.digest.specs.Computing.{computing as digest}
 use Rattle.controller.specs.Writing.{nothingWritten, writtenCommand}
 use Rattle.controller.specs.Reading.{meaning, without, readReply}
 use Rattle.controller.specs.Greetings.{readGreeting}
 use Rattle.controller.specs.Computing.{computing}
-use Rattle.controller.specs.declared.reading.Outcome.TheVariants.{NotALine, OtherCommand, NotAllowed}
+use Rattle.controller.specs.Reading.{NotALine, OtherCommand, NotAllowed}
 use Rattle.controller.specs.declared.greeting.Greeting.TheVariants.{Secured, NotAGreeting}
 
 power-on-written : writtenCommand (PowerSet true) false 0 [] 168 ≡ record { number = 0; bytes = ascii "%1POWR 1\r" }

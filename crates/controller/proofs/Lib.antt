@@ -6,7 +6,7 @@ pub mod GreetsBack
 pub mod Refusals
 pub mod OneResult
 pub mod ReadsSound
-pub mod ReadingsSaid
+pub mod ReadShort
 pub mod OutsidersReadErra
 pub mod CallsReadBack
 mod Examples

@@ -9,10 +9,9 @@ use Rattle.text.specs.Words.{over}
 use Rattle.text.proofs.OneResult.{one-result, Left, one_left}
 use Rattle.pjlink.specs.declared.command.Command.{Command}
 use Rattle.controller.specs.Writing.{writtenCommand, toldWritten}
-use Rattle.controller.specs.Reading.{readReply, reading_of}
+use Rattle.controller.specs.Reading.{ReadAs, readReply}
 use Rattle.controller.specs.Greetings.{readGreeting}
 use Rattle.controller.specs.declared.writing.Written.{Written}
-use Rattle.controller.specs.declared.reading.Reading.{Reading}
 use Rattle.controller.specs.declared.greeting.Greeting.{Greeting}
 
 -- out is the lent memory
@@ -25,8 +24,7 @@ module _ (c : Command) (secured : Bool) (random : ℕ) (password out : List ℕ)
   pub one-writing : {r s : Written} {m n : List ℕ} → Writes r m → Writes s n → (r ≡ s) × (m ≡ n)
   one-writing p q = one_left p q
 
-pub one-reading : (c : Command) (l : List ℕ) {r s : Reading} → r ≡ reading_of (readReply c l)
-    → s ≡ reading_of (readReply c l) → r ≡ s
+pub one-reading : (c : Command) (l : List ℕ) {r s : ReadAs} → r ≡ readReply c l → s ≡ readReply c l → r ≡ s
 one-reading c l = one-result
 
 pub one-greeting : (l : List ℕ) {r s : Greeting} → r ≡ readGreeting l → s ≡ readGreeting l → r ≡ s

@@ -15,7 +15,7 @@ use Rattle.device.specs.Calls.{Result, replyRoom, received}
 use Rattle.device.proofs.Cases.{received-taken}
 use Rattle.device.proofs.Outsiders.{Unmatched, unmatched-line-refused}
 use Rattle.controller.specs.Reading.{without, readReply}
-use Rattle.controller.specs.declared.reading.Outcome.TheVariants.{Erra}
+use Rattle.controller.specs.Reading.{Erra}
 use Rattle.controller.proofs.Refusals.{erra-read}
 
 pub outsider-reads-erra : (d : Device) (p : ℕ) (bs : List ℕ) (room : ℕ) (c : Command) → isLegal d ≡ true

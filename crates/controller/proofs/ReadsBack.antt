@@ -14,7 +14,6 @@ use lib.ListN.{length, length-append}
 use lib.Dec.{eqb}
 use Rattle.text.specs.Words.{ascii}
 use Rattle.text.specs.Scans.{every}
-use Rattle.text.proofs.Choices.{if_no}
 use Rattle.digest.specs.Hex.{leadingDigest}
 use Rattle.digest.proofs.Laws.{leading-digest-length}
 use Rattle.words.specs.Bytes.{◌at◌, isAlnum, notCr, noCr}
@@ -28,10 +27,10 @@ use Rattle.pjlink.proofs.RepliesReadBack.{reply-not-erra, reply-form, reply-para
 use Rattle.pjlink.specs.Requests.{isBody}
 use Rattle.pjlink.proofs.BodiesNamed.{body-named}
 use Rattle.pjlink.specs.declared.request.Request.TheVariants.{Asks}
-use Rattle.pjlink.specs.Said.{Said, saidBytes}
+use Rattle.pjlink.specs.Said.{Said, nothing, saidBytes}
 use Rattle.pjlink.specs.Reading.{readParameter}
 use Rattle.pjlink.specs.CanSay.{CanSay}
-use Rattle.pjlink.proofs.Nothing.{says-something}
+use Rattle.pjlink.proofs.Nothing.{cannot-say-nothing}
 use Rattle.pjlink.proofs.ReadsBack.{reads-back as parameter-reads-back}
 use Rattle.record.specs.Limits.{placesCount, shut, awaiting, opened}
 use Rattle.record.specs.Legal.{isLegal}
@@ -49,9 +48,7 @@ use Rattle.device.proofs.Cases.{takes, received-taken}
 use Rattle.device.proofs.Legal.{line-legal}
 use Rattle.stream.proofs.LegalLines.{between-lines}
 use Rattle.device.proofs.WholeLines.{open-line-taken, matching-line-taken, command-answered}
-use Rattle.controller.specs.Reading.{ReadAs, meaning, saying, readReply}
-use Rattle.controller.specs.declared.reading.Outcome.{Outcome}
-use Rattle.controller.specs.declared.reading.Outcome.TheVariants.{Means, NotAllowed}
+use Rattle.controller.specs.Reading.{ReadAs, Outcome, Means, meaning, saying, readReply}
 use Rattle.controller.proofs.Cases.{reply-said}
 
 -- "between lines", no collected bytes and no overlong mark, is what the laws ask of the line
@@ -70,7 +67,8 @@ pub record TakenAndRead (d : Device) (p : ℕ) (c : Command) (bs : List ℕ) (r 
 
 -- every answer that a command can have means something
 pub can-mean : {c : Command} {m : Said} → CanSay c m → (saying m).outcome ≡ Means
-can-mean can = if_no NotAllowed Means (says-something can)
+can-mean {m = nothing} can = absurd (cannot-say-nothing can)
+can-mean {m = m} can = refl
 
 -- the reply to a command, by what it says
 module _ (c : Command) {m : Said} (can : CanSay c m) (short : length (saidBytes m) ≤ 128)

@@ -9,24 +9,23 @@ use mathlib.Core.List.{List}
 use mathlib.Core.Logic.{◌↔◌}
 use Rattle.std.specs.Prelude.{if◌then◌else◌}
 use Rattle.text.specs.Scans.{sameBy, itself}
-use Rattle.text.proofs.Choices.{if_yes, if_no, if-all}
+use Rattle.text.proofs.Choices.{if_yes, if_no}
 use Rattle.text.proofs.Sameness.{same-is}
 use Rattle.pjlink.specs.Forms.{erraLine, isReplyForm, headBody, replyParameter}
 use Rattle.pjlink.specs.Commands.{bodyOf, commandClass}
 use Rattle.pjlink.specs.declared.command.Command.{Command}
 use Rattle.pjlink.proofs.RepliesReadBack.{form-not-erra}
 use Rattle.pjlink.specs.Requests.{isBody}
-use Rattle.pjlink.specs.Said.{Said}
-use Rattle.pjlink.specs.Carried.{answer_of, isNothing}
+use Rattle.pjlink.specs.Said.{Said, nothing}
 use Rattle.pjlink.specs.CanSay.{CanSay}
 use Rattle.pjlink.specs.Reading.{readParameter}
 use Rattle.pjlink.specs.Writings.{Says, Allowed, says, says_nothing}
 use Rattle.pjlink.proofs.ReadSound.{CanRead, no_answer, answer, read-sound}
 use Rattle.pjlink.proofs.ReadWritings.{written-is-read, not-allowed-says-nothing}
 use Rattle.controller.specs.Reading.{ReadAs, meaning, saying, readReply, LineSays}
-use Rattle.controller.specs.declared.reading.Outcome.{Outcome}
-use Rattle.controller.specs.declared.reading.Outcome.TheVariants.{Means, Erra, NotALine, OtherCommand}
-use Rattle.controller.specs.declared.reading.Outcome.TheVariants.{NotAllowed}
+use Rattle.controller.specs.Reading.{Outcome}
+use Rattle.controller.specs.Reading.{Means, Erra, NotALine, OtherCommand}
+use Rattle.controller.specs.Reading.{NotAllowed}
 use Rattle.controller.proofs.Cases.{reply-by, reply-said}
 use Rattle.controller.proofs.ReadsBack.{can-mean}
 use Rattle.controller.proofs.Refusals.{erra-read}
@@ -67,7 +66,8 @@ module _ (c : Command) where
 
   -- the ERRA line, and no other
   no-erra : (m : Said) → isErra (saying m).outcome ≡ false
-  no-erra m = if-all (λ (o : Outcome). isErra o ≡ false) (isNothing (answer_of m).kind) refl refl
+  no-erra nothing = refl
+  no-erra m = refl
 
   erra-was-written : (l : List ℕ) → (readReply c l).outcome ≡ Erra → l ≡ erraLine
   erra-was-written l =

@@ -8,16 +8,13 @@ use mathlib.Core.List.{List, []}
 use lib.Dec.{ltb}
 use borrow.Author.Tests.{lt-ltb, le-ltb}
 use Rattle.std.specs.Prelude.{if◌then◌else◌}
-use Rattle.text.proofs.Choices.{if_yes, if_no, by-not-not}
+use Rattle.text.proofs.Choices.{if_yes, if_no}
 use Rattle.pjlink.specs.Forms.{erraLine}
 use Rattle.pjlink.specs.declared.command.Command.{Command}
 use Rattle.pjlink.specs.Said.{Said, nothing}
-use Rattle.pjlink.specs.Carried.{plain_of, answer_of}
-use Rattle.pjlink.specs.declared.answer.Kind.TheVariants.{Nothing}
-use Rattle.pjlink.proofs.Nothing.{is-nothing}
 use Rattle.controller.specs.Writing.{commandRoom, isWritable, writtenCommand}
-use Rattle.controller.specs.Reading.{outcomeNumber, without, saying, readReply, reading_of}
-use Rattle.controller.specs.declared.reading.Outcome.TheVariants.{Means, Erra}
+use Rattle.controller.specs.Reading.{outcomeNumber, without, saying, readReply}
+use Rattle.controller.specs.Reading.{Means, Erra}
 use Rattle.controller.proofs.Cases.{written-by, reply-by, reply-erra}
 
 module _ (c : Command) (secured : Bool) (random : ℕ) (password : List ℕ) (room : ℕ) where
@@ -38,21 +35,18 @@ module _ (c : Command) (secured : Bool) (random : ℕ) (password : List ℕ) (ro
 
 module _ (c : Command) where
   unsaid : (m : Said) → ((saying m).outcome ≡ Means → ⊥) → m ≡ nothing
-  unsaid m n = is-nothing m (by-not-not _ (λ e. n (if_no _ _ e)))
+  unsaid nothing n = refl
+  unsaid m n = absurd (n refl)
 
   pub refusal-means-nothing : (l : List ℕ) → ((readReply c l).outcome ≡ Means → ⊥) → (readReply c l).said ≡ nothing
   refusal-means-nothing l =
       reply-by c l (λ r. (r.outcome ≡ Means → ⊥) → r.said ≡ nothing) (λ e n. refl) (λ e f n. refl) (λ f b n. refl)
       (λ f b. unsaid _)
 
-  -- by the number, and as the code returns it: the kind Nothing, zeros beside it
+  -- by the number
   pub number-means-nothing : (l : List ℕ) → (outcomeNumber (readReply c l).outcome ≡ 0 → ⊥)
       → (readReply c l).said ≡ nothing
   number-means-nothing l n = refusal-means-nothing l (λ e. n (ap outcomeNumber e))
-
-  pub refusal-has-zeros : (l : List ℕ) → ((readReply c l).outcome ≡ Means → ⊥)
-      → (reading_of (readReply c l)).answer ≡ plain_of Nothing
-  refusal-has-zeros l n = ap answer_of (refusal-means-nothing l n)
 
   -- the ERRA line is read as such, whatever was asked
   pub erra-read : readReply c erraLine ≡ without Erra

@@ -1,49 +1,57 @@
-// Reading a reply, told the command that it answers.
+//! Reading a reply, told the command that it answers.
 ghost use Rattle.std.specs.Prelude.{◌≡◌};
-ghost use Rattle.controller.specs.Reading.{readReply, reading_of, without};
+ghost use Rattle.controller.specs.Reading.{outcome_of, outcomeNumber, readReply, read_as};
 
-use pjlink::answer;
-use pjlink::answer::{Answer, Kind};
+use pjlink::answer::Reply;
 use pjlink::command::Command;
-use pjlink::{command, form};
+use pjlink::{command, form, reply, request};
 
-#[derive(Clone, Copy)]
-pub enum Outcome {
-    Means,
+/// What a line says.
+#[derive(Drop)]
+pub enum Reading<'a> {
+    /// The reply to the command.
+    Means(Reply<'a>),
+    /// The ERRA line: the digest was refused.
     Erra,
+}
+
+/// Why a line says nothing to a command (RULES, The numbers a call gives).
+#[derive(Clone, Copy)]
+pub enum Misread {
+    /// 10: it has not the form of a reply of the command's class.
     NotALine,
+    /// 11: it answers another command.
     OtherCommand,
+    /// 12: its parameter is none that the command allows.
     NotAllowed,
 }
 
-// The answer is of the kind Nothing, zeros beside it, unless the outcome is Means.
-#[derive(Clone, Copy)]
-pub struct Reading {
-    pub outcome: Outcome,
-    pub answer: Answer,
-}
-
-fn meaningless(o: Outcome) -> Reading
-    ensures { result ≡ reading_of (without o) }
-{
-    Reading {
-        outcome: o,
-        answer: answer::plain(Kind::Nothing),
+impl Misread {
+    /// Its number in the table of numbers.
+    pub fn number(self) -> u32
+        ensures { result ≡ outcomeNumber (outcome_of self) }
+    {
+        match self {
+            Misread::NotALine => 10,
+            Misread::OtherCommand => 11,
+            Misread::NotAllowed => 12,
+        }
     }
 }
 
-// The ERRA line, then the form, then the body, then the parameter.
-pub fn read_reply(c: Command, line: &[u8]) -> Reading
-    ensures { result ≡ reading_of (readReply c line.now) }
+/// What the line, with its CR, says to the command: the ERRA line, then the form, then the body, then the parameter
+/// (RULES, Controller).
+pub fn read_reply(c: Command, line: &[u8]) -> Result<Reading<'_>, Misread>
+    ensures { read_as result ≡ readReply c line.now }
 {
     if text::same(line, b"PJLINK ERRA\r") {
-        return meaningless(Outcome::Erra);
+        return Ok(Reading::Erra);
     }
     let class = command::command_class(c);
     if !form::is_reply_form(class, line) {
-        return meaningless(Outcome::NotALine);
+        return Err(Misread::NotALine);
     }
-    if !pjlink::request::is_body(
+    if !request::is_body(
         class,
         line[2],
         line[3],
@@ -51,15 +59,11 @@ pub fn read_reply(c: Command, line: &[u8]) -> Reading
         line[5],
         command::body_of(c),
     ) {
-        return meaningless(Outcome::OtherCommand);
+        return Err(Misread::OtherCommand);
     }
     let last = line.len() - 1;
-    let answer = pjlink::reply::read_parameter(c, &line[7..last]);
-    let kind = answer.kind;
-    let outcome = if answer::is_nothing(kind) {
-        Outcome::NotAllowed
-    } else {
-        Outcome::Means
+    let Some(said) = reply::read_parameter(c, &line[7..last]) else {
+        return Err(Misread::NotAllowed);
     };
-    Reading { outcome, answer }
+    Ok(Reading::Means(said))
 }

@@ -14,10 +14,9 @@ use Rattle.text.proofs.Scanning.{every-at}
 use Rattle.record.specs.Wanted.{Wanted}
 use Rattle.record.specs.Rules.{at_most}
 use Rattle.record.specs.Legal.{isLegal}
-use Rattle.record.specs.Record.{accepted}
+use Rattle.record.specs.Given.{Given, accepted}
 use Rattle.record.specs.declared.types.Settings.{Settings}
 use Rattle.record.specs.declared.types.Device.{Device}
-use Rattle.record.specs.declared.types.Changed.{Changed}
 use Rattle.record.proofs.LegalTold.{own-of-legal}
 use Rattle.record.proofs.MarksTold.{marks-long}
 use Rattle.record.proofs.Started.{started-parts}
@@ -30,7 +29,7 @@ use Rattle.stored.proofs.FormsLoad.{marked-form-loads, marked-form-marks, old-fo
 use Rattle.stored.proofs.Contents.{older-is-class-1}
 use Rattle.stored.proofs.BytesAgain.{Bytes}
 use Rattle.stored.proofs.OneForm.{stored-again, forms-apart}
-use Rattle.ours.specs.Board.{ours, givenBy, bytesWritten}
+use Rattle.ours.specs.Board.{ours, bytesWritten}
 use Rattle.demands.specs.Calls.{Call, run}
 use Rattle.demands.specs.History.{Event, switched, aSecond, markSwitched, Stage, steady, towards, next, marksNext}
 use Rattle.demands.specs.History.{noStreams, history, marksAfter, burns, burningFrom, burning, stageAfter}
@@ -79,7 +78,7 @@ module _ (d : Device) (m : List ℕ) (h : (storedBy d (length m)).number ≡ 0) 
   stored-loads : LoadsAs ours (bytesWritten (ours.store d m)) (storedOf d) (marksStored d)
   stored-loads =
       let same = ap loaded form-stored ∙ loads-again in
-      record { accepted = ap (λ (r : Changed). r.number) same; fresh = ap (λ (r : Changed). r.device) same }
+      record { accepted = ap (λ (r : Given Device). r.number) same; fresh = ap (λ (r : Given Device). r.device) same }
 
 module _ (b : Beginning) (w : Wanted) (cs es : List Call) (m : List ℕ) (place : ℕ) (h : Accepted ours b w)
     (inside : place < length w.lamps) (stored : (ours.store (run_of ours b w cs) m).number ≡ 0) where
@@ -142,7 +141,7 @@ module _ (b : Beginning) (w : Wanted) (cs es : List Call) (m : List ℕ) (place 
   on-the-new : GoesOn (storedForm old)
   on-the-new =
       let accepted-so : Accepted ours (loads (marksStored old)) kept
-      = (stored-in-range old legal, ap (λ (r : Changed). r.number) (loads-again old m stored)) in
+      = (stored-in-range old legal, ap (λ (r : Given Device). r.number) (loads-again old m stored)) in
       let more = historyOf ours (loads (marksStored old)) kept es in
       let alike = burning-alike kept w (ap (λ (s : Settings). s.warm) known.settings)
       (ap (λ (s : Settings). s.cool) known.settings) (steady false) (marksStored old) place more in
@@ -162,12 +161,12 @@ marked-loads : (w : Wanted) (ms : List Bool) → IsClass1 w → (ours.load (mark
 marked-loads w ms h e =
     let marks = marked-form-marks w h.set-up h.class-1 ms e in
     let same = marked-form-loads w h.set-up h.class-1 ms marks in
-    record { accepted = e; fresh = ap (λ (r : Changed). r.device) same }
+    record { accepted = e; fresh = ap (λ (r : Given Device). r.device) same }
 
 older-loads : (s : List ℕ) → (ours.load s).number ≡ 0 → (s at 0 ≡ formVersion → ⊥)
     → (ours.load s).device.settings.class_number ≡ 1
 older-loads s e other =
-    ap (λ (r : Changed). r.device.settings.class_number) (accepted-set-up s e)
+    ap (λ (r : Given Device). r.device.settings.class_number) (accepted-set-up s e)
     ∙ ap (λ (d : Device). d.settings.class_number) (started-parts (settingsIn s))
     ∙ older-is-class-1 s (ne_eqb (s at 0) formVersion other)
 
@@ -175,7 +174,7 @@ pub ours-swap : BoardSwap ours
 ours-swap = record {
   form-stored = form-stored;
   stored-loads = stored-loads;
-  old-form-sets-up = λ w h. ap givenBy (old-form-loads w h.set-up h.class-1);
+  old-form-sets-up = λ w h. old-form-loads w h.set-up h.class-1;
   marked-form-loads = marked-loads;
   older-class-1 = older-loads;
   stored-again = λ s b new h. stored-again s (bytes-kept s b) h (eq-eqb (s at 0) formVersion new);

@@ -10,13 +10,13 @@ use Rattle.record.specs.Wanted.{Wanted}
 use Rattle.record.specs.Record.{closed, started}
 use Rattle.record.specs.Updates.{withOwn, withFault, withErrors, withMarks}
 use Rattle.record.specs.Places.{withPlace}
-use Rattle.record.specs.declared.types.Changed.{Changed}
+use Rattle.record.specs.Given.{Given}
 use Rattle.record.specs.declared.types.Device.{Device}
 use Rattle.record.proofs.Calls.{fault-set-by, errors-set-by, mark-set-by}
 use Rattle.record.proofs.Started.{set-up-started}
 use Rattle.device.specs.Calls.{Result, greeting}
 use Rattle.device.proofs.Cases.{opened-placed-by, closed-by}
-use Rattle.ours.specs.Board.{ours, lent_by, givenBy, closedAs}
+use Rattle.ours.specs.Board.{ours, lent_by, closedAs}
 use Rattle.demands.specs.CallsDone.{OpenedAs, Leaves}
 use Rattle.demands.proofs.LentMemory.{over-front}
 
@@ -38,18 +38,18 @@ module _ (d : Device) where
 
   pub marks : (fault : Bool) → Leaves ours (ours.set-fault d fault) (withOwn d (withFault d.own fault))
   marks fault =
-      fault-set-by d (λ (r : Changed). Leaves ours (givenBy r) (withOwn d (withFault d.own fault))) fault
+      fault-set-by d (λ (r : Given Device). Leaves ours r (withOwn d (withFault d.own fault))) fault
       (λ e. absurd (omega arith)) (λ h e. refl)
 
   pub reports : (errors : List ℕ) → Leaves ours (ours.set-errors d errors) (withOwn d (withErrors d.own errors))
   reports errors =
-      errors-set-by d (λ (r : Changed). Leaves ours (givenBy r) (withOwn d (withErrors d.own errors))) errors
+      errors-set-by d (λ (r : Given Device). Leaves ours r (withOwn d (withErrors d.own errors))) errors
       (λ e. absurd (omega arith)) (λ e. absurd (omega arith)) (λ h k e. refl)
 
   pub enables : (lamp : ℕ) (mark : Bool)
       → Leaves ours (ours.set-mark d lamp mark) (withOwn d (withMarks d.own (set d.own.enabled lamp mark)))
   enables lamp mark =
       mark-set-by d
-      (λ (r : Changed).
-      Leaves ours (givenBy r) (withOwn d (withMarks d.own (set d.own.enabled lamp mark)))) lamp mark
+      (λ (r : Given Device).
+      Leaves ours r (withOwn d (withMarks d.own (set d.own.enabled lamp mark)))) lamp mark
       (λ n z e. absurd (z e)) (λ h i l p e. refl)

@@ -21,7 +21,7 @@ use Rattle.record.specs.Places.{connectionAt}
 use Rattle.record.specs.declared.types.Settings.{Settings}
 use Rattle.record.specs.declared.types.Own.{Own}
 use Rattle.record.specs.declared.types.Connection.{Connection}
-use Rattle.record.specs.declared.types.Changed.{Changed}
+use Rattle.record.specs.Given.{Given}
 use Rattle.record.specs.declared.types.Device.{Device}
 use Rattle.record.proofs.Calls.{fault-set-by, errors-set-by, mark-set-by}
 use Rattle.record.proofs.LegalTold.{own-of-legal}
@@ -144,7 +144,7 @@ module _ {w : Wanted} {g : Stage} {ms : List Bool} {n : ℕ → ℕ} {stream : S
   abbrev pub Noted : Call → Type 0
   Noted c = Then w g ms n (seen ours d (streamsAfter ours d stream c) c) (streamsAfter ours d stream c) (after ours d c)
 
-  abbrev QuietBy : Changed → Type 0
+  abbrev QuietBy : Given Device → Type 0
   QuietBy r = Quiet r.device
 
   pub noted : (c : Call) → Noted c
@@ -169,7 +169,7 @@ module _ {w : Wanted} {g : Stage} {ms : List Bool} {n : ℕ → ℕ} {stream : S
       agrees-marked ms lamp mark g (mark-still g)
       (remarked a lamp mark (omega (arith, count)) (omega (arith, room, own.lamps.inside))))
     where
-      Enabled : Changed → Type 0
+      Enabled : Given Device → Type 0
       Enabled r =
           Then w g ms n (if eqb r.number 0 then markSwitched lamp mark ∷ [] else []) stream r.device
 
@@ -178,7 +178,7 @@ module _ {w : Wanted} {g : Stage} {ms : List Bool} {n : ℕ → ℕ} {stream : S
       mark-still (towards on k) = refl
   noted (passes k) = passed-by Passed d k (λ illegal. kept) (λ legal. agrees-seconds k legal a)
     where
-      Passed : Changed → Type 0
+      Passed : Given Device → Type 0
       Passed r = Then w g ms n (if eqb r.number 0 then replicate k aSecond else []) stream r.device
   noted (receives p bs m) =
       received-by d p bs (length m) (λ r. Told p bs m r → Received r) (λ n z t. rw (ne_eqb n 0 z) kept)

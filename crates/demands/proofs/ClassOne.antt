@@ -10,11 +10,12 @@ use native.Mathlib.Omega.{arith}
 use lib.ListN.{length}
 use lib.Dec.{leb}
 use borrow.Author.Tests.{ltb-true, eqb-true}
-use Rattle.std.specs.Prelude.{if◌then◌else◌}
+use Rattle.std.specs.Prelude.{if◌then◌else◌, Option, unwrap_or}
 use Rattle.text.specs.Words.{ascii, ◌is◌}
 use Rattle.text.proofs.Choices.{if_yes, if_no, if-by, if-all}
 use Rattle.words.specs.Bytes.{◌at◌, noCr}
 use Rattle.words.specs.Inputs.{isInputText, inputNamed, inputText}
+use Rattle.words.specs.declared.input.Input.{Input}
 use Rattle.pjlink.specs.Forms.{headBody, commandParameter, isCommandForm, classNamed, replyLine}
 use Rattle.words.specs.Bytes.{commandMost}
 use Rattle.pjlink.specs.ClassOne.{isCommandForm1}
@@ -35,7 +36,7 @@ use Rattle.record.specs.declared.types.Own.{Own}
 use Rattle.record.specs.declared.types.Device.{Device}
 use Rattle.record.proofs.LegalTold.{legal-settings}
 use Rattle.record.proofs.SettingsTold.{input-of-class}
-use Rattle.meaning.specs.SetUpInputs.{noInput, inputOrNone, inputsOf, place_of, isListed}
+use Rattle.meaning.specs.SetUpInputs.{noInput, inputsOf, place_of, isListed}
 use Rattle.meaning.specs.Rules.{isUndefined, isOutOfParameter}
 use Rattle.meaning.specs.Meaning.{meant, done}
 use Rattle.meaning.proofs.InputsByPlace.{found-at-place, input-in-use}
@@ -65,7 +66,7 @@ module _ (s : Settings) (settings : isSettings s ≡ true) (a b : ℕ) (named : 
       let y = s.inputs at (2 * k + 1) in
       let there = input-of-class s told k below in
       let same : inputNamed x y ≡ inputNamed a b
-      = ap inputOrNone (sym (named-stands x y s.class_number there))
+      = ap (λ (m : Option Input). unwrap_or m noInput) (sym (named-stands x y s.class_number there))
       ∙ sym (input-in-use s.inputs s.input_count k below room noInput)
       ∙ found-at-place (inputNamed a b) noInput (inputsOf s) (omega (arith, inputs-number s told)) in
       let text : a ∷ b ∷ [] ≡ x ∷ y ∷ []

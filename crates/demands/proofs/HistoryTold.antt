@@ -15,7 +15,7 @@ use Rattle.record.specs.Wanted.{Wanted}
 use Rattle.record.specs.Record.{allClosed, settingsOf, startOwn, started}
 use Rattle.record.specs.Places.{noConnection, connectionAt}
 use Rattle.record.specs.SetUp.{isSetUp}
-use Rattle.record.specs.declared.types.Changed.{Changed}
+use Rattle.record.specs.Given.{Given, set_up_given}
 use Rattle.record.specs.declared.types.Device.{Device}
 use Rattle.record.proofs.Calls.{set-up-in-range, set-up-accepted}
 use Rattle.record.proofs.ConnectionTold.{closed-holds-none}
@@ -105,14 +105,14 @@ pub begins-so : (b : Beginning) (w : Wanted) → Accepted ours b w
     → (begunBy ours b w).device ≡ startedWith w (startMarks b w)
 begins-so setsUp w h = set-up-started w h ∙ sym (started-all w (set-up-in-range w h))
 begins-so (loads ms) w h =
-    ap (λ (r : Changed). r.device) (form-loads w h.0 ms (form-marks w h.0 ms h.1))
+    ap (λ (r : Given Device). r.device) (form-loads w h.0 ms (form-marks w h.0 ms h.1))
 begins-so (loadsMarked ms) w h =
     let ok = h.0.set-up in
     let one = h.0.class-1 in
-    ap (λ (r : Changed). r.device) (marked-form-loads w ok one ms (marked-form-marks w ok one ms h.1))
+    ap (λ (r : Given Device). r.device) (marked-form-loads w ok one ms (marked-form-marks w ok one ms h.1))
 begins-so loadsOld w h =
     let ok = h.0.set-up in
-    ap (λ (r : Changed). r.device) (old-form-loads w ok h.0.class-1 ∙ set-up-accepted w ok)
+    ap (λ (r : Given Device). r.device) (old-form-loads w ok h.0.class-1 ∙ ap set_up_given (set-up-accepted w ok))
     ∙ sym (started-all w ok)
 
 pub marks-many : (b : Beginning) (w : Wanted) → Accepted ours b w → length (startMarks b w) ≡ length w.lamps

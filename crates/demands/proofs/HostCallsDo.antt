@@ -19,7 +19,7 @@ use Rattle.record.specs.HostCalls.{isNoLamp, isNoneLeft}
 use Rattle.record.specs.Places.{connectionAt}
 use Rattle.record.specs.declared.types.Settings.{Settings}
 use Rattle.record.specs.declared.types.Own.{Own}
-use Rattle.record.specs.declared.types.Changed.{Changed}
+use Rattle.record.specs.Given.{left_by}
 use Rattle.record.specs.declared.types.Device.{Device}
 use Rattle.record.proofs.Calls.{fault-accepted, errors-wrong, errors-accepted}
 use Rattle.record.proofs.Calls.{mark-nowhere, mark-last, mark-not-off, mark-accepted}
@@ -31,6 +31,8 @@ use Rattle.ours.specs.Board.{ours}
 use Rattle.demands.specs.Calls.{Call, opens, closes, receives, passes, marks, reports, enables}
 use Rattle.demands.specs.Outsider.{Session}
 use Rattle.demands.proofs.Sessions.{Standing, stands-later}
+use Rattle.std.specs.Prelude.{Result}
+use Rattle.record.specs.declared.refusal.Refusal.{Refusal}
 
 -- what such a call leaves of the own part, by the settings and the own part alone
 abbrev pub turnedBy : Call → Settings → Own → Own
@@ -50,9 +52,9 @@ pub record HostDoes (c : Call) (d e : Device) : Type 0 where
   pub own : e.own ≡ turnedBy c d.settings d.own
   pub standing : (s : Session) (p : ℕ) → Standing s (connectionAt d p) → Standing s (connectionAt e p)
 
-pub time-does : (n : ℕ) (d : Device) → isLegal d ≡ true → HostDoes (passes n) d (passed d n).device
+pub time-does : (n : ℕ) (d : Device) → isLegal d ≡ true → HostDoes (passes n) d (left_by d (passed d n))
 time-does n d legal =
-    let e = ap (λ (r : Changed). r.device) (passed-accepted d n legal) in
+    let e = ap (left_by d) (passed-accepted d n legal) in
     record {
       settings = ap (λ (k : Device). k.settings) (e ∙ parts-pass n d);
       own = ap (λ (k : Device). k.own) (e ∙ parts-pass n d);
@@ -64,19 +66,22 @@ time-does n d legal =
 pub fault-does : (mark : Bool) (d : Device) → isLegal d ≡ true
     → HostDoes (marks mark) d (ours.set-fault d mark).device
 fault-does mark d legal =
-    subst (λ (r : Changed). HostDoes (marks mark) d r.device) (sym (fault-accepted d mark legal))
+    subst (λ (r : Result Device Refusal). HostDoes (marks mark) d (left_by d r)) (sym (fault-accepted d mark legal))
     (record { settings = refl; own = refl; standing = λ s p k. k })
 
 pub errors-do : (errors : List ℕ) (d : Device) → isLegal d ≡ true
     → HostDoes (reports errors) d (ours.set-errors d errors).device
 errors-do errors d legal = by_digits (isErrors errors) refl
   where
+    Does : Result Device Refusal → Type 0
+    Does r = HostDoes (reports errors) d (left_by d r)
+
     by_digits : (t : Bool) → isErrors errors ≡ t → HostDoes (reports errors) d (ours.set-errors d errors).device
     by_digits true right =
-        subst (λ (r : Changed). HostDoes (reports errors) d r.device) (sym (errors-accepted d errors legal right))
+        subst Does (sym (errors-accepted d errors legal right))
         (record { settings = refl; own = rw right; standing = λ s p k. k })
     by_digits false wrong =
-        subst (λ (r : Changed). HostDoes (reports errors) d r.device) (sym (errors-wrong d errors legal wrong))
+        subst Does (sym (errors-wrong d errors legal wrong))
         (record { settings = refl; own = rw wrong; standing = λ s p k. k })
 
 pub mark-does : (lamp : ℕ) (mark : Bool) (d : Device) → isLegal d ≡ true
@@ -84,8 +89,8 @@ pub mark-does : (lamp : ℕ) (mark : Bool) (d : Device) → isLegal d ≡ true
 mark-does lamp mark d legal =
     by_tests (isNoLamp d lamp) refl (isNoneLeft (set d.own.enabled lamp mark)) refl (eqb d.own.power off) refl
   where
-    Does : Changed → Type 0
-    Does r = HostDoes (enables lamp mark) d r.device
+    Does : Result Device Refusal → Type 0
+    Does r = HostDoes (enables lamp mark) d (left_by d r)
 
     by_tests : (t : Bool) → isNoLamp d lamp ≡ t → (u : Bool) → isNoneLeft (set d.own.enabled lamp mark) ≡ u
         → (v : Bool) → eqb d.own.power off ≡ v → HostDoes (enables lamp mark) d (ours.set-mark d lamp mark).device

@@ -14,7 +14,7 @@ use Rattle.pjlink.specs.Commands.{commandLine}
 use Rattle.pjlink.specs.declared.command.Command.TheVariants.{Query}
 use Rattle.pjlink.specs.declared.command.Body.TheVariants.{Lamp}
 use Rattle.pjlink.specs.Said.{lampsAre}
-use Rattle.pjlink.specs.declared.answer.LampHours.{LampHours}
+use Rattle.words.specs.declared.lamp.LampHours.{LampHours}
 use Rattle.record.specs.Limits.{opened, isLit}
 use Rattle.record.specs.Wanted.{Wanted}
 use Rattle.record.specs.declared.types.Settings.{Settings}

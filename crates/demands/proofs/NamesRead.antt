@@ -8,7 +8,8 @@ use Rattle.pjlink.specs.declared.command.Command.TheVariants.{Query}
 use Rattle.pjlink.specs.declared.command.Body.TheVariants.{Name}
 use Rattle.pjlink.specs.Said.{textIs}
 use Rattle.record.specs.Wanted.{Wanted}
-use Rattle.record.specs.declared.types.Changed.{Changed}
+use Rattle.record.specs.declared.types.Device.{Device}
+use Rattle.record.specs.Given.{Given}
 use Rattle.record.specs.declared.types.Setting.TheVariants.{Name as ItsName}
 use Rattle.record.proofs.Calls.{set-up-by}
 use Rattle.record.proofs.OutOfRange.{each-in-range}
@@ -20,7 +21,7 @@ pub names-read : (w : Wanted) → (ours.set-up w).number ≡ 0
     → ours.read-reply (Query Name) (ascii "%1NAME=" ++ w.name ++ ascii "\r") ≡ meaning (textIs w.name)
 names-read w =
     set-up-by w
-    (λ (r : Changed). r.number ≡ 0
+    (λ (r : Given Device). r.number ≡ 0
     → ours.read-reply (Query Name) (ascii "%1NAME=" ++ w.name ++ ascii "\r") ≡ meaning (textIs w.name))
     (λ e. absurd (omega arith)) (λ e. absurd (omega arith))
     (λ h e. accepted-name-is-read w.name (each-in-range w h ItsName))

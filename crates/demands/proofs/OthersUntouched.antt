@@ -4,7 +4,7 @@ use Prim.Native.Nat.{ℕ}
 use mathlib.Core.Path.{◌≡◌, refl}
 use lib.ListN.{length}
 use Rattle.record.specs.Places.{connectionAt}
-use Rattle.record.specs.declared.types.Changed.{Changed}
+use Rattle.record.specs.Given.{Given}
 use Rattle.record.specs.declared.types.Device.{Device}
 use Rattle.record.proofs.Calls.{fault-set-by, errors-set-by, mark-set-by}
 use Rattle.device.proofs.Untouched.{receiving-keeps-others, opening-keeps-others, closing-keeps-others}
@@ -19,9 +19,9 @@ others-untouched d (closes p) q other = closing-keeps-others d p q other
 others-untouched d (receives p bs m) q other = receiving-keeps-others d p bs (length m) q other
 others-untouched d (passes n) q other = absurd other
 others-untouched d (marks fault) q other =
-    fault-set-by d (λ (r : Changed). connectionAt r.device q ≡ connectionAt d q) fault refl (λ h. refl)
+    fault-set-by d (λ (r : Given Device). connectionAt r.device q ≡ connectionAt d q) fault refl (λ h. refl)
 others-untouched d (reports errors) q other =
-    errors-set-by d (λ (r : Changed). connectionAt r.device q ≡ connectionAt d q) errors refl refl (λ h k. refl)
+    errors-set-by d (λ (r : Given Device). connectionAt r.device q ≡ connectionAt d q) errors refl refl (λ h k. refl)
 others-untouched d (enables lamp mark) q other =
-    mark-set-by d (λ (r : Changed). connectionAt r.device q ≡ connectionAt d q) lamp mark (λ n z. refl)
+    mark-set-by d (λ (r : Given Device). connectionAt r.device q ≡ connectionAt d q) lamp mark (λ n z. refl)
     (λ h i l p. refl)

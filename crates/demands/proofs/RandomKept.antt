@@ -18,7 +18,7 @@ use Rattle.record.specs.declared.types.Settings.{Settings}
 use Rattle.record.specs.declared.types.Own.{Own}
 use Rattle.record.specs.declared.types.Line.{Line}
 use Rattle.record.specs.declared.types.Connection.{Connection}
-use Rattle.record.specs.declared.types.Changed.{Changed}
+use Rattle.record.specs.Given.{Given}
 use Rattle.record.specs.declared.types.Device.{Device}
 use Rattle.record.proofs.Spelt.{closed-spelt}
 use Rattle.record.proofs.LegalTold.{legal-places}
@@ -98,11 +98,11 @@ module _ (d : Device) (p : ℕ) (live : (connectionAt d p).phase ≡ shut → �
       by_place false e =
           subst KeptIn (sym (placed-elsewhere d d.own q _ p (eqb-false p q e))) stays
   random-kept (passes n) =
-      passed-by (λ (r : Changed). Keeps r.device) d n (λ h. stays)
+      passed-by (λ (r : Given Device). Keeps r.device) d n (λ h. stays)
       (λ h. subst KeptIn (sym (place-passes n d p)) (time-keeps (connectionAt d p) n))
   random-kept (marks fault) =
-      fault-set-by d (λ (r : Changed). Keeps r.device) fault stays (λ h. stays)
+      fault-set-by d (λ (r : Given Device). Keeps r.device) fault stays (λ h. stays)
   random-kept (reports errors) =
-      errors-set-by d (λ (r : Changed). Keeps r.device) errors stays stays (λ h k. stays)
+      errors-set-by d (λ (r : Given Device). Keeps r.device) errors stays stays (λ h k. stays)
   random-kept (enables lamp mark) =
-      mark-set-by d (λ (r : Changed). Keeps r.device) lamp mark (λ n z. stays) (λ h i l k. stays)
+      mark-set-by d (λ (r : Given Device). Keeps r.device) lamp mark (λ n z. stays) (λ h i l k. stays)

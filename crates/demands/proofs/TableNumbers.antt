@@ -21,7 +21,7 @@ use Rattle.record.proofs.Results.{set-up-number as set-up-table, fault-number, e
 use Rattle.clock.proofs.Results.{passed-number}
 use Rattle.device.proofs.Numbers.{received-number, opened-number, closed-number}
 use Rattle.controller.specs.Reading.{outcomeNumber}
-use Rattle.controller.specs.declared.reading.Outcome.TheVariants.{Means, Erra, NotALine, OtherCommand, NotAllowed}
+use Rattle.controller.specs.Reading.{Means, Erra, NotALine, OtherCommand, NotAllowed}
 use Rattle.controller.specs.Greetings.{greets, randomIn, readGreeting, greetingNumber}
 use Rattle.controller.proofs.Refusals.{written-number}
 use Rattle.controller.proofs.ReadsSound.{outcome-is-first}

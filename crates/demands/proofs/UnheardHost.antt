@@ -15,7 +15,7 @@ use Rattle.record.specs.Updates.{withOwn, withFault, withErrors, withMarks}
 use Rattle.record.specs.HostCalls.{faultSet, errorsSet, isNoLamp, isNoneLeft, markSet}
 use Rattle.record.specs.declared.types.Settings.{Settings}
 use Rattle.record.specs.declared.types.Own.{Own}
-use Rattle.record.specs.declared.types.Changed.{Changed}
+use Rattle.record.specs.Given.{Given, given_by}
 use Rattle.record.specs.declared.types.Device.{Device}
 use Rattle.record.proofs.Calls.{fault-accepted, errors-wrong, errors-accepted}
 use Rattle.record.proofs.Calls.{mark-nowhere, mark-last, mark-not-off, mark-accepted}
@@ -23,14 +23,14 @@ use Rattle.clock.specs.Second.{times, ownSecond, connectionSecond, second}
 use Rattle.clock.specs.Passing.{passed}
 use Rattle.clock.proofs.Cases.{passed-accepted}
 use Rattle.clock.proofs.InOneGo.{parts-pass, place-passes}
-use Rattle.ours.specs.Board.{ours, givenBy}
+use Rattle.ours.specs.Board.{ours}
 use Rattle.demands.specs.Unheard.{SameElsewhere, gaveNumber}
 
 module _ (p : ℕ) (d e : Device) (same : SameElsewhere ours p d e) (legal-d : isLegal d ≡ true)
     (legal-e : isLegal e ≡ true) where
-  abbrev pub ChangedAlike : Changed → Changed → Type 0
+  abbrev pub ChangedAlike : Given Device → Given Device → Type 0
   ChangedAlike r u =
-      (gaveNumber (givenBy r) ≡ gaveNumber (givenBy u)) × SameElsewhere ours p r.device u.device
+      (gaveNumber r ≡ gaveNumber u) × SameElsewhere ours p r.device u.device
 
   time-same : (n : ℕ) → SameElsewhere ours p (times second n d) (times second n e)
   time-same n = record {
@@ -45,7 +45,7 @@ module _ (p : ℕ) (d e : Device) (same : SameElsewhere ours p d e) (legal-d : i
         ∙ sym (place-passes n d q);
   }
 
-  pub passed-alike : (n : ℕ) → ChangedAlike (passed d n) (passed e n)
+  pub passed-alike : (n : ℕ) → ChangedAlike (given_by d (passed d n)) (given_by e (passed e n))
   passed-alike n = rw (passed-accepted d n legal-d, passed-accepted e n legal-e) (refl, time-same n)
 
   owns-same : (f : Own → Own) → SameElsewhere ours p (withOwn d (f d.own)) (withOwn e (f e.own))
@@ -54,15 +54,17 @@ module _ (p : ℕ) (d e : Device) (same : SameElsewhere ours p d e) (legal-d : i
     others = same.others;
   }
 
-  pub marked-alike : (fault : Bool) → ChangedAlike (faultSet d fault) (faultSet e fault)
+  pub marked-alike : (fault : Bool) → ChangedAlike (given_by d (faultSet d fault)) (given_by e (faultSet e fault))
   marked-alike fault =
       rw (fault-accepted d fault legal-d, fault-accepted e fault legal-e)
       (refl, owns-same (λ (o : Own). withFault o fault))
 
-  pub reported-alike : (errors : List ℕ) → ChangedAlike (errorsSet d errors) (errorsSet e errors)
+  pub reported-alike : (errors : List ℕ)
+      → ChangedAlike (given_by d (errorsSet d errors)) (given_by e (errorsSet e errors))
   reported-alike errors = by_digits (isErrors errors) refl
     where
-      by_digits : (t : Bool) → isErrors errors ≡ t → ChangedAlike (errorsSet d errors) (errorsSet e errors)
+      by_digits : (t : Bool) → isErrors errors ≡ t
+          → ChangedAlike (given_by d (errorsSet d errors)) (given_by e (errorsSet e errors))
       by_digits true right =
           rw (errors-accepted d errors legal-d right, errors-accepted e errors legal-e right)
           (refl, owns-same (λ (o : Own). withErrors o errors))
@@ -70,7 +72,8 @@ module _ (p : ℕ) (d e : Device) (same : SameElsewhere ours p d e) (legal-d : i
           rw (errors-wrong d errors legal-d wrong, errors-wrong e errors legal-e wrong) (refl, same)
 
   -- the mark call looks at the settings and the own part alone
-  pub enabled-alike : (lamp : ℕ) (mark : Bool) → ChangedAlike (markSet d lamp mark) (markSet e lamp mark)
+  pub enabled-alike : (lamp : ℕ) (mark : Bool)
+      → ChangedAlike (given_by d (markSet d lamp mark)) (given_by e (markSet e lamp mark))
   enabled-alike lamp mark =
       by_tests (isNoLamp d lamp) refl (isNoneLeft (left d)) refl (eqb d.own.power off) refl
     where
@@ -87,7 +90,8 @@ module _ (p : ℕ) (d e : Device) (same : SameElsewhere ours p d e) (legal-d : i
       idle = ap (λ (o : Own). eqb o.power off) same.device.own
 
       by_tests : (t : Bool) → isNoLamp d lamp ≡ t → (u : Bool) → isNoneLeft (set d.own.enabled lamp mark) ≡ u
-          → (v : Bool) → eqb d.own.power off ≡ v → ChangedAlike (markSet d lamp mark) (markSet e lamp mark)
+          → (v : Bool) → eqb d.own.power off ≡ v
+          → ChangedAlike (given_by d (markSet d lamp mark)) (given_by e (markSet e lamp mark))
       by_tests true x u y v z =
           rw (mark-nowhere d lamp mark legal-d x, mark-nowhere e lamp mark legal-e (there ∙ x)) (refl, same)
       by_tests false x true y v z =

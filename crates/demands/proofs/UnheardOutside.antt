@@ -14,7 +14,7 @@ use Rattle.record.specs.Record.{closed}
 use Rattle.record.specs.Places.{noConnection, connectionAt}
 use Rattle.record.specs.Wanted.{Wanted}
 use Rattle.record.specs.declared.types.Connection.{Connection}
-use Rattle.record.specs.declared.types.Changed.{Changed}
+use Rattle.record.specs.Given.{Given}
 use Rattle.record.specs.declared.types.Device.{Device}
 use Rattle.record.proofs.Spelt.{closed-spelt}
 use Rattle.record.proofs.Calls.{fault-set-by, errors-set-by, mark-set-by}
@@ -41,11 +41,11 @@ settings-stay d (closes q) = closing-keeps-settings d q
 settings-stay d (receives q bs m) = receiving-keeps-settings d q bs (length m)
 settings-stay d (passes n) = (passed-leaves d n).settings
 settings-stay d (marks fault) =
-    fault-set-by d (λ (r : Changed). r.device.settings ≡ d.settings) fault refl (λ h. refl)
+    fault-set-by d (λ (r : Given Device). r.device.settings ≡ d.settings) fault refl (λ h. refl)
 settings-stay d (reports errors) =
-    errors-set-by d (λ (r : Changed). r.device.settings ≡ d.settings) errors refl refl (λ h k. refl)
+    errors-set-by d (λ (r : Given Device). r.device.settings ≡ d.settings) errors refl refl (λ h k. refl)
 settings-stay d (enables lamp mark) =
-    mark-set-by d (λ (r : Changed). r.device.settings ≡ d.settings) lamp mark (λ n z. refl) (λ h i l p. refl)
+    mark-set-by d (λ (r : Given Device). r.device.settings ≡ d.settings) lamp mark (λ n z. refl) (λ h i l p. refl)
 
 module _ (p : ℕ) (s : Session) (d : Device) (out : Outside p s d) where
   -- ---- any call
@@ -78,15 +78,15 @@ module _ (p : ℕ) (s : Session) (d : Device) (out : Outside p s d) where
   outside-after (passes n) u = goes_on (passes n) (passed-legal d n out.legal) (passing-stands p s d out n)
   outside-after (marks fault) u =
       goes_on (marks fault) (fault-legal d out.legal fault)
-      (fault-set-by d (λ (r : Changed). Standing s (connectionAt r.device p)) fault out.standing
+      (fault-set-by d (λ (r : Given Device). Standing s (connectionAt r.device p)) fault out.standing
       (λ h. out.standing))
   outside-after (reports errors) u =
       goes_on (reports errors) (errors-legal d out.legal errors)
-      (errors-set-by d (λ (r : Changed). Standing s (connectionAt r.device p)) errors out.standing
+      (errors-set-by d (λ (r : Given Device). Standing s (connectionAt r.device p)) errors out.standing
       out.standing (λ h k. out.standing))
   outside-after (enables lamp mark) u =
       goes_on (enables lamp mark) (mark-legal d out.legal lamp mark)
-      (mark-set-by d (λ (r : Changed). Standing s (connectionAt r.device p)) lamp mark (λ n z. out.standing)
+      (mark-set-by d (λ (r : Given Device). Standing s (connectionAt r.device p)) lamp mark (λ n z. out.standing)
       (λ h i l k. out.standing))
 
   -- ---- the calls at his place touch nothing else

@@ -15,7 +15,7 @@ use Rattle.record.specs.Legal.{isLegal}
 use Rattle.record.specs.Record.{closed}
 use Rattle.record.specs.Places.{connectionAt, withPlace, lowestShut}
 use Rattle.record.specs.declared.types.Connection.{Connection}
-use Rattle.record.specs.declared.types.Changed.{Changed}
+use Rattle.record.specs.Given.{Given}
 use Rattle.record.specs.declared.types.Device.{Device}
 use Rattle.record.proofs.LegalTold.{legal-places}
 use Rattle.record.proofs.ConnectionsTold.{placed-here, placed-elsewhere, placed-either}
@@ -79,7 +79,7 @@ module _ (p : ℕ) (s : Session) (d : Device) (out : Outside p s d) where
 
   pub passing-stands : (n : ℕ) → Standing s (connectionAt (after ours d (passes n)) p)
   passing-stands n =
-      passed-by (λ (r : Changed). Standing s (connectionAt r.device p)) d n (λ h. out.standing)
+      passed-by (λ (r : Given Device). Standing s (connectionAt r.device p)) d n (λ h. out.standing)
       (λ h. subst (Standing s) (sym (place-passes n d p)) (stands-later n s (connectionAt d p) out.standing))
 
   -- ---- receiving

@@ -9,7 +9,8 @@ use Rattle.std.specs.Prelude.{ℕ, ◌≡◌}
 use Rattle.record.specs.declared.types.Device.{Device}
 use Rattle.record.specs.Places.{withPlace, lowestShut}
 use Rattle.device.specs.Calls.{greeting, greeted}
-use Rattle.ours.specs.Board.{Board, Given, Lent, reply}
+use Rattle.ours.specs.Board.{Board, Lent, reply}
+use Rattle.record.specs.Given.{Given}
 
 pub record OpenedAs (B : Board) (d : B.Record) (random place : ℕ) (r : Lent B.Record) : Type 0 where
   pub replied : reply r ≡ greeting (B.shows d).settings random

@@ -4,20 +4,21 @@
 -- That a call ends is no field below: each call of a board is a function, and a Rattle function meets its contract only
 -- if it ends.
 -- TO BELIEVE IT, believe, and nothing else: the rows below, against the table of RULES, The numbers a call gives, those
--- of opening, closing and receiving as device/specs/Calls has them, those of a mark as record/specs/HostCalls has them
--- (RULES, Lamps), with `replyRoom` and `isNoPlace`, and `isShut`, `connectionAt`, `lowestShut` of record/specs/Places
--- (RULES, Places), those of storing and loading as form/specs/Form and stored/specs/Loading have them, against the
--- order of RULES, Stored form, with numbers in bytes as numbers/specs/HighestFirst has them; what is legal and what is
--- in range (record/specs: Limits, Rules, Legal, SetUp, and `blank` of Record; lines/specs: Bytes, Inputs, Texts;
--- utf8/specs: Utf8); the length 168 (`commandRoom` of controller/specs/Writing); for the readers, the forms of lines
--- (lines/specs: Forms, Commands; `isBody` of requests/specs/Requests) and which parameter says what (answers/specs:
--- Lists, Said, CanSay; replies/specs: Words, Writings; `greets`, `randomIn` of controller/specs/Greetings);
--- ours/specs/Board; here Calls.
+-- of opening, closing and receiving as device/specs/Calls has them, with `isNoLamp` and `isNoneLeft` of
+-- record/specs/HostCalls (RULES, Lamps), with `replyRoom` and `isNoPlace`, and `isShut`, `connectionAt`, `lowestShut`
+-- of record/specs/Places (RULES, Places), those of storing and loading as form/specs/Form and stored/specs/Loading have
+-- them, against the order of RULES, Stored form, with numbers in bytes as numbers/specs/HighestFirst has them; what is
+-- legal and what is in range (record/specs: Limits, Rules, Legal, SetUp, and `blank` of Record; lines/specs: Bytes,
+-- Inputs, Texts; utf8/specs: Utf8); the length 168 (`commandRoom` of controller/specs/Writing); for the readers, the
+-- forms of lines (lines/specs: Forms, Commands; `isBody` of requests/specs/Requests) and which parameter says what
+-- (answers/specs: Lists, Said, CanSay; replies/specs: Words, Writings; `greets`, `randomIn` of
+-- controller/specs/Greetings); ours/specs/Board; here Calls.
 --   rows_of d c         the rows that the call c can meet, in the table's order; so for set-up, writer and readers
 --   Inside m r          a call that is lent the memory m stays in it, and changes no byte past its reply
 --   Untouched m r       it took nothing, replied nothing and wrote nothing
 -- Assumes nothing.
-use Rattle.std.specs.Prelude.{ℕ, ◌≤◌, ◌≡◌, Bool, true, false, not, List, [], ◌∷◌, length, drop, ltb}
+use Rattle.std.specs.Prelude.{ℕ, ◌≤◌, ◌≡◌, Bool, true, false, not, ◌||◌, List, [], ◌∷◌, set}
+use Rattle.std.specs.Prelude.{length, drop, ltb, eqb}
 use Rattle.text.specs.Rows.{Row, ◌when◌, first_of}
 use Rattle.text.specs.Scans.{sameBy, itself}
 use Rattle.pjlink.specs.Forms.{erraLine, greetingOpen, isReplyForm, headBody, replyParameter}
@@ -30,7 +31,8 @@ use Rattle.record.specs.Wanted.{Wanted}
 use Rattle.record.specs.Rules.{isLongEnough, isErrors}
 use Rattle.record.specs.Legal.{isLegal}
 use Rattle.record.specs.Record.{blank}
-use Rattle.record.specs.HostCalls.{markRows}
+use Rattle.record.specs.Limits.{off}
+use Rattle.record.specs.HostCalls.{isNoLamp, isNoneLeft}
 use Rattle.record.specs.SetUp.{isInRange}
 use Rattle.record.specs.declared.types.Device.{Device}
 use Rattle.form.specs.Form.{storingRows}
@@ -46,6 +48,12 @@ use Rattle.demands.specs.Calls.{Call, opens, closes, receives, passes, marks, re
 
 abbrev isIllegal : Device → Bool
 isIllegal d = not (isLegal d)
+
+-- of a lamp's mark: no such lamp, or the last mark cleared; then any power but off (RULES, Lamps)
+abbrev pub markRows : Device → ℕ → Bool → List Row
+markRows d k m =
+    (1 when isIllegal d) ∷ (3 when (isNoLamp d k || isNoneLeft (set d.own.enabled k m)))
+    ∷ (7 when not (eqb d.own.power off)) ∷ []
 
 abbrev pub rows_of : Device → Call → List Row
 rows_of d (opens random m) = openingRows d (length m)

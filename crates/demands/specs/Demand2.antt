@@ -54,7 +54,7 @@ use Rattle.device.specs.Calls.{longestReply, replyRoom, isSecured}
 use Rattle.controller.specs.Writing.{commandRoom, ledBy}
 use Rattle.controller.specs.Reading.{meaning, LineSays}
 use Rattle.controller.specs.Greetings.{Exactly, greetedOn}
-use Rattle.controller.specs.declared.reading.Outcome.TheVariants.{Means, Erra}
+use Rattle.controller.specs.Reading.{Means, Erra}
 use Rattle.ours.specs.Board.{Board, Lent, Wrote, reply, bytesWritten}
 use Rattle.demands.specs.Calls.{Call, opens, closes, receives, passes, marks, reports, enables, after}
 use Rattle.demands.specs.CallsDone.{OpenedAs, Leaves}

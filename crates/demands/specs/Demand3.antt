@@ -25,7 +25,7 @@ use Rattle.pjlink.specs.Commands.{commandLine}
 use Rattle.pjlink.specs.declared.command.Command.TheVariants.{Query}
 use Rattle.pjlink.specs.declared.command.Body.TheVariants.{Lamp}
 use Rattle.pjlink.specs.Said.{lampsAre, saidBytes}
-use Rattle.pjlink.specs.declared.answer.LampHours.{LampHours}
+use Rattle.words.specs.declared.lamp.LampHours.{LampHours}
 use Rattle.record.specs.Limits.{lampLimit, opened}
 use Rattle.record.specs.Wanted.{Wanted}
 use Rattle.record.specs.Legal.{isLegal}
@@ -35,7 +35,8 @@ use Rattle.clock.specs.Second.{times, second}
 use Rattle.clock.specs.Passing.{secondsMost}
 use Rattle.device.specs.Calls.{replyRoom}
 use Rattle.controller.specs.Reading.{meaning}
-use Rattle.ours.specs.Board.{Board, Given, reply}
+use Rattle.ours.specs.Board.{Board, reply}
+use Rattle.record.specs.Given.{Given}
 use Rattle.demands.specs.Calls.{Call, run}
 use Rattle.demands.specs.CallsDone.{Leaves}
 use Rattle.demands.specs.Demand2.{BetweenLines}

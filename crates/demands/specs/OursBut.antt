@@ -7,7 +7,8 @@ use Rattle.pjlink.specs.declared.command.Command.{Command}
 use Rattle.record.specs.Wanted.{Wanted}
 use Rattle.record.specs.declared.types.Device.{Device}
 use Rattle.controller.specs.Reading.{ReadAs}
-use Rattle.ours.specs.Board.{Board, Given, Lent, ours}
+use Rattle.ours.specs.Board.{Board, Lent, ours}
+use Rattle.record.specs.Given.{Given}
 
 module _ (set-up : Wanted → Given Device) (opening : Device → ℕ → List ℕ → Lent Device)
     (closing : Device → ℕ → Given Device) (receive : Device → ℕ → List ℕ → List ℕ → Lent Device)

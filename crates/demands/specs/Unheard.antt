@@ -25,7 +25,8 @@ use Rattle.record.specs.Wanted.{Wanted}
 use Rattle.record.specs.Places.{connectionAt}
 use Rattle.device.specs.Receiving.{passwordOf}
 use Rattle.device.specs.Calls.{isSecured}
-use Rattle.ours.specs.Board.{Board, Given, Lent}
+use Rattle.ours.specs.Board.{Board, Lent}
+use Rattle.record.specs.Given.{Given}
 use Rattle.demands.specs.Calls.{Call, opens, closes, receives, passes, marks, reports, enables, after, run}
 use Rattle.demands.specs.Outsider.{unopened, NeverMatched, SameDevicePart}
 

@@ -9,7 +9,7 @@ use Rattle.record.specs.Limits.{volumeMost}
 use Rattle.record.specs.Updates.{withOwn, withVolumes}
 use Rattle.record.specs.declared.types.Device.{Device}
 use Rattle.controller.specs.Reading.{without, readReply}
-use Rattle.controller.specs.declared.reading.Outcome.TheVariants.{NotAllowed}
+use Rattle.controller.specs.Reading.{NotAllowed}
 use Rattle.ours.specs.Board.{Board, ours, lent_by}
 use Rattle.demands.specs.OursBut.{butReceive, butReader}
 

@@ -5,7 +5,8 @@ use Rattle.std.specs.Prelude.{ℕ, ◌*◌, ◌/◌, Bool, false, not, ◌&&◌,
 use Rattle.record.specs.Limits.{isLit}
 use Rattle.record.specs.Updates.{withOwn, withSeconds}
 use Rattle.record.specs.declared.types.Device.{Device}
-use Rattle.ours.specs.Board.{Board, Given, Lent, ours}
+use Rattle.ours.specs.Board.{Board, Lent, ours}
+use Rattle.record.specs.Given.{Given}
 use Rattle.demands.specs.OursBut.{butReceive, butPass}
 
 abbrev pub stillClock : Board

@@ -17,9 +17,10 @@ use Rattle.stream.specs.Collecting.{emptyLine}
 use Rattle.record.specs.Places.{connectionAt, withPlace}
 use Rattle.device.specs.Calls.{refusedBy}
 use Rattle.controller.specs.Reading.{ReadAs, meaning, without, readReply}
-use Rattle.controller.specs.declared.reading.Outcome.{Outcome}
-use Rattle.controller.specs.declared.reading.Outcome.TheVariants.{Means, Erra, NotALine, OtherCommand, NotAllowed}
-use Rattle.ours.specs.Board.{Board, Given, Lent, ours, lent_by}
+use Rattle.controller.specs.Reading.{Outcome}
+use Rattle.controller.specs.Reading.{Means, Erra, NotALine, OtherCommand, NotAllowed}
+use Rattle.ours.specs.Board.{Board, Lent, ours, lent_by}
+use Rattle.record.specs.Given.{Given}
 use Rattle.demands.specs.OursBut.{butReceive, butReader}
 
 -- takes every byte, and says this to them

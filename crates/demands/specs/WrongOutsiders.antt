@@ -12,7 +12,8 @@ use Rattle.record.specs.Updates.{withOwn, withErrors}
 use Rattle.record.specs.declared.types.Device.{Device}
 use Rattle.record.specs.Places.{connectionAt, withPlace}
 use Rattle.device.specs.Calls.{isNoPlace}
-use Rattle.ours.specs.Board.{Board, Given, Lent, ours}
+use Rattle.ours.specs.Board.{Board, Lent, ours}
+use Rattle.record.specs.Given.{Given}
 use Rattle.demands.specs.OursBut.{butReceive}
 
 abbrev failsNow : Device → ℕ → Device → Bool

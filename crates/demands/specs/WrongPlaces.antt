@@ -8,7 +8,8 @@ use Rattle.record.specs.Places.{connectionAt, withPlace}
 use Rattle.record.specs.declared.types.Line.{Line}
 use Rattle.record.specs.declared.types.Device.{Device}
 use Rattle.stream.specs.Collecting.{emptyLine}
-use Rattle.ours.specs.Board.{Board, Given, Lent, ours}
+use Rattle.ours.specs.Board.{Board, Lent, ours}
+use Rattle.record.specs.Given.{Given}
 
 module _ {X : Type 0} where
   abbrev givenBeside : X → Given Device → Given (Device × X)

@@ -15,7 +15,7 @@ use Rattle.text.specs.Words.{ascii}
 use Rattle.text.specs.Scans.{sameBy}
 use Rattle.text.proofs.Choices.{if-by}
 use Rattle.words.specs.Bytes.{◌at◌, upperOf}
-use Rattle.pjlink.specs.Commands.{switchDigit}
+use Rattle.words.specs.Powers.{switch_code}
 use Rattle.pjlink.specs.Forms.{headBody, classNamed, lineClass, isCommandForm, commandParameter, replyLine}
 use Rattle.pjlink.specs.declared.command.Body.TheVariants.{Powr}
 use Rattle.pjlink.specs.declared.command.Command.TheVariants.{PowerSet}
@@ -71,18 +71,18 @@ okay-reply a b c d e = okay-by-parts a b c d (ascii "OK") ∙ ap (λ (t : Bool).
 
 -- a line of the form with a parameter of one byte is spelt by its parts
 abbrev pub powerLine : (a b c d : ℕ) (wanted : Bool) → List ℕ
-powerLine a b c d wanted = ascii "%1" ++ (a ∷ b ∷ c ∷ d ∷ []) ++ ascii " " ++ (switchDigit wanted ∷ [])
+powerLine a b c d wanted = ascii "%1" ++ (a ∷ b ∷ c ∷ d ∷ []) ++ ascii " " ++ (switch_code wanted ∷ [])
 
 -- with its CR it is read, in any case of letters, as a set to that power and to no other
 abbrev pub isPowerLine : Bool → List ℕ → Bool
-isPowerLine v l = sameBy upperOf l (ascii "%1POWR " ++ (switchDigit v ∷ ascii "\r"))
+isPowerLine v l = sameBy upperOf l (ascii "%1POWR " ++ (switch_code v ∷ ascii "\r"))
 
 abbrev isSame : Bool → Bool → Bool
 isSame true v = v
 isSame false v = not v
 
 switch-read : (w v : Bool)
-    → sameBy upperOf (switchDigit w ∷ ascii "\r") (switchDigit v ∷ ascii "\r") ≡ isSame w v
+    → sameBy upperOf (switch_code w ∷ ascii "\r") (switch_code v ∷ ascii "\r") ≡ isSame w v
 switch-read true true = refl
 switch-read true false = refl
 switch-read false true = refl
@@ -101,7 +101,7 @@ module _ (a b c d : ℕ) (powr : isBody 1 (a ∷ b ∷ c ∷ d ∷ []) Powr ≡ 
   line-by-parts v =
       four-and (eqb (upperOf a) (code "P")) (eqb (upperOf b) (code "O")) (eqb (upperOf c) (code "W"))
       (eqb (upperOf d) (code "R"))
-      (sameBy upperOf (switchDigit wanted ∷ ascii "\r") (switchDigit v ∷ ascii "\r"))
+      (sameBy upperOf (switch_code wanted ∷ ascii "\r") (switch_code v ∷ ascii "\r"))
       ∙ (λ i. powr i && switch-read wanted v i)
 
   pub power-line-read : isPowerLine wanted (powerLine a b c d wanted ++ ascii "\r") ≡ true

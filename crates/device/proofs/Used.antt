@@ -6,9 +6,16 @@ use mathlib.Core.List.{List}
 use mathlib.Core.Logic.{⊎_elim}
 use native.Mathlib.Omega.{arith}
 use lib.ListN.{length, take, drop, length-take, drop_of_length-le}
+use lib.Seq.{take_all}
 use Rattle.text.proofs.Orders.{le-or-lt}
 use Rattle.text.proofs.Parts.{drop-take}
-use Rattle.pjlink.proofs.Counts.{take_min}
+
+take_min : (n m : ℕ) (l : List ℕ) → length l ≡ m → take (min n m) l ≡ take n l
+take_min n m l e =
+    ⊎_elim
+    (λ (h : n ≤ m). let within : min n m ≡ n = omega arith in ap (λ (k : ℕ). take k l) within)
+    (λ (h : m < n). take_all (min n m) l (omega arith) ∙ sym (take_all n l (omega arith)))
+    (le-or-lt n m)
 
 module _ (n room : ℕ) (s : List ℕ) (long : length s ≡ room) where
   pub used-from : (from : ℕ) {held start : ℕ} → held ≡ min n room → start ≡ min from held

@@ -1,14 +1,15 @@
--- A reply put into lent memory piece by piece is the reply over that memory.
+-- A reply written onto a line and put into lent memory is the reply over that memory; so is a greeting put there piece
+-- by piece.
 -- Assumes nothing.
 use Prim.Native.Nat.{ℕ, ◌+◌, ◌≤◌}
 use Prim.Native.Char.{code}
-use mathlib.Core.Path.{◌≡◌, ◌∙◌}
+use mathlib.Core.Path.{◌≡◌, ap, ◌∙◌}
 use mathlib.Core.List.{List, [], ◌∷◌, ◌++◌}
 use native.Mathlib.Omega.{arith}
-use lib.ListN.{length, set, length-append}
+use lib.ListN.{length, length-append}
 use lib.Seq.{sets}
 use Rattle.text.specs.Words.{ascii, over}
-use Rattle.text.proofs.Stores.{sets-snoc, sets_then, sets_over}
+use Rattle.text.proofs.Stores.{sets_then, sets_over}
 use Rattle.pjlink.specs.Forms.{replyLine, greetingSecured}
 
 pub reply-long : (h a b c d : ℕ) (p : List ℕ) → length (replyLine h a b c d p) ≡ 7 + length p + 1
@@ -18,11 +19,14 @@ module _ (h a b c d : ℕ) (p out : List ℕ) (room : 136 ≤ length out) (short
   abbrev head : List ℕ
   head = ascii "%" ++ (h ∷ a ∷ b ∷ c ∷ d ∷ []) ++ ascii "="
 
-  pub reply-written : {m n : List ℕ} {end : ℕ} → m ≡ sets out 0 head → n ≡ sets m 7 p → end ≡ 7 + length p
-      → set n end (code "\r") ≡ over (replyLine h a b c d p) out
-  reply-written {m} {n} {end} e f g =
-      let all : length (head ++ p) ≡ 7 + length p = length-append head p in
-      sets-snoc out 0 (head ++ p) (code "\r") (f ∙ sets_then out 0 head p e (omega arith)) (omega arith)
+  -- head, parameter and CR onto a line that was empty, and the line into the lent memory
+  pub reply-written : {none first said all m : List ℕ} → none ≡ [] → first ≡ none ++ head → said ≡ first ++ p
+      → all ≡ said ++ ascii "\r"
+      → m ≡ sets out 0 all
+      → m ≡ over (replyLine h a b c d p) out
+  reply-written n f s w e =
+      e
+      ∙ ap (sets out 0) (w ∙ ap (λ y. y ++ ascii "\r") (s ∙ ap (λ x. x ++ p) (f ∙ ap (λ z. z ++ head) n)))
       ∙ sets_over (replyLine h a b c d p) out (omega (arith, reply-long h a b c d p))
 
 pub greeting-written : (digits out : List ℕ) {m n l : List ℕ} → length digits ≡ 8 → 136 ≤ length out

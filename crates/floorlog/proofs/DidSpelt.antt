@@ -3,6 +3,7 @@
 use Prim.Native.Nat.{ℕ}
 use mathlib.Core.Path.{◌≡◌, refl}
 use mathlib.Core.List.{List}
+use Rattle.record.specs.Given.{given_by}
 use Rattle.record.specs.declared.types.Device.{Device}
 use Rattle.clock.specs.Passing.{passed}
 use Rattle.device.specs.Calls.{made, replyRoom, received, closedBy}
@@ -18,7 +19,7 @@ module _ (d : Device) where
   unfolding did
   did-receiving bs = refl
 
-  pub did-passing : (n : ℕ) → did d (passes n) ≡ changedTo (passed d n)
+  pub did-passing : (n : ℕ) → did d (passes n) ≡ changedTo (given_by d (passed d n))
   unfolding did
   did-passing n = refl
 

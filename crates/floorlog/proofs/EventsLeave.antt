@@ -5,7 +5,9 @@ use mathlib.Core.Path.{◌≡◌, refl, ap}
 use mathlib.Core.Bool.{false}
 use mathlib.Core.List.{List}
 use Prim.Native.Nat.{ℕ}
-use Rattle.std.specs.Prelude.{if◌then◌else◌}
+use Rattle.std.specs.Prelude.{Result, if◌then◌else◌}
+use Rattle.record.specs.Given.{given_by}
+use Rattle.record.specs.declared.refusal.Refusal.{Refusal}
 use Rattle.record.specs.Legal.{isLegal}
 use Rattle.record.specs.declared.types.Device.{Device}
 use Rattle.clock.proofs.Cases.{passed-illegal}
@@ -47,6 +49,6 @@ module _ (d : Device) where
   unfolding did
   did-illegal (Opens r) bs h = log-opened-illegal d r h
   did-illegal Receives bs h = received-illegal d logPlace bs replyRoom h
-  did-illegal (Passes n) bs h = ap changedTo (passed-illegal d n h)
+  did-illegal (Passes n) bs h = ap (λ (r : Result Device Refusal). changedTo (given_by d r)) (passed-illegal d n h)
   did-illegal Closes bs h = closed-illegal d logPlace h
   did-illegal NoSuch bs h = refl

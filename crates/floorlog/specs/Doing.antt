@@ -16,12 +16,12 @@ use Rattle.numbers.specs.Decimal.{digits, longDigits}
 use Rattle.record.specs.Legal.{isLegal}
 use Rattle.record.specs.Places.{connectionAt, isShut}
 use Rattle.record.specs.declared.types.Device.{Device}
-use Rattle.record.specs.declared.types.Changed.{Changed}
+use Rattle.record.specs.Given.{Given, given_by}
 use Rattle.clock.specs.Passing.{passed}
 use Rattle.device.specs.Calls.{Result, refusedBy, made, replyRoom, received, openedBy, closedBy}
 use Rattle.floorlog.specs.Events.{LogEvent, opens, receives, passes, closes, noSuch}
 
-abbrev pub changedTo : Changed → Result Device
+abbrev pub changedTo : Given Device → Result Device
 changedTo c = record { number = c.number; taken = 0; reply = []; device = c.device }
 
 abbrev pub logPlace : ℕ
@@ -37,7 +37,7 @@ openedInLog d r = byRows (logOpeningRows d) (λ n. refusedBy n d) (openedBy d r 
 unfoldable pub did : Device → LogEvent → Result Device
 did d (opens r) = openedInLog d r
 did d (receives bs) = received d logPlace bs replyRoom
-did d (passes n) = changedTo (passed d n)
+did d (passes n) = changedTo (given_by d (passed d n))
 did d closes = closedBy d logPlace
 did d noSuch = made d
 

@@ -6,7 +6,9 @@
 -- Assumes nothing.
 use Rattle.std.specs.Prelude.{ℕ, ◌+◌, List, [], ◌∷◌, ◌++◌}
 use Rattle.text.specs.Words.{ascii}
+use Rattle.record.specs.Given.{left_by}
 use Rattle.record.specs.Wanted.{wantedOf}
+use Rattle.record.specs.Record.{blank}
 use Rattle.record.specs.SetUp.{setUp}
 use Rattle.record.specs.declared.types.Device.{Device}
 use Rattle.floorlog.specs.LastLine.{lastLine}
@@ -22,7 +24,7 @@ linesPrinted n d [] = []
 linesPrinted n d (e ∷ es) = printed (n + 1) e (did d e) ++ linesPrinted (n + 1) (did d e).device es
 
 unfoldable pub sampleDevice : Device
-sampleDevice = (setUp (wantedOf [] [] [] [] [] (ascii "11") (0 ∷ []) 20 60)).device
+sampleDevice = left_by blank (setUp (wantedOf [] [] [] [] [] (ascii "11") (0 ∷ []) 20 60))
 
 unfoldable pub replayed : Device → List ℕ → List ℕ
 replayed d log = linesPrinted 0 d (events log) ++ lastLine (stateAfter d (events log))

@@ -3,8 +3,6 @@ ghost use Rattle.std.specs.Prelude.{◌≡◌};
 ghost use Rattle.digest.specs.Hex.{isHexDigit};
 ghost use Rattle.floorlog.specs.Lines.{randomSaid, secondsSaid, formSaid, lineSaid};
 
-use numbers::Number;
-
 /// What a line says: one event, or that it has no such form.
 #[derive(Clone, Copy)]
 pub enum Says {
@@ -57,7 +55,7 @@ fn seconds_said(s: &[u8]) -> Says
         return Says::NoSuch;
     }
     let read = numbers::read_digits(s);
-    let Number::Value(v) = read else {
+    let Some(v) = read else {
         return Says::NoSuch;
     };
     if SECONDS_MOST < v {

@@ -1,5 +1,5 @@
 -- Every answer of a legal projector is one that its command can have (`CanSay`), and so it fits a reply.
---   Fits m      m has room in the arrays and comes back out of them; its parameter has at most 128 bytes and no CR
+--   Fits m      the parameter that says m has at most 128 bytes and no CR
 -- Assumes nothing.
 use Prim.Native.Nat.{ℕ, ◌+◌, ◌*◌, ◌/◌, ◌<◌, ◌≤◌}
 use mathlib.Core.Path.{◌≡◌, refl, sym, ap, ◌∙◌}
@@ -7,12 +7,12 @@ use mathlib.Core.Bool.{Bool, true, false, ◌||◌, false≢true, or-true}
 use native.Mathlib.Omega.{arith}
 use lib.ListN.{length, get_or, take}
 use borrow.Author.Tests.{leb-true, le-leb, eqb-false, not-false}
+use Rattle.std.specs.Prelude.{Option, unwrap_or}
 use Rattle.text.specs.Scans.{every}
 use Rattle.text.proofs.Scanning.{every-by-place}
 use Rattle.words.specs.Bytes.{noCr}
 use Rattle.words.specs.Inputs.{isInput}
 use Rattle.pjlink.specs.Bodies.{hasParameters}
-use Rattle.words.specs.declared.input.MaybeInput.{MaybeInput}
 use Rattle.pjlink.specs.declared.command.Body.TheVariants.{Powr, Inpt, Avmt, Erst, Lamp, Inst, Name, Inf1, Inf2, Info}
 use Rattle.pjlink.specs.declared.command.Body.TheVariants.{Clss, Frez, Svol, Mvol, Snum, Sver, Innm, Inpt2, Inst2}
 use Rattle.pjlink.specs.declared.command.Command.{Command}
@@ -20,14 +20,16 @@ use Rattle.pjlink.specs.declared.command.Command.TheVariants.{PowerSet, InputSet
 use Rattle.pjlink.specs.declared.command.Command.TheVariants.{InputSet2, FreezeSet, VolumeStep, NameQuery}
 use Rattle.words.proofs.InputsReadBack.{named-is-input}
 use Rattle.words.proofs.SourcesFollowed.{named-stands}
+use Rattle.words.specs.declared.input.Input.{Input}
 use Rattle.pjlink.specs.declared.request.Request.{Request}
 use Rattle.pjlink.specs.declared.request.Request.TheVariants.{Asks, Unlisted, UnknownBody}
 use Rattle.pjlink.specs.Said.{Said, saidBytes, saidMost}
-use Rattle.pjlink.specs.Carried.{inputsCarried, answer_of, saidBy, isSayable}
+use Rattle.pjlink.specs.Carried.{inputsCarried}
 use Rattle.pjlink.specs.CanSay.{hasOwnParameter, isRefusalTo}
 use Rattle.pjlink.specs.CanSay.{CanSay, done, refuses, power, input, mutes, errors, lamps, inputs, name, maker, model}
-use Rattle.pjlink.specs.CanSay.{other, class-is, freeze, serial, version, input-name, input-2, inputs-2, isLampHours}
-use Rattle.pjlink.proofs.SaidPlain.{can-sayable, can-said-back, said-most, said_plain}
+use Rattle.pjlink.specs.CanSay.{other, class-is, freeze, serial, version, input-name, input-2, inputs-2}
+use Rattle.words.specs.Lamps.{is_lamp_hours}
+use Rattle.pjlink.proofs.SaidPlain.{said-most, said_plain}
 use Rattle.record.specs.Limits.{inputRoom, lampsMost, lampLimit, isLit}
 use Rattle.record.specs.Rules.{isLamp, isLamps, isInputs}
 use Rattle.record.specs.Legal.{isSettings, isOwn}
@@ -39,7 +41,7 @@ use Rattle.record.proofs.SettingsTold.{input-count-low, input-count-high, input-
 use Rattle.record.proofs.SettingsTold.{serial-told, version-told, name-at}
 use Rattle.record.specs.Facts.{IsOwn, IsSettings}
 use Rattle.record.proofs.FactsTold.{own_is, settings_is}
-use Rattle.meaning.specs.SetUpInputs.{noInput, inputOrNone, pairsOf, inputsOf, place_of}
+use Rattle.meaning.specs.SetUpInputs.{noInput, pairsOf, inputsOf, place_of}
 use Rattle.meaning.specs.Rules.{isUndefined, isUnlisted}
 use Rattle.meaning.proofs.LampsSaid.{said-length, each-said}
 use Rattle.meaning.specs.Meaning.{chosen_of, lampSaid, lampsOf, tableAnswer, meant}
@@ -60,7 +62,7 @@ module _ (s : Settings) (t : IsSettings s) where
       let b = get_or s.inputs (2 * k + 1) 0 in
       let named = input-at s t k h in
       ap isInput (input-in-use s.inputs s.input_count k h room noInput)
-      ∙ ap (λ (m : MaybeInput). isInput (inputOrNone m)) (named-stands a b 2 named)
+      ∙ ap (λ (m : Option Input). isInput (unwrap_or m noInput)) (named-stands a b 2 named)
       ∙ named-is-input 2 a b named
 
   pub listed-inputs : every isInput (inputsOf s) ≡ true
@@ -68,7 +70,7 @@ module _ (s : Settings) (t : IsSettings s) where
       every-by-place isInput noInput (inputsOf s) (λ k h. listed-input k (omega (arith, inputs-number)))
 
 -- a lamp within the limit has hours of five digits
-lamp-hours : (lit : Bool) (x : ℕ) → isLamp x ≡ true → isLampHours (lampSaid lit x) ≡ true
+lamp-hours : (lit : Bool) (x : ℕ) → isLamp x ≡ true → is_lamp_hours (lampSaid lit x) ≡ true
 lamp-hours lit x e = le-leb (x / 3600) 99999 (omega (arith, leb-true x lampLimit e))
 
 -- ERRn but ERR2 may refuse any command, ERR2 one with a parameter of its own
@@ -117,7 +119,7 @@ module _ (s : Settings) (o : Own) (settings : isSettings s ≡ true) (own : isOw
   told-can-be-said (Query Lamp) e =
       let some = eqb-false s.lamp_count 0 e in
       lamps (lampsOf s o) (omega (arith, lamps-many, some)) (omega (arith, lamps-many, set-up.lamps))
-      (each-said (isLit o.power) isLamp isLampHours lamp-hours o.enabled (take s.lamp_count o.lamps)
+      (each-said (isLit o.power) isLamp is_lamp_hours lamp-hours o.enabled (take s.lamp_count o.lamps)
       (lamps-within _ kept.lamps.follows))
   told-can-be-said (Query Inst) e = inputs (inputsOf s) inputs-some inputs-few (listed-inputs s set-up)
   told-can-be-said (Query Name) e = name _ set-up.name.follows
@@ -167,17 +169,10 @@ module _ (s : Settings) (o : Own) (settings : isSettings s ≡ true) (own : isOw
   answer-can-be-said UnknownBody = always-refused UnknownBody (λ p. false≢true (sym p.defined))
 
 pub record Fits (m : Said) : Type 0 where
-  pub sayable : isSayable m ≡ true
-  pub back : saidBy (answer_of m) ≡ m
   pub short : length (saidBytes m) ≤ saidMost
   pub no-cr : noCr (saidBytes m) ≡ true
 
 pub meant-fits : (s : Settings) (o : Own) → isSettings s ≡ true → isOwn s o ≡ true → (r : Request) → Fits (meant s o r)
 meant-fits s o settings own r =
     let w = answer-can-be-said s o settings own r in
-    record {
-      sayable = can-sayable w;
-      back = can-said-back w;
-      short = said-most w;
-      no-cr = (said_plain w).1;
-    }
+    record { short = said-most w; no-cr = (said_plain w).1 }

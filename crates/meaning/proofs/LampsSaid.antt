@@ -9,7 +9,7 @@ use native.Mathlib.Omega.{arith}
 use lib.ListN.{length, get_or, take}
 use Rattle.text.specs.Scans.{every}
 use Rattle.text.proofs.Choices.{both, both_left, both_right}
-use Rattle.pjlink.specs.declared.answer.LampHours.{LampHours}
+use Rattle.words.specs.declared.lamp.LampHours.{LampHours}
 use Rattle.meaning.specs.Meaning.{lampSaid, lampsSaid}
 
 never-lit : (lit : Bool) → (lit && false) ≡ false

@@ -1,4 +1,3 @@
-pub mod Filling
 pub mod InputsByPlace
 pub mod Cases
 pub mod ClassKnown
@@ -9,5 +8,4 @@ pub mod PowerSets
 pub mod InputSets
 pub mod LampsSaid
 pub mod LampsTold
-pub mod Results
 pub mod Settled

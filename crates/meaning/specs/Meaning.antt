@@ -7,7 +7,6 @@
 --                         the same of a request; one that is no command is always refused, so `nothing` is never said
 --   meant s o r           the answer to the request r
 --   done s o r            the own part after it
---   decided s o r         both, the answer as it is carried
 -- Assumes nothing.
 use Rattle.std.specs.Prelude.{ℕ, ◌+◌, ◌-◌, ◌/◌, Bool, false, not, ◌&&◌, ◌||◌, List, [], ◌∷◌, take, get_or, ltb, eqb}
 use Rattle.std.specs.Prelude.{if◌then◌else◌}
@@ -26,10 +25,9 @@ use Rattle.pjlink.specs.declared.request.Request.{Request}
 use Rattle.pjlink.specs.declared.request.Request.TheVariants.{Asks, Unlisted, UnknownBody}
 use Rattle.pjlink.specs.Said.{Said, okay, refused, powerIs, chosenIs, mutesAre, errorsAre, lampsAre, inputsAre}
 use Rattle.pjlink.specs.Said.{textIs, classIs, freezeIs, nothing}
-use Rattle.pjlink.specs.Carried.{answer_of}
-use Rattle.pjlink.specs.declared.answer.Power.{Power}
-use Rattle.pjlink.specs.declared.answer.Power.TheVariants.{Off, On, Cooling, WarmUp}
-use Rattle.pjlink.specs.declared.answer.LampHours.{LampHours}
+use Rattle.words.specs.declared.power.Power.{Power}
+use Rattle.words.specs.declared.power.Power.TheVariants.{Off, On, Cooling, WarmUp}
+use Rattle.words.specs.declared.lamp.LampHours.{LampHours}
 use Rattle.record.specs.Limits.{off, on, cooling, warming, isLit, volumeMost}
 use Rattle.record.specs.Updates.{withPower, withChosen, withMutes, withFreeze, withVolumes}
 use Rattle.record.specs.Record.{blankName}
@@ -39,7 +37,6 @@ use Rattle.record.specs.declared.types.Settings.{Settings}
 use Rattle.record.specs.declared.types.Own.{Own}
 use Rattle.meaning.specs.SetUpInputs.{noInput, inputsOf, place_of}
 use Rattle.meaning.specs.Rules.{isUndefined, isOutOfParameter, isFailure, isUnavailable}
-use Rattle.meaning.specs.declared.Decided.{Decided}
 
 -- 0 off, 1 on, 2 cooling, 3 warm-up
 unfoldable pub powerSaid : ℕ → Power
@@ -163,5 +160,3 @@ is_refused s o r = isUndefined s r || isOutOfParameter s r || isFailure o r || i
 unfoldable pub done : Settings → Own → Request → Own
 done s o r = if is_refused s o r then o else carriedOut s o r
 
-abbrev pub decided : Settings → Own → Request → Decided
-decided s o r = record { answer = answer_of (meant s o r); own = done s o r }

@@ -8,12 +8,10 @@
 --   place_of s i         the place of the input i
 --   isListed s i         the input i is in the set-up
 -- Assumes nothing.
-use Rattle.std.specs.Prelude.{ℕ, suc, ◌*◌, Bool, List, [], ◌∷◌, take, ltb, if◌then◌else◌}
+use Rattle.std.specs.Prelude.{ℕ, suc, ◌*◌, Bool, List, [], ◌∷◌, take, ltb, unwrap_or, if◌then◌else◌}
 use Rattle.words.specs.Sources.{sameInput, inputFor}
 use Rattle.words.specs.declared.input.Source.TheVariants.{Rgb}
 use Rattle.words.specs.declared.input.Input.{Input}
-use Rattle.words.specs.declared.input.MaybeInput.{MaybeInput}
-use Rattle.words.specs.declared.input.MaybeInput.TheVariants.{InputIs, NoInput}
 use Rattle.record.specs.declared.types.Settings.{Settings}
 
 abbrev pub pairsOf : Settings → List ℕ
@@ -22,12 +20,8 @@ pairsOf s = take (2 * s.input_count) s.inputs
 abbrev pub noInput : Input
 noInput = record { source = Rgb; number = 0 }
 
-abbrev pub inputOrNone : MaybeInput → Input
-inputOrNone (InputIs i) = i
-inputOrNone NoInput = noInput
-
 abbrev pub inputOfPair : ℕ → ℕ → Input
-inputOfPair a b = inputOrNone (inputFor a b)
+inputOfPair a b = unwrap_or (inputFor a b) noInput
 
 unfoldable pub inputsOfPairs : List ℕ → List Input
 inputsOfPairs [] = []

@@ -1,25 +1,23 @@
-// The inputs of a set-up, which keeps them as pairs of characters (RULES, The legal record).
+//! The inputs of a set-up, which keeps them as pairs of characters (RULES, The legal record).
 ghost use Rattle.std.specs.Prelude.{◌≡◌, ◌*◌, take, get_or};
-ghost use Rattle.pjlink.specs.Said.{inputsAre};
-ghost use Rattle.pjlink.specs.Carried.{answer_of};
 ghost use Rattle.words.specs.Sources.{sameInput};
 ghost use Rattle.meaning.specs.SetUpInputs.{noInput, inputOfPair, inputsOfPairs, place_in, place_of, isListed};
 
-use pjlink::answer;
-use pjlink::answer::{Answer, NO_INPUT};
-use words::input;
-use words::input::{Input, MaybeInput};
+use arrayvec::ArrayVec;
 use record::types::{INPUT_ROOM, INPUTS_MOST, Settings};
+use words::input;
+use words::input::{Input, Source};
+
+const NO_INPUT: Input = Input {
+    source: Source::Rgb,
+    number: 0,
+};
 
 // No legal set-up has a pair that stands for no input.
 fn input_of_pair(a: u8, b: u8) -> Input
     ensures { result ≡ inputOfPair a b }
 {
-    let read = input::read_input(a, b);
-    match read {
-        MaybeInput::InputIs(i) => i,
-        MaybeInput::NoInput => NO_INPUT,
-    }
+    input::read_input(a, b).unwrap_or(NO_INPUT)
 }
 
 fn same_input(i: Input, j: Input) -> bool
@@ -67,14 +65,14 @@ pub fn input_at(pairs: &[u8; INPUT_ROOM], count: usize, place: usize) -> Input
     input_of_pair(pairs[2 * place], pairs[2 * place + 1])
 }
 
-// In set-up order.
-pub fn told_inputs(pairs: &[u8; INPUT_ROOM], count: usize) -> Answer
-    ensures { result ≡ answer_of (inputsAre (inputsOfPairs (take (2 * count) pairs.now))) }
+/// The inputs of the pairs, in set-up order.
+pub fn inputs_of(pairs: &[u8; INPUT_ROOM], count: usize) -> ArrayVec<Input, INPUTS_MOST>
+    ensures { result.items ≡ inputsOfPairs (take (2 * count) pairs.now) }
 {
-    let mut inputs = [NO_INPUT; answer::INPUTS_MOST];
+    let mut inputs = ArrayVec::new();
     let most = count.min(INPUTS_MOST);
     for k in 0..most {
-        inputs[k] = input_of_pair(pairs[2 * k], pairs[2 * k + 1]);
+        inputs.push(input_of_pair(pairs[2 * k], pairs[2 * k + 1]));
     }
-    answer::of_inputs(most, inputs)
+    inputs
 }

@@ -1,4 +1,4 @@
-// What the projector answers to a request and what the request does to it (RULES, Commands), apart from any line.
+//! What the projector answers to a request and what the request does to it (RULES, Commands), apart from any line.
 #![tactic(auto)]
 
 mod change;
@@ -8,60 +8,58 @@ mod table;
 pub mod theorems;
 
 ghost use Rattle.std.specs.Prelude.{◌≡◌};
-ghost use Rattle.pjlink.specs.Carried.{answer_of};
-ghost use Rattle.meaning.specs.Meaning.{tableAnswer, requestAnswer, afterCommand, carriedOut, decided};
+ghost use Rattle.pjlink.specs.Carried.{said_by};
+ghost use Rattle.pjlink.specs.declared.request.Request.TheVariants.{Asks};
+ghost use Rattle.meaning.specs.Meaning.{meant, done};
 
-use pjlink::answer;
-use pjlink::answer::{Answer, Kind};
+use pjlink::answer::Reply;
+use words::refusal::Refusal;
+use pjlink::body;
 use pjlink::command::Command;
-use record::types::{Own, Settings};
 use pjlink::request::Request;
+use record::types::{Own, Settings};
 
-// What a spec calls the answer and the own part that a request leaves; the code gives the one and changes the other.
-#[derive(Clone, Copy)]
-pub struct Decided {
-    pub answer: Answer,
-    pub own: Own,
-}
-
-fn carry_out(s: &Settings, o: &mut Own, c: Command) -> Answer
-    ensures value { result ≡ answer_of (tableAnswer s.now o.old c) }
-    ensures own { o.new ≡ afterCommand s.now o.old c }
+// A command: the first rule that applies refuses it; else it is answered, and then carried out.
+#[tactic(auto, unfolding(crate::specs::Meaning::meant, crate::specs::Meaning::done))]
+fn answer<'a>(s: &'a Settings, o: &mut Own, c: Command) -> Reply<'a>
+    ensures value { said_by result ≡ meant s.now o.old (Asks c) }
+    ensures own { o.new ≡ done s.now o.old (Asks c) }
 {
-    let answer = table::table_answer(s, o, c);
+    if rules::is_undefined(s, c) {
+        return Err(Refusal::Undefined);
+    }
+    if rules::is_out_of_parameter(s, c) {
+        return Err(Refusal::OutOfParameter);
+    }
+    if rules::is_failure(o, c) {
+        return Err(Refusal::Failure);
+    }
+    if rules::is_unavailable(o, c) {
+        return Err(Refusal::Unavailable);
+    }
+    // rule 1 has refused a query that there is not
+    let Some(answer) = table::answer(s, o, c) else {
+        return Err(Refusal::Undefined);
+    };
     change::carry_out(s, o, c);
-    answer
+    Ok(answer)
 }
 
-// Of a request that no rule refuses, and so of a command.
-fn accept(s: &Settings, o: &mut Own, r: Request) -> Answer
-    ensures value { result ≡ answer_of (requestAnswer s.now o.old r) }
-    ensures own { o.new ≡ carriedOut s.now o.old r }
+/// What a legal projector answers, and the own part that the request leaves.
+#[tactic(auto, unfolding(crate::specs::Meaning::meant, crate::specs::Meaning::done))]
+pub fn decide<'a>(s: &'a Settings, o: &mut Own, r: Request) -> Reply<'a>
+    ensures value { said_by result ≡ meant s.now o.old r }
+    ensures own { o.new ≡ done s.now o.old r }
 {
     match r {
-        Request::Asks(c) => carry_out(s, o, c),
-        Request::Unlisted(_) => answer::plain(Kind::Nothing),
-        Request::UnknownBody => answer::plain(Kind::Nothing),
+        Request::Asks(c) => answer(s, o, c),
+        Request::Unlisted(b) => {
+            if body::has_parameters(b) {
+                Err(Refusal::OutOfParameter)
+            } else {
+                Err(Refusal::Undefined)
+            }
+        }
+        Request::UnknownBody => Err(Refusal::Undefined),
     }
-}
-
-// The first rule that applies decides.
-#[tactic(auto, unfolding(crate::specs::Meaning::meant, crate::specs::Meaning::done))]
-pub fn decide(s: &Settings, o: &mut Own, r: Request) -> Answer
-    ensures value { result ≡ (decided s.now o.old r).answer }
-    ensures own { o.new ≡ (decided s.now o.old r).own }
-{
-    if rules::is_undefined(s, r) {
-        return answer::plain(Kind::Refused(1));
-    }
-    if rules::is_out_of_parameter(s, r) {
-        return answer::plain(Kind::Refused(2));
-    }
-    if rules::is_failure(o, r) {
-        return answer::plain(Kind::Refused(4));
-    }
-    if rules::is_unavailable(o, r) {
-        return answer::plain(Kind::Refused(3));
-    }
-    accept(s, o, r)
 }

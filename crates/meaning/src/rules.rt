@@ -1,16 +1,15 @@
-// When a request is refused: the four rules of RULES, Commands.
+//! When a command is refused: the four rules of RULES, Commands.
 ghost use Rattle.std.specs.Prelude.{◌≡◌};
-ghost use Rattle.meaning.specs.Rules.{isNoQuery, isUndefined, isUnlisted, isOutOfParameter, isFailure};
-ghost use Rattle.meaning.specs.Rules.{isUntimely};
-ghost use Rattle.meaning.specs.Rules.{isUnavailable};
+ghost use Rattle.pjlink.specs.declared.request.Request.TheVariants.{Asks};
+ghost use Rattle.meaning.specs.Rules.{isNoQuery, isUndefined, isOutOfParameter, isFailure, isUntimely, isUnavailable};
 
 use crate::inputs;
 use pjlink::command::Command;
+use pjlink::request::Request;
 use pjlink::{body, command};
 use record::own;
 use record::own::ON;
 use record::types::{Own, Settings};
-use pjlink::request::Request;
 
 fn is_no_query(c: Command) -> bool
     ensures { result ≡ isNoQuery c }
@@ -27,21 +26,16 @@ fn is_no_query(c: Command) -> bool
     }
 }
 
-// Rule 1.
-pub fn is_undefined(s: &Settings, r: Request) -> bool
-    ensures { result ≡ isUndefined s.now r }
+/// Rule 1: a query that there is not, or one of lamps where there are none.
+pub fn is_undefined(s: &Settings, c: Command) -> bool
+    ensures { result ≡ isUndefined s.now (Asks c) }
 {
-    match r {
-        Request::UnknownBody => true,
-        Request::Unlisted(b) => !body::has_parameters(b),
-        Request::Asks(c) => {
-            is_no_query(c) | (body::row_of(command::body_of(c)).lamps & (s.lamp_count == 0))
-        }
-    }
+    is_no_query(c) | (body::row_of(command::body_of(c)).lamps & (s.lamp_count == 0))
 }
 
-fn is_unlisted(s: &Settings, c: Command) -> bool
-    ensures { result ≡ isUnlisted s.now c }
+/// Rule 2: an input that is not in the set-up.
+pub fn is_out_of_parameter(s: &Settings, c: Command) -> bool
+    ensures { result ≡ isOutOfParameter s.now (Asks c) }
 {
     match c {
         Command::PowerSet(_) => false,
@@ -55,26 +49,11 @@ fn is_unlisted(s: &Settings, c: Command) -> bool
     }
 }
 
-// Rule 2.
-pub fn is_out_of_parameter(s: &Settings, r: Request) -> bool
-    ensures { result ≡ isOutOfParameter s.now r }
+/// Rule 3: a set, where the projector is at fault.
+pub fn is_failure(o: &Own, c: Command) -> bool
+    ensures { result ≡ isFailure o.now (Asks c) }
 {
-    match r {
-        Request::UnknownBody => false,
-        Request::Unlisted(b) => body::has_parameters(b),
-        Request::Asks(c) => is_unlisted(s, c),
-    }
-}
-
-// Rule 3.
-pub fn is_failure(o: &Own, r: Request) -> bool
-    ensures { result ≡ isFailure o.now r }
-{
-    match r {
-        Request::UnknownBody => false,
-        Request::Unlisted(b) => body::has_set(b) & o.fault,
-        Request::Asks(c) => body::has_set(command::body_of(c)) & o.fault,
-    }
+    body::has_set(command::body_of(c)) & o.fault
 }
 
 fn is_untimely(power: u8, c: Command) -> bool
@@ -92,13 +71,9 @@ fn is_untimely(power: u8, c: Command) -> bool
     }
 }
 
-// Rule 4.
-pub fn is_unavailable(o: &Own, r: Request) -> bool
-    ensures { result ≡ isUnavailable o.now r }
+/// Rule 4: a command that the power does not allow now.
+pub fn is_unavailable(o: &Own, c: Command) -> bool
+    ensures { result ≡ isUnavailable o.now (Asks c) }
 {
-    match r {
-        Request::UnknownBody => false,
-        Request::Unlisted(_) => false,
-        Request::Asks(c) => is_untimely(o.power, c),
-    }
+    is_untimely(o.power, c)
 }

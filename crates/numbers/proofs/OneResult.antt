@@ -5,10 +5,10 @@ use mathlib.Core.Path.{◌≡◌}
 use mathlib.Core.List.{List}
 use lib.ListN.{length}
 use lib.Seq.{sets}
+use Rattle.std.specs.Prelude.{Option}
 use Rattle.numbers.specs.Decimal.{digits, readNumber}
-use Rattle.numbers.specs.declared.Number.{Number}
 
-pub one-reading : (s : List ℕ) {r t : Number} → r ≡ readNumber s → t ≡ readNumber s → r ≡ t
+pub one-reading : (s : List ℕ) {r t : Option ℕ} → r ≡ readNumber s → t ≡ readNumber s → r ≡ t
 one-reading s p q = cc
 
 pub record Written (out : List ℕ) (at n r : ℕ) (exit : List ℕ) : Type 0 where

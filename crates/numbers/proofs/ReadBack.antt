@@ -11,19 +11,17 @@ use native.Mathlib.Omega.{arith}
 use lib.ListN.{length, replicate, length-append, length-replicate}
 use lib.Dec.{leb}
 use borrow.Author.Tests.{le-leb, leb-true}
-use Rattle.std.specs.Prelude.{if◌then◌else◌}
+use Rattle.std.specs.Prelude.{Option, Some, None, if◌then◌else◌}
 use Rattle.text.specs.Scans.{every}
 use Rattle.text.proofs.Bases.{value-below}
 use Rattle.text.proofs.Choices.{both_left, both_right}
 use Rattle.text.proofs.Scanning.{every_append}
 use Rattle.numbers.specs.Decimal.{digits, isDigit, decimalWorth, decimalValue}
 use Rattle.numbers.specs.Decimal.{readDigits, mostDigits, WritesNumber, readNumber}
-use Rattle.numbers.specs.declared.Number.{Number}
-use Rattle.numbers.specs.declared.Number.TheVariants.{Value, NotANumber}
 use Rattle.numbers.proofs.Digits.{digits-at-least-1, digits-at-most-5, digits-are-digits}
 use Rattle.numbers.proofs.Values.{value-back, digits-worth, zeros-before}
 
-pub writing-read : (s : List ℕ) {n : ℕ} → WritesNumber n s → readNumber s ≡ Value n
+pub writing-read : (s : List ℕ) {n : ℕ} → WritesNumber n s → readNumber s ≡ Some n
 unfolding readNumber readDigits
 writing-read s w =
     simp (le-leb 1 (length s) w.some, le-leb (length s) mostDigits w.short, w.figures, w.value)
@@ -36,7 +34,7 @@ digits-written n h = record {
   value = value-back n (omega arith);
 }
 
-pub read_back : (n : ℕ) → n < 100000 → readNumber (digits n) ≡ Value n
+pub read_back : (n : ℕ) → n < 100000 → readNumber (digits n) ≡ Some n
 read_back n h = writing-read (digits n) (digits-written n h)
 
 zeros-are-digits : (k : ℕ) → every isDigit (replicate k (code "0")) ≡ true
@@ -57,25 +55,32 @@ padded-written k s w h =
       value = zeros-before k s ∙ w.value;
     }
 
-chosen : (t : Bool) (a : Number) (n : ℕ) → (if t then a else NotANumber) ≡ Value n → (t ≡ true) × (a ≡ Value n)
+chosen : (t : Bool) (a : Option ℕ) (n : ℕ) → (if t then a else None) ≡ Some n → (t ≡ true) × (a ≡ Some n)
 chosen true a n e = (refl, e)
 chosen false a n e = (cc, cc)
 
 -- what all digits tell, and what a byte that is none
-pub digits-told : (s : List ℕ) (n : ℕ) → readDigits s ≡ Value n → (every isDigit s ≡ true) × (decimalValue s ≡ n)
+pub digits-told : (s : List ℕ) (n : ℕ) → readDigits s ≡ Some n → (every isDigit s ≡ true) × (decimalValue s ≡ n)
 unfolding readDigits
 digits-told s n e =
-    let figures = chosen (every isDigit s) (Value (decimalValue s)) n e in (figures.0, cc figures.1)
+    let figures = chosen (every isDigit s) (Some (decimalValue s)) n e in (figures.0, cc figures.1)
 
-pub digits-untold : (s : List ℕ) → readDigits s ≡ NotANumber → every isDigit s ≡ false
+pub digits-untold : (s : List ℕ) → readDigits s ≡ None → every isDigit s ≡ false
 unfolding readDigits
 digits-untold s = by (every isDigit s)
   where
-    by : (t : Bool) → (if t then Value (decimalValue s) else NotANumber) ≡ NotANumber → t ≡ false
+    by : (t : Bool) → (if t then Some (decimalValue s) else None) ≡ None → t ≡ false
     by true e = cc
     by false e = refl
 
-pub read-written : (s : List ℕ) (n : ℕ) → readNumber s ≡ Value n → WritesNumber n s
+-- at most five digits are below 100000
+pub digits_below : (s : List ℕ) (n : ℕ) → readDigits s ≡ Some n → length s ≤ mostDigits → n < 100000
+digits_below s n e h =
+    let told = digits-told s n e in
+    let most = pow-le-pow_right {n = 10} (omega arith) {i = length s} {j = 5} h in
+    omega (arith, value-below 10 decimalWorth s (digits-worth s told.0), told.1)
+
+pub read-written : (s : List ℕ) (n : ℕ) → readNumber s ≡ Some n → WritesNumber n s
 unfolding readNumber readDigits
 read-written s n e =
     let least : Bool = leb 1 (length s) in
@@ -89,8 +94,8 @@ read-written s n e =
       value = figures.1;
     }
 
-pub read_below : (s : List ℕ) (n : ℕ) → readNumber s ≡ Value n → n < 100000
+pub read_below : (s : List ℕ) (n : ℕ) → readNumber s ≡ Some n → n < 100000
 read_below s n e =
-    let r = read-written s n e in
-    let most = pow-le-pow_right {n = 10} (omega arith) {i = length s} {j = 5} r.short in
-    omega (arith, value-below 10 decimalWorth s (digits-worth s r.figures), r.value)
+    let w = read-written s n e in
+    let most = pow-le-pow_right {n = 10} (omega arith) {i = length s} {j = 5} w.short in
+    omega (arith, value-below 10 decimalWorth s (digits-worth s w.figures), w.value)

@@ -15,14 +15,12 @@
 --   readNumber s        the value of s, where it is one to `mostDigits` digits
 -- Assumes nothing.
 use Rattle.std.specs.Prelude.{ℕ, zero, suc, ◌+◌, ◌-◌, ◌/◌, ◌%◌, ◌≤◌, ◌≡◌, Bool, true, ◌&&◌, List, [], ◌∷◌, ◌++◌, length}
-use Rattle.std.specs.Prelude.{ltb, leb}
+use Rattle.std.specs.Prelude.{Option, Some, None, ltb, leb}
 use Prim.Native.Char.{code}
 use Rattle.std.specs.Prelude.{if◌then◌else◌}
 use Rattle.text.specs.Words.{◌from◌to◌}
 use Rattle.text.specs.Scans.{every}
 use Rattle.text.specs.Bases.{valueIn}
-use Rattle.numbers.specs.declared.Number.{Number}
-use Rattle.numbers.specs.declared.Number.TheVariants.{Value, NotANumber}
 
 abbrev pub lastDigit : ℕ → ℕ
 lastDigit n = code "0" + n % 10
@@ -48,8 +46,8 @@ longDigits n = digitsIn 19 n
 abbrev pub isDigit : ℕ → Bool
 isDigit b = b from "0" to "9"
 
-unfoldable pub readDigits : List ℕ → Number
-readDigits s = if every isDigit s then Value (decimalValue s) else NotANumber
+unfoldable pub readDigits : List ℕ → Option ℕ
+readDigits s = if every isDigit s then Some (decimalValue s) else None
 
 abbrev pub mostDigits : ℕ
 mostDigits = 5
@@ -60,5 +58,5 @@ pub record WritesNumber (n : ℕ) (s : List ℕ) : Type 0 where
   pub figures : every isDigit s ≡ true
   pub value : decimalValue s ≡ n
 
-unfoldable pub readNumber : List ℕ → Number
-readNumber s = if leb 1 (length s) && leb (length s) mostDigits then readDigits s else NotANumber
+unfoldable pub readNumber : List ℕ → Option ℕ
+readNumber s = if leb 1 (length s) && leb (length s) mostDigits then readDigits s else None

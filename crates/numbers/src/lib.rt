@@ -37,43 +37,39 @@ pub fn put_number(out: &mut [u8], at: usize, n: u32) -> usize
     put_long(out, at, n as u64)
 }
 
-#[derive(Clone, Copy)]
-pub enum Number {
-    Value(u64),
-    NotANumber,
-}
-
+/// Whether b is one of `0` to `9`.
 pub fn is_digit(b: u8) -> bool
     ensures { result ≡ isDigit b }
 {
     (b'0' <= b) & (b <= b'9')
 }
 
-// The number that all of s spells, in at most ten digits.
-pub fn read_digits(s: &[u8]) -> Number
+/// The number that all of s spells, in at most ten digits; none where a byte is no digit.
+pub fn read_digits(s: &[u8]) -> Option<u64>
     requires { length s.now ≤ 10 }
     ensures { result ≡ readDigits s.now }
 {
     let mut v: u64 = 0;
     for b in s {
         if !is_digit(*b) {
-            return Number::NotANumber;
+            return None;
         }
         v = v * 10 + (*b - b'0') as u64;
     }
-    Number::Value(v)
+    Some(v)
 }
 
-// The number that all of s spells: 0 to 99999, in one to five digits, leading zeros included (RULES, Controller).
+/// The number that all of s spells: 0 to 99999, in one to five digits, leading zeros included (RULES, Controller).
 #[tactic(auto, unfolding(crate::specs::Decimal::readNumber))]
-pub fn read_number(s: &[u8]) -> Number
+pub fn read_number(s: &[u8]) -> Option<u32>
     ensures { result ≡ readNumber s.now }
 {
     if s.len() < 1 {
-        return Number::NotANumber;
+        return None;
     }
     if MOST_DIGITS < s.len() {
-        return Number::NotANumber;
+        return None;
     }
-    read_digits(s)
+    let n = read_digits(s)?;
+    Some(n as u32)
 }

@@ -1,7 +1,6 @@
 -- A board: anything that answers the calls of RULES, those of the stored form and of the lamps' marks too, with four
 -- places for controllers (RULES, Places), set up for Class 1 or Class 2 (RULES, Class 2). The demands are stated over
 -- it, so that wrong boards can be tried.
---   Given R       what a call gives that is lent no memory: its number, and the record
 --   Lent R        what a call gives that is lent reply memory: its number, the bytes taken, the reply's length, the
 --                 memory as the call leaves it, and the record
 --   reply r       the reply: as many bytes of the memory as the length tells
@@ -13,7 +12,7 @@ use Rattle.text.specs.Words.{over}
 use Rattle.digest.specs.Md5.{md5Of}
 use Rattle.pjlink.specs.declared.command.Command.{Command}
 use Rattle.record.specs.declared.types.Device.{Device}
-use Rattle.record.specs.declared.types.Changed.{Changed}
+use Rattle.record.specs.Given.{Given, given_by, set_up_given}
 use Rattle.record.specs.Wanted.{Wanted}
 use Rattle.record.specs.SetUp.{setUp}
 use Rattle.record.specs.HostCalls.{faultSet, errorsSet, markSet}
@@ -25,10 +24,6 @@ use Rattle.controller.specs.Writing.{WrittenAs, writtenCommand}
 use Rattle.controller.specs.Reading.{ReadAs, readReply}
 use Rattle.controller.specs.Greetings.{readGreeting}
 use Rattle.controller.specs.declared.greeting.Greeting.{Greeting}
-
-pub record Given (R : Type 0) : Type 0 where
-  pub number : ℕ
-  pub device : R
 
 pub record Lent (R : Type 0) : Type 0 where
   pub number : ℕ
@@ -71,9 +66,6 @@ pub record Board : Type 1 where
   pub read-greeting : List ℕ → Greeting
 
 -- the results of the crates below; the reply's length is its own, and it lies over the lent memory
-abbrev pub givenBy : Changed → Given Device
-givenBy r = record { number = r.number; device = r.device }
-
 abbrev pub closedAs : Result Device → Given Device
 closedAs r = record { number = r.number; device = r.device }
 
@@ -97,7 +89,7 @@ ours = record {
   Record = Device;
   shows = λ d. d;
   -- setup::set_up; what it cannot be lent, a class that there is not, is out of range
-  set-up = λ w. givenBy (setUp w);
+  set-up = λ w. set_up_given (setUp w);
   -- device::calls::open
   opening = λ d random m. lent_by (openedBy d random (length m)) m;
   place_opened = λ d random m. placeTaken d (length m);
@@ -106,17 +98,17 @@ ours = record {
   -- device::calls::receive
   receive = λ d p bs m. lent_by (received d p bs (length m)) m;
   -- clock::pass::pass
-  pass = λ d n. givenBy (passed d n);
+  pass = λ d n. given_by d (passed d n);
   -- record::types::Device::set_fault (record/src/host.rt)
-  set-fault = λ d mark. givenBy (faultSet d mark);
+  set-fault = λ d mark. given_by d (faultSet d mark);
   -- record::types::Device::set_errors (record/src/host.rt)
-  set-errors = λ d digits. givenBy (errorsSet d digits);
+  set-errors = λ d digits. given_by d (errorsSet d digits);
   -- record::types::Device::set_mark (record/src/host.rt)
-  set-mark = λ d lamp mark. givenBy (markSet d lamp mark);
+  set-mark = λ d lamp mark. given_by d (markSet d lamp mark);
   -- form::storing::store
   store = λ d m. formBy (storedBy d (length m)) m;
   -- stored::loading::load
-  load = λ s. givenBy (loaded s);
+  load = λ s. loaded s;
   -- digest::md5
   md5 = md5Of;
   -- controller::writing::write_command

@@ -4,17 +4,14 @@
 --   wroteAs r m        the same of the controller's writer
 --   wroteForm r m      the same of storing
 --   given_as n d       a number, and the record where it lies
---   readAs r           the outcome, and what the answer says
 -- Assumes nothing.
 use Rattle.std.specs.Prelude.{ℕ, List}
-use Rattle.pjlink.specs.Carried.{saidBy}
 use Rattle.record.specs.declared.types.Device.{Device}
 use Rattle.form.specs.declared.storing.FormWritten.{FormWritten}
 use Rattle.device.specs.Outcomes.{Told}
-use Rattle.controller.specs.Reading.{ReadAs}
 use Rattle.controller.specs.declared.writing.Written.{Written}
-use Rattle.controller.specs.declared.reading.Reading.{Reading}
-use Rattle.ours.specs.Board.{Given, Lent, Wrote}
+use Rattle.record.specs.Given.{Given}
+use Rattle.ours.specs.Board.{Lent, Wrote}
 
 abbrev pub lent_as : Told → Device → List ℕ → Lent Device
 lent_as t d m = record { number = t.number; taken = t.taken; length = t.length; memory = m; device = d }
@@ -27,6 +24,3 @@ wroteForm r m = record { number = r.number; length = r.length; memory = m }
 
 abbrev pub given_as : ℕ → Device → Given Device
 given_as n d = record { number = n; device = d }
-
-abbrev pub readAs : Reading → ReadAs
-readAs r = record { outcome = r.outcome; said = saidBy r.answer }

@@ -3,21 +3,21 @@
 ghost use Rattle.std.specs.Prelude.{◌≡◌};
 ghost use Rattle.record.specs.Refusals.{outcome_number};
 ghost use Rattle.setup.specs.Lent.{wanted_settings};
-ghost use Rattle.setup.specs.Told.{set_up_told};
+ghost use Rattle.record.specs.Given.{set_up_given};
 ghost use Rattle.device.specs.Outcomes.{receiving_told, opening_told, opened_place};
-ghost use Rattle.ours.specs.Board.{ours, givenBy};
+ghost use Rattle.ours.specs.Board.{ours};
 ghost use Rattle.ours.specs.Tied.{given_as, lent_as};
 
 use clock::pass;
 use device::calls;
 use device::calls::{Opened, Received};
 use record::refusal::Refusal;
+use record::set_up_error::SetUpError;
 use record::types::Device;
-use setup::error::SetUpError;
 use setup::wanted::Wanted;
 
 pub fn set_up(wanted: &Wanted<'_>) -> Result<Device, SetUpError>
-    ensures { givenBy (set_up_told result) ≡ ours.set-up (wanted_settings wanted.now) }
+    ensures { set_up_given result ≡ ours.set-up (wanted_settings wanted.now) }
 {
     setup::set_up(wanted)
 }
@@ -48,24 +48,28 @@ pub fn receive(
     calls::receive(device, place, bytes, out)
 }
 
+#[tactic(auto, using(record::proofs::GivenTold::told_given))]
 pub fn pass(device: &mut Device, seconds: u32) -> Result<(), Refusal>
     ensures { given_as (outcome_number result) device.new ≡ ours.pass device.old seconds }
 {
     pass::pass(device, seconds)
 }
 
+#[tactic(auto, using(record::proofs::GivenTold::told_given))]
 pub fn set_fault(device: &mut Device, mark: bool) -> Result<(), Refusal>
     ensures { given_as (outcome_number result) device.new ≡ ours.set-fault device.old mark }
 {
     device.set_fault(mark)
 }
 
+#[tactic(auto, using(record::proofs::GivenTold::told_given))]
 pub fn set_errors(device: &mut Device, digits: &[u8]) -> Result<(), Refusal>
     ensures { given_as (outcome_number result) device.new ≡ ours.set-errors device.old digits.now }
 {
     device.set_errors(digits)
 }
 
+#[tactic(auto, using(record::proofs::GivenTold::told_given))]
 pub fn set_mark(device: &mut Device, lamp: usize, mark: bool) -> Result<(), Refusal>
     ensures { given_as (outcome_number result) device.new ≡ ours.set-mark device.old lamp mark }
 {

@@ -1,18 +1,15 @@
 // `ours`'s readers.
 ghost use Rattle.std.specs.Prelude.{◌≡◌};
-ghost use Rattle.controller.specs.Reading.{reading_of};
+ghost use Rattle.controller.specs.Reading.{read_as};
 ghost use Rattle.ours.specs.Board.{ours};
-ghost use Rattle.ours.specs.Tied.{readAs};
 
 use controller::greeting::Greeting;
-use controller::reading::Reading;
+use controller::reading::{Misread, Reading};
 use controller::{greeting, reading};
 use pjlink::command::Command;
 
-// The code gives a form with room for every answer. What was read comes back out of it, so nothing is lost in it.
-pub fn read_reply(c: Command, line: &[u8]) -> Reading
-    ensures value { result ≡ reading_of (ours.read-reply c line.now) }
-    ensures result_value { readAs result ≡ ours.read-reply c line.now }
+pub fn read_reply(c: Command, line: &[u8]) -> Result<Reading<'_>, Misread>
+    ensures { read_as result ≡ ours.read-reply c line.now }
 {
     reading::read_reply(c, line)
 }

@@ -1,7 +1,7 @@
 // `ours`'s storing and loading.
 ghost use Rattle.std.specs.Prelude.{◌≡◌};
 ghost use Rattle.stored.specs.Told.{loading_told};
-ghost use Rattle.ours.specs.Board.{ours, givenBy};
+ghost use Rattle.ours.specs.Board.{ours};
 ghost use Rattle.ours.specs.Tied.{wroteForm};
 
 use form::storing;
@@ -17,7 +17,7 @@ pub fn store(device: &Device, out: &mut [u8]) -> FormWritten
 }
 
 pub fn load(s: &[u8]) -> Result<Device, LoadError>
-    ensures { givenBy (loading_told result) ≡ ours.load s.now }
+    ensures { loading_told result ≡ ours.load s.now }
 {
     loading::load(s)
 }

@@ -16,7 +16,7 @@ use Rattle.words.proofs.WithinLength.{password-within}
 use Rattle.record.specs.Limits.{textRoom}
 use Rattle.record.proofs.Kept.{kept-shown, filled-kept, nothing-kept}
 use Rattle.controller.specs.Reading.{ReadAs, readReply}
-use Rattle.controller.specs.declared.reading.Outcome.TheVariants.{Means}
+use Rattle.controller.specs.Reading.{Means}
 use Rattle.controller.proofs.ReadsSound.{reads-sound}
 use Rattle.codes.specs.Commands.{commandOf}
 use Rattle.codes.specs.declared.command.Coded.{Coded}

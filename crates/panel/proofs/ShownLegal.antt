@@ -26,10 +26,11 @@ use Rattle.pjlink.specs.Said.{Said, chosenIs}
 use Rattle.pjlink.specs.Carried.{lampsCarried}
 use Rattle.pjlink.specs.CanSay.{CanSay, done, refuses, power, input, mutes, errors, lamps, inputs, name, maker}
 use Rattle.pjlink.specs.CanSay.{model, other, class-is, freeze, serial, version, input-name, input-2, inputs-2}
-use Rattle.pjlink.specs.CanSay.{hoursMost, isLampHours}
-use Rattle.pjlink.specs.declared.answer.Power.{Power}
-use Rattle.pjlink.specs.declared.answer.Power.TheVariants.{Off, On, Cooling, WarmUp}
-use Rattle.pjlink.specs.declared.answer.LampHours.{LampHours}
+use Rattle.words.specs.Numerals.{hours_most}
+use Rattle.words.specs.Lamps.{is_lamp_hours}
+use Rattle.words.specs.declared.power.Power.{Power}
+use Rattle.words.specs.declared.power.Power.TheVariants.{Off, On, Cooling, WarmUp}
+use Rattle.words.specs.declared.lamp.LampHours.{LampHours}
 use Rattle.codes.specs.Commands.{sourceNumber}
 use Rattle.codes.specs.Readings.{filledTo, hoursOf, lit_of, powerNumber}
 use Rattle.panel.specs.Entries.{Shown, nothingShown}
@@ -108,7 +109,7 @@ hours-shown hs h e =
     ap (λ (l : List ℕ). fillsRoom lampsCarried isHours l (length hs)) (room-filled lampsCarried hs h)
     ∙ kept-shown lampsCarried isHours _ (length hs) (filled-kept lampsCarried isHours hs h e)
 
-lamps-shown : (ls : List LampHours) → 1 ≤ length ls → length ls ≤ lampsCarried → every isLampHours ls ≡ true
+lamps-shown : (ls : List LampHours) → 1 ≤ length ls → length ls ≤ lampsCarried → every is_lamp_hours ls ≡ true
     → isLampsShown true (length ls) (filledTo lampsCarried 0 (map hoursOf ls))
     (filledTo lampsCarried false (map lit_of ls)) ≡ true
 unfolding isLampsShown isLampCount
@@ -116,7 +117,7 @@ lamps-shown ls low high e =
     let told : length (map hoursOf ls) ≡ length ls = length-map ls hoursOf in
     let marks : length (map lit_of ls) ≡ length ls = length-map ls lit_of in
     let hours = hours-shown (map hoursOf ls) (omega arith)
-    (every_map isLampHours (at_most hoursMost) hoursOf (λ l h. h) ls e) in
+    (every_map is_lamp_hours (at_most hours_most) hoursOf (λ l h. h) ls e) in
     let lit = lit-shown (map lit_of ls) (omega arith) in
     both
     (both (both (le-leb 1 (length ls) low) (le-leb (length ls) lampsCarried high))

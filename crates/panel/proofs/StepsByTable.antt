@@ -16,8 +16,8 @@ use Rattle.controller.specs.Greetings.{readGreeting}
 use Rattle.controller.specs.Reading.{ReadAs, readReply, outcomeNumber}
 use Rattle.controller.specs.declared.greeting.Greeting.{Greeting}
 use Rattle.controller.specs.declared.greeting.Greeting.TheVariants.{Open, Secured, Refused, NotAGreeting}
-use Rattle.controller.specs.declared.reading.Outcome.{Outcome}
-use Rattle.controller.specs.declared.reading.Outcome.TheVariants.{Means, Erra, NotALine, OtherCommand, NotAllowed}
+use Rattle.controller.specs.Reading.{Outcome}
+use Rattle.controller.specs.Reading.{Means, Erra, NotALine, OtherCommand, NotAllowed}
 use Rattle.controller.proofs.Refusals.{erra-read}
 use Rattle.controller.proofs.ReadsSound.{erra-exactly}
 use Rattle.codes.specs.Commands.{commandOf}

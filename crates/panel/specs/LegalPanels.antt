@@ -16,7 +16,7 @@ use Rattle.pjlink.specs.declared.command.Command.{Command}
 use Rattle.record.specs.Rules.{at_most}
 use Rattle.record.specs.Legal.{fillsRoom, fillsTextRoom}
 use Rattle.pjlink.specs.Carried.{lampsCarried}
-use Rattle.pjlink.specs.CanSay.{hoursMost}
+use Rattle.words.specs.Numerals.{hours_most}
 use Rattle.codes.specs.Commands.{commandOf}
 use Rattle.codes.specs.declared.command.Coded.{Coded}
 use Rattle.panel.specs.Entries.{Talk, Shown, talkOf, shownOf, ungreeted, greetedSecured, isSecuredTalk}
@@ -55,7 +55,7 @@ unfoldable pub isLampCount : Bool → ℕ → Bool
 isLampCount known count = if known then leb 1 count && leb count lampsCarried else eqb count 0
 
 abbrev pub isHours : List ℕ → Bool
-isHours hs = every (at_most hoursMost) hs
+isHours hs = every (at_most hours_most) hs
 
 unfoldable pub isLitRoom : List Bool → ℕ → Bool
 isLitRoom lit count = eqb (length lit) lampsCarried && every not (drop count lit)

@@ -21,8 +21,8 @@ use Rattle.controller.specs.Reading.{ReadAs, readReply}
 use Rattle.controller.specs.Writing.{writtenCommand}
 use Rattle.controller.specs.declared.greeting.Greeting.{Greeting}
 use Rattle.controller.specs.declared.greeting.Greeting.TheVariants.{Open, Secured, Refused, NotAGreeting}
-use Rattle.controller.specs.declared.reading.Outcome.{Outcome}
-use Rattle.controller.specs.declared.reading.Outcome.TheVariants.{Means, Erra, NotALine, OtherCommand, NotAllowed}
+use Rattle.controller.specs.Reading.{Outcome}
+use Rattle.controller.specs.Reading.{Means, Erra, NotALine, OtherCommand, NotAllowed}
 use Rattle.codes.specs.Commands.{commandOf}
 use Rattle.codes.specs.declared.command.Coded.{Coded}
 use Rattle.panel.specs.Entries.{Talk, Shown, talkOf, shownOf, passwordIn, entryOf, ungreeted, greetedOpen}

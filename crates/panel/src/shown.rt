@@ -1,13 +1,15 @@
 // What is shown of a projector: the last power, input and lamps that it told.
-ghost use Rattle.std.specs.Prelude.{◌≡◌, min, take};
+ghost use Rattle.std.specs.Prelude.{◌≡◌, ◌≤◌, length};
 ghost use Rattle.pjlink.specs.Said.{powerIs, chosenIs, lampsAre};
-ghost use Rattle.pjlink.specs.Carried.{saidBy, lampsCarried};
+ghost use Rattle.pjlink.specs.Carried.{lampsCarried, said_by};
 ghost use Rattle.panel.specs.Entries.{shownOf, nothingShown};
 ghost use Rattle.panel.specs.Showing.{showing};
 ghost use Rattle.panel.specs.Stepping.{withShown};
 
 use crate::types::{Entry, LAMPS_MOST};
-use pjlink::answer::{Answer, Kind, LampHours, Power};
+use pjlink::answer::{Answer, Reply};
+use words::lamp::LampHours;
+use words::power::Power;
 use codes::lists::FlatLamps;
 use codes::readings;
 use words::input::Input;
@@ -43,11 +45,11 @@ impl Entry {
         self.input_number = input.number;
     }
 
-    fn show_lamps(&mut self, lamps: &[LampHours; LAMPS_MOST], count: usize)
-        ensures { self.new ≡ withShown self.old (showing (shownOf self.old)
-            (lampsAre (take (min count lampsCarried) lamps.now))) }
+    fn show_lamps(&mut self, lamps: &[LampHours])
+        requires { length lamps.now ≤ lampsCarried }
+        ensures { self.new ≡ withShown self.old (showing (shownOf self.old) (lampsAre lamps.now)) }
     {
-        let FlatLamps { count, hours, lit } = FlatLamps::of(lamps, count);
+        let FlatLamps { count, hours, lit } = FlatLamps::of(lamps);
         self.lamps_known = true;
         self.lamp_count = count;
         self.hours = hours;
@@ -55,14 +57,13 @@ impl Entry {
     }
 
     /// What an accepted reply says is shown: a power, an input or lamps; anything else changes nothing.
-    #[tactic(auto, using(pjlink::proofs::Counts::said_by_kind))]
-    pub(crate) fn show(&mut self, a: &Answer)
-        ensures { self.new ≡ withShown self.old (showing (shownOf self.old) (saidBy a.now)) }
+    pub(crate) fn show(&mut self, reply: &Reply<'_>)
+        ensures { self.new ≡ withShown self.old (showing (shownOf self.old) (said_by reply.now)) }
     {
-        match a.kind {
-            Kind::Powered(power) => self.show_power(power),
-            Kind::Chosen(input) => self.show_input(input),
-            Kind::Lamps(count) => self.show_lamps(&a.lamps, count),
+        match reply {
+            Ok(Answer::Power(power)) => self.show_power(*power),
+            Ok(Answer::Input(input)) => self.show_input(*input),
+            Ok(Answer::Lamps(lamps)) => self.show_lamps(lamps.as_slice()),
             _ => {}
         }
     }

@@ -1,7 +1,7 @@
 // The step on a lent line, on the entry of the projector that it came from (RULES, Panel).
 ghost use Rattle.std.specs.Prelude.{◌≡◌, ◌+◌, min};
-ghost use Rattle.pjlink.specs.Carried.{saidBy};
 ghost use Rattle.controller.specs.Greetings.{readGreeting};
+ghost use Rattle.controller.specs.Reading.{read_as};
 ghost use Rattle.codes.specs.Commands.{commandOf};
 ghost use Rattle.panel.specs.Entries.{talkOf, restedOn};
 ghost use Rattle.panel.specs.Stepping.{straysMost, strayed, withTalk, erraEntry, lostEntry, greetedAs, heardAs};
@@ -11,7 +11,7 @@ use crate::types::{Entry, NO_COMMAND, STRAYS_MOST};
 use crate::views::{Awaits, Greeted};
 use codes::command::Coded;
 use controller::greeting::Greeting;
-use controller::reading::{Outcome, Reading};
+use controller::reading::{Misread, Reading};
 use controller::{greeting, reading};
 
 // One more, stopped at 65,535.
@@ -68,19 +68,17 @@ impl Entry {
     }
 
     // ERRA and an accepted reply end the command under way, and any other line is malformed or foreign.
-    fn take(&mut self, reading: &Reading)
-        ensures { self.new ≡ heardAs self.old reading.now.outcome (saidBy reading.now.answer) }
+    fn take(&mut self, reading: &Result<Reading<'_>, Misread>)
+        ensures { self.new ≡ heardAs self.old (read_as reading.now).outcome (read_as reading.now).said }
     {
-        if let Outcome::Erra = reading.outcome {
-            self.erra();
-            return;
+        match reading {
+            Ok(Reading::Means(reply)) => {
+                self.rest();
+                self.show(reply);
+            }
+            Ok(Reading::Erra) => self.erra(),
+            Err(_) => self.stray(),
         }
-        let Outcome::Means = reading.outcome else {
-            self.stray();
-            return;
-        };
-        self.rest();
-        self.show(&reading.answer);
     }
 
     // A line, where a command is under way: one, in a legal entry.

@@ -8,14 +8,13 @@ use mathlib.Core.Bool.{Bool, true, false, ◌&&◌}
 use mathlib.Core.List.{List}
 use lib.ListN.{length}
 use lib.Dec.{eqb}
-use Rattle.std.specs.Prelude.{if◌then◌else◌}
+use Rattle.std.specs.Prelude.{if◌then◌else◌, Option, Some, None}
 use Rattle.text.specs.Words.{◌is◌, ◌from◌to◌}
 use Rattle.text.proofs.Choices.{if-all}
 use Rattle.words.specs.Bytes.{◌at◌}
 use Rattle.words.specs.Inputs.{isInputText, inputNamed, read_input, input_of}
 use Rattle.words.specs.ClassOne.{readInput1}
-use Rattle.words.specs.declared.input.MaybeInput.{MaybeInput}
-use Rattle.words.specs.declared.input.MaybeInput.TheVariants.{InputIs, NoInput}
+use Rattle.words.specs.declared.input.Input.{Input}
 use Rattle.pjlink.specs.declared.command.Body.{Body}
 use Rattle.pjlink.specs.declared.command.Body.TheVariants.{Powr, Inpt, Avmt, Erst, Lamp, Inst, Name, Inf1, Inf2}
 use Rattle.pjlink.specs.declared.command.Body.TheVariants.{Info, Clss}
@@ -44,14 +43,14 @@ power-kept : (p : List ℕ) → switchAsked Powr (PowerSet false) (PowerSet true
 unfolding switchAsked powerAsked1
 power-kept p = powered (eqb (length p) 1 && p at 0 from "0" to "1") (p at 0 is "1")
 
-asked-as : {m n : MaybeInput} → InputKept m n → KeptAs (inputAsked InputSet Inpt m) (inputGiven1 n)
+asked-as : {m n : Option Input} → InputKept m n → KeptAs (inputAsked InputSet Inpt m) (inputGiven1 n)
 asked-as (input-as-before e) = as_before (given-same e)
   where
-    same : (n : MaybeInput) → inputAsked InputSet Inpt n ≡ inputGiven1 n
-    same (InputIs i) = refl
-    same NoInput = refl
+    same : (n : Option Input) → inputAsked InputSet Inpt n ≡ inputGiven1 n
+    same (Some i) = refl
+    same None = refl
 
-    given-same : {m n : MaybeInput} → m ≡ n → inputAsked InputSet Inpt m ≡ inputGiven1 n
+    given-same : {m n : Option Input} → m ≡ n → inputAsked InputSet Inpt m ≡ inputGiven1 n
     given-same {n = n} e = ap (inputAsked InputSet Inpt) e ∙ same n
 asked-as (input-of-class-2 a b two one now before) =
     of-class-2 a b two one (ap (inputAsked InputSet Inpt) now) (ap inputGiven1 before)
@@ -61,7 +60,7 @@ unfolding inputAsked1
 input-asked-kept p = rw (input-by-two p) (by (eqb (length p) 2))
   where
     by : (two : Bool)
-        → KeptAs (inputAsked InputSet Inpt (if two then read_input (p at 0) (p at 1) else NoInput))
+        → KeptAs (inputAsked InputSet Inpt (if two then read_input (p at 0) (p at 1) else None))
         (if two then inputGiven1 (readInput1 (p at 0) (p at 1)) else Unlisted Inpt)
     by true = asked-as (inputs-kept (p at 0) (p at 1))
     by false = as_before refl

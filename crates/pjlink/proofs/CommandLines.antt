@@ -17,7 +17,8 @@ use Rattle.text.proofs.Choices.{both, both_left}
 use Rattle.text.proofs.Scanning.{every_append, every-implies}
 use Rattle.words.specs.Bytes.{◌at◌, isAlnum, notCr, noCr}
 use Rattle.words.specs.Inputs.{inputText}
-use Rattle.pjlink.specs.Commands.{bodyText, bodyOf, commandClass, classDigit, switchDigit, halfDigit, parameterOf}
+use Rattle.pjlink.specs.Commands.{bodyText, bodyOf, commandClass, classDigit, halfDigit, parameterOf}
+use Rattle.words.specs.Powers.{switch_code}
 use Rattle.pjlink.specs.Commands.{commandText, commandLine}
 use Rattle.pjlink.specs.Forms.{headBody, isHeaded, takesClass, isCommandForm, commandParameter}
 use Rattle.words.specs.Bytes.{commandMost}
@@ -51,7 +52,7 @@ parameter-short (VolumeStep v up) = omega arith
 parameter-short (NameQuery i) = omega arith
 parameter-short (Query b) = omega arith
 
-switch-not-cr : (on : Bool) → notCr (switchDigit on) ≡ true
+switch-not-cr : (on : Bool) → notCr (switch_code on) ≡ true
 switch-not-cr true = refl
 switch-not-cr false = refl
 

@@ -9,8 +9,8 @@ use Rattle.text.specs.Words.{ascii}
 use Rattle.text.specs.Scans.{sameBy}
 use Rattle.words.specs.Bytes.{upperOf}
 use Rattle.pjlink.specs.Said.{Said, refused, powerIs, nothing, saidBytes}
-use Rattle.pjlink.specs.declared.answer.Power.{Power}
-use Rattle.pjlink.specs.declared.answer.Power.TheVariants.{Off, On, Cooling, WarmUp}
+use Rattle.words.specs.declared.power.Power.{Power}
+use Rattle.words.specs.declared.power.Power.TheVariants.{Off, On, Cooling, WarmUp}
 
 abbrev pub NotOkay : Said → Type 0
 NotOkay m = sameBy upperOf (saidBytes m ++ ascii "\r") (ascii "OK\r") ≡ false

@@ -10,19 +10,17 @@ use native.Mathlib.Omega.{arith}
 use lib.ListN.{length, drop}
 use lib.Dec.{eqb}
 use borrow.Author.Tests.{eqb-true, eqb-false}
-use Rattle.std.specs.Prelude.{if◌then◌else◌}
+use Rattle.std.specs.Prelude.{if◌then◌else◌, Option, Some, None}
 use Rattle.text.specs.Words.{◌is◌, ◌from◌to◌}
 use Rattle.text.specs.Scans.{every}
 use Rattle.text.proofs.Choices.{if-by, if-all, both_left, both_right}
 use Rattle.words.specs.Bytes.{◌at◌}
-use Rattle.pjlink.specs.Commands.{switchDigit}
+use Rattle.words.specs.Powers.{switch_code}
 use Rattle.pjlink.specs.Bodies.{bodies, rowOf, hasQuery}
 use Rattle.pjlink.specs.Requests.{isBody, firstNamed, bodyNamed, switchAsked, inputAsked, nameAsked, muteAsked}
 use Rattle.pjlink.specs.Requests.{setBy, asked_of, asked, isQuestion, requestOf}
 use Rattle.words.specs.Inputs.{input_of}
 use Rattle.words.specs.declared.input.Input.{Input}
-use Rattle.words.specs.declared.input.MaybeInput.{MaybeInput}
-use Rattle.words.specs.declared.input.MaybeInput.TheVariants.{InputIs, NoInput}
 use Rattle.pjlink.specs.declared.command.Body.{Body}
 use Rattle.pjlink.specs.declared.command.Body.TheVariants.{Powr}
 use Rattle.pjlink.specs.declared.body.Sets.{Sets}
@@ -54,10 +52,10 @@ isPowerSet UnknownBody = false
 abbrev No : Request → Type 0
 No r = isPowerSet r ≡ false
 
-input_none : (f : Input → Command) (b : Body) → ((i : Input) → No (Asks (f i))) → (m : MaybeInput)
+input_none : (f : Input → Command) (b : Body) → ((i : Input) → No (Asks (f i))) → (m : Option Input)
     → No (inputAsked f b m)
-input_none f b none (InputIs i) = none i
-input_none f b none NoInput = refl
+input_none f b none (Some i) = none i
+input_none f b none None = refl
 
 switch-none : (b : Body) (off on : Command) (p : List ℕ) → No (Asks off) → No (Asks on) → No (switchAsked b off on p)
 unfolding switchAsked
@@ -117,15 +115,15 @@ module _ (p : List ℕ) where
   powr-asked k h e = ap (λ (m : MaybeBody). asked m p) (body-is-named k h Powr e)
 
 -- and POWR with 0 or 1 only
-digit-of : (x : ℕ) (t : Bool) → x is "1" ≡ t → code "0" ≤ x → x ≤ code "1" → x ≡ switchDigit t
+digit-of : (x : ℕ) (t : Bool) → x is "1" ≡ t → code "0" ≤ x → x ≤ code "1" → x ≡ switch_code t
 digit-of x true e l h = eqb-true x (code "1") e
 digit-of x false e l h = omega (arith, eqb-false x (code "1") e)
 
 pub power-parameter : (p : List ℕ) (wanted : Bool) → asked_of Powr p ≡ Asks (PowerSet wanted)
-    → p ≡ switchDigit wanted ∷ []
+    → p ≡ switch_code wanted ∷ []
 unfolding asked_of switchAsked
 power-parameter p wanted =
-    let Told : Request → Type 0 = λ r. r ≡ Asks (PowerSet wanted) → p ≡ switchDigit wanted ∷ [] in
+    let Told : Request → Type 0 = λ r. r ≡ Asks (PowerSet wanted) → p ≡ switch_code wanted ∷ [] in
     let is_one = eqb (length p) 1 in
     let switch = p at 0 from "0" to "1" in
     if-by Told (isQuestion p) (λ t e. cc)

@@ -2,13 +2,13 @@
 --   is_set c           c sets something: it is answered OK
 --   hasOwnParameter c  the parameter of c is another than `?`, so that a projector may not know it
 --   isRefusalTo c n    ERRn is allowed in reply to c: `?` may have all but ERR2, any other command all of them
---   isLampHours l      hours that five digits can tell
---   isErrorDigit d     0, 1 or 2
 --   CanSay c m         m is an answer to c
 -- Assumes nothing.
-use Rattle.std.specs.Prelude.{ℕ, ◌≤◌, ◌≡◌, Bool, true, false, not, ◌||◌, List, length, leb, eqb}
+use Rattle.std.specs.Prelude.{ℕ, ◌≤◌, ◌≡◌, Bool, true, false, not, ◌||◌, List, length, eqb}
 use Rattle.text.specs.Scans.{every}
 use Rattle.words.specs.Inputs.{isInput}
+use Rattle.words.specs.Lamps.{is_lamp_hours}
+use Rattle.words.specs.ErrorDigits.{is_error_digit}
 use Rattle.words.specs.Texts.{isName, isInfo, isInputName}
 use Rattle.pjlink.specs.Commands.{bodyOf}
 use Rattle.words.specs.declared.input.Input.{Input}
@@ -20,8 +20,8 @@ use Rattle.pjlink.specs.declared.command.Body.TheVariants.{Clss, Frez, Snum, Sve
 use Rattle.pjlink.specs.Said.{Said, okay, refused, powerIs, chosenIs, mutesAre, errorsAre, lampsAre, inputsAre}
 use Rattle.pjlink.specs.Said.{textIs, classIs, freezeIs}
 use Rattle.pjlink.specs.Carried.{lampsCarried, inputsCarried, errorsCarried}
-use Rattle.pjlink.specs.declared.answer.Power.{Power}
-use Rattle.pjlink.specs.declared.answer.LampHours.{LampHours}
+use Rattle.words.specs.declared.power.Power.{Power}
+use Rattle.words.specs.declared.lamp.LampHours.{LampHours}
 
 abbrev pub is_set : Command → Bool
 is_set (PowerSet on) = true
@@ -46,23 +46,15 @@ hasOwnParameter (Query b) = false
 abbrev pub isRefusalTo : Command → ℕ → Bool
 isRefusalTo c n = hasOwnParameter c || not (eqb n 2)
 
-abbrev pub hoursMost : ℕ
-hoursMost = 99999
-
-abbrev pub isLampHours : LampHours → Bool
-isLampHours l = leb l.hours hoursMost
-
-abbrev pub isErrorDigit : ℕ → Bool
-isErrorDigit d = leb d 2
-
 pub data CanSay : Command → Said → Type 0 where
   done : {c : Command} → is_set c ≡ true → CanSay c okay
   refuses : {c : Command} (n : ℕ) → 1 ≤ n → n ≤ 4 → isRefusalTo c n ≡ true → CanSay c (refused n)
   power : (p : Power) → CanSay (Query Powr) (powerIs p)
   input : (i : Input) → isInput i ≡ true → CanSay (Query Inpt) (chosenIs i)
   mutes : (video audio : Bool) → CanSay (Query Avmt) (mutesAre video audio)
-  errors : (ds : List ℕ) → length ds ≡ errorsCarried → every isErrorDigit ds ≡ true → CanSay (Query Erst) (errorsAre ds)
-  lamps : (ls : List LampHours) → 1 ≤ length ls → length ls ≤ lampsCarried → every isLampHours ls ≡ true
+  errors : (ds : List ℕ) → length ds ≡ errorsCarried → every is_error_digit ds ≡ true
+      → CanSay (Query Erst) (errorsAre ds)
+  lamps : (ls : List LampHours) → 1 ≤ length ls → length ls ≤ lampsCarried → every is_lamp_hours ls ≡ true
       → CanSay (Query Lamp) (lampsAre ls)
   inputs : (is : List Input) → 1 ≤ length is → length is ≤ inputsCarried → every isInput is ≡ true
       → CanSay (Query Inst) (inputsAre is)

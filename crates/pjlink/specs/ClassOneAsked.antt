@@ -3,15 +3,14 @@
 -- still.
 --   requestOf1 s p        what the body s with the parameter p asks for
 -- Assumes nothing.
-use Rattle.std.specs.Prelude.{Bool, ◌&&◌, List, [], ◌∷◌, ℕ, length, eqb, if◌then◌else◌}
+use Rattle.std.specs.Prelude.{Bool, ◌&&◌, List, [], ◌∷◌, ℕ, length, eqb, if◌then◌else◌, Option, Some, None}
 use Rattle.text.specs.Words.{◌is◌, ◌from◌to◌}
 use Rattle.text.specs.Scans.{sameBy}
 use Rattle.words.specs.Bytes.{◌at◌, upperOf}
+use Rattle.words.specs.declared.input.Input.{Input}
 use Rattle.pjlink.specs.Bodies.{rowOf}
 use Rattle.pjlink.specs.Commands.{bodyText}
 use Rattle.words.specs.ClassOne.{readInput1}
-use Rattle.words.specs.declared.input.MaybeInput.{MaybeInput}
-use Rattle.words.specs.declared.input.MaybeInput.TheVariants.{InputIs, NoInput}
 use Rattle.pjlink.specs.declared.command.Body.{Body}
 use Rattle.pjlink.specs.declared.command.Body.TheVariants.{Powr, Inpt, Avmt, Erst, Lamp, Inst, Name, Inf1, Inf2}
 use Rattle.pjlink.specs.declared.command.Body.TheVariants.{Info, Clss}
@@ -44,9 +43,9 @@ powerAsked1 p =
     if eqb (length p) 1 && p at 0 from "0" to "1" then Asks (PowerSet (p at 0 is "1")) else Unlisted Powr
 
 -- INPT: two characters that name an input
-abbrev pub inputGiven1 : MaybeInput → Request
-inputGiven1 (InputIs i) = Asks (InputSet i)
-inputGiven1 NoInput = Unlisted Inpt
+abbrev pub inputGiven1 : Option Input → Request
+inputGiven1 (Some i) = Asks (InputSet i)
+inputGiven1 None = Unlisted Inpt
 
 unfoldable pub inputAsked1 : List ℕ → Request
 inputAsked1 p = if eqb (length p) 2 then inputGiven1 (readInput1 (p at 0) (p at 1)) else Unlisted Inpt

@@ -3,16 +3,18 @@
 --   bodyText b           the four letters of a body
 --   bodyOf c             the body of a command
 --   commandClass c       the class of its line, and classDigit k the character of a class
---   parameterOf c        its parameter: `?` asks, anything else sets; INNM's names the input that is asked for
+--   parameterOf c        its parameter: `?` asks, anything else sets (of a step, 1 is up and 0 is down); INNM's names
+--                        the input that is asked for
 --   parameterBytes p     the bytes of a parameter
 --   isCommand c          a command whose line can be written: its input is one, its query is one
 --   commandText c        `%` and the class, the body, a space, the parameter
 --   commandLine c        that and CR
 -- Assumes nothing.
-use Rattle.std.specs.Prelude.{Bool, true, false, List, [], ◌∷◌, ◌++◌, ℕ, ◌+◌}
+use Rattle.std.specs.Prelude.{Bool, true, List, [], ◌∷◌, ◌++◌, ℕ, ◌+◌}
 use Prim.Native.Char.{code}
 use Rattle.text.specs.Words.{ascii}
 use Rattle.words.specs.Inputs.{isInput, inputText}
+use Rattle.words.specs.Powers.{switch_code}
 use Rattle.pjlink.specs.Bodies.{rowOf, class_of, hasQuery}
 use Rattle.pjlink.specs.declared.command.Body.{Body}
 use Rattle.pjlink.specs.declared.command.Body.TheVariants.{Powr, Inpt, Avmt, Frez, Svol, Mvol, Innm, Inpt2}
@@ -49,11 +51,6 @@ commandClass c = class_of (bodyOf c)
 abbrev pub classDigit : ℕ → ℕ
 classDigit k = code "0" + k
 
--- 1 is on, 0 is off; of a step, 1 is up and 0 is down
-abbrev pub switchDigit : Bool → ℕ
-switchDigit true = code "1"
-switchDigit false = code "0"
-
 -- 1 video, 2 audio, 3 both
 abbrev pub halfDigit : Half → ℕ
 halfDigit VideoHalf = code "1"
@@ -61,12 +58,12 @@ halfDigit AudioHalf = code "2"
 halfDigit BothHalves = code "3"
 
 abbrev pub parameterOf : Command → List ℕ
-parameterOf (PowerSet on) = switchDigit on ∷ []
+parameterOf (PowerSet on) = switch_code on ∷ []
 parameterOf (InputSet i) = inputText i
-parameterOf (MuteSet h on) = halfDigit h ∷ switchDigit on ∷ []
+parameterOf (MuteSet h on) = halfDigit h ∷ switch_code on ∷ []
 parameterOf (InputSet2 i) = inputText i
-parameterOf (FreezeSet on) = switchDigit on ∷ []
-parameterOf (VolumeStep v up) = switchDigit up ∷ []
+parameterOf (FreezeSet on) = switch_code on ∷ []
+parameterOf (VolumeStep v up) = switch_code up ∷ []
 parameterOf (NameQuery i) = ascii "?" ++ inputText i
 parameterOf (Query b) = ascii "?"
 

@@ -4,14 +4,11 @@
 use Rattle.words.specs.Computing.{computing as words}
 use Rattle.pjlink.specs.Forms.{isCommandForm, isReplyForm}
 use Rattle.pjlink.specs.Requests.{bodyNamed, switchAsked, nameAsked, halfNamed, muteAsked, asked_of, requestOf}
-use Rattle.pjlink.specs.Lists.{gap}
 use Rattle.pjlink.specs.Said.{saidBytes}
-use Rattle.pjlink.specs.Carried.{saidBy}
-use Rattle.pjlink.specs.Reading.{powerNamed, readPower, mutesNamed, readMutes, readErrors, lampOf}
-use Rattle.pjlink.specs.Reading.{readLamps, readInputs, readParameter}
+use Rattle.pjlink.specs.Reading.{readParameter}
 
 unfoldable pub computing : Unit {0}
 unfolding
-    words isCommandForm isReplyForm bodyNamed switchAsked nameAsked halfNamed muteAsked asked_of requestOf gap
-    saidBytes saidBy powerNamed readPower mutesNamed readMutes readErrors lampOf readLamps readInputs readParameter
+    words isCommandForm isReplyForm bodyNamed switchAsked nameAsked halfNamed muteAsked asked_of requestOf saidBytes
+    readParameter
 computing = tt

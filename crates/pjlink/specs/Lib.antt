@@ -4,11 +4,9 @@ pub mod Forms
 pub mod ClassOne
 pub mod Requests
 pub mod ClassOneAsked
-pub mod Lists
 pub mod Said
 pub mod Carried
 pub mod CanSay
-pub mod Words
 pub mod Reading
 pub mod Writings
 pub mod Computing

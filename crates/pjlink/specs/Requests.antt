@@ -10,6 +10,7 @@
 --   inputAsked f b m       an input asks the command f of it
 -- Assumes nothing.
 use Rattle.std.specs.Prelude.{ℕ, Bool, true, false, ◌&&◌, List, [], ◌∷◌, length, drop, eqb, if◌then◌else◌}
+use Rattle.std.specs.Prelude.{Option, Some, None}
 use Rattle.text.specs.Words.{◌is◌, ◌from◌to◌}
 use Rattle.text.specs.Scans.{sameBy}
 use Rattle.words.specs.Bytes.{◌at◌, upperOf}
@@ -17,8 +18,6 @@ use Rattle.words.specs.Inputs.{input_of}
 use Rattle.pjlink.specs.Bodies.{bodies, rowOf, class_of, hasQuery}
 use Rattle.pjlink.specs.Commands.{bodyText}
 use Rattle.words.specs.declared.input.Input.{Input}
-use Rattle.words.specs.declared.input.MaybeInput.{MaybeInput}
-use Rattle.words.specs.declared.input.MaybeInput.TheVariants.{InputIs, NoInput}
 use Rattle.pjlink.specs.declared.command.Body.{Body}
 use Rattle.pjlink.specs.declared.command.Body.TheVariants.{Avmt}
 use Rattle.pjlink.specs.declared.command.Half.{Half}
@@ -51,9 +50,9 @@ switchAsked b off on p =
     if eqb (length p) 1 && p at 0 from "0" to "1" then Asks (if p at 0 is "1" then on else off) else Unlisted b
 
 -- INPT: two characters that name an input; INNM: `?` and these
-abbrev pub inputAsked : (Input → Command) → Body → MaybeInput → Request
-inputAsked f b (InputIs i) = Asks (f i)
-inputAsked f b NoInput = Unlisted b
+abbrev pub inputAsked : (Input → Command) → Body → Option Input → Request
+inputAsked f b (Some i) = Asks (f i)
+inputAsked f b None = Unlisted b
 
 unfoldable pub nameAsked : Body → List ℕ → Request
 nameAsked b p = if p at 0 is "?" then inputAsked NameQuery b (input_of (drop 1 p)) else Unlisted b

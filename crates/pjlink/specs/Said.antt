@@ -3,10 +3,6 @@
 --   Said               OK; ERRn; a power; a chosen input; the mutes of video and audio; six error digits; lamps;
 --                      inputs; a text; a class; whether the picture is frozen; or nothing: a parameter that is not
 --                      allowed
---   powerText p        0 off, 1 on, 2 cooling, 3 warm-up: the characters, whatever hex PJLink's text prints for the
---                      last two
---   mutesText v a      11 video only, 21 audio only, 31 both, 30 neither
---   lampText l         the hours, a space, 1 if lit, else 0
 --   saidText m         the parameter, row by row
 --   saidBytes m        the same, shut
 --   parameterMost      no parameter of a reply is longer
@@ -14,17 +10,17 @@
 --                      65)
 --   saidMost           no answer has a longer one: an input's name of 128 bytes (RULES, Class 2)
 -- Assumes nothing.
-use Rattle.std.specs.Prelude.{ℕ, ◌*◌, ◌-◌, Bool, true, false, List, [], ◌∷◌, ◌++◌, map, length}
-use Prim.Native.Char.{code}
+use Rattle.std.specs.Prelude.{ℕ, ◌*◌, ◌-◌, Bool, List, [], ◌∷◌, ◌++◌, length}
 use Rattle.text.specs.Words.{ascii}
-use Rattle.numbers.specs.Decimal.{digits}
 use Rattle.words.specs.Inputs.{inputText, numberDigit}
-use Rattle.pjlink.specs.Commands.{switchDigit}
+use Rattle.words.specs.Joined.{list_text}
+use Rattle.words.specs.Powers.{power_text, switch_text}
+use Rattle.words.specs.Muting.{halves_text}
+use Rattle.words.specs.ErrorDigits.{errors_text}
+use Rattle.words.specs.Lamps.{lamp_text}
 use Rattle.words.specs.declared.input.Input.{Input}
-use Rattle.pjlink.specs.Lists.{joined}
-use Rattle.pjlink.specs.declared.answer.Power.{Power}
-use Rattle.pjlink.specs.declared.answer.Power.TheVariants.{Off, On, Cooling, WarmUp}
-use Rattle.pjlink.specs.declared.answer.LampHours.{LampHours}
+use Rattle.words.specs.declared.power.Power.{Power}
+use Rattle.words.specs.declared.lamp.LampHours.{LampHours}
 
 pub data Said : Type 0 where
   okay : Said
@@ -40,36 +36,21 @@ pub data Said : Type 0 where
   freezeIs : Bool → Said
   nothing : Said
 
-abbrev pub powerText : Power → List ℕ
-powerText Off = ascii "0"
-powerText On = ascii "1"
-powerText Cooling = ascii "2"
-powerText WarmUp = ascii "3"
-
-abbrev pub mutesText : Bool → Bool → List ℕ
-mutesText true false = ascii "11"
-mutesText false true = ascii "21"
-mutesText true true = ascii "31"
-mutesText false false = ascii "30"
-
 abbrev pub refusalText : ℕ → List ℕ
 refusalText n = ascii "ERR" ++ (numberDigit n ∷ [])
-
-abbrev pub lampText : LampHours → List ℕ
-lampText l = digits l.hours ++ (code " " ∷ switchDigit l.lit ∷ [])
 
 abbrev pub saidText : Said → List ℕ
 saidText okay = ascii "OK"
 saidText (refused n) = refusalText n
-saidText (powerIs p) = powerText p
+saidText (powerIs p) = power_text p
 saidText (chosenIs i) = inputText i
-saidText (mutesAre video audio) = mutesText video audio
-saidText (errorsAre ds) = map numberDigit ds
-saidText (lampsAre ls) = joined lampText ls
-saidText (inputsAre is) = joined inputText is
+saidText (mutesAre video audio) = halves_text video audio
+saidText (errorsAre ds) = errors_text ds
+saidText (lampsAre ls) = list_text lamp_text ls
+saidText (inputsAre is) = list_text inputText is
 saidText (textIs s) = s
 saidText (classIs k) = numberDigit k ∷ []
-saidText (freezeIs on) = switchDigit on ∷ []
+saidText (freezeIs on) = switch_text on
 saidText nothing = []
 
 unfoldable pub saidBytes : Said → List ℕ

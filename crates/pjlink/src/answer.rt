@@ -1,127 +1,45 @@
-// The answer, apart from its bytes. Arrays stand beside the enum; what a kind does not use is zero.
-ghost use Rattle.std.specs.Prelude.{◌≡◌};
-ghost use Rattle.pjlink.specs.Carried.{plain_of, ofLamps, ofInputs, ofText, isNothing};
+//! What a projector says to a command, apart from its bytes (RULES, Commands and Class 2).
 
-use words::input::{Input, Source};
+use arrayvec::ArrayVec;
+use words::errors::Errors;
+use words::input::Input;
+use words::lamp::LampHours;
+use words::power::Power;
+use words::refusal::Refusal;
 
+/// The most lamps that a reply tells of (RULES, Controller).
 pub const LAMPS_MOST: usize = 8;
 
+/// The most inputs that a reply tells of (RULES, Controller).
 pub const INPUTS_MOST: usize = 32;
 
-pub const TEXT_MOST: usize = 128;
-
+/// The error digits of ERST.
 pub const ERRORS_COUNT: usize = 6;
 
-#[derive(Clone, Copy)]
-pub enum Power {
-    Off,
-    On,
-    Cooling,
-    WarmUp,
-}
-
-#[derive(Clone, Copy)]
-pub struct LampHours {
-    pub hours: u32,
-    pub lit: bool,
-}
-
-// The mutes are of video and of audio. The counts are of the array's elements from its first on. The six error digits
-// stand in `text`, as numbers. The class is 1 or 2. Nothing is a parameter that is not allowed.
-#[derive(Clone, Copy)]
-pub enum Kind {
-    Ok,
-    Refused(u8),
-    Powered(Power),
-    Chosen(Input),
-    Muted(bool, bool),
-    Errors,
-    Lamps(usize),
-    Inputs(usize),
-    Text(usize),
+/// What a command is answered where no rule refuses it.
+#[derive(Drop)]
+pub enum Answer<'a> {
+    /// OK to a set.
+    Done,
+    /// The power.
+    Power(Power),
+    /// The input that is chosen.
+    Input(Input),
+    /// Whether the video is muted, and whether the audio is.
+    Mutes(bool, bool),
+    /// Fan, lamp, temperature, cover, filter, other: 0 no error or not known, 1 a warning, 2 an error.
+    Errors(Errors),
+    /// The lamps, in order.
+    Lamps(ArrayVec<LampHours, LAMPS_MOST>),
+    /// The inputs, in order.
+    Inputs(ArrayVec<Input, INPUTS_MOST>),
+    /// A name, or another text.
+    Text(&'a [u8]),
+    /// The class, 1 or 2.
     Class(u8),
-    Frozen(bool),
-    Nothing,
+    /// Whether the picture is frozen.
+    Freeze(bool),
 }
 
-#[derive(Clone, Copy)]
-pub struct Answer {
-    pub kind: Kind,
-    pub lamps: [LampHours; LAMPS_MOST],
-    pub inputs: [Input; INPUTS_MOST],
-    pub text: [u8; TEXT_MOST],
-}
-
-pub const NO_LAMP: LampHours = LampHours {
-    hours: 0,
-    lit: false,
-};
-
-pub const NO_INPUT: Input = Input {
-    source: Source::Rgb,
-    number: 0,
-};
-
-pub fn is_nothing(k: Kind) -> bool
-    ensures { result ≡ isNothing k }
-{
-    match k {
-        Kind::Ok => false,
-        Kind::Refused(_) => false,
-        Kind::Powered(_) => false,
-        Kind::Chosen(_) => false,
-        Kind::Muted(_, _) => false,
-        Kind::Errors => false,
-        Kind::Lamps(_) => false,
-        Kind::Inputs(_) => false,
-        Kind::Text(_) => false,
-        Kind::Class(_) => false,
-        Kind::Frozen(_) => false,
-        Kind::Nothing => true,
-    }
-}
-
-pub fn plain(k: Kind) -> Answer
-    ensures { result ≡ plain_of k }
-{
-    Answer {
-        kind: k,
-        lamps: [NO_LAMP; LAMPS_MOST],
-        inputs: [NO_INPUT; INPUTS_MOST],
-        text: [0; TEXT_MOST],
-    }
-}
-
-pub fn of_lamps(count: usize, lamps: [LampHours; LAMPS_MOST]) -> Answer
-    ensures { result ≡ ofLamps count lamps }
-{
-    Answer {
-        kind: Kind::Lamps(count),
-        lamps,
-        inputs: [NO_INPUT; INPUTS_MOST],
-        text: [0; TEXT_MOST],
-    }
-}
-
-pub fn of_inputs(count: usize, inputs: [Input; INPUTS_MOST]) -> Answer
-    ensures { result ≡ ofInputs count inputs }
-{
-    Answer {
-        kind: Kind::Inputs(count),
-        lamps: [NO_LAMP; LAMPS_MOST],
-        inputs,
-        text: [0; TEXT_MOST],
-    }
-}
-
-// The kinds Errors and Text.
-pub fn of_text(k: Kind, text: [u8; TEXT_MOST]) -> Answer
-    ensures { result ≡ ofText k text }
-{
-    Answer {
-        kind: k,
-        lamps: [NO_LAMP; LAMPS_MOST],
-        inputs: [NO_INPUT; INPUTS_MOST],
-        text,
-    }
-}
+/// An answer, or a refusal.
+pub type Reply<'a> = Result<Answer<'a>, Refusal>;

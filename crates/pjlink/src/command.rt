@@ -5,7 +5,8 @@ ghost use Rattle.text.specs.Words.{ascii};
 ghost use Rattle.pjlink.specs.Bodies.{class_of};
 ghost use Rattle.words.specs.Inputs.{inputText};
 ghost use Rattle.pjlink.specs.Commands.{bodyText, volumeBody, bodyOf, commandClass, classDigit, parameterOf};
-ghost use Rattle.pjlink.specs.Commands.{parameterBytes, switchDigit, halfDigit, isCommand, commandLine};
+ghost use Rattle.pjlink.specs.Commands.{parameterBytes, halfDigit, isCommand, commandLine};
+ghost use Rattle.words.specs.Powers.{switch_code};
 
 use crate::body;
 use words::input;
@@ -126,7 +127,7 @@ pub fn is_command(c: Command) -> bool
 }
 
 fn switch_digit(on: bool) -> u8
-    ensures { result ≡ switchDigit on }
+    ensures { result ≡ switch_code on }
 {
     if on { b'1' } else { b'0' }
 }

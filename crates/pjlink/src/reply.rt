@@ -1,38 +1,54 @@
-// The parameter of a reply, read for the command that it answers (RULES, Controller).
+//! The parameter of a reply, read for the command that it answers (RULES, Controller).
 ghost use Rattle.std.specs.Prelude.{◌≡◌};
-ghost use Rattle.pjlink.specs.Carried.{answer_of};
+ghost use Rattle.words.specs.Refusing.{refusal_digit};
+ghost use Rattle.pjlink.specs.Carried.{value_said, parameter_said};
 ghost use Rattle.pjlink.specs.CanSay.{is_set, hasOwnParameter, isRefusalTo};
-ghost use Rattle.pjlink.specs.Reading.{readQueried, readValue, readParameter};
+ghost use Rattle.pjlink.specs.Reading.{text_or, readQueried, readValue, readParameter};
 
-use crate::answer;
-use crate::answer::{Answer, Kind};
+use crate::answer::{Answer, Reply};
+use crate::command;
 use crate::command::{Body, Command};
-use crate::{command, list, values};
-use words::texts;
+use words::class::ClassNumber;
+use words::mutes::Mutes;
+use words::refusal::Refusal;
+use words::{codec, list, texts};
 
-fn read_queried(b: Body, p: &[u8]) -> Answer
-    ensures { result ≡ answer_of (readQueried b p.now) }
+// The text p where it is a legal one.
+fn text_if(legal: bool, p: &[u8]) -> Option<Answer<'_>>
+    ensures { value_said result ≡ text_or legal p.now }
+{
+    if legal { Some(Answer::Text(p)) } else { None }
+}
+
+fn read_queried(b: Body, p: &[u8]) -> Option<Answer<'_>>
+    ensures { value_said result ≡ readQueried b p.now }
 {
     match b {
-        Body::Powr => answer::plain(values::read_power(p)),
-        Body::Inpt => answer::plain(values::read_chosen(p)),
-        Body::Avmt => answer::plain(values::read_mutes(p)),
-        Body::Erst => values::read_errors(p),
-        Body::Lamp => list::read_lamps(p),
-        Body::Inst => list::read_inputs(p),
-        Body::Name => values::text_if(texts::is_name(p), p),
-        Body::Inf1 => values::text_if(texts::is_info(p), p),
-        Body::Inf2 => values::text_if(texts::is_info(p), p),
-        Body::Info => values::text_if(texts::is_info(p), p),
-        Body::Clss => answer::plain(values::read_class(p)),
-        Body::Frez => answer::plain(values::read_freeze(p)),
-        Body::Svol => answer::plain(Kind::Nothing),
-        Body::Mvol => answer::plain(Kind::Nothing),
-        Body::Snum => values::text_if(texts::is_info(p), p),
-        Body::Sver => values::text_if(texts::is_info(p), p),
-        Body::Innm => values::text_if(texts::is_input_name(p), p),
-        Body::Inpt2 => answer::plain(values::read_chosen(p)),
-        Body::Inst2 => list::read_inputs(p),
+        Body::Powr => Some(Answer::Power(codec::parse(p)?)),
+        Body::Inpt => Some(Answer::Input(codec::parse(p)?)),
+        Body::Avmt => {
+            let m: Mutes = codec::parse(p)?;
+            Some(Answer::Mutes(m.video, m.audio))
+        }
+        Body::Erst => Some(Answer::Errors(codec::parse(p)?)),
+        Body::Lamp => Some(Answer::Lamps(list::parse_list(p)?)),
+        Body::Inst => Some(Answer::Inputs(list::parse_list(p)?)),
+        Body::Name => text_if(texts::is_name(p), p),
+        Body::Inf1 => text_if(texts::is_info(p), p),
+        Body::Inf2 => text_if(texts::is_info(p), p),
+        Body::Info => text_if(texts::is_info(p), p),
+        Body::Clss => {
+            let class: ClassNumber = codec::parse(p)?;
+            Some(Answer::Class(class.number))
+        }
+        Body::Frez => Some(Answer::Freeze(codec::parse(p)?)),
+        Body::Svol => None,
+        Body::Mvol => None,
+        Body::Snum => text_if(texts::is_info(p), p),
+        Body::Sver => text_if(texts::is_info(p), p),
+        Body::Innm => text_if(texts::is_input_name(p), p),
+        Body::Inpt2 => Some(Answer::Input(codec::parse(p)?)),
+        Body::Inst2 => Some(Answer::Inputs(list::parse_list(p)?)),
     }
 }
 
@@ -67,32 +83,36 @@ fn has_own_parameter(c: Command) -> bool
     }
 }
 
-fn read_value(c: Command, p: &[u8]) -> Answer
-    ensures { result ≡ answer_of (readValue c p.now) }
+fn read_value(c: Command, p: &[u8]) -> Option<Answer<'_>>
+    ensures { value_said result ≡ readValue c p.now }
 {
     if is_set(c) {
-        return answer::plain(values::read_exactly(p, b"OK", Kind::Ok));
+        if text::same(p, b"OK") {
+            return Some(Answer::Done);
+        }
+        return None;
     }
     read_queried(command::body_of(c), p)
 }
 
-// Whether ERRn is allowed in reply to c: ERR2 is none to `?`.
-fn is_refusal_to(c: Command, n: u8) -> bool
-    ensures { result ≡ isRefusalTo c n }
+// Whether a refusal is allowed in reply to c: ERR2 is none to `?`.
+fn may_refuse(c: Command, r: Refusal) -> bool
+    ensures { result ≡ isRefusalTo c (refusal_digit r) }
 {
-    has_own_parameter(c) | (n != 2)
+    has_own_parameter(c) | (r.number() != 2)
 }
 
-// What the parameter p says to the command c.
-pub fn read_parameter(c: Command, p: &[u8]) -> Answer
-    ensures { result ≡ answer_of (readParameter c p.now) }
+/// What the parameter p says to the command c; none where it is not allowed there.
+#[tactic(auto, unfolding(crate::specs::Reading::readParameter))]
+pub fn read_parameter(c: Command, p: &[u8]) -> Option<Reply<'_>>
+    ensures { parameter_said result ≡ readParameter c p.now }
 {
-    let n = texts::refusal_of(p);
-    if n == 0 {
-        return read_value(c, p);
+    let refusal: Option<Refusal> = codec::parse(p);
+    if let Some(r) = refusal {
+        return if may_refuse(c, r) { Some(Err(r)) } else { None };
     }
-    if is_refusal_to(c, n) {
-        return answer::plain(Kind::Refused(n));
-    }
-    answer::plain(Kind::Nothing)
+    let Some(value) = read_value(c, p) else {
+        return None;
+    };
+    Some(Ok(value))
 }

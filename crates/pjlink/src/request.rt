@@ -8,7 +8,6 @@ ghost use Rattle.pjlink.specs.declared.command.Command.TheVariants.{InputSet, In
 use crate::body;
 use crate::body::Sets;
 use crate::command::{Body, Command, Half, Volume};
-use words::input::MaybeInput;
 use words::{byte, input};
 
 #[derive(Clone, Copy)]
@@ -99,8 +98,8 @@ fn input_asked(b: Body, p: &[u8]) -> Request
 {
     let read = input::input_of(p);
     match read {
-        MaybeInput::InputIs(i) => Request::Asks(Command::InputSet(i)),
-        MaybeInput::NoInput => Request::Unlisted(b),
+        Some(i) => Request::Asks(Command::InputSet(i)),
+        None => Request::Unlisted(b),
     }
 }
 
@@ -109,8 +108,8 @@ fn input2_asked(b: Body, p: &[u8]) -> Request
 {
     let read = input::input_of(p);
     match read {
-        MaybeInput::InputIs(i) => Request::Asks(Command::InputSet2(i)),
-        MaybeInput::NoInput => Request::Unlisted(b),
+        Some(i) => Request::Asks(Command::InputSet2(i)),
+        None => Request::Unlisted(b),
     }
 }
 
@@ -127,8 +126,8 @@ fn name_asked(b: Body, p: &[u8]) -> Request
     }
     let read = input::input_of(&p[1..]);
     match read {
-        MaybeInput::InputIs(i) => Request::Asks(Command::NameQuery(i)),
-        MaybeInput::NoInput => Request::Unlisted(b),
+        Some(i) => Request::Asks(Command::NameQuery(i)),
+        None => Request::Unlisted(b),
     }
 }
 

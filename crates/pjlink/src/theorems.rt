@@ -1,31 +1,21 @@
 // What is proved beside the contracts of the functions. Nothing is done here: that these functions have their contracts
 // is that the theorems stand.
-ghost use Rattle.std.specs.Prelude.{◌≡◌, ◌+◌, ℕ, List, length, false, true};
-ghost use Rattle.std.proofs.lemmas.List.Edits.{sets};
-ghost use Rattle.pjlink.specs.declared.answer.Kind.{Kind};
+ghost use Rattle.std.specs.Prelude.{◌≡◌, ◌++◌, ℕ, List, Option, Result, false, true};
 ghost use Rattle.pjlink.specs.declared.answer.Answer.{Answer};
-ghost use Rattle.pjlink.specs.Carried.{plain_of, ofLamps, ofInputs, ofText, saidBy, answer_of};
-ghost use Rattle.pjlink.specs.declared.answer.LampHours.{LampHours};
-ghost use Rattle.words.specs.declared.input.Input.{Input};
+ghost use Rattle.words.specs.declared.refusal.Refusal.{Refusal};
+ghost use Rattle.pjlink.specs.Carried.{parameter_said};
 ghost use Rattle.pjlink.specs.Said.{saidBytes, nothing, Said};
 ghost use Rattle.pjlink.specs.declared.command.Command.{Command};
 ghost use Rattle.pjlink.specs.Reading.{readParameter};
 ghost use Rattle.pjlink.specs.Writings.{Says, Allowed};
 
-/// Two results that meet the promise of a call are equal, lent memory included.
+/// Two lines that meet the promise of a call are equal; two replies that are read say the same.
 pub fn one_result()
-    ensures plain { (k : Kind) (r s : Answer) → r ≡ plain_of k → s ≡ plain_of k → r ≡ s }
-    ensures lamps { (count : ℕ) (ls : List LampHours) (r s : Answer)
-        → r ≡ ofLamps count ls → s ≡ ofLamps count ls → r ≡ s }
-    ensures inputs { (count : ℕ) (is : List Input) (r s : Answer)
-        → r ≡ ofInputs count is → s ≡ ofInputs count is → r ≡ s }
-    ensures texts { (k : Kind) (t : List ℕ) (r s : Answer) → r ≡ ofText k t → s ≡ ofText k t → r ≡ s }
-    ensures answer_written { (out : List ℕ) (at : ℕ) (a : Answer) (r s : ℕ) (m n : List ℕ)
-        → let said = saidBytes (saidBy a) in
-        (r ≡ at + length said) × (m ≡ sets out at said)
-        → (s ≡ at + length said) × (n ≡ sets out at said) → (r ≡ s) × (m ≡ n) }
-    ensures parameter_read { (c : Command) (p : List ℕ) (r s : Answer)
-        → r ≡ answer_of (readParameter c p) → s ≡ answer_of (readParameter c p) → r ≡ s }
+    ensures answer_written { (out : List ℕ) (m : Said) (k l : List ℕ)
+        → k ≡ out ++ saidBytes m → l ≡ out ++ saidBytes m → k ≡ l }
+    ensures parameter_read { (c : Command) (p : List ℕ) (r s : Option (Result Answer Refusal))
+        → parameter_said r ≡ readParameter c p → parameter_said s ≡ readParameter c p
+        → parameter_said r ≡ parameter_said s }
 {}
 
 /// What is read of a parameter is an answer of which it is a writing, each writing of an answer is read as it, and

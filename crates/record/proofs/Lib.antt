@@ -29,3 +29,4 @@ pub mod HostKept
 pub mod Results
 pub mod RefusedSetting
 mod Samples
+pub mod GivenTold

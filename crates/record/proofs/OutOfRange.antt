@@ -7,6 +7,7 @@ use mathlib.Core.Path.{◌≡◌, refl, sym, ap, subst, ◌∙◌}
 use mathlib.Core.Bool.{Bool, true, false}
 use mathlib.Core.List.{List, [], ◌∷◌}
 use native.Mathlib.Omega.{arith}
+use lib.ListN.{length}
 use lib.Dec.{ltb, eqb}
 use borrow.Author.Tests.{ltb-true, ltb-false, not-false}
 use Rattle.std.specs.Prelude.{not, Option, Some, None, if◌then◌else◌}
@@ -14,13 +15,13 @@ use Rattle.text.specs.Scans.{every}
 use Rattle.text.proofs.Choices.{if_no, if-by, both, both_left, both_right}
 use Rattle.text.proofs.OneResult.{one-result}
 use Rattle.record.specs.Wanted.{Wanted}
-use Rattle.record.specs.SetUp.{settingsInOrder, isSettingInRange, isInRange, isSetUp}
-use Rattle.record.specs.OutOfRange.{settingPlace, firstFailing, firstOutOfRange, SettingHolds}
+use Rattle.record.specs.Rules.{isLongEnough}
+use Rattle.record.specs.SetUp.{settingsInOrder, isSettingInRange, isInRange, isSetUp, firstFailing, firstOutOfRange}
+use Rattle.record.specs.OutOfRange.{settingPlace, SettingHolds}
 use Rattle.record.specs.declared.types.Setting.{Setting}
 use Rattle.record.specs.declared.types.Setting.TheVariants.{Name, Maker, Model, Other, Password, Inputs}
 use Rattle.record.specs.declared.types.Setting.TheVariants.{Lamps, WarmUp, Cooling, Serial, Version}
 use Rattle.record.specs.declared.types.Setting.TheVariants.{Names}
-use Rattle.record.proofs.Calls.{set-up-ranged}
 
 -- ---- the places
 
@@ -147,8 +148,10 @@ module _ (w : Wanted) where
   in-range-none = none-failing (isSettingInRange w) settingsInOrder
 
   pub each-in-range : isSetUp w ≡ true → (s : Setting) → isSettingInRange w s ≡ true
+  unfolding isSetUp
   each-in-range h =
-      subst (SettingHolds (isSettingInRange w)) (in-range-none (set-up-ranged w h)) (first_holds (isSettingInRange w))
+      let ranged = both_left (isInRange w) (isLongEnough (length w.password)) h in
+      subst (SettingHolds (isSettingInRange w)) (in-range-none ranged) (first_holds (isSettingInRange w))
 
   pub some_out : (s : Setting) → firstOutOfRange w ≡ Some s → isInRange w ≡ false
   some_out s e = by (isInRange w) refl

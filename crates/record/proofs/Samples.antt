@@ -15,15 +15,16 @@ use Rattle.record.specs.Wanted.{Wanted, wantedOf, wantedOf2, namesIn}
 use Rattle.record.specs.Record.{started}
 use Rattle.record.specs.Legal.{isLegal}
 use Rattle.record.specs.SetUp.{settingsInOrder, setUp}
-use Rattle.record.specs.OutOfRange.{refusedSetting}
+use Rattle.record.specs.SetUpErrors.{setting_told}
+use Rattle.record.specs.Given.{Given, set_up_given}
 use Rattle.record.specs.Computing.{computing}
-use Rattle.record.specs.declared.types.Changed.{Changed}
+use Rattle.record.specs.declared.types.Device.{Device}
 use Rattle.record.specs.declared.types.Setting.TheVariants.{Password, Cooling, Serial, Version, Names}
 use Rattle.record.specs.declared.types.Setting.{Setting}
 
 -- W = 20, C = 60, one lamp; the name and the inputs as given
-abbrev small : String → String → ℕ → Changed
-small name inputs lamp = setUp (wantedOf (ascii name) [] [] [] [] (ascii inputs) (lamp ∷ []) 20 60)
+abbrev small : String → String → ℕ → Given Device
+small name inputs lamp = set_up_given (setUp (wantedOf (ascii name) [] [] [] [] (ascii inputs) (lamp ∷ []) 20 60))
 
 pub settles : isLegal (small "" "11" 0).device ≡ true
 unfolding computing
@@ -57,13 +58,16 @@ socket-33-refused = refl
 abbrev secured : String → String → Wanted
 secured password inputs = wantedOf [] [] [] [] (ascii password) (ascii inputs) (0 ∷ []) 20 60
 
+abbrev given : Wanted → Given Device
+given w = set_up_given (setUp w)
+
 -- none, one, seven, eight and 32 characters; then what is 3 and not 8: a space among seven, 33, an input that is none
 abbrev withPasswords : List ℕ
 withPasswords =
-    (setUp (secured "" "11")).number ∷ (setUp (secured "a" "11")).number ∷ (setUp (secured "abcdef7" "11")).number
-    ∷ (setUp (secured "abcdefg8" "11")).number ∷ (setUp (secured "abcdefghijklmnopqrstuvwxyz012345" "11")).number
-    ∷ (setUp (secured "abc def" "11")).number ∷ (setUp (secured "abcdefghijklmnopqrstuvwxyz0123456" "11")).number
-    ∷ (setUp (secured "abcdef7" "10")).number ∷ []
+    (given (secured "" "11")).number ∷ (given (secured "a" "11")).number ∷ (given (secured "abcdef7" "11")).number
+    ∷ (given (secured "abcdefg8" "11")).number ∷ (given (secured "abcdefghijklmnopqrstuvwxyz012345" "11")).number
+    ∷ (given (secured "abc def" "11")).number ∷ (given (secured "abcdefghijklmnopqrstuvwxyz0123456" "11")).number
+    ∷ (given (secured "abcdef7" "10")).number ∷ []
 
 pub passwords-numbered : withPasswords ≡ 0 ∷ 8 ∷ 8 ∷ 0 ∷ 0 ∷ 3 ∷ 3 ∷ 3 ∷ []
 unfolding computing
@@ -80,9 +84,10 @@ eight-legal = refl
 -- one lamp
 abbrev which : (name maker model other password inputs : String) (lamp warm cool : ℕ) → Option Setting
 which name maker model other password inputs lamp warm cool =
-    refusedSetting
+    setting_told
+    (setUp
     (wantedOf (ascii name) (ascii maker) (ascii model) (ascii other) (ascii password) (ascii inputs) (lamp ∷ [])
-    warm cool)
+    warm cool))
 
 -- each setting out of its range in turn, the others in theirs, but for C = c
 abbrev in_turn : ℕ → List (Option Setting)
@@ -123,8 +128,8 @@ none = []
 abbrev of1 : String → ℕ
 of1 inputs = (small "" inputs 0).number
 
-abbrev of2 : String → List (List ℕ) → Changed
-of2 inputs names = setUp (wantedOf2 [] [] [] [] [] (ascii inputs) (0 ∷ []) 20 60 (ascii "S-1") (ascii "1.0") names)
+abbrev of2 : String → List (List ℕ) → Given Device
+of2 inputs names = given (wantedOf2 [] [] [] [] [] (ascii inputs) (0 ∷ []) 20 60 (ascii "S-1") (ascii "1.0") names)
 
 -- INTERNAL and a number that is a letter are of Class 2; type 7, a number 0 and a small letter are of neither
 abbrev byClass : List ℕ
@@ -160,7 +165,7 @@ names-short = refl
 
 abbrev which2 : (serial version : String) (names : List (List ℕ)) → Option Setting
 which2 serial version names =
-    refusedSetting (wantedOf2 [] [] [] [] [] (ascii "11") [] 20 60 (ascii serial) (ascii version) names)
+    setting_told (setUp (wantedOf2 [] [] [] [] [] (ascii "11") [] 20 60 (ascii serial) (ascii version) names))
 
 pub setting-of-2-told :
     (which2 "ERR1" "ERR1" none ∷ which2 "" "ERR1" none ∷ which2 "" "" none ∷ which2 "" "" ([] ∷ []) ∷ [])

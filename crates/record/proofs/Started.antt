@@ -17,6 +17,7 @@ use Rattle.record.specs.Record.{startOwn, started, blank}
 use Rattle.record.specs.Legal.{fillsRoom, isNames, isRestOf2, isSettings, isOwn, isLegal}
 use Rattle.record.specs.Places.{connectionAt}
 use Rattle.record.specs.SetUp.{isSettingInRange, isSetUp, setUp}
+use Rattle.record.specs.Given.{set_up_given}
 use Rattle.record.specs.declared.types.Setting.{Setting}
 use Rattle.record.specs.declared.types.Setting.TheVariants.{Name, Maker, Model, Other, Password, Inputs}
 use Rattle.record.specs.declared.types.Setting.TheVariants.{Lamps, WarmUp, Cooling, Serial, Version}
@@ -142,12 +143,12 @@ module _ (w : Wanted) where
   started-closed p there = all-closed-at p there
 
   -- an accepted set-up is legal, and gives the started device
-  pub set-up-legal : (setUp w).number ≡ 0 → isLegal (setUp w).device ≡ true
+  pub set-up-legal : (set_up_given (setUp w)).number ≡ 0 → isLegal (set_up_given (setUp w)).device ≡ true
   set-up-legal =
       set-up-by w (λ r. r.number ≡ 0 → isLegal r.device ≡ true) (λ e. absurd (omega arith))
       (λ e. absurd (omega arith)) (λ h e. started-legal h)
 
-  pub set-up-started : (setUp w).number ≡ 0 → (setUp w).device ≡ started w
+  pub set-up-started : (set_up_given (setUp w)).number ≡ 0 → (set_up_given (setUp w)).device ≡ started w
   set-up-started =
       set-up-by w (λ r. r.number ≡ 0 → r.device ≡ started w) (λ e. absurd (omega arith))
       (λ e. absurd (omega arith)) (λ h e. refl)

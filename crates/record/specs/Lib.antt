@@ -12,4 +12,6 @@ pub mod SetUp
 pub mod OutOfRange
 pub mod HostCalls
 pub mod Refusals
+pub mod SetUpErrors
+pub mod Given
 pub mod Computing

@@ -1,4 +1,4 @@
--- The records that the rules spell out (RULES, The legal record and The numbers a call gives).
+-- The records that the rules spell out (RULES, The legal record).
 --   zeros n              n zeros
 --   inRoom n s           s at the start of a room of n, and zeros after it
 --   text_of s            the text s in its room
@@ -12,8 +12,6 @@
 --   blankOwn             off, both mutes off, the first input, no fault, error status 000000, no mark: all zero
 --   startOwn lamps       the same, with the lamps' starting seconds, each lamp enabled, and both volumes half way
 --   started w            the device that an accepted set-up gives
---   accepted d           the number 0 and the record d
---   refused n d          the number n and the record that was given
 -- Assumes nothing.
 use Rattle.std.specs.Prelude.{ℕ, ◌-◌, ◌/◌, Bool, true, false, List, ◌++◌, map, length, replicate}
 use Rattle.text.specs.Words.{over}
@@ -28,7 +26,6 @@ use Rattle.record.specs.declared.types.Settings.{Settings}
 use Rattle.record.specs.declared.types.Own.{Own}
 use Rattle.record.specs.declared.types.Connection.{Connection}
 use Rattle.record.specs.declared.types.Device.{Device}
-use Rattle.record.specs.declared.types.Changed.{Changed}
 
 abbrev pub zeros : ℕ → List ℕ
 zeros n = replicate n 0
@@ -128,9 +125,3 @@ blank = record {
   own = blankOwn;
   connections = allClosed;
 }
-
-abbrev pub accepted : Device → Changed
-accepted d = record { number = 0; device = d }
-
-abbrev pub refused : ℕ → Device → Changed
-refused n d = record { number = n; device = d }

@@ -1,20 +1,28 @@
 -- Set-up (RULES, The legal record; number 3 of "The numbers a call gives"; number 8 of RULES, Passwords): which device
--- it gives, for every input.
+-- it gives, or why none, for every input.
 --   settingsInOrder           the settings, in the order in which set-up is lent them
 --   isSettingInRange w s      the setting s is in its range: a password of 1 to 7 characters is in its
 --   isInRange w               each setting is: every 3 is ruled out
 --   isSetUp w                 and the password is long enough
---   setUp w                   0 and the started device, or 3, then 8, and the blank record
+--   firstFailing f l          the first of l whose rule f is not met, or none
+--   firstOutOfRange w         the first setting out of its range, or none
+--   unless_out m r            refused for the setting m; r where m is none
+--   setUp w                   the started device; refused for the first setting out of its range, else for a short
+--                             password
 -- An odd number of characters is no list of inputs, and so out of range.
 -- Assumes nothing.
 use Rattle.std.specs.Prelude.{Bool, not, ◌&&◌, List, [], ◌∷◌, ◌/◌, length, if◌then◌else◌}
+use Rattle.std.specs.Prelude.{Option, Some, None, Result, Ok, Err}
+use Rattle.std.specs.List.{find}
 use Rattle.text.specs.Scans.{every}
 use Rattle.words.specs.Texts.{isText, isName, isInfo, isPassword, infoMost}
 use Rattle.record.specs.Limits.{onlyIn2}
 use Rattle.record.specs.Wanted.{Wanted}
 use Rattle.record.specs.Rules.{isLongEnough, isInputs, isLamps, isStretch, areNames}
-use Rattle.record.specs.Record.{started, blank, accepted, refused}
-use Rattle.record.specs.declared.types.Changed.{Changed}
+use Rattle.record.specs.Record.{started}
+use Rattle.record.specs.declared.types.Device.{Device}
+use Rattle.record.specs.declared.set_up_error.SetUpError.{SetUpError}
+use Rattle.record.specs.declared.set_up_error.SetUpError.TheVariants.{OutOfRange, ShortPassword}
 use Rattle.record.specs.declared.types.Setting.{Setting}
 use Rattle.record.specs.declared.types.Setting.TheVariants.{Name, Maker, Model, Other, Password, Inputs}
 use Rattle.record.specs.declared.types.Setting.TheVariants.{Lamps, WarmUp, Cooling, Serial, Version}
@@ -44,8 +52,17 @@ isInRange w = every (isSettingInRange w) settingsInOrder
 unfoldable pub isSetUp : Wanted → Bool
 isSetUp w = isInRange w && isLongEnough (length w.password)
 
-unfoldable pub setUp : Wanted → Changed
+abbrev pub firstFailing : (Setting → Bool) → List Setting → Option Setting
+firstFailing f l = find (λ s. not (f s)) l
+
+abbrev pub firstOutOfRange : Wanted → Option Setting
+firstOutOfRange w = firstFailing (isSettingInRange w) settingsInOrder
+
+abbrev pub unless_out : Option Setting → Result Device SetUpError → Result Device SetUpError
+unless_out (Some s) r = Err (OutOfRange s)
+unless_out None r = r
+
+unfoldable pub setUp : Wanted → Result Device SetUpError
 setUp w =
-    if not (isInRange w) then refused 3 blank
-    else if not (isLongEnough (length w.password)) then refused 8 blank
-    else accepted (started w)
+    unless_out (firstOutOfRange w)
+    (if isLongEnough (length w.password) then Ok (started w) else Err ShortPassword)

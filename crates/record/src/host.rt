@@ -1,8 +1,8 @@
 // The host's calls (RULES, Time and Lamps): each replaces the fault mark, the six error digits or a lamp's enabled
 // mark where the record lies, and nothing else; a refused one leaves the record as it was.
-ghost use Rattle.std.specs.Prelude.{◌≡◌};
+ghost use Rattle.std.specs.Prelude.{◌≡◌, OnErr};
 ghost use Rattle.record.specs.HostCalls.{faultSet, errorsSet, markSet};
-ghost use Rattle.record.specs.Refusals.{outcome_number};
+ghost use Rattle.record.specs.Given.{gives};
 
 use crate::own;
 use crate::own::OFF;
@@ -13,8 +13,8 @@ impl Device {
     /// The fault mark, from now on. Refused: `NotLegal`.
     #[tactic(auto, unfolding(crate::specs::HostCalls::faultSet))]
     pub fn set_fault(&mut self, mark: bool) -> Result<(), Refusal>
-        ensures number { outcome_number result ≡ (faultSet self.old mark).number }
-        ensures device { self.new ≡ (faultSet self.old mark).device }
+        ensures given { gives result self.new ≡ faultSet self.old mark }
+        ensures kept { OnErr result (self.new ≡ self.old) }
     {
         if !self.is_legal() {
             return Err(Refusal::NotLegal);
@@ -27,8 +27,8 @@ impl Device {
     /// then `OutOfRange` for any other digits.
     #[tactic(auto, unfolding(crate::specs::HostCalls::errorsSet))]
     pub fn set_errors(&mut self, digits: &[u8]) -> Result<(), Refusal>
-        ensures number { outcome_number result ≡ (errorsSet self.old digits.now).number }
-        ensures device { self.new ≡ (errorsSet self.old digits.now).device }
+        ensures given { gives result self.new ≡ errorsSet self.old digits.now }
+        ensures kept { OnErr result (self.new ≡ self.old) }
     {
         if !self.is_legal() {
             return Err(Refusal::NotLegal);
@@ -44,8 +44,8 @@ impl Device {
     /// lamp and for the last mark cleared, then `NotOff` unless the power is off.
     #[tactic(auto, unfolding(crate::specs::HostCalls::markSet))]
     pub fn set_mark(&mut self, lamp: usize, mark: bool) -> Result<(), Refusal>
-        ensures number { outcome_number result ≡ (markSet self.old lamp mark).number }
-        ensures device { self.new ≡ (markSet self.old lamp mark).device }
+        ensures given { gives result self.new ≡ markSet self.old lamp mark }
+        ensures kept { OnErr result (self.new ≡ self.old) }
     {
         if !self.is_legal() {
             return Err(Refusal::NotLegal);

@@ -13,6 +13,7 @@ pub mod own;
 pub mod refusal;
 pub mod rooms;
 pub mod scan;
+pub mod set_up_error;
 pub mod setting;
 pub mod settings;
 pub mod theorems;

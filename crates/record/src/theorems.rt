@@ -1,6 +1,7 @@
 // What is proved beside the contracts of the functions. Nothing is done here: that these functions have their contracts
 // is that the theorems stand.
 ghost use Rattle.std.specs.Prelude.{◌≡◌, ◌≢◌, ◌+◌, ◌*◌, ◌<◌, ◌≤◌, Bool, IsTrue, true, List, ℕ, Option, Some, None};
+ghost use Rattle.std.specs.Prelude.{Result, OnErr};
 ghost use Rattle.words.specs.Bytes.{◌at◌};
 ghost use Rattle.words.specs.Texts.{passwordMost};
 ghost use Rattle.record.specs.Limits.{ageEnd, errorsCount, errorMost};
@@ -9,12 +10,15 @@ ghost use Rattle.record.specs.declared.types.Settings.{Settings};
 ghost use Rattle.record.specs.declared.types.Own.{Own};
 ghost use Rattle.record.specs.declared.types.Connection.{Connection};
 ghost use Rattle.record.specs.declared.types.Setting.{Setting};
-ghost use Rattle.record.specs.OutOfRange.{SettingHolds, firstFailing, firstOutOfRange};
-ghost use Rattle.record.specs.OutOfRange.{refusedSetting};
-ghost use Rattle.record.specs.SetUp.{settingsInOrder, isSettingInRange, isInRange, setUp};
+ghost use Rattle.record.specs.OutOfRange.{SettingHolds};
+ghost use Rattle.record.specs.SetUp.{settingsInOrder, isSettingInRange, isInRange};
+ghost use Rattle.record.specs.SetUp.{firstFailing, firstOutOfRange, setUp};
+ghost use Rattle.record.specs.SetUpErrors.{setting_told};
+ghost use Rattle.record.specs.Given.{gives, set_up_given};
 ghost use Rattle.record.specs.Wanted.{Wanted};
 ghost use Rattle.record.specs.declared.types.Setting.TheVariants.{Password};
-ghost use Rattle.record.specs.declared.types.Changed.{Changed};
+ghost use Rattle.record.specs.declared.refusal.Refusal.{Refusal};
+ghost use Rattle.record.specs.declared.set_up_error.SetUpError.{SetUpError};
 ghost use Rattle.record.specs.declared.types.Device.{Device};
 ghost use Rattle.record.specs.Legal.{isCollecting, isLegal};
 ghost use Rattle.record.specs.HostCalls.{faultSet, errorsSet, markSet};
@@ -29,28 +33,33 @@ pub fn the_setting_told_holds()
     ensures each_in_range { (w : Wanted) → isInRange w ≡ true → (s : Setting) → isSettingInRange w s ≡ true }
 {}
 
-/// Which setting set-up refused, by the number that it gave.
+/// Which setting set-up refused, by the number that a host is given.
 pub fn the_number_tells_the_setting()
-    ensures out_of_range { (w : Wanted) → (setUp w).number ≡ 3 → refusedSetting w ≡ firstOutOfRange w }
-    ensures too_short { (w : Wanted) → (setUp w).number ≡ 8 → refusedSetting w ≡ Some Password }
-    ensures none_where_accepted { (w : Wanted) → (setUp w).number ≡ 0 → refusedSetting w ≡ None }
-    ensures accepted_where_none { (w : Wanted) → refusedSetting w ≡ None → (setUp w).number ≡ 0 }
+    ensures out_of_range { (w : Wanted) → (set_up_given (setUp w)).number ≡ 3
+        → setting_told (setUp w) ≡ firstOutOfRange w }
+    ensures too_short { (w : Wanted) → (set_up_given (setUp w)).number ≡ 8
+        → setting_told (setUp w) ≡ Some Password }
+    ensures none_where_accepted { (w : Wanted) → (set_up_given (setUp w)).number ≡ 0
+        → setting_told (setUp w) ≡ None }
+    ensures accepted_where_none { (w : Wanted) → setting_told (setUp w) ≡ None
+        → (set_up_given (setUp w)).number ≡ 0 }
 {}
 
-/// Two results that meet the promise of a call are equal.
+/// Two results that meet the promise of a call are equal, the record that it leaves included.
 pub fn one_result()
-    ensures set_up { (w : Wanted) (r s : Changed) → r ≡ setUp w → s ≡ setUp w → r ≡ s }
+    ensures set_up { (w : Wanted) (r s : Result Device SetUpError) → r ≡ setUp w → s ≡ setUp w → r ≡ s }
     ensures setting { (w : Wanted) (r s : Option Setting)
         → r ≡ firstOutOfRange w → s ≡ firstOutOfRange w → r ≡ s }
-    ensures setting_refused { (w : Wanted) (r s : Option Setting)
-        → r ≡ refusedSetting w → s ≡ refusedSetting w → r ≡ s }
     ensures legality { (d : Device) (r s : Bool) → r ≡ isLegal d → s ≡ isLegal d → r ≡ s }
-    ensures fault { (d : Device) (mark : Bool) (r s : Changed)
-        → r ≡ faultSet d mark → s ≡ faultSet d mark → r ≡ s }
-    ensures errors { (d : Device) (digits : List ℕ) (r s : Changed)
-        → r ≡ errorsSet d digits → s ≡ errorsSet d digits → r ≡ s }
-    ensures mark { (d : Device) (lamp : ℕ) (mark : Bool) (r s : Changed)
-        → r ≡ markSet d lamp mark → s ≡ markSet d lamp mark → r ≡ s }
+    ensures fault { (d : Device) (mark : Bool) (r s : Result (Unit {0}) Refusal) (x y : Device)
+        → (gives r x ≡ faultSet d mark) × OnErr r (x ≡ d) → (gives s y ≡ faultSet d mark) × OnErr s (y ≡ d)
+        → (r ≡ s) × (x ≡ y) }
+    ensures errors { (d : Device) (digits : List ℕ) (r s : Result (Unit {0}) Refusal) (x y : Device)
+        → (gives r x ≡ errorsSet d digits) × OnErr r (x ≡ d) → (gives s y ≡ errorsSet d digits) × OnErr s (y ≡ d)
+        → (r ≡ s) × (x ≡ y) }
+    ensures mark { (d : Device) (lamp : ℕ) (mark : Bool) (r s : Result (Unit {0}) Refusal) (x y : Device)
+        → (gives r x ≡ markSet d lamp mark) × OnErr r (x ≡ d) → (gives s y ≡ markSet d lamp mark) × OnErr s (y ≡ d)
+        → (r ≡ s) × (x ≡ y) }
 {}
 
 /// What legality says, part by part, in numbers (RULES, The legal record).

@@ -102,14 +102,6 @@ pub struct Device {
     pub connections: [Connection; PLACES],
 }
 
-// What set-up, the host's three calls, closing and passing time give.
-#[repr(C)]
-#[derive(Clone, Copy)]
-pub struct Changed {
-    pub number: u32,
-    pub device: Device,
-}
-
 impl Text {
     pub const EMPTY: Text = Text {
         len: 0,

@@ -1,4 +1,3 @@
-pub mod OneResult
 pub mod Refusals
 pub mod Fits
 pub mod KeptInRoom

@@ -1,7 +1,6 @@
 // Set-up (RULES, The legal record): each setting is tested, then kept.
 #![tactic(auto)]
 
-pub mod error;
 pub mod fill;
 pub mod theorems;
 pub mod wanted;
@@ -9,12 +8,10 @@ pub mod wanted;
 ghost use Rattle.std.specs.Prelude.{◌≡◌, true};
 ghost use Rattle.record.specs.Record.{settingsOf};
 ghost use Rattle.record.specs.SetUp.{isSetUp, setUp};
-ghost use Rattle.record.specs.OutOfRange.{refusedSetting};
 ghost use Rattle.setup.specs.Lent.{wanted_settings};
-ghost use Rattle.setup.specs.Told.{set_up_told, setting_told};
 
-use crate::error::SetUpError;
 use crate::wanted::Wanted;
+use record::set_up_error::SetUpError;
 use record::types::{Device, Settings};
 use record::{class, fresh};
 
@@ -48,8 +45,7 @@ fn settings_of(wanted: &Wanted<'_>) -> Settings
 /// range, else where the password is too short (RULES, The numbers a call gives and Passwords).
 #[tactic(auto, using(crate::proofs::Refusals::outcomes))]
 pub fn set_up(wanted: &Wanted<'_>) -> Result<Device, SetUpError>
-    ensures made { set_up_told result ≡ setUp (wanted_settings wanted.now) }
-    ensures setting { setting_told result ≡ refusedSetting (wanted_settings wanted.now) }
+    ensures { result ≡ setUp (wanted_settings wanted.now) }
 {
     wanted.check()?;
     Ok(Device {

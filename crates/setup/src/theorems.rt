@@ -1,16 +1,13 @@
-// What is proved beside the contracts of the functions. Nothing is done here: that these functions have their contracts
-// is that the theorems stand.
+// What is proved beside the contracts of the functions. Nothing is done here: that this function has its contract is
+// that the theorem stands.
 ghost use Rattle.std.specs.Prelude.{◌≡◌, Result};
-ghost use Rattle.record.specs.declared.types.Device.{Device};
 ghost use Rattle.record.specs.Wanted.{Wanted};
 ghost use Rattle.record.specs.SetUp.{setUp};
-ghost use Rattle.record.specs.OutOfRange.{refusedSetting};
-ghost use Rattle.setup.specs.declared.error.SetUpError.{SetUpError};
-ghost use Rattle.setup.specs.Told.{set_up_told, setting_told};
+ghost use Rattle.record.specs.SetUpErrors.{check_of};
+ghost use Rattle.record.specs.declared.set_up_error.SetUpError.{SetUpError};
 
-/// Two results that meet the promise of set-up are equal.
+/// Two results that meet the promise of the check are equal; `record` says it of set-up.
 pub fn one_result()
-    ensures { (w : Wanted) (r s : Result Device SetUpError)
-        → set_up_told r ≡ setUp w → setting_told r ≡ refusedSetting w
-        → set_up_told s ≡ setUp w → setting_told s ≡ refusedSetting w → r ≡ s }
+    ensures { (w : Wanted) (r s : Result (Unit {0}) SetUpError)
+        → r ≡ check_of (setUp w) → s ≡ check_of (setUp w) → r ≡ s }
 {}

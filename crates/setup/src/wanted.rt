@@ -1,15 +1,14 @@
 // What set-up is lent, and whether it can be set up (RULES, The legal record).
 ghost use Rattle.std.specs.Prelude.{◌≡◌};
-ghost use Rattle.record.specs.SetUp.{isSettingInRange, setUp};
-ghost use Rattle.record.specs.OutOfRange.{firstOutOfRange, refusedSetting};
+ghost use Rattle.record.specs.SetUp.{isSettingInRange, firstOutOfRange, setUp};
+ghost use Rattle.record.specs.SetUpErrors.{check_of};
 ghost use Rattle.record.specs.Wanted.{namesIn};
 ghost use Rattle.setup.specs.Lent.{wanted_settings, class_number, serial_of, version_of, names_of};
-ghost use Rattle.setup.specs.Told.{set_up_number, setting_told};
 
-use crate::error::SetUpError;
-use words::texts;
+use record::set_up_error::SetUpError;
 use record::types::Setting;
 use record::{inputs, names, own, settings};
+use words::texts;
 
 /// The class of a projector, with what it alone has (RULES, Class 2).
 #[derive(Clone, Copy)]
@@ -123,11 +122,10 @@ impl<'a> Wanted<'a> {
             .find(|s| !self.is_in_range(*s))
     }
 
-    /// Whether this can be set up, and else why not: 3 before 8.
-    #[tactic(auto, using(crate::proofs::Refusals::numbers))]
+    /// Whether this can be set up, and else why not: a setting out of its range before a short password.
+    #[tactic(auto, using(crate::proofs::Refusals::reasons))]
     pub fn check(&self) -> Result<(), SetUpError>
-        ensures number { set_up_number result ≡ (setUp (wanted_settings self.now)).number }
-        ensures setting { setting_told result ≡ refusedSetting (wanted_settings self.now) }
+        ensures { result ≡ check_of (setUp (wanted_settings self.now)) }
     {
         if let Some(setting) = self.first_out_of_range() {
             return Err(SetUpError::OutOfRange(setting));

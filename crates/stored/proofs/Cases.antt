@@ -9,11 +9,11 @@ use borrow.Author.Tests.{lt-ltb, le-ltb}
 use Rattle.std.specs.Prelude.{Some, None, if◌then◌else◌}
 use Rattle.text.proofs.Choices.{if_yes, if_no}
 use Rattle.record.specs.Updates.{withOwn, withMarks}
-use Rattle.record.specs.Record.{started, blank, accepted, refused}
+use Rattle.record.specs.Record.{started, blank}
+use Rattle.record.specs.Given.{Given, accepted, refused}
 use Rattle.record.specs.Legal.{isLegal}
 use Rattle.record.specs.SetUp.{isSetUp}
 use Rattle.record.specs.declared.types.Device.{Device}
-use Rattle.record.specs.declared.types.Changed.{Changed}
 use Rattle.record.proofs.Started.{started-parts, started-legal}
 use Rattle.stored.specs.Loading.{isOld, isOtherVersion, places_of, formEnd, between, settingsIn, markBytesIn}
 use Rattle.stored.specs.Loading.{device_of, isMarked, marksRead, markRoom, areMarks, startedWith, isContents, loaded}
@@ -25,12 +25,12 @@ otherwise a b true = refl
 otherwise a b false = refl
 
 -- the device with the marks that the bytes are, if they are marks of n lamps
-abbrev markedAs : ℕ → Device → List ℕ → Changed
+abbrev markedAs : ℕ → Device → List ℕ → Given Device
 markedAs n d bytes =
     if areMarks n bytes then accepted (withOwn d (withMarks d.own (markRoom (map isMarked bytes))))
     else refused 23 blank
 
-abbrev pub markedBy : Device → List ℕ → Changed
+abbrev pub markedBy : Device → List ℕ → Given Device
 markedBy d = markedAs d.settings.lamp_count d
 
 module _ (s : List ℕ) where

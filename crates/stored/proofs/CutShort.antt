@@ -15,7 +15,8 @@ use Rattle.text.proofs.Parts.{drop-take}
 use Rattle.words.specs.Bytes.{◌at◌}
 use Rattle.record.specs.Wanted.{Wanted}
 use Rattle.record.specs.SetUp.{isSetUp}
-use Rattle.record.specs.declared.types.Changed.{Changed}
+use Rattle.record.specs.declared.types.Device.{Device}
+use Rattle.record.specs.Given.{Given}
 use Rattle.form.specs.Form.{formVersion, markedVersion, oldVersion, marksSection, formWith, form_of, markedFormOf}
 use Rattle.form.specs.Form.{oldFormOf}
 use Rattle.stored.specs.Loading.{isOld, hasClass, isOtherVersion, marksLong, places_of, restLong, formEnd, loaded}
@@ -133,7 +134,7 @@ module _ (v : ℕ) (marks rest : List ℕ) (has : HasMarks v marks) (w : Wanted)
       let s = formWith v marks rest w in
       let long : length (take k s) ≡ k = length-take-le k s (omega arith) in
       let later = cut-ends-later s k (omega (arith, form-ends v marks rest has w after ok)) in
-      ap (λ (c : Changed). c.number)
+      ap (λ (c : Given Device). c.number)
       (loaded-cut (take k s) (cut-version k s (form-ours v marks rest has w after ok)) (omega arith))
 
 module _ (w : Wanted) (ok : isSetUp w ≡ true) where

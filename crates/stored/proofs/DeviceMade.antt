@@ -1,6 +1,6 @@
 -- The device that set-up gives, or none where it is refused.
 -- Assumes nothing.
-use Rattle.std.proofs.Common.{◌≡◌, Bool, true, false, Option, Some, None, Result, Ok, Err, sym, ap, refl, ◌∙◌, arith}
+use Rattle.std.proofs.Common.{◌≡◌, Bool, true, false, Option, Some, None, Result, Ok, Err, sym, ap, refl, ◌∙◌}
 use Rattle.std.proofs.Common.{if◌then◌else◌}
 use Rattle.std.specs.Result.{result_ok}
 use Rattle.std.proofs.lemmas.Option.{none-some}
@@ -8,12 +8,10 @@ use Rattle.text.proofs.Choices.{if_yes, if_no, by-not}
 use Rattle.record.specs.Wanted.{Wanted}
 use Rattle.record.specs.Record.{started}
 use Rattle.record.specs.SetUp.{isSetUp, setUp}
-use Rattle.record.specs.declared.types.Changed.{Changed}
+use Rattle.record.specs.Given.{set_up_given}
 use Rattle.record.specs.declared.types.Device.{Device}
-use Rattle.record.proofs.Calls.{set-up-accepted, set-up-in-range}
-use Rattle.setup.specs.declared.error.SetUpError.{SetUpError}
-use Rattle.setup.specs.declared.error.SetUpError.TheVariants.{OutOfRange, ShortPassword}
-use Rattle.setup.specs.Told.{set_up_told}
+use Rattle.record.proofs.Calls.{ok-err, set-up-accepted, set-up-in-range}
+use Rattle.record.specs.declared.set_up_error.SetUpError.{SetUpError}
 use Rattle.stored.specs.Loading.{device_of}
 
 abbrev value : Option Device → Device → Device
@@ -24,20 +22,11 @@ module _ (w : Wanted) where
   pub none-set-up : isSetUp w ≡ false → None ≡ device_of w
   none-set-up e = sym (if_no _ _ e)
 
-  -- of what set-up gave
-  accepted-number : isSetUp w ≡ true → (setUp w).number ≡ 0
-  accepted-number h = ap (λ (r : Changed). r.number) (set-up-accepted w h)
-
-  pub device-made : (r : Result Device SetUpError) → set_up_told r ≡ setUp w → result_ok r ≡ device_of w
+  pub device-made : (r : Result Device SetUpError) → r ≡ setUp w → result_ok r ≡ device_of w
   device-made (Ok d) e =
-      let h = set-up-in-range w (ap (λ (r : Changed). r.number) (sym e)) in
-      ap Some (ap (λ (r : Changed). r.device) (e ∙ set-up-accepted w h)) ∙ sym (if_yes _ _ h)
-  device-made (Err (OutOfRange s)) e =
-      none-set-up
-      (by-not (isSetUp w) (λ h. omega (arith, ap (λ (r : Changed). r.number) e, accepted-number h)))
-  device-made (Err ShortPassword) e =
-      none-set-up
-      (by-not (isSetUp w) (λ h. omega (arith, ap (λ (r : Changed). r.number) e, accepted-number h)))
+      let h = set-up-in-range w (ap (λ (r : Result Device SetUpError). (set_up_given r).number) (sym e)) in
+      ap result_ok (e ∙ set-up-accepted w h) ∙ sym (if_yes _ _ h)
+  device-made (Err e) f = none-set-up (by-not (isSetUp w) (λ h. ok-err (sym (f ∙ set-up-accepted w h))))
 
   by : (t : Bool) → {d : Device} → Some d ≡ (if t then Some (started w) else None) → (t ≡ true) × (d ≡ started w)
   by true {d} e = (refl, ap (λ (o : Option Device). value o d) e)

@@ -13,9 +13,10 @@ use Rattle.text.specs.Scans.{every}
 use Rattle.text.proofs.Choices.{both, both_right}
 use Rattle.words.specs.Bytes.{◌at◌}
 use Rattle.record.specs.Wanted.{Wanted}
-use Rattle.record.specs.Record.{started, accepted}
+use Rattle.record.specs.Record.{started}
+use Rattle.record.specs.declared.types.Device.{Device}
+use Rattle.record.specs.Given.{Given, accepted, set_up_given}
 use Rattle.record.specs.SetUp.{isSetUp, setUp}
-use Rattle.record.specs.declared.types.Changed.{Changed}
 use Rattle.record.proofs.Calls.{set-up-accepted}
 use Rattle.form.specs.Form.{formVersion, markedVersion, oldVersion, markByte, marksSection, formWith, form_of}
 use Rattle.form.specs.Form.{markedFormOf, oldFormOf}
@@ -65,7 +66,7 @@ module _ (v : ℕ) (marks rest : List ℕ) (has : HasMarks v marks) (w : Wanted)
   over : (x : ℕ) (xs : List ℕ) → (loaded (s ++ x ∷ xs)).number ≡ 22
   over x xs =
       let e = ends_there v marks rest has w after ok (x ∷ xs) in
-      ap (λ (c : Changed). c.number)
+      ap (λ (c : Given Device). c.number)
       (loaded-over (s ++ x ∷ xs) (ours v marks rest has w after ok (x ∷ xs)) (omega arith) (omega arith))
 
 -- with marks of the lamps
@@ -144,7 +145,7 @@ module _ (w : Wanted) (ok : isSetUp w ≡ true) where
     pub more-is-left-over-old : (x : ℕ) (xs : List ℕ) → (loaded (oldFormOf w ++ x ∷ xs)).number ≡ 22
     more-is-left-over-old = over oldVersion [] [] old-has-none w (no-rest oldVersion w refl one) ok
 
-    pub old-form-loads : loaded (oldFormOf w) ≡ setUp w
+    pub old-form-loads : loaded (oldFormOf w) ≡ set_up_given (setUp w)
     old-form-loads =
         let s = oldFormOf w in
         let after = no-rest oldVersion w refl one in
@@ -155,4 +156,4 @@ module _ (w : Wanted) (ok : isSetUp w ≡ true) where
         made oldVersion [] [] old-has-none w after ok (old-are-marks s old can)
         ∙ ap accepted (old-started s old can)
         ∙ ap (λ (k : Wanted). accepted (started k)) read
-        ∙ sym (set-up-accepted w ok)
+        ∙ sym (ap set_up_given (set-up-accepted w ok))

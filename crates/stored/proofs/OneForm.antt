@@ -11,7 +11,7 @@ use borrow.Author.Tests.{eqb-true}
 use Rattle.words.specs.Bytes.{◌at◌}
 use Rattle.record.specs.Wanted.{Wanted}
 use Rattle.record.specs.declared.types.Device.{Device}
-use Rattle.record.specs.declared.types.Changed.{Changed}
+use Rattle.record.specs.Given.{Given}
 use Rattle.form.specs.Form.{formVersion, oldVersion, form_of, oldFormOf, versionForm, storedOf, marksStored, storedForm}
 use Rattle.stored.specs.Loading.{isOld, hasClass, settingsIn, markBytesIn, isMarked, marksRead, startedWith}
 use Rattle.stored.specs.Loading.{loaded}
@@ -31,7 +31,7 @@ module _ (s : List ℕ) (b : Bytes s) (e : (loaded s).number ≡ 0) where
   told = accepted-told s e
 
   gave : d ≡ startedWith (settingsIn s) (marksRead s)
-  gave = ap (λ (c : Changed). c.device) (accepted-set-up s e)
+  gave = ap (λ (c : Given Device). c.device) (accepted-set-up s e)
 
   settings-stored : storedOf d ≡ settingsIn s
   settings-stored = ap storedOf gave ∙ started-stored (settingsIn s) told.contents

@@ -2,7 +2,7 @@
 -- Assumes nothing.
 use Rattle.std.proofs.Common.{◌≡◌, List, ℕ, Result, Ok, Err, refl, sym, ap, ◌∙◌, if◌then◌else◌}
 use lib.Dec.{eqb}
-use Rattle.record.specs.declared.types.Changed.{Changed}
+use Rattle.record.specs.Given.{Given}
 use Rattle.record.specs.declared.types.Device.{Device}
 use Rattle.stored.specs.Loading.{loaded}
 use Rattle.stored.specs.Told.{loading_told}
@@ -10,7 +10,7 @@ use Rattle.stored.specs.declared.error.LoadError.{LoadError}
 use Rattle.stored.specs.declared.error.LoadError.TheVariants.{OtherVersion, CutShort, LeftOver, NotLegal}
 
 -- the result of which a number and a record are told
-outcomeOf : Changed → Result Device LoadError
+outcomeOf : Given Device → Result Device LoadError
 outcomeOf c =
     if eqb c.number 0 then Ok c.device
     else if eqb c.number 20 then Err OtherVersion

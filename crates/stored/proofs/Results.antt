@@ -16,11 +16,11 @@ use Rattle.text.proofs.OneResult.{one-result}
 use Rattle.record.specs.Wanted.{Wanted}
 use Rattle.record.specs.Rules.{isMarks}
 use Rattle.record.specs.Updates.{withMarks}
-use Rattle.record.specs.Record.{started, blank, accepted, refused}
+use Rattle.record.specs.Record.{started, blank}
+use Rattle.record.specs.Given.{Given, accepted, refused}
 use Rattle.record.specs.Legal.{isLegal}
 use Rattle.record.specs.SetUp.{isSetUp}
 use Rattle.record.specs.declared.types.Device.{Device}
-use Rattle.record.specs.declared.types.Changed.{Changed}
 use Rattle.record.proofs.LegalTold.{own-of-legal}
 use Rattle.record.proofs.HostKept.{with-own-legal}
 use Rattle.record.proofs.Started.{started-parts, started-legal}
@@ -38,7 +38,7 @@ started-with-legal w ms ok h =
     (assumption (t, ap (λ (d : Device). isMarks d.settings.lamp_count (markRoom ms)) (started-parts w) ∙ h))
 
 module _ (s : List ℕ) where
-  abbrev given : Changed
+  abbrev given : Given Device
   given = accepted (startedWith (settingsIn s) (marksRead s))
 
   pub record Accepted : Type 0 where
@@ -48,7 +48,7 @@ module _ (s : List ℕ) where
     pub contents : isSetUp (settingsIn s) ≡ true
     pub marks : areMarks (length (settingsIn s).lamps) (markBytesIn s) ≡ true
 
-  pub loading-by : (P : Changed → Type 0) → ((n : ℕ) → (n ≡ 0 → ⊥) → P (refused n blank)) → (Accepted → P given)
+  pub loading-by : (P : Given Device → Type 0) → ((n : ℕ) → (n ≡ 0 → ⊥) → P (refused n blank)) → (Accepted → P given)
       → P (loaded s)
   unfolding loaded
   loading-by P refuse accept =
@@ -81,9 +81,9 @@ module _ (s : List ℕ) where
   pub accepted-legal : (loaded s).number ≡ 0 → isLegal (loaded s).device ≡ true
   accepted-legal e =
       let told = accepted-told e in
-      ap (λ (c : Changed). isLegal c.device) (accepted-set-up e)
+      ap (λ (c : Given Device). isLegal c.device) (accepted-set-up e)
       ∙ started-with-legal (settingsIn s) (marksRead s) told.contents
       (marks-told _ (markBytesIn s) told.marks).legal
 
-  pub one-loading : {r q : Changed} → r ≡ loaded s → q ≡ loaded s → r ≡ q
+  pub one-loading : {r q : Given Device} → r ≡ loaded s → q ≡ loaded s → r ≡ q
   one-loading e f = one-result e f

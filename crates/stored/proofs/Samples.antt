@@ -13,7 +13,8 @@ use Rattle.text.specs.Words.{ascii, ◌from◌to◌}
 use Rattle.numbers.specs.Computing.{computing as number-computing}
 use Rattle.record.specs.Limits.{lampLimit}
 use Rattle.record.specs.Wanted.{Wanted, wantedOf, wantedOf2, withPassword}
-use Rattle.record.specs.Record.{zeros, started, accepted}
+use Rattle.record.specs.Record.{zeros, started}
+use Rattle.record.specs.Given.{accepted}
 use Rattle.record.specs.Computing.{computing as record-computing}
 use Rattle.form.specs.Form.{formVersion, formWith, form_of, markedFormOf, oldFormOf, formMost}
 use Rattle.form.specs.Computing.{computing as form-computing}

@@ -19,7 +19,8 @@ use Rattle.record.specs.Limits.{textRoom, inputRoom, lampsMost, onlyIn2}
 use Rattle.record.specs.Wanted.{Wanted, wantedIn}
 use Rattle.record.specs.Rules.{isLongEnough, isInputs, isLamps, isMarks, areNames}
 use Rattle.record.specs.Updates.{withOwn, withMarks}
-use Rattle.record.specs.Record.{inRoom, name_of, namesKept, started, accepted}
+use Rattle.record.specs.Record.{inRoom, name_of, namesKept, started}
+use Rattle.record.specs.Given.{accepted}
 use Rattle.record.specs.Legal.{fillsNameRoom, isLegal}
 use Rattle.record.specs.SetUp.{isSettingInRange, isSetUp}
 use Rattle.record.specs.declared.types.Device.{Device}

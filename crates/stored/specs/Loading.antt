@@ -46,10 +46,10 @@ use Rattle.record.specs.Limits.{listedMost, lampsMost, onlyIn2}
 use Rattle.record.specs.Wanted.{Wanted, wantedIn}
 use Rattle.record.specs.Rules.{at_most, isMarks}
 use Rattle.record.specs.Updates.{withOwn, withMarks}
-use Rattle.record.specs.Record.{started, blank, accepted, refused}
+use Rattle.record.specs.Record.{started, blank}
+use Rattle.record.specs.Given.{Given, accepted, refused}
 use Rattle.record.specs.SetUp.{isSetUp}
 use Rattle.record.specs.declared.types.Device.{Device}
-use Rattle.record.specs.declared.types.Changed.{Changed}
 use Rattle.form.specs.Form.{formVersion, markedVersion, oldVersion}
 use Rattle.stored.specs.declared.layout.Places.{Places}
 
@@ -199,5 +199,5 @@ loadRows s =
     (20 when isOtherVersion s) ∷ (21 when ltb (length s) (formEnd s)) ∷ (22 when ltb (formEnd s) (length s))
     ∷ (23 when not (isContents s)) ∷ []
 
-unfoldable pub loaded : List ℕ → Changed
+unfoldable pub loaded : List ℕ → Given Device
 loaded s = byRows (loadRows s) (λ n. refused n blank) (accepted (startedWith (settingsIn s) (marksRead s)))

@@ -4,8 +4,8 @@
 --                          record
 -- Assumes nothing.
 use Rattle.std.specs.Prelude.{ℕ, Result, Ok, Err}
-use Rattle.record.specs.Record.{blank, accepted, refused}
-use Rattle.record.specs.declared.types.Changed.{Changed}
+use Rattle.record.specs.Record.{blank}
+use Rattle.record.specs.Given.{Given, accepted, refused}
 use Rattle.record.specs.declared.types.Device.{Device}
 use Rattle.stored.specs.declared.error.LoadError.{LoadError}
 use Rattle.stored.specs.declared.error.LoadError.TheVariants.{OtherVersion, CutShort, LeftOver, NotLegal}
@@ -16,6 +16,6 @@ load_error_number CutShort = 21
 load_error_number LeftOver = 22
 load_error_number NotLegal = 23
 
-abbrev pub loading_told : Result Device LoadError → Changed
+abbrev pub loading_told : Result Device LoadError → Given Device
 loading_told (Ok d) = accepted d
 loading_told (Err e) = refused (load_error_number e) blank

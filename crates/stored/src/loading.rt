@@ -18,8 +18,8 @@ use crate::{layout, reading};
 use form::storing::VERSION;
 use numbers::highest;
 use record::scan;
+use record::set_up_error::SetUpError;
 use record::types::{Device, INPUTS_MOST, LAMPS_MOST, Setting};
-use setup::error::SetUpError;
 use setup::wanted::{Class, Wanted};
 
 fn is_other_version(s: &[u8]) -> bool

@@ -7,7 +7,7 @@ ghost use Rattle.form.specs.Form.{form_of, markedFormOf, oldFormOf, storedForm, 
 ghost use Rattle.stored.specs.Loading.{loaded};
 ghost use Rattle.record.specs.declared.types.Device.{Device};
 ghost use Rattle.record.specs.Legal.{isLegal};
-ghost use Rattle.record.specs.declared.types.Changed.{Changed};
+ghost use Rattle.record.specs.Given.{Given};
 ghost use Rattle.stored.specs.declared.error.LoadError.{LoadError};
 ghost use Rattle.stored.specs.Told.{loading_told};
 
@@ -34,7 +34,7 @@ pub fn a_form_is_short()
 
 /// Two results that meet the promise of a call are equal.
 pub fn one_result()
-    ensures number_and_record { (bs : List ℕ) (r s : Changed) → r ≡ loaded bs → s ≡ loaded bs → r ≡ s }
+    ensures number_and_record { (bs : List ℕ) (r s : Given Device) → r ≡ loaded bs → s ≡ loaded bs → r ≡ s }
     ensures outcome { (bs : List ℕ) (r s : Result Device LoadError)
         → loading_told r ≡ loaded bs → loading_told s ≡ loaded bs → r ≡ s }
 {}

@@ -11,13 +11,15 @@ use native.Mathlib.Omega.{arith}
 use lib.ListN.{length, replicate, length-replicate}
 use lib.Dec.{eqb}
 use borrow.Author.Tests.{ne_eqb}
-use Rattle.std.specs.Prelude.{if◌then◌else◌}
+use Rattle.std.specs.Prelude.{Result as Outcome, if◌then◌else◌}
+use Rattle.record.specs.Refusals.{outcome_number}
+use Rattle.record.specs.declared.refusal.Refusal.{Refusal}
 use Rattle.text.proofs.Choices.{if_yes, if_no}
 use Rattle.record.specs.Limits.{off}
 use Rattle.record.specs.Legal.{isLegal}
 use Rattle.record.specs.Places.{connectionAt, isShut}
 use Rattle.record.specs.Wanted.{Wanted}
-use Rattle.record.specs.declared.types.Changed.{Changed}
+use Rattle.record.specs.Given.{Given}
 use Rattle.record.specs.declared.types.Device.{Device}
 use Rattle.record.proofs.Calls.{mark-set-by}
 use Rattle.clock.proofs.Cases.{passed-accepted}
@@ -100,13 +102,16 @@ module _ {w : Wanted} {g : Stage} {ms : List Bool} {n : ℕ → ℕ} {stream : S
   sees (logged (passes k)) c e now =
       let same : passesBy k ≡ c = cc in
       subst (λ (x : Call). Seen g k (seen ours d now x)) same
-      (subst (Seen g k) (sym (if_yes _ _ (ap (λ (r : Changed). eqb r.number 0) (passed-accepted d k legal)))) time)
+      (subst (Seen g k)
+      (sym
+      (if_yes _ _ (ap (λ (r : Outcome Device Refusal). eqb (outcome_number r) 0) (passed-accepted d k legal))))
+      time)
   sees (logged closes) c e now =
       let same : closes_at logPlace ≡ c = cc in subst (λ (x : Call). Seen g 0 (seen ours d now x)) same (nothing refl)
   sees (logged noSuch) c e now = let z : ◌≡◌ {A = ℕ} 0 1 = cc in absurd (omega arith)
   sees (marked lamp to) c e now =
       let same : enables lamp to ≡ c = cc in
       subst (λ (x : Call). Seen g 0 (seen ours d now x)) same
-      (mark-set-by d (λ (r : Changed). Seen g 0 (if eqb r.number 0 then markSwitched lamp to ∷ [] else [])) lamp to
+      (mark-set-by d (λ (r : Given Device). Seen g 0 (if eqb r.number 0 then markSwitched lamp to ∷ [] else [])) lamp to
       (λ m z. subst (Seen g 0) (sym (if_no _ _ (ne_eqb m 0 z))) (nothing refl))
       (λ h there left idle. mark lamp to (is-off g (sym a.power ∙ idle)) refl))

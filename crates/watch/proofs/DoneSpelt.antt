@@ -4,6 +4,7 @@ use Prim.Native.Nat.{ℕ}
 use mathlib.Core.Path.{◌≡◌, refl, ap}
 use mathlib.Core.Bool.{Bool}
 use mathlib.Core.List.{List}
+use Rattle.record.specs.Given.{left_by}
 use Rattle.record.specs.HostCalls.{markSet}
 use Rattle.record.specs.declared.types.Device.{Device}
 use Rattle.clock.specs.Passing.{passed}
@@ -22,7 +23,7 @@ module _ (d : Device) where
   unfolding doneBy
   done-receiving bs = ap (λ (q : Result Device). q.device) (did-receiving d bs)
 
-  pub done-passing : (n : ℕ) → doneBy d (logged (passes n)) ≡ (passed d n).device
+  pub done-passing : (n : ℕ) → doneBy d (logged (passes n)) ≡ (left_by d (passed d n))
   unfolding doneBy
   done-passing n = ap (λ (q : Result Device). q.device) (did-passing d n)
 
@@ -34,6 +35,6 @@ module _ (d : Device) where
   unfolding doneBy
   done-nothing = ap (λ (q : Result Device). q.device) (did_nothing d)
 
-  pub done-marking : (lamp : ℕ) (mark : Bool) → doneBy d (marked lamp mark) ≡ (markSet d lamp mark).device
+  pub done-marking : (lamp : ℕ) (mark : Bool) → doneBy d (marked lamp mark) ≡ (left_by d (markSet d lamp mark))
   unfolding doneBy
   done-marking lamp mark = refl

@@ -7,10 +7,12 @@ use native.Mathlib.Omega.{arith}
 use mathlib.Core.List.{List}
 use lib.ListN.{set}
 use Rattle.record.specs.Legal.{isLegal}
+use Rattle.std.specs.Prelude.{Result}
+use Rattle.record.specs.declared.refusal.Refusal.{Refusal}
 use Rattle.record.specs.HostCalls.{markSet}
 use Rattle.record.specs.Places.{connectionAt}
 use Rattle.record.specs.declared.types.Device.{Device}
-use Rattle.record.specs.declared.types.Changed.{Changed}
+use Rattle.record.specs.Given.{Given, left_by}
 use Rattle.record.proofs.Calls.{mark-set-by, mark-not-legal}
 use Rattle.record.proofs.HostKept.{mark-legal}
 use Rattle.clock.specs.Passing.{secondsMost}
@@ -30,16 +32,16 @@ module _ (d : Device) where
   unfolding doneBy
   done-settings (logged e) = did-settings d e
   done-settings (marked lamp mark) =
-      mark-set-by d (λ (r : Changed). r.device.settings ≡ d.settings) lamp mark (λ n z. refl) (λ h i l p. refl)
+      mark-set-by d (λ (r : Given Device). r.device.settings ≡ d.settings) lamp mark (λ n z. refl) (λ h i l p. refl)
 
   pub done-legality : (e : FloorEvent) → isLegal (doneBy d e) ≡ isLegal d
   unfolding doneBy
   done-legality (logged e) = did-legality d e
   done-legality (marked lamp mark) = by (isLegal d) refl
     where
-      by : (legal : Bool) → isLegal d ≡ legal → isLegal (markSet d lamp mark).device ≡ isLegal d
+      by : (legal : Bool) → isLegal d ≡ legal → isLegal (left_by d (markSet d lamp mark)) ≡ isLegal d
       by true e = mark-legal d e lamp mark ∙ sym e
-      by false e = ap (λ (r : Changed). isLegal r.device) (mark-not-legal d lamp mark e)
+      by false e = ap (λ (r : Result Device Refusal). isLegal (left_by d r)) (mark-not-legal d lamp mark e)
 
   pub done-legal : isLegal d ≡ true → (e : FloorEvent) → isLegal (doneBy d e) ≡ true
   done-legal legal e = done-legality e ∙ legal
@@ -49,7 +51,7 @@ module _ (d : Device) where
   done-drives (logged e) = did-drives d e
   done-drives (marked lamp mark) =
       none_pass d (doneBy d (marked lamp mark))
-      (mark-set-by d (λ (r : Changed). Stays r.device) lamp mark (λ n z. itself-kept d) (λ h i l p. itself-kept d))
+      (mark-set-by d (λ (r : Given Device). Stays r.device) lamp mark (λ n z. itself-kept d) (λ h i l p. itself-kept d))
     where
       Stays : Device → Type 0
       Stays after = set d.connections logPlace (connectionAt after logPlace) ≡ after.connections

@@ -12,6 +12,7 @@ use Rattle.std.specs.Prelude.{ℕ, ◌-◌, Bool, ◌&&◌, List, length, eqb, i
 use Prim.Native.Char.{code}
 use Rattle.text.specs.Words.{◌is◌, ◌from◌to◌}
 use Rattle.words.specs.Bytes.{◌at◌}
+use Rattle.record.specs.Given.{left_by}
 use Rattle.record.specs.HostCalls.{markSet}
 use Rattle.record.specs.declared.types.Device.{Device}
 use Rattle.floorlog.specs.Events.{LogEvent, event}
@@ -41,7 +42,7 @@ floorEvent l = eventBy (markSaid l) (event l)
 
 unfoldable pub doneBy : Device → FloorEvent → Device
 doneBy d (logged e) = (did d e).device
-doneBy d (marked lamp mark) = (markSet d lamp mark).device
+doneBy d (marked lamp mark) = (left_by d (markSet d lamp mark))
 
 abbrev pub secondsBy : FloorEvent → ℕ
 secondsBy (logged e) = secondsOf e

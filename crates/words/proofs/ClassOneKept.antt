@@ -6,21 +6,21 @@ use Prim.Native.Nat.{ℕ, ◌+◌, ◌-◌}
 use Prim.Native.Char.{code}
 use mathlib.Core.Path.{◌≡◌, refl, sym, ap, ◌∙◌}
 use mathlib.Core.Bool.{Bool, true, false, false≢true}
-use mathlib.Core.List.{List}
+use mathlib.Core.List.{List, [], ◌∷◌}
 use native.Mathlib.Omega.{arith}
 use lib.ListN.{length}
 use lib.Dec.{leb, eqb}
-use borrow.Author.Tests.{eqb-false, eq-eqb}
-use Rattle.std.specs.Prelude.{if◌then◌else◌}
+use borrow.Author.Tests.{eqb-false, eq-eqb, ne_eqb}
+use Rattle.std.specs.Prelude.{Option, Some, None, if◌then◌else◌}
 use Rattle.text.specs.Words.{◌is◌, ◌from◌to◌}
-use Rattle.text.proofs.Choices.{if_yes, both_left, both_right}
+use Rattle.text.proofs.Choices.{if_yes, if_no, both_left, both_right}
 use Rattle.words.specs.Bytes.{◌at◌}
+use Rattle.words.specs.Codec.{whole, ◌>>=◌}
 use Rattle.words.specs.Sources.{numberFor}
 use Rattle.words.specs.Inputs.{isInputText, sourceNamed, inputNamed, read_input, input_of}
 use Rattle.words.specs.ClassOne.{isInputText1, sourceNamed1, inputNamed1, readInput1}
 use Rattle.words.specs.declared.input.Source.TheVariants.{Rgb, Video, Digital, Storage, Network, Internal}
-use Rattle.words.specs.declared.input.MaybeInput.{MaybeInput}
-use Rattle.words.specs.declared.input.MaybeInput.TheVariants.{InputIs, NoInput}
+use Rattle.words.specs.declared.input.Input.{Input}
 use Rattle.words.proofs.Characters.{in-range}
 use Rattle.words.proofs.InputsReadBack.{named-widely}
 
@@ -47,23 +47,38 @@ module _ (a b : ℕ) where
       (omega (arith, type, eqb-false a _ n₁, eqb-false a _ n₂, eqb-false a _ n₃, eqb-false a _ n₄))) in
       (λ i. record { source = sym source i; number = if_yes (b - code "0") (10 + (b - code "A")) digit i })
 
-pub data InputKept (now before : MaybeInput) : Type 0 where
+pub data InputKept (now before : Option Input) : Type 0 where
   input-as-before : now ≡ before → InputKept now before
-  input-of-class-2 : (a b : ℕ) → isInputText 2 a b ≡ true → isInputText 1 a b ≡ false → now ≡ InputIs (inputNamed a b)
-      → before ≡ NoInput → InputKept now before
+  input-of-class-2 : (a b : ℕ) → isInputText 2 a b ≡ true → isInputText 1 a b ≡ false → now ≡ Some (inputNamed a b)
+      → before ≡ None → InputKept now before
 
 pub inputs-kept : (a b : ℕ) → InputKept (read_input a b) (readInput1 a b)
 unfolding read_input readInput1
 inputs-kept a b = by (isInputText1 a b) (isInputText 2 a b) refl refl
   where
     by : (t u : Bool) → isInputText1 a b ≡ t → isInputText 2 a b ≡ u
-        → InputKept (if u then InputIs (inputNamed a b) else NoInput) (if t then InputIs (inputNamed1 a b) else NoInput)
-    by true true e f = input-as-before (ap InputIs (input-kept a b e))
+        → InputKept (if u then Some (inputNamed a b) else None) (if t then Some (inputNamed1 a b) else None)
+    by true true e f = input-as-before (ap Some (input-kept a b e))
     by true false e f = absurd (false≢true (sym f ∙ named-widely 1 a b e))
     by false true e f = input-of-class-2 a b f e refl refl
     by false false e f = input-as-before refl
 
 -- of two characters, and of none otherwise
-pub input-by-two : (p : List ℕ) → input_of p ≡ (if eqb (length p) 2 then read_input (p at 0) (p at 1) else NoInput)
+abbrev one : Option Input → List ℕ → Option (Input × List ℕ)
+one o s = o >>= λ i. Some (i, s)
+
+pub input-by-two : (p : List ℕ) → input_of p ≡ (if eqb (length p) 2 then read_input (p at 0) (p at 1) else None)
 unfolding input_of
-input-by-two p = refl
+input-by-two [] = refl
+input-by-two (a ∷ []) = refl
+input-by-two (a ∷ b ∷ []) = by (read_input a b)
+  where
+    by : (o : Option Input) → whole (one o) [] ≡ o
+    by None = refl
+    by (Some i) = refl
+input-by-two (a ∷ b ∷ c ∷ p) =
+    by (read_input a b) ∙ sym (if_no _ None (ne_eqb (length (a ∷ b ∷ c ∷ p)) 2 (λ e. omega arith)))
+  where
+    by : (o : Option Input) → whole (one o) (c ∷ p) ≡ None
+    by None = refl
+    by (Some i) = refl

@@ -4,12 +4,12 @@ use mathlib.Core.Path.{◌≡◌, refl}
 use mathlib.Core.Bool.{true, false}
 use mathlib.Core.List.{List, [], ◌∷◌, map}
 use Prim.Native.Nat.{ℕ}
+use Rattle.std.specs.Prelude.{Some, None}
 use Rattle.text.specs.Words.{ascii}
 use Rattle.words.specs.Bytes.{◌at◌}
 use Rattle.words.specs.Sources.{numberFor, inputFor}
 use Rattle.words.specs.Inputs.{isInputText}
 use Rattle.words.specs.declared.input.Source.TheVariants.{Rgb, Digital, Network, Internal}
-use Rattle.words.specs.declared.input.MaybeInput.TheVariants.{InputIs, NoInput}
 
 abbrev texts : List (List ℕ)
 texts = ascii "11" ∷ ascii "59" ∷ ascii "10" ∷ ascii "20" ∷ ascii "61" ∷ []
@@ -27,8 +27,8 @@ inputs-2 = refl
 -- 11 is RGB 1, 59 NETWORK 9, 61 INTERNAL 1 and 3B DIGITAL 11
 stand : map (λ (s : List ℕ). inputFor (s at 0) (s at 1))
     (ascii "11" ∷ ascii "59" ∷ ascii "10" ∷ ascii "20" ∷ ascii "61" ∷ ascii "3B" ∷ [])
-    ≡ InputIs (record { source = Rgb; number = 1 }) ∷ InputIs (record { source = Network; number = 9 }) ∷ NoInput
-    ∷ NoInput ∷ InputIs (record { source = Internal; number = 1 })
-    ∷ InputIs (record { source = Digital; number = 11 }) ∷ []
+    ≡ Some (record { source = Rgb; number = 1 }) ∷ Some (record { source = Network; number = 9 }) ∷ None
+    ∷ None ∷ Some (record { source = Internal; number = 1 })
+    ∷ Some (record { source = Digital; number = 11 }) ∷ []
 unfolding inputFor numberFor
 stand = refl

@@ -5,24 +5,23 @@ use Prim.Native.Nat.{ℕ, ◌≤◌}
 use Prim.Native.Char.{code}
 use mathlib.Core.Path.{◌≡◌, refl, sym, ap, ◌∙◌}
 use mathlib.Core.Bool.{Bool, true, ◌||◌}
-use mathlib.Core.List.{List, [], ◌∷◌}
+use mathlib.Core.List.{[], ◌∷◌}
 use native.Mathlib.Omega.{arith}
-use lib.ListN.{length}
 use lib.Dec.{leb, eqb}
 use borrow.Author.Tests.{eqb-true, eqb-false, leb-true, le-leb}
+use Rattle.std.specs.Prelude.{Option, Some, None}
 use Rattle.text.specs.Words.{◌is◌, ◌from◌to◌}
 use Rattle.text.specs.Scans.{every}
 use Rattle.text.proofs.Choices.{if_yes, if-by, both, both_left, both_right}
-use Rattle.words.specs.Bytes.{◌at◌, isAlnum}
+use Rattle.words.specs.Bytes.{isAlnum}
 use Rattle.words.specs.Sources.{isNumberCharacter, numberFor, numberCharacter}
 use Rattle.words.specs.Inputs.{isInputText, sourceNamed, inputNamed, read_input, input_of, isInput, sourceDigit}
 use Rattle.words.specs.Inputs.{inputText}
+use Rattle.words.specs.Combinations.{whole_says}
+use Rattle.words.specs.Laws.{input_codec}
 use Rattle.words.specs.declared.input.Source.{Source}
 use Rattle.words.specs.declared.input.Source.TheVariants.{Rgb, Video, Digital, Storage, Network, Internal}
 use Rattle.words.specs.declared.input.Input.{Input}
-use Rattle.words.specs.declared.input.MaybeInput.{MaybeInput}
-use Rattle.words.specs.declared.input.MaybeInput.TheVariants.{InputIs, NoInput}
-use Rattle.words.proofs.ByPlaces.{by-places}
 use Rattle.words.proofs.Characters.{in-range}
 use Rattle.words.proofs.NumbersReadBack.{number-is-character, number-back, number-low, number-high}
 use Rattle.words.proofs.NumbersReadBack.{character-back, number-alnum}
@@ -56,16 +55,16 @@ module _ (i : Input) (legal : isInput i ≡ true) where
   pub input-is-text : isInputText 2 (sourceDigit i.source) (numberCharacter i.number) ≡ true
   input-is-text = both (source_told i.source).listed (number-is-character i.number low high)
 
-  pub input-read-back : read_input (sourceDigit i.source) (numberCharacter i.number) ≡ InputIs i
+  pub input-read-back : read_input (sourceDigit i.source) (numberCharacter i.number) ≡ Some i
   unfolding read_input
   input-read-back =
       let same = number-back i.number low high in
-      if_yes _ NoInput input-is-text
-      ∙ (λ j. InputIs (record { source = (source_told i.source).back j; number = same j }))
+      if_yes _ None input-is-text
+      ∙ (λ j. Some (record { source = (source_told i.source).back j; number = same j }))
 
-  pub input-of-text : input_of (inputText i) ≡ InputIs i
+  pub input-of-text : input_of (inputText i) ≡ Some i
   unfolding input_of
-  input-of-text = input-read-back
+  input-of-text = (whole_says input_codec).back i (inputText i) (legal, refl)
 
 -- what names an input of Class 1 names one of Class 2
 wider : (a b : ℕ) → isInputText 1 a b ≡ true → isInputText 2 a b ≡ true
@@ -111,22 +110,8 @@ module _ (k a b : ℕ) (named : isInputText k a b ≡ true) where
   named-text = (λ j. source-back j ∷ character-back b number_is j ∷ [])
 
 -- what is read of two characters, by whether they name an input
-pub read-input-by : (P : MaybeInput → Type 0) (a b : ℕ) → (isInputText 2 a b ≡ true → P (InputIs (inputNamed a b)))
-    → P NoInput
+pub read-input-by : (P : Option Input → Type 0) (a b : ℕ) → (isInputText 2 a b ≡ true → P (Some (inputNamed a b)))
+    → P None
     → P (read_input a b)
 unfolding read_input
 read-input-by P a b named none = if-by P (isInputText 2 a b) named (λ e. none)
-
--- what a word is read as, by whether it is the text of an input
-pub input-of-by : (Q : MaybeInput → Type 0) (w : List ℕ)
-    → ((i : Input) → isInput i ≡ true → w ≡ inputText i → Q (InputIs i))
-    → Q NoInput
-    → Q (input_of w)
-unfolding input_of
-input-of-by Q w named unnamed =
-    if-by Q (eqb (length w) 2)
-    (λ two. read-input-by Q (w at 0) (w at 1)
-    (λ e. named _ (named-is-input 2 (w at 0) (w at 1) e)
-    (by-places 2 w (eqb-true (length w) 2 two) ∙ sym (named-text 2 (w at 0) (w at 1) e)))
-    unnamed)
-    (λ e. unnamed)

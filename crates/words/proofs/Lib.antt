@@ -6,5 +6,6 @@ pub mod Characters
 pub mod NumbersReadBack
 pub mod InputsReadBack
 pub mod SourcesFollowed
+pub mod ListSteps
 pub mod ClassOneKept
 mod Examples

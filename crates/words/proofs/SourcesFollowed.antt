@@ -8,6 +8,7 @@ use mathlib.Core.List.{[], ◌∷◌}
 use native.Mathlib.Omega.{arith}
 use lib.Dec.{eqb}
 use borrow.Author.Tests.{eqb-true, eqb-false, eq-eqb}
+use Rattle.std.specs.Prelude.{Option, Some, None}
 use Rattle.text.specs.Words.{◌is◌, ◌from◌to◌}
 use Rattle.text.proofs.Choices.{if_yes, if-by, both_left, both_right, alike}
 use Rattle.words.specs.Sources.{type_of, sameInput, character, isNumberCharacter, numberFor, numberCharacter}
@@ -17,8 +18,6 @@ use Rattle.words.specs.Inputs.{inputText}
 use Rattle.words.specs.declared.input.Source.{Source}
 use Rattle.words.specs.declared.input.Source.TheVariants.{Rgb, Video, Digital, Storage, Network, Internal}
 use Rattle.words.specs.declared.input.Input.{Input}
-use Rattle.words.specs.declared.input.MaybeInput.{MaybeInput}
-use Rattle.words.specs.declared.input.MaybeInput.TheVariants.{InputIs, NoInput}
 use Rattle.words.proofs.Characters.{in-range}
 use Rattle.words.proofs.InputsReadBack.{input-read-back, read-input-by, named-widely, named-text}
 
@@ -41,29 +40,29 @@ source-read Network = refl
 source-read Internal = refl
 
 row_read : (s : Source) (b : ℕ) → isNumberCharacter b ≡ true
-    → read_input (character (type_of s)) b ≡ InputIs (record { source = s; number = numberFor b })
+    → read_input (character (type_of s)) b ≡ Some (record { source = s; number = numberFor b })
 unfolding read_input sourceNamed
-row_read Rgb b h = if_yes _ NoInput h
-row_read Video b h = if_yes _ NoInput h
-row_read Digital b h = if_yes _ NoInput h
-row_read Storage b h = if_yes _ NoInput h
-row_read Network b h = if_yes _ NoInput h
-row_read Internal b h = if_yes _ NoInput h
+row_read Rgb b h = if_yes _ None h
+row_read Video b h = if_yes _ None h
+row_read Digital b h = if_yes _ None h
+row_read Storage b h = if_yes _ None h
+row_read Network b h = if_yes _ None h
+row_read Internal b h = if_yes _ None h
 
 -- whatever two characters stand for is what is read of them
 module _ (a b : ℕ) where
-  abbrev Read : MaybeInput → Type 0
+  abbrev Read : Option Input → Type 0
   Read m = read_input a b ≡ m
 
   in_row : (s : Source) → isNumberCharacter b ≡ true → eqb a (character (type_of s)) ≡ true
-      → Read (InputIs (record { source = s; number = numberFor b }))
+      → Read (Some (record { source = s; number = numberFor b }))
   in_row s h e = ap (λ (x : ℕ). read_input x b) (eqb-true a (character (type_of s)) e) ∙ row_read s b h
 
   in-no-row : a is "1" ≡ false → a is "2" ≡ false → a is "3" ≡ false → a is "4" ≡ false → a is "5" ≡ false
       → a is "6" ≡ false
-      → Read NoInput
+      → Read None
   in-no-row n₁ n₂ n₃ n₄ n₅ n₆ =
-      read-input-by (λ m. m ≡ NoInput) a b
+      read-input-by (λ m. m ≡ None) a b
       (λ named.
       let type = in-range a "1" "6" (both_left (a from "1" to "6") _ named) in
       absurd (omega (
@@ -91,19 +90,19 @@ module _ (a b : ℕ) where
       (λ n. rw (n, and-false (a from "1" to "6")))
 
   -- two characters that the set-up takes for an input stand for it
-  pub named-stands : (k : ℕ) → isInputText k a b ≡ true → inputFor a b ≡ InputIs (inputNamed a b)
+  pub named-stands : (k : ℕ) → isInputText k a b ≡ true → inputFor a b ≡ Some (inputNamed a b)
   unfolding read_input
-  named-stands k e = sym reader-follows ∙ if_yes _ NoInput (named-widely k a b e)
+  named-stands k e = sym reader-follows ∙ if_yes _ None (named-widely k a b e)
 
 -- the writer's characters of an input stand for it
 pub writer-follows : (i : Input) → isInput i ≡ true
-    → inputFor (sourceDigit i.source) (numberCharacter i.number) ≡ InputIs i
+    → inputFor (sourceDigit i.source) (numberCharacter i.number) ≡ Some i
 writer-follows i e = sym (reader-follows _ _) ∙ input-read-back i e
 
 -- and no others do
-pub stands-only : (a b : ℕ) (i : Input) → inputFor a b ≡ InputIs i → inputText i ≡ a ∷ b ∷ []
+pub stands-only : (a b : ℕ) (i : Input) → inputFor a b ≡ Some i → inputText i ≡ a ∷ b ∷ []
 stands-only a b i e =
-    read-input-by (λ m. m ≡ InputIs i → inputText i ≡ a ∷ b ∷ []) a b
+    read-input-by (λ m. m ≡ Some i → inputText i ≡ a ∷ b ∷ []) a b
     (λ named same. let one : inputNamed a b ≡ i = cc in ap inputText (sym one) ∙ named-text 2 a b named)
     (λ none. cc)
     (reader-follows a b ∙ e)

@@ -1,4 +1,4 @@
--- What the rules of texts tell: their lengths, their bytes, and that they are no refusal.
+-- What the rules of texts tell: their lengths and their bytes.
 -- Assumes nothing.
 use Prim.Native.Nat.{ℕ, ◌≤◌}
 use mathlib.Core.Path.{◌≡◌}
@@ -6,12 +6,12 @@ use mathlib.Core.Bool.{true, not, ◌&&◌}
 use mathlib.Core.List.{List}
 use lib.ListN.{length}
 use lib.Dec.{leb}
-use borrow.Author.Tests.{leb-true, not-true}
+use borrow.Author.Tests.{leb-true}
 use Rattle.text.specs.Scans.{every}
 use Rattle.utf8.specs.Utf8.{isUtf8}
 use Rattle.text.proofs.Choices.{both_left, both_right}
 use Rattle.words.specs.Bytes.{isAlnum}
-use Rattle.words.specs.Texts.{isRefusal, refusalOf, isTextByte, isText, isName, isInfo, isInputName}
+use Rattle.words.specs.Texts.{isRefusal, isTextByte, isText, isName, isInfo, isInputName}
 use Rattle.words.specs.Texts.{isPassword, nameMost, infoMost, inputNameMost, passwordMost}
 
 module _ (s : List ℕ) where
@@ -49,8 +49,3 @@ unfolding isText
 text-bytes n s e =
     let sized = both_left (leb (length s) n && every isTextByte s) (not (isRefusal s)) e in
     both_right (leb (length s) n) (every isTextByte s) sized
-
-pub text-no-refusal : (n : ℕ) (s : List ℕ) → isText n s ≡ true → refusalOf s ≡ 0
-unfolding isText refusalOf
-text-no-refusal n s e =
-    rw (not-true (isRefusal s) (both_right (leb (length s) n && every isTextByte s) (not (isRefusal s)) e))

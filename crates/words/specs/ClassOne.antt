@@ -2,14 +2,12 @@
 -- names with a 1. Nothing is built on them; proofs/ClassOneKept.antt has that a set-up of Class 1 goes by them still.
 --   readInput1 a b        the input that two characters name: a type 1 to 5 and a number 1 to 9
 -- Assumes nothing.
-use Rattle.std.specs.Prelude.{ℕ, ◌-◌, Bool, ◌&&◌, if◌then◌else◌}
+use Rattle.std.specs.Prelude.{ℕ, ◌-◌, Bool, ◌&&◌, Option, Some, None, if◌then◌else◌}
 use Prim.Native.Char.{code}
 use Rattle.text.specs.Words.{◌is◌, ◌from◌to◌}
 use Rattle.words.specs.declared.input.Source.{Source}
 use Rattle.words.specs.declared.input.Source.TheVariants.{Rgb, Video, Digital, Storage, Network}
 use Rattle.words.specs.declared.input.Input.{Input}
-use Rattle.words.specs.declared.input.MaybeInput.{MaybeInput}
-use Rattle.words.specs.declared.input.MaybeInput.TheVariants.{InputIs, NoInput}
 
 abbrev pub isInputText1 : ℕ → ℕ → Bool
 isInputText1 a b = a from "1" to "5" && b from "1" to "9"
@@ -25,5 +23,5 @@ sourceNamed1 a =
 abbrev pub inputNamed1 : ℕ → ℕ → Input
 inputNamed1 a b = record { source = sourceNamed1 a; number = b - code "0" }
 
-unfoldable pub readInput1 : ℕ → ℕ → MaybeInput
-readInput1 a b = if isInputText1 a b then InputIs (inputNamed1 a b) else NoInput
+unfoldable pub readInput1 : ℕ → ℕ → Option Input
+readInput1 a b = if isInputText1 a b then Some (inputNamed1 a b) else None

@@ -4,20 +4,20 @@
 --                        11 and 59 do, and 10, 20 and 61 do not; of Class 2 also the type 6 and a number A to Z
 --   inputNamed a b       the input that they name
 --   read_input a b       the input of either class that they name, or none: which are listed the set-up decides
---   input_of w           the input that a word names: two characters
 --   isInput i            an input that two characters can name
 --   inputText i          its two characters
+--   input_read s         the input at the front of s
+--   input_of w           the input that all of a word names
 -- Assumes nothing.
-use Rattle.std.specs.Prelude.{ℕ, ◌+◌, ◌%◌, Bool, ◌&&◌, List, [], ◌∷◌, length, leb, eqb, if◌then◌else◌}
+use Rattle.std.specs.Prelude.{ℕ, ◌+◌, ◌%◌, Bool, ◌&&◌, List, [], ◌∷◌, leb, eqb, if◌then◌else◌}
+use Rattle.std.specs.Prelude.{Option, Some, None}
 use Prim.Native.Char.{code}
 use Rattle.text.specs.Words.{◌is◌, ◌from◌to◌}
-use Rattle.words.specs.Bytes.{◌at◌}
+use Rattle.words.specs.Codec.{whole, ◌>>=◌}
 use Rattle.words.specs.Sources.{isNumberCharacter, numberFor, numberCharacter}
 use Rattle.words.specs.declared.input.Source.{Source}
 use Rattle.words.specs.declared.input.Source.TheVariants.{Rgb, Video, Digital, Storage, Network, Internal}
 use Rattle.words.specs.declared.input.Input.{Input}
-use Rattle.words.specs.declared.input.MaybeInput.{MaybeInput}
-use Rattle.words.specs.declared.input.MaybeInput.TheVariants.{InputIs, NoInput}
 
 abbrev pub isInputText : ℕ → ℕ → ℕ → Bool
 isInputText k a b =
@@ -35,11 +35,8 @@ sourceNamed a =
 abbrev pub inputNamed : ℕ → ℕ → Input
 inputNamed a b = record { source = sourceNamed a; number = numberFor b }
 
-unfoldable pub read_input : ℕ → ℕ → MaybeInput
-read_input a b = if isInputText 2 a b then InputIs (inputNamed a b) else NoInput
-
-unfoldable pub input_of : List ℕ → MaybeInput
-input_of w = if eqb (length w) 2 then read_input (w at 0) (w at 1) else NoInput
+unfoldable pub read_input : ℕ → ℕ → Option Input
+read_input a b = if isInputText 2 a b then Some (inputNamed a b) else None
 
 abbrev pub isInput : Input → Bool
 isInput i = leb 1 i.number && leb i.number 35
@@ -57,3 +54,10 @@ numberDigit n = code "0" + n % 10
 
 abbrev pub inputText : Input → List ℕ
 inputText i = sourceDigit i.source ∷ numberCharacter i.number ∷ []
+
+abbrev pub input_read : List ℕ → Option (Input × List ℕ)
+input_read (a ∷ b ∷ s) = read_input a b >>= λ i. Some (i, s)
+input_read s = None
+
+unfoldable pub input_of : List ℕ → Option Input
+input_of w = whole input_read w

@@ -2,5 +2,16 @@ pub mod Bytes
 pub mod Sources
 pub mod Inputs
 pub mod Texts
+pub mod Codec
+pub mod Joined
+pub mod Numerals
+pub mod Powers
+pub mod Lamps
+pub mod Muting
+pub mod ErrorDigits
+pub mod Classes
+pub mod Refusing
+pub mod Combinations
+pub mod Laws
 pub mod ClassOne
 pub mod Computing

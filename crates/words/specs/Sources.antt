@@ -11,13 +11,12 @@
 --   inputFor a b           the input for which the characters a b stand, a type's and a number's; or none
 -- Assumes nothing.
 use Rattle.std.specs.Prelude.{ℕ, ◌+◌, ◌-◌, ◌%◌, Bool, ◌&&◌, ◌||◌, List, [], ◌∷◌, eqb, leb, if◌then◌else◌}
+use Rattle.std.specs.Prelude.{Option, Some, None}
 use Prim.Native.Char.{code}
 use Rattle.text.specs.Words.{◌from◌to◌}
 use Rattle.words.specs.declared.input.Source.{Source}
 use Rattle.words.specs.declared.input.Source.TheVariants.{Rgb, Video, Digital, Storage, Network, Internal}
 use Rattle.words.specs.declared.input.Input.{Input}
-use Rattle.words.specs.declared.input.MaybeInput.{MaybeInput}
-use Rattle.words.specs.declared.input.MaybeInput.TheVariants.{InputIs, NoInput}
 
 abbrev pub type_of : Source → ℕ
 type_of Rgb = 1
@@ -46,10 +45,10 @@ numberFor b = if leb b (code "9") then b - code "0" else 10 + (b - code "A")
 unfoldable pub numberCharacter : ℕ → ℕ
 numberCharacter n = if leb n 9 then character n else code "A" + (n - 10) % 26
 
-abbrev pub inputAmong : List Source → ℕ → ℕ → MaybeInput
-inputAmong [] a b = NoInput
+abbrev pub inputAmong : List Source → ℕ → ℕ → Option Input
+inputAmong [] a b = None
 inputAmong (s ∷ ss) a b =
-    if eqb a (character (type_of s)) then InputIs (record { source = s; number = numberFor b }) else inputAmong ss a b
+    if eqb a (character (type_of s)) then Some (record { source = s; number = numberFor b }) else inputAmong ss a b
 
-unfoldable pub inputFor : ℕ → ℕ → MaybeInput
-inputFor a b = if isNumberCharacter b then inputAmong sources a b else NoInput
+unfoldable pub inputFor : ℕ → ℕ → Option Input
+inputFor a b = if isNumberCharacter b then inputAmong sources a b else None

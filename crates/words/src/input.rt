@@ -2,10 +2,16 @@
 ghost use Rattle.std.specs.Prelude.{◌≡◌, true};
 ghost use Rattle.words.specs.Sources.{isNumberCharacter, numberFor, numberCharacter};
 ghost use Rattle.words.specs.Inputs.{isInputText, sourceNamed, read_input, input_of, isInput, sourceDigit};
-ghost use Rattle.words.specs.Inputs.{numberDigit, inputText};
+ghost use Rattle.words.specs.Inputs.{numberDigit, inputText, input_read};
+ghost use Rattle.words.specs.Codec.{Plain};
+ghost use Rattle.words.specs.Laws.{input_codec};
 
-#[derive(Clone, Copy)]
+use crate::codec;
+use crate::codec::{Line, Wire};
+
+#[derive(Clone, Copy, Default)]
 pub enum Source {
+    #[default]
     Rgb,
     Video,
     Digital,
@@ -15,16 +21,10 @@ pub enum Source {
 }
 
 // The number is 1 to 9, or 10 to 35 for A to Z.
-#[derive(Clone, Copy)]
+#[derive(Clone, Copy, Default)]
 pub struct Input {
     pub source: Source,
     pub number: u8,
-}
-
-#[derive(Clone, Copy)]
-pub enum MaybeInput {
-    InputIs(Input),
-    NoInput,
 }
 
 fn is_number_character(b: u8) -> bool
@@ -70,26 +70,23 @@ fn number_for(b: u8) -> u8
 
 // The input of either class that two characters name, or none.
 #[tactic(auto, unfolding(crate::specs::Inputs::read_input))]
-pub fn read_input(a: u8, b: u8) -> MaybeInput
+pub fn read_input(a: u8, b: u8) -> Option<Input>
     ensures { result ≡ read_input a b }
 {
     if !is_input_text(2, a, b) {
-        return MaybeInput::NoInput;
+        return None;
     }
     let source = source_named(a);
     let number = number_for(b);
-    MaybeInput::InputIs(Input { source, number })
+    Some(Input { source, number })
 }
 
 // The input of one word.
 #[tactic(auto, unfolding(crate::specs::Inputs::input_of))]
-pub fn input_of(w: &[u8]) -> MaybeInput
+pub fn input_of(w: &[u8]) -> Option<Input>
     ensures { result ≡ input_of w.now }
 {
-    if w.len() != 2 {
-        return MaybeInput::NoInput;
-    }
-    read_input(w[0], w[1])
+    codec::parse(w)
 }
 
 // Whether two characters can name the input.
@@ -134,4 +131,30 @@ pub fn number_digit(n: u8) -> u8
     ensures { result ≡ numberDigit n }
 {
     b'0' + n % 10
+}
+
+impl Wire for Input {
+    ghost legal = { isInput };
+
+    ghost text = { inputText };
+
+    ghost writes = { Plain isInput inputText };
+
+    ghost read = { input_read };
+
+    fn put(self, out: &mut Line) {
+        codec::put_all(&input_text(self), out);
+    }
+
+    fn take(s: &[u8]) -> Option<(Input, &[u8])> {
+        let [a, b, rest @ ..] = s else {
+            return None;
+        };
+        let Some(i) = read_input(*a, *b) else {
+            return None;
+        };
+        Some((i, rest))
+    }
+
+    ghost codec = { input_codec };
 }

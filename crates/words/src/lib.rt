@@ -2,5 +2,14 @@
 #![tactic(auto)]
 
 pub mod byte;
+pub mod class;
+pub mod codec;
+pub mod errors;
 pub mod input;
+pub mod lamp;
+pub mod list;
+pub mod mutes;
+pub mod number;
+pub mod power;
+pub mod refusal;
 pub mod texts;

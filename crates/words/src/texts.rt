@@ -2,7 +2,7 @@
 ghost use Rattle.std.specs.Prelude.{◌≡◌};
 ghost use Rattle.text.specs.Scans.{every};
 ghost use Rattle.words.specs.Bytes.{isAlnum};
-ghost use Rattle.words.specs.Texts.{isRefusal, refusalOf, isTextByte, isText, isName, isInfo, isInputName};
+ghost use Rattle.words.specs.Texts.{isRefusal, isTextByte, isText, isName, isInfo, isInputName};
 ghost use Rattle.words.specs.Texts.{isPassword};
 
 use crate::byte;
@@ -16,17 +16,6 @@ pub fn is_refusal(s: &[u8]) -> bool
         return false;
     }
     (s[0] == b'E') & (s[1] == b'R') & (s[2] == b'R') & ((b'1' <= s[3]) & (s[3] <= b'4'))
-}
-
-// The digit of a refusal; 0 where s is none.
-#[tactic(auto, unfolding(crate::specs::Texts::refusalOf, crate::specs::Texts::isRefusal))]
-pub fn refusal_of(s: &[u8]) -> u8
-    ensures { result ≡ refusalOf s.now }
-{
-    if !is_refusal(s) {
-        return 0;
-    }
-    s[3] - b'0'
 }
 
 // Each byte is 0x20 to 0xFF.

@@ -13,7 +13,7 @@ use Rattle.record.specs.declared.types.Settings.{Settings}
 use Rattle.record.specs.declared.types.Own.{Own}
 use Rattle.record.specs.declared.types.Connection.{Connection}
 use Rattle.record.specs.declared.types.Device.{Device}
-use Rattle.record.specs.declared.types.Changed.{Changed}
+use Rattle.record.specs.Given.{left_by}
 use Rattle.record.proofs.Spelt.{closed-spelt}
 use Rattle.stream.specs.Collecting.{emptyLine}
 use Rattle.clock.specs.After.{partsAfter}
@@ -71,12 +71,12 @@ module _ (i p : ℕ) (w : Workroom) (j : Joined i p w) where
   abbrev connection : Connection
   connection = connectionAt device p
 
-  time-keeps : (n : ℕ) → isShut (connectionAt (passed device n).device p) ≡ false
+  time-keeps : (n : ℕ) → isShut (connectionAt (left_by device (passed device n)) p) ≡ false
       → ShownAs i p w (shownOf entry) (own_at device.settings device.own (waits n))
       (happened oursPanel i p w (waits n))
   time-keeps n live =
-      let then : (passed device n).device ≡ partsAfter n device
-      = ap (λ (r : Changed). r.device) (passed-accepted device n j.acquainted.device) ∙ parts-pass n device in
+      let then : (left_by device (passed device n)) ≡ partsAfter n device
+      = ap (left_by device) (passed-accepted device n j.acquainted.device) ∙ parts-pass n device in
       let here : connectionAt (partsAfter n device) p ≡ times connectionSecond n connection
       = ap (λ (d : Device). connectionAt d p) (sym (parts-pass n device)) ∙ place-passes n device p in
       let still = seconds-fit (talkOf entry) n connection (record { fit = j.fit; between = j.between })

@@ -8,7 +8,10 @@ use Rattle.record.specs.Limits.{ageEnd, shut, awaiting, opened}
 use Rattle.record.specs.Legal.{isTimed}
 use Rattle.record.specs.Places.{connectionAt, isShut}
 use Rattle.record.specs.declared.types.Connection.{Connection}
-use Rattle.record.specs.declared.types.Changed.{Changed}
+use Rattle.record.specs.declared.types.Device.{Device}
+use Rattle.record.specs.Given.{left_by}
+use Rattle.std.specs.Prelude.{Result}
+use Rattle.record.specs.declared.refusal.Refusal.{Refusal}
 use Rattle.clock.specs.Passing.{passed}
 use Rattle.clock.proofs.Cases.{passed-accepted}
 use Rattle.clock.proofs.ConnectionsAge.{grows-older}
@@ -31,7 +34,7 @@ module _ (i p : ℕ) where
   phaseOf c = c.phase
 
   open-waits : (w : Workroom) (n : ℕ) → phase w ≡ opened
-      → connectionAt (passed w.device n).device p ≡ ourConnection p w
+      → connectionAt (left_by w.device (passed w.device n)) p ≡ ourConnection p w
   open-waits w n stands = (passed-leaves w.device n).connection p (ap isTimed stands)
 
   open-kept-up : (w : Workroom) (h : RoomMove) → phase w ≡ opened → IsOther i p w h → KeptUp i p w h
@@ -61,7 +64,7 @@ module _ (i p : ℕ) where
       → (ourConnection p w).age + n < ageEnd
       → KeptUp i p w (waits n)
   young-kept-up w n j waited young =
-      ap (λ (r : Changed). isShut (connectionAt r.device p))
+      ap (λ (r : Result Device Refusal). isShut (connectionAt (left_by w.device r) p))
       (passed-accepted w.device n j.acquainted.device)
       ∙ ap isShut (place-passes n w.device p)
       ∙ ap isShut (grows-older n (ourConnection p w) (ap isTimed waited) young)

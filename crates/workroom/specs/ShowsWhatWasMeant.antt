@@ -28,6 +28,7 @@
 use Rattle.std.specs.Prelude.{ℕ, ◌+◌, ◌<◌, ◌^◌, ◌≡◌, Bool, true, false, List, [], ◌∷◌, Some}
 use Rattle.pjlink.specs.Commands.{commandClass}
 use Rattle.pjlink.specs.declared.command.Command.{Command}
+use Rattle.record.specs.Given.{left_by}
 use Rattle.record.specs.Limits.{placesCount, ageEnd, awaiting, opened}
 use Rattle.record.specs.Legal.{isLegal}
 use Rattle.record.specs.Places.{connectionAt, isShut, lowestShut}
@@ -119,7 +120,7 @@ module _ (i p : ℕ) where
 
   abbrev pub KeptUp : Workroom → RoomMove → Type 0
   KeptUp w (asks k there back) = IsWithin w.device.settings (commandOf k)
-  KeptUp w (waits n) = isShut (connectionAt (passed w.device n).device p) ≡ false
+  KeptUp w (waits n) = isShut (connectionAt (left_by w.device (passed w.device n)) p) ≡ false
   KeptUp w (asks-another j k) = j ≡ i → ⊥
   KeptUp w (hears-another j l) = j ≡ i → ⊥
   KeptUp w (meanwhile d) = Aside p w.device d
@@ -148,9 +149,9 @@ pub record OthersAside (p : ℕ) (d : Device) : Type 0 where
   pub receiving : (q : ℕ) (bs : List ℕ) (room : ℕ) → (p ≡ q → ⊥) → Aside p d (received d q bs room).device
   pub closing : (q : ℕ) → (p ≡ q → ⊥) → Aside p d (closedBy d q).device
   pub opening : (random room : ℕ) → isShut (connectionAt d p) ≡ false → Aside p d (openedBy d random room).device
-  pub fault : (mark : Bool) → Aside p d (faultSet d mark).device
-  pub errors : (digits : List ℕ) → Aside p d (errorsSet d digits).device
-  pub marks : (lamp : ℕ) (mark : Bool) → Aside p d (markSet d lamp mark).device
+  pub fault : (mark : Bool) → Aside p d (left_by d (faultSet d mark))
+  pub errors : (digits : List ℕ) → Aside p d (left_by d (errorsSet d digits))
+  pub marks : (lamp : ℕ) (mark : Bool) → Aside p d (left_by d (markSet d lamp mark))
 
 pub record ShowsWhatWasMeant (P : AnyPanel) : Type 0 where
   -- a projector just added, with the password of a device that has a free place: "unknown at first"

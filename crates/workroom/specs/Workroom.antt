@@ -18,6 +18,7 @@
 -- The host joins what comes back to whole lines, and hands every one to the panel, once; no bytes are no line.
 -- Assumes nothing.
 use Rattle.std.specs.Prelude.{ℕ, List, [], ◌∷◌, take, drop, eqb, if◌then◌else◌}
+use Rattle.record.specs.Given.{left_by}
 use Rattle.record.specs.declared.types.Device.{Device}
 use Rattle.clock.specs.Passing.{passed}
 use Rattle.stream.specs.Machine.{Out, Took, handedParts, uncut}
@@ -76,7 +77,7 @@ module _ (P : AnyPanel) (i : ℕ) where
 
     abbrev pub happened : Workroom → RoomMove → Workroom
     happened w (asks k there back) = askedAs (P.command w.panel i k commandRoom) w.device there back
-    happened w (waits n) = roomOf w.panel (passed w.device n).device
+    happened w (waits n) = roomOf w.panel (left_by w.device (passed w.device n))
     happened w (asks-another j k) = roomOf (P.command w.panel j k commandRoom).panel w.device
     happened w (hears-another j l) = roomOf (P.hear w.panel j l).panel w.device
     happened w (meanwhile d) = roomOf w.panel d

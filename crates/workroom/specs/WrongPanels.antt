@@ -8,8 +8,8 @@ use Rattle.pjlink.specs.declared.command.Body.TheVariants.{Powr}
 use Rattle.pjlink.specs.declared.command.Command.{Command}
 use Rattle.pjlink.specs.Said.{Said}
 use Rattle.controller.specs.Reading.{ReadAs, readReply}
-use Rattle.controller.specs.declared.reading.Outcome.{Outcome}
-use Rattle.controller.specs.declared.reading.Outcome.TheVariants.{Means, Erra, NotALine, OtherCommand, NotAllowed}
+use Rattle.controller.specs.Reading.{Outcome}
+use Rattle.controller.specs.Reading.{Means, Erra, NotALine, OtherCommand, NotAllowed}
 use Rattle.codes.specs.Commands.{commandOf}
 use Rattle.panel.specs.Entries.{talkOf, shownOf, entryOf, restedOn}
 use Rattle.panel.specs.Stepping.{strayed, withTalk, answeredEntry, erraEntry, lostEntry, heardBy, heardLine, isUnready}

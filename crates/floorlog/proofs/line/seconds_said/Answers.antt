@@ -17,10 +17,10 @@ returns-in_default c =
 
 pub returns-then-v-gt-SECONDS_MOST : goal.returns-then-v-gt-SECONDS_MOST
 returns-then-v-gt-SECONDS_MOST c =
-    let told = digits-told _ _ (sym c.read_digits-read.ensures ∙ c.in-Value.is) in
+    let told = digits-told _ _ (sym c.read_digits-read.ensures ∙ c.in-Some.is) in
     sym (seconds-over _ c.if-s-lt1.false c.if-s-gt10.false told.0 _ told.1 c.if-v-gt-SECONDS_MOST.true)
 
 pub returns : goal.returns
 returns c =
-    let told = digits-told _ _ (sym c.read_digits-read.ensures ∙ c.in-Value.is) in
+    let told = digits-told _ _ (sym c.read_digits-read.ensures ∙ c.in-Some.is) in
     sym (seconds-passes _ c.if-s-lt1.false c.if-s-gt10.false told.0 _ told.1 c.if-v-gt-SECONDS_MOST.false)

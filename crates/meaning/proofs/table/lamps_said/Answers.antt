@@ -1,15 +1,23 @@
-use Rattle.std.proofs.Common.{◌≡◌, arith, rules, length}
-use Rattle.pjlink.specs.Carried.{noLamps}
-use Rattle.meaning.proofs.Filling.{none_filled, one-filled}
+use Rattle.std.proofs.Common.{◌≡◌, ◌∷◌, ◌++◌, [], ◌∙◌, List, arith, length, sym, ap}
+use Rattle.words.specs.declared.lamp.LampHours.{LampHours}
 use Rattle.meaning.proofs.LampsSaid.{none_said, one-more-said}
-use Rattle.meaning.proofs.table.lamps_said.Invariants.{firstSaid}
 use Rattle.meaning.proofs.table.lamps_said.Goals as goal
 
+grown : {xs ys zs us : List LampHours} (x : LampHours) → zs ≡ xs ++ (x ∷ []) → xs ≡ ys → us ≡ ys ++ (x ∷ []) → zs ≡ us
+grown x p q r = cc
+
 pub loop-k-init : goal.loop-k-init
-loop-k-init c = none_filled (firstSaid _ _ _) noLamps _ (none_said _ _)
+loop-k-init c = record {
+  many = ap length c.new-lamps.ensures;
+  counted = omega arith;
+  told = c.new-lamps.ensures ∙ sym (none_said _ _);
+}
 
 pub loop-k-preserved : goal.loop-k-preserved
-loop-k-preserved c =
-    let size : length c.args.seconds.now ≡ 8 = search rules in
-    one-filled (firstSaid c.args.lit c.args.marks.now c.args.seconds.now) noLamps _ _ c.loop-k.invariant (omega arith)
-    (one-more-said c.args.lit c.args.marks.now c.args.seconds.now c.loop-k.k (omega arith))
+loop-k-preserved c = record {
+  many = omega (arith, c.push.ensures.len);
+  counted = omega arith;
+  told =
+      grown _ c.push.ensures.items c.loop-k.invariant.told
+      (one-more-said c.args.lit c.args.marks.now c.args.seconds.now c.loop-k.k (omega (arith, c.told-seconds)));
+}

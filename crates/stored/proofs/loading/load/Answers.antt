@@ -2,7 +2,7 @@
 use Rattle.std.specs.Result.{result_ok}
 use Rattle.std.proofs.Common.{◌∙◌, ◌+◌, sym, ap, arith}
 use Rattle.text.proofs.Choices.{if_yes, if_no}
-use Rattle.record.specs.Record.{accepted}
+use Rattle.record.specs.Given.{accepted}
 use Rattle.stored.specs.Loading.{between, settingsAt, device_of}
 use Rattle.stored.specs.declared.layout.Places.{Places}
 use Rattle.stored.proofs.Walked.{some-marks-long, walked_by, end-found}

@@ -22,5 +22,5 @@ returns c =
     ∙ ap (take n) c.seconds_at-seconds.ensures
     ∙ room-read n rest c.if-n-gt-LAMPS_MOST.false
     ∙ ap (λ (k : ℕ). secondsIn k rest) c.count_at-n.ensures.value in
-    device-made _ c.set_up.result c.set_up.ensures.made
+    device-made _ c.set_up.result c.set_up.ensures
     ∙ ap device_of (settings-lent s p _ _ _ _ lamps c.two_at.ensures c.two_at-2.ensures)

@@ -1,0 +1,36 @@
+// Why a set-up is refused (RULES, The numbers a call gives and Passwords).
+ghost use Rattle.std.specs.Prelude.{◌≡◌};
+ghost use Rattle.record.specs.SetUpErrors.{set_up_error_number, setting_of};
+
+use crate::types::Setting;
+
+/// Why a set-up is refused: the first that holds.
+#[derive(Clone, Copy)]
+pub enum SetUpError {
+    /// 3: this setting is out of its range, and each before it is in its own.
+    OutOfRange(Setting),
+    /// 8: each setting is in its range, and the password has 1 to 7 characters.
+    ShortPassword,
+}
+
+impl SetUpError {
+    /// The number that a host is given.
+    pub fn number(self) -> u32
+        ensures { result ≡ set_up_error_number self }
+    {
+        match self {
+            SetUpError::OutOfRange(_) => 3,
+            SetUpError::ShortPassword => 8,
+        }
+    }
+
+    /// The setting that is to be changed.
+    pub fn setting(self) -> Setting
+        ensures { result ≡ setting_of self }
+    {
+        match self {
+            SetUpError::OutOfRange(setting) => setting,
+            SetUpError::ShortPassword => Setting::Password,
+        }
+    }
+}

@@ -1,0 +1,101 @@
+-- Values on a line, read from the front of bytes: a value, and the bytes after it (RULES, Commands and Controller).
+--   f >>= g            g of what f gives, where it gives something
+--   named code xs b    the first of xs whose code is the byte b
+--   letter f           a value of one byte
+--   behind t s         what follows the bytes t, where s begins with them
+--   spelled text xs    the first of xs by whose text the bytes begin
+--   past c read        the byte c, and then a value
+--   pair_of mk f g     two values, one after the other, as one
+--   counted n f        n values, one after the other
+--   whole read s       the value that all of s says
+--   Ends s             where a word may end: no byte follows, or a space
+--   Plain legal text x t    t says the legal x as our own side says it, and in no other way
+--   Codec E legal text writes read     a legal value's own text says it, and no other value is said; what says a
+--                      value is read as it, where E holds of what follows; what is read says the value
+--   WholeCodec legal text writes read  the same of all of a parameter
+--   taken r            what a reader of the code returned, apart from where the rest lies
+-- Assumes nothing.
+use Rattle.std.specs.Prelude.{ℕ, zero, suc, ◌≡◌, Bool, true, List, [], ◌∷◌, ◌++◌, eqb, if◌then◌else◌}
+use Rattle.std.specs.Prelude.{Option, Some, None}
+use Rattle.std.specs.Option.{option_or}
+use Rattle.std.specs.Borrow.{Bor}
+use Prim.Native.Char.{Char, code}
+use Rattle.text.specs.Words.{◌is◌}
+
+infixl 10 ◌>>=◌
+abbrev pub ◌>>=◌ : {A B : Type 0} → Option A → (A → Option B) → Option B
+None >>= f = None
+(Some x) >>= f = f x
+
+abbrev pub named : {A : Type 0} → (A → ℕ) → List A → ℕ → Option A
+named of [] b = None
+named of (x ∷ xs) b = if eqb b (of x) then Some x else named of xs b
+
+abbrev pub letter : {A : Type 0} → (ℕ → Option A) → List ℕ → Option (A × List ℕ)
+letter f [] = None
+letter f (b ∷ s) = f b >>= λ x. Some (x, s)
+
+abbrev pub behind : List ℕ → List ℕ → Option (List ℕ)
+behind [] s = Some s
+behind (c ∷ t) [] = None
+behind (c ∷ t) (b ∷ s) = if eqb b c then behind t s else None
+
+abbrev pub spelled : {A : Type 0} → (A → List ℕ) → List A → List ℕ → Option (A × List ℕ)
+spelled text [] s = None
+spelled text (x ∷ xs) s = option_or (behind (text x) s >>= λ rest. Some (x, rest)) (spelled text xs s)
+
+abbrev pub past : {A : Type 0} → Char → (List ℕ → Option (A × List ℕ)) → List ℕ → Option (A × List ℕ)
+past c read [] = None
+past c read (b ∷ s) = if b is c then read s else None
+
+abbrev pub pair_of : {A B C : Type 0} → (A → B → C) → (List ℕ → Option (A × List ℕ))
+    → (List ℕ → Option (B × List ℕ))
+    → List ℕ
+    → Option (C × List ℕ)
+pair_of mk f g s = f s >>= λ x. g x.1 >>= λ y. Some (mk x.0 y.0, y.1)
+
+abbrev pub counted : {A : Type 0} → ℕ → (List ℕ → Option (A × List ℕ)) → List ℕ → Option (List A × List ℕ)
+counted zero f s = Some ([], s)
+counted (suc n) f s = f s >>= λ x. counted n f x.1 >>= λ xs. Some (x.0 ∷ xs.0, xs.1)
+
+abbrev pub ended : {A : Type 0} → A → List ℕ → Option A
+ended x [] = Some x
+ended x (b ∷ s) = None
+
+abbrev pub whole : {A : Type 0} → (List ℕ → Option (A × List ℕ)) → List ℕ → Option A
+whole read s = read s >>= λ r. ended r.0 r.1
+
+abbrev pub Ends : List ℕ → Type 0
+Ends [] = Unit {0}
+Ends (b ∷ s) = b ≡ code " "
+
+abbrev pub Plain : {A : Type 0} → (A → Bool) → (A → List ℕ) → A → List ℕ → Type 0
+Plain legal text x t = (legal x ≡ true) × (t ≡ text x)
+
+pub record Codec
+    {A : Type 0}
+    (E : List ℕ → Type 0)
+    (legal : A → Bool)
+    (text : A → List ℕ)
+    (writes : A → List ℕ → Type 0)
+    (read : List ℕ → Option (A × List ℕ)) : Type 0 where
+  pub own : (x : A) → legal x ≡ true → writes x (text x)
+  pub told : (x : A) (t : List ℕ) → writes x t → legal x ≡ true
+  pub back : (x : A) (t rest : List ℕ) → writes x t → E rest → read (t ++ rest) ≡ Some (x, rest)
+  pub sound : (s : List ℕ) (x : A) (rest : List ℕ) → read s ≡ Some (x, rest)
+      → (t : List ℕ) × writes x t × (s ≡ t ++ rest)
+
+pub record WholeCodec
+    {A : Type 0}
+    (legal : A → Bool)
+    (text : A → List ℕ)
+    (writes : A → List ℕ → Type 0)
+    (read : List ℕ → Option A) : Type 0 where
+  pub own : (x : A) → legal x ≡ true → writes x (text x)
+  pub told : (x : A) (t : List ℕ) → writes x t → legal x ≡ true
+  pub back : (x : A) (s : List ℕ) → writes x s → read s ≡ Some x
+  pub sound : (s : List ℕ) (x : A) → read s ≡ Some x → writes x s
+
+abbrev pub taken : {A : Type 0} → Option (A × Bor (List ℕ)) → Option (A × List ℕ)
+taken None = None
+taken (Some x) = Some (x.0, x.1.now)

@@ -1,0 +1,27 @@
+-- The six digits of the errors (RULES, Commands; PJLink 1.04, 4.7).
+--   is_error_digit d     0 no error or not known, 1 a warning, 2 an error
+--   is_errors ds         six of them
+--   errors_text ds       their characters
+--   errors_read s        the six at the front of s
+-- Assumes nothing.
+use Rattle.std.specs.Prelude.{ℕ, ◌-◌, Bool, ◌&&◌, List, map, length, leb, eqb, Option, Some, None, if◌then◌else◌}
+use Prim.Native.Char.{code}
+use Rattle.text.specs.Words.{◌from◌to◌}
+use Rattle.text.specs.Scans.{every}
+use Rattle.words.specs.Codec.{letter, counted}
+use Rattle.words.specs.Inputs.{numberDigit}
+
+abbrev pub is_error_digit : ℕ → Bool
+is_error_digit d = leb d 2
+
+abbrev pub is_errors : List ℕ → Bool
+is_errors ds = eqb (length ds) 6 && every is_error_digit ds
+
+abbrev pub error_named : ℕ → Option ℕ
+error_named b = if b from "0" to "2" then Some (b - code "0") else None
+
+abbrev pub errors_text : List ℕ → List ℕ
+errors_text ds = map numberDigit ds
+
+abbrev pub errors_read : List ℕ → Option (List ℕ × List ℕ)
+errors_read s = counted 6 (letter error_named) s

@@ -1,0 +1,39 @@
+-- Lists: their things joined by single spaces (RULES, Commands: "lamps joined by spaces", "inputs .. joined by
+-- spaces").
+--   list_text text xs     as our own side says them
+--   JoinedBy W xs s       s is one or more things, joined, each in one of the forms that W has for it
+--   listed read n s       the things that all of s says, one to n of them
+--   is_list legal n xs    one to n things, each legal
+--   WritesList W n xs s   s is such a list of at most n things
+-- Assumes nothing.
+use Rattle.std.specs.Prelude.{ℕ, zero, suc, ◌≡◌, ◌≤◌, Bool, ◌&&◌, List, [], ◌∷◌, ◌++◌, length, leb}
+use Rattle.std.specs.Prelude.{Option, Some, None, if◌then◌else◌}
+use Rattle.std.specs.List.{flat_map}
+use Prim.Native.Char.{code}
+use Rattle.text.specs.Words.{◌is◌}
+use Rattle.text.specs.Scans.{every}
+use Rattle.words.specs.Codec.{◌>>=◌}
+
+abbrev pub list_text : {A : Type 0} → (A → List ℕ) → List A → List ℕ
+list_text text [] = []
+list_text text (x ∷ xs) = text x ++ flat_map (λ y. code " " ∷ text y) xs
+
+abbrev pub JoinedBy : {A : Type 0} → (A → List ℕ → Type 0) → List A → List ℕ → Type 0
+JoinedBy W [] s = ⊥
+JoinedBy W (x ∷ []) s = W x s
+JoinedBy W (x ∷ y ∷ xs) s =
+    (t : List ℕ) × (rest : List ℕ) × W x t × JoinedBy W (y ∷ xs) rest × (s ≡ t ++ code " " ∷ rest)
+
+abbrev pub following : {A : Type 0} → A → (List ℕ → Option (List A)) → List ℕ → Option (List A)
+following x more [] = Some (x ∷ [])
+following x more (b ∷ s) = if b is " " then (more s >>= λ xs. Some (x ∷ xs)) else None
+
+abbrev pub listed : {A : Type 0} → (List ℕ → Option (A × List ℕ)) → ℕ → List ℕ → Option (List A)
+listed read zero s = None
+listed read (suc n) s = read s >>= λ r. following r.0 (listed read n) r.1
+
+abbrev pub is_list : {A : Type 0} → (A → Bool) → ℕ → List A → Bool
+is_list legal n xs = leb 1 (length xs) && leb (length xs) n && every legal xs
+
+abbrev pub WritesList : {A : Type 0} → (A → List ℕ → Type 0) → ℕ → List A → List ℕ → Type 0
+WritesList W n xs s = (length xs ≤ n) × JoinedBy W xs s

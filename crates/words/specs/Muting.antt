@@ -1,0 +1,26 @@
+-- The mutes of video and audio (RULES, Commands; PJLink 1.04, 4.6).
+--   mutes_text m     11 video only, 21 audio only, 31 both, 30 neither
+--   mutes_read s     the mutes at the front of s
+-- Assumes nothing.
+use Rattle.std.specs.Prelude.{ℕ, Bool, true, false, List, [], ◌∷◌, Option}
+use Rattle.text.specs.Words.{ascii}
+use Rattle.words.specs.Codec.{spelled}
+use Rattle.words.specs.declared.mutes.Mutes.{Mutes}
+
+abbrev pub halves_text : Bool → Bool → List ℕ
+halves_text true false = ascii "11"
+halves_text false true = ascii "21"
+halves_text true true = ascii "31"
+halves_text false false = ascii "30"
+
+abbrev pub mutes_text : Mutes → List ℕ
+mutes_text m = halves_text m.video m.audio
+
+abbrev pub mutes_of : Bool → Bool → Mutes
+mutes_of video audio = record { video = video; audio = audio }
+
+abbrev pub all_mutes : List Mutes
+all_mutes = mutes_of true false ∷ mutes_of false true ∷ mutes_of true true ∷ mutes_of false false ∷ []
+
+abbrev pub mutes_read : List ℕ → Option (Mutes × List ℕ)
+mutes_read s = spelled mutes_text all_mutes s

@@ -1,0 +1,42 @@
+-- Values of one byte: the power, and what is on or off (RULES, Commands; PJLink 1.04, 4.2; RULES, Class 2).
+--   power_code p      0 off, 1 on, 2 cooling, 3 warm-up: the characters, whatever hex PJLink's text prints for the last
+--                     two
+--   power_text p      that character, and power_read what reads it
+--   switch_code on    1 on, 0 off, with switch_text and switch_read alike
+-- Assumes nothing.
+use Rattle.std.specs.Prelude.{ℕ, Bool, true, false, List, [], ◌∷◌, Option}
+use Prim.Native.Char.{code}
+use Rattle.words.specs.Codec.{named, letter}
+use Rattle.words.specs.declared.power.Power.{Power}
+use Rattle.words.specs.declared.power.Power.TheVariants.{Off, On, Cooling, WarmUp}
+
+abbrev pub power_code : Power → ℕ
+power_code Off = code "0"
+power_code On = code "1"
+power_code Cooling = code "2"
+power_code WarmUp = code "3"
+
+abbrev pub powers : List Power
+powers = Off ∷ On ∷ Cooling ∷ WarmUp ∷ []
+
+abbrev pub power_named : ℕ → Option Power
+power_named b = named power_code powers b
+
+abbrev pub power_text : Power → List ℕ
+power_text p = power_code p ∷ []
+
+abbrev pub power_read : List ℕ → Option (Power × List ℕ)
+power_read s = letter power_named s
+
+abbrev pub switch_code : Bool → ℕ
+switch_code false = code "0"
+switch_code true = code "1"
+
+abbrev pub switch_named : ℕ → Option Bool
+switch_named b = named switch_code (false ∷ true ∷ []) b
+
+abbrev pub switch_text : Bool → List ℕ
+switch_text on = switch_code on ∷ []
+
+abbrev pub switch_read : List ℕ → Option (Bool × List ℕ)
+switch_read s = letter switch_named s

@@ -1,0 +1,32 @@
+-- The four refusals: ERR and a digit (PJLink 1.04, 2.4; RULES, Commands).
+--   refusal_digit r   1 undefined command, 2 out of parameter, 3 unavailable time, 4 failure
+--   refusal_text r     ERR and that digit
+--   refusal_read s     the refusal at the front of s
+-- Assumes nothing.
+use Rattle.std.specs.Prelude.{ℕ, List, [], ◌∷◌, Option}
+use Prim.Native.Char.{code}
+use Rattle.words.specs.Codec.{named, letter, past}
+use Rattle.words.specs.Inputs.{numberDigit}
+use Rattle.words.specs.declared.refusal.Refusal.{Refusal}
+use Rattle.words.specs.declared.refusal.Refusal.TheVariants.{Undefined, OutOfParameter, Unavailable, Failure}
+
+abbrev pub refusal_digit : Refusal → ℕ
+refusal_digit Undefined = 1
+refusal_digit OutOfParameter = 2
+refusal_digit Unavailable = 3
+refusal_digit Failure = 4
+
+abbrev pub refusal_code : Refusal → ℕ
+refusal_code r = numberDigit (refusal_digit r)
+
+abbrev pub refusals : List Refusal
+refusals = Undefined ∷ OutOfParameter ∷ Unavailable ∷ Failure ∷ []
+
+abbrev pub refusal_named : ℕ → Option Refusal
+refusal_named b = named refusal_code refusals b
+
+abbrev pub refusal_text : Refusal → List ℕ
+refusal_text r = code "E" ∷ code "R" ∷ code "R" ∷ refusal_code r ∷ []
+
+abbrev pub refusal_read : List ℕ → Option (Refusal × List ℕ)
+refusal_read s = past "E" (past "R" (past "R" (letter refusal_named))) s

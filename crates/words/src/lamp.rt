@@ -1,0 +1,45 @@
+// A lamp: its hours, a space, and whether it is lit (RULES, Commands; PJLink 1.04, 4.8).
+ghost use Rattle.words.specs.Lamps.{lamp_text, is_lamp_hours, WritesLampHours, lamp_read};
+ghost use Rattle.words.specs.Laws.{lamp_codec};
+
+use crate::codec::{Line, Wire};
+
+/// What a projector tells of one lamp.
+#[derive(Clone, Copy, Default)]
+pub struct LampHours {
+    /// Whole hours for which the lamp has burnt, 0 to 99999.
+    pub hours: u32,
+    /// Whether the lamp burns.
+    pub lit: bool,
+}
+
+impl Wire for LampHours {
+    ghost legal = { is_lamp_hours };
+
+    ghost text = { lamp_text };
+
+    ghost writes = { WritesLampHours };
+
+    ghost read = { lamp_read };
+
+    fn put(self, out: &mut Line) {
+        self.hours.put(out);
+        out.push(b' ');
+        self.lit.put(out);
+    }
+
+    fn take(s: &[u8]) -> Option<(LampHours, &[u8])> {
+        let Some((hours, rest)) = u32::take(s) else {
+            return None;
+        };
+        let [b' ', rest @ ..] = rest else {
+            return None;
+        };
+        let Some((lit, rest)) = bool::take(rest) else {
+            return None;
+        };
+        Some((LampHours { hours, lit }, rest))
+    }
+
+    ghost codec = { lamp_codec };
+}

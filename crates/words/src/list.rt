@@ -1,0 +1,41 @@
+// Lists: their things joined by single spaces (RULES, Commands: "joined by spaces").
+ghost use Rattle.std.specs.Prelude.{◌≡◌, ◌+◌, ◌≤◌, ◌++◌, length};
+ghost use Rattle.std.specs.Option.{option_map};
+ghost use Rattle.arrayvec.specs.ArrayVec.{array_vec_len};
+ghost use Rattle.words.specs.Joined.{list_text, listed};
+
+use crate::codec::{LINE_MOST, Line, Wire};
+use arrayvec::ArrayVec;
+
+/// Puts the things of `xs`, a space between any two.
+pub fn put_list<T: Wire>(xs: &[T], out: &mut Line)
+    requires { array_vec_len out.old + length (list_text T.text xs.now) ≤ LINE_MOST }
+    ensures { out.new.items ≡ out.old.items ++ list_text T.text xs.now }
+{
+    let [first, rest @ ..] = xs else {
+        return;
+    };
+    first.put(out);
+    for x in rest {
+        out.push(b' ');
+        x.put(out);
+    }
+}
+
+/// The things that all of `s` says, one to N of them.
+pub fn parse_list<T: Wire + Default, const N: usize>(s: &[u8]) -> Option<ArrayVec<T, N>>
+    ensures { option_map (λ v. v.items) result ≡ listed T.read N s.now }
+{
+    let mut xs = ArrayVec::new();
+    let mut rest = s;
+    for _k in 0..N {
+        let (x, after) = T::take(rest)?;
+        xs.push(x);
+        match after {
+            [] => return Some(xs),
+            [b' ', more @ ..] => rest = more,
+            _ => return None,
+        }
+    }
+    None
+}

@@ -1,0 +1,50 @@
+// A number in decimal, as the hours of a lamp are written and read (RULES, Commands and Controller).
+ghost use Rattle.std.specs.Prelude.{◌≡◌, ◌≤◌, length};
+ghost use Rattle.numbers.specs.Decimal.{digits, WritesNumber};
+ghost use Rattle.words.specs.Numerals.{is_numeral, figures, number_read};
+ghost use Rattle.words.specs.Laws.{number_codec};
+
+use crate::codec;
+use crate::codec::{Line, Wire};
+
+// A u32 has at most ten digits.
+const MOST_DIGITS: usize = 10;
+
+// How many digits stand at the front.
+fn figures(s: &[u8]) -> usize
+    ensures value { result ≡ figures s.now }
+    ensures within { result ≤ length s.now }
+{
+    for (i, &b) in s.iter().enumerate() {
+        if !numbers::is_digit(b) {
+            return i;
+        }
+    }
+    s.len()
+}
+
+impl Wire for u32 {
+    ghost legal = { is_numeral };
+
+    ghost text = { digits };
+
+    ghost writes = { WritesNumber };
+
+    ghost read = { number_read };
+
+    fn put(self, out: &mut Line) {
+        let mut all = [0; MOST_DIGITS];
+        let n = numbers::put_number(&mut all, 0, self);
+        codec::put_all(&all[..n], out);
+    }
+
+    fn take(s: &[u8]) -> Option<(u32, &[u8])> {
+        let (figures, rest) = s.split_at(figures(s));
+        let Some(n) = numbers::read_number(figures) else {
+            return None;
+        };
+        Some((n, rest))
+    }
+
+    ghost codec = { number_codec };
+}

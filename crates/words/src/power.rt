@@ -1,0 +1,113 @@
+// Values of one byte: the power, and what is on or off (RULES, Commands).
+ghost use Rattle.std.specs.Prelude.{◌≡◌, true};
+ghost use Rattle.words.specs.Codec.{Plain};
+ghost use Rattle.words.specs.Powers.{power_code, power_named, power_text, power_read};
+ghost use Rattle.words.specs.Powers.{switch_code, switch_named, switch_text, switch_read};
+ghost use Rattle.words.specs.Laws.{power_codec, switch_codec};
+
+use crate::codec::{Line, Wire};
+
+/// The power as a projector tells it.
+#[derive(Clone, Copy)]
+pub enum Power {
+    /// The lamps are off.
+    Off,
+    /// The lamps burn.
+    On,
+    /// The lamps have gone out and cool.
+    Cooling,
+    /// The lamps have been switched on and warm up.
+    WarmUp,
+}
+
+fn power_code(p: Power) -> u8
+    ensures { result ≡ power_code p }
+{
+    match p {
+        Power::Off => b'0',
+        Power::On => b'1',
+        Power::Cooling => b'2',
+        Power::WarmUp => b'3',
+    }
+}
+
+fn power_named(b: u8) -> Option<Power>
+    ensures { result ≡ power_named b }
+{
+    match b {
+        b'0' => Some(Power::Off),
+        b'1' => Some(Power::On),
+        b'2' => Some(Power::Cooling),
+        b'3' => Some(Power::WarmUp),
+        _ => None,
+    }
+}
+
+impl Wire for Power {
+    ghost legal = { λ _. true };
+
+    ghost text = { power_text };
+
+    ghost writes = { Plain (λ _. true) power_text };
+
+    ghost read = { power_read };
+
+    fn put(self, out: &mut Line) {
+        out.push(power_code(self));
+    }
+
+    fn take(s: &[u8]) -> Option<(Power, &[u8])> {
+        let [b, rest @ ..] = s else {
+            return None;
+        };
+        let Some(p) = power_named(*b) else {
+            return None;
+        };
+        Some((p, rest))
+    }
+
+    ghost codec = { power_codec };
+}
+
+/// The digit of what is on or off: 1 and 0.
+pub fn switch_code(on: bool) -> u8
+    ensures { result ≡ switch_code on }
+{
+    if on { b'1' } else { b'0' }
+}
+
+fn switch_named(b: u8) -> Option<bool>
+    ensures { result ≡ switch_named b }
+{
+    match b {
+        b'0' => Some(false),
+        b'1' => Some(true),
+        _ => None,
+    }
+}
+
+impl Wire for bool {
+    ghost legal = { λ _. true };
+
+    ghost text = { switch_text };
+
+    ghost writes = { Plain (λ _. true) switch_text };
+
+    ghost read = { switch_read };
+
+    fn put(self, out: &mut Line) {
+        out.push(switch_code(self));
+    }
+
+    fn take(s: &[u8]) -> Option<(bool, &[u8])> {
+        let [b, rest @ ..] = s else {
+            return None;
+        };
+        let Some(on) = switch_named(*b) else {
+            return None;
+        };
+        Some((on, rest))
+    }
+
+    ghost codec = { switch_codec };
+}
