@@ -14,10 +14,10 @@ ghost use Rattle.burnt.specs.Told.{LineFails};
 
 use floorlog::playing;
 use floorlog::playing::KEPT_ROOM;
-use lamplines::{LAMPS, Totals};
-use page::Stretch;
 use record::types::Device;
 use report::Report;
+use report::lamps::{LAMPS, Totals};
+use report::page::Stretch;
 use std::io;
 use textio::lines::Failure;
 use textio::reader::{ByteSource, Reader};

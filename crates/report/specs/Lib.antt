@@ -1,1 +1,4 @@
+pub mod LampLines
+pub mod Days
+pub mod Frame
 pub mod Reports
