@@ -8,10 +8,9 @@ use Prim.Native.Nat.{ℕ, ◌^◌, ◌≤◌, ◌<◌}
 use mathlib.Core.Path.{◌≡◌, sym, ap, subst}
 use mathlib.Core.Bool.{true, false}
 use mathlib.Core.List.{List}
-use Rattle.std.specs.Prelude.{Option, Some}
+use Rattle.std.specs.Prelude.{Option, Some, Ok}
 use Rattle.pjlink.specs.Commands.{commandClass}
 use Rattle.pjlink.specs.declared.command.Command.{Command}
-use Rattle.pjlink.specs.declared.request.Request.TheVariants.{Asks}
 use Rattle.record.specs.Limits.{placesCount, awaiting, opened}
 use Rattle.record.specs.Legal.{isLegal}
 use Rattle.record.specs.Places.{connectionAt, lowestShut}
@@ -35,7 +34,7 @@ pub record Told (d : Device) (p : ℕ) (m : Option Command) (c : Command) (w : W
     : Type 0 where
   pub written : w.number ≡ 0
   pub taken : TakenAndRead d p c w.bytes r
-  pub read : read_by m r.reply ≡ saidFlat (meant d.settings d.own (Asks c))
+  pub read : read_by m r.reply ≡ saidFlat (meant d.settings d.own (Ok c))
 
 module _ (d : Device) (p : ℕ) (there : p < placesCount) (legal : isLegal d ≡ true)
     (between : (connectionAt d p).line ≡ emptyLine)

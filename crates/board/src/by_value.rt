@@ -7,6 +7,7 @@ ghost use Rattle.record.specs.Wanted.{wantedOf, wantedOf2, namesIn};
 ghost use Rattle.record.specs.SetUp.{setUp};
 ghost use Rattle.record.specs.HostCalls.{faultSet, errorsSet, markSet};
 ghost use Rattle.record.specs.Given.{given_by, set_up_given};
+ghost use Rattle.setup.specs.Lent.{wanted_settings};
 ghost use Rattle.clock.specs.Passing.{passed};
 ghost use Rattle.device.specs.Calls.{received, openedBy, placeTaken, closedBy};
 ghost use Rattle.board.specs.Results.{received_of, opened_of, changed_of, closing_given};
@@ -14,23 +15,20 @@ ghost use Rattle.board.specs.Results.{received_of, opened_of, changed_of, closin
 use crate::projector;
 use crate::results::{Changed, Opened, Opening, Received, Receiving};
 use record::fresh;
-use record::set_up_error::SetUpError;
 use record::types::Device;
-use setup::wanted::{Class, Wanted};
+use setup::wanted::{Class, Names, Wanted};
 
-// What set-up gave: the blank record where it is refused. Not put into its callers: its copies of the record would lie
-// on the stack while set-up runs. So `told` of `forms`.
+// Not put into its callers: its copy of the record would lie on their stack.
 #[inline(never)]
-fn told(made: Result<Device, SetUpError>) -> Changed
-    ensures { result ≡ changed_of (set_up_given made) }
+fn set_up(wanted: &Wanted<'_>) -> Changed
+    ensures { result ≡ changed_of (set_up_given (setUp (wanted_settings wanted.now))) }
 {
-    match made {
-        Ok(device) => Changed { number: 0, device },
-        Err(error) => Changed {
-            number: error.number(),
-            device: fresh::blank(),
-        },
-    }
+    let mut changed = Changed {
+        number: 0,
+        device: fresh::blank(),
+    };
+    changed.number = projector::set_up_in(&mut changed.device, wanted);
+    changed
 }
 
 #[unsafe(no_mangle)]
@@ -49,7 +47,7 @@ pub extern "C" fn pj_set_up<'a>(
         password.now inputs.now lamps.now warm cool))) }
 {
     let class = Class::One;
-    told(setup::set_up(&Wanted {
+    set_up(&Wanted {
         name,
         maker,
         model,
@@ -60,7 +58,7 @@ pub extern "C" fn pj_set_up<'a>(
         warm,
         cool,
         class,
-    }))
+    })
 }
 
 #[unsafe(no_mangle)]
@@ -86,10 +84,12 @@ pub extern "C" fn pj_set_up_2<'a>(
     let class = Class::Two {
         serial,
         version,
-        names,
-        lengths,
+        names: Names::Row {
+            bytes: names,
+            lengths,
+        },
     };
-    told(setup::set_up(&Wanted {
+    set_up(&Wanted {
         name,
         maker,
         model,
@@ -100,7 +100,7 @@ pub extern "C" fn pj_set_up_2<'a>(
         warm,
         cool,
         class,
-    }))
+    })
 }
 
 #[unsafe(no_mangle)]

@@ -1,18 +1,16 @@
 // The stored form: settings that survive a board swap (RULES, Stored form).
 ghost use Rattle.std.specs.Prelude.{◌≡◌, length};
 ghost use Rattle.text.specs.Words.{over};
-ghost use Rattle.form.specs.Form.{storedBy, toldStored};
+ghost use Rattle.stored.specs.Form.{storedBy, toldStored};
 ghost use Rattle.stored.specs.Loading.{loaded};
-ghost use Rattle.stored.specs.Told.{loading_told};
 ghost use Rattle.board.specs.Results.{changed_of};
 
 use crate::results::Changed;
-use form::storing;
-use form::storing::FormWritten;
 use record::fresh;
 use record::types::Device;
-use stored::error::LoadError;
 use stored::loading;
+use stored::storing;
+use stored::storing::FormWritten;
 
 /// The record's form into the lent memory: 1 and 2 in that order.
 #[unsafe(no_mangle)]
@@ -32,44 +30,16 @@ pub extern "C" fn pj_store(d: Device, out: &mut [u8]) -> FormWritten
     storing::store(&d, out)
 }
 
-// What loading gave, into the host's record: the blank one where it is refused.
-fn fill(device: &mut Device, made: Result<Device, LoadError>) -> u32
-    ensures number { result ≡ (loading_told made).number }
-    ensures device { device.new ≡ (loading_told made).device }
-{
-    match made {
-        Ok(made) => {
-            *device = made;
-            0
-        }
-        Err(error) => {
-            *device = fresh::blank();
-            error.number()
-        }
-    }
-}
-
-// The same by value.
-#[inline(never)]
-fn told(made: Result<Device, LoadError>) -> Changed
-    ensures { result ≡ changed_of (loading_told made) }
-{
-    match made {
-        Ok(device) => Changed { number: 0, device },
-        Err(error) => Changed {
-            number: error.number(),
-            device: fresh::blank(),
-        },
-    }
-}
-
 /// The device that the form is of, into the record; the blank one where it is refused, with 20 to 23.
 #[unsafe(no_mangle)]
 pub extern "C" fn pj_load_in_place(device: &mut Device, bytes: &[u8]) -> u32
     ensures number { result ≡ (loaded bytes.now).number }
     ensures device { device.new ≡ (loaded bytes.now).device }
 {
-    fill(device, loading::load(bytes))
+    match loading::load_in(device, bytes) {
+        Ok(()) => 0,
+        Err(error) => error.number(),
+    }
 }
 
 /// The same, by value.
@@ -77,5 +47,10 @@ pub extern "C" fn pj_load_in_place(device: &mut Device, bytes: &[u8]) -> u32
 pub extern "C" fn pj_load(bytes: &[u8]) -> Changed
     ensures { result ≡ changed_of (loaded bytes.now) }
 {
-    told(loading::load(bytes))
+    let mut changed = Changed {
+        number: 0,
+        device: fresh::blank(),
+    };
+    changed.number = pj_load_in_place(&mut changed.device, bytes);
+    changed
 }

@@ -10,6 +10,7 @@ ghost use Rattle.record.specs.Record.{blank};
 ghost use Rattle.record.specs.Refusals.{outcome_number};
 ghost use Rattle.record.specs.SetUpErrors.{set_up_number};
 ghost use Rattle.record.specs.Given.{left_by};
+ghost use Rattle.setup.specs.Lent.{wanted_settings};
 ghost use Rattle.clock.specs.Passing.{passed};
 ghost use Rattle.device.specs.Calls.{received, openedBy, placeTaken, closedBy};
 ghost use Rattle.device.specs.Outcomes.{told};
@@ -18,25 +19,18 @@ ghost use Rattle.board.specs.Results.{receiving_of, opening_of};
 use crate::results::{Opening, Receiving};
 use clock::pass;
 use device::calls;
-use record::set_up_error::SetUpError;
 use record::types::Device;
-use record::{fresh, refusal};
-use setup::wanted::{Class, Wanted};
+use record::refusal;
+use setup::wanted::{Class, Names, Wanted};
 
-// What set-up gave, into the host's record: the blank one where it is refused.
-fn fill(device: &mut Device, made: Result<Device, SetUpError>) -> u32
-    ensures number { result ≡ set_up_number made }
-    ensures device { device.new ≡ left_by blank made }
+// Sets the host's record up, and tells the number: where it is refused, the record is the blank one.
+pub fn set_up_in(device: &mut Device, wanted: &Wanted<'_>) -> u32
+    ensures number { result ≡ set_up_number (setUp (wanted_settings wanted.now)) }
+    ensures device { device.new ≡ left_by blank (setUp (wanted_settings wanted.now)) }
 {
-    match made {
-        Ok(made) => {
-            *device = made;
-            0
-        }
-        Err(error) => {
-            *device = fresh::blank();
-            error.number()
-        }
+    match setup::set_up_in(device, wanted) {
+        Ok(()) => 0,
+        Err(error) => error.number(),
     }
 }
 
@@ -60,7 +54,7 @@ pub extern "C" fn pj_set_up_in_place<'a>(
         password.now inputs.now lamps.now warm cool)) }
 {
     let class = Class::One;
-    let made = setup::set_up(&Wanted {
+    set_up_in(device, &Wanted {
         name,
         maker,
         model,
@@ -71,8 +65,7 @@ pub extern "C" fn pj_set_up_in_place<'a>(
         warm,
         cool,
         class,
-    });
-    fill(device, made)
+    })
 }
 
 /// Set-up of Class 2 into the record: the names one after the other, each of its length. 3, then 8.
@@ -103,10 +96,12 @@ pub extern "C" fn pj_set_up_2_in_place<'a>(
     let class = Class::Two {
         serial,
         version,
-        names,
-        lengths,
+        names: Names::Row {
+            bytes: names,
+            lengths,
+        },
     };
-    let made = setup::set_up(&Wanted {
+    set_up_in(device, &Wanted {
         name,
         maker,
         model,
@@ -117,8 +112,7 @@ pub extern "C" fn pj_set_up_2_in_place<'a>(
         warm,
         cool,
         class,
-    });
-    fill(device, made)
+    })
 }
 
 /// Whether the record is legal.

@@ -1,5 +1,6 @@
 // What is proved beside the contracts of the functions. Nothing is done here: that these functions have their contracts
 // is that the theorems stand.
+ghost use Rattle.std.specs.Prelude.{Ok};
 ghost use Rattle.std.specs.Prelude.{◌≡◌, ◌<◌, ◌≤◌, ◌^◌, ℕ, ℤ, true, List, false, length, Bool, Option, Some, Result};
 ghost use Rattle.record.specs.declared.types.Device.{Device};
 ghost use Rattle.record.specs.Limits.{placesCount, opened, awaiting};
@@ -15,7 +16,6 @@ ghost use Rattle.controller.specs.Writing.{commandRoom, toldWritten};
 ghost use Rattle.board.specs.Face.{written_by, read_by};
 ghost use Rattle.codes.specs.Readings.{saidFlat, flatGreeting};
 ghost use Rattle.meaning.specs.Meaning.{meant};
-ghost use Rattle.pjlink.specs.declared.request.Request.TheVariants.{Asks};
 ghost use Rattle.device.specs.Receiving.{passwordOf};
 ghost use Rattle.controller.specs.Greetings.{readGreeting, greetedOn};
 ghost use Rattle.day.specs.declared.check.CheckError.{CheckError};
@@ -52,7 +52,7 @@ pub fn the_face_reads_back()
         → let w = written_by (commandOf k) false random password memory in
         let r = received d p w.bytes room in
         (w.number ≡ 0) × (r.taken ≡ length w.bytes)
-        × (read_by (commandOf k) r.reply ≡ saidFlat (meant d.settings d.own (Asks c))) }
+        × (read_by (commandOf k) r.reply ≡ saidFlat (meant d.settings d.own (Ok c))) }
     ensures read_back_secured { (d : Device) (p : ℕ) → p < placesCount → isLegal d ≡ true
         → (connectionAt d p).line ≡ emptyLine → (k : Coded) (c : Command) → commandOf k ≡ Some c
         → commandClass c ≤ d.settings.class_number
@@ -61,7 +61,7 @@ pub fn the_face_reads_back()
         → let w = written_by (commandOf k) true (connectionAt d p).random (passwordOf d.settings) memory in
         let r = received d p w.bytes room in
         (w.number ≡ 0) × (r.taken ≡ length w.bytes)
-        × (read_by (commandOf k) r.reply ≡ saidFlat (meant d.settings d.own (Asks c))) }
+        × (read_by (commandOf k) r.reply ≡ saidFlat (meant d.settings d.own (Ok c))) }
     ensures greeting { (d : Device) (random room : ℕ) → isLegal d ≡ true → lowestShut d.connections < placesCount
         → replyRoom ≤ room → random < 2 ^ 32 → let o = openedBy d random room in
         flatGreeting (readGreeting o.reply) ≡ flatGreeting (greetedOn (connectionAt o.device (placeTaken d room))) }

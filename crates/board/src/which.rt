@@ -6,7 +6,7 @@ ghost use Rattle.record.specs.SetUpErrors.{setting_told};
 ghost use Rattle.board.specs.Which.{settingNumber};
 
 use record::set_up_error::SetUpError;
-use setup::wanted::{Class, Wanted};
+use setup::wanted::{Class, Names, Wanted};
 
 // The setting for which it refuses, or 0.
 fn number_of(checked: Result<(), SetUpError>) -> u32
@@ -77,8 +77,10 @@ pub extern "C" fn pj_which_setting_2<'a>(
     let class = Class::Two {
         serial,
         version,
-        names,
-        lengths,
+        names: Names::Row {
+            bytes: names,
+            lengths,
+        },
     };
     let wanted = Wanted {
         name,

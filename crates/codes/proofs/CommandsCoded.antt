@@ -12,7 +12,7 @@ use Rattle.pjlink.specs.Commands.{isCommand}
 use Rattle.words.specs.declared.input.Source.{Source}
 use Rattle.words.specs.declared.input.Source.TheVariants.{Rgb, Video, Digital, Storage, Network, Internal}
 use Rattle.words.specs.declared.input.Input.{Input}
-use Rattle.pjlink.specs.declared.command.Body.{Body}
+use Rattle.pjlink.specs.declared.body.Body.{Body}
 use Rattle.pjlink.specs.declared.command.Half.{Half}
 use Rattle.pjlink.specs.declared.command.Half.TheVariants.{VideoHalf, AudioHalf, BothHalves}
 use Rattle.pjlink.specs.declared.command.Volume.TheVariants.{Speaker, Microphone}

@@ -2,7 +2,8 @@
 ghost use Rattle.std.specs.Prelude.{◌≡◌};
 ghost use Rattle.codes.specs.Commands.{switch_at, source_at, input_at, half_at, commandOf};
 
-use pjlink::command::{Body, Command, Half, Volume};
+use pjlink::body::Body;
+use pjlink::command::{Command, Half, Volume};
 use words::input::{Input, Source};
 
 /// A command by its code (`pj_command`). What a code does not use is passed over.

@@ -123,7 +123,7 @@ impl FlatReading {
         flat
     }
 
-    #[tactic(auto, unfolding(pjlink::specs::Said::saidBytes))]
+    #[tactic(auto, using(pjlink::proofs::SaidRows::said_row))]
     fn said(a: &Answer<'_>) -> FlatReading
         requires { length (saidBytes (answer_said a.now)) ≤ parameterMost }
         ensures { result ≡ saidFlat (answer_said a.now) }

@@ -11,10 +11,10 @@ use mathlib.Core.Bool.{Bool, true, false}
 use mathlib.Core.List.{List}
 use lib.ListN.{length, take, drop}
 use lib.Seq.{take-append_seam}
+use Rattle.std.specs.Prelude.{Ok}
 use Rattle.text.specs.Words.{over}
 use Rattle.pjlink.specs.Commands.{commandClass, isCommand}
 use Rattle.pjlink.specs.declared.command.Command.{Command}
-use Rattle.pjlink.specs.declared.request.Request.TheVariants.{Asks}
 use Rattle.record.specs.Limits.{placesCount, awaiting, opened}
 use Rattle.record.specs.Legal.{isLegal}
 use Rattle.record.specs.Places.{connectionAt, withPlace, lowestShut}
@@ -44,8 +44,8 @@ pub record CalledBack (d : Device) (p : ℕ) (c : Command) (w : Written) (r : To
   pub wrote : w.number ≡ 0
   pub number : r.number ≡ 0
   pub taken : r.taken ≡ w.length
-  pub device : e ≡ withPlace d (done d.settings d.own (Asks c)) p (turned (connectionAt d p) opened)
-  pub read : x ≡ meaning (meant d.settings d.own (Asks c))
+  pub device : e ≡ withPlace d (done d.settings d.own (Ok c)) p (turned (connectionAt d p) opened)
+  pub read : x ≡ meaning (meant d.settings d.own (Ok c))
 
 -- paper is the memory lent to the writer, out that lent to the projector; m and n are what the calls leave in them
 module _ (d : Device) (p : ℕ) (c : Command)

@@ -15,7 +15,7 @@ use Rattle.words.specs.Texts.{isPassword}
 use Rattle.pjlink.specs.Commands.{isCommand, bodyOf, commandClass, commandLine}
 use Rattle.pjlink.specs.Forms.{erraLine, greetingOpen, greetingSecured, isReplyForm, headBody, replyParameter}
 use Rattle.pjlink.specs.declared.command.Command.{Command}
-use Rattle.pjlink.specs.Requests.{isBody}
+use Rattle.pjlink.specs.Bodies.{isBody}
 use Rattle.pjlink.specs.Reading.{readParameter}
 use Rattle.controller.specs.Writing.{WrittenAs, nothingWritten, commandRoom, isWritable, ledBy, writtenCommand}
 use Rattle.controller.specs.Reading.{ReadAs, without, saying, readReply}

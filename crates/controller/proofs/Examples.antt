@@ -5,7 +5,7 @@ use mathlib.Core.Bool.{true, false}
 use mathlib.Core.List.{[]}
 use Rattle.text.specs.Words.{ascii}
 use Rattle.pjlink.specs.Computing.{computing as pjlink}
-use Rattle.pjlink.specs.declared.command.Body.TheVariants.{Powr, Name}
+use Rattle.pjlink.specs.declared.body.Body.TheVariants.{Powr, Name}
 use Rattle.pjlink.specs.declared.command.Command.TheVariants.{PowerSet, Query}
 use Rattle.pjlink.specs.Said.{okay, powerIs}
 use Rattle.words.specs.declared.power.Power.TheVariants.{WarmUp}

@@ -1,6 +1,7 @@
 -- Whatever is read of a line has a parameter of at most 128 bytes.
 -- Assumes nothing.
 use Prim.Native.Nat.{ℕ, ◌≤◌}
+use mathlib.Core.Path.{ap}
 use mathlib.Core.List.{List}
 use native.Mathlib.Omega.{arith}
 use lib.ListN.{length}
@@ -8,12 +9,12 @@ use Rattle.pjlink.specs.declared.command.Command.{Command}
 use Rattle.pjlink.specs.Said.{Said, nothing, saidBytes, parameterMost}
 use Rattle.pjlink.proofs.ReadSound.{CanRead, answer, no_answer, read-sound}
 use Rattle.pjlink.proofs.SaidPlain.{said-most}
+use Rattle.pjlink.proofs.SaidRows.{said_row}
 use Rattle.controller.specs.Reading.{readReply}
 use Rattle.controller.proofs.Cases.{reply-by}
 
 nothing-short : length (saidBytes nothing) ≤ parameterMost
-unfolding saidBytes
-nothing-short = omega arith
+nothing-short = omega (arith, ap (λ (l : List ℕ). length l) (said_row nothing))
 
 read-short : {c : Command} {p : List ℕ} {m : Said} → CanRead c p m → length (saidBytes m) ≤ parameterMost
 read-short (answer said) = said-most said.can

@@ -12,6 +12,7 @@ use mathlib.Core.List.{List, [], ◌∷◌, ◌++◌, append_assoc}
 use native.Mathlib.Omega.{arith}
 use lib.ListN.{length, length-append}
 use lib.Dec.{eqb}
+use Rattle.std.specs.Prelude.{Ok}
 use Rattle.text.specs.Words.{ascii}
 use Rattle.text.specs.Scans.{every}
 use Rattle.digest.specs.Hex.{leadingDigest}
@@ -24,9 +25,8 @@ use Rattle.pjlink.proofs.Bodies.{four, body-spelt}
 use Rattle.words.proofs.Characters.{no-cr-each}
 use Rattle.pjlink.proofs.CommandLines.{command-length, line-length, command-no-cr}
 use Rattle.pjlink.proofs.RepliesReadBack.{reply-not-erra, reply-form, reply-parameter}
-use Rattle.pjlink.specs.Requests.{isBody}
+use Rattle.pjlink.specs.Bodies.{isBody}
 use Rattle.pjlink.proofs.BodiesNamed.{body-named}
-use Rattle.pjlink.specs.declared.request.Request.TheVariants.{Asks}
 use Rattle.pjlink.specs.Said.{Said, nothing, saidBytes}
 use Rattle.pjlink.specs.Reading.{readParameter}
 use Rattle.pjlink.specs.CanSay.{CanSay}
@@ -62,8 +62,8 @@ is-between d p there legal unmarked none =
 pub record TakenAndRead (d : Device) (p : ℕ) (c : Command) (bs : List ℕ) (r : Result Device) : Type 0 where
   pub number : r.number ≡ 0
   pub taken : r.taken ≡ length bs
-  pub device : r.device ≡ withPlace d (done d.settings d.own (Asks c)) p (turned (connectionAt d p) opened)
-  pub said : readReply c r.reply ≡ meaning (meant d.settings d.own (Asks c))
+  pub device : r.device ≡ withPlace d (done d.settings d.own (Ok c)) p (turned (connectionAt d p) opened)
+  pub said : readReply c r.reply ≡ meaning (meant d.settings d.own (Ok c))
 
 -- every answer that a command can have means something
 pub can-mean : {c : Command} {m : Said} → CanSay c m → (saying m).outcome ≡ Means
@@ -111,11 +111,11 @@ module _ (d : Device) (p : ℕ) (there : p < placesCount) (legal : isLegal d ≡
   here = connectionAt d p
 
   abbrev told : Said
-  told = meant d.settings d.own (Asks c)
+  told = meant d.settings d.own (Ok c)
 
   abbrev answer : Answered
   answer = record {
-    own = done d.settings d.own (Asks c);
+    own = done d.settings d.own (Ok c);
     reply = ascii "%" ++ (classDigit (commandClass c) ∷ bodyText (bodyOf c)) ++ ascii "=" ++ saidBytes told
         ++ ascii "\r";
   }
@@ -124,7 +124,7 @@ module _ (d : Device) (p : ℕ) (there : p < placesCount) (legal : isLegal d ≡
   answer-read =
       let settings = legal-settings d legal in
       let own = legal-own d legal in
-      let fits = meant-fits d.settings d.own settings own (Asks c) in
+      let fits = meant-fits d.settings d.own settings own (Ok c) in
       let short = fits.short in
       reply-read c (meant-can-be-said d.settings d.own settings own c) (omega arith) fits.no-cr
 

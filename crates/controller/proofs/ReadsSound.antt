@@ -15,7 +15,7 @@ use Rattle.pjlink.specs.Forms.{erraLine, isReplyForm, headBody, replyParameter}
 use Rattle.pjlink.specs.Commands.{bodyOf, commandClass}
 use Rattle.pjlink.specs.declared.command.Command.{Command}
 use Rattle.pjlink.proofs.RepliesReadBack.{form-not-erra}
-use Rattle.pjlink.specs.Requests.{isBody}
+use Rattle.pjlink.specs.Bodies.{isBody}
 use Rattle.pjlink.specs.Said.{Said, nothing}
 use Rattle.pjlink.specs.CanSay.{CanSay}
 use Rattle.pjlink.specs.Reading.{readParameter}

@@ -16,7 +16,7 @@ use Rattle.text.specs.Scans.{sameBy, itself}
 use Rattle.pjlink.specs.Forms.{erraLine, isReplyForm, headBody, replyParameter}
 use Rattle.pjlink.specs.Commands.{bodyOf, commandClass}
 use Rattle.pjlink.specs.declared.command.Command.{Command}
-use Rattle.pjlink.specs.Requests.{isBody}
+use Rattle.pjlink.specs.Bodies.{isBody}
 use Rattle.pjlink.specs.Said.{Said, nothing}
 use Rattle.pjlink.specs.Carried.{said_by}
 use Rattle.pjlink.specs.Reading.{readParameter}

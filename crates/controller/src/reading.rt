@@ -4,7 +4,7 @@ ghost use Rattle.controller.specs.Reading.{outcome_of, outcomeNumber, readReply,
 
 use pjlink::answer::Reply;
 use pjlink::command::Command;
-use pjlink::{command, form, reply, request};
+use pjlink::{form, reply};
 
 /// What a line says.
 #[derive(Drop)]
@@ -47,22 +47,13 @@ pub fn read_reply(c: Command, line: &[u8]) -> Result<Reading<'_>, Misread>
     if text::same(line, b"PJLINK ERRA\r") {
         return Ok(Reading::Erra);
     }
-    let class = command::command_class(c);
-    if !form::is_reply_form(class, line) {
+    let Some(line) = form::reply(c.class(), line) else {
         return Err(Misread::NotALine);
-    }
-    if !request::is_body(
-        class,
-        line[2],
-        line[3],
-        line[4],
-        line[5],
-        command::body_of(c),
-    ) {
+    };
+    if !c.body().is_named(c.class(), line.letters) {
         return Err(Misread::OtherCommand);
     }
-    let last = line.len() - 1;
-    let Some(said) = reply::read_parameter(c, &line[7..last]) else {
+    let Some(said) = reply::read_parameter(c, line.parameter) else {
         return Err(Misread::NotAllowed);
     };
     Ok(Reading::Means(said))

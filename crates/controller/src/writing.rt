@@ -5,7 +5,6 @@ ghost use Rattle.controller.specs.Writing.{writtenCommand, toldWritten};
 
 use pjlink::command::Command;
 use words::texts;
-use pjlink::command;
 
 #[repr(C)]
 #[derive(Clone, Copy)]
@@ -34,14 +33,14 @@ pub fn write_command(
             length: 0,
         };
     }
-    if !command::is_command(c) {
+    if !c.is_legal() {
         return Written {
             number: 3,
             length: 0,
         };
     }
     if !secured {
-        let length = command::put_command(out, 0, c);
+        let length = c.put(out, 0);
         return Written { number: 0, length };
     }
     if !texts::is_password(password) {
@@ -52,6 +51,6 @@ pub fn write_command(
     }
     let lead = digest::leading_digest(random, password);
     text::put(out, 0, &lead);
-    let length = command::put_command(out, 32, c);
+    let length = c.put(out, 32);
     Written { number: 0, length }
 }

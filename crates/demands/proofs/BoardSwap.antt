@@ -20,13 +20,12 @@ use Rattle.record.specs.declared.types.Device.{Device}
 use Rattle.record.proofs.LegalTold.{own-of-legal}
 use Rattle.record.proofs.MarksTold.{marks-long}
 use Rattle.record.proofs.Started.{started-parts}
-use Rattle.form.specs.Form.{formVersion, markedFormOf, storedOf, marksStored, storedForm, storedBy}
-use Rattle.form.proofs.Results.{stored-told}
+use Rattle.stored.specs.Form.{formVersion, markedFormOf, storedOf, marksStored, storedForm, storedBy}
+use Rattle.stored.proofs.StoringTold.{stored-told}
 use Rattle.stored.specs.Loading.{settingsIn, startedWith, loaded}
-use Rattle.stored.proofs.Results.{accepted-set-up}
+use Rattle.stored.proofs.Results.{accepted-set-up, older-is-class-1}
 use Rattle.stored.proofs.StoredLoads.{stored-in-range, stored-loads as form-again}
 use Rattle.stored.proofs.FormsLoad.{marked-form-loads, marked-form-marks, old-form-loads}
-use Rattle.stored.proofs.Contents.{older-is-class-1}
 use Rattle.stored.proofs.BytesAgain.{Bytes}
 use Rattle.stored.proofs.OneForm.{stored-again, forms-apart}
 use Rattle.ours.specs.Board.{ours, bytesWritten}
@@ -168,7 +167,7 @@ older-loads : (s : List ℕ) → (ours.load s).number ≡ 0 → (s at 0 ≡ form
 older-loads s e other =
     ap (λ (r : Given Device). r.device.settings.class_number) (accepted-set-up s e)
     ∙ ap (λ (d : Device). d.settings.class_number) (started-parts (settingsIn s))
-    ∙ older-is-class-1 s (ne_eqb (s at 0) formVersion other)
+    ∙ older-is-class-1 s (ne_eqb (s at 0) formVersion other) e
 
 pub ours-swap : BoardSwap ours
 ours-swap = record {

@@ -10,10 +10,9 @@ use lib.ListN.{length, take, drop, replicate}
 use lib.Seq.{take-append_seam}
 use lib.Dec.{eqb}
 use borrow.Author.Tests.{eqb-true, eqb-false, eq-eqb, ne_eqb}
-use Rattle.std.specs.Prelude.{if◌then◌else◌}
+use Rattle.std.specs.Prelude.{if◌then◌else◌, Ok}
 use Rattle.text.proofs.Choices.{if_yes}
 use Rattle.pjlink.specs.declared.command.Command.TheVariants.{PowerSet}
-use Rattle.pjlink.specs.declared.request.Request.TheVariants.{Asks}
 use Rattle.pjlink.specs.Said.{okay}
 use Rattle.record.specs.Limits.{isBetween}
 use Rattle.record.specs.Wanted.{Wanted}
@@ -51,8 +50,8 @@ use Rattle.demands.proofs.AgreesThen.{Then, agrees-none, agrees-switched, agrees
 
 module _ (w : Wanted) (s : Settings) (o : Own) (warm : s.warm ≡ w.warm) (cool : s.cool ≡ w.cool) where
   turned : (g : Stage) (wanted : Bool) → o.power ≡ powerOf g → o.left ≡ left_of g
-      → meant s o (Asks (PowerSet wanted)) ≡ okay
-      → Shows (next w g (switched wanted)) (done s o (Asks (PowerSet wanted)))
+      → meant s o (Ok (PowerSet wanted)) ≡ okay
+      → Shows (next w g (switched wanted)) (done s o (Ok (PowerSet wanted)))
   turned (steady true) true p l m = rw (on-otherwise s o m (λ q. omega arith)) (record { power = p; left = l })
   turned (steady true) false p l m = rw (off-when-on s o m p) (record { power = refl; left = cool })
   turned (steady false) true p l m = rw (on-when-off s o m p) (record { power = refl; left = warm })
@@ -81,7 +80,7 @@ module _ {w : Wanted} {g : Stage} {ms : List Bool} {n : ℕ → ℕ} {stream : S
         let yes = ap isPowerOkay said ∙ okay-reply b1 b2 b3 b4 powr in
         let warm = ap (λ (s : Settings). s.warm) a.settings in
         let cool = ap (λ (s : Settings). s.cool) a.settings in
-        let shows : Shows (next w g (switched wanted)) (done d.settings d.own (Asks (PowerSet wanted)))
+        let shows : Shows (next w g (switched wanted)) (done d.settings d.own (Ok (PowerSet wanted)))
         = turned w d.settings d.own warm cool g wanted a.power a.left passed in
         rw (set-seen b1 b2 b3 b4 powr (now p) answer yes wanted line)
         (agrees-switched wanted g

@@ -10,7 +10,7 @@ use native.Mathlib.Omega.{arith}
 use lib.ListN.{length}
 use lib.Dec.{leb}
 use borrow.Author.Tests.{ltb-true, eqb-true}
-use Rattle.std.specs.Prelude.{if◌then◌else◌, Option, unwrap_or}
+use Rattle.std.specs.Prelude.{if◌then◌else◌, Option, unwrap_or, Ok, Err}
 use Rattle.text.specs.Words.{ascii, ◌is◌}
 use Rattle.text.proofs.Choices.{if_yes, if_no, if-by, if-all}
 use Rattle.words.specs.Bytes.{◌at◌, noCr}
@@ -19,14 +19,14 @@ use Rattle.words.specs.declared.input.Input.{Input}
 use Rattle.pjlink.specs.Forms.{headBody, commandParameter, isCommandForm, classNamed, replyLine}
 use Rattle.words.specs.Bytes.{commandMost}
 use Rattle.pjlink.specs.ClassOne.{isCommandForm1}
-use Rattle.pjlink.specs.declared.command.Body.TheVariants.{Inpt}
+use Rattle.pjlink.specs.declared.body.Body.TheVariants.{Inpt}
 use Rattle.pjlink.specs.declared.command.Command.TheVariants.{InputSet}
 use Rattle.words.proofs.InputsReadBack.{named-text}
 use Rattle.words.proofs.SourcesFollowed.{named-stands}
 use Rattle.pjlink.proofs.ClassOneKept.{form-kept, class-byte-1}
 use Rattle.pjlink.specs.Requests.{requestOf}
-use Rattle.pjlink.specs.declared.request.Request.{Request}
-use Rattle.pjlink.specs.declared.request.Request.TheVariants.{Asks, Unlisted}
+use Rattle.pjlink.specs.Requests.{Request}
+use Rattle.pjlink.specs.declared.request.Unasked.TheVariants.{Unlisted}
 use Rattle.pjlink.proofs.ClassOneAsked.{KeptAs, as_before, of-class-2, asked-kept}
 use Rattle.pjlink.specs.Said.{saidBytes}
 use Rattle.record.specs.Legal.{isLegal, isSettings}
@@ -95,8 +95,8 @@ module _ (s : Settings) (o : Own) where
     same_asked : {r q : Request} → KeptAs r q → Same r q
     same_asked (as_before e) = (ap (meant s o) e, ap (done s o) e)
     same_asked (of-class-2 a b named other now before) =
-        let r = Asks (InputSet (inputNamed a b)) in
-        let q = Unlisted Inpt in
+        let r = Ok (InputSet (inputNamed a b)) in
+        let q = Err (Unlisted Inpt) in
         let out = ap not (unlisted s settings a b named (ap (λ (k : ℕ). isInputText k a b) one ∙ other)) in (
           ap (meant s o) now ∙ err2 s o r refl out ∙ sym (err2 s o q refl refl) ∙ ap (meant s o) (sym before),
           ap (done s o) now ∙ nothing-done r refl out ∙ sym (nothing-done q refl refl) ∙ ap (done s o) (sym before),

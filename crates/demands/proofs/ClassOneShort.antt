@@ -11,20 +11,21 @@ use native.Mathlib.Omega.{arith}
 use lib.ListN.{length, get_or, drop, length-append, get_or-eq_default}
 use lib.Dec.{eqb}
 use borrow.Author.Tests.{not-false}
+use Rattle.std.specs.Prelude.{Ok, Err}
 use Rattle.text.specs.Scans.{every}
 use Rattle.text.proofs.Orders.{le-or-lt}
 use Rattle.text.proofs.Scanning.{every-at}
-use Rattle.pjlink.specs.Bodies.{hasSet, hasParameters, hasQuery, rowOf}
+use Rattle.pjlink.specs.Bodies.{hasSet, hasParameters, hasQuery, row_of}
 use Rattle.pjlink.specs.Commands.{bodyOf}
 use Rattle.words.specs.Texts.{isText, inputNameMost}
-use Rattle.pjlink.specs.declared.command.Body.{Body}
+use Rattle.pjlink.specs.declared.body.Body.{Body}
 use Rattle.pjlink.specs.declared.command.Volume.TheVariants.{Speaker, Microphone}
 use Rattle.pjlink.specs.declared.command.Command.{Command}
 use Rattle.pjlink.specs.declared.command.Command.TheVariants.{PowerSet, InputSet, MuteSet, InputSet2, FreezeSet}
 use Rattle.pjlink.specs.declared.command.Command.TheVariants.{VolumeStep, NameQuery, Query}
 use Rattle.words.proofs.TextsTold.{name-long, info-long}
-use Rattle.pjlink.specs.declared.request.Request.{Request}
-use Rattle.pjlink.specs.declared.request.Request.TheVariants.{Asks, Unlisted, UnknownBody}
+use Rattle.pjlink.specs.Requests.{Request}
+use Rattle.pjlink.specs.declared.request.Unasked.TheVariants.{Unlisted, UnknownBody}
 use Rattle.pjlink.specs.Said.{Said, saidBytes, bytesMost, refused}
 use Rattle.pjlink.specs.CanSay.{CanSay, done as does, refuses, power, input, mutes, errors, lamps, inputs, name, maker}
 use Rattle.pjlink.specs.CanSay.{model, other, class-is, freeze, serial, version, input-name, input-2, inputs-2}
@@ -102,15 +103,15 @@ module _ (s : Settings) (o : Own) (settings : isSettings s ≡ true) (own : isOw
       (λ a b. refused-short 2 (omega arith) (omega arith)) (λ a b c. refused-short 4 (omega arith) (omega arith))
       (λ a b c d. refused-short 3 (omega arith) (omega arith)) passed
 
-  plain-short : (c : Command) → is_plain (bodyOf c) ≡ true → Short (meant s o (Asks c))
+  plain-short : (c : Command) → is_plain (bodyOf c) ≡ true → Short (meant s o (Ok c))
   plain-short c plain = said-short (meant-can-be-said s o settings own c) plain
 
-  query-short : (b : Body) (t : Bool) → hasQuery b ≡ t → Short (meant s o (Asks (Query b)))
+  query-short : (b : Body) (t : Bool) → hasQuery b ≡ t → Short (meant s o (Ok (Query b)))
   query-short b true e = plain-short (Query b) (ap (λ (t : Bool). hasSet b || t) e ∙ or-true (hasSet b))
   query-short b false e =
-      let undefined : isUndefined s (Asks (Query b)) ≡ true
-      = ap (λ (t : Bool). not t || ((rowOf b).lamps && eqb s.lamp_count 0)) e in
-      subst Short (sym (err1 s o (Asks (Query b)) undefined)) (refused-short 1 (omega arith) (omega arith))
+      let undefined : isUndefined s (Ok (Query b)) ≡ true
+      = ap (λ (t : Bool). not t || ((row_of b).lamps && eqb s.lamp_count 0)) e in
+      subst Short (sym (err1 s o (Ok (Query b)) undefined)) (refused-short 1 (omega arith) (omega arith))
 
   -- a set-up of Class 1 names no input
   nameless : (k : ℕ) → length (nameBytes (get_or s.names k blankName)) ≤ 0
@@ -133,20 +134,20 @@ module _ (s : Settings) (o : Own) (settings : isSettings s ≡ true) (own : isOw
           text-most _ 0 kept.follows
 
   meant-short : (r : Request) → Short (meant s o r)
-  meant-short (Asks (PowerSet wanted)) = plain-short (PowerSet wanted) refl
-  meant-short (Asks (InputSet i)) = plain-short (InputSet i) refl
-  meant-short (Asks (MuteSet half wanted)) = plain-short (MuteSet half wanted) refl
-  meant-short (Asks (InputSet2 i)) = plain-short (InputSet2 i) refl
-  meant-short (Asks (FreezeSet wanted)) = plain-short (FreezeSet wanted) refl
-  meant-short (Asks (VolumeStep Speaker up)) = plain-short (VolumeStep Speaker up) refl
-  meant-short (Asks (VolumeStep Microphone up)) = plain-short (VolumeStep Microphone up) refl
-  meant-short (Asks (Query b)) = query-short b (hasQuery b) refl
-  meant-short (Asks (NameQuery i)) =
-      by-rules (Asks (NameQuery i))
+  meant-short (Ok (PowerSet wanted)) = plain-short (PowerSet wanted) refl
+  meant-short (Ok (InputSet i)) = plain-short (InputSet i) refl
+  meant-short (Ok (MuteSet half wanted)) = plain-short (MuteSet half wanted) refl
+  meant-short (Ok (InputSet2 i)) = plain-short (InputSet2 i) refl
+  meant-short (Ok (FreezeSet wanted)) = plain-short (FreezeSet wanted) refl
+  meant-short (Ok (VolumeStep Speaker up)) = plain-short (VolumeStep Speaker up) refl
+  meant-short (Ok (VolumeStep Microphone up)) = plain-short (VolumeStep Microphone up) refl
+  meant-short (Ok (Query b)) = query-short b (hasQuery b) refl
+  meant-short (Ok (NameQuery i)) =
+      by-rules (Ok (NameQuery i))
       (λ p. omega (arith, nameless (place_of s i), ap length (text-said (inputNameOf s i))))
-  meant-short (Unlisted b) =
-      by-rules (Unlisted b) (λ p. absurd (false≢true (sym p.listed ∙ not-false (hasParameters b) p.defined)))
-  meant-short UnknownBody = by-rules UnknownBody (λ p. absurd (false≢true (sym p.defined)))
+  meant-short (Err (Unlisted b)) =
+      by-rules (Err (Unlisted b)) (λ p. absurd (false≢true (sym p.listed ∙ not-false (hasParameters b) p.defined)))
+  meant-short (Err UnknownBody) = by-rules (Err UnknownBody) (λ p. absurd (false≢true (sym p.defined)))
 
   answered-short : (l : List ℕ) → length (lineAnswer s o l).reply ≤ longestBefore
   answered-short l =

@@ -3,7 +3,7 @@
 use lib.ListN.{length}
 use Rattle.record.proofs.Results.{set-up-refusal}
 use Rattle.record.proofs.Started.{blank-illegal, set-up-legal}
-use Rattle.form.proofs.Results.{storing-number}
+use Rattle.stored.proofs.StoringTold.{storing-number}
 use Rattle.stored.proofs.Results.{loading-number, refused-load-blank, accepted-legal}
 use Rattle.device.proofs.Refusals.{opening-refused-place}
 use Rattle.controller.proofs.Refusals.{number-means-nothing}

@@ -12,7 +12,7 @@ use lib.ListN.{length, take, get_or, length-take}
 use lib.Seq.{ext_get_or}
 use Rattle.pjlink.specs.Commands.{commandLine}
 use Rattle.pjlink.specs.declared.command.Command.TheVariants.{Query}
-use Rattle.pjlink.specs.declared.command.Body.TheVariants.{Lamp}
+use Rattle.pjlink.specs.declared.body.Body.TheVariants.{Lamp}
 use Rattle.pjlink.specs.Said.{lampsAre}
 use Rattle.words.specs.declared.lamp.LampHours.{LampHours}
 use Rattle.record.specs.Limits.{opened, isLit}

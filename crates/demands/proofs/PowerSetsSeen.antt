@@ -10,8 +10,8 @@ use lib.ListN.{length, drop, length-append}
 use lib.Seq.{drop-append_seam}
 use Rattle.text.specs.Words.{ascii}
 use Rattle.text.proofs.Choices.{if-all}
-use Rattle.pjlink.specs.declared.command.Body.TheVariants.{Powr}
-use Rattle.pjlink.specs.Requests.{isBody}
+use Rattle.pjlink.specs.declared.body.Body.TheVariants.{Powr}
+use Rattle.pjlink.specs.Bodies.{isBody}
 use Rattle.stream.proofs.LastBytes.{Ends}
 use Rattle.device.proofs.PowerLines.{isPowerOkay, powerLine, power-line-read, power-line-not-other}
 use Rattle.demands.specs.History.{Event, switched, powerSet, ◌says◌, ◌ends-in◌}

@@ -8,8 +8,8 @@ use lib.ListN.{length}
 use Rattle.pjlink.specs.declared.command.Command.{Command}
 use Rattle.record.specs.declared.types.Device.{Device}
 use Rattle.record.proofs.Results.{fault-refusal, errors-refusal, mark-refusal}
-use Rattle.form.specs.Form.{storedBy}
-use Rattle.form.proofs.Results.{refused-store-writes-nothing}
+use Rattle.stored.specs.Form.{storedBy}
+use Rattle.stored.proofs.StoringTold.{refused-store-writes-nothing}
 use Rattle.clock.proofs.Results.{passed-refusal}
 use Rattle.device.specs.Calls.{Result, received, openedBy}
 use Rattle.device.proofs.Refusals.{Refused, receiving-refused, opening-refused, closing-refused}

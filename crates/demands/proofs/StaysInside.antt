@@ -11,8 +11,8 @@ use Rattle.pjlink.specs.Commands.{commandLine}
 use Rattle.pjlink.specs.declared.command.Command.{Command}
 use Rattle.pjlink.proofs.CommandLines.{command-length, line-length}
 use Rattle.record.specs.declared.types.Device.{Device}
-use Rattle.form.specs.Form.{storedBy}
-use Rattle.form.proofs.Results.{storing-by}
+use Rattle.stored.specs.Form.{storedBy}
+use Rattle.stored.proofs.StoringTold.{storing-by}
 use Rattle.device.specs.Receiving.{digestLong}
 use Rattle.device.specs.Calls.{longestReply, Result, received, openedBy}
 use Rattle.device.proofs.Cases.{received-by, opened-by}

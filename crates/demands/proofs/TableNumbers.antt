@@ -12,7 +12,7 @@ use Rattle.text.specs.Scans.{sameBy, itself}
 use Rattle.pjlink.specs.Forms.{erraLine, greetingOpen, isReplyForm, headBody, replyParameter}
 use Rattle.pjlink.specs.Commands.{bodyOf, commandClass}
 use Rattle.pjlink.specs.declared.command.Command.{Command}
-use Rattle.pjlink.specs.Requests.{isBody}
+use Rattle.pjlink.specs.Bodies.{isBody}
 use Rattle.pjlink.specs.Writings.{Allowed}
 use Rattle.record.specs.Wanted.{Wanted}
 use Rattle.record.specs.Legal.{isLegal}

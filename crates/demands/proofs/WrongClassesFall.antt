@@ -10,7 +10,7 @@ use Rattle.text.specs.Words.{ascii}
 use Rattle.words.specs.declared.input.Source.TheVariants.{Internal}
 use Rattle.words.specs.declared.input.Input.{Input}
 use Rattle.pjlink.specs.declared.command.Command.TheVariants.{Query}
-use Rattle.pjlink.specs.declared.command.Body.TheVariants.{Inpt, Snum}
+use Rattle.pjlink.specs.declared.body.Body.TheVariants.{Inpt, Snum}
 use Rattle.pjlink.specs.Said.{chosenIs}
 use Rattle.pjlink.specs.CanSay.{input}
 use Rattle.record.specs.Limits.{opened, on, volumeMost, volumeStart}

@@ -10,7 +10,7 @@ use lib.ListN.{length}
 use Rattle.text.specs.Words.{ascii}
 use Rattle.words.specs.Bytes.{◌at◌}
 use Rattle.pjlink.specs.declared.command.Command.TheVariants.{Query}
-use Rattle.pjlink.specs.declared.command.Body.TheVariants.{Name}
+use Rattle.pjlink.specs.declared.body.Body.TheVariants.{Name}
 use Rattle.pjlink.specs.Said.{textIs, saidBytes}
 use Rattle.pjlink.specs.CanSay.{name}
 use Rattle.record.specs.Limits.{opened}

@@ -10,7 +10,7 @@ use Rattle.text.specs.Scans.{every}
 use Rattle.record.specs.Wanted.{Wanted}
 use Rattle.record.specs.Rules.{at_most}
 use Rattle.words.specs.Bytes.{◌at◌}
-use Rattle.form.specs.Form.{formVersion, markedFormOf, oldFormOf, storedOf, marksStored, storedForm}
+use Rattle.stored.specs.Form.{formVersion, markedFormOf, oldFormOf, storedOf, marksStored, storedForm}
 use Rattle.stored.specs.Loading.{startedWith}
 use Rattle.ours.specs.Board.{Board, bytesWritten}
 use Rattle.demands.specs.Calls.{Call, run}

@@ -18,7 +18,7 @@ use Rattle.pjlink.specs.Forms.{headBody, commandParameter}
 use Rattle.words.specs.Bytes.{commandMost}
 use Rattle.pjlink.specs.ClassOne.{isCommandForm1}
 use Rattle.pjlink.specs.ClassOneAsked.{requestOf1}
-use Rattle.pjlink.specs.declared.request.Request.{Request}
+use Rattle.pjlink.specs.Requests.{Request}
 use Rattle.pjlink.specs.Said.{saidBytes}
 use Rattle.record.specs.Limits.{awaiting, opened}
 use Rattle.record.specs.declared.types.Settings.{Settings}

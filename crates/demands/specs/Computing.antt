@@ -4,7 +4,6 @@
 use Rattle.numbers.specs.Computing.{computing as numbers}
 use Rattle.pjlink.specs.Computing.{computing as pjlink}
 use Rattle.record.specs.Computing.{computing as records}
-use Rattle.form.specs.Computing.{computing as forms}
 use Rattle.stored.specs.Computing.{computing as stored}
 use Rattle.clock.specs.Computing.{computing as clock}
 use Rattle.meaning.specs.Computing.{computing as meaning}
@@ -16,6 +15,6 @@ use Rattle.demands.specs.History.{powerSet, history, marksAfter, reached, burnin
 
 unfoldable pub computing : Unit {0}
 unfolding
-    numbers pjlink records forms stored clock meaning stream device controller run powerSet
+    numbers pjlink records stored clock meaning stream device controller run powerSet
     history marksAfter reached burningFrom
 computing = tt

@@ -24,7 +24,7 @@ use Rattle.text.specs.Scans.{sameBy, itself}
 use Rattle.pjlink.specs.Forms.{erraLine, greetingOpen, isReplyForm, headBody, replyParameter}
 use Rattle.pjlink.specs.Commands.{bodyOf, commandClass}
 use Rattle.pjlink.specs.declared.command.Command.{Command}
-use Rattle.pjlink.specs.Requests.{isBody}
+use Rattle.pjlink.specs.Bodies.{isBody}
 use Rattle.pjlink.specs.Said.{nothing}
 use Rattle.pjlink.specs.Writings.{Allowed}
 use Rattle.record.specs.Wanted.{Wanted}
@@ -35,7 +35,7 @@ use Rattle.record.specs.Limits.{off}
 use Rattle.record.specs.HostCalls.{isNoLamp, isNoneLeft}
 use Rattle.record.specs.SetUp.{isInRange}
 use Rattle.record.specs.declared.types.Device.{Device}
-use Rattle.form.specs.Form.{storingRows}
+use Rattle.stored.specs.Form.{storingRows}
 use Rattle.stored.specs.Loading.{loadRows}
 use Rattle.device.specs.Calls.{receivingRows, openingRows, closingRows}
 use Rattle.controller.specs.Writing.{commandRoom, isWritable}

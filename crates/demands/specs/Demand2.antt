@@ -24,7 +24,7 @@
 --   handedOn B m p d ps      the parts ps of a stream, each handed on until it is taken, the memory m lent each time
 --   Elsewhere B d c q        the call c is not at place q
 -- Assumes nothing.
-use Rattle.std.specs.Prelude.{ℕ, ◌≤◌, ◌<◌, ◌^◌, ◌≡◌, Bool, true, false, List, ◌++◌, ◌↔◌, length, set, leb}
+use Rattle.std.specs.Prelude.{ℕ, ◌≤◌, ◌<◌, ◌^◌, ◌≡◌, Bool, true, false, List, ◌++◌, ◌↔◌, length, set, leb, Ok}
 use Rattle.std.specs.Prelude.{if◌then◌else◌}
 use Rattle.text.specs.Words.{ascii}
 use Rattle.digest.specs.Md5.{md5Of}
@@ -33,10 +33,9 @@ use Rattle.words.specs.Bytes.{noCr}
 use Rattle.pjlink.specs.Forms.{erraLine}
 use Rattle.words.specs.Bytes.{commandMost}
 use Rattle.pjlink.specs.Commands.{isCommand, commandClass, commandLine}
-use Rattle.pjlink.specs.declared.command.Body.TheVariants.{Name}
+use Rattle.pjlink.specs.declared.body.Body.TheVariants.{Name}
 use Rattle.pjlink.specs.declared.command.Command.{Command}
 use Rattle.pjlink.specs.declared.command.Command.TheVariants.{Query}
-use Rattle.pjlink.specs.declared.request.Request.TheVariants.{Asks}
 use Rattle.pjlink.specs.Said.{Said, textIs}
 use Rattle.record.specs.Limits.{placesCount, awaiting, opened, failed}
 use Rattle.record.specs.Wanted.{Wanted}
@@ -80,9 +79,9 @@ module _ (B : Board) where
     pub wrote : w.number ≡ 0
     pub number : r.number ≡ 0
     pub taken : r.taken ≡ w.length
-    pub read : B.read-reply c (reply r) ≡ meaning (meant (B.shows d).settings (B.shows d).own (Asks c))
+    pub read : B.read-reply c (reply r) ≡ meaning (meant (B.shows d).settings (B.shows d).own (Ok c))
     pub device : B.shows r.device
-        ≡ withPlace (B.shows d) (done (B.shows d).settings (B.shows d).own (Asks c)) p
+        ≡ withPlace (B.shows d) (done (B.shows d).settings (B.shows d).own (Ok c)) p
         (openAgain (connectionAt (B.shows d) p))
 
   -- ---- any line, from any controller: what it is answered by the tables of RULES, and what it leaves

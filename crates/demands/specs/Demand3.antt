@@ -23,14 +23,14 @@ use Rattle.std.specs.Prelude.{List, [], ◌∷◌, ◌++◌, length, get_or, set
 use Rattle.text.specs.Words.{ascii}
 use Rattle.pjlink.specs.Commands.{commandLine}
 use Rattle.pjlink.specs.declared.command.Command.TheVariants.{Query}
-use Rattle.pjlink.specs.declared.command.Body.TheVariants.{Lamp}
+use Rattle.pjlink.specs.declared.body.Body.TheVariants.{Lamp}
 use Rattle.pjlink.specs.Said.{lampsAre, saidBytes}
 use Rattle.words.specs.declared.lamp.LampHours.{LampHours}
 use Rattle.record.specs.Limits.{lampLimit, opened}
 use Rattle.record.specs.Wanted.{Wanted}
 use Rattle.record.specs.Legal.{isLegal}
 use Rattle.record.specs.SetUp.{isSetUp}
-use Rattle.form.specs.Form.{form_of, markedFormOf, oldFormOf}
+use Rattle.stored.specs.Form.{form_of, markedFormOf, oldFormOf}
 use Rattle.clock.specs.Second.{times, second}
 use Rattle.clock.specs.Passing.{secondsMost}
 use Rattle.device.specs.Calls.{replyRoom}

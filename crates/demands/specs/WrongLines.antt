@@ -7,8 +7,8 @@ use Rattle.text.specs.Scans.{sameBy, itself}
 use Rattle.words.specs.Bytes.{upperOf}
 use Rattle.pjlink.specs.Forms.{headBody}
 use Rattle.pjlink.specs.declared.command.Command.{Command}
-use Rattle.pjlink.specs.declared.command.Body.TheVariants.{Name}
-use Rattle.pjlink.specs.Requests.{isBody}
+use Rattle.pjlink.specs.declared.body.Body.TheVariants.{Name}
+use Rattle.pjlink.specs.Bodies.{isBody}
 use Rattle.pjlink.specs.Said.{textIs}
 use Rattle.record.specs.Updates.{withLine}
 use Rattle.record.specs.Record.{blank}

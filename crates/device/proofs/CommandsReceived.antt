@@ -13,6 +13,7 @@ use mathlib.Core.List.{List, [], ◌∷◌, ◌++◌, append_assoc}
 use native.Mathlib.Omega.{arith}
 use lib.ListN.{length, length-append}
 use lib.Dec.{eqb}
+use Rattle.std.specs.Prelude.{Ok}
 use Rattle.text.specs.Words.{ascii}
 use Rattle.text.specs.Scans.{every}
 use Rattle.digest.specs.Hex.{leadingDigest}
@@ -23,7 +24,6 @@ use Rattle.pjlink.specs.Commands.{commandLine}
 use Rattle.pjlink.specs.declared.command.Command.{Command}
 use Rattle.words.proofs.Characters.{no-cr-each}
 use Rattle.pjlink.proofs.CommandLines.{command-length, command-no-cr}
-use Rattle.pjlink.specs.declared.request.Request.TheVariants.{Asks}
 use Rattle.pjlink.specs.Said.{Said, saidBytes}
 use Rattle.record.specs.Limits.{placesCount, shut, awaiting, opened}
 use Rattle.record.specs.Legal.{isTimed, isLegal}
@@ -51,8 +51,8 @@ abbrev pub commandResult : Device → ℕ → Command → ℕ → Result Device
 commandResult d p k n = record {
   number = 0;
   taken = n;
-  reply = replyTo k (meant d.settings d.own (Asks k));
-  device = withPlace d (done d.settings d.own (Asks k)) p (turned (connectionAt d p) opened);
+  reply = replyTo k (meant d.settings d.own (Ok k));
+  device = withPlace d (done d.settings d.own (Ok k)) p (turned (connectionAt d p) opened);
 }
 
 abbrev pub swallowedAt : Device → ℕ → ℕ → Result Device

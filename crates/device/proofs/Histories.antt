@@ -14,13 +14,13 @@ use native.Mathlib.Omega.{arith}
 use lib.ListN.{take, drop, take-append-drop}
 use lib.Dec.{eqb}
 use borrow.Author.Tests.{eqb-true, eqb-false, ne_eqb}
+use Rattle.std.specs.Prelude.{Ok}
 use Rattle.text.specs.Words.{ascii}
 use Rattle.text.proofs.Choices.{if-by}
 use Rattle.pjlink.specs.Forms.{replyLine}
-use Rattle.pjlink.specs.declared.command.Body.TheVariants.{Powr}
+use Rattle.pjlink.specs.declared.body.Body.TheVariants.{Powr}
 use Rattle.pjlink.specs.declared.command.Command.TheVariants.{PowerSet}
-use Rattle.pjlink.specs.Requests.{isBody}
-use Rattle.pjlink.specs.declared.request.Request.TheVariants.{Asks}
+use Rattle.pjlink.specs.Bodies.{isBody}
 use Rattle.pjlink.specs.Said.{okay}
 use Rattle.record.specs.Limits.{shut, awaiting, opened, failed}
 use Rattle.record.specs.Legal.{isCollecting, heldMost, isConnection}
@@ -51,7 +51,7 @@ pub data StreamEffect (s : Settings) (o : Own) (stream reply : List ℕ) (k : Ow
   stays : isPowerOkay reply ≡ false → k.power ≡ o.power → k.left ≡ o.left → StreamEffect s o stream reply k
   turns : (a b c d : ℕ) (wanted : Bool) → isBody 1 (a ∷ b ∷ c ∷ d ∷ []) Powr ≡ true
       → Ends stream (powerLine a b c d wanted ++ ascii "\r") → reply ≡ replyLine (code "1") a b c d (ascii "OK")
-      → meant s o (Asks (PowerSet wanted)) ≡ okay → k ≡ done s o (Asks (PowerSet wanted))
+      → meant s o (Ok (PowerSet wanted)) ≡ okay → k ≡ done s o (Ok (PowerSet wanted))
       → StreamEffect s o stream reply k
 
 -- the stream's last line

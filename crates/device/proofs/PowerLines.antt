@@ -11,17 +11,18 @@ use mathlib.Core.Path.{◌≡◌, refl, sym, ap, ◌∙◌}
 use mathlib.Core.Bool.{Bool, true, false, not, ◌&&◌, false≢true, and-false}
 use mathlib.Core.List.{List, [], ◌∷◌, ◌++◌}
 use lib.Dec.{eqb}
+use Rattle.std.specs.Prelude.{Ok}
 use Rattle.text.specs.Words.{ascii}
 use Rattle.text.specs.Scans.{sameBy}
 use Rattle.text.proofs.Choices.{if-by}
 use Rattle.words.specs.Bytes.{◌at◌, upperOf}
 use Rattle.words.specs.Powers.{switch_code}
 use Rattle.pjlink.specs.Forms.{headBody, classNamed, lineClass, isCommandForm, commandParameter, replyLine}
-use Rattle.pjlink.specs.declared.command.Body.TheVariants.{Powr}
+use Rattle.pjlink.specs.declared.body.Body.TheVariants.{Powr}
 use Rattle.pjlink.specs.declared.command.Command.TheVariants.{PowerSet}
 use Rattle.pjlink.proofs.FormsSpelt.{taken-by, form-takes, form-spelt}
-use Rattle.pjlink.specs.Requests.{isBody, asked_of}
-use Rattle.pjlink.specs.declared.request.Request.TheVariants.{Asks}
+use Rattle.pjlink.specs.Bodies.{isBody}
+use Rattle.pjlink.specs.Requests.{asked_of}
 use Rattle.pjlink.proofs.PowerAsked.{isPowerSet, not-powr, powr-asked, power-parameter}
 use Rattle.pjlink.proofs.SaidRows.{said_row}
 use Rattle.pjlink.specs.Said.{Said, okay, saidBytes}
@@ -113,8 +114,8 @@ module _ (a b c d : ℕ) (powr : isBody 1 (a ∷ b ∷ c ∷ d ∷ []) Powr ≡ 
 pub data PowerEffect (s : Settings) (o : Own) (l reply : List ℕ) (k : Own) : Type 0 where
   quiet : isPowerOkay reply ≡ false → k.power ≡ o.power → k.left ≡ o.left → PowerEffect s o l reply k
   sets : (a b c d : ℕ) (wanted : Bool) → isBody 1 (a ∷ b ∷ c ∷ d ∷ []) Powr ≡ true → l ≡ powerLine a b c d wanted
-      → reply ≡ replyLine (code "1") a b c d (ascii "OK") → meant s o (Asks (PowerSet wanted)) ≡ okay
-      → k ≡ done s o (Asks (PowerSet wanted)) → PowerEffect s o l reply k
+      → reply ≡ replyLine (code "1") a b c d (ascii "OK") → meant s o (Ok (PowerSet wanted)) ≡ okay
+      → k ≡ done s o (Ok (PowerSet wanted)) → PowerEffect s o l reply k
 
 module _ (s : Settings) (o : Own) (l : List ℕ) where
   abbrev EffectOf : Answered → Type 0

@@ -5,11 +5,12 @@ use mathlib.Core.Path.{◌≡◌, refl}
 use mathlib.Core.Bool.{Bool}
 use mathlib.Core.List.{List}
 use Prim.Native.Nat.{ℕ}
-use Rattle.pjlink.specs.declared.command.Body.TheVariants.{Powr}
+use Rattle.std.specs.Prelude.{Ok, Err}
+use Rattle.pjlink.specs.declared.body.Body.TheVariants.{Powr}
 use Rattle.pjlink.specs.declared.command.Command.TheVariants.{PowerSet, Query}
 use Rattle.pjlink.specs.Requests.{asked_of}
-use Rattle.pjlink.specs.declared.request.Request.{Request}
-use Rattle.pjlink.specs.declared.request.Request.TheVariants.{Asks, Unlisted}
+use Rattle.pjlink.specs.Requests.{Request}
+use Rattle.pjlink.specs.declared.request.Unasked.TheVariants.{Unlisted}
 use Rattle.pjlink.proofs.PowerAsked.{powr-by}
 use Rattle.pjlink.specs.Said.{Said, okay}
 use Rattle.pjlink.proofs.OnlyOkay.{NotOkay, refusal-not-okay, power-not-okay, nothing-not-okay}
@@ -20,29 +21,29 @@ use Rattle.meaning.proofs.Cases.{decided-by}
 
 pub data Outcome (s : Settings) (o : Own) (r : Request) (m : Said) (k : Own) : Type 0 where
   unchanged : NotOkay m → k.power ≡ o.power → k.left ≡ o.left → Outcome s o r m k
-  carried : (wanted : Bool) → r ≡ Asks (PowerSet wanted) → m ≡ okay → Outcome s o r m k
+  carried : (wanted : Bool) → r ≡ Ok (PowerSet wanted) → m ≡ okay → Outcome s o r m k
 
 module _ (s : Settings) (o : Own) where
   abbrev pub Comes : Request → Type 0
   Comes r = Outcome s o r (meant s o r) (done s o r)
 
-  set-comes : (wanted : Bool) → Comes (Asks (PowerSet wanted))
+  set-comes : (wanted : Bool) → Comes (Ok (PowerSet wanted))
   set-comes wanted =
-      decided-by s o (Asks (PowerSet wanted)) (Outcome s o (Asks (PowerSet wanted)))
+      decided-by s o (Ok (PowerSet wanted)) (Outcome s o (Ok (PowerSet wanted)))
       (λ a. unchanged (refusal-not-okay 1) refl refl) (λ a b. unchanged (refusal-not-okay 2) refl refl)
       (λ a b c. unchanged (refusal-not-okay 4) refl refl) (λ a b c d. unchanged (refusal-not-okay 3) refl refl)
       (λ p. carried wanted refl refl)
 
-  query-comes : Comes (Asks (Query Powr))
+  query-comes : Comes (Ok (Query Powr))
   query-comes =
-      decided-by s o (Asks (Query Powr)) (Outcome s o (Asks (Query Powr)))
+      decided-by s o (Ok (Query Powr)) (Outcome s o (Ok (Query Powr)))
       (λ a. unchanged (refusal-not-okay 1) refl refl) (λ a b. unchanged (refusal-not-okay 2) refl refl)
       (λ a b c. unchanged (refusal-not-okay 4) refl refl) (λ a b c d. unchanged (refusal-not-okay 3) refl refl)
       (λ p. unchanged (power-not-okay (powerSaid o.power)) refl refl)
 
-  unlisted-comes : Comes (Unlisted Powr)
+  unlisted-comes : Comes (Err (Unlisted Powr))
   unlisted-comes =
-      decided-by s o (Unlisted Powr) (Outcome s o (Unlisted Powr))
+      decided-by s o (Err (Unlisted Powr)) (Outcome s o (Err (Unlisted Powr)))
       (λ a. unchanged (refusal-not-okay 1) refl refl) (λ a b. unchanged (refusal-not-okay 2) refl refl)
       (λ a b c. unchanged (refusal-not-okay 4) refl refl) (λ a b c d. unchanged (refusal-not-okay 3) refl refl)
       (λ p. unchanged nothing-not-okay refl refl)

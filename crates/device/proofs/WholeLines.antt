@@ -11,6 +11,7 @@ use native.Mathlib.Omega.{arith}
 use lib.ListN.{length, take, drop, length-append}
 use lib.Seq.{take_at, drop_at}
 use borrow.Author.Tests.{le-leb}
+use Rattle.std.specs.Prelude.{Ok}
 use Rattle.text.specs.Words.{ascii}
 use Rattle.text.specs.Scans.{every, itself}
 use Rattle.text.proofs.Choices.{both, if_yes, if_no}
@@ -26,8 +27,8 @@ use Rattle.pjlink.specs.declared.command.Command.{Command}
 use Rattle.pjlink.proofs.BodiesNamed.{body-named}
 use Rattle.pjlink.proofs.CommandLines.{command-body, command-parameter, command-class, command-form}
 use Rattle.pjlink.proofs.CommandLines.{command-of-higher-class}
-use Rattle.pjlink.specs.Requests.{isBody, requestOf}
-use Rattle.pjlink.specs.declared.request.Request.TheVariants.{Asks}
+use Rattle.pjlink.specs.Bodies.{isBody}
+use Rattle.pjlink.specs.Requests.{requestOf}
 use Rattle.pjlink.proofs.CommandsAskedBack.{command-asked-back}
 use Rattle.pjlink.specs.Said.{saidBytes}
 use Rattle.record.specs.Limits.{lineRoom, awaiting, opened}
@@ -132,7 +133,7 @@ module _ (s : Settings) (o : Own) (settings : isSettings s ≡ true) (k : Comman
       (command-of-higher-class k s.class_number (class_low s known) (class-high s known) higher)
 
   module _ (writable : isCommand k ≡ true) (within : commandClass k ≤ s.class_number) where
-    command-asked : lineAsks (commandText k) ≡ Asks k
+    command-asked : lineAsks (commandText k) ≡ Ok k
     command-asked =
         (λ i. requestOf (command-class k i) (headBody (commandText k)) (command-parameter k i))
         ∙ command-asked-back k (headBody (commandText k)) writable
@@ -140,10 +141,10 @@ module _ (s : Settings) (o : Own) (settings : isSettings s ≡ true) (k : Comman
 
     -- class and body as sent, what the command means, and what it does
     pub command-answered : lineAnswer s o (commandText k) ≡ record {
-      own = done s o (Asks k);
+      own = done s o (Ok k);
       reply =
           ascii "%" ++ (classDigit (commandClass k) ∷ bodyText (bodyOf k)) ++ ascii "="
-          ++ saidBytes (meant s o (Asks k)) ++ ascii "\r";
+          ++ saidBytes (meant s o (Ok k)) ++ ascii "\r";
     }
     unfolding lineAnswer
     command-answered =

@@ -9,7 +9,7 @@ use Rattle.std.specs.Prelude.{ℕ, List, [], if◌then◌else◌}
 use Rattle.words.specs.Bytes.{◌at◌}
 use Rattle.pjlink.specs.Forms.{isCommandForm, lineClass, headBody, commandParameter, replyLine}
 use Rattle.pjlink.specs.Requests.{requestOf}
-use Rattle.pjlink.specs.declared.request.Request.{Request}
+use Rattle.pjlink.specs.Requests.{Request}
 use Rattle.pjlink.specs.Said.{saidBytes}
 use Rattle.record.specs.declared.types.Settings.{Settings}
 use Rattle.record.specs.declared.types.Own.{Own}

@@ -1,6 +1,7 @@
 //! A line on an open connection: decided over what it asks, then written.
 ghost use Rattle.std.specs.Prelude.{◌≡◌, ◌≤◌, length};
 ghost use Rattle.text.specs.Words.{over};
+ghost use Rattle.words.specs.Bytes.{◌at◌};
 ghost use Rattle.pjlink.specs.Forms.{replyLine};
 ghost use Rattle.pjlink.specs.Said.{parameterMost, saidBytes};
 ghost use Rattle.pjlink.specs.Carried.{said_by};
@@ -8,20 +9,23 @@ ghost use Rattle.device.specs.Ready.{Ready};
 ghost use Rattle.device.specs.Answering.{lineAnswer};
 
 use pjlink::answer::Reply;
-use pjlink::{form, write};
+use pjlink::{form, request, write};
 use record::types::{Own, Settings};
 use words::codec;
 use words::codec::Line;
 
-// The reply to the body a b c d under the class byte h, from the start of the lent memory.
-fn put_reply(out: &mut [u8], h: u8, a: u8, b: u8, c: u8, d: u8, reply: &Reply<'_>) -> usize
+// The reply to a line of this class byte and these letters, from the start of the lent memory.
+fn put_reply(out: &mut [u8], class: u8, letters: [u8; 4], reply: &Reply<'_>) -> usize
     requires room { 136 ≤ length out.old }
     requires short { length (saidBytes (said_by reply.now)) ≤ parameterMost }
-    ensures value { result ≡ length (replyLine h a b c d (saidBytes (said_by reply.now))) }
-    ensures out_after { out.new ≡ over (replyLine h a b c d (saidBytes (said_by reply.now))) out.old }
+    ensures value { result ≡ length (replyLine class (letters at 0) (letters at 1) (letters at 2)
+        (letters at 3) (saidBytes (said_by reply.now))) }
+    ensures out_after { out.new ≡ over (replyLine class (letters at 0) (letters at 1) (letters at 2)
+        (letters at 3) (saidBytes (said_by reply.now))) out.old }
 {
+    let [a, b, c, d] = letters;
     let mut line = Line::new();
-    codec::put_all(&[b'%', h, a, b, c, d, b'='], &mut line);
+    codec::put_all(&[b'%', class, a, b, c, d, b'='], &mut line);
     write::put_parameter(reply, &mut line);
     line.push(b'\r');
     text::put(out, 0, line.as_slice());
@@ -36,15 +40,10 @@ pub fn answer_line(s: &Settings, o: &mut Own, l: &[u8], out: &mut [u8]) -> usize
     ensures own { o.new ≡ (lineAnswer s.now o.old l.now).own }
     ensures out_after { out.new ≡ over (lineAnswer s.now o.old l.now).reply out.old }
 {
-    if !form::is_command_form(s.class_number, l) {
+    let Some(line) = form::command(s.class_number, l) else {
         return 0;
-    }
-    let h = l[1];
-    let a = l[2];
-    let b = l[3];
-    let c = l[4];
-    let d = l[5];
-    let r = pjlink::request::request_of(form::class_named(h), a, b, c, d, &l[7..]);
-    let reply = meaning::decide(s, o, r);
-    put_reply(out, h, a, b, c, d, &reply)
+    };
+    let asked = request::request(form::class_named(line.class), line.letters, line.parameter);
+    let reply = meaning::decide(s, o, asked);
+    put_reply(out, line.class, line.letters, &reply)
 }

@@ -7,22 +7,22 @@ use mathlib.Core.Bool.{Bool, true, false, ◌||◌, false≢true, or-true}
 use native.Mathlib.Omega.{arith}
 use lib.ListN.{length, get_or, take}
 use borrow.Author.Tests.{leb-true, le-leb, eqb-false, not-false}
-use Rattle.std.specs.Prelude.{Option, unwrap_or}
+use Rattle.std.specs.Prelude.{Option, unwrap_or, Ok, Err}
 use Rattle.text.specs.Scans.{every}
 use Rattle.text.proofs.Scanning.{every-by-place}
 use Rattle.words.specs.Bytes.{noCr}
 use Rattle.words.specs.Inputs.{isInput}
 use Rattle.pjlink.specs.Bodies.{hasParameters}
-use Rattle.pjlink.specs.declared.command.Body.TheVariants.{Powr, Inpt, Avmt, Erst, Lamp, Inst, Name, Inf1, Inf2, Info}
-use Rattle.pjlink.specs.declared.command.Body.TheVariants.{Clss, Frez, Svol, Mvol, Snum, Sver, Innm, Inpt2, Inst2}
+use Rattle.pjlink.specs.declared.body.Body.TheVariants.{Powr, Inpt, Avmt, Erst, Lamp, Inst, Name, Inf1, Inf2, Info}
+use Rattle.pjlink.specs.declared.body.Body.TheVariants.{Clss, Frez, Svol, Mvol, Snum, Sver, Innm, Inpt2, Inst2}
 use Rattle.pjlink.specs.declared.command.Command.{Command}
 use Rattle.pjlink.specs.declared.command.Command.TheVariants.{PowerSet, InputSet, MuteSet, Query}
 use Rattle.pjlink.specs.declared.command.Command.TheVariants.{InputSet2, FreezeSet, VolumeStep, NameQuery}
 use Rattle.words.proofs.InputsReadBack.{named-is-input}
 use Rattle.words.proofs.SourcesFollowed.{named-stands}
 use Rattle.words.specs.declared.input.Input.{Input}
-use Rattle.pjlink.specs.declared.request.Request.{Request}
-use Rattle.pjlink.specs.declared.request.Request.TheVariants.{Asks, Unlisted, UnknownBody}
+use Rattle.pjlink.specs.Requests.{Request}
+use Rattle.pjlink.specs.declared.request.Unasked.TheVariants.{Unlisted, UnknownBody}
 use Rattle.pjlink.specs.Said.{Said, saidBytes, saidMost}
 use Rattle.pjlink.specs.Carried.{inputsCarried}
 use Rattle.pjlink.specs.CanSay.{hasOwnParameter, isRefusalTo}
@@ -108,7 +108,7 @@ module _ (s : Settings) (o : Own) (settings : isSettings s ≡ true) (own : isOw
   inputs-few : length (inputsOf s) ≤ inputsCarried
   inputs-few = omega (arith, inputs-number s set-up, input-count-high s set-up)
 
-  told-can-be-said : (c : Command) → isUndefined s (Asks c) ≡ false → CanSay c (tableAnswer s o c)
+  told-can-be-said : (c : Command) → isUndefined s (Ok c) ≡ false → CanSay c (tableAnswer s o c)
   told-can-be-said (PowerSet wanted) e = done refl
   told-can-be-said (InputSet i) e = done refl
   told-can-be-said (MuteSet half wanted) e = done refl
@@ -140,9 +140,9 @@ module _ (s : Settings) (o : Own) (settings : isSettings s ≡ true) (own : isOw
   told-can-be-said (VolumeStep v up) e = done refl
   told-can-be-said (NameQuery i) e = input-name _ refl (name-at s set-up (place_of s i)).follows
 
-  pub meant-can-be-said : (c : Command) → CanSay c (meant s o (Asks c))
+  pub meant-can-be-said : (c : Command) → CanSay c (meant s o (Ok c))
   meant-can-be-said c =
-      meant-by s o (Asks c) (CanSay c)
+      meant-by s o (Ok c) (CanSay c)
       (λ a. refuses 1 (omega arith) (omega arith) (any-refused c))
       (λ a b. refuses 2 (omega arith) (omega arith) (set-refused s c b))
       (λ a b f. refuses 4 (omega arith) (omega arith) (any-refused c))
@@ -158,15 +158,15 @@ module _ (s : Settings) (o : Own) (settings : isSettings s ≡ true) (own : isOw
       (λ p. absurd (n p))
 
   abbrev commandOf : Request → Command
-  commandOf (Asks c) = c
-  commandOf (Unlisted b) = PowerSet true
-  commandOf UnknownBody = PowerSet true
+  commandOf (Ok c) = c
+  commandOf (Err (Unlisted b)) = PowerSet true
+  commandOf (Err UnknownBody) = PowerSet true
 
   answer-can-be-said : (r : Request) → CanSay (commandOf r) (meant s o r)
-  answer-can-be-said (Asks c) = meant-can-be-said c
-  answer-can-be-said (Unlisted b) =
-      always-refused (Unlisted b) (λ p. false≢true (sym p.listed ∙ not-false (hasParameters b) p.defined))
-  answer-can-be-said UnknownBody = always-refused UnknownBody (λ p. false≢true (sym p.defined))
+  answer-can-be-said (Ok c) = meant-can-be-said c
+  answer-can-be-said (Err (Unlisted b)) =
+      always-refused (Err (Unlisted b)) (λ p. false≢true (sym p.listed ∙ not-false (hasParameters b) p.defined))
+  answer-can-be-said (Err UnknownBody) = always-refused (Err UnknownBody) (λ p. false≢true (sym p.defined))
 
 pub record Fits (m : Said) : Type 0 where
   pub short : length (saidBytes m) ≤ saidMost

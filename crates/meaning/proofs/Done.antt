@@ -8,6 +8,7 @@ use mathlib.Core.Bool.{Bool, true, false, not, ◌&&◌}
 use native.Mathlib.Omega.{arith}
 use lib.Dec.{ltb, eqb}
 use borrow.Author.Tests.{ltb-true, not-false}
+use Rattle.std.specs.Prelude.{Ok, Err}
 use Rattle.text.proofs.Choices.{if-all, if-by}
 use Rattle.pjlink.specs.declared.command.Half.{Half}
 use Rattle.pjlink.specs.declared.command.Half.TheVariants.{VideoHalf, AudioHalf, BothHalves}
@@ -15,8 +16,7 @@ use Rattle.pjlink.specs.declared.command.Volume.{Volume}
 use Rattle.pjlink.specs.declared.command.Volume.TheVariants.{Speaker, Microphone}
 use Rattle.pjlink.specs.declared.command.Command.TheVariants.{PowerSet, InputSet, MuteSet, Query}
 use Rattle.pjlink.specs.declared.command.Command.TheVariants.{InputSet2, FreezeSet, VolumeStep, NameQuery}
-use Rattle.pjlink.specs.declared.request.Request.{Request}
-use Rattle.pjlink.specs.declared.request.Request.TheVariants.{Asks, Unlisted, UnknownBody}
+use Rattle.pjlink.specs.Requests.{Request}
 use Rattle.pjlink.specs.Said.{okay}
 use Rattle.record.specs.Limits.{off, on, volumeMost}
 use Rattle.record.specs.Updates.{withChosen, withMutes}
@@ -64,31 +64,29 @@ module _ (s : Settings) (o : Own) where
   step_keeps Microphone up = record { lamps = refl; marks = refl; fault = refl; errors = refl }
 
   after-keeps : (r : Request) → Keeps o (carriedOut s o r)
-  after-keeps (Asks (PowerSet wanted)) = power-keeps wanted
-  after-keeps (Asks (InputSet i)) = record { lamps = refl; marks = refl; fault = refl; errors = refl }
-  after-keeps (Asks (MuteSet half wanted)) = mute-keeps half wanted
-  after-keeps (Asks (Query b)) = all-kept
-  after-keeps (Asks (InputSet2 i)) = record { lamps = refl; marks = refl; fault = refl; errors = refl }
-  after-keeps (Asks (FreezeSet wanted)) = record { lamps = refl; marks = refl; fault = refl; errors = refl }
-  after-keeps (Asks (VolumeStep v up)) = step_keeps v up
-  after-keeps (Asks (NameQuery i)) = all-kept
-  after-keeps (Unlisted b) = all-kept
-  after-keeps UnknownBody = all-kept
+  after-keeps (Ok (PowerSet wanted)) = power-keeps wanted
+  after-keeps (Ok (InputSet i)) = record { lamps = refl; marks = refl; fault = refl; errors = refl }
+  after-keeps (Ok (MuteSet half wanted)) = mute-keeps half wanted
+  after-keeps (Ok (Query b)) = all-kept
+  after-keeps (Ok (InputSet2 i)) = record { lamps = refl; marks = refl; fault = refl; errors = refl }
+  after-keeps (Ok (FreezeSet wanted)) = record { lamps = refl; marks = refl; fault = refl; errors = refl }
+  after-keeps (Ok (VolumeStep v up)) = step_keeps v up
+  after-keeps (Ok (NameQuery i)) = all-kept
+  after-keeps (Err u) = all-kept
 
   pub done-keeps : (r : Request) → Keeps o (done s o r)
   done-keeps r = done-by s o r (Keeps o) all-kept (λ p. after-keeps r)
 
   told-or-kept : (r : Request) → (requestAnswer s o r ≡ okay → ⊥) → carriedOut s o r ≡ o
-  told-or-kept (Asks (PowerSet wanted)) n = absurd (n refl)
-  told-or-kept (Asks (InputSet i)) n = absurd (n refl)
-  told-or-kept (Asks (MuteSet half wanted)) n = absurd (n refl)
-  told-or-kept (Asks (Query b)) n = refl
-  told-or-kept (Asks (InputSet2 i)) n = absurd (n refl)
-  told-or-kept (Asks (FreezeSet wanted)) n = absurd (n refl)
-  told-or-kept (Asks (VolumeStep v up)) n = absurd (n refl)
-  told-or-kept (Asks (NameQuery i)) n = refl
-  told-or-kept (Unlisted b) n = refl
-  told-or-kept UnknownBody n = refl
+  told-or-kept (Ok (PowerSet wanted)) n = absurd (n refl)
+  told-or-kept (Ok (InputSet i)) n = absurd (n refl)
+  told-or-kept (Ok (MuteSet half wanted)) n = absurd (n refl)
+  told-or-kept (Ok (Query b)) n = refl
+  told-or-kept (Ok (InputSet2 i)) n = absurd (n refl)
+  told-or-kept (Ok (FreezeSet wanted)) n = absurd (n refl)
+  told-or-kept (Ok (VolumeStep v up)) n = absurd (n refl)
+  told-or-kept (Ok (NameQuery i)) n = refl
+  told-or-kept (Err u) n = refl
 
   -- what is not answered OK does nothing
   pub done-or-okay : (r : Request) → (meant s o r ≡ okay → ⊥) → done s o r ≡ o
@@ -139,18 +137,17 @@ module _ (s : Settings) (o : Own) where
     step-legal Microphone up = (own_is s _).1 (assumption (kept, step-within up o.microphone kept.microphone))
 
     after-legal : (r : Request) → isOutOfParameter s r ≡ false → isOwn s (carriedOut s o r) ≡ true
-    after-legal (Asks (PowerSet wanted)) e = power-legal wanted
-    after-legal (Asks (InputSet i)) e =
+    after-legal (Ok (PowerSet wanted)) e = power-legal wanted
+    after-legal (Ok (InputSet i)) e =
         chosen-legal (place_of s i) (ltb-true (place_of s i) s.input_count (not-false (isListed s i) e))
-    after-legal (Asks (MuteSet half wanted)) e = mute-legal half wanted
-    after-legal (Asks (Query b)) e = own
-    after-legal (Asks (InputSet2 i)) e =
+    after-legal (Ok (MuteSet half wanted)) e = mute-legal half wanted
+    after-legal (Ok (Query b)) e = own
+    after-legal (Ok (InputSet2 i)) e =
         chosen-legal (place_of s i) (ltb-true (place_of s i) s.input_count (not-false (isListed s i) e))
-    after-legal (Asks (FreezeSet wanted)) e = (own_is s _).1 (assumption kept)
-    after-legal (Asks (VolumeStep v up)) e = step-legal v up
-    after-legal (Asks (NameQuery i)) e = own
-    after-legal (Unlisted b) e = own
-    after-legal UnknownBody e = own
+    after-legal (Ok (FreezeSet wanted)) e = (own_is s _).1 (assumption kept)
+    after-legal (Ok (VolumeStep v up)) e = step-legal v up
+    after-legal (Ok (NameQuery i)) e = own
+    after-legal (Err u) e = own
 
     pub done-legal : (r : Request) → isOwn s (done s o r) ≡ true
     done-legal r = done-by s o r (λ k. isOwn s k ≡ true) own (λ p. after-legal r p.listed)

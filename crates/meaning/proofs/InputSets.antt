@@ -4,11 +4,11 @@ use mathlib.Core.Path.{◌≡◌, refl, sym, ap, ◌∙◌}
 use mathlib.Core.Bool.{true}
 use native.Mathlib.Omega.{arith}
 use borrow.Author.Tests.{ltb-true, not-false}
+use Rattle.std.specs.Prelude.{Ok}
 use Rattle.words.specs.Inputs.{isInput}
 use Rattle.words.specs.declared.input.Input.{Input}
-use Rattle.pjlink.specs.declared.command.Body.TheVariants.{Inpt}
+use Rattle.pjlink.specs.declared.body.Body.TheVariants.{Inpt}
 use Rattle.pjlink.specs.declared.command.Command.TheVariants.{InputSet, Query}
-use Rattle.pjlink.specs.declared.request.Request.TheVariants.{Asks}
 use Rattle.pjlink.specs.Said.{okay, chosenIs}
 use Rattle.record.specs.Updates.{withChosen}
 use Rattle.record.specs.Legal.{isSettings}
@@ -36,12 +36,12 @@ module _ (s : Settings) (settings : isSettings s ≡ true) (i : Input) where
       ∙ listed-input s told (place_of s i) below
 
   -- INPT with the input, answered OK, and then INPT ?
-  pub set-then-asked : (o : Own) → meant s o (Asks (InputSet i)) ≡ okay
-      → meant s (done s o (Asks (InputSet i))) (Asks (Query Inpt)) ≡ chosenIs i
+  pub set-then-asked : (o : Own) → meant s o (Ok (InputSet i)) ≡ okay
+      → meant s (done s o (Ok (InputSet i))) (Ok (Query Inpt)) ≡ chosenIs i
   set-then-asked o =
-      decided-by s o (Asks (InputSet i)) (λ m k. m ≡ okay → meant s k (Asks (Query Inpt)) ≡ chosenIs i)
+      decided-by s o (Ok (InputSet i)) (λ m k. m ≡ okay → meant s k (Ok (Query Inpt)) ≡ chosenIs i)
       (λ a e. cc) (λ a b e. cc) (λ a b c e. cc) (λ a b c d e. cc)
       (λ p e.
-      meant-passed s (withChosen o (place_of s i)) (Asks (Query Inpt))
+      meant-passed s (withChosen o (place_of s i)) (Ok (Query Inpt))
       (record { defined = refl; listed = refl; sound = p.sound; timely = p.timely })
       ∙ (λ j. chosenIs (chosen-is-asked o (not-false (isListed s i) p.listed) j)))

@@ -8,9 +8,9 @@ use native.Mathlib.Omega.{arith}
 use lib.ListN.{length, get_or, take, length-take}
 use lib.Seq.{get_or-take}
 use borrow.Author.Tests.{ne_eqb}
-use Rattle.pjlink.specs.declared.command.Body.TheVariants.{Lamp}
+use Rattle.std.specs.Prelude.{Ok}
+use Rattle.pjlink.specs.declared.body.Body.TheVariants.{Lamp}
 use Rattle.pjlink.specs.declared.command.Command.TheVariants.{Query}
-use Rattle.pjlink.specs.declared.request.Request.TheVariants.{Asks}
 use Rattle.pjlink.specs.Said.{lampsAre}
 use Rattle.words.specs.declared.lamp.LampHours.{LampHours}
 use Rattle.record.specs.Limits.{isLit}
@@ -22,9 +22,9 @@ use Rattle.meaning.proofs.Cases.{meant-passed}
 
 module _ (s : Settings) (o : Own) where
   -- neither the fault mark nor the power keeps LAMP from its answer
-  pub lamps-answered : 1 ≤ s.lamp_count → meant s o (Asks (Query Lamp)) ≡ lampsAre (lampsOf s o)
+  pub lamps-answered : 1 ≤ s.lamp_count → meant s o (Ok (Query Lamp)) ≡ lampsAre (lampsOf s o)
   lamps-answered h =
-      meant-passed s o (Asks (Query Lamp))
+      meant-passed s o (Ok (Query Lamp))
       (record { defined = ne_eqb s.lamp_count 0 (omega arith); listed = refl; sound = refl; timely = refl })
 
   pub lamp-told : (k : ℕ) (d : LampHours) → k < s.lamp_count → k < length o.lamps

@@ -9,3 +9,4 @@ pub mod InputSets
 pub mod LampsSaid
 pub mod LampsTold
 pub mod Settled
+pub mod RulesKept

@@ -7,6 +7,7 @@ use mathlib.Core.Path.{◌≡◌, refl, sym, ◌∙◌}
 use mathlib.Core.Bool.{Bool, true, false, false≢true}
 use lib.Dec.{eqb}
 use borrow.Author.Tests.{eqb-true, eq-eqb, ne_eqb}
+use Rattle.std.specs.Prelude.{Ok, Err}
 use Rattle.text.proofs.Choices.{if-by, if_yes, if_no}
 use Rattle.pjlink.specs.declared.command.Half.{Half}
 use Rattle.pjlink.specs.declared.command.Half.TheVariants.{VideoHalf, AudioHalf, BothHalves}
@@ -14,8 +15,7 @@ use Rattle.pjlink.specs.declared.command.Volume.{Volume}
 use Rattle.pjlink.specs.declared.command.Volume.TheVariants.{Speaker, Microphone}
 use Rattle.pjlink.specs.declared.command.Command.TheVariants.{PowerSet, InputSet, MuteSet, Query}
 use Rattle.pjlink.specs.declared.command.Command.TheVariants.{InputSet2, FreezeSet, VolumeStep, NameQuery}
-use Rattle.pjlink.specs.declared.request.Request.{Request}
-use Rattle.pjlink.specs.declared.request.Request.TheVariants.{Asks, Unlisted, UnknownBody}
+use Rattle.pjlink.specs.Requests.{Request}
 use Rattle.pjlink.specs.Said.{Said, okay, refused}
 use Rattle.record.specs.Limits.{off, on, cooling, warming, isBetween}
 use Rattle.record.specs.Updates.{withPower}
@@ -26,9 +26,9 @@ use Rattle.meaning.proofs.Cases.{decided-by, meant-by, meant-passed}
 
 pub data PowerTurn (s : Settings) (o : Own) (r : Request) (m : Said) (k : Own) : Type 0 where
   stays : k.power ≡ o.power → k.left ≡ o.left → PowerTurn s o r m k
-  warms : r ≡ Asks (PowerSet true) → m ≡ okay → o.power ≡ off → k.power ≡ warming → k.left ≡ s.warm
+  warms : r ≡ Ok (PowerSet true) → m ≡ okay → o.power ≡ off → k.power ≡ warming → k.left ≡ s.warm
       → PowerTurn s o r m k
-  cools : r ≡ Asks (PowerSet false) → m ≡ okay → o.power ≡ on → k.power ≡ cooling → k.left ≡ s.cool
+  cools : r ≡ Ok (PowerSet false) → m ≡ okay → o.power ≡ on → k.power ≡ cooling → k.left ≡ s.cool
       → PowerTurn s o r m k
 
 no-refusal : (n : ℕ) → refused n ≡ okay → ⊥
@@ -46,21 +46,20 @@ module _ (s : Settings) (o : Own) where
 
   turned : (r : Request) → PowerTurn s o r (requestAnswer s o r) (carriedOut s o r)
   unfolding afterPower
-  turned (Asks (PowerSet true)) =
-      if-by (PowerTurn s o (Asks (PowerSet true)) okay) (eqb o.power off)
+  turned (Ok (PowerSet true)) =
+      if-by (PowerTurn s o (Ok (PowerSet true)) okay) (eqb o.power off)
       (λ e. warms refl refl (eqb-true o.power off e) refl refl) (λ e. stays refl refl)
-  turned (Asks (PowerSet false)) =
-      if-by (PowerTurn s o (Asks (PowerSet false)) okay) (eqb o.power on)
+  turned (Ok (PowerSet false)) =
+      if-by (PowerTurn s o (Ok (PowerSet false)) okay) (eqb o.power on)
       (λ e. cools refl refl (eqb-true o.power on e) refl refl) (λ e. stays refl refl)
-  turned (Asks (InputSet i)) = stays refl refl
-  turned (Asks (MuteSet half wanted)) = muted half wanted
-  turned (Asks (Query b)) = stays refl refl
-  turned (Asks (InputSet2 i)) = stays refl refl
-  turned (Asks (FreezeSet wanted)) = stays refl refl
-  turned (Asks (VolumeStep v up)) = volumed v up
-  turned (Asks (NameQuery i)) = stays refl refl
-  turned (Unlisted b) = stays refl refl
-  turned UnknownBody = stays refl refl
+  turned (Ok (InputSet i)) = stays refl refl
+  turned (Ok (MuteSet half wanted)) = muted half wanted
+  turned (Ok (Query b)) = stays refl refl
+  turned (Ok (InputSet2 i)) = stays refl refl
+  turned (Ok (FreezeSet wanted)) = stays refl refl
+  turned (Ok (VolumeStep v up)) = volumed v up
+  turned (Ok (NameQuery i)) = stays refl refl
+  turned (Err u) = stays refl refl
 
   pub power-turns : (r : Request) → PowerTurn s o r (meant s o r) (done s o r)
   power-turns r =
@@ -72,38 +71,38 @@ module _ (s : Settings) (o : Own) where
     abbrev OkayOnly : Said → Type 0
     OkayOnly m = m ≡ okay → (o.fault ≡ false) × (isBetween o.power ≡ false)
 
-    pub power-set-only : OkayOnly (meant s o (Asks (PowerSet wanted)))
+    pub power-set-only : OkayOnly (meant s o (Ok (PowerSet wanted)))
     power-set-only =
-        meant-by s o (Asks (PowerSet wanted)) OkayOnly
+        meant-by s o (Ok (PowerSet wanted)) OkayOnly
         (λ a e. absurd (no-refusal 1 e)) (λ a b e. absurd (no-refusal 2 e)) (λ a b c e. absurd (no-refusal 4 e))
         (λ a b c d e. absurd (no-refusal 3 e)) (λ p e. (p.sound, p.timely))
 
-    pub power-set-passes : o.fault ≡ false → isBetween o.power ≡ false → meant s o (Asks (PowerSet wanted)) ≡ okay
+    pub power-set-passes : o.fault ≡ false → isBetween o.power ≡ false → meant s o (Ok (PowerSet wanted)) ≡ okay
     power-set-passes f b =
-        meant-passed s o (Asks (PowerSet wanted)) (record { defined = refl; listed = refl; sound = f; timely = b })
+        meant-passed s o (Ok (PowerSet wanted)) (record { defined = refl; listed = refl; sound = f; timely = b })
 
-    pub power-set-done : meant s o (Asks (PowerSet wanted)) ≡ okay
-        → done s o (Asks (PowerSet wanted)) ≡ afterPower s o wanted
+    pub power-set-done : meant s o (Ok (PowerSet wanted)) ≡ okay
+        → done s o (Ok (PowerSet wanted)) ≡ afterPower s o wanted
     power-set-done =
-        decided-by s o (Asks (PowerSet wanted)) (λ m k. m ≡ okay → k ≡ afterPower s o wanted)
+        decided-by s o (Ok (PowerSet wanted)) (λ m k. m ≡ okay → k ≡ afterPower s o wanted)
         (λ a e. cc) (λ a b e. cc) (λ a b c e. cc) (λ a b c d e. cc) (λ p e. refl)
 
-  pub on-when-off : meant s o (Asks (PowerSet true)) ≡ okay → o.power ≡ off
-      → done s o (Asks (PowerSet true)) ≡ withPower o warming s.warm
+  pub on-when-off : meant s o (Ok (PowerSet true)) ≡ okay → o.power ≡ off
+      → done s o (Ok (PowerSet true)) ≡ withPower o warming s.warm
   unfolding afterPower
   on-when-off e h = power-set-done true e ∙ if_yes _ _ (eq-eqb o.power off h)
 
-  pub on-otherwise : meant s o (Asks (PowerSet true)) ≡ okay → (o.power ≡ off → ⊥)
-      → done s o (Asks (PowerSet true)) ≡ o
+  pub on-otherwise : meant s o (Ok (PowerSet true)) ≡ okay → (o.power ≡ off → ⊥)
+      → done s o (Ok (PowerSet true)) ≡ o
   unfolding afterPower
   on-otherwise e h = power-set-done true e ∙ if_no _ _ (ne_eqb o.power off h)
 
-  pub off-when-on : meant s o (Asks (PowerSet false)) ≡ okay → o.power ≡ on
-      → done s o (Asks (PowerSet false)) ≡ withPower o cooling s.cool
+  pub off-when-on : meant s o (Ok (PowerSet false)) ≡ okay → o.power ≡ on
+      → done s o (Ok (PowerSet false)) ≡ withPower o cooling s.cool
   unfolding afterPower
   off-when-on e h = power-set-done false e ∙ if_yes _ _ (eq-eqb o.power on h)
 
-  pub off-otherwise : meant s o (Asks (PowerSet false)) ≡ okay → (o.power ≡ on → ⊥)
-      → done s o (Asks (PowerSet false)) ≡ o
+  pub off-otherwise : meant s o (Ok (PowerSet false)) ≡ okay → (o.power ≡ on → ⊥)
+      → done s o (Ok (PowerSet false)) ≡ o
   unfolding afterPower
   off-otherwise e h = power-set-done false e ∙ if_no _ _ (ne_eqb o.power on h)

@@ -9,11 +9,11 @@
 --   done s o r            the own part after it
 -- Assumes nothing.
 use Rattle.std.specs.Prelude.{ℕ, ◌+◌, ◌-◌, ◌/◌, Bool, false, not, ◌&&◌, ◌||◌, List, [], ◌∷◌, take, get_or, ltb, eqb}
-use Rattle.std.specs.Prelude.{if◌then◌else◌}
+use Rattle.std.specs.Prelude.{if◌then◌else◌, Ok, Err}
 use Rattle.words.specs.declared.input.Input.{Input}
-use Rattle.pjlink.specs.declared.command.Body.{Body}
-use Rattle.pjlink.specs.declared.command.Body.TheVariants.{Powr, Inpt, Avmt, Erst, Lamp, Inst, Name, Inf1, Inf2, Info}
-use Rattle.pjlink.specs.declared.command.Body.TheVariants.{Clss, Frez, Svol, Mvol, Snum, Sver, Innm, Inpt2, Inst2}
+use Rattle.pjlink.specs.declared.body.Body.{Body}
+use Rattle.pjlink.specs.declared.body.Body.TheVariants.{Powr, Inpt, Avmt, Erst, Lamp, Inst, Name, Inf1, Inf2, Info}
+use Rattle.pjlink.specs.declared.body.Body.TheVariants.{Clss, Frez, Svol, Mvol, Snum, Sver, Innm, Inpt2, Inst2}
 use Rattle.pjlink.specs.declared.command.Half.{Half}
 use Rattle.pjlink.specs.declared.command.Half.TheVariants.{VideoHalf, AudioHalf, BothHalves}
 use Rattle.pjlink.specs.declared.command.Volume.{Volume}
@@ -21,8 +21,7 @@ use Rattle.pjlink.specs.declared.command.Volume.TheVariants.{Speaker, Microphone
 use Rattle.pjlink.specs.declared.command.Command.{Command}
 use Rattle.pjlink.specs.declared.command.Command.TheVariants.{PowerSet, InputSet, MuteSet, Query}
 use Rattle.pjlink.specs.declared.command.Command.TheVariants.{InputSet2, FreezeSet, VolumeStep, NameQuery}
-use Rattle.pjlink.specs.declared.request.Request.{Request}
-use Rattle.pjlink.specs.declared.request.Request.TheVariants.{Asks, Unlisted, UnknownBody}
+use Rattle.pjlink.specs.Requests.{Request}
 use Rattle.pjlink.specs.Said.{Said, okay, refused, powerIs, chosenIs, mutesAre, errorsAre, lampsAre, inputsAre}
 use Rattle.pjlink.specs.Said.{textIs, classIs, freezeIs, nothing}
 use Rattle.words.specs.declared.power.Power.{Power}
@@ -105,9 +104,8 @@ tableAnswer s o (VolumeStep v up) = okay
 tableAnswer s o (NameQuery i) = textIs (inputNameOf s i)
 
 abbrev pub requestAnswer : Settings → Own → Request → Said
-requestAnswer s o (Asks c) = tableAnswer s o c
-requestAnswer s o (Unlisted b) = nothing
-requestAnswer s o UnknownBody = nothing
+requestAnswer s o (Ok c) = tableAnswer s o c
+requestAnswer s o (Err u) = nothing
 
 -- POWR 1 when off starts warm-up with W left; POWR 0 when on starts cooling with C left; otherwise power stays.
 unfoldable pub afterPower : Settings → Own → Bool → Own
@@ -141,9 +139,8 @@ afterCommand s o (VolumeStep v up) = afterStep o v up
 afterCommand s o (NameQuery i) = o
 
 abbrev pub carriedOut : Settings → Own → Request → Own
-carriedOut s o (Asks c) = afterCommand s o c
-carriedOut s o (Unlisted b) = o
-carriedOut s o UnknownBody = o
+carriedOut s o (Ok c) = afterCommand s o c
+carriedOut s o (Err u) = o
 
 -- The first that applies.
 unfoldable pub meant : Settings → Own → Request → Said
@@ -159,4 +156,3 @@ is_refused s o r = isUndefined s r || isOutOfParameter s r || isFailure o r || i
 
 unfoldable pub done : Settings → Own → Request → Own
 done s o r = if is_refused s o r then o else carriedOut s o r
-

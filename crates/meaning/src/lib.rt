@@ -7,23 +7,21 @@ mod rules;
 mod table;
 pub mod theorems;
 
-ghost use Rattle.std.specs.Prelude.{◌≡◌};
+ghost use Rattle.std.specs.Prelude.{◌≡◌, Ok};
 ghost use Rattle.pjlink.specs.Carried.{said_by};
-ghost use Rattle.pjlink.specs.declared.request.Request.TheVariants.{Asks};
 ghost use Rattle.meaning.specs.Meaning.{meant, done};
 
 use pjlink::answer::Reply;
 use words::refusal::Refusal;
-use pjlink::body;
 use pjlink::command::Command;
-use pjlink::request::Request;
+use pjlink::request::Unasked;
 use record::types::{Own, Settings};
 
 // A command: the first rule that applies refuses it; else it is answered, and then carried out.
 #[tactic(auto, unfolding(crate::specs::Meaning::meant, crate::specs::Meaning::done))]
 fn answer<'a>(s: &'a Settings, o: &mut Own, c: Command) -> Reply<'a>
-    ensures value { said_by result ≡ meant s.now o.old (Asks c) }
-    ensures own { o.new ≡ done s.now o.old (Asks c) }
+    ensures value { said_by result ≡ meant s.now o.old (Ok c) }
+    ensures own { o.new ≡ done s.now o.old (Ok c) }
 {
     if rules::is_undefined(s, c) {
         return Err(Refusal::Undefined);
@@ -47,19 +45,19 @@ fn answer<'a>(s: &'a Settings, o: &mut Own, c: Command) -> Reply<'a>
 
 /// What a legal projector answers, and the own part that the request leaves.
 #[tactic(auto, unfolding(crate::specs::Meaning::meant, crate::specs::Meaning::done))]
-pub fn decide<'a>(s: &'a Settings, o: &mut Own, r: Request) -> Reply<'a>
+pub fn decide<'a>(s: &'a Settings, o: &mut Own, r: Result<Command, Unasked>) -> Reply<'a>
     ensures value { said_by result ≡ meant s.now o.old r }
     ensures own { o.new ≡ done s.now o.old r }
 {
     match r {
-        Request::Asks(c) => answer(s, o, c),
-        Request::Unlisted(b) => {
-            if body::has_parameters(b) {
+        Ok(c) => answer(s, o, c),
+        Err(Unasked::Unlisted(b)) => {
+            if b.has_parameters() {
                 Err(Refusal::OutOfParameter)
             } else {
                 Err(Refusal::Undefined)
             }
         }
-        Request::UnknownBody => Err(Refusal::Undefined),
+        Err(Unasked::UnknownBody) => Err(Refusal::Undefined),
     }
 }

@@ -2,14 +2,15 @@
 ghost use Rattle.std.specs.Prelude.{◌≡◌, take, get_or};
 ghost use Rattle.pjlink.specs.Carried.{value_said};
 ghost use Rattle.record.specs.Record.{blankName};
-ghost use Rattle.meaning.specs.Meaning.{powerSaid, lampsSaid, nameBytes, inputNameOf, queried, tableAnswer};
+ghost use Rattle.meaning.specs.Meaning.{powerSaid, lampsSaid, nameBytes, queried, tableAnswer};
 
 use crate::inputs;
 use arrayvec::ArrayVec;
 use pjlink::answer::Answer;
 use words::lamp::LampHours;
 use words::power::Power;
-use pjlink::command::{Body, Command};
+use pjlink::body::Body;
+use pjlink::command::Command;
 use record::own;
 use record::own::{COOLING, OFF, ON};
 use record::types::{
@@ -88,7 +89,10 @@ fn queried<'a>(s: &'a Settings, o: &Own, b: Body) -> Option<Answer<'a>>
             let lit = own::is_lit(o.power);
             Some(Answer::Lamps(lamps_said(&o.lamps, &o.enabled, s.lamp_count, lit)))
         }
-        Body::Inst | Body::Inst2 => Some(Answer::Inputs(inputs::inputs_of(&s.inputs, s.input_count))),
+        Body::Inst | Body::Inst2 => Some(Answer::Inputs(inputs::inputs_of(
+            &s.inputs,
+            s.input_count,
+        ))),
         Body::Name => Some(Answer::Text(text_of(&s.name))),
         Body::Inf1 => Some(Answer::Text(text_of(&s.maker))),
         Body::Inf2 => Some(Answer::Text(text_of(&s.model))),

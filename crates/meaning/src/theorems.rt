@@ -1,9 +1,9 @@
-//! What is proved beside the contracts of the functions. Nothing is done here: that these functions have their contracts
-//! is that the theorems stand.
+//! What is proved beside the contracts of the functions. Nothing is done here: that these functions have their
+//! contracts is that the theorems stand.
 ghost use Rattle.std.specs.Prelude.{◌≡◌, Result};
 ghost use Rattle.pjlink.specs.declared.answer.Answer.{Answer};
 ghost use Rattle.words.specs.declared.refusal.Refusal.{Refusal};
-ghost use Rattle.pjlink.specs.declared.request.Request.{Request};
+ghost use Rattle.pjlink.specs.Requests.{Request};
 ghost use Rattle.pjlink.specs.Carried.{said_by};
 ghost use Rattle.record.specs.declared.types.Settings.{Settings};
 ghost use Rattle.record.specs.declared.types.Own.{Own};

@@ -16,7 +16,7 @@ use Rattle.record.specs.Given.{Given, given_by, set_up_given}
 use Rattle.record.specs.Wanted.{Wanted}
 use Rattle.record.specs.SetUp.{setUp}
 use Rattle.record.specs.HostCalls.{faultSet, errorsSet, markSet}
-use Rattle.form.specs.Form.{StoredAs, storedBy}
+use Rattle.stored.specs.Form.{StoredAs, storedBy}
 use Rattle.stored.specs.Loading.{loaded}
 use Rattle.clock.specs.Passing.{passed}
 use Rattle.device.specs.Calls.{Result, openedBy, placeTaken, closedBy, received}
@@ -105,7 +105,7 @@ ours = record {
   set-errors = λ d digits. given_by d (errorsSet d digits);
   -- record::types::Device::set_mark (record/src/host.rt)
   set-mark = λ d lamp mark. given_by d (markSet d lamp mark);
-  -- form::storing::store
+  -- stored::storing::store
   store = λ d m. formBy (storedBy d (length m)) m;
   -- stored::loading::load
   load = λ s. loaded s;

@@ -7,7 +7,7 @@
 -- Assumes nothing.
 use Rattle.std.specs.Prelude.{ℕ, List}
 use Rattle.record.specs.declared.types.Device.{Device}
-use Rattle.form.specs.declared.storing.FormWritten.{FormWritten}
+use Rattle.stored.specs.declared.storing.FormWritten.{FormWritten}
 use Rattle.device.specs.Outcomes.{Told}
 use Rattle.controller.specs.declared.writing.Written.{Written}
 use Rattle.record.specs.Given.{Given}

@@ -4,8 +4,8 @@ ghost use Rattle.stored.specs.Told.{loading_told};
 ghost use Rattle.ours.specs.Board.{ours};
 ghost use Rattle.ours.specs.Tied.{wroteForm};
 
-use form::storing;
-use form::storing::FormWritten;
+use stored::storing;
+use stored::storing::FormWritten;
 use record::types::Device;
 use stored::error::LoadError;
 use stored::loading;

@@ -14,10 +14,10 @@ use Rattle.text.proofs.Choices.{both_left, both_right}
 use Rattle.words.specs.Bytes.{◌at◌, isAlnum}
 use Rattle.pjlink.specs.Bodies.{bodies, class_of}
 use Rattle.pjlink.specs.Commands.{bodyText}
-use Rattle.pjlink.specs.declared.command.Body.{Body}
-use Rattle.pjlink.specs.declared.command.Body.TheVariants.{Powr, Inpt, Avmt, Erst, Lamp, Inst, Name, Inf1, Inf2}
-use Rattle.pjlink.specs.declared.command.Body.TheVariants.{Info, Clss, Frez, Svol, Mvol, Snum, Sver, Innm}
-use Rattle.pjlink.specs.declared.command.Body.TheVariants.{Inpt2, Inst2}
+use Rattle.pjlink.specs.declared.body.Body.{Body}
+use Rattle.pjlink.specs.declared.body.Body.TheVariants.{Powr, Inpt, Avmt, Erst, Lamp, Inst, Name, Inf1, Inf2}
+use Rattle.pjlink.specs.declared.body.Body.TheVariants.{Info, Clss, Frez, Svol, Mvol, Snum, Sver, Innm}
+use Rattle.pjlink.specs.declared.body.Body.TheVariants.{Inpt2, Inst2}
 
 module _ {A : Type 0} (f g : Body → A) (e : map f bodies ≡ map g bodies) where
   nth : (i : ℕ) → get_or (map f bodies) i (f Powr) ≡ get_or (map g bodies) i (f Powr)

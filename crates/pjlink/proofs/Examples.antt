@@ -4,15 +4,16 @@ use mathlib.Core.Path.{◌≡◌, refl}
 use mathlib.Core.Bool.{true, false}
 use mathlib.Core.List.{List, [], ◌∷◌, map}
 use Prim.Native.Nat.{ℕ}
+use Rattle.std.specs.Prelude.{Ok, Err}
 use Rattle.text.specs.Words.{ascii}
 use Rattle.numbers.specs.Computing.{computing as numbers}
 use Rattle.words.specs.declared.input.Source.TheVariants.{Digital, Internal}
 use Rattle.words.specs.declared.input.Input.{Input}
-use Rattle.pjlink.specs.declared.command.Body.TheVariants.{Lamp, Inst, Clss, Frez, Snum, Svol, Innm, Inpt2}
+use Rattle.pjlink.specs.declared.body.Body.TheVariants.{Lamp, Inst, Clss, Frez, Snum, Svol, Innm, Inpt2}
 use Rattle.pjlink.specs.declared.command.Volume.TheVariants.{Speaker, Microphone}
 use Rattle.pjlink.specs.declared.command.Command.TheVariants.{InputSet, InputSet2, FreezeSet, VolumeStep}
 use Rattle.pjlink.specs.declared.command.Command.TheVariants.{NameQuery, Query}
-use Rattle.pjlink.specs.declared.request.Request.TheVariants.{Asks, Unlisted, UnknownBody}
+use Rattle.pjlink.specs.declared.request.Unasked.TheVariants.{Unlisted, UnknownBody}
 use Rattle.pjlink.specs.Commands.{commandLine}
 use Rattle.pjlink.specs.Forms.{isCommandForm}
 use Rattle.pjlink.specs.Requests.{requestOf}
@@ -53,10 +54,10 @@ requests : map (λ (l : Line). requestOf l.class l.body l.parameter)
     ∷ line 1 (ascii "INST") (ascii "?") ∷ line 2 (ascii "CLSS") (ascii "?") ∷ line 1 (ascii "SNUM") (ascii "?")
     ∷ line 2 (ascii "SNUM") (ascii "1") ∷ line 2 (ascii "SVOL") (ascii "?") ∷ line 2 (ascii "INNM") (ascii "?31")
     ∷ line 2 (ascii "INNM") (ascii "?") ∷ [])
-    ≡ Asks (InputSet hdmi) ∷ Asks (InputSet2 hdmi) ∷ Unlisted Inpt2
-    ∷ Asks (Query Inst) ∷ UnknownBody ∷ UnknownBody
-    ∷ Unlisted Snum ∷ Unlisted Svol ∷ Asks (NameQuery hdmi)
-    ∷ Unlisted Innm ∷ []
+    ≡ Ok (InputSet hdmi) ∷ Ok (InputSet2 hdmi) ∷ Err (Unlisted Inpt2)
+    ∷ Ok (Query Inst) ∷ Err UnknownBody ∷ Err UnknownBody
+    ∷ Err (Unlisted Snum) ∷ Err (Unlisted Svol) ∷ Ok (NameQuery hdmi)
+    ∷ Err (Unlisted Innm) ∷ []
 unfolding computing
 requests = refl
 

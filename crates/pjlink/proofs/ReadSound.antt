@@ -15,7 +15,7 @@ use Rattle.words.specs.Combinations.{whole_says, list_says}
 use Rattle.words.specs.ErrorDigits.{is_error_digit, errors_read}
 use Rattle.words.specs.Classes.{class_read}
 use Rattle.words.specs.Inputs.{isInput, inputText, input_read}
-use Rattle.words.specs.Joined.{list_text, JoinedBy, is_list, listed}
+use Rattle.words.specs.Joined.{list_text, JoinedBy, is_list, list_read}
 use Rattle.words.specs.Lamps.{is_lamp_hours, lamp_read}
 use Rattle.words.specs.Laws.{power_codec, input_codec, mutes_codec, errors_codec, lamp_codec, class_codec, switch_codec}
 use Rattle.words.specs.Muting.{mutes_read}
@@ -28,9 +28,9 @@ use Rattle.words.specs.declared.refusal.Refusal.TheVariants.{Undefined, OutOfPar
 use Rattle.pjlink.specs.declared.command.Command.{Command}
 use Rattle.pjlink.specs.declared.command.Command.TheVariants.{PowerSet, InputSet, MuteSet, InputSet2, FreezeSet}
 use Rattle.pjlink.specs.declared.command.Command.TheVariants.{VolumeStep, NameQuery, Query}
-use Rattle.pjlink.specs.declared.command.Body.{Body}
-use Rattle.pjlink.specs.declared.command.Body.TheVariants.{Powr, Inpt, Avmt, Erst, Lamp, Inst, Name, Inf1, Inf2, Info}
-use Rattle.pjlink.specs.declared.command.Body.TheVariants.{Clss, Frez, Svol, Mvol, Snum, Sver, Innm, Inpt2, Inst2}
+use Rattle.pjlink.specs.declared.body.Body.{Body}
+use Rattle.pjlink.specs.declared.body.Body.TheVariants.{Powr, Inpt, Avmt, Erst, Lamp, Inst, Name, Inf1, Inf2, Info}
+use Rattle.pjlink.specs.declared.body.Body.TheVariants.{Clss, Frez, Svol, Mvol, Snum, Sver, Innm, Inpt2, Inst2}
 use Rattle.pjlink.specs.Said.{Said, powerIs, chosenIs, mutesAre, errorsAre, lampsAre, inputsAre, textIs}
 use Rattle.pjlink.specs.Said.{classIs, freezeIs, nothing, saidText}
 use Rattle.pjlink.specs.Carried.{lampsCarried, inputsCarried}
@@ -93,9 +93,9 @@ module _ (p : List ℕ) where
   inputs-sound : {b : Body}
       → ((is : List Input) → 1 ≤ length is → length is ≤ inputsCarried → every isInput is ≡ true
       → CanSay (Query b) (inputsAre is))
-      → CanRead (Query b) p (said_or inputsAre (listed input_read inputsCarried p))
+      → CanRead (Query b) p (said_or inputsAre (list_read input_read inputsCarried p))
   inputs-sound can =
-      found inputsAre (listed input_read inputsCarried p) (λ is e.
+      found inputsAre (list_read input_read inputsCarried p) (λ is e.
       let it = list_says input_codec inputsCarried in
       let w = it.sound p is e in
       let h = it.told is p w in
@@ -112,7 +112,7 @@ module _ (p : List ℕ) where
 
   lamps-sound : CanRead (Query Lamp) p (readQueried Lamp p)
   lamps-sound =
-      found lampsAre (listed lamp_read lampsCarried p) (λ ls e.
+      found lampsAre (list_read lamp_read lampsCarried p) (λ ls e.
       let it = list_says lamp_codec lampsCarried in
       let w = it.sound p ls e in
       let h = it.told ls p w in

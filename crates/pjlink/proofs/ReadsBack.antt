@@ -36,8 +36,8 @@ use Rattle.pjlink.specs.declared.command.Command.{Command}
 use Rattle.pjlink.specs.declared.command.Command.TheVariants.{PowerSet, InputSet, MuteSet, InputSet2, FreezeSet}
 use Rattle.pjlink.specs.declared.command.Command.TheVariants.{VolumeStep, NameQuery, Query}
 use Rattle.pjlink.specs.declared.command.Volume.TheVariants.{Speaker, Microphone}
-use Rattle.pjlink.specs.declared.command.Body.{Body}
-use Rattle.pjlink.specs.declared.command.Body.TheVariants.{Erst, Inst, Innm}
+use Rattle.pjlink.specs.declared.body.Body.{Body}
+use Rattle.pjlink.specs.declared.body.Body.TheVariants.{Erst, Inst, Innm}
 use Rattle.pjlink.specs.Said.{Said, okay, refused, powerIs, chosenIs, mutesAre, errorsAre, lampsAre, inputsAre}
 use Rattle.pjlink.specs.Said.{textIs, classIs, freezeIs, nothing, saidText, saidBytes}
 use Rattle.pjlink.specs.Carried.{lampsCarried, inputsCarried, errorsCarried}

@@ -1,85 +1,88 @@
--- The table of the bodies of both classes, and what rules 1 to 4 ask of each (RULES, Commands and Class 2). A row
--- stands here and nowhere else: under which class a body is asked for, what it is called, how it is set and when it is
--- refused all come from it. INPT and INST are a body of each class, under one name.
+-- The bodies of both classes by the table of src/body.rt (`BODIES`), which stands there and nowhere else: under which
+-- class a body is asked for, what it is called, how it is set and when it is refused all come from its row (RULES,
+-- Commands and Class 2). INPT and INST are a body of each class, under one name.
 --   bodies             every body, those of Class 1 in the order of RULES, then those of Class 2
---   rowOf b            its class; its letters; what it sets; whether `?` asks it; whether it is defined only where
+--   row_of b           its class; its letters; what it sets; whether `?` asks it; whether it is defined only where
 --                      there are lamps (rule 1); whether it is available, set or query, only when on (rule 4)
 --   class_of b         the class of the line that asks for it
+--   is_named k s r      the bytes s name the body of the row r in a line of Class k, in any case of letters
+--   isBody k s b       they name the body b
+--   bodyNamed k s      the body that they name, or none
 --   hasSet b           it sets something (rule 3)
 --   hasParameters b    it knows a parameter besides `?`: one that it does not know is out of parameter (rules 1 and 2)
 --   hasQuery b         `?` asks it
 -- Assumes nothing.
-use Rattle.std.specs.Prelude.{ℕ, Bool, true, false, List, [], ◌∷◌}
-use Rattle.text.specs.Words.{ascii}
-use Rattle.pjlink.specs.declared.command.Body.{Body}
-use Rattle.pjlink.specs.declared.command.Body.TheVariants.{Powr, Inpt, Avmt, Erst, Lamp, Inst, Name, Inf1, Inf2}
-use Rattle.pjlink.specs.declared.command.Body.TheVariants.{Info, Clss, Frez, Svol, Mvol, Snum, Sver, Innm}
-use Rattle.pjlink.specs.declared.command.Body.TheVariants.{Inpt2, Inst2}
+use Rattle.std.specs.Prelude.{ℕ, Bool, true, false, ◌&&◌, List, [], map, eqb, get_or, find, Option}
+use Rattle.std.specs.Option.{option_map}
+use Rattle.text.specs.Scans.{sameBy}
+use Rattle.words.specs.Bytes.{upperOf}
+use Rattle.pjlink.specs.declared.body.TheConstants.{BODIES}
+use Rattle.pjlink.specs.declared.body.Row.{Row}
+use Rattle.pjlink.specs.declared.body.Body.{Body}
+use Rattle.pjlink.specs.declared.body.Body.TheVariants.{Powr, Inpt, Avmt, Erst, Lamp, Inst, Name, Inf1, Inf2}
+use Rattle.pjlink.specs.declared.body.Body.TheVariants.{Info, Clss, Frez, Svol, Mvol, Snum, Sver, Innm}
+use Rattle.pjlink.specs.declared.body.Body.TheVariants.{Inpt2, Inst2}
 use Rattle.pjlink.specs.declared.body.Sets.{Sets}
-use Rattle.pjlink.specs.declared.body.Sets.TheVariants.{SetsPower, SetsInput, SetsMute, SetsInput2, SetsFreeze}
-use Rattle.pjlink.specs.declared.body.Sets.TheVariants.{StepsSpeaker, StepsMicrophone, NamesInput, QueryOnly}
-use Rattle.pjlink.specs.declared.body.BodyRow.{BodyRow}
+use Rattle.pjlink.specs.declared.body.Sets.TheVariants.{NamesInput, QueryOnly}
 
 abbrev pub bodies : List Body
-bodies =
-    Powr ∷ Inpt ∷ Avmt ∷ Erst ∷ Lamp ∷ Inst ∷ Name ∷ Inf1 ∷ Inf2 ∷ Info ∷ Clss
-    ∷ Frez ∷ Svol ∷ Mvol ∷ Snum ∷ Sver ∷ Innm ∷ Inpt2 ∷ Inst2 ∷ []
+bodies = map (λ (r : Row). r.body) BODIES
 
-abbrev row : ℕ → List ℕ → Sets → Bool → Bool → Bool → BodyRow
-row k s set asks lamps on = record { class = k; letters = s; set = set; asks = asks; lamps = lamps; on = on }
+-- its place in the table
+abbrev pub row_place : Body → ℕ
+row_place Powr = 0
+row_place Inpt = 1
+row_place Avmt = 2
+row_place Erst = 3
+row_place Lamp = 4
+row_place Inst = 5
+row_place Name = 6
+row_place Inf1 = 7
+row_place Inf2 = 8
+row_place Info = 9
+row_place Clss = 10
+row_place Frez = 11
+row_place Svol = 12
+row_place Mvol = 13
+row_place Snum = 14
+row_place Sver = 15
+row_place Innm = 16
+row_place Inpt2 = 17
+row_place Inst2 = 18
 
--- class, letters, what is set, a query, lamps only, on only
-abbrev pub rowOf : Body → BodyRow
-rowOf Powr = row 1 (ascii "POWR") SetsPower true false false
-rowOf Inpt = row 1 (ascii "INPT") SetsInput true false true
-rowOf Avmt = row 1 (ascii "AVMT") SetsMute true false true
-rowOf Erst = row 1 (ascii "ERST") QueryOnly true false false
-rowOf Lamp = row 1 (ascii "LAMP") QueryOnly true true false
-rowOf Inst = row 1 (ascii "INST") QueryOnly true false false
-rowOf Name = row 1 (ascii "NAME") QueryOnly true false false
-rowOf Inf1 = row 1 (ascii "INF1") QueryOnly true false false
-rowOf Inf2 = row 1 (ascii "INF2") QueryOnly true false false
-rowOf Info = row 1 (ascii "INFO") QueryOnly true false false
-rowOf Clss = row 1 (ascii "CLSS") QueryOnly true false false
-rowOf Frez = row 2 (ascii "FREZ") SetsFreeze true false true
-rowOf Svol = row 2 (ascii "SVOL") StepsSpeaker false false true
-rowOf Mvol = row 2 (ascii "MVOL") StepsMicrophone false false true
-rowOf Snum = row 2 (ascii "SNUM") QueryOnly true false false
-rowOf Sver = row 2 (ascii "SVER") QueryOnly true false false
-rowOf Innm = row 2 (ascii "INNM") NamesInput false false false
-rowOf Inpt2 = row 2 (ascii "INPT") SetsInput2 true false true
-rowOf Inst2 = row 2 (ascii "INST") QueryOnly true false false
+-- no body lies past the table
+abbrev noRow : Body → Row
+noRow b = record { body = b; class = 0; letters = []; set = QueryOnly; asks = false; lamps = false; on = false }
+
+abbrev pub row_of : Body → Row
+row_of b = get_or BODIES (row_place b) (noRow b)
 
 abbrev pub class_of : Body → ℕ
-class_of b = (rowOf b).class
+class_of b = (row_of b).class
+
+abbrev pub is_named : ℕ → List ℕ → Row → Bool
+is_named k s r = eqb k r.class && sameBy upperOf s r.letters
+
+abbrev pub isBody : ℕ → List ℕ → Body → Bool
+isBody k s b = is_named k s (row_of b)
+
+abbrev pub bodyNamed : ℕ → List ℕ → Option Body
+bodyNamed k s = option_map (λ (r : Row). r.body) (find (is_named k s) BODIES)
 
 abbrev pub isSetting : Sets → Bool
-isSetting SetsPower = true
-isSetting SetsInput = true
-isSetting SetsMute = true
-isSetting SetsInput2 = true
-isSetting SetsFreeze = true
-isSetting StepsSpeaker = true
-isSetting StepsMicrophone = true
 isSetting NamesInput = false
 isSetting QueryOnly = false
+isSetting set = true
 
 abbrev pub hasSet : Body → Bool
-hasSet b = isSetting (rowOf b).set
+hasSet b = isSetting (row_of b).set
 
 abbrev pub isKnowing : Sets → Bool
-isKnowing SetsPower = true
-isKnowing SetsInput = true
-isKnowing SetsMute = true
-isKnowing SetsInput2 = true
-isKnowing SetsFreeze = true
-isKnowing StepsSpeaker = true
-isKnowing StepsMicrophone = true
-isKnowing NamesInput = true
 isKnowing QueryOnly = false
+isKnowing set = true
 
 abbrev pub hasParameters : Body → Bool
-hasParameters b = isKnowing (rowOf b).set
+hasParameters b = isKnowing (row_of b).set
 
 abbrev pub hasQuery : Body → Bool
-hasQuery b = (rowOf b).asks
+hasQuery b = (row_of b).asks

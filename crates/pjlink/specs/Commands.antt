@@ -15,9 +15,9 @@ use Prim.Native.Char.{code}
 use Rattle.text.specs.Words.{ascii}
 use Rattle.words.specs.Inputs.{isInput, inputText}
 use Rattle.words.specs.Powers.{switch_code}
-use Rattle.pjlink.specs.Bodies.{rowOf, class_of, hasQuery}
-use Rattle.pjlink.specs.declared.command.Body.{Body}
-use Rattle.pjlink.specs.declared.command.Body.TheVariants.{Powr, Inpt, Avmt, Frez, Svol, Mvol, Innm, Inpt2}
+use Rattle.pjlink.specs.Bodies.{row_of, class_of, hasQuery}
+use Rattle.pjlink.specs.declared.body.Body.{Body}
+use Rattle.pjlink.specs.declared.body.Body.TheVariants.{Powr, Inpt, Avmt, Frez, Svol, Mvol, Innm, Inpt2}
 use Rattle.pjlink.specs.declared.command.Half.{Half}
 use Rattle.pjlink.specs.declared.command.Half.TheVariants.{VideoHalf, AudioHalf, BothHalves}
 use Rattle.pjlink.specs.declared.command.Volume.{Volume}
@@ -29,7 +29,7 @@ use Rattle.pjlink.specs.declared.command.Command.TheVariants.{PowerSet, InputSet
 use Rattle.pjlink.specs.declared.command.Command.TheVariants.{VolumeStep, NameQuery, Query}
 
 abbrev pub bodyText : Body → List ℕ
-bodyText b = (rowOf b).letters
+bodyText b = (row_of b).letters
 
 abbrev pub volumeBody : Volume → Body
 volumeBody Speaker = Svol

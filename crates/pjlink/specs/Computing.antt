@@ -3,12 +3,12 @@
 -- Assumes nothing.
 use Rattle.words.specs.Computing.{computing as words}
 use Rattle.pjlink.specs.Forms.{isCommandForm, isReplyForm}
-use Rattle.pjlink.specs.Requests.{bodyNamed, switchAsked, nameAsked, halfNamed, muteAsked, asked_of, requestOf}
+use Rattle.pjlink.specs.Requests.{switch_of, name_query_of, halfNamed, mute_of, asked_of, requestOf}
 use Rattle.pjlink.specs.Said.{saidBytes}
 use Rattle.pjlink.specs.Reading.{readParameter}
 
 unfoldable pub computing : Unit {0}
 unfolding
-    words isCommandForm isReplyForm bodyNamed switchAsked nameAsked halfNamed muteAsked asked_of requestOf saidBytes
+    words isCommandForm isReplyForm switch_of name_query_of halfNamed mute_of asked_of requestOf saidBytes
     readParameter
 computing = tt

@@ -8,25 +8,30 @@
 --                            the end
 --   headBody l               the four body bytes of either
 --   commandParameter l       what follows the mark; in a reply, up to the CR: replyParameter l
+--   IsCommandOf k l h s p    the line l of the form has the class byte h, the body s and the parameter p
+--   IsReplyOf k l s p        the reply l of the form has the body s and the parameter p
 --   replyLine h a b c d p    the reply with the class byte h, the body a b c d and the parameter p
 --   greetingOpen             the greeting of a projector without security
 --   greetingSecured digits   the greeting with its random number's eight digits
 --   erraLine                 the refusal of a first line without the matching digest
 -- Assumes nothing.
-use Rattle.std.specs.Prelude.{ℕ, ◌-◌, Bool, ◌&&◌, ◌||◌, List, [], ◌∷◌, ◌++◌, length, take, drop, leb, eqb}
+use Rattle.std.specs.Prelude.{ℕ, ◌-◌, ◌≡◌, true, Bool, ◌&&◌, ◌||◌, List, [], ◌∷◌, ◌++◌, length, take, drop, leb, eqb}
 use Prim.Native.Char.{code}
 use Rattle.text.specs.Words.{ascii, ◌is◌}
 use Rattle.words.specs.Bytes.{◌at◌, isAlnum, noCr, commandMost}
 use Rattle.pjlink.specs.Commands.{classDigit}
 
-abbrev pub isHeaded : ℕ → List ℕ → Bool
-isHeaded m l =
-    l at 0 is "%"
-    && isAlnum (l at 2) && isAlnum (l at 3) && isAlnum (l at 4) && isAlnum (l at 5)
-    && eqb (l at 6) m
-
 abbrev pub headBody : List ℕ → List ℕ
 headBody l = (l at 2) ∷ (l at 3) ∷ (l at 4) ∷ (l at 5) ∷ []
+
+abbrev pub isHeadedBy : ℕ → ℕ → List ℕ → ℕ → Bool
+isHeadedBy m first s last =
+    first is "%"
+    && isAlnum (s at 0) && isAlnum (s at 1) && isAlnum (s at 2) && isAlnum (s at 3)
+    && eqb last m
+
+abbrev pub isHeaded : ℕ → List ℕ → Bool
+isHeaded m l = isHeadedBy m (l at 0) (headBody l) (l at 6)
 
 abbrev pub takesClass : ℕ → ℕ → Bool
 takesClass k b = b is "1" || eqb k 2 && b is "2"
@@ -54,6 +59,18 @@ unfoldable pub isReplyForm : ℕ → List ℕ → Bool
 isReplyForm k l =
     leb 8 (length l) && leb (length l) replyMost && isHeaded (code "=") l && eqb (l at 1) (classDigit k)
     && l at (length l - 1) is "\r" && noCr (replyParameter l)
+
+-- the parts of a line of the form
+pub record IsCommandOf (k : ℕ) (l : List ℕ) (h : ℕ) (s p : List ℕ) : Type 0 where
+  pub form : isCommandForm k l ≡ true
+  pub class : h ≡ l at 1
+  pub body : s ≡ headBody l
+  pub parameter : p ≡ commandParameter l
+
+pub record IsReplyOf (k : ℕ) (l s p : List ℕ) : Type 0 where
+  pub form : isReplyForm k l ≡ true
+  pub body : s ≡ headBody l
+  pub parameter : p ≡ replyParameter l
 
 abbrev pub replyLine : ℕ → ℕ → ℕ → ℕ → ℕ → List ℕ → List ℕ
 replyLine h a b c d p = ascii "%" ++ (h ∷ a ∷ b ∷ c ∷ d ∷ []) ++ ascii "=" ++ p ++ ascii "\r"

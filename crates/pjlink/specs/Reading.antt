@@ -13,7 +13,7 @@ use Rattle.std.specs.Prelude.{ℕ, Bool, List, Option, Some, None, if◌then◌e
 use Rattle.text.specs.Words.{ascii}
 use Rattle.text.specs.Scans.{sameBy, itself}
 use Rattle.words.specs.Codec.{whole}
-use Rattle.words.specs.Joined.{listed}
+use Rattle.words.specs.Joined.{list_read}
 use Rattle.words.specs.Powers.{power_read, switch_read}
 use Rattle.words.specs.Inputs.{input_read}
 use Rattle.words.specs.Muting.{mutes_read}
@@ -25,9 +25,9 @@ use Rattle.words.specs.Texts.{isName, isInfo, isInputName}
 use Rattle.words.specs.declared.refusal.Refusal.{Refusal}
 use Rattle.pjlink.specs.Commands.{bodyOf}
 use Rattle.pjlink.specs.declared.command.Command.{Command}
-use Rattle.pjlink.specs.declared.command.Body.{Body}
-use Rattle.pjlink.specs.declared.command.Body.TheVariants.{Powr, Inpt, Avmt, Erst, Lamp, Inst, Name, Inf1, Inf2, Info}
-use Rattle.pjlink.specs.declared.command.Body.TheVariants.{Clss, Frez, Svol, Mvol, Snum, Sver, Innm, Inpt2, Inst2}
+use Rattle.pjlink.specs.declared.body.Body.{Body}
+use Rattle.pjlink.specs.declared.body.Body.TheVariants.{Powr, Inpt, Avmt, Erst, Lamp, Inst, Name, Inf1, Inf2, Info}
+use Rattle.pjlink.specs.declared.body.Body.TheVariants.{Clss, Frez, Svol, Mvol, Snum, Sver, Innm, Inpt2, Inst2}
 use Rattle.pjlink.specs.Said.{Said, okay, refused, powerIs, chosenIs, mutesAre, errorsAre, lampsAre, inputsAre}
 use Rattle.pjlink.specs.Said.{textIs, classIs, freezeIs, nothing}
 use Rattle.pjlink.specs.Carried.{lampsCarried, inputsCarried}
@@ -52,8 +52,8 @@ readQueried Powr p = said_or powerIs (whole power_read p)
 readQueried Inpt p = said_or chosenIs (whole input_read p)
 readQueried Avmt p = said_or (λ m. mutesAre m.video m.audio) (whole mutes_read p)
 readQueried Erst p = said_or errorsAre (whole errors_read p)
-readQueried Lamp p = said_or lampsAre (listed lamp_read lampsCarried p)
-readQueried Inst p = said_or inputsAre (listed input_read inputsCarried p)
+readQueried Lamp p = said_or lampsAre (list_read lamp_read lampsCarried p)
+readQueried Inst p = said_or inputsAre (list_read input_read inputsCarried p)
 readQueried Name p = text_or (isName p) p
 readQueried Inf1 p = text_or (isInfo p) p
 readQueried Inf2 p = text_or (isInfo p) p
@@ -66,7 +66,7 @@ readQueried Snum p = text_or (isInfo p) p
 readQueried Sver p = text_or (isInfo p) p
 readQueried Innm p = text_or (isInputName p) p
 readQueried Inpt2 p = said_or chosenIs (whole input_read p)
-readQueried Inst2 p = said_or inputsAre (listed input_read inputsCarried p)
+readQueried Inst2 p = said_or inputsAre (list_read input_read inputsCarried p)
 
 abbrev pub readValue : Command → List ℕ → Said
 readValue c p = if is_set c then readOk p else readQueried (bodyOf c) p

@@ -1,25 +1,24 @@
 -- What a received class, body and parameter ask for (RULES, Commands: bodies without regard to case, parameters
 -- exactly; RULES, Class 2: each body under its own class).
---   isBody k s b           the bytes s name the body b of Class k, in any case of letters
---   bodyNamed k s          the body that they name, or none
---   requestOf k s p        what the body s with the parameter p asks for in a line of Class k:
---                            Asks c         the command c
---                            Unlisted b     the body b, with a parameter that is neither its query nor one it knows
---                            UnknownBody    no body of Class k
---   switchAsked b off on p the digit 0 asks the command `off` of the body b, 1 the command `on`
---   inputAsked f b m       an input asks the command f of it
+--   switch_of p            the digit 0 or 1
+--   set_of set p           the command that the parameter p makes of a body that sets this, or none
+--   command_of b p         the command that it makes of the body b, or none
+--   Request                what a line asks for:
+--                            Ok c                  the command c
+--                            Err (Unlisted b)      the body b, with a parameter that is neither its query nor one that it
+--                                                  knows
+--                            Err UnknownBody       no body of the line's class
+--   asked_of b p           the request of the body b with the parameter p
+--   requestOf k s p        what the body s with the parameter p asks for in a line of Class k
 -- Assumes nothing.
-use Rattle.std.specs.Prelude.{ℕ, Bool, true, false, ◌&&◌, List, [], ◌∷◌, length, drop, eqb, if◌then◌else◌}
-use Rattle.std.specs.Prelude.{Option, Some, None}
+use Rattle.std.specs.Prelude.{ℕ, Bool, ◌&&◌, List, length, drop, eqb, if◌then◌else◌}
+use Rattle.std.specs.Prelude.{Option, Some, None, Result, Ok, Err}
+use Rattle.std.specs.Option.{option_map}
 use Rattle.text.specs.Words.{◌is◌, ◌from◌to◌}
-use Rattle.text.specs.Scans.{sameBy}
-use Rattle.words.specs.Bytes.{◌at◌, upperOf}
+use Rattle.words.specs.Bytes.{◌at◌}
 use Rattle.words.specs.Inputs.{input_of}
-use Rattle.pjlink.specs.Bodies.{bodies, rowOf, class_of, hasQuery}
-use Rattle.pjlink.specs.Commands.{bodyText}
-use Rattle.words.specs.declared.input.Input.{Input}
-use Rattle.pjlink.specs.declared.command.Body.{Body}
-use Rattle.pjlink.specs.declared.command.Body.TheVariants.{Avmt}
+use Rattle.pjlink.specs.Bodies.{row_of, bodyNamed, hasQuery}
+use Rattle.pjlink.specs.declared.body.Body.{Body}
 use Rattle.pjlink.specs.declared.command.Half.{Half}
 use Rattle.pjlink.specs.declared.command.Half.TheVariants.{VideoHalf, AudioHalf, BothHalves}
 use Rattle.pjlink.specs.declared.command.Volume.TheVariants.{Speaker, Microphone}
@@ -29,67 +28,58 @@ use Rattle.pjlink.specs.declared.command.Command.TheVariants.{VolumeStep, NameQu
 use Rattle.pjlink.specs.declared.body.Sets.{Sets}
 use Rattle.pjlink.specs.declared.body.Sets.TheVariants.{SetsPower, SetsInput, SetsMute, SetsInput2, SetsFreeze}
 use Rattle.pjlink.specs.declared.body.Sets.TheVariants.{StepsSpeaker, StepsMicrophone, NamesInput, QueryOnly}
-use Rattle.pjlink.specs.declared.request.MaybeBody.{MaybeBody}
-use Rattle.pjlink.specs.declared.request.MaybeBody.TheVariants.{BodyIs, NoBody}
-use Rattle.pjlink.specs.declared.request.Request.{Request}
-use Rattle.pjlink.specs.declared.request.Request.TheVariants.{Asks, Unlisted, UnknownBody}
+use Rattle.pjlink.specs.declared.request.Unasked.{Unasked}
+use Rattle.pjlink.specs.declared.request.Unasked.TheVariants.{Unlisted, UnknownBody}
 
-abbrev pub isBody : ℕ → List ℕ → Body → Bool
-isBody k s b = eqb k (class_of b) && sameBy upperOf s (bodyText b)
-
-abbrev pub firstNamed : List Body → ℕ → List ℕ → MaybeBody
-firstNamed [] k s = NoBody
-firstNamed (b ∷ bs) k s = if isBody k s b then BodyIs b else firstNamed bs k s
-
-unfoldable pub bodyNamed : ℕ → List ℕ → MaybeBody
-bodyNamed k s = firstNamed bodies k s
-
--- POWR, FREZ, SVOL, MVOL: 0 or 1
-unfoldable pub switchAsked : Body → Command → Command → List ℕ → Request
-switchAsked b off on p =
-    if eqb (length p) 1 && p at 0 from "0" to "1" then Asks (if p at 0 is "1" then on else off) else Unlisted b
-
--- INPT: two characters that name an input; INNM: `?` and these
-abbrev pub inputAsked : (Input → Command) → Body → Option Input → Request
-inputAsked f b (Some i) = Asks (f i)
-inputAsked f b None = Unlisted b
-
-unfoldable pub nameAsked : Body → List ℕ → Request
-nameAsked b p = if p at 0 is "?" then inputAsked NameQuery b (input_of (drop 1 p)) else Unlisted b
+-- POWR, FREZ: off and on; SVOL, MVOL: down and up
+unfoldable pub switch_of : List ℕ → Option Bool
+switch_of p = if eqb (length p) 1 && p at 0 from "0" to "1" then Some (p at 0 is "1") else None
 
 -- AVMT: 10 11 20 21 30 31
 unfoldable pub halfNamed : ℕ → Half
 halfNamed a = if a is "1" then VideoHalf else if a is "2" then AudioHalf else BothHalves
 
-unfoldable pub muteAsked : List ℕ → Request
-muteAsked p =
+unfoldable pub mute_of : List ℕ → Option Command
+mute_of p =
     if eqb (length p) 2 && (p at 0 from "1" to "3" && p at 1 from "0" to "1")
-    then Asks (MuteSet (halfNamed (p at 0)) (p at 1 is "1"))
-    else Unlisted Avmt
+    then Some (MuteSet (halfNamed (p at 0)) (p at 1 is "1"))
+    else None
 
-abbrev pub setBy : Sets → Body → List ℕ → Request
-setBy SetsPower b p = switchAsked b (PowerSet false) (PowerSet true) p
-setBy SetsInput b p = inputAsked InputSet b (input_of p)
-setBy SetsMute b p = muteAsked p
-setBy SetsInput2 b p = inputAsked InputSet2 b (input_of p)
-setBy SetsFreeze b p = switchAsked b (FreezeSet false) (FreezeSet true) p
-setBy StepsSpeaker b p = switchAsked b (VolumeStep Speaker false) (VolumeStep Speaker true) p
-setBy StepsMicrophone b p = switchAsked b (VolumeStep Microphone false) (VolumeStep Microphone true) p
-setBy NamesInput b p = nameAsked b p
-setBy QueryOnly b p = Unlisted b
+-- INNM: `?` and two characters that name an input
+unfoldable pub name_query_of : List ℕ → Option Command
+name_query_of p = if p at 0 is "?" then option_map NameQuery (input_of (drop 1 p)) else None
 
-abbrev pub setAsked : Body → List ℕ → Request
-setAsked b p = setBy (rowOf b).set b p
+-- INPT: two characters that name an input
+abbrev pub set_of : Sets → List ℕ → Option Command
+set_of SetsPower p = option_map PowerSet (switch_of p)
+set_of SetsInput p = option_map InputSet (input_of p)
+set_of SetsMute p = mute_of p
+set_of SetsInput2 p = option_map InputSet2 (input_of p)
+set_of SetsFreeze p = option_map FreezeSet (switch_of p)
+set_of StepsSpeaker p = option_map (VolumeStep Speaker) (switch_of p)
+set_of StepsMicrophone p = option_map (VolumeStep Microphone) (switch_of p)
+set_of NamesInput p = name_query_of p
+set_of QueryOnly p = None
 
 abbrev pub isQuestion : List ℕ → Bool
 isQuestion p = eqb (length p) 1 && p at 0 is "?"
 
-unfoldable pub asked_of : Body → List ℕ → Request
-asked_of b p = if hasQuery b && isQuestion p then Asks (Query b) else setAsked b p
+abbrev pub command_of : Body → List ℕ → Option Command
+command_of b p = if hasQuery b && isQuestion p then Some (Query b) else set_of (row_of b).set p
 
-abbrev pub asked : MaybeBody → List ℕ → Request
-asked (BodyIs b) p = asked_of b p
-asked NoBody p = UnknownBody
+abbrev pub Request : Type 0
+Request = Result Command Unasked
+
+abbrev pub listed : Body → Option Command → Request
+listed b (Some c) = Ok c
+listed b None = Err (Unlisted b)
+
+unfoldable pub asked_of : Body → List ℕ → Request
+asked_of b p = listed b (command_of b p)
+
+abbrev pub asked : Option Body → List ℕ → Request
+asked (Some b) p = asked_of b p
+asked None p = Err UnknownBody
 
 unfoldable pub requestOf : ℕ → List ℕ → List ℕ → Request
 requestOf k s p = asked (bodyNamed k s) p

@@ -13,9 +13,6 @@ pub const LAMPS_MOST: usize = 8;
 /// The most inputs that a reply tells of (RULES, Controller).
 pub const INPUTS_MOST: usize = 32;
 
-/// The error digits of ERST.
-pub const ERRORS_COUNT: usize = 6;
-
 /// What a command is answered where no rule refuses it.
 #[derive(Drop)]
 pub enum Answer<'a> {

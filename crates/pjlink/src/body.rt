@@ -1,10 +1,38 @@
-// The bodies of both classes: a row for each (RULES, Commands; PJLink 1.04, 4.1 to 4.14; RULES, Class 2).
+// The bodies of both classes: THE table, a row for each (RULES, Commands; PJLink 1.04, 4.1 to 4.14; RULES, Class 2).
 ghost use Rattle.std.specs.Prelude.{◌≡◌};
-ghost use Rattle.pjlink.specs.Bodies.{rowOf, hasSet, hasParameters, hasQuery};
+ghost use Rattle.pjlink.specs.Bodies.{row_of, is_named, isBody, bodyNamed, hasSet, hasParameters, hasQuery};
 
-use crate::command::Body;
+use self::Sets::{
+    NamesInput, QueryOnly, SetsFreeze, SetsInput, SetsInput2, SetsMute, SetsPower, StepsMicrophone,
+    StepsSpeaker,
+};
+use words::byte;
 
-// What a body sets, if anything. INNM sets nothing, and names an input beside its `?`.
+/// The four letters that name what a command is about, each under its own class: INPT and INST are a body of either.
+#[derive(Clone, Copy)]
+pub enum Body {
+    Powr,
+    Inpt,
+    Avmt,
+    Erst,
+    Lamp,
+    Inst,
+    Name,
+    Inf1,
+    Inf2,
+    Info,
+    Clss,
+    Frez,
+    Svol,
+    Mvol,
+    Snum,
+    Sver,
+    Innm,
+    Inpt2,
+    Inst2,
+}
+
+/// What a body sets, if anything. INNM sets nothing, and names an input beside its `?`.
 #[derive(Clone, Copy)]
 pub enum Sets {
     SetsPower,
@@ -18,129 +46,105 @@ pub enum Sets {
     QueryOnly,
 }
 
-// The class; the letters; what is set; whether `?` asks it; whether there have to be lamps (rule 1); whether the power
-// has to be on (rule 4).
+/// What is so of a body: rules 1 to 4 ask nothing else of it.
 #[derive(Clone, Copy)]
-pub struct BodyRow {
+pub struct Row {
+    /// The body whose row it is.
+    pub body: Body,
+    /// The class of the lines that ask for it, 1 or 2.
     pub class: u8,
+    /// Its letters, in upper case.
     pub letters: [u8; 4],
+    /// What it sets.
     pub set: Sets,
+    /// Whether `?` asks it.
     pub asks: bool,
+    /// Whether there have to be lamps (rule 1).
     pub lamps: bool,
+    /// Whether the power has to be on, to set or to ask (rule 4).
     pub on: bool,
 }
 
-// The letters, as constants: a text that stands in an arm is costly to prove.
-const POWR: [u8; 4] = *b"POWR";
+/// Every body, in the order of the enum: those of Class 1 in the order of RULES, then those of Class 2.
+#[rattlefmt::skip]
+pub const BODIES: [Row; 19] = [
+    Row { body: Body::Powr, class: 1, letters: *b"POWR", set: SetsPower, asks: true, lamps: false, on: false },
+    Row { body: Body::Inpt, class: 1, letters: *b"INPT", set: SetsInput, asks: true, lamps: false, on: true },
+    Row { body: Body::Avmt, class: 1, letters: *b"AVMT", set: SetsMute, asks: true, lamps: false, on: true },
+    Row { body: Body::Erst, class: 1, letters: *b"ERST", set: QueryOnly, asks: true, lamps: false, on: false },
+    Row { body: Body::Lamp, class: 1, letters: *b"LAMP", set: QueryOnly, asks: true, lamps: true, on: false },
+    Row { body: Body::Inst, class: 1, letters: *b"INST", set: QueryOnly, asks: true, lamps: false, on: false },
+    Row { body: Body::Name, class: 1, letters: *b"NAME", set: QueryOnly, asks: true, lamps: false, on: false },
+    Row { body: Body::Inf1, class: 1, letters: *b"INF1", set: QueryOnly, asks: true, lamps: false, on: false },
+    Row { body: Body::Inf2, class: 1, letters: *b"INF2", set: QueryOnly, asks: true, lamps: false, on: false },
+    Row { body: Body::Info, class: 1, letters: *b"INFO", set: QueryOnly, asks: true, lamps: false, on: false },
+    Row { body: Body::Clss, class: 1, letters: *b"CLSS", set: QueryOnly, asks: true, lamps: false, on: false },
+    Row { body: Body::Frez, class: 2, letters: *b"FREZ", set: SetsFreeze, asks: true, lamps: false, on: true },
+    Row { body: Body::Svol, class: 2, letters: *b"SVOL", set: StepsSpeaker, asks: false, lamps: false, on: true },
+    Row { body: Body::Mvol, class: 2, letters: *b"MVOL", set: StepsMicrophone, asks: false, lamps: false, on: true },
+    Row { body: Body::Snum, class: 2, letters: *b"SNUM", set: QueryOnly, asks: true, lamps: false, on: false },
+    Row { body: Body::Sver, class: 2, letters: *b"SVER", set: QueryOnly, asks: true, lamps: false, on: false },
+    Row { body: Body::Innm, class: 2, letters: *b"INNM", set: NamesInput, asks: false, lamps: false, on: false },
+    Row { body: Body::Inpt2, class: 2, letters: *b"INPT", set: SetsInput2, asks: true, lamps: false, on: true },
+    Row { body: Body::Inst2, class: 2, letters: *b"INST", set: QueryOnly, asks: true, lamps: false, on: false },
+];
 
-const INPT: [u8; 4] = *b"INPT";
-
-const AVMT: [u8; 4] = *b"AVMT";
-
-const ERST: [u8; 4] = *b"ERST";
-
-const LAMP: [u8; 4] = *b"LAMP";
-
-const INST: [u8; 4] = *b"INST";
-
-const NAME: [u8; 4] = *b"NAME";
-
-const INF1: [u8; 4] = *b"INF1";
-
-const INF2: [u8; 4] = *b"INF2";
-
-const INFO: [u8; 4] = *b"INFO";
-
-const CLSS: [u8; 4] = *b"CLSS";
-
-const FREZ: [u8; 4] = *b"FREZ";
-
-const SVOL: [u8; 4] = *b"SVOL";
-
-const MVOL: [u8; 4] = *b"MVOL";
-
-const SNUM: [u8; 4] = *b"SNUM";
-
-const SVER: [u8; 4] = *b"SVER";
-
-const INNM: [u8; 4] = *b"INNM";
-
-fn row(class: u8, letters: [u8; 4], set: Sets, asks: bool, lamps: bool, on: bool) -> BodyRow
-    ensures { result
-        ≡ record { class = class; letters = letters; set = set; asks = asks; lamps = lamps; on = on } }
-{
-    BodyRow {
-        class,
-        letters,
-        set,
-        asks,
-        lamps,
-        on,
+impl Row {
+    /// Whether four letters name its body in a line of the class, whatever their case.
+    fn is_named(&self, class: u8, letters: [u8; 4]) -> bool
+        ensures { result ≡ is_named class letters self.now }
+    {
+        let [a, b, c, d] = letters;
+        let [w, x, y, z] = self.letters;
+        class == self.class
+            && byte::upper(a) == w
+            && byte::upper(b) == x
+            && byte::upper(c) == y
+            && byte::upper(d) == z
     }
 }
 
-pub fn row_of(b: Body) -> BodyRow
-    ensures { result ≡ rowOf b }
-{
-    match b {
-        Body::Powr => row(1, POWR, Sets::SetsPower, true, false, false),
-        Body::Inpt => row(1, INPT, Sets::SetsInput, true, false, true),
-        Body::Avmt => row(1, AVMT, Sets::SetsMute, true, false, true),
-        Body::Erst => row(1, ERST, Sets::QueryOnly, true, false, false),
-        Body::Lamp => row(1, LAMP, Sets::QueryOnly, true, true, false),
-        Body::Inst => row(1, INST, Sets::QueryOnly, true, false, false),
-        Body::Name => row(1, NAME, Sets::QueryOnly, true, false, false),
-        Body::Inf1 => row(1, INF1, Sets::QueryOnly, true, false, false),
-        Body::Inf2 => row(1, INF2, Sets::QueryOnly, true, false, false),
-        Body::Info => row(1, INFO, Sets::QueryOnly, true, false, false),
-        Body::Clss => row(1, CLSS, Sets::QueryOnly, true, false, false),
-        Body::Frez => row(2, FREZ, Sets::SetsFreeze, true, false, true),
-        Body::Svol => row(2, SVOL, Sets::StepsSpeaker, false, false, true),
-        Body::Mvol => row(2, MVOL, Sets::StepsMicrophone, false, false, true),
-        Body::Snum => row(2, SNUM, Sets::QueryOnly, true, false, false),
-        Body::Sver => row(2, SVER, Sets::QueryOnly, true, false, false),
-        Body::Innm => row(2, INNM, Sets::NamesInput, false, false, false),
-        Body::Inpt2 => row(2, INPT, Sets::SetsInput2, true, false, true),
-        Body::Inst2 => row(2, INST, Sets::QueryOnly, true, false, false),
+impl Body {
+    /// Its row of the table.
+    pub fn row(self) -> Row
+        ensures { result ≡ row_of self }
+    {
+        BODIES[self as usize]
     }
-}
 
-pub fn has_set(b: Body) -> bool
-    ensures { result ≡ hasSet b }
-{
-    let set = row_of(b).set;
-    match set {
-        Sets::SetsPower => true,
-        Sets::SetsInput => true,
-        Sets::SetsMute => true,
-        Sets::SetsInput2 => true,
-        Sets::SetsFreeze => true,
-        Sets::StepsSpeaker => true,
-        Sets::StepsMicrophone => true,
-        Sets::NamesInput => false,
-        Sets::QueryOnly => false,
+    /// The body that four letters name in a line of the class, whatever their case.
+    pub fn named(class: u8, letters: [u8; 4]) -> Option<Body>
+        ensures { result ≡ bodyNamed class letters }
+    {
+        let row = BODIES.iter().find(|row| row.is_named(class, letters))?;
+        Some(row.body)
     }
-}
 
-pub fn has_parameters(b: Body) -> bool
-    ensures { result ≡ hasParameters b }
-{
-    let set = row_of(b).set;
-    match set {
-        Sets::SetsPower => true,
-        Sets::SetsInput => true,
-        Sets::SetsMute => true,
-        Sets::SetsInput2 => true,
-        Sets::SetsFreeze => true,
-        Sets::StepsSpeaker => true,
-        Sets::StepsMicrophone => true,
-        Sets::NamesInput => true,
-        Sets::QueryOnly => false,
+    /// Whether four letters name it in a line of the class, whatever their case.
+    pub fn is_named(self, class: u8, letters: [u8; 4]) -> bool
+        ensures { result ≡ isBody class letters self }
+    {
+        self.row().is_named(class, letters)
     }
-}
 
-pub fn has_query(b: Body) -> bool
-    ensures { result ≡ hasQuery b }
-{
-    row_of(b).asks
+    /// Whether it sets something (rule 3).
+    pub fn has_set(self) -> bool
+        ensures { result ≡ hasSet self }
+    {
+        !matches!(self.row().set, Sets::NamesInput | Sets::QueryOnly)
+    }
+
+    /// Whether it knows a parameter besides `?`: one that it does not know is out of parameter (rules 1 and 2).
+    pub fn has_parameters(self) -> bool
+        ensures { result ≡ hasParameters self }
+    {
+        !matches!(self.row().set, Sets::QueryOnly)
+    }
+
+    /// Whether `?` asks it.
+    pub fn has_query(self) -> bool
+        ensures { result ≡ hasQuery self }
+    {
+        self.row().asks
+    }
 }

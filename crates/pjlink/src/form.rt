@@ -1,21 +1,20 @@
-// The forms of lines (PJLink 1.04, 2.1 and 2.2; RULES, Connection and Controller and Class 2).
-ghost use Rattle.std.specs.Prelude.{◌≡◌, ◌≤◌, length, eqb};
+// The forms of lines, each taken apart once (PJLink 1.04, 2.1 and 2.2; RULES, Connection and Controller and Class 2).
+ghost use Rattle.std.specs.Prelude.{◌≡◌, IfSome, IfNone, false, eqb};
 ghost use Rattle.pjlink.specs.Commands.{classDigit};
-ghost use Rattle.pjlink.specs.Forms.{isHeaded, takesClass, isCommandForm, classNamed, isReplyForm};
+ghost use Rattle.pjlink.specs.Forms.{takesClass, isCommandForm, classNamed, isReplyForm};
+ghost use Rattle.pjlink.specs.Forms.{isHeadedBy, IsCommandOf, IsReplyOf};
 
 use words::byte;
 
-// `%`, a byte for the class, four letters or digits, and the mark.
-fn is_headed(mark: u8, l: &[u8]) -> bool
-    requires { 7 ≤ length l.now }
-    ensures { result ≡ isHeaded mark l.now }
-{
-    (l[0] == b'%')
-        & byte::is_alnum(l[2])
-        & byte::is_alnum(l[3])
-        & byte::is_alnum(l[4])
-        & byte::is_alnum(l[5])
-        & (l[6] == mark)
+/// What a line of either form has beside its marks.
+#[derive(Clone, Copy)]
+pub struct Parts<'a> {
+    /// The byte of its class.
+    pub class: u8,
+    /// The four letters or digits of its body, as they came.
+    pub letters: [u8; 4],
+    /// What follows the mark, up to the line's end.
+    pub parameter: &'a [u8],
 }
 
 // Whether a set-up of Class k takes a line with this class byte.
@@ -25,50 +24,76 @@ fn takes_class(k: u8, h: u8) -> bool
     (h == b'1') | ((k == 2) & (h == b'2'))
 }
 
-// A line as received, without its CR, for a set-up of Class k.
+/// A line as received, without its CR, that a set-up of Class k takes: `%`, the class, four letters or digits, a space,
+/// 0 to 128 bytes. None of any other.
 #[tactic(auto, unfolding(crate::specs::Forms::isCommandForm))]
-pub fn is_command_form(k: u8, l: &[u8]) -> bool
-    ensures { result ≡ isCommandForm k l.now }
+pub fn command(k: u8, l: &[u8]) -> Option<Parts<'_>>
+    ensures taken { IfSome result (λ x. IsCommandOf k l.now x.class x.letters x.parameter.now) }
+    ensures other { IfNone result (isCommandForm k l.now ≡ false) }
 {
-    if l.len() < 7 {
-        return false;
+    let [first, class, a, b, c, d, mark, parameter @ ..] = l else {
+        return None;
+    };
+    let letters = [*a, *b, *c, *d];
+    if l.len() > 135 || !is_headed(*first, letters, *mark, b' ') || !takes_class(k, *class) {
+        return None;
     }
-    if 135 < l.len() {
-        return false;
-    }
-    is_headed(b' ', l) & takes_class(k, l[1])
+    Some(Parts {
+        class: *class,
+        letters,
+        parameter,
+    })
 }
 
-// The class that its byte names; a byte below `0` names none.
+// `%`, four letters or digits, and the mark.
+fn is_headed(first: u8, letters: [u8; 4], last: u8, mark: u8) -> bool
+    ensures { result ≡ isHeadedBy mark first letters last }
+{
+    let [a, b, c, d] = letters;
+    first == b'%'
+        && byte::is_alnum(a)
+        && byte::is_alnum(b)
+        && byte::is_alnum(c)
+        && byte::is_alnum(d)
+        && last == mark
+}
+
+/// The class that a byte names; a byte below `0` names none.
 pub fn class_named(h: u8) -> u8
     ensures { result ≡ classNamed h }
 {
-    if h < b'0' {
-        return 0;
-    }
-    h - b'0'
+    h.saturating_sub(b'0')
 }
 
+// Whether the byte is the digit of the class.
 fn is_class_digit(k: u8, h: u8) -> bool
     ensures { result ≡ eqb h (classDigit k) }
 {
-    if h < b'0' {
-        return false;
-    }
-    h - b'0' == k
+    h.checked_sub(b'0') == Some(k)
 }
 
-// A reply of Class k, with its CR.
+/// A reply of Class k, with its CR: `%`, the class, four letters or digits, `=`, 0 to 128 bytes with no CR, CR. None of
+/// any other.
 #[tactic(auto, unfolding(crate::specs::Forms::isReplyForm))]
-pub fn is_reply_form(k: u8, l: &[u8]) -> bool
-    ensures { result ≡ isReplyForm k l.now }
+pub fn reply(k: u8, l: &[u8]) -> Option<Parts<'_>>
+    ensures taken { IfSome result (λ x. IsReplyOf k l.now x.letters x.parameter.now) }
+    ensures other { IfNone result (isReplyForm k l.now ≡ false) }
 {
-    if l.len() < 8 {
-        return false;
+    let [first, class, a, b, c, d, mark, parameter @ .., last] = l else {
+        return None;
+    };
+    let letters = [*a, *b, *c, *d];
+    if l.len() > 136
+        || !is_headed(*first, letters, *mark, b'=')
+        || !is_class_digit(k, *class)
+        || *last != b'\r'
+        || !byte::no_cr(parameter)
+    {
+        return None;
     }
-    if 136 < l.len() {
-        return false;
-    }
-    let last = l.len() - 1;
-    is_headed(b'=', l) & is_class_digit(k, l[1]) & (l[last] == b'\r') & byte::no_cr(&l[7..last])
+    Some(Parts {
+        class: *class,
+        letters,
+        parameter,
+    })
 }

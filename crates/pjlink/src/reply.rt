@@ -6,8 +6,8 @@ ghost use Rattle.pjlink.specs.CanSay.{is_set, hasOwnParameter, isRefusalTo};
 ghost use Rattle.pjlink.specs.Reading.{text_or, readQueried, readValue, readParameter};
 
 use crate::answer::{Answer, Reply};
-use crate::command;
-use crate::command::{Body, Command};
+use crate::body::Body;
+use crate::command::Command;
 use words::class::ClassNumber;
 use words::mutes::Mutes;
 use words::refusal::Refusal;
@@ -92,7 +92,7 @@ fn read_value(c: Command, p: &[u8]) -> Option<Answer<'_>>
         }
         return None;
     }
-    read_queried(command::body_of(c), p)
+    read_queried(c.body(), p)
 }
 
 // Whether a refusal is allowed in reply to c: ERR2 is none to `?`.

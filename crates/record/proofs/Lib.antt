@@ -18,6 +18,7 @@ pub mod InputsTold
 pub mod NamesTold
 pub mod CutNames
 pub mod NamesCopied
+pub mod CountedNames
 pub mod SettingsTold
 pub mod OwnTold
 pub mod ConnectionTold

@@ -20,7 +20,7 @@ use Rattle.record.proofs.NamesTold.{as_many, no_names}
 use Rattle.record.proofs.Rules.{names-many, names-each, text-most}
 use Rattle.record.proofs.CutNames.{parts-many, total-before, part_at, names-matched, names-add-up}
 
-kept_more : (l : List (List ℕ)) (x : List ℕ) (n : ℕ) → n ≡ length l → length l < listedMost
+pub kept_more : (l : List (List ℕ)) (x : List ℕ) (n : ℕ) → n ≡ length l → length l < listedMost
     → set (namesKept l) n (name_of x) ≡ namesKept (l ++ (x ∷ []))
 unfolding namesKept
 kept_more l x n e h =

@@ -8,8 +8,10 @@
 --   total_of ns           the numbers ns added up
 --   cutBy ns s            s cut into parts of the lengths ns
 --   namesIn ns s          these parts, where they are all of s: names whose lengths do not add up are none
+--   countedIn n s         n names that stand in s, each after its length in one byte
 -- Assumes nothing.
-use Rattle.std.specs.Prelude.{ℕ, ◌+◌, List, [], ◌∷◌, length, take, drop, eqb, if◌then◌else◌}
+use Rattle.std.specs.Prelude.{ℕ, zero, suc, ◌+◌, List, [], ◌∷◌, length, take, drop, eqb, if◌then◌else◌}
+use Rattle.words.specs.Bytes.{◌at◌}
 
 pub record Wanted : Type 0 where
   pub name : List ℕ
@@ -68,3 +70,7 @@ cutBy (n ∷ ns) s = take n s ∷ cutBy ns (drop n s)
 
 abbrev pub namesIn : List ℕ → List ℕ → List (List ℕ)
 namesIn ns s = if eqb (total_of ns) (length s) then cutBy ns s else []
+
+unfoldable pub countedIn : ℕ → List ℕ → List (List ℕ)
+countedIn zero s = []
+countedIn (suc n) s = take (s at 0) (drop 1 s) ∷ countedIn n (drop (suc (s at 0)) s)

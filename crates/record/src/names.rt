@@ -1,8 +1,10 @@
 // The names that a set-up of Class 2 is lent (RULES, Class 2).
-ghost use Rattle.std.specs.Prelude.{◌≡◌};
-ghost use Rattle.words.specs.Texts.{isText, infoMost};
+ghost use Rattle.std.specs.Prelude.{◌≡◌, suc, take, drop};
+ghost use Rattle.text.specs.Scans.{every};
+ghost use Rattle.words.specs.Bytes.{◌at◌};
+ghost use Rattle.words.specs.Texts.{isText, isInputName, infoMost};
 ghost use Rattle.record.specs.Limits.{onlyIn2};
-ghost use Rattle.record.specs.Wanted.{namesIn};
+ghost use Rattle.record.specs.Wanted.{namesIn, countedIn};
 ghost use Rattle.record.specs.Rules.{areNames};
 
 use crate::class;
@@ -40,4 +42,41 @@ fn are_names(bytes: &[u8], lengths: &[usize], count: usize) -> bool
         return count == 0;
     }
     (lengths.len() == count) & ok
+}
+
+/// The first name that stands in `row` after its length in one byte, and what follows it. Past the end there is no
+/// byte.
+pub fn first_counted(row: &[u8]) -> (&[u8], &[u8])
+    ensures name { result.0.now ≡ take (row.now at 0) (drop 1 row.now) }
+    ensures left { result.1.now ≡ drop (suc (row.now at 0)) row.now }
+{
+    match row {
+        [] => (&[], &[]),
+        [n, rest @ ..] => {
+            let n = (*n as usize).min(rest.len());
+            rest.split_at(n)
+        }
+    }
+}
+
+/// Whether there are as many names as Class 2 wants of so many inputs, each after its length in one byte: at most 128
+/// bytes each.
+#[tactic(auto, using(crate::proofs::CountedNames::counted_fits))]
+pub fn counted_fit(class: u8, inputs: usize, row: &[u8], count: usize) -> bool
+    ensures { result ≡ areNames (onlyIn2 class inputs) (countedIn count row.now) }
+{
+    (count == class::only_in_2(class, inputs)) & are_counted(row, count)
+}
+
+fn are_counted(row: &[u8], count: usize) -> bool
+    ensures { result ≡ every isInputName (countedIn count row.now) }
+{
+    let mut ok = true;
+    let mut left = row;
+    for _ in 0..count {
+        let (name, rest) = first_counted(left);
+        ok = ok & texts::is_text(name, 128);
+        left = rest;
+    }
+    ok
 }

@@ -1,29 +1,36 @@
 -- What is lent to set-up, as the rules have it (RULES, The legal record and Class 2).
 --   class_number c       the number of the class
---   serial_of c          the serial number; none in Class 1. So version_of c, and names_of c, each name by itself
+--   serial_of c          the serial number; none in Class 1. So version_of c
+--   names_lent ns        the names that are lent, each by itself;    names_of c    those of the class
 --   wanted_settings w    the settings that are wanted
 -- Assumes nothing.
 use Rattle.std.specs.Prelude.{ℕ, List, []}
-use Rattle.record.specs.Wanted.{Wanted, wantedIn, namesIn}
+use Rattle.record.specs.Wanted.{Wanted, wantedIn, namesIn, countedIn}
+use Rattle.setup.specs.declared.wanted.Names.{Names}
+use Rattle.setup.specs.declared.wanted.Names.TheVariants.{Row, Counted}
 use Rattle.setup.specs.declared.wanted.Class.{Class}
 use Rattle.setup.specs.declared.wanted.Class.TheVariants.{One, Two}
 use Rattle.setup.specs.declared.wanted.Wanted.{Wanted as Lent}
 
 abbrev pub class_number : Class → ℕ
 class_number One = 1
-class_number (Two serial version names lengths) = 2
+class_number (Two serial version names) = 2
 
 abbrev pub serial_of : Class → List ℕ
 serial_of One = []
-serial_of (Two serial version names lengths) = serial.now
+serial_of (Two serial version names) = serial.now
 
 abbrev pub version_of : Class → List ℕ
 version_of One = []
-version_of (Two serial version names lengths) = version.now
+version_of (Two serial version names) = version.now
+
+abbrev pub names_lent : Names → List (List ℕ)
+names_lent (Row bytes lengths) = namesIn lengths.now bytes.now
+names_lent (Counted bytes count) = countedIn count bytes.now
 
 abbrev pub names_of : Class → List (List ℕ)
 names_of One = []
-names_of (Two serial version names lengths) = namesIn lengths.now names.now
+names_of (Two serial version names) = names_lent names
 
 abbrev pub wanted_settings : Lent → Wanted
 wanted_settings w =

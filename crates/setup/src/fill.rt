@@ -1,13 +1,15 @@
 // What set-up keeps of the lent slices: each at the start of a cleared room (RULES, The legal record).
-ghost use Rattle.std.specs.Prelude.{◌≡◌, ◌≤◌, length, true};
+ghost use Rattle.std.specs.Prelude.{◌≡◌, ◌≤◌, length, replicate, true};
 ghost use Rattle.words.specs.Texts.{inputNameMost};
 ghost use Rattle.record.specs.Limits.{textRoom, inputRoom, listedMost, lampsMost};
-ghost use Rattle.record.specs.Wanted.{namesIn};
+ghost use Rattle.record.specs.Wanted.{namesIn, countedIn};
 ghost use Rattle.record.specs.Rules.{areNames};
-ghost use Rattle.record.specs.Record.{inRoom, text_of, name_of, namesKept, allMarks, startOwn};
+ghost use Rattle.record.specs.Record.{inRoom, text_of, name_of, blankName, namesKept, allMarks, startOwn};
+ghost use Rattle.setup.specs.Lent.{names_lent};
 
+use crate::wanted::Names;
 use record::own::VOLUME_START;
-use record::rooms;
+use record::{names, rooms};
 use record::types::{INPUT_ROOM, INPUTS_MOST, InputName, LAMPS_MOST, Own, Text};
 
 /// A text in its room: at most 64 bytes.
@@ -34,20 +36,47 @@ pub fn name_of(s: &[u8]) -> InputName
     }
 }
 
-/// So many names, one after the other in `bytes`, each of its length (RULES, Class 2).
-pub fn names_of(bytes: &[u8], lengths: &[usize], count: usize) -> [InputName; INPUTS_MOST]
+/// So many names, as they are lent, into the record's list (RULES, Class 2).
+pub fn keep_names(list: &mut [InputName; INPUTS_MOST], lent: &Names<'_>, count: usize)
+    requires named { areNames count (names_lent lent.now) ≡ true }
+    requires few { count ≤ listedMost }
+    ensures { list.new ≡ namesKept (names_lent lent.now) }
+{
+    list.fill(InputName::EMPTY);
+    match *lent {
+        Names::Row { bytes, lengths } => keep_row(list, bytes, lengths, count),
+        Names::Counted { bytes, count: many } => keep_counted(list, bytes, many),
+    }
+}
+
+// So many names, each after its length in one byte.
+fn keep_counted(list: &mut [InputName; INPUTS_MOST], bytes: &[u8], count: usize)
+    requires empty { list.old ≡ replicate listedMost blankName }
+    requires named { areNames count (countedIn count bytes.now) ≡ true }
+    requires few { count ≤ listedMost }
+    ensures { list.new ≡ namesKept (countedIn count bytes.now) }
+{
+    let mut left = bytes;
+    for i in 0..count {
+        let (name, rest) = names::first_counted(left);
+        list[i] = name_of(name);
+        left = rest;
+    }
+}
+
+// So many names, one after the other in `bytes`, each of its length.
+fn keep_row(list: &mut [InputName; INPUTS_MOST], bytes: &[u8], lengths: &[usize], count: usize)
+    requires empty { list.old ≡ replicate listedMost blankName }
     requires named { areNames count (namesIn lengths.now bytes.now) ≡ true }
     requires few { count ≤ listedMost }
-    ensures { result ≡ namesKept (namesIn lengths.now bytes.now) }
+    ensures { list.new ≡ namesKept (namesIn lengths.now bytes.now) }
 {
-    let mut list = [InputName::EMPTY; INPUTS_MOST];
     let mut at = 0;
     for i in 0..count {
         let end = at + lengths[i];
         list[i] = name_of(&bytes[at..end]);
         at = end;
     }
-    list
 }
 
 /// A list of inputs in its room: two characters each, at most 32 inputs (RULES, Inputs).

@@ -5,8 +5,9 @@ pub mod fill;
 pub mod theorems;
 pub mod wanted;
 
-ghost use Rattle.std.specs.Prelude.{◌≡◌, true};
-ghost use Rattle.record.specs.Record.{settingsOf};
+ghost use Rattle.std.specs.Prelude.{◌≡◌, true, OnErr};
+ghost use Rattle.record.specs.Record.{settingsOf, blank};
+ghost use Rattle.record.specs.Given.{gives};
 ghost use Rattle.record.specs.SetUp.{isSetUp, setUp};
 ghost use Rattle.setup.specs.Lent.{wanted_settings};
 
@@ -15,42 +16,58 @@ use record::set_up_error::SetUpError;
 use record::types::{Device, Settings};
 use record::{class, fresh};
 
+// The settings, each where it lies in the record.
 #[tactic(auto, using(crate::proofs::Fits::fits))]
-fn settings_of(wanted: &Wanted<'_>) -> Settings
+fn keep_settings(settings: &mut Settings, wanted: &Wanted<'_>)
     requires { isSetUp (wanted_settings wanted.now) ≡ true }
-    ensures { result ≡ settingsOf (wanted_settings wanted.now) }
+    ensures { settings.new ≡ settingsOf (wanted_settings wanted.now) }
 {
     let class = wanted.class.number();
     let input_count = wanted.inputs.len() / 2;
-    let (names, lengths) = wanted.class.names();
-    Settings {
-        name: fill::text_of(wanted.name),
-        maker: fill::text_of(wanted.maker),
-        model: fill::text_of(wanted.model),
-        other: fill::text_of(wanted.other),
-        password: fill::text_of(wanted.password),
-        input_count,
-        inputs: fill::input_room(wanted.inputs),
-        lamp_count: wanted.lamps.len(),
-        warm: wanted.warm,
-        cool: wanted.cool,
-        class_number: class,
-        serial: fill::text_of(wanted.class.serial()),
-        version: fill::text_of(wanted.class.version()),
-        names: fill::names_of(names, lengths, class::only_in_2(class, input_count)),
-    }
+    let names = wanted.class.names();
+    settings.name = fill::text_of(wanted.name);
+    settings.maker = fill::text_of(wanted.maker);
+    settings.model = fill::text_of(wanted.model);
+    settings.other = fill::text_of(wanted.other);
+    settings.password = fill::text_of(wanted.password);
+    settings.input_count = input_count;
+    settings.inputs = fill::input_room(wanted.inputs);
+    settings.lamp_count = wanted.lamps.len();
+    settings.warm = wanted.warm;
+    settings.cool = wanted.cool;
+    settings.class_number = class;
+    settings.serial = fill::text_of(wanted.class.serial());
+    settings.version = fill::text_of(wanted.class.version());
+    fill::keep_names(
+        &mut settings.names,
+        &names,
+        class::only_in_2(class, input_count),
+    );
 }
 
-/// The projector as it is set up: off, each lamp enabled, every place closed. Refused where a setting is out of its
-/// range, else where the password is too short (RULES, The numbers a call gives and Passwords).
+/// The record as it is set up: off, each lamp enabled, every place closed. Refused where a setting is out of its range,
+/// else where the password is too short: the record is then the blank one (RULES, The numbers a call gives and
+/// Passwords).
 #[tactic(auto, using(crate::proofs::Refusals::outcomes))]
+pub fn set_up_in(device: &mut Device, wanted: &Wanted<'_>) -> Result<(), SetUpError>
+    ensures made { gives result device.new ≡ setUp (wanted_settings wanted.now) }
+    ensures refused { OnErr result (device.new ≡ blank) }
+{
+    if let Err(error) = wanted.check() {
+        *device = fresh::blank();
+        return Err(error);
+    }
+    keep_settings(&mut device.settings, wanted);
+    device.own = fill::start_own(wanted.lamps);
+    device.connections = fresh::all_closed();
+    Ok(())
+}
+
+/// The same, of a record of its own.
 pub fn set_up(wanted: &Wanted<'_>) -> Result<Device, SetUpError>
     ensures { result ≡ setUp (wanted_settings wanted.now) }
 {
-    wanted.check()?;
-    Ok(Device {
-        settings: settings_of(wanted),
-        own: fill::start_own(wanted.lamps),
-        connections: fresh::all_closed(),
-    })
+    let mut device = fresh::blank();
+    set_up_in(&mut device, wanted)?;
+    Ok(device)
 }

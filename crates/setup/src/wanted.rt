@@ -2,25 +2,36 @@
 ghost use Rattle.std.specs.Prelude.{◌≡◌};
 ghost use Rattle.record.specs.SetUp.{isSettingInRange, firstOutOfRange, setUp};
 ghost use Rattle.record.specs.SetUpErrors.{check_of};
-ghost use Rattle.record.specs.Wanted.{namesIn};
-ghost use Rattle.setup.specs.Lent.{wanted_settings, class_number, serial_of, version_of, names_of};
+ghost use Rattle.record.specs.Limits.{onlyIn2};
+ghost use Rattle.record.specs.Rules.{areNames};
+ghost use Rattle.setup.specs.Lent.{wanted_settings, class_number, serial_of, version_of, names_lent, names_of};
 
 use record::set_up_error::SetUpError;
 use record::types::Setting;
 use record::{inputs, names, own, settings};
 use words::texts;
 
+/// The names of inputs, as they are lent (RULES, Class 2).
+#[derive(Clone, Copy)]
+pub enum Names<'a> {
+    /// One after the other, each of its length. Lengths that do not add up to their bytes name nothing.
+    Row {
+        bytes: &'a [u8],
+        lengths: &'a [usize],
+    },
+    /// So many, one after the other, each after its length in one byte (RULES, Stored form).
+    Counted { bytes: &'a [u8], count: usize },
+}
+
 /// The class of a projector, with what it alone has (RULES, Class 2).
 #[derive(Clone, Copy)]
 pub enum Class<'a> {
     One,
-    /// Serial number and software version, each of at most 32 bytes, and a name of at most 128 bytes for each input:
-    /// the names one after the other, each of its length. Lengths that do not add up to their bytes name nothing.
+    /// Serial number and software version, each of at most 32 bytes, and a name of at most 128 bytes for each input.
     Two {
         serial: &'a [u8],
         version: &'a [u8],
-        names: &'a [u8],
-        lengths: &'a [usize],
+        names: Names<'a>,
     },
 }
 
@@ -44,6 +55,18 @@ pub struct Wanted<'a> {
     /// The seconds of cooling, 1 to 600.
     pub cool: u32,
     pub class: Class<'a>,
+}
+
+impl<'a> Names<'a> {
+    // Whether they are those of so many inputs of the class.
+    fn fit(&self, class: u8, inputs: usize) -> bool
+        ensures { result ≡ areNames (onlyIn2 class inputs) (names_lent self.now) }
+    {
+        match *self {
+            Names::Row { bytes, lengths } => names::names_fit(class, inputs, bytes, lengths),
+            Names::Counted { bytes, count } => names::counted_fit(class, inputs, bytes, count),
+        }
+    }
 }
 
 impl<'a> Class<'a> {
@@ -77,13 +100,16 @@ impl<'a> Class<'a> {
         }
     }
 
-    /// The inputs' names one after the other, and their lengths; none in Class 1.
-    pub fn names(&self) -> (&'a [u8], &'a [usize])
-        ensures { namesIn result.1.now result.0.now ≡ names_of self.now }
+    /// The inputs' names; none in Class 1.
+    pub fn names(&self) -> Names<'a>
+        ensures { names_lent result ≡ names_of self.now }
     {
         match *self {
-            Class::One => (&[], &[]),
-            Class::Two { names, lengths, .. } => (names, lengths),
+            Class::One => Names::Row {
+                bytes: &[],
+                lengths: &[],
+            },
+            Class::Two { names, .. } => names,
         }
     }
 }
@@ -105,10 +131,7 @@ impl<'a> Wanted<'a> {
             Setting::Cooling => settings::stretch_ok(self.cool),
             Setting::Serial => names::info_fits(class, self.class.serial()),
             Setting::Version => names::info_fits(class, self.class.version()),
-            Setting::Names => {
-                let (row, lengths) = self.class.names();
-                names::names_fit(class, self.inputs.len() / 2, row, lengths)
-            }
+            Setting::Names => self.class.names().fit(class, self.inputs.len() / 2),
         }
     }
 

@@ -11,14 +11,14 @@ use Rattle.text.specs.Scans.{itself}
 use Rattle.text.proofs.Bases.{Digits}
 use Rattle.numbers.specs.HighestFirst.{highestFirst, number_in}
 use Rattle.numbers.proofs.HighestFirst.{highest-one-form}
-use Rattle.form.specs.Form.{secondsBytes}
-use Rattle.form.proofs.Seconds.{no-seconds, first-seconds}
-use Rattle.stored.specs.Loading.{secondsIn}
+use Rattle.stored.specs.Form.{secondsBytes}
+use Rattle.stored.proofs.SecondsWritten.{no-seconds, first-seconds}
+use Rattle.stored.specs.Reading.{secondsIn}
 
 abbrev pub Bytes : List ℕ → Type 0
 Bytes s = Digits 256 itself s
 
-take-bytes : (n : ℕ) (s : List ℕ) → n ≤ length s → Bytes s → Bytes (take n s)
+pub take-bytes : (n : ℕ) (s : List ℕ) → n ≤ length s → Bytes s → Bytes (take n s)
 take-bytes n s l b i h =
     let long = length-take-le n s l in
     rw (get_or-take n s i 0 (omega arith)) (b i (omega arith))

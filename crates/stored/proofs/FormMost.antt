@@ -22,11 +22,11 @@ use Rattle.record.specs.declared.types.Setting.TheVariants.{Serial, Version, Nam
 use Rattle.record.specs.declared.types.Setting.TheVariants.{Name, Maker, Model, Other, Password, Inputs, Lamps}
 use Rattle.record.proofs.Rules.{inputs-few, lamps-few, only-in-2-within, names-many, names-each, text-most}
 use Rattle.record.proofs.OutOfRange.{each-in-range}
-use Rattle.form.specs.Form.{formVersion, markByte, marksSection, form_of, formMost, storedOf, marksStored}
-use Rattle.form.specs.Form.{textsBytes, textsOf2, classPart, storedForm}
-use Rattle.form.proofs.TextsWritten.{no-texts, first-text}
-use Rattle.form.proofs.ClassPart.{class-part}
-use Rattle.form.proofs.FormLong.{form-long}
+use Rattle.stored.specs.Form.{formVersion, markByte, marksSection, form_of, formMost, storedOf, marksStored}
+use Rattle.stored.specs.Form.{textsBytes, textsOf2, classPart, storedForm}
+use Rattle.stored.proofs.TextsWritten.{no-texts, first-text}
+use Rattle.stored.proofs.ClassPart.{class-part}
+use Rattle.stored.proofs.FormLong.{form-long}
 use Rattle.stored.specs.Loading.{isMarksOf}
 use Rattle.stored.proofs.StoredLoads.{stored-in-range, stored-marks}
 

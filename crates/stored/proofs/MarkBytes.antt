@@ -18,7 +18,7 @@ use Rattle.record.specs.Limits.{lampsMost}
 use Rattle.record.specs.Rules.{isMarks}
 use Rattle.record.specs.Record.{allMarks}
 use Rattle.record.proofs.MarksTold.{marks-long, marks-past, front-many, all-marks-legal, one-more-mark}
-use Rattle.form.specs.Form.{markByte}
+use Rattle.stored.specs.Form.{markByte}
 use Rattle.stored.specs.Loading.{isMarkByte, isMarked, markRoom, isMarksOf, areMarks}
 
 -- ---- in their room

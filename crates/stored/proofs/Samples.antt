@@ -16,8 +16,7 @@ use Rattle.record.specs.Wanted.{Wanted, wantedOf, wantedOf2, withPassword}
 use Rattle.record.specs.Record.{zeros, started}
 use Rattle.record.specs.Given.{accepted}
 use Rattle.record.specs.Computing.{computing as record-computing}
-use Rattle.form.specs.Form.{formVersion, formWith, form_of, markedFormOf, oldFormOf, formMost}
-use Rattle.form.specs.Computing.{computing as form-computing}
+use Rattle.stored.specs.Form.{formVersion, formWith, form_of, markedFormOf, oldFormOf, formMost}
 use Rattle.stored.specs.Loading.{startedWith, loaded}
 use Rattle.stored.specs.Computing.{computing}
 
@@ -60,11 +59,11 @@ abbrev printed : List ℕ
 printed = hex "03" ++ untilClass ++ hex "01"
 
 pub printed-stored : form_of cuttingRoom onlyFirst ≡ printed
-unfolding form-computing number-computing
+unfolding computing number-computing
 printed-stored = refl
 
 pub printed-loaded : loaded printed ≡ accepted (startedWith cuttingRoom onlyFirst)
-unfolding computing form-computing number-computing record-computing
+unfolding computing number-computing record-computing
 printed-loaded = refl
 
 -- in Class 2: the serial number, the version and three names, the last of them empty
@@ -80,11 +79,11 @@ classPrinted =
     ++ hex "04" ++ ascii "Cast" ++ hex "00"
 
 pub class-printed : form_of classRoom onlyFirst ≡ classPrinted
-unfolding form-computing number-computing
+unfolding computing number-computing
 class-printed = refl
 
 pub class-printed-loaded : loaded classPrinted ≡ accepted (startedWith classRoom onlyFirst)
-unfolding computing form-computing number-computing record-computing
+unfolding computing number-computing record-computing
 class-printed-loaded = refl
 
 -- version 2, which has no class
@@ -92,11 +91,11 @@ abbrev markedPrinted : List ℕ
 markedPrinted = hex "02" ++ untilClass
 
 pub marked-printed : markedFormOf cuttingRoom onlyFirst ≡ markedPrinted
-unfolding form-computing number-computing
+unfolding computing number-computing
 marked-printed = refl
 
 pub marked-printed-loaded : loaded markedPrinted ≡ accepted (startedWith cuttingRoom onlyFirst)
-unfolding computing form-computing number-computing record-computing
+unfolding computing number-computing record-computing
 marked-printed-loaded = refl
 
 -- version 1, as boards wrote it before
@@ -104,11 +103,11 @@ abbrev oldPrinted : List ℕ
 oldPrinted = hex "01" ++ untilMarks ++ hex "0014" ++ hex "0258"
 
 pub old-printed : oldFormOf cuttingRoom ≡ oldPrinted
-unfolding form-computing number-computing
+unfolding computing number-computing
 old-printed = refl
 
 pub old-printed-loaded : loaded oldPrinted ≡ accepted (started cuttingRoom)
-unfolding computing form-computing number-computing record-computing
+unfolding computing number-computing record-computing
 old-printed-loaded = refl
 
 abbrev numberOn : List ℕ → ℕ
@@ -127,7 +126,7 @@ pub each-refused : map numberOn
     ([] ∷ hex "00" ∷ hex "04" ∷ (hex "04" ++ printed) ∷ hex "03" ∷ hex "0306E8" ∷ take 55 printed ∷ take 54 spaced
     ∷ take 60 nineLamps ∷ (printed ++ hex "00") ∷ (spaced ++ hex "0A") ∷ spaced ∷ nineLamps ∷ [])
     ≡ 21 ∷ 20 ∷ 20 ∷ 20 ∷ 21 ∷ 21 ∷ 21 ∷ 21 ∷ 21 ∷ 22 ∷ 22 ∷ 23 ∷ 23 ∷ []
-unfolding computing form-computing number-computing record-computing
+unfolding computing number-computing record-computing
 each-refused = refl
 
 -- the class: none, another one, with and without texts after it; in Class 2 cut in a text and before the last, left
@@ -137,7 +136,7 @@ pub each-class : map numberOn
     ∷ (hex "03" ++ untilClass ++ hex "02") ∷ take 70 classPrinted ∷ take 73 classPrinted ∷ (classPrinted ++ hex "00")
     ∷ (markedPrinted ++ hex "01") ∷ [])
     ≡ 21 ∷ 23 ∷ 22 ∷ 21 ∷ 21 ∷ 21 ∷ 22 ∷ 22 ∷ []
-unfolding computing form-computing number-computing record-computing
+unfolding computing number-computing record-computing
 each-class = refl
 
 -- version 1: cut short, left over; the marks that version 2 has are left over in it, and W and C are no marks
@@ -145,7 +144,7 @@ pub each-old-refused : map numberOn
     (hex "01" ∷ take 51 oldPrinted ∷ (oldPrinted ++ hex "00") ∷ (hex "01" ++ drop 1 markedPrinted)
     ∷ (hex "02" ++ drop 1 oldPrinted) ∷ [])
     ≡ 21 ∷ 21 ∷ 22 ∷ 22 ∷ 21 ∷ []
-unfolding computing form-computing number-computing record-computing
+unfolding computing number-computing record-computing
 each-old-refused = refl
 
 -- marks: one too few, one too many, a byte that is none, none set; no lamp, and so no mark
@@ -154,7 +153,7 @@ pub each-marked : map numberOn
     ∷ formWith formVersion (hex "020102") (hex "01") cuttingRoom ∷ form_of cuttingRoom (false ∷ false ∷ [])
     ∷ form_of (wantedOf [] [] [] [] [] (ascii "11") [] 20 60) [] ∷ [])
     ≡ 23 ∷ 23 ∷ 23 ∷ 23 ∷ 0 ∷ []
-unfolding computing form-computing number-computing record-computing
+unfolding computing number-computing record-computing
 each-marked = refl
 
 -- the longest form there is: every text, the inputs and the lamps as many as are allowed
@@ -169,5 +168,5 @@ abbrev widestForm : List ℕ
 widestForm = form_of widest (replicate 8 true)
 
 pub most-reached : ((loaded widestForm).number ≡ 0) × (length widestForm ≡ formMost)
-unfolding computing form-computing number-computing record-computing
+unfolding computing number-computing record-computing
 most-reached = (refl, refl)

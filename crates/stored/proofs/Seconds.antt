@@ -12,9 +12,9 @@ use Rattle.record.specs.Limits.{lampsMost}
 use Rattle.record.specs.Rules.{isLamps}
 use Rattle.record.specs.Record.{inRoom}
 use Rattle.record.proofs.Kept.{filled-take}
-use Rattle.form.specs.Form.{secondsBytes}
-use Rattle.form.proofs.Seconds.{first-seconds}
-use Rattle.stored.specs.Loading.{secondsIn}
+use Rattle.stored.specs.Form.{secondsBytes}
+use Rattle.stored.proofs.SecondsWritten.{first-seconds}
+use Rattle.stored.specs.Reading.{secondsIn}
 
 pub read-many : (n : ℕ) (s : List ℕ) → length (secondsIn n s) ≡ n
 unfolding secondsIn

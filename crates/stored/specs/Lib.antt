@@ -1,3 +1,7 @@
+pub mod Form
+pub mod Reading
+pub mod Reads
+pub mod Views
 pub mod Loading
 pub mod Computing
 pub mod Told

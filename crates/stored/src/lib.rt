@@ -1,8 +1,10 @@
-// Settings that survive a board swap (RULES, Stored form): a stored form, loaded.
+// Settings that survive a board swap (RULES, Stored form): a record stored as a form, and a form loaded.
 #![tactic(auto)]
 
 pub mod error;
-mod layout;
+mod form;
 pub mod loading;
-mod reading;
+mod reader;
+pub mod storing;
 pub mod theorems;
+mod writing;

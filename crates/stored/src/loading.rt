@@ -1,150 +1,159 @@
-// Loading a stored form (RULES, Stored form and Lamps): the version, then the layout, then the contents. What makes a
-// record is not put into its caller (`inline(never)`): its copies would lie on the stack while set-up runs.
-ghost use Rattle.std.specs.Prelude.{◌≡◌, true, map, ◌+◌, ◌≤◌, length, drop};
+// Loading a stored form (RULES, Stored form and Lamps): the version, then whether the bytes end with the form, then what
+// it says. The record is made where it lies, so that no copy of it is on the stack.
+ghost use Rattle.std.specs.Prelude.{◌≡◌, ◌/◌, ◌≤◌, true, map, length, OnErr};
 ghost use Rattle.std.specs.Result.{result_ok};
-ghost use Rattle.words.specs.Bytes.{◌at◌};
+ghost use Rattle.record.specs.Limits.{lampsMost};
+ghost use Rattle.record.specs.Record.{inRoom, blank};
 ghost use Rattle.record.specs.Updates.{withOwn, withMarks};
 ghost use Rattle.record.specs.Legal.{isLegal};
-ghost use Rattle.setup.specs.Lent.{class_number, serial_of, version_of, names_of};
-ghost use Rattle.stored.specs.Loading.{isOtherVersion, Walked, isMarked};
-ghost use Rattle.stored.specs.Loading.{textsLong, textsIn, end_at};
-ghost use Rattle.stored.specs.Loading.{settingsWith, settingsBy, settingsAt, device_of};
-ghost use Rattle.stored.specs.Loading.{markRoom, areMarks, loaded};
+ghost use Rattle.record.specs.Given.{gives};
+ghost use Rattle.stored.specs.Reading.{secondsIn};
+ghost use Rattle.stored.specs.Loading.{isOtherVersion, isMarked, markRoom, areMarks, device_of, contents, loaded};
 ghost use Rattle.stored.specs.Told.{loading_told};
+ghost use Rattle.stored.specs.Views.{said_of};
 
 use crate::error::LoadError;
-use crate::layout::{MARKED_VERSION, Places};
-use crate::{layout, reading};
-use form::storing::VERSION;
+use crate::form::{Form, MARKED_VERSION, OLD_VERSION};
+use crate::reader::Reader;
+use crate::storing::VERSION;
 use numbers::highest;
-use record::scan;
 use record::set_up_error::SetUpError;
-use record::types::{Device, INPUTS_MOST, LAMPS_MOST, Setting};
-use setup::wanted::{Class, Wanted};
+use record::types::{Device, LAMPS_MOST, Setting};
+use record::{fresh, scan};
+use setup::wanted::Wanted;
 
-fn is_other_version(s: &[u8]) -> bool
-    ensures { result ≡ isOtherVersion s.now }
+fn is_other_version(bytes: &[u8]) -> bool
+    ensures { result ≡ isOtherVersion bytes.now }
 {
-    if s.len() == 0 {
-        return false;
+    match bytes {
+        [] => false,
+        [version, ..] => *version != VERSION && *version != MARKED_VERSION && *version != OLD_VERSION,
     }
-    (s[0] != VERSION) & (s[0] != MARKED_VERSION) & !layout::is_old(s)
 }
 
-// Set up with what stands at the places, of a class. Lamps that are too many are not copied.
-#[inline(never)]
-fn set_up_with(s: &[u8], p: Places, class: Class<'_>) -> Result<Device, SetUpError>
-    requires walked { Walked s.now p }
-    requires class_in_bounds { p.class ≤ length s.now }
-    ensures { result_ok result ≡ device_of (settingsWith s.now p (class_number class.entry) (serial_of class.entry)
-        (version_of class.entry) (names_of class.entry)) }
+// The seconds of lamps, four bytes each, in their room.
+fn seconds_of(bytes: &[u8]) -> [u32; LAMPS_MOST]
+    requires { length bytes.now / 4 ≤ lampsMost }
+    ensures { result ≡ inRoom lampsMost (secondsIn (length bytes.now / 4) bytes.now) }
 {
-    let n = layout::count_at(s, p.lamps);
-    if LAMPS_MOST < n {
-        return Err(SetUpError::OutOfRange(Setting::Lamps));
+    let mut list = [0u32; LAMPS_MOST];
+    for i in 0..bytes.len() / 4 {
+        list[i] = highest::four_at(bytes, 4 * i);
     }
-    let seconds = reading::seconds_at(s, p.lamps + 1, n);
-    setup::set_up(&Wanted {
-        name: &s[2..p.maker],
-        maker: &s[p.maker + 1..p.model],
-        model: &s[p.model + 1..p.other],
-        other: &s[p.other + 1..p.password],
-        password: &s[p.password + 1..p.inputs],
-        inputs: &s[p.inputs + 1..p.lamps],
-        lamps: &seconds[0..n],
-        warm: highest::two_at(s, p.warm),
-        cool: highest::two_at(s, p.warm + 2),
-        class,
-    })
+    list
 }
 
-// Set up of Class 2: the texts stand after the class, the names last. Names that are too many are not copied.
-#[inline(never)]
-fn set_up_2_at(s: &[u8], p: Places) -> Result<Device, SetUpError>
-    requires walked { Walked s.now p }
-    requires s_in_bounds { p.class + 1 + textsLong (2 + (s.now at p.inputs)) (drop (p.class + 1) s.now)
-        ≤ length s.now }
-    requires class_bound { p.class ≤ 65535 }
-    ensures { result_ok result ≡ device_of (settingsBy s.now p 2 (textsIn (2 + (s.now at p.inputs))
-        (drop (p.class + 1) s.now))) }
+// The marks that the bytes are, in their room.
+fn marks_of(bytes: &[u8]) -> [bool; LAMPS_MOST]
+    requires { length bytes.now ≤ lampsMost }
+    ensures { result ≡ markRoom (map isMarked bytes.now) }
 {
-    let serial = p.class + 1;
-    let version = serial + 1 + layout::count_at(s, serial);
-    let names = version + 1 + layout::count_at(s, version);
-    let n = layout::count_at(s, p.inputs);
-    if INPUTS_MOST < n {
-        return Err(SetUpError::OutOfRange(Setting::Inputs));
+    let mut list = [false; LAMPS_MOST];
+    for (i, b) in bytes.iter().enumerate() {
+        list[i] = *b == 1;
     }
-    let lengths = reading::lengths_at(s, names, n);
-    let bytes = reading::bytes_at(s, names, n);
-    let total = layout::texts_long(s, names, n) - n;
-    let class = Class::Two {
-        serial: &s[serial + 1..version],
-        version: &s[version + 1..names],
-        names: &bytes[0..total],
-        lengths: &lengths[0..n],
-    };
-    set_up_with(s, p, class)
-}
-
-// Set up with what stands at the places. Of a class that there is not no inputs are in their range.
-#[inline(never)]
-fn set_up_at(s: &[u8], p: Places) -> Result<Device, SetUpError>
-    requires walked { Walked s.now p }
-    requires p_in_bounds { end_at s.now p ≤ length s.now }
-    requires class_bound { p.class ≤ 65535 }
-    ensures { result_ok result ≡ device_of (settingsAt s.now p) }
-{
-    match layout::class_in(s, p.class) {
-        1 => set_up_with(s, p, Class::One),
-        2 => set_up_2_at(s, p),
-        _ => Err(SetUpError::OutOfRange(Setting::Inputs)),
-    }
+    list
 }
 
 // The marks that the bytes are, if they are marks of its lamps, and whether they are: the record's own test says which
 // marks are legal.
-fn enable(device: &mut Device, s: &[u8]) -> bool
+fn enable(device: &mut Device, bytes: &[u8]) -> bool
     requires { isLegal device.old ≡ true }
-    ensures value { result ≡ areMarks device.old.settings.lamp_count s.now }
+    ensures value { result ≡ areMarks device.old.settings.lamp_count bytes.now }
     ensures device { result ≡ true
-        → device.new ≡ withOwn device.old (withMarks device.old.own (markRoom (map isMarked s.now))) }
+        → device.new ≡ withOwn device.old (withMarks device.old.own (markRoom (map isMarked bytes.now))) }
 {
-    if s.len() != device.settings.lamp_count {
+    if bytes.len() != device.settings.lamp_count {
         return false;
     }
-    if !scan::bytes_within(s, 1) {
+    if !scan::bytes_within(bytes, 1) {
         return false;
     }
-    device.own.enabled = reading::marks_of(s);
+    device.own.enabled = marks_of(bytes);
     device.own.is_legal(&device.settings)
 }
 
-/// The device that a stored form is of, freshly set up: its lamps' seconds and marks are those of the form. The version
-/// is tested first, then what is cut short, then what is left over, then the contents (RULES, Stored form).
-#[inline(never)]
-pub fn load(s: &[u8]) -> Result<Device, LoadError>
-    ensures { loading_told result ≡ loaded s.now }
+impl<'a> Form<'a> {
+    // Set up with what the form says. Lamps that are too many are not copied.
+    fn set_up_in(&self, device: &mut Device) -> Result<(), SetUpError>
+        ensures { result_ok (gives result device.new) ≡ device_of (said_of self.now).settings }
+    {
+        let Some(class) = self.rest.class(self.inputs.len() / 2) else {
+            return Err(SetUpError::OutOfRange(Setting::Inputs));
+        };
+        let n = self.lamps.len() / 4;
+        if LAMPS_MOST < n {
+            return Err(SetUpError::OutOfRange(Setting::Lamps));
+        }
+        let seconds = seconds_of(self.lamps);
+        setup::set_up_in(
+            device,
+            &Wanted {
+                name: self.name,
+                maker: self.maker,
+                model: self.model,
+                other: self.other,
+                password: self.password,
+                inputs: self.inputs,
+                lamps: &seconds[0..n],
+                warm: self.warm,
+                cool: self.cool,
+                class,
+            },
+        )
+    }
+
+    // And with its marks: all set where it has none.
+    fn load_in(&self, device: &mut Device) -> Result<(), LoadError>
+        ensures { loading_told (gives result device.new) ≡ contents (said_of self.now) }
+    {
+        let Ok(()) = self.set_up_in(device) else {
+            return Err(LoadError::NotLegal);
+        };
+        let Some(marks) = self.marks else {
+            return Ok(());
+        };
+        if !enable(device, marks) {
+            return Err(LoadError::NotLegal);
+        }
+        Ok(())
+    }
+}
+
+// Where it is refused, what the record is then is not said.
+fn read_in(device: &mut Device, bytes: &[u8]) -> Result<(), LoadError>
+    ensures { loading_told (gives result device.new) ≡ loaded bytes.now }
 {
-    if is_other_version(s) {
+    if is_other_version(bytes) {
         return Err(LoadError::OtherVersion);
     }
-    let p = layout::walk(s);
-    let end = p.class + layout::rest_long(s, layout::count_at(s, p.inputs), p.class);
-    if s.len() < end {
-        return Err(LoadError::CutShort);
-    }
-    if end < s.len() {
+    let mut reader = Reader::new(bytes);
+    let form = reader.form()?;
+    if !reader.is_empty() {
         return Err(LoadError::LeftOver);
     }
-    let Ok(mut made) = set_up_at(s, p) else {
-        return Err(LoadError::NotLegal);
+    form.load_in(device)
+}
+
+/// The record as a stored form has it, freshly set up: its lamps' seconds and marks are those of the form. The version
+/// is tested first, then what is cut short, then what is left over, then the contents; where it is refused, the record
+/// is the blank one (RULES, Stored form).
+pub fn load_in(device: &mut Device, bytes: &[u8]) -> Result<(), LoadError>
+    ensures made { loading_told (gives result device.new) ≡ loaded bytes.now }
+    ensures refused { OnErr result (device.new ≡ blank) }
+{
+    let Err(error) = read_in(device, bytes) else {
+        return Ok(());
     };
-    if layout::is_old(s) {
-        return Ok(made);
-    }
-    if !enable(&mut made, &s[p.marks + 1..p.warm]) {
-        return Err(LoadError::NotLegal);
-    }
-    Ok(made)
+    *device = fresh::blank();
+    Err(error)
+}
+
+/// The same, of a record of its own.
+pub fn load(bytes: &[u8]) -> Result<Device, LoadError>
+    ensures { loading_told result ≡ loaded bytes.now }
+{
+    let mut device = fresh::blank();
+    load_in(&mut device, bytes)?;
+    Ok(device)
 }

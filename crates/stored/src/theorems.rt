@@ -3,11 +3,13 @@
 ghost use Rattle.std.specs.Prelude.{◌≡◌, ◌<◌, ◌≤◌, ◌∷◌, ◌++◌, true, List, Bool, ℕ, length, take, Result};
 ghost use Rattle.record.specs.Wanted.{Wanted};
 ghost use Rattle.record.specs.SetUp.{isSetUp};
-ghost use Rattle.form.specs.Form.{form_of, markedFormOf, oldFormOf, storedForm, formMost};
+ghost use Rattle.record.specs.Given.{Given};
+ghost use Rattle.text.specs.Words.{over};
+ghost use Rattle.stored.specs.Form.{form_of, markedFormOf, oldFormOf, storedForm, formMost, storedBy, toldStored};
+ghost use Rattle.stored.specs.declared.storing.FormWritten.{FormWritten};
 ghost use Rattle.stored.specs.Loading.{loaded};
 ghost use Rattle.record.specs.declared.types.Device.{Device};
 ghost use Rattle.record.specs.Legal.{isLegal};
-ghost use Rattle.record.specs.Given.{Given};
 ghost use Rattle.stored.specs.declared.error.LoadError.{LoadError};
 ghost use Rattle.stored.specs.Told.{loading_told};
 
@@ -32,8 +34,12 @@ pub fn a_form_is_short()
     ensures { (d : Device) → isLegal d ≡ true → length (storedForm d) ≤ formMost }
 {}
 
-/// Two results that meet the promise of a call are equal.
+/// Two results that meet the promise of a call are equal, lent memory included.
 pub fn one_result()
+    ensures storing { (d : Device) (out : List ℕ) (r s : FormWritten) (m n : List ℕ)
+        → let w = storedBy d (length out) in
+        (r ≡ toldStored w) × (m ≡ over w.bytes out)
+        → (s ≡ toldStored w) × (n ≡ over w.bytes out) → (r ≡ s) × (m ≡ n) }
     ensures number_and_record { (bs : List ℕ) (r s : Given Device) → r ≡ loaded bs → s ≡ loaded bs → r ≡ s }
     ensures outcome { (bs : List ℕ) (r s : Result Device LoadError)
         → loading_told r ≡ loaded bs → loading_told s ≡ loaded bs → r ≡ s }

@@ -14,7 +14,7 @@ use Rattle.record.specs.Wanted.{Wanted}
 use Rattle.record.specs.declared.types.Device.{Device}
 use Rattle.record.proofs.Calls.{set-up-in-range}
 use Rattle.record.proofs.Started.{started-legal, set-up-started}
-use Rattle.form.specs.Form.{form_of, markedFormOf, oldFormOf}
+use Rattle.stored.specs.Form.{form_of, markedFormOf, oldFormOf}
 use Rattle.stored.proofs.Results.{accepted-legal}
 use Rattle.ours.specs.Board.{ours}
 use Rattle.demands.specs.History.{Event, Streams, noStreams, streamsAfter, seen}

@@ -15,7 +15,7 @@ use Rattle.text.specs.Scans.{every}
 use Rattle.text.proofs.Choices.{if_yes, both, both_left, both_right}
 use Rattle.words.specs.Codec.{Codec, WholeCodec, Plain, Ends, named, letter, behind, spelled, past, pair_of}
 use Rattle.words.specs.Codec.{counted, whole, ended, ◌>>=◌}
-use Rattle.words.specs.Joined.{list_text, JoinedBy, following, listed, is_list, WritesList}
+use Rattle.words.specs.Joined.{list_text, JoinedBy, following, list_read, is_list, WritesList}
 
 pub bind_some : {A B : Type 0} (o : Option A) (f : A → Option B) {y : B} → (o >>= f) ≡ Some y
     → (x : A) × (o ≡ Some x) × (f x ≡ Some y)
@@ -243,15 +243,15 @@ module _
     pub whole_says : WholeCodec legal text writes (whole read)
     whole_says = record { own = it.own; told = it.told; back = whole-back; sound = whole-sound }
 
-    list-back : (n : ℕ) (xs : List A) (s : List ℕ) → length xs ≤ n → JoinedBy writes xs s → listed read n s ≡ Some xs
+    list-back : (n : ℕ) (xs : List A) (s : List ℕ) → length xs ≤ n → JoinedBy writes xs s → list_read read n s ≡ Some xs
     list-back n [] s h w = absurd w
     list-back zero (x ∷ xs) s h w = absurd (omega arith)
     list-back (suc n) (x ∷ []) s h w =
-        ap (λ t. listed read (suc n) t) (sym (append-nil s))
-        ∙ ap (λ r. r >>= λ p. following p.0 (listed read n) p.1) (it.back x s [] w tt)
+        ap (λ t. list_read read (suc n) t) (sym (append-nil s))
+        ∙ ap (λ r. r >>= λ p. following p.0 (list_read read n) p.1) (it.back x s [] w tt)
     list-back (suc n) (x ∷ y ∷ xs) s h (t, rest, w, more, e) =
-        ap (λ t. listed read (suc n) t) e
-        ∙ ap (λ r. r >>= λ p. following p.0 (listed read n) p.1) (it.back x t (code " " ∷ rest) w refl)
+        ap (λ t. list_read read (suc n) t) e
+        ∙ ap (λ r. r >>= λ p. following p.0 (list_read read n) p.1) (it.back x t (code " " ∷ rest) w refl)
         ∙ ap (λ o. o >>= λ ys. Some (x ∷ ys)) (list-back n (y ∷ xs) rest (omega arith) more)
 
     longer : (x : A) (n : ℕ) (xs : List A) (t rest s : List ℕ) → writes x t → s ≡ t ++ code " " ∷ rest
@@ -260,23 +260,23 @@ module _
     longer x n [] t rest s w e more = absurd more.1
     longer x n (y ∷ ys) t rest s w e more = (omega (arith, more.0), (t, rest, w, more.1, e))
 
-    list-next : (n : ℕ) → ((s : List ℕ) (xs : List A) → listed read n s ≡ Some xs → WritesList writes n xs s)
+    list-next : (n : ℕ) → ((s : List ℕ) (xs : List A) → list_read read n s ≡ Some xs → WritesList writes n xs s)
         → (s : List ℕ) (xs : List A) (x : A) (t u : List ℕ) → writes x t → s ≡ t ++ u
-        → following x (listed read n) u ≡ Some xs
+        → following x (list_read read n) u ≡ Some xs
         → WritesList writes (suc n) xs s
     list-next n ih s xs x t [] w f q =
         subst (λ xs. WritesList writes (suc n) xs s) (same_Some (x ∷ []) xs q)
         (omega arith, subst (λ s. writes x s) (sym (f ∙ append-nil t)) w)
     list-next n ih s xs x t (b ∷ u) w f q =
-        let (y, o) = cond_is (b is " ") (listed read n u >>= λ ys. Some (x ∷ ys)) q in
-        let (ys, l, k) = bind_some (listed read n u) (λ ys. Some (x ∷ ys)) o in
+        let (y, o) = cond_is (b is " ") (list_read read n u >>= λ ys. Some (x ∷ ys)) q in
+        let (ys, l, k) = bind_some (list_read read n u) (λ ys. Some (x ∷ ys)) o in
         subst (λ xs. WritesList writes (suc n) xs s) (same_Some (x ∷ ys) xs k)
         (longer x n ys t u s w (f ∙ ap (λ c. t ++ c ∷ u) (eqb-true b (code " ") y)) (ih u ys l))
 
-    list-sound : (n : ℕ) (s : List ℕ) (xs : List A) → listed read n s ≡ Some xs → WritesList writes n xs s
+    list-sound : (n : ℕ) (s : List ℕ) (xs : List A) → list_read read n s ≡ Some xs → WritesList writes n xs s
     list-sound zero s xs e = cc
     list-sound (suc n) s xs e =
-        let (r, p, q) = bind_some (read s) (λ r. following r.0 (listed read n) r.1) e in
+        let (r, p, q) = bind_some (read s) (λ r. following r.0 (list_read read n) r.1) e in
         let (t, w, f) = it.sound s r.0 r.1 p in
         list-next n (list-sound n) s xs r.0 t r.1 w f q
 
@@ -311,7 +311,7 @@ module _
         let more = joined-told xs s w.1 in
         both (both (le-leb 1 (length xs) more.0) (le-leb (length xs) n w.0)) more.1
 
-    pub list_says : (n : ℕ) → WholeCodec (is_list legal n) (list_text text) (WritesList writes n) (listed read n)
+    pub list_says : (n : ℕ) → WholeCodec (is_list legal n) (list_text text) (WritesList writes n) (list_read read n)
     list_says n = record {
       own = list-own n;
       told = list-told n;

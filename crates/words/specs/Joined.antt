@@ -2,7 +2,7 @@
 -- spaces").
 --   list_text text xs     as our own side says them
 --   JoinedBy W xs s       s is one or more things, joined, each in one of the forms that W has for it
---   listed read n s       the things that all of s says, one to n of them
+--   list_read read n s       the things that all of s says, one to n of them
 --   is_list legal n xs    one to n things, each legal
 --   WritesList W n xs s   s is such a list of at most n things
 -- Assumes nothing.
@@ -28,9 +28,9 @@ abbrev pub following : {A : Type 0} → A → (List ℕ → Option (List A)) →
 following x more [] = Some (x ∷ [])
 following x more (b ∷ s) = if b is " " then (more s >>= λ xs. Some (x ∷ xs)) else None
 
-abbrev pub listed : {A : Type 0} → (List ℕ → Option (A × List ℕ)) → ℕ → List ℕ → Option (List A)
-listed read zero s = None
-listed read (suc n) s = read s >>= λ r. following r.0 (listed read n) r.1
+abbrev pub list_read : {A : Type 0} → (List ℕ → Option (A × List ℕ)) → ℕ → List ℕ → Option (List A)
+list_read read zero s = None
+list_read read (suc n) s = read s >>= λ r. following r.0 (list_read read n) r.1
 
 abbrev pub is_list : {A : Type 0} → (A → Bool) → ℕ → List A → Bool
 is_list legal n xs = leb 1 (length xs) && leb (length xs) n && every legal xs

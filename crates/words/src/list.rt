@@ -2,7 +2,7 @@
 ghost use Rattle.std.specs.Prelude.{◌≡◌, ◌+◌, ◌≤◌, ◌++◌, length};
 ghost use Rattle.std.specs.Option.{option_map};
 ghost use Rattle.arrayvec.specs.ArrayVec.{array_vec_len};
-ghost use Rattle.words.specs.Joined.{list_text, listed};
+ghost use Rattle.words.specs.Joined.{list_text, list_read};
 
 use crate::codec::{LINE_MOST, Line, Wire};
 use arrayvec::ArrayVec;
@@ -24,7 +24,7 @@ pub fn put_list<T: Wire>(xs: &[T], out: &mut Line)
 
 /// The things that all of `s` says, one to N of them.
 pub fn parse_list<T: Wire + Default, const N: usize>(s: &[u8]) -> Option<ArrayVec<T, N>>
-    ensures { option_map (λ v. v.items) result ≡ listed T.read N s.now }
+    ensures { option_map (λ v. v.items) result ≡ list_read T.read N s.now }
 {
     let mut xs = ArrayVec::new();
     let mut rest = s;

@@ -10,12 +10,11 @@ use native.Mathlib.Omega.{arith}
 use lib.ListN.{length}
 use lib.Dec.{eqb}
 use borrow.Author.Tests.{ne_eqb}
-use Rattle.std.specs.Prelude.{Option, Some}
+use Rattle.std.specs.Prelude.{Option, Some, Ok}
 use Rattle.text.proofs.Choices.{if_yes}
 use Rattle.digest.specs.Hex.{leadingDigest}
 use Rattle.pjlink.specs.Commands.{commandClass, isCommand, commandLine}
 use Rattle.pjlink.specs.declared.command.Command.{Command}
-use Rattle.pjlink.specs.declared.request.Request.TheVariants.{Asks}
 use Rattle.pjlink.specs.Said.{Said}
 use Rattle.record.specs.Limits.{shut, awaiting, opened}
 use Rattle.record.specs.Places.{connectionAt, isShut}
@@ -93,7 +92,7 @@ module _ (i p : ℕ) (w : Workroom) (j : Joined i p w) where
     writable = command-writable k c is
 
     abbrev told : Said
-    told = meant device.settings device.own (Asks c)
+    told = meant device.settings device.own (Ok c)
 
     abbrev sent : List ℕ
     sent = lineSent entry (commandOf k) commandRoom
@@ -173,6 +172,6 @@ module _ (i p : ℕ) (w : Workroom) (j : Joined i p w) where
     told_back =
         let settings = legal-settings device j.acquainted.device in
         let own = legal-own device j.acquainted.device in
-        let fits = meant-fits device.settings device.own settings own (Asks c) in
+        let fits = meant-fits device.settings device.own settings own (Ok c) in
         let short = fits.short in
         reply-read c (meant-can-be-said device.settings device.own settings own c) (omega arith) fits.no-cr

@@ -7,12 +7,11 @@ use mathlib.Core.Bool.{Bool, true, false, not, ◌&&◌, false≢true}
 use mathlib.Core.Logic.{⊎_elim}
 use mathlib.Core.List.{List}
 use borrow.Author.Tests.{ne_eqb}
-use Rattle.std.specs.Prelude.{Option, Some, None}
+use Rattle.std.specs.Prelude.{Option, Some, None, Ok}
 use Rattle.text.proofs.Choices.{if_no}
 use Rattle.text.proofs.Orders.{le-or-lt}
 use Rattle.pjlink.specs.Commands.{commandClass}
 use Rattle.pjlink.specs.declared.command.Command.{Command}
-use Rattle.pjlink.specs.declared.request.Request.TheVariants.{Asks}
 use Rattle.pjlink.specs.Said.{Said}
 use Rattle.record.specs.Limits.{opened}
 use Rattle.record.specs.Legal.{isLegal}
@@ -64,10 +63,10 @@ module _ (i p : ℕ) (w : Workroom) (j : Joined i p w) where
   module _ (k : Coded) (c : Command) (is : commandOf k ≡ Some c)
       (within : commandClass c ≤ device.settings.class_number) (there back : List ℕ) where
     abbrev told : Said
-    told = meant device.settings device.own (Asks c)
+    told = meant device.settings device.own (Ok c)
 
     abbrev left : Device
-    left = withPlace device (done device.settings device.own (Asks c)) p (turned (connectionAt device p) opened)
+    left = withPlace device (done device.settings device.own (Ok c)) p (turned (connectionAt device p) opened)
 
     abbrev sent : Panel
     sent = (sending i p w j k c is).panel

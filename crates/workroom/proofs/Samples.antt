@@ -10,7 +10,7 @@ use native.Mathlib.Omega.{arith}
 use lib.ListN.{replicate}
 use Rattle.text.specs.Words.{ascii}
 use Rattle.pjlink.specs.declared.command.Command.TheVariants.{Query}
-use Rattle.pjlink.specs.declared.command.Body.TheVariants.{Powr, Lamp}
+use Rattle.pjlink.specs.declared.body.Body.TheVariants.{Powr, Lamp}
 use Rattle.record.specs.Limits.{opened}
 use Rattle.record.specs.Record.{text_of, started}
 use Rattle.record.specs.Wanted.{wantedOf}

@@ -6,7 +6,7 @@ use mathlib.Core.List.{List, []}
 use native.Mathlib.Omega.{arith}
 use Rattle.text.specs.Words.{ascii}
 use Rattle.pjlink.specs.declared.command.Command.TheVariants.{Query}
-use Rattle.pjlink.specs.declared.command.Body.TheVariants.{Powr, Lamp}
+use Rattle.pjlink.specs.declared.body.Body.TheVariants.{Powr, Lamp}
 use Rattle.codes.specs.Commands.{bit, code_of}
 use Rattle.panel.specs.Entries.{Talk, Shown}
 use Rattle.panel.specs.StepTable.{Stray, late, malformed, foreign}

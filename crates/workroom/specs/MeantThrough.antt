@@ -8,10 +8,9 @@
 --   ownThrough s o hs     its own part after all of it
 --   IsWithin s m          m is a command of a class no higher than that of the settings s (RULES, Class 2), or none
 -- Assumes nothing.
-use Rattle.std.specs.Prelude.{◌≤◌, List, [], ◌∷◌, Option, Some, None}
+use Rattle.std.specs.Prelude.{◌≤◌, List, [], ◌∷◌, Option, Some, None, Ok}
 use Rattle.pjlink.specs.Commands.{commandClass}
 use Rattle.pjlink.specs.declared.command.Command.{Command}
-use Rattle.pjlink.specs.declared.request.Request.TheVariants.{Asks}
 use Rattle.pjlink.specs.Said.{Said, nothing}
 use Rattle.record.specs.declared.types.Settings.{Settings}
 use Rattle.record.specs.declared.types.Own.{Own}
@@ -25,11 +24,11 @@ use Rattle.workroom.specs.Workroom.{RoomMove, asks, waits, asks-another, hears-a
 module _ (s : Settings) where
   -- a code that stands for no command is refused by the panel
   abbrev pub saidTo : Own → Option Command → Said
-  saidTo o (Some c) = meant s o (Asks c)
+  saidTo o (Some c) = meant s o (Ok c)
   saidTo o None = nothing
 
   abbrev pub doneFor : Own → Option Command → Own
-  doneFor o (Some c) = done s o (Asks c)
+  doneFor o (Some c) = done s o (Ok c)
   doneFor o None = o
 
   abbrev pub IsWithin : Option Command → Type 0

@@ -15,10 +15,10 @@ pub returns-then-not-secured-clause-out_after : goal.returns-then-not-secured-cl
 returns-then-not-secured-clause-out_after c =
     let out = c.args.out.now in
     let few = line-at-most-11 c.args.c in
-    c.put_command-length.ensures.out_after ∙ sets_over (commandLine c.args.c) out (omega arith)
+    c.put-length.ensures.written ∙ sets_over (commandLine c.args.c) out (omega arith)
     ∙ ap (λ (w : WrittenAs). over w.bytes out)
     (sym (written-plain c.args.c c.args.secured c.args.random c.args.password.now (length out) c.if-out-lt168.false
-    (sym c.is_command.ensures ∙ c.if-not-is_command.false) c.if-not-secured.true))
+    (sym c.is_legal.ensures ∙ c.if-not-is_legal.false) c.if-not-secured.true))
 
 pub returns-clause-out_after : goal.returns-clause-out_after
 returns-clause-out_after c =
@@ -30,10 +30,10 @@ returns-clause-out_after c =
     let few = line-at-most-11 c.args.c in
     let both_long = length-append digest line in
     let at : 32 ≡ 0 + length digest = omega arith in
-    c.put_command-length-2.ensures.out_after
+    c.put-length-2.ensures.written
     ∙ sets_then out 0 digest line (c.put.ensures ∙ ap (sets out 0) c.leading_digest-lead.ensures) at
     ∙ sets_over (digest ++ line) out (omega arith)
     ∙ ap (λ (w : WrittenAs). over w.bytes out)
     (sym (written-led c.args.c c.args.secured c.args.random password (length out) c.if-out-lt168.false
-    (sym c.is_command.ensures ∙ c.if-not-is_command.false) c.if-not-secured.false
+    (sym c.is_legal.ensures ∙ c.if-not-is_legal.false) c.if-not-secured.false
     (sym c.is_password.ensures ∙ c.if-not-is_password.false)))

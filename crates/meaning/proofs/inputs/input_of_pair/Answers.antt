@@ -8,4 +8,5 @@ use Rattle.meaning.proofs.inputs.input_of_pair.Goals as goal
 
 pub returns : goal.returns
 returns c =
-    c.unwrap_or.ensures ∙ ap (λ (read : Option Input). unwrap_or read noInput) (c.read_input.ensures ∙ reader-follows _ _)
+    c.unwrap_or.ensures
+    ∙ ap (λ (read : Option Input). unwrap_or read noInput) (c.read_input.ensures ∙ reader-follows _ _)

@@ -15,7 +15,7 @@ marks_of-device-requires c = omega (arith, (settings-of-legal c.args.device.now 
 pub returns-clause-value : goal.returns-clause-value
 returns-clause-value c =
     let d = c.args.device.now in
-    let bytes = c.args.s.now in
+    let bytes = c.args.bytes.now in
     let n = d.settings.lamp_count in
     let marked = withMarks d.own (markRoom (map isMarked bytes)) in
     let o = own-of-legal d c.requires in

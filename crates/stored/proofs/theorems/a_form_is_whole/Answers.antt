@@ -1,4 +1,4 @@
-use Rattle.stored.proofs.CutShort.{cut-is-cut-short, cut-is-cut-short-marked, cut-is-cut-short-old}
+use Rattle.stored.proofs.FormsLoad.{cut-is-cut-short, cut-is-cut-short-marked, cut-is-cut-short-old}
 use Rattle.stored.proofs.FormsLoad.{more-is-left-over, more-is-left-over-marked, more-is-left-over-old}
 use Rattle.stored.proofs.theorems.a_form_is_whole.Goals as goal
 

@@ -1,2 +1,0 @@
-pub mod Form
-pub mod Computing

@@ -1,9 +1,0 @@
-use Rattle.std.proofs.Common.{refl}
-use Rattle.stored.proofs.MarksKept.{one-mark-kept, all-marks-kept}
-use Rattle.stored.proofs.reading.marks_of.Goals as goal
-
-pub loop-i-preserved : goal.loop-i-preserved
-loop-i-preserved c = one-mark-kept _ c.loop-i.invariant c.loop-i-test.true refl
-
-pub returns : goal.returns
-returns c = all-marks-kept _ c.loop-i.invariant c.requires c.loop-i-test.false

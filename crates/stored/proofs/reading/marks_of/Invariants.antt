@@ -1,6 +1,0 @@
--- Each byte passed is kept as its mark, in a room without marks.
-use Rattle.stored.proofs.MarksKept.{MarksKept}
-use Rattle.stored.proofs.reading.marks_of.Given as goal
-
-abbrev pub invariant-loop-i : goal.invariant-loop-i
-invariant-loop-i l = MarksKept l.s l.list l.i

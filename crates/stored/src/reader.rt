@@ -1,0 +1,106 @@
+// What is left to read of a stored form (RULES, Stored form): each method takes one field from its front. Where the
+// bytes end before the field does, they are cut short, and the reader is not used again.
+ghost use Rattle.std.specs.Prelude.{◌≡◌, ◌*◌, ◌==◌, ◌≤◌, IfOk, length};
+ghost use Rattle.record.specs.Wanted.{countedIn};
+ghost use Rattle.stored.specs.Reading.{byte, bytes, number, counted, text, texts};
+ghost use Rattle.stored.specs.Reads.{Reads};
+
+use crate::error::LoadError;
+use numbers::highest;
+use std::marker::Model;
+
+#[derive(Drop)]
+pub struct Reader<'a> {
+    rest: &'a [u8],
+}
+
+impl<'a> Model for Reader<'a> {
+    ghost use Rattle.std.specs.Prelude.{ℕ, List};
+
+    ghost Value = { List ℕ };
+
+    ghost view = { λ r. r.rest.now };
+}
+
+impl<'a> Reader<'a> {
+    /// All of the bytes are left.
+    pub fn new(bytes: &'a [u8]) -> Reader<'a>
+        ensures { result ≡ bytes.now }
+    {
+        Reader { rest: bytes }
+    }
+
+    /// Whether nothing is left.
+    pub fn is_empty(&self) -> bool
+        ensures { result ≡ (length self.now == 0) }
+    {
+        self.rest.is_empty()
+    }
+
+    /// One byte.
+    #[tactic(auto, unfolding(crate::specs::Reading::byte))]
+    pub fn byte(&mut self) -> Result<u8, LoadError>
+        ensures { Reads (λ b. b) result self.new (byte self.old) }
+    {
+        match self.rest {
+            [] => Err(LoadError::CutShort),
+            [b, rest @ ..] => {
+                self.rest = rest;
+                Ok(*b)
+            }
+        }
+    }
+
+    /// So many bytes.
+    #[tactic(auto, unfolding(crate::specs::Reading::bytes))]
+    pub fn bytes(&mut self, n: usize) -> Result<&'a [u8], LoadError>
+        ensures read { Reads (λ s. s.now) result self.new (bytes n self.old) }
+        ensures long { IfOk result (λ s. length s.now ≡ n) }
+    {
+        if self.rest.len() < n {
+            return Err(LoadError::CutShort);
+        }
+        let (front, rest) = self.rest.split_at(n);
+        self.rest = rest;
+        Ok(front)
+    }
+
+    /// A number of two bytes, the highest first.
+    #[tactic(auto, unfolding(crate::specs::Reading::number))]
+    pub fn number(&mut self) -> Result<u32, LoadError>
+        ensures { Reads (λ n. n) result self.new (number 2 self.old) }
+    {
+        let s = self.bytes(2)?;
+        Ok(highest::two_at(s, 0))
+    }
+
+    /// Items of so many bytes each, at most 4, after their count.
+    #[tactic(auto, unfolding(crate::specs::Reading::counted))]
+    pub fn counted(&mut self, width: usize) -> Result<&'a [u8], LoadError>
+        requires { width ≤ 4 }
+        ensures read { Reads (λ s. s.now) result self.new (counted width self.old) }
+        ensures upper_bound { IfOk result (λ s. length s.now ≤ 255 * width) }
+    {
+        let n = self.byte()?;
+        let s = self.bytes(width * n as usize)?;
+        Ok(s)
+    }
+
+    /// A text.
+    pub fn text(&mut self) -> Result<&'a [u8], LoadError>
+        ensures { Reads (λ s. s.now) result self.new (text self.old) }
+    {
+        self.counted(1)
+    }
+
+    /// So many texts, one after the other, each with its count before it.
+    pub fn texts(&mut self, n: usize) -> Result<&'a [u8], LoadError>
+        ensures { Reads (λ s. countedIn n s.now) result self.new (texts n self.old) }
+    {
+        let whole = self.rest;
+        for _ in 0..n {
+            self.text()?;
+        }
+        Ok(&whole[..whole.len() - self.rest.len()])
+    }
+}
