@@ -1,6 +1,8 @@
 //! What is measured: each piece of work, done by the archive, by the second program and, for MD5, by plain C.
 
-use second::face::{Changed, Command, Connection, Device, Lent, Lent2, Reading, Receiving, in_place, linked, swap};
+use second::face::{
+    Changed, Command, Connection, Device, Lent, Lent2, Reading, Receiving, in_place, linked, setting_up, swap,
+};
 use second::reference::{calls, places, service, swap as reference_swap};
 use std::cell::RefCell;
 use std::hint::black_box;
@@ -364,7 +366,7 @@ fn setting_up() -> Run {
     Box::new(move |by| {
         let lent = black_box(&lent);
         black_box(&match by {
-            By::Board => linked::set_up(lent),
+            By::Board => setting_up::set_up(lent),
             _ => calls::set_up(lent),
         });
     })
@@ -377,7 +379,7 @@ fn setting_up_in_place() -> Run {
     Box::new(move |by| {
         let (lent, mut device) = (black_box(&lent), place.borrow_mut());
         match by {
-            By::Board => drop(black_box(in_place::set_up(&mut device, lent))),
+            By::Board => drop(black_box(setting_up::set_up_in_place(&mut device, lent))),
             _ => *device = calls::set_up(lent).device,
         }
         black_box(&*device);

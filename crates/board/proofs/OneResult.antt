@@ -16,7 +16,7 @@ use Rattle.codes.specs.Commands.{commandOf}
 use Rattle.codes.specs.Readings.{flatGreeting}
 use Rattle.panel.specs.PanelCalls.{commanded}
 use Rattle.panel.specs.declared.types.Panel.{Panel}
-use Rattle.board.specs.Face.{written_by, read_by}
+use Rattle.codes.specs.ByCode.{written_by, read_by}
 use Rattle.board.specs.Results.{panel_sent_of}
 use Rattle.codes.specs.declared.command.Coded.{Coded}
 use Rattle.board.specs.declared.results.PanelSent.{PanelSent}

@@ -23,15 +23,13 @@ use Rattle.controller.proofs.Cases.{reply-by}
 use Rattle.controller.proofs.Refusals.{refusal-writes-nothing, written-number}
 use Rattle.codes.specs.Commands.{commandOf}
 use Rattle.codes.specs.Readings.{meaningless, flatAs, flat}
-use Rattle.board.specs.Face.{noneWritten, written_by, read_by}
+use Rattle.codes.specs.ByCode.{noneWritten, written_by, read_by}
 use Rattle.codes.specs.declared.command.Coded.{Coded}
 
 pub none-bytes : (room : ℕ) → (noneWritten room).bytes ≡ []
-unfolding noneWritten
 none-bytes room = if-all (λ (w : WrittenAs). w.bytes ≡ []) (ltb room commandRoom) refl refl
 
 none_number : (room : ℕ) → (noneWritten room).number ≡ (if ltb room commandRoom then 2 else 3)
-unfolding noneWritten
 none_number room = by (ltb room commandRoom)
   where
     by : (t : Bool) → (if t then nothingWritten 2 else nothingWritten 3).number ≡ (if t then 2 else 3)
@@ -55,8 +53,7 @@ module _ (secured : Bool) (random : ℕ) (password : List ℕ) (room : ℕ) wher
 
   pub no-command-written : (k : Coded) → commandOf k ≡ None → commandRoom ≤ room
       → written_by (commandOf k) secured random password room ≡ nothingWritten 3
-  unfolding noneWritten
-  no-command-written k e enough =
+    no-command-written k e enough =
       ap (λ (m : Option Command). written_by m secured random password room) e
       ∙ if_no (nothingWritten 2) (nothingWritten 3) (le-ltb room commandRoom enough)
 

@@ -1,4 +1,3 @@
-pub mod Face
 pub mod Lists
 pub mod Lent
 pub mod Days

@@ -3,7 +3,7 @@ ghost use Rattle.std.specs.Prelude.{◌≡◌};
 ghost use Rattle.controller.specs.Greetings.{readGreeting};
 ghost use Rattle.codes.specs.Commands.{commandOf};
 ghost use Rattle.codes.specs.Readings.{flatGreeting};
-ghost use Rattle.board.specs.Face.{read_by};
+ghost use Rattle.codes.specs.ByCode.{read_by};
 
 use codes::command::Coded;
 use codes::readings::{FlatGreeting, FlatReading};

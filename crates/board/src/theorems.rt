@@ -1,23 +1,12 @@
 // What is proved beside the contracts of the functions. Nothing is done here: that these functions have their contracts
 // is that the theorems stand.
-ghost use Rattle.std.specs.Prelude.{Ok};
-ghost use Rattle.std.specs.Prelude.{◌≡◌, ◌<◌, ◌≤◌, ◌^◌, ℕ, ℤ, true, List, false, length, Bool, Option, Some, Result};
-ghost use Rattle.record.specs.declared.types.Device.{Device};
-ghost use Rattle.record.specs.Limits.{placesCount, opened, awaiting};
-ghost use Rattle.record.specs.Legal.{isLegal};
-ghost use Rattle.record.specs.Places.{connectionAt, lowestShut};
-ghost use Rattle.stream.specs.Collecting.{emptyLine};
+ghost use Rattle.std.specs.Prelude.{◌≡◌, ℕ, ℤ, List, length, Bool, Option, Result};
 ghost use Rattle.codes.specs.declared.command.Coded.{Coded};
-ghost use Rattle.pjlink.specs.declared.command.Command.{Command};
 ghost use Rattle.codes.specs.Commands.{commandOf};
-ghost use Rattle.pjlink.specs.Commands.{commandClass};
-ghost use Rattle.device.specs.Calls.{replyRoom, received, openedBy, placeTaken};
-ghost use Rattle.controller.specs.Writing.{commandRoom, toldWritten};
-ghost use Rattle.board.specs.Face.{written_by, read_by};
-ghost use Rattle.codes.specs.Readings.{saidFlat, flatGreeting};
-ghost use Rattle.meaning.specs.Meaning.{meant};
-ghost use Rattle.device.specs.Receiving.{passwordOf};
-ghost use Rattle.controller.specs.Greetings.{readGreeting, greetedOn};
+ghost use Rattle.controller.specs.Writing.{toldWritten};
+ghost use Rattle.codes.specs.ByCode.{written_by, read_by};
+ghost use Rattle.codes.specs.Readings.{flatGreeting};
+ghost use Rattle.controller.specs.Greetings.{readGreeting};
 ghost use Rattle.day.specs.declared.check.CheckError.{CheckError};
 ghost use Rattle.day.specs.declared.plan.PlanError.{PlanError};
 ghost use Rattle.board.specs.Lists.{Lists};
@@ -40,32 +29,6 @@ ghost use Rattle.board.specs.declared.days.FlatPlan.{FlatPlan};
 ghost use Rattle.record.specs.Wanted.{Wanted};
 ghost use Rattle.record.specs.SetUp.{setUp};
 ghost use Rattle.record.specs.SetUpErrors.{setting_told};
-
-/// For every legal device, at every place between lines, and every code of a command of a class no higher than the
-/// device's, what is read of the reply to what was written is what the projector meant; so of the greeting.
-pub fn the_face_reads_back()
-    ensures read_back { (d : Device) (p : ℕ) → p < placesCount → isLegal d ≡ true
-        → (connectionAt d p).line ≡ emptyLine → (k : Coded) (c : Command) → commandOf k ≡ Some c
-        → commandClass c ≤ d.settings.class_number
-        → (room : ℕ) → replyRoom ≤ room → (memory : ℕ) → commandRoom ≤ memory
-        → (connectionAt d p).phase ≡ opened → (random : ℕ) (password : List ℕ)
-        → let w = written_by (commandOf k) false random password memory in
-        let r = received d p w.bytes room in
-        (w.number ≡ 0) × (r.taken ≡ length w.bytes)
-        × (read_by (commandOf k) r.reply ≡ saidFlat (meant d.settings d.own (Ok c))) }
-    ensures read_back_secured { (d : Device) (p : ℕ) → p < placesCount → isLegal d ≡ true
-        → (connectionAt d p).line ≡ emptyLine → (k : Coded) (c : Command) → commandOf k ≡ Some c
-        → commandClass c ≤ d.settings.class_number
-        → (room : ℕ) → replyRoom ≤ room → (memory : ℕ) → commandRoom ≤ memory
-        → (connectionAt d p).phase ≡ awaiting
-        → let w = written_by (commandOf k) true (connectionAt d p).random (passwordOf d.settings) memory in
-        let r = received d p w.bytes room in
-        (w.number ≡ 0) × (r.taken ≡ length w.bytes)
-        × (read_by (commandOf k) r.reply ≡ saidFlat (meant d.settings d.own (Ok c))) }
-    ensures greeting { (d : Device) (random room : ℕ) → isLegal d ≡ true → lowestShut d.connections < placesCount
-        → replyRoom ≤ room → random < 2 ^ 32 → let o = openedBy d random room in
-        flatGreeting (readGreeting o.reply) ≡ flatGreeting (greetedOn (connectionAt o.device (placeTaken d room))) }
-{}
 
 /// No two verdicts, no two answers of the planner and no two settings have the same numbers.
 pub fn numbers_tell_apart()

@@ -3,13 +3,12 @@ ghost use Rattle.std.specs.Prelude.{◌≡◌, length};
 ghost use Rattle.text.specs.Words.{over};
 ghost use Rattle.controller.specs.Writing.{toldWritten};
 ghost use Rattle.codes.specs.Commands.{commandOf};
-ghost use Rattle.board.specs.Face.{noneWritten, written_by};
+ghost use Rattle.codes.specs.ByCode.{noneWritten, written_by};
 
 use codes::command::Coded;
 use controller::writing;
 use controller::writing::Written;
 
-#[tactic(auto, unfolding(crate::specs::Face::noneWritten))]
 fn none_written(room: usize) -> Written
     ensures { result ≡ toldWritten (noneWritten room) }
 {
@@ -26,7 +25,6 @@ fn none_written(room: usize) -> Written
 }
 
 /// The line of a command: 2, then 3, also for what is no command.
-#[tactic(auto, unfolding(crate::specs::Face::noneWritten))]
 #[unsafe(no_mangle)]
 pub extern "C" fn pj_write(
     k: Coded,

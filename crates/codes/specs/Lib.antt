@@ -1,3 +1,4 @@
 pub mod Commands
 pub mod Readings
 pub mod Computing
+pub mod ByCode

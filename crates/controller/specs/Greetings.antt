@@ -3,15 +3,12 @@
 --   greets l r          the line l is the greeting with the random number r, in its eight digits
 --   readGreeting l      what the line l is
 --   Exactly l g         the line l is the line of g; a line that is no greeting is none of them
---   greetedOn c         what an opened connection has been greeted with
 --   greetingNumber g    the number of this in the table of numbers
 -- Assumes nothing.
-use Rattle.std.specs.Prelude.{ℕ, ◌^◌, ◌<◌, ◌≡◌, Bool, List, take, drop, eqb, if◌then◌else◌}
+use Rattle.std.specs.Prelude.{ℕ, ◌^◌, ◌<◌, ◌≡◌, Bool, List, take, drop, if◌then◌else◌}
 use Rattle.text.specs.Scans.{sameBy, itself}
 use Rattle.digest.specs.Hex.{hexDigits, hexValue}
 use Rattle.pjlink.specs.Forms.{erraLine, greetingOpen, greetingSecured}
-use Rattle.record.specs.Limits.{awaiting}
-use Rattle.record.specs.declared.types.Connection.{Connection}
 use Rattle.controller.specs.declared.greeting.Greeting.{Greeting}
 use Rattle.controller.specs.declared.greeting.Greeting.TheVariants.{Open, Secured, Refused, NotAGreeting}
 
@@ -36,9 +33,6 @@ Exactly l (Secured r) = (r < 2 ^ 32) × (l ≡ greetingSecured (hexDigits 8 r))
 Exactly l Refused = l ≡ erraLine
 Exactly l NotAGreeting = (l ≡ greetingOpen → ⊥) × ((l ≡ erraLine → ⊥)
     × ((r : ℕ) → r < 2 ^ 32 → l ≡ greetingSecured (hexDigits 8 r) → ⊥))
-
-abbrev pub greetedOn : Connection → Greeting
-greetedOn c = if eqb c.phase awaiting then Secured c.random else Open
 
 abbrev pub greetingNumber : Greeting → ℕ
 greetingNumber Open = 0

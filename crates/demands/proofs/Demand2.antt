@@ -3,7 +3,7 @@
 use mathlib.Core.Path.{refl}
 use lib.ListN.{length}
 use Rattle.device.proofs.Short.{receiving-short}
-use Rattle.controller.proofs.GreetsBack.{heard-exactly}
+use Rattle.controller.proofs.GreetingsHeard.{heard-exactly}
 use Rattle.controller.proofs.ReadsSound.{means-what-was-written, what-was-written-is-meant, erra-exactly}
 use Rattle.ours.specs.Board.{ours}
 use Rattle.demands.specs.Demand2.{Demand2}

@@ -28,7 +28,7 @@ use Rattle.meaning.proofs.LampsTold.{lamps-answered, lamp-told}
 use Rattle.device.specs.Calls.{Result, replyRoom, received}
 use Rattle.device.proofs.CommandsReceived.{replyTo, command-received}
 use Rattle.controller.specs.Reading.{meaning, readReply}
-use Rattle.controller.proofs.ReadsBack.{is-between, reads-back}
+use Rattle.demands.proofs.TakenAndRead.{is-between, reads-back}
 use Rattle.ours.specs.Board.{ours, reply}
 use Rattle.demands.specs.History.{Streams, Event, isBurning, marksAfter, burning, stageAfter}
 use Rattle.demands.specs.Demand2.{BetweenLines}

@@ -20,7 +20,7 @@ use Rattle.device.proofs.OutsiderStreams.{firstLine, outsider-stream-keeps-own, 
 use Rattle.device.proofs.OutsiderStreams.{outsider-stream-refused, outsider-stream-keeps-others}
 use Rattle.device.proofs.OutsiderStreams.{outsider-stream-fails, outsider-stream-age}
 use Rattle.device.proofs.FirstLines.{first-line-ends, unled-unmatched}
-use Rattle.controller.proofs.ReadsBack.{is-between}
+use Rattle.demands.proofs.TakenAndRead.{is-between}
 use Rattle.ours.specs.Board.{ours}
 use Rattle.demands.specs.Demand2.{BetweenLines, isLed, handedOn, RefusalOnly}
 use Rattle.demands.proofs.CutsOnBoards.{handed-alike}

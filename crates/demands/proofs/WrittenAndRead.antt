@@ -24,11 +24,12 @@ use Rattle.device.specs.Calls.{Result, replyRoom, received, openedBy}
 use Rattle.device.proofs.CommandsReceived.{swallowedAt, higher-received, higher-received-secured}
 use Rattle.controller.specs.Writing.{WrittenAs, commandRoom, ledBy, writtenCommand}
 use Rattle.controller.specs.Reading.{readReply}
-use Rattle.controller.specs.Greetings.{readGreeting, greetedOn}
+use Rattle.controller.specs.Greetings.{readGreeting}
+use Rattle.demands.specs.Greeted.{greetedOn}
 use Rattle.controller.proofs.Cases.{written-by, written-plain, written-led}
-use Rattle.controller.proofs.ReadsBack.{is-between, TakenAndRead}
-use Rattle.controller.proofs.WrittenReadBack.{written-reads-back, written-reads-back-secured}
-use Rattle.controller.proofs.GreetsBack.{greets-back as greeted-back}
+use Rattle.demands.proofs.TakenAndRead.{is-between, TakenAndRead}
+use Rattle.demands.proofs.WrittenReadBack.{written-reads-back, written-reads-back-secured}
+use Rattle.demands.proofs.GreetsBack.{greets-back as greeted-back}
 use Rattle.ours.specs.Board.{bytesWritten, reply, lent_by, wroteBy, ours}
 use Rattle.demands.specs.Demand2.{BetweenLines, ReadBack, AnsweredAs, Swallowed, ByClass}
 use Rattle.demands.proofs.LentMemory.{over-front}

@@ -7,7 +7,7 @@
 -- TO BELIEVE IT, believe, and nothing else: MD5 and its digits (digest/specs); lines, inputs, texts and commands
 -- (lines/specs; for names also utf8/specs/Utf8), and requests (requests/specs/Requests); what an answer is and which
 -- bytes say it (answers/specs: Lists, Said, CanSay; replies/specs: Words, Writings); what a reading means and a
--- greeting is (controller/specs: `meaning`, `LineSays` of Reading, `Exactly`, `greetedOn` of Greetings); what is meant
+-- greeting is (controller/specs: `meaning`, `LineSays` of Reading, `Exactly` of Greetings; here Greeted); what is meant
 -- and done (meaning/specs); how a line is answered and a connection greeted (device/specs: Answering, `isLedBy` of
 -- Receiving, and `greeting`, `greeted` of Calls); the record (record/specs); a stream in cuts (stream/specs/Machine);
 -- ours/specs/Board; here Calls, CallsDone, Outsider. RULES, Places: "Demand 2 holds place by place": what is said of a
@@ -52,8 +52,9 @@ use Rattle.device.specs.Receiving.{turned, passwordOf, isLedBy}
 use Rattle.device.specs.Calls.{longestReply, replyRoom, isSecured}
 use Rattle.controller.specs.Writing.{commandRoom, ledBy}
 use Rattle.controller.specs.Reading.{meaning, LineSays}
-use Rattle.controller.specs.Greetings.{Exactly, greetedOn}
 use Rattle.controller.specs.Reading.{Means, Erra}
+use Rattle.controller.specs.Greetings.{Exactly}
+use Rattle.demands.specs.Greeted.{greetedOn}
 use Rattle.ours.specs.Board.{Board, Lent, Wrote, reply, bytesWritten}
 use Rattle.demands.specs.Calls.{Call, opens, closes, receives, passes, marks, reports, enables, after}
 use Rattle.demands.specs.CallsDone.{OpenedAs, Leaves}

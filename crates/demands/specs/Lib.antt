@@ -3,6 +3,7 @@ pub mod History
 pub mod CallsDone
 pub mod Outsider
 pub mod Unheard
+pub mod Greeted
 pub mod Demand1
 pub mod Demand2
 pub mod ClassOne

@@ -18,3 +18,4 @@ pub mod KeptText
 mod PlayedSpelt
 mod LinePlayed
 mod Replayed
+pub mod Samples

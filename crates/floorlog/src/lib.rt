@@ -13,7 +13,8 @@ pub mod playing;
 mod tests;
 pub mod theorems;
 
-ghost use Rattle.std.specs.Prelude.{◌≡◌, ◌≢◌, ◌<◌, [], OnOk, IfOk, IfErr, IfSome, Err, length};
+ghost use Rattle.std.specs.Prelude.{◌≡◌, true, ◌≢◌, ◌<◌, [], OnOk, IfOk, IfErr, IfSome, Err, length};
+ghost use Rattle.record.specs.Legal.{isLegal};
 ghost use Rattle.textio.specs.Lines.{countMost, IsTooLong};
 ghost use Rattle.textio.specs.Fronts.{WritesFront};
 ghost use Rattle.textio.specs.Ahead.{left_in};
@@ -29,9 +30,10 @@ use textio::reader::{ByteSource, Reader};
 use textio::writer::ByteSink;
 
 /// The sample set-up, every place closed.
-#[tactic(auto, unfolding(crate::specs::Playing::sampleDevice))]
+#[tactic(auto, unfolding(crate::specs::Playing::sampleDevice), using(crate::proofs::Samples::sample_is_legal))]
 pub fn sample() -> Device
-    ensures { result ≡ sampleDevice }
+    ensures sample { result ≡ sampleDevice }
+    ensures legal { isLegal result ≡ true }
 {
     let lamps = [0u32; 1];
     let class = Class::One;

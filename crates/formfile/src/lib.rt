@@ -2,6 +2,9 @@
 // an argument names.
 #![tactic(auto)]
 
+ghost use Rattle.std.specs.Prelude.{IfOk};
+ghost use Rattle.formfile.specs.Begun.{IsBegun};
+
 use record::types::Device;
 use std::fs::File;
 use std::io::{Read, Write};
@@ -21,11 +24,19 @@ pub enum NotBegun {
     Refused(u32),
 }
 
-fn loaded(bytes: &[u8]) -> Result<Device, NotBegun> {
-    loading::load(bytes).map_err(|error| NotBegun::Refused(error.number()))
+#[tactic(auto, using(crate::proofs::FormBegun::loaded_is_legal, crate::proofs::FormBegun::error_number_within))]
+fn loaded(bytes: &[u8]) -> Result<Device, NotBegun>
+    ensures { IsBegun result }
+{
+    match loading::load(bytes) {
+        Ok(device) => Ok(device),
+        Err(error) => Err(NotBegun::Refused(error.number())),
+    }
 }
 
-fn of_file(rt: &HostRuntime, path: &str) -> io::Result<Result<Device, NotBegun>> {
+fn of_file(rt: &HostRuntime, path: &str) -> io::Result<Result<Device, NotBegun>>
+    ensures { IfOk result IsBegun }
+{
     let mut file = File::open(rt, path)?;
     let mut bytes = Vec::new(rt.alloc());
     (&mut file).take(ROOM).read_to_end(&mut bytes)?;
@@ -35,15 +46,20 @@ fn of_file(rt: &HostRuntime, path: &str) -> io::Result<Result<Device, NotBegun>>
     Ok(loaded(&bytes))
 }
 
-fn by_argument(rt: &HostRuntime, place: usize) -> io::Result<Result<Device, NotBegun>> {
+fn by_argument(rt: &HostRuntime, place: usize) -> io::Result<Result<Device, NotBegun>>
+    ensures { IfOk result IsBegun }
+{
     match env::args(rt)?.nth(place) {
         None => Ok(Ok(floorlog::sample())),
         Some(path) => of_file(rt, path.as_str()),
     }
 }
 
-/// By the argument with that place, where there is one. What cannot be read is told on standard error.
-pub fn begun_by(rt: &HostRuntime, place: usize) -> Result<Device, NotBegun> {
+/// By the argument with that place, where there is one: a legal record, or why there is none. What cannot be read is
+/// told on standard error.
+pub fn begun_by(rt: &HostRuntime, place: usize) -> Result<Device, NotBegun>
+    ensures { IsBegun result }
+{
     match by_argument(rt, place) {
         Ok(begun) => begun,
         Err(error) => {

@@ -9,4 +9,3 @@ pub mod InputSets
 pub mod LampsSaid
 pub mod LampsTold
 pub mod Settled
-pub mod RulesKept

@@ -12,10 +12,10 @@ ghost use Rattle.pjlink.specs.Carried.{said_by};
 ghost use Rattle.meaning.specs.Meaning.{meant, done};
 
 use pjlink::answer::Reply;
-use words::refusal::Refusal;
 use pjlink::command::Command;
 use pjlink::request::Unasked;
 use record::types::{Own, Settings};
+use words::refusal::Refusal;
 
 // A command: the first rule that applies refuses it; else it is answered, and then carried out.
 #[tactic(auto, unfolding(crate::specs::Meaning::meant, crate::specs::Meaning::done))]

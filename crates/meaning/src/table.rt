@@ -7,8 +7,6 @@ ghost use Rattle.meaning.specs.Meaning.{powerSaid, lampsSaid, nameBytes, queried
 use crate::inputs;
 use arrayvec::ArrayVec;
 use pjlink::answer::Answer;
-use words::lamp::LampHours;
-use words::power::Power;
 use pjlink::body::Body;
 use pjlink::command::Command;
 use record::own;
@@ -17,6 +15,8 @@ use record::types::{
     INPUT_NAME_MOST, INPUTS_MOST, InputName, LAMPS_MOST, Own, Settings, TEXT_ROOM, Text,
 };
 use words::input::Input;
+use words::lamp::LampHours;
+use words::power::Power;
 
 const HOUR: u32 = 3600;
 

@@ -13,8 +13,9 @@ use Rattle.text.proofs.Choices.{both, both_left, both_right}
 use Rattle.words.specs.Texts.{isPassword}
 use Rattle.words.proofs.TextsTold.{password-long}
 use Rattle.words.proofs.WithinLength.{password-within}
-use Rattle.record.specs.Limits.{textRoom}
-use Rattle.record.proofs.Kept.{kept-shown, filled-kept, nothing-kept}
+use Rattle.std.specs.Prelude.{◌==◌}
+use Rattle.text.proofs.RoomsTold.{uses_told, kept_used}
+use Rattle.panel.specs.Passwords.{passwordRoom, password_of, isPasswordKept}
 use Rattle.controller.specs.Reading.{ReadAs, readReply}
 use Rattle.controller.specs.Reading.{Means}
 use Rattle.controller.proofs.ReadsSound.{reads-sound}
@@ -93,25 +94,22 @@ module _ (e : Entry) (legal : isEntry e ≡ true) where
       → isEntry (sentEntry e k) ≡ true
   sent-entry-legal k ready named = talk-kept _ (sent-legal (talkOf e) told.talk k (first-no _ _ ready) named)
 
+kept_legal : (s : List ℕ) → isPassword s ≡ true → isPasswordKept (password_of s) ≡ true
+kept_legal s h =
+    let short = password-long s h in
+    (uses_told _ _ _ _ _).1 (kept_used (λ x. x == 0) 0 passwordRoom isPassword s (omega arith) refl h)
+
 pub fresh-legal : (s : List ℕ) → isPassword s ≡ true → isEntry (freshEntry s) ≡ true
 fresh-legal s h =
-    let short = password-long s h in
     entry-legal _ (record {
-      password = kept-shown textRoom isPassword _ (length s) (filled-kept textRoom isPassword s (omega arith) h);
+      password = kept_legal s h;
       talk = no-talk-legal;
       shown = nothing-shown-legal;
       strays = omega arith;
     })
 
 pub blank-legal : isEntry blankEntry ≡ true
-blank-legal =
-    entry-legal _ (record {
-      password = kept-shown textRoom isPassword _ 0
-          (nothing-kept textRoom isPassword (password-within [] (omega arith)));
-      talk = no-talk-legal;
-      shown = nothing-shown-legal;
-      strays = omega arith;
-    })
+blank-legal = fresh-legal [] (password-within [] (omega arith))
 
 blank-unused : isUnused blankEntry ≡ true
 unfolding isUnused

@@ -11,22 +11,21 @@ use lib.ListN.{length, get_or, drop}
 use Rattle.text.specs.Scans.{every}
 use Rattle.text.proofs.Scanning.{every-at}
 use Rattle.words.specs.Texts.{isPassword}
-use Rattle.record.specs.Limits.{textRoom}
-use Rattle.record.specs.Legal.{fillsTextRoom}
-use Rattle.std.specs.Prelude.{is_some}
+use Rattle.std.specs.Prelude.{is_some, ◌==◌}
 use Rattle.pjlink.specs.Carried.{lampsCarried}
-use Rattle.record.specs.Rooms.{used}
-use Rattle.record.proofs.Kept.{kept-told}
-use Rattle.record.proofs.RoomsTold.{is_some_used}
+use Rattle.text.specs.Rooms.{used, Uses}
+use Rattle.text.proofs.RoomsTold.{is_some_used, uses_told}
+use Rattle.panel.specs.Passwords.{passwordRoom, isPasswordKept}
 use Rattle.panel.specs.Entries.{talkOf, shownOf, passwordIn, blankEntry}
 use Rattle.panel.specs.Stepping.{straysMost}
-use Rattle.panel.specs.LegalPanels.{panelMost, isTalk, isLitRoom, isShown, isEntry, isEntries, isUnused, isPanel}
+use Rattle.panel.specs.LegalPanels.{panelMost, isTalk, isHoursRoom, isLitRoom, isShown, isEntry, isEntries}
+use Rattle.panel.specs.LegalPanels.{isUnused, isPanel}
 use Rattle.panel.specs.PanelCalls.{entry_at}
 use Rattle.panel.specs.declared.types.Entry.{Entry}
 use Rattle.panel.specs.declared.types.Panel.{Panel}
 
 pub record EntryTold (e : Entry) : Type 0 where
-  pub password : fillsTextRoom isPassword e.password ≡ true
+  pub password : isPasswordKept e.password ≡ true
   pub talk : isTalk (talkOf e) ≡ true
   pub shown : isShown (shownOf e) ≡ true
   pub strays : e.strays ≤ straysMost
@@ -47,13 +46,14 @@ module _ (e : Entry) where
 
   -- its password is in its room, and one that the writer takes
   module _ (legal : isEntry e ≡ true) where
-    pub password-fits : e.password.len ≤ textRoom
-    password-fits =
-        (kept-told textRoom isPassword e.password.bytes e.password.len (entry-told legal).password).inside
+    password_uses : Uses (λ x. x == 0) passwordRoom isPassword e.password.bytes e.password.len
+    password_uses = (uses_told _ _ _ _ _).0 (entry-told legal).password
+
+    pub password-fits : e.password.len ≤ passwordRoom
+    password-fits = password_uses.inside
 
     pub password-legal : isPassword (passwordIn e) ≡ true
-    password-legal =
-        (kept-told textRoom isPassword e.password.bytes e.password.len (entry-told legal).password).follows
+    password-legal = password_uses.follows
 
 pub record PanelTold (p : Panel) : Type 0 where
   pub count : p.count ≤ panelMost
@@ -88,10 +88,13 @@ module _ (p : Panel) where
     pub entry-at-legal : isEntry (entry_at p i) ≡ true
     entry-at-legal = legal-there blankEntry
 
-    pub fits_there : (d : Entry) → (get_or p.entries i d).password.len ≤ textRoom
+    pub fits_there : (d : Entry) → (get_or p.entries i d).password.len ≤ passwordRoom
     fits_there d = password-fits (get_or p.entries i d) (legal-there d)
 
--- the lit marks of so many lamps, and a panel, by what is used of their room
+-- the hours and the lit marks of so many lamps, and a panel, by what is used of their room
+pub hours_inside : (hs : List ℕ) (n : ℕ) → isHoursRoom hs n ≡ true → n ≤ lampsCarried
+hours_inside hs n h = ((uses_told _ _ _ hs n).0 h).inside
+
 pub lit_used : (ms : List Bool) (n : ℕ) → n ≤ lampsCarried → length ms ≡ lampsCarried → isLitRoom ms n
     ≡ is_some (used not lampsCarried ms n)
 unfolding isLitRoom

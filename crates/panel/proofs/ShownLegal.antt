@@ -18,10 +18,8 @@ use Rattle.words.specs.declared.input.Source.{Source}
 use Rattle.words.specs.declared.input.Source.TheVariants.{Rgb, Video, Digital, Storage, Network, Internal}
 use Rattle.words.specs.declared.input.Input.{Input}
 use Rattle.pjlink.specs.declared.command.Command.{Command}
-use Rattle.record.specs.Rules.{at_most}
-use Rattle.record.specs.Legal.{fillsRoom}
-use Rattle.record.proofs.Kept.{kept-shown, filled-kept}
-use Rattle.record.proofs.Filled.{room-filled}
+use Rattle.std.specs.Prelude.{◌==◌}
+use Rattle.text.proofs.RoomsTold.{rest_kept, uses_told, kept_used}
 use Rattle.pjlink.specs.Said.{Said, chosenIs}
 use Rattle.pjlink.specs.Carried.{lampsCarried}
 use Rattle.pjlink.specs.CanSay.{CanSay, done, refuses, power, input, mutes, errors, lamps, inputs, name, maker}
@@ -35,8 +33,8 @@ use Rattle.codes.specs.Commands.{sourceNumber}
 use Rattle.codes.specs.Readings.{filledTo, hoursOf, lit_of, powerNumber}
 use Rattle.panel.specs.Entries.{Shown, nothingShown}
 use Rattle.panel.specs.Showing.{showing}
-use Rattle.panel.specs.LegalPanels.{isPowerShown, isInputShown, isLampCount, isHours, isLitRoom, isLampsShown}
-use Rattle.panel.specs.LegalPanels.{isShown}
+use Rattle.panel.specs.LegalPanels.{isPowerShown, isInputShown, isLampCount, isHours, isHoursRoom, isLitRoom}
+use Rattle.panel.specs.LegalPanels.{isLampsShown, isShown}
 
 -- the parts of isShown
 pub record ShownTold (s : Shown) : Type 0 where
@@ -104,10 +102,10 @@ lit-shown bs h =
     (ap (every not) (filled-rest lampsCarried false bs h) ∙ none-lit lampsCarried (length bs))
 
 hours-shown : (hs : List ℕ) → length hs ≤ lampsCarried → isHours hs ≡ true
-    → fillsRoom lampsCarried isHours (filledTo lampsCarried 0 hs) (length hs) ≡ true
+    → isHoursRoom (filledTo lampsCarried 0 hs) (length hs) ≡ true
 hours-shown hs h e =
-    ap (λ (l : List ℕ). fillsRoom lampsCarried isHours l (length hs)) (room-filled lampsCarried hs h)
-    ∙ kept-shown lampsCarried isHours _ (length hs) (filled-kept lampsCarried isHours hs h e)
+    ap (λ (l : List ℕ). isHoursRoom l (length hs)) (filled-eq lampsCarried 0 hs h ∙ rest_kept 0 hs lampsCarried)
+    ∙ (uses_told _ _ _ _ _).1 (kept_used (λ x. x == 0) 0 lampsCarried isHours hs h refl e)
 
 lamps-shown : (ls : List LampHours) → 1 ≤ length ls → length ls ≤ lampsCarried → every is_lamp_hours ls ≡ true
     → isLampsShown true (length ls) (filledTo lampsCarried 0 (map hoursOf ls))
@@ -117,11 +115,11 @@ lamps-shown ls low high e =
     let told : length (map hoursOf ls) ≡ length ls = length-map ls hoursOf in
     let marks : length (map lit_of ls) ≡ length ls = length-map ls lit_of in
     let hours = hours-shown (map hoursOf ls) (omega arith)
-    (every_map is_lamp_hours (at_most hours_most) hoursOf (λ l h. h) ls e) in
+    (every_map is_lamp_hours (λ h. leb h hours_most) hoursOf (λ l h. h) ls e) in
     let lit = lit-shown (map lit_of ls) (omega arith) in
     both
     (both (both (le-leb 1 (length ls) low) (le-leb (length ls) lampsCarried high))
-    (ap (λ (n : ℕ). fillsRoom lampsCarried isHours (filledTo lampsCarried 0 (map hoursOf ls)) n) (sym told) ∙ hours))
+    (ap (λ (n : ℕ). isHoursRoom (filledTo lampsCarried 0 (map hoursOf ls)) n) (sym told) ∙ hours))
     (ap (isLitRoom (filledTo lampsCarried false (map lit_of ls))) (sym marks) ∙ lit)
 
 -- a chosen input, asked for under either class

@@ -13,14 +13,14 @@ use Rattle.text.specs.Scans.{every}
 use Rattle.text.proofs.Choices.{both_left, both_right}
 use Rattle.text.proofs.Scanning.{every-at}
 use Rattle.words.specs.Texts.{isPassword}
-use Rattle.record.specs.Limits.{textRoom}
-use Rattle.record.specs.Record.{zeros}
-use Rattle.record.specs.Legal.{is_zero, fillsRoom}
-use Rattle.record.proofs.Kept.{kept-told}
+use Rattle.std.specs.Prelude.{◌==◌}
+use Rattle.text.specs.Rooms.{used, holds}
+use Rattle.text.proofs.RoomsTold.{uses_told}
+use Rattle.panel.specs.Passwords.{passwordRoom}
 use Rattle.pjlink.specs.Carried.{lampsCarried}
 use Rattle.panel.specs.Entries.{talkOf, shownOf, ungreeted, blankEntry}
 use Rattle.panel.specs.LegalPanels.{isNoneCoded, isCommandKept, isPowerShown, isInputShown, isLampCount}
-use Rattle.panel.specs.LegalPanels.{isHours, isLitRoom, isLampsShown, isEntry, isUnused, isPanel}
+use Rattle.panel.specs.LegalPanels.{isHours, isHoursRoom, isLitRoom, isLampsShown, isEntry, isUnused, isPanel}
 use Rattle.panel.specs.PanelCalls.{entry_at}
 use Rattle.panel.specs.declared.types.Entry.{Entry}
 use Rattle.panel.specs.declared.types.Panel.{Panel}
@@ -28,11 +28,14 @@ use Rattle.panel.proofs.PanelsTold.{EntryTold, entry-told, panel-told}
 use Rattle.panel.proofs.TalksTold.{TalkTold, talk-told}
 use Rattle.panel.proofs.ShownLegal.{ShownTold, shown-told}
 
-all-zero : (l : List ℕ) → every is_zero l ≡ true → l ≡ zeros (length l)
+abbrev is_nought : ℕ → Bool
+is_nought x = x == 0
+
+all-zero : (l : List ℕ) → every is_nought l ≡ true → l ≡ replicate (length l) 0
 all-zero [] h = refl
 all-zero (x ∷ l) h =
-    let first = eqb-true x 0 (both_left (is_zero x) (every is_zero l) h) in
-    let rest = all-zero l (both_right (is_zero x) (every is_zero l) h) in
+    let first = eqb-true x 0 (both_left (is_nought x) (every is_nought l) h) in
+    let rest = all-zero l (both_right (is_nought x) (every is_nought l) h) in
     (λ i. first i ∷ rest i)
 
 all-false : (l : List Bool) → every not l ≡ true → l ≡ replicate (length l) false
@@ -43,11 +46,12 @@ all-false (x ∷ l) h =
     (λ i. first i ∷ rest i)
 
 -- a room of which nothing is used is zero
-unused-room : (room : ℕ) (rule : List ℕ → Bool) (s : List ℕ) (n : ℕ) → fillsRoom room rule s n ≡ true → n ≡ 0
-    → s ≡ zeros room
+unused-room : (room : ℕ) (rule : List ℕ → Bool) (s : List ℕ) (n : ℕ) → holds rule (used is_nought room s n) ≡ true
+    → n ≡ 0 → s ≡ replicate room 0
 unused-room room rule s n h z =
-    let k = kept-told room rule s n h in
-    all-zero s (ap (λ (m : ℕ). every is_zero (drop m s)) (sym z) ∙ k.clear) ∙ ap zeros k.long
+    let u = (uses_told is_nought room rule s n).0 h in
+    all-zero s (ap (λ (m : ℕ). every is_nought (drop m s)) (sym z) ∙ u.clear)
+    ∙ ap (λ (m : ℕ). replicate m 0) u.long
 
 pub record UnusedTold (e : Entry) : Type 0 where
   pub len : e.password.len ≡ 0
@@ -97,7 +101,7 @@ module _ (e : Entry) (legal : isEntry e ≡ true) (unused : isUnused e ≡ true)
   no-input = grind (arith, none.input, shown.input)
 
   lamp-parts : (isLampCount e.lamps_known e.lamp_count ≡ true)
-      × ((fillsRoom lampsCarried isHours e.hours e.lamp_count ≡ true)
+      × ((isHoursRoom e.hours e.lamp_count ≡ true)
       × (isLitRoom e.lit e.lamp_count ≡ true))
   unfolding isLampsShown
   lamp-parts = (grind (arith, shown.lamps), (grind (arith, shown.lamps), grind (arith, shown.lamps)))
@@ -119,7 +123,7 @@ module _ (e : Entry) (legal : isEntry e ≡ true) (unused : isUnused e ≡ true)
   pub unused-is-blank : e ≡ blankEntry
   unused-is-blank =
       let t = e.password in
-      let bytes = unused-room textRoom isPassword t.bytes t.len told.password none.len in
+      let bytes = unused-room passwordRoom isPassword t.bytes t.len told.password none.len in
       let random : e.random ≡ 0 = grind (arith, secrets) in
       let led : e.led ≡ false = grind (arith, secrets) in
       let k = e.command in

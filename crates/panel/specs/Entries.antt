@@ -15,11 +15,11 @@
 --   blankEntry           all zero
 -- Assumes nothing.
 use Rattle.std.specs.Prelude.{ℕ, Bool, true, false, not, ◌&&◌, List, take, replicate, eqb}
-use Rattle.record.specs.Record.{text_of, blankText}
-use Rattle.record.specs.declared.types.Text.{Text}
 use Rattle.pjlink.specs.Carried.{lampsCarried}
 use Rattle.codes.specs.Commands.{coded}
 use Rattle.codes.specs.declared.command.Coded.{Coded}
+use Rattle.panel.specs.Passwords.{password_of, noPassword}
+use Rattle.panel.specs.declared.types.Password.{Password}
 use Rattle.panel.specs.declared.types.Entry.{Entry}
 
 pub record Talk : Type 0 where
@@ -75,7 +75,7 @@ shownOf e = record {
 abbrev pub passwordIn : Entry → List ℕ
 passwordIn e = take e.password.len e.password.bytes
 
-abbrev pub entryOf : Text → Talk → Shown → ℕ → Entry
+abbrev pub entryOf : Password → Talk → Shown → ℕ → Entry
 entryOf password talk shown strays = record {
   password = password;
   greeting = talk.greeting;
@@ -143,7 +143,7 @@ nothingShown = record {
 }
 
 abbrev pub freshEntry : List ℕ → Entry
-freshEntry s = entryOf (text_of s) noTalk nothingShown 0
+freshEntry s = entryOf (password_of s) noTalk nothingShown 0
 
 abbrev pub blankEntry : Entry
-blankEntry = entryOf blankText noTalk nothingShown 0
+blankEntry = entryOf noPassword noTalk nothingShown 0

@@ -8,18 +8,17 @@
 --   isUnused e        nothing is kept of it: with isEntry, all zero (proofs/Unused)
 --   isPanel p         up to eight projectors, and the entries past them unused
 -- Assumes nothing.
-use Rattle.std.specs.Prelude.{ℕ, Bool, true, false, not, ◌&&◌, ◌||◌, List, length, drop, leb, eqb, if◌then◌else◌}
+use Rattle.std.specs.Prelude.{ℕ, ◌==◌, Bool, true, false, not, ◌&&◌, ◌||◌, List, length, drop, leb, eqb, if◌then◌else◌}
 use Rattle.std.specs.Prelude.{Option, Some, None}
 use Rattle.text.specs.Scans.{every}
-use Rattle.words.specs.Texts.{isPassword}
+use Rattle.text.specs.Rooms.{used, holds}
 use Rattle.pjlink.specs.declared.command.Command.{Command}
-use Rattle.record.specs.Rules.{at_most}
-use Rattle.record.specs.Legal.{fillsRoom, fillsTextRoom}
 use Rattle.pjlink.specs.Carried.{lampsCarried}
 use Rattle.words.specs.Numerals.{hours_most}
 use Rattle.codes.specs.Commands.{commandOf}
 use Rattle.codes.specs.declared.command.Coded.{Coded}
 use Rattle.panel.specs.Entries.{Talk, Shown, talkOf, shownOf, ungreeted, greetedSecured, isSecuredTalk}
+use Rattle.panel.specs.Passwords.{isPasswordKept}
 use Rattle.panel.specs.Stepping.{straysMost}
 use Rattle.panel.specs.declared.types.Entry.{Entry}
 use Rattle.panel.specs.declared.types.Panel.{Panel}
@@ -55,14 +54,17 @@ unfoldable pub isLampCount : Bool → ℕ → Bool
 isLampCount known count = if known then leb 1 count && leb count lampsCarried else eqb count 0
 
 abbrev pub isHours : List ℕ → Bool
-isHours hs = every (at_most hours_most) hs
+isHours hs = every (λ h. leb h hours_most) hs
+
+abbrev pub isHoursRoom : List ℕ → ℕ → Bool
+isHoursRoom hours count = holds isHours (used (λ x. x == 0) lampsCarried hours count)
 
 unfoldable pub isLitRoom : List Bool → ℕ → Bool
 isLitRoom lit count = eqb (length lit) lampsCarried && every not (drop count lit)
 
 unfoldable pub isLampsShown : Bool → ℕ → List ℕ → List Bool → Bool
 isLampsShown known count hours lit =
-    isLampCount known count && fillsRoom lampsCarried isHours hours count && isLitRoom lit count
+    isLampCount known count && isHoursRoom hours count && isLitRoom lit count
 
 unfoldable pub isShown : Shown → Bool
 isShown s =
@@ -71,7 +73,7 @@ isShown s =
 
 unfoldable pub isEntry : Entry → Bool
 isEntry e =
-    fillsTextRoom isPassword e.password && isTalk (talkOf e) && isShown (shownOf e) && leb e.strays straysMost
+    isPasswordKept e.password && isTalk (talkOf e) && isShown (shownOf e) && leb e.strays straysMost
 
 unfoldable pub isUnused : Entry → Bool
 isUnused e =

@@ -1,3 +1,4 @@
+pub mod Passwords
 pub mod Entries
 pub mod Showing
 pub mod Stepping

@@ -7,19 +7,17 @@ ghost use Rattle.panel.specs.PanelCalls.{noPanel, addedTo, commanded, steppedAt,
 ghost use Rattle.panel.specs.Refusals.{panel_outcome_number, length_sent};
 
 use crate::refusal::Refusal;
-use crate::types::{Entry, LAMPS_MOST, NO_COMMAND, PANEL_MOST, Panel};
+use crate::types::{Entry, LAMPS_MOST, NO_COMMAND, PANEL_MOST, Panel, Password};
 use crate::views::Awaits;
 use codes::command::Coded;
 use words::texts;
-use record::types::Text;
-use setup::fill;
 
 /// Room for the longest line of a command, led by a digest.
 pub const COMMAND_ROOM: usize = 168;
 
 impl Entry {
     /// A projector with that password: its greeting is awaited, nothing is known, no strays.
-    pub fn new(password: Text) -> Entry
+    pub fn new(password: Password) -> Entry
         ensures { result ≡ entryOf password noTalk nothingShown 0 }
     {
         Entry {
@@ -50,7 +48,7 @@ impl Panel {
     {
         Panel {
             count: 0,
-            entries: [Entry::new(Text::EMPTY); PANEL_MOST],
+            entries: [Entry::new(Password::NONE); PANEL_MOST],
         }
     }
 
@@ -67,7 +65,7 @@ impl Panel {
         if !texts::is_password(password) || PANEL_MOST <= self.count {
             return Err(Refusal::OutOfRange);
         }
-        self.entries[self.count] = Entry::new(fill::text_of(password));
+        self.entries[self.count] = Entry::new(Password::of(password));
         self.count = self.count + 1;
         Ok(())
     }

@@ -1,24 +1,12 @@
 // The legality of the panel, a function a part.
 ghost use Rattle.std.specs.Prelude.{◌≡◌};
-ghost use Rattle.words.specs.Texts.{isPassword};
-ghost use Rattle.record.specs.Legal.{fillsTextRoom};
 ghost use Rattle.panel.specs.Entries.{talkOf};
 ghost use Rattle.panel.specs.LegalPanels.{isCommandKept, isTalk, isEntry, isEntries, isUnused, isPanel};
 
 use crate::types::{Entry, PANEL_MOST, Panel, STRAYS_MOST};
 use crate::views::{GREETED_SECURED, UNGREETED};
-use words::texts;
-use record::rooms;
-use record::rooms::Blank;
-use record::types::Text;
-
-// 0 to 32 letters and digits, in their room: those that the controller's writer takes.
-#[tactic(auto, using(record::proofs::RoomsTold::fills_used))]
-fn is_password(t: &Text) -> bool
-    ensures { result ≡ fillsTextRoom isPassword t.now }
-{
-    rooms::used(&t.bytes, t.len).is_some_and(|s| texts::is_password(s))
-}
+use text::rooms;
+use text::rooms::Blank;
 
 impl Entry {
     // A command under way only after a greeting, and one that the writer takes; else none.
@@ -48,7 +36,7 @@ impl Entry {
     pub fn is_legal(&self) -> bool
         ensures { result ≡ isEntry self.now }
     {
-        is_password(&self.password)
+        self.password.is_legal()
             && self.is_talk()
             && self.is_shown()
             && self.strays <= STRAYS_MOST

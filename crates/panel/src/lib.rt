@@ -4,6 +4,7 @@
 
 mod calls;
 mod legality;
+pub mod password;
 mod ranges;
 pub mod refusal;
 mod sending;

@@ -1,19 +1,27 @@
 // What is shown is in the reader's range, and what is not known is zero.
 ghost use Rattle.std.specs.Prelude.{◌≡◌, ◌≤◌};
-ghost use Rattle.record.specs.Legal.{fillsRoom};
 ghost use Rattle.pjlink.specs.Carried.{lampsCarried};
 ghost use Rattle.panel.specs.Entries.{shownOf};
 ghost use Rattle.panel.specs.LegalPanels.{isPowerShown, isInputShown, isLampCount, isHours};
-ghost use Rattle.panel.specs.LegalPanels.{isLitRoom, isLampsShown, isShown};
+ghost use Rattle.panel.specs.LegalPanels.{isHoursRoom, isLitRoom, isLampsShown, isShown};
 
 use crate::types::{Entry, HOURS_MOST, LAMPS_MOST};
-use record::{rooms, scan};
+use text::rooms;
 
-#[tactic(auto, using(record::proofs::RoomsTold::fills_used))]
-fn is_hours(hours: &[u32; LAMPS_MOST], count: usize) -> bool
-    ensures { result ≡ fillsRoom lampsCarried isHours hours.now count }
+fn are_hours(hours: &[u32]) -> bool
+    ensures { result ≡ isHours hours.now }
 {
-    rooms::used(hours, count).is_some_and(|used| scan::numbers_within(used, HOURS_MOST))
+    let mut ok = true;
+    for &h in hours {
+        ok = ok & (h <= HOURS_MOST);
+    }
+    ok
+}
+
+fn is_hours_room(hours: &[u32; LAMPS_MOST], count: usize) -> bool
+    ensures { result ≡ isHoursRoom hours.now count }
+{
+    rooms::used(hours, count).is_some_and(|used| are_hours(used))
 }
 
 #[tactic(auto, using(crate::proofs::PanelsTold::lit_used))]
@@ -58,13 +66,13 @@ impl Entry {
         self.lamp_count == 0
     }
 
-    #[tactic(auto, using(record::proofs::RoomsTold::fills_inside), unfolding(crate::specs::LegalPanels::isLampsShown))]
+    #[tactic(auto, using(crate::proofs::PanelsTold::hours_inside), unfolding(crate::specs::LegalPanels::isLampsShown))]
     fn is_lamps_shown(&self) -> bool
         ensures { result ≡ isLampsShown self.now.lamps_known self.now.lamp_count
             self.now.hours self.now.lit }
     {
         self.is_lamp_count()
-            && is_hours(&self.hours, self.lamp_count)
+            && is_hours_room(&self.hours, self.lamp_count)
             && is_lit_room(&self.lit, self.lamp_count)
     }
 

@@ -1,7 +1,7 @@
 // A command to a projector, on its entry (RULES, Panel).
 ghost use Rattle.std.specs.Prelude.{◌≡◌, ◌≤◌, length};
 ghost use Rattle.text.specs.Words.{over};
-ghost use Rattle.record.specs.Limits.{textRoom};
+ghost use Rattle.panel.specs.Passwords.{passwordRoom};
 ghost use Rattle.panel.specs.Stepping.{sentEntry, commandSent};
 
 use crate::types::Entry;
@@ -14,7 +14,7 @@ impl Entry {
     /// it is the first after a secured greeting. The command is then under way. Its line's length.
     #[tactic(auto, unfolding(crate::specs::Stepping::commandSent))]
     pub(crate) fn send(&mut self, coded: Coded, command: Command, out: &mut [u8]) -> usize
-        requires { self.old.password.len ≤ textRoom }
+        requires { self.old.password.len ≤ passwordRoom }
         ensures length { result ≡ length (commandSent self.old command (length out.old)) }
         ensures line { out.new ≡ over (commandSent self.old command (length out.old)) out.old }
         ensures entry { self.new ≡ sentEntry self.old coded }

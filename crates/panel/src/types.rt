@@ -1,7 +1,9 @@
 // The panel's record (RULES, Panel): numbers, bools, arrays and structs of these, so that it can cross to C. What is
 // not known, not under way or past a count is zero. `views` says what the numbers mean.
 use codes::command::Coded;
-use record::types::Text;
+
+/// The room of a password (`pj_text`).
+pub const PASSWORD_ROOM: usize = 64;
 
 /// Projectors of a panel at most.
 pub const PANEL_MOST: usize = 8;
@@ -14,11 +16,19 @@ pub const HOURS_MOST: u32 = 99_999;
 /// Where the count of strays stops.
 pub const STRAYS_MOST: u32 = 65_535;
 
+/// A password in its room: what is not used is zero.
+#[repr(C)]
+#[derive(Clone, Copy)]
+pub struct Password {
+    pub len: usize,
+    pub bytes: [u8; PASSWORD_ROOM],
+}
+
 /// One projector (`pj_entry`).
 #[repr(C)]
 #[derive(Clone, Copy)]
 pub struct Entry {
-    pub password: Text,
+    pub password: Password,
     pub greeting: u8,
     pub random: u32,
     pub led: bool,

@@ -23,7 +23,7 @@ use Rattle.pjlink.specs.declared.body.Body.TheVariants.{Powr, Inpt, Avmt, Erst, 
 use Rattle.pjlink.specs.declared.body.Body.TheVariants.{Info, Clss}
 use Rattle.pjlink.specs.declared.command.Command.TheVariants.{PowerSet, InputSet, MuteSet, Query}
 use Rattle.words.proofs.ClassOneKept.{InputKept, input-as-before, input-of-class-2, inputs-kept, input-by-two}
-use Rattle.pjlink.specs.Requests.{Request, switch_of, mute_of, halfNamed, set_of, isQuestion, listed}
+use Rattle.pjlink.specs.Requests.{Request, switch_of, mute_of, halfNamed, set_of, isQuestion, or_unlisted}
 use Rattle.pjlink.specs.Requests.{asked_of, asked, requestOf}
 use Rattle.pjlink.specs.ClassOneAsked.{isBody1, bodyNamed1, powerAsked1, inputGiven1, inputAsked1, muteAsked1}
 use Rattle.pjlink.specs.ClassOneAsked.{setAsked1, askedOf1, asked1, requestOf1}
@@ -34,28 +34,28 @@ pub data KeptAs (now before : Request) : Type 0 where
   of-class-2 : (a b : ℕ) → isInputText 2 a b ≡ true → isInputText 1 a b ≡ false
       → now ≡ Ok (InputSet (inputNamed a b)) → before ≡ Err (Unlisted Inpt) → KeptAs now before
 
-power-kept : (p : List ℕ) → listed Powr (option_map PowerSet (switch_of p)) ≡ powerAsked1 p
+power-kept : (p : List ℕ) → or_unlisted Powr (option_map PowerSet (switch_of p)) ≡ powerAsked1 p
 unfolding switch_of powerAsked1
 power-kept p = by (eqb (length p) 1 && p at 0 from "0" to "1")
   where
     by : (digit : Bool)
-        → listed Powr (option_map PowerSet (if digit then Some (p at 0 is "1") else None))
+        → or_unlisted Powr (option_map PowerSet (if digit then Some (p at 0 is "1") else None))
         ≡ (if digit then Ok (PowerSet (p at 0 is "1")) else Err (Unlisted Powr))
     by true = refl
     by false = refl
 
-mute-kept : (p : List ℕ) → listed Avmt (mute_of p) ≡ muteAsked1 p
+mute-kept : (p : List ℕ) → or_unlisted Avmt (mute_of p) ≡ muteAsked1 p
 unfolding mute_of muteAsked1
 mute-kept p = by (eqb (length p) 2 && (p at 0 from "1" to "3" && p at 1 from "0" to "1"))
   where
     by : (digits : Bool)
-        → listed Avmt (if digits then Some (MuteSet (halfNamed (p at 0)) (p at 1 is "1")) else None)
+        → or_unlisted Avmt (if digits then Some (MuteSet (halfNamed (p at 0)) (p at 1 is "1")) else None)
         ≡ (if digits then Ok (MuteSet (halfNamed (p at 0)) (p at 1 is "1")) else Err (Unlisted Avmt))
     by true = refl
     by false = refl
 
 abbrev inputNow : Option Input → Request
-inputNow m = listed Inpt (option_map InputSet m)
+inputNow m = or_unlisted Inpt (option_map InputSet m)
 
 asked-as : {m n : Option Input} → InputKept m n → KeptAs (inputNow m) (inputGiven1 n)
 asked-as (input-as-before e) = as_before (given-same e)
@@ -83,13 +83,13 @@ module _ (p : List ℕ) where
   abbrev KeptOf : Option Row → Type 0
   KeptOf m = KeptAs (asked (option_map (λ (r : Row). r.body) m) p) (asked1 (option_map (λ (r : Row). r.body) m) p)
 
-  questioned : (b : Body) → hasQuery b ≡ true → KeptAs (listed b (set_of (row_of b).set p)) (setAsked1 b p)
+  questioned : (b : Body) → hasQuery b ≡ true → KeptAs (or_unlisted b (set_of (row_of b).set p)) (setAsked1 b p)
       → KeptAs (asked_of b p) (askedOf1 b p)
   unfolding asked_of askedOf1
   questioned b asks k = rw asks (by (isQuestion p))
     where
       by : (q : Bool)
-          → KeptAs (listed b (if q then Some (Query b) else set_of (row_of b).set p))
+          → KeptAs (or_unlisted b (if q then Some (Query b) else set_of (row_of b).set p))
           (if q then Ok (Query b) else setAsked1 b p)
       by true = as_before refl
       by false = k

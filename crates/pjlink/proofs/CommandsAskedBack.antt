@@ -11,7 +11,7 @@ use Rattle.words.specs.declared.input.Input.{Input}
 use Rattle.words.proofs.InputsReadBack.{input-of-text}
 use Rattle.pjlink.specs.Commands.{bodyOf, commandClass, parameterOf, isCommand}
 use Rattle.pjlink.specs.Bodies.{isBody}
-use Rattle.pjlink.specs.Requests.{switch_of, halfNamed, mute_of, name_query_of, listed, asked_of, asked, requestOf}
+use Rattle.pjlink.specs.Requests.{switch_of, halfNamed, mute_of, name_query_of, or_unlisted, asked_of, asked, requestOf}
 use Rattle.pjlink.specs.declared.body.Body.{Body}
 use Rattle.pjlink.specs.declared.body.Body.TheVariants.{Inpt, Inpt2, Innm}
 use Rattle.pjlink.specs.declared.command.Volume.TheVariants.{Speaker, Microphone}
@@ -26,7 +26,7 @@ unfolding asked_of switch_of name_query_of mute_of halfNamed
 parameter-asked-back (PowerSet true) e = refl
 parameter-asked-back (PowerSet false) e = refl
 parameter-asked-back (InputSet i) e =
-    ap (λ (m : Option Input). listed Inpt (option_map InputSet m)) (input-of-text i e)
+    ap (λ (m : Option Input). or_unlisted Inpt (option_map InputSet m)) (input-of-text i e)
 parameter-asked-back (MuteSet VideoHalf true) e = refl
 parameter-asked-back (MuteSet VideoHalf false) e = refl
 parameter-asked-back (MuteSet AudioHalf true) e = refl
@@ -34,7 +34,7 @@ parameter-asked-back (MuteSet AudioHalf false) e = refl
 parameter-asked-back (MuteSet BothHalves true) e = refl
 parameter-asked-back (MuteSet BothHalves false) e = refl
 parameter-asked-back (InputSet2 i) e =
-    ap (λ (m : Option Input). listed Inpt2 (option_map InputSet2 m)) (input-of-text i e)
+    ap (λ (m : Option Input). or_unlisted Inpt2 (option_map InputSet2 m)) (input-of-text i e)
 parameter-asked-back (FreezeSet true) e = refl
 parameter-asked-back (FreezeSet false) e = refl
 parameter-asked-back (VolumeStep Speaker true) e = refl
@@ -42,8 +42,8 @@ parameter-asked-back (VolumeStep Speaker false) e = refl
 parameter-asked-back (VolumeStep Microphone true) e = refl
 parameter-asked-back (VolumeStep Microphone false) e = refl
 parameter-asked-back (NameQuery i) e =
-    ap (λ (m : Option Input). listed Innm (option_map NameQuery m)) (input-of-text i e)
-parameter-asked-back (Query b) e = ap (listed b) (if_yes _ _ (both e refl))
+    ap (λ (m : Option Input). or_unlisted Innm (option_map NameQuery m)) (input-of-text i e)
+parameter-asked-back (Query b) e = ap (or_unlisted b) (if_yes _ _ (both e refl))
 
 pub command-asked-back : (c : Command) (s : List ℕ) → isCommand c ≡ true → isBody (commandClass c) s (bodyOf c) ≡ true
     → requestOf (commandClass c) s (parameterOf c) ≡ Ok c

@@ -7,7 +7,6 @@ pub mod BodiesNamed
 pub mod CommandsAskedBack
 pub mod PowerAsked
 pub mod ClassOneAsked
-pub mod RequestsKept
 pub mod SaidRows
 pub mod SaidPlain
 pub mod Nothing

@@ -21,7 +21,7 @@ use Rattle.pjlink.specs.Bodies.{row_of, is_named, hasQuery, isBody}
 use Rattle.pjlink.specs.declared.body.TheConstants.{BODIES}
 use Rattle.pjlink.specs.declared.body.Row.{Row}
 use Rattle.pjlink.specs.Requests.{switch_of, mute_of, name_query_of, set_of}
-use Rattle.pjlink.specs.Requests.{Request, listed, asked_of, asked, isQuestion, requestOf}
+use Rattle.pjlink.specs.Requests.{Request, or_unlisted, asked_of, asked, isQuestion, requestOf}
 use Rattle.words.specs.Inputs.{input_of}
 use Rattle.pjlink.specs.declared.body.Body.{Body}
 use Rattle.pjlink.specs.declared.body.Body.TheVariants.{Powr}
@@ -45,7 +45,7 @@ abbrev No : Request → Type 0
 No r = isPowerSet r ≡ false
 
 none-of : {A : Type 0} (f : A → Command) (b : Body) → ((x : A) → No (Ok (f x))) → (m : Option A)
-    → No (listed b (option_map f m))
+    → No (or_unlisted b (option_map f m))
 none-of f b none (Some x) = none x
 none-of f b none None = refl
 
@@ -58,24 +58,25 @@ setsOther b = isOther (row_of b).set
 
 -- only POWR does
 module _ (p : List ℕ) where
-  set-none : (set : Sets) (b : Body) → isOther set ≡ true → No (listed b (set_of set p))
+  set-none : (set : Sets) (b : Body) → isOther set ≡ true → No (or_unlisted b (set_of set p))
   unfolding name_query_of mute_of
   set-none SetsPower b n = absurd (false≢true n)
   set-none SetsInput b n = none-of InputSet b (λ i. refl) (input_of p)
   set-none SetsMute b n =
-      if-all (λ m. No (listed b m)) (eqb (length p) 2 && (p at 0 from "1" to "3" && p at 1 from "0" to "1")) refl refl
+      if-all (λ m. No (or_unlisted b m)) (eqb (length p) 2 && (p at 0 from "1" to "3" && p at 1 from "0" to "1")) refl
+      refl
   set-none SetsInput2 b n = none-of InputSet2 b (λ i. refl) (input_of p)
   set-none SetsFreeze b n = none-of FreezeSet b (λ on. refl) (switch_of p)
   set-none StepsSpeaker b n = none-of (VolumeStep Speaker) b (λ up. refl) (switch_of p)
   set-none StepsMicrophone b n = none-of (VolumeStep Microphone) b (λ up. refl) (switch_of p)
   set-none NamesInput b n =
-      if-all (λ m. No (listed b m)) (p at 0 is "?") (none-of NameQuery b (λ i. refl) (input_of (drop 1 p))) refl
+      if-all (λ m. No (or_unlisted b m)) (p at 0 is "?") (none-of NameQuery b (λ i. refl) (input_of (drop 1 p))) refl
   set-none QueryOnly b n = refl
 
   named_none : (b : Body) → setsOther b ≡ true → No (asked_of b p)
   unfolding asked_of
   named_none b n =
-      if-all (λ m. No (listed b m)) (hasQuery b && isQuestion p) refl (set-none (row_of b).set b n)
+      if-all (λ m. No (or_unlisted b m)) (hasQuery b && isQuestion p) refl (set-none (row_of b).set b n)
 
   abbrev NoIn : Option Row → Type 0
   NoIn m = No (asked (option_map (λ (r : Row). r.body) m) p)
@@ -106,7 +107,7 @@ pub power-parameter : (p : List ℕ) (wanted : Bool) → asked_of Powr p ≡ Ok 
     → p ≡ switch_code wanted ∷ []
 unfolding asked_of switch_of
 power-parameter p wanted =
-    let Told : Option Command → Type 0 = λ m. listed Powr m ≡ Ok (PowerSet wanted) → p ≡ switch_code wanted ∷ [] in
+    let Told : Option Command → Type 0 = λ m. or_unlisted Powr m ≡ Ok (PowerSet wanted) → p ≡ switch_code wanted ∷ [] in
     let is_one = eqb (length p) 1 in
     let switch = p at 0 from "0" to "1" in
     if-by Told (isQuestion p) (λ t e. cc)
@@ -123,6 +124,6 @@ pub powr-by : (P : Request → Type 0) (p : List ℕ) → P (Ok (Query Powr))
     → P (asked_of Powr p)
 unfolding asked_of switch_of
 powr-by P p queried set unlisted =
-    if-all (λ m. P (listed Powr m)) (isQuestion p) queried
-    (if-all (λ m. P (listed Powr (option_map PowerSet m))) (eqb (length p) 1 && p at 0 from "0" to "1")
+    if-all (λ m. P (or_unlisted Powr m)) (isQuestion p) queried
+    (if-all (λ m. P (or_unlisted Powr (option_map PowerSet m))) (eqb (length p) 1 && p at 0 from "0" to "1")
     (set (p at 0 is "1")) unlisted)

@@ -4,10 +4,11 @@
 --   set_of set p           the command that the parameter p makes of a body that sets this, or none
 --   command_of b p         the command that it makes of the body b, or none
 --   Request                what a line asks for:
---                            Ok c                  the command c
---                            Err (Unlisted b)      the body b, with a parameter that is neither its query nor one that it
---                                                  knows
---                            Err UnknownBody       no body of the line's class
+--                            Ok c                 the command c
+--                            Err (Unlisted b)     the body b, with a parameter that is neither its query nor one that
+--                                                 it knows
+--                            Err UnknownBody      no body of the line's class
+--   or_unlisted b m        the request that the command m of the body b is, where there is one
 --   asked_of b p           the request of the body b with the parameter p
 --   requestOf k s p        what the body s with the parameter p asks for in a line of Class k
 -- Assumes nothing.
@@ -70,12 +71,12 @@ command_of b p = if hasQuery b && isQuestion p then Some (Query b) else set_of (
 abbrev pub Request : Type 0
 Request = Result Command Unasked
 
-abbrev pub listed : Body → Option Command → Request
-listed b (Some c) = Ok c
-listed b None = Err (Unlisted b)
+abbrev pub or_unlisted : Body → Option Command → Request
+or_unlisted b (Some c) = Ok c
+or_unlisted b None = Err (Unlisted b)
 
 unfoldable pub asked_of : Body → List ℕ → Request
-asked_of b p = listed b (command_of b p)
+asked_of b p = or_unlisted b (command_of b p)
 
 abbrev pub asked : Option Body → List ℕ → Request
 asked (Some b) p = asked_of b p

@@ -4,11 +4,10 @@ ghost use Rattle.std.proofs.lemmas.List.Edits.{sets};
 ghost use Rattle.text.specs.Words.{ascii};
 ghost use Rattle.pjlink.specs.Commands.{volumeBody, bodyOf, commandClass, parameterOf};
 ghost use Rattle.pjlink.specs.Commands.{parameterBytes, halfDigit, isCommand, commandLine};
-ghost use Rattle.words.specs.Powers.{switch_code};
 
 use crate::body::Body;
-use words::input;
 use words::input::Input;
+use words::{input, power};
 
 /// What a mute is of.
 #[derive(Clone, Copy)]
@@ -89,9 +88,9 @@ impl Command {
     {
         match self {
             Command::PowerSet(on) | Command::FreezeSet(on) | Command::VolumeStep(_, on) => {
-                Parameter::One(switch_digit(on))
+                Parameter::One(power::switch_code(on))
             }
-            Command::MuteSet(h, on) => Parameter::Two(half_digit(h), switch_digit(on)),
+            Command::MuteSet(h, on) => Parameter::Two(half_digit(h), power::switch_code(on)),
             Command::InputSet(i) | Command::InputSet2(i) => {
                 let [source, number] = input::input_text(i);
                 Parameter::Two(source, number)
@@ -124,12 +123,6 @@ fn volume_body(v: Volume) -> Body
         Volume::Speaker => Body::Svol,
         Volume::Microphone => Body::Mvol,
     }
-}
-
-fn switch_digit(on: bool) -> u8
-    ensures { result ≡ switch_code on }
-{
-    if on { b'1' } else { b'0' }
 }
 
 fn half_digit(h: Half) -> u8

@@ -4,8 +4,9 @@ use Rattle.std.proofs.Common.{◌≡◌, ℕ, arith, ap, sym, ◌∙◌, Bool, I
 use Rattle.std.proofs.Math.Seq.{length-take-le}
 use Rattle.std.specs.Prelude.{All}
 use Rattle.text.specs.Scans.{every}
-use Rattle.record.specs.Legal.{fillsRoom, isNames, isRestOf2, isSettings, isOwn, isConnection, isConnections, isLegal}
-use Rattle.record.specs.Rooms.{used}
+use Rattle.record.specs.Legal.{is_zero, fillsRoom, isNames, isRestOf2, isSettings, isOwn, isConnection}
+use Rattle.record.specs.Legal.{isConnections, isLegal}
+use Rattle.text.proofs.RoomsTold.{uses_told}
 use Rattle.record.specs.Facts.{Fills, IsStretch, IsNames, IsSettings, IsOwn, IsConnection, IsLegal}
 use Rattle.words.specs.Texts.{isPassword}
 use Rattle.record.specs.Limits.{textRoom}
@@ -22,16 +23,8 @@ use Rattle.record.proofs.Rules.{set-up-password-written, set-up-password-long, s
 
 pub fills_told : (room : ℕ) (rule : List ℕ → Bool) (s : List ℕ) (n : ℕ)
     → IsTrue (fillsRoom room rule s n) ↔ Fills room rule s n
-unfolding fillsRoom used
-fills_told room rule s n = (
-  λ h. record {
-    long = grind (arith, h);
-    inside = grind (arith, h);
-    clear = grind (arith, h);
-    follows = grind (arith, h);
-  },
-  λ t. grind (arith, t.long, t.inside, t.clear, t.follows),
-)
+unfolding fillsRoom
+fills_told room rule s n = uses_told is_zero room rule s n
 
 fills : {room : ℕ} {rule : List ℕ → Bool} {s : List ℕ} {n : ℕ} → IsTrue (fillsRoom room rule s n) → Fills room rule s n
 fills h = (fills_told _ _ _ _).0 h

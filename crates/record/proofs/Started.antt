@@ -1,20 +1,20 @@
 -- What set-up leaves: an accepted one a legal record, a refused one the blank record, which is not legal.
 -- Assumes nothing.
-use Prim.Native.Nat.{ℕ, ◌*◌, ◌/◌, ◌≤◌, ◌<◌}
-use mathlib.Core.Path.{◌≡◌, refl, sym, ap, ◌∙◌}
-use mathlib.Core.Bool.{Bool, true, false}
+use Prim.Native.Nat.{ℕ, ◌*◌, ◌/◌, ◌<◌}
+use mathlib.Core.Path.{◌≡◌, refl, sym, ap, subst, ◌∙◌}
+use mathlib.Core.Bool.{true, false}
 use mathlib.Core.List.{List}
 use native.Mathlib.Omega.{arith}
 use lib.ListN.{length, get_or, drop, get_or-append}
-use borrow.Author.Tests.{le-leb}
-use Rattle.text.proofs.Choices.{both, by-not}
-use Rattle.words.specs.Texts.{isText, isName, isInfo, infoMost}
+use Rattle.text.proofs.Choices.{by-not}
+use Rattle.words.specs.Texts.{isText, isName, isInfo, isPassword, infoMost}
 use Rattle.record.specs.Limits.{textRoom, inputRoom, lampsMost, placesCount, onlyIn2}
 use Rattle.record.specs.Wanted.{Wanted}
-use Rattle.record.specs.Rules.{isSetUpPassword, isNewInput, isInputs, isLamps, isErrors}
-use Rattle.record.specs.Record.{zeros, inRoom, text_of, namesKept, closed, allClosed, allMarks, settingsOf}
+use Rattle.record.specs.Rules.{isNewInput, isInputs, isLamps, isErrors}
+use Rattle.record.specs.Record.{zeros, inRoom, namesKept, closed, allClosed, allMarks, settingsOf}
 use Rattle.record.specs.Record.{startOwn, started, blank}
-use Rattle.record.specs.Legal.{fillsRoom, isNames, isRestOf2, isSettings, isOwn, isLegal}
+use Rattle.record.specs.Legal.{isNames, isSettings, isOwn, isLegal}
+use Rattle.record.specs.Facts.{Fills}
 use Rattle.record.specs.Places.{connectionAt}
 use Rattle.record.specs.SetUp.{isSettingInRange, isSetUp, setUp}
 use Rattle.record.specs.Given.{set_up_given}
@@ -23,14 +23,14 @@ use Rattle.record.specs.declared.types.Setting.TheVariants.{Name, Maker, Model, 
 use Rattle.record.specs.declared.types.Setting.TheVariants.{Lamps, WarmUp, Cooling, Serial, Version}
 use Rattle.record.specs.declared.types.Setting.TheVariants.{Names}
 use Rattle.words.proofs.TextsTold.{name-long, info-long, password-long}
-use Rattle.record.proofs.Rules.{set-up-password-shown, inputs-some, inputs-few, inputs-new, lamps-few}
+use Rattle.record.proofs.Rules.{inputs-some, inputs-few, inputs-new, lamps-few}
 use Rattle.record.proofs.Rules.{only-in-2-within, names-many, names-each, text-most}
 use Rattle.record.proofs.NamesTold.{names-kept}
 use Rattle.record.proofs.Places.{pairs-even}
-use Rattle.record.proofs.Kept.{filled-kept, kept-shown}
+use Rattle.record.proofs.Kept.{filled-kept}
 use Rattle.record.specs.declared.views.Power.TheVariants.{Off}
 use Rattle.record.proofs.PowerSeen.{written}
-use Rattle.record.proofs.FactsTold.{own_is}
+use Rattle.record.proofs.FactsTold.{own_is, settings_is, stretch_is, names_is}
 use Rattle.record.proofs.MarksTold.{all-marks-legal}
 use Rattle.record.proofs.ConnectionsTold.{all-closed-legal, all-closed-at}
 use Rattle.record.proofs.LegalTold.{legal-by-parts, settings-of-legal}
@@ -44,11 +44,6 @@ unfolding blank
 blank-illegal =
     by-not (isLegal blank) (λ h. omega (arith, input-count-low blank.settings (settings-of-legal blank h)))
 
--- a rule's list, put into its room
-pub filled : (room : ℕ) (rule : List ℕ → Bool) (s : List ℕ) → length s ≤ room → rule s ≡ true
-    → fillsRoom room rule (inRoom room s) (length s) ≡ true
-filled room rule s l h = kept-shown room rule _ _ (filled-kept room rule s l h)
-
 -- inputs come in pairs
 pub inputs-halved : (k : ℕ) (s : List ℕ) → isInputs k s ≡ true → 2 * (length s / 2) ≡ length s
 inputs-halved k s h =
@@ -60,20 +55,14 @@ module _ (w : Wanted) where
     met : (s : Setting) → isSettingInRange w s ≡ true
     met = each-in-range w h
 
-    info-kept : (s : List ℕ) → isInfo s ≡ true → fillsRoom textRoom isInfo (inRoom textRoom s) (length s) ≡ true
-    info-kept s t = filled textRoom isInfo s (omega (arith, info-long s t)) t
-
-    password-fits : length w.password ≤ textRoom
-    password-fits = omega (arith, password-long w.password (met Password))
-
-    secured : isSetUpPassword w.password ≡ true
-    secured = set-up-password-shown w.password (met Password) (set-up-long w h)
+    info-kept : (s : List ℕ) → isInfo s ≡ true → Fills textRoom isInfo (inRoom textRoom s) (length s)
+    info-kept s t = filled-kept textRoom isInfo s (omega (arith, info-long s t)) t
 
     -- of Class 2 alone
     info-in-2-kept : (s : List ℕ) → isText (onlyIn2 w.class infoMost) s ≡ true
-        → fillsRoom textRoom (isText (onlyIn2 w.class infoMost)) (inRoom textRoom s) (length s) ≡ true
+        → Fills textRoom (isText (onlyIn2 w.class infoMost)) (inRoom textRoom s) (length s)
     info-in-2-kept s t =
-        filled textRoom (isText (onlyIn2 w.class infoMost)) s
+        filled-kept textRoom (isText (onlyIn2 w.class infoMost)) s
         (omega (arith, text-most s _ t, only-in-2-within w.class infoMost)) t
 
     named : isNames (onlyIn2 w.class (length w.inputs / 2)) (namesKept w.names) ≡ true
@@ -84,27 +73,27 @@ module _ (w : Wanted) where
         ∙ names-kept w.names (omega (arith, only-in-2-within w.class (length w.inputs / 2)))
         (names-each _ w.names (met Names))
 
-    rest-kept : isRestOf2 w.class (length w.inputs / 2) (text_of w.serial) (text_of w.version)
-        (namesKept w.names) ≡ true
-    unfolding isRestOf2
-    rest-kept = both (both (info-in-2-kept w.serial (met Serial)) (info-in-2-kept w.version (met Version))) named
-
     settings-legal : isSettings (settingsOf w) ≡ true
-    unfolding isSettings
-    settings-legal =
-        both (both (both (both (both (both (both (both (both
-        (filled textRoom isName w.name (name-long w.name (met Name)) (met Name))
-        (info-kept w.maker (met Maker)))
-        (info-kept w.model (met Model)))
-        (info-kept w.other (met Other)))
-        (filled textRoom isSetUpPassword w.password password-fits secured))
-        (ap (fillsRoom inputRoom (isInputs w.class) (inRoom inputRoom w.inputs))
-        (inputs-halved _ w.inputs (met Inputs))
-        ∙ filled inputRoom (isInputs w.class) w.inputs (inputs-few _ w.inputs (met Inputs)) (met Inputs)))
-        (le-leb (length w.lamps) lampsMost (lamps-few w.lamps (met Lamps))))
-        (met WarmUp))
-        (met Cooling))
-        rest-kept
+    settings-legal = (settings_is (settingsOf w)).1 (record {
+      name = filled-kept textRoom isName w.name (name-long w.name (met Name)) (met Name);
+      maker = info-kept w.maker (met Maker);
+      model = info-kept w.model (met Model);
+      other = info-kept w.other (met Other);
+      password =
+          filled-kept textRoom isPassword w.password (omega (arith, password-long w.password (met Password)))
+          (met Password);
+      long_enough = set-up-long w h;
+      inputs =
+          subst (Fills inputRoom (isInputs w.class) (inRoom inputRoom w.inputs))
+          (sym (inputs-halved _ w.inputs (met Inputs)))
+          (filled-kept inputRoom (isInputs w.class) w.inputs (inputs-few _ w.inputs (met Inputs)) (met Inputs));
+      lamps = lamps-few w.lamps (met Lamps);
+      warm = (stretch_is w.warm).0 (met WarmUp);
+      cool = (stretch_is w.cool).0 (met Cooling);
+      serial = info-in-2-kept w.serial (met Serial);
+      version = info-in-2-kept w.version (met Version);
+      names = (names_is _ _).0 named;
+    })
 
     own-legal : isOwn (settingsOf w) (startOwn w.lamps) ≡ true
     unfolding isErrors

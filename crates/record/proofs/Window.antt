@@ -13,10 +13,10 @@ use Rattle.text.proofs.Orders.{le-or-lt}
 use Rattle.text.specs.Scans.{every}
 use Rattle.words.specs.Texts.{isTextByte, isText, isRefusal}
 use Rattle.words.proofs.WithinLength.{text-within, text-longer}
-use Rattle.record.specs.Rooms.{used}
+use Rattle.text.specs.Rooms.{used}
 use Rattle.record.specs.Legal.{is_zero, fillsRoom}
 use Rattle.record.proofs.Rules.{empty-text}
-use Rattle.record.proofs.RoomsTold.{used_many, used_blank, used_not_blank}
+use Rattle.text.proofs.RoomsTold.{used_many, used_blank, used_not_blank, is_some_used, holds_used}
 use Rattle.std.proofs.Math.Seq.{length-take-le}
 use Rattle.std.proofs.lemmas.Grind.{common_steps}
 
@@ -103,8 +103,10 @@ text_filled room s n most long = ⊎_elim inside over (le-or-lt n room)
 -- no name in its room: nothing of it is used
 module _ (room : ℕ) (s : List ℕ) (long : length s ≡ room) where
   none_named : fillsRoom room (isText 0) s 0 ≡ is_some (used is_zero room s 0)
-  unfolding fillsRoom used
-  none_named = grind (arith, common_steps, empty-text 0)
+  unfolding fillsRoom
+  none_named =
+      grind (arith, common_steps, empty-text 0, is_some_used is_zero room s 0 long,
+      holds_used is_zero room (isText 0) s 0 (omega arith) long)
 
   some_named : (n : ℕ) → 0 < n → fillsRoom room (isText 0) s n ≡ false
   unfolding fillsRoom

@@ -1,10 +1,10 @@
--- One name that opens this crate's definitions and, by their own name, those of `words`, for computing on concrete
--- records only (RULES, Commands).
+-- One name that opens this crate's definitions and, by their own name, those of `text` and `words`, for computing on
+-- concrete records only (RULES, Commands).
 -- Assumes nothing.
+use Rattle.text.specs.Computing.{computing as text}
 use Rattle.words.specs.Computing.{computing as words}
 use Rattle.record.specs.Rules.{isSetUpPassword, eachPair, is_none, isInputs, isLamps, isMarks, isErrors, areNames}
 use Rattle.record.specs.Record.{inRoom, namesKept, closed, allMarks, started, blank}
-use Rattle.record.specs.Rooms.{used}
 use Rattle.record.specs.Legal.{fillsRoom, isNames, isRestOf2, isSettings, isLeft, isOwn}
 use Rattle.record.specs.Legal.{isAge, heldMost, is_held, isConnection, isConnections, isLegal}
 use Rattle.record.specs.Places.{lowestShut}
@@ -13,7 +13,7 @@ use Rattle.record.specs.HostCalls.{faultSet, errorsSet, markSet}
 
 unfoldable pub computing : Unit {0}
 unfolding
-    words isSetUpPassword eachPair is_none isInputs isLamps isMarks isErrors areNames inRoom namesKept closed allMarks
-    started blank used fillsRoom isNames isRestOf2 isSettings isLeft isOwn isAge heldMost is_held isConnection
+    text words isSetUpPassword eachPair is_none isInputs isLamps isMarks isErrors areNames inRoom namesKept closed
+    allMarks started blank fillsRoom isNames isRestOf2 isSettings isLeft isOwn isAge heldMost is_held isConnection
     isConnections isLegal isInRange isSetUp setUp lowestShut faultSet errorsSet markSet
 computing = tt

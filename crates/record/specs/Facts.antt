@@ -10,6 +10,7 @@
 -- Assumes nothing.
 use Rattle.std.specs.Prelude.{ℕ, ◌*◌, ◌≤◌, ◌<◌, ◌≡◌, IsTrue, Bool, List, All, length, take, drop}
 use Rattle.text.specs.Scans.{every}
+use Rattle.text.specs.Rooms.{Uses}
 use Rattle.words.specs.Bytes.{noCr}
 use Rattle.words.specs.Texts.{isText, isName, isInfo, isPassword, infoMost, inputNameMost}
 use Rattle.record.specs.Limits.{textRoom, listedMost, inputRoom, lampsMost, lineRoom, placesCount, onlyIn2}
@@ -23,11 +24,8 @@ use Rattle.record.specs.declared.types.Own.{Own}
 use Rattle.record.specs.declared.types.Connection.{Connection}
 use Rattle.record.specs.declared.types.Device.{Device}
 
-pub record Fills (room : ℕ) (rule : List ℕ → Bool) (s : List ℕ) (n : ℕ) : Type 0 where
-  pub long : length s ≡ room
-  pub inside : n ≤ room
-  pub clear : IsTrue (every is_zero (drop n s))
-  pub follows : IsTrue (rule (take n s))
+abbrev pub Fills : ℕ → (List ℕ → Bool) → List ℕ → ℕ → Type 0
+Fills room rule s n = Uses is_zero room rule s n
 
 pub record IsStretch (n : ℕ) : Type 0 where
   pub low : 1 ≤ n

@@ -22,7 +22,7 @@ use Rattle.text.specs.Scans.{every}
 use Rattle.words.specs.Bytes.{noCr}
 use Rattle.words.specs.Texts.{isText, isName, isInfo, infoMost, inputNameMost}
 use Rattle.words.specs.Bytes.{commandMost}
-use Rattle.record.specs.Rooms.{used, holds}
+use Rattle.text.specs.Rooms.{used, holds}
 use Rattle.record.specs.Limits.{textRoom, listedMost, inputRoom, lampsMost, lineRoom, ageEnd}
 use Rattle.record.specs.Limits.{placesCount, onlyIn2, cooling, warming}
 use Rattle.record.specs.Limits.{shut, awaiting, opened, failed, isPower, isPhase}

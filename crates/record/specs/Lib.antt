@@ -1,4 +1,3 @@
-pub mod Rooms
 pub mod Limits
 pub mod Wanted
 pub mod Updates

@@ -11,7 +11,6 @@ pub mod legality;
 pub mod names;
 pub mod own;
 pub mod refusal;
-pub mod rooms;
 pub mod scan;
 pub mod set_up_error;
 pub mod setting;

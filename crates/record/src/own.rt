@@ -5,8 +5,9 @@ ghost use Rattle.record.specs.Limits.{lampsMost, isLit, isBetween};
 ghost use Rattle.record.specs.Rules.{isLamps, isMarks, isErrors};
 ghost use Rattle.record.specs.Legal.{fillsRoom, isLeft, isOwn};
 
+use crate::scan;
 use crate::types::{ERRORS, LAMPS_MOST, Own, Settings};
-use crate::{rooms, scan};
+use text::rooms;
 
 // 99,999 hours and 3,599 seconds.
 pub const LAMP_LIMIT: u32 = 359_999_999;

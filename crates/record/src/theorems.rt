@@ -1,10 +1,11 @@
 // What is proved beside the contracts of the functions. Nothing is done here: that these functions have their contracts
 // is that the theorems stand.
-ghost use Rattle.std.specs.Prelude.{◌≡◌, ◌≢◌, ◌+◌, ◌*◌, ◌<◌, ◌≤◌, Bool, IsTrue, true, List, ℕ, Option, Some, None};
-ghost use Rattle.std.specs.Prelude.{Result, OnErr};
+ghost use Rattle.std.specs.Prelude.{◌≡◌, ◌≢◌, ◌+◌, ◌*◌, ◌<◌, ◌≤◌, Bool, IsTrue, true, false, List, ℕ, Option};
+ghost use Rattle.std.specs.Prelude.{Some, None, Result, OnErr, length};
 ghost use Rattle.words.specs.Bytes.{◌at◌};
 ghost use Rattle.words.specs.Texts.{passwordMost};
 ghost use Rattle.record.specs.Limits.{ageEnd, errorsCount, errorMost};
+ghost use Rattle.record.specs.Rules.{isLongEnough};
 ghost use Rattle.record.specs.Facts.{IsSettings, IsOwn, IsConnection};
 ghost use Rattle.record.specs.declared.types.Settings.{Settings};
 ghost use Rattle.record.specs.declared.types.Own.{Own};
@@ -33,8 +34,12 @@ pub fn the_setting_told_holds()
     ensures each_in_range { (w : Wanted) → isInRange w ≡ true → (s : Setting) → isSettingInRange w s ≡ true }
 {}
 
-/// Which setting set-up refused, by the number that a host is given.
+/// Which setting set-up refused, by the number that a host is given: 3 where one is out of its range, 8 where none is
+/// and the password is short.
 pub fn the_number_tells_the_setting()
+    ensures out { (w : Wanted) → (set_up_given (setUp w)).number ≡ 3 → isInRange w ≡ false }
+    ensures short { (w : Wanted) → (set_up_given (setUp w)).number ≡ 8
+        → (isInRange w ≡ true) × (isLongEnough (length w.password) ≡ false) }
     ensures out_of_range { (w : Wanted) → (set_up_given (setUp w)).number ≡ 3
         → setting_told (setUp w) ≡ firstOutOfRange w }
     ensures too_short { (w : Wanted) → (set_up_given (setUp w)).number ≡ 8

@@ -3,10 +3,10 @@
 use Rattle.std.proofs.Common.{◌≡◌, ℕ, List, length, ◌≤◌, sym, ◌∙◌, arith}
 use lib.ListN.{length-replicate}
 use Rattle.text.proofs.Stores.{sets_over}
-use Rattle.record.specs.Rooms.{kept}
+use Rattle.text.specs.Rooms.{kept}
 use Rattle.record.specs.Record.{zeros, inRoom}
 use Rattle.record.proofs.Filled.{room-filled}
-use Rattle.record.proofs.RoomsTold.{rest_kept}
+use Rattle.text.proofs.RoomsTold.{rest_kept}
 
 pub kept_in_room : (s : List ℕ) (n : ℕ) → length s ≤ n → kept 0 n s ≡ inRoom n s
 kept_in_room s n h =

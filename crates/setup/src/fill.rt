@@ -9,8 +9,9 @@ ghost use Rattle.setup.specs.Lent.{names_lent};
 
 use crate::wanted::Names;
 use record::own::VOLUME_START;
-use record::{names, rooms};
+use record::names;
 use record::types::{INPUT_ROOM, INPUTS_MOST, InputName, LAMPS_MOST, Own, Text};
+use text::rooms;
 
 /// A text in its room: at most 64 bytes.
 #[tactic(auto, using(crate::proofs::KeptInRoom::kept_in_room))]

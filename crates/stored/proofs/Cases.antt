@@ -1,7 +1,7 @@
 -- Loading by its cases: what it gives by the version, by what the form says and leaves, and by what set-up gave.
 -- Assumes nothing.
-use Rattle.std.proofs.Common.{◌≡◌, ℕ, ◌/◌, ◌<◌, Bool, true, false, not, ◌&&◌, List, [], ◌∷◌, length, map, replicate, Option, Some}
-use Rattle.std.proofs.Common.{None, refl, sym, ap, ◌∙◌, arith, if◌then◌else◌, ◌⊎◌, inl, inr}
+use Rattle.std.proofs.Common.{◌≡◌, ℕ, ◌<◌, Bool, true, false, not, ◌&&◌, List, [], ◌∷◌, length, map, replicate}
+use Rattle.std.proofs.Common.{Option, Some, None, refl, sym, ap, ◌∙◌, arith, if◌then◌else◌}
 use lib.Dec.{eqb}
 use borrow.Author.Tests.{eqb-true}
 use Rattle.text.specs.Rows.{◌when◌, byRows}
@@ -18,7 +18,7 @@ use Rattle.record.specs.declared.types.Setting.TheVariants.{Inputs, Lamps}
 use Rattle.record.proofs.OutOfRange.{each-in-range}
 use Rattle.record.proofs.Rules.{lamps-few, inputs-class}
 use Rattle.record.proofs.Started.{started-parts, started-legal}
-use Rattle.stored.specs.Reading.{ClassPart, alone, FormSaid, form}
+use Rattle.stored.specs.Reading.{alone, FormSaid, form}
 use Rattle.stored.specs.Views.{class_said}
 use Rattle.stored.specs.declared.form.Rest.{Rest}
 use Rattle.stored.specs.Loading.{isOtherVersion, endsEarly, leavesMore, said, isLegalSaid, contents, loaded, device_of}

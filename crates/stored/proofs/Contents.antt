@@ -1,5 +1,5 @@
--- Lamps of settings that can be set up, and all of them enabled (RULES, Lamps): a form of the oldest version, which has no
--- marks, loads as the set-up itself.
+-- Lamps of settings that can be set up, and all of them enabled (RULES, Lamps): a form of the oldest version, which has
+-- no marks, loads as the set-up itself.
 -- Assumes nothing.
 use Rattle.std.proofs.Common.{◌≡◌, ◌≤◌, true, Bool, List, length, replicate, ap, sym, ◌∙◌}
 use lib.ListN.{length-replicate}

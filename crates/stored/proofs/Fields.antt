@@ -1,22 +1,22 @@
--- The laws of a field (RULES, Stored form): what is written is read again, whatever follows; what is read was written so,
--- each byte of it; and what reads from some bytes reads the same from more of them.
+-- The laws of a field (RULES, Stored form): what is written is read again, whatever follows; what is read was written
+-- so, each byte of it; and what reads from some bytes reads the same from more of them.
 --   Takes r spell      what r reads, spelled, is the bytes that it took
 --   Extends r          what r reads from the bytes s it reads from s with more after it, which is left
 -- Assumes nothing.
-use Rattle.std.proofs.Common.{◌≡◌, ℕ, zero, suc, ◌+◌, ◌*◌, ◌^◌, ◌<◌, ◌≤◌, Bool, true, false, List, [], ◌∷◌, ◌++◌}
-use Rattle.std.proofs.Common.{length, take, drop, Option, Some, None, refl, sym, ap, subst, ◌∙◌, arith, append_assoc}
+use Rattle.std.proofs.Common.{◌≡◌, ℕ, zero, suc, ◌*◌, ◌^◌, ◌<◌, ◌≤◌, Bool, true, false, List, [], ◌∷◌, ◌++◌}
+use Rattle.std.proofs.Common.{length, drop, Option, Some, None, refl, sym, ap, subst, ◌∙◌, arith, append_assoc}
 use Rattle.std.proofs.Common.{if◌then◌else◌}
 use lib.Dec.{ltb}
-use lib.ListN.{take-append-drop, length-append}
-use lib.Seq.{take_at, drop_at, length-take-le, drop-append_seam}
+use lib.ListN.{length-append}
+use lib.Seq.{take_at, drop_at, drop-append_seam}
 use borrow.Author.Tests.{le-ltb, ltb-false}
 use Rattle.std.proofs.lemmas.List.{take-append-le, drop-append-le}
 use Rattle.text.proofs.Choices.{if_yes, if_no}
 use Rattle.numbers.specs.HighestFirst.{highestFirst, number_in}
-use Rattle.numbers.proofs.HighestFirst.{highest-length, highest-back, highest-one-form}
+use Rattle.numbers.proofs.HighestFirst.{highest-length, highest-back}
 use Rattle.stored.specs.Form.{textSection, textsBytes}
-use Rattle.stored.specs.Reading.{Field, onward, ◌>>=◌, given, byte, bytes, number, counted, text, texts}
-use Rattle.stored.proofs.BytesAgain.{Bytes, drop-bytes, take-bytes}
+use Rattle.stored.specs.Reading.{Field, onward, ◌giving◌, given, byte, bytes, number, section_of, text, texts}
+use Rattle.stored.proofs.BytesAgain.{Bytes, drop-bytes}
 
 -- ---- read again
 
@@ -26,13 +26,13 @@ bytes_again n s rest e =
     if_no _ _ (le-ltb (length (s ++ rest)) n (omega (arith, length-append s rest)))
     ∙ (λ j. Some (take_at s rest n e j, drop_at s rest n e j))
 
-pub counted_again : (width n : ℕ) (s rest : List ℕ) → length s ≡ width * n
-    → counted width (n ∷ (s ++ rest)) ≡ Some (s, rest)
-unfolding counted byte
-counted_again width n s rest e = bytes_again (width * n) s rest e
+pub section_again : (width n : ℕ) (s rest : List ℕ) → length s ≡ width * n
+    → section_of width (n ∷ (s ++ rest)) ≡ Some (s, rest)
+unfolding section_of byte
+section_again width n s rest e = bytes_again (width * n) s rest e
 
 pub text_again : (s rest : List ℕ) → text (textSection s ++ rest) ≡ Some (s, rest)
-text_again s rest = counted_again 1 (length s) s rest (omega arith)
+text_again s rest = section_again 1 (length s) s rest (omega arith)
 
 pub number_again : (n x : ℕ) (rest : List ℕ) → x < 256 ^ n → number n (highestFirst n x ++ rest) ≡ Some (x, rest)
 unfolding number
@@ -45,7 +45,8 @@ unfolding texts textsBytes
 texts_again [] rest = refl
 texts_again (t ∷ ts) rest =
     (λ j. texts (suc (length ts)) (append_assoc (textSection t) (textsBytes ts) rest j))
-    ∙ ap (onward (λ first. texts (length ts) >>= λ others. given (first ∷ others))) (text_again t (textsBytes ts ++ rest))
+    ∙ ap (onward (λ first. texts (length ts) giving λ others. given (first ∷ others)))
+    (text_again t (textsBytes ts ++ rest))
     ∙ ap (onward (λ others. given (t ∷ others))) (texts_again ts rest)
 
 -- a text that is cut short cuts the texts short
@@ -53,10 +54,10 @@ pub texts_cut : (n : ℕ) (ts : List (List ℕ)) (rest : List ℕ) → length ts
     → texts n (textsBytes ts ++ rest) ≡ None
 unfolding texts textsBytes
 texts_cut zero ts rest l e = absurd (omega arith)
-texts_cut (suc n) [] rest l e = ap (onward (λ first. texts n >>= λ others. given (first ∷ others))) e
+texts_cut (suc n) [] rest l e = ap (onward (λ first. texts n giving λ others. given (first ∷ others))) e
 texts_cut (suc n) (t ∷ ts) rest l e =
     (λ j. texts (suc n) (append_assoc (textSection t) (textsBytes ts) rest j))
-    ∙ ap (onward (λ first. texts n >>= λ others. given (first ∷ others))) (text_again t (textsBytes ts ++ rest))
+    ∙ ap (onward (λ first. texts n giving λ others. given (first ∷ others))) (text_again t (textsBytes ts ++ rest))
     ∙ ap (onward (λ others. given (t ∷ others))) (texts_cut n ts rest (omega arith) e)
 
 -- ---- taken
@@ -66,7 +67,7 @@ pub record Takes {A : Type 0} (r : Field A) (spell : A → List ℕ) : Type 0 wh
 
 -- what reads one field after another read each of them, and left what the next one read
 pub reading : {A B : Type 0} (r : Field A) {f : A → Field B} {s : List ℕ} {y : B × List ℕ} {G : Type 0}
-    → (r >>= f) s ≡ Some y → ((x : A) (rest : List ℕ) → r s ≡ Some (x, rest) → f x rest ≡ Some y → G) → G
+    → (r giving f) s ≡ Some y → ((x : A) (rest : List ℕ) → r s ≡ Some (x, rest) → f x rest ≡ Some y → G) → G
 reading {A} {B} r {f} {s} {y} {G} e next = by (r s) refl
   where
     by : (o : Option (A × List ℕ)) → r s ≡ o → G
@@ -74,7 +75,7 @@ reading {A} {B} r {f} {s} {y} {G} e next = by (r s) refl
     by (Some x) h = next x.0 x.1 h (sym (ap (onward f) h) ∙ e)
 
 pub taking : {A B : Type 0} {r : Field A} {spell : A → List ℕ} → Takes r spell → {f : A → Field B} {s : List ℕ}
-    {y : B × List ℕ} {G : Type 0} → Bytes s → (r >>= f) s ≡ Some y
+    {y : B × List ℕ} {G : Type 0} → Bytes s → (r giving f) s ≡ Some y
     → ((x : A) (rest : List ℕ) → r s ≡ Some (x, rest) → s ≡ spell x ++ rest → Bytes rest → f x rest ≡ Some y → G) → G
 taking {r = r} {spell} t {s = s} b e next =
     reading r e
@@ -97,11 +98,11 @@ pub extends-given : {A : Type 0} (x : A) → Extends (given x)
 extends-given x = record { on = λ s t y rest e. ap (more t) e }
 
 pub extends-then : {A B : Type 0} {r : Field A} {f : A → Field B} → Extends r → ((x : A) → Extends (f x))
-    → Extends (r >>= f)
+    → Extends (r giving f)
 extends-then {A} {B} {r} {f} a b = record { on = λ s t y rest e. by s t y rest e (r s) refl }
   where
-    by : (s t : List ℕ) (y : B) (rest : List ℕ) → (r >>= f) s ≡ Some (y, rest) → (o : Option (A × List ℕ)) → r s ≡ o
-        → (r >>= f) (s ++ t) ≡ Some (y, rest ++ t)
+    by : (s t : List ℕ) (y : B) (rest : List ℕ) → (r giving f) s ≡ Some (y, rest) → (o : Option (A × List ℕ)) → r s ≡ o
+        → (r giving f) (s ++ t) ≡ Some (y, rest ++ t)
     by s t y rest e None h = absurd (let none : None ≡ Some (y, rest) = sym (ap (onward f) h) ∙ e in cc)
     by s t y rest e (Some x) h =
         ap (onward f) (a.on s t x.0 x.1 h) ∙ (b x.0).on x.1 t y rest (sym (ap (onward f) h) ∙ e)
@@ -135,13 +136,13 @@ pub extends-number : (n : ℕ) → Extends (number n)
 unfolding number
 extends-number n = extends-then (extends-bytes n) (λ s. extends-given (number_in s))
 
-pub extends-counted : (width : ℕ) → Extends (counted width)
-unfolding counted
-extends-counted width = extends-then extends-byte (λ n. extends-bytes (width * n))
+pub extends-section : (width : ℕ) → Extends (section_of width)
+unfolding section_of
+extends-section width = extends-then extends-byte (λ n. extends-bytes (width * n))
 
 pub extends-texts : (n : ℕ) → Extends (texts n)
 unfolding texts
 extends-texts zero = extends-given []
 extends-texts (suc n) =
-    extends-then (extends-counted 1)
+    extends-then (extends-section 1)
     (λ t. extends-then (extends-texts n) (λ ts. extends-given (t ∷ ts)))

@@ -50,7 +50,8 @@ module _ (v : ℕ) (known : isOtherVersion (v ∷ []) ≡ false) (w : Wanted) (o
 
   over : (x : ℕ) (xs : List ℕ) → (loaded (s ++ x ∷ xs)).number ≡ 22
   over x xs =
-      ap (λ (c : Given Device). c.number) (loaded_over (s ++ x ∷ xs) (ours (x ∷ xs)) (form_again v w ok older ms (x ∷ xs))
+      ap (λ (c : Given Device). c.number)
+      (loaded_over (s ++ x ∷ xs) (ours (x ∷ xs)) (form_again v w ok older ms (x ∷ xs))
       (ne_eqb (length (x ∷ xs)) 0 (λ e. omega (arith, e))))
 
   cut : (k : ℕ) → k < length s → (loaded (take k s)).number ≡ 21

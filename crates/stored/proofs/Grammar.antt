@@ -1,14 +1,15 @@
--- The form as its grammar has it (RULES, Stored form, Lamps and Class 2), of each version: what is written of settings is
--- read again, whatever follows; bytes that are read are the form of what they say; cut anywhere, a form is cut short.
+-- The form as its grammar has it (RULES, Stored form, Lamps and Class 2), of each version: what is written of settings
+-- is read again, whatever follows; bytes that are read are the form of what they say; cut anywhere, it is cut
+-- short.
 --   formed v f        the form of the version v that says f
 --   bytes_of v n ms   the bytes of the marks ms of n lamps: the oldest version, which has none, says that each is set
 -- Assumes nothing.
-use Rattle.std.proofs.Common.{◌≡◌, ℕ, ◌+◌, ◌*◌, ◌/◌, ◌^◌, ◌<◌, ◌≤◌, Bool, true, false, List, [], ◌∷◌, ◌++◌}
+use Rattle.std.proofs.Common.{◌≡◌, ℕ, ◌*◌, ◌/◌, ◌^◌, ◌<◌, ◌≤◌, Bool, true, false, List, [], ◌∷◌, ◌++◌}
 use Rattle.std.proofs.Common.{length, map, take, drop, replicate, Option, Some, None, refl, sym, ap, subst, ◌∙◌, arith}
 use Rattle.std.proofs.Common.{append_assoc, append-nil, if◌then◌else◌}
 use lib.Dec.{eqb}
 use lib.ListN.{get_or, length-map, length-append, length-drop, take-append-drop}
-use lib.Seq.{length-take-le, take-append_seam}
+use lib.Seq.{take-append_seam}
 use borrow.Author.Tests.{eqb-true, leb-true}
 use Rattle.text.specs.Scans.{every}
 use Rattle.text.proofs.Choices.{if_yes, if_no, both_right}
@@ -26,15 +27,15 @@ use Rattle.record.proofs.OutOfRange.{each-in-range}
 use Rattle.record.proofs.Started.{inputs-halved}
 use Rattle.stored.specs.Form.{formVersion, oldVersion, section, textSection, secondsBytes, markByte, marksSection}
 use Rattle.stored.specs.Form.{textsBytes, textsOf2, classPart, formWith, versionForm}
-use Rattle.stored.specs.Reading.{Field, onward, ◌>>=◌, given, byte, number, counted, text, texts, secondsIn}
+use Rattle.stored.specs.Reading.{given, byte, number, section_of, text, secondsIn}
 use Rattle.stored.specs.Reading.{ClassPart, alone, texts_of_2, class_part, class_in, marks_of, FormSaid, form}
 use Rattle.stored.proofs.BytesAgain.{Bytes, drop-bytes, take-bytes, seconds-again}
 use Rattle.stored.proofs.SecondsWritten.{seconds-long}
 use Rattle.stored.proofs.Seconds.{read-many, seconds-back}
-use Rattle.stored.proofs.Fields.{counted_again, text_again, number_again, texts_again, taking, reading}
+use Rattle.stored.proofs.Fields.{section_again, text_again, number_again, texts_again, taking, reading}
 use Rattle.stored.proofs.Fields.{Extends, extends-given, extends-then, extends-if, extends-byte, extends-number}
-use Rattle.stored.proofs.Fields.{extends-counted, extends-texts}
-use Rattle.stored.proofs.Taken.{same, first-byte, counted_taken, takes-byte, takes-text, takes-inputs, takes-lamps}
+use Rattle.stored.proofs.Fields.{extends-section, extends-texts}
+use Rattle.stored.proofs.Taken.{same, first-byte, section_taken, takes-byte, takes-text, takes-inputs, takes-lamps}
 use Rattle.stored.proofs.Taken.{takes-number, marksPart, restPart, takes-marks, takes-class, older-class, old-marked}
 
 -- ---- read again
@@ -51,7 +52,7 @@ marks_again v n ms rest = by (eqb v oldVersion)
         → (if old then given (replicate n 1) else text) ((if old then [] else marksSection ms) ++ rest)
         ≡ Some (if old then replicate n 1 else map markByte ms, rest)
     by true = refl
-    by false = counted_again 1 (length ms) (map markByte ms) rest (omega (arith, length-map ms markByte))
+    by false = section_again 1 (length ms) (map markByte ms) rest (omega (arith, length-map ms markByte))
 
 pub nothing : {A : Type 0} (s : List A) → length s ≤ 0 → s ≡ []
 nothing [] l = refl
@@ -65,7 +66,13 @@ texts_of_2_again : (w : Wanted) (n : ℕ) (rest : List ℕ) → w.class ≡ 2 �
 unfolding texts_of_2 textsBytes
 texts_of_2_again w n rest two many =
     ap (texts_of_2 n) (regroup (textSection w.serial) (textSection w.version) (textsBytes w.names) rest)
-    ∙ rw (text_again w.serial (textSection w.version ++ (textsBytes w.names ++ rest)), text_again w.version (textsBytes w.names ++ rest), ← many, texts_again w.names rest, two) refl
+    ∙ rw (
+      text_again w.serial (textSection w.version ++ (textsBytes w.names ++ rest)),
+      text_again w.version (textsBytes w.names ++ rest),
+      ← many,
+      texts_again w.names rest,
+      two,
+    ) refl
   where
     regroup : (a b c d : List ℕ) → (a ++ (b ++ c)) ++ d ≡ a ++ (b ++ (c ++ d))
     regroup a b c d = simp append_assoc
@@ -126,7 +133,8 @@ in-turn : (v : ℕ) (a b c d e f g h i j k t : List ℕ)
     ≡ v ∷ (a ++ (b ++ (c ++ (d ++ (e ++ (f ++ (g ++ (h ++ (i ++ (j ++ (k ++ t)))))))))))
 in-turn v a b c d e f g h i j k t = simp append_assoc
 
-module _ (v : ℕ) (w : Wanted) (ok : isSetUp w ≡ true) (older : eqb v formVersion ≡ false → w.class ≡ 1) (ms : List Bool) where
+module _ (v : ℕ) (w : Wanted) (ok : isSetUp w ≡ true) (older : eqb v formVersion ≡ false → w.class ≡ 1)
+    (ms : List Bool) where
   -- what the form says
   abbrev pub says : FormSaid
   says = record { settings = w; marks = bytes_of v (length w.lamps) ms }
@@ -134,7 +142,8 @@ module _ (v : ℕ) (w : Wanted) (ok : isSetUp w ≡ true) (older : eqb v formVer
   pub form_again : (t : List ℕ) → form (versionForm v w ms ++ t) ≡ Some (says, t)
   unfolding form formWith byte
   form_again t =
-      let even : length w.inputs ≡ 2 * (length w.inputs / 2) = sym (inputs-halved _ w.inputs (each-in-range w ok Inputs)) in
+      let even : length w.inputs ≡ 2 * (length w.inputs / 2)
+      = sym (inputs-halved _ w.inputs (each-in-range w ok Inputs)) in
       let long = seconds-long w.lamps in
       let many : length (secondsBytes w.lamps) / 4 ≡ length w.lamps = omega arith in
       let back : secondsIn (length w.lamps) (secondsBytes w.lamps) ≡ w.lamps
@@ -152,8 +161,8 @@ module _ (v : ℕ) (w : Wanted) (ok : isSetUp w ≡ true) (older : eqb v formVer
         text_again w.model _,
         text_again w.other _,
         text_again w.password _,
-        counted_again 2 (length w.inputs / 2) w.inputs _ even,
-        counted_again 4 (length w.lamps) (secondsBytes w.lamps) _ long,
+        section_again 2 (length w.inputs / 2) w.inputs _ even,
+        section_again 4 (length w.lamps) (secondsBytes w.lamps) _ long,
         many,
         back,
         marks_again v (length w.lamps) ms _,
@@ -171,11 +180,11 @@ formed v f =
     (if eqb v formVersion then classPart f.settings.class (textsOf2 f.settings) else []) f.settings
 
 -- the lamps' seconds, by their bytes
-lamps_again : (s raw rest : List ℕ) → Bytes s → counted 4 s ≡ Some (raw, rest)
+lamps_again : (s raw rest : List ℕ) → Bytes s → section_of 4 s ≡ Some (raw, rest)
     → section (length raw / 4) raw
     ≡ section (length (secondsIn (length raw / 4) raw)) (secondsBytes (secondsIn (length raw / 4) raw))
 lamps_again s raw rest b e =
-    let c = counted_taken 4 s raw rest e in
+    let c = section_taken 4 s raw rest e in
     let n = length raw / 4 in
     let whole : 4 * n ≡ length raw = omega (arith, c.long) in
     let after : drop 1 s ≡ raw ++ rest = ap (drop 1) c.spelled in
@@ -263,8 +272,8 @@ module _ (s : List ℕ) (f : FormSaid) (rest : List ℕ) where
       (λ maker s3 r3 e3. reading text e3
       (λ model s4 r4 e4. reading text e4
       (λ other s5 r5 e5. reading text e5
-      (λ password s6 r6 e6. reading (counted 2) e6
-      (λ inputs s7 r7 e7. reading (counted 4) e7
+      (λ password s6 r6 e6. reading (section_of 2) e6
+      (λ inputs s7 r7 e7. reading (section_of 4) e7
       (λ lamps s8 r8 e8. reading (marks_of v (length lamps / 4)) e8
       (λ marks s9 r9 e9. reading (number 2) e9
       (λ warm s10 r10 e10. reading (number 2) e10
@@ -287,7 +296,7 @@ module _ (s : List ℕ) (f : FormSaid) (rest : List ℕ) where
 
 extends-marks : (v n : ℕ) → Extends (marks_of v n)
 unfolding marks_of
-extends-marks v n = extends-if (eqb v oldVersion) (extends-given (replicate n 1)) (extends-counted 1)
+extends-marks v n = extends-if (eqb v oldVersion) (extends-given (replicate n 1)) (extends-section 1)
 
 extends-class : (v n : ℕ) → Extends (class_in v n)
 unfolding class_in class_part texts_of_2
@@ -295,8 +304,8 @@ extends-class v n =
     extends-if (eqb v formVersion)
     (extends-then extends-byte
     (λ k. extends-if (eqb k 2)
-    (extends-then (extends-counted 1)
-    (λ a. extends-then (extends-counted 1) (λ b. extends-then (extends-texts n) (λ c. extends-given _))))
+    (extends-then (extends-section 1)
+    (λ a. extends-then (extends-section 1) (λ b. extends-then (extends-texts n) (λ c. extends-given _))))
     (extends-given (alone k))))
     (extends-given (alone 1))
 
@@ -304,13 +313,13 @@ pub extends-form : Extends form
 unfolding form
 extends-form =
     extends-then extends-byte
-    (λ v. extends-then (extends-counted 1)
-    (λ a. extends-then (extends-counted 1)
-    (λ b. extends-then (extends-counted 1)
-    (λ c. extends-then (extends-counted 1)
-    (λ d. extends-then (extends-counted 1)
-    (λ e. extends-then (extends-counted 2)
-    (λ f. extends-then (extends-counted 4)
+    (λ v. extends-then (extends-section 1)
+    (λ a. extends-then (extends-section 1)
+    (λ b. extends-then (extends-section 1)
+    (λ c. extends-then (extends-section 1)
+    (λ d. extends-then (extends-section 1)
+    (λ e. extends-then (extends-section 2)
+    (λ f. extends-then (extends-section 4)
     (λ g. extends-then (extends-marks v (length g / 4))
     (λ h. extends-then (extends-number 2)
     (λ i. extends-then (extends-number 2)

@@ -15,7 +15,8 @@ use Rattle.record.specs.Wanted.{Wanted}
 use Rattle.record.specs.declared.types.Device.{Device}
 use Rattle.record.specs.Given.{Given}
 use Rattle.stored.specs.Form.{textSection, marksSection, textsOf2, classPart, formWith}
-use Rattle.stored.specs.Form.{formVersion, oldVersion, form_of, oldFormOf, versionForm, storedOf, marksStored, storedForm}
+use Rattle.stored.specs.Form.{formVersion, oldVersion, form_of, oldFormOf, versionForm, storedOf, marksStored}
+use Rattle.stored.specs.Form.{storedForm}
 use Rattle.stored.specs.Loading.{said_in, settingsIn, markBytesIn, isMarked, marksRead, startedWith, loaded}
 use Rattle.stored.proofs.MarkBytes.{marks-told, marks-again, ones-marked}
 use Rattle.stored.proofs.Results.{Accepted, accepted-told, accepted-set-up}

@@ -3,8 +3,8 @@
 -- Lamps), and legal; and the promise leaves one result.
 --   Accepted s        an accepted load: the version is known, the form is all that stands there, the contents are legal
 -- Assumes nothing.
-use Rattle.std.proofs.Common.{◌≡◌, ℕ, ◌≤◌, Bool, true, false, not, ◌&&◌, List, [], ◌∷◌, length, Option, Some, None}
-use Rattle.std.proofs.Common.{refl, sym, ap, ◌∙◌, arith}
+use Rattle.std.proofs.Common.{◌≡◌, ℕ, Bool, true, false, ◌&&◌, List, [], length, Option, Some, None}
+use Rattle.std.proofs.Common.{refl, ap, ◌∙◌, arith}
 use lib.Dec.{eqb}
 use borrow.Author.Tests.{eqb-true, not-false}
 use Rattle.text.specs.Rows.{first_of}
@@ -25,8 +25,8 @@ use Rattle.record.proofs.HostKept.{with-own-legal}
 use Rattle.record.proofs.Started.{started-parts, started-legal}
 use Rattle.stored.specs.Form.{formVersion}
 use Rattle.stored.specs.Reading.{FormSaid, form}
-use Rattle.stored.specs.Loading.{isOtherVersion, endsEarly, leavesMore, said, said_in, settingsIn, markBytesIn, marksRead}
-use Rattle.stored.specs.Loading.{markRoom, areMarks, isLegalSaid, startedWith, loadRows, loaded}
+use Rattle.stored.specs.Loading.{isOtherVersion, endsEarly, leavesMore, said, said_in, settingsIn}
+use Rattle.stored.specs.Loading.{markBytesIn, marksRead, markRoom, areMarks, startedWith, loadRows, loaded}
 use Rattle.stored.proofs.MarkBytes.{marks-told}
 use Rattle.stored.proofs.Grammar.{nothing, older-said}
 

@@ -3,12 +3,12 @@
 --   TextsRead s i rest    i texts have been read from s
 -- Assumes nothing.
 use Rattle.std.proofs.Common.{◌≡◌, ℕ, zero, suc, ◌+◌, ◌-◌, ◌*◌, ◌/◌, ◌<◌, ◌≤◌, Bool, true, false, List, [], ◌∷◌, ◌++◌}
-use Rattle.std.proofs.Common.{length, take, drop, Option, Some, None, refl, sym, ap, ◌∙◌, arith, append_assoc, add-one}
+use Rattle.std.proofs.Common.{length, take, drop, Option, Some, None, refl, sym, ap, ◌∙◌, arith, append_assoc}
 use Rattle.std.proofs.Common.{if◌then◌else◌, append-nil, replicate}
 use lib.Dec.{eqb, ltb}
 use lib.ListN.{take-append-drop, length-append}
-use lib.Seq.{length-take-le, take-append_seam, drop-append_seam, take_at}
-use borrow.Author.Tests.{le-ltb, ltb-false, eqb-true, eq-eqb}
+use lib.Seq.{length-take-le, take-append_seam, take_at}
+use borrow.Author.Tests.{ltb-false, eqb-true}
 use Rattle.text.proofs.Choices.{if_yes, if_no}
 use Rattle.words.specs.Bytes.{◌at◌}
 use Rattle.numbers.specs.HighestFirst.{highestFirst, number_in}
@@ -16,9 +16,9 @@ use Rattle.numbers.proofs.HighestFirst.{highest-one-form}
 use Rattle.record.specs.Wanted.{countedIn}
 use Rattle.record.proofs.CountedNames.{counted_none, counted_first, counted_many}
 use Rattle.stored.specs.Form.{formVersion, oldVersion, section, textSection, textsBytes, classPart}
-use Rattle.stored.specs.Reading.{Field, onward, ◌>>=◌, given, byte, bytes, number, counted, text, texts}
+use Rattle.stored.specs.Reading.{Field, onward, ◌giving◌, given, byte, bytes, number, section_of, text, texts}
 use Rattle.stored.specs.Reading.{ClassPart, alone, texts_of_2, class_part, class_in, marks_of}
-use Rattle.stored.proofs.BytesAgain.{Bytes, drop-bytes, take-bytes}
+use Rattle.stored.proofs.BytesAgain.{Bytes, take-bytes}
 use Rattle.stored.proofs.TextsWritten.{texts-snoc}
 use Rattle.stored.proofs.Fields.{Takes, taking, reading, texts_again, texts_cut}
 
@@ -54,16 +54,16 @@ pub record Counted (width : ℕ) (s t rest : List ℕ) : Type 0 where
   pub spelled : s ≡ count ∷ (t ++ rest)
   pub long : length t ≡ width * count
 
-pub counted_taken : (width : ℕ) (s t rest : List ℕ) → counted width s ≡ Some (t, rest) → Counted width s t rest
-unfolding counted byte
-counted_taken width [] t rest e = absurd (cc)
-counted_taken width (n ∷ s) t rest e =
+pub section_taken : (width : ℕ) (s t rest : List ℕ) → section_of width s ≡ Some (t, rest) → Counted width s t rest
+unfolding section_of byte
+section_taken width [] t rest e = absurd (cc)
+section_taken width (n ∷ s) t rest e =
     let c = bytes_taken (width * n) s t rest e in
     record { count = n; spelled = ap (λ (l : List ℕ). n ∷ l) c.spelled; long = c.long }
 
 pub text_taken : (s t rest : List ℕ) → text s ≡ Some (t, rest) → s ≡ textSection t ++ rest
 text_taken s t rest e =
-    let c = counted_taken 1 s t rest e in
+    let c = section_taken 1 s t rest e in
     let n : c.count ≡ length t = omega (arith, c.long) in
     c.spelled ∙ ap (λ (k : ℕ). k ∷ (t ++ rest)) n
 
@@ -83,18 +83,18 @@ first-byte (b ∷ s) v rest e = ap (λ (z : ℕ × List ℕ). z.0) (same e)
 pub takes-text : Takes text textSection
 takes-text = record { back = λ s t rest b e. text_taken s t rest e }
 
-pub takes-inputs : Takes (counted 2) (λ t. section (length t / 2) t)
+pub takes-inputs : Takes (section_of 2) (λ t. section (length t / 2) t)
 takes-inputs = record {
   back = λ s t rest b e.
-      let c = counted_taken 2 s t rest e in
+      let c = section_taken 2 s t rest e in
       let n : c.count ≡ length t / 2 = omega (arith, c.long) in
       c.spelled ∙ ap (λ (k : ℕ). k ∷ (t ++ rest)) n;
 }
 
-pub takes-lamps : Takes (counted 4) (λ t. section (length t / 4) t)
+pub takes-lamps : Takes (section_of 4) (λ t. section (length t / 4) t)
 takes-lamps = record {
   back = λ s t rest b e.
-      let c = counted_taken 4 s t rest e in
+      let c = section_taken 4 s t rest e in
       let n : c.count ≡ length t / 4 = omega (arith, c.long) in
       c.spelled ∙ ap (λ (k : ℕ). k ∷ (t ++ rest)) n;
 }
@@ -124,9 +124,9 @@ pub record Spelled (n : ℕ) (s : List ℕ) (ts : List (List ℕ)) (rest : List 
 module _ (n : ℕ) (others : (s : List ℕ) (ts : List (List ℕ)) (rest : List ℕ) → texts n s ≡ Some (ts, rest)
     → Spelled n s ts rest) (s : List ℕ) (ts : List (List ℕ)) (rest : List ℕ) where
   abbrev then-others : List ℕ → Field (List (List ℕ))
-  then-others first = texts n >>= λ left. given (first ∷ left)
+  then-others first = texts n giving λ left. given (first ∷ left)
 
-  one_taken : (text >>= then-others) s ≡ Some (ts, rest) → Spelled (suc n) s ts rest
+  one_taken : (text giving then-others) s ≡ Some (ts, rest) → Spelled (suc n) s ts rest
   unfolding textsBytes
   one_taken e = by (text s) refl
     where
@@ -203,7 +203,8 @@ module _ {s : List ℕ} {i : ℕ} {rest : List ℕ} (r : TextsRead s i rest) whe
   all_read {n} {k} e f =
       let long : k ≡ length (textsBytes ts)
       = omega (arith, ap length r.passed, length-append (textsBytes ts) rest) in
-      let front : take k s ≡ textsBytes ts = (λ j. take (long j) (r.passed j)) ∙ take-append_seam (textsBytes ts) rest in
+      let front : take k s ≡ textsBytes ts
+      = (λ j. take (long j) (r.passed j)) ∙ take-append_seam (textsBytes ts) rest in
       let many : n ≡ length ts = omega (arith, counted_many i s) in
       let back : countedIn n (take k s) ≡ ts
       = (λ j. countedIn (many j) ((front ∙ sym (append-nil (textsBytes ts))) j)) ∙ counted_back ts [] in
@@ -275,7 +276,9 @@ takes-class-part n = record {
         let two = two-class n s c rest e in
         let known : k ≡ c.class = eqb-true k 2 h ∙ sym two in
         let yes : eqb c.class 2 ≡ true = ap (λ (m : ℕ). eqb m 2) two in
-        (λ j. known j ∷ ((takes-texts-of-2 n).back s c rest b e ∙ ap (λ (l : List ℕ). l ++ rest) (sym (if_yes (textsBytes (c.serial ∷ c.version ∷ c.names)) [] yes))) j)
+        let texts = textsBytes (c.serial ∷ c.version ∷ c.names) in
+        (λ j. known j
+        ∷ ((takes-texts-of-2 n).back s c rest b e ∙ ap (λ (l : List ℕ). l ++ rest) (sym (if_yes texts [] yes))) j)
     by n k s c rest b false h e =
         let two : (alone k, s) ≡ (c, rest) = same e in
         ap (λ (l : List ℕ). k ∷ (l ++ s)) (sym (if_no (textsBytes ([] ∷ [] ∷ [])) [] h))

@@ -6,7 +6,7 @@
 -- count (RULES, Class 2).
 --   formVersion               the version byte of the newest form. Still loaded: markedVersion, which has marks and no
 --                             class; oldVersion, which has neither
---   section count items       a section: its count, then what is counted
+--   section count items       a section: its count, then what is section_of
 --   textSection s             of a text, whose items are its bytes
 --   secondsBytes xs           the seconds of each lamp, four bytes a lamp
 --   markByte m                the byte of a lamp's enabled mark

@@ -21,7 +21,6 @@ use Rattle.std.specs.Prelude.{map, length, replicate, eqb}
 use Rattle.std.specs.Prelude.{Option, Some, None, if◌then◌else◌}
 use Rattle.text.specs.Scans.{every}
 use Rattle.text.specs.Rows.{Row, ◌when◌, byRows}
-use Rattle.words.specs.Bytes.{◌at◌}
 use Rattle.record.specs.Limits.{lampsMost}
 use Rattle.record.specs.Wanted.{Wanted, wantedOf}
 use Rattle.record.specs.Rules.{at_most, isMarks}

@@ -1,17 +1,17 @@
 -- A stored form, read from left to right (RULES, Stored form): a field is a value and the bytes that are left after it,
 -- or none where the bytes end before it does.
 --   Field A              how an A is read
---   r >>= f              what f reads after what r has read
+--   r giving f           what r reads, and then f of it
 --   given x              x, of no bytes
 --   byte, bytes n        one byte; so many bytes
 --   number n             a number of so many bytes, the highest first
---   counted width        items of so many bytes each, after their count in one byte;    text    of one byte each
+--   section_of width     items of so many bytes each, after their count in one byte;    text    of one byte each
 --   texts n              so many texts, one after the other
 --   secondsIn n s        the first n numbers of four bytes in s
 --   ClassPart            the class, and what Class 2 alone has;    alone k    the class k, which has nothing more
---   class_part n         both, where there are n inputs: in the newest version. Every older one is of Class 1 (class_in)
+--   class_part n         both, where there are n inputs;    class_in v n    in the version v: the older are of Class 1
 --   marks_of v n         the bytes of n lamps' marks: each 1 in the version that has none
---   FormSaid                 what a form says: the settings, the lamps' seconds among them, and the bytes of the marks
+--   FormSaid             what a form says: the settings, the lamps' seconds among them, and the bytes of the marks
 --   form                 the form, of whatever version
 -- Assumes nothing.
 use Rattle.std.specs.Prelude.{ℕ, zero, suc, ◌*◌, ◌/◌, List, [], ◌∷◌, length, take, drop, replicate, ltb, eqb}
@@ -27,9 +27,9 @@ abbrev pub onward : {A B : Type 0} → (A → Field B) → Option (A × List ℕ
 onward f None = None
 onward f (Some x) = f x.0 x.1
 
-infixl 10 ◌>>=◌
-abbrev pub ◌>>=◌ : {A B : Type 0} → Field A → (A → Field B) → Field B
-(r >>= f) s = onward f (r s)
+infixl 10 ◌giving◌
+abbrev pub ◌giving◌ : {A B : Type 0} → Field A → (A → Field B) → Field B
+(r giving f) s = onward f (r s)
 
 abbrev pub given : {A : Type 0} → A → Field A
 given x s = Some (x, s)
@@ -42,24 +42,24 @@ unfoldable pub bytes : ℕ → Field (List ℕ)
 bytes n s = if ltb (length s) n then None else Some (take n s, drop n s)
 
 unfoldable pub number : ℕ → Field ℕ
-number n = do
-  s ← bytes n
-  given (number_in s)
+number n =
+    bytes n giving λ s.
+    given (number_in s)
 
-unfoldable pub counted : ℕ → Field (List ℕ)
-counted width = do
-  n ← byte
-  bytes (width * n)
+unfoldable pub section_of : ℕ → Field (List ℕ)
+section_of width =
+    byte giving λ n.
+    bytes (width * n)
 
 abbrev pub text : Field (List ℕ)
-text = counted 1
+text = section_of 1
 
 unfoldable pub texts : ℕ → Field (List (List ℕ))
 texts zero = given []
-texts (suc n) = do
-  t ← text
-  ts ← texts n
-  given (t ∷ ts)
+texts (suc n) =
+    text giving λ t.
+    texts n giving λ ts.
+    given (t ∷ ts)
 
 unfoldable pub secondsIn : ℕ → List ℕ → List ℕ
 secondsIn zero s = []
@@ -75,16 +75,16 @@ abbrev pub alone : ℕ → ClassPart
 alone k = record { class = k; serial = []; version = []; names = [] }
 
 unfoldable pub texts_of_2 : ℕ → Field ClassPart
-texts_of_2 n = do
-  serial ← text
-  version ← text
-  names ← texts n
-  given (record { class = 2; serial = serial; version = version; names = names })
+texts_of_2 n =
+    text giving λ serial.
+    text giving λ version.
+    texts n giving λ names.
+    given (record { class = 2; serial = serial; version = version; names = names })
 
 unfoldable pub class_part : ℕ → Field ClassPart
-class_part n = do
-  k ← byte
-  if eqb k 2 then texts_of_2 n else given (alone k)
+class_part n =
+    byte giving λ k.
+    if eqb k 2 then texts_of_2 n else given (alone k)
 
 unfoldable pub class_in : ℕ → ℕ → Field ClassPart
 class_in v n = if eqb v formVersion then class_part n else given (alone 1)
@@ -97,21 +97,21 @@ pub record FormSaid : Type 0 where
   pub marks : List ℕ
 
 unfoldable pub form : Field FormSaid
-form = do
-  v ← byte
-  name ← text
-  maker ← text
-  model ← text
-  other ← text
-  password ← text
-  inputs ← counted 2
-  lamps ← counted 4
-  marks ← marks_of v (length lamps / 4)
-  warm ← number 2
-  cool ← number 2
-  rest ← class_in v (length inputs / 2)
-  given (record {
-    settings = wantedIn rest.class name maker model other password inputs (secondsIn (length lamps / 4) lamps)
-        warm cool rest.serial rest.version rest.names;
-    marks = marks;
-  })
+form =
+    byte giving λ v.
+    text giving λ name.
+    text giving λ maker.
+    text giving λ model.
+    text giving λ other.
+    text giving λ password.
+    section_of 2 giving λ inputs.
+    section_of 4 giving λ lamps.
+    marks_of v (length lamps / 4) giving λ marks.
+    number 2 giving λ warm.
+    number 2 giving λ cool.
+    class_in v (length inputs / 2) giving λ rest.
+    given (record {
+      settings = wantedIn rest.class name maker model other password inputs (secondsIn (length lamps / 4) lamps)
+          warm cool rest.serial rest.version rest.names;
+      marks = marks;
+    })

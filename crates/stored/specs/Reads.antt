@@ -1,6 +1,6 @@
 -- What a reader of the code returns (RULES, Stored form).
---   Reads view r left read    what was returned, seen by view, and the bytes that are left, are what reading gives: where
---                             the bytes end before the field does, they are cut short
+--   Reads view r left read    what was returned, seen by view, and the bytes that are left, are what reading gives:
+--                             where the bytes end before the field does, they are cut short
 -- Assumes nothing.
 use Rattle.std.specs.Prelude.{◌≡◌, ℕ, List, Option, Some, None, Result, Ok, Err}
 use Rattle.stored.specs.declared.error.LoadError.{LoadError}

@@ -4,7 +4,7 @@
 --   class_lent c              the class that set-up is lent, with what it has
 --   said_of f                 what a form says
 -- Assumes nothing.
-use Rattle.std.specs.Prelude.{ℕ, ◌/◌, List, [], length, replicate, eqb, if◌then◌else◌}
+use Rattle.std.specs.Prelude.{ℕ, ◌/◌, List, length, replicate, eqb, if◌then◌else◌}
 use Rattle.std.specs.Prelude.{Option, Some, None}
 use Rattle.std.specs.Borrow.{Bor}
 use Rattle.record.specs.Wanted.{wantedIn, countedIn}

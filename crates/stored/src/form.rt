@@ -132,8 +132,8 @@ impl<'a> Reader<'a> {
         let model = self.text()?;
         let other = self.text()?;
         let password = self.text()?;
-        let inputs = self.counted(2)?;
-        let lamps = self.counted(4)?;
+        let inputs = self.section(2)?;
+        let lamps = self.section(4)?;
         let marks = self.marks(version, lamps.len() / 4)?;
         let warm = self.number()?;
         let cool = self.number()?;

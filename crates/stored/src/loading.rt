@@ -1,5 +1,5 @@
-// Loading a stored form (RULES, Stored form and Lamps): the version, then whether the bytes end with the form, then what
-// it says. The record is made where it lies, so that no copy of it is on the stack.
+// Loading a stored form (RULES, Stored form and Lamps): the version, then whether the bytes end with the form, then
+// what it says. The record is made where it lies, so that no copy of it is on the stack.
 ghost use Rattle.std.specs.Prelude.{◌≡◌, ◌/◌, ◌≤◌, true, map, length, OnErr};
 ghost use Rattle.std.specs.Result.{result_ok};
 ghost use Rattle.record.specs.Limits.{lampsMost};

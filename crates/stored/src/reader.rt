@@ -2,7 +2,7 @@
 // bytes end before the field does, they are cut short, and the reader is not used again.
 ghost use Rattle.std.specs.Prelude.{◌≡◌, ◌*◌, ◌==◌, ◌≤◌, IfOk, length};
 ghost use Rattle.record.specs.Wanted.{countedIn};
-ghost use Rattle.stored.specs.Reading.{byte, bytes, number, counted, text, texts};
+ghost use Rattle.stored.specs.Reading.{byte, bytes, number, section_of, text, texts};
 ghost use Rattle.stored.specs.Reads.{Reads};
 
 use crate::error::LoadError;
@@ -75,10 +75,10 @@ impl<'a> Reader<'a> {
     }
 
     /// Items of so many bytes each, at most 4, after their count.
-    #[tactic(auto, unfolding(crate::specs::Reading::counted))]
-    pub fn counted(&mut self, width: usize) -> Result<&'a [u8], LoadError>
+    #[tactic(auto, unfolding(crate::specs::Reading::section_of))]
+    pub fn section(&mut self, width: usize) -> Result<&'a [u8], LoadError>
         requires { width ≤ 4 }
-        ensures read { Reads (λ s. s.now) result self.new (counted width self.old) }
+        ensures read { Reads (λ s. s.now) result self.new (section_of width self.old) }
         ensures upper_bound { IfOk result (λ s. length s.now ≤ 255 * width) }
     {
         let n = self.byte()?;
@@ -90,7 +90,7 @@ impl<'a> Reader<'a> {
     pub fn text(&mut self) -> Result<&'a [u8], LoadError>
         ensures { Reads (λ s. s.now) result self.new (text self.old) }
     {
-        self.counted(1)
+        self.section(1)
     }
 
     /// So many texts, one after the other, each with its count before it.

@@ -3,3 +3,5 @@ pub mod Scans
 pub mod InTurn
 pub mod Rows
 pub mod Bases
+pub mod Rooms
+pub mod Computing

@@ -1,21 +1,20 @@
 -- A projector just added, with the password of a device that has a free place, is apart from it, and nothing is shown
 -- of it.
 -- Assumes nothing.
-use Prim.Native.Nat.{ℕ, ◌<◌}
+use Prim.Native.Nat.{ℕ, ◌<◌, ◌-◌}
 use mathlib.Core.Path.{◌≡◌, sym, ap, ◌∙◌}
 use mathlib.Core.Bool.{true}
 use mathlib.Core.List.{List}
 use native.Mathlib.Omega.{arith}
-use lib.ListN.{length}
-use lib.Seq.{get_or-set_same}
+use lib.ListN.{length, replicate}
+use lib.Seq.{get_or-set_same, take-append_seam}
 use Rattle.words.specs.Texts.{isPassword}
-use Rattle.words.proofs.TextsTold.{password-long}
-use Rattle.record.specs.Limits.{placesCount, textRoom}
+use Rattle.record.specs.Limits.{placesCount}
 use Rattle.record.specs.Legal.{isLegal}
 use Rattle.record.specs.Places.{lowestShut}
 use Rattle.record.specs.declared.types.Device.{Device}
-use Rattle.record.proofs.Kept.{filled-take}
 use Rattle.device.specs.Receiving.{passwordOf}
+use Rattle.panel.specs.Passwords.{passwordRoom}
 use Rattle.panel.specs.Entries.{shownOf, passwordIn, freshEntry, blankEntry}
 use Rattle.panel.specs.LegalPanels.{panelMost, isPanel}
 use Rattle.panel.specs.PanelCalls.{PanelAs, entry_at, grownBy, addedTo}
@@ -46,7 +45,7 @@ module _ (p : Panel) (s : List ℕ) (d : Device) where
         ap (λ (r : PanelAs). isPanel r.panel) (sym (added-done p s legal word free)) ∙ added-stays-legal p legal s
 
     own-word : passwordIn (freshEntry s) ≡ s
-    own-word = let short = password-long s word in filled-take textRoom isPassword s (omega arith)
+    own-word = take-append_seam s (replicate (passwordRoom - length s) 0)
 
   pub added-apart : Begun (addedTo p s)
   added-apart =

@@ -28,7 +28,7 @@ use Rattle.device.proofs.Legal.{greeted-legal, closing-legal}
 use Rattle.device.proofs.Untouched.{closing-keeps-settings, closing-keeps-own}
 use Rattle.record.proofs.LowestShut.{below-lowest}
 use Rattle.controller.specs.Greetings.{readGreeting}
-use Rattle.controller.proofs.GreetsBack.{open-heard, secured-heard}
+use Rattle.controller.proofs.GreetingsHeard.{open-heard, secured-heard}
 use Rattle.panel.specs.Entries.{Talk, talkOf, shownOf, passwordIn, greetedOpen, greetedSecured, greetedBy}
 use Rattle.panel.specs.Stepping.{withTalk, greetedAs}
 use Rattle.panel.specs.PanelCalls.{entry_at, steppedAt}

@@ -1,3 +1,4 @@
+pub mod FaceReadsBack
 pub mod Cuts
 pub mod EntriesStep
 pub mod PanelDemand

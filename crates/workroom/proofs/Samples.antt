@@ -12,12 +12,13 @@ use Rattle.text.specs.Words.{ascii}
 use Rattle.pjlink.specs.declared.command.Command.TheVariants.{Query}
 use Rattle.pjlink.specs.declared.body.Body.TheVariants.{Powr, Lamp}
 use Rattle.record.specs.Limits.{opened}
-use Rattle.record.specs.Record.{text_of, started}
+use Rattle.record.specs.Record.{started}
 use Rattle.record.specs.Wanted.{wantedOf}
 use Rattle.record.specs.Places.{withPlace}
 use Rattle.record.specs.declared.types.Device.{Device}
 use Rattle.device.specs.Receiving.{begunIn}
 use Rattle.codes.specs.Commands.{code_of, commandOf}
+use Rattle.panel.specs.Passwords.{password_of}
 use Rattle.panel.specs.Entries.{Talk, entryOf, greetedOpen, greetedBy, sentOn, nothingShown, blankEntry}
 use Rattle.panel.specs.Showing.{withPowerShown}
 use Rattle.panel.specs.StepTable.{UnderWay}
@@ -31,7 +32,7 @@ use Rattle.workroom.specs.PanelDemand.{Served}
 use Rattle.workroom.specs.Computing.{computing}
 
 abbrev talking : Talk → ℕ → Entry
-talking t strays = entryOf (text_of []) t (withPowerShown nothingShown 1) strays
+talking t strays = entryOf (password_of []) t (withPowerShown nothingShown 1) strays
 
 abbrev alone : Entry → Panel
 alone e = record { count = 1; entries = e ∷ replicate 7 blankEntry }

@@ -1,56 +1,9 @@
 //! The calls on a record that is lent, linked: `linked` has those by value, and what makes each call safe.
 
-use super::{Act, Answer, Changed, Device, Lent, Lent2, Opened, Opening, Received, Receiving, Written};
+use super::setting_up;
+use super::{Act, Answer, Changed, Device, Opened, Opening, Received, Receiving, Written};
 
 unsafe extern "C" {
-    #[rustfmt::skip]
-    fn pj_set_up_in_place(
-        device: *mut Device,
-        name: *const u8,
-        name_length: usize,
-        maker: *const u8,
-        maker_length: usize,
-        model: *const u8,
-        model_length: usize,
-        other: *const u8,
-        other_length: usize,
-        password: *const u8,
-        password_length: usize,
-        inputs: *const u8,
-        inputs_length: usize,
-        lamps: *const u32,
-        lamps_length: usize,
-        warm: u32,
-        cool: u32,
-    ) -> u32;
-    #[rustfmt::skip]
-    fn pj_set_up_2_in_place(
-        device: *mut Device,
-        name: *const u8,
-        name_length: usize,
-        maker: *const u8,
-        maker_length: usize,
-        model: *const u8,
-        model_length: usize,
-        other: *const u8,
-        other_length: usize,
-        password: *const u8,
-        password_length: usize,
-        inputs: *const u8,
-        inputs_length: usize,
-        lamps: *const u32,
-        lamps_length: usize,
-        warm: u32,
-        cool: u32,
-        serial: *const u8,
-        serial_length: usize,
-        version: *const u8,
-        version_length: usize,
-        names: *const u8,
-        names_length: usize,
-        name_lengths: *const usize,
-        name_lengths_length: usize,
-    ) -> u32;
     fn pj_load_in_place(device: *mut Device, bytes: *const u8, length: usize) -> u32;
     fn pj_store_in_place(device: *const Device, out: *mut u8, out_length: usize) -> Written;
     fn pj_legal_in_place(device: *const Device) -> bool;
@@ -71,34 +24,6 @@ unsafe extern "C" {
 }
 
 // SAFETY, for every call below: as in `linked`; the record that a call changes is lent as `&mut` and overlaps nothing else.
-
-pub fn set_up(device: &mut Device, lent: &Lent) -> u32 {
-    let Lent { name, maker, model, other, password, inputs, lamps, warm, cool } = lent;
-    unsafe {
-        #[rustfmt::skip]
-        let number = pj_set_up_in_place(
-            device, name.as_ptr(), name.len(), maker.as_ptr(), maker.len(), model.as_ptr(), model.len(),
-            other.as_ptr(), other.len(), password.as_ptr(), password.len(), inputs.as_ptr(), inputs.len(),
-            lamps.as_ptr(), lamps.len(), *warm, *cool,
-        );
-        number
-    }
-}
-
-pub fn set_up_2(device: &mut Device, lent: &Lent2) -> u32 {
-    let Lent2 { lent, serial, version, names, name_lengths } = lent;
-    let Lent { name, maker, model, other, password, inputs, lamps, warm, cool } = lent;
-    unsafe {
-        #[rustfmt::skip]
-        let number = pj_set_up_2_in_place(
-            device, name.as_ptr(), name.len(), maker.as_ptr(), maker.len(), model.as_ptr(), model.len(),
-            other.as_ptr(), other.len(), password.as_ptr(), password.len(), inputs.as_ptr(), inputs.len(),
-            lamps.as_ptr(), lamps.len(), *warm, *cool, serial.as_ptr(), serial.len(), version.as_ptr(), version.len(),
-            names.as_ptr(), names.len(), name_lengths.as_ptr(), name_lengths.len(),
-        );
-        number
-    }
-}
 
 pub fn load(device: &mut Device, bytes: &[u8]) -> u32 {
     unsafe { pj_load_in_place(device, bytes.as_ptr(), bytes.len()) }
@@ -144,8 +69,8 @@ pub fn set_mark(device: &mut Device, lamp: usize, enabled: bool) -> u32 {
 pub fn answer(lent: &Device, act: &Act) -> Answer {
     let mut device = *lent;
     let number = match act {
-        Act::SetUp(lent) => set_up(&mut device, lent),
-        Act::SetUp2(lent) => set_up_2(&mut device, lent),
+        Act::SetUp(lent) => setting_up::set_up_in_place(&mut device, lent),
+        Act::SetUp2(lent) => setting_up::set_up_2_in_place(&mut device, lent),
         Act::Load { bytes } => load(&mut device, bytes),
         Act::Open { random, lent } => {
             let mut out = lent.clone();

@@ -1,50 +1,12 @@
 //! The archive, linked. A slice is a pointer and a length, in that order.
 
 use super::{
-    Act, Answer, Changed, Command, Compared, Device, Digest, Greeting, Lent, Opened, Reading, Received, Side, Written,
+    Act, Answer, Changed, Command, Compared, Device, Digest, Greeting, Opened, Reading, Received, Side, Written,
 };
-use super::{class_2, days, in_place, swap, workroom};
+use super::{days, in_place, setting_up, swap, workroom};
 
 #[link(name = "board", kind = "static")]
 unsafe extern "C" {
-    #[rustfmt::skip]
-    fn pj_set_up(
-        name: *const u8,
-        name_length: usize,
-        maker: *const u8,
-        maker_length: usize,
-        model: *const u8,
-        model_length: usize,
-        other: *const u8,
-        other_length: usize,
-        password: *const u8,
-        password_length: usize,
-        inputs: *const u8,
-        inputs_length: usize,
-        lamps: *const u32,
-        lamps_length: usize,
-        warm: u32,
-        cool: u32,
-    ) -> Changed;
-    #[rustfmt::skip]
-    fn pj_which_setting(
-        name: *const u8,
-        name_length: usize,
-        maker: *const u8,
-        maker_length: usize,
-        model: *const u8,
-        model_length: usize,
-        other: *const u8,
-        other_length: usize,
-        password: *const u8,
-        password_length: usize,
-        inputs: *const u8,
-        inputs_length: usize,
-        lamps: *const u32,
-        lamps_length: usize,
-        warm: u32,
-        cool: u32,
-    ) -> u32;
     fn pj_open(device: Device, random: u32, out: *mut u8, out_length: usize) -> Opened;
     fn pj_close(device: Device, place: usize) -> Changed;
     fn pj_receive(
@@ -84,32 +46,6 @@ unsafe extern "C" {
 
 // SAFETY, for every call below: the pointers are those of live slices with their own lengths, what is written into is
 // lent as `&mut`, and the archive's functions ask for nothing more.
-
-pub fn set_up(lent: &Lent) -> Changed {
-    let Lent { name, maker, model, other, password, inputs, lamps, warm, cool } = lent;
-    unsafe {
-        #[rustfmt::skip]
-        let changed = pj_set_up(
-            name.as_ptr(), name.len(), maker.as_ptr(), maker.len(), model.as_ptr(), model.len(),
-            other.as_ptr(), other.len(), password.as_ptr(), password.len(), inputs.as_ptr(), inputs.len(),
-            lamps.as_ptr(), lamps.len(), *warm, *cool,
-        );
-        changed
-    }
-}
-
-pub fn which_setting(lent: &Lent) -> u32 {
-    let Lent { name, maker, model, other, password, inputs, lamps, warm, cool } = lent;
-    unsafe {
-        #[rustfmt::skip]
-        let setting = pj_which_setting(
-            name.as_ptr(), name.len(), maker.as_ptr(), maker.len(), model.as_ptr(), model.len(),
-            other.as_ptr(), other.len(), password.as_ptr(), password.len(), inputs.as_ptr(), inputs.len(),
-            lamps.as_ptr(), lamps.len(), *warm, *cool,
-        );
-        setting
-    }
-}
 
 pub fn open(device: Device, random: u32, out: &mut [u8]) -> Opened {
     unsafe { pj_open(device, random, out.as_mut_ptr(), out.len()) }
@@ -184,10 +120,10 @@ impl Side for Board {
     fn call(&mut self, device: &Device, act: &Act) -> Answer {
         let device = *device;
         match act {
-            Act::SetUp(lent) => Answer::Changed(set_up(lent)),
-            Act::SetUp2(lent) => Answer::Changed(class_2::set_up_2(lent)),
-            Act::WhichSetting(lent) => Answer::Setting(which_setting(lent)),
-            Act::WhichSetting2(lent) => Answer::Setting(class_2::which_setting_2(lent)),
+            Act::SetUp(lent) => Answer::Changed(setting_up::set_up(lent)),
+            Act::SetUp2(lent) => Answer::Changed(setting_up::set_up_2(lent)),
+            Act::WhichSetting(lent) => Answer::Setting(setting_up::which_setting(lent)),
+            Act::WhichSetting2(lent) => Answer::Setting(setting_up::which_setting_2(lent)),
             Act::Open { random, lent } => {
                 let mut out = lent.clone();
                 Answer::Opened(open(device, *random, &mut out), out)

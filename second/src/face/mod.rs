@@ -21,8 +21,6 @@ mod apart;
 pub use apart::Board;
 
 #[cfg(board = "linked")]
-pub mod class_2;
-#[cfg(board = "linked")]
 pub mod days;
 #[cfg(board = "linked")]
 pub mod in_place;
@@ -30,6 +28,8 @@ pub mod in_place;
 pub mod linked;
 #[cfg(board = "linked")]
 pub use linked::Board;
+#[cfg(board = "linked")]
+pub mod setting_up;
 #[cfg(board = "linked")]
 pub mod swap;
 #[cfg(board = "linked")]

@@ -5,7 +5,7 @@ use Rattle.pjlink.specs.Said.{saidBytes, parameterMost}
 use Rattle.controller.specs.Reading.{ReadAs}
 use Rattle.controller.proofs.ReadShort.{reading-short}
 use Rattle.codes.specs.Readings.{flat}
-use Rattle.board.specs.Face.{read_by}
+use Rattle.codes.specs.ByCode.{read_by}
 use Rattle.board.proofs.reader.pj_read_reply.Goals as goal
 
 pub of-requires : goal.of-requires

@@ -1,5 +1,5 @@
 -- Each `return` is one case of `loaded`.
-use Rattle.std.proofs.Common.{◌≡◌, None, sym, ap, ◌∙◌}
+use Rattle.std.proofs.Common.{◌≡◌, sym, ap, ◌∙◌}
 use Rattle.std.proofs.lemmas.Result.{err_from_is_err_and}
 use Rattle.record.specs.Record.{blank}
 use Rattle.record.specs.Given.{refused}

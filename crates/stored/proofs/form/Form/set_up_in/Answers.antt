@@ -34,5 +34,5 @@ returns c =
     let e = c.in-Some.ensures.lent in
     device-made _ (gives c.set_up_in.result c.set_up_in.new.device) c.set_up_in.ensures.made
     ∙ ap device_of
-    (λ j. wantedIn (e j).class f.name.now f.maker.now f.model.now f.other.now f.password.now f.inputs.now (lamps j) f.warm
-    f.cool (e j).serial (e j).version (e j).names)
+    (λ j. wantedIn (e j).class f.name.now f.maker.now f.model.now f.other.now f.password.now f.inputs.now (lamps j)
+    f.warm f.cool (e j).serial (e j).version (e j).names)

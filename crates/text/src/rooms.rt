@@ -2,7 +2,7 @@
 // (RULES, The legal record, "Unused room").
 ghost use Rattle.std.specs.Prelude.{◌≡◌, ◌==◌, ◌≤◌, Bool, not, length, option_map};
 ghost use Rattle.text.specs.Scans.{every};
-ghost use Rattle.record.specs.Rooms.{used, kept};
+ghost use Rattle.text.specs.Rooms.{used, kept};
 
 /// What stands at a place that is not used: zero, of whatever type.
 pub trait Blank {

@@ -3,8 +3,9 @@
 --                             from n on is not blank
 --   holds rule u              something is used, and it follows the rule
 --   kept x room items         the room that holds these items, and x at each place after them
+--   Uses blank room rule s n  the array s has that room, its first n places follow the rule, the rest is blank
 -- Assumes nothing.
-use Rattle.std.specs.Prelude.{ℕ, ◌-◌, Bool, false, ◌&&◌, List, ◌++◌, length, take, drop, replicate}
+use Rattle.std.specs.Prelude.{ℕ, ◌-◌, ◌≡◌, ◌≤◌, IsTrue, Bool, false, ◌&&◌, List, ◌++◌, length, take, drop, replicate}
 use Rattle.std.specs.Prelude.{nat_le, ◌==◌, Option, Some, None, if◌then◌else◌}
 use Rattle.text.specs.Scans.{every}
 
@@ -18,3 +19,9 @@ holds rule (Some s) = rule s
 
 abbrev pub kept : {A : Type 0} → A → ℕ → List A → List A
 kept x room items = items ++ replicate (room - length items) x
+
+pub record Uses {A : Type 0} (blank : A → Bool) (room : ℕ) (rule : List A → Bool) (s : List A) (n : ℕ) : Type 0 where
+  pub long : length s ≡ room
+  pub inside : n ≤ room
+  pub clear : IsTrue (every blank (drop n s))
+  pub follows : IsTrue (rule (take n s))

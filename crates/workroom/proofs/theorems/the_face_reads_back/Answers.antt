@@ -1,5 +1,5 @@
-use Rattle.board.proofs.FaceReadsBack.{face-reads-back, face-reads-back-secured, face-greets-back}
-use Rattle.board.proofs.theorems.the_face_reads_back.Goals as goal
+use Rattle.workroom.proofs.FaceReadsBack.{face-reads-back, face-reads-back-secured, face-greets-back}
+use Rattle.workroom.proofs.theorems.the_face_reads_back.Goals as goal
 
 pub returns : goal.returns
 returns c = record {

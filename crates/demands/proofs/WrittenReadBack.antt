@@ -17,7 +17,7 @@ use Rattle.device.specs.Receiving.{passwordOf}
 use Rattle.device.specs.Calls.{replyRoom, received}
 use Rattle.controller.specs.Writing.{WrittenAs, commandRoom, writtenCommand}
 use Rattle.controller.proofs.Cases.{written-plain, written-led}
-use Rattle.controller.proofs.ReadsBack.{TakenAndRead, reads-back, reads-back-secured}
+use Rattle.demands.proofs.TakenAndRead.{TakenAndRead, reads-back, reads-back-secured}
 use Rattle.record.proofs.FactsTold.{settings_is}
 
 module _ (d : Device) (p : ℕ) (there : p < placesCount) (legal : isLegal d ≡ true)

@@ -27,12 +27,13 @@ use Rattle.device.specs.Outcomes.{Told}
 use Rattle.device.proofs.Results.{Receives, Opens}
 use Rattle.controller.specs.Writing.{commandRoom, writtenCommand}
 use Rattle.controller.specs.Reading.{ReadAs, meaning, readReply}
-use Rattle.controller.specs.Greetings.{readGreeting, greetedOn}
+use Rattle.controller.specs.Greetings.{readGreeting}
+use Rattle.demands.specs.Greeted.{greetedOn}
 use Rattle.controller.specs.declared.writing.Written.{Written}
 use Rattle.controller.specs.declared.greeting.Greeting.{Greeting}
-use Rattle.controller.proofs.ReadsBack.{TakenAndRead}
-use Rattle.controller.proofs.WrittenReadBack.{written-reads-back, written-reads-back-secured}
-use Rattle.controller.proofs.GreetsBack.{greets-back}
+use Rattle.demands.proofs.TakenAndRead.{TakenAndRead}
+use Rattle.demands.proofs.WrittenReadBack.{written-reads-back, written-reads-back-secured}
+use Rattle.demands.proofs.GreetsBack.{greets-back}
 use Rattle.controller.proofs.OneResult.{Writes}
 
 -- as many bytes of the lent memory as the call tells are the bytes that it wrote

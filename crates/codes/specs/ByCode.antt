@@ -1,5 +1,6 @@
 -- The controller's calls on a command by its code. What is no command is 3 (docs/DECISIONS.md): for the writer after 2,
 -- for the reader at once.
+--   noneWritten room   what the writer gives where there is no command
 --   written_by m ..    what the writer gives
 --   read_by m l        what the reader gives of the line l
 -- Assumes nothing.
@@ -10,7 +11,7 @@ use Rattle.controller.specs.Reading.{readReply}
 use Rattle.codes.specs.Readings.{meaningless, flat}
 use Rattle.codes.specs.declared.readings.FlatReading.{FlatReading}
 
-unfoldable pub noneWritten : ℕ → WrittenAs
+abbrev pub noneWritten : ℕ → WrittenAs
 noneWritten room = if ltb room commandRoom then nothingWritten 2 else nothingWritten 3
 
 abbrev pub written_by : Option Command → (secured : Bool) (random : ℕ) (password : List ℕ) (room : ℕ) → WrittenAs

@@ -20,13 +20,14 @@ use Rattle.meaning.specs.Meaning.{meant}
 use Rattle.device.specs.Receiving.{passwordOf}
 use Rattle.device.specs.Calls.{Result, replyRoom, received, openedBy, placeTaken}
 use Rattle.controller.specs.Writing.{WrittenAs, commandRoom}
-use Rattle.controller.specs.Greetings.{readGreeting, greetedOn}
-use Rattle.controller.proofs.ReadsBack.{TakenAndRead}
-use Rattle.controller.proofs.WrittenReadBack.{written-reads-back, written-reads-back-secured}
-use Rattle.controller.proofs.GreetsBack.{greets-back}
+use Rattle.controller.specs.Greetings.{readGreeting}
+use Rattle.demands.specs.Greeted.{greetedOn}
+use Rattle.demands.proofs.TakenAndRead.{TakenAndRead}
+use Rattle.demands.proofs.WrittenReadBack.{written-reads-back, written-reads-back-secured}
+use Rattle.demands.proofs.GreetsBack.{greets-back}
 use Rattle.codes.specs.Commands.{commandOf}
 use Rattle.codes.specs.Readings.{flatGreeting, saidFlat, flat}
-use Rattle.board.specs.Face.{written_by, read_by}
+use Rattle.codes.specs.ByCode.{written_by, read_by}
 use Rattle.codes.specs.declared.command.Coded.{Coded}
 use Rattle.codes.proofs.CodesBack.{command-writable}
 

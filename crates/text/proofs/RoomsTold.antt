@@ -1,0 +1,69 @@
+-- What is used of a room, by the tests that find it; what these tests tell; and that what is kept in a room is used.
+-- Assumes nothing.
+use Rattle.std.proofs.Common.{◌≡◌, ℕ, ◌-◌, ◌<◌, ◌≤◌, ◌↔◌, IsTrue, Bool, true, false, List, ◌++◌, length, take, drop}
+use Rattle.std.proofs.Common.{zero, suc, replicate, Some, None, arith, ap, refl, ◌∙◌, ◌&&◌}
+use Rattle.std.specs.Prelude.{is_some, nat_le}
+use Rattle.std.proofs.Math.Seq.{take-append_seam, drop-append_seam}
+use Rattle.std.proofs.lemmas.List.{drop-replicate}
+use Rattle.std.proofs.lemmas.Grind.{common_steps}
+use lib.ListN.{length-append, length-replicate}
+use Rattle.text.specs.Scans.{every}
+use Rattle.text.specs.Rooms.{used, holds, kept, Uses}
+
+module _ {A : Type 0} (blank : A → Bool) (room : ℕ) (s : List A) (n : ℕ) (long : length s ≡ room) where
+  pub used_many : room < n → used blank room s n ≡ None
+  unfolding used
+  used_many h = grind (arith, common_steps)
+
+  pub used_not_blank : n ≤ room → every blank (drop n s) ≡ false → used blank room s n ≡ None
+  unfolding used
+  used_not_blank h e = grind (arith, common_steps)
+
+  pub used_blank : n ≤ room → every blank (drop n s) ≡ true → used blank room s n ≡ Some (take n s)
+  unfolding used
+  used_blank h e = grind (arith, common_steps)
+
+pub ruleset used_by_tests = (used_many, used_not_blank, used_blank)
+
+pub rest_kept : {A : Type 0} (x : A) (items : List A) (n : ℕ)
+    → (items ++ drop (length items) (replicate n x)) ≡ kept x n items
+rest_kept x items n = ap (λ r. items ++ r) (drop-replicate (length items) n x)
+
+pub is_some_used : {A : Type 0} (blank : A → Bool) (room : ℕ) (s : List A) (n : ℕ) → length s ≡ room
+    → is_some (used blank room s n) ≡ (nat_le n room && every blank (drop n s))
+unfolding used
+is_some_used blank room s n long = grind (arith, common_steps)
+
+pub holds_used : {A : Type 0} (blank : A → Bool) (room : ℕ) (rule : List A → Bool) (s : List A) (n : ℕ) → n ≤ room
+    → length s ≡ room → holds rule (used blank room s n) ≡ (every blank (drop n s) && rule (take n s))
+unfolding used
+holds_used blank room rule s n few long = grind (arith, common_steps)
+
+-- a room is used so where its tests hold
+pub uses_told : {A : Type 0} (blank : A → Bool) (room : ℕ) (rule : List A → Bool) (s : List A) (n : ℕ)
+    → IsTrue (holds rule (used blank room s n)) ↔ Uses blank room rule s n
+unfolding used
+uses_told blank room rule s n = (
+  λ h. record {
+    long = grind (arith, h);
+    inside = grind (arith, h);
+    clear = grind (arith, h);
+    follows = grind (arith, h);
+  },
+  λ t. grind (arith, t.long, t.inside, t.clear, t.follows),
+)
+
+all_blank : {A : Type 0} (blank : A → Bool) (x : A) (n : ℕ) → blank x ≡ true → every blank (replicate n x) ≡ true
+all_blank blank x zero h = refl
+all_blank blank x (suc n) h = rw h (all_blank blank x n h)
+
+-- what is kept in a room is used of it
+pub kept_used : {A : Type 0} (blank : A → Bool) (x : A) (room : ℕ) (rule : List A → Bool) (items : List A)
+    → length items ≤ room → blank x ≡ true → rule items ≡ true → Uses blank room rule (kept x room items) (length items)
+kept_used {A} blank x room rule items fits blanks follows =
+    let rest = replicate (room - length items) x in record {
+      long = length-append items rest ∙ omega (arith, length-replicate {A = A} (room - length items) x);
+      inside = fits;
+      clear = ap (every blank) (drop-append_seam items rest) ∙ all_blank blank x (room - length items) blanks;
+      follows = ap rule (take-append_seam items rest) ∙ follows;
+    }
