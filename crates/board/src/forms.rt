@@ -8,9 +8,8 @@ ghost use Rattle.board.specs.Results.{changed_of};
 use crate::results::Changed;
 use record::fresh;
 use record::types::Device;
-use stored::loading;
-use stored::storing;
 use stored::storing::FormWritten;
+use stored::{loading, storing};
 
 /// The record's form into the lent memory: 1 and 2 in that order.
 #[unsafe(no_mangle)]

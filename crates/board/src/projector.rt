@@ -19,8 +19,8 @@ ghost use Rattle.board.specs.Results.{receiving_of, opening_of};
 use crate::results::{Opening, Receiving};
 use clock::pass;
 use device::calls;
-use record::types::Device;
 use record::refusal;
+use record::types::Device;
 use setup::wanted::{Class, Names, Wanted};
 
 // Sets the host's record up, and tells the number: where it is refused, the record is the blank one.
@@ -54,18 +54,21 @@ pub extern "C" fn pj_set_up_in_place<'a>(
         password.now inputs.now lamps.now warm cool)) }
 {
     let class = Class::One;
-    set_up_in(device, &Wanted {
-        name,
-        maker,
-        model,
-        other,
-        password,
-        inputs,
-        lamps,
-        warm,
-        cool,
-        class,
-    })
+    set_up_in(
+        device,
+        &Wanted {
+            name,
+            maker,
+            model,
+            other,
+            password,
+            inputs,
+            lamps,
+            warm,
+            cool,
+            class,
+        },
+    )
 }
 
 /// Set-up of Class 2 into the record: the names one after the other, each of its length. 3, then 8.
@@ -101,18 +104,21 @@ pub extern "C" fn pj_set_up_2_in_place<'a>(
             lengths,
         },
     };
-    set_up_in(device, &Wanted {
-        name,
-        maker,
-        model,
-        other,
-        password,
-        inputs,
-        lamps,
-        warm,
-        cool,
-        class,
-    })
+    set_up_in(
+        device,
+        &Wanted {
+            name,
+            maker,
+            model,
+            other,
+            password,
+            inputs,
+            lamps,
+            warm,
+            cool,
+            class,
+        },
+    )
 }
 
 /// Whether the record is legal.

@@ -7,11 +7,12 @@ mod telling;
 #[cfg(test)]
 mod tests;
 
+use floorlog::cut;
 use formfile::NotBegun;
 use record::types::Device;
-use report::cut;
-use report::cut::Cut;
+use std::io::Error;
 use std::{env, io};
+use textio::lines::Failure;
 use textio::reader::Reader;
 use textio::streams::Stream;
 use textio::writer;
@@ -28,7 +29,7 @@ fn is_page(rt: &HostRuntime) -> bool {
     }
 }
 
-fn show(rt: &HostRuntime, device: Device, drawn: bool) -> Result<(), Cut> {
+fn show(rt: &HostRuntime, device: Device, drawn: bool) -> io::Result<()> {
     let mut from = Reader::new(Stream(rt.stdin()));
     let mut to = Writer::new(Stream(rt.stdout()));
     let told = telling::tell_log(device, drawn, &mut from, &mut to);
@@ -39,11 +40,17 @@ fn main(rt: HostRuntime) -> io::Result<()> {
     let drawn = is_page(&rt);
     let told = match formfile::begun_by(&rt, if drawn { 2 } else { 1 }) {
         Ok(device) => show(&rt, device, drawn),
-        Err(NotBegun::Unread) => cut::end_output(Err(Cut::ReadFailed), &mut Stream(rt.stdout())),
+        Err(NotBegun::Unread) => {
+            let unread = Failure::Read(Error::other("no form"));
+            cut::end_output(Err(unread), &mut Stream(rt.stdout()))
+        }
         Err(NotBegun::Refused(number)) => cut::tell_number(&mut Stream(rt.stdout()), number),
     };
-    if let Err(cut) = told {
-        writer::put(&mut Stream(rt.stderr()), cut.last_line())?;
+    if let Err(error) = told {
+        writer::put(
+            &mut Stream(rt.stderr()),
+            cut::last_line(&Failure::Write(error)),
+        )?;
     }
     Ok(())
 }

@@ -1,21 +1,28 @@
-// A log read to its end and told as it is watched, and its last line where it is cut short.
-ghost use Rattle.std.specs.Prelude.{[], ◌≡◌, ◌≢◌, ◌≤◌, min, take, length, IfErr, OnOk};
-ghost use Rattle.clock.specs.Second.{marksIn};
-ghost use Rattle.textio.specs.Fronts.{WritesText};
-ghost use Rattle.report.specs.Reports.{report_told, told_text, ended_text};
+// A log read to its end, of which is told which lamp burnt when.
+ghost use Rattle.std.specs.Prelude.{[], ◌≡◌, ◌≢◌, ◌≤◌, ◌<◌, ◌^◌, ◌++◌, min, take, length, IfErr, OnOk, IfSome, Err};
+ghost use Rattle.std.specs.Io.KnownBytes.{Appends};
+ghost use Rattle.textio.specs.Fronts.{WritesFront, WritesText};
+ghost use Rattle.textio.specs.Ahead.{left_in};
+ghost use Rattle.textio.specs.NextLine.{FailureComesOf, OnFailedRead};
+ghost use Rattle.floorlog.specs.Replaying.{keptMost};
+ghost use Rattle.watch.specs.Marking.{floorEvent};
+ghost use Rattle.watch.specs.Watching.{watchingFrom};
+ghost use Rattle.watch.specs.Telling.{floorEvents, tellingIf, toldOn, toldAtEnd};
+ghost use Rattle.watch.specs.States.{stateOf};
+ghost use Rattle.burnt.specs.Told.{tellings_text, report_after, totals_text, told_from, log_told, IsUntold, IsTold};
+ghost use Rattle.burnt.specs.Told.{LineFails};
 
-use floorlog::gather::LINE_ROOM;
-use lamplines::{LAMPS, Totals};
-use page::Stretch;
+use floorlog::playing;
+use floorlog::playing::KEPT_ROOM;
 use record::types::Device;
 use report::Report;
-use report::cut::{Cut, read, written};
+use report::lamps::{LAMPS, Totals};
+use report::page::Stretch;
 use std::io;
-use textio::lines;
+use textio::lines::Failure;
 use textio::reader::{ByteSource, Reader};
 use textio::writer::ByteSink;
-use watch::watching;
-use watch::watching::Watch;
+use watch::Watch;
 
 // The marks of so many lamps.
 fn first(marks: &[bool; LAMPS], count: usize) -> &[bool]
@@ -25,91 +32,150 @@ fn first(marks: &[bool; LAMPS], count: usize) -> &[bool]
     &marks[..count.min(LAMPS)]
 }
 
-// The stretches that ended with the last call.
-fn tell_ended<W: ByteSink>(report: &mut Report, w: &Watch, to: &mut W) -> io::Result<()>
-    ensures report { OnOk result (report.new ≡ report_told report.old w.now.from w.now.time) }
-    ensures text { WritesText W.fails_with (W.contents to.old) (W.contents to.new) result (told_text report.old
-        (marksIn w.now.tested.device.settings w.now.tested.device.own) w.now.from w.now.time) }
+// The stretches that ended, if any did.
+#[tactic(auto, unfolding(crate::specs::Told::tellings_text, crate::specs::Told::report_after))]
+fn tell_ended<W: ByteSink>(
+    ended: bool,
+    report: &mut Report,
+    watch: &Watch,
+    to: &mut W,
+) -> io::Result<()>
+    ensures report { OnOk result (report.new ≡ report_after report.old (tellingIf ended (stateOf watch.now))) }
+    ensures text { WritesText W.fails_with (W.contents to.old) (W.contents to.new) result
+        (tellings_text report.old (tellingIf ended (stateOf watch.now))) }
 {
-    let device = &w.tested.device;
+    if !ended {
+        return Ok(());
+    }
+    let device = watch.device();
     let lit = first(&device.own.enabled, device.settings.lamp_count);
     let stretch = Stretch {
-        from: w.from,
-        to: w.time,
+        from: watch.from(),
+        to: watch.time(),
     };
     report.tell(to, lit, stretch)
 }
 
-// The end of the log, which began with these seconds of its lamps.
-fn tell_end<W: ByteSink>(
+// A line, and the stretches that ended with it.
+fn tell_line<W: ByteSink>(
+    watch: &mut Watch,
+    report: &mut Report,
+    line: &mut [u8; KEPT_ROOM],
+    held: usize,
+    to: &mut W,
+) -> Result<(), Failure>
+    requires { held ≤ keptMost }
+    ensures done { OnOk result (IsTold (stateOf watch.old) report.old (floorEvent (take held line.old))
+        (stateOf watch.new) report.new) }
+    ensures text { WritesText (LineFails W.fails_with (stateOf watch.old) (floorEvent (take held line.old)))
+        (W.contents to.old) (W.contents to.new) result
+        (tellings_text report.old (toldOn (stateOf watch.old) (floorEvent (take held line.old)))) }
+{
+    let Some(ended) = watch.play(line, held) else {
+        return Err(Failure::TooLong);
+    };
+    match tell_ended(ended, report, watch, to) {
+        Ok(()) => Ok(()),
+        Err(e) => Err(Failure::Write(e)),
+    }
+}
+
+// The seconds of each lamp, in all, of a log that began with these.
+fn tell_totals<W: ByteSink>(
     report: Report,
-    w: &Watch,
+    watch: &Watch,
     starts: [u32; LAMPS],
     to: &mut W,
 ) -> io::Result<()>
-    ensures { WritesText W.fails_with (W.contents to.old) (W.contents to.new) result (ended_text report w.now.time
-        (min w.now.tested.device.settings.lamp_count 8) starts w.now.burnt w.now.tested.device.own.lamps) }
+    ensures { WritesText W.fails_with (W.contents to.old) (W.contents to.new) result
+        (totals_text report starts (stateOf watch.now)) }
 {
-    let device = &w.tested.device;
+    let device = watch.device();
     let totals = Totals {
         count: device.settings.lamp_count.min(LAMPS),
         starts,
-        burnt: w.burnt,
+        burnt: watch.burnt(),
         lasts: device.own.lamps,
     };
-    report.end(to, w.time, totals)
+    report.end(to, watch.time(), totals)
 }
 
-// The end of the log ends the stretches that are under way.
-fn end_log<W: ByteSink>(
-    watch: &mut Watch,
+// The end of the log, which ends the stretches that are under way; and all that waits is handed on.
+fn tell_end<W: ByteSink>(
     mut report: Report,
+    watch: &Watch,
     starts: [u32; LAMPS],
-    line: &mut [u8],
     to: &mut W,
-) -> Result<(), Cut>
-    ensures { IfErr result (λ cut. cut ≢ Cut.ReadFailed) }
+) -> io::Result<()>
+    ensures text { WritesText W.fails_with (W.contents to.old) (W.contents to.new) result
+        (tellings_text report (toldAtEnd (stateOf watch.now))
+        ++ totals_text (report_after report (toldAtEnd (stateOf watch.now))) starts (stateOf watch.now)) }
+    ensures none_waits { OnOk result (W.waiting to.new ≡ []) }
 {
-    let step = watching::finish(watch, line);
-    if step.number != 0 {
-        return Err(Cut::BrokenOff);
-    }
-    if step.ended {
-        written(tell_ended(&mut report, watch, to))?;
-    }
-    written(tell_end(report, watch, starts, to))
+    tell_ended(watch.is_underway(), &mut report, watch, to)?;
+    tell_totals(report, watch, starts, to)?;
+    to.flush()
 }
 
-/// A log that begins with the device, from its reader: its lines are told as they come, and what is told is written out
-/// before a read that may wait. Where a read or a write fails, or a call refuses, nothing more of it is told.
+// The lines of the log, and its end, where the report has begun.
+fn tell_lines<R: ByteSource, W: ByteSink>(
+    begun: Device,
+    starts: [u32; LAMPS],
+    begun_report: Report,
+    from: &mut Reader<R>,
+    to: &mut W,
+) -> Result<(), Failure>
+    ensures whole { OnOk result (IfSome (left_in R.remaining from.old) (λ log. Appends (W.contents to.old)
+        (W.contents to.new) (told_from starts begun_report (watchingFrom begun) (floorEvents log)))) }
+    ensures front { IfSome (left_in R.remaining from.old) (λ log. WritesFront (W.contents to.old)
+        (W.contents to.new) (told_from starts begun_report (watchingFrom begun) (floorEvents log))) }
+    ensures none_waits { OnOk result (W.waiting to.new ≡ []) }
+    ensures read { IfErr result (OnFailedRead (W.waiting to.new ≡ [])) }
+    ensures err { IfErr result
+        (FailureComesOf R.fails_with W.fails_with IsUntold (left_in R.remaining from.old)) }
+{
+    let mut line = [0; KEPT_ROOM];
+    let mut report = begun_report;
+    let mut watch = Watch::new(begun);
+    for _ in 0..u64::MAX {
+        match playing::read_line(from, to, &mut line) {
+            Ok(Some(held)) => match tell_line(&mut watch, &mut report, &mut line, held, to) {
+                Ok(()) => {}
+                Err(failure) => return Err(failure),
+            },
+            Ok(None) => match tell_end(report, &watch, starts, to) {
+                Ok(()) => return Ok(()),
+                Err(e) => return Err(Failure::Write(e)),
+            },
+            Err(failure) => return Err(failure),
+        }
+    }
+    Err(Failure::TooLong)
+}
+
+/// The log that a reader has left, which begins with a device: which lamp burnt when goes to a sink, as lines or drawn
+/// on a page, as it comes. What is told is handed on before each read, which may wait.
 pub fn tell_log<R: ByteSource, W: ByteSink>(
-    device: Device,
+    begun: Device,
     drawn: bool,
     from: &mut Reader<R>,
     to: &mut W,
-) -> Result<(), Cut>
-    ensures { IfErr result (λ cut. cut ≡ Cut.ReadFailed → W.waiting to.new ≡ []) }
+) -> Result<(), Failure>
+    ensures whole { OnOk result (IfSome (left_in R.remaining from.old) (λ log. Appends (W.contents to.old)
+        (W.contents to.new) (log_told begun drawn log))) }
+    ensures front { IfSome (left_in R.remaining from.old) (λ log. WritesFront (W.contents to.old)
+        (W.contents to.new) (log_told begun drawn log)) }
+    ensures none_waits { OnOk result (W.waiting to.new ≡ []) }
+    ensures read { IfErr result (OnFailedRead (W.waiting to.new ≡ [])) }
+    ensures err { IfErr result
+        (FailureComesOf R.fails_with W.fails_with IsUntold (left_in R.remaining from.old)) }
+    ensures short { IfSome (left_in R.remaining from.old) (λ log. length log < 2 ^ 32
+        → result ≢ Err Failure.TooLong) }
 {
-    let mut line = [0u8; LINE_ROOM];
-    let starts = device.own.lamps;
-    let mut report = Report::new(drawn);
-    let mut watch = watching::start(device);
-    written(report.begin(to))?;
-    // a proved loop has to end: no log takes this many turns
-    for _ in 0..u64::MAX {
-        written(lines::flush_before_read(from, to))?;
-        read(from.fill())?;
-        if from.is_empty() {
-            return end_log(&mut watch, report, starts, &mut line, to);
-        }
-        let step = watching::play(&mut watch, &mut line, from.ahead());
-        from.consume(step.taken);
-        if step.number != 0 {
-            return Err(Cut::BrokenOff);
-        }
-        if step.ended {
-            written(tell_ended(&mut report, &watch, to))?;
-        }
+    let starts = begun.own.lamps;
+    let report = Report::new(drawn);
+    match report.begin(to) {
+        Ok(()) => tell_lines(begun, starts, report, from, to),
+        Err(e) => Err(Failure::Write(e)),
     }
-    Err(Cut::BrokenOff)
 }

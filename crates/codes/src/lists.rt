@@ -6,9 +6,9 @@ ghost use Rattle.codes.specs.Readings.{withText, flatLamps, withLamps, withInput
 
 use crate::readings::{CHARACTERS, FlatReading, TEXT_MOST};
 use pjlink::answer::LAMPS_MOST;
-use words::lamp::LampHours;
 use words::input;
 use words::input::Input;
+use words::lamp::LampHours;
 
 /// Lamps, by their hours and by whether they are lit, each in a cleared room.
 #[derive(Clone, Copy)]

@@ -10,8 +10,8 @@ ghost use Rattle.codes.specs.Readings.{flatGreeting, meaningless, plain, powerNu
 use controller::greeting::Greeting;
 use controller::reading::{Misread, Reading};
 use pjlink::answer::{Answer, INPUTS_MOST, LAMPS_MOST};
-use words::power::Power;
 use words::input::Source;
+use words::power::Power;
 
 /// The characters of a reading's inputs.
 pub const CHARACTERS: usize = 2 * INPUTS_MOST;

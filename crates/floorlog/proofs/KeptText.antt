@@ -1,26 +1,24 @@
--- The text of a kept line with its CR, as the code lends it.
+-- The text of a line of which the front is kept, with its CR, as the code lends it.
 -- Assumes nothing.
 use Prim.Native.Nat.{ℕ, ◌+◌, ◌-◌, ◌≤◌, ◌<◌, min}
 use Prim.Native.Char.{code}
-use mathlib.Core.Path.{◌≡◌, refl, sym, ap, ◌∙◌}
-use mathlib.Core.Bool.{Bool, true, false}
+use mathlib.Core.Path.{◌≡◌, sym, ap, ◌∙◌}
 use mathlib.Core.List.{List, ◌++◌}
 use mathlib.Core.Logic.{⊎_elim}
 use native.Mathlib.Numerals.{add-one}
 use native.Mathlib.Omega.{arith}
 use lib.ListN.{length, take, drop, set, drop_of_length-le}
-use lib.Seq.{take-suc-set, take-set-le, drop-append-le, length-take-le}
+use lib.Seq.{take-suc-set, drop-append-le, length-take-le, take-take}
+use Rattle.std.specs.declared.option.Option.{Option}
+use Rattle.textio.specs.NextLine.{IsLine}
 use Rattle.std.proofs.Common.{take_all}
-use Rattle.std.specs.Prelude.{if◌then◌else◌}
 use Rattle.text.specs.Words.{ascii}
 use Rattle.text.proofs.Orders.{le-or-lt}
 use Rattle.text.proofs.Parts.{drop-take}
 use Rattle.floorlog.specs.declared.line.Says.{Says}
-use Rattle.floorlog.specs.declared.line.Says.TheVariants.{NoSuch}
 use Rattle.floorlog.specs.Lines.{lineMost, lineSaid}
 use Rattle.floorlog.specs.Events.{noSuch, eventOf, event}
-use Rattle.floorlog.specs.declared.gather.Begun.{Begun}
-use Rattle.floorlog.specs.Gathering.{keptOf, keptSaid, keptEvent, lineAfter}
+use Rattle.floorlog.specs.Replaying.{keptMost}
 use Rattle.floorlog.proofs.Forms.{line-overlong}
 
 -- past the end nothing is left, wherever one begins
@@ -41,28 +39,20 @@ module _ (m : List ℕ) (held : ℕ) (inside : held < length m) where
       ∙ drop-append-le from (take held m) (ascii "\r") (omega arith)
       ∙ ap (λ (s : List ℕ). s ++ ascii "\r") (dropped from 2 (take held m) (omega arith))
 
--- what the kept line says, with the text that is lent for it, is its event; an overlong one says nothing of the text
-pub event-lent : (k : Begun) (m : List ℕ) → k.held < length m → (from : ℕ) → from ≡ min 2 k.held
-    → eventOf (keptSaid (keptOf k m)) (take (k.held + 1 - from) (drop from (lineAfter (keptOf k m))))
-    ≡ keptEvent (keptOf k m)
-unfolding event
-event-lent k m inside from e = by k.overlong
-  where
-    by : (t : Bool) → eventOf (if t then NoSuch else lineSaid (take k.held m))
-        (take (k.held + 1 - from) (drop from (if t then m else set m k.held (code "\r"))))
-        ≡ (if t then noSuch else event (take k.held m))
-    by true = refl
-    by false = ap (eventOf (lineSaid (take k.held m))) (text-lent m k.held inside from e)
-
--- a line that stands in front of its memory, with CR after it: what it says, with the text that is lent, is its event
+-- a line that stands in front of its memory: what it says, with the text that is lent once CR is put behind it, is its
+-- event
 pub event_of_memory : (m : List ℕ) (held from : ℕ) (says : Says) → held < length m → from ≡ min 2 held
-    → says ≡ lineSaid (take held (set m held (code "\r")))
+    → says ≡ lineSaid (take held m)
     → eventOf says (take (held + 1 - from) (drop from (set m held (code "\r")))) ≡ event (take held m)
 unfolding event
 event_of_memory m held from says inside e said =
     ap (eventOf says) (text-lent m held inside from e)
-    ∙ ap (λ (s : Says). eventOf s (drop 2 (take held m) ++ ascii "\r"))
-    (said ∙ ap lineSaid (take-set-le held m held (code "\r") (omega arith)))
+    ∙ ap (λ (s : Says). eventOf s (drop 2 (take held m) ++ ascii "\r")) said
+
+-- the event of what a line says
+pub event_said : (l : List ℕ) → event l ≡ eventOf (lineSaid l) (drop 2 l ++ ascii "\r")
+unfolding event
+event_said l = refl
 
 event_overlong : (l : List ℕ) → lineMost < length l → event l ≡ noSuch
 unfolding event
@@ -76,3 +66,13 @@ event_of_front most l more =
     event_overlong (take most l) (omega (arith, length-take-le most l (omega arith)))
     ∙ sym (event_overlong l (omega arith)))
     (le-or-lt (length l) most)
+
+-- what is kept of a line that is read has its event
+pub event_of_line : (memory : List ℕ) (held : ℕ) {log : List ℕ} {left : Option (List ℕ)} → keptMost ≤ length memory
+    → held ≤ keptMost
+    → (l : IsLine log left (length (take keptMost memory)) (take held (take keptMost memory)))
+    → event (take held memory) ≡ event l.first
+event_of_line memory held room inside l =
+    ap event (sym (take-take held keptMost memory inside) ∙ l.kept
+    ∙ ap (λ (k : ℕ). take k l.first) (length-take-le keptMost memory room))
+    ∙ event_of_front keptMost l.first (omega arith)

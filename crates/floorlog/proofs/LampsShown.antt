@@ -6,7 +6,7 @@ use mathlib.Core.List.{List, [], ◌∷◌, ◌++◌, append_assoc}
 use native.Mathlib.Nat.{add-zero}
 use native.Mathlib.Omega.{arith}
 use lib.ListN.{length, get_or, take, length-append}
-use lib.Seq.{sets, take_all, length-take-le}
+use lib.Seq.{sets, length-take-le}
 use Rattle.text.specs.Words.{ascii}
 use Rattle.text.proofs.InTurn.{one-turn-more}
 use Rattle.text.proofs.Stores.{sets_then}
@@ -52,9 +52,3 @@ module _ (out : List ℕ) (at : ℕ) (lamps : List ℕ) (count : ℕ) where
           counted = omega (arith, g, p.counted, ap length more, length-append text (lampShown x));
           stored = f ∙ sets_then out at (text ++ ascii " ") (digits x) (e ∙ spaced) sum ∙ ap (sets out at) whole;
         }
-
-    pub all-put : length lamps ≤ k → take k lamps ≡ take count lamps
-    all-put h = take_all k lamps h ∙ sym (take_all count lamps (omega (arith, p.few)))
-
-    pub few-put : count ≤ k → take k lamps ≡ take count lamps
-    few-put h = let same : k ≡ count = omega (arith, p.few) in ap (λ (n : ℕ). take n lamps) same

@@ -3,6 +3,7 @@ mod SecondsSaid
 mod EndMarks
 mod LampsShown
 pub mod LastLineEnds
+mod NoLogPrints
 pub mod DidSpelt
 pub mod LogOpenings
 pub mod EventsLeave
@@ -13,10 +14,8 @@ mod Calling
 mod Endings
 mod Printing
 pub mod EventSeconds
-pub mod Gathering
 pub mod KeptText
-pub mod KeptLine
 mod PlayedSpelt
 mod LinePlayed
-mod Underway
+mod Replayed
 pub mod Samples

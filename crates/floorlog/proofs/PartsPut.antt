@@ -7,10 +7,9 @@ use Prim.Native.Nat.{ℕ, ◌+◌, ◌-◌, ◌≤◌}
 use mathlib.Core.Path.{◌≡◌, sym, ap, ◌∙◌, ◌≡⟨◌⟩◌, ◌∎}
 use mathlib.Core.List.{List, [], ◌++◌, append-nil, append_assoc}
 use native.Mathlib.Omega.{arith}
-use lib.ListN.{length, take, drop, length-append, length-take, length-drop, take-append-drop, drop_of_length-le}
-use lib.Seq.{sets, sets-eq, take_all, take-length, length-sets, drop-append-le, drop-drop}
+use lib.ListN.{length, take, drop, length-append, length-take, length-drop, drop_of_length-le}
+use lib.Seq.{sets, sets-eq, take_all, take-length, length-sets, drop-drop}
 use Rattle.text.specs.Words.{over}
-use Rattle.text.proofs.Stores.{sets_over}
 
 abbrev pub partFrom : List ℕ → ℕ → List ℕ
 partFrom m at = take (length m - at) (drop at m)
@@ -57,16 +56,3 @@ part-put m r at inside put kept =
     put-at m r at (length m) fits
     (sets_part m r at fits
     (put ∙ ap (λ (s : List ℕ). s ++ drop (length r) (partFrom m at)) (sym (take-length r))))
-
--- over the first n bytes
-pub first-put : (m r : List ℕ) (n : ℕ) {p : List ℕ} → n ≤ length m → p ≡ over r (take n m)
-    → length p ≡ length (take n m) → Put m r 0 n (p ++ drop n m)
-first-put m r n inside put kept =
-    let fits : length r ≤ n = omega (arith, over-fits r (take n m) put kept, length-take n m) in
-    put-at m r 0 n (omega arith)
-    (ap (λ (s : List ℕ). s ++ drop n m) put
-    ∙ append_assoc r (drop (length r) (take n m)) (drop n m)
-    ∙ ap (λ (s : List ℕ). r ++ s)
-    (sym (drop-append-le (length r) (take n m) (drop n m) (omega (arith, length-take n m)))
-    ∙ ap (drop (length r)) (take-append-drop n m))
-    ∙ sym (sets_over r m (omega arith)))

@@ -5,5 +5,5 @@ pub mod Events
 pub mod Doing
 pub mod Told
 pub mod Playing
-pub mod Gathering
 pub mod Replaying
+pub mod Cuts

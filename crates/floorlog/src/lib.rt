@@ -1,15 +1,17 @@
 //! The floor log (RULES, Floor log): what a line of it says, what its event does to the record and what is printed for
-//! it; its lines gathered in lent memory; and a whole log played back, from any source of bytes to any sink.
+//! it; a whole log played back, from any source of bytes to any sink; and the last line of one that cannot be played to
+//! its end.
 #![tactic(auto)]
 
+pub mod cut;
 mod ending;
 pub mod event;
-pub mod gather;
 mod last;
 pub mod line;
-mod playing;
+pub mod playing;
 #[cfg(test)]
 mod tests;
+pub mod theorems;
 
 ghost use Rattle.std.specs.Prelude.{◌≡◌, true, ◌≢◌, ◌<◌, [], OnOk, IfOk, IfErr, IfSome, Err, length};
 ghost use Rattle.record.specs.Legal.{isLegal};

@@ -64,8 +64,8 @@ pub fn play<W: ByteSink>(
     ensures err { IfErr result W.fails_with }
 {
     let mut out = [0; PRINT_ROOM];
-    line[held] = b'\r';
     let says = line::line_says(&line[..held]);
+    line[held] = b'\r';
     let count = event::print(t, number, says, &line[held.min(2)..held + 1], &mut out);
     writer::put(to, &out[..count])
 }

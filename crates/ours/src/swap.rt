@@ -4,11 +4,10 @@ ghost use Rattle.stored.specs.Told.{loading_told};
 ghost use Rattle.ours.specs.Board.{ours};
 ghost use Rattle.ours.specs.Tied.{wroteForm};
 
-use stored::storing;
-use stored::storing::FormWritten;
 use record::types::Device;
 use stored::error::LoadError;
-use stored::loading;
+use stored::storing::FormWritten;
+use stored::{loading, storing};
 
 pub fn store(device: &Device, out: &mut [u8]) -> FormWritten
     ensures { wroteForm result out.new ≡ ours.store device.now out.old }

@@ -36,10 +36,7 @@ impl Entry {
     pub fn is_legal(&self) -> bool
         ensures { result ≡ isEntry self.now }
     {
-        self.password.is_legal()
-            && self.is_talk()
-            && self.is_shown()
-            && self.strays <= STRAYS_MOST
+        self.password.is_legal() && self.is_talk() && self.is_shown() && self.strays <= STRAYS_MOST
     }
 }
 

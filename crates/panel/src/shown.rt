@@ -7,12 +7,12 @@ ghost use Rattle.panel.specs.Showing.{showing};
 ghost use Rattle.panel.specs.Stepping.{withShown};
 
 use crate::types::{Entry, LAMPS_MOST};
-use pjlink::answer::{Answer, Reply};
-use words::lamp::LampHours;
-use words::power::Power;
 use codes::lists::FlatLamps;
 use codes::readings;
+use pjlink::answer::{Answer, Reply};
 use words::input::Input;
+use words::lamp::LampHours;
+use words::power::Power;
 
 impl Entry {
     /// All is unknown.

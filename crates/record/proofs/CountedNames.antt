@@ -83,9 +83,6 @@ pub record CountedPassed (n : ℕ) (s left : List ℕ) (i : ℕ) (ok : Bool) : T
   pub place : left ≡ after i s
   pub rest : Gathered isInputName (countedIn n s) i ok
 
-pub none_passed : (n : ℕ) (s : List ℕ) → CountedPassed n s s 0 true
-none_passed n s = record { place = refl; rest = record { inside = omega arith; rest = refl } }
-
 module _ {n : ℕ} {s left : List ℕ} {i : ℕ} {ok : Bool} (p : CountedPassed n s left i ok) where
   pub one_passed : {name more : List ℕ} {x : Bool} → i < n → name ≡ take (left at 0) (drop 1 left)
       → more ≡ drop (suc (left at 0)) left → x ≡ isInputName name → CountedPassed n s more (i + 1) (ok && x)

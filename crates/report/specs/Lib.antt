@@ -1,2 +1,4 @@
-pub mod Cuts
+pub mod LampLines
+pub mod Days
+pub mod Frame
 pub mod Reports

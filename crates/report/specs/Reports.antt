@@ -6,9 +6,9 @@
 --   ended_text r seconds n ..         the end of a log of so many seconds, with the totals of n lamps
 -- Assumes nothing.
 use Rattle.std.specs.Prelude.{ℕ, Bool, true, false, List, []}
-use Rattle.lamplines.specs.LampLines.{stretchLines, total_lines}
-use Rattle.page.specs.Days.{rows_drawn, drawn}
-use Rattle.page.specs.Frame.{page_begun, page_ended}
+use Rattle.report.specs.LampLines.{stretchLines, total_lines}
+use Rattle.report.specs.Days.{rows_drawn, drawn}
+use Rattle.report.specs.Frame.{page_begun, page_ended}
 use Rattle.report.specs.declared.Report.{Report}
 use Rattle.report.specs.declared.Report.TheVariants.{Lines, Page}
 

@@ -1,15 +1,17 @@
-// What is told of a watched log: lines, or a page where one is wanted; and a last line where the log is cut short
-// (RULES, Floor log).
+// What is told of a watched log: lines, or a page where one is wanted (RULES, Floor log).
 #![tactic(auto)]
 
-pub mod cut;
+mod days;
+mod frame;
+pub mod lamps;
+pub mod page;
 
 ghost use Rattle.std.specs.Prelude.{◌≡◌, ◌≤◌, length, OnOk, OnErr};
 ghost use Rattle.textio.specs.Fronts.{WritesText};
 ghost use Rattle.report.specs.Reports.{report_new, begun_text, report_told, told_text, ended_text};
 
-use lamplines::Totals;
-use page::Stretch;
+use crate::lamps::Totals;
+use crate::page::Stretch;
 use std::io;
 use textio::writer::ByteSink;
 
@@ -50,7 +52,7 @@ impl Report {
             (told_text self.old lit.now s.from s.to) }
     {
         match *self {
-            Report::Lines => lamplines::put_stretches(out, lit, s.from, s.to),
+            Report::Lines => lamps::put_stretches(out, lit, s.from, s.to),
             Report::Page(rows) => {
                 *self = Report::Page(page::draw(out, rows, lit, s)?);
                 Ok(())
@@ -65,7 +67,7 @@ impl Report {
             (ended_text self seconds t.count t.starts t.burnt t.lasts) }
     {
         match self {
-            Report::Lines => lamplines::put_totals(out, t),
+            Report::Lines => lamps::put_totals(out, t),
             Report::Page(rows) => page::end(out, rows, seconds, t),
         }
     }

@@ -8,8 +8,8 @@ ghost use Rattle.record.specs.Record.{inRoom, text_of, name_of, blankName, names
 ghost use Rattle.setup.specs.Lent.{names_lent};
 
 use crate::wanted::Names;
-use record::own::VOLUME_START;
 use record::names;
+use record::own::VOLUME_START;
 use record::types::{INPUT_ROOM, INPUTS_MOST, InputName, LAMPS_MOST, Own, Text};
 use text::rooms;
 

@@ -20,7 +20,10 @@ pub enum Names<'a> {
         lengths: &'a [usize],
     },
     /// So many, one after the other, each after its length in one byte (RULES, Stored form).
-    Counted { bytes: &'a [u8], count: usize },
+    Counted {
+        bytes: &'a [u8],
+        count: usize,
+    },
 }
 
 /// The class of a projector, with what it alone has (RULES, Class 2).

@@ -38,4 +38,3 @@ module _ (w : Wanted) where
           many = length-replicate n 1;
           legal = ap (isMarks n) (ap markRoom (ones-marked n) ∙ all_set) ∙ all-marks-legal n (few-lamps ok);
         })
-

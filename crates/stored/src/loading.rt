@@ -27,7 +27,9 @@ fn is_other_version(bytes: &[u8]) -> bool
 {
     match bytes {
         [] => false,
-        [version, ..] => *version != VERSION && *version != MARKED_VERSION && *version != OLD_VERSION,
+        [version, ..] => *version != VERSION
+            && *version != MARKED_VERSION
+            && *version != OLD_VERSION,
     }
 }
 

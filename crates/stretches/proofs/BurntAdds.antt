@@ -22,12 +22,11 @@ use Rattle.ours.specs.Board.{ours}
 use Rattle.demands.specs.Demand3.{Beginning, startMarks, begunBy, Accepted, historyOf}
 use Rattle.demands.specs.History.{burning}
 use Rattle.watch.specs.Marking.{FloorEvent, doneBy, secondsBy}
-use Rattle.watch.specs.Watching.{Watching, Watched, isBurningIn, gainedBy, watchedOn, darkened}
-use Rattle.watch.specs.WatchCalls.{watchingFrom}
+use Rattle.watch.specs.Watching.{Watching, watchingFrom, isBurningIn, gainedBy, watchedOn, burntBy}
 use Rattle.watch.proofs.LineLeaves.{done-settings}
 use Rattle.stretches.specs.Stretches.{Stretch, stretchIf, lengthsOf}
 use Rattle.stretches.specs.LogTold.{calls_of, isMarkedIn, toldOf, burntOf}
-use Rattle.watch.proofs.TellingsSpelt.{burnt-none, burnt-more}
+use Rattle.watch.proofs.TellingsSpelt.{after-none, after-more}
 use Rattle.stretches.proofs.ToldSpelt.{told_none, told_more}
 use Rattle.stretches.proofs.LengthsAdd.{lengths-append}
 use Rattle.stretches.proofs.LogTells.{log-stretches-tell}
@@ -56,15 +55,10 @@ module _ (k : ℕ) where
   adds : (es : List FloorEvent) (s : Watching) → k < s.device.settings.lamp_count → k < length s.burnt
       → burntOf k s es ≡ get_or s.burnt k 0 + lengthsOf (toldOf k s es)
   adds [] s counted inside =
-      ap (λ (l : List ℕ). get_or l k 0) (burnt-none s) ∙ by (isBurningIn s.device)
+      ap (λ (t : Watching). get_or (burntBy t) k 0) (after-none s) ∙ by (isBurningIn s.device)
       ∙ ap (λ (l : List Stretch). get_or s.burnt k 0 + lengthsOf l) (sym (told_none k s))
     where
-      closed : Bool → Watched
-      closed b =
-          if b then record { taken = 0; told = ltb s.from s.time; state = darkened s }
-          else record { taken = 0; told = false; state = s }
-
-      by : (b : Bool) → get_or (closed b).state.burnt k 0
+      by : (b : Bool) → get_or (if b then gainedBy s.device (s.time - s.from) s.burnt else s.burnt) k 0
           ≡ get_or s.burnt k 0
           + lengthsOf (stretchIf (b && isMarkedIn s.device k && ltb s.from s.time) s.from s.time)
       by true =
@@ -73,9 +67,10 @@ module _ (k : ℕ) where
       by false = omega arith
   adds (e ∷ es) s counted inside =
       let d = doneBy s.device e in
-      let t = watchedOn s e [] in
+      let t = watchedOn s e in
       let kept : k < d.settings.lamp_count = rw (done-settings s.device e) counted in
-      let burnt : burntOf k s (e ∷ es) ≡ burntOf k t es = ap (λ (l : List ℕ). get_or l k 0) (burnt-more s e es) in
+      let burnt : burntOf k s (e ∷ es) ≡ burntOf k t es =
+      ap (λ (x : Watching). get_or (burntBy x) k 0) (after-more s e es) in
       let told = ap lengthsOf (told_more k s e es) in
       let rest = adds es t kept (longer (isBurningIn s.device && not (isBurningIn d))) in
       let here = now (isBurningIn s.device) (isBurningIn d) kept in
@@ -107,17 +102,17 @@ module _ (k : ℕ) where
       now false is kept = omega arith
 
 -- of a log from its beginning
-module _ (b : Beginning) (w : Wanted) (h : Accepted ours b w) (k : ℕ) (inside : k < length w.lamps) (m : List ℕ)
+module _ (b : Beginning) (w : Wanted) (h : Accepted ours b w) (k : ℕ) (inside : k < length w.lamps)
     (es : List FloorEvent) where
   abbrev begun : Device
   begun = (begunBy ours b w).device
 
   pub burnt-told : k < begun.settings.lamp_count → k < lampsMost
-      → burntOf k (watchingFrom begun m) es ≡ burning w (startMarks b w) k (historyOf ours b w (calls_of begun es))
+      → burntOf k (watchingFrom begun) es ≡ burning w (startMarks b w) k (historyOf ours b w (calls_of begun es))
   burnt-told counted few =
       let none : ◌≡◌ {A = ℕ} (get_or (replicate lampsMost 0) k 0) 0 = get_or-replicate lampsMost k 0 0 few in
       let long = length-replicate {A = ℕ} lampsMost 0 in
-      let sum = adds k es (watchingFrom begun m) counted (omega arith) in
-      sum ∙ ap (λ (n : ℕ). n + lengthsOf (toldOf k (watchingFrom begun m) es)) none
-      ∙ zero-add (lengthsOf (toldOf k (watchingFrom begun m) es))
-      ∙ (log-stretches-tell b w h k inside m es).adds-up
+      let sum = adds k es (watchingFrom begun) counted (omega arith) in
+      sum ∙ ap (λ (n : ℕ). n + lengthsOf (toldOf k (watchingFrom begun) es)) none
+      ∙ zero-add (lengthsOf (toldOf k (watchingFrom begun) es))
+      ∙ (log-stretches-tell b w h k inside es).adds-up

@@ -28,8 +28,7 @@ use Rattle.demands.proofs.AgreesThen.{Then, agrees-none}
 use Rattle.demands.proofs.CallsNoted.{noted}
 use Rattle.demands.proofs.HistoryTold.{agrees-started, set-up-too, marks-many, begins-so}
 use Rattle.watch.specs.Marking.{FloorEvent, doneBy, secondsBy}
-use Rattle.watch.specs.Watching.{Watching, isBurningIn, watchedOn}
-use Rattle.watch.specs.WatchCalls.{watchingFrom}
+use Rattle.watch.specs.Watching.{Watching, watchingFrom, isBurningIn, watchedOn}
 use Rattle.watch.proofs.LineLeaves.{done-legal}
 use Rattle.stretches.specs.Stretches.{Stretch, stretchIf, stretchesFrom, stretchesOf, isLitThen, secondsLitFrom}
 use Rattle.stretches.specs.Stretches.{secondsLit, StretchesTell}
@@ -51,7 +50,7 @@ module _ (w : Wanted) (k : ℕ) (inside : k < length w.lamps) where
   event-told : (s : Watching) (e : FloorEvent) {g : Stage} {ms : List Bool} {n : ℕ → ℕ} {stream now : Streams}
       (xs ys : List Event) → Agrees w g ms n stream s.device → Then w g ms n xs now (doneBy s.device e)
       → Seen g (secondsBy e) xs → s.from ≤ s.time
-      → let t = watchedOn s e [] in
+      → let t = watchedOn s e in
       stretchIf (isBurningIn s.device && not (isBurningIn t.device) && isMarkedIn t.device k
       && ltb t.from t.time)
       t.from t.time
@@ -69,7 +68,7 @@ module _ (w : Wanted) (k : ℕ) (inside : k < length w.lamps) where
       ∙ by-seen w k g ms (secondsBy e) s.from s.time xs ys le sort
 
   from-before : (s : Watching) (e : FloorEvent) → s.from ≤ s.time
-      → let t = watchedOn s e [] in t.from ≤ t.time
+      → let t = watchedOn s e in t.from ≤ t.time
   from-before s e le =
       by (not (isBurningIn s.device) && isBurningIn (doneBy s.device e))
     where
@@ -82,7 +81,7 @@ module _ (w : Wanted) (k : ℕ) (inside : k < length w.lamps) where
       (e : FloorEvent) {g : Stage} {ms : List Bool} {n : ℕ → ℕ} {stream : Streams}
       → Agrees w g ms n stream s.device → isLegal s.device ≡ true → s.from ≤ s.time
       → let d = doneBy s.device e in
-      let t = watchedOn s e [] in
+      let t = watchedOn s e in
       ((h : Stage) (ns : List Bool) (m : ℕ → ℕ) (now : Streams) → Agrees w h ns m now d
       → toldOf k t es
       ≡ joined (isLitThen h ns k) t.from t.time (secondsLitFrom w h ns k (history ours d now (calls_of d es))))
@@ -100,7 +99,7 @@ module _ (w : Wanted) (k : ℕ) (inside : k < length w.lamps) where
       after-it = doneBy d e
 
       t : Watching
-      t = watchedOn s e []
+      t = watchedOn s e
 
       first : List Stretch
       first = stretchIf (isBurningIn d && not (isBurningIn after-it) && isMarkedIn after-it k
@@ -146,7 +145,7 @@ module _ (w : Wanted) (k : ℕ) (inside : k < length w.lamps) where
       told_more k s e es
       ∙ one-event es s e a legal le
       (λ h ns m now b.
-      tells es (watchedOn s e []) b (done-legal s.device legal e) (from-before s e le))
+      tells es (watchedOn s e) b (done-legal s.device legal e) (from-before s e le))
 
 -- ---- a log from its beginning
 
@@ -156,7 +155,7 @@ begun-legal w (loads ms) h = accepted-legal (form_of w ms) h.1
 begun-legal w (loadsMarked ms) h = accepted-legal (markedFormOf w ms) h.1
 begun-legal w loadsOld h = accepted-legal (oldFormOf w) h.1
 
-module _ (b : Beginning) (w : Wanted) (h : Accepted ours b w) (k : ℕ) (inside : k < length w.lamps) (m : List ℕ)
+module _ (b : Beginning) (w : Wanted) (h : Accepted ours b w) (k : ℕ) (inside : k < length w.lamps)
     (es : List FloorEvent) where
   abbrev begun : Device
   begun = (begunBy ours b w).device
@@ -164,14 +163,14 @@ module _ (b : Beginning) (w : Wanted) (h : Accepted ours b w) (k : ℕ) (inside 
   abbrev log-history : List Event
   log-history = historyOf ours b w (calls_of begun es)
 
-  pub log-tells : toldOf k (watchingFrom begun m) es ≡ stretchesOf (secondsLit w (startMarks b w) k log-history)
+  pub log-tells : toldOf k (watchingFrom begun) es ≡ stretchesOf (secondsLit w (startMarks b w) k log-history)
   log-tells =
       let fresh = subst (Agrees w (steady false) (startMarks b w) (λ j. 0) noStreams) (sym (begins-so b w h))
       (agrees-started w (startMarks b w) (set-up-too b w h) (marks-many b w h)) in
-      tells w k inside es (watchingFrom begun m) fresh (begun-legal w b h) (omega arith)
+      tells w k inside es (watchingFrom begun) fresh (begun-legal w b h) (omega arith)
 
   -- exactly the seconds that demand 3 counts, in order, apart, none empty, and adding up to what the lamp burnt
-  pub log-stretches-tell : StretchesTell w (startMarks b w) k log-history (toldOf k (watchingFrom begun m) es)
+  pub log-stretches-tell : StretchesTell w (startMarks b w) k log-history (toldOf k (watchingFrom begun) es)
   log-stretches-tell =
       subst (StretchesTell w (startMarks b w) k log-history) (sym log-tells)
       (stretches-tell w (startMarks b w) k log-history)

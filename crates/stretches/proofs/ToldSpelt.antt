@@ -6,7 +6,7 @@ use mathlib.Core.Bool.{Bool, true, false, ◌&&◌}
 use mathlib.Core.List.{List, [], ◌∷◌, ◌++◌, append_assoc}
 use Rattle.watch.specs.Marking.{FloorEvent}
 use Rattle.watch.specs.Watching.{Watching, isBurningIn, isLong, darkWith, watchedOn}
-use Rattle.watch.specs.WholeWatch.{Telling, tellingIf, tellings}
+use Rattle.watch.specs.Telling.{Telling, tellingIf, tellings}
 use Rattle.watch.proofs.TellingsSpelt.{tellings-none, tellings-more}
 use Rattle.stretches.specs.Stretches.{Stretch, stretchIf}
 use Rattle.stretches.specs.LogTold.{isMarkedIn, stretchesIn, toldOf}
@@ -39,11 +39,11 @@ module _ (k : ℕ) where
       → toldOf k s [] ≡ stretchIf (isBurningIn s.device && isMarkedIn s.device k && isLong s) s.from s.time
   told_none s = ap (stretchesIn k) (tellings-none s) ∙ told-if s (isBurningIn s.device) (isLong s)
 
-  pub told_more : (s : Watching) (e : FloorEvent) (es : List FloorEvent) → let t = watchedOn s e [] in
+  pub told_more : (s : Watching) (e : FloorEvent) (es : List FloorEvent) → let t = watchedOn s e in
       toldOf k s (e ∷ es)
       ≡ stretchIf (darkWith s t.device && isMarkedIn t.device k && isLong t) t.from t.time ++ toldOf k t es
   told_more s e es =
-      let t = watchedOn s e [] in
+      let t = watchedOn s e in
       let dark = darkWith s t.device in
       ap (stretchesIn k) (tellings-more s e es)
       ∙ stretches-append (tellingIf (dark && isLong t) t) (tellings t es)

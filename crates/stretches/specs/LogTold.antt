@@ -6,7 +6,7 @@
 --   stretchesIn k ts   what is told of the lamp at place k, where ts is told of all lamps (crate `watch`)
 --   toldOf k s es      the stretches that are told of the lamp at place k, from the state s on
 --   burntOf k s es     the seconds that the lamp at place k is told to have burnt, when the log has ended
---   LogWatched ..      what is promised of a whole log, through the calls and in any reads
+--   LogWatched ..      what is promised of what is told of a whole log (crate `burnt` tells exactly this)
 --   LogsWatched        that it is kept of every log, however the board began
 -- Assumes nothing.
 use Rattle.std.specs.Prelude.{ℕ, ◌<◌, ◌≡◌, Bool, false, List, [], ◌∷◌, ◌++◌, length, get_or, replicate, if◌then◌else◌}
@@ -14,8 +14,6 @@ use Rattle.record.specs.Places.{connectionAt, isShut}
 use Rattle.record.specs.Wanted.{Wanted}
 use Rattle.record.specs.declared.types.Device.{Device}
 use Rattle.device.specs.Calls.{replyRoom}
-use Rattle.stream.specs.Machine.{Out, uncut}
-use Rattle.floorlog.specs.Lines.{lineMost}
 use Rattle.floorlog.specs.Events.{opens, receives, passes, closes, noSuch}
 use Rattle.floorlog.specs.Doing.{logPlace}
 use Rattle.ours.specs.Board.{ours}
@@ -24,9 +22,8 @@ use Rattle.demands.specs.Calls.{closes as closes_at, enables}
 use Rattle.demands.specs.Demand3.{Beginning, Accepted, startMarks, begunBy, historyOf}
 use Rattle.demands.specs.History.{Event, burning, lampWith}
 use Rattle.watch.specs.Marking.{FloorEvent, logged, marked, doneBy}
-use Rattle.watch.specs.Watching.{Watching}
-use Rattle.watch.specs.WholeWatch.{floorEvents, Telling, tellings, toldLines, burntAfter, WatchStage}
-use Rattle.watch.specs.WholeWatch.{wholeWatch, Timeable}
+use Rattle.watch.specs.Watching.{Watching, watchingFrom}
+use Rattle.watch.specs.Telling.{floorEvents, Telling, tellings, afterLog, burntAfter}
 use Rattle.stretches.specs.Stretches.{Stretch, stretchIf, StretchesTell}
 
 -- the memory that each call is lent
@@ -62,25 +59,20 @@ burntOf k s es = get_or (burntAfter s es) k 0
 abbrev pub logHistory : Beginning → Wanted → List ℕ → List Event
 logHistory b w log = historyOf ours b w (calls_of (begunBy ours b w).device (floorEvents log))
 
--- however a history begins, with a set-up or with a stored form that loads, and however the log is cut into reads
-pub record LogWatched (b : Beginning) (w : Wanted) (log : List ℕ) (o : Out WatchStage) : Type 0 where
-  pub told : List Telling
-  -- no call refuses
-  pub accepted : o.state.number ≡ 0
-  -- what is printed is what is told
-  pub printed : o.reply ≡ toldLines told
+-- however a history begins, with a set-up or with a stored form that loads
+pub record LogWatched (b : Beginning) (w : Wanted) (log : List ℕ) : Type 0 where
   -- of each lamp its stretches in demand 3's history of the log
   pub stretches : (k : ℕ) → k < length w.lamps
-      → StretchesTell w (startMarks b w) k (logHistory b w log) (stretchesIn k told)
+      → StretchesTell w (startMarks b w) k (logHistory b w log)
+      (toldOf k (watchingFrom (begunBy ours b w).device) (floorEvents log))
   -- the seconds that it burnt
   pub burnt : (k : ℕ) → k < length w.lamps
-      → get_or o.state.watching.burnt k 0 ≡ burning w (startMarks b w) k (logHistory b w log)
+      → burntOf k (watchingFrom (begunBy ours b w).device) (floorEvents log)
+      ≡ burning w (startMarks b w) k (logHistory b w log)
   -- and what it has now
   pub lamps : (k : ℕ) → k < length w.lamps
-      → get_or o.state.watching.device.own.lamps k 0
+      → get_or (afterLog (watchingFrom (begunBy ours b w).device) (floorEvents log)).device.own.lamps k 0
       ≡ lampWith (burning w (startMarks b w) k (logHistory b w log)) (get_or w.lamps k 0)
 
 abbrev pub LogsWatched : Type 0
-LogsWatched = (b : Beginning) (w : Wanted) → Accepted ours b w → (m : List ℕ) → lineMost < length m
-    → (size : ℕ) (reads : List (List ℕ)) → Timeable size reads
-    → LogWatched b w (uncut reads) (wholeWatch (begunBy ours b w).device m reads)
+LogsWatched = (b : Beginning) (w : Wanted) → Accepted ours b w → (log : List ℕ) → LogWatched b w log

@@ -37,11 +37,7 @@ alike true b p q = sym (p refl)
 alike false true p q = q refl
 alike false false p q = refl
 
--- a test that does not hold, by what would follow if it did; and one that holds
+-- a test that does not hold, by what would follow if it did
 pub by-not : (b : Bool) → (b ≡ true → ⊥) → b ≡ false
 by-not true h = absurd (h refl)
 by-not false h = refl
-
-pub by-not-not : (b : Bool) → (b ≡ false → ⊥) → b ≡ true
-by-not-not true h = refl
-by-not-not false h = absurd (h refl)

@@ -5,8 +5,8 @@ use mathlib.Core.Path.{◌≡◌, sym, ap, ◌∙◌}
 use mathlib.Core.List.{List, [], ◌∷◌}
 use native.Mathlib.Nat.{sub-zero}
 use native.Mathlib.Omega.{arith}
-use lib.ListN.{length, take, drop, length-drop}
-use lib.Seq.{take_all, take-nil}
+use lib.ListN.{take, drop}
+use lib.Seq.{take-nil}
 
 pub drop-take : (a b : ℕ) (s : List ℕ) → drop a (take b s) ≡ take (b - a) (drop a s)
 drop-take zero b s = ap (λ (k : ℕ). take k s) (sym (sub-zero b))
@@ -15,9 +15,6 @@ drop-take (suc a) (suc b) [] = sym (take-nil (suc b - suc a))
 drop-take (suc a) (suc b) (x ∷ s) =
     let same : b - a ≡ suc b - suc a = omega arith in
     drop-take a b s ∙ ap (λ (k : ℕ). take k (drop a s)) same
-
-pub rest-whole : (s : List ℕ) (n : ℕ) → take (length s - n) (drop n s) ≡ drop n s
-rest-whole s n = take_all (length s - n) (drop n s) (omega (arith, length-drop n s))
 
 pub first_part : (s : List ℕ) (n : ℕ) → take (n - 0) s ≡ take n s
 first_part s n = ap (λ (k : ℕ). take k s) (sub-zero n)

@@ -3,20 +3,20 @@ use Rattle.std.proofs.Common.{◌≡◌, ℕ, ◌+◌, min, List, ◌++◌, leng
 use Rattle.std.specs.declared.option.Option.{Option}
 use Rattle.std.specs.declared.result.Result.{Result}
 use Rattle.std.specs.Result.{OnOk, IsErr, IfErr, IsErrAnd}
-use Rattle.std.specs.Io.KnownBytes.{Appends}
-use Rattle.std.proofs.KnownBytes.{Appends-trans}
+use Rattle.std.specs.Io.KnownBytes.{Appends, Keeps}
+use Rattle.std.proofs.KnownBytes.{Appends-trans, Appends-kept}
 use Rattle.std.proofs.Math.Seq.{take-append-add, take-length}
 use Rattle.std.proofs.lemmas.List.{take-append-le, take_min}
 use Rattle.textio.specs.Fronts.{WritesFront, WritesText}
 
-front_then : (a b c : Option (List ℕ)) (xs ys : List ℕ) → Appends a b xs → WritesFront b c ys
+pub front_then : (a b c : Option (List ℕ)) (xs ys : List ℕ) → Appends a b xs → WritesFront b c ys
     → WritesFront a c (xs ++ ys)
 front_then a b c xs ys p q = record {
   count = length xs + q.count;
   written = subst (Appends a c) (sym (take-append-add xs ys q.count)) (Appends-trans a b c xs _ p q.written);
 }
 
-front_more : (a b : Option (List ℕ)) (xs ys : List ℕ) → WritesFront a b xs → WritesFront a b (xs ++ ys)
+pub front_more : (a b : Option (List ℕ)) (xs ys : List ℕ) → WritesFront a b xs → WritesFront a b (xs ++ ys)
 front_more a b xs ys p =
     let count = min p.count (length xs) in
     let same = take-append-le count xs ys (omega arith) ∙ take_min p.count xs in
@@ -84,3 +84,19 @@ writes_fails {fails = fails} {e = e} {s} ys p q = record {
 pub writes_last : {T U E : Type 0} {fails : E → Type 0} {a b c : Option (List ℕ)} {v : T} {w : U} (xs : List ℕ)
     {ys : List ℕ} → Appends a b xs → WritesText fails b c (Ok v) ys → WritesText fails a c (Ok w) (xs ++ ys)
 writes_last xs p q = writes_all _ (Appends-trans _ _ _ xs _ p q.whole)
+
+-- all of it, and what waits is then handed on
+pub writes_kept : {T U E : Type 0} {fails : E → Type 0} {a b c : Option (List ℕ)} {v : T} {r : Result U E} {xs : List ℕ}
+    → WritesText fails a b (Ok v) xs → Keeps b c → IfErr r fails → WritesText fails a c r xs
+writes_kept {a = a} {b} {c} {r = r} {xs} p k e = record {
+  whole = owed r (Appends a c xs) (Appends-kept a b c xs p.whole k);
+  front = record {
+    count = length xs;
+    written = subst (Appends a c) (sym (take-length xs)) (Appends-kept a b c xs p.whole k);
+  };
+  err = e;
+}
+  where
+    owed : {U E : Type 0} (z : Result U E) (P : Type 0) → P → OnOk z P
+    owed (Ok w) P p = p
+    owed (Err x) P p = tt

@@ -1,5 +1,4 @@
--- Lines are counted one for each LF: no more than a log has lines, and no more than it has bytes.
---   lineEnds bs      how many LF are in bs
+-- A log has no more lines than bytes, and no line longer than it.
 -- Assumes nothing.
 use Prim.Native.Nat.{ℕ, zero, suc, ◌+◌, ◌≤◌}
 use mathlib.Core.Path.{◌≡◌, sym, subst}
@@ -15,32 +14,6 @@ use Rattle.std.specs.Prelude.{if◌then◌else◌}
 use Rattle.text.specs.Words.{◌is◌}
 use Rattle.text.proofs.Choices.{if-all, if-by}
 use Rattle.textio.specs.Lines.{lines_from, lines_of, countMost, HasEndlessLine, IsTooLong}
-
-abbrev pub lineEnds : List ℕ → ℕ
-lineEnds [] = 0
-lineEnds (b ∷ bs) = (if b is "\n" then 1 else 0) + lineEnds bs
-
-pub ends-append : (xs ys : List ℕ) → lineEnds (xs ++ ys) ≡ lineEnds xs + lineEnds ys
-ends-append [] ys = omega arith
-ends-append (b ∷ xs) ys = omega (arith, ends-append xs ys)
-
-pub ends-few : (bs : List ℕ) → lineEnds bs ≤ length bs
-ends-few [] = omega arith
-ends-few (b ∷ bs) =
-    let one : (if b is "\n" then 1 else 0) ≤ 1 = if-all (λ (n : ℕ). n ≤ 1) (b is "\n") (omega arith) (omega arith) in
-    omega (arith, ends-few bs, one)
-
-line-or-more : (lf : Bool) (n : ℕ) (g : List ℕ) (ls ms : List (List ℕ)) → n ≤ length ls → n ≤ length ms
-    → (if lf then 1 else 0) + n ≤ length (if lf then g ∷ ls else ms)
-line-or-more true n g ls ms h k = omega arith
-line-or-more false n g ls ms h k = omega arith
-
-pub ends-lines : (g bs : List ℕ) → lineEnds bs ≤ length (lines_from g bs)
-unfolding lines_from
-ends-lines g [] = omega arith
-ends-lines g (b ∷ bs) =
-    line-or-more (b is "\n") (lineEnds bs) g (lines_from [] bs) (lines_from (g ++ (b ∷ [])) bs) (ends-lines [] bs)
-    (ends-lines (g ++ (b ∷ [])) bs)
 
 -- what holds of a line holds of the first or of a later one
 any_line : (P : List ℕ → Type 0) (l : List ℕ) (ls : List (List ℕ)) → Any P (l ∷ ls) → P l ⊎ Any P ls
@@ -71,7 +44,7 @@ line_fits m g (b ∷ bs) h =
     (any_line P g (lines_from [] bs) k))
     (λ k. omega (arith, line_fits m (g ++ (b ∷ [])) bs k, length-append g (b ∷ []))) h
 
-lines_fit : (g bs : List ℕ) → length (lines_from g bs) ≤ length g + length bs
+pub lines_fit : (g bs : List ℕ) → length (lines_from g bs) ≤ length g + length bs
 unfolding lines_from
 lines_fit g [] =
     if-by (λ (ls : List (List ℕ)). length ls ≤ length g + 0) (eqb (length g) 0) (λ e. omega arith)

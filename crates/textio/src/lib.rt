@@ -10,4 +10,5 @@ pub mod reader;
 pub mod streams;
 #[cfg(test)]
 mod tests;
+pub mod trial;
 pub mod writer;

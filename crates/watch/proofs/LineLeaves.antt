@@ -4,30 +4,28 @@ use Prim.Native.Nat.{ℕ, ◌≤◌}
 use mathlib.Core.Path.{◌≡◌, refl, sym, ap, subst, ◌∙◌}
 use mathlib.Core.Bool.{Bool, true, false}
 use native.Mathlib.Omega.{arith}
+use mathlib.Core.List.{List}
 use lib.ListN.{set}
-use Rattle.text.proofs.Choices.{if-all}
 use Rattle.record.specs.Legal.{isLegal}
 use Rattle.std.specs.Prelude.{Result}
 use Rattle.record.specs.declared.refusal.Refusal.{Refusal}
 use Rattle.record.specs.HostCalls.{markSet}
 use Rattle.record.specs.Places.{connectionAt}
 use Rattle.record.specs.declared.types.Device.{Device}
-use Rattle.record.specs.declared.types.Line.{Line}
 use Rattle.record.specs.Given.{Given, left_by}
 use Rattle.record.proofs.Calls.{mark-set-by, mark-not-legal}
 use Rattle.record.proofs.HostKept.{mark-legal}
 use Rattle.clock.specs.Passing.{secondsMost}
-use Rattle.stream.specs.Collecting.{lineText}
 use Rattle.floorlog.specs.Doing.{logPlace}
-use Rattle.floorlog.specs.Told.{Drives, secondsOf}
-use Rattle.floorlog.specs.Gathering.{keptEvent}
+use Rattle.floorlog.specs.Told.{Drives}
+use Rattle.floorlog.specs.Events.{event}
 use Rattle.floorlog.proofs.Driven.{none_pass, itself-kept, did-drives}
 use Rattle.floorlog.proofs.EventsLeave.{did-settings, did-legality}
 use Rattle.floorlog.proofs.EventSeconds.{event-seconds}
 use Rattle.watch.specs.declared.marking.MarkSaid.{MarkSaid}
 use Rattle.watch.specs.declared.marking.MarkSaid.TheVariants.{Sets, NoMark}
 use Rattle.watch.specs.Marking.{FloorEvent, logged, marked, eventBy, doneBy, secondsBy}
-use Rattle.watch.specs.Marking.{keptMark, keptFloorEvent}
+use Rattle.watch.specs.Marking.{markSaid, floorEvent}
 
 module _ (d : Device) where
   pub done-settings : (e : FloorEvent) → (doneBy d e).settings ≡ d.settings
@@ -65,13 +63,10 @@ module _ (d : Device) where
 
 -- ---- the seconds of a line
 
-kept-seconds : (k : Line) → secondsOf (keptEvent k) ≤ secondsMost
-kept-seconds k =
-    if-all (λ e. secondsOf e ≤ secondsMost) k.overlong (omega arith) (event-seconds (lineText k))
-
-pub line-seconds : (k : Line) → secondsBy (keptFloorEvent k) ≤ secondsMost
-line-seconds k = by (keptMark k)
+pub floor-seconds : (l : List ℕ) → secondsBy (floorEvent l) ≤ secondsMost
+unfolding floorEvent
+floor-seconds l = by (markSaid l)
   where
-    by : (m : MarkSaid) → secondsBy (eventBy m (keptEvent k)) ≤ secondsMost
+    by : (m : MarkSaid) → secondsBy (eventBy m (event l)) ≤ secondsMost
     by (Sets lamp mark) = omega arith
-    by NoMark = kept-seconds k
+    by NoMark = event-seconds l

@@ -1,37 +1,44 @@
--- What is told, burnt and left with the events of a log, by what comes: nothing more, or an event and the rest.
+-- What is told and left with the events of a log, by what comes: nothing more, or an event and the rest.
 -- Assumes nothing.
+use Prim.Native.Nat.{ℕ, ◌+◌, ◌*◌, ◌≤◌}
 use mathlib.Core.Path.{◌≡◌, refl}
-use mathlib.Core.Bool.{false, ◌&&◌}
-use mathlib.Core.List.{List, [], ◌∷◌, ◌++◌}
-use Rattle.record.specs.declared.types.Device.{Device}
-use Rattle.watch.specs.Marking.{FloorEvent, doneBy}
-use Rattle.watch.specs.Watching.{Watching, isBurningIn, isLong, darkWith, watchedOn, closedAtEnd}
-use Rattle.watch.specs.WholeWatch.{tellingIf, tellings, burntAfter, deviceAfter}
+use mathlib.Core.List.{List, [], ◌∷◌, ◌++◌, map}
+use native.Mathlib.Omega.{arith}
+use lib.ListN.{length}
+use Rattle.clock.specs.Passing.{secondsMost}
+use Rattle.watch.specs.Marking.{FloorEvent, floorEvent, secondsBy}
+use Rattle.watch.specs.Watching.{Watching, watchedOn}
+use Rattle.watch.specs.Telling.{toldOn, toldAtEnd, tellings, afterLog, secondsTogether}
+use Rattle.watch.proofs.LineLeaves.{floor-seconds}
 
 module _ (s : Watching) where
-  pub tellings-none : tellings s [] ≡ tellingIf (isBurningIn s.device && isLong s) s
+  pub tellings-none : tellings s [] ≡ toldAtEnd s
   unfolding tellings
   tellings-none = refl
 
-  pub burnt-none : burntAfter s [] ≡ (closedAtEnd false s).state.burnt
-  unfolding burntAfter
-  burnt-none = refl
+  pub after-none : afterLog s [] ≡ s
+  unfolding afterLog
+  after-none = refl
 
   module _ (e : FloorEvent) (es : List FloorEvent) where
-    pub tellings-more : let t = watchedOn s e [] in
-        tellings s (e ∷ es) ≡ tellingIf (darkWith s t.device && isLong t) t ++ tellings t es
+    pub tellings-more : tellings s (e ∷ es) ≡ toldOn s e ++ tellings (watchedOn s e) es
     unfolding tellings
     tellings-more = refl
 
-    pub burnt-more : burntAfter s (e ∷ es) ≡ burntAfter (watchedOn s e []) es
-    unfolding burntAfter
-    burnt-more = refl
+    pub after-more : afterLog s (e ∷ es) ≡ afterLog (watchedOn s e) es
+    unfolding afterLog
+    after-more = refl
 
-pub device-none : (d : Device) → deviceAfter d [] ≡ d
-unfolding deviceAfter
-device-none d = refl
+pub seconds-none : secondsTogether [] ≡ 0
+unfolding secondsTogether
+seconds-none = refl
 
-pub device-more : (d : Device) (e : FloorEvent) (es : List FloorEvent) → deviceAfter d (e ∷ es)
-    ≡ deviceAfter (doneBy d e) es
-unfolding deviceAfter
-device-more d e es = refl
+pub seconds-more : (e : FloorEvent) (es : List FloorEvent) → secondsTogether (e ∷ es) ≡ secondsBy e + secondsTogether es
+unfolding secondsTogether
+seconds-more e es = refl
+
+-- a log of so many lines lets no more seconds pass than each could
+pub seconds-most : (ls : List (List ℕ)) → secondsTogether (map floorEvent ls) ≤ length ls * secondsMost
+unfolding secondsTogether
+seconds-most [] = omega arith
+seconds-most (l ∷ ls) = omega (arith, floor-seconds l, seconds-most ls)

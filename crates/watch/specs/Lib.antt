@@ -1,4 +1,4 @@
 pub mod Marking
 pub mod Watching
-pub mod WatchCalls
-pub mod WholeWatch
+pub mod Telling
+pub mod States

@@ -7,7 +7,6 @@
 --   floorEvent l      that of the line l
 --   doneBy d e        the device after it
 --   secondsBy e       the seconds that it lets pass
---   keptMark k, keptFloorEvent k     the mark and the event of a line that is kept
 -- Assumes nothing.
 use Rattle.std.specs.Prelude.{ℕ, ◌-◌, Bool, ◌&&◌, List, length, eqb, if◌then◌else◌}
 use Prim.Native.Char.{code}
@@ -16,12 +15,9 @@ use Rattle.words.specs.Bytes.{◌at◌}
 use Rattle.record.specs.Given.{left_by}
 use Rattle.record.specs.HostCalls.{markSet}
 use Rattle.record.specs.declared.types.Device.{Device}
-use Rattle.record.specs.declared.types.Line.{Line}
-use Rattle.stream.specs.Collecting.{lineText}
 use Rattle.floorlog.specs.Events.{LogEvent, event}
 use Rattle.floorlog.specs.Doing.{did}
 use Rattle.floorlog.specs.Told.{secondsOf}
-use Rattle.floorlog.specs.Gathering.{keptEvent}
 use Rattle.watch.specs.declared.marking.MarkSaid.{MarkSaid}
 use Rattle.watch.specs.declared.marking.MarkSaid.TheVariants.{Sets, NoMark}
 
@@ -51,10 +47,3 @@ doneBy d (marked lamp mark) = (left_by d (markSet d lamp mark))
 abbrev pub secondsBy : FloorEvent → ℕ
 secondsBy (logged e) = secondsOf e
 secondsBy (marked lamp mark) = 0
-
--- an overlong line has no such form
-abbrev pub keptMark : Line → MarkSaid
-keptMark k = if k.overlong then NoMark else markSaid (lineText k)
-
-abbrev pub keptFloorEvent : Line → FloorEvent
-keptFloorEvent k = eventBy (keptMark k) (keptEvent k)

@@ -2,15 +2,122 @@
 //! plays, and `M`, which sets or clears a lamp's mark.
 #![tactic(auto)]
 
-mod dark;
 mod light;
 mod marking;
-mod refusing;
-pub mod watching;
 
-ghost use Rattle.watch.specs.WholeWatch.{LogsWatchedBack};
+ghost use Rattle.std.specs.Prelude.{◌≡◌, true};
+ghost use Rattle.watch.specs.Watching.{isSound};
 
-/// Nothing is done: that it has this contract is that every log is watched so.
-pub fn watches_back()
-    ensures { LogsWatchedBack }
-{}
+use floorlog::line;
+use floorlog::playing::KEPT_ROOM;
+use record::legality::Tested;
+use record::own;
+use record::types::{Device, LAMPS_MOST};
+
+/// A log as it is watched: its record, tested where the log began; the seconds gone since the log began; the second at
+/// which the lamps began to burn last; and the seconds that each lamp burnt in stretches that have ended.
+#[derive(Drop)]
+pub struct Watch {
+    tested: Tested,
+    time: u64,
+    from: u64,
+    burnt: [u64; LAMPS_MOST],
+    ghost sound: { isSound (record { device = tested.device; time = time; from = from; burnt = burnt }) ≡ true },
+}
+
+impl Watch {
+    ghost use Rattle.std.specs.Prelude.{◌+◌, ◌&&◌, ◌^◌, ◌≤◌, take, IfSome, None};
+    ghost use Rattle.floorlog.specs.Replaying.{keptMost};
+    ghost use Rattle.floorlog.specs.Told.{Drives};
+    ghost use Rattle.watch.specs.Marking.{floorEvent, secondsBy};
+    ghost use Rattle.watch.specs.Watching.{watchingFrom, isBurningIn, isLong, burntBy};
+    ghost use Rattle.watch.specs.States.{stateOf, IsWatched};
+
+    /// Before a log that begins with a device, which need not be legal.
+    pub fn new(device: Device) -> Watch
+        ensures { stateOf result ≡ watchingFrom device }
+    {
+        Watch {
+            tested: Tested::of(device),
+            time: 0,
+            from: 0,
+            burnt: [0; LAMPS_MOST],
+        }
+    }
+
+    /// The line of which so many bytes are kept in front of the memory, without its LF. It tells whether the line ended
+    /// stretches: those of the lamps whose marks are set, from `from` to `time`. None where 64 bits cannot count the
+    /// seconds that are then gone: nothing is done.
+    pub fn play(&mut self, line: &mut [u8; KEPT_ROOM], held: usize) -> Option<bool>
+        requires { held ≤ keptMost }
+        ensures watched { IfSome result
+            (IsWatched (stateOf self.old) (floorEvent (take held line.old)) (stateOf self.new)) }
+        ensures kept { result ≡ None → stateOf self.new ≡ stateOf self.old }
+        ensures uncounted { result ≡ None → 2 ^ 64 ≤ self.old.time + secondsBy (floorEvent (take held line.old)) }
+        ensures places { IfSome result (λ _. Drives (secondsBy (floorEvent (take held line.old)))
+            self.old.tested.device self.new.tested.device) }
+    {
+        let mark = marking::mark_says(&line[..held]);
+        let says = line::line_says(&line[..held]);
+        let seconds = marking::seconds_of(mark, says);
+        let Some(time) = self.time.checked_add(seconds as u64) else {
+            return None;
+        };
+        let was = own::is_lit(self.tested.device.own.power);
+        marking::end_line(&mut self.tested, mark, says, line, held);
+        let is = own::is_lit(self.tested.device.own.power);
+        let next = light::light_after(was, is, time, self.from);
+        let burnt = light::gained_if(
+            next.dark,
+            self.burnt,
+            self.tested.device.own.enabled,
+            self.tested.device.settings.lamp_count,
+            time - self.from,
+        );
+        self.time = time;
+        self.from = next.from;
+        self.burnt = burnt;
+        Some(next.told)
+    }
+
+    /// The record as the lines left it.
+    pub fn device(&self) -> &Device
+        ensures { result.now ≡ self.now.tested.device }
+    {
+        &self.tested.device
+    }
+
+    /// The seconds gone since the log began.
+    pub fn time(&self) -> u64
+        ensures { result ≡ self.now.time }
+    {
+        self.time
+    }
+
+    /// The second at which the lamps began to burn last.
+    pub fn from(&self) -> u64
+        ensures { result ≡ self.now.from }
+    {
+        self.from
+    }
+
+    /// Whether stretches are under way, which the end of the log would end.
+    pub fn is_underway(&self) -> bool
+        ensures { result ≡ (isBurningIn self.now.tested.device && isLong (stateOf self.now)) }
+    {
+        own::is_lit(self.tested.device.own.power) && self.from < self.time
+    }
+
+    /// The seconds that each lamp burnt, should the log end here.
+    pub fn burnt(&self) -> [u64; LAMPS_MOST]
+        ensures { result ≡ burntBy (stateOf self.now) }
+    {
+        light::gained_if(
+            own::is_lit(self.tested.device.own.power),
+            self.burnt,
+            self.tested.device.own.enabled,
+            self.tested.device.settings.lamp_count,
+            self.time - self.from,
+        )
+    }
+}

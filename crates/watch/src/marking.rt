@@ -1,14 +1,14 @@
 // One line of a log that is watched for its lamps: what it does to the device, where it lies.
-ghost use Rattle.std.specs.Prelude.{◌≡◌, ◌+◌, ◌-◌, ◌≤◌, ◌<◌, min, length, take, drop};
-ghost use Rattle.device.specs.Calls.{replyRoom};
-ghost use Rattle.floorlog.specs.Events.{eventOf};
-ghost use Rattle.floorlog.specs.Told.{Drives};
-ghost use Rattle.floorlog.specs.Gathering.{keptOf, lineAfter};
-ghost use Rattle.watch.specs.Marking.{logged, marked, markSaid, keptMark, keptFloorEvent, doneBy, secondsBy};
+ghost use Rattle.std.specs.Prelude.{◌≡◌, ◌≤◌, [], take};
+ghost use Rattle.floorlog.specs.Lines.{lineSaid};
+ghost use Rattle.floorlog.specs.Events.{eventOf, event};
+ghost use Rattle.floorlog.specs.Replaying.{keptMost};
+ghost use Rattle.watch.specs.Marking.{logged, marked, markSaid, eventBy, doneBy, secondsBy};
 
-use floorlog::gather::Begun;
+use device::on_legal::REPLY_ROOM;
+use floorlog::event;
 use floorlog::line::Says;
-use floorlog::{event, gather};
+use floorlog::playing::KEPT_ROOM;
 use record::legality::Tested;
 
 // The mark that a line asks for: of the lamp at a place from 0.
@@ -19,7 +19,7 @@ pub enum MarkSaid {
 }
 
 // `M`, a space, a lamp's number from 1, a space, 0 or 1.
-fn mark_says(l: &[u8]) -> MarkSaid
+pub fn mark_says(l: &[u8]) -> MarkSaid
     ensures { result ≡ markSaid l.now }
 {
     if l.len() != 5 {
@@ -42,62 +42,42 @@ fn mark_says(l: &[u8]) -> MarkSaid
     MarkSaid::NoMark
 }
 
-fn place(x: u8) -> usize
-    ensures { result ≡ x }
+// The seconds that a line lets pass, by what it says.
+pub fn seconds_of(mark: MarkSaid, says: Says) -> u32
+    ensures { result ≡ secondsBy (eventBy mark (eventOf says [])) }
 {
-    x as usize
-}
-
-// What the kept line says of a mark; an overlong one says nothing.
-fn kept_mark(k: Begun, line: &[u8]) -> MarkSaid
-    requires { k.held < length line.now }
-    ensures { result ≡ keptMark (keptOf k line.now) }
-{
-    if k.overlong {
-        return MarkSaid::NoMark;
+    match mark {
+        MarkSaid::Sets(_, _) => 0,
+        MarkSaid::NoMark => event::seconds_of(says),
     }
-    let held = k.held;
-    mark_says(&line[0..held])
-}
-
-// The event of a kept line, which CR follows in the memory; the seconds that it lets pass.
-fn log_event(t: &mut Tested, says: Says, held: usize, line: &[u8], reply: &mut [u8]) -> u32
-    requires held { held < length line.now }
-    requires room { replyRoom ≤ length reply.old }
-    ensures seconds { result ≡ secondsBy (logged (eventOf says (take (held + 1 - min 2 held)
-        (drop (min 2 held) line.now)))) }
-    ensures device { t.new.device ≡ doneBy t.old.device (logged (eventOf says (take (held + 1 - min 2 held)
-        (drop (min 2 held) line.now)))) }
-{
-    let from = gather::least(2, held);
-    let end = held + 1;
-    event::call(t, says, &line[from..end], reply);
-    event::seconds_of(says)
 }
 
 // A lamp's mark is set, or not: the number is nothing to a log.
 fn set_mark(t: &mut Tested, lamp: u8, mark: bool)
     ensures { t.new.device ≡ doneBy t.old.device (marked lamp mark) }
 {
-    let _told = t.device.set_mark(place(lamp), mark);
+    let _told = t.device.set_mark(lamp as usize, mark);
 }
 
-// The line that is kept, played; CR stands after it in the memory. The seconds that it lets pass.
-pub fn end_line(t: &mut Tested, k: Begun, line: &mut [u8], reply: &mut [u8]) -> u32
-    requires held { k.held < length line.old }
-    requires room { replyRoom ≤ length reply.old }
-    ensures seconds { result ≡ secondsBy (keptFloorEvent (keptOf k line.old)) }
-    ensures device { t.new.device ≡ doneBy t.old.device (keptFloorEvent (keptOf k line.old)) }
-    ensures line_after { line.new ≡ lineAfter (keptOf k line.old) }
-    ensures places { Drives result t.old.device t.new.device }
+// The event of a line that is no mark call; CR is put behind the line, as a text is received.
+fn call(t: &mut Tested, says: Says, line: &mut [u8; KEPT_ROOM], held: usize)
+    requires says { says ≡ lineSaid (take held line.old) }
+    requires inside { held ≤ keptMost }
+    ensures { t.new.device ≡ doneBy t.old.device (logged (event (take held line.old))) }
 {
-    let mark = kept_mark(k, line);
-    let says = gather::kept_says(k, line);
+    line[held] = b'\r';
+    let mut reply = [0; REPLY_ROOM];
+    event::call(t, says, &line[held.min(2)..held + 1], &mut reply);
+}
+
+// The line, which says so, is played.
+pub fn end_line(t: &mut Tested, mark: MarkSaid, says: Says, line: &mut [u8; KEPT_ROOM], held: usize)
+    requires says { says ≡ lineSaid (take held line.old) }
+    requires inside { held ≤ keptMost }
+    ensures { t.new.device ≡ doneBy t.old.device (eventBy mark (event (take held line.old))) }
+{
     match mark {
-        MarkSaid::Sets(lamp, to) => {
-            set_mark(t, lamp, to);
-            0
-        }
-        MarkSaid::NoMark => log_event(t, says, k.held, line, reply),
+        MarkSaid::Sets(lamp, to) => set_mark(t, lamp, to),
+        MarkSaid::NoMark => call(t, says, line, held),
     }
 }

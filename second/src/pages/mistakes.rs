@@ -152,6 +152,10 @@ pub const MISTAKES: &[(&str, Wrong)] = &[
         let row = any(sheet.page.rows.iter().filter(|row| !row.bands.is_empty()).collect(), random)?;
         Some(sheet.with([(row.seen[3].range(), "8".to_string())]))
     }),
+    ("the name of a day is not seen", |sheet, random| {
+        let row = any(sheet.page.rows.iter().collect(), random)?;
+        Some(sheet.with([(row.seen[3].range(), "9".to_string())]))
+    }),
     ("a day is drawn smaller than another", |sheet, random| {
         let row = any(sheet.page.rows.iter().collect(), random)?;
         Some(sheet.with([(row.seen[2].range(), "2200".to_string())]))

@@ -161,7 +161,10 @@ impl<'a> Page<'a> {
         }
         let range = drawing.range.clone();
         match <[Label; 1]>::try_from(days) {
-            Ok([day]) if lamps.is_empty() => self.rows.push(Row { range, seen, day, bands }),
+            Ok([day]) if lamps.is_empty() && day.y <= hundredths(seen[3])? => {
+                self.rows.push(Row { range, seen, day, bands })
+            }
+            Ok([_]) if lamps.is_empty() => return Err(at(drawing, "its day's name is not seen")),
             Err(days) if days.is_empty() && bands.is_empty() && self.rows.is_empty() => (),
             _ => return Err(at(drawing, "it is neither the hours nor one day")),
         }

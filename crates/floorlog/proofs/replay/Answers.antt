@@ -1,18 +1,20 @@
 -- what is written so far is a front of what is printed for the log; in the end it is all
-use Rattle.std.proofs.Common.{arith, IfSome, refl, sym, subst, take}
+use Rattle.std.proofs.Common.{arith, IfSome, sym, subst, take}
 use Rattle.textio.specs.Ahead.{left_in}
 use Rattle.record.specs.declared.types.Device.{Device}
 use Rattle.floorlog.specs.Replaying.{keptMost}
-use Rattle.floorlog.proofs.Underway.{Underway, begun, each, so_far, flushed, too_many, played, broken, ended, cut, came}
-use Rattle.floorlog.proofs.Underway.{not_too_long}
+use Rattle.textio.specs.Lines.{IsTooLong}
+use Rattle.textio.proofs.Underway.{each, so_far, flushed, came, not_too_long}
+use Rattle.floorlog.proofs.Replayed.{Played, none_played, is_front, line_played, line_broken, log_ended, log_cut}
+use Rattle.floorlog.proofs.Replayed.{line_endless, lines_many}
 use Rattle.floorlog.proofs.replay.Goals as goal
 
 pub loop-played-init : goal.loop-played-init
 loop-played-init g c =
     let log = left_in g.R.ByteSource.remaining c.args.from.now in
     let sink = g.W.ByteSink.contents c.args.to.now in
-    subst (λ (d : Device). IfSome log (λ l. Underway c.args.begun l sink sink log 0 d)) (sym c.of-tested.ensures)
-    (begun log sink c.args.begun)
+    subst (λ (d : Device). IfSome log (λ l. Played c.args.begun l sink sink log 0 d)) (sym c.of-tested.ensures)
+    (none_played log sink c.args.begun)
 
 pub loop-played-preserved : goal.loop-played-preserved
 loop-played-preserved g c =
@@ -20,8 +22,8 @@ loop-played-preserved g c =
     let line = rw c.in-Ok-Some.field-0-is at c.in-Ok-Some.ensures.next in
     let inside = rw c.in-Ok-Some.field-0-is at c.in-Ok-Some.ensures.bound in
     each _ _ _
-    (λ log u. played (flushed u _ c.read_line.ensures.keeps) left_then c.read_line.new.line c.in-Ok-Some.held
-    (omega (arith, c.read_line.array_long)) inside line _ _ _ c.play.ensures.device refl c.in-Ok.ensures.whole)
+    (λ log u. line_played (flushed u _ c.read_line.ensures.keeps) left_then c.read_line.new.line c.in-Ok-Some.held
+    (omega (arith, c.read_line.array_long)) inside line _ _ c.play.ensures.device c.in-Ok.ensures.whole)
     c.loop-played.invariant
 
 pub returns-in-Err-play-clause-front : goal.returns-in-Err-play-clause-front
@@ -30,8 +32,8 @@ returns-in-Err-play-clause-front g c =
     let line = rw c.in-Ok-Some.field-0-is at c.in-Ok-Some.ensures.next in
     let inside = rw c.in-Ok-Some.field-0-is at c.in-Ok-Some.ensures.bound in
     each _ _ _
-    (λ log u. broken (flushed u _ c.read_line.ensures.keeps) left_then c.read_line.new.line c.in-Ok-Some.held
-    (omega (arith, c.read_line.array_long)) inside line _ _ refl c.play.ensures.front)
+    (λ log u. line_broken (flushed u _ c.read_line.ensures.keeps) left_then c.read_line.new.line c.in-Ok-Some.held
+    (omega (arith, c.read_line.array_long)) inside line _ c.play.ensures.front)
     c.loop-played.invariant
 
 pub returns-in-Ok-finish-clause-whole : goal.returns-in-Ok-finish-clause-whole
@@ -39,7 +41,7 @@ returns-in-Ok-finish-clause-whole g c =
     let left_then = left_in g.R.ByteSource.remaining c.read_line.new.from in
     let none = rw c.in-Ok-None.field-0-is at c.in-Ok-None.ensures.next in
     each _ _ _
-    (λ log u. ended (flushed u _ c.read_line.ensures.keeps) left_then (take keptMost c.read_line.new.line) _ none refl _
+    (λ log u. log_ended (flushed u _ c.read_line.ensures.keeps) left_then (take keptMost c.read_line.new.line) none _
     c.in-Ok-finish.ensures.whole)
     c.loop-played.invariant
 
@@ -48,7 +50,7 @@ returns-in-Ok-finish-clause-front g c =
     let left_then = left_in g.R.ByteSource.remaining c.read_line.new.from in
     let none = rw c.in-Ok-None.field-0-is at c.in-Ok-None.ensures.next in
     each _ _ _
-    (λ log u. cut (flushed u _ c.read_line.ensures.keeps) left_then (take keptMost c.read_line.new.line) _ none refl _
+    (λ log u. log_cut (flushed u _ c.read_line.ensures.keeps) left_then (take keptMost c.read_line.new.line) none _
     c.finish.ensures.front)
     c.loop-played.invariant
 
@@ -57,29 +59,37 @@ returns-in-Err-finish-clause-front g c =
     let left_then = left_in g.R.ByteSource.remaining c.read_line.new.from in
     let none = rw c.in-Ok-None.field-0-is at c.in-Ok-None.ensures.next in
     each _ _ _
-    (λ log u. cut (flushed u _ c.read_line.ensures.keeps) left_then (take keptMost c.read_line.new.line) _ none refl _
+    (λ log u. log_cut (flushed u _ c.read_line.ensures.keeps) left_then (take keptMost c.read_line.new.line) none _
     c.finish.ensures.front)
     c.loop-played.invariant
 
 pub returns-in-Err-clause-front : goal.returns-in-Err-clause-front
 returns-in-Err-clause-front g c =
-    each _ _ _ (λ log u. so_far (flushed u _ c.read_line.ensures.keeps)) c.loop-played.invariant
+    each _ _ _
+    (λ log u. is_front u (so_far (flushed u _ c.read_line.ensures.keeps))) c.loop-played.invariant
 
 pub returns-in-Err-clause-err : goal.returns-in-Err-clause-err
 returns-in-Err-clause-err g c =
-    came _ _ _ _ _ _ _ (left_in g.R.ByteSource.remaining c.args.from.now)
-    (left_in g.R.ByteSource.remaining c.loop-played.from) c.in-Err.failure c.loop-played.invariant c.in-Err.ensures.err
+    let a = left_in g.R.ByteSource.remaining c.args.from.now in
+    let left = left_in g.R.ByteSource.remaining c.loop-played.from in
+    came _ _ IsTooLong a left c.in-Err.failure
+    (line_endless c.args.begun c.loop-played.tested.device (g.W.ByteSink.contents c.args.to.now)
+    (g.W.ByteSink.contents c.loop-played.to) a left c.loop-played.played c.loop-played.invariant)
+    c.in-Err.ensures.err
 
 pub returns-in-Ok-flush-clause-front : goal.returns-in-Ok-flush-clause-front
 returns-in-Ok-flush-clause-front g c =
-    each _ _ _ (λ log u. so_far (flushed u _ c.flush.ensures.keeps)) c.loop-played.invariant
+    each _ _ _ (λ log u. is_front u (so_far (flushed u _ c.flush.ensures.keeps))) c.loop-played.invariant
 
 pub returns-in-Err-flush-clause-front : goal.returns-in-Err-flush-clause-front
 returns-in-Err-flush-clause-front g c =
-    each _ _ _ (λ log u. so_far (flushed u _ c.flush.ensures.keeps)) c.loop-played.invariant
+    each _ _ _ (λ log u. is_front u (so_far (flushed u _ c.flush.ensures.keeps))) c.loop-played.invariant
 
 pub returns-in-Ok-flush-clause-err : goal.returns-in-Ok-flush-clause-err
-returns-in-Ok-flush-clause-err g c = each _ _ _ (λ log u. too_many u (omega arith)) c.loop-played.invariant
+returns-in-Ok-flush-clause-err g c =
+    lines_many c.args.begun c.loop-played.tested.device (g.W.ByteSink.contents c.args.to.now)
+    (g.W.ByteSink.contents c.loop-played.to) (left_in g.R.ByteSource.remaining c.args.from.now)
+    (left_in g.R.ByteSource.remaining c.loop-played.from) c.loop-played.played c.loop-played.invariant (omega arith)
 
 pub returns-in-Err-clause-short : goal.returns-in-Err-clause-short
 returns-in-Err-clause-short g c =

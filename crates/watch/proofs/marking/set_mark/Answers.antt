@@ -1,8 +1,7 @@
 -- A record stays legal, or not legal.
-use Rattle.std.proofs.Common.{ℕ, ap, sym, ◌∙◌}
+use Rattle.std.proofs.Common.{ap, sym, ◌∙◌}
 use Rattle.record.specs.Given.{left_by}
 use Rattle.record.specs.Legal.{isLegal}
-use Rattle.record.specs.HostCalls.{markSet}
 use Rattle.record.proofs.GivenTold.{device_given}
 use Rattle.watch.specs.Marking.{marked, doneBy}
 use Rattle.watch.proofs.LineLeaves.{done-legality}
@@ -13,9 +12,10 @@ unfolding doneBy
 invariant_of-t c =
     let d = c.args.t.now.device in
     let done = device_given d _ _ c.set_mark-told.ensures.kept
-    ∙ ap (left_by d) (c.set_mark-told.ensures.given ∙ ap (λ (k : ℕ). markSet d k c.args.mark) c.place.ensures) in
+    ∙ ap (left_by d) c.set_mark-told.ensures.given in
     record {
-      tested = c.args.t.now.tested ∙ sym (ap isLegal done ∙ done-legality d (marked c.args.lamp c.args.mark));
+      tested = c.args.t.now.tested
+          ∙ sym (ap isLegal done ∙ done-legality d (marked c.args.lamp c.args.mark));
     }
 
 pub returns : goal.returns
@@ -23,4 +23,4 @@ unfolding doneBy
 returns c =
     let d = c.args.t.now.device in
     device_given d _ _ c.set_mark-told.ensures.kept
-    ∙ ap (left_by d) (c.set_mark-told.ensures.given ∙ ap (λ (k : ℕ). markSet d k c.args.mark) c.place.ensures)
+    ∙ ap (left_by d) c.set_mark-told.ensures.given

@@ -1,0 +1,2 @@
+mod TellingsTold
+mod LinesTold

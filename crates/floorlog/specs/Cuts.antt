@@ -1,0 +1,34 @@
+-- The last line of a log that cannot be played to its end (RULES, Floor log).
+--   failure_line f      "the last line is `! read failed`, in the place of all that is printed at the end. Where the
+--                       count of lines, of a line's bytes or of seconds could pass 64 bits it is `! broken off`"; of a
+--                       failed write it goes to standard error
+--   end_text told       what is written last: that line, and after a failed write nothing more
+--   EndFails fails told e    the errors of what is written last: those of the sink, and after a failed write its own
+--   number_line n       "A FORM that does not load prints one line, `! ` and its number"
+-- Assumes nothing.
+use Rattle.std.specs.Prelude.{ℕ, ◌≡◌, List, [], ◌∷◌, codes, Ok, Err}
+use Rattle.std.specs.declared.result.Result.{Result}
+use Rattle.std.specs.declared.io.Error.{Error}
+use Rattle.textio.specs.Forms.{form_filled}
+use Rattle.textio.specs.declared.lines.Failure.{Failure}
+use Rattle.textio.specs.declared.lines.Failure.TheVariants.{Read, Write, TooLong}
+
+abbrev pub failure_line : Failure → List ℕ
+failure_line (Read e) = codes "! read failed\n"
+failure_line (Write e) = codes "! write failed\n"
+failure_line TooLong = codes "! broken off\n"
+
+abbrev pub end_text : Result (Unit {0}) Failure → List ℕ
+end_text (Ok v) = []
+end_text (Err (Read e)) = failure_line (Read e)
+end_text (Err (Write e)) = []
+end_text (Err TooLong) = failure_line TooLong
+
+abbrev pub EndFails : (Error → Type 0) → Result (Unit {0}) Failure → Error → Type 0
+EndFails fails (Ok v) e = fails e
+EndFails fails (Err (Read x)) e = fails e
+EndFails fails (Err (Write x)) e = e ≡ x
+EndFails fails (Err TooLong) e = fails e
+
+abbrev pub number_line : ℕ → List ℕ
+number_line n = form_filled (codes "! #\n") (n ∷ [])

@@ -1,0 +1,51 @@
+// The last line of a log that cannot be played to its end (RULES, Floor log).
+ghost use Rattle.std.specs.Prelude.{[], List, ℕ, ◌≡◌, ◌≢◌, ◌++◌, OnOk, Err};
+ghost use Rattle.std.specs.declared.io.Error.{Error};
+ghost use Rattle.textio.specs.Fronts.{WritesText};
+ghost use Rattle.record.specs.declared.types.Device.{Device};
+ghost use Rattle.floorlog.specs.Playing.{replayed};
+ghost use Rattle.floorlog.specs.Cuts.{failure_line, end_text, EndFails, number_line};
+
+use std::io;
+use textio::forms::fill;
+use textio::lines::Failure;
+use textio::writer::{ByteSink, put};
+
+/// What stands last for a failure. No log that is played back ends so by itself.
+pub fn last_line(failure: &Failure) -> &'static [u8]
+    ensures line { result.now ≡ failure_line failure.now }
+    ensures no_log { (d : Device) (log before : List ℕ) → replayed d log ≢ before ++ result.now }
+{
+    match failure {
+        Failure::Read(_) => b"! read failed\n",
+        Failure::Write(_) => b"! write failed\n",
+        Failure::TooLong => b"! broken off\n",
+    }
+}
+
+/// What stands last where a log was cut short, and all that waits is handed on. After a failed write nothing is
+/// written, since more output would hide what is missing: its error is given back.
+pub fn end_output<W: ByteSink>(told: Result<(), Failure>, to: &mut W) -> io::Result<()>
+    ensures text { WritesText (EndFails W.fails_with told) (W.contents to.old) (W.contents to.new) result
+        (end_text told) }
+    ensures none_waits { OnOk result (W.waiting to.new ≡ []) }
+    ensures failed { (e : Error) → told ≡ Err (Failure.Write e) → result ≡ Err e }
+{
+    match told {
+        Ok(()) => to.flush(),
+        Err(Failure::Write(error)) => Err(error),
+        Err(failure) => {
+            put(to, last_line(&failure))?;
+            to.flush()
+        }
+    }
+}
+
+/// The one line for a form that does not load.
+pub fn tell_number<W: ByteSink>(to: &mut W, number: u32) -> io::Result<()>
+    ensures text { WritesText W.fails_with (W.contents to.old) (W.contents to.new) result (number_line number) }
+    ensures none_waits { OnOk result (W.waiting to.new ≡ []) }
+{
+    fill(to, "! #\n", &[number as u64])?;
+    to.flush()
+}

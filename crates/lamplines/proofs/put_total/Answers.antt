@@ -1,9 +1,0 @@
-use Rattle.std.proofs.Common.{◌+◌, get_or}
-use Rattle.lamplines.proofs.Told.{total_filled}
-use Rattle.lamplines.proofs.put_total.Goals as goal
-
-pub returns : goal.returns
-returns g c =
-    let k = c.args.k in
-    let t = c.args.t in
-    rw (total_filled (k + 1) (get_or t.starts k 0) (get_or t.burnt k 0) (get_or t.lasts k 0)) at c.fill.ensures

@@ -1,6 +1,0 @@
-use Rattle.page.specs.Days.{band}
-use Rattle.page.proofs.days.put_band.Goals as goal
-
-pub returns : goal.returns
-unfolding band
-returns g c = let h = c.fill.ensures in rw c.top-y.ensures.value at c.fill.ensures

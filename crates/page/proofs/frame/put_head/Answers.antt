@@ -1,6 +1,0 @@
-use Rattle.page.specs.Frame.{head}
-use Rattle.page.proofs.frame.put_head.Goals as goal
-
-pub returns : goal.returns
-unfolding head
-returns g c = c.put.ensures

@@ -1,0 +1,13 @@
+use Rattle.textio.proofs.Fronts.{writes_then, writes_fails, writes_failed, writes_last}
+use Rattle.report.proofs.days.draw_in.Goals as goal
+
+pub returns-in_err-opened-clause-text : goal.returns-in_err-opened-clause-text
+returns-in_err-opened-clause-text g c = writes_fails _ c.in_err-opened.ensures.text c.from_residual.ensures
+
+pub returns-in_err-put_bars_in-clause-text : goal.returns-in_err-put_bars_in-clause-text
+returns-in_err-put_bars_in-clause-text g c =
+    writes_then c.in_ok-opened.ensures.text
+    (writes_failed c.in_err-put_bars_in.ensures c.from_residual-in_err-put_bars_in.ensures)
+
+pub returns-clause-text : goal.returns-clause-text
+returns-clause-text g c = writes_last _ c.in_ok-opened.ensures.text.whole c.in_ok-put_bars_in.ensures

@@ -1,0 +1,17 @@
+use Rattle.textio.proofs.Fronts.{writes_then, writes_fails}
+use Rattle.report.specs.Frame.{table}
+use Rattle.report.proofs.frame.put_table.Goals as goal
+
+pub returns-in_err-put : goal.returns-in_err-put
+unfolding table
+returns-in_err-put g c = writes_fails _ c.in_err-put.ensures c.from_residual.ensures
+
+pub returns-in_err-put_totals : goal.returns-in_err-put_totals
+unfolding table
+returns-in_err-put_totals g c =
+    writes_then c.in_ok-put.ensures
+    (writes_fails _ c.in_err-put_totals.ensures c.from_residual-in_err-put_totals.ensures)
+
+pub returns : goal.returns
+unfolding table
+returns g c = writes_then c.in_ok-put.ensures (writes_then c.in_ok-put_totals.ensures c.put-2.ensures)

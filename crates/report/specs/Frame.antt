@@ -1,0 +1,60 @@
+-- What stands around the days of a page (RULES, Floor log): "one HTML document with no script in it".
+--   head         the document's head, title and a line of help
+--   hours        "the hours 0 to 24 along the top"
+--   total_at starts burnt lasts k     "each lamp's seconds at the start, burnt, and now", of the lamp at place k
+--   table n starts burnt lasts        the same of n lamps
+--   page_begun       what stands above the rows
+--   page_ended rows seconds n ..    the rows up to the end of a log of so many seconds, and what stands below them
+-- Assumes nothing.
+use Rattle.std.specs.Prelude.{ℕ, ◌+◌, List, [], ◌∷◌, ◌++◌, get_or, codes}
+use Rattle.std.specs.List.{flat_map, range_with_len}
+use Rattle.textio.specs.Forms.{form_filled}
+use Rattle.report.specs.Days.{days_of, rows_opened, row_ended}
+
+unfoldable pub head : List ℕ
+head = codes "<!DOCTYPE html>\n"
+    ++ (codes "<html lang=\"en\"><head><meta charset=\"utf-8\"><title>Which lamp burnt when</title>\n"
+    ++ (codes "<style>\n"
+    ++ (codes "body{font:14px sans-serif;margin:1.5em;color:#000;background:#fff}\n"
+    ++ (codes "h1{font-size:1.3em}\n"
+    ++ (codes "svg{display:block;width:100%;max-width:1100px;break-inside:avoid}\n"
+    ++ (codes "text{font:11px sans-serif}\n"
+    ++ (codes ".b{fill:#f4f4f4;stroke:#bbb;stroke-width:.5}\n"
+    ++ (codes ".h{stroke:#bbb;stroke-width:.5}\n"
+    ++ (codes ".l{fill:#0072b2;stroke:#000;stroke-width:.6}\n"
+    ++ (codes "table{border-collapse:collapse;margin-top:1em}\n"
+    ++ (codes "td,th{border:1px solid #888;padding:.25em .7em;text-align:right}\n"
+    ++ (codes "@media print{body{margin:0}.l,.b{-webkit-print-color-adjust:exact;print-color-adjust:exact}}\n"
+    ++ (codes "</style></head><body>\n"
+    ++ (codes "<h1>Which lamp burnt when</h1>\n"
+    ++ (codes "<p>A row is a day since the log began, a band in it a lamp; a dark bar is a stretch that it burnt. "
+    ++ codes "Rest on a bar to read its seconds.</p>\n")))))))))))))))
+
+unfoldable pub hours : List ℕ
+hours = codes "<svg viewBox=\"0 0 1100 16\" role=\"img\" aria-label=\"hours of the day\"><g text-anchor=\"middle\">"
+    ++ (codes "<text y=\"12\" x=\"90\">0</text><text y=\"12\" x=\"170\">2</text><text y=\"12\" x=\"250\">4</text>"
+    ++ (codes "<text y=\"12\" x=\"330\">6</text><text y=\"12\" x=\"410\">8</text><text y=\"12\" x=\"490\">10</text>"
+    ++ (codes "<text y=\"12\" x=\"570\">12</text><text y=\"12\" x=\"650\">14</text><text y=\"12\" x=\"730\">16</text>"
+    ++ (codes "<text y=\"12\" x=\"810\">18</text><text y=\"12\" x=\"890\">20</text><text y=\"12\" x=\"970\">22</text>"
+    ++ codes "<text y=\"12\" x=\"1050\">24</text></g></svg>\n"))))
+
+unfoldable pub total_at : List ℕ → List ℕ → List ℕ → ℕ → List ℕ
+total_at starts burnt lasts k = form_filled (codes "<tr><th>#</th><td>#</td><td>#</td><td>#</td></tr>\n")
+    ((k + 1) ∷ get_or starts k 0 ∷ get_or burnt k 0 ∷ get_or lasts k 0 ∷ [])
+
+unfoldable pub totals : ℕ → List ℕ → List ℕ → List ℕ → List ℕ
+totals lamps starts burnt lasts = flat_map (total_at starts burnt lasts) (range_with_len 0 lamps)
+
+abbrev pub table_begun : List ℕ
+table_begun = codes "<table><caption>Seconds of each lamp</caption>"
+    ++ codes "<tr><th>lamp</th><th>at the start</th><th>burnt</th><th>now</th></tr>\n"
+
+unfoldable pub table : ℕ → List ℕ → List ℕ → List ℕ → List ℕ
+table lamps starts burnt lasts = table_begun ++ (totals lamps starts burnt lasts ++ codes "</table>\n")
+
+unfoldable pub page_begun : List ℕ
+page_begun = head ++ hours
+
+unfoldable pub page_ended : ℕ → ℕ → ℕ → List ℕ → List ℕ → List ℕ → List ℕ
+page_ended rows seconds lamps starts burnt lasts = rows_opened lamps rows (days_of seconds)
+    ++ (row_ended ++ (table lamps starts burnt lasts ++ codes "</body></html>\n"))

@@ -1,0 +1,70 @@
+// One self-contained HTML document: a row for each day since a log began, in it a band for each lamp, lit stretches as
+// bars; the hours along the top; a table of totals (RULES, Floor log). It is written as it comes: a stretch is drawn
+// once it has ended, and rows are opened up to its days. Bands stand apart by place and name, so that no colour has to
+// be told from another.
+ghost use Rattle.std.specs.Prelude.{◌≡◌, ◌≤◌, length, IfOk};
+ghost use Rattle.textio.specs.Fronts.{WritesText};
+ghost use Rattle.report.specs.Days.{days_of, rows_drawn, drawn};
+ghost use Rattle.report.specs.Frame.{page_begun, page_ended};
+
+use crate::lamps::Totals;
+use crate::{days, frame};
+use std::io;
+use textio::writer::{ByteSink, put};
+
+pub(crate) const DAY: u64 = 86400;
+
+/// A stretch that lamps burnt, in seconds since the log began; the second `to` is not in it.
+#[derive(Clone, Copy)]
+pub struct Stretch {
+    pub from: u64,
+    pub to: u64,
+}
+
+/// What stands above the rows.
+pub fn begin<W: ByteSink>(out: &mut W) -> io::Result<()>
+    ensures { WritesText W.fails_with (W.contents out.old) (W.contents out.new) result page_begun }
+{
+    frame::put_head(out)?;
+    frame::put_hours(out)
+}
+
+// So many days have one of these seconds. A log of no seconds has its first day all the same.
+fn days_until(seconds: u64) -> u64
+    ensures { result ≡ days_of seconds }
+{
+    if 0 < seconds {
+        return (seconds - 1) / DAY + 1;
+    }
+    1
+}
+
+/// A stretch of the lamps whose marks are set, where there are so many rows, the last of them open; how many there are
+/// then.
+pub fn draw<W: ByteSink>(out: &mut W, rows: u64, lit: &[bool], s: Stretch) -> io::Result<u64>
+    requires { length lit.now ≤ 8 }
+    ensures rows { IfOk result (λ n. n ≡ rows_drawn rows s.from s.to) }
+    ensures text { WritesText W.fails_with (W.contents out.old) (W.contents out.new) result
+        (drawn rows lit.now s.from s.to) }
+{
+    if s.to <= s.from {
+        return Ok(rows);
+    }
+    let mut opened = rows;
+    for before in s.from / DAY..days_until(s.to) {
+        opened = days::draw_in(out, opened, before + 1, lit, s)?;
+    }
+    Ok(opened)
+}
+
+/// The rows up to the end of a log of so many seconds, and what stands below them.
+pub fn end<W: ByteSink>(out: &mut W, rows: u64, seconds: u64, t: Totals) -> io::Result<()>
+    requires { t.count ≤ 8 }
+    ensures { WritesText W.fails_with (W.contents out.old) (W.contents out.new) result
+        (page_ended rows seconds t.count t.starts t.burnt t.lasts) }
+{
+    days::open_to(out, t.count as u64, rows, days_until(seconds))?;
+    put(out, b"</svg>\n")?;
+    frame::put_table(out, t)?;
+    put(out, b"</body></html>\n")
+}

@@ -1,0 +1,111 @@
+// For tests: a source that gives odd pieces, or fails in mid-stream, and a sink that takes odd pieces, or fails.
+ghost use Rattle.std.specs.Prelude.{◌≡◌, ◌≤◌, ⊤, None, [], take};
+
+use crate::reader::ByteSource;
+use crate::writer::ByteSink;
+use std::io;
+use std::io::{Error, ErrorKind};
+
+/// At most `most` bytes a read; after `until` bytes the next read fails, if it comes to that.
+#[derive(Drop)]
+pub struct Pieces {
+    pub log: &'static [u8],
+    pub most: usize,
+    pub until: usize,
+}
+
+impl ByteSource for Pieces {
+    ghost remaining = { λ _. None };
+
+    ghost fails_with = { λ _. ⊤ };
+
+    fn read(&mut self, buf: &mut [u8]) -> io::Result<usize> {
+        if self.until == 0 {
+            return Err(Error::from(ErrorKind::Other));
+        }
+        let count = self.log.len().min(self.most).min(self.until).min(buf.len());
+        buf[..count].copy_from_slice(&self.log[..count]);
+        self.log = &self.log[count..];
+        self.until -= count;
+        Ok(count)
+    }
+}
+
+const ROOM: usize = 64;
+
+/// Takes at most one byte more than `spare` a write, and fails where it has `room` bytes; 64 are the most.
+#[derive(Drop)]
+pub struct Taken {
+    bytes: [u8; ROOM],
+    count: usize,
+    flushed: usize,
+    spare: usize,
+    room: usize,
+    ghost inside: { count ≤ 64 },
+}
+
+impl Taken {
+    /// Before anything is written.
+    pub fn new(spare: usize, room: usize) -> Taken
+        ensures { result.count ≡ 0 }
+    {
+        Taken {
+            bytes: [0; ROOM],
+            count: 0,
+            flushed: 0,
+            spare,
+            room,
+        }
+    }
+
+    /// What it has got.
+    pub fn text(&self) -> &[u8]
+        ensures { result.now ≡ take self.now.count self.now.bytes }
+    {
+        &self.bytes[..self.count]
+    }
+
+    /// So many bytes of it had come when it was last flushed.
+    pub fn flushed(&self) -> usize
+        ensures { result ≡ self.now.flushed }
+    {
+        self.flushed
+    }
+
+    /// It has so much room from now on.
+    pub fn set_room(&mut self, room: usize)
+        ensures room { self.new.room ≡ room }
+        ensures kept { (self.new.count ≡ self.old.count) × (self.new.bytes ≡ self.old.bytes) }
+    {
+        self.room = room;
+    }
+}
+
+impl ByteSink for Taken {
+    ghost contents = { λ _. None };
+
+    ghost waiting = { λ _. [] };
+
+    ghost fails_with = { λ _. ⊤ };
+
+    fn write(&mut self, buf: &[u8]) -> io::Result<usize> {
+        let end = self.room.min(ROOM);
+        if self.count >= end {
+            return Err(Error::from(ErrorKind::Other));
+        }
+        let free = (end - self.count).min(buf.len());
+        let count = if free <= self.spare {
+            free
+        } else {
+            self.spare + 1
+        };
+        self.bytes[self.count..self.count + count].copy_from_slice(&buf[..count]);
+        self.count += count;
+        Ok(count)
+    }
+
+    fn flush(&mut self) -> io::Result<()> {
+        self.flushed = self.count;
+        Ok(())
+    }
+}
