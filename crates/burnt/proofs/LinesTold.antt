@@ -18,6 +18,7 @@ use Rattle.textio.specs.NextLine.{IsNextLine, FailureComesOf}
 use Rattle.textio.specs.declared.lines.Failure.{Failure}
 use Rattle.textio.specs.declared.lines.Failure.TheVariants.{Read, Write, TooLong}
 use Rattle.textio.proofs.LinesCounted.{lines_fit, too_long_bytes}
+use Rattle.textio.proofs.Fronts.{front_then, front_more}
 use Rattle.textio.proofs.Underway.{Underway, each, begun, line_is, played, broken, ended, cut, endless, too_many}
 use Rattle.floorlog.specs.Replaying.{keptMost}
 use Rattle.watch.specs.Marking.{FloorEvent, floorEvent, secondsBy}
@@ -126,6 +127,16 @@ module _ (starts : List ℕ) (r report : Report) (s at : Watching) (old now a le
   lines_many many =
       each a (λ log. Told starts r s log old now left n report at) IsUntold (λ log x. inl (too_many x many)) u
 
+  -- a line's seconds cannot be counted
+  pub line_over : (left_then : Option (List ℕ)) (memory : List ℕ) (held : ℕ) → keptMost ≤ length memory
+      → held ≤ keptMost → IfSome left (λ xs. IsNextLine xs left_then (take keptMost memory) (Some held))
+      → s.time ≡ 0
+      → IfSome a (λ log. 2 ^ 64 ≤ at.time + secondsBy (floorEvent (take held memory)) → IsUntold log)
+  line_over left_then memory held room inside next zero =
+      each a (λ log. Told starts r s log old now left n report at)
+      (λ log. 2 ^ 64 ≤ at.time + secondsBy (floorEvent (take held memory)) → IsUntold log)
+      (λ log x h. line_uncounted starts x left_then memory held room inside next h zero) u
+
 -- a line that could not be told is why the log was not
 pub line_came : (reads writes : Error → Type 0) (a : Option (List ℕ)) (s : Watching) (e : FloorEvent) (f : Failure)
     → IfSome a (λ log. 2 ^ 64 ≤ s.time + secondsBy e → IsUntold log) → LineFails writes s e f
@@ -153,6 +164,14 @@ told_where_short {T} (Some log) z reads writes h =
     subst (λ (x : Result T Failure). IfErr x (FailureComesOf reads writes IsUntold (Some log))) e h in
     omega (arith, short, untold_bytes log long)
 
-pub of_any : (a : Option (List ℕ)) (P : List ℕ → Type 0) → ((log : List ℕ) → P log) → IfSome a P
-of_any None P f = tt
-of_any (Some log) P f = f log
+-- what stands before it, and then what is told of the log
+pub begun_then : (a old mid new : Option (List ℕ)) (first : List ℕ) (text : List ℕ → List ℕ) → Appends old mid first
+    → IfSome a (λ log. WritesFront mid new (text log)) → IfSome a (λ log. WritesFront old new (first ++ text log))
+begun_then None old mid new first text w f = tt
+begun_then (Some log) old mid new first text w f = front_then old mid new first (text log) w f
+
+-- only some of what stands before it
+pub begun_cut : (a old new : Option (List ℕ)) (first : List ℕ) (text : List ℕ → List ℕ) → WritesFront old new first
+    → IfSome a (λ log. WritesFront old new (first ++ text log))
+begun_cut None old new first text f = tt
+begun_cut (Some log) old new first text f = front_more old new first (text log) f

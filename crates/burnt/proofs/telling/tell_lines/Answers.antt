@@ -7,7 +7,7 @@ use Rattle.watch.specs.Marking.{floorEvent}
 use Rattle.watch.specs.Watching.{watchingFrom}
 use Rattle.watch.specs.States.{stateOf}
 use Rattle.burnt.specs.Told.{IsUntold}
-use Rattle.burnt.proofs.LinesTold.{none_told, line_told, line_untold, line_uncounted, line_came, end_told, end_cut}
+use Rattle.burnt.proofs.LinesTold.{none_told, line_told, line_untold, line_over, line_came, end_told, end_cut}
 use Rattle.burnt.proofs.LinesTold.{line_endless, lines_many}
 use Rattle.burnt.proofs.telling.tell_lines.Goals as goal
 
@@ -42,12 +42,13 @@ returns-in-Err-tell_line-clause-err g c =
     let left_then = left_in g.R.ByteSource.remaining c.read_line.new.from in
     let line = rw c.in-Ok-Some.field-0-is at c.in-Ok-Some.ensures.next in
     let inside = rw c.in-Ok-Some.field-0-is at c.in-Ok-Some.ensures.bound in
-    line_came _ _ (left_in g.R.ByteSource.remaining c.args.from.now) (stateOf c.loop.watch)
-    (floorEvent (take c.in-Ok-Some.held c.read_line.new.line)) c.in-Err-tell_line.failure
-    (each _ _ _
-    (λ log u h. line_uncounted c.args.starts u left_then c.read_line.new.line c.in-Ok-Some.held
-    (omega (arith, c.read_line.array_long)) inside line h refl)
-    c.loop.invariant)
+    let a = left_in g.R.ByteSource.remaining c.args.from.now in
+    line_came _ _ a (stateOf c.loop.watch) (floorEvent (take c.in-Ok-Some.held c.read_line.new.line))
+    c.in-Err-tell_line.failure
+    (line_over c.args.starts c.args.begun_report c.loop.report (watchingFrom c.args.begun) (stateOf c.loop.watch)
+    (g.W.ByteSink.contents c.args.to.now) (g.W.ByteSink.contents c.loop.to) a
+    (left_in g.R.ByteSource.remaining c.loop.from) c.loop.counter c.loop.invariant left_then c.read_line.new.line
+    c.in-Ok-Some.held (omega (arith, c.read_line.array_long)) inside line refl)
     c.in-Err-tell_line.ensures.text.err
 
 pub returns-in-Ok-tell_end-clause-whole : goal.returns-in-Ok-tell_end-clause-whole
