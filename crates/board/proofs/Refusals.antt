@@ -53,7 +53,7 @@ module _ (secured : Bool) (random : ℕ) (password : List ℕ) (room : ℕ) wher
 
   pub no-command-written : (k : Coded) → commandOf k ≡ None → commandRoom ≤ room
       → written_by (commandOf k) secured random password room ≡ nothingWritten 3
-    no-command-written k e enough =
+  no-command-written k e enough =
       ap (λ (m : Option Command). written_by m secured random password room) e
       ∙ if_no (nothingWritten 2) (nothingWritten 3) (le-ltb room commandRoom enough)
 
