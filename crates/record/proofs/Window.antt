@@ -105,8 +105,13 @@ module _ (room : ℕ) (s : List ℕ) (long : length s ≡ room) where
   none_named : fillsRoom room (isText 0) s 0 ≡ is_some (used is_zero room s 0)
   unfolding fillsRoom
   none_named =
-      grind (arith, common_steps, empty-text 0, is_some_used is_zero room s 0 long,
-      holds_used is_zero room (isText 0) s 0 (omega arith) long)
+      grind (
+        arith,
+        common_steps,
+        empty-text 0,
+        is_some_used is_zero room s 0 long,
+        holds_used is_zero room (isText 0) s 0 (omega arith) long,
+      )
 
   some_named : (n : ℕ) → 0 < n → fillsRoom room (isText 0) s n ≡ false
   unfolding fillsRoom
