@@ -47,23 +47,31 @@ def declared(text):
 
     Sections (`module _ .. where`) are looked into; what is declared inside a proof (`where`, `let`) is not there.
     """
-    return list(block([line for line in text.split("\n") if line.strip()], "module"))
+    return [("statement" if kind == "function" else kind, name) for kind, name, _ in stated(text)]
 
 
-def block(lines, inside):
+def stated(text):
+    """The same with what is said of each name: its type, and the sections round it; a definition is a function."""
+    return list(block([line for line in text.split("\n") if line.strip()], "module", ""))
+
+
+def block(lines, inside, heads):
     column = lambda line: len(line) - len(line.lstrip())
     starts = [n for n, line in enumerate(lines) if column(line) == column(lines[0])]
     for start, end in zip(starts, starts[1:] + [len(lines)]):
         item = lines[start:end]
-        words = re.sub(r"^\s*((unfoldable|abbrev|axiom|pub)\s+)*", "", "\n".join(item)).split()
+        marks = re.match(r"\s*((?:(?:unfoldable|abbrev|axiom|pub)\s+)*)", "\n".join(item))
+        words = "\n".join(item)[marks.end() :].split()
         if words[0] in ("module", "record", "data"):
-            if words[0] != "module":
-                yield "type", words[1]
             head = next((n for n, line in enumerate(item) if line.split()[-1] == "where"), len(item))
-            yield from block(item[head + 1 :], words[0])
+            said = " ".join(item[: head + 1])
+            if words[0] != "module":
+                yield "type", words[1], said
+            yield from block(item[head + 1 :], words[0], f"{heads} {said} →")
         elif ":" in words:
             names = re.sub(r"\{[^}]*\}", "", " ".join(words[: words.index(":")])).split()
+            said = f"{heads} {' '.join(words[words.index(':') + 1 :])}"
             if inside != "module":
-                yield from (("member", name) for name in names)
+                yield from (("member", name, said) for name in names)
             elif len(names) == 1:
-                yield "statement", names[0]
+                yield "function" if re.search(r"unfoldable|abbrev", marks[1]) else "statement", names[0], said

@@ -1,8 +1,8 @@
 -- The calls over lists leave one result each, the lent list included, and the numbers of a day call are those of one
 -- verdict, of one answer of the planner.
 -- Assumes nothing.
-use Rattle.std.proofs.Common.{[], ◌∷◌, ℕ, ◌≡◌, ◌≤◌, List, Ok, Err, Result, eqb, if◌then◌else◌, refl, sym, ap, ◌∙◌, inl}
-use Rattle.std.proofs.Common.{inr, length, arith}
+use Rattle.std.proofs.Common.{[], ◌∷◌, ℕ, ◌≡◌, ◌≤◌, List, Ok, Err, Result, if◌then◌else◌, refl, sym, ap, ◌∙◌, inl}
+use Rattle.std.proofs.Common.{inr, length, arith, ◌==◌}
 use Rattle.std.proofs.lemmas.List.{length-map}
 use Rattle.std.proofs.lemmas.List.FromFn.{length-map-range_with_len}
 use Rattle.std.specs.Prelude.{ℤ}
@@ -25,11 +25,11 @@ use Rattle.board.specs.declared.lamps.Report.{Report}
 -- the verdict that its numbers tell
 abbrev verdict_from : FlatVerdict → Result (Unit {0}) CheckError
 verdict_from f =
-    if eqb f.number 3 then Err OutOfRange
-    else if eqb f.rule 0 then Ok tt
-    else if eqb f.rule 1 then Err (NoRig f.first)
-    else if eqb f.rule 2 then Err (TooEarly f.first)
-    else if eqb f.rule 3 then Err (Clash f.first f.second)
+    if f.number == 3 then Err OutOfRange
+    else if f.rule == 0 then Ok tt
+    else if f.rule == 1 then Err (NoRig f.first)
+    else if f.rule == 2 then Err (TooEarly f.first)
+    else if f.rule == 3 then Err (Clash f.first f.second)
     else Err (Spent f.first)
 
 verdict_told : (v : Result (Unit {0}) CheckError) → verdict_from (flat_verdict v) ≡ v
@@ -44,7 +44,7 @@ pub flat_verdict_back : (v w : Result (Unit {0}) CheckError) → flat_verdict v 
 flat_verdict_back v w e = sym (verdict_told v) ∙ ap verdict_from e ∙ verdict_told w
 
 abbrev plan_from : FlatPlan → Result (Unit {0}) PlanError
-plan_from f = if eqb f.number 3 then Err NoDay else if f.planned then Ok tt else Err (Unplaced f.job)
+plan_from f = if f.number == 3 then Err NoDay else if f.planned then Ok tt else Err (Unplaced f.job)
 
 plan_told : (p : Result (Unit {0}) PlanError) → plan_from (flat_plan p) ≡ p
 plan_told (Ok _) = refl

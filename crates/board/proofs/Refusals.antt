@@ -2,95 +2,92 @@
 -- calls that take a command by its code, each the first row of the table that applies (RULES, The numbers a call
 -- gives).
 -- Assumes nothing.
-use Prim.Native.Nat.{ℕ, ◌≤◌}
-use mathlib.Core.Path.{◌≡◌, refl, ap, ◌∙◌}
-use mathlib.Core.Bool.{Bool, true, false, not}
-use mathlib.Core.List.{List, []}
-use lib.Dec.{ltb}
-use borrow.Author.Tests.{le-ltb}
+use Rattle.std.proofs.Common.{ℕ, ◌≤◌, ◌≡◌, refl, ap, ◌∙◌, Bool, true, false, not, List, [], nat_lt, le-ltb}
 use Rattle.std.specs.Prelude.{if◌then◌else◌, Option, Some, None}
-use Rattle.text.proofs.Choices.{if-all, if_no}
-use Rattle.pjlink.specs.Forms.{replyParameter}
+use Rattle.text.proofs.Choices.{if_all, if_no}
+use Rattle.pjlink.specs.Forms.{reply_parameter}
 use Rattle.pjlink.specs.declared.command.Command.{Command}
-use Rattle.pjlink.specs.Said.{Said, okay, refused, powerIs, chosenIs, mutesAre, errorsAre, lampsAre, inputsAre}
-use Rattle.pjlink.specs.Said.{textIs, classIs, freezeIs, nothing}
-use Rattle.pjlink.specs.Reading.{readParameter}
-use Rattle.controller.specs.Writing.{WrittenAs, nothingWritten, commandRoom, isWritable}
-use Rattle.controller.specs.Reading.{outcomeNumber, saying, readReply}
+use Rattle.pjlink.specs.Said.{Said, okay, refused, power_is, chosen_is, mutes_are, errors_are, lamps_are, inputs_are}
+use Rattle.pjlink.specs.Said.{text_is, class_is, freeze_is, nothing}
+use Rattle.pjlink.specs.Reading.{read_parameter}
+use Rattle.controller.specs.Writing.{WrittenAs, nothing_written, command_room, is_writable}
+use Rattle.controller.specs.Reading.{reading_outcome_number, saying, read_reply}
 use Rattle.controller.specs.Reading.{Outcome}
-use Rattle.controller.specs.Reading.{Means, Erra, NotALine, OtherCommand, NotAllowed}
-use Rattle.controller.proofs.Cases.{reply-by}
-use Rattle.controller.proofs.Refusals.{refusal-writes-nothing, written-number}
-use Rattle.codes.specs.Commands.{commandOf}
-use Rattle.codes.specs.Readings.{meaningless, flatAs, flat}
-use Rattle.codes.specs.ByCode.{noneWritten, written_by, read_by}
+use Rattle.controller.specs.Reading.{means_it, erra_said, not_a_line, other_command, disallowed}
+use Rattle.controller.proofs.Cases.{reply_by}
+use Rattle.controller.proofs.Refusals.{refusal_writes_nothing, written_number}
+use Rattle.codes.specs.Commands.{coded_command}
+use Rattle.codes.specs.Readings.{meaningless, flat_as, flat}
+use Rattle.codes.specs.ByCode.{none_written, written_by, read_by}
 use Rattle.codes.specs.declared.command.Coded.{Coded}
 
-pub none-bytes : (room : ℕ) → (noneWritten room).bytes ≡ []
-none-bytes room = if-all (λ (w : WrittenAs). w.bytes ≡ []) (ltb room commandRoom) refl refl
+pub none_bytes : (room : ℕ) → (none_written room).bytes ≡ []
+none_bytes room = if_all (λ (w : WrittenAs). w.bytes ≡ []) (nat_lt room command_room) refl refl
 
-none_number : (room : ℕ) → (noneWritten room).number ≡ (if ltb room commandRoom then 2 else 3)
-none_number room = by (ltb room commandRoom)
+none_number : (room : ℕ) → (none_written room).number ≡ (if nat_lt room command_room then 2 else 3)
+none_number room = by (nat_lt room command_room)
   where
-    by : (t : Bool) → (if t then nothingWritten 2 else nothingWritten 3).number ≡ (if t then 2 else 3)
+    by : (t : Bool) → (if t then nothing_written 2 else nothing_written 3).number ≡ (if t then 2 else 3)
     by true = refl
     by false = refl
 
-abbrev pub isWritableBy : Option Command → Bool → List ℕ → Bool
-isWritableBy (Some c) secured password = isWritable c secured password
-isWritableBy None secured password = false
+abbrev pub is_writable_by : Option Command → Bool → List ℕ → Bool
+is_writable_by (Some c) secured password = is_writable c secured password
+is_writable_by None secured password = false
 
 module _ (secured : Bool) (random : ℕ) (password : List ℕ) (room : ℕ) where
-  pub write-number : (m : Option Command) → (written_by m secured random password room).number
-      ≡ (if ltb room commandRoom then 2 else if not (isWritableBy m secured password) then 3 else 0)
-  write-number (Some c) = written-number c secured random password room
-  write-number None = none_number room
+  pub write_number : (m : Option Command) → (written_by m secured random password room).number
+      ≡ (if nat_lt room command_room then 2 else if not (is_writable_by m secured password) then 3 else 0)
+  write_number (Some c) = written_number c secured random password room
+  write_number None = none_number room
 
-  pub refused-writes-nothing : (m : Option Command) → ((written_by m secured random password room).number ≡ 0 → ⊥)
+  pub refused_writes_nothing : (m : Option Command) → ((written_by m secured random password room).number ≡ 0 → ⊥)
       → (written_by m secured random password room).bytes ≡ []
-  refused-writes-nothing (Some c) n = refusal-writes-nothing c secured random password room n
-  refused-writes-nothing None n = none-bytes room
+  refused_writes_nothing (Some c) n = refusal_writes_nothing c secured random password room n
+  refused_writes_nothing None n = none_bytes room
 
-  pub no-command-written : (k : Coded) → commandOf k ≡ None → commandRoom ≤ room
-      → written_by (commandOf k) secured random password room ≡ nothingWritten 3
-  no-command-written k e enough =
+  pub no_command_written : (k : Coded) → coded_command k ≡ None → command_room ≤ room
+      → written_by (coded_command k) secured random password room ≡ nothing_written 3
+  no_command_written k e enough =
       ap (λ (m : Option Command). written_by m secured random password room) e
-      ∙ if_no (nothingWritten 2) (nothingWritten 3) (le-ltb room commandRoom enough)
+      ∙ if_no (nothing_written 2) (nothing_written 3) (le-ltb room command_room enough)
 
-pub no-command-read : (k : Coded) (l : List ℕ) → commandOf k ≡ None → read_by (commandOf k) l ≡ meaningless 3
-no-command-read k l e = ap (λ (m : Option Command). read_by m l) e
+pub no_command_read : (k : Coded) (l : List ℕ) → coded_command k ≡ None → read_by (coded_command k) l ≡ meaningless 3
+no_command_read k l e = ap (λ (m : Option Command). read_by m l) e
 
 -- the number of a reading is its outcome's
-saying-number : (m : Said) → (flat (saying m)).number ≡ outcomeNumber (saying m).outcome
+saying-number : (m : Said) → (flat (saying m)).number ≡ reading_outcome_number (saying m).outcome
 saying-number okay = refl
 saying-number (refused k) = refl
-saying-number (powerIs p) = refl
-saying-number (chosenIs i) = refl
-saying-number (mutesAre video audio) = refl
-saying-number (errorsAre ds) = refl
-saying-number (lampsAre ls) = refl
-saying-number (inputsAre is) = refl
-saying-number (textIs s) = refl
-saying-number (classIs k) = refl
-saying-number (freezeIs on) = refl
+saying-number (power_is p) = refl
+saying-number (chosen_is i) = refl
+saying-number (mutes_are video audio) = refl
+saying-number (errors_are ds) = refl
+saying-number (lamps_are ls) = refl
+saying-number (inputs_are is) = refl
+saying-number (text_is s) = refl
+saying-number (class_is k) = refl
+saying-number (freeze_is on) = refl
 saying-number nothing = refl
 
-pub read_number : (c : Command) (l : List ℕ) → (read_by (Some c) l).number ≡ outcomeNumber (readReply c l).outcome
+pub read_number : (c : Command) (l : List ℕ) →
+    (read_by (Some c) l).number ≡ reading_outcome_number (read_reply c l).outcome
 read_number c l =
-    reply-by c l (λ r. (flat r).number ≡ outcomeNumber r.outcome) (λ e. refl) (λ e f. refl) (λ f b. refl)
-    (λ f b. saying-number (readParameter c (replyParameter l)))
+    reply_by c l (λ r. (flat r).number ≡ reading_outcome_number r.outcome) (λ e. refl) (λ e f. refl) (λ f b. refl)
+    (λ f b. saying-number (read_parameter c (reply_parameter l)))
 
 -- so one with a number that is not 0 has nothing but its number
-flat-or-none : (o : Outcome) (m : Said) → (flatAs o m).number ≡ outcomeNumber o → ((flatAs o m).number ≡ 0 → ⊥)
-    → flatAs o m ≡ meaningless (flatAs o m).number
-flat-or-none Means m e n = absurd (n e)
-flat-or-none Erra m e n = absurd (n e)
-flat-or-none NotALine m e n = refl
-flat-or-none OtherCommand m e n = refl
-flat-or-none NotAllowed m e n = refl
+flat_or_none : (o : Outcome) (m : Said) → (flat_as o m).number ≡ reading_outcome_number o →
+    ((flat_as o m).number ≡ 0 → ⊥)
+    → flat_as o m ≡ meaningless (flat_as o m).number
+flat_or_none means_it m e n = absurd (n e)
+flat_or_none erra_said m e n = absurd (n e)
+flat_or_none not_a_line m e n = refl
+flat_or_none other_command m e n = refl
+flat_or_none disallowed m e n = refl
 
-pub refused-means-nothing : (m : Option Command) (l : List ℕ) → ((read_by m l).number ≡ 0 → ⊥)
+pub refused_means_nothing : (m : Option Command) (l : List ℕ) → ((read_by m l).number ≡ 0 → ⊥)
     → read_by m l ≡ meaningless (read_by m l).number
-refused-means-nothing (Some c) l n =
-    flat-or-none (readReply c l).outcome (readReply c l).said (read_number c l) n
-refused-means-nothing None l n = refl
+refused_means_nothing (Some c) l n =
+    flat_or_none (read_reply c l).outcome (read_reply c l).said (read_number c l) n
+refused_means_nothing None l n = refl

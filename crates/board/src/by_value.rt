@@ -2,14 +2,14 @@
 // back. Each is its call in place on a copy, but for set-up, which has no record to change.
 ghost use Rattle.std.specs.Prelude.{◌≡◌, length};
 ghost use Rattle.text.specs.Words.{over};
-ghost use Rattle.record.specs.Legal.{isLegal};
-ghost use Rattle.record.specs.Wanted.{wantedOf, wantedOf2, namesIn};
-ghost use Rattle.record.specs.SetUp.{setUp};
-ghost use Rattle.record.specs.HostCalls.{faultSet, errorsSet, markSet};
+ghost use Rattle.record.specs.Legal.{is_legal};
+ghost use Rattle.record.specs.Wanted.{wanted_of, wanted_of_2, names_in};
+ghost use Rattle.record.specs.SetUp.{set_up};
+ghost use Rattle.record.specs.HostCalls.{fault_set, errors_set, mark_set};
 ghost use Rattle.record.specs.Given.{given_by, set_up_given};
 ghost use Rattle.setup.specs.Lent.{wanted_settings};
 ghost use Rattle.clock.specs.Passing.{passed};
-ghost use Rattle.device.specs.Calls.{received, openedBy, placeTaken, closedBy};
+ghost use Rattle.device.specs.Calls.{received, opened_by, place_taken, closed_by};
 ghost use Rattle.board.specs.Results.{received_of, opened_of, changed_of, closing_given};
 
 use crate::projector;
@@ -21,7 +21,7 @@ use setup::wanted::{Class, Names, Wanted};
 // Not put into its callers: its copy of the record would lie on their stack.
 #[inline(never)]
 fn set_up(wanted: &Wanted<'_>) -> Changed
-    ensures { result ≡ changed_of (set_up_given (setUp (wanted_settings wanted.now))) }
+    ensures { result ≡ changed_of (set_up_given (set_up (wanted_settings wanted.now))) }
 {
     let mut changed = Changed {
         number: 0,
@@ -43,7 +43,7 @@ pub extern "C" fn pj_set_up<'a>(
     warm: u32,
     cool: u32,
 ) -> Changed
-    ensures { result ≡ changed_of (set_up_given (setUp (wantedOf name.now maker.now model.now other.now
+    ensures { result ≡ changed_of (set_up_given (set_up (wanted_of name.now maker.now model.now other.now
         password.now inputs.now lamps.now warm cool))) }
 {
     let class = Class::One;
@@ -77,9 +77,9 @@ pub extern "C" fn pj_set_up_2<'a>(
     names: &'a [u8],
     lengths: &'a [usize],
 ) -> Changed
-    ensures { result ≡ changed_of (set_up_given (setUp (wantedOf2 name.now maker.now model.now other.now
+    ensures { result ≡ changed_of (set_up_given (set_up (wanted_of_2 name.now maker.now model.now other.now
         password.now inputs.now lamps.now warm cool serial.now
-        version.now (namesIn lengths.now names.now)))) }
+        version.now (names_in lengths.now names.now)))) }
 {
     let class = Class::Two {
         serial,
@@ -105,16 +105,16 @@ pub extern "C" fn pj_set_up_2<'a>(
 
 #[unsafe(no_mangle)]
 pub extern "C" fn pj_legal(d: Device) -> bool
-    ensures { result ≡ isLegal d }
+    ensures { result ≡ is_legal d }
 {
     d.is_legal()
 }
 
 #[unsafe(no_mangle)]
 pub extern "C" fn pj_open(d: Device, random: u32, out: &mut [u8]) -> Opened
-    ensures value { result ≡ opened_of (placeTaken d (length out.old))
-        (openedBy d random (length out.old)) }
-    ensures out_after { out.new ≡ over (openedBy d random (length out.old)).reply
+    ensures value { result ≡ opened_of (place_taken d (length out.old))
+        (opened_by d random (length out.old)) }
+    ensures written { out.new ≡ over (opened_by d random (length out.old)).reply
         out.old }
 {
     let mut device = d;
@@ -133,7 +133,7 @@ pub extern "C" fn pj_open(d: Device, random: u32, out: &mut [u8]) -> Opened
 
 #[unsafe(no_mangle)]
 pub extern "C" fn pj_close(d: Device, place: usize) -> Changed
-    ensures { result ≡ changed_of (closing_given (closedBy d place)) }
+    ensures { result ≡ changed_of (closing_given (closed_by d place)) }
 {
     let mut device = d;
     let number = projector::pj_close_in_place(&mut device, place);
@@ -143,7 +143,7 @@ pub extern "C" fn pj_close(d: Device, place: usize) -> Changed
 #[unsafe(no_mangle)]
 pub extern "C" fn pj_receive(d: Device, place: usize, bytes: &[u8], out: &mut [u8]) -> Received
     ensures value { result ≡ received_of (received d place bytes.now (length out.old)) }
-    ensures out_after { out.new ≡ over (received d place bytes.now (length out.old)).reply
+    ensures written { out.new ≡ over (received d place bytes.now (length out.old)).reply
         out.old }
 {
     let mut device = d;
@@ -162,7 +162,7 @@ pub extern "C" fn pj_receive(d: Device, place: usize, bytes: &[u8], out: &mut [u
 
 #[unsafe(no_mangle)]
 pub extern "C" fn pj_set_fault(d: Device, mark: bool) -> Changed
-    ensures { result ≡ changed_of (given_by d (faultSet d mark)) }
+    ensures { result ≡ changed_of (given_by d (fault_set d mark)) }
 {
     let mut device = d;
     let number = projector::pj_set_fault_in_place(&mut device, mark);
@@ -171,7 +171,7 @@ pub extern "C" fn pj_set_fault(d: Device, mark: bool) -> Changed
 
 #[unsafe(no_mangle)]
 pub extern "C" fn pj_set_errors(d: Device, digits: &[u8]) -> Changed
-    ensures { result ≡ changed_of (given_by d (errorsSet d digits.now)) }
+    ensures { result ≡ changed_of (given_by d (errors_set d digits.now)) }
 {
     let mut device = d;
     let number = projector::pj_set_errors_in_place(&mut device, digits);
@@ -180,7 +180,7 @@ pub extern "C" fn pj_set_errors(d: Device, digits: &[u8]) -> Changed
 
 #[unsafe(no_mangle)]
 pub extern "C" fn pj_set_mark(d: Device, lamp: usize, enabled: bool) -> Changed
-    ensures { result ≡ changed_of (given_by d (markSet d lamp enabled)) }
+    ensures { result ≡ changed_of (given_by d (mark_set d lamp enabled)) }
 {
     let mut device = d;
     let number = projector::pj_set_mark_in_place(&mut device, lamp, enabled);

@@ -1,7 +1,7 @@
 // The stored form: settings that survive a board swap (RULES, Stored form).
 ghost use Rattle.std.specs.Prelude.{◌≡◌, length};
 ghost use Rattle.text.specs.Words.{over};
-ghost use Rattle.stored.specs.Form.{storedBy, toldStored};
+ghost use Rattle.stored.specs.Form.{stored_by, told_stored};
 ghost use Rattle.stored.specs.Loading.{loaded};
 ghost use Rattle.board.specs.Results.{changed_of};
 
@@ -14,8 +14,8 @@ use stored::{loading, storing};
 /// The record's form into the lent memory: 1 and 2 in that order.
 #[unsafe(no_mangle)]
 pub extern "C" fn pj_store_in_place(device: &Device, out: &mut [u8]) -> FormWritten
-    ensures value { result ≡ toldStored (storedBy device.now (length out.old)) }
-    ensures out_after { out.new ≡ over (storedBy device.now (length out.old)).bytes out.old }
+    ensures value { result ≡ told_stored (stored_by device.now (length out.old)) }
+    ensures written { out.new ≡ over (stored_by device.now (length out.old)).bytes out.old }
 {
     storing::store(device, out)
 }
@@ -23,8 +23,8 @@ pub extern "C" fn pj_store_in_place(device: &Device, out: &mut [u8]) -> FormWrit
 /// The same, of a record that is given by value.
 #[unsafe(no_mangle)]
 pub extern "C" fn pj_store(d: Device, out: &mut [u8]) -> FormWritten
-    ensures value { result ≡ toldStored (storedBy d (length out.old)) }
-    ensures out_after { out.new ≡ over (storedBy d (length out.old)).bytes out.old }
+    ensures value { result ≡ told_stored (stored_by d (length out.old)) }
+    ensures written { out.new ≡ over (stored_by d (length out.old)).bytes out.old }
 {
     storing::store(&d, out)
 }

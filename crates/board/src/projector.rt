@@ -2,17 +2,17 @@
 // refused call leaves the record as it was; a refused set-up leaves the blank one.
 ghost use Rattle.std.specs.Prelude.{◌≡◌, length};
 ghost use Rattle.text.specs.Words.{over};
-ghost use Rattle.record.specs.Legal.{isLegal};
-ghost use Rattle.record.specs.Wanted.{wantedOf, wantedOf2, namesIn};
-ghost use Rattle.record.specs.SetUp.{setUp};
-ghost use Rattle.record.specs.HostCalls.{faultSet, errorsSet, markSet};
+ghost use Rattle.record.specs.Legal.{is_legal};
+ghost use Rattle.record.specs.Wanted.{wanted_of, wanted_of_2, names_in};
+ghost use Rattle.record.specs.SetUp.{set_up};
+ghost use Rattle.record.specs.HostCalls.{fault_set, errors_set, mark_set};
 ghost use Rattle.record.specs.Record.{blank};
 ghost use Rattle.record.specs.Refusals.{outcome_number};
 ghost use Rattle.record.specs.SetUpErrors.{set_up_number};
 ghost use Rattle.record.specs.Given.{left_by};
 ghost use Rattle.setup.specs.Lent.{wanted_settings};
 ghost use Rattle.clock.specs.Passing.{passed};
-ghost use Rattle.device.specs.Calls.{received, openedBy, placeTaken, closedBy};
+ghost use Rattle.device.specs.Calls.{received, opened_by, place_taken, closed_by};
 ghost use Rattle.device.specs.Outcomes.{told};
 ghost use Rattle.board.specs.Results.{receiving_of, opening_of};
 
@@ -25,8 +25,8 @@ use setup::wanted::{Class, Names, Wanted};
 
 // Sets the host's record up, and tells the number: where it is refused, the record is the blank one.
 pub fn set_up_in(device: &mut Device, wanted: &Wanted<'_>) -> u32
-    ensures number { result ≡ set_up_number (setUp (wanted_settings wanted.now)) }
-    ensures device { device.new ≡ left_by blank (setUp (wanted_settings wanted.now)) }
+    ensures number { result ≡ set_up_number (set_up (wanted_settings wanted.now)) }
+    ensures device { device.new ≡ left_by blank (set_up (wanted_settings wanted.now)) }
 {
     match setup::set_up_in(device, wanted) {
         Ok(()) => 0,
@@ -48,9 +48,9 @@ pub extern "C" fn pj_set_up_in_place<'a>(
     warm: u32,
     cool: u32,
 ) -> u32
-    ensures number { result ≡ set_up_number (setUp (wantedOf name.now maker.now model.now other.now
+    ensures number { result ≡ set_up_number (set_up (wanted_of name.now maker.now model.now other.now
         password.now inputs.now lamps.now warm cool)) }
-    ensures device { device.new ≡ left_by blank (setUp (wantedOf name.now maker.now model.now other.now
+    ensures device { device.new ≡ left_by blank (set_up (wanted_of name.now maker.now model.now other.now
         password.now inputs.now lamps.now warm cool)) }
 {
     let class = Class::One;
@@ -89,12 +89,12 @@ pub extern "C" fn pj_set_up_2_in_place<'a>(
     names: &'a [u8],
     lengths: &'a [usize],
 ) -> u32
-    ensures number { result ≡ set_up_number (setUp (wantedOf2 name.now maker.now model.now other.now
+    ensures number { result ≡ set_up_number (set_up (wanted_of_2 name.now maker.now model.now other.now
         password.now inputs.now lamps.now warm cool serial.now
-        version.now (namesIn lengths.now names.now))) }
-    ensures device { device.new ≡ left_by blank (setUp (wantedOf2 name.now maker.now model.now other.now
+        version.now (names_in lengths.now names.now))) }
+    ensures device { device.new ≡ left_by blank (set_up (wanted_of_2 name.now maker.now model.now other.now
         password.now inputs.now lamps.now warm cool serial.now
-        version.now (namesIn lengths.now names.now))) }
+        version.now (names_in lengths.now names.now))) }
 {
     let class = Class::Two {
         serial,
@@ -124,7 +124,7 @@ pub extern "C" fn pj_set_up_2_in_place<'a>(
 /// Whether the record is legal.
 #[unsafe(no_mangle)]
 pub extern "C" fn pj_legal_in_place(device: &Device) -> bool
-    ensures { result ≡ isLegal device.now }
+    ensures { result ≡ is_legal device.now }
 {
     device.is_legal()
 }
@@ -132,10 +132,10 @@ pub extern "C" fn pj_legal_in_place(device: &Device) -> bool
 /// A new connection, greeted: 1, 2 and 6 in that order.
 #[unsafe(no_mangle)]
 pub extern "C" fn pj_open_in_place(device: &mut Device, random: u32, out: &mut [u8]) -> Opening
-    ensures says { result ≡ opening_of (told (openedBy device.old random (length out.old)))
-        (placeTaken device.old (length out.old)) }
-    ensures device { device.new ≡ (openedBy device.old random (length out.old)).device }
-    ensures reply { out.new ≡ over (openedBy device.old random (length out.old)).reply
+    ensures says { result ≡ opening_of (told (opened_by device.old random (length out.old)))
+        (place_taken device.old (length out.old)) }
+    ensures device { device.new ≡ (opened_by device.old random (length out.old)).device }
+    ensures reply { out.new ≡ over (opened_by device.old random (length out.old)).reply
         out.old }
 {
     Opening::of(calls::open(device, random, out))
@@ -144,8 +144,8 @@ pub extern "C" fn pj_open_in_place(device: &mut Device, random: u32, out: &mut [
 /// The connection at a place closed: 1, 3 and 4 in that order.
 #[unsafe(no_mangle)]
 pub extern "C" fn pj_close_in_place(device: &mut Device, place: usize) -> u32
-    ensures number { result ≡ (closedBy device.old place).number }
-    ensures device { device.new ≡ (closedBy device.old place).device }
+    ensures number { result ≡ (closed_by device.old place).number }
+    ensures device { device.new ≡ (closed_by device.old place).device }
 {
     refusal::number_of(calls::close(device, place))
 }
@@ -171,8 +171,8 @@ pub extern "C" fn pj_receive_in_place(
 #[unsafe(no_mangle)]
 #[tactic(auto, using(crate::proofs::Gives::number_as, crate::proofs::Gives::device_as))]
 pub extern "C" fn pj_set_fault_in_place(device: &mut Device, mark: bool) -> u32
-    ensures number { result ≡ outcome_number (faultSet device.old mark) }
-    ensures device { device.new ≡ left_by device.old (faultSet device.old mark) }
+    ensures number { result ≡ outcome_number (fault_set device.old mark) }
+    ensures device { device.new ≡ left_by device.old (fault_set device.old mark) }
 {
     refusal::number_of(device.set_fault(mark))
 }
@@ -181,8 +181,8 @@ pub extern "C" fn pj_set_fault_in_place(device: &mut Device, mark: bool) -> u32
 #[unsafe(no_mangle)]
 #[tactic(auto, using(crate::proofs::Gives::number_as, crate::proofs::Gives::device_as))]
 pub extern "C" fn pj_set_errors_in_place(device: &mut Device, digits: &[u8]) -> u32
-    ensures number { result ≡ outcome_number (errorsSet device.old digits.now) }
-    ensures device { device.new ≡ left_by device.old (errorsSet device.old digits.now) }
+    ensures number { result ≡ outcome_number (errors_set device.old digits.now) }
+    ensures device { device.new ≡ left_by device.old (errors_set device.old digits.now) }
 {
     refusal::number_of(device.set_errors(digits))
 }
@@ -191,8 +191,8 @@ pub extern "C" fn pj_set_errors_in_place(device: &mut Device, digits: &[u8]) -> 
 #[unsafe(no_mangle)]
 #[tactic(auto, using(crate::proofs::Gives::number_as, crate::proofs::Gives::device_as))]
 pub extern "C" fn pj_set_mark_in_place(device: &mut Device, lamp: usize, enabled: bool) -> u32
-    ensures number { result ≡ outcome_number (markSet device.old lamp enabled) }
-    ensures device { device.new ≡ left_by device.old (markSet device.old lamp enabled) }
+    ensures number { result ≡ outcome_number (mark_set device.old lamp enabled) }
+    ensures device { device.new ≡ left_by device.old (mark_set device.old lamp enabled) }
 {
     refusal::number_of(device.set_mark(lamp, enabled))
 }

@@ -1,8 +1,8 @@
 //! The controller's readers.
 ghost use Rattle.std.specs.Prelude.{◌≡◌};
-ghost use Rattle.controller.specs.Greetings.{readGreeting};
-ghost use Rattle.codes.specs.Commands.{commandOf};
-ghost use Rattle.codes.specs.Readings.{flatGreeting};
+ghost use Rattle.controller.specs.Greetings.{read_greeting};
+ghost use Rattle.codes.specs.Commands.{coded_command};
+ghost use Rattle.codes.specs.Readings.{flat_greeting};
 ghost use Rattle.codes.specs.ByCode.{read_by};
 
 use codes::command::Coded;
@@ -12,7 +12,7 @@ use controller::{greeting, reading};
 /// What a projector greets with.
 #[unsafe(no_mangle)]
 pub extern "C" fn pj_read_greeting(line: &[u8]) -> FlatGreeting
-    ensures { result ≡ flatGreeting (readGreeting line.now) }
+    ensures { result ≡ flat_greeting (read_greeting line.now) }
 {
     FlatGreeting::of(greeting::read_greeting(line))
 }
@@ -20,7 +20,7 @@ pub extern "C" fn pj_read_greeting(line: &[u8]) -> FlatGreeting
 /// What a reply to the command says; what is no command is 3 at once.
 #[unsafe(no_mangle)]
 pub extern "C" fn pj_read_reply(k: Coded, line: &[u8]) -> FlatReading
-    ensures { result ≡ read_by (commandOf k) line.now }
+    ensures { result ≡ read_by (coded_command k) line.now }
 {
     match k.command() {
         Some(command) => FlatReading::of(&reading::read_reply(command, line)),

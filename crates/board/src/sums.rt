@@ -1,12 +1,12 @@
 // The digest over any lent bytes.
 ghost use Rattle.std.specs.Prelude.{◌≡◌};
-ghost use Rattle.digest.specs.Md5.{md5Of};
+ghost use Rattle.digest.specs.Md5.{md5_of};
 
 use digest::Digest;
 
 #[unsafe(no_mangle)]
 pub extern "C" fn pj_md5(bytes: &[u8]) -> Digest
-    ensures { result.bytes ≡ md5Of bytes.now }
+    ensures { result.bytes ≡ md5_of bytes.now }
 {
     digest::md5(bytes)
 }

@@ -2,11 +2,11 @@
 // is that the theorems stand.
 ghost use Rattle.std.specs.Prelude.{◌≡◌, ℕ, ℤ, List, length, Bool, Option, Result};
 ghost use Rattle.codes.specs.declared.command.Coded.{Coded};
-ghost use Rattle.codes.specs.Commands.{commandOf};
-ghost use Rattle.controller.specs.Writing.{toldWritten};
+ghost use Rattle.codes.specs.Commands.{coded_command};
+ghost use Rattle.controller.specs.Writing.{told_written};
 ghost use Rattle.codes.specs.ByCode.{written_by, read_by};
-ghost use Rattle.codes.specs.Readings.{flatGreeting};
-ghost use Rattle.controller.specs.Greetings.{readGreeting};
+ghost use Rattle.codes.specs.Readings.{flat_greeting};
+ghost use Rattle.controller.specs.Greetings.{read_greeting};
 ghost use Rattle.day.specs.declared.check.CheckError.{CheckError};
 ghost use Rattle.day.specs.declared.plan.PlanError.{PlanError};
 ghost use Rattle.board.specs.Lists.{Lists};
@@ -16,10 +16,10 @@ ghost use Rattle.board.specs.declared.lamps.Report.{Report};
 ghost use Rattle.board.specs.Results.{panel_changed_of, panel_sent_of};
 ghost use Rattle.board.specs.declared.results.PanelChanged.{PanelChanged};
 ghost use Rattle.board.specs.declared.results.PanelSent.{PanelSent};
-ghost use Rattle.panel.specs.PanelCalls.{panelMade, noPanel, addedTo, commanded, steppedAt, lostAt};
+ghost use Rattle.panel.specs.PanelCalls.{panel_made, no_panel, added_to, commanded, stepped_at, lost_at};
 ghost use Rattle.panel.specs.declared.types.Panel.{Panel};
 ghost use Rattle.record.specs.declared.types.Setting.{Setting};
-ghost use Rattle.board.specs.Which.{settingNumber};
+ghost use Rattle.board.specs.Which.{setting_number};
 ghost use Rattle.controller.specs.declared.writing.Written.{Written};
 ghost use Rattle.text.specs.Words.{over};
 ghost use Rattle.codes.specs.declared.readings.FlatReading.{FlatReading};
@@ -27,27 +27,27 @@ ghost use Rattle.codes.specs.declared.readings.FlatGreeting.{FlatGreeting};
 ghost use Rattle.board.specs.declared.days.FlatVerdict.{FlatVerdict};
 ghost use Rattle.board.specs.declared.days.FlatPlan.{FlatPlan};
 ghost use Rattle.record.specs.Wanted.{Wanted};
-ghost use Rattle.record.specs.SetUp.{setUp};
+ghost use Rattle.record.specs.SetUp.{set_up};
 ghost use Rattle.record.specs.SetUpErrors.{setting_told};
 
 /// No two verdicts, no two answers of the planner and no two settings have the same numbers.
 pub fn numbers_tell_apart()
     ensures verdicts { (v w : Result (Unit {0}) CheckError) → flat_verdict v ≡ flat_verdict w → v ≡ w }
     ensures plans { (p q : Result (Unit {0}) PlanError) → flat_plan p ≡ flat_plan q → p ≡ q }
-    ensures settings { (m n : Option Setting) → settingNumber m ≡ settingNumber n → m ≡ n }
+    ensures settings { (m n : Option Setting) → setting_number m ≡ setting_number n → m ≡ n }
 {}
 
 /// Two results that meet the promise of a call are equal, lent memory included.
 pub fn one_result()
     ensures command_written { (k : Coded) (secured : Bool) (random : ℕ) (password out : List ℕ)
         (r s : Written) (m n : List ℕ)
-        → let w = written_by (commandOf k) secured random password (length out) in
-        (r ≡ toldWritten w) × (m ≡ over w.bytes out)
-        → (s ≡ toldWritten w) × (n ≡ over w.bytes out) → (r ≡ s) × (m ≡ n) }
+        → let w = written_by (coded_command k) secured random password (length out) in
+        (r ≡ told_written w) × (m ≡ over w.bytes out)
+        → (s ≡ told_written w) × (n ≡ over w.bytes out) → (r ≡ s) × (m ≡ n) }
     ensures reply_read { (k : Coded) (l : List ℕ) (r s : FlatReading)
-        → r ≡ read_by (commandOf k) l → s ≡ read_by (commandOf k) l → r ≡ s }
+        → r ≡ read_by (coded_command k) l → s ≡ read_by (coded_command k) l → r ≡ s }
     ensures greeting_read { (l : List ℕ) (r s : FlatGreeting)
-        → r ≡ flatGreeting (readGreeting l) → s ≡ flatGreeting (readGreeting l) → r ≡ s }
+        → r ≡ flat_greeting (read_greeting l) → s ≡ flat_greeting (read_greeting l) → r ≡ s }
     ensures verdict { (l : Lists) (a : List ℕ) (r s : FlatVerdict)
         → ChecksInto l a r → ChecksInto l a s → r ≡ s }
     ensures plan { (l : Lists) (out : List ℕ) (r s : FlatPlan) (m n : List ℕ)
@@ -55,17 +55,17 @@ pub fn one_result()
     ensures comparison { (es ls : List ℕ) (out : List ℤ) (r s : Report) (m n : List ℤ)
         → ComparesInto es ls out r m → ComparesInto es ls out s n → (r ≡ s) × (m ≡ n) }
     ensures panel_made { (r s : PanelChanged)
-        → r ≡ panel_changed_of (panelMade noPanel) → s ≡ panel_changed_of (panelMade noPanel) → r ≡ s }
+        → r ≡ panel_changed_of (panel_made no_panel) → s ≡ panel_changed_of (panel_made no_panel) → r ≡ s }
     ensures projector_added { (p : Panel) (password : List ℕ) (r s : PanelChanged)
-        → r ≡ panel_changed_of (addedTo p password) → s ≡ panel_changed_of (addedTo p password) → r ≡ s }
+        → r ≡ panel_changed_of (added_to p password) → s ≡ panel_changed_of (added_to p password) → r ≡ s }
     ensures command_sent { (p : Panel) (i : ℕ) (k : Coded) (out : List ℕ) (r s : PanelSent) (m n : List ℕ)
         → let c = commanded p i k (length out) in
         (r ≡ panel_sent_of c) × (m ≡ over c.line out)
         → (s ≡ panel_sent_of c) × (n ≡ over c.line out) → (r ≡ s) × (m ≡ n) }
     ensures line_heard { (p : Panel) (i : ℕ) (l : List ℕ) (r s : PanelChanged)
-        → r ≡ panel_changed_of (steppedAt p i l) → s ≡ panel_changed_of (steppedAt p i l) → r ≡ s }
+        → r ≡ panel_changed_of (stepped_at p i l) → s ≡ panel_changed_of (stepped_at p i l) → r ≡ s }
     ensures connection_lost { (p : Panel) (i : ℕ) (r s : PanelChanged)
-        → r ≡ panel_changed_of (lostAt p i) → s ≡ panel_changed_of (lostAt p i) → r ≡ s }
+        → r ≡ panel_changed_of (lost_at p i) → s ≡ panel_changed_of (lost_at p i) → r ≡ s }
     ensures setting { (w : Wanted) (r s : ℕ)
-        → r ≡ settingNumber (setting_told (setUp w)) → s ≡ settingNumber (setting_told (setUp w)) → r ≡ s }
+        → r ≡ setting_number (setting_told (set_up w)) → s ≡ setting_number (setting_told (set_up w)) → r ≡ s }
 {}

@@ -1,16 +1,16 @@
 // Which setting set-up refuses, as a number, since an exported call returns no enum.
 ghost use Rattle.std.specs.Prelude.{◌≡◌};
-ghost use Rattle.record.specs.Wanted.{wantedOf, wantedOf2, namesIn};
-ghost use Rattle.record.specs.SetUp.{setUp};
+ghost use Rattle.record.specs.Wanted.{wanted_of, wanted_of_2, names_in};
+ghost use Rattle.record.specs.SetUp.{set_up};
 ghost use Rattle.record.specs.SetUpErrors.{setting_told};
-ghost use Rattle.board.specs.Which.{settingNumber};
+ghost use Rattle.board.specs.Which.{setting_number};
 
 use record::set_up_error::SetUpError;
 use setup::wanted::{Class, Names, Wanted};
 
 // The setting for which it refuses, or 0.
 fn number_of(checked: Result<(), SetUpError>) -> u32
-    ensures { result ≡ settingNumber (setting_told checked) }
+    ensures { result ≡ setting_number (setting_told checked) }
 {
     match checked {
         Ok(()) => 0,
@@ -33,7 +33,7 @@ pub extern "C" fn pj_which_setting<'a>(
     warm: u32,
     cool: u32,
 ) -> u32
-    ensures { result ≡ settingNumber (setting_told (setUp (wantedOf name.now maker.now model.now
+    ensures { result ≡ setting_number (setting_told (set_up (wanted_of name.now maker.now model.now
         other.now password.now inputs.now lamps.now warm cool))) }
 {
     let class = Class::One;
@@ -70,9 +70,9 @@ pub extern "C" fn pj_which_setting_2<'a>(
     names: &'a [u8],
     lengths: &'a [usize],
 ) -> u32
-    ensures { result ≡ settingNumber (setting_told (setUp (wantedOf2 name.now maker.now model.now
+    ensures { result ≡ setting_number (setting_told (set_up (wanted_of_2 name.now maker.now model.now
         other.now password.now inputs.now lamps.now warm cool serial.now
-        version.now (namesIn lengths.now names.now)))) }
+        version.now (names_in lengths.now names.now)))) }
 {
     let class = Class::Two {
         serial,

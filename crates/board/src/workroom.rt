@@ -2,7 +2,7 @@
 // panel's own call on a copy.
 ghost use Rattle.std.specs.Prelude.{◌≡◌, length};
 ghost use Rattle.text.specs.Words.{over};
-ghost use Rattle.panel.specs.PanelCalls.{panelMade, noPanel, addedTo, commanded, steppedAt, lostAt};
+ghost use Rattle.panel.specs.PanelCalls.{panel_made, no_panel, added_to, commanded, stepped_at, lost_at};
 ghost use Rattle.board.specs.Results.{panel_changed_of, panel_sent_of};
 
 use crate::results::{PanelChanged, PanelSent};
@@ -13,7 +13,7 @@ use panel::types::Panel;
 /// The panel of no projector.
 #[unsafe(no_mangle)]
 pub extern "C" fn pj_panel_none() -> PanelChanged
-    ensures { result ≡ panel_changed_of (panelMade noPanel) }
+    ensures { result ≡ panel_changed_of (panel_made no_panel) }
 {
     PanelChanged {
         number: 0,
@@ -24,7 +24,7 @@ pub extern "C" fn pj_panel_none() -> PanelChanged
 /// A projector more: 1, then 3.
 #[unsafe(no_mangle)]
 pub extern "C" fn pj_panel_add(p: Panel, password: &[u8]) -> PanelChanged
-    ensures { result ≡ panel_changed_of (addedTo p password.now) }
+    ensures { result ≡ panel_changed_of (added_to p password.now) }
 {
     let mut panel = p;
     let number = refusal::number_of(panel.add(password));
@@ -40,7 +40,7 @@ pub extern "C" fn pj_panel_command(
     out: &mut [u8],
 ) -> PanelSent
     ensures value { result ≡ panel_sent_of (commanded p projector k (length out.old)) }
-    ensures out_after { out.new ≡ over (commanded p projector k (length out.old)).line
+    ensures written { out.new ≡ over (commanded p projector k (length out.old)).line
         out.old }
 {
     let mut panel = p;
@@ -58,7 +58,7 @@ pub extern "C" fn pj_panel_command(
 /// The step on a line from a projector: 1, then 3.
 #[unsafe(no_mangle)]
 pub extern "C" fn pj_panel_line(p: Panel, projector: usize, line: &[u8]) -> PanelChanged
-    ensures { result ≡ panel_changed_of (steppedAt p projector line.now) }
+    ensures { result ≡ panel_changed_of (stepped_at p projector line.now) }
 {
     let mut panel = p;
     let number = refusal::number_of(panel.hear(projector, line));
@@ -68,7 +68,7 @@ pub extern "C" fn pj_panel_line(p: Panel, projector: usize, line: &[u8]) -> Pane
 /// The connection to a projector is gone: 1, then 3.
 #[unsafe(no_mangle)]
 pub extern "C" fn pj_panel_lost(p: Panel, projector: usize) -> PanelChanged
-    ensures { result ≡ panel_changed_of (lostAt p projector) }
+    ensures { result ≡ panel_changed_of (lost_at p projector) }
 {
     let mut panel = p;
     let number = refusal::number_of(panel.lose(projector));

@@ -1,16 +1,16 @@
 // The controller's writer.
 ghost use Rattle.std.specs.Prelude.{◌≡◌, length};
 ghost use Rattle.text.specs.Words.{over};
-ghost use Rattle.controller.specs.Writing.{toldWritten};
-ghost use Rattle.codes.specs.Commands.{commandOf};
-ghost use Rattle.codes.specs.ByCode.{noneWritten, written_by};
+ghost use Rattle.controller.specs.Writing.{told_written};
+ghost use Rattle.codes.specs.Commands.{coded_command};
+ghost use Rattle.codes.specs.ByCode.{none_written, written_by};
 
 use codes::command::Coded;
 use controller::writing;
 use controller::writing::Written;
 
 fn none_written(room: usize) -> Written
-    ensures { result ≡ toldWritten (noneWritten room) }
+    ensures { result ≡ told_written (none_written room) }
 {
     if room < 168 {
         return Written {
@@ -33,9 +33,9 @@ pub extern "C" fn pj_write(
     password: &[u8],
     out: &mut [u8],
 ) -> Written
-    ensures value { result ≡ toldWritten (written_by (commandOf k) secured random password.now
+    ensures value { result ≡ told_written (written_by (coded_command k) secured random password.now
         (length out.old)) }
-    ensures out_after { out.new ≡ over (written_by (commandOf k) secured random password.now
+    ensures written { out.new ≡ over (written_by (coded_command k) secured random password.now
         (length out.old)).bytes out.old }
 {
     match k.command() {

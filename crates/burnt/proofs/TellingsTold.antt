@@ -1,13 +1,11 @@
 -- What is written of stretches, and of a log, by what comes.
 -- Assumes nothing.
-use Prim.Native.Nat.{ℕ}
-use mathlib.Core.Path.{◌≡◌, refl, sym, ap, ◌∙◌}
-use mathlib.Core.List.{List, [], ◌∷◌, ◌++◌, append_assoc}
-use Rattle.clock.specs.Second.{marksIn}
+use Rattle.std.proofs.Common.{ℕ, ◌≡◌, refl, sym, ap, ◌∙◌, List, [], ◌∷◌, ◌++◌, append_assoc}
+use Rattle.clock.specs.Second.{marks_in}
 use Rattle.watch.specs.Marking.{FloorEvent}
-use Rattle.watch.specs.Watching.{Watching, watchedOn}
-use Rattle.watch.specs.Telling.{Telling, toldOn, toldAtEnd, tellings, afterLog}
-use Rattle.watch.proofs.TellingsSpelt.{tellings-none, tellings-more, after-none, after-more}
+use Rattle.watch.specs.Watching.{Watching, watched_on}
+use Rattle.watch.specs.Telling.{Telling, told_on, told_at_end, tellings, after_log}
+use Rattle.watch.proofs.TellingsSpelt.{tellings_none, tellings_more, after_none, after_more}
 use Rattle.report.specs.Reports.{report_told, told_text}
 use Rattle.report.specs.declared.Report.{Report}
 use Rattle.burnt.specs.Told.{tellings_text, report_after, totals_text, told_from}
@@ -17,7 +15,7 @@ text_append : (r : Report) (ts us : List Telling)
 unfolding tellings_text report_after
 text_append r [] us = refl
 text_append r (t ∷ ts) us =
-    let first = told_text r (marksIn t.device.settings t.device.own) t.from t.to in
+    let first = told_text r (marks_in t.device.settings t.device.own) t.from t.to in
     ap (λ (l : List ℕ). first ++ l) (text_append (report_told r t.from t.to) ts us)
     ∙ sym (append_assoc first (tellings_text (report_told r t.from t.to) ts) _)
 
@@ -29,18 +27,18 @@ report_append r (t ∷ ts) us = report_append (report_told r t.from t.to) ts us
 
 module _ (starts : List ℕ) (r : Report) (s : Watching) where
   pub told_none : told_from starts r s []
-      ≡ tellings_text r (toldAtEnd s) ++ totals_text (report_after r (toldAtEnd s)) starts s
+      ≡ tellings_text r (told_at_end s) ++ totals_text (report_after r (told_at_end s)) starts s
   told_none =
-      (λ i. let ts = tellings-none s i in
-      tellings_text r ts ++ totals_text (report_after r ts) starts (after-none s i))
+      (λ i. let ts = tellings_none s i in
+      tellings_text r ts ++ totals_text (report_after r ts) starts (after_none s i))
 
   pub told_more : (e : FloorEvent) (es : List FloorEvent) → told_from starts r s (e ∷ es)
-      ≡ tellings_text r (toldOn s e) ++ told_from starts (report_after r (toldOn s e)) (watchedOn s e) es
+      ≡ tellings_text r (told_on s e) ++ told_from starts (report_after r (told_on s e)) (watched_on s e) es
   told_more e es =
-      let now = toldOn s e in
-      let later = tellings (watchedOn s e) es in
-      (λ i. let ts = tellings-more s e es i in
-      tellings_text r ts ++ totals_text (report_after r ts) starts (after-more s e es i))
+      let now = told_on s e in
+      let later = tellings (watched_on s e) es in
+      (λ i. let ts = tellings_more s e es i in
+      tellings_text r ts ++ totals_text (report_after r ts) starts (after_more s e es i))
       ∙ (λ i. text_append r now later i
-      ++ totals_text (report_append r now later i) starts (afterLog (watchedOn s e) es))
+      ++ totals_text (report_append r now later i) starts (after_log (watched_on s e) es))
       ∙ append_assoc (tellings_text r now) (tellings_text (report_after r now) later) _

@@ -11,20 +11,20 @@
 use Rattle.std.specs.Prelude.{ℕ, ◌+◌, ◌^◌, ◌≤◌, ◌≡◌, ◌⊎◌, min, Bool, List, [], ◌∷◌, ◌++◌}
 use Rattle.std.specs.declared.io.Error.{Error}
 use Rattle.record.specs.declared.types.Device.{Device}
-use Rattle.clock.specs.Second.{marksIn}
+use Rattle.clock.specs.Second.{marks_in}
 use Rattle.textio.specs.Lines.{IsTooLong}
 use Rattle.textio.specs.declared.lines.Failure.{Failure}
 use Rattle.textio.specs.declared.lines.Failure.TheVariants.{Read, Write, TooLong}
-use Rattle.watch.specs.Marking.{FloorEvent, secondsBy}
-use Rattle.watch.specs.Watching.{Watching, watchingFrom, watchedOn, burntBy}
-use Rattle.watch.specs.Telling.{floorEvents, Telling, toldOn, tellings, afterLog, IsUncounted}
+use Rattle.watch.specs.Marking.{FloorEvent, seconds_by}
+use Rattle.watch.specs.Watching.{Watching, watching_from, watched_on, burnt_by}
+use Rattle.watch.specs.Telling.{floor_events, Telling, told_on, tellings, after_log, IsUncounted}
 use Rattle.report.specs.Reports.{report_new, begun_text, report_told, told_text, ended_text}
 use Rattle.report.specs.declared.Report.{Report}
 
 unfoldable pub tellings_text : Report → List Telling → List ℕ
 tellings_text r [] = []
 tellings_text r (t ∷ ts) =
-    told_text r (marksIn t.device.settings t.device.own) t.from t.to ++ tellings_text (report_told r t.from t.to) ts
+    told_text r (marks_in t.device.settings t.device.own) t.from t.to ++ tellings_text (report_told r t.from t.to) ts
 
 unfoldable pub report_after : Report → List Telling → Report
 report_after r [] = r
@@ -32,24 +32,24 @@ report_after r (t ∷ ts) = report_after (report_told r t.from t.to) ts
 
 abbrev pub totals_text : Report → List ℕ → Watching → List ℕ
 totals_text r starts s =
-    ended_text r s.time (min s.device.settings.lamp_count 8) starts (burntBy s) s.device.own.lamps
+    ended_text r s.time (min s.device.settings.lamp_count 8) starts (burnt_by s) s.device.own.lamps
 
 abbrev pub told_from : List ℕ → Report → Watching → List FloorEvent → List ℕ
 told_from starts r s es =
-    let ts = tellings s es in tellings_text r ts ++ totals_text (report_after r ts) starts (afterLog s es)
+    let ts = tellings s es in tellings_text r ts ++ totals_text (report_after r ts) starts (after_log s es)
 
 abbrev pub log_told : Device → Bool → List ℕ → List ℕ
 log_told d drawn log =
-    let r = report_new drawn in begun_text r ++ told_from d.own.lamps r (watchingFrom d) (floorEvents log)
+    let r = report_new drawn in begun_text r ++ told_from d.own.lamps r (watching_from d) (floor_events log)
 
 abbrev pub IsUntold : List ℕ → Type 0
 IsUntold log = IsTooLong log ⊎ IsUncounted log
 
 pub record IsTold (s : Watching) (r : Report) (e : FloorEvent) (after : Watching) (then : Report) : Type 0 where
-  pub state : after ≡ watchedOn s e
-  pub report : then ≡ report_after r (toldOn s e)
+  pub state : after ≡ watched_on s e
+  pub report : then ≡ report_after r (told_on s e)
 
 abbrev pub LineFails : (Error → Type 0) → Watching → FloorEvent → Failure → Type 0
 LineFails writes s e (Read x) = ⊥
 LineFails writes s e (Write x) = writes x
-LineFails writes s e TooLong = 2 ^ 64 ≤ s.time + secondsBy e
+LineFails writes s e TooLong = 2 ^ 64 ≤ s.time + seconds_by e

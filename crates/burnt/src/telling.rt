@@ -4,11 +4,11 @@ ghost use Rattle.std.specs.Io.KnownBytes.{Appends};
 ghost use Rattle.textio.specs.Fronts.{WritesFront, WritesText};
 ghost use Rattle.textio.specs.Ahead.{left_in};
 ghost use Rattle.textio.specs.NextLine.{FailureComesOf, OnFailedRead};
-ghost use Rattle.floorlog.specs.Replaying.{keptMost};
-ghost use Rattle.watch.specs.Marking.{floorEvent};
-ghost use Rattle.watch.specs.Watching.{watchingFrom};
-ghost use Rattle.watch.specs.Telling.{floorEvents, tellingIf, toldOn, toldAtEnd};
-ghost use Rattle.watch.specs.States.{stateOf};
+ghost use Rattle.floorlog.specs.Replaying.{kept_most};
+ghost use Rattle.watch.specs.Marking.{floor_event};
+ghost use Rattle.watch.specs.Watching.{watching_from};
+ghost use Rattle.watch.specs.Telling.{floor_events, telling_if, told_on, told_at_end};
+ghost use Rattle.watch.specs.States.{state_of};
 ghost use Rattle.burnt.specs.Told.{tellings_text, report_after, totals_text, told_from, log_told, IsUntold, IsTold};
 ghost use Rattle.burnt.specs.Told.{LineFails};
 
@@ -40,9 +40,9 @@ fn tell_ended<W: ByteSink>(
     watch: &Watch,
     to: &mut W,
 ) -> io::Result<()>
-    ensures report { OnOk result (report.new ≡ report_after report.old (tellingIf ended (stateOf watch.now))) }
+    ensures report { OnOk result (report.new ≡ report_after report.old (telling_if ended (state_of watch.now))) }
     ensures text { WritesText W.fails_with (W.contents to.old) (W.contents to.new) result
-        (tellings_text report.old (tellingIf ended (stateOf watch.now))) }
+        (tellings_text report.old (telling_if ended (state_of watch.now))) }
 {
     if !ended {
         return Ok(());
@@ -64,12 +64,12 @@ fn tell_line<W: ByteSink>(
     held: usize,
     to: &mut W,
 ) -> Result<(), Failure>
-    requires { held ≤ keptMost }
-    ensures done { OnOk result (IsTold (stateOf watch.old) report.old (floorEvent (take held line.old))
-        (stateOf watch.new) report.new) }
-    ensures text { WritesText (LineFails W.fails_with (stateOf watch.old) (floorEvent (take held line.old)))
+    requires { held ≤ kept_most }
+    ensures done { OnOk result (IsTold (state_of watch.old) report.old (floor_event (take held line.old))
+        (state_of watch.new) report.new) }
+    ensures text { WritesText (LineFails W.fails_with (state_of watch.old) (floor_event (take held line.old)))
         (W.contents to.old) (W.contents to.new) result
-        (tellings_text report.old (toldOn (stateOf watch.old) (floorEvent (take held line.old)))) }
+        (tellings_text report.old (told_on (state_of watch.old) (floor_event (take held line.old)))) }
 {
     let Some(ended) = watch.play(line, held) else {
         return Err(Failure::TooLong);
@@ -88,7 +88,7 @@ fn tell_totals<W: ByteSink>(
     to: &mut W,
 ) -> io::Result<()>
     ensures { WritesText W.fails_with (W.contents to.old) (W.contents to.new) result
-        (totals_text report starts (stateOf watch.now)) }
+        (totals_text report starts (state_of watch.now)) }
 {
     let device = watch.device();
     let totals = Totals {
@@ -108,8 +108,8 @@ fn tell_end<W: ByteSink>(
     to: &mut W,
 ) -> io::Result<()>
     ensures text { WritesText W.fails_with (W.contents to.old) (W.contents to.new) result
-        (tellings_text report (toldAtEnd (stateOf watch.now))
-        ++ totals_text (report_after report (toldAtEnd (stateOf watch.now))) starts (stateOf watch.now)) }
+        (tellings_text report (told_at_end (state_of watch.now))
+        ++ totals_text (report_after report (told_at_end (state_of watch.now))) starts (state_of watch.now)) }
     ensures none_waits { OnOk result (W.waiting to.new ≡ []) }
 {
     tell_ended(watch.is_underway(), &mut report, watch, to)?;
@@ -126,9 +126,9 @@ fn tell_lines<R: ByteSource, W: ByteSink>(
     to: &mut W,
 ) -> Result<(), Failure>
     ensures whole { OnOk result (IfSome (left_in R.remaining from.old) (λ log. Appends (W.contents to.old)
-        (W.contents to.new) (told_from starts begun_report (watchingFrom begun) (floorEvents log)))) }
+        (W.contents to.new) (told_from starts begun_report (watching_from begun) (floor_events log)))) }
     ensures front { IfSome (left_in R.remaining from.old) (λ log. WritesFront (W.contents to.old)
-        (W.contents to.new) (told_from starts begun_report (watchingFrom begun) (floorEvents log))) }
+        (W.contents to.new) (told_from starts begun_report (watching_from begun) (floor_events log))) }
     ensures none_waits { OnOk result (W.waiting to.new ≡ []) }
     ensures read { IfErr result (OnFailedRead (W.waiting to.new ≡ [])) }
     ensures err { IfErr result

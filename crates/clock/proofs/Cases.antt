@@ -1,12 +1,10 @@
 -- Passing time by its cases: an illegal record comes back as it was, a legal one n seconds later.
 -- Assumes nothing.
-use Prim.Native.Nat.{ℕ}
-use mathlib.Core.Path.{◌≡◌, ap}
-use mathlib.Core.Bool.{true, false, not}
-use borrow.Author.Tests.{not-true, not-false}
+use Rattle.std.proofs.Common.{ℕ, ◌≡◌, ap, true, false, not}
+use Rattle.std.proofs.lemmas.Bool.{not-true, not-false}
 use Rattle.std.specs.Prelude.{Result, Ok, Err}
-use Rattle.text.proofs.Choices.{if_yes, if_no, if-by}
-use Rattle.record.specs.Legal.{isLegal}
+use Rattle.text.proofs.Choices.{if_yes, if_no, if_by}
+use Rattle.record.specs.Legal.{is_legal}
 use Rattle.record.specs.Given.{Given, accepted, refused, given_by}
 use Rattle.record.specs.declared.types.Device.{Device}
 use Rattle.record.specs.declared.refusal.Refusal.{Refusal}
@@ -15,19 +13,19 @@ use Rattle.clock.specs.Second.{second, times}
 use Rattle.clock.specs.Passing.{passed}
 
 -- what a host is told of it
-pub passed-by : (P : Given Device → Type 0) (d : Device) (n : ℕ)
-    → (isLegal d ≡ false → P (refused 1 d)) → (isLegal d ≡ true → P (accepted (times second n d)))
+pub passed_by : (P : Given Device → Type 0) (d : Device) (n : ℕ)
+    → (is_legal d ≡ false → P (refused 1 d)) → (is_legal d ≡ true → P (accepted (times second n d)))
     → P (given_by d (passed d n))
 unfolding passed
-passed-by P d n refuse accept =
-    if-by (λ (r : Result Device Refusal). P (given_by d r)) (not (isLegal d))
-    (λ h. refuse (not-true (isLegal d) h)) (λ h. accept (not-false (isLegal d) h))
+passed_by P d n refuse accept =
+    if_by (λ (r : Result Device Refusal). P (given_by d r)) (not (is_legal d))
+    (λ h. refuse (not-true (is_legal d) h)) (λ h. accept (not-false (is_legal d) h))
 
 module _ (d : Device) (n : ℕ) where
-  pub passed-illegal : isLegal d ≡ false → passed d n ≡ Err NotLegal
+  pub passed_illegal : is_legal d ≡ false → passed d n ≡ Err NotLegal
   unfolding passed
-  passed-illegal h = if_yes (Err NotLegal) (Ok (times second n d)) (ap not h)
+  passed_illegal h = if_yes (Err NotLegal) (Ok (times second n d)) (ap not h)
 
-  pub passed-accepted : isLegal d ≡ true → passed d n ≡ Ok (times second n d)
+  pub passed_accepted : is_legal d ≡ true → passed d n ≡ Ok (times second n d)
   unfolding passed
-  passed-accepted h = if_no (Err NotLegal) (Ok (times second n d)) (ap not h)
+  passed_accepted h = if_no (Err NotLegal) (Ok (times second n d)) (ap not h)

@@ -1,110 +1,107 @@
 -- n seconds in one go: the closed forms are n times one second, for the own part, each connection, and so the device.
 -- Assumes nothing.
-use Prim.Native.Nat.{ℕ, zero, suc, ◌≤◌}
-use native.Mathlib.Omega.{arith}
-use mathlib.Core.Path.{◌≡◌, refl, sym, ap, ◌∙◌}
-use mathlib.Core.Bool.{Bool, true, false}
-use mathlib.Core.List.{List, [], ◌∷◌, map, map-map}
-use lib.ListN.{get_or}
+use Rattle.std.proofs.Common.{ℕ, zero, suc, ◌≤◌, arith, ◌≡◌, refl, sym, ap, ◌∙◌, Bool, true, false, List, [], ◌∷◌, map}
+use Rattle.std.proofs.Common.{slice_index_or}
+use mathlib.Core.List.{map-map}
 use Rattle.std.specs.Prelude.{if◌then◌else◌}
-use Rattle.text.proofs.Choices.{if-all}
+use Rattle.text.proofs.Choices.{if_all}
 use Rattle.record.specs.Views.{power_seen, with_power, IsPowerOf, is_burning}
 use Rattle.record.specs.declared.views.Power.{Power}
-use Rattle.record.proofs.PowerSeen.{seen-again}
-use Rattle.record.specs.Updates.{withPower, withSeconds}
+use Rattle.record.proofs.PowerSeen.{seen_again}
+use Rattle.record.specs.Updates.{with_power_left, with_seconds}
 use Rattle.record.specs.declared.types.Settings.{Settings}
 use Rattle.record.specs.declared.types.Own.{Own}
-use Rattle.record.specs.Places.{noConnection, connectionAt}
+use Rattle.record.specs.Places.{no_connection, connection_at}
 use Rattle.record.specs.declared.types.Connection.{Connection}
 use Rattle.record.specs.declared.types.Device.{Device}
-use Rattle.clock.specs.Second.{times, changedWhere, oneMore, powerSecond, lampsSecond, marksIn, ownSecond}
-use Rattle.clock.specs.Second.{connectionSecond, second}
-use Rattle.clock.specs.After.{powerAfter, lampsAfter, ownAfter, partsAfter}
-use Rattle.clock.proofs.ChangedWhere.{where-same, where-twice}
-use Rattle.clock.proofs.ConnectionsAge.{untimed-stays}
-use Rattle.clock.proofs.PowerTurns.{power-none, power-once, power-more, is_burning-on}
+use Rattle.clock.specs.Second.{times, changed_where, one_more, power_second, lamps_second, marks_in, own_second}
+use Rattle.clock.specs.Second.{connection_second, second}
+use Rattle.clock.specs.After.{power_after, lamps_after, own_after, parts_after}
+use Rattle.clock.proofs.ChangedWhere.{where_same, changed_where-changed_where}
+use Rattle.clock.proofs.ConnectionsAge.{untimed_stays}
+use Rattle.clock.proofs.PowerTurns.{power_none, power_once, power_more, is_burning-power_after}
 
-lamps-none : (p : Power) (ms : List Bool) (l : List ℕ) → lampsAfter 0 p ms l ≡ l
+lamps_none : (p : Power) (ms : List Bool) (l : List ℕ) → lamps_after 0 p ms l ≡ l
 unfolding times
-lamps-none p ms l =
-    if-all (λ (x : List ℕ). x ≡ l) (is_burning p) (where-same (times oneMore 0) (λ x. refl) ms l) refl
+lamps_none p ms l =
+    if_all (λ (x : List ℕ). x ≡ l) (is_burning p) (where_same (times one_more 0) (λ x. refl) ms l) refl
 
-lamps-once : (p : Power) (ms : List Bool) (l : List ℕ) → lampsSecond p ms l ≡ lampsAfter 1 p ms l
+lamps_once : (p : Power) (ms : List Bool) (l : List ℕ) → lamps_second p ms l ≡ lamps_after 1 p ms l
 unfolding times
-lamps-once p ms l = refl
+lamps_once p ms l = refl
 
 module _ (ms : List Bool) (l : List ℕ) (n : ℕ) where
-  burnt-more : (lit : Bool)
-      → (if lit then changedWhere oneMore ms (if lit then changedWhere (times oneMore n) ms l else l)
-      else (if lit then changedWhere (times oneMore n) ms l else l))
-      ≡ (if lit then changedWhere (times oneMore (suc n)) ms l else l)
+  burnt_more : (lit : Bool)
+      → (if lit then changed_where one_more ms (if lit then changed_where (times one_more n) ms l else l)
+      else (if lit then changed_where (times one_more n) ms l else l))
+      ≡ (if lit then changed_where (times one_more (suc n)) ms l else l)
   unfolding times
-  burnt-more true = where-twice oneMore (times oneMore n) ms l
-  burnt-more false = refl
+  burnt_more true = changed_where-changed_where one_more (times one_more n) ms l
+  burnt_more false = refl
 
-  lamps-more : (p : Power) → lampsSecond (powerAfter n p) ms (lampsAfter n p ms l) ≡ lampsAfter (suc n) p ms l
-  lamps-more p = rw (is_burning-on n p) (burnt-more (is_burning p))
+  lamps_more : (p : Power) → lamps_second (power_after n p) ms (lamps_after n p ms l) ≡ lamps_after (suc n) p ms l
+  lamps_more p = rw (is_burning-power_after n p) (burnt_more (is_burning p))
 
 -- a second and n more by the closed form, whatever the record has for its power
 module _ (s : Settings) (o : Own) where
-  one-more : (n : ℕ) → times (ownSecond s) (suc n) o ≡ ownAfter s o (suc n)
-  unfolding times ownSecond
-  one-more zero =
+  one_more_lem : (n : ℕ) → times (own_second s) (suc n) o ≡ own_after s o (suc n)
+  unfolding times own_second
+  one_more_lem zero =
       (λ i.
-      withSeconds (with_power o (power-once (power_seen o) i))
-      (lamps-once (power_seen o) (marksIn s o) o.lamps i))
-  one-more (suc n) =
-      let p = powerAfter (suc n) (power_seen o) in
-      let burnt = lampsAfter (suc n) (power_seen o) (marksIn s o) o.lamps in
-      ap (ownSecond s) (one-more n)
+      with_seconds (with_power o (power_once (power_seen o) i))
+      (lamps_once (power_seen o) (marks_in s o) o.lamps i))
+  one_more_lem (suc n) =
+      let p = power_after (suc n) (power_seen o) in
+      let burnt = lamps_after (suc n) (power_seen o) (marks_in s o) o.lamps in
+      ap (own_second s) (one_more_lem n)
       ∙ (λ i.
-      withSeconds (with_power o (powerSecond (seen-again p i)))
-      (lampsSecond (seen-again p i) (marksIn s o) burnt))
+      with_seconds (with_power o (power_second (seen_again p i)))
+      (lamps_second (seen_again p i) (marks_in s o) burnt))
       ∙ (λ i.
-      withSeconds (with_power o (power-more (suc n) (power_seen o) i))
-      (lamps-more (marksIn s o) o.lamps (suc n) (power_seen o) i))
+      with_seconds (with_power o (power_more (suc n) (power_seen o) i))
+      (lamps_more (marks_in s o) o.lamps (suc n) (power_seen o) i))
 
-  pub own_passes : (n : ℕ) → 1 ≤ n → times (ownSecond s) n o ≡ ownAfter s o n
+  pub own_passes : (n : ℕ) → 1 ≤ n → times (own_second s) n o ≡ own_after s o n
   own_passes zero h = absurd (omega arith)
-  own_passes (suc n) h = one-more n
+  own_passes (suc n) h = one_more_lem n
 
 -- no second by the closed form is none where the power is one that a record may have
-pub own-in-one-go : (s : Settings) (o : Own) {w c : ℕ} → IsPowerOf w c o.power o.left → (n : ℕ)
-    → times (ownSecond s) n o ≡ ownAfter s o n
+pub own_in_one_go : (s : Settings) (o : Own) {w c : ℕ} → IsPowerOf w c o.power o.left → (n : ℕ)
+    → times (own_second s) n o ≡ own_after s o n
 unfolding times
-own-in-one-go s o t zero =
+own_in_one_go s o t zero =
     sym ((λ i.
-    withSeconds (with_power o (power-none _ _ (power_seen o) t.within i))
-    (lamps-none (power_seen o) (marksIn s o) o.lamps i))
-    ∙ (λ i. withPower o (t.number i) (t.seconds i)))
-own-in-one-go s o t (suc n) = one-more s o n
+    with_seconds (with_power o (power_none _ _ (power_seen o) t.within i))
+    (lamps_none (power_seen o) (marks_in s o) o.lamps i))
+    ∙ (λ i. with_power_left o (t.number i) (t.seconds i)))
+own_in_one_go s o t (suc n) = one_more_lem s o n
 
 -- the parts pass their seconds each for itself
-pub parts-pass : (n : ℕ) (d : Device) → times second n d ≡ partsAfter n d
+pub parts_pass : (n : ℕ) (d : Device) → times second n d ≡ parts_after n d
 unfolding times second
-parts-pass zero d =
+parts_pass zero d =
     (λ i. record { settings = d.settings; own = d.own; connections = sym (map-itself d.connections) i })
   where
-    map-itself : (cs : List Connection) → map (times connectionSecond 0) cs ≡ cs
+    map-itself : (cs : List Connection) → map (times connection_second 0) cs ≡ cs
     map-itself [] = refl
     map-itself (c ∷ cs) = ap (λ (t : List Connection). c ∷ t) (map-itself cs)
-parts-pass (suc n) d =
-    ap second (parts-pass n d)
+parts_pass (suc n) d =
+    ap second (parts_pass n d)
     ∙ (λ i. record {
       settings = d.settings;
-      own = times (ownSecond d.settings) (suc n) d.own;
-      connections = map-map connectionSecond (times connectionSecond n) d.connections i;
+      own = times (own_second d.settings) (suc n) d.own;
+      connections = map-map connection_second (times connection_second n) d.connections i;
     })
 
 -- so at each place the connection passes its own
-pub place-passes : (n : ℕ) (d : Device) (p : ℕ)
-    → connectionAt (times second n d) p ≡ times connectionSecond n (connectionAt d p)
-place-passes n d p =
-    ap (λ (e : Device). connectionAt e p) (parts-pass n d) ∙ mapped d.connections p
+pub place_passes : (n : ℕ) (d : Device) (p : ℕ)
+    → connection_at (times second n d) p ≡ times connection_second n (connection_at d p)
+place_passes n d p =
+    ap (λ (e : Device). connection_at e p) (parts_pass n d) ∙ mapped d.connections p
   where
     mapped : (cs : List Connection) (k : ℕ)
-        → get_or (map (times connectionSecond n) cs) k noConnection
-        ≡ times connectionSecond n (get_or cs k noConnection)
-    mapped [] k = sym (untimed-stays n noConnection refl)
+        → slice_index_or (map (times connection_second n) cs) k no_connection
+        ≡ times connection_second n (slice_index_or cs k no_connection)
+    mapped [] k = sym (untimed_stays n no_connection refl)
     mapped (c ∷ cs) zero = refl
     mapped (c ∷ cs) (suc k) = mapped cs k

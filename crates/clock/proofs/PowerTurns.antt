@@ -5,36 +5,36 @@ use Rattle.std.proofs.Common.{ℕ, suc, ◌≡◌, refl, arith}
 use Rattle.record.specs.Views.{IsPower, is_burning}
 use Rattle.record.specs.declared.views.Power.{Power}
 use Rattle.record.specs.declared.views.Power.TheVariants.{Off, WarmUp, On, Cooling}
-use Rattle.clock.specs.Second.{powerSecond}
-use Rattle.clock.specs.After.{powerAfter}
+use Rattle.clock.specs.Second.{power_second}
+use Rattle.clock.specs.After.{power_after}
 
 module _ (w c : ℕ) where
-  pub second-within : (p : Power) → IsPower w c p → IsPower w c (powerSecond p)
-  second-within (WarmUp left) h = grind (arith, h)
-  second-within (Cooling left) h = grind (arith, h)
-  second-within On h = h
-  second-within Off h = h
+  pub second_within : (p : Power) → IsPower w c p → IsPower w c (power_second p)
+  second_within (WarmUp left) h = grind (arith, h)
+  second_within (Cooling left) h = grind (arith, h)
+  second_within On h = h
+  second_within Off h = h
 
-  pub power-none : (p : Power) → IsPower w c p → powerAfter 0 p ≡ p
-  power-none (WarmUp left) h = grind (arith, h)
-  power-none (Cooling left) h = grind (arith, h)
-  power-none On h = refl
-  power-none Off h = refl
+  pub power_none : (p : Power) → IsPower w c p → power_after 0 p ≡ p
+  power_none (WarmUp left) h = grind (arith, h)
+  power_none (Cooling left) h = grind (arith, h)
+  power_none On h = refl
+  power_none Off h = refl
 
-pub power-once : (p : Power) → powerSecond p ≡ powerAfter 1 p
-power-once (WarmUp left) = grind arith
-power-once (Cooling left) = grind arith
-power-once On = refl
-power-once Off = refl
+pub power_once : (p : Power) → power_second p ≡ power_after 1 p
+power_once (WarmUp left) = grind arith
+power_once (Cooling left) = grind arith
+power_once On = refl
+power_once Off = refl
 
-pub power-more : (n : ℕ) (p : Power) → powerSecond (powerAfter n p) ≡ powerAfter (suc n) p
-power-more n (WarmUp left) = grind arith
-power-more n (Cooling left) = grind arith
-power-more n On = refl
-power-more n Off = refl
+pub power_more : (n : ℕ) (p : Power) → power_second (power_after n p) ≡ power_after (suc n) p
+power_more n (WarmUp left) = grind arith
+power_more n (Cooling left) = grind arith
+power_more n On = refl
+power_more n Off = refl
 
-pub is_burning-on : (n : ℕ) (p : Power) → is_burning (powerAfter n p) ≡ is_burning p
-is_burning-on n (WarmUp left) = grind arith
-is_burning-on n (Cooling left) = grind arith
-is_burning-on n On = refl
-is_burning-on n Off = refl
+pub is_burning-power_after : (n : ℕ) (p : Power) → is_burning (power_after n p) ≡ is_burning p
+is_burning-power_after n (WarmUp left) = grind arith
+is_burning-power_after n (Cooling left) = grind arith
+is_burning-power_after n On = refl
+is_burning-power_after n Off = refl

@@ -1,9 +1,9 @@
 -- One name that opens this crate's definitions, for computing on concrete records only (RULES, Commands).
 -- Assumes nothing.
-use Rattle.clock.specs.Second.{times, changedWhere, oneMore}
-use Rattle.clock.specs.Second.{ownSecond, connectionSecond, second}
+use Rattle.clock.specs.Second.{times, changed_where, one_more}
+use Rattle.clock.specs.Second.{own_second, connection_second, second}
 use Rattle.clock.specs.Passing.{passed}
 
 unfoldable pub computing : Unit {0}
-unfolding times changedWhere oneMore ownSecond connectionSecond second passed
+unfolding times changed_where one_more own_second connection_second second passed
 computing = tt

@@ -1,13 +1,13 @@
 // A connection after n seconds.
 ghost use Rattle.std.specs.Prelude.{◌≡◌};
-ghost use Rattle.clock.specs.Second.{connectionSecond, times};
+ghost use Rattle.clock.specs.Second.{connection_second, times};
 
 use record::connection;
 use record::connection::AGE_END;
 use record::types::Connection;
 
 pub fn age(c: &mut Connection, n: u32)
-    ensures { c.new ≡ times connectionSecond n c.old }
+    ensures { c.new ≡ times connection_second n c.old }
 {
     if !connection::is_timed(c.phase) {
         return;

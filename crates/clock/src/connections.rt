@@ -1,12 +1,12 @@
 // The connections after n seconds, each for itself (RULES, Places).
 ghost use Rattle.std.specs.Prelude.{◌≡◌, map};
-ghost use Rattle.clock.specs.Second.{connectionSecond, times};
+ghost use Rattle.clock.specs.Second.{connection_second, times};
 
 use crate::connection;
 use record::types::{Connection, PLACES};
 
 pub fn age(connections: &mut [Connection; PLACES], n: u32)
-    ensures { connections.new ≡ map (times connectionSecond n) connections.old }
+    ensures { connections.new ≡ map (times connection_second n) connections.old }
 {
     for place in 0..PLACES {
         connection::age(&mut connections[place], n);

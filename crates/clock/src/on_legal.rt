@@ -1,7 +1,7 @@
 // What `pass` does with a record that is legal, by the same promise. A caller that has tested its record once and keeps
 // it legal calls this, as `floorlog` does; a host calls `pass`, which asks for nothing.
 ghost use Rattle.std.specs.Prelude.{◌≡◌, true, Ok};
-ghost use Rattle.record.specs.Legal.{isLegal};
+ghost use Rattle.record.specs.Legal.{is_legal};
 ghost use Rattle.clock.specs.Passing.{passed};
 
 use crate::{connections, own};
@@ -9,7 +9,7 @@ use record::types::Device;
 
 /// So many seconds pass. No legal record is refused.
 pub fn pass(device: &mut Device, seconds: u32)
-    requires { isLegal device.old ≡ true }
+    requires { is_legal device.old ≡ true }
     ensures { Ok device.new ≡ passed device.old seconds }
 {
     own::pass(&device.settings, &mut device.own, seconds);

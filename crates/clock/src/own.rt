@@ -1,14 +1,14 @@
 // The projector's own part after n seconds, in closed form: the cost does not grow with n.
 ghost use Rattle.std.specs.Prelude.{◌≡◌, take, if◌then◌else◌};
-ghost use Rattle.clock.specs.Second.{oneMore, changedWhere, ownSecond, times};
-ghost use Rattle.clock.specs.After.{powerAfter};
+ghost use Rattle.clock.specs.Second.{one_more, changed_where, own_second, times};
+ghost use Rattle.clock.specs.After.{power_after};
 
 use record::own::LAMP_LIMIT;
 use record::types::{LAMPS_MOST, Own, Settings};
 use record::views::Power;
 
 fn power_after(power: Power, n: u32) -> Power
-    ensures { result ≡ powerAfter n power }
+    ensures { result ≡ power_after n power }
 {
     match power {
         Power::WarmUp { left } if n < left => Power::WarmUp { left: left - n },
@@ -22,7 +22,7 @@ fn power_after(power: Power, n: u32) -> Power
 // A lamp that burns for n seconds, stopped at the limit.
 #[tactic(auto, using(crate::proofs::LampsGain::burns, crate::proofs::LampsGain::stays))]
 fn lamp_after(seconds: u32, n: u32) -> u32
-    ensures { result ≡ times oneMore n seconds }
+    ensures { result ≡ times one_more n seconds }
 {
     if LAMP_LIMIT <= seconds {
         return seconds;
@@ -35,7 +35,7 @@ fn lamp_after(seconds: u32, n: u32) -> u32
 
 // One that burns if it is enabled (RULES, Lamps).
 fn lamp_if(mark: bool, seconds: u32, n: u32) -> u32
-    ensures { result ≡ (if mark then times oneMore n seconds else seconds) }
+    ensures { result ≡ (if mark then times one_more n seconds else seconds) }
 {
     if mark {
         return lamp_after(seconds, n);
@@ -44,7 +44,7 @@ fn lamp_if(mark: bool, seconds: u32, n: u32) -> u32
 }
 
 fn burn(lamps: &mut [u32; LAMPS_MOST], enabled: &[bool; LAMPS_MOST], count: usize, n: u32)
-    ensures { lamps.new ≡ changedWhere (times oneMore n) (take count enabled.now) lamps.old }
+    ensures { lamps.new ≡ changed_where (times one_more n) (take count enabled.now) lamps.old }
 {
     for k in 0..LAMPS_MOST {
         if count <= k {
@@ -56,7 +56,7 @@ fn burn(lamps: &mut [u32; LAMPS_MOST], enabled: &[bool; LAMPS_MOST], count: usiz
 
 #[tactic(auto, using(crate::proofs::InOneGo::own_passes))]
 pub fn pass(s: &Settings, o: &mut Own, n: u32)
-    ensures { o.new ≡ times (ownSecond s.now) n o.old }
+    ensures { o.new ≡ times (own_second s.now) n o.old }
 {
     if n == 0 {
         return;

@@ -2,7 +2,7 @@
 // is that the theorems stand.
 ghost use Rattle.std.specs.Prelude.{◌≡◌, Bool, ℕ, Result, OnErr};
 ghost use Rattle.record.specs.Given.{gives, left_by};
-ghost use Rattle.record.specs.HostCalls.{faultSet};
+ghost use Rattle.record.specs.HostCalls.{fault_set};
 ghost use Rattle.record.specs.declared.types.Device.{Device};
 ghost use Rattle.record.specs.declared.refusal.Refusal.{Refusal};
 ghost use Rattle.clock.specs.Passing.{passed};
@@ -17,5 +17,5 @@ pub fn one_result()
 /// The fault mark changes nothing that time does: to set it and let n seconds pass is to let them pass and set it.
 pub fn the_fault_mark_leaves_time()
     ensures { (d : Device) (n : ℕ) (m : Bool)
-        → passed (left_by d (faultSet d m)) n ≡ faultSet (left_by d (passed d n)) m }
+        → passed (left_by d (fault_set d m)) n ≡ fault_set (left_by d (passed d n)) m }
 {}

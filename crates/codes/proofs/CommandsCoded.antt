@@ -1,14 +1,11 @@
 -- Every command that can be written has a code, which stands for it; and the face tells a type by the table's number.
 -- Assumes nothing.
-use Prim.Native.Nat.{ℕ}
-use mathlib.Core.Path.{◌≡◌, refl, sym, ap, ◌∙◌}
-use mathlib.Core.Bool.{Bool, true, false, ◌&&◌}
-use lib.Dec.{leb}
+use Rattle.std.proofs.Common.{ℕ, ◌≡◌, refl, sym, ap, ◌∙◌, Bool, true, false, ◌&&◌, nat_le}
 use Rattle.std.specs.Prelude.{if◌then◌else◌, Some, None, option_map}
 use Rattle.text.proofs.Choices.{if_yes}
 use Rattle.words.specs.Sources.{type_of}
-use Rattle.pjlink.specs.Bodies.{hasQuery}
-use Rattle.pjlink.specs.Commands.{isCommand}
+use Rattle.pjlink.specs.Bodies.{has_query}
+use Rattle.pjlink.specs.Commands.{is_command}
 use Rattle.words.specs.declared.input.Source.{Source}
 use Rattle.words.specs.declared.input.Source.TheVariants.{Rgb, Video, Digital, Storage, Network, Internal}
 use Rattle.words.specs.declared.input.Input.{Input}
@@ -19,26 +16,26 @@ use Rattle.pjlink.specs.declared.command.Volume.TheVariants.{Speaker, Microphone
 use Rattle.pjlink.specs.declared.command.Command.{Command}
 use Rattle.pjlink.specs.declared.command.Command.TheVariants.{PowerSet, InputSet, MuteSet, InputSet2, FreezeSet}
 use Rattle.pjlink.specs.declared.command.Command.TheVariants.{VolumeStep, NameQuery, Query}
-use Rattle.pjlink.proofs.Bodies.{each-body}
-use Rattle.codes.specs.Commands.{switch, ofInput, ofHalf, switch_at, source_at, input_at, half_at, stands_for}
-use Rattle.codes.specs.Commands.{commandOf, bit, sourceNumber, halfNumber, code_of}
+use Rattle.pjlink.proofs.Bodies.{each_body}
+use Rattle.codes.specs.Commands.{switch, of_input, of_half, switch_at, source_at, input_at, half_at, stands_for}
+use Rattle.codes.specs.Commands.{coded_command, bit, source_number, half_number, code_of}
 
 -- the face tells a type by the table's number of it
-pub face-follows : (s : Source) → sourceNumber s ≡ type_of s
-face-follows Rgb = refl
-face-follows Video = refl
-face-follows Digital = refl
-face-follows Storage = refl
-face-follows Network = refl
-face-follows Internal = refl
+pub face_follows : (s : Source) → source_number s ≡ type_of s
+face_follows Rgb = refl
+face_follows Video = refl
+face_follows Digital = refl
+face_follows Storage = refl
+face_follows Network = refl
+face_follows Internal = refl
 
 -- from a command to its code and back
-asked-back : (b : Body) → hasQuery b ≡ true → commandOf (code_of (Query b)) ≡ Some (Query b)
-unfolding commandOf
-asked-back b e =
+asked_back : (b : Body) → has_query b ≡ true → coded_command (code_of (Query b)) ≡ Some (Query b)
+unfolding coded_command
+asked_back b e =
     sym (if_yes _ None e)
-    ∙ each-body (λ (q : Body). if hasQuery q then commandOf (code_of (Query q)) else None)
-    (λ (q : Body). if hasQuery q then Some (Query q) else None) refl b
+    ∙ each_body (λ (q : Body). if has_query q then coded_command (code_of (Query q)) else None)
+    (λ (q : Body). if has_query q then Some (Query q) else None) refl b
     ∙ if_yes _ _ e
 
 switch_back : (f : Bool → Command) (on : Bool) → stands_for (switch f) (bit on) 0 ≡ Some (f on)
@@ -46,8 +43,8 @@ unfolding switch_at
 switch_back f true = refl
 switch_back f false = refl
 
-input_back : (f : Input → Command) (s : Source) (n : ℕ) → (leb 1 n && leb n 35) ≡ true
-    → stands_for (ofInput f) (sourceNumber s) n ≡ Some (f (record { source = s; number = n }))
+input_back : (f : Input → Command) (s : Source) (n : ℕ) → (nat_le 1 n && nat_le n 35) ≡ true
+    → stands_for (of_input f) (source_number s) n ≡ Some (f (record { source = s; number = n }))
 unfolding input_at source_at
 input_back f Rgb n e = ap (option_map f) (if_yes _ _ e)
 input_back f Video n e = ap (option_map f) (if_yes _ _ e)
@@ -57,7 +54,7 @@ input_back f Network n e = ap (option_map f) (if_yes _ _ e)
 input_back f Internal n e = ap (option_map f) (if_yes _ _ e)
 
 half_back : (f : Half → Bool → Command) (h : Half) (on : Bool)
-    → stands_for (ofHalf f) (halfNumber h) (bit on) ≡ Some (f h on)
+    → stands_for (of_half f) (half_number h) (bit on) ≡ Some (f h on)
 unfolding half_at switch_at
 half_back f VideoHalf true = refl
 half_back f VideoHalf false = refl
@@ -66,14 +63,14 @@ half_back f AudioHalf false = refl
 half_back f BothHalves true = refl
 half_back f BothHalves false = refl
 
-pub code-back : (c : Command) → isCommand c ≡ true → commandOf (code_of c) ≡ Some c
-unfolding commandOf
-code-back (Query b) e = asked-back b e
-code-back (PowerSet on) e = switch_back PowerSet on
-code-back (InputSet i) e = input_back InputSet i.source i.number e
-code-back (MuteSet h on) e = half_back MuteSet h on
-code-back (FreezeSet on) e = switch_back FreezeSet on
-code-back (VolumeStep Speaker up) e = switch_back (VolumeStep Speaker) up
-code-back (VolumeStep Microphone up) e = switch_back (VolumeStep Microphone) up
-code-back (NameQuery i) e = input_back NameQuery i.source i.number e
-code-back (InputSet2 i) e = input_back InputSet2 i.source i.number e
+pub code_back : (c : Command) → is_command c ≡ true → coded_command (code_of c) ≡ Some c
+unfolding coded_command
+code_back (Query b) e = asked_back b e
+code_back (PowerSet on) e = switch_back PowerSet on
+code_back (InputSet i) e = input_back InputSet i.source i.number e
+code_back (MuteSet h on) e = half_back MuteSet h on
+code_back (FreezeSet on) e = switch_back FreezeSet on
+code_back (VolumeStep Speaker up) e = switch_back (VolumeStep Speaker) up
+code_back (VolumeStep Microphone up) e = switch_back (VolumeStep Microphone) up
+code_back (NameQuery i) e = input_back NameQuery i.source i.number e
+code_back (InputSet2 i) e = input_back InputSet2 i.source i.number e

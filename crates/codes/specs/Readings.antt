@@ -1,63 +1,63 @@
 -- What the readers give as numbers (include/ceiling.h). What a kind does not use is zero.
---   flatGreeting g     a greeting: kind 1 PJLINK 0, 2 PJLINK 1 with its random number, 3 ERRA
---   saidFlat m         what is said: kinds 1 to 10, and 12 a freeze (RULES, Class 2)
+--   flat_greeting g    a greeting: kind 1 PJLINK 0, 2 PJLINK 1 with its random number, 3 ERRA
+--   said_flat m        what is said: kinds 1 to 10, and 12 a freeze (RULES, Class 2)
 --   flat r             what the reply reader gives: kind 11 is ERRA, kind 0 no meaning
 -- Assumes nothing.
 use Rattle.std.specs.Prelude.{ℕ, Bool, false, List, [], map, length, replicate}
 use Rattle.std.proofs.lemmas.List.Edits.{sets}
-use Rattle.text.specs.InTurn.{eachInTurn}
-use Rattle.words.specs.Inputs.{inputText}
+use Rattle.text.specs.InTurn.{each_in_turn}
+use Rattle.words.specs.Inputs.{input_text}
 use Rattle.words.specs.declared.input.Input.{Input}
-use Rattle.pjlink.specs.Said.{Said, okay, refused, powerIs, chosenIs, mutesAre, errorsAre, lampsAre, inputsAre}
-use Rattle.pjlink.specs.Said.{textIs, classIs, freezeIs, nothing, parameterMost}
+use Rattle.pjlink.specs.Said.{Said, okay, refused, power_is, chosen_is, mutes_are, errors_are, lamps_are, inputs_are}
+use Rattle.pjlink.specs.Said.{text_is, class_is, freeze_is, nothing, parameter_most}
 use Rattle.words.specs.declared.power.Power.{Power}
 use Rattle.words.specs.declared.power.Power.TheVariants.{Off, On, Cooling, WarmUp}
 use Rattle.words.specs.declared.lamp.LampHours.{LampHours}
-use Rattle.controller.specs.Greetings.{greetingNumber}
-use Rattle.controller.specs.Reading.{ReadAs, outcomeNumber}
+use Rattle.controller.specs.Greetings.{greeting_number}
+use Rattle.controller.specs.Reading.{ReadAs, reading_outcome_number}
 use Rattle.controller.specs.declared.greeting.Greeting.{Greeting}
 use Rattle.controller.specs.declared.greeting.Greeting.TheVariants.{Open, Secured, Refused, NotAGreeting}
 use Rattle.controller.specs.Reading.{Outcome}
-use Rattle.controller.specs.Reading.{Means, Erra, NotALine, OtherCommand, NotAllowed}
-use Rattle.codes.specs.Commands.{bit, sourceNumber}
+use Rattle.controller.specs.Reading.{means_it, erra_said, not_a_line, other_command, disallowed}
+use Rattle.codes.specs.Commands.{bit, source_number}
 use Rattle.codes.specs.declared.lists.FlatLamps.{FlatLamps}
 use Rattle.codes.specs.declared.readings.FlatGreeting.{FlatGreeting}
 use Rattle.codes.specs.declared.readings.FlatReading.{FlatReading}
 
-abbrev pub greetingKind : Greeting → ℕ
-greetingKind Open = 1
-greetingKind (Secured r) = 2
-greetingKind Refused = 3
-greetingKind NotAGreeting = 0
+abbrev pub greeting_kind : Greeting → ℕ
+greeting_kind Open = 1
+greeting_kind (Secured r) = 2
+greeting_kind Refused = 3
+greeting_kind NotAGreeting = 0
 
-abbrev pub greetingRandom : Greeting → ℕ
-greetingRandom Open = 0
-greetingRandom (Secured r) = r
-greetingRandom Refused = 0
-greetingRandom NotAGreeting = 0
+abbrev pub greeting_random : Greeting → ℕ
+greeting_random Open = 0
+greeting_random (Secured r) = r
+greeting_random Refused = 0
+greeting_random NotAGreeting = 0
 
-abbrev pub flatGreeting : Greeting → FlatGreeting
-flatGreeting g = record { number = greetingNumber g; kind = greetingKind g; random = greetingRandom g }
+abbrev pub flat_greeting : Greeting → FlatGreeting
+flat_greeting g = record { number = greeting_number g; kind = greeting_kind g; random = greeting_random g }
 
 -- the things xs from the start of so much room, blank after them
-abbrev pub filledTo : {A : Type 0} → ℕ → A → List A → List A
-filledTo room blank xs = sets (replicate room blank) 0 xs
+abbrev pub filled_to : {A : Type 0} → ℕ → A → List A → List A
+filled_to room blank xs = sets (replicate room blank) 0 xs
 
-abbrev pub noHours : List ℕ
-noHours = filledTo 8 0 []
+abbrev pub no_hours : List ℕ
+no_hours = filled_to 8 0 []
 
-abbrev pub noneLit : List Bool
-noneLit = filledTo 8 false []
+abbrev pub none_lit : List Bool
+none_lit = filled_to 8 false []
 
-abbrev pub noCharacters : List ℕ
-noCharacters = filledTo 64 0 []
+abbrev pub no_characters : List ℕ
+no_characters = filled_to 64 0 []
 
-abbrev pub noBytes : List ℕ
-noBytes = filledTo parameterMost 0 []
+abbrev pub no_bytes : List ℕ
+no_bytes = filled_to parameter_most 0 []
 
-abbrev pub flatOf : (number kind first second count : ℕ) (hours : List ℕ) (lit : List Bool) (inputs text : List ℕ)
+abbrev pub flat_of : (number kind first second count : ℕ) (hours : List ℕ) (lit : List Bool) (inputs text : List ℕ)
     → FlatReading
-flatOf number kind first second count hours lit inputs text = record {
+flat_of number kind first second count hours lit inputs text = record {
   number = number;
   kind = kind;
   first = first;
@@ -70,65 +70,66 @@ flatOf number kind first second count hours lit inputs text = record {
 }
 
 abbrev pub meaningless : ℕ → FlatReading
-meaningless n = flatOf n 0 0 0 0 noHours noneLit noCharacters noBytes
+meaningless n = flat_of n 0 0 0 0 no_hours none_lit no_characters no_bytes
 
 abbrev pub plain : (kind first second : ℕ) → FlatReading
-plain kind first second = flatOf 0 kind first second 0 noHours noneLit noCharacters noBytes
+plain kind first second = flat_of 0 kind first second 0 no_hours none_lit no_characters no_bytes
 
-abbrev pub withText : ℕ → List ℕ → FlatReading
-withText kind s = flatOf 0 kind 0 0 (length s) noHours noneLit noCharacters (filledTo parameterMost 0 s)
+abbrev pub with_text : ℕ → List ℕ → FlatReading
+with_text kind s = flat_of 0 kind 0 0 (length s) no_hours none_lit no_characters (filled_to parameter_most 0 s)
 
-abbrev pub hoursOf : LampHours → ℕ
-hoursOf l = l.hours
+abbrev pub hours_of : LampHours → ℕ
+hours_of l = l.hours
 
 abbrev pub lit_of : LampHours → Bool
 lit_of l = l.lit
 
 -- the lamps in cleared rooms
-abbrev pub flatLamps : List LampHours → FlatLamps
-flatLamps ls = record {
+abbrev pub flat_lamps : List LampHours → FlatLamps
+flat_lamps ls = record {
   count = length ls;
-  hours = filledTo 8 0 (map hoursOf ls);
-  lit = filledTo 8 false (map lit_of ls);
+  hours = filled_to 8 0 (map hours_of ls);
+  lit = filled_to 8 false (map lit_of ls);
 }
 
-abbrev pub withLamps : List LampHours → FlatReading
-withLamps ls =
-    flatOf 0 7 0 0 (length ls) (filledTo 8 0 (map hoursOf ls)) (filledTo 8 false (map lit_of ls)) noCharacters noBytes
+abbrev pub with_lamps : List LampHours → FlatReading
+with_lamps ls =
+    flat_of 0 7 0 0 (length ls) (filled_to 8 0 (map hours_of ls))
+    (filled_to 8 false (map lit_of ls)) no_characters no_bytes
 
 -- two characters an input
 abbrev pub characters : List Input → List ℕ
-characters is = eachInTurn inputText is
+characters is = each_in_turn input_text is
 
-abbrev pub withInputs : List Input → FlatReading
-withInputs is = flatOf 0 8 0 0 (length is) noHours noneLit (filledTo 64 0 (characters is)) noBytes
+abbrev pub with_inputs : List Input → FlatReading
+with_inputs is = flat_of 0 8 0 0 (length is) no_hours none_lit (filled_to 64 0 (characters is)) no_bytes
 
-abbrev pub powerNumber : Power → ℕ
-powerNumber Off = 0
-powerNumber On = 1
-powerNumber Cooling = 2
-powerNumber WarmUp = 3
+abbrev pub power_at_face : Power → ℕ
+power_at_face Off = 0
+power_at_face On = 1
+power_at_face Cooling = 2
+power_at_face WarmUp = 3
 
-abbrev pub saidFlat : Said → FlatReading
-saidFlat okay = plain 1 0 0
-saidFlat (refused n) = plain 2 n 0
-saidFlat (powerIs p) = plain 3 (powerNumber p) 0
-saidFlat (chosenIs i) = plain 4 (sourceNumber i.source) i.number
-saidFlat (mutesAre video audio) = plain 5 (bit video) (bit audio)
-saidFlat (errorsAre ds) = withText 6 ds
-saidFlat (lampsAre ls) = withLamps ls
-saidFlat (inputsAre is) = withInputs is
-saidFlat (textIs s) = withText 9 s
-saidFlat (classIs k) = plain 10 k 0
-saidFlat (freezeIs on) = plain 12 (bit on) 0
-saidFlat nothing = meaningless (outcomeNumber NotAllowed)
+abbrev pub said_flat : Said → FlatReading
+said_flat okay = plain 1 0 0
+said_flat (refused n) = plain 2 n 0
+said_flat (power_is p) = plain 3 (power_at_face p) 0
+said_flat (chosen_is i) = plain 4 (source_number i.source) i.number
+said_flat (mutes_are video audio) = plain 5 (bit video) (bit audio)
+said_flat (errors_are ds) = with_text 6 ds
+said_flat (lamps_are ls) = with_lamps ls
+said_flat (inputs_are is) = with_inputs is
+said_flat (text_is s) = with_text 9 s
+said_flat (class_is k) = plain 10 k 0
+said_flat (freeze_is on) = plain 12 (bit on) 0
+said_flat nothing = meaningless (reading_outcome_number disallowed)
 
-abbrev pub flatAs : Outcome → Said → FlatReading
-flatAs Means m = saidFlat m
-flatAs Erra m = plain 11 0 0
-flatAs NotALine m = meaningless (outcomeNumber NotALine)
-flatAs OtherCommand m = meaningless (outcomeNumber OtherCommand)
-flatAs NotAllowed m = meaningless (outcomeNumber NotAllowed)
+abbrev pub flat_as : Outcome → Said → FlatReading
+flat_as means_it m = said_flat m
+flat_as erra_said m = plain 11 0 0
+flat_as not_a_line m = meaningless (reading_outcome_number not_a_line)
+flat_as other_command m = meaningless (reading_outcome_number other_command)
+flat_as disallowed m = meaningless (reading_outcome_number disallowed)
 
 abbrev pub flat : ReadAs → FlatReading
-flat r = flatAs r.outcome r.said
+flat r = flat_as r.outcome r.said

@@ -1,6 +1,6 @@
 // A command as a host passes it, a code and two numbers, and the command that it stands for (RULES, Commands).
 ghost use Rattle.std.specs.Prelude.{◌≡◌};
-ghost use Rattle.codes.specs.Commands.{switch_at, source_at, input_at, half_at, commandOf};
+ghost use Rattle.codes.specs.Commands.{switch_at, source_at, input_at, half_at, coded_command};
 
 use pjlink::body::Body;
 use pjlink::command::{Command, Half, Volume};
@@ -70,9 +70,9 @@ fn half_at(n: u8) -> Option<Half>
 
 impl Coded {
     /// The command that the code stands for, if it stands for one.
-    #[tactic(auto, unfolding(crate::specs::Commands::commandOf))]
+    #[tactic(auto, unfolding(crate::specs::Commands::coded_command))]
     pub fn command(self) -> Option<Command>
-        ensures { result ≡ commandOf self }
+        ensures { result ≡ coded_command self }
     {
         let Coded {
             code,

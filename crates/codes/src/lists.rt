@@ -1,8 +1,8 @@
 //! Texts, lamps and inputs as a reading has them: counted, at the start of a cleared room.
 ghost use Rattle.std.specs.Prelude.{◌≡◌, ◌≤◌, length};
-ghost use Rattle.pjlink.specs.Said.{parameterMost};
-ghost use Rattle.pjlink.specs.Carried.{lampsCarried, inputsCarried};
-ghost use Rattle.codes.specs.Readings.{withText, flatLamps, withLamps, withInputs};
+ghost use Rattle.pjlink.specs.Said.{parameter_most};
+ghost use Rattle.pjlink.specs.Carried.{lamps_carried, inputs_carried};
+ghost use Rattle.codes.specs.Readings.{with_text, flat_lamps, with_lamps, with_inputs};
 
 use crate::readings::{CHARACTERS, FlatReading, TEXT_MOST};
 use pjlink::answer::LAMPS_MOST;
@@ -21,8 +21,8 @@ pub struct FlatLamps {
 impl FlatLamps {
     /// At most eight lamps.
     pub fn of(lamps: &[LampHours]) -> FlatLamps
-        requires { length lamps.now ≤ lampsCarried }
-        ensures { result ≡ flatLamps lamps.now }
+        requires { length lamps.now ≤ lamps_carried }
+        ensures { result ≡ flat_lamps lamps.now }
     {
         let mut hours = [0u32; LAMPS_MOST];
         let mut lit = [false; LAMPS_MOST];
@@ -41,8 +41,8 @@ impl FlatLamps {
 impl FlatReading {
     /// Of a kind that says a text.
     pub(crate) fn with_text(kind: u8, s: &[u8]) -> FlatReading
-        requires { length s.now ≤ parameterMost }
-        ensures { result ≡ withText kind s.now }
+        requires { length s.now ≤ parameter_most }
+        ensures { result ≡ with_text kind s.now }
     {
         let mut text = [0u8; TEXT_MOST];
         text::put(&mut text, 0, s);
@@ -54,8 +54,8 @@ impl FlatReading {
 
     /// Of at most eight lamps.
     pub(crate) fn with_lamps(lamps: &[LampHours]) -> FlatReading
-        requires { length lamps.now ≤ lampsCarried }
-        ensures { result ≡ withLamps lamps.now }
+        requires { length lamps.now ≤ lamps_carried }
+        ensures { result ≡ with_lamps lamps.now }
     {
         let FlatLamps { count, hours, lit } = FlatLamps::of(lamps);
         let mut flat = FlatReading::plain(7, 0, 0);
@@ -67,8 +67,8 @@ impl FlatReading {
 
     /// Of at most 32 inputs, two characters each.
     pub(crate) fn with_inputs(inputs: &[Input]) -> FlatReading
-        requires { length inputs.now ≤ inputsCarried }
-        ensures { result ≡ withInputs inputs.now }
+        requires { length inputs.now ≤ inputs_carried }
+        ensures { result ≡ with_inputs inputs.now }
     {
         let mut pairs = [0u8; CHARACTERS];
         for k in 0..inputs.len() {

@@ -1,11 +1,11 @@
 //! What the readers give, as numbers beside arrays, since an exported call returns no enum. What a kind does not use is
 //! zero (RULES, Controller).
 ghost use Rattle.std.specs.Prelude.{◌≡◌, ◌≤◌, length};
-ghost use Rattle.pjlink.specs.Said.{saidBytes, parameterMost};
+ghost use Rattle.pjlink.specs.Said.{said_bytes, parameter_most};
 ghost use Rattle.pjlink.specs.Carried.{answer_said};
 ghost use Rattle.controller.specs.Reading.{read_as};
-ghost use Rattle.codes.specs.Commands.{bit, sourceNumber};
-ghost use Rattle.codes.specs.Readings.{flatGreeting, meaningless, plain, powerNumber, saidFlat, flat};
+ghost use Rattle.codes.specs.Commands.{bit, source_number};
+ghost use Rattle.codes.specs.Readings.{flat_greeting, meaningless, plain, power_at_face, said_flat, flat};
 
 use controller::greeting::Greeting;
 use controller::reading::{Misread, Reading};
@@ -45,7 +45,7 @@ pub struct FlatReading {
 
 /// The number of a power, 0 to 3, as a reply has it.
 pub fn power_number(p: Power) -> u8
-    ensures { result ≡ powerNumber p }
+    ensures { result ≡ power_at_face p }
 {
     match p {
         Power::Off => 0,
@@ -57,7 +57,7 @@ pub fn power_number(p: Power) -> u8
 
 /// The number of a type of inputs, 1 to 6.
 pub fn source_number(s: Source) -> u8
-    ensures { result ≡ sourceNumber s }
+    ensures { result ≡ source_number s }
 {
     match s {
         Source::Rgb => 1,
@@ -78,7 +78,7 @@ fn bit(on: bool) -> u8
 impl FlatGreeting {
     /// The greeting by its kind: 1 open, 2 secured with its random number, 3 refused; else the number 10.
     pub fn of(greeting: Greeting) -> FlatGreeting
-        ensures { result ≡ flatGreeting greeting }
+        ensures { result ≡ flat_greeting greeting }
     {
         let (number, kind, random) = match greeting {
             Greeting::Open => (0, 1, 0),
@@ -125,8 +125,8 @@ impl FlatReading {
 
     #[tactic(auto, using(pjlink::proofs::SaidRows::said_row))]
     fn said(a: &Answer<'_>) -> FlatReading
-        requires { length (saidBytes (answer_said a.now)) ≤ parameterMost }
-        ensures { result ≡ saidFlat (answer_said a.now) }
+        requires { length (said_bytes (answer_said a.now)) ≤ parameter_most }
+        ensures { result ≡ said_flat (answer_said a.now) }
     {
         match a {
             Answer::Done => FlatReading::plain(1, 0, 0),
@@ -145,7 +145,7 @@ impl FlatReading {
     /// What the reply reader gives: what was said, the ERRA line (kind 11), or 10, 11 or 12 for a line without a
     /// meaning.
     pub fn of(reading: &Result<Reading<'_>, Misread>) -> FlatReading
-        requires { length (saidBytes (read_as reading.now).said) ≤ parameterMost }
+        requires { length (said_bytes (read_as reading.now).said) ≤ parameter_most }
         ensures { result ≡ flat (read_as reading.now) }
     {
         match reading {

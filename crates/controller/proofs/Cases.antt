@@ -1,151 +1,149 @@
 -- The writer and the readers, case by case: the equation of each case.
 -- Assumes nothing.
-use Prim.Native.Nat.{ℕ, ◌≤◌, ◌<◌}
-use mathlib.Core.Path.{◌≡◌, ap, ◌∙◌}
-use mathlib.Core.Bool.{Bool, true, false, not, ◌&&◌, ◌||◌}
-use mathlib.Core.List.{List, [], ◌++◌}
-use lib.ListN.{length}
-use lib.Dec.{ltb}
-use borrow.Author.Tests.{ltb-true, ltb-false, lt-ltb, le-ltb, not-true, not-false}
-use Rattle.text.specs.Scans.{sameBy, itself}
-use Rattle.text.proofs.Choices.{if_yes, if_no, if-by, both}
-use Rattle.text.proofs.Scanning.{long-differs}
-use Rattle.digest.specs.Hex.{leadingDigest, hexDigits}
-use Rattle.words.specs.Texts.{isPassword}
-use Rattle.pjlink.specs.Commands.{isCommand, bodyOf, commandClass, commandLine}
-use Rattle.pjlink.specs.Forms.{erraLine, greetingOpen, greetingSecured, isReplyForm, headBody, replyParameter}
+use Rattle.std.proofs.Common.{ℕ, ◌≤◌, ◌<◌, ◌≡◌, ap, ◌∙◌, Bool, true, false, not, ◌&&◌, ◌||◌, List, [], ◌++◌, length}
+use Rattle.std.proofs.Common.{nat_lt, ltb-true, ltb-false, lt-ltb, le-ltb}
+use Rattle.std.proofs.lemmas.Bool.{not-true, not-false}
+use Rattle.text.specs.Scans.{same_by, itself}
+use Rattle.text.proofs.Choices.{if_yes, if_no, if_by, both}
+use Rattle.text.proofs.Scanning.{long_differs}
+use Rattle.digest.specs.Hex.{leading_digest, hex_digits}
+use Rattle.words.specs.Texts.{is_password}
+use Rattle.pjlink.specs.Commands.{is_command, body_of, command_class, command_line}
+use Rattle.pjlink.specs.Forms.{erra_line, greeting_open, greeting_secured, is_reply_form, head_body, reply_parameter}
 use Rattle.pjlink.specs.declared.command.Command.{Command}
-use Rattle.pjlink.specs.Bodies.{isBody}
-use Rattle.pjlink.specs.Reading.{readParameter}
-use Rattle.controller.specs.Writing.{WrittenAs, nothingWritten, commandRoom, isWritable, ledBy, writtenCommand}
-use Rattle.controller.specs.Reading.{ReadAs, without, saying, readReply}
-use Rattle.controller.specs.Greetings.{greets, randomIn, readGreeting}
-use Rattle.controller.specs.Reading.{Erra, NotALine, OtherCommand}
+use Rattle.pjlink.specs.Bodies.{is_body}
+use Rattle.pjlink.specs.Reading.{read_parameter}
+use Rattle.controller.specs.Writing.{WrittenAs, nothing_written, command_room, is_writable, led_by, written_command}
+use Rattle.controller.specs.Reading.{ReadAs, without, saying, read_reply}
+use Rattle.controller.specs.Greetings.{greets, random_in, read_greeting}
+use Rattle.controller.specs.Reading.{erra_said, not_a_line, other_command}
 use Rattle.controller.specs.declared.greeting.Greeting.{Greeting}
 use Rattle.controller.specs.declared.greeting.Greeting.TheVariants.{Open, Secured, Refused, NotAGreeting}
 
 -- writing: 2, 3, or the line
 module _ (c : Command) (secured : Bool) (random : ℕ) (password : List ℕ) (room : ℕ) where
-  pub written-by : (P : WrittenAs → Type 0)
-      → (room < commandRoom → P (nothingWritten 2))
-      → (commandRoom ≤ room → isWritable c secured password ≡ false → P (nothingWritten 3))
-      → (commandRoom ≤ room → isWritable c secured password ≡ true
-      → P (record { number = 0; bytes = ledBy secured random password ++ commandLine c }))
-      → P (writtenCommand c secured random password room)
-  unfolding writtenCommand
-  written-by P short illegal line =
-      if-by P (ltb room commandRoom) (λ h. short (ltb-true room commandRoom h)) (λ h.
-      let enough = ltb-false room commandRoom h in
-      let writable = isWritable c secured password in
-      if-by P (not writable) (λ w. illegal enough (not-true writable w)) (λ w. line enough (not-false writable w)))
+  pub written_by : (P : WrittenAs → Type 0)
+      → (room < command_room → P (nothing_written 2))
+      → (command_room ≤ room → is_writable c secured password ≡ false → P (nothing_written 3))
+      → (command_room ≤ room → is_writable c secured password ≡ true
+      → P (record { number = 0; bytes = led_by secured random password ++ command_line c }))
+      → P (written_command c secured random password room)
+  unfolding written_command
+  written_by P short illegal line =
+      if_by P (nat_lt room command_room) (λ h. short (ltb-true room command_room h)) (λ h.
+      let enough = ltb-false room command_room h in
+      let writable = is_writable c secured password in
+      if_by P (not writable) (λ w. illegal enough (not-true writable w)) (λ w. line enough (not-false writable w)))
 
-  pub written-short : room < commandRoom → writtenCommand c secured random password room ≡ nothingWritten 2
-  unfolding writtenCommand
-  written-short h = if_yes _ _ (lt-ltb room commandRoom h)
+  pub written_short : room < command_room → written_command c secured random password room ≡ nothing_written 2
+  unfolding written_command
+  written_short h = if_yes _ _ (lt-ltb room command_room h)
 
-  module _ (enough : commandRoom ≤ room) where
-    pub written-refused : isWritable c secured password ≡ false
-        → writtenCommand c secured random password room ≡ nothingWritten 3
-    unfolding writtenCommand
-    written-refused w = if_no _ _ (le-ltb room commandRoom enough) ∙ if_yes _ _ (ap not w)
+  module _ (enough : command_room ≤ room) where
+    pub written_refused : is_writable c secured password ≡ false
+        → written_command c secured random password room ≡ nothing_written 3
+    unfolding written_command
+    written_refused w = if_no _ _ (le-ltb room command_room enough) ∙ if_yes _ _ (ap not w)
 
-    pub written-line : isWritable c secured password ≡ true → writtenCommand c secured random password room
-        ≡ record { number = 0; bytes = ledBy secured random password ++ commandLine c }
-    unfolding writtenCommand
-    written-line w = if_no _ _ (le-ltb room commandRoom enough) ∙ if_no _ _ (ap not w)
+    pub written_line : is_writable c secured password ≡ true → written_command c secured random password room
+        ≡ record { number = 0; bytes = led_by secured random password ++ command_line c }
+    unfolding written_command
+    written_line w = if_no _ _ (le-ltb room command_room enough) ∙ if_no _ _ (ap not w)
 
-    pub written-no-command : isCommand c ≡ false → writtenCommand c secured random password room ≡ nothingWritten 3
-    written-no-command e = written-refused (ap (λ (t : Bool). t && (not secured || isPassword password)) e)
+    pub written_no_command : is_command c ≡ false → written_command c secured random password room ≡ nothing_written 3
+    written_no_command e = written_refused (ap (λ (t : Bool). t && (not secured || is_password password)) e)
 
-    module _ (writable : isCommand c ≡ true) where
-      led : {w : List ℕ} → ledBy secured random password ≡ w → ◌≡◌ {A = WrittenAs}
-          (record { number = 0; bytes = ledBy secured random password ++ commandLine c })
-          (record { number = 0; bytes = w ++ commandLine c })
-      led e = ap (λ (w : List ℕ). record { number = 0; bytes = w ++ commandLine c }) e
+    module _ (writable : is_command c ≡ true) where
+      led : {w : List ℕ} → led_by secured random password ≡ w → ◌≡◌ {A = WrittenAs}
+          (record { number = 0; bytes = led_by secured random password ++ command_line c })
+          (record { number = 0; bytes = w ++ command_line c })
+      led e = ap (λ (w : List ℕ). record { number = 0; bytes = w ++ command_line c }) e
 
-      pub written-plain : secured ≡ false
-          → writtenCommand c secured random password room ≡ record { number = 0; bytes = commandLine c }
-      written-plain e =
-          written-line (both writable (ap (λ (s : Bool). not s || isPassword password) e))
-          ∙ led (if_no (leadingDigest random password) [] e)
+      pub written_plain : secured ≡ false
+          → written_command c secured random password room ≡ record { number = 0; bytes = command_line c }
+      written_plain e =
+          written_line (both writable (ap (λ (s : Bool). not s || is_password password) e))
+          ∙ led (if_no (leading_digest random password) [] e)
 
-      pub written-no-password : secured ≡ true → isPassword password ≡ false
-          → writtenCommand c secured random password room ≡ nothingWritten 3
-      written-no-password e f = written-refused (λ i. writable i && (not (e i) || f i))
+      pub written_no_password : secured ≡ true → is_password password ≡ false
+          → written_command c secured random password room ≡ nothing_written 3
+      written_no_password e f = written_refused (λ i. writable i && (not (e i) || f i))
 
-      pub written-led : secured ≡ true → isPassword password ≡ true → writtenCommand c secured random password room
-          ≡ record { number = 0; bytes = leadingDigest random password ++ commandLine c }
-      written-led e f =
-          written-line (λ i. writable i && (not (e i) || f i)) ∙ led (if_yes (leadingDigest random password) [] e)
+      pub written_led : secured ≡ true → is_password password ≡ true → written_command c secured random password room
+          ≡ record { number = 0; bytes = leading_digest random password ++ command_line c }
+      written_led e f =
+          written_line (λ i. writable i && (not (e i) || f i)) ∙ led (if_yes (leading_digest random password) [] e)
 
 -- reading a reply: the ERRA line, the form, the body, the parameter
 module _ (c : Command) (l : List ℕ) where
-  pub reply-by : (P : ReadAs → Type 0)
-      → (sameBy itself l erraLine ≡ true → P (without Erra))
-      → (sameBy itself l erraLine ≡ false → isReplyForm (commandClass c) l ≡ false → P (without NotALine))
-      → (isReplyForm (commandClass c) l ≡ true → isBody (commandClass c) (headBody l) (bodyOf c) ≡ false
-      → P (without OtherCommand))
-      → (isReplyForm (commandClass c) l ≡ true → isBody (commandClass c) (headBody l) (bodyOf c) ≡ true
-      → P (saying (readParameter c (replyParameter l))))
-      → P (readReply c l)
-  unfolding readReply
-  reply-by P erra unformed other said =
-      let named = isBody (commandClass c) (headBody l) (bodyOf c) in
-      if-by P (sameBy itself l erraLine) erra (λ line.
-      if-by P (not (isReplyForm (commandClass c) l)) (λ f. unformed line (not-true (isReplyForm (commandClass c) l) f))
+  pub reply_by : (P : ReadAs → Type 0)
+      → (same_by itself l erra_line ≡ true → P (without erra_said))
+      → (same_by itself l erra_line ≡ false → is_reply_form (command_class c) l ≡ false → P (without not_a_line))
+      → (is_reply_form (command_class c) l ≡ true → is_body (command_class c) (head_body l) (body_of c) ≡ false
+      → P (without other_command))
+      → (is_reply_form (command_class c) l ≡ true → is_body (command_class c) (head_body l) (body_of c) ≡ true
+      → P (saying (read_parameter c (reply_parameter l))))
+      → P (read_reply c l)
+  unfolding read_reply
+  reply_by P erra unformed other said =
+      let named = is_body (command_class c) (head_body l) (body_of c) in
+      if_by P (same_by itself l erra_line) erra (λ line.
+      if_by P (not (is_reply_form (command_class c) l))
+      (λ f. unformed line (not-true (is_reply_form (command_class c) l) f))
       (λ f.
-      let formed = not-false (isReplyForm (commandClass c) l) f in
-      if-by P (not named) (λ b. other formed (not-true named b)) (λ b. said formed (not-false named b))))
+      let formed = not-false (is_reply_form (command_class c) l) f in
+      if_by P (not named) (λ b. other formed (not-true named b)) (λ b. said formed (not-false named b))))
 
-  pub reply-erra : sameBy itself l erraLine ≡ true → readReply c l ≡ without Erra
-  unfolding readReply
-  reply-erra e = if_yes _ _ e
+  pub reply_erra : same_by itself l erra_line ≡ true → read_reply c l ≡ without erra_said
+  unfolding read_reply
+  reply_erra e = if_yes _ _ e
 
-  module _ (line : sameBy itself l erraLine ≡ false) where
-    pub reply-unformed : isReplyForm (commandClass c) l ≡ false → readReply c l ≡ without NotALine
-    unfolding readReply
-    reply-unformed f = if_no _ _ line ∙ if_yes _ _ (ap not f)
+  module _ (line : same_by itself l erra_line ≡ false) where
+    pub reply_unformed : is_reply_form (command_class c) l ≡ false → read_reply c l ≡ without not_a_line
+    unfolding read_reply
+    reply_unformed f = if_no _ _ line ∙ if_yes _ _ (ap not f)
 
-    module _ (formed : isReplyForm (commandClass c) l ≡ true) where
-      pub reply-other : isBody (commandClass c) (headBody l) (bodyOf c) ≡ false → readReply c l ≡ without OtherCommand
-      unfolding readReply
-      reply-other b = if_no _ _ line ∙ if_no _ _ (ap not formed) ∙ if_yes _ _ (ap not b)
+    module _ (formed : is_reply_form (command_class c) l ≡ true) where
+      pub reply_other : is_body (command_class c) (head_body l) (body_of c) ≡ false →
+          read_reply c l ≡ without other_command
+      unfolding read_reply
+      reply_other b = if_no _ _ line ∙ if_no _ _ (ap not formed) ∙ if_yes _ _ (ap not b)
 
-      pub reply-said : isBody (commandClass c) (headBody l) (bodyOf c) ≡ true
-          → readReply c l ≡ saying (readParameter c (replyParameter l))
-      unfolding readReply
-      reply-said b = if_no _ _ line ∙ if_no _ _ (ap not formed) ∙ if_no _ _ (ap not b)
+      pub reply_said : is_body (command_class c) (head_body l) (body_of c) ≡ true
+          → read_reply c l ≡ saying (read_parameter c (reply_parameter l))
+      unfolding read_reply
+      reply_said b = if_no _ _ line ∙ if_no _ _ (ap not formed) ∙ if_no _ _ (ap not b)
 
 -- reading a greeting: the open one, the ERRA line, the secured one, or none
 module _ (l : List ℕ) where
-  pub greeting-by : (P : Greeting → Type 0)
-      → (sameBy itself l greetingOpen ≡ true → P Open)
-      → (sameBy itself l erraLine ≡ true → P Refused)
-      → (greets l (randomIn l) ≡ true → P (Secured (randomIn l)))
+  pub greeting_by : (P : Greeting → Type 0)
+      → (same_by itself l greeting_open ≡ true → P Open)
+      → (same_by itself l erra_line ≡ true → P Refused)
+      → (greets l (random_in l) ≡ true → P (Secured (random_in l)))
       → P NotAGreeting
-      → P (readGreeting l)
-  unfolding readGreeting
-  greeting-by P opens erra secured none =
-      if-by P (sameBy itself l greetingOpen) opens (λ n.
-      if-by P (sameBy itself l erraLine) erra (λ m. if-by P (greets l (randomIn l)) secured (λ k. none)))
+      → P (read_greeting l)
+  unfolding read_greeting
+  greeting_by P opens erra secured none =
+      if_by P (same_by itself l greeting_open) opens (λ n.
+      if_by P (same_by itself l erra_line) erra (λ m. if_by P (greets l (random_in l)) secured (λ k. none)))
 
-  pub greeting-open : sameBy itself l greetingOpen ≡ true → readGreeting l ≡ Open
-  unfolding readGreeting
-  greeting-open e = if_yes _ _ e
+  pub greeting_open_lem : same_by itself l greeting_open ≡ true → read_greeting l ≡ Open
+  unfolding read_greeting
+  greeting_open_lem e = if_yes _ _ e
 
-  module _ (closed : sameBy itself l greetingOpen ≡ false) where
-    pub greeting-refused : sameBy itself l erraLine ≡ true → readGreeting l ≡ Refused
-    unfolding readGreeting
-    greeting-refused e = if_no _ _ closed ∙ if_yes _ _ e
+  module _ (closed : same_by itself l greeting_open ≡ false) where
+    pub greeting_refused : same_by itself l erra_line ≡ true → read_greeting l ≡ Refused
+    unfolding read_greeting
+    greeting_refused e = if_no _ _ closed ∙ if_yes _ _ e
 
-    module _ (line : sameBy itself l erraLine ≡ false) where
-      pub greeting-secured : greets l (randomIn l) ≡ true → readGreeting l ≡ Secured (randomIn l)
-      unfolding readGreeting
-      greeting-secured e = if_no _ _ closed ∙ if_no _ _ line ∙ if_yes _ _ e
+    module _ (line : same_by itself l erra_line ≡ false) where
+      pub greeting_secured_lem : greets l (random_in l) ≡ true → read_greeting l ≡ Secured (random_in l)
+      unfolding read_greeting
+      greeting_secured_lem e = if_no _ _ closed ∙ if_no _ _ line ∙ if_yes _ _ e
 
-      pub greeting-none : greets l (randomIn l) ≡ false → readGreeting l ≡ NotAGreeting
-      unfolding readGreeting
-      greeting-none e = if_no _ _ closed ∙ if_no _ _ line ∙ if_no _ _ e
+      pub greeting_none : greets l (random_in l) ≡ false → read_greeting l ≡ NotAGreeting
+      unfolding read_greeting
+      greeting_none e = if_no _ _ closed ∙ if_no _ _ line ∙ if_no _ _ e
 
-      pub greeting-not-18 : (length l ≡ 18 → ⊥) → readGreeting l ≡ NotAGreeting
-      greeting-not-18 n = greeting-none (long-differs itself l (greetingSecured (hexDigits 8 (randomIn l))) n)
+      pub greeting_not_18 : (length l ≡ 18 → ⊥) → read_greeting l ≡ NotAGreeting
+      greeting_not_18 n = greeting_none (long_differs itself l (greeting_secured (hex_digits 8 (random_in l))) n)

@@ -1,67 +1,63 @@
 -- The greeting reader takes each greeting and the ERRA line for what it is, and no other line for one of them (RULES,
 -- Controller: "nothing more").
 -- Assumes nothing.
-use Prim.Native.Nat.{ℕ, ◌^◌, ◌≤◌, ◌<◌}
-use mathlib.Core.Path.{◌≡◌, refl, sym, ap, ◌∙◌}
-use mathlib.Core.Bool.{true}
-use mathlib.Core.List.{List, map-id}
-use native.Mathlib.Nat.{pow-le-pow_right}
-use native.Mathlib.Omega.{arith}
-use lib.ListN.{length, take, drop, length-take}
-use Rattle.text.specs.Scans.{sameBy, itself}
-use Rattle.text.proofs.Sameness.{same-is, turned_same}
-use Rattle.digest.specs.Hex.{hexDigits}
-use Rattle.digest.proofs.Laws.{hex-value-back, hex-value-below}
-use Rattle.pjlink.specs.Forms.{erraLine, greetingOpen, greetingSecured}
-use Rattle.controller.specs.Greetings.{greets, randomIn, readGreeting, Exactly, greetingNumber}
+use Rattle.std.proofs.Common.{ℕ, ◌^◌, ◌≤◌, ◌<◌, ◌≡◌, refl, sym, ap, ◌∙◌, true, List, map-id, arith, length, take, drop}
+use Rattle.std.proofs.Common.{length-take}
+use Rattle.std.proofs.Math.Nat.{pow-le-pow_right}
+use Rattle.text.specs.Scans.{same_by, itself}
+use Rattle.text.proofs.Sameness.{same_is, turned_same}
+use Rattle.digest.specs.Hex.{hex_digits}
+use Rattle.digest.proofs.Laws.{hex_value_back, hex_value_below}
+use Rattle.pjlink.specs.Forms.{erra_line, greeting_open, greeting_secured}
+use Rattle.controller.specs.Greetings.{greets, random_in, read_greeting, Exactly, greeting_number}
 use Rattle.controller.specs.declared.greeting.Greeting.TheVariants.{Open, Secured, Refused, NotAGreeting}
-use Rattle.controller.proofs.Cases.{greeting-by, greeting-secured}
+use Rattle.controller.proofs.Cases.{greeting_by, greeting_secured_lem}
 
 -- each line is read for what it is
-pub open-heard : readGreeting greetingOpen ≡ Open
-unfolding readGreeting
-open-heard = refl
+pub open_heard : read_greeting greeting_open ≡ Open
+unfolding read_greeting
+open_heard = refl
 
-pub erra-heard : readGreeting erraLine ≡ Refused
-unfolding readGreeting
-erra-heard = refl
+pub erra_heard : read_greeting erra_line ≡ Refused
+unfolding read_greeting
+erra_heard = refl
 
 module _ (r : ℕ) (word : r < 2 ^ 32) where
   abbrev line : List ℕ
-  line = greetingSecured (hexDigits 8 r)
+  line = greeting_secured (hex_digits 8 r)
 
-  random-back : randomIn line ≡ r
-  unfolding randomIn
-  random-back = hex-value-back 8 r word
+  random_back : random_in line ≡ r
+  unfolding random_in
+  random_back = hex_value_back 8 r word
 
-  pub secured-heard : readGreeting line ≡ Secured r
-  secured-heard =
-      let same : sameBy itself line line ≡ true = turned_same itself line line (map-id line) in
-      greeting-secured line refl refl (ap (greets line) random-back ∙ same) ∙ ap Secured random-back
+  pub secured_heard : read_greeting line ≡ Secured r
+  secured_heard =
+      let same : same_by itself line line ≡ true = turned_same itself line line (map-id line) in
+      greeting_secured_lem line refl refl (ap (greets line) random_back ∙ same) ∙ ap Secured random_back
 
 -- and nothing else is
-pub random-below : (l : List ℕ) → randomIn l < 2 ^ 32
-unfolding randomIn
-random-below l =
+pub random_below : (l : List ℕ) → random_in l < 2 ^ 32
+unfolding random_in
+random_below l =
     let digits = take 8 (drop 9 l) in
     let few : length digits ≤ 8 = omega (arith, length-take 8 (drop 9 l)) in
-    omega (arith, hex-value-below digits, pow-le-pow_right {n = 16} (omega arith) {i = length digits} {j = 8} few)
+    omega (arith, hex_value_below digits, pow-le-pow_right {n = 16} (omega arith) {i = length digits} {j = 8} few)
 
-other-line : (l t : List ℕ) → readGreeting l ≡ NotAGreeting → greetingNumber (readGreeting t) ≡ 0 → l ≡ t → ⊥
-other-line l t none some e =
+other_line : (l t : List ℕ) → read_greeting l ≡ NotAGreeting → greeting_number (read_greeting t) ≡ 0 → l ≡ t → ⊥
+other_line l t none some e =
     let same : ◌≡◌ {A = ℕ} 10 0
-    = sym (ap greetingNumber none) ∙ ap (λ (k : List ℕ). greetingNumber (readGreeting k)) e ∙ some in
+    = sym (ap greeting_number none) ∙ ap (λ (k : List ℕ). greeting_number (read_greeting k)) e ∙ some in
     omega arith
 
-pub heard-exactly : (l : List ℕ) → Exactly l (readGreeting l)
-heard-exactly l =
-    greeting-by l (λ g. readGreeting l ≡ g → Exactly l g) (λ e q. same-is l greetingOpen e)
-    (λ e q. same-is l erraLine e) (λ e q. (random-below l, same-is l _ e))
+pub heard_exactly : (l : List ℕ) → Exactly l (read_greeting l)
+heard_exactly l =
+    greeting_by l (λ g. read_greeting l ≡ g → Exactly l g) (λ e q. same_is l greeting_open e)
+    (λ e q. same_is l erra_line e) (λ e q. (random_below l, same_is l _ e))
     (λ q. (
-      other-line l greetingOpen q (ap greetingNumber open-heard),
+      other_line l greeting_open q (ap greeting_number open_heard),
       (
-        other-line l erraLine q (ap greetingNumber erra-heard),
-        λ r word. other-line l _ q (ap greetingNumber (secured-heard r word)),
+        other_line l erra_line q (ap greeting_number erra_heard),
+        λ r word. other_line l _ q (ap greeting_number (secured_heard r word)),
       ),
     ))
     refl

@@ -1,24 +1,19 @@
 -- A name that the projector accepts is one that our reader accepts (RULES, Texts).
 -- Assumes nothing.
-use Prim.Native.Nat.{ℕ}
-use mathlib.Core.Path.{◌≡◌, sym, ap, ◌∙◌}
-use mathlib.Core.Bool.{true}
-use mathlib.Core.List.{List, ◌++◌}
-use native.Mathlib.Omega.{arith}
-use Rattle.text.specs.Words.{ascii}
-use Rattle.words.specs.Texts.{isName}
+use Rattle.std.proofs.Common.{ℕ, ◌≡◌, sym, ap, ◌∙◌, true, List, ◌++◌, arith, codes}
+use Rattle.words.specs.Texts.{is_name}
 use Rattle.pjlink.specs.declared.command.Command.TheVariants.{Query}
 use Rattle.pjlink.specs.declared.body.Body.TheVariants.{Name}
-use Rattle.pjlink.specs.Said.{textIs}
+use Rattle.pjlink.specs.Said.{text_is}
 use Rattle.pjlink.specs.CanSay.{name}
-use Rattle.pjlink.proofs.SaidPlain.{said_plain, text-said}
-use Rattle.controller.specs.Reading.{readReply, meaning}
-use Rattle.controller.proofs.ReadsBack.{reply-read}
+use Rattle.pjlink.proofs.SaidPlain.{said_plain, text_said}
+use Rattle.controller.specs.Reading.{read_reply, meaning}
+use Rattle.controller.proofs.ReadsBack.{reply_read}
 
-pub accepted-name-is-read : (s : List ℕ) → isName s ≡ true
-    → readReply (Query Name) (ascii "%1NAME=" ++ s ++ ascii "\r") ≡ meaning (textIs s)
-accepted-name-is-read s e =
+pub accepted_name_is_read : (s : List ℕ) → is_name s ≡ true
+    → read_reply (Query Name) (codes "%1NAME=" ++ s ++ codes "\r") ≡ meaning (text_is s)
+accepted_name_is_read s e =
     let plain = said_plain (name s e) in
     let short = plain.0 in
-    ap (λ (p : List ℕ). readReply (Query Name) (ascii "%1NAME=" ++ p ++ ascii "\r")) (sym (text-said s))
-    ∙ reply-read (Query Name) (name s e) (omega arith) plain.1
+    ap (λ (p : List ℕ). read_reply (Query Name) (codes "%1NAME=" ++ p ++ codes "\r")) (sym (text_said s))
+    ∙ reply_read (Query Name) (name s e) (omega arith) plain.1

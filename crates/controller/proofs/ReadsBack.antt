@@ -1,63 +1,58 @@
 -- What the reader takes from the reply to a command is what it says (RULES, Controller).
 -- Assumes nothing.
-use Prim.Native.Nat.{ℕ, ◌≤◌}
-use mathlib.Core.Path.{◌≡◌, refl, sym, ap, ◌∙◌}
-use mathlib.Core.Bool.{true}
-use mathlib.Core.List.{List, ◌∷◌, ◌++◌}
-use lib.ListN.{length}
-use Rattle.text.specs.Words.{ascii}
-use Rattle.text.specs.Scans.{every}
-use Rattle.words.specs.Bytes.{◌at◌, isAlnum, noCr}
-use Rattle.pjlink.specs.Forms.{replyLine}
-use Rattle.pjlink.specs.Commands.{bodyText, bodyOf, commandClass, classDigit}
+use Rattle.std.specs.List.{list_all}
+use Rattle.std.proofs.Common.{ℕ, ◌≤◌, ◌≡◌, refl, sym, ap, ◌∙◌, true, List, ◌∷◌, ◌++◌, length, codes}
+use Rattle.words.specs.Bytes.{◌at◌, is_alnum, no_cr}
+use Rattle.pjlink.specs.Forms.{reply_line}
+use Rattle.pjlink.specs.Commands.{body_text, body_of, command_class, class_digit}
 use Rattle.pjlink.specs.declared.command.Command.{Command}
-use Rattle.pjlink.proofs.Bodies.{four, body-spelt}
-use Rattle.pjlink.proofs.RepliesReadBack.{reply-not-erra, reply-form, reply-parameter}
-use Rattle.pjlink.specs.Bodies.{isBody}
-use Rattle.pjlink.proofs.BodiesNamed.{body-named}
-use Rattle.pjlink.specs.Said.{Said, nothing, saidBytes}
-use Rattle.pjlink.specs.Reading.{readParameter}
+use Rattle.pjlink.proofs.Bodies.{four, body_spelt}
+use Rattle.pjlink.proofs.RepliesReadBack.{reply_not_erra, reply_form, reply_parameter_of_line}
+use Rattle.pjlink.specs.Bodies.{is_body}
+use Rattle.pjlink.proofs.BodiesNamed.{body_named_lem}
+use Rattle.pjlink.specs.Said.{Said, nothing, said_bytes}
+use Rattle.pjlink.specs.Reading.{read_parameter}
 use Rattle.pjlink.specs.CanSay.{CanSay}
-use Rattle.pjlink.proofs.Nothing.{cannot-say-nothing}
-use Rattle.pjlink.proofs.ReadsBack.{reads-back as parameter-reads-back}
-use Rattle.controller.specs.Reading.{ReadAs, Outcome, Means, meaning, saying, readReply}
-use Rattle.controller.proofs.Cases.{reply-said}
+use Rattle.pjlink.proofs.Nothing.{cannot_say_nothing}
+use Rattle.pjlink.proofs.ReadsBack.{reads_back as parameter-reads-back}
+use Rattle.controller.specs.Reading.{ReadAs, Outcome, means_it, meaning, saying, read_reply}
+use Rattle.controller.proofs.Cases.{reply_said}
 
--- every answer that a command can have means something
-pub can-mean : {c : Command} {m : Said} → CanSay c m → (saying m).outcome ≡ Means
-can-mean {m = nothing} can = absurd (cannot-say-nothing can)
-can-mean {m = m} can = refl
+-- list_all answer that a command can have means something
+pub can_mean : {c : Command} {m : Said} → CanSay c m → (saying m).outcome ≡ means_it
+can_mean {m = nothing} can = absurd (cannot_say_nothing can)
+can_mean {m = m} can = refl
 
 -- the reply to a command, by what it says
-module _ (c : Command) {m : Said} (can : CanSay c m) (short : length (saidBytes m) ≤ 128)
-    (plain : noCr (saidBytes m) ≡ true) where
+module _ (c : Command) {m : Said} (can : CanSay c m) (short : length (said_bytes m) ≤ 128)
+    (plain : no_cr (said_bytes m) ≡ true) where
   abbrev text : List ℕ
-  text = bodyText (bodyOf c)
+  text = body_text (body_of c)
 
   abbrev spelled : List ℕ
-  spelled = replyLine (classDigit (commandClass c)) (text at 0) (text at 1) (text at 2) (text at 3) (saidBytes m)
+  spelled = reply_line (class_digit (command_class c)) (text at 0) (text at 1) (text at 2) (text at 3) (said_bytes m)
 
-  letters : every isAlnum (four text) ≡ true
-  letters = ap (every isAlnum) (body-spelt (bodyOf c)).long ∙ (body-spelt (bodyOf c)).letters
+  letters : list_all is_alnum (four text) ≡ true
+  letters = ap (list_all is_alnum) (body_spelt (body_of c)).long ∙ (body_spelt (body_of c)).letters
 
-  spelled-read : readReply c spelled ≡ meaning m
-  spelled-read =
-      reply-said c spelled
-      (reply-not-erra (text at 0) (text at 1) (text at 2) (text at 3) letters (classDigit (commandClass c))
-      (saidBytes m))
-      (reply-form (text at 0) (text at 1) (text at 2) (text at 3) letters (commandClass c) (saidBytes m) short plain)
-      (ap (λ (s : List ℕ). isBody (commandClass c) s (bodyOf c)) (body-spelt (bodyOf c)).long
-      ∙ (body-named (bodyOf c)).own)
-      ∙ ap (λ (p : List ℕ). saying (readParameter c p))
-      (reply-parameter (text at 0) (text at 1) (text at 2) (text at 3) letters (classDigit (commandClass c))
-      (saidBytes m))
+  spelled_read : read_reply c spelled ≡ meaning m
+  spelled_read =
+      reply_said c spelled
+      (reply_not_erra (text at 0) (text at 1) (text at 2) (text at 3) letters (class_digit (command_class c))
+      (said_bytes m))
+      (reply_form (text at 0) (text at 1) (text at 2) (text at 3) letters (command_class c) (said_bytes m) short plain)
+      (ap (λ (s : List ℕ). is_body (command_class c) s (body_of c)) (body_spelt (body_of c)).long
+      ∙ (body_named_lem (body_of c)).own)
+      ∙ ap (λ (p : List ℕ). saying (read_parameter c p))
+      (reply_parameter_of_line (text at 0) (text at 1) (text at 2) (text at 3) letters (class_digit (command_class c))
+      (said_bytes m))
       ∙ ap saying (parameter-reads-back can)
-      ∙ ap {B = ReadAs} (λ (o : Outcome). record { outcome = o; said = m }) (can-mean can)
+      ∙ ap {B = ReadAs} (λ (o : Outcome). record { outcome = o; said = m }) (can_mean can)
 
-  pub reply-read : readReply c (ascii "%" ++ (classDigit (commandClass c) ∷ text) ++ ascii "=" ++ saidBytes m
-      ++ ascii "\r") ≡ meaning m
-  reply-read =
-      ap (λ (s : List ℕ). readReply c (ascii "%" ++ (classDigit (commandClass c) ∷ s) ++ ascii "=" ++ saidBytes m
-      ++ ascii "\r"))
-      (sym (body-spelt (bodyOf c)).long)
-      ∙ spelled-read
+  pub reply_read : read_reply c (codes "%" ++ (class_digit (command_class c) ∷ text) ++ codes "=" ++ said_bytes m
+      ++ codes "\r") ≡ meaning m
+  reply_read =
+      ap (λ (s : List ℕ). read_reply c (codes "%" ++ (class_digit (command_class c) ∷ s) ++ codes "=" ++ said_bytes m
+      ++ codes "\r"))
+      (sym (body_spelt (body_of c)).long)
+      ∙ spelled_read

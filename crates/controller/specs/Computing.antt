@@ -1,9 +1,9 @@
 -- One name that opens this crate's definitions, for computing on concrete records only (RULES, Commands).
 -- Assumes nothing.
-use Rattle.controller.specs.Writing.{writtenCommand}
-use Rattle.controller.specs.Reading.{readReply}
-use Rattle.controller.specs.Greetings.{randomIn, readGreeting}
+use Rattle.controller.specs.Writing.{written_command}
+use Rattle.controller.specs.Reading.{read_reply}
+use Rattle.controller.specs.Greetings.{random_in, read_greeting}
 
 unfoldable pub computing : Unit {0}
-unfolding writtenCommand readReply randomIn readGreeting
+unfolding written_command read_reply random_in read_greeting
 computing = tt

@@ -1,15 +1,15 @@
 -- Writing a command (RULES, Controller and The numbers a call gives).
 --   WrittenAs                        what the writer gives: the number, and the bytes from the start of the lent memory
---   commandRoom                      less lent memory is 2: the digest and the longest line that the standard allows
---   isWritable c secured password    the command's line can be written, and a digest is asked for of a legal password
---   ledBy secured random password    what stands before the line: where asked for, the digest
---   nothingWritten n                 a refusal: the number n, and no bytes
---   writtenCommand c secured random password room     2, 3, or the line
+--   command_room                     less lent memory is 2: the digest and the longest line that the standard allows
+--   is_writable c secured password   the command's line can be written, and a digest is asked for of a legal password
+--   led_by secured random password   what stands before the line: where asked for, the digest
+--   nothing_written n                a refusal: the number n, and no bytes
+--   written_command c secured random password room    2, 3, or the line
 -- Assumes nothing.
-use Rattle.std.specs.Prelude.{ℕ, Bool, not, ◌&&◌, ◌||◌, List, [], ◌++◌, length, ltb, if◌then◌else◌}
-use Rattle.digest.specs.Hex.{leadingDigest}
-use Rattle.words.specs.Texts.{isPassword}
-use Rattle.pjlink.specs.Commands.{isCommand, commandLine}
+use Rattle.std.specs.Prelude.{ℕ, Bool, not, ◌&&◌, ◌||◌, List, [], ◌++◌, length, if◌then◌else◌, nat_lt}
+use Rattle.digest.specs.Hex.{leading_digest}
+use Rattle.words.specs.Texts.{is_password}
+use Rattle.pjlink.specs.Commands.{is_command, command_line}
 use Rattle.pjlink.specs.declared.command.Command.{Command}
 use Rattle.controller.specs.declared.writing.Written.{Written}
 
@@ -17,23 +17,23 @@ pub record WrittenAs : Type 0 where
   pub number : ℕ
   pub bytes : List ℕ
 
-abbrev pub nothingWritten : ℕ → WrittenAs
-nothingWritten n = record { number = n; bytes = [] }
+abbrev pub nothing_written : ℕ → WrittenAs
+nothing_written n = record { number = n; bytes = [] }
 
-abbrev pub commandRoom : ℕ
-commandRoom = 168
+abbrev pub command_room : ℕ
+command_room = 168
 
-abbrev pub isWritable : Command → Bool → List ℕ → Bool
-isWritable c secured password = isCommand c && (not secured || isPassword password)
+abbrev pub is_writable : Command → Bool → List ℕ → Bool
+is_writable c secured password = is_command c && (not secured || is_password password)
 
-abbrev pub ledBy : Bool → ℕ → List ℕ → List ℕ
-ledBy secured random password = if secured then leadingDigest random password else []
+abbrev pub led_by : Bool → ℕ → List ℕ → List ℕ
+led_by secured random password = if secured then leading_digest random password else []
 
-unfoldable pub writtenCommand : Command → Bool → ℕ → List ℕ → ℕ → WrittenAs
-writtenCommand c secured random password room =
-    if ltb room commandRoom then nothingWritten 2
-    else if not (isWritable c secured password) then nothingWritten 3
-    else record { number = 0; bytes = ledBy secured random password ++ commandLine c }
+unfoldable pub written_command : Command → Bool → ℕ → List ℕ → ℕ → WrittenAs
+written_command c secured random password room =
+    if nat_lt room command_room then nothing_written 2
+    else if not (is_writable c secured password) then nothing_written 3
+    else record { number = 0; bytes = led_by secured random password ++ command_line c }
 
-abbrev pub toldWritten : WrittenAs → Written
-toldWritten w = record { number = w.number; length = length w.bytes }
+abbrev pub told_written : WrittenAs → Written
+told_written w = record { number = w.number; length = length w.bytes }

@@ -1,6 +1,6 @@
 // Reading the line that a projector greets with.
 ghost use Rattle.std.specs.Prelude.{◌≡◌};
-ghost use Rattle.controller.specs.Greetings.{readGreeting};
+ghost use Rattle.controller.specs.Greetings.{read_greeting};
 
 #[derive(Clone, Copy)]
 pub enum Greeting {
@@ -11,9 +11,9 @@ pub enum Greeting {
 }
 
 // The greetings and the ERRA line, each to its CR and no further.
-#[tactic(auto, unfolding(crate::specs::Greetings::readGreeting))]
+#[tactic(auto, unfolding(crate::specs::Greetings::read_greeting))]
 pub fn read_greeting(line: &[u8]) -> Greeting
-    ensures { result ≡ readGreeting line.now }
+    ensures { result ≡ read_greeting line.now }
 {
     if text::same(line, b"PJLINK 0\r") {
         return Greeting::Open;

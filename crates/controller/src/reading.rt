@@ -1,6 +1,6 @@
 //! Reading a reply, told the command that it answers.
 ghost use Rattle.std.specs.Prelude.{◌≡◌};
-ghost use Rattle.controller.specs.Reading.{outcome_of, outcomeNumber, readReply, read_as};
+ghost use Rattle.controller.specs.Reading.{outcome_of, reading_outcome_number, read_reply, read_as};
 
 use pjlink::answer::Reply;
 use pjlink::command::Command;
@@ -29,7 +29,7 @@ pub enum Misread {
 impl Misread {
     /// Its number in the table of numbers.
     pub fn number(self) -> u32
-        ensures { result ≡ outcomeNumber (outcome_of self) }
+        ensures { result ≡ reading_outcome_number (outcome_of self) }
     {
         match self {
             Misread::NotALine => 10,
@@ -42,7 +42,7 @@ impl Misread {
 /// What the line, with its CR, says to the command: the ERRA line, then the form, then the body, then the parameter
 /// (RULES, Controller).
 pub fn read_reply(c: Command, line: &[u8]) -> Result<Reading<'_>, Misread>
-    ensures { read_as result ≡ readReply c line.now }
+    ensures { read_as result ≡ read_reply c line.now }
 {
     if text::same(line, b"PJLINK ERRA\r") {
         return Ok(Reading::Erra);

@@ -1,7 +1,7 @@
 // Writing a command, led on request by the digest that opens a secured connection.
 ghost use Rattle.std.specs.Prelude.{◌≡◌, length};
 ghost use Rattle.text.specs.Words.{over};
-ghost use Rattle.controller.specs.Writing.{writtenCommand, toldWritten};
+ghost use Rattle.controller.specs.Writing.{written_command, told_written};
 
 use pjlink::command::Command;
 use words::texts;
@@ -14,7 +14,7 @@ pub struct Written {
 }
 
 // The command's line from the start of the lent memory: 2 and 3 in that order.
-#[tactic(auto, unfolding(crate::specs::Writing::writtenCommand))]
+#[tactic(auto, unfolding(crate::specs::Writing::written_command))]
 pub fn write_command(
     c: Command,
     secured: bool,
@@ -22,9 +22,9 @@ pub fn write_command(
     password: &[u8],
     out: &mut [u8],
 ) -> Written
-    ensures value { result ≡ toldWritten (writtenCommand c secured random password.now
+    ensures value { result ≡ told_written (written_command c secured random password.now
         (length out.old)) }
-    ensures out_after { out.new ≡ over (writtenCommand c secured random password.now
+    ensures written { out.new ≡ over (written_command c secured random password.now
         (length out.old)).bytes out.old }
 {
     if out.len() < 168 {

@@ -1,53 +1,52 @@
 -- At most one answer of the planner holds of jobs and rigs: there is one greedy assignment, as far as it goes.
 -- Assumes nothing.
 use Rattle.std.proofs.Common.{ℕ, zero, suc, ◌<◌, ◌≤◌, ◌≡◌, List, [], ◌∷◌, ◌++◌, length, take, Ok, Err, Result}
-use Rattle.std.proofs.Common.{refl, sym, ap, subst, ◌∙◌, arith, ⊎_elim}
-use Rattle.std.proofs.Math.ListN.{get_or}
+use Rattle.std.proofs.Common.{refl, sym, ap, subst, ◌∙◌, arith, ⊎_elim, slice_index_or}
 use Rattle.std.proofs.Math.Seq.{take-suc, take-length}
 use Rattle.std.proofs.lemmas.List.{take_all}
 use Rattle.std.proofs.lemmas.Option.{get_or_from_slice_get, slice_get_within}
-use Rattle.text.proofs.Orders.{le-or-lt}
+use Rattle.text.proofs.Orders.{le_or_lt}
 use Rattle.day.specs.Rules.{Keeps}
 use Rattle.day.specs.Verdicts.{InRange, VerdictHolds}
-use Rattle.day.specs.Plans.{jobs_of, on_rig, LowestRig, Greedy, FindsNoneAt, PlanHolds}
+use Rattle.day.specs.Plans.{jobs_of, on_rig, IsLowestRig, IsGreedy, FindsNoneAt, PlanHolds}
 use Rattle.day.specs.declared.Job.{Job}
 use Rattle.day.specs.declared.Rig.{Rig}
 use Rattle.day.specs.declared.Placement.{Placement}
 use Rattle.day.specs.declared.plan.PlanError.{PlanError}
 use Rattle.day.specs.declared.plan.PlanError.TheVariants.{OutOfRange, NoRig}
-use Rattle.day.proofs.Greedily.{nobody, length-front, job_at, all_in_range, greedy_kept}
+use Rattle.day.proofs.Greedily.{nobody, length_front, job_at, all_in_range, greedy_kept}
 
 module _ (jobs : List Job) (rigs : List Rig) where
-  one_rig : {ps : List Placement} {job : Job} {j k : ℕ} → LowestRig rigs ps job j → LowestRig rigs ps job k → j ≡ k
+  one_rig : {ps : List Placement} {job : Job} {j k : ℕ} → IsLowestRig rigs ps job j → IsLowestRig rigs ps job k → j ≡ k
   one_rig {j = j} {k = k} a b =
       ⊎_elim
-      (λ (h : j ≤ k). ⊎_elim (λ (l : k ≤ j). omega arith) (λ (l : j < k). absurd (b.lowest j l a.keeps)) (le-or-lt k j))
-      (λ (h : k < j). absurd (a.lowest k h b.keeps)) (le-or-lt j k)
+      (λ (h : j ≤ k). ⊎_elim (λ (l : k ≤ j). omega arith) (λ (l : j < k). absurd (b.lowest j l a.keeps)) (le_or_lt k j))
+      (λ (h : k < j). absurd (a.lowest k h b.keeps)) (le_or_lt j k)
 
   module _ (m n : ℕ) (ps qs : List Placement) (e : jobs_of ps ≡ take m jobs) (f : jobs_of qs ≡ take n jobs)
-      (g : Greedy rigs ps) (h : Greedy rigs qs) where
+      (g : IsGreedy rigs ps) (h : IsGreedy rigs qs) where
     same_start : (k : ℕ) → k ≤ length ps → k ≤ length qs → take k ps ≡ take k qs
     same_start zero a b = refl
     same_start (suc k) a b =
         let before = same_start k (omega arith) (omega arith) in
-        let p = get_or ps k nobody in
-        let q = get_or qs k nobody in
+        let p = slice_index_or ps k nobody in
+        let q = slice_index_or qs k nobody in
         let job : p.job ≡ q.job =
         job_at jobs m ps e k nobody (omega arith) ∙ sym (job_at jobs n qs f k nobody (omega arith)) in
-        let there : LowestRig rigs (take k qs) q.job p.rig =
-        subst (λ (job : Job). LowestRig rigs (take k qs) job p.rig) job
-        (subst (λ (s : List Placement). LowestRig rigs s p.job p.rig) before (g k nobody (omega arith))) in
+        let there : IsLowestRig rigs (take k qs) q.job p.rig =
+        subst (λ (job : Job). IsLowestRig rigs (take k qs) job p.rig) job
+        (subst (λ (s : List Placement). IsLowestRig rigs s p.job p.rig) before (g k nobody (omega arith))) in
         let rig : p.rig ≡ q.rig = one_rig there (h k nobody (omega arith)) in
         take-suc ps k nobody (omega arith) ∙ (λ t. before t ++ on_rig (job t) (rig t) ∷ [])
         ∙ sym (take-suc qs k nobody (omega arith))
 
   -- a greedy assignment goes no further than to the first job that finds no rig
   not_past : {j : ℕ} → FindsNoneAt jobs rigs j → (n : ℕ) (qs : List Placement) → jobs_of qs ≡ take n jobs
-      → Greedy rigs qs → j < length qs → ⊥
+      → IsGreedy rigs qs → j < length qs → ⊥
   not_past {j} f n qs e g h =
       let there = slice_get_within jobs j f.job f.next in
-      let long : length f.placed ≡ j = omega (arith, length-front jobs j f.placed f.before, there) in
-      let q = get_or qs j nobody in
+      let long : length f.placed ≡ j = omega (arith, length_front jobs j f.placed f.before, there) in
+      let q = slice_index_or qs j nobody in
       let start : take j qs ≡ f.placed =
       same_start n j qs f.placed e f.before g f.greedy j (omega arith) (omega arith)
       ∙ take_all j f.placed (omega arith) in
@@ -66,21 +65,21 @@ module _ (jobs : List Job) (rigs : List Rig) where
   whole : (ps : List Placement) → jobs_of ps ≡ jobs → jobs_of ps ≡ take (length jobs) jobs
   whole ps e = e ∙ sym (take-length jobs)
 
-  none_past : {j : ℕ} {ps : List Placement} → FindsNoneAt jobs rigs j → Greedy rigs ps → jobs_of ps ≡ jobs → ⊥
+  none_past : {j : ℕ} {ps : List Placement} → FindsNoneAt jobs rigs j → IsGreedy rigs ps → jobs_of ps ≡ jobs → ⊥
   none_past {j} {ps} f g e =
       let there = slice_get_within jobs j f.job f.next in
-      not_past f (length jobs) ps (whole ps e) g (omega (arith, length-front jobs (length jobs) ps (whole ps e), there))
+      not_past f (length jobs) ps (whole ps e) g (omega (arith, length_front jobs (length jobs) ps (whole ps e), there))
 
   none_above : {i j : ℕ} → FindsNoneAt jobs rigs i → FindsNoneAt jobs rigs j → i < j → ⊥
   none_above {i} {j} a b h =
       let there = slice_get_within jobs j b.job b.next in
-      not_past a j b.placed b.before b.greedy (omega (arith, length-front jobs j b.placed b.before, there))
+      not_past a j b.placed b.before b.greedy (omega (arith, length_front jobs j b.placed b.before, there))
 
   pub one_plan : (p q : Answer) → Holds p → Holds q → p ≡ q
   one_plan (Ok ps) (Ok qs) a b =
       let n = length jobs in
-      let long : length ps ≡ n = omega (arith, length-front jobs n ps (whole ps a.2)) in
-      let same : length qs ≡ n = omega (arith, length-front jobs n qs (whole qs b.2)) in
+      let long : length ps ≡ n = omega (arith, length_front jobs n ps (whole ps a.2)) in
+      let same : length qs ≡ n = omega (arith, length_front jobs n qs (whole qs b.2)) in
       ap (λ (s : List Placement). Ok s)
       (sym (take_all n ps (omega arith))
       ∙ same_start n n ps qs (whole ps a.2) (whole qs b.2) a.1 b.1 n (omega arith) (omega arith)
@@ -95,8 +94,8 @@ module _ (jobs : List Job) (rigs : List Rig) where
   one_plan (Err (NoRig i)) (Err (NoRig j)) a b =
       ap (λ (k : ℕ). Err (NoRig k))
       (⊎_elim
-      (λ (h : i ≤ j). ⊎_elim (λ (l : j ≤ i). omega arith) (λ l. absurd (none_above a.1 b.1 l)) (le-or-lt j i))
-      (λ h. absurd (none_above b.1 a.1 h)) (le-or-lt i j))
+      (λ (h : i ≤ j). ⊎_elim (λ (l : j ≤ i). omega arith) (λ l. absurd (none_above a.1 b.1 l)) (le_or_lt j i))
+      (λ h. absurd (none_above b.1 a.1 h)) (le_or_lt i j))
 
   -- what is planned keeps every rule
   pub planned_accepted : (ps : List Placement) → Holds (Ok ps) → VerdictHolds rigs ps (Ok tt)
@@ -104,7 +103,7 @@ module _ (jobs : List Job) (rigs : List Rig) where
       let n = length jobs in
       let front = whole ps a.2 in
       let within : InRange rigs ps = record {
-        few_jobs = omega (arith, length-front jobs n ps front, a.0.few_jobs);
+        few_jobs = omega (arith, length_front jobs n ps front, a.0.few_jobs);
         few_rigs = a.0.few_rigs;
         all_jobs = all_in_range jobs n ps front a.0.all_jobs;
         all_rigs = a.0.all_rigs;

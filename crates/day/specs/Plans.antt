@@ -2,9 +2,9 @@
 -- found: the greedy assignment. Exactly one answer holds (src/theorems, the_plan_answered_holds).
 --   jobs_of ps               the jobs that are placed, in their order
 --   on_rig j k               the job j placed on the rig k
---   LowestRig rigs ps j k    k is the lowest rig on which the job j keeps every rule with those placed before
+--   IsLowestRig rigs ps j k  k is the lowest rig on which the job j keeps every rule with those placed before
 --   FindsNone rigs ps j      the job j keeps every rule with them on no rig
---   Greedy rigs ps           each job placed is on its lowest rig
+--   IsGreedy rigs ps         each job placed is on its lowest rig
 --   FindsNoneAt jobs rigs j  each job before the job j is on its lowest rig, and j finds none
 --   PlanHolds jobs rigs p    what the answer p says
 -- Assumes nothing.
@@ -24,28 +24,28 @@ jobs_of ps = map (λ p. p.job) ps
 abbrev pub on_rig : Job → ℕ → Placement
 on_rig job k = record { job = job; rig = k }
 
-pub record LowestRig (rigs : List Rig) (ps : List Placement) (job : Job) (k : ℕ) : Type 0 where
+pub record IsLowestRig (rigs : List Rig) (ps : List Placement) (job : Job) (k : ℕ) : Type 0 where
   pub keeps : Keeps rigs (ps ++ on_rig job k ∷ [])
   pub lowest : (q : ℕ) → q < k → ¬ Keeps rigs (ps ++ on_rig job q ∷ [])
 
 abbrev pub FindsNone : List Rig → List Placement → Job → Type 0
 FindsNone rigs ps job = (k : ℕ) → ¬ Keeps rigs (ps ++ on_rig job k ∷ [])
 
-abbrev pub Greedy : List Rig → List Placement → Type 0
-Greedy rigs ps =
+abbrev pub IsGreedy : List Rig → List Placement → Type 0
+IsGreedy rigs ps =
     (j : ℕ) (d : Placement) → j < length ps
-    → LowestRig rigs (take j ps) (slice_index_or ps j d).job (slice_index_or ps j d).rig
+    → IsLowestRig rigs (take j ps) (slice_index_or ps j d).job (slice_index_or ps j d).rig
 
 pub record FindsNoneAt (jobs : List Job) (rigs : List Rig) (j : ℕ) : Type 0 where
   pub placed : List Placement
   pub before : jobs_of placed ≡ take j jobs
-  pub greedy : Greedy rigs placed
+  pub greedy : IsGreedy rigs placed
   pub job : Job
   pub next : slice_get jobs j ≡ Some job
   pub none : FindsNone rigs placed job
 
 module _ (jobs : List Job) (rigs : List Rig) where
   abbrev pub PlanHolds : Result (List Placement) PlanError → Type 0
-  PlanHolds (Ok ps) = IsDay jobs rigs × Greedy rigs ps × (jobs_of ps ≡ jobs)
+  PlanHolds (Ok ps) = IsDay jobs rigs × IsGreedy rigs ps × (jobs_of ps ≡ jobs)
   PlanHolds (Err OutOfRange) = ¬ IsDay jobs rigs
   PlanHolds (Err (NoRig j)) = IsDay jobs rigs × FindsNoneAt jobs rigs j

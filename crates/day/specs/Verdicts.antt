@@ -1,14 +1,14 @@
 -- What each answer of the checker says of a plan (RULES, Cutting day), in its words and apart from how it is found.
 -- Exactly one answer holds (src/theorems, the_verdict_told_holds).
---   InRange rigs ps            at most 64 jobs and 8 rigs, each in its range
---   LowestBreaking rule ps k   of the jobs placed, k is the lowest one that breaks the rule
---   ShareAt rigs ps i j        the jobs i and j share a second on a rig
---   ApartAt rigs ps i j        they do not
---   AloneAt rigs ps i          the job i shares none with a later one
---   LowestPartner rigs ps i j  j is the lowest later job that shares one with i
---   LowestClash rigs ps i j    of the pairs that share one, the one with the lowest first job, then second
---   LowestSpent rigs ps k      of the rigs, k is the lowest one that burns more than it has left
---   VerdictHolds rigs ps v     what the verdict v says; where it names a rule broken, all jobs keep those before it
+--   InRange rigs ps              at most 64 jobs and 8 rigs, each in its range
+--   IsLowestBreaking rule ps k   of the jobs placed, k is the lowest one that breaks the rule
+--   ShareAt rigs ps i j          the jobs i and j share a second on a rig
+--   AreApartAt rigs ps i j       they do not
+--   IsAloneAt rigs ps i          the job i shares none with a later one
+--   IsLowestPartner rigs ps i j  j is the lowest later job that shares one with i
+--   IsLowestClash rigs ps i j    of the pairs that share one, the one with the lowest first job, then second
+--   IsLowestSpent rigs ps k      of the rigs, k is the lowest one that burns more than it has left
+--   VerdictHolds rigs ps v       what the verdict v says; where it names a rule broken, all jobs keep those before it
 -- Assumes nothing.
 use Rattle.std.specs.Prelude.{ℕ, ◌<◌, ◌≤◌, List, length, Result, Ok, Err, All, AllPairs, slice_index_or}
 use Rattle.std.specs.List.{AllWithin, HoldsAt}
@@ -26,7 +26,7 @@ pub record InRange (rigs : List Rig) (ps : List Placement) : Type 0 where
   pub all_jobs : All (λ p. IsJob p.job) ps
   pub all_rigs : All IsRig rigs
 
-pub record LowestBreaking (rule : Placement → Type 0) (ps : List Placement) (k : ℕ) : Type 0 where
+pub record IsLowestBreaking (rule : Placement → Type 0) (ps : List Placement) (k : ℕ) : Type 0 where
   pub inside : k < length ps
   pub breaks : HoldsAt (λ p. ¬ rule p) ps k
   pub lower : AllWithin rule ps 0 k
@@ -35,23 +35,23 @@ module _ (rigs : List Rig) (ps : List Placement) where
   abbrev pub ShareAt : ℕ → ℕ → Type 0
   ShareAt i j = (d : Placement) → Share rigs (slice_index_or ps i d) (slice_index_or ps j d)
 
-  abbrev pub ApartAt : ℕ → ℕ → Type 0
-  ApartAt i j = (d : Placement) → AreApart rigs (slice_index_or ps i d) (slice_index_or ps j d)
+  abbrev pub AreApartAt : ℕ → ℕ → Type 0
+  AreApartAt i j = (d : Placement) → AreApart rigs (slice_index_or ps i d) (slice_index_or ps j d)
 
-  abbrev pub AloneAt : ℕ → Type 0
-  AloneAt i = (j : ℕ) → i < j → j < length ps → ApartAt i j
+  abbrev pub IsAloneAt : ℕ → Type 0
+  IsAloneAt i = (j : ℕ) → i < j → j < length ps → AreApartAt i j
 
-  pub record LowestPartner (i j : ℕ) : Type 0 where
+  pub record IsLowestPartner (i j : ℕ) : Type 0 where
     pub later : i < j
     pub inside : j < length ps
     pub shares : ShareAt i j
-    pub lower_second : (l : ℕ) → i < l → l < j → ApartAt i l
+    pub lower_second : (l : ℕ) → i < l → l < j → AreApartAt i l
 
-  pub record LowestClash (i j : ℕ) : Type 0 where
-    pub partner : LowestPartner i j
-    pub lower_first : (k : ℕ) → k < i → AloneAt k
+  pub record IsLowestClash (i j : ℕ) : Type 0 where
+    pub partner : IsLowestPartner i j
+    pub lower_first : (k : ℕ) → k < i → IsAloneAt k
 
-  pub record LowestSpent (k : ℕ) : Type 0 where
+  pub record IsLowestSpent (k : ℕ) : Type 0 where
     pub inside : k < length rigs
     pub spends : ¬ Lasts rigs ps k
     pub lower : (q : ℕ) → q < k → Lasts rigs ps q
@@ -68,7 +68,7 @@ module _ (rigs : List Rig) (ps : List Placement) where
   abbrev pub VerdictHolds : Result (Unit {0}) CheckError → Type 0
   VerdictHolds (Ok _) = InRange rigs ps × Keeps rigs ps
   VerdictHolds (Err OutOfRange) = ¬ InRange rigs ps
-  VerdictHolds (Err (NoRig j)) = InRange rigs ps × LowestBreaking (HasRig rigs) ps j
-  VerdictHolds (Err (TooEarly j)) = InRange rigs ps × AllRigged × LowestBreaking (InTime rigs) ps j
-  VerdictHolds (Err (Clash i j)) = InRange rigs ps × AllRigged × AllTimely × LowestClash i j
-  VerdictHolds (Err (Spent k)) = InRange rigs ps × AllRigged × AllTimely × AllApart × LowestSpent k
+  VerdictHolds (Err (NoRig j)) = InRange rigs ps × IsLowestBreaking (HasRig rigs) ps j
+  VerdictHolds (Err (TooEarly j)) = InRange rigs ps × AllRigged × IsLowestBreaking (InTime rigs) ps j
+  VerdictHolds (Err (Clash i j)) = InRange rigs ps × AllRigged × AllTimely × IsLowestClash i j
+  VerdictHolds (Err (Spent k)) = InRange rigs ps × AllRigged × AllTimely × AllApart × IsLowestSpent k

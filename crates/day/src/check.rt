@@ -2,7 +2,8 @@
 ghost use Rattle.std.specs.Prelude.{◌≡◌, ◌↔◌, ◌*◌, ◌<◌, ◌≤◌, ◌^◌, ℕ, length, IsTrue, All, AllPairs, MatchOption};
 ghost use Rattle.day.specs.Days.{IsJob};
 ghost use Rattle.day.specs.Rules.{HasRig, InTime, AreApart, Lasts, burnt};
-ghost use Rattle.day.specs.Verdicts.{InRange, LowestBreaking, AloneAt, LowestPartner, LowestClash, LowestSpent};
+ghost use Rattle.day.specs.Verdicts.{InRange, IsLowestBreaking, IsAloneAt, IsLowestPartner, IsLowestClash};
+ghost use Rattle.day.specs.Verdicts.{IsLowestSpent};
 ghost use Rattle.day.specs.Verdicts.{VerdictHolds};
 
 use crate::{JOBS_MOST, Placement, RIGS_MOST, Rig, are_rigs};
@@ -38,14 +39,14 @@ fn is_in_range(plan: &[Placement], rigs: &[Rig]) -> bool
 // The lowest job that has no rig which exists and is allowed.
 fn without_rig(plan: &[Placement], rigs: &[Rig]) -> Option<usize>
     requires { length rigs.now ≤ RIGS_MOST }
-    ensures { MatchOption result (All (HasRig rigs.now) plan.now) (LowestBreaking (HasRig rigs.now) plan.now) }
+    ensures { MatchOption result (All (HasRig rigs.now) plan.now) (IsLowestBreaking (HasRig rigs.now) plan.now) }
 {
     plan.iter().position(|p| !p.has_rig(rigs))
 }
 
 // The lowest job that starts before its rig's W.
 fn too_early(plan: &[Placement], rigs: &[Rig]) -> Option<usize>
-    ensures { MatchOption result (All (InTime rigs.now) plan.now) (LowestBreaking (InTime rigs.now) plan.now) }
+    ensures { MatchOption result (All (InTime rigs.now) plan.now) (IsLowestBreaking (InTime rigs.now) plan.now) }
 {
     plan.iter().position(|p| !p.is_in_time(rigs))
 }
@@ -54,7 +55,7 @@ fn too_early(plan: &[Placement], rigs: &[Rig]) -> Option<usize>
 fn partner(plan: &[Placement], rigs: &[Rig], i: usize) -> Option<usize>
     requires inside { i < length plan.now }
     requires in_range { All (λ p. IsJob p.job) plan.now }
-    ensures { MatchOption result (AloneAt rigs.now plan.now i) (LowestPartner rigs.now plan.now i) }
+    ensures { MatchOption result (IsAloneAt rigs.now plan.now i) (IsLowestPartner rigs.now plan.now i) }
 {
     let first = plan[i];
     for j in i + 1..plan.len() {
@@ -69,7 +70,7 @@ fn partner(plan: &[Placement], rigs: &[Rig], i: usize) -> Option<usize>
 fn clash(plan: &[Placement], rigs: &[Rig]) -> Option<(usize, usize)>
     requires { All (λ p. IsJob p.job) plan.now }
     ensures { MatchOption result (AllPairs (AreApart rigs.now) plan.now)
-        (λ pair. LowestClash rigs.now plan.now pair.0 pair.1) }
+        (λ pair. IsLowestClash rigs.now plan.now pair.0 pair.1) }
 {
     for i in 0..plan.len() {
         if let Some(j) = partner(plan, rigs, i) {
@@ -97,7 +98,7 @@ pub(crate) fn burnt_on(plan: &[Placement], number: usize, rig: Rig) -> u64
 // The lowest rig that burns more than it has left.
 fn spent(plan: &[Placement], rigs: &[Rig]) -> Option<usize>
     requires { length plan.now ≤ JOBS_MOST }
-    ensures { MatchOption result ((k : ℕ) → Lasts rigs.now plan.now k) (LowestSpent rigs.now plan.now) }
+    ensures { MatchOption result ((k : ℕ) → Lasts rigs.now plan.now k) (IsLowestSpent rigs.now plan.now) }
 {
     for k in 0..rigs.len() {
         if (rigs[k].life as u64) < burnt_on(plan, k, rigs[k]) {

@@ -3,7 +3,7 @@ ghost use Rattle.std.specs.Prelude.{◌≡◌, ◌↔◌, ◌<◌, ◌≤◌, le
 ghost use Rattle.std.specs.Prelude.{MatchOption};
 ghost use Rattle.day.specs.Days.{IsDay, IsJob};
 ghost use Rattle.day.specs.Rules.{AreApart, Lasts, Keeps};
-ghost use Rattle.day.specs.Plans.{LowestRig, FindsNone, PlanHolds};
+ghost use Rattle.day.specs.Plans.{IsLowestRig, FindsNone, PlanHolds};
 
 use crate::check::burnt_on;
 use crate::{JOBS_MOST, Job, Placement, RIGS_MOST, Rig, are_rigs, rig_at};
@@ -115,7 +115,7 @@ fn lowest_rig(job: Job, placed: &[Placement], rigs: &[Rig]) -> Option<u8>
     requires in_range { IsJob job }
     requires all_in_range { All (λ p. IsJob p.job) placed.now }
     requires keeping { Keeps rigs.now placed.now }
-    ensures { MatchOption result (FindsNone rigs.now placed.now job) (LowestRig rigs.now placed.now job) }
+    ensures { MatchOption result (FindsNone rigs.now placed.now job) (IsLowestRig rigs.now placed.now job) }
 {
     for rig in 0..rigs.len() as u8 {
         if (Placement { job, rig }).is_joining(placed, rigs) {

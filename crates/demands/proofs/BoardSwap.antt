@@ -1,112 +1,107 @@
 -- Settings survive a board swap (RULES, Stored form): it holds of our board.
 -- Assumes nothing.
-use Prim.Native.Nat.{ℕ, ◌+◌, ◌<◌}
-use mathlib.Core.Path.{◌≡◌, refl, sym, ap, subst, ◌∙◌}
-use mathlib.Core.Bool.{Bool, true, false}
-use mathlib.Core.List.{List, [], ◌∷◌}
-use native.Mathlib.Omega.{arith}
-use lib.ListN.{length, get_or}
-use lib.Seq.{get_or-take, length-take-le, ext_get_or}
-use borrow.Author.Tests.{leb-true, eq-eqb, ne_eqb}
-use Rattle.text.specs.Scans.{every}
+use Rattle.std.specs.List.{list_all}
+use Rattle.std.proofs.Common.{ℕ, ◌+◌, ◌<◌, ◌≡◌, refl, sym, ap, subst, ◌∙◌, Bool, true, false, List, [], ◌∷◌, arith}
+use Rattle.std.proofs.Common.{length, slice_index_or, get_or-take, length-take-le, ext_get_or, leb-true, eq-eqb, ne_eqb}
 use Rattle.words.specs.Bytes.{◌at◌}
-use Rattle.text.proofs.Scanning.{every-at}
+use Rattle.text.proofs.Scanning.{list_all_at}
 use Rattle.record.specs.Wanted.{Wanted}
 use Rattle.record.specs.Rules.{at_most}
-use Rattle.record.specs.Legal.{isLegal}
+use Rattle.record.specs.Legal.{is_legal}
 use Rattle.record.specs.Given.{Given, accepted}
 use Rattle.record.specs.declared.types.Settings.{Settings}
 use Rattle.record.specs.declared.types.Device.{Device}
-use Rattle.record.proofs.LegalTold.{own-of-legal}
-use Rattle.record.proofs.MarksTold.{marks-long}
-use Rattle.record.proofs.Started.{started-parts}
-use Rattle.stored.specs.Form.{formVersion, markedFormOf, storedOf, marksStored, storedForm, storedBy}
-use Rattle.stored.proofs.StoringTold.{stored-told}
-use Rattle.stored.specs.Loading.{settingsIn, startedWith, loaded}
-use Rattle.stored.proofs.Results.{accepted-set-up, older-is-class-1}
-use Rattle.stored.proofs.StoredLoads.{stored-in-range, stored-loads as form-again}
-use Rattle.stored.proofs.FormsLoad.{marked-form-loads, marked-form-marks, old-form-loads}
+use Rattle.record.proofs.LegalTold.{own_of_legal}
+use Rattle.record.proofs.MarksTold.{marks_long}
+use Rattle.record.proofs.Started.{started_parts}
+use Rattle.stored.specs.Form.{form_version, marked_form_of, stored_of, marks_stored, stored_form, stored_by}
+use Rattle.stored.proofs.StoringTold.{stored_told}
+use Rattle.stored.specs.Loading.{settings_in, started_with, loaded}
+use Rattle.stored.proofs.Results.{accepted_set_up, older_is_class_1}
+use Rattle.stored.proofs.StoredLoads.{stored_in_range, stored_loads as form-again}
+use Rattle.stored.proofs.FormsLoad.{marked_form_loads, marked_form_marks, old_form_loads}
 use Rattle.stored.proofs.BytesAgain.{Bytes}
-use Rattle.stored.proofs.OneForm.{stored-again, forms-apart}
-use Rattle.ours.specs.Board.{ours, bytesWritten}
+use Rattle.stored.proofs.OneForm.{stored_again, forms_apart}
+use Rattle.ours.specs.Board.{ours, bytes_written}
 use Rattle.demands.specs.Calls.{Call, run}
-use Rattle.demands.specs.History.{Event, switched, aSecond, markSwitched, Stage, steady, towards, next, marksNext}
-use Rattle.demands.specs.History.{noStreams, history, marksAfter, burns, burningFrom, burning, stageAfter}
-use Rattle.demands.specs.History.{lampWith}
-use Rattle.demands.specs.Demand3.{Beginning, loads, IsClass1, startMarks, Accepted, run_of, historyOf}
+use Rattle.demands.specs.History.{Event, switched, a_second, mark_switched, Stage, steady, towards, next, marks_next}
+use Rattle.demands.specs.History.{no_streams, history, marks_after, burns, burning_from, burning, stage_after}
+use Rattle.demands.specs.History.{lamp_with}
+use Rattle.demands.specs.Demand3.{Beginning, loads, IsClass1, start_marks, IsAccepted, run_of, history_of}
 use Rattle.demands.specs.BoardSwap.{LoadsAs, BoardSwap}
-use Rattle.demands.proofs.LentMemory.{over-front}
+use Rattle.demands.proofs.LentMemory.{over_front}
 use Rattle.demands.proofs.Agrees.{Agrees}
-use Rattle.demands.proofs.HistoryTold.{history-told}
+use Rattle.demands.proofs.HistoryTold.{history_told}
 
-bytes-kept : (s : List ℕ) → every (at_most 255) s ≡ true → Bytes s
-bytes-kept s h i inside = omega (arith, leb-true (get_or s i 0) 255 (every-at (at_most 255) s 0 h i inside))
+bytes_kept : (s : List ℕ) → list_all (at_most 255) s ≡ true → Bytes s
+bytes_kept s h i inside = omega (arith, leb-true (slice_index_or s i 0) 255 (list_all_at (at_most 255) s 0 h i inside))
 
 -- burnt on the one board, then on the other
-lamp-goes-on : (m n start : ℕ) → lampWith n (lampWith m start) ≡ lampWith (m + n) start
-lamp-goes-on m n start = omega arith
+lamp_goes_on : (m n start : ℕ) → lamp_with n (lamp_with m start) ≡ lamp_with (m + n) start
+lamp_goes_on m n start = omega arith
 
 -- of the settings, a history's clock knows W and C alone
 module _ (v w : Wanted) (warm : v.warm ≡ w.warm) (cool : v.cool ≡ w.cool) where
-  next-alike : (g : Stage) (e : Event) → next v g e ≡ next w g e
-  next-alike (steady false) (switched true) = ap (towards true) warm
-  next-alike (steady true) (switched false) = ap (towards false) cool
-  next-alike (steady true) (switched true) = refl
-  next-alike (steady false) (switched false) = refl
-  next-alike (towards on n) (switched wanted) = refl
-  next-alike (steady on) aSecond = refl
-  next-alike (towards on n) aSecond = refl
-  next-alike (steady on) (markSwitched lamp mark) = refl
-  next-alike (towards on n) (markSwitched lamp mark) = refl
+  next_alike : (g : Stage) (e : Event) → next v g e ≡ next w g e
+  next_alike (steady false) (switched true) = ap (towards true) warm
+  next_alike (steady true) (switched false) = ap (towards false) cool
+  next_alike (steady true) (switched true) = refl
+  next_alike (steady false) (switched false) = refl
+  next_alike (towards on n) (switched wanted) = refl
+  next_alike (steady on) a_second = refl
+  next_alike (towards on n) a_second = refl
+  next_alike (steady on) (mark_switched lamp mark) = refl
+  next_alike (towards on n) (mark_switched lamp mark) = refl
 
-  burning-alike : (g : Stage) (ms : List Bool) (k : ℕ) (es : List Event) → burningFrom v g ms k es
-      ≡ burningFrom w g ms k es
-  unfolding burningFrom
-  burning-alike g ms k [] = refl
-  burning-alike g ms k (e ∷ es) =
-      ap (λ (h : Stage). burns g ms k e + burningFrom v h (marksNext ms e) k es) (next-alike g e)
-      ∙ ap (λ (n : ℕ). burns g ms k e + n) (burning-alike (next w g e) (marksNext ms e) k es)
+  burning_alike : (g : Stage) (ms : List Bool) (k : ℕ) (es : List Event) → burning_from v g ms k es
+      ≡ burning_from w g ms k es
+  unfolding burning_from
+  burning_alike g ms k [] = refl
+  burning_alike g ms k (e ∷ es) =
+      ap (λ (h : Stage). burns g ms k e + burning_from v h (marks_next ms e) k es) (next_alike g e)
+      ∙ ap (λ (n : ℕ). burns g ms k e + n) (burning_alike (next w g e) (marks_next ms e) k es)
 
-module _ (d : Device) (m : List ℕ) (h : (storedBy d (length m)).number ≡ 0) where
-  form-stored : bytesWritten (ours.store d m) ≡ storedForm d
-  form-stored = over-front (storedBy d (length m)).bytes m ∙ (stored-told d (length m) h).form
+module _ (d : Device) (m : List ℕ) (h : (stored_by d (length m)).number ≡ 0) where
+  form_stored : bytes_written (ours.store d m) ≡ stored_form d
+  form_stored = over_front (stored_by d (length m)).bytes m ∙ (stored_told d (length m) h).form
 
-  loads-again : loaded (storedForm d) ≡ accepted (startedWith (storedOf d) (marksStored d))
-  loads-again = form-again d (stored-told d (length m) h).legal
+  loads_again : loaded (stored_form d) ≡ accepted (started_with (stored_of d) (marks_stored d))
+  loads_again = form-again d (stored_told d (length m) h).legal
 
-  stored-loads : LoadsAs ours (bytesWritten (ours.store d m)) (storedOf d) (marksStored d)
-  stored-loads =
-      let same = ap loaded form-stored ∙ loads-again in
+  stored_loads : LoadsAs ours (bytes_written (ours.store d m)) (stored_of d) (marks_stored d)
+  stored_loads =
+      let same = ap loaded form_stored ∙ loads_again in
       record { accepted = ap (λ (r : Given Device). r.number) same; fresh = ap (λ (r : Given Device). r.device) same }
 
-module _ (b : Beginning) (w : Wanted) (cs es : List Call) (m : List ℕ) (place : ℕ) (h : Accepted ours b w)
+module _ (b : Beginning) (w : Wanted) (cs es : List Call) (m : List ℕ) (place : ℕ) (h : IsAccepted ours b w)
     (inside : place < length w.lamps) (stored : (ours.store (run_of ours b w cs) m).number ≡ 0) where
   abbrev old : Device
   old = run_of ours b w cs
 
   abbrev kept : Wanted
-  kept = storedOf old
+  kept = stored_of old
 
   -- what was known on the old board
-  abbrev es-old : List Event
-  es-old = historyOf ours b w cs
+  abbrev es_old : List Event
+  es_old = history_of ours b w cs
 
-  known : Agrees w (stageAfter w es-old) (marksAfter (startMarks b w) es-old) (λ k. burning w (startMarks b w) k es-old)
-      (history-told b w cs h).0 old
-  known = (history-told b w cs h).1
+  known : Agrees w (stage_after w es_old) (marks_after (start_marks b w) es_old)
+      (λ k. burning w (start_marks b w) k es_old)
+      (history_told b w cs h).0 old
+  known = (history_told b w cs h).1
 
-  legal : isLegal old ≡ true
-  legal = (stored-told old (length m) stored).legal
+  legal : is_legal old ≡ true
+  legal = (stored_told old (length m) stored).legal
 
   count : old.settings.lamp_count ≡ length w.lamps
   count = ap (λ (s : Settings). s.lamp_count) known.settings
 
-  kept-lamp : get_or kept.lamps place 0 ≡ get_or old.own.lamps place 0
-  kept-lamp = get_or-take old.settings.lamp_count old.own.lamps place 0 (omega (arith, count))
+  kept_lamp : slice_index_or kept.lamps place 0 ≡ slice_index_or old.own.lamps place 0
+  kept_lamp = get_or-take old.settings.lamp_count old.own.lamps place 0 (omega (arith, count))
 
-  kept-many : place < length kept.lamps
-  kept-many =
-      let held = (own-of-legal old legal).lamps in
+  kept_many : place < length kept.lamps
+  kept_many =
+      let held = (own_of_legal old legal).lamps in
       omega (
         arith,
         count,
@@ -116,14 +111,14 @@ module _ (b : Beginning) (w : Wanted) (cs es : List Call) (m : List ℕ) (place 
       )
 
   -- the marks that are stored are those of the history
-  kept-marks : marksStored old ≡ marksAfter (startMarks b w) es-old
-  kept-marks =
-      let own = own-of-legal old legal in
-      let long = marks-long old.settings.lamp_count old.own.enabled own.marks in
-      let many : length (marksStored old) ≡ length w.lamps
+  kept_marks : marks_stored old ≡ marks_after (start_marks b w) es_old
+  kept_marks =
+      let own = own_of_legal old legal in
+      let long = marks_long old.settings.lamp_count old.own.enabled own.marks in
+      let many : length (marks_stored old) ≡ length w.lamps
       = length-take-le old.settings.lamp_count old.own.enabled (omega (arith, long, own.lamps.inside))
       ∙ count in
-      ext_get_or false _ _ (many ∙ sym known.marks-long)
+      ext_get_or false _ _ (many ∙ sym known.marks_long)
       (λ k inside.
       get_or-take old.settings.lamp_count old.own.enabled k false (omega (arith, many, count))
       ∙ known.marks k (omega (arith, many)))
@@ -131,52 +126,52 @@ module _ (b : Beginning) (w : Wanted) (cs es : List Call) (m : List ℕ) (place 
   abbrev GoesOn : List ℕ → Type 0
   GoesOn form =
       let new = (ours.load form).device in
-      get_or (run ours new es).own.lamps place 0
-      ≡ lampWith
-      (burning w (startMarks b w) place es-old
-      + burning w (marksAfter (startMarks b w) es-old) place (history ours new noStreams es))
-      (get_or w.lamps place 0)
+      slice_index_or (run ours new es).own.lamps place 0
+      ≡ lamp_with
+      (burning w (start_marks b w) place es_old
+      + burning w (marks_after (start_marks b w) es_old) place (history ours new no_streams es))
+      (slice_index_or w.lamps place 0)
 
-  on-the-new : GoesOn (storedForm old)
-  on-the-new =
-      let accepted-so : Accepted ours (loads (marksStored old)) kept
-      = (stored-in-range old legal, ap (λ (r : Given Device). r.number) (loads-again old m stored)) in
-      let more = historyOf ours (loads (marksStored old)) kept es in
-      let alike = burning-alike kept w (ap (λ (s : Settings). s.warm) known.settings)
-      (ap (λ (s : Settings). s.cool) known.settings) (steady false) (marksStored old) place more in
-      let same = alike ∙ ap (λ (ms : List Bool). burning w ms place more) kept-marks in
-      (history-told (loads (marksStored old)) kept es accepted-so).1.lamps place kept-many
-      ∙ (λ i. lampWith (same i) ((kept-lamp ∙ known.lamps place inside) i))
-      ∙ lamp-goes-on (burning w (startMarks b w) place es-old)
-      (burning w (marksAfter (startMarks b w) es-old) place more) (get_or w.lamps place 0)
+  on_the_new : GoesOn (stored_form old)
+  on_the_new =
+      let accepted_so : IsAccepted ours (loads (marks_stored old)) kept
+      = (stored_in_range old legal, ap (λ (r : Given Device). r.number) (loads_again old m stored)) in
+      let more = history_of ours (loads (marks_stored old)) kept es in
+      let alike = burning_alike kept w (ap (λ (s : Settings). s.warm) known.settings)
+      (ap (λ (s : Settings). s.cool) known.settings) (steady false) (marks_stored old) place more in
+      let same = alike ∙ ap (λ (ms : List Bool). burning w ms place more) kept_marks in
+      (history_told (loads (marks_stored old)) kept es accepted_so).1.lamps place kept_many
+      ∙ (λ i. lamp_with (same i) ((kept_lamp ∙ known.lamps place inside) i))
+      ∙ lamp_goes_on (burning w (start_marks b w) place es_old)
+      (burning w (marks_after (start_marks b w) es_old) place more) (slice_index_or w.lamps place 0)
 
-  hours-go-on : GoesOn (bytesWritten (ours.store old m))
-  hours-go-on = subst GoesOn (sym (form-stored old m stored)) on-the-new
+  hours_go_on : GoesOn (bytes_written (ours.store old m))
+  hours_go_on = subst GoesOn (sym (form_stored old m stored)) on_the_new
 
 -- ---- older versions (RULES, Class 2)
 
-marked-loads : (w : Wanted) (ms : List Bool) → IsClass1 w → (ours.load (markedFormOf w ms)).number ≡ 0
-    → LoadsAs ours (markedFormOf w ms) w ms
-marked-loads w ms h e =
-    let marks = marked-form-marks w h.set-up h.class-1 ms e in
-    let same = marked-form-loads w h.set-up h.class-1 ms marks in
+marked_loads : (w : Wanted) (ms : List Bool) → IsClass1 w → (ours.load (marked_form_of w ms)).number ≡ 0
+    → LoadsAs ours (marked_form_of w ms) w ms
+marked_loads w ms h e =
+    let marks = marked_form_marks w h.set_up h.class_1 ms e in
+    let same = marked_form_loads w h.set_up h.class_1 ms marks in
     record { accepted = e; fresh = ap (λ (r : Given Device). r.device) same }
 
-older-loads : (s : List ℕ) → (ours.load s).number ≡ 0 → (s at 0 ≡ formVersion → ⊥)
+older_loads : (s : List ℕ) → (ours.load s).number ≡ 0 → (s at 0 ≡ form_version → ⊥)
     → (ours.load s).device.settings.class_number ≡ 1
-older-loads s e other =
-    ap (λ (r : Given Device). r.device.settings.class_number) (accepted-set-up s e)
-    ∙ ap (λ (d : Device). d.settings.class_number) (started-parts (settingsIn s))
-    ∙ older-is-class-1 s (ne_eqb (s at 0) formVersion other) e
+older_loads s e other =
+    ap (λ (r : Given Device). r.device.settings.class_number) (accepted_set_up s e)
+    ∙ ap (λ (d : Device). d.settings.class_number) (started_parts (settings_in s))
+    ∙ older_is_class_1 s (ne_eqb (s at 0) form_version other) e
 
-pub ours-swap : BoardSwap ours
-ours-swap = record {
-  form-stored = form-stored;
-  stored-loads = stored-loads;
-  old-form-sets-up = λ w h. old-form-loads w h.set-up h.class-1;
-  marked-form-loads = marked-loads;
-  older-class-1 = older-loads;
-  stored-again = λ s b new h. stored-again s (bytes-kept s b) h (eq-eqb (s at 0) formVersion new);
-  one_form = λ s t a b g h v e. forms-apart s t (bytes-kept s a) (bytes-kept t b) g h v e;
-  hours-go-on = hours-go-on;
+pub ours_swap : BoardSwap ours
+ours_swap = record {
+  form_stored = form_stored;
+  stored_loads = stored_loads;
+  old_form_sets_up = λ w h. old_form_loads w h.set_up h.class_1;
+  marked_form_loads = marked_loads;
+  older_class_1 = older_loads;
+  stored_again = λ s b new h. stored_again s (bytes_kept s b) h (eq-eqb (s at 0) form_version new);
+  one_form = λ s t a b g h v e. forms_apart s t (bytes_kept s a) (bytes_kept t b) g h v e;
+  hours_go_on = hours_go_on;
 }

@@ -5,35 +5,31 @@
 --   HeardBack o p e g          what opening says, its place and the record that it leaves, and what the greeting reader
 --                              returns
 -- Assumes nothing.
-use Prim.Native.Nat.{ℕ, ◌^◌, ◌≤◌, ◌<◌}
-use mathlib.Core.Path.{◌≡◌, sym, ap, subst, ◌∙◌}
-use mathlib.Core.Bool.{Bool, true, false}
-use mathlib.Core.List.{List}
-use lib.ListN.{length, take, drop}
-use lib.Seq.{take-append_seam}
+use Rattle.std.proofs.Common.{ℕ, ◌^◌, ◌≤◌, ◌<◌, ◌≡◌, sym, ap, subst, ◌∙◌, Bool, true, false, List, length, take, drop}
+use Rattle.std.proofs.Math.Seq.{take-append_seam}
 use Rattle.std.specs.Prelude.{Ok}
 use Rattle.text.specs.Words.{over}
-use Rattle.pjlink.specs.Commands.{commandClass, isCommand}
+use Rattle.pjlink.specs.Commands.{command_class, is_command}
 use Rattle.pjlink.specs.declared.command.Command.{Command}
-use Rattle.record.specs.Limits.{placesCount, awaiting, opened}
-use Rattle.record.specs.Legal.{isLegal}
-use Rattle.record.specs.Places.{connectionAt, withPlace, lowestShut}
+use Rattle.record.specs.Limits.{places_count, awaiting, opened}
+use Rattle.record.specs.Legal.{is_legal}
+use Rattle.record.specs.Places.{connection_at, with_place, lowest_shut}
 use Rattle.record.specs.declared.types.Device.{Device}
-use Rattle.stream.specs.Collecting.{emptyLine}
+use Rattle.stream.specs.Collecting.{empty_line}
 use Rattle.meaning.specs.Meaning.{meant, done}
-use Rattle.device.specs.Receiving.{turned, passwordOf}
-use Rattle.device.specs.Calls.{replyRoom, received, openedBy}
+use Rattle.device.specs.Receiving.{turned, set_up_password}
+use Rattle.device.specs.Calls.{reply_room, received, opened_by}
 use Rattle.device.specs.Outcomes.{Told}
 use Rattle.device.proofs.Results.{Receives, Opens}
-use Rattle.controller.specs.Writing.{commandRoom, writtenCommand}
-use Rattle.controller.specs.Reading.{ReadAs, meaning, readReply}
-use Rattle.controller.specs.Greetings.{readGreeting}
-use Rattle.demands.specs.Greeted.{greetedOn}
+use Rattle.controller.specs.Writing.{command_room, written_command}
+use Rattle.controller.specs.Reading.{ReadAs, meaning, read_reply}
+use Rattle.controller.specs.Greetings.{read_greeting}
+use Rattle.demands.specs.Greeted.{greeted_on}
 use Rattle.controller.specs.declared.writing.Written.{Written}
 use Rattle.controller.specs.declared.greeting.Greeting.{Greeting}
 use Rattle.demands.proofs.TakenAndRead.{TakenAndRead}
-use Rattle.demands.proofs.WrittenReadBack.{written-reads-back, written-reads-back-secured}
-use Rattle.demands.proofs.GreetsBack.{greets-back}
+use Rattle.demands.proofs.WrittenReadBack.{written_reads_back, written_reads_back_secured}
+use Rattle.demands.proofs.GreetsBack.{greets_back}
 use Rattle.controller.proofs.OneResult.{Writes}
 
 -- as many bytes of the lent memory as the call tells are the bytes that it wrote
@@ -45,21 +41,21 @@ pub record CalledBack (d : Device) (p : ℕ) (c : Command) (w : Written) (r : To
   pub wrote : w.number ≡ 0
   pub number : r.number ≡ 0
   pub taken : r.taken ≡ w.length
-  pub device : e ≡ withPlace d (done d.settings d.own (Ok c)) p (turned (connectionAt d p) opened)
+  pub device : e ≡ with_place d (done d.settings d.own (Ok c)) p (turned (connection_at d p) opened)
   pub read : x ≡ meaning (meant d.settings d.own (Ok c))
 
 -- paper is the memory lent to the writer, out that lent to the projector; m and n are what the calls leave in them
 module _ (d : Device) (p : ℕ) (c : Command)
     (paper out : List ℕ) {w : Written} {r : Told} {e : Device} {x : ReadAs}
     {m n : List ℕ} where
-  called-back : (secured : Bool) (random : ℕ) (password : List ℕ)
-      → let s = writtenCommand c secured random password (length paper) in
+  called_back : (secured : Bool) (random : ℕ) (password : List ℕ)
+      → let s = written_command c secured random password (length paper) in
       s.number ≡ 0 → TakenAndRead d p c s.bytes (received d p s.bytes (length out))
       → Writes c secured random password paper w m → Receives d p (take w.length m) out r e n
-      → x ≡ readReply c (take r.length n)
+      → x ≡ read_reply c (take r.length n)
       → CalledBack d p c w r e x
-  called-back secured random password number back writes receives reads =
-      let s = writtenCommand c secured random password (length paper) in
+  called_back secured random password number back writes receives reads =
+      let s = written_command c secured random password (length paper) in
       let sent = lent s.bytes paper (ap (λ (v : Written). v.length) writes.told) writes.memory in
       let took = subst (λ (b : List ℕ). Receives d p b out r e n) sent receives in
       let q = received d p s.bytes (length out) in
@@ -70,49 +66,49 @@ module _ (d : Device) (p : ℕ) (c : Command)
         taken = ap (λ (v : Told). v.taken) took.said ∙ back.taken
             ∙ sym (ap (λ (v : Written). v.length) writes.told);
         device = took.device ∙ back.device;
-        read = reads ∙ ap (readReply c) heard ∙ back.said;
+        read = reads ∙ ap (read_reply c) heard ∙ back.said;
       }
 
-  module _ (there : p < placesCount) (legal : isLegal d ≡ true) (between : (connectionAt d p).line ≡ emptyLine)
-      (writable : isCommand c ≡ true)
-      (within : commandClass c ≤ d.settings.class_number)
-      (roomy : commandRoom ≤ length paper) (enough : replyRoom ≤ length out) where
-    pub calls-read-back : (connectionAt d p).phase ≡ opened → (random : ℕ) (password : List ℕ)
+  module _ (there : p < places_count) (legal : is_legal d ≡ true) (between : (connection_at d p).line ≡ empty_line)
+      (writable : is_command c ≡ true)
+      (within : command_class c ≤ d.settings.class_number)
+      (roomy : command_room ≤ length paper) (enough : reply_room ≤ length out) where
+    pub calls_read_back : (connection_at d p).phase ≡ opened → (random : ℕ) (password : List ℕ)
         → Writes c false random password paper w m → Receives d p (take w.length m) out r e n
-        → x ≡ readReply c (take r.length n)
+        → x ≡ read_reply c (take r.length n)
         → CalledBack d p c w r e x
-    calls-read-back phase random password =
-        let through = written-reads-back d p there legal between c writable within (length out) enough
+    calls_read_back phase random password =
+        let through = written_reads_back d p there legal between c writable within (length out) enough
         (length paper) roomy phase
         random password in
-        called-back false random password through.0 through.1
+        called_back false random password through.0 through.1
 
-    pub calls-read-back-secured : (connectionAt d p).phase ≡ awaiting
-        → Writes c true (connectionAt d p).random (passwordOf d.settings) paper w m
+    pub calls_read_back_secured : (connection_at d p).phase ≡ awaiting
+        → Writes c true (connection_at d p).random (set_up_password d.settings) paper w m
         → Receives d p (take w.length m) out r e n
-        → x ≡ readReply c (take r.length n)
+        → x ≡ read_reply c (take r.length n)
         → CalledBack d p c w r e x
-    calls-read-back-secured phase =
-        let through = written-reads-back-secured d p there legal between c writable within (length out) enough
+    calls_read_back_secured phase =
+        let through = written_reads_back_secured d p there legal between c writable within (length out) enough
         (length paper) roomy
         phase in
-        called-back true (connectionAt d p).random (passwordOf d.settings) through.0 through.1
+        called_back true (connection_at d p).random (set_up_password d.settings) through.0 through.1
 
 pub record HeardBack (o : Told) (p : ℕ) (e : Device) (g : Greeting) : Type 0 where
   pub number : o.number ≡ 0
-  pub heard : g ≡ greetedOn (connectionAt e p)
+  pub heard : g ≡ greeted_on (connection_at e p)
 
-pub calls-greet-back : (d : Device) (r : ℕ) (out : List ℕ) {o : Told} {p : ℕ} {e : Device} {g : Greeting} {m : List ℕ}
-    → isLegal d ≡ true
-    → lowestShut d.connections < placesCount → replyRoom ≤ length out → r < 2 ^ 32
-    → Opens d r out o p e m → g ≡ readGreeting (take o.length m)
+pub calls_greet_back : (d : Device) (r : ℕ) (out : List ℕ) {o : Told} {p : ℕ} {e : Device} {g : Greeting} {m : List ℕ}
+    → is_legal d ≡ true
+    → lowest_shut d.connections < places_count → reply_room ≤ length out → r < 2 ^ 32
+    → Opens d r out o p e m → g ≡ read_greeting (take o.length m)
     → HeardBack o p e g
-calls-greet-back d r out legal free enough word opens reads =
-    let back = greets-back d r (length out) legal free enough word in
-    let q = openedBy d r (length out) in
+calls_greet_back d r out legal free enough word opens reads =
+    let back = greets_back d r (length out) legal free enough word in
+    let q = opened_by d r (length out) in
     let sent = lent q.reply out (ap (λ (v : Told). v.length) opens.1.said) opens.1.reply in
     record {
       number = ap (λ (v : Told). v.number) opens.1.said ∙ back.number;
-      heard = reads ∙ ap readGreeting sent ∙ back.heard
-          ∙ sym (λ i. greetedOn (connectionAt (opens.1.device i) (opens.0 i)));
+      heard = reads ∙ ap read_greeting sent ∙ back.heard
+          ∙ sym (λ i. greeted_on (connection_at (opens.1.device i) (opens.0 i)));
     }

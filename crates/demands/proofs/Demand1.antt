@@ -1,41 +1,41 @@
 -- DEMAND 1 holds of our calls.
 -- Assumes nothing.
-use lib.ListN.{length}
-use Rattle.record.proofs.Results.{set-up-refusal}
-use Rattle.record.proofs.Started.{blank-illegal, set-up-legal}
-use Rattle.stored.proofs.StoringTold.{storing-number}
-use Rattle.stored.proofs.Results.{loading-number, refused-load-blank, accepted-legal}
-use Rattle.device.proofs.Refusals.{opening-refused-place}
-use Rattle.controller.proofs.Refusals.{number-means-nothing}
+use Rattle.std.proofs.Common.{length}
+use Rattle.record.proofs.Results.{set_up_refusal}
+use Rattle.record.proofs.Started.{blank_illegal, set_up_legal}
+use Rattle.stored.proofs.StoringTold.{storing_number}
+use Rattle.stored.proofs.Results.{loading_number, refused_load_blank, accepted_legal}
+use Rattle.device.proofs.Refusals.{opening_refused_place}
+use Rattle.controller.proofs.Refusals.{number_means_nothing}
 use Rattle.ours.specs.Board.{ours}
 use Rattle.demands.specs.Demand1.{Demand1}
-use Rattle.demands.proofs.StaysInside.{stays-inside, writer-stays-inside, store-stays-inside}
-use Rattle.demands.proofs.TableNumbers.{number-is-first, set-up-number, writer-number}
-use Rattle.demands.proofs.TableNumbers.{reader-number, greeting-number}
-use Rattle.demands.proofs.RefusalsKeep.{refused-keeps, refused-writer, refused-store}
-use Rattle.demands.proofs.LegalKept.{stays-legal}
+use Rattle.demands.proofs.StaysInside.{stays_inside, writer_stays_inside, store_stays_inside}
+use Rattle.demands.proofs.TableNumbers.{number_is_first, set_up_number, writer_number}
+use Rattle.demands.proofs.TableNumbers.{reader_number, greeting_reader_number}
+use Rattle.demands.proofs.RefusalsKeep.{refused_keeps, refused_writer, refused_store}
+use Rattle.demands.proofs.LegalKept.{stays_legal}
 
-pub ours-1 : Demand1 ours
-ours-1 = record {
-  stays-inside = stays-inside;
-  writer-stays-inside = writer-stays-inside;
-  store-stays-inside = store-stays-inside;
-  number-is-first = number-is-first;
-  set-up-number = set-up-number;
-  writer-number = writer-number;
-  reader-number = reader-number;
-  greeting-number = greeting-number;
-  store-number = λ d m. storing-number d (length m);
-  load-number = loading-number;
-  refused-keeps = refused-keeps;
-  refused-opening-place = λ d random m. opening-refused-place d random (length m);
-  refused-writer-writes-nothing = refused-writer;
-  refused-store-writes-nothing = refused-store;
-  refused-reader-means-nothing = number-means-nothing;
-  refused-set-up-blank = set-up-refusal;
-  blank-illegal = blank-illegal;
-  set-up-legal = set-up-legal;
-  refused-load-blank = refused-load-blank;
-  load-legal = accepted-legal;
-  stays-legal = stays-legal;
+pub ours_1 : Demand1 ours
+ours_1 = record {
+  stays_inside = stays_inside;
+  writer_stays_inside = writer_stays_inside;
+  store_stays_inside = store_stays_inside;
+  number_is_first = number_is_first;
+  set_up_number = set_up_number;
+  writer_number = writer_number;
+  reader_number = reader_number;
+  greeting_reader_number = greeting_reader_number;
+  store_number = λ d m. storing_number d (length m);
+  load_number = loading_number;
+  refused_keeps = refused_keeps;
+  refused_opening_place = λ d random m. opening_refused_place d random (length m);
+  refused_writer_writes_nothing = refused_writer;
+  refused_store_writes_nothing = refused_store;
+  refused_reader_means_nothing = number_means_nothing;
+  refused_set_up_blank = set_up_refusal;
+  blank_illegal = blank_illegal;
+  set_up_legal = set_up_legal;
+  refused_load_blank = refused_load_blank;
+  load_legal = accepted_legal;
+  stays_legal = stays_legal;
 }

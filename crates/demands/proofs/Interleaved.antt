@@ -2,128 +2,124 @@
 -- does to the connection there what it would do alone with the own part of that moment, and a call elsewhere does
 -- nothing to it.
 -- Assumes nothing.
-use Prim.Native.Nat.{ℕ, ◌≤◌, ◌<◌}
-use mathlib.Core.Path.{◌≡◌, sym, ap, subst, ◌∙◌}
-use mathlib.Core.Bool.{true, false}
-use mathlib.Core.List.{List, [], ◌∷◌, append-nil}
-use lib.ListN.{length, take}
-use lib.Dec.{eqb}
-use borrow.Author.Tests.{eqb-true, eqb-false}
-use Rattle.text.proofs.Choices.{if-by}
-use Rattle.record.specs.Limits.{placesCount, shut}
-use Rattle.record.specs.Legal.{isLegal}
-use Rattle.record.specs.Places.{connectionAt, isShut}
+use Rattle.std.proofs.Common.{ℕ, ◌≤◌, ◌<◌, ◌≡◌, sym, ap, subst, ◌∙◌, true, false, List, [], ◌∷◌, append-nil, length}
+use Rattle.std.proofs.Common.{take, ◌==◌, eqb-true}
+use Rattle.std.proofs.lemmas.Bool.{eqb-false}
+use Rattle.text.proofs.Choices.{if_by}
+use Rattle.record.specs.Limits.{places_count, shut}
+use Rattle.record.specs.Legal.{is_legal}
+use Rattle.record.specs.Places.{connection_at, is_shut}
 use Rattle.record.specs.declared.types.Settings.{Settings}
 use Rattle.record.specs.declared.types.Connection.{Connection}
 use Rattle.record.specs.declared.types.Device.{Device}
-use Rattle.record.proofs.LegalTold.{legal-places, connection-of-legal}
-use Rattle.record.proofs.ConnectionsTold.{placed-here}
-use Rattle.device.specs.Calls.{Result, replyRoom, received}
-use Rattle.device.proofs.Cases.{received-by, received-taken, takes}
-use Rattle.device.proofs.ReceivingAsMachine.{asCall}
-use Rattle.device.proofs.Untouched.{receiving-keeps-others}
+use Rattle.record.proofs.LegalTold.{legal_places, connection_of_legal}
+use Rattle.record.proofs.ConnectionsTold.{placed_here}
+use Rattle.device.specs.Calls.{Result, reply_room, received}
+use Rattle.device.proofs.Cases.{received_by, received_taken, takes}
+use Rattle.device.proofs.ReceivingAsMachine.{as_call}
+use Rattle.device.proofs.Untouched.{receiving_keeps_others}
 use Rattle.ours.specs.Board.{ours, reply}
 use Rattle.demands.specs.Calls.{Call, opens, closes, receives, passes, marks, reports, enables, after, run}
-use Rattle.demands.specs.Interleaved.{Heard, heardNothing, seenOf, heardIn, heard, ByBytes, ByBytesOnly, Alone}
-use Rattle.demands.specs.Interleaved.{aloneAt, aloneOf, toFirstCr, SeenAlone, Interleaved}
-use Rattle.demands.proofs.LentMemory.{over-front}
-use Rattle.demands.proofs.UnheardOutside.{settings-stay}
-use Rattle.demands.proofs.AloneCalls.{OneCall, Hears, hears-nothing, hears-none, hears-then, taking-heard}
+use Rattle.demands.specs.Interleaved.{Heard, heard_nothing, heard_of, heard_in, heard, ByBytes, ByBytesOnly, Alone}
+use Rattle.demands.specs.Interleaved.{alone_at, alone_of, to_first_cr, SeenAlone, Interleaved}
+use Rattle.demands.proofs.LentMemory.{over_front}
+use Rattle.demands.proofs.UnheardOutside.{settings_stay}
+use Rattle.demands.proofs.AloneCalls.{OneCall, Hears, hears_nothing, hears_none, hears_then, taking_heard}
 
 module _ (q : ℕ) (d : Device) where
   abbrev HeardThere : Heard → Connection → Type 0
-  HeardThere h k = Hears d.settings (connectionAt d q) h k
+  HeardThere h k = Hears d.settings (connection_at d q) h k
 
   module _ (bs m : List ℕ) where
     -- an accepted call there
-    accepted-call : isLegal d ≡ true → q < placesCount → isShut (connectionAt d q) ≡ false
-        → OneCall d.settings d.own (connectionAt d q) bs (asCall (takes d q bs))
-    accepted-call legal there live =
-        let c = connectionAt d q in
-        taking-heard d.settings d.own c bs (connection-of-legal d legal q there).phase
+    accepted_call : is_legal d ≡ true → q < places_count → is_shut (connection_at d q) ≡ false
+        → OneCall d.settings d.own (connection_at d q) bs (as_call (takes d q bs))
+    accepted_call legal there live =
+        let c = connection_at d q in
+        taking_heard d.settings d.own c bs (connection_of_legal d legal q there).phase
         (eqb-false c.phase shut live)
 
-    call-there : let r = ours.receive d q bs m in
-        HeardThere (seenOf d.own (take r.taken bs) (reply r)) (connectionAt r.device q)
-    call-there =
+    call_there : let r = ours.receive d q bs m in
+        HeardThere (heard_of d.own (take r.taken bs) (reply r)) (connection_at r.device q)
+    call_there =
         let r = received d q bs (length m) in
-        subst (λ (s : List ℕ). HeardThere (seenOf d.own (take r.taken bs) s) (connectionAt r.device q))
-        (sym (over-front r.reply m))
-        (received-by d q bs (length m)
-        (λ k. HeardThere (seenOf d.own (take k.taken bs) k.reply) (connectionAt k.device q))
-        (λ n z. hears-none d.settings d.own (connectionAt d q))
+        subst (λ (s : List ℕ). HeardThere (heard_of d.own (take r.taken bs) s) (connection_at r.device q))
+        (sym (over_front r.reply m))
+        (received_by d q bs (length m)
+        (λ k. HeardThere (heard_of d.own (take k.taken bs) k.reply) (connection_at k.device q))
+        (λ n z. hears_none d.settings d.own (connection_at d q))
         (λ legal enough there live.
         let t = takes d q bs in
-        subst (HeardThere (seenOf d.own (take t.taken bs) t.ended.reply))
-        (sym (placed-here d (legal-places d legal) q there t.ended.own t.ended.connection))
-        (accepted-call legal there live).heard))
+        subst (HeardThere (heard_of d.own (take t.taken bs) t.ended.reply))
+        (sym (placed_here d (legal_places d legal) q there t.ended.own t.ended.connection))
+        (accepted_call legal there live).heard))
 
-    takes-a-line : isLegal d ≡ true → q < placesCount → isShut (connectionAt d q) ≡ false → replyRoom ≤ length m
-        → let r = ours.receive d q bs m in (r.number ≡ 0) × (take r.taken bs ≡ toFirstCr bs)
-    takes-a-line legal there live enough =
-        let done = received-taken d q bs (length m) legal enough there live in (
+    takes_a_line : is_legal d ≡ true → q < places_count → is_shut (connection_at d q) ≡ false → reply_room ≤ length m
+        → let r = ours.receive d q bs m in (r.number ≡ 0) × (take r.taken bs ≡ to_first_cr bs)
+    takes_a_line legal there live enough =
+        let done = received_taken d q bs (length m) legal enough there live in (
           ap (λ (r : Result Device). r.number) done,
-          ap (λ (r : Result Device). take r.taken bs) done ∙ (accepted-call legal there live).taken,
+          ap (λ (r : Result Device). take r.taken bs) done ∙ (accepted_call legal there live).taken,
         )
 
   -- a call that leaves the connection there as it was, and is not heard
-  untouched : {k : Connection} → k ≡ connectionAt d q → HeardThere heardNothing k
-  untouched same = subst (HeardThere heardNothing) (sym same) (hears-nothing d.settings (connectionAt d q))
+  untouched : {k : Connection} → k ≡ connection_at d q → HeardThere heard_nothing k
+  untouched same = subst (HeardThere heard_nothing) (sym same) (hears_nothing d.settings (connection_at d q))
 
-  one-call : (c : Call) → ByBytes ours q d c → HeardThere (heardIn ours q d c) (connectionAt (after ours d c) q)
-  one-call (receives p bs m) h =
-      if-by (λ (k : Heard). HeardThere k (connectionAt (ours.receive d p bs m).device q)) (eqb p q)
+  one_call : (c : Call) → ByBytes ours q d c → HeardThere (heard_in ours q d c) (connection_at (after ours d c) q)
+  one_call (receives p bs m) h =
+      if_by (λ (k : Heard). HeardThere k (connection_at (ours.receive d p bs m).device q)) (p == q)
       (λ e. subst
       (λ (x : ℕ). let r = ours.receive d x bs m in
-      HeardThere (seenOf d.own (take r.taken bs) (reply r)) (connectionAt r.device q))
-      (sym (eqb-true p q e)) (call-there bs m))
-      (λ e. untouched (receiving-keeps-others d p bs (length m) q (λ z. eqb-false p q e (sym z))))
-  one-call (opens random m) h = untouched h
-  one-call (closes p) h = untouched h
-  one-call (passes n) h = untouched h
-  one-call (marks fault) h = untouched h
-  one-call (reports errors) h = untouched h
-  one-call (enables lamp mark) h = untouched h
+      HeardThere (heard_of d.own (take r.taken bs) (reply r)) (connection_at r.device q))
+      (sym (eqb-true p q e)) (call_there bs m))
+      (λ e. untouched (receiving_keeps_others d p bs (length m) q (λ z. eqb-false p q e (sym z))))
+  one_call (opens random m) h = untouched h
+  one_call (closes p) h = untouched h
+  one_call (passes n) h = untouched h
+  one_call (marks fault) h = untouched h
+  one_call (reports errors) h = untouched h
+  one_call (enables lamp mark) h = untouched h
 
 module _ (q : ℕ) where
-  all-calls : (d : Device) (cs : List Call) → ByBytesOnly ours q d cs
-      → Hears d.settings (connectionAt d q) (heard ours q d cs) (connectionAt (run ours d cs) q)
+  all_calls : (d : Device) (cs : List Call) → ByBytesOnly ours q d cs
+      → Hears d.settings (connection_at d q) (heard ours q d cs) (connection_at (run ours d cs) q)
   unfolding heard run
-  all-calls d [] h = hears-nothing d.settings (connectionAt d q)
-  all-calls d (c ∷ cs) (h, hs) =
+  all_calls d [] h = hears_nothing d.settings (connection_at d q)
+  all_calls d (c ∷ cs) (h, hs) =
       let e = after ours d c in
-      hears-then d.settings (one-call q d c h)
-      (subst (λ (s : Settings). Hears s (connectionAt e q) (heard ours q e cs) (connectionAt (run ours e cs) q))
-      (settings-stay d c) (all-calls e cs hs))
+      hears_then d.settings (one_call q d c h)
+      (subst (λ (s : Settings). Hears s (connection_at e q) (heard ours q e cs) (connection_at (run ours e cs) q))
+      (settings_stay d c) (all_calls e cs hs))
 
   module _ (d : Device) (cs : List Call) (h : ByBytesOnly ours q d cs) where
     abbrev end : Connection
-    end = connectionAt (run ours d cs) q
+    end = connection_at (run ours d cs) q
 
-    alone-is : aloneOf ours q d cs ≡ record { reply = (heard ours q d cs).replied; connection = end }
-    unfolding aloneAt
-    alone-is =
+    alone_is : alone_of ours q d cs ≡ record { reply = (heard ours q d cs).replied; connection = end }
+    unfolding alone_at
+    alone_is =
         let k = heard ours q d cs in
-        (λ i. aloneAt d.settings (connectionAt d q) (sym (append-nil k.owns) i) (sym (append-nil k.taken) i))
-        ∙ (all-calls d cs h).goes_on [] []
+        (λ i. alone_at d.settings (connection_at d q) (sym (append-nil k.owns) i) (sym (append-nil k.taken) i))
+        ∙ (all_calls d cs h).goes_on [] []
         ∙ (λ i. record { reply = append-nil k.replied i; connection = end })
 
-    as-alone : SeenAlone ours q d cs
-    as-alone = record {
-      replies = sym (ap (λ (a : Alone). a.reply) alone-is);
-      connection = sym (ap (λ (a : Alone). a.connection) alone-is);
-      lines = (all-calls d cs h).lines;
+    as_alone : SeenAlone ours q d cs
+    as_alone = record {
+      replies = sym (ap (λ (a : Alone). a.reply) alone_is);
+      connection = sym (ap (λ (a : Alone). a.connection) alone_is);
+      lines = (all_calls d cs h).lines;
     }
 
 pub interleaved : Interleaved ours
 interleaved = record {
-  takes-a-line = λ d q bs m. takes-a-line q d bs m;
-  as-alone = λ d q cs h. as-alone q d cs h;
-  same-however-interleaved = λ d e q cs es h g settings connection taken owns.
-      let same : aloneOf ours q d cs ≡ aloneOf ours q e es =
-      (λ i. aloneAt (settings i) (connection i) (owns i) (taken i)) in
-      let a = as-alone q d cs h in
-      let b = as-alone q e es g in (
+  takes_a_line = λ d q bs m. takes_a_line q d bs m;
+  as_alone = λ d q cs h. as_alone q d cs h;
+  same_however_interleaved = λ d e q cs es h g settings connection taken owns.
+      let same : alone_of ours q d cs ≡ alone_of ours q e es =
+      (λ i. alone_at (settings i) (connection i) (owns i) (taken i)) in
+      let a = as_alone q d cs h in
+      let b = as_alone q e es g in (
         a.replies ∙ ap (λ (k : Alone). k.reply) same ∙ sym b.replies,
         a.connection ∙ ap (λ (k : Alone). k.connection) same ∙ sym b.connection,
       );

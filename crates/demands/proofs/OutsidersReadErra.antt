@@ -1,30 +1,26 @@
 -- A controller whose first line does not start with the matching digest reads the ERRA line, whatever it asked.
 -- Assumes nothing.
-use Prim.Native.Nat.{ℕ, ◌≤◌, ◌<◌}
-use mathlib.Core.Path.{◌≡◌, ap, ◌∙◌}
-use mathlib.Core.Bool.{true}
-use mathlib.Core.List.{List}
-use lib.Dec.{eqb}
+use Rattle.std.proofs.Common.{ℕ, ◌≤◌, ◌<◌, ◌≡◌, ap, ◌∙◌, true, List, ◌==◌}
 use Rattle.pjlink.specs.declared.command.Command.{Command}
-use Rattle.record.specs.Limits.{placesCount, shut, awaiting}
-use Rattle.record.specs.Legal.{isLegal, heldMost}
-use Rattle.record.specs.Places.{connectionAt}
+use Rattle.record.specs.Limits.{places_count, shut, awaiting}
+use Rattle.record.specs.Legal.{is_legal, held_most}
+use Rattle.record.specs.Places.{connection_at}
 use Rattle.record.specs.declared.types.Device.{Device}
 use Rattle.stream.specs.Collecting.{gathered}
-use Rattle.device.specs.Calls.{Result, replyRoom, received}
-use Rattle.device.proofs.Cases.{received-taken}
-use Rattle.device.proofs.Outsiders.{Unmatched, unmatched-line-refused}
-use Rattle.controller.specs.Reading.{without, readReply}
-use Rattle.controller.specs.Reading.{Erra}
-use Rattle.controller.proofs.Refusals.{erra-read}
+use Rattle.device.specs.Calls.{Result, reply_room, received}
+use Rattle.device.proofs.Cases.{received_taken}
+use Rattle.device.proofs.Outsiders.{IsUnmatched, unmatched_line_refused}
+use Rattle.controller.specs.Reading.{without, read_reply}
+use Rattle.controller.specs.Reading.{erra_said}
+use Rattle.controller.proofs.Refusals.{erra_read}
 
-pub outsider-reads-erra : (d : Device) (p : ℕ) (bs : List ℕ) (room : ℕ) (c : Command) → isLegal d ≡ true
-    → replyRoom ≤ room → p < placesCount
-    → let k = connectionAt d p in
-    k.phase ≡ awaiting → Unmatched d.settings k bs → (gathered (heldMost k.phase) k.line bs).ended ≡ true
-    → readReply c (received d p bs room).reply ≡ without Erra
-outsider-reads-erra d p bs room c legal enough there phase unmatched cr =
-    ap (λ (r : Result Device). readReply c r.reply)
-    (received-taken d p bs room legal enough there (ap (λ (q : ℕ). eqb q shut) phase))
-    ∙ ap (readReply c) (unmatched-line-refused d.settings d.own (connectionAt d p) phase bs unmatched cr).reply
-    ∙ erra-read c
+pub outsider_reads_erra : (d : Device) (p : ℕ) (bs : List ℕ) (room : ℕ) (c : Command) → is_legal d ≡ true
+    → reply_room ≤ room → p < places_count
+    → let k = connection_at d p in
+    k.phase ≡ awaiting → IsUnmatched d.settings k bs → (gathered (held_most k.phase) k.line bs).ended ≡ true
+    → read_reply c (received d p bs room).reply ≡ without erra_said
+outsider_reads_erra d p bs room c legal enough there phase unmatched cr =
+    ap (λ (r : Result Device). read_reply c r.reply)
+    (received_taken d p bs room legal enough there (ap (λ (q : ℕ). q == shut) phase))
+    ∙ ap (read_reply c) (unmatched_line_refused d.settings d.own (connection_at d p) phase bs unmatched cr).reply
+    ∙ erra_read c

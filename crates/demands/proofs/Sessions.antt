@@ -4,69 +4,66 @@
 --   heard s bs t            the session s after a call that took t of the bytes bs
 --   Heard settings .. t     such a call left the own part, and the connection stands so
 -- Assumes nothing.
-use Prim.Native.Nat.{ℕ, ◌+◌}
+use Rattle.std.specs.List.{list_all}
+use Rattle.std.proofs.Common.{ℕ, ◌+◌, ◌≡◌, refl, sym, ap, subst, ◌∙◌, true, false, List, [], ◌∷◌, ◌++◌, append-nil}
+use Rattle.std.proofs.Common.{arith, length, take}
+use Rattle.std.proofs.Math.Seq.{take-length}
 use Prim.Native.Char.{code}
-use mathlib.Core.Path.{◌≡◌, refl, sym, ap, subst, ◌∙◌}
-use mathlib.Core.Bool.{true, false}
-use mathlib.Core.List.{List, [], ◌∷◌, ◌++◌, append-nil}
-use native.Mathlib.Omega.{arith}
-use lib.ListN.{length, take}
-use lib.Seq.{take-length}
-use Rattle.text.specs.Scans.{every}
-use Rattle.text.proofs.Scanning.{every_append}
-use Rattle.words.specs.Bytes.{notCr}
-use Rattle.pjlink.specs.Forms.{erraLine}
-use Rattle.record.specs.Limits.{shut, awaiting, failed, lineRoom}
-use Rattle.record.specs.Updates.{aged, withLine}
-use Rattle.record.specs.Legal.{heldMost}
+use Rattle.text.proofs.Scanning.{list_all-append}
+use Rattle.words.specs.Bytes.{not_cr}
+use Rattle.pjlink.specs.Forms.{erra_line}
+use Rattle.record.specs.Limits.{shut, awaiting, failed, line_room}
+use Rattle.record.specs.Updates.{aged, with_line}
+use Rattle.record.specs.Legal.{held_most}
 use Rattle.record.specs.Record.{closed}
 use Rattle.record.specs.declared.types.Settings.{Settings}
 use Rattle.record.specs.declared.types.Own.{Own}
 use Rattle.record.specs.declared.types.Line.{Line}
 use Rattle.record.specs.declared.types.Connection.{Connection}
-use Rattle.record.proofs.Spelt.{closed-spelt}
-use Rattle.record.proofs.ConnectionTold.{held-most-awaiting}
-use Rattle.clock.specs.Second.{times, connectionSecond}
-use Rattle.clock.proofs.ConnectionsAge.{connection-then}
+use Rattle.record.proofs.Spelt.{closed_spelt}
+use Rattle.record.proofs.ConnectionTold.{held_most_awaiting}
+use Rattle.clock.specs.Second.{times, connection_second}
+use Rattle.clock.proofs.ConnectionsAge.{connection_then}
 use Rattle.stream.specs.declared.Gathered.{Gathered}
-use Rattle.stream.specs.Collecting.{emptyLine, collectedAll, gathered}
+use Rattle.stream.specs.Collecting.{empty_line, collected_all, gathered}
 use Rattle.stream.proofs.UpToTheEnd.{Cut, plain, line, cut}
-use Rattle.stream.proofs.GatheredOn.{plain-gathered}
-use Rattle.stream.proofs.CollectedOn.{collected-on, collected-whole}
-use Rattle.stream.proofs.LinesCollected.{empty-is-none, whole-gathered}
-use Rattle.device.specs.Receiving.{Ended, Taken, isMatch, noReply, lineEnded, keepingLine, takenIn, passwordOf}
-use Rattle.device.proofs.LineCases.{keeping_line, taken-line, taken-part}
-use Rattle.device.proofs.Outsiders.{mismatch-refused, failed-ignores}
-use Rattle.device.proofs.FirstLines.{unled-collected}
-use Rattle.demands.specs.Outsider.{Session, isMatched, RefusalAtMost, silence, refusal}
-use Rattle.demands.proofs.FirstLinesSeen.{line_taken, matched-first}
+use Rattle.stream.proofs.GatheredOn.{plain_gathered}
+use Rattle.stream.proofs.CollectedOn.{collected_all-append, collected_whole}
+use Rattle.stream.proofs.LinesCollected.{empty_is_none, gathered-append}
+use Rattle.device.specs.Receiving.{Ended, Taken, is_match, no_reply, line_ended, keeping_line, taken_in}
+use Rattle.device.specs.Receiving.{set_up_password}
+use Rattle.device.proofs.LineCases.{keeping_line_lem, taken-line, taken_part}
+use Rattle.device.proofs.Outsiders.{mismatch_refused, failed_ignores}
+use Rattle.device.proofs.FirstLines.{is_match-collected_all}
+use Rattle.demands.specs.Outsider.{Session, is_matched, RefusalAtMost, silence, refusal}
+use Rattle.demands.proofs.FirstLinesSeen.{line_taken, matched_first}
 
 pub data Standing (s : Session) (c : Connection) : Type 0 where
-  is-closed : c.phase ≡ shut → RefusalAtMost s.replied → Standing s c
-  awaits : c.phase ≡ awaiting → c.random ≡ s.random → every notCr s.taken ≡ true
-      → c.line ≡ collectedAll lineRoom emptyLine s.taken → s.replied ≡ [] → Standing s c
-  has-failed : c.phase ≡ failed → s.replied ≡ erraLine → Standing s c
+  is_closed : c.phase ≡ shut → RefusalAtMost s.replied → Standing s c
+  awaits : c.phase ≡ awaiting → c.random ≡ s.random → list_all not_cr s.taken ≡ true
+      → c.line ≡ collected_all line_room empty_line s.taken → s.replied ≡ [] → Standing s c
+  has_failed : c.phase ≡ failed → s.replied ≡ erra_line → Standing s c
 
-pub nothing_yet : collectedAll lineRoom emptyLine [] ≡ emptyLine
-nothing_yet = collected-whole [] (omega arith) ∙ sym empty-is-none
+pub nothing_yet : collected_all line_room empty_line [] ≡ empty_line
+nothing_yet = collected_whole [] (omega arith) ∙ sym empty_is_none
 
-pub answered-so : {s : Session} {c : Connection} → Standing s c → RefusalAtMost s.replied
-answered-so (is-closed p a) = a
-answered-so (awaits p r n l e) = subst RefusalAtMost (sym e) silence
-answered-so (has-failed p e) = subst RefusalAtMost (sym e) refusal
+pub answered_so : {s : Session} {c : Connection} → Standing s c → RefusalAtMost s.replied
+answered_so (is_closed p a) = a
+answered_so (awaits p r n l e) = subst RefusalAtMost (sym e) silence
+answered_so (has_failed p e) = subst RefusalAtMost (sym e) refusal
 
 -- ---- time
 
-pub closed-stands : (s : Session) → RefusalAtMost s.replied → Standing s closed
-closed-stands s a = is-closed (ap (λ (k : Connection). k.phase) closed-spelt) a
+pub closed_stands : (s : Session) → RefusalAtMost s.replied → Standing s closed
+closed_stands s a = is_closed (ap (λ (k : Connection). k.phase) closed_spelt) a
 
-older-stands : (s : Session) (c : Connection) (age : ℕ) → Standing s c → Standing s (aged c age)
-older-stands s c age (is-closed p a) = is-closed p a
-older-stands s c age (awaits p r n l e) = awaits p r n l e
-older-stands s c age (has-failed p e) = has-failed p e
+older_stands : (s : Session) (c : Connection) (age : ℕ) → Standing s c → Standing s (aged c age)
+older_stands s c age (is_closed p a) = is_closed p a
+older_stands s c age (awaits p r n l e) = awaits p r n l e
+older_stands s c age (has_failed p e) = has_failed p e
 
-pub stands-later : (n : ℕ) (s : Session) (c : Connection) → Standing s c → Standing s (times connectionSecond n c)
-stands-later n s c k = connection-then (Standing s) (closed-stands s (answered-so k)) (older-stands s) n c k
+pub stands_later : (n : ℕ) (s : Session) (c : Connection) → Standing s c → Standing s (times connection_second n c)
+stands_later n s c k = connection_then (Standing s) (closed_stands s (answered_so k)) (older_stands s) n c k
 
 -- ---- received bytes
 
@@ -84,78 +81,79 @@ pub record Heard (o : Own) (s : Session) (bs : List ℕ) (t : Taken) : Type 0 wh
 module _ (settings : Settings) (o : Own) (c : Connection) (s : Session) where
   -- what one call leaves, if no first line is matched by it
   abbrev Hears : List ℕ → Taken → Type 0
-  Hears bs t = isMatched (passwordOf settings) (heard s bs t) ≡ false → Heard o s bs t
+  Hears bs t = is_matched (set_up_password settings) (heard s bs t) ≡ false → Heard o s bs t
 
-  hears-failed : c.phase ≡ failed → s.replied ≡ erraLine → (bs : List ℕ) → Hears bs (takenIn settings o c bs)
-  hears-failed p e bs unmatched =
-      let still = failed-ignores settings o c p bs in
+  hears_failed : c.phase ≡ failed → s.replied ≡ erra_line → (bs : List ℕ) → Hears bs (taken_in settings o c bs)
+  hears_failed p e bs unmatched =
+      let still = failed_ignores settings o c p bs in
       record {
         own = ap (λ (k : Ended). k.own) still;
-        standing = has-failed (ap (λ (k : Ended). k.connection.phase) still ∙ p)
+        standing = has_failed (ap (λ (k : Ended). k.connection.phase) still ∙ p)
             (ap (λ (k : Ended). s.replied ++ k.reply) still ∙ append-nil s.replied ∙ e);
       }
 
-  module _ (phase : c.phase ≡ awaiting) (random : c.random ≡ s.random) (none : every notCr s.taken ≡ true)
-      (collects : c.line ≡ collectedAll lineRoom emptyLine s.taken) (quiet : s.replied ≡ []) where
+  module _ (phase : c.phase ≡ awaiting) (random : c.random ≡ s.random) (none : list_all not_cr s.taken ≡ true)
+      (collects : c.line ≡ collected_all line_room empty_line s.taken) (quiet : s.replied ≡ []) where
     abbrev more : List ℕ → Line
-    more xs = collectedAll lineRoom c.line xs
+    more xs = collected_all line_room c.line xs
 
     abbrev gathers : List ℕ → Gathered
-    gathers bs = gathered (heldMost c.phase) c.line bs
+    gathers bs = gathered (held_most c.phase) c.line bs
 
-    by-room : (bs : List ℕ) → gathers bs ≡ gathered lineRoom c.line bs
-    by-room bs = ap (λ (most : ℕ). gathered most c.line bs) (ap heldMost phase ∙ held-most-awaiting)
+    by_room : (bs : List ℕ) → gathers bs ≡ gathered line_room c.line bs
+    by_room bs = ap (λ (most : ℕ). gathered most c.line bs) (ap held_most phase ∙ held_most_awaiting)
 
-    more-is : (xs : List ℕ) → more xs ≡ collectedAll lineRoom emptyLine (s.taken ++ xs)
-    more-is xs =
-        ap (λ (l : Line). collectedAll lineRoom l xs) collects ∙ sym (collected-on lineRoom emptyLine s.taken xs)
+    more_is : (xs : List ℕ) → more xs ≡ collected_all line_room empty_line (s.taken ++ xs)
+    more_is xs =
+        ap (λ (l : Line). collected_all line_room l xs) collects
+        ∙ sym (collected_all-append line_room empty_line s.taken xs)
 
     -- no CR: all is collected
-    hears-plain : (bs : List ℕ) → every notCr bs ≡ true → Heard o s bs (takenIn settings o c bs)
-    hears-plain bs p =
-        let g = by-room bs ∙ plain-gathered lineRoom c.line bs p in
-        let t : takenIn settings o c bs ≡ record { ended = noReply o (withLine c (more bs)); taken = length bs }
-        = taken-part settings o c bs (ap (λ (k : Gathered). k.ended) g)
-        ∙ ap {B = Taken} (λ (k : Gathered). record { ended = noReply o (keepingLine c k.line); taken = k.before }) g
-        ∙ ap {B = Taken} (λ (k : Connection). record { ended = noReply o k; taken = length bs })
-        (keeping_line c (more bs) (λ f. omega arith)) in
+    hears_plain : (bs : List ℕ) → list_all not_cr bs ≡ true → Heard o s bs (taken_in settings o c bs)
+    hears_plain bs p =
+        let g = by_room bs ∙ plain_gathered line_room c.line bs p in
+        let t : taken_in settings o c bs ≡ record { ended = no_reply o (with_line c (more bs)); taken = length bs }
+        = taken_part settings o c bs (ap (λ (k : Gathered). k.ended) g)
+        ∙ ap {B = Taken} (λ (k : Gathered). record { ended = no_reply o (keeping_line c k.line); taken = k.before }) g
+        ∙ ap {B = Taken} (λ (k : Connection). record { ended = no_reply o k; taken = length bs })
+        (keeping_line_lem c (more bs) (λ f. omega arith)) in
         subst (Heard o s bs) (sym t)
         (record {
           own = refl;
           standing = awaits phase random
-              (rw (take-length bs) (every_append notCr s.taken bs none p))
-              (rw (take-length bs) (more-is bs)) (append-nil s.replied ∙ quiet);
+              (rw (take-length bs) (list_all-append not_cr s.taken bs none p))
+              (rw (take-length bs) (more_is bs)) (append-nil s.replied ∙ quiet);
         })
 
     -- CR: the first line is the session's bytes and these
-    hears-line : (xs rest : List ℕ) → every notCr xs ≡ true
-        → let bs = xs ++ (code "\r" ∷ rest) in Hears bs (takenIn settings o c bs)
-    hears-line xs rest p =
+    hears_line : (xs rest : List ℕ) → list_all not_cr xs ≡ true
+        → let bs = xs ++ (code "\r" ∷ rest) in Hears bs (taken_in settings o c bs)
+    hears_line xs rest p =
         let bs = xs ++ (code "\r" ∷ rest) in
-        let whole = every_append notCr s.taken xs none p in
-        let g = by-room bs ∙ whole-gathered lineRoom c.line xs rest p in
-        let t : takenIn settings o c bs ≡ record { ended = lineEnded settings o c (more xs); taken = length xs + 1 }
+        let whole = list_all-append not_cr s.taken xs none p in
+        let g = by_room bs ∙ gathered-append line_room c.line xs rest p in
+        let t : taken_in settings o c bs ≡ record { ended = line_ended settings o c (more xs); taken = length xs + 1 }
         = taken-line settings o c bs (ap (λ (k : Gathered). k.ended) g)
-        ∙ ap {B = Taken} (λ (k : Gathered). record { ended = lineEnded settings o c k.line; taken = k.before + 1 })
+        ∙ ap {B = Taken} (λ (k : Gathered). record { ended = line_ended settings o c k.line; taken = k.before + 1 })
         g in
         subst (Hears bs) (sym t) (λ unmatched.
-        let unled = sym (matched-first s.random (passwordOf settings) s.taken xs whole)
+        let unled = sym (matched_first s.random (set_up_password settings) s.taken xs whole)
         ∙ (rw (line_taken xs rest) at unmatched) in
-        let mismatch : isMatch settings c (more xs) ≡ false
-        = ap (isMatch settings c) (more-is xs)
-        ∙ unled-collected settings c (s.taken ++ xs) (rw random unled) in
-        let out = mismatch-refused settings o c phase (more xs) mismatch in
+        let mismatch : is_match settings c (more xs) ≡ false
+        = ap (is_match settings c) (more_is xs)
+        ∙ is_match-collected_all settings c (s.taken ++ xs) (rw random unled) in
+        let out = mismatch_refused settings o c phase (more xs) mismatch in
         record {
           own = out.own;
-          standing = has-failed out.phase ((λ i. quiet i ++ out.reply i));
+          standing = has_failed out.phase ((λ i. quiet i ++ out.reply i));
         })
 
-    hears-awaiting : (bs : List ℕ) → Cut (code "\r") bs → Hears bs (takenIn settings o c bs)
-    hears-awaiting bs (plain p) = λ unmatched. hears-plain bs p
-    hears-awaiting bs (line xs rest e p) =
-        subst (λ (k : List ℕ). Hears k (takenIn settings o c k)) (sym e) (hears-line xs rest p)
+    hears_awaiting : (bs : List ℕ) → Cut (code "\r") bs → Hears bs (taken_in settings o c bs)
+    hears_awaiting bs (plain p) = λ unmatched. hears_plain bs p
+    hears_awaiting bs (line xs rest e p) =
+        subst (λ (k : List ℕ). Hears k (taken_in settings o c k)) (sym e) (hears_line xs rest p)
 
-  pub stands_on : (bs : List ℕ) → (c.phase ≡ shut → ⊥) → Standing s c → Hears bs (takenIn settings o c bs)
-  stands_on bs live (is-closed p a) = absurd (live p)
-  stands_on bs live (awaits p r n l e) = hears-awaiting p r n l e bs (cut (code "\r") bs)
-  stands_on bs live (has-failed p e) = hears-failed p e bs
+  pub stands_on : (bs : List ℕ) → (c.phase ≡ shut → ⊥) → Standing s c → Hears bs (taken_in settings o c bs)
+  stands_on bs live (is_closed p a) = absurd (live p)
+  stands_on bs live (awaits p r n l e) = hears_awaiting p r n l e bs (cut (code "\r") bs)
+  stands_on bs live (has_failed p e) = hears_failed p e bs

@@ -1,88 +1,83 @@
 -- Two runs of the sample set-up with a password, for RULES, Places. Place 0 is opened by someone who does not know the
 -- password, place 1 by someone who does, who powers on, and 20 seconds later off. Nothing is computed here.
 -- Assumes nothing.
-use Prim.Native.Nat.{ℕ}
-use mathlib.Core.Path.{◌≡◌}
-use mathlib.Core.Bool.{Bool, true, false, ◌&&◌}
-use mathlib.Core.List.{List, [], ◌∷◌, ◌++◌}
-use lib.Dec.{eqb}
+use Rattle.std.proofs.Common.{ℕ, ◌≡◌, Bool, true, false, ◌&&◌, List, [], ◌∷◌, ◌++◌, ◌==◌, codes}
 use Rattle.std.specs.Prelude.{if◌then◌else◌}
-use Rattle.text.specs.Words.{ascii}
-use Rattle.digest.specs.Hex.{leadingDigest}
+use Rattle.digest.specs.Hex.{leading_digest}
 use Rattle.record.specs.declared.types.Device.{Device}
-use Rattle.device.specs.Receiving.{passwordOf}
+use Rattle.device.specs.Receiving.{set_up_password}
 use Rattle.ours.specs.Board.{ours}
 use Rattle.demands.specs.Calls.{Call, opens, receives, passes, after}
-use Rattle.demands.specs.Outsider.{Session, unopened, goesOn, noted, isMatched, NeverMatched}
-use Rattle.demands.specs.Sample.{memory, withCr}
-use Rattle.demands.specs.WrongDoors.{securedSample}
-use Rattle.demands.specs.Unheard.{AllAlike, no-calls, one_more, same-call, other-bytes}
+use Rattle.demands.specs.Outsider.{Session, unopened, goes_on, noted, is_matched, IsNeverMatched}
+use Rattle.demands.specs.Sample.{memory, with_cr}
+use Rattle.demands.specs.WrongDoors.{secured_sample}
+use Rattle.demands.specs.Unheard.{AllAlike, no_calls, one_more, same_call, other_bytes}
 
 abbrev pub fresh : Device
-fresh = (ours.set-up securedSample).device
+fresh = (ours.set_up secured_sample).device
 
 abbrev pub password : List ℕ
-password = passwordOf fresh.settings
+password = set_up_password fresh.settings
 
 -- the digest that place 1 awaits, and power-on
-abbrev pub ledOn : List ℕ
-ledOn = leadingDigest 8 (ascii "JBMIAProjectorLink") ++ ascii "%1POWR 1" ++ ascii "\r"
+abbrev pub led_on : List ℕ
+led_on = leading_digest 8 (codes "JBMIAProjectorLink") ++ codes "%1POWR 1" ++ codes "\r"
 
 abbrev pub later : List Call
-later = passes 20 ∷ receives 1 (withCr "%1POWR 0") memory ∷ []
+later = passes 20 ∷ receives 1 (with_cr "%1POWR 0") memory ∷ []
 
 abbrev pub since : List ℕ → List Call
-since bs = receives 0 bs memory ∷ receives 1 ledOn memory ∷ later
+since bs = receives 0 bs memory ∷ receives 1 led_on memory ∷ later
 
 abbrev pub calls : List ℕ → List Call
 calls bs = opens 7 memory ∷ opens 8 memory ∷ since bs
 
 -- what is given to place 0
 abbrev pub asks : List ℕ
-asks = withCr "%1POWR 1"
+asks = with_cr "%1POWR 1"
 
 abbrev pub waits : List ℕ
-waits = ascii "hello"
+waits = codes "hello"
 
 pub alike : AllAlike 0 (calls asks) (calls waits)
 alike =
-    one_more same-call (one_more same-call (one_more other-bytes (one_more same-call (one_more same-call (one_more
-    same-call no-calls)))))
+    one_more same_call (one_more same_call (one_more other_bytes (one_more same_call (one_more same_call (one_more
+    same_call no_calls)))))
 
 -- ---- place 0 never matches
 
-unmatched-elsewhere : (d : Device) (s : Session) (bs : List ℕ) → isMatched password s ≡ false
-    → isMatched password (noted ours 0 d s (receives 1 bs memory)) ≡ false
-unmatched-elsewhere d s bs = by (eqb (ours.receive d 1 bs memory).number 0)
+is_matched-noted : (d : Device) (s : Session) (bs : List ℕ) → is_matched password s ≡ false
+    → is_matched password (noted ours 0 d s (receives 1 bs memory)) ≡ false
+is_matched-noted d s bs = by ((ours.receive d 1 bs memory).number == 0)
   where
-    by : (t : Bool) → isMatched password s ≡ false
-        → isMatched password (if t && false then goesOn s bs (ours.receive d 1 bs memory) else s) ≡ false
+    by : (t : Bool) → is_matched password s ≡ false
+        → is_matched password (if t && false then goes_on s bs (ours.receive d 1 bs memory) else s) ≡ false
     by true h = h
     by false h = h
 
-pub later-never : (d : Device) (s : Session) → isMatched password s ≡ false
-    → NeverMatched ours 0 password d s (receives 1 ledOn memory ∷ later)
-later-never d s h =
-    let next = after ours (after ours d (receives 1 ledOn memory)) (passes 20) in
-    let still = unmatched-elsewhere d s ledOn h in
-    let last = unmatched-elsewhere next (noted ours 0 d s (receives 1 ledOn memory)) (withCr "%1POWR 0") still in
+pub later_never : (d : Device) (s : Session) → is_matched password s ≡ false
+    → IsNeverMatched ours 0 password d s (receives 1 led_on memory ∷ later)
+later_never d s h =
+    let next = after ours (after ours d (receives 1 led_on memory)) (passes 20) in
+    let still = is_matched-noted d s led_on h in
+    let last = is_matched-noted next (noted ours 0 d s (receives 1 led_on memory)) (with_cr "%1POWR 0") still in
     (still, (still, (last, tt)))
 
 -- the records and the sessions of the first calls
-abbrev pub greeted-one : Device
-greeted-one = after ours fresh (opens 7 memory)
+abbrev pub greeted_one : Device
+greeted_one = after ours fresh (opens 7 memory)
 
-abbrev pub greeted-two : Device
-greeted-two = after ours greeted-one (opens 8 memory)
+abbrev pub greeted_two : Device
+greeted_two = after ours greeted_one (opens 8 memory)
 
-abbrev pub spoken-to : List ℕ → Device
-spoken-to bs = after ours greeted-two (receives 0 bs memory)
+abbrev pub spoken_to : List ℕ → Device
+spoken_to bs = after ours greeted_two (receives 0 bs memory)
 
-abbrev pub session-one : Session
-session-one = noted ours 0 fresh unopened (opens 7 memory)
+abbrev pub session_one : Session
+session_one = noted ours 0 fresh unopened (opens 7 memory)
 
-abbrev pub session-two : Session
-session-two = noted ours 0 greeted-one session-one (opens 8 memory)
+abbrev pub session_two : Session
+session_two = noted ours 0 greeted_one session_one (opens 8 memory)
 
-abbrev pub session-three : List ℕ → Session
-session-three bs = noted ours 0 greeted-two session-two (receives 0 bs memory)
+abbrev pub session_three : List ℕ → Session
+session_three bs = noted ours 0 greeted_two session_two (receives 0 bs memory)

@@ -1,19 +1,14 @@
 -- A line shorter than a digest is not led by it: what somebody without the password sends in the samples.
 -- Assumes nothing.
-use Prim.Native.Nat.{ℕ, ◌<◌}
-use mathlib.Core.Path.{◌≡◌}
-use mathlib.Core.Bool.{false}
-use mathlib.Core.List.{List}
-use native.Mathlib.Omega.{arith}
-use lib.ListN.{length}
-use Rattle.text.specs.Scans.{sameBy, itself}
-use Rattle.text.proofs.Scanning.{long-differs}
-use Rattle.digest.specs.Hex.{leadingDigest}
-use Rattle.digest.proofs.Laws.{leading-digest-length}
-use Rattle.device.specs.Receiving.{digestLong}
+use Rattle.std.proofs.Common.{ℕ, ◌<◌, ◌≡◌, false, List, arith, length}
+use Rattle.text.specs.Scans.{same_by, itself}
+use Rattle.text.proofs.Scanning.{long_differs}
+use Rattle.digest.specs.Hex.{leading_digest}
+use Rattle.digest.proofs.Laws.{length-leading_digest}
+use Rattle.device.specs.Receiving.{digest_long}
 
-pub short-unled : (random : ℕ) (password l : List ℕ) → length l < digestLong
-    → sameBy itself l (leadingDigest random password) ≡ false
-short-unled random password l short =
-    long-differs itself l (leadingDigest random password)
-    (λ e. omega (arith, leading-digest-length random password))
+pub same_by-leading_digest : (random : ℕ) (password l : List ℕ) → length l < digest_long
+    → same_by itself l (leading_digest random password) ≡ false
+same_by-leading_digest random password l short =
+    long_differs itself l (leading_digest random password)
+    (λ e. omega (arith, length-leading_digest random password))

@@ -1,131 +1,128 @@
 -- Demand 2: what the writer writes, and what the readers take from the projector's replies and greetings; a command of
 -- a class higher than the set-up's is swallowed (RULES, Class 2).
 -- Assumes nothing.
-use Prim.Native.Nat.{ℕ, ◌^◌, ◌≤◌, ◌<◌}
-use mathlib.Core.Path.{◌≡◌, refl, sym, ap, subst, ◌∙◌}
-use mathlib.Core.Bool.{Bool, true, false, false≢true}
-use mathlib.Core.List.{List, ◌++◌}
-use mathlib.Core.Logic.{⊎_elim}
-use native.Mathlib.Omega.{arith}
-use lib.ListN.{length}
-use Rattle.text.proofs.Orders.{le-or-lt}
-use Rattle.digest.specs.Hex.{leadingDigest}
-use Rattle.pjlink.specs.Commands.{isCommand, commandLine}
+use Rattle.std.proofs.Common.{ℕ, ◌^◌, ◌≤◌, ◌<◌, ◌≡◌, refl, sym, ap, subst, ◌∙◌, Bool, true, false, List, ◌++◌, ⊎_elim}
+use Rattle.std.proofs.Common.{arith, length}
+use Rattle.std.proofs.lemmas.Bool.{false≢true}
+use Rattle.text.proofs.Orders.{le_or_lt}
+use Rattle.digest.specs.Hex.{leading_digest}
+use Rattle.pjlink.specs.Commands.{is_command, command_line}
 use Rattle.pjlink.specs.declared.command.Command.{Command}
-use Rattle.record.specs.Limits.{placesCount, awaiting, opened}
-use Rattle.record.specs.Legal.{isLegal}
-use Rattle.record.specs.Places.{connectionAt, isShut, lowestShut}
+use Rattle.record.specs.Limits.{places_count, awaiting, opened}
+use Rattle.record.specs.Legal.{is_legal}
+use Rattle.record.specs.Places.{connection_at, is_shut, lowest_shut}
 use Rattle.record.specs.declared.types.Device.{Device}
-use Rattle.record.proofs.LegalTold.{legal-settings}
-use Rattle.record.proofs.LowestShut.{below-lowest}
+use Rattle.record.proofs.LegalTold.{legal_settings}
+use Rattle.record.proofs.LowestShut.{below_lowest}
 use Rattle.device.specs.Answering.{swallowed}
-use Rattle.device.specs.Receiving.{passwordOf}
-use Rattle.device.specs.Calls.{Result, replyRoom, received, openedBy}
-use Rattle.device.proofs.CommandsReceived.{swallowedAt, higher-received, higher-received-secured}
-use Rattle.controller.specs.Writing.{WrittenAs, commandRoom, ledBy, writtenCommand}
-use Rattle.controller.specs.Reading.{readReply}
-use Rattle.controller.specs.Greetings.{readGreeting}
-use Rattle.demands.specs.Greeted.{greetedOn}
-use Rattle.controller.proofs.Cases.{written-by, written-plain, written-led}
-use Rattle.demands.proofs.TakenAndRead.{is-between, TakenAndRead}
-use Rattle.demands.proofs.WrittenReadBack.{written-reads-back, written-reads-back-secured}
-use Rattle.demands.proofs.GreetsBack.{greets-back as greeted-back}
-use Rattle.ours.specs.Board.{bytesWritten, reply, lent_by, wroteBy, ours}
-use Rattle.demands.specs.Demand2.{BetweenLines, ReadBack, AnsweredAs, Swallowed, ByClass}
-use Rattle.demands.proofs.LentMemory.{over-front}
+use Rattle.device.specs.Receiving.{set_up_password}
+use Rattle.device.specs.Calls.{Result, reply_room, received, opened_by}
+use Rattle.device.proofs.CommandsReceived.{swallowed_at, higher_received, higher_received_secured}
+use Rattle.controller.specs.Writing.{WrittenAs, command_room, led_by, written_command}
+use Rattle.controller.specs.Reading.{read_reply}
+use Rattle.controller.specs.Greetings.{read_greeting}
+use Rattle.demands.specs.Greeted.{greeted_on}
+use Rattle.controller.proofs.Cases.{written_by, written_plain, written_led}
+use Rattle.demands.proofs.TakenAndRead.{is_between, TakenAndRead}
+use Rattle.demands.proofs.WrittenReadBack.{written_reads_back, written_reads_back_secured}
+use Rattle.demands.proofs.GreetsBack.{greets_back as greeted-back}
+use Rattle.ours.specs.Board.{bytes_written, reply, lent_by, wrote_by, ours}
+use Rattle.demands.specs.Demand2.{BetweenLines, ReadBack, AnsweredAs, IsSwallowed, ByClass}
+use Rattle.demands.proofs.LentMemory.{over_front}
 use Rattle.record.proofs.FactsTold.{settings_is}
 
 -- what is read of the lent paper is the line
-pub line-written : (w : WrittenAs) (m : List ℕ) → bytesWritten (wroteBy w m) ≡ w.bytes
-line-written w m = over-front w.bytes m
+pub bytes_written-wrote_by : (w : WrittenAs) (m : List ℕ) → bytes_written (wrote_by w m) ≡ w.bytes
+bytes_written-wrote_by w m = over_front w.bytes m
 
 pub writes : (c : Command) (secured : Bool) (random : ℕ) (password m : List ℕ)
     → let w = ours.write c secured random password m in
-    w.number ≡ 0 → bytesWritten w ≡ ledBy secured random password ++ commandLine c
+    w.number ≡ 0 → bytes_written w ≡ led_by secured random password ++ command_line c
 writes c secured random password m =
-    written-by c secured random password (length m)
-    (λ w. w.number ≡ 0 → bytesWritten (wroteBy w m) ≡ ledBy secured random password ++ commandLine c)
+    written_by c secured random password (length m)
+    (λ w. w.number ≡ 0 → bytes_written (wrote_by w m) ≡ led_by secured random password ++ command_line c)
     (λ h e. absurd (omega arith)) (λ h w e. absurd (omega arith))
-    (λ h w e. line-written (record { number = 0; bytes = ledBy secured random password ++ commandLine c }) m)
+    (λ h w e. bytes_written-wrote_by
+    (record { number = 0; bytes = led_by secured random password ++ command_line c }) m)
 
-module _ (d : Device) (p : ℕ) (c : Command) (paper m : List ℕ) (writable : isCommand c ≡ true)
-    (roomy : commandRoom ≤ length paper) (enough : replyRoom ≤ length m) where
+module _ (d : Device) (p : ℕ) (c : Command) (paper m : List ℕ) (writable : is_command c ≡ true)
+    (roomy : command_room ≤ length paper) (enough : reply_room ≤ length m) where
   -- from the calls' results to the lent memory
-  on-memory : (w : WrittenAs) → (w.number ≡ 0) × TakenAndRead d p c w.bytes (received d p w.bytes (length m))
-      → ReadBack ours d p c (wroteBy w paper) (ours.receive d p (bytesWritten (wroteBy w paper)) m)
-  on-memory w (number, back) =
-      subst (λ (bs : List ℕ). ReadBack ours d p c (wroteBy w paper) (ours.receive d p bs m))
-      (sym (line-written w paper))
+  on_memory : (w : WrittenAs) → (w.number ≡ 0) × TakenAndRead d p c w.bytes (received d p w.bytes (length m))
+      → ReadBack ours d p c (wrote_by w paper) (ours.receive d p (bytes_written (wrote_by w paper)) m)
+  on_memory w (number, back) =
+      subst (λ (bs : List ℕ). ReadBack ours d p c (wrote_by w paper) (ours.receive d p bs m))
+      (sym (bytes_written-wrote_by w paper))
       (record {
         wrote = number;
         number = back.number;
         taken = back.taken;
-        read = ap (readReply c) (over-front (received d p w.bytes (length m)).reply m) ∙ back.said;
+        read = ap (read_reply c) (over_front (received d p w.bytes (length m)).reply m) ∙ back.said;
         device = back.device;
       })
 
   -- of a class higher than the set-up's
-  abbrev Ignored : WrittenAs → Type 0
-  Ignored w = Swallowed ours d p (wroteBy w paper) (ours.receive d p (bytesWritten (wroteBy w paper)) m)
+  abbrev IsIgnored : WrittenAs → Type 0
+  IsIgnored w = IsSwallowed ours d p (wrote_by w paper) (ours.receive d p (bytes_written (wrote_by w paper)) m)
 
-  ignored : (bs : List ℕ) → received d p bs (length m) ≡ swallowedAt d p (length bs)
-      → Ignored (record { number = 0; bytes = bs })
+  ignored : (bs : List ℕ) → received d p bs (length m) ≡ swallowed_at d p (length bs)
+      → IsIgnored (record { number = 0; bytes = bs })
   ignored bs taken = record {
     wrote = refl;
     left =
         subst (λ (l : List ℕ). AnsweredAs ours d p l (swallowed d.own) (ours.receive d p l m))
-        (sym (line-written (record { number = 0; bytes = bs }) paper))
+        (sym (bytes_written-wrote_by (record { number = 0; bytes = bs }) paper))
         (subst (λ (r : Result Device). AnsweredAs ours d p bs (swallowed d.own) (lent_by r m)) (sym taken)
         (record { number = refl; taken = refl; replied = refl; device = refl }));
   }
 
-  pub reads-back : (random : ℕ) (password : List ℕ) → BetweenLines opened d p
-      → let w = ours.write c false random password paper in ByClass ours d p c w (ours.receive d p (bytesWritten w) m)
-  reads-back random password between =
-      let empty = is-between d p between.there between.legal between.unmarked between.none-held in
+  pub reads_back : (random : ℕ) (password : List ℕ) → BetweenLines opened d p
+      → let w = ours.write c false random password paper in ByClass ours d p c w (ours.receive d p (bytes_written w) m)
+  reads_back random password between =
+      let empty = is_between d p between.there between.legal between.unmarked between.none_held in
       record {
-        no-higher = λ within.
-            on-memory (writtenCommand c false random password (length paper))
-            (written-reads-back d p between.there between.legal empty c writable within (length m) enough
-            (length paper) roomy between.in-phase random password);
+        no_higher = λ within.
+            on_memory (written_command c false random password (length paper))
+            (written_reads_back d p between.there between.legal empty c writable within (length m) enough
+            (length paper) roomy between.in_phase random password);
         higher = λ higher.
-            subst Ignored (sym (written-plain c false random password (length paper) roomy writable refl))
-            (ignored (commandLine c)
-            (higher-received d p between.there (length m) between.legal enough between.unmarked
-            between.none-held c higher between.in-phase));
+            subst IsIgnored (sym (written_plain c false random password (length paper) roomy writable refl))
+            (ignored (command_line c)
+            (higher_received d p between.there (length m) between.legal enough between.unmarked
+            between.none_held c higher between.in_phase));
       }
 
-  pub reads-back-secured : BetweenLines awaiting d p
-      → let w = ours.write c true (connectionAt d p).random (passwordOf d.settings) paper in
-      ByClass ours d p c w (ours.receive d p (bytesWritten w) m)
-  reads-back-secured between =
-      let random = (connectionAt d p).random in
-      let password = passwordOf d.settings in
-      let empty = is-between d p between.there between.legal between.unmarked between.none-held in
-      let told = (settings_is d.settings).0 (legal-settings d between.legal) in
+  pub reads_back_secured : BetweenLines awaiting d p
+      → let w = ours.write c true (connection_at d p).random (set_up_password d.settings) paper in
+      ByClass ours d p c w (ours.receive d p (bytes_written w) m)
+  reads_back_secured between =
+      let random = (connection_at d p).random in
+      let password = set_up_password d.settings in
+      let empty = is_between d p between.there between.legal between.unmarked between.none_held in
+      let told = (settings_is d.settings).0 (legal_settings d between.legal) in
       record {
-        no-higher = λ within.
-            on-memory (writtenCommand c true random password (length paper))
-            (written-reads-back-secured d p between.there between.legal empty c writable within (length m) enough
-            (length paper) roomy between.in-phase);
+        no_higher = λ within.
+            on_memory (written_command c true random password (length paper))
+            (written_reads_back_secured d p between.there between.legal empty c writable within (length m) enough
+            (length paper) roomy between.in_phase);
         higher = λ higher.
-            subst Ignored
-            (sym (written-led c true random password (length paper) roomy writable refl told.password.follows))
-            (ignored (leadingDigest random password ++ commandLine c)
-            (higher-received-secured d p between.there (length m) between.legal enough between.unmarked
-            between.none-held c higher between.in-phase));
+            subst IsIgnored
+            (sym (written_led c true random password (length paper) roomy writable refl told.password.follows))
+            (ignored (leading_digest random password ++ command_line c)
+            (higher_received_secured d p between.there (length m) between.legal enough between.unmarked
+            between.none_held c higher between.in_phase));
       }
 
-pub greets-back : (d : Device) (random : ℕ) (m : List ℕ) → isLegal d ≡ true
-    → (q : ℕ) → q < placesCount → isShut (connectionAt d q) ≡ true → replyRoom ≤ length m → random < 2 ^ 32
+pub greets_back : (d : Device) (random : ℕ) (m : List ℕ) → is_legal d ≡ true
+    → (q : ℕ) → q < places_count → is_shut (connection_at d q) ≡ true → reply_room ≤ length m → random < 2 ^ 32
     → let r = ours.opening d random m in
     let p = ours.place_opened d random m in
-    (r.number ≡ 0) × (ours.read-greeting (reply r) ≡ greetedOn (connectionAt r.device p))
-greets-back d random m legal q there closed enough word =
+    (r.number ≡ 0) × (ours.read_greeting (reply r) ≡ greeted_on (connection_at r.device p))
+greets_back d random m legal q there closed enough word =
     let cs = d.connections in
-    let low : lowestShut cs ≤ q
-    = ⊎_elim (λ (h : lowestShut cs ≤ q). h)
-    (λ (h : q < lowestShut cs). absurd (false≢true (sym (below-lowest cs q h) ∙ closed)))
-    (le-or-lt (lowestShut cs) q) in
+    let low : lowest_shut cs ≤ q
+    = ⊎_elim (λ (h : lowest_shut cs ≤ q). h)
+    (λ (h : q < lowest_shut cs). absurd (false≢true (sym (below_lowest cs q h) ∙ closed)))
+    (le_or_lt (lowest_shut cs) q) in
     let back = greeted-back d random (length m) legal (omega arith) enough word in
-    (back.number, ap readGreeting (over-front (openedBy d random (length m)).reply m) ∙ back.heard)
+    (back.number, ap read_greeting (over_front (opened_by d random (length m)).reply m) ∙ back.heard)

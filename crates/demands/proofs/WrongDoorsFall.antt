@@ -1,88 +1,84 @@
 -- Demand 2: the boards of specs/WrongDoors.antt fall, each to what the demand says of one sample, where the two numbers
 -- shown differ. The password is on; nobody sends the digest.
 -- Assumes nothing.
-use Prim.Native.Nat.{ℕ}
-use mathlib.Core.Path.{◌≡◌, refl, ap}
-use mathlib.Core.Bool.{true, false≢true}
-use mathlib.Core.List.{List, [], ◌∷◌}
-use native.Mathlib.Omega.{arith}
-use lib.ListN.{get_or}
-use Rattle.text.specs.Words.{ascii}
-use Rattle.record.specs.Places.{connectionAt}
+use Rattle.std.proofs.Common.{ℕ, ◌≡◌, refl, ap, true, List, [], ◌∷◌, arith, slice_index_or, codes}
+use Rattle.std.proofs.lemmas.Bool.{false≢true}
+use Rattle.record.specs.Places.{connection_at}
 use Rattle.record.specs.declared.types.Device.{Device}
 use Rattle.ours.specs.Board.{ours}
 use Rattle.demands.specs.Calls.{Call, opens, passes}
 use Rattle.demands.specs.Demand2.{Demand2}
 use Rattle.demands.specs.Sample.{memory, says}
-use Rattle.demands.specs.WrongDoors.{securedSample, forgetsPassword, ignoresPassword, greetsWithZero, timeOpens}
-use Rattle.demands.specs.WrongDoors.{failedAnswers, neverCloses, hidesFaults, hidesErrors}
+use Rattle.demands.specs.WrongDoors.{secured_sample, forgets_password, ignores_password, greets_with_zero, time_opens}
+use Rattle.demands.specs.WrongDoors.{failed_answers, never_closes, hides_faults, hides_errors}
 use Rattle.demands.specs.Computing.{computing}
-use Rattle.demands.proofs.Samples.{openedSample}
-use Rattle.demands.proofs.Unled.{short-unled}
+use Rattle.demands.proofs.Samples.{opened_sample}
+use Rattle.demands.proofs.Unled.{same_by-leading_digest}
 
 -- closed, off, with a password
 abbrev secured : Device
-secured = (ours.set-up securedSample).device
+secured = (ours.set_up secured_sample).device
 
 -- the password's length
-pub forgets-password-falls : Demand2 forgetsPassword → ⊥
+pub forgets_password_falls : Demand2 forgets_password → ⊥
 unfolding computing
-forgets-password-falls h =
-    let e : ◌≡◌ {A = ℕ} 0 18 = ap (λ (d : Device). d.settings.password.len) (h.set-up-shows securedSample refl) in
+forgets_password_falls h =
+    let e : ◌≡◌ {A = ℕ} 0 18 = ap (λ (d : Device). d.settings.password.len) (h.set_up_shows secured_sample refl) in
     absurd (omega arith)
 
 -- the phase: open, and awaiting
-pub ignores-password-falls : Demand2 ignoresPassword → ⊥
+pub ignores_password_falls : Demand2 ignores_password → ⊥
 unfolding computing
-ignores-password-falls h =
-    let e : ◌≡◌ {A = ℕ} 2 1 = ap (λ (d : Device). (connectionAt d 0).phase) (h.opens secured 7 memory refl).device in
+ignores_password_falls h =
+    let e : ◌≡◌ {A = ℕ} 2 1 = ap (λ (d : Device). (connection_at d 0).phase) (h.opens secured 7 memory refl).device in
     absurd (omega arith)
 
 -- the number that the connection keeps
-pub greets-with-zero-falls : Demand2 greetsWithZero → ⊥
+pub greets_with_zero_falls : Demand2 greets_with_zero → ⊥
 unfolding computing
-greets-with-zero-falls h =
-    let e : ◌≡◌ {A = ℕ} 0 7 = ap (λ (d : Device). (connectionAt d 0).random) (h.opens secured 7 memory refl).device in
+greets_with_zero_falls h =
+    let e : ◌≡◌ {A = ℕ} 0 7 = ap (λ (d : Device). (connection_at d 0).random) (h.opens secured 7 memory refl).device in
     absurd (omega arith)
 
 -- ---- the outsider, who powers on
 
 -- the power that he leaves, and the one that he found
-pub time-opens-falls : Demand2 timeOpens → ⊥
+pub time_opens_falls : Demand2 time_opens → ⊥
 unfolding computing
-time-opens-falls h =
+time_opens_falls h =
     let calls : List Call = opens 7 memory ∷ passes 1 ∷ says "%1POWR 1" ∷ [] in
-    let out = h.outsider-has-no-say secured 0 calls refl refl refl
-    (refl, (refl, (short-unled 7 (ascii "JBMIAProjectorLink") (ascii "%1POWR 1") (omega arith), tt))) in
+    let out = h.outsider_has_no_say secured 0 calls refl refl refl
+    (refl, (refl, (same_by-leading_digest 7 (codes "JBMIAProjectorLink") (codes "%1POWR 1") (omega arith), tt))) in
     let e : ◌≡◌ {A = ℕ} 3 0 = ap (λ o. o.power) (out.kept.1.1.0 refl).own in
     absurd (omega arith)
 
-pub failed-answers-falls : Demand2 failedAnswers → ⊥
+pub failed_answers_falls : Demand2 failed_answers → ⊥
 unfolding computing
-failed-answers-falls h =
+failed_answers_falls h =
     let calls : List Call = opens 7 memory ∷ says "x" ∷ passes 1 ∷ says "%1POWR 1" ∷ [] in
-    let unled = short-unled 7 (ascii "JBMIAProjectorLink") (ascii "x") (omega arith) in
-    let out = h.outsider-has-no-say secured 0 calls refl refl refl (refl, (unled, (unled, (unled, tt)))) in
+    let unled = same_by-leading_digest 7 (codes "JBMIAProjectorLink") (codes "x") (omega arith) in
+    let out = h.outsider_has_no_say secured 0 calls refl refl refl (refl, (unled, (unled, (unled, tt)))) in
     let e : ◌≡◌ {A = ℕ} 3 0 = ap (λ o. o.power) (out.kept.1.1.1.0 refl).own in
     absurd (omega arith)
 
 -- ---- calls that do nothing
 
 -- the phase: open, and closed
-pub never-closes-falls : Demand2 neverCloses → ⊥
+pub never_closes_falls : Demand2 never_closes → ⊥
 unfolding computing
-never-closes-falls h =
-    let e : ◌≡◌ {A = ℕ} 2 0 = ap (λ (d : Device). (connectionAt d 0).phase) (h.closes openedSample 0 refl) in
+never_closes_falls h =
+    let e : ◌≡◌ {A = ℕ} 2 0 = ap (λ (d : Device). (connection_at d 0).phase) (h.closes opened_sample 0 refl) in
     absurd (omega arith)
 
-pub hides-faults-falls : Demand2 hidesFaults → ⊥
+pub hides_faults_falls : Demand2 hides_faults → ⊥
 unfolding computing
-hides-faults-falls h = false≢true (ap (λ (d : Device). d.own.fault) (h.marks openedSample true refl))
+hides_faults_falls h = false≢true (ap (λ (d : Device). d.own.fault) (h.marks opened_sample true refl))
 
 -- the first error digit
-pub hides-errors-falls : Demand2 hidesErrors → ⊥
+pub hides_errors_falls : Demand2 hides_errors → ⊥
 unfolding computing
-hides-errors-falls h =
+hides_errors_falls h =
     let digits : List ℕ = 2 ∷ 0 ∷ 0 ∷ 0 ∷ 0 ∷ 0 ∷ [] in
-    let e : ◌≡◌ {A = ℕ} 0 2 = ap (λ (d : Device). get_or d.own.errors 0 0) (h.reports openedSample digits refl) in
+    let e : ◌≡◌ {A = ℕ} 0 2 =
+    ap (λ (d : Device). slice_index_or d.own.errors 0 0) (h.reports opened_sample digits refl) in
     absurd (omega arith)

@@ -1,87 +1,82 @@
 -- Demand 2: the boards of specs/WrongLines.antt fall, each to what the demand says of one sample, where the two numbers
 -- shown differ. The line is a power query, its body in small letters.
 -- Assumes nothing.
-use Prim.Native.Nat.{ℕ}
+use Rattle.std.proofs.Common.{ℕ, ◌≡◌, refl, ap, List, [], ◌∷◌, arith, length, codes}
 use Prim.Native.Char.{code}
-use mathlib.Core.Path.{◌≡◌, refl, ap}
-use mathlib.Core.List.{List, [], ◌∷◌}
-use native.Mathlib.Omega.{arith}
-use lib.ListN.{length}
-use Rattle.text.specs.Words.{ascii}
 use Rattle.words.specs.Bytes.{◌at◌}
 use Rattle.pjlink.specs.declared.command.Command.TheVariants.{Query}
 use Rattle.pjlink.specs.declared.body.Body.TheVariants.{Name}
-use Rattle.pjlink.specs.Said.{textIs, saidBytes}
+use Rattle.pjlink.specs.Said.{text_is, said_bytes}
 use Rattle.pjlink.specs.CanSay.{name}
 use Rattle.record.specs.Limits.{opened}
 use Rattle.record.specs.declared.types.Device.{Device}
 use Rattle.stream.specs.Machine.{Out}
 use Rattle.controller.specs.Reading.{ReadAs, LineSays}
 use Rattle.ours.specs.Board.{Board}
-use Rattle.demands.specs.Demand2.{Demand2, BetweenLines, AnsweredAs, answerTo}
-use Rattle.demands.specs.Sample.{memory, withCr}
-use Rattle.demands.specs.WrongLines.{dropsAll, okToAll, refusesAll, madeUpLength, madeUpTaken, upperCases}
-use Rattle.demands.specs.WrongLines.{forgetsAtNothing, othersNameless}
+use Rattle.demands.specs.Demand2.{Demand2, BetweenLines, AnsweredAs, answer_to}
+use Rattle.demands.specs.Sample.{memory, with_cr}
+use Rattle.demands.specs.WrongLines.{drops_all, ok_to_all, refuses_all, made_up_length, made_up_taken, upper_cases}
+use Rattle.demands.specs.WrongLines.{forgets_at_nothing, others_nameless}
 use Rattle.demands.specs.Computing.{computing}
-use Rattle.demands.proofs.Samples.{openedSample, ready}
+use Rattle.demands.proofs.Samples.{opened_sample, ready}
 
 module _ (B : Board) (h : Demand2 B) (d : B.Record) (between : BetweenLines opened (B.shows d) 0) where
-  queried : AnsweredAs B d 0 (withCr "%1powr ?") (answerTo (B.shows d) (ascii "%1powr ?"))
-      (B.receive d 0 (withCr "%1powr ?") memory)
+  queried : AnsweredAs B d 0 (with_cr "%1powr ?") (answer_to (B.shows d) (codes "%1powr ?"))
+      (B.receive d 0 (with_cr "%1powr ?") memory)
   unfolding computing
-  queried = h.answers d 0 (ascii "%1powr ?") memory between refl (omega arith)
+  queried = h.answers d 0 (codes "%1powr ?") memory between refl (omega arith)
 
 -- the reply's length; the right one is `%1powr=0` and CR
-pub drops-all-falls : Demand2 dropsAll → ⊥
+pub drops_all_falls : Demand2 drops_all → ⊥
 unfolding computing
-drops-all-falls h =
-    let e : ◌≡◌ {A = ℕ} 0 9 = ap length (queried dropsAll h openedSample ready).replied in absurd (omega arith)
+drops_all_falls h =
+    let e : ◌≡◌ {A = ℕ} 0 9 = ap length (queried drops_all h opened_sample ready).replied in absurd (omega arith)
 
-pub ok-to-all-falls : Demand2 okToAll → ⊥
+pub ok_to_all_falls : Demand2 ok_to_all → ⊥
 unfolding computing
-ok-to-all-falls h =
-    let e : ◌≡◌ {A = ℕ} 10 9 = ap length (queried okToAll h openedSample ready).replied in absurd (omega arith)
+ok_to_all_falls h =
+    let e : ◌≡◌ {A = ℕ} 10 9 = ap length (queried ok_to_all h opened_sample ready).replied in absurd (omega arith)
 
-pub made-up-length-falls : Demand2 madeUpLength → ⊥
+pub made_up_length_falls : Demand2 made_up_length → ⊥
 unfolding computing
-made-up-length-falls h =
-    let e : ◌≡◌ {A = ℕ} 10 9 = ap length (queried madeUpLength h openedSample ready).replied in absurd (omega arith)
+made_up_length_falls h =
+    let e : ◌≡◌ {A = ℕ} 10 9 = ap length (queried made_up_length h opened_sample ready).replied in absurd (omega arith)
 
-pub refuses-all-falls : Demand2 refusesAll → ⊥
+pub refuses_all_falls : Demand2 refuses_all → ⊥
 unfolding computing
-refuses-all-falls h =
-    let e : ◌≡◌ {A = ℕ} 1 0 = (queried refusesAll h openedSample ready).number in absurd (omega arith)
+refuses_all_falls h =
+    let e : ◌≡◌ {A = ℕ} 1 0 = (queried refuses_all h opened_sample ready).number in absurd (omega arith)
 
-pub made-up-taken-falls : Demand2 madeUpTaken → ⊥
+pub made_up_taken_falls : Demand2 made_up_taken → ⊥
 unfolding computing
-made-up-taken-falls h =
-    let e : ◌≡◌ {A = ℕ} 10 9 = (queried madeUpTaken h openedSample ready).taken in absurd (omega arith)
+made_up_taken_falls h =
+    let e : ◌≡◌ {A = ℕ} 10 9 = (queried made_up_taken h opened_sample ready).taken in absurd (omega arith)
 
 -- the first letter of the body: P and p
-pub upper-cases-falls : Demand2 upperCases → ⊥
+pub upper_cases_falls : Demand2 upper_cases → ⊥
 unfolding computing
-upper-cases-falls h =
+upper_cases_falls h =
     let e : ◌≡◌ {A = ℕ} (code "P") (code "p")
-    = ap (λ (bs : List ℕ). bs at 2) (queried upperCases h openedSample ready).replied in
+    = ap (λ (bs : List ℕ). bs at 2) (queried upper_cases h opened_sample ready).replied in
     absurd (omega arith)
 
 -- the query whole, and in three parts of which the second is empty
-pub forgets-at-nothing-falls : Demand2 forgetsAtNothing → ⊥
+pub forgets_at_nothing_falls : Demand2 forgets_at_nothing → ⊥
 unfolding computing
-forgets-at-nothing-falls h =
-    let parts : List (List ℕ) = ascii "%1POWR" ∷ [] ∷ withCr " ?" ∷ [] in
-    let whole : List (List ℕ) = withCr "%1POWR ?" ∷ [] in
+forgets_at_nothing_falls h =
+    let parts : List (List ℕ) = codes "%1POWR" ∷ [] ∷ with_cr " ?" ∷ [] in
+    let whole : List (List ℕ) = with_cr "%1POWR ?" ∷ [] in
     let e : ◌≡◌ {A = ℕ} 0 9 = ap (λ (o : Out Device). length o.reply)
-    (h.same-however-cut openedSample 0 memory parts whole refl (omega arith) refl (omega arith) refl) in
+    (h.same_however_cut opened_sample 0 memory parts whole refl (omega arith) refl (omega arith) refl) in
     absurd (omega arith)
 
 -- the text that is read of another maker's reply
-pub others-nameless-falls : Demand2 othersNameless → ⊥
+pub others_nameless_falls : Demand2 others_nameless → ⊥
 unfolding computing
-others-nameless-falls h =
-    let foo = ascii "Foo" in
-    let line : LineSays (Query Name) (withCr "%1name=Foo") (textIs foo)
+others_nameless_falls h =
+    let foo = codes "Foo" in
+    let line : LineSays (Query Name) (with_cr "%1name=Foo") (text_is foo)
     = record { form = refl; body = refl; says = record { can = name foo refl; written = refl } } in
-    let e : ◌≡◌ {A = ℕ} 0 3 = ap (λ (r : ReadAs). length (saidBytes r.said))
-    (h.what-is-said-is-read (Query Name) (withCr "%1name=Foo") (textIs foo) line) in
+    let e : ◌≡◌ {A = ℕ} 0 3 = ap (λ (r : ReadAs). length (said_bytes r.said))
+    (h.what_is_said_is_read (Query Name) (with_cr "%1name=Foo") (text_is foo) line) in
     absurd (omega arith)

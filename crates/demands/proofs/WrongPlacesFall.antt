@@ -1,54 +1,49 @@
 -- The boards of specs/WrongPlaces.antt fall: one to what demand 3 says of two places that speak in turn, the other to
 -- what is promised of two lines that are interleaved.
 -- Assumes nothing.
-use Prim.Native.Nat.{ℕ}
-use mathlib.Core.Path.{◌≡◌, refl, ap}
-use mathlib.Core.List.{List, [], ◌∷◌}
-use native.Mathlib.Omega.{arith}
-use lib.ListN.{length}
-use Rattle.text.specs.Words.{ascii}
+use Rattle.std.proofs.Common.{ℕ, ◌≡◌, refl, ap, List, [], ◌∷◌, arith, length, codes}
 use Rattle.ours.specs.Board.{Board, ours}
 use Rattle.demands.specs.Calls.{Call, opens, receives, passes, run}
-use Rattle.demands.specs.Demand3.{Demand3, setsUp}
-use Rattle.demands.specs.Sample.{sample, memory, withCr}
-use Rattle.demands.specs.Interleaved.{Interleaved, heard, aloneAt}
-use Rattle.demands.specs.WrongPlaces.{forgetsOthersPower, oneLineForAll}
+use Rattle.demands.specs.Demand3.{Demand3, sets_up}
+use Rattle.demands.specs.Sample.{sample, memory, with_cr}
+use Rattle.demands.specs.Interleaved.{Interleaved, heard, alone_at}
+use Rattle.demands.specs.WrongPlaces.{forgets_others_power, one_line_for_all}
 use Rattle.demands.specs.Computing.{computing}
 
 -- on at place 0, and place 1 asks for the power in between
 abbrev in_turn : List Call
 in_turn =
     opens 0 memory ∷ opens 0 memory
-    ∷ receives 0 (withCr "%1POWR 1") memory ∷ passes 30
-    ∷ receives 1 (withCr "%1POWR ?") memory ∷ passes 100 ∷ []
+    ∷ receives 0 (with_cr "%1POWR 1") memory ∷ passes 30
+    ∷ receives 1 (with_cr "%1POWR ?") memory ∷ passes 100 ∷ []
 
 -- the seconds stored, and burnt
-pub forgets-others-power-falls : Demand3 forgetsOthersPower → ⊥
+pub forgets_others_power_falls : Demand3 forgets_others_power → ⊥
 unfolding computing
-forgets-others-power-falls h =
-    let e : ◌≡◌ {A = ℕ} 30 130 = h.lamps-tell-the-history setsUp sample in_turn 0 refl (omega arith) in
+forgets_others_power_falls h =
+    let e : ◌≡◌ {A = ℕ} 30 130 = h.lamps_tell_the_history sets_up sample in_turn 0 refl (omega arith) in
     absurd (omega arith)
 
 -- a power set at place 0 and a power query at place 1, each in two halves
 abbrev halves : List Call
 halves =
-    receives 0 (ascii "%1PO") memory ∷ receives 1 (ascii "%1PO") memory
-    ∷ receives 0 (withCr "WR 1") memory ∷ receives 1 (withCr "WR ?") memory ∷ []
+    receives 0 (codes "%1PO") memory ∷ receives 1 (codes "%1PO") memory
+    ∷ receives 0 (with_cr "WR 1") memory ∷ receives 1 (with_cr "WR ?") memory ∷ []
 
 module _ (B : Board) where
-  abbrev twoOpened : B.Record
-  twoOpened = run B (B.set-up sample).device (opens 0 memory ∷ opens 0 memory ∷ [])
+  abbrev two_opened : B.Record
+  two_opened = run B (B.set_up sample).device (opens 0 memory ∷ opens 0 memory ∷ [])
 
 -- the length of what is replied at place 1, and of what that place alone gets: `%1POWR=0` and CR
-pub one-line-for-all-falls : Interleaved oneLineForAll → ⊥
-unfolding computing heard aloneAt
-one-line-for-all-falls h =
-    let alone = h.as-alone (twoOpened oneLineForAll) 1 halves (tt, (tt, (tt, (tt, tt)))) in
+pub one_line_for_all_falls : Interleaved one_line_for_all → ⊥
+unfolding computing heard alone_at
+one_line_for_all_falls h =
+    let alone = h.as_alone (two_opened one_line_for_all) 1 halves (tt, (tt, (tt, (tt, tt)))) in
     let e : ◌≡◌ {A = ℕ} 0 9 = ap length alone.replies in
     absurd (omega arith)
 
 -- ours answers both, and what place 1 asks for is what place 0 did: warm-up
-pub ours-answers-halves : ((heard ours 0 (twoOpened ours) halves).replied ≡ withCr "%1POWR=OK")
-    × ((heard ours 1 (twoOpened ours) halves).replied ≡ withCr "%1POWR=3")
+pub ours_answers_halves : ((heard ours 0 (two_opened ours) halves).replied ≡ with_cr "%1POWR=OK")
+    × ((heard ours 1 (two_opened ours) halves).replied ≡ with_cr "%1POWR=3")
 unfolding computing heard
-ours-answers-halves = (refl, refl)
+ours_answers_halves = (refl, refl)

@@ -6,14 +6,14 @@
 -- Assumes nothing.
 use Rattle.std.specs.Prelude.{ℕ, ◌≡◌, true, ◌⊎◌, List, take}
 use Rattle.record.specs.Limits.{shut}
-use Rattle.record.specs.Places.{connectionAt}
+use Rattle.record.specs.Places.{connection_at}
 use Rattle.record.specs.Wanted.{Wanted}
 use Rattle.record.specs.declared.types.Connection.{Connection}
-use Rattle.device.specs.Receiving.{passwordOf}
-use Rattle.device.specs.Calls.{isSecured}
+use Rattle.device.specs.Receiving.{set_up_password}
+use Rattle.device.specs.Calls.{has_password}
 use Rattle.ours.specs.Board.{Board}
 use Rattle.demands.specs.Calls.{Call, after}
-use Rattle.demands.specs.Outsider.{unopened, NeverMatched}
+use Rattle.demands.specs.Outsider.{unopened, IsNeverMatched}
 use Rattle.demands.specs.Unheard.{AllAlike, QuietOnceApart, HeardAlike}
 
 abbrev pub ClosedOr : ℕ → Connection → Type 0
@@ -23,26 +23,26 @@ module _ (B : Board) where
   -- whatever call comes, at whatever place, on a connection that is not closed
   abbrev pub RandomKept : Type 0
   RandomKept =
-      (d : B.Record) (p : ℕ) → ((connectionAt (B.shows d) p).phase ≡ shut → ⊥) → (c : Call)
-      → ClosedOr (connectionAt (B.shows d) p).random (connectionAt (B.shows (after B d c)) p)
+      (d : B.Record) (p : ℕ) → ((connection_at (B.shows d) p).phase ≡ shut → ⊥) → (c : Call)
+      → ClosedOr (connection_at (B.shows d) p).random (connection_at (B.shows (after B d c)) p)
 
   abbrev pub UnheardThroughout : Type 0
   UnheardThroughout =
       (w : Wanted) (p : ℕ) (xs ys : List Call)
-      → let d = (B.set-up w).device in
-      let password = passwordOf (B.shows d).settings in
-      (B.set-up w).number ≡ 0 → isSecured (B.shows d).settings ≡ true
+      → let d = (B.set_up w).device in
+      let password = set_up_password (B.shows d).settings in
+      (B.set_up w).number ≡ 0 → has_password (B.shows d).settings ≡ true
       → AllAlike p xs ys
-      → NeverMatched B p password d unopened xs → NeverMatched B p password d unopened ys
+      → IsNeverMatched B p password d unopened xs → IsNeverMatched B p password d unopened ys
       → QuietOnceApart B p d d xs ys
       → (n : ℕ) → HeardAlike B p d d (take n xs) (take n ys)
 
   abbrev pub UnheardAnyhow : Type 0
   UnheardAnyhow =
       (w : Wanted) (p : ℕ) (xs ys : List Call)
-      → let d = (B.set-up w).device in
-      let password = passwordOf (B.shows d).settings in
-      (B.set-up w).number ≡ 0 → isSecured (B.shows d).settings ≡ true
+      → let d = (B.set_up w).device in
+      let password = set_up_password (B.shows d).settings in
+      (B.set_up w).number ≡ 0 → has_password (B.shows d).settings ≡ true
       → AllAlike p xs ys
-      → NeverMatched B p password d unopened xs → NeverMatched B p password d unopened ys
+      → IsNeverMatched B p password d unopened xs → IsNeverMatched B p password d unopened ys
       → HeardAlike B p d d xs ys

@@ -5,52 +5,53 @@
 --   LoadsAs B s w ms    the bytes s load, and give the record that the set-up of w gives, with the marks ms
 --   BoardSwap           the theorem
 -- Assumes nothing.
-use Rattle.std.specs.Prelude.{ℕ, ◌+◌, ◌<◌, ◌≡◌, Bool, true, List, length, get_or}
-use Rattle.text.specs.Scans.{every}
+use Rattle.std.specs.List.{list_all}
+use Rattle.std.specs.Prelude.{ℕ, ◌+◌, ◌<◌, ◌≡◌, Bool, true, List, length, slice_index_or}
 use Rattle.record.specs.Wanted.{Wanted}
 use Rattle.record.specs.Rules.{at_most}
 use Rattle.words.specs.Bytes.{◌at◌}
-use Rattle.stored.specs.Form.{formVersion, markedFormOf, oldFormOf, storedOf, marksStored, storedForm}
-use Rattle.stored.specs.Loading.{startedWith}
-use Rattle.ours.specs.Board.{Board, bytesWritten}
+use Rattle.stored.specs.Form.{form_version, marked_form_of, old_form_of, stored_of, marks_stored, stored_form}
+use Rattle.stored.specs.Loading.{started_with}
+use Rattle.ours.specs.Board.{Board, bytes_written}
 use Rattle.demands.specs.Calls.{Call, run}
-use Rattle.demands.specs.History.{noStreams, history, marksAfter, burning, lampWith}
-use Rattle.demands.specs.Demand3.{Beginning, IsClass1, startMarks, Accepted, run_of, historyOf}
+use Rattle.demands.specs.History.{no_streams, history, marks_after, burning, lamp_with}
+use Rattle.demands.specs.Demand3.{Beginning, IsClass1, start_marks, IsAccepted, run_of, history_of}
 
 pub record LoadsAs (B : Board) (s : List ℕ) (w : Wanted) (ms : List Bool) : Type 0 where
   pub accepted : (B.load s).number ≡ 0
-  pub fresh : B.shows (B.load s).device ≡ startedWith w ms
+  pub fresh : B.shows (B.load s).device ≡ started_with w ms
 
 pub record BoardSwap (B : Board) : Type 0 where
   -- the form of the settings, with each lamp's seconds as they are now
-  pub form-stored : (d : B.Record) (m : List ℕ) → (B.store d m).number ≡ 0
-      → bytesWritten (B.store d m) ≡ storedForm (B.shows d)
+  pub form_stored : (d : B.Record) (m : List ℕ) → (B.store d m).number ≡ 0
+      → bytes_written (B.store d m) ≡ stored_form (B.shows d)
   -- "Loading is a fresh set-up": of what was stored
-  pub stored-loads : (d : B.Record) (m : List ℕ) → (B.store d m).number ≡ 0
-      → LoadsAs B (bytesWritten (B.store d m)) (storedOf (B.shows d)) (marksStored (B.shows d))
+  pub stored_loads : (d : B.Record) (m : List ℕ) → (B.store d m).number ≡ 0
+      → LoadsAs B (bytes_written (B.store d m)) (stored_of (B.shows d)) (marks_stored (B.shows d))
   -- RULES, Lamps: version 1 "loads with all set": it is the set-up of its settings, which are of Class 1 (RULES, Class
   -- 2)
-  pub old-form-sets-up : (w : Wanted) → IsClass1 w → B.load (oldFormOf w) ≡ B.set-up w
+  pub old_form_sets_up : (w : Wanted) → IsClass1 w → B.load (old_form_of w) ≡ B.set_up w
   -- RULES, Class 2: version 2 loads "as Class 1", with its marks
-  pub marked-form-loads : (w : Wanted) (ms : List Bool) → IsClass1 w → (B.load (markedFormOf w ms)).number ≡ 0
-      → LoadsAs B (markedFormOf w ms) w ms
+  pub marked_form_loads : (w : Wanted) (ms : List Bool) → IsClass1 w → (B.load (marked_form_of w ms)).number ≡ 0
+      → LoadsAs B (marked_form_of w ms) w ms
   -- "Versions 1 and 2 load as Class 1", whatever bytes these are
-  pub older-class-1 : (s : List ℕ) → (B.load s).number ≡ 0 → (s at 0 ≡ formVersion → ⊥)
+  pub older_class_1 : (s : List ℕ) → (B.load s).number ≡ 0 → (s at 0 ≡ form_version → ⊥)
       → (B.shows (B.load s).device).settings.class_number ≡ 1
   -- "One set-up has one form": what loads, stored again, is the same bytes, of the newest version
-  pub stored-again : (s : List ℕ) → every (at_most 255) s ≡ true → s at 0 ≡ formVersion → (B.load s).number ≡ 0
-      → storedForm (B.shows (B.load s).device) ≡ s
+  pub stored_again : (s : List ℕ) → list_all (at_most 255) s ≡ true → s at 0 ≡ form_version → (B.load s).number ≡ 0
+      → stored_form (B.shows (B.load s).device) ≡ s
   -- "Each version has one form": no other bytes of that version load as that record
-  pub one_form : (s t : List ℕ) → every (at_most 255) s ≡ true → every (at_most 255) t ≡ true → (B.load s).number ≡ 0
+  pub one_form : (s t : List ℕ) → list_all (at_most 255) s ≡ true → list_all (at_most 255) t ≡ true →
+      (B.load s).number ≡ 0
       → (B.load t).number ≡ 0 → s at 0 ≡ t at 0 → B.shows (B.load s).device ≡ B.shows (B.load t).device → s ≡ t
   -- a lamp's seconds after the swap: what it started with on the one board, and what it burnt on both
-  pub hours-go-on : (b : Beginning) (w : Wanted) (cs es : List Call) (m : List ℕ) (place : ℕ) → Accepted B b w
+  pub hours_go_on : (b : Beginning) (w : Wanted) (cs es : List Call) (m : List ℕ) (place : ℕ) → IsAccepted B b w
       → place < length w.lamps
       → let old = run_of B b w cs in
-      let new = (B.load (bytesWritten (B.store old m))).device in
+      let new = (B.load (bytes_written (B.store old m))).device in
       (B.store old m).number ≡ 0
-      → get_or (B.shows (run B new es)).own.lamps place 0
-      ≡ lampWith
-      (burning w (startMarks b w) place (historyOf B b w cs)
-      + burning w (marksAfter (startMarks b w) (historyOf B b w cs)) place (history B new noStreams es))
-      (get_or w.lamps place 0)
+      → slice_index_or (B.shows (run B new es)).own.lamps place 0
+      ≡ lamp_with
+      (burning w (start_marks b w) place (history_of B b w cs)
+      + burning w (marks_after (start_marks b w) (history_of B b w cs)) place (history B new no_streams es))
+      (slice_index_or w.lamps place 0)

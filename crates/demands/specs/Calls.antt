@@ -23,18 +23,18 @@ module _ (B : Board) where
   after d (closes p) = (B.closing d p).device
   after d (receives p bs m) = (B.receive d p bs m).device
   after d (passes n) = (B.pass d n).device
-  after d (marks fault) = (B.set-fault d fault).device
-  after d (reports errors) = (B.set-errors d errors).device
-  after d (enables lamp mark) = (B.set-mark d lamp mark).device
+  after d (marks fault) = (B.set_fault d fault).device
+  after d (reports errors) = (B.set_errors d errors).device
+  after d (enables lamp mark) = (B.set_mark d lamp mark).device
 
   abbrev pub number_of : B.Record → Call → ℕ
   number_of d (opens random m) = (B.opening d random m).number
   number_of d (closes p) = (B.closing d p).number
   number_of d (receives p bs m) = (B.receive d p bs m).number
   number_of d (passes n) = (B.pass d n).number
-  number_of d (marks fault) = (B.set-fault d fault).number
-  number_of d (reports errors) = (B.set-errors d errors).number
-  number_of d (enables lamp mark) = (B.set-mark d lamp mark).number
+  number_of d (marks fault) = (B.set_fault d fault).number
+  number_of d (reports errors) = (B.set_errors d errors).number
+  number_of d (enables lamp mark) = (B.set_mark d lamp mark).number
 
   unfoldable pub run : B.Record → List Call → B.Record
   run d [] = d

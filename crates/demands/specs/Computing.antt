@@ -11,10 +11,10 @@ use Rattle.stream.specs.Computing.{computing as stream}
 use Rattle.device.specs.Computing.{computing as device}
 use Rattle.controller.specs.Computing.{computing as controller}
 use Rattle.demands.specs.Calls.{run}
-use Rattle.demands.specs.History.{powerSet, history, marksAfter, reached, burningFrom}
+use Rattle.demands.specs.History.{power_set, history, marks_after, reached, burning_from}
 
 unfoldable pub computing : Unit {0}
 unfolding
-    numbers pjlink records stored clock meaning stream device controller run powerSet
-    history marksAfter reached burningFrom
+    numbers pjlink records stored clock meaning stream device controller run power_set
+    history marks_after reached burning_from
 computing = tt

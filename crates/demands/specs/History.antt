@@ -2,85 +2,85 @@
 -- and the replies, and never a record.
 --   Streams               for each place all bytes that were taken there so far, in one row: no phases, no digests, no
 --                         limits, and no connections, though a place may be closed and opened again (RULES, Places)
---   powerSet s r          a power set was answered OK: the reply r says so, and the stream s ends in its line
+--   power_set s r         a power set was answered OK: the reply r says so, and the stream s ends in its line
 --   history B d w cs      the power sets answered OK, at whatever place, the seconds passed and the marks set, in the
 --                         order made; a refused call counts as nothing
 --   Stage                 the outsider's own clock, which starts off: steady, or on the way there for so many seconds
---   marksAfter ms es      his marks, one a lamp: those it began with, and the mark calls that gave 0 (RULES, Lamps)
+--   marks_after ms es     his marks, one a lamp: those it began with, and the mark calls that gave 0 (RULES, Lamps)
 --   burning w ms k es     the seconds of a history that lie in warm-up or power-on with the mark of the lamp at place k
 --                         set, where it began with the marks ms
---   lampWith n start      a lamp's seconds: what it started with and what it burnt, stopped at 359,999,999
+--   lamp_with n start     a lamp's seconds: what it started with and what it burnt, stopped at 359,999,999
 -- Assumes nothing.
-use Rattle.std.specs.Prelude.{ℕ, ◌+◌, ◌-◌, min, leb, eqb, Bool, true, false, not, ◌&&◌, if◌then◌else◌}
-use Rattle.std.specs.Prelude.{List, [], ◌∷◌, ◌++◌, length, take, drop, replicate, get_or, set}
+use Rattle.std.specs.Prelude.{ℕ, ◌+◌, ◌-◌, min, Bool, true, false, not, ◌&&◌, if◌then◌else◌}
+use Rattle.std.specs.Prelude.{List, [], ◌∷◌, ◌++◌, length, take, drop, replicate, set, nat_le, ◌==◌, slice_index_or}
+use Rattle.std.specs.Prelude.{codes}
 use Prim.Native.String.{String}
-use Rattle.text.specs.Words.{ascii}
-use Rattle.text.specs.Scans.{sameBy}
-use Rattle.words.specs.Bytes.{upperOf}
-use Rattle.record.specs.Limits.{lampLimit}
+use Rattle.text.specs.Scans.{same_by}
+use Rattle.words.specs.Bytes.{upper_of}
+use Rattle.record.specs.Limits.{lamp_limit}
 use Rattle.record.specs.Wanted.{Wanted}
 use Rattle.ours.specs.Board.{Board, reply}
 use Rattle.demands.specs.Calls.{Call, opens, closes, receives, passes, marks, reports, enables, after}
 
 infix 40 ◌says◌
-infix 40 ◌ends-in◌
+infix 40 ◌ends_in◌
 -- ---- what he sees
 
 -- in any case of letters
 abbrev pub ◌says◌ : List ℕ → String → Bool
-bs says t = sameBy upperOf bs (ascii t)
+bs says t = same_by upper_of bs (codes t)
 
-abbrev pub ◌ends-in◌ : List ℕ → String → Bool
-bs ends-in t = drop (length bs - length (ascii t)) bs says t
+abbrev pub ◌ends_in◌ : List ℕ → String → Bool
+bs ends_in t = drop (length bs - length (codes t)) bs says t
 
 pub data Event : Type 0 where
   switched : (wanted : Bool) → Event
-  aSecond : Event
-  markSwitched : (lamp : ℕ) (mark : Bool) → Event
+  a_second : Event
+  mark_switched : (lamp : ℕ) (mark : Bool) → Event
 
-unfoldable pub powerSet : List ℕ → List ℕ → List Event
-powerSet stream answer =
+unfoldable pub power_set : List ℕ → List ℕ → List Event
+power_set stream answer =
     if not (answer says "%1POWR=OK\r") then []
-    else if stream ends-in "%1POWR 1\r" then switched true ∷ []
-    else if stream ends-in "%1POWR 0\r" then switched false ∷ []
+    else if stream ends_in "%1POWR 1\r" then switched true ∷ []
+    else if stream ends_in "%1POWR 0\r" then switched false ∷ []
     else []
 
 abbrev pub Streams : Type 0
 Streams = ℕ → List ℕ
 
-abbrev pub noStreams : Streams
-noStreams q = []
+abbrev pub no_streams : Streams
+no_streams q = []
 
 -- place p's stream goes on by these bytes, and no other one does
-abbrev pub goingOnAt : Streams → ℕ → List ℕ → Streams
-goingOnAt w p bs q = if eqb q p then w q ++ bs else w q
+abbrev pub going_on_at : Streams → ℕ → List ℕ → Streams
+going_on_at w p bs q = if q == p then w q ++ bs else w q
 
 module _ (B : Board) where
   -- the streams with the bytes that a call took
-  abbrev pub streamsAfter : B.Record → Streams → Call → Streams
-  streamsAfter d w (receives p bs m) =
-      if eqb (B.receive d p bs m).number 0 then goingOnAt w p (take (B.receive d p bs m).taken bs) else w
-  streamsAfter d w (opens random m) = w
-  streamsAfter d w (closes p) = w
-  streamsAfter d w (passes n) = w
-  streamsAfter d w (marks fault) = w
-  streamsAfter d w (reports errors) = w
-  streamsAfter d w (enables lamp mark) = w
+  abbrev pub streams_after : B.Record → Streams → Call → Streams
+  streams_after d w (receives p bs m) =
+      if (B.receive d p bs m).number == 0 then going_on_at w p (take (B.receive d p bs m).taken bs) else w
+  streams_after d w (opens random m) = w
+  streams_after d w (closes p) = w
+  streams_after d w (passes n) = w
+  streams_after d w (marks fault) = w
+  streams_after d w (reports errors) = w
+  streams_after d w (enables lamp mark) = w
 
   -- what a call tells; the bytes that it took are in its place's stream already
   abbrev pub seen : B.Record → Streams → Call → List Event
   seen d w (receives p bs m) =
-      if eqb (B.receive d p bs m).number 0 then powerSet (w p) (reply (B.receive d p bs m)) else []
-  seen d w (passes n) = if eqb (B.pass d n).number 0 then replicate n aSecond else []
+      if (B.receive d p bs m).number == 0 then power_set (w p) (reply (B.receive d p bs m)) else []
+  seen d w (passes n) = if (B.pass d n).number == 0 then replicate n a_second else []
   seen d w (opens random m) = []
   seen d w (closes p) = []
   seen d w (marks fault) = []
   seen d w (reports errors) = []
-  seen d w (enables lamp mark) = if eqb (B.set-mark d lamp mark).number 0 then markSwitched lamp mark ∷ [] else []
+  seen d w (enables lamp mark) = if (B.set_mark d lamp mark).number == 0 then mark_switched lamp mark ∷ [] else []
 
   unfoldable pub history : B.Record → Streams → List Call → List Event
   history d w [] = []
-  history d w (c ∷ cs) = seen d (streamsAfter d w c) c ++ history (after B d c) (streamsAfter d w c) cs
+  history d w (c ∷ cs) = seen d (streams_after d w c) c ++ history (after B d c) (streams_after d w c) cs
 
 -- ---- his clock
 
@@ -95,46 +95,46 @@ next w (steady true) (switched false) = towards false w.cool
 next w (steady true) (switched true) = steady true
 next w (steady false) (switched false) = steady false
 next w (towards on n) (switched wanted) = towards on n
-next w (steady on) aSecond = steady on
-next w (towards on n) aSecond = if leb n 1 then steady on else towards on (n - 1)
-next w (steady on) (markSwitched lamp mark) = steady on
-next w (towards on n) (markSwitched lamp mark) = towards on n
+next w (steady on) a_second = steady on
+next w (towards on n) a_second = if nat_le n 1 then steady on else towards on (n - 1)
+next w (steady on) (mark_switched lamp mark) = steady on
+next w (towards on n) (mark_switched lamp mark) = towards on n
 
 -- his marks, one a lamp
-abbrev pub marksNext : List Bool → Event → List Bool
-marksNext ms (markSwitched lamp mark) = set ms lamp mark
-marksNext ms (switched wanted) = ms
-marksNext ms aSecond = ms
+abbrev pub marks_next : List Bool → Event → List Bool
+marks_next ms (mark_switched lamp mark) = set ms lamp mark
+marks_next ms (switched wanted) = ms
+marks_next ms a_second = ms
 
-unfoldable pub marksAfter : List Bool → List Event → List Bool
-marksAfter ms [] = ms
-marksAfter ms (e ∷ es) = marksAfter (marksNext ms e) es
+unfoldable pub marks_after : List Bool → List Event → List Bool
+marks_after ms [] = ms
+marks_after ms (e ∷ es) = marks_after (marks_next ms e) es
 
 -- lamps burn in power-on and on the way there
-abbrev pub isBurning : Stage → Bool
-isBurning (steady on) = on
-isBurning (towards on n) = on
+abbrev pub stage_is_burning : Stage → Bool
+stage_is_burning (steady on) = on
+stage_is_burning (towards on n) = on
 
 -- the lamp at place k, if its mark is set (RULES, Lamps)
 abbrev pub burns : Stage → List Bool → ℕ → Event → ℕ
 burns g ms k (switched wanted) = 0
-burns g ms k aSecond = if isBurning g && get_or ms k false then 1 else 0
-burns g ms k (markSwitched lamp mark) = 0
+burns g ms k a_second = if stage_is_burning g && slice_index_or ms k false then 1 else 0
+burns g ms k (mark_switched lamp mark) = 0
 
 unfoldable pub reached : Wanted → Stage → List Event → Stage
 reached w g [] = g
 reached w g (e ∷ es) = reached w (next w g e) es
 
-unfoldable pub burningFrom : Wanted → Stage → List Bool → ℕ → List Event → ℕ
-burningFrom w g ms k [] = 0
-burningFrom w g ms k (e ∷ es) = burns g ms k e + burningFrom w (next w g e) (marksNext ms e) k es
+unfoldable pub burning_from : Wanted → Stage → List Bool → ℕ → List Event → ℕ
+burning_from w g ms k [] = 0
+burning_from w g ms k (e ∷ es) = burns g ms k e + burning_from w (next w g e) (marks_next ms e) k es
 
 abbrev pub burning : Wanted → List Bool → ℕ → List Event → ℕ
-burning w ms k es = burningFrom w (steady false) ms k es
+burning w ms k es = burning_from w (steady false) ms k es
 
 -- a device starts off
-abbrev pub stageAfter : Wanted → List Event → Stage
-stageAfter w es = reached w (steady false) es
+abbrev pub stage_after : Wanted → List Event → Stage
+stage_after w es = reached w (steady false) es
 
-abbrev pub lampWith : ℕ → ℕ → ℕ
-lampWith n start = min lampLimit (start + n)
+abbrev pub lamp_with : ℕ → ℕ → ℕ
+lamp_with n start = min lamp_limit (start + n)

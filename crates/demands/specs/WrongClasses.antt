@@ -1,49 +1,49 @@
 -- Wrong boards against demand 2, as to the class (RULES, Class 2); proofs/WrongClassesFall.antt has where each falls.
 -- Assumes nothing.
-use Rattle.std.specs.Prelude.{◌&&◌, ◌++◌, take, drop, eqb, if◌then◌else◌}
-use Rattle.text.specs.Words.{ascii, ◌is◌}
-use Rattle.text.specs.Scans.{sameBy, itself}
-use Rattle.words.specs.Bytes.{◌at◌, upperOf}
-use Rattle.pjlink.specs.Forms.{replyParameter}
-use Rattle.record.specs.Limits.{volumeMost}
-use Rattle.record.specs.Updates.{withOwn, withVolumes}
+use Rattle.std.specs.Prelude.{◌&&◌, ◌++◌, take, drop, if◌then◌else◌, ◌==◌, codes}
+use Rattle.text.specs.Words.{◌is◌}
+use Rattle.text.specs.Scans.{same_by, itself}
+use Rattle.words.specs.Bytes.{◌at◌, upper_of}
+use Rattle.pjlink.specs.Forms.{reply_parameter}
+use Rattle.record.specs.Limits.{volume_most}
+use Rattle.record.specs.Updates.{with_own, with_volumes}
 use Rattle.record.specs.declared.types.Device.{Device}
-use Rattle.controller.specs.Reading.{without, readReply}
-use Rattle.controller.specs.Reading.{NotAllowed}
+use Rattle.controller.specs.Reading.{without, read_reply}
+use Rattle.controller.specs.Reading.{disallowed}
 use Rattle.ours.specs.Board.{Board, ours, lent_by}
-use Rattle.demands.specs.OursBut.{butReceive, butReader}
+use Rattle.demands.specs.OursBut.{but_receive, but_reader}
 
 -- a set-up of Class 1 knows that there is a Class 2: it says that it has no such body
-abbrev pub answersClass2 : Board
-answersClass2 = butReceive (λ d p bs m.
+abbrev pub answers_class_2 : Board
+answers_class_2 = but_receive (λ d p bs m.
     let r = ours.receive d p bs m in
-    if eqb d.settings.class_number 1 && bs at 1 is "2"
+    if d.settings.class_number == 1 && bs at 1 is "2"
     then lent_by (record {
       number = r.number;
       taken = r.taken;
-      reply = ascii "%2" ++ take 4 (drop 2 bs) ++ ascii "=ERR1\r";
+      reply = codes "%2" ++ take 4 (drop 2 bs) ++ codes "=ERR1\r";
       device = r.device;
     }) m
     else r)
 
 -- keeps the rule of Class 1 for the input that is told: a digit 1 to 9
-abbrev pub refusesLetters : Board
-refusesLetters = butReader (λ c l.
-    if sameBy itself (replyParameter l) (ascii "6A") then without NotAllowed else readReply c l)
+abbrev pub refuses_letters : Board
+refuses_letters = but_reader (λ c l.
+    if same_by itself (reply_parameter l) (codes "6A") then without disallowed else read_reply c l)
 
 -- from the top, one step up is the bottom
-abbrev fromTheTop : Device → Device → Device
-fromTheTop before now =
-    if eqb before.own.speaker volumeMost && eqb now.own.speaker volumeMost
-    then withOwn now (withVolumes now.own 0 now.own.microphone) else now
+abbrev from_the_top : Device → Device → Device
+from_the_top before now =
+    if before.own.speaker == volume_most && now.own.speaker == volume_most
+    then with_own now (with_volumes now.own 0 now.own.microphone) else now
 
-abbrev pub volumeWraps : Board
-volumeWraps = butReceive (λ d p bs m.
+abbrev pub volume_wraps : Board
+volume_wraps = but_receive (λ d p bs m.
     let r = ours.receive d p bs m in
     record {
       number = r.number;
       taken = r.taken;
       length = r.length;
       memory = r.memory;
-      device = if sameBy upperOf bs (ascii "%2SVOL 1\r") then fromTheTop d r.device else r.device;
+      device = if same_by upper_of bs (codes "%2SVOL 1\r") then from_the_top d r.device else r.device;
     })

@@ -1,69 +1,68 @@
 -- Wrong boards against demand 2, as to who is let in and what the other calls do; proofs/WrongDoorsFall.antt has where
 -- each falls.
---   securedSample     the sample set-up, with the password of the specification's example
+--   secured_sample    the sample set-up, with the password of the specification's example
 -- Assumes nothing.
-use Rattle.std.specs.Prelude.{ℕ, [], length, eqb, if◌then◌else◌}
-use Rattle.text.specs.Words.{ascii}
-use Rattle.pjlink.specs.Forms.{greetingOpen}
+use Rattle.std.specs.Prelude.{ℕ, [], length, if◌then◌else◌, ◌==◌, codes}
+use Rattle.pjlink.specs.Forms.{greeting_open}
 use Rattle.record.specs.Limits.{awaiting, opened, failed}
-use Rattle.record.specs.Wanted.{Wanted, withPassword}
+use Rattle.record.specs.Wanted.{Wanted, with_password}
 use Rattle.record.specs.declared.types.Device.{Device}
-use Rattle.record.specs.Places.{connectionAt, withPlace}
+use Rattle.record.specs.Places.{connection_at, with_place}
 use Rattle.device.specs.Receiving.{turned}
-use Rattle.device.specs.Calls.{Result, openedBy, placeTaken}
+use Rattle.device.specs.Calls.{Result, opened_by, place_taken}
 use Rattle.ours.specs.Board.{Board, ours, lent_by}
 use Rattle.demands.specs.Sample.{sample}
-use Rattle.demands.specs.OursBut.{butSetUp, butOpening, butClosing, butPass, butFault, butErrors}
+use Rattle.demands.specs.OursBut.{but_set_up, but_opening, but_closing, but_pass, but_fault, but_errors}
 
-abbrev pub securedSample : Wanted
-securedSample = withPassword (ascii "JBMIAProjectorLink") sample
+abbrev pub secured_sample : Wanted
+secured_sample = with_password (codes "JBMIAProjectorLink") sample
 
-abbrev pub forgetsPassword : Board
-forgetsPassword = butSetUp (λ w. ours.set-up (withPassword [] w))
+abbrev pub forgets_password : Board
+forgets_password = but_set_up (λ w. ours.set_up (with_password [] w))
 
 -- the device with the connection at place p open, whatever it was
-abbrev letIn : Device → ℕ → Device
-letIn d p = withPlace d d.own p (turned (connectionAt d p) opened)
+abbrev let_in : Device → ℕ → Device
+let_in d p = with_place d d.own p (turned (connection_at d p) opened)
 
 -- `PJLINK 0`, password or not
 abbrev openly : ℕ → Result Device → Result Device
 openly p r =
-    if eqb r.number 0 then record {
+    if r.number == 0 then record {
       number = 0;
       taken = 0;
-      reply = greetingOpen;
-      device = letIn
+      reply = greeting_open;
+      device = let_in
           r.device p;
     } else r
 
-abbrev pub ignoresPassword : Board
-ignoresPassword =
-    butOpening (λ d random m. lent_by (openly (placeTaken d (length m)) (openedBy d random (length m))) m)
+abbrev pub ignores_password : Board
+ignores_password =
+    but_opening (λ d random m. lent_by (openly (place_taken d (length m)) (opened_by d random (length m))) m)
 
-abbrev pub greetsWithZero : Board
-greetsWithZero = butOpening (λ d random m. ours.opening d 0 m)
+abbrev pub greets_with_zero : Board
+greets_with_zero = but_opening (λ d random m. ours.opening d 0 m)
 
 -- time lets him in at place 0 whose connection is in this phase
-abbrev timeLetsIn : ℕ → Board
-timeLetsIn phase = butPass (λ d n.
+abbrev time_lets_in : ℕ → Board
+time_lets_in phase = but_pass (λ d n.
     let r = ours.pass d n in
     record {
       number = r.number;
-      device = if eqb (connectionAt r.device 0).phase phase then letIn r.device 0 else r.device;
+      device = if (connection_at r.device 0).phase == phase then let_in r.device 0 else r.device;
     })
 
-abbrev pub timeOpens : Board
-timeOpens = timeLetsIn awaiting
+abbrev pub time_opens : Board
+time_opens = time_lets_in awaiting
 
 -- a failed connection answers commands once a second has passed
-abbrev pub failedAnswers : Board
-failedAnswers = timeLetsIn failed
+abbrev pub failed_answers : Board
+failed_answers = time_lets_in failed
 
-abbrev pub neverCloses : Board
-neverCloses = butClosing (λ d p. record { number = (ours.closing d p).number; device = d })
+abbrev pub never_closes : Board
+never_closes = but_closing (λ d p. record { number = (ours.closing d p).number; device = d })
 
-abbrev pub hidesFaults : Board
-hidesFaults = butFault (λ d mark. record { number = (ours.set-fault d mark).number; device = d })
+abbrev pub hides_faults : Board
+hides_faults = but_fault (λ d mark. record { number = (ours.set_fault d mark).number; device = d })
 
-abbrev pub hidesErrors : Board
-hidesErrors = butErrors (λ d errors. record { number = (ours.set-errors d errors).number; device = d })
+abbrev pub hides_errors : Board
+hides_errors = but_errors (λ d errors. record { number = (ours.set_errors d errors).number; device = d })

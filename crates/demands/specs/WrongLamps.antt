@@ -1,48 +1,47 @@
 -- Wrong boards against demand 3 with marks (RULES, Lamps); proofs/WrongLampsFall.antt has where each falls.
---   twoLamps      the sample set-up with two lamps
+--   two_lamps     the sample set-up with two lamps
 -- Assumes nothing.
-use Rattle.std.specs.Prelude.{Bool, true, ◌&&◌, List, [], ◌∷◌, set, eqb, if◌then◌else◌}
-use Rattle.text.specs.Words.{ascii}
+use Rattle.std.specs.Prelude.{Bool, true, ◌&&◌, List, [], ◌∷◌, set, if◌then◌else◌, ◌==◌, codes}
 use Rattle.record.specs.Limits.{off, warming}
-use Rattle.record.specs.Wanted.{Wanted, wantedOf}
-use Rattle.record.specs.Record.{allMarks}
-use Rattle.record.specs.Updates.{withOwn, withMarks}
+use Rattle.record.specs.Wanted.{Wanted, wanted_of}
+use Rattle.record.specs.Record.{all_marks}
+use Rattle.record.specs.Updates.{with_own, with_marks}
 use Rattle.record.specs.declared.types.Device.{Device}
 use Rattle.ours.specs.Board.{Board, ours}
-use Rattle.demands.specs.OursBut.{butReceive, butPass}
+use Rattle.demands.specs.OursBut.{but_receive, but_pass}
 
-abbrev pub twoLamps : Wanted
-twoLamps = wantedOf [] [] [] [] [] (ascii "11") (0 ∷ 0 ∷ []) 20 60
+abbrev pub two_lamps : Wanted
+two_lamps = wanted_of [] [] [] [] [] (codes "11") (0 ∷ 0 ∷ []) 20 60
 
-abbrev havingMarks : Device → List Bool → Device
-havingMarks d ms = withOwn d (withMarks d.own ms)
+abbrev having_marks : Device → List Bool → Device
+having_marks d ms = with_own d (with_marks d.own ms)
 
 -- time passes with these marks in the place of its own, which come back
-abbrev passingWith : (Device → List Bool) → Board
-passingWith marks = butPass (λ d n.
-    let r = ours.pass (havingMarks d (marks d)) n in
-    record { number = r.number; device = havingMarks r.device d.own.enabled })
+abbrev passing_with : (Device → List Bool) → Board
+passing_with marks = but_pass (λ d n.
+    let r = ours.pass (having_marks d (marks d)) n in
+    record { number = r.number; device = having_marks r.device d.own.enabled })
 
-abbrev pub burnsAllLamps : Board
-burnsAllLamps = passingWith (λ d. allMarks d.settings.lamp_count)
+abbrev pub burns_all_lamps : Board
+burns_all_lamps = passing_with (λ d. all_marks d.settings.lamp_count)
 
 -- the second lamp burns, whatever its mark
-abbrev pub countsDisabled : Board
-countsDisabled = passingWith (λ d. set d.own.enabled 1 true)
+abbrev pub counts_disabled : Board
+counts_disabled = passing_with (λ d. set d.own.enabled 1 true)
 
 -- as the lamps are switched on, each is enabled again
-abbrev switchedOn : Device → Device → Device
-switchedOn before now =
-    if eqb before.own.power off && eqb now.own.power warming
-    then havingMarks now (allMarks now.settings.lamp_count) else now
+abbrev switched_on : Device → Device → Device
+switched_on before now =
+    if before.own.power == off && now.own.power == warming
+    then having_marks now (all_marks now.settings.lamp_count) else now
 
-abbrev pub forgetsMarks : Board
-forgetsMarks = butReceive (λ d p bs m.
+abbrev pub forgets_marks : Board
+forgets_marks = but_receive (λ d p bs m.
     let r = ours.receive d p bs m in
     record {
       number = r.number;
       taken = r.taken;
       length = r.length;
       memory = r.memory;
-      device = switchedOn d r.device;
+      device = switched_on d r.device;
     })

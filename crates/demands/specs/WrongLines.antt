@@ -1,70 +1,69 @@
 -- Wrong boards against demand 2, as to lines, their cuts and their reading (RULES, What the product holds and
 -- "Readings that look right"); proofs/WrongLinesFall.antt has where each falls.
 -- Assumes nothing.
-use Rattle.std.specs.Prelude.{ℕ, suc, not, ◌&&◌, List, [], ◌∷◌, ◌++◌, map, length, take, drop, if◌then◌else◌}
-use Rattle.text.specs.Words.{ascii}
-use Rattle.text.specs.Scans.{sameBy, itself}
-use Rattle.words.specs.Bytes.{upperOf}
-use Rattle.pjlink.specs.Forms.{headBody}
+use Rattle.std.specs.Prelude.{ℕ, suc, not, ◌&&◌, List, [], ◌∷◌, ◌++◌, map, length, take, drop, if◌then◌else◌, codes}
+use Rattle.text.specs.Scans.{same_by, itself}
+use Rattle.words.specs.Bytes.{upper_of}
+use Rattle.pjlink.specs.Forms.{head_body}
 use Rattle.pjlink.specs.declared.command.Command.{Command}
 use Rattle.pjlink.specs.declared.body.Body.TheVariants.{Name}
-use Rattle.pjlink.specs.Bodies.{isBody}
-use Rattle.pjlink.specs.Said.{textIs}
-use Rattle.record.specs.Updates.{withLine}
+use Rattle.pjlink.specs.Bodies.{is_body}
+use Rattle.pjlink.specs.Said.{text_is}
+use Rattle.record.specs.Updates.{with_line}
 use Rattle.record.specs.Record.{blank}
 use Rattle.record.specs.declared.types.Device.{Device}
-use Rattle.stream.specs.Collecting.{emptyLine}
-use Rattle.record.specs.Places.{connectionAt, withPlace}
-use Rattle.device.specs.Calls.{refusedBy}
-use Rattle.controller.specs.Reading.{ReadAs, meaning, without, readReply}
+use Rattle.stream.specs.Collecting.{empty_line}
+use Rattle.record.specs.Places.{connection_at, with_place}
+use Rattle.device.specs.Calls.{refused_by}
+use Rattle.controller.specs.Reading.{ReadAs, meaning, without, read_reply}
 use Rattle.controller.specs.Reading.{Outcome}
-use Rattle.controller.specs.Reading.{Means, Erra, NotALine, OtherCommand, NotAllowed}
+use Rattle.controller.specs.Reading.{means_it, erra_said, not_a_line, other_command, disallowed}
 use Rattle.ours.specs.Board.{Board, Lent, ours, lent_by}
 use Rattle.record.specs.Given.{Given}
-use Rattle.demands.specs.OursBut.{butReceive, butReader}
+use Rattle.demands.specs.OursBut.{but_receive, but_reader}
 
 -- takes every byte, and says this to them
-abbrev alwaysReplying : (List ℕ → List ℕ) → Board
-alwaysReplying answer =
-    butReceive (λ d p bs m. lent_by (record { number = 0; taken = length bs; reply = answer bs; device = d }) m)
+abbrev always_replying : (List ℕ → List ℕ) → Board
+always_replying answer =
+    but_receive (λ d p bs m. lent_by (record { number = 0; taken = length bs; reply = answer bs; device = d }) m)
 
-abbrev pub dropsAll : Board
-dropsAll = alwaysReplying (λ bs. [])
+abbrev pub drops_all : Board
+drops_all = always_replying (λ bs. [])
 
 -- with the body as received
-abbrev pub okToAll : Board
-okToAll = alwaysReplying (λ bs. ascii "%1" ++ take 4 (drop 2 bs) ++ ascii "=OK\r")
+abbrev pub ok_to_all : Board
+ok_to_all = always_replying (λ bs. codes "%1" ++ take 4 (drop 2 bs) ++ codes "=OK\r")
 
-abbrev refusedGiven : ℕ → Device → Given Device
-refusedGiven n d = record { number = n; device = d }
+abbrev refused_given : ℕ → Device → Given Device
+refused_given n d = record { number = n; device = d }
 
-abbrev pub refusesAll : Board
-refusesAll = record {
+abbrev pub refuses_all : Board
+refuses_all = record {
   Record = Device;
   shows = λ d. d;
-  set-up = λ w. refusedGiven 3 blank;
-  opening = λ d random m. lent_by (refusedBy 1 d) m;
+  set_up = λ w. refused_given 3 blank;
+  opening = λ d random m. lent_by (refused_by 1 d) m;
   place_opened = λ d random m. 0;
-  closing = λ d p. refusedGiven 1 d;
-  receive = λ d p bs m. lent_by (refusedBy 1 d) m;
-  pass = λ d n. refusedGiven 1 d;
-  set-fault = λ d mark. refusedGiven 1 d;
-  set-errors = λ d digits. refusedGiven 1 d;
-  set-mark = λ d lamp mark. refusedGiven 1 d;
+  closing = λ d p. refused_given 1 d;
+  receive = λ d p bs m. lent_by (refused_by 1 d) m;
+  pass = λ d n. refused_given 1 d;
+  set_fault = λ d mark. refused_given 1 d;
+  set_errors = λ d digits. refused_given 1 d;
+  set_mark = λ d lamp mark. refused_given 1 d;
   store = λ d m. record { number = 1; length = 0; memory = m };
-  load = λ s. refusedGiven 23 blank;
+  load = λ s. refused_given 23 blank;
   md5 = ours.md5;
   write = ours.write;
-  read-reply = ours.read-reply;
-  read-greeting = ours.read-greeting;
+  read_reply = ours.read_reply;
+  read_greeting = ours.read_greeting;
 }
 
 -- our receiving, with its result changed
 abbrev retelling : (Lent Device → Lent Device) → Board
-retelling change = butReceive (λ d p bs m. change (ours.receive d p bs m))
+retelling change = but_receive (λ d p bs m. change (ours.receive d p bs m))
 
-abbrev pub madeUpLength : Board
-madeUpLength = retelling (λ r. record {
+abbrev pub made_up_length : Board
+made_up_length = retelling (λ r. record {
   number = r.number;
   taken = r.taken;
   length = suc r.length;
@@ -72,8 +71,8 @@ madeUpLength = retelling (λ r. record {
   device = r.device;
 })
 
-abbrev pub madeUpTaken : Board
-madeUpTaken = retelling (λ r. record {
+abbrev pub made_up_taken : Board
+made_up_taken = retelling (λ r. record {
   number = r.number;
   taken = suc r.taken;
   length = r.length;
@@ -82,37 +81,37 @@ madeUpTaken = retelling (λ r. record {
 })
 
 -- "Upper-casing the echoed body"
-abbrev pub upperCases : Board
-upperCases = retelling (λ r. record {
+abbrev pub upper_cases : Board
+upper_cases = retelling (λ r. record {
   number = r.number;
   taken = r.taken;
   length = r.length;
-  memory = map upperOf r.memory;
+  memory = map upper_of r.memory;
   device = r.device;
 })
 
 -- forgets the collected bytes where it is handed none
 abbrev forgetful : Device → ℕ → List ℕ → List ℕ → Lent Device
 forgetful d p [] m =
-    let none = withPlace d d.own p (withLine (connectionAt d p) emptyLine) in
+    let none = with_place d d.own p (with_line (connection_at d p) empty_line) in
     lent_by (record { number = 0; taken = 0; reply = []; device = none }) m
 forgetful d p (b ∷ bs) m = ours.receive d p (b ∷ bs) m
 
-abbrev pub forgetsAtNothing : Board
-forgetsAtNothing = butReceive forgetful
+abbrev pub forgets_at_nothing : Board
+forgets_at_nothing = but_receive forgetful
 
 -- takes a NAME reply in other letters than our projector's for the empty text
 abbrev emptied : Outcome → ReadAs
-emptied Means = meaning (textIs [])
-emptied Erra = without Erra
-emptied NotALine = without NotALine
-emptied OtherCommand = without OtherCommand
-emptied NotAllowed = without NotAllowed
+emptied means_it = meaning (text_is [])
+emptied erra_said = without erra_said
+emptied not_a_line = without not_a_line
+emptied other_command = without other_command
+emptied disallowed = without disallowed
 
-abbrev readsOurNames : Command → List ℕ → ReadAs
-readsOurNames c l =
-    if isBody 1 (headBody l) Name && not (sameBy itself (headBody l) (ascii "NAME"))
-    then emptied (readReply c l).outcome else readReply c l
+abbrev reads_our_names : Command → List ℕ → ReadAs
+reads_our_names c l =
+    if is_body 1 (head_body l) Name && not (same_by itself (head_body l) (codes "NAME"))
+    then emptied (read_reply c l).outcome else read_reply c l
 
-abbrev pub othersNameless : Board
-othersNameless = butReader readsOurNames
+abbrev pub others_nameless : Board
+others_nameless = but_reader reads_our_names

@@ -1,22 +1,22 @@
 -- Wrong boards with four places (RULES, Places); proofs/WrongPlacesFall.antt has where each falls.
 --   besides X x receive     our board, with an X beside the record, x at first, that only receiving sees and changes
 -- Assumes nothing.
-use Rattle.std.specs.Prelude.{ℕ, List, eqb, if◌then◌else◌}
+use Rattle.std.specs.Prelude.{ℕ, List, if◌then◌else◌, ◌==◌}
 use Rattle.record.specs.Limits.{off}
-use Rattle.record.specs.Updates.{withOwn, withPower, withLine}
-use Rattle.record.specs.Places.{connectionAt, withPlace}
+use Rattle.record.specs.Updates.{with_own, with_power_left, with_line}
+use Rattle.record.specs.Places.{connection_at, with_place}
 use Rattle.record.specs.declared.types.Line.{Line}
 use Rattle.record.specs.declared.types.Device.{Device}
-use Rattle.stream.specs.Collecting.{emptyLine}
+use Rattle.stream.specs.Collecting.{empty_line}
 use Rattle.ours.specs.Board.{Board, Lent, ours}
 use Rattle.record.specs.Given.{Given}
 
 module _ {X : Type 0} where
-  abbrev givenBeside : X → Given Device → Given (Device × X)
-  givenBeside x r = record { number = r.number; device = (r.device, x) }
+  abbrev given_beside : X → Given Device → Given (Device × X)
+  given_beside x r = record { number = r.number; device = (r.device, x) }
 
-  abbrev lentBeside : X → Lent Device → Lent (Device × X)
-  lentBeside x r = record {
+  abbrev lent_beside : X → Lent Device → Lent (Device × X)
+  lent_beside x r = record {
     number = r.number;
     taken = r.taken;
     length = r.length;
@@ -29,34 +29,34 @@ module _ (X : Type 0) (x : X) (receive : Device × X → ℕ → List ℕ → Li
   besides = record {
     Record = Device × X;
     shows = λ b. b.0;
-    set-up = λ w. givenBeside x (ours.set-up w);
-    opening = λ b random m. lentBeside b.1 (ours.opening b.0 random m);
+    set_up = λ w. given_beside x (ours.set_up w);
+    opening = λ b random m. lent_beside b.1 (ours.opening b.0 random m);
     place_opened = λ b random m. ours.place_opened b.0 random m;
-    closing = λ b p. givenBeside b.1 (ours.closing b.0 p);
+    closing = λ b p. given_beside b.1 (ours.closing b.0 p);
     receive = receive;
-    pass = λ b n. givenBeside b.1 (ours.pass b.0 n);
-    set-fault = λ b mark. givenBeside b.1 (ours.set-fault b.0 mark);
-    set-errors = λ b digits. givenBeside b.1 (ours.set-errors b.0 digits);
-    set-mark = λ b lamp mark. givenBeside b.1 (ours.set-mark b.0 lamp mark);
+    pass = λ b n. given_beside b.1 (ours.pass b.0 n);
+    set_fault = λ b mark. given_beside b.1 (ours.set_fault b.0 mark);
+    set_errors = λ b digits. given_beside b.1 (ours.set_errors b.0 digits);
+    set_mark = λ b lamp mark. given_beside b.1 (ours.set_mark b.0 lamp mark);
     store = λ b m. ours.store b.0 m;
-    load = λ s. givenBeside x (ours.load s);
+    load = λ s. given_beside x (ours.load s);
     md5 = ours.md5;
     write = ours.write;
-    read-reply = ours.read-reply;
-    read-greeting = ours.read-greeting;
+    read_reply = ours.read_reply;
+    read_greeting = ours.read_greeting;
   }
 
 -- a power set is forgotten as soon as another place speaks than spoke last: the lamps are dark from then on
-abbrev powerForgotten : Device → Device
-powerForgotten d = withOwn d (withPower d.own off 0)
+abbrev power_forgotten : Device → Device
+power_forgotten d = with_own d (with_power_left d.own off 0)
 
-abbrev pub forgetsOthersPower : Board
-forgetsOthersPower = besides ℕ 0 (λ b p bs m.
-    lentBeside p (ours.receive (if eqb p b.1 then b.0 else powerForgotten b.0) p bs m))
+abbrev pub forgets_others_power : Board
+forgets_others_power = besides ℕ 0 (λ b p bs m.
+    lent_beside p (ours.receive (if p == b.1 then b.0 else power_forgotten b.0) p bs m))
 
 -- every place's bytes are collected in one line
-abbrev pub oneLineForAll : Board
-oneLineForAll = besides Line emptyLine (λ b p bs m.
+abbrev pub one_line_for_all : Board
+one_line_for_all = besides Line empty_line (λ b p bs m.
     let d = b.0 in
-    let r = ours.receive (withPlace d d.own p (withLine (connectionAt d p) b.1)) p bs m in
-    lentBeside (connectionAt r.device p).line r)
+    let r = ours.receive (with_place d d.own p (with_line (connection_at d p) b.1)) p bs m in
+    lent_beside (connection_at r.device p).line r)

@@ -1,32 +1,32 @@
 -- Wrong boards against demand 1: what a refusal leaves; proofs/WrongRefusalsFall.antt has where each falls.
 -- Assumes nothing.
-use Rattle.std.specs.Prelude.{eqb, if◌then◌else◌}
-use Rattle.text.specs.Words.{ascii, over}
+use Rattle.std.specs.Prelude.{if◌then◌else◌, ◌==◌, codes}
+use Rattle.text.specs.Words.{over}
 use Rattle.record.specs.Record.{closed}
-use Rattle.record.specs.Places.{withPlace}
+use Rattle.record.specs.Places.{with_place}
 use Rattle.ours.specs.Board.{Board, ours}
-use Rattle.demands.specs.OursBut.{butReceive}
+use Rattle.demands.specs.OursBut.{but_receive}
 
 -- writes the start of a reply before it refuses
-abbrev pub writesFirst : Board
-writesFirst = butReceive (λ d p bs m.
+abbrev pub writes_first : Board
+writes_first = but_receive (λ d p bs m.
     let r = ours.receive d p bs m in
     record {
       number = r.number;
       taken = r.taken;
       length = r.length;
-      memory = if eqb r.number 0 then r.memory else over (ascii "%1") m;
+      memory = if r.number == 0 then r.memory else over (codes "%1") m;
       device = r.device;
     })
 
 -- closes the connection where it refuses
-abbrev pub changesRefused : Board
-changesRefused = butReceive (λ d p bs m.
+abbrev pub changes_refused : Board
+changes_refused = but_receive (λ d p bs m.
     let r = ours.receive d p bs m in
     record {
       number = r.number;
       taken = r.taken;
       length = r.length;
       memory = r.memory;
-      device = if eqb r.number 0 then r.device else withPlace d d.own p closed;
+      device = if r.number == 0 then r.device else with_place d d.own p closed;
     })

@@ -1,150 +1,147 @@
 -- The calls, case by case: one law a call, and the equation of what it does.
 -- Assumes nothing.
-use Prim.Native.Nat.{ℕ, ◌≤◌, ◌<◌}
-use mathlib.Core.Path.{◌≡◌, refl, ap}
-use mathlib.Core.Bool.{Bool, true, false, not}
-use mathlib.Core.List.{List, [], ◌∷◌}
-use borrow.Author.Tests.{ltb-false, le-ltb, leb-false, lt-leb, eqb-false}
-use borrow.Author.Tests.{not-true, not-false}
+use Rattle.std.specs.List.{list_all}
+use Rattle.std.proofs.Common.{ℕ, ◌≤◌, ◌<◌, ◌≡◌, refl, ap, Bool, true, false, not, List, [], ◌∷◌, ltb-false, le-ltb}
+use Rattle.std.proofs.Common.{leb-false}
+use Rattle.std.proofs.lemmas.Bool.{lt-leb, eqb-false, not-true, not-false}
 use Rattle.std.specs.Prelude.{if◌then◌else◌}
-use Rattle.text.specs.Scans.{every}
-use Rattle.text.specs.Rows.{Row, byRows, NoneOf, isNumbered}
-use Rattle.text.proofs.ByRows.{by_rows, rows-done}
+use Rattle.text.specs.Rows.{Row, by_rows, NoneOf, is_numbered}
+use Rattle.text.proofs.ByRows.{by_rows_lem, rows_done}
 use Rattle.text.proofs.Choices.{if_yes, if_no, both_left, both_right}
-use Rattle.digest.specs.Hex.{hexDigits}
-use Rattle.pjlink.specs.Forms.{greetingOpen, greetingSecured}
-use Rattle.record.specs.Limits.{placesCount, awaiting, opened}
-use Rattle.record.specs.Legal.{isLegal}
+use Rattle.digest.specs.Hex.{hex_digits}
+use Rattle.pjlink.specs.Forms.{greeting_open, greeting_secured}
+use Rattle.record.specs.Limits.{places_count, awaiting, opened}
+use Rattle.record.specs.Legal.{is_legal}
 use Rattle.record.specs.Record.{closed}
-use Rattle.record.specs.Places.{connectionAt, withPlace, isShut, lowestShut}
+use Rattle.record.specs.Places.{connection_at, with_place, is_shut, lowest_shut}
 use Rattle.record.specs.declared.types.Settings.{Settings}
 use Rattle.record.specs.declared.types.Connection.{Connection}
 use Rattle.record.specs.declared.types.Device.{Device}
-use Rattle.device.specs.Receiving.{Taken, begunIn}
-use Rattle.device.specs.Receiving.{takenIn}
-use Rattle.device.specs.Calls.{Result, refusedBy, made, replyRoom, acceptedTaken}
-use Rattle.device.specs.Calls.{receivingRows, openingRows, closingRows}
-use Rattle.device.specs.Calls.{received, isSecured, greeting, greeted, acceptedOpening, openedBy, placeTaken}
-use Rattle.device.specs.Calls.{closedBy}
+use Rattle.device.specs.Receiving.{Taken, begun_in}
+use Rattle.device.specs.Receiving.{taken_in}
+use Rattle.device.specs.Calls.{Result, refused_by, made, reply_room, accepted_taken}
+use Rattle.device.specs.Calls.{receiving_rows, opening_rows, closing_rows}
+use Rattle.device.specs.Calls.{received, has_password, greeting, greeted, accepted_opening, opened_by, place_taken}
+use Rattle.device.specs.Calls.{closed_by}
 
 abbrev pub takes : Device → ℕ → List ℕ → Taken
-takes d p bs = takenIn d.settings d.own (connectionAt d p) bs
+takes d p bs = taken_in d.settings d.own (connection_at d p) bs
 
 -- receiving: refused, or what is taken in
 module _ (d : Device) (p : ℕ) (bs : List ℕ) (room : ℕ) where
-  pub received-by : (P : Result Device → Type 0) → ((n : ℕ) → (n ≡ 0 → ⊥) → P (refusedBy n d))
-      → (isLegal d ≡ true → replyRoom ≤ room → p < placesCount → isShut (connectionAt d p) ≡ false
-      → P (acceptedTaken d p (takes d p bs)))
+  pub received_by : (P : Result Device → Type 0) → ((n : ℕ) → (n ≡ 0 → ⊥) → P (refused_by n d))
+      → (is_legal d ≡ true → reply_room ≤ room → p < places_count → is_shut (connection_at d p) ≡ false
+      → P (accepted_taken d p (takes d p bs)))
       → P (received d p bs room)
   unfolding received
-  received-by P refused taken =
-      by_rows (λ n. refusedBy n d) _ P refused (receivingRows d p room) refl
-      (λ none. taken (not-false (isLegal d) none.0) (ltb-false room replyRoom none.1.0)
-      (leb-false placesCount p none.1.1.0) none.1.1.1.0)
+  received_by P refused taken =
+      by_rows_lem (λ n. refused_by n d) _ P refused (receiving_rows d p room) refl
+      (λ none. taken (not-false (is_legal d) none.0) (ltb-false room reply_room none.1.0)
+      (leb-false places_count p none.1.1.0) none.1.1.1.0)
 
-  pub received-taken : isLegal d ≡ true → replyRoom ≤ room → p < placesCount → isShut (connectionAt d p) ≡ false
-      → received d p bs room ≡ acceptedTaken d p (takes d p bs)
+  pub received_taken : is_legal d ≡ true → reply_room ≤ room → p < places_count → is_shut (connection_at d p) ≡ false
+      → received d p bs room ≡ accepted_taken d p (takes d p bs)
   unfolding received
-  received-taken legal enough there live =
-      rows-done (λ n. refusedBy n d) _ (receivingRows d p room)
-      (ap not legal, (le-ltb room replyRoom enough, (lt-leb placesCount p there, (live, tt))))
+  received_taken legal enough there live =
+      rows_done (λ n. refused_by n d) _ (receiving_rows d p room)
+      (ap not legal, (le-ltb room reply_room enough, (lt-leb places_count p there, (live, tt))))
 
 -- two results by one table: refused both, or done both
 rows_both : {R S : Type 0} (P : R → S → Type 0) {refuse : ℕ → R} {decline : ℕ → S} {done : R} {made : S}
-    → ((n : ℕ) → (n ≡ 0 → ⊥) → P (refuse n) (decline n)) → (rows : List Row) → every isNumbered rows ≡ true
-    → (NoneOf rows → P done made) → P (byRows rows refuse done) (byRows rows decline made)
+    → ((n : ℕ) → (n ≡ 0 → ⊥) → P (refuse n) (decline n)) → (rows : List Row) → list_all is_numbered rows ≡ true
+    → (NoneOf rows → P done made) → P (by_rows rows refuse done) (by_rows rows decline made)
 rows_both P refused [] numbered does = does tt
 rows_both P {refuse} {decline} {done} {made} refused (row ∷ rows) numbered does =
     by row.applies refl
-    (λ none. rows_both P refused rows (both_right (isNumbered row) (every isNumbered rows) numbered) none)
+    (λ none. rows_both P refused rows (both_right (is_numbered row) (list_all is_numbered rows) numbered) none)
   where
     some : row.number ≡ 0 → ⊥
-    some = eqb-false row.number 0 (not-true _ (both_left (isNumbered row) (every isNumbered rows) numbered))
+    some = eqb-false row.number 0 (not-true _ (both_left (is_numbered row) (list_all is_numbered rows) numbered))
 
     by : (t : Bool) → row.applies ≡ t
-        → ((NoneOf rows → P done made) → P (byRows rows refuse done) (byRows rows decline made))
-        → P (if t then refuse row.number else byRows rows refuse done)
-        (if t then decline row.number else byRows rows decline made)
+        → ((NoneOf rows → P done made) → P (by_rows rows refuse done) (by_rows rows decline made))
+        → P (if t then refuse row.number else by_rows rows refuse done)
+        (if t then decline row.number else by_rows rows decline made)
     by true e on = refused row.number some
     by false e on = on (λ none. does (e, none))
 
 -- opening: refused, or the greeting at the lowest closed place
 module _ (d : Device) (r room : ℕ) where
   abbrev lowest : ℕ
-  lowest = lowestShut d.connections
+  lowest = lowest_shut d.connections
 
-  pub opened-placed-by : (P : ℕ → Result Device → Type 0) → ((n : ℕ) → (n ≡ 0 → ⊥) → P 0 (refusedBy n d))
-      → (isLegal d ≡ true → replyRoom ≤ room → lowest < placesCount → P lowest (acceptedOpening d r))
-      → P (placeTaken d room) (openedBy d r room)
-  unfolding openedBy placeTaken
-  opened-placed-by P refused greets =
-      rows_both P refused (openingRows d room) refl
-      (λ none. greets (not-false (isLegal d) none.0) (ltb-false room replyRoom none.1.0)
-      (leb-false placesCount lowest none.1.1.0))
+  pub opened_placed_by : (P : ℕ → Result Device → Type 0) → ((n : ℕ) → (n ≡ 0 → ⊥) → P 0 (refused_by n d))
+      → (is_legal d ≡ true → reply_room ≤ room → lowest < places_count → P lowest (accepted_opening d r))
+      → P (place_taken d room) (opened_by d r room)
+  unfolding opened_by place_taken
+  opened_placed_by P refused greets =
+      rows_both P refused (opening_rows d room) refl
+      (λ none. greets (not-false (is_legal d) none.0) (ltb-false room reply_room none.1.0)
+      (leb-false places_count lowest none.1.1.0))
 
-  pub opened-by : (P : Result Device → Type 0) → ((n : ℕ) → (n ≡ 0 → ⊥) → P (refusedBy n d))
-      → (isLegal d ≡ true → replyRoom ≤ room → lowest < placesCount → P (acceptedOpening d r))
-      → P (openedBy d r room)
-  opened-by P refused greets = opened-placed-by (λ p q. P q) refused greets
+  pub opened_by_lem : (P : Result Device → Type 0) → ((n : ℕ) → (n ≡ 0 → ⊥) → P (refused_by n d))
+      → (is_legal d ≡ true → reply_room ≤ room → lowest < places_count → P (accepted_opening d r))
+      → P (opened_by d r room)
+  opened_by_lem P refused greets = opened_placed_by (λ p q. P q) refused greets
 
-  module _ (legal : isLegal d ≡ true) (enough : replyRoom ≤ room) (free : lowest < placesCount) where
-    none-applies : NoneOf (openingRows d room)
-    none-applies = (ap not legal, (le-ltb room replyRoom enough, (lt-leb placesCount lowest free, tt)))
+  module _ (legal : is_legal d ≡ true) (enough : reply_room ≤ room) (free : lowest < places_count) where
+    none_applies : NoneOf (opening_rows d room)
+    none_applies = (ap not legal, (le-ltb room reply_room enough, (lt-leb places_count lowest free, tt)))
 
-    pub opened-greeted : openedBy d r room ≡ acceptedOpening d r
-    unfolding openedBy
-    opened-greeted = rows-done (λ n. refusedBy n d) _ (openingRows d room) none-applies
+    pub opened_greeted : opened_by d r room ≡ accepted_opening d r
+    unfolding opened_by
+    opened_greeted = rows_done (λ n. refused_by n d) _ (opening_rows d room) none_applies
 
-    pub opened-lowest : placeTaken d room ≡ lowest
-    unfolding placeTaken
-    opened-lowest = rows-done (λ n. 0) _ (openingRows d room) none-applies
+    pub opened_lowest : place_taken d room ≡ lowest
+    unfolding place_taken
+    opened_lowest = rows_done (λ n. 0) _ (opening_rows d room) none_applies
 
 -- the greeting and the connection that it opens, by whether there is a password
-pub greeted-by : (s : Settings) (r : ℕ) (P : List ℕ → Connection → Type 0)
-    → P (greetingSecured (hexDigits 8 r)) (begunIn awaiting r)
-    → P greetingOpen (begunIn opened r)
+pub greeted_by_lem : (s : Settings) (r : ℕ) (P : List ℕ → Connection → Type 0)
+    → P (greeting_secured (hex_digits 8 r)) (begun_in awaiting r)
+    → P greeting_open (begun_in opened r)
     → P (greeting s r) (greeted s r)
 unfolding greeting greeted
-greeted-by s r P secured plain = by (isSecured s)
+greeted_by_lem s r P secured plain = by (has_password s)
   where
-    by : (t : Bool) → P (if t then greetingSecured (hexDigits 8 r) else greetingOpen)
-        (begunIn (if t then awaiting else opened) r)
+    by : (t : Bool) → P (if t then greeting_secured (hex_digits 8 r) else greeting_open)
+        (begun_in (if t then awaiting else opened) r)
     by true = secured
     by false = plain
 
 -- a password of length 0 means no security, and any other that the digest is awaited
 module _ (s : Settings) (r : ℕ) where
-  module _ (on : isSecured s ≡ true) where
-    pub secured-greeting : greeting s r ≡ greetingSecured (hexDigits 8 r)
+  module _ (on : has_password s ≡ true) where
+    pub secured_greeting : greeting s r ≡ greeting_secured (hex_digits 8 r)
     unfolding greeting
-    secured-greeting = if_yes _ _ on
+    secured_greeting = if_yes _ _ on
 
-    pub secured-greeted : greeted s r ≡ begunIn awaiting r
+    pub secured_greeted : greeted s r ≡ begun_in awaiting r
     unfolding greeted
-    secured-greeted = ap (λ (p : ℕ). begunIn p r) (if_yes _ _ on)
+    secured_greeted = ap (λ (p : ℕ). begun_in p r) (if_yes _ _ on)
 
-  module _ (none : isSecured s ≡ false) where
-    pub open-greeting : greeting s r ≡ greetingOpen
+  module _ (none : has_password s ≡ false) where
+    pub open_greeting : greeting s r ≡ greeting_open
     unfolding greeting
-    open-greeting = if_no _ _ none
+    open_greeting = if_no _ _ none
 
-    pub open-greeted : greeted s r ≡ begunIn opened r
+    pub open_greeted : greeted s r ≡ begun_in opened r
     unfolding greeted
-    open-greeted = ap (λ (p : ℕ). begunIn p r) (if_no _ _ none)
+    open_greeted = ap (λ (p : ℕ). begun_in p r) (if_no _ _ none)
 
 -- closing: refused, or the closed connection
 module _ (d : Device) (p : ℕ) where
-  pub closed-by : (P : Result Device → Type 0) → ((n : ℕ) → (n ≡ 0 → ⊥) → P (refusedBy n d))
-      → (isLegal d ≡ true → p < placesCount → isShut (connectionAt d p) ≡ false
-      → P (made (withPlace d d.own p closed)))
-      → P (closedBy d p)
-  unfolding closedBy
-  closed-by P refused closes =
-      by_rows (λ n. refusedBy n d) _ P refused (closingRows d p) refl
-      (λ none. closes (not-false (isLegal d) none.0) (leb-false placesCount p none.1.0) none.1.1.0)
+  pub closed_by_lem : (P : Result Device → Type 0) → ((n : ℕ) → (n ≡ 0 → ⊥) → P (refused_by n d))
+      → (is_legal d ≡ true → p < places_count → is_shut (connection_at d p) ≡ false
+      → P (made (with_place d d.own p closed)))
+      → P (closed_by d p)
+  unfolding closed_by
+  closed_by_lem P refused closes =
+      by_rows_lem (λ n. refused_by n d) _ P refused (closing_rows d p) refl
+      (λ none. closes (not-false (is_legal d) none.0) (leb-false places_count p none.1.0) none.1.1.0)
 
-  pub closed-made : isLegal d ≡ true → p < placesCount → isShut (connectionAt d p) ≡ false
-      → closedBy d p ≡ made (withPlace d d.own p closed)
-  unfolding closedBy
+  pub closed-made : is_legal d ≡ true → p < places_count → is_shut (connection_at d p) ≡ false
+      → closed_by d p ≡ made (with_place d d.own p closed)
+  unfolding closed_by
   closed-made legal there live =
-      rows-done (λ n. refusedBy n d) _ (closingRows d p) (ap not legal, (lt-leb placesCount p there, (live, tt)))
+      rows_done (λ n. refused_by n d) _ (closing_rows d p) (ap not legal, (lt-leb places_count p there, (live, tt)))

@@ -1,149 +1,144 @@
--- The projector's half of demand 2's reading back: on a legal record between lines, for every command that can be
+-- The projector's half of demand 2's reading back: on a legal record between lines, for list_all command that can be
 -- written, its line is taken whole, the reply says what the command means, and the record is what the command does to
--- it. On an open connection, and on an awaiting one behind the matching digest, which is open afterwards. So for every
+-- it. On an open connection, and on an awaiting one behind the matching digest, which is open afterwards. So for
+-- list_all
 -- command of a class no higher than the set-up's; a higher one is taken and swallowed (RULES, Class 2).
---   replyTo k m                  the reply that says m to the command k
---   commandResult d p k n        the result of receiving it at place p where n bytes are taken
---   swallowedAt d p n            the same of a command of a higher class: no reply, the connection open between lines
+--   reply_to k m                 the reply that says m to the command k
+--   command_result d p k n       the result of receiving it at place p where n bytes are taken
+--   swallowed_at d p n           the same of a command of a higher class: no reply, the connection open between lines
 -- Assumes nothing.
-use Prim.Native.Nat.{ℕ, ◌+◌, ◌≤◌, ◌<◌}
-use mathlib.Core.Path.{◌≡◌, sym, ap, ◌∙◌}
-use mathlib.Core.Bool.{true, false}
-use mathlib.Core.List.{List, [], ◌∷◌, ◌++◌, append_assoc}
-use native.Mathlib.Omega.{arith}
-use lib.ListN.{length, length-append}
-use lib.Dec.{eqb}
+use Rattle.std.specs.List.{list_all}
+use Rattle.std.proofs.Common.{ℕ, ◌+◌, ◌≤◌, ◌<◌, ◌≡◌, sym, ap, ◌∙◌, true, false, List, [], ◌∷◌, ◌++◌, append_assoc}
+use Rattle.std.proofs.Common.{arith, length, length-append, ◌==◌, codes}
 use Rattle.std.specs.Prelude.{Ok}
-use Rattle.text.specs.Words.{ascii}
-use Rattle.text.specs.Scans.{every}
-use Rattle.digest.specs.Hex.{leadingDigest}
-use Rattle.digest.proofs.Laws.{leading-digest-length}
-use Rattle.words.specs.Bytes.{notCr}
-use Rattle.pjlink.specs.Commands.{bodyText, bodyOf, commandClass, classDigit, isCommand, commandText}
-use Rattle.pjlink.specs.Commands.{commandLine}
+use Rattle.digest.specs.Hex.{leading_digest}
+use Rattle.digest.proofs.Laws.{length-leading_digest}
+use Rattle.words.specs.Bytes.{not_cr}
+use Rattle.pjlink.specs.Commands.{body_text, body_of, command_class, class_digit, is_command, command_text}
+use Rattle.pjlink.specs.Commands.{command_line}
 use Rattle.pjlink.specs.declared.command.Command.{Command}
-use Rattle.words.proofs.Characters.{no-cr-each}
-use Rattle.pjlink.proofs.CommandLines.{command-length, command-no-cr}
-use Rattle.pjlink.specs.Said.{Said, saidBytes}
-use Rattle.record.specs.Limits.{placesCount, shut, awaiting, opened}
-use Rattle.record.specs.Legal.{isTimed, isLegal}
-use Rattle.record.specs.Places.{connectionAt, withPlace}
+use Rattle.words.proofs.Characters.{no_cr_each}
+use Rattle.pjlink.proofs.CommandLines.{command_length, command_no_cr}
+use Rattle.pjlink.specs.Said.{Said, said_bytes}
+use Rattle.record.specs.Limits.{places_count, shut, awaiting, opened}
+use Rattle.record.specs.Legal.{is_timed, is_legal}
+use Rattle.record.specs.Places.{connection_at, with_place}
 use Rattle.record.specs.declared.types.Connection.{Connection}
 use Rattle.record.specs.declared.types.Device.{Device}
-use Rattle.record.proofs.LegalTold.{legal-settings, legal-connection}
-use Rattle.record.proofs.ConnectionTold.{connection-told, age-untimed}
-use Rattle.stream.specs.Collecting.{emptyLine}
+use Rattle.record.proofs.LegalTold.{legal_settings, legal_connection}
+use Rattle.record.proofs.ConnectionTold.{connection_told, age_untimed}
+use Rattle.stream.specs.Collecting.{empty_line}
 use Rattle.meaning.specs.Meaning.{meant, done}
-use Rattle.device.specs.Answering.{Answered, lineAnswer}
-use Rattle.device.specs.Receiving.{turned, spoken, digestLong, passwordOf, takenIn}
-use Rattle.device.specs.Calls.{Result, replyRoom, acceptedTaken, received}
-use Rattle.device.proofs.Cases.{received-taken}
-use Rattle.device.proofs.Legal.{line-legal}
-use Rattle.stream.proofs.LegalLines.{between-lines}
-use Rattle.device.proofs.WholeLines.{open-line-taken, matching-line-taken, command-answered}
-use Rattle.device.proofs.WholeLines.{higher-swallowed}
+use Rattle.device.specs.Answering.{Answered, line_answer}
+use Rattle.device.specs.Receiving.{turned, spoken, digest_long, set_up_password, taken_in}
+use Rattle.device.specs.Calls.{Result, reply_room, accepted_taken, received}
+use Rattle.device.proofs.Cases.{received_taken}
+use Rattle.device.proofs.Legal.{line_legal}
+use Rattle.stream.proofs.LegalLines.{between_lines}
+use Rattle.device.proofs.WholeLines.{open_line-taken, matching_line-taken, command_answered}
+use Rattle.device.proofs.WholeLines.{higher_swallowed}
 
-abbrev pub replyTo : Command → Said → List ℕ
-replyTo k m =
-    ascii "%" ++ (classDigit (commandClass k) ∷ bodyText (bodyOf k)) ++ ascii "=" ++ saidBytes m ++ ascii "\r"
+abbrev pub reply_to : Command → Said → List ℕ
+reply_to k m =
+    codes "%" ++ (class_digit (command_class k) ∷ body_text (body_of k)) ++ codes "=" ++ said_bytes m ++ codes "\r"
 
-abbrev pub commandResult : Device → ℕ → Command → ℕ → Result Device
-commandResult d p k n = record {
+abbrev pub command_result : Device → ℕ → Command → ℕ → Result Device
+command_result d p k n = record {
   number = 0;
   taken = n;
-  reply = replyTo k (meant d.settings d.own (Ok k));
-  device = withPlace d (done d.settings d.own (Ok k)) p (turned (connectionAt d p) opened);
+  reply = reply_to k (meant d.settings d.own (Ok k));
+  device = with_place d (done d.settings d.own (Ok k)) p (turned (connection_at d p) opened);
 }
 
-abbrev pub swallowedAt : Device → ℕ → ℕ → Result Device
-swallowedAt d p n = record {
+abbrev pub swallowed_at : Device → ℕ → ℕ → Result Device
+swallowed_at d p n = record {
   number = 0;
   taken = n;
   reply = [];
-  device = withPlace d d.own p (turned (connectionAt d p) opened);
+  device = with_place d d.own p (turned (connection_at d p) opened);
 }
 
-plain-text : (k : Command) → every notCr (commandText k) ≡ true
-plain-text k = no-cr-each (commandText k) (command-no-cr k)
+plain_text : (k : Command) → list_all not_cr (command_text k) ≡ true
+plain_text k = no_cr_each (command_text k) (command_no_cr k)
 
 -- an open connection between lines stays as it was
-pub open-again : (d : Device) (p : ℕ) → p < placesCount → isLegal d ≡ true → (connectionAt d p).phase ≡ opened
-    → (connectionAt d p).line ≡ emptyLine → turned (connectionAt d p) opened ≡ connectionAt d p
-open-again d p there legal phase empty =
-    let c = connectionAt d p in
+pub open_again : (d : Device) (p : ℕ) → p < places_count → is_legal d ≡ true → (connection_at d p).phase ≡ opened
+    → (connection_at d p).line ≡ empty_line → turned (connection_at d p) opened ≡ connection_at d p
+open_again d p there legal phase empty =
+    let c = connection_at d p in
     let young : c.age ≡ 0 =
-    age-untimed c.phase c.age (ap isTimed phase) (connection-told c (legal-connection d legal p there)).age in
+    age_untimed c.phase c.age (ap is_timed phase) (connection_told c (legal_connection d legal p there)).age in
     (λ i. record { phase = sym phase i; age = sym young i; random = c.random; line = sym empty i })
 
-module _ (d : Device) (p : ℕ) (there : p < placesCount) (room : ℕ) (legal : isLegal d ≡ true)
-    (enough : replyRoom ≤ room) (unmarked : (connectionAt d p).line.overlong ≡ false)
-    (none : (connectionAt d p).line.held ≡ 0) (k : Command) where
+module _ (d : Device) (p : ℕ) (there : p < places_count) (room : ℕ) (legal : is_legal d ≡ true)
+    (enough : reply_room ≤ room) (unmarked : (connection_at d p).line.overlong ≡ false)
+    (none : (connection_at d p).line.held ≡ 0) (k : Command) where
   abbrev c : Connection
-  c = connectionAt d p
+  c = connection_at d p
 
-  empty : c.line ≡ emptyLine
-  empty = between-lines c.phase c.line (line-legal c (legal-connection d legal p there)) unmarked none
+  empty : c.line ≡ empty_line
+  empty = between_lines c.phase c.line (line_legal c (legal_connection d legal p there)) unmarked none
 
   -- its line is taken whole, whatever it is answered
-  abbrev spokenAfter : ℕ → Answered → Result Device
-  spokenAfter n a = acceptedTaken d p (record { ended = spoken c a; taken = n })
+  abbrev spoken_after : ℕ → Answered → Result Device
+  spoken_after n a = accepted_taken d p (record { ended = spoken c a; taken = n })
 
   abbrev answered : Answered
-  answered = lineAnswer d.settings d.own (commandText k)
+  answered = line_answer d.settings d.own (command_text k)
 
   abbrev pub digest : List ℕ
-  digest = leadingDigest c.random (passwordOf d.settings)
+  digest = leading_digest c.random (set_up_password d.settings)
 
   line-received : c.phase ≡ opened
-      → received d p (commandLine k) room ≡ spokenAfter (length (commandLine k)) answered
+      → received d p (command_line k) room ≡ spoken_after (length (command_line k)) answered
   line-received phase =
-      let short = command-length k in
-      received-taken d p (commandLine k) room legal enough there (ap (λ (q : ℕ). eqb q shut) phase)
-      ∙ ap (acceptedTaken d p)
-      (open-line-taken d.settings d.own c empty [] (commandText k) phase (omega arith) (plain-text k))
-      ∙ ap (λ (n : ℕ). spokenAfter n answered) (sym (length-append (commandText k) (ascii "\r")))
+      let short = command_length k in
+      received_taken d p (command_line k) room legal enough there (ap (λ (q : ℕ). q == shut) phase)
+      ∙ ap (accepted_taken d p)
+      (open_line-taken d.settings d.own c empty [] (command_text k) phase (omega arith) (plain_text k))
+      ∙ ap (λ (n : ℕ). spoken_after n answered) (sym (length-append (command_text k) (codes "\r")))
 
-  led-received : c.phase ≡ awaiting
-      → received d p (digest ++ commandLine k) room ≡ spokenAfter (length (digest ++ commandLine k)) answered
-  led-received phase =
-      let short = command-length k in
-      let count : digestLong + length (commandText k) + 1 ≡ length (digest ++ commandLine k)
+  led_received : c.phase ≡ awaiting
+      → received d p (digest ++ command_line k) room ≡ spoken_after (length (digest ++ command_line k)) answered
+  led_received phase =
+      let short = command_length k in
+      let count : digest_long + length (command_text k) + 1 ≡ length (digest ++ command_line k)
       = omega (
         arith,
-        length-append digest (commandLine k),
-        length-append (commandText k) (ascii "\r"),
-        leading-digest-length c.random (passwordOf d.settings),
+        length-append digest (command_line k),
+        length-append (command_text k) (codes "\r"),
+        length-leading_digest c.random (set_up_password d.settings),
       ) in
-      received-taken d p (digest ++ commandLine k) room legal enough there (ap (λ (q : ℕ). eqb q shut) phase)
-      ∙ ap (λ (bs : List ℕ). acceptedTaken d p (takenIn d.settings d.own c bs))
-      (sym (append_assoc digest (commandText k) (ascii "\r")))
-      ∙ ap (acceptedTaken d p)
-      (matching-line-taken d.settings d.own c empty [] (commandText k) phase (omega arith) (plain-text k))
-      ∙ ap (λ (n : ℕ). spokenAfter n answered) count
+      received_taken d p (digest ++ command_line k) room legal enough there (ap (λ (q : ℕ). q == shut) phase)
+      ∙ ap (λ (bs : List ℕ). accepted_taken d p (taken_in d.settings d.own c bs))
+      (sym (append_assoc digest (command_text k) (codes "\r")))
+      ∙ ap (accepted_taken d p)
+      (matching_line-taken d.settings d.own c empty [] (command_text k) phase (omega arith) (plain_text k))
+      ∙ ap (λ (n : ℕ). spoken_after n answered) count
 
-  module _ (writable : isCommand k ≡ true) (within : commandClass k ≤ d.settings.class_number) where
-    answers : (n : ℕ) → spokenAfter n answered ≡ commandResult d p k n
+  module _ (writable : is_command k ≡ true) (within : command_class k ≤ d.settings.class_number) where
+    answers : (n : ℕ) → spoken_after n answered ≡ command_result d p k n
     answers n =
-        ap (spokenAfter n)
-        (command-answered d.settings d.own (legal-settings d legal) k writable within)
+        ap (spoken_after n)
+        (command_answered d.settings d.own (legal_settings d legal) k writable within)
 
-    pub command-received : c.phase ≡ opened
-        → received d p (commandLine k) room ≡ commandResult d p k (length (commandLine k))
-    command-received phase = line-received phase ∙ answers (length (commandLine k))
+    pub command_received : c.phase ≡ opened
+        → received d p (command_line k) room ≡ command_result d p k (length (command_line k))
+    command_received phase = line-received phase ∙ answers (length (command_line k))
 
-    pub command-received-secured : c.phase ≡ awaiting
-        → received d p (digest ++ commandLine k) room ≡ commandResult d p k (length (digest ++ commandLine k))
-    command-received-secured phase = led-received phase ∙ answers (length (digest ++ commandLine k))
+    pub command_received_secured : c.phase ≡ awaiting
+        → received d p (digest ++ command_line k) room ≡ command_result d p k (length (digest ++ command_line k))
+    command_received_secured phase = led_received phase ∙ answers (length (digest ++ command_line k))
 
   -- of a class higher than the set-up's
-  module _ (higher : d.settings.class_number < commandClass k) where
-    swallows : (n : ℕ) → spokenAfter n answered ≡ swallowedAt d p n
-    swallows n = ap (spokenAfter n) (higher-swallowed d.settings d.own (legal-settings d legal) k higher)
+  module _ (higher : d.settings.class_number < command_class k) where
+    swallows : (n : ℕ) → spoken_after n answered ≡ swallowed_at d p n
+    swallows n = ap (spoken_after n) (higher_swallowed d.settings d.own (legal_settings d legal) k higher)
 
-    pub higher-received : c.phase ≡ opened
-        → received d p (commandLine k) room ≡ swallowedAt d p (length (commandLine k))
-    higher-received phase = line-received phase ∙ swallows (length (commandLine k))
+    pub higher_received : c.phase ≡ opened
+        → received d p (command_line k) room ≡ swallowed_at d p (length (command_line k))
+    higher_received phase = line-received phase ∙ swallows (length (command_line k))
 
-    pub higher-received-secured : c.phase ≡ awaiting
-        → received d p (digest ++ commandLine k) room ≡ swallowedAt d p (length (digest ++ commandLine k))
-    higher-received-secured phase = led-received phase ∙ swallows (length (digest ++ commandLine k))
+    pub higher_received_secured : c.phase ≡ awaiting
+        → received d p (digest ++ command_line k) room ≡ swallowed_at d p (length (digest ++ command_line k))
+    higher_received_secured phase = led_received phase ∙ swallows (length (digest ++ command_line k))

@@ -1,66 +1,61 @@
--- How many bytes a call takes, in every phase (RULES, Connection): up to and including the first CR, or all of them; no
+-- How many bytes a call takes, in list_all phase (RULES, Connection): up to and including the first CR, or all of them;
+-- no
 -- bytes change nothing.
 -- Assumes nothing.
-use Prim.Native.Nat.{ℕ, ◌+◌, ◌≤◌}
+use Rattle.std.specs.List.{list_all}
+use Rattle.std.proofs.Common.{ℕ, ◌+◌, ◌≤◌, ◌≡◌, refl, ap, ◌∙◌, true, List, [], ◌∷◌, ◌++◌, arith, length, ◌==◌}
 use Prim.Native.Char.{code}
-use mathlib.Core.Path.{◌≡◌, refl, ap, ◌∙◌}
-use mathlib.Core.Bool.{true}
-use mathlib.Core.List.{List, [], ◌∷◌, ◌++◌}
-use native.Mathlib.Omega.{arith}
-use lib.ListN.{length}
-use lib.Dec.{eqb}
-use Rattle.text.specs.Scans.{every}
-use Rattle.text.proofs.Choices.{if-all}
-use Rattle.words.specs.Bytes.{notCr}
+use Rattle.text.proofs.Choices.{if_all}
+use Rattle.words.specs.Bytes.{not_cr}
 use Rattle.record.specs.Limits.{failed}
-use Rattle.record.specs.Legal.{heldMost}
-use Rattle.record.specs.Places.{connectionAt}
+use Rattle.record.specs.Legal.{held_most}
+use Rattle.record.specs.Places.{connection_at}
 use Rattle.record.specs.declared.types.Settings.{Settings}
 use Rattle.record.specs.declared.types.Own.{Own}
 use Rattle.record.specs.declared.types.Connection.{Connection}
 use Rattle.record.specs.declared.types.Device.{Device}
 use Rattle.stream.specs.declared.Gathered.{Gathered}
 use Rattle.stream.proofs.LinesSpelt.{gathered_none}
-use Rattle.stream.proofs.GatheredOn.{gathered-within, gathered-ended, plain-gathered}
-use Rattle.stream.proofs.LinesCollected.{whole-gathered}
-use Rattle.device.specs.Receiving.{Taken, noReply, keepingLine, taken_of, takenIn}
+use Rattle.stream.proofs.GatheredOn.{gathered_within, gathered-ended, plain_gathered}
+use Rattle.stream.proofs.LinesCollected.{gathered-append}
+use Rattle.device.specs.Receiving.{Taken, no_reply, keeping_line, taken_of, taken_in}
 use Rattle.device.specs.Calls.{received}
-use Rattle.device.proofs.Cases.{received-by}
-use Rattle.device.proofs.LineCases.{taken-line, taken-part, taken-by}
+use Rattle.device.proofs.Cases.{received_by}
+use Rattle.device.proofs.LineCases.{taken-line, taken_part, taken_by}
 
 module _ (s : Settings) (o : Own) (c : Connection) where
   abbrev most : ℕ
-  most = heldMost c.phase
+  most = held_most c.phase
 
-  pub all-taken : (bs : List ℕ) → every notCr bs ≡ true → (takenIn s o c bs).taken ≡ length bs
-  all-taken bs e =
-      let g = plain-gathered most c.line bs e in
-      ap (λ (t : Taken). t.taken) (taken-part s o c bs (ap (λ (h : Gathered). h.ended) g))
+  pub all_taken : (bs : List ℕ) → list_all not_cr bs ≡ true → (taken_in s o c bs).taken ≡ length bs
+  all_taken bs e =
+      let g = plain_gathered most c.line bs e in
+      ap (λ (t : Taken). t.taken) (taken_part s o c bs (ap (λ (h : Gathered). h.ended) g))
       ∙ ap (λ (h : Gathered). h.before) g
 
-  pub line_taken : (xs more : List ℕ) → every notCr xs ≡ true
-      → (takenIn s o c (xs ++ (code "\r" ∷ more))).taken ≡ length xs + 1
+  pub line_taken : (xs more : List ℕ) → list_all not_cr xs ≡ true
+      → (taken_in s o c (xs ++ (code "\r" ∷ more))).taken ≡ length xs + 1
   line_taken xs more e =
-      let g = whole-gathered most c.line xs more e in
+      let g = gathered-append most c.line xs more e in
       ap (λ (t : Taken). t.taken) (taken-line s o c (xs ++ (code "\r" ∷ more)) (ap (λ (h : Gathered). h.ended) g))
       ∙ ap (λ (h : Gathered). h.before + 1) g
 
-  pub taken-within : (bs : List ℕ) → (takenIn s o c bs).taken ≤ length bs
-  taken-within bs =
-      taken-by s o c bs (λ t. t.taken ≤ length bs) (λ e. gathered-ended most c.line bs e)
-      (λ e. gathered-within most c.line bs)
+  pub taken_within : (bs : List ℕ) → (taken_in s o c bs).taken ≤ length bs
+  taken_within bs =
+      taken_by s o c bs (λ t. t.taken ≤ length bs) (λ e. gathered-ended most c.line bs e)
+      (λ e. gathered_within most c.line bs)
 
-  keeps-itself : keepingLine c c.line ≡ c
-  unfolding keepingLine
-  keeps-itself = if-all (λ (k : Connection). k ≡ c) (eqb c.phase failed) refl refl
+  keeps_itself : keeping_line c c.line ≡ c
+  unfolding keeping_line
+  keeps_itself = if_all (λ (k : Connection). k ≡ c) (c.phase == failed) refl refl
 
-  pub nothing-taken : takenIn s o c [] ≡ record { ended = noReply o c; taken = 0 }
-  unfolding takenIn
-  nothing-taken =
+  pub nothing_taken : taken_in s o c [] ≡ record { ended = no_reply o c; taken = 0 }
+  unfolding taken_in
+  nothing_taken =
       ap (taken_of s o c) (gathered_none most c.line)
-      ∙ ap {B = Taken} (λ (k : Connection). record { ended = noReply o k; taken = 0 }) keeps-itself
+      ∙ ap {B = Taken} (λ (k : Connection). record { ended = no_reply o k; taken = 0 }) keeps_itself
 
-pub received-within : (d : Device) (p : ℕ) (bs : List ℕ) (room : ℕ) → (received d p bs room).taken ≤ length bs
-received-within d p bs room =
-    received-by d p bs room (λ r. r.taken ≤ length bs) (λ n z. omega arith)
-    (λ h s t c. taken-within d.settings d.own (connectionAt d p) bs)
+pub received_within : (d : Device) (p : ℕ) (bs : List ℕ) (room : ℕ) → (received d p bs room).taken ≤ length bs
+received_within d p bs room =
+    received_by d p bs room (λ r. r.taken ≤ length bs) (λ n z. omega arith)
+    (λ h s t c. taken_within d.settings d.own (connection_at d p) bs)

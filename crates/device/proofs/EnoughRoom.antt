@@ -1,41 +1,35 @@
 -- More reply memory than a call asks for changes nothing; closing has no reply.
 -- Assumes nothing.
-use Prim.Native.Nat.{ℕ, ◌≤◌}
-use mathlib.Core.Path.{◌≡◌, refl, sym, ap, ◌∙◌}
-use mathlib.Core.Bool.{Bool, not}
-use mathlib.Core.List.{List, [], ◌∷◌}
-use native.Mathlib.Omega.{arith}
-use lib.Dec.{ltb}
-use borrow.Author.Tests.{le-ltb}
-use Rattle.text.specs.Rows.{Row, ◌when◌, byRows}
-use Rattle.record.specs.Legal.{isLegal}
-use Rattle.record.specs.Places.{connectionAt, isShut, lowestShut}
+use Rattle.std.proofs.Common.{ℕ, ◌≤◌, ◌≡◌, refl, sym, ap, ◌∙◌, Bool, not, List, [], ◌∷◌, arith, nat_lt, le-ltb}
+use Rattle.text.specs.Rows.{Row, ◌when◌, by_rows}
+use Rattle.record.specs.Legal.{is_legal}
+use Rattle.record.specs.Places.{connection_at, is_shut, lowest_shut}
 use Rattle.record.specs.declared.types.Device.{Device}
-use Rattle.device.specs.Calls.{Result, refusedBy, replyRoom, isNoPlace, received}
-use Rattle.device.specs.Calls.{openedBy, placeTaken, closedBy}
-use Rattle.device.proofs.Cases.{closed-by}
+use Rattle.device.specs.Calls.{Result, refused_by, reply_room, is_no_place, received}
+use Rattle.device.specs.Calls.{opened_by, place_taken, closed_by}
+use Rattle.device.proofs.Cases.{closed_by_lem}
 
-module _ (d : Device) (room : ℕ) (enough : replyRoom ≤ room) where
+module _ (d : Device) (room : ℕ) (enough : reply_room ≤ room) where
   -- the one row that asks for the memory applies to neither
-  as-enough : {R : Type 0} (refuse : ℕ → R) (rows : List Row) (done : R)
-      → byRows ((1 when not (isLegal d)) ∷ (2 when ltb replyRoom replyRoom) ∷ rows) refuse done
-      ≡ byRows ((1 when not (isLegal d)) ∷ (2 when ltb room replyRoom) ∷ rows) refuse done
-  as-enough refuse rows done =
-      ap (λ (t : Bool). byRows ((1 when not (isLegal d)) ∷ (2 when t) ∷ rows) refuse done)
-      (le-ltb replyRoom replyRoom (omega arith) ∙ sym (le-ltb room replyRoom enough))
+  by_rows-cons : {R : Type 0} (refuse : ℕ → R) (rows : List Row) (done : R)
+      → by_rows ((1 when not (is_legal d)) ∷ (2 when nat_lt reply_room reply_room) ∷ rows) refuse done
+      ≡ by_rows ((1 when not (is_legal d)) ∷ (2 when nat_lt room reply_room) ∷ rows) refuse done
+  by_rows-cons refuse rows done =
+      ap (λ (t : Bool). by_rows ((1 when not (is_legal d)) ∷ (2 when t) ∷ rows) refuse done)
+      (le-ltb reply_room reply_room (omega arith) ∙ sym (le-ltb room reply_room enough))
 
-  pub opened-room : (r : ℕ) → openedBy d r replyRoom ≡ openedBy d r room
-  unfolding openedBy
-  opened-room r = as-enough (λ n. refusedBy n d) ((6 when isNoPlace (lowestShut d.connections)) ∷ []) _
+  pub opened_room : (r : ℕ) → opened_by d r reply_room ≡ opened_by d r room
+  unfolding opened_by
+  opened_room r = by_rows-cons (λ n. refused_by n d) ((6 when is_no_place (lowest_shut d.connections)) ∷ []) _
 
-  pub place-room : placeTaken d replyRoom ≡ placeTaken d room
-  unfolding placeTaken
-  place-room = as-enough (λ n. 0) ((6 when isNoPlace (lowestShut d.connections)) ∷ []) _
+  pub place_room : place_taken d reply_room ≡ place_taken d room
+  unfolding place_taken
+  place_room = by_rows-cons (λ n. 0) ((6 when is_no_place (lowest_shut d.connections)) ∷ []) _
 
-  pub received-room : (p : ℕ) (bs : List ℕ) → received d p bs replyRoom ≡ received d p bs room
+  pub received_room : (p : ℕ) (bs : List ℕ) → received d p bs reply_room ≡ received d p bs room
   unfolding received
-  received-room p bs =
-      as-enough (λ n. refusedBy n d) ((3 when isNoPlace p) ∷ (4 when isShut (connectionAt d p)) ∷ []) _
+  received_room p bs =
+      by_rows-cons (λ n. refused_by n d) ((3 when is_no_place p) ∷ (4 when is_shut (connection_at d p)) ∷ []) _
 
-pub closing-quiet : (d : Device) (p : ℕ) → (closedBy d p).reply ≡ []
-closing-quiet d p = closed-by d p (λ (x : Result Device). x.reply ≡ []) (λ n z. refl) (λ h t c. refl)
+pub closing_quiet : (d : Device) (p : ℕ) → (closed_by d p).reply ≡ []
+closing_quiet d p = closed_by_lem d p (λ (x : Result Device). x.reply ≡ []) (λ n z. refl) (λ h t c. refl)

@@ -1,82 +1,77 @@
 -- The first line on an awaiting connection between lines, as the bytes before its CR (RULES, Connection: "the first 32
 -- bytes are compared exactly with the lowercase hex digest .., and the line at most 167 bytes before CR").
 -- Assumes nothing.
-use Prim.Native.Nat.{ℕ, ◌≤◌, ◌<◌}
+use Rattle.std.proofs.Common.{ℕ, ◌≤◌, ◌<◌, ◌≡◌, sym, ap, ◌∙◌, Bool, true, false, not, ◌&&◌, List, ◌∷◌, ◌++◌, ⊎_elim}
+use Rattle.std.proofs.Common.{length, take, nat_le, leb-true, le-leb}
+use Rattle.std.proofs.lemmas.Bool.{false≢true}
 use Prim.Native.Char.{code}
-use mathlib.Core.Path.{◌≡◌, sym, ap, ◌∙◌}
-use mathlib.Core.Bool.{Bool, true, false, not, ◌&&◌, false≢true}
-use mathlib.Core.List.{List, ◌∷◌, ◌++◌}
-use mathlib.Core.Logic.{⊎_elim}
-use lib.ListN.{length, take}
-use lib.Dec.{leb}
-use borrow.Author.Tests.{leb-true, le-leb}
-use Rattle.text.specs.Scans.{sameBy, itself}
+use Rattle.text.specs.Scans.{same_by, itself}
 use Rattle.text.proofs.Choices.{both, both_left, both_right, alike}
-use Rattle.text.proofs.Orders.{le-or-lt}
-use Rattle.digest.specs.Hex.{leadingDigest}
-use Rattle.words.specs.Bytes.{noCr}
-use Rattle.words.proofs.Characters.{no-cr-each}
-use Rattle.record.specs.Limits.{lineRoom, awaiting}
-use Rattle.record.specs.Legal.{heldMost}
+use Rattle.text.proofs.Orders.{le_or_lt}
+use Rattle.digest.specs.Hex.{leading_digest}
+use Rattle.words.specs.Bytes.{no_cr}
+use Rattle.words.proofs.Characters.{no_cr_each}
+use Rattle.record.specs.Limits.{line_room, awaiting}
+use Rattle.record.specs.Legal.{held_most}
 use Rattle.record.specs.declared.types.Settings.{Settings}
 use Rattle.record.specs.declared.types.Connection.{Connection}
-use Rattle.record.proofs.Kept.{room-first}
-use Rattle.record.proofs.ConnectionTold.{held-most-awaiting}
+use Rattle.record.proofs.Kept.{room_first}
+use Rattle.record.proofs.ConnectionTold.{held_most_awaiting}
 use Rattle.stream.specs.declared.Gathered.{Gathered}
-use Rattle.stream.specs.Collecting.{line_of, emptyLine, overlongLine, collectedAll, gathered}
-use Rattle.stream.proofs.LinesSpelt.{overlong-marked}
-use Rattle.stream.proofs.CollectedOn.{collected-whole, collected-overlong}
-use Rattle.stream.proofs.LinesCollected.{whole-gathered}
-use Rattle.device.specs.Receiving.{isLedBy, isMatch, digestLong, passwordOf}
-use Rattle.device.proofs.Outsiders.{Unmatched}
+use Rattle.stream.specs.Collecting.{line_of, empty_line, overlong_line, collected_all, gathered}
+use Rattle.stream.proofs.LinesSpelt.{overlong_marked}
+use Rattle.stream.proofs.CollectedOn.{collected_whole, collected_overlong}
+use Rattle.stream.proofs.LinesCollected.{gathered-append}
+use Rattle.device.specs.Receiving.{is_led_by, is_match, digest_long, set_up_password}
+use Rattle.device.proofs.Outsiders.{IsUnmatched}
 
 module _ (s : Settings) (c : Connection) where
   abbrev digest : List ℕ
-  digest = leadingDigest c.random (passwordOf s)
+  digest = leading_digest c.random (set_up_password s)
 
-  abbrev ledHere : List ℕ → Bool
-  ledHere l = isLedBy c.random (passwordOf s) l
+  abbrev led_here : List ℕ → Bool
+  led_here l = is_led_by c.random (set_up_password s) l
 
-  overlong-unmatched : isMatch s c overlongLine ≡ false
-  unfolding isMatch
-  overlong-unmatched =
-      ap (λ (mark : Bool). not mark && leb digestLong overlongLine.held
-      && sameBy itself (take digestLong overlongLine.bytes) digest) overlong-marked
+  overlong_unmatched : is_match s c overlong_line ≡ false
+  unfolding is_match
+  overlong_unmatched =
+      ap (λ (mark : Bool). not mark && nat_le digest_long overlong_line.held
+      && same_by itself (take digest_long overlong_line.bytes) digest) overlong_marked
 
-  match-led : (l : List ℕ) → length l ≤ lineRoom → isMatch s c (line_of l) ≡ true → ledHere l ≡ true
-  unfolding isMatch
-  match-led l short e =
-      let long = leb-true digestLong (length l) (both_left _ _ e) in
-      both (le-leb (length l) lineRoom short)
-      (ap (λ (front : List ℕ). sameBy itself front digest)
-      (sym (room-first lineRoom l digestLong long))
-      ∙ both_right (leb digestLong (length l)) _ e)
+  match_led : (l : List ℕ) → length l ≤ line_room → is_match s c (line_of l) ≡ true → led_here l ≡ true
+  unfolding is_match
+  match_led l short e =
+      let long = leb-true digest_long (length l) (both_left _ _ e) in
+      both (le-leb (length l) line_room short)
+      (ap (λ (front : List ℕ). same_by itself front digest)
+      (sym (room_first line_room l digest_long long))
+      ∙ both_right (nat_le digest_long (length l)) _ e)
 
-  unled-short : (l : List ℕ) → length l ≤ lineRoom → ledHere l ≡ false → isMatch s c (line_of l) ≡ false
-  unled-short l short unled =
-      alike (isMatch s c (line_of l)) false (λ e. sym unled ∙ match-led l short e) (λ e. absurd (false≢true e))
+  unled_short : (l : List ℕ) → length l ≤ line_room → led_here l ≡ false → is_match s c (line_of l) ≡ false
+  unled_short l short unled =
+      alike (is_match s c (line_of l)) false (λ e. sym unled ∙ match_led l short e) (λ e. absurd (false≢true e))
 
   -- without the matching digest, or overlong, what is collected of it does not match
-  pub unled-collected : (l : List ℕ) → ledHere l ≡ false
-      → isMatch s c (collectedAll lineRoom emptyLine l) ≡ false
-  unled-collected l unled =
+  pub is_match-collected_all : (l : List ℕ) → led_here l ≡ false
+      → is_match s c (collected_all line_room empty_line l) ≡ false
+  is_match-collected_all l unled =
       ⊎_elim
-      (λ (short : length l ≤ lineRoom). ap (isMatch s c) (collected-whole l short) ∙ unled-short l short unled)
-      (λ (long : lineRoom < length l). ap (isMatch s c) (collected-overlong l long) ∙ overlong-unmatched)
-      (le-or-lt (length l) lineRoom)
+      (λ (short : length l ≤ line_room). ap (is_match s c) (collected_whole l short) ∙ unled_short l short unled)
+      (λ (long : line_room < length l). ap (is_match s c) (collected_overlong l long) ∙ overlong_unmatched)
+      (le_or_lt (length l) line_room)
 
-  module _ (empty : c.line ≡ emptyLine) (phase : c.phase ≡ awaiting) (l more : List ℕ) (plain : noCr l ≡ true) where
+  module _ (empty : c.line ≡ empty_line) (phase : c.phase ≡ awaiting) (l more : List ℕ) (plain : no_cr l ≡ true) where
     abbrev first : Gathered
-    first = gathered (heldMost c.phase) c.line (l ++ (code "\r" ∷ more))
+    first = gathered (held_most c.phase) c.line (l ++ (code "\r" ∷ more))
 
-    whole : first ≡ record { line = collectedAll lineRoom emptyLine l; before = length l; ended = true }
+    whole : first ≡ record { line = collected_all line_room empty_line l; before = length l; ended = true }
     whole =
-        (λ i. gathered ((ap heldMost phase ∙ held-most-awaiting) i) (empty i) (l ++ (code "\r" ∷ more)))
-        ∙ whole-gathered lineRoom emptyLine l more (no-cr-each l plain)
+        (λ i. gathered ((ap held_most phase ∙ held_most_awaiting) i) (empty i) (l ++ (code "\r" ∷ more)))
+        ∙ gathered-append line_room empty_line l more (no_cr_each l plain)
 
-    pub first-line-ends : first.ended ≡ true
-    first-line-ends = ap (λ (g : Gathered). g.ended) whole
+    pub first-line_ends : first.ended ≡ true
+    first-line_ends = ap (λ (g : Gathered). g.ended) whole
 
-    pub unled-unmatched : ledHere l ≡ false → Unmatched s c (l ++ (code "\r" ∷ more))
-    unled-unmatched unled ended =
-        ap (λ (g : Gathered). isMatch s c g.line) whole ∙ unled-collected l unled
+    pub unled_unmatched : led_here l ≡ false → IsUnmatched s c (l ++ (code "\r" ∷ more))
+    unled_unmatched unled ended =
+        ap (λ (g : Gathered). is_match s c g.line) whole ∙ is_match-collected_all l unled

@@ -1,37 +1,32 @@
 -- Opening, closing and receiving keep a record legal, a law a part.
 -- Assumes nothing.
-use Prim.Native.Nat.{ℕ, zero, suc, ◌≤◌}
-use mathlib.Core.Path.{◌≡◌, refl}
-use mathlib.Core.Bool.{true}
-use mathlib.Core.List.{List}
-use native.Mathlib.Omega.{arith}
-use borrow.Author.Tests.{eqb-false}
-use lib.Dec.{eqb}
-use Rattle.text.proofs.Choices.{if-all, if-by}
-use Rattle.pjlink.specs.Forms.{isCommandForm}
+use Rattle.std.proofs.Common.{ℕ, zero, suc, ◌≤◌, ◌≡◌, refl, true, List, arith, ◌==◌}
+use Rattle.std.proofs.lemmas.Bool.{eqb-false}
+use Rattle.text.proofs.Choices.{if_all, if_by}
+use Rattle.pjlink.specs.Forms.{is_command_form}
 use Rattle.record.specs.Limits.{shut, awaiting, opened, failed}
-use Rattle.record.specs.Updates.{withLine}
-use Rattle.record.specs.Legal.{isCollecting, isSettings, isOwn, isConnection, isLegal}
-use Rattle.record.specs.Places.{connectionAt, withPlace}
+use Rattle.record.specs.Updates.{with_line}
+use Rattle.record.specs.Legal.{is_collecting, is_settings, is_own, is_connection, is_legal}
+use Rattle.record.specs.Places.{connection_at, with_place}
 use Rattle.record.specs.declared.types.Settings.{Settings}
 use Rattle.record.specs.declared.types.Own.{Own}
 use Rattle.record.specs.declared.types.Line.{Line}
 use Rattle.record.specs.declared.types.Connection.{Connection}
 use Rattle.record.specs.declared.types.Device.{Device}
-use Rattle.record.proofs.LegalTold.{legal-settings, legal-own, legal-connections, legal-connection}
-use Rattle.record.proofs.LegalTold.{legal-by-parts}
-use Rattle.record.proofs.ConnectionsTold.{placed-legal}
-use Rattle.record.proofs.ConnectionTold.{ConnectionTold, connection-told, connection-shown, zero-age, closed-legal}
-use Rattle.stream.proofs.LegalLines.{LegalLine, empty-legal, gathered-legal}
-use Rattle.meaning.proofs.Done.{done-legal}
-use Rattle.device.specs.Answering.{Answered, lineAsks, lineAnswer}
-use Rattle.device.specs.Receiving.{turned, lineEnded, keepingLine, takenIn}
-use Rattle.device.specs.Calls.{Result, isSecured, greeted, received, openedBy, closedBy}
-use Rattle.device.proofs.Cases.{received-by, opened-by, closed-by}
-use Rattle.device.proofs.LineCases.{ended_by, taken-by}
+use Rattle.record.proofs.LegalTold.{legal_settings, legal_own, legal_connections, legal_connection}
+use Rattle.record.proofs.LegalTold.{legal_by_parts}
+use Rattle.record.proofs.ConnectionsTold.{placed_legal}
+use Rattle.record.proofs.ConnectionTold.{ConnectionTold, connection_told, connection_shown, zero_age, closed_legal}
+use Rattle.stream.proofs.LegalLines.{LegalLine, empty_legal, gathered_legal}
+use Rattle.meaning.proofs.Done.{done_legal}
+use Rattle.device.specs.Answering.{Answered, line_asks, line_answer}
+use Rattle.device.specs.Receiving.{turned, line_ended, keeping_line, taken_in}
+use Rattle.device.specs.Calls.{Result, has_password, greeted, received, opened_by, closed_by}
+use Rattle.device.proofs.Cases.{received_by, opened_by_lem, closed_by_lem}
+use Rattle.device.proofs.LineCases.{ended_by, taken_by}
 
 -- a phase is shut, failed or collects
-pub collecting : (p : ℕ) → p ≤ failed → (p ≡ shut → ⊥) → (p ≡ failed → ⊥) → isCollecting p ≡ true
+pub collecting : (p : ℕ) → p ≤ failed → (p ≡ shut → ⊥) → (p ≡ failed → ⊥) → is_collecting p ≡ true
 collecting zero h n m = absurd (n refl)
 collecting (suc zero) h n m = refl
 collecting (suc (suc zero)) h n m = refl
@@ -39,22 +34,22 @@ collecting (suc (suc (suc p))) h n m = absurd (m (omega arith))
 
 -- connections
 module _ (c : Connection) where
-  pub turned-legal : (phase : ℕ) → phase ≤ failed → (phase ≡ shut → ⊥) → isConnection (turned c phase) ≡ true
-  turned-legal phase h n =
-      let e = empty-legal phase in
-      connection-shown (turned c phase)
-      (record { line = e.kept; phase = h; age = zero-age phase; random = λ z. absurd (n z); held = e.held })
+  pub is_connection-turned : (phase : ℕ) → phase ≤ failed → (phase ≡ shut → ⊥) → is_connection (turned c phase) ≡ true
+  is_connection-turned phase h n =
+      let e = empty_legal phase in
+      connection_shown (turned c phase)
+      (record { line = e.kept; phase = h; age = zero_age phase; random = λ z. absurd (n z); held = e.held })
 
-  module _ (legal : isConnection c ≡ true) where
+  module _ (legal : is_connection c ≡ true) where
     abbrev known : ConnectionTold c
-    known = connection-told c legal
+    known = connection_told c legal
 
-    pub line-legal : LegalLine c.phase c.line
-    line-legal = record { kept = known.line; held = known.held }
+    pub line_legal : LegalLine c.phase c.line
+    line_legal = record { kept = known.line; held = known.held }
 
-    with-line-legal : (l : Line) → LegalLine c.phase l → isConnection (withLine c l) ≡ true
-    with-line-legal l p =
-        connection-shown (withLine c l)
+    is_connection-with_line : (l : Line) → LegalLine c.phase l → is_connection (with_line c l) ≡ true
+    is_connection-with_line l p =
+        connection_shown (with_line c l)
         (record {
           line = p.kept;
           phase = known.phase;
@@ -64,75 +59,77 @@ module _ (c : Connection) where
         })
 
     -- what is kept of a line that is legal where lines are collected
-    pub keeping-legal : (l : Line) → (c.phase ≡ shut → ⊥) → (isCollecting c.phase ≡ true → LegalLine c.phase l)
-        → isConnection (keepingLine c l) ≡ true
-    unfolding keepingLine
-    keeping-legal l n p =
-        if-by (λ (k : Connection). isConnection k ≡ true) (eqb c.phase failed) (λ f. legal) (λ f.
-        with-line-legal l (p (collecting c.phase known.phase n (eqb-false c.phase failed f))))
+    pub is_connection-keeping_line : (l : Line) → (c.phase ≡ shut → ⊥) →
+        (is_collecting c.phase ≡ true → LegalLine c.phase l)
+        → is_connection (keeping_line c l) ≡ true
+    unfolding keeping_line
+    is_connection-keeping_line l n p =
+        if_by (λ (k : Connection). is_connection k ≡ true) (c.phase == failed) (λ f. legal) (λ f.
+        is_connection-with_line l (p (collecting c.phase known.phase n (eqb-false c.phase failed f))))
 
 -- the parts of receiving
-module _ (s : Settings) (o : Own) (settings : isSettings s ≡ true) (own : isOwn s o ≡ true) where
-  pub answered-legal : (l : List ℕ) → isOwn s (lineAnswer s o l).own ≡ true
-  unfolding lineAnswer
-  answered-legal l =
-      if-all (λ (a : Answered). isOwn s a.own ≡ true) (isCommandForm s.class_number l)
-      (done-legal s o settings own (lineAsks l)) own
+module _ (s : Settings) (o : Own) (settings : is_settings s ≡ true) (own : is_own s o ≡ true) where
+  pub is_own-line_answer : (l : List ℕ) → is_own s (line_answer s o l).own ≡ true
+  unfolding line_answer
+  is_own-line_answer l =
+      if_all (λ (a : Answered). is_own s a.own ≡ true) (is_command_form s.class_number l)
+      (done_legal s o settings own (line_asks l)) own
 
   module _ (c : Connection) where
-    pub ended-own-legal : (l : Line) → isOwn s (lineEnded s o c l).own ≡ true
-    ended-own-legal l =
-        ended_by s o c l (λ e. isOwn s e.own ≡ true) (λ p m. own) (λ p m. answered-legal _)
-        (λ p m. answered-legal _) (λ p m. own) (λ p q. own)
+    pub is_own-line_ended : (l : Line) → is_own s (line_ended s o c l).own ≡ true
+    is_own-line_ended l =
+        ended_by s o c l (λ e. is_own s e.own ≡ true) (λ p m. own) (λ p m. is_own-line_answer _)
+        (λ p m. is_own-line_answer _) (λ p m. own) (λ p q. own)
 
-    pub taken-own-legal : (bs : List ℕ) → isOwn s (takenIn s o c bs).ended.own ≡ true
-    taken-own-legal bs =
-        taken-by s o c bs (λ t. isOwn s t.ended.own ≡ true) (λ e. ended-own-legal _) (λ e. own)
+    pub is_own-taken_in : (bs : List ℕ) → is_own s (taken_in s o c bs).ended.own ≡ true
+    is_own-taken_in bs =
+        taken_by s o c bs (λ t. is_own s t.ended.own ≡ true) (λ e. is_own-line_ended _) (λ e. own)
 
-module _ (s : Settings) (o : Own) (c : Connection) (legal : isConnection c ≡ true) where
-  pub ended-connection-legal : (l : Line) → isConnection (lineEnded s o c l).connection ≡ true
-  ended-connection-legal l =
-      let open-legal = turned-legal c opened (omega arith) (λ z. omega arith) in
-      ended_by s o c l (λ e. isConnection e.connection ≡ true) (λ p m. open-legal) (λ p m. open-legal)
-      (λ p m. open-legal) (λ p m. turned-legal c failed (omega arith) (λ z. omega arith)) (λ p q. legal)
+module _ (s : Settings) (o : Own) (c : Connection) (legal : is_connection c ≡ true) where
+  pub is_connection-line_ended : (l : Line) → is_connection (line_ended s o c l).connection ≡ true
+  is_connection-line_ended l =
+      let open_legal = is_connection-turned c opened (omega arith) (λ z. omega arith) in
+      ended_by s o c l (λ e. is_connection e.connection ≡ true) (λ p m. open_legal) (λ p m. open_legal)
+      (λ p m. open_legal) (λ p m. is_connection-turned c failed (omega arith) (λ z. omega arith)) (λ p q. legal)
 
-  pub taken-connection-legal : (bs : List ℕ) → (c.phase ≡ shut → ⊥)
-      → isConnection (takenIn s o c bs).ended.connection ≡ true
-  taken-connection-legal bs n =
-      taken-by s o c bs (λ t. isConnection t.ended.connection ≡ true) (λ e. ended-connection-legal _)
-      (λ e. keeping-legal c legal _ n (λ k. gathered-legal c.phase c.line bs k (line-legal c legal)))
+  pub is_connection-taken_in : (bs : List ℕ) → (c.phase ≡ shut → ⊥)
+      → is_connection (taken_in s o c bs).ended.connection ≡ true
+  is_connection-taken_in bs n =
+      taken_by s o c bs (λ t. is_connection t.ended.connection ≡ true) (λ e. is_connection-line_ended _)
+      (λ e. is_connection-keeping_line c legal _ n (λ k. gathered_legal c.phase c.line bs k (line_legal c legal)))
 
-pub greeted-legal : (s : Settings) (r : ℕ) → isConnection (greeted s r) ≡ true
+pub greeted_legal : (s : Settings) (r : ℕ) → is_connection (greeted s r) ≡ true
 unfolding greeted
-greeted-legal s r =
+greeted_legal s r =
     let c : Connection = greeted s r in
-    if-all (λ (p : ℕ). isConnection (turned c p) ≡ true) (isSecured s)
-    (turned-legal c awaiting (omega arith) (λ z. omega arith)) (turned-legal c opened (omega arith) (λ z. omega arith))
+    if_all (λ (p : ℕ). is_connection (turned c p) ≡ true) (has_password s)
+    (is_connection-turned c awaiting (omega arith) (λ z. omega arith))
+    (is_connection-turned c opened (omega arith) (λ z. omega arith))
 
 -- the calls
-module _ (d : Device) (legal : isLegal d ≡ true) where
+module _ (d : Device) (legal : is_legal d ≡ true) where
   abbrev LegalAfter : Result Device → Type 0
-  LegalAfter r = isLegal r.device ≡ true
+  LegalAfter r = is_legal r.device ≡ true
 
   -- the device with a legal own part, and a legal connection at a place
-  placed : (o : Own) (p : ℕ) (c : Connection) → isOwn d.settings o ≡ true → isConnection c ≡ true
-      → isLegal (withPlace d o p c) ≡ true
+  placed : (o : Own) (p : ℕ) (c : Connection) → is_own d.settings o ≡ true → is_connection c ≡ true
+      → is_legal (with_place d o p c) ≡ true
   placed o p c own one =
-      legal-by-parts (withPlace d o p c) (legal-settings d legal) own
-      (placed-legal d.connections (legal-connections d legal) p c one)
+      legal_by_parts (with_place d o p c) (legal_settings d legal) own
+      (placed_legal d.connections (legal_connections d legal) p c one)
 
-  pub receiving-legal : (p : ℕ) (bs : List ℕ) (room : ℕ) → isLegal (received d p bs room).device ≡ true
-  receiving-legal p bs room =
-      received-by d p bs room LegalAfter (λ n z. legal)
-      (λ h s t c. let k = connectionAt d p in
-      placed _ p _ (taken-own-legal d.settings d.own (legal-settings d legal) (legal-own d legal) k bs)
-      (taken-connection-legal d.settings d.own k (legal-connection d legal p t) bs (eqb-false k.phase shut c)))
+  pub receiving_legal : (p : ℕ) (bs : List ℕ) (room : ℕ) → is_legal (received d p bs room).device ≡ true
+  receiving_legal p bs room =
+      received_by d p bs room LegalAfter (λ n z. legal)
+      (λ h s t c. let k = connection_at d p in
+      placed _ p _ (is_own-taken_in d.settings d.own (legal_settings d legal) (legal_own d legal) k bs)
+      (is_connection-taken_in d.settings d.own k (legal_connection d legal p t) bs (eqb-false k.phase shut c)))
 
-  pub opening-legal : (r room : ℕ) → isLegal (openedBy d r room).device ≡ true
-  opening-legal r room =
-      opened-by d r room LegalAfter (λ n z. legal)
-      (λ h s c. placed _ _ _ (legal-own d legal) (greeted-legal d.settings r))
+  pub opening_legal : (r room : ℕ) → is_legal (opened_by d r room).device ≡ true
+  opening_legal r room =
+      opened_by_lem d r room LegalAfter (λ n z. legal)
+      (λ h s c. placed _ _ _ (legal_own d legal) (greeted_legal d.settings r))
 
-  pub closing-legal : (p : ℕ) → isLegal (closedBy d p).device ≡ true
-  closing-legal p =
-      closed-by d p LegalAfter (λ n z. legal) (λ h t c. placed _ p _ (legal-own d legal) closed-legal)
+  pub closing_legal : (p : ℕ) → is_legal (closed_by d p).device ≡ true
+  closing_legal p =
+      closed_by_lem d p LegalAfter (λ n z. legal) (λ h t c. placed _ p _ (legal_own d legal) closed_legal)

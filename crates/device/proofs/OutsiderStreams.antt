@@ -2,55 +2,52 @@
 -- bytes are cut: until the connection closes he gets the refusal line once his first line ends, and nothing else
 -- (demand 2: "a first line without the matching digest yields the refusal line only").
 -- Assumes nothing.
-use Prim.Native.Nat.{ℕ, ◌≤◌, ◌<◌}
+use Rattle.std.proofs.Common.{ℕ, ◌≤◌, ◌<◌, ◌≡◌, refl, sym, ap, subst, ◌∙◌, Bool, true, false, List, [], ◌∷◌, ◌++◌}
+use Rattle.std.proofs.Common.{arith, ◌==◌}
+use Rattle.std.proofs.lemmas.Bool.{false≢true}
 use Prim.Native.Char.{code}
-use mathlib.Core.Path.{◌≡◌, refl, sym, ap, subst, ◌∙◌}
-use mathlib.Core.Bool.{Bool, true, false, false≢true}
-use mathlib.Core.List.{List, [], ◌∷◌, ◌++◌}
-use native.Mathlib.Omega.{arith}
-use lib.Dec.{eqb}
 use Rattle.std.specs.Prelude.{if◌then◌else◌}
 use Rattle.text.specs.Words.{◌is◌}
-use Rattle.pjlink.specs.Forms.{erraLine}
-use Rattle.record.specs.Limits.{placesCount, shut, awaiting, failed}
-use Rattle.record.specs.Updates.{withLine}
-use Rattle.record.specs.Legal.{heldMost, isLegal}
-use Rattle.record.specs.Places.{connectionAt}
+use Rattle.pjlink.specs.Forms.{erra_line}
+use Rattle.record.specs.Limits.{places_count, shut, awaiting, failed}
+use Rattle.record.specs.Updates.{with_line}
+use Rattle.record.specs.Legal.{held_most, is_legal}
+use Rattle.record.specs.Places.{connection_at}
 use Rattle.record.specs.declared.types.Settings.{Settings}
 use Rattle.record.specs.declared.types.Own.{Own}
 use Rattle.record.specs.declared.types.Connection.{Connection}
 use Rattle.record.specs.declared.types.Device.{Device}
-use Rattle.record.proofs.LegalTold.{legal-places}
-use Rattle.record.proofs.ConnectionsTold.{placed-here, placed-elsewhere}
+use Rattle.record.proofs.LegalTold.{legal_places}
+use Rattle.record.proofs.ConnectionsTold.{placed_here, placed_elsewhere}
 use Rattle.stream.specs.declared.Gathered.{Gathered}
 use Rattle.stream.specs.Collecting.{collected, gathered}
-use Rattle.stream.specs.Machine.{Out, unanswered, replyThen, runOver, handedParts, uncut}
-use Rattle.device.specs.Receiving.{isMatch, keepingLine}
-use Rattle.device.specs.Calls.{replyRoom}
-use Rattle.device.proofs.LineCases.{keeping_none, keeping_line}
-use Rattle.device.proofs.Outsiders.{Unmatched, mismatch-refused, failed-ignores-line}
+use Rattle.stream.specs.Machine.{Out, unanswered, reply_then, run_over, handed_parts, uncut}
+use Rattle.device.specs.Receiving.{is_match, keeping_line}
+use Rattle.device.specs.Calls.{reply_room}
+use Rattle.device.proofs.LineCases.{keeping_none, keeping_line_lem}
+use Rattle.device.proofs.Outsiders.{IsUnmatched, mismatch_refused, failed_ignores_line}
 use Rattle.device.proofs.ReceivingAsMachine.{State, state_of, leaves, collects, ends}
-use Rattle.device.proofs.SameCuts.{deviceAt, parts_at, receives, received-as-run}
-use Rattle.stream.proofs.LinesSpelt.{later, gathered_none, gathered-more, run_none, run_more}
-use Rattle.stream.proofs.SameHoweverCut.{outThrough}
+use Rattle.device.proofs.SameCuts.{device_at, parts_at, receives, received_as_run}
+use Rattle.stream.proofs.LinesSpelt.{later, gathered_none, gathered-cons, run_none, run_more}
+use Rattle.stream.proofs.SameHoweverCut.{out_through}
 
 -- an outsider's first line, as far as it came
-abbrev pub firstLine : Connection → List ℕ → Gathered
-firstLine c bs = gathered (heldMost c.phase) c.line bs
+abbrev pub first_line : Connection → List ℕ → Gathered
+first_line c bs = gathered (held_most c.phase) c.line bs
 
-abbrev pub refusalOf : Gathered → List ℕ
-refusalOf g = if g.ended then erraLine else []
+abbrev pub refusal_of : Gathered → List ℕ
+refusal_of g = if g.ended then erra_line else []
 
 record Fruitless (o : Own) (g : Gathered) (out : Out State) : Type 0 where
   own : out.state.own ≡ o
-  reply : out.reply ≡ refusalOf g
+  reply : out.reply ≡ refusal_of g
   fails : g.ended ≡ true → out.state.connection.phase ≡ failed
   age : g.ended ≡ true → out.state.connection.age ≡ 0
 
 also : {o : Own} {g h : Gathered} {x y : Out State} → g ≡ h → x ≡ y → Fruitless o h y → Fruitless o g x
 also e f t = record {
   own = ap (λ (k : Out State). k.state.own) f ∙ t.own;
-  reply = ap (λ (k : Out State). k.reply) f ∙ t.reply ∙ ap refusalOf (sym e);
+  reply = ap (λ (k : Out State). k.reply) f ∙ t.reply ∙ ap refusal_of (sym e);
   fails = λ c. ap (λ (k : Out State). k.state.connection.phase) f
       ∙ t.fails (sym (ap (λ (k : Gathered). k.ended) e) ∙ c);
   age = λ c. ap (λ (k : Out State). k.state.connection.age) f
@@ -59,36 +56,36 @@ also e f t = record {
 
 module _ (s : Settings) where
   abbrev ran : State → List ℕ → Out State
-  ran = runOver (code "\r") State collects (ends s)
+  ran = run_over (code "\r") State collects (ends s)
 
   abbrev stepped : State → ℕ → Bool → Out State
   stepped m b cr = if cr then ends s m else unanswered (collects m b)
 
   -- a failed connection ignores whatever comes
-  failed-step : (m : State) (b : ℕ) (cr : Bool) → m.connection.phase ≡ failed → stepped m b cr ≡ unanswered m
-  failed-step m b true f = ap leaves (failed-ignores-line s m.own m.connection f _)
-  failed-step m b false f =
+  failed_step : (m : State) (b : ℕ) (cr : Bool) → m.connection.phase ≡ failed → stepped m b cr ≡ unanswered m
+  failed_step m b true f = ap leaves (failed_ignores_line s m.own m.connection f _)
+  failed_step m b false f =
       ap {B = Out State} (λ (k : Connection). unanswered (state_of m.own k)) (keeping_none m.connection _ f)
 
-  pub failed-run : (m : State) (bs : List ℕ) → m.connection.phase ≡ failed → ran m bs ≡ unanswered m
-  failed-run m [] f = run_none (code "\r") State collects (ends s) m
-  failed-run m (b ∷ bs) f =
+  pub failed_run : (m : State) (bs : List ℕ) → m.connection.phase ≡ failed → ran m bs ≡ unanswered m
+  failed_run m [] f = run_none (code "\r") State collects (ends s) m
+  failed_run m (b ∷ bs) f =
       run_more (code "\r") State collects (ends s) m b bs
-      ∙ ap {B = Out State} (λ (o : Out State). replyThen o.reply (ran o.state bs)) (failed-step m b (b is "\r") f)
-      ∙ failed-run m bs f
+      ∙ ap {B = Out State} (λ (o : Out State). reply_then o.reply (ran o.state bs)) (failed_step m b (b is "\r") f)
+      ∙ failed_run m bs f
 
   first_step : (m : State) (b : ℕ) (bs : List ℕ) (cr : Bool) → m.connection.phase ≡ awaiting
       → let c = m.connection in
-      let l = collected (heldMost c.phase) c.line b in
-      let later-on = firstLine (withLine c l) bs in
-      let g : Gathered = if cr then record { line = c.line; before = 0; ended = true } else later later-on in
-      (g.ended ≡ true → isMatch s c g.line ≡ false)
-      → ((later-on.ended ≡ true → isMatch s c later-on.line ≡ false)
-      → Fruitless m.own later-on (ran (state_of m.own (withLine c l)) bs))
-      → Fruitless m.own g (replyThen (stepped m b cr).reply (ran (stepped m b cr).state bs))
+      let l = collected (held_most c.phase) c.line b in
+      let later_on = first_line (with_line c l) bs in
+      let g : Gathered = if cr then record { line = c.line; before = 0; ended = true } else later later_on in
+      (g.ended ≡ true → is_match s c g.line ≡ false)
+      → ((later_on.ended ≡ true → is_match s c later_on.line ≡ false)
+      → Fruitless m.own later_on (ran (state_of m.own (with_line c l)) bs))
+      → Fruitless m.own g (reply_then (stepped m b cr).reply (ran (stepped m b cr).state bs))
   first_step m b bs true p n on =
-      let out = mismatch-refused s m.own m.connection p m.connection.line (n refl) in
-      let still = failed-run (ends s m).state bs out.phase in
+      let out = mismatch_refused s m.own m.connection p m.connection.line (n refl) in
+      let still = failed_run (ends s m).state bs out.phase in
       record {
         own = ap (λ (k : Out State). k.state.own) still ∙ out.own;
         reply = (λ i. out.reply i ++ (still i).reply);
@@ -97,9 +94,9 @@ module _ (s : Settings) where
       }
   first_step m b bs false p n on =
       let c = m.connection in
-      let l = collected (heldMost c.phase) c.line b in
-      let kept : state_of m.own (keepingLine c l) ≡ state_of m.own (withLine c l)
-      = ap {B = State} (state_of m.own) (keeping_line c l (λ f. omega arith)) in
+      let l = collected (held_most c.phase) c.line b in
+      let kept : state_of m.own (keeping_line c l) ≡ state_of m.own (with_line c l)
+      = ap {B = State} (state_of m.own) (keeping_line_lem c l (λ f. omega arith)) in
       let ends_so = on n in
       record {
         own = ap (λ (k : State). (ran k bs).state.own) kept ∙ ends_so.own;
@@ -108,69 +105,69 @@ module _ (s : Settings) where
         age = λ e. ap (λ (k : State). (ran k bs).state.connection.age) kept ∙ ends_so.age e;
       }
 
-  outsider-run : (m : State) (bs : List ℕ) → m.connection.phase ≡ awaiting → Unmatched s m.connection bs
-      → Fruitless m.own (firstLine m.connection bs) (ran m bs)
-  unfolding isMatch
-  outsider-run m [] p n =
+  outsider_run : (m : State) (bs : List ℕ) → m.connection.phase ≡ awaiting → IsUnmatched s m.connection bs
+      → Fruitless m.own (first_line m.connection bs) (ran m bs)
+  unfolding is_match
+  outsider_run m [] p n =
       let c = m.connection in
-      also (gathered_none (heldMost c.phase) c.line) (run_none (code "\r") State collects (ends s) m)
+      also (gathered_none (held_most c.phase) c.line) (run_none (code "\r") State collects (ends s) m)
       (record {
         own = refl;
         reply = refl;
         fails = λ e. absurd (false≢true e);
         age = λ e. absurd (false≢true e);
       })
-  outsider-run m (b ∷ bs) p n =
+  outsider_run m (b ∷ bs) p n =
       let c = m.connection in
-      let most = heldMost c.phase in
+      let most = held_most c.phase in
       let l = collected most c.line b in
-      let g = gathered-more most c.line b bs in
-      let unmatched = subst (λ (k : Gathered). k.ended ≡ true → isMatch s c k.line ≡ false) g n in
+      let g = gathered-cons most c.line b bs in
+      let unmatched = subst (λ (k : Gathered). k.ended ≡ true → is_match s c k.line ≡ false) g n in
       also g (run_more (code "\r") State collects (ends s) m b bs)
-      (first_step m b bs (b is "\r") p unmatched (λ k. outsider-run (state_of m.own (withLine c l)) bs p k))
+      (first_step m b bs (b is "\r") p unmatched (λ k. outsider_run (state_of m.own (with_line c l)) bs p k))
 
 -- the calls, however the stream is cut
-module _ (room : ℕ) (enough : replyRoom ≤ room) (p : ℕ) (there : p < placesCount) (d : Device)
-    (legal : isLegal d ≡ true) (waits : (connectionAt d p).phase ≡ awaiting) (ps : List (List ℕ))
-    (unmatched : Unmatched d.settings (connectionAt d p) (uncut ps)) where
+module _ (room : ℕ) (enough : reply_room ≤ room) (p : ℕ) (there : p < places_count) (d : Device)
+    (legal : is_legal d ≡ true) (waits : (connection_at d p).phase ≡ awaiting) (ps : List (List ℕ))
+    (unmatched : IsUnmatched d.settings (connection_at d p) (uncut ps)) where
   abbrev all : Out Device
-  all = handedParts (receives room p) d ps
+  all = handed_parts (receives room p) d ps
 
-  abbrev ends-in : Out State
-  ends-in = ran d.settings (parts_at d p) (uncut ps)
+  abbrev ends_in : Out State
+  ends_in = ran d.settings (parts_at d p) (uncut ps)
 
-  as-run : all ≡ outThrough (deviceAt d p) ends-in
-  as-run = received-as-run room enough p there d legal (ap (λ (k : ℕ). eqb k shut) waits) ps
+  as_run : all ≡ out_through (device_at d p) ends_in
+  as_run = received_as_run room enough p there d legal (ap (λ (k : ℕ). k == shut) waits) ps
 
-  fruitless : Fruitless d.own (firstLine (connectionAt d p) (uncut ps)) ends-in
-  fruitless = outsider-run d.settings (parts_at d p) (uncut ps) waits unmatched
+  fruitless : Fruitless d.own (first_line (connection_at d p) (uncut ps)) ends_in
+  fruitless = outsider_run d.settings (parts_at d p) (uncut ps) waits unmatched
 
-  pub outsider-stream-keeps-own : (handedParts (receives room p) d ps).state.own ≡ d.own
-  outsider-stream-keeps-own = ap (λ (o : Out Device). o.state.own) as-run ∙ fruitless.own
+  pub outsider_stream_keeps_own : (handed_parts (receives room p) d ps).state.own ≡ d.own
+  outsider_stream_keeps_own = ap (λ (o : Out Device). o.state.own) as_run ∙ fruitless.own
 
-  pub outsider-stream-refused : (handedParts (receives room p) d ps).reply
-      ≡ refusalOf (firstLine (connectionAt d p) (uncut ps))
-  outsider-stream-refused = ap (λ (o : Out Device). o.reply) as-run ∙ fruitless.reply
+  pub outsider_stream_refused : (handed_parts (receives room p) d ps).reply
+      ≡ refusal_of (first_line (connection_at d p) (uncut ps))
+  outsider_stream_refused = ap (λ (o : Out Device). o.reply) as_run ∙ fruitless.reply
 
-  pub outsider-stream-keeps-settings : (handedParts (receives room p) d ps).state.settings ≡ d.settings
-  outsider-stream-keeps-settings = ap (λ (o : Out Device). o.state.settings) as-run
+  pub outsider_stream_keeps_settings : (handed_parts (receives room p) d ps).state.settings ≡ d.settings
+  outsider_stream_keeps_settings = ap (λ (o : Out Device). o.state.settings) as_run
 
   -- every other place is as it was
-  pub outsider-stream-keeps-others : (q : ℕ) → (q ≡ p → ⊥)
-      → connectionAt (handedParts (receives room p) d ps).state q ≡ connectionAt d q
-  outsider-stream-keeps-others q other =
-      ap (λ (o : Out Device). connectionAt o.state q) as-run
-      ∙ placed-elsewhere d ends-in.state.own p ends-in.state.connection q other
+  pub connection_at-handed_parts : (q : ℕ) → (q ≡ p → ⊥)
+      → connection_at (handed_parts (receives room p) d ps).state q ≡ connection_at d q
+  connection_at-handed_parts q other =
+      ap (λ (o : Out Device). connection_at o.state q) as_run
+      ∙ placed_elsewhere d ends_in.state.own p ends_in.state.connection q other
 
-  here : connectionAt all.state p ≡ ends-in.state.connection
+  here : connection_at all.state p ≡ ends_in.state.connection
   here =
-      ap (λ (o : Out Device). connectionAt o.state p) as-run
-      ∙ placed-here d (legal-places d legal) p there ends-in.state.own ends-in.state.connection
+      ap (λ (o : Out Device). connection_at o.state p) as_run
+      ∙ placed_here d (legal_places d legal) p there ends_in.state.own ends_in.state.connection
 
   -- once his first line ended, the connection has failed
-  module _ (cr : (firstLine (connectionAt d p) (uncut ps)).ended ≡ true) where
-    pub outsider-stream-fails : (connectionAt (handedParts (receives room p) d ps).state p).phase ≡ failed
-    outsider-stream-fails = ap (λ (c : Connection). c.phase) here ∙ fruitless.fails cr
+  module _ (cr : (first_line (connection_at d p) (uncut ps)).ended ≡ true) where
+    pub outsider_stream_fails : (connection_at (handed_parts (receives room p) d ps).state p).phase ≡ failed
+    outsider_stream_fails = ap (λ (c : Connection). c.phase) here ∙ fruitless.fails cr
 
-    pub outsider-stream-age : (connectionAt (handedParts (receives room p) d ps).state p).age ≡ 0
-    outsider-stream-age = ap (λ (c : Connection). c.age) here ∙ fruitless.age cr
+    pub outsider_stream_age : (connection_at (handed_parts (receives room p) d ps).state p).age ≡ 0
+    outsider_stream_age = ap (λ (c : Connection). c.age) here ∙ fruitless.age cr

@@ -1,74 +1,71 @@
 -- Who does not know the password changes nothing of the projector's own part (RULES, Connection).
 --   Outside o c e      what a refused digest leaves: the ERRA line, the own part o, the connection failed with age 0
 -- Assumes nothing.
-use Prim.Native.Nat.{ℕ}
-use mathlib.Core.Path.{◌≡◌, refl, sym, ap, ◌∙◌}
-use mathlib.Core.Bool.{true, false, false≢true}
-use mathlib.Core.List.{List, []}
-use native.Mathlib.Omega.{arith}
-use Rattle.pjlink.specs.Forms.{erraLine}
+use Rattle.std.proofs.Common.{ℕ, ◌≡◌, refl, sym, ap, ◌∙◌, true, false, List, [], arith}
+use Rattle.std.proofs.lemmas.Bool.{false≢true}
+use Rattle.pjlink.specs.Forms.{erra_line}
 use Rattle.record.specs.Limits.{awaiting, failed}
-use Rattle.record.specs.Legal.{heldMost}
+use Rattle.record.specs.Legal.{held_most}
 use Rattle.record.specs.declared.types.Settings.{Settings}
 use Rattle.record.specs.declared.types.Own.{Own}
 use Rattle.record.specs.declared.types.Line.{Line}
 use Rattle.record.specs.declared.types.Connection.{Connection}
 use Rattle.record.specs.declared.types.Device.{Device}
-use Rattle.record.specs.Places.{connectionAt, withPlace}
-use Rattle.record.proofs.ConnectionsTold.{placed-itself}
-use Rattle.stream.specs.Collecting.{emptyLine, gathered}
-use Rattle.device.specs.Receiving.{Ended, isMatch, noReply, lineEnded, takenIn}
+use Rattle.record.specs.Places.{connection_at, with_place}
+use Rattle.record.proofs.ConnectionsTold.{with_place-connection_at}
+use Rattle.stream.specs.Collecting.{empty_line, gathered}
+use Rattle.device.specs.Receiving.{Ended, is_match, no_reply, line_ended, taken_in}
 use Rattle.device.specs.Calls.{received}
-use Rattle.device.proofs.Cases.{received-by}
-use Rattle.device.proofs.LineCases.{ended-other, ended-erra, keeping_none, taken-by}
+use Rattle.device.proofs.Cases.{received_by}
+use Rattle.device.proofs.LineCases.{ended_other, ended_erra, keeping_none, taken_by}
 
 pub record Outside (o : Own) (c : Connection) (e : Ended) : Type 0 where
-  pub reply : e.reply ≡ erraLine
+  pub reply : e.reply ≡ erra_line
   pub own : e.own ≡ o
   pub phase : e.connection.phase ≡ failed
   pub age : e.connection.age ≡ 0
   pub random : e.connection.random ≡ c.random
-  pub line : e.connection.line ≡ emptyLine
+  pub line : e.connection.line ≡ empty_line
 
 -- the line that a call takes in, if CR comes, does not match
-abbrev pub Unmatched : Settings → Connection → List ℕ → Type 0
-Unmatched s c bs =
-    let g = gathered (heldMost c.phase) c.line bs in
-    g.ended ≡ true → isMatch s c g.line ≡ false
+abbrev pub IsUnmatched : Settings → Connection → List ℕ → Type 0
+IsUnmatched s c bs =
+    let g = gathered (held_most c.phase) c.line bs in
+    g.ended ≡ true → is_match s c g.line ≡ false
 
 module _ (s : Settings) (o : Own) (c : Connection) where
   module _ (phase : c.phase ≡ awaiting) where
-    pub mismatch-refused : (l : Line) → isMatch s c l ≡ false → Outside o c (lineEnded s o c l)
-    mismatch-refused l m = rw (ended-erra s o c l phase m)
+    pub mismatch_refused : (l : Line) → is_match s c l ≡ false → Outside o c (line_ended s o c l)
+    mismatch_refused l m = rw (ended_erra s o c l phase m)
         (record { reply = refl; own = refl; phase = refl; age = refl; random = refl; line = refl })
 
-    pub unmatched-line-refused : (bs : List ℕ) → Unmatched s c bs
-        → (gathered (heldMost c.phase) c.line bs).ended ≡ true → Outside o c (takenIn s o c bs).ended
-    unmatched-line-refused bs n cr =
-        taken-by s o c bs (λ t. Outside o c t.ended) (λ e. mismatch-refused _ (n e))
+    pub unmatched_line_refused : (bs : List ℕ) → IsUnmatched s c bs
+        → (gathered (held_most c.phase) c.line bs).ended ≡ true → Outside o c (taken_in s o c bs).ended
+    unmatched_line_refused bs n cr =
+        taken_by s o c bs (λ t. Outside o c t.ended) (λ e. mismatch_refused _ (n e))
         (λ e. absurd (false≢true (sym e ∙ cr)))
 
   module _ (phase : c.phase ≡ failed) where
-    pub failed-ignores-line : (l : Line) → lineEnded s o c l ≡ noReply o c
-    failed-ignores-line l = ended-other s o c l (λ p. omega arith) (λ p. omega arith)
+    pub failed_ignores_line : (l : Line) → line_ended s o c l ≡ no_reply o c
+    failed_ignores_line l = ended_other s o c l (λ p. omega arith) (λ p. omega arith)
 
-    pub failed-ignores : (bs : List ℕ) → (takenIn s o c bs).ended ≡ noReply o c
-    failed-ignores bs =
-        taken-by s o c bs (λ t. t.ended ≡ noReply o c) (λ e. failed-ignores-line _)
-        (λ e. ap (noReply o) (keeping_none c _ phase))
+    pub failed_ignores : (bs : List ℕ) → (taken_in s o c bs).ended ≡ no_reply o c
+    failed_ignores bs =
+        taken_by s o c bs (λ t. t.ended ≡ no_reply o c) (λ e. failed_ignores_line _)
+        (λ e. ap (no_reply o) (keeping_none c _ phase))
 
 module _ (d : Device) (p : ℕ) (bs : List ℕ) (room : ℕ) where
   abbrev here : Connection
-  here = connectionAt d p
+  here = connection_at d p
 
   module _ (phase : here.phase ≡ failed) where
-    pub failed-keeps-record : (received d p bs room).device ≡ d
-    failed-keeps-record =
-        received-by d p bs room (λ r. r.device ≡ d) (λ n z. refl)
-        (λ h s t c. ap {B = Device} (λ (e : Ended). withPlace d e.own p e.connection)
-        (failed-ignores d.settings d.own here phase bs) ∙ placed-itself d p)
+    pub failed_keeps_record : (received d p bs room).device ≡ d
+    failed_keeps_record =
+        received_by d p bs room (λ r. r.device ≡ d) (λ n z. refl)
+        (λ h s t c. ap {B = Device} (λ (e : Ended). with_place d e.own p e.connection)
+        (failed_ignores d.settings d.own here phase bs) ∙ with_place-connection_at d p)
 
-    pub failed-never-replies : (received d p bs room).reply ≡ []
-    failed-never-replies =
-        received-by d p bs room (λ r. r.reply ≡ []) (λ n z. refl)
-        (λ h s t c. ap (λ (e : Ended). e.reply) (failed-ignores d.settings d.own here phase bs))
+    pub failed_never_replies : (received d p bs room).reply ≡ []
+    failed_never_replies =
+        received_by d p bs room (λ r. r.reply ≡ []) (λ n z. refl)
+        (λ h s t c. ap (λ (e : Ended). e.reply) (failed_ignores d.settings d.own here phase bs))

@@ -1,120 +1,119 @@
 -- What a line does to the power, as its bytes and its reply's bytes show it: nothing, and the reply is not `%1POWR=OK`
 -- in any case of letters; or the line is `%1POWR 0` or `%1POWR 1`, in any case of the body, answered OK and carried
 -- out. POWR is a body of Class 1: a line of Class 2 sets no power (RULES, Class 2).
---   isPowerOkay r          the reply r is `%1POWR=OK` and CR, in any case of letters
---   powerLine a b c d w    the line that sets the power to w, with the body bytes a b c d
+--   is_power_okay r        the reply r is `%1POWR=OK` and CR, in any case of letters
+--   power_line a b c d w   the line that sets the power to w, with the body bytes a b c d
 --   PowerEffect s o l r k  the line l, replied to by r, leaves the own part k of o
 -- Assumes nothing.
-use Prim.Native.Nat.{ℕ}
+use Rattle.std.proofs.Common.{ℕ, ◌≡◌, refl, sym, ap, ◌∙◌, Bool, true, false, not, ◌&&◌, List, [], ◌∷◌, ◌++◌, ◌==◌}
+use Rattle.std.proofs.Common.{codes}
+use Rattle.std.proofs.lemmas.Bool.{false≢true}
+use Rattle.std.proofs.Math.Bool.{and-false}
 use Prim.Native.Char.{code}
-use mathlib.Core.Path.{◌≡◌, refl, sym, ap, ◌∙◌}
-use mathlib.Core.Bool.{Bool, true, false, not, ◌&&◌, false≢true, and-false}
-use mathlib.Core.List.{List, [], ◌∷◌, ◌++◌}
-use lib.Dec.{eqb}
 use Rattle.std.specs.Prelude.{Ok}
-use Rattle.text.specs.Words.{ascii}
-use Rattle.text.specs.Scans.{sameBy}
-use Rattle.text.proofs.Choices.{if-by}
-use Rattle.words.specs.Bytes.{◌at◌, upperOf}
+use Rattle.text.specs.Scans.{same_by}
+use Rattle.text.proofs.Choices.{if_by}
+use Rattle.words.specs.Bytes.{◌at◌, upper_of}
 use Rattle.words.specs.Powers.{switch_code}
-use Rattle.pjlink.specs.Forms.{headBody, classNamed, lineClass, isCommandForm, commandParameter, replyLine}
+use Rattle.pjlink.specs.Forms.{head_body, class_of_byte, line_class, is_command_form, command_parameter, reply_line}
 use Rattle.pjlink.specs.declared.body.Body.TheVariants.{Powr}
 use Rattle.pjlink.specs.declared.command.Command.TheVariants.{PowerSet}
-use Rattle.pjlink.proofs.FormsSpelt.{taken-by, form-takes, form-spelt}
-use Rattle.pjlink.specs.Bodies.{isBody}
+use Rattle.pjlink.proofs.FormsSpelt.{taken_by, form_takes, form_spelt}
+use Rattle.pjlink.specs.Bodies.{is_body}
 use Rattle.pjlink.specs.Requests.{asked_of}
-use Rattle.pjlink.proofs.PowerAsked.{isPowerSet, not-powr, powr-asked, power-parameter}
+use Rattle.pjlink.proofs.PowerAsked.{is_power_set, not_powr, powr_asked, power_parameter}
 use Rattle.pjlink.proofs.SaidRows.{said_row}
-use Rattle.pjlink.specs.Said.{Said, okay, saidBytes}
+use Rattle.pjlink.specs.Said.{Said, okay, said_bytes}
 use Rattle.record.specs.declared.types.Settings.{Settings}
 use Rattle.record.specs.declared.types.Own.{Own}
 use Rattle.meaning.specs.Meaning.{meant, done}
-use Rattle.meaning.proofs.PowerSets.{PowerTurn, stays, warms, cools, power-turns}
-use Rattle.device.proofs.PowerRequests.{unchanged, carried, Comes, powr-comes}
-use Rattle.device.specs.Answering.{Answered, lineAsks, replied, lineAnswer}
+use Rattle.meaning.proofs.PowerSets.{PowerTurn, stays, warms, cools, power_turns}
+use Rattle.device.proofs.PowerRequests.{unchanged, carried, Comes, powr_comes}
+use Rattle.device.specs.Answering.{Answered, line_asks, replied, line_answer}
 
 -- a reply is `%1POWR=OK` exactly when its body is POWR and its parameter OK
-abbrev pub isPowerOkay : List ℕ → Bool
-isPowerOkay r = sameBy upperOf r (ascii "%1POWR=OK\r")
+abbrev pub is_power_okay : List ℕ → Bool
+is_power_okay r = same_by upper_of r (codes "%1POWR=OK\r")
 
-four-and : (x y z w t : Bool) → (x && (y && (z && (w && t)))) ≡ ((x && (y && (z && (w && true)))) && t)
-four-and true true true true t = refl
-four-and true true true false t = refl
-four-and true true false w t = refl
-four-and true false z w t = refl
-four-and false y z w t = refl
+four_and : (x y z w t : Bool) → (x && (y && (z && (w && t)))) ≡ ((x && (y && (z && (w && true)))) && t)
+four_and true true true true t = refl
+four_and true true true false t = refl
+four_and true true false w t = refl
+four_and true false z w t = refl
+four_and false y z w t = refl
 
 module _ (a b c d : ℕ) (p : List ℕ) where
-  okay-by-parts : isPowerOkay (replyLine (code "1") a b c d p)
-      ≡ (isBody 1 (a ∷ b ∷ c ∷ d ∷ []) Powr && sameBy upperOf (p ++ (code "\r" ∷ [])) (ascii "OK\r"))
-  okay-by-parts =
-      four-and (eqb (upperOf a) (code "P")) (eqb (upperOf b) (code "O")) (eqb (upperOf c) (code "W"))
-      (eqb (upperOf d) (code "R"))
-      (sameBy upperOf (p ++ (code "\r" ∷ [])) (ascii "OK\r"))
+  okay_by_parts : is_power_okay (reply_line (code "1") a b c d p)
+      ≡ (is_body 1 (a ∷ b ∷ c ∷ d ∷ []) Powr && same_by upper_of (p ++ (code "\r" ∷ [])) (codes "OK\r"))
+  okay_by_parts =
+      four_and (upper_of a == code "P") (upper_of b == code "O") (upper_of c == code "W")
+      (upper_of d == code "R")
+      (same_by upper_of (p ++ (code "\r" ∷ [])) (codes "OK\r"))
 
-  other-reply : isBody 1 (a ∷ b ∷ c ∷ d ∷ []) Powr ≡ false → isPowerOkay (replyLine (code "1") a b c d p) ≡ false
-  other-reply e =
-      okay-by-parts ∙ ap (λ (t : Bool). t && sameBy upperOf (p ++ (code "\r" ∷ [])) (ascii "OK\r")) e
+  other_reply : is_body 1 (a ∷ b ∷ c ∷ d ∷ []) Powr ≡ false → is_power_okay (reply_line (code "1") a b c d p) ≡ false
+  other_reply e =
+      okay_by_parts ∙ ap (λ (t : Bool). t && same_by upper_of (p ++ (code "\r" ∷ [])) (codes "OK\r")) e
 
-  other-said : sameBy upperOf (p ++ (code "\r" ∷ [])) (ascii "OK\r") ≡ false
-      → isPowerOkay (replyLine (code "1") a b c d p) ≡ false
-  other-said e =
-      okay-by-parts ∙ ap (λ (t : Bool). isBody 1 (a ∷ b ∷ c ∷ d ∷ []) Powr && t) e
-      ∙ and-false (isBody 1 (a ∷ b ∷ c ∷ d ∷ []) Powr)
+  other_said : same_by upper_of (p ++ (code "\r" ∷ [])) (codes "OK\r") ≡ false
+      → is_power_okay (reply_line (code "1") a b c d p) ≡ false
+  other_said e =
+      okay_by_parts ∙ ap (λ (t : Bool). is_body 1 (a ∷ b ∷ c ∷ d ∷ []) Powr && t) e
+      ∙ and-false (is_body 1 (a ∷ b ∷ c ∷ d ∷ []) Powr)
 
-okay-said : (h a b c d : ℕ) (m : Said) → m ≡ okay → replyLine h a b c d (saidBytes m) ≡ replyLine h a b c d (ascii "OK")
-okay-said h a b c d m e =
-    ap (λ (x : Said). replyLine h a b c d (saidBytes x)) e ∙ ap (replyLine h a b c d) (said_row okay)
+reply_line-said_bytes : (h a b c d : ℕ) (m : Said) → m ≡ okay →
+    reply_line h a b c d (said_bytes m) ≡ reply_line h a b c d (codes "OK")
+reply_line-said_bytes h a b c d m e =
+    ap (λ (x : Said). reply_line h a b c d (said_bytes x)) e ∙ ap (reply_line h a b c d) (said_row okay)
 
-pub okay-reply : (a b c d : ℕ) → isBody 1 (a ∷ b ∷ c ∷ d ∷ []) Powr ≡ true
-    → isPowerOkay (replyLine (code "1") a b c d (ascii "OK")) ≡ true
-okay-reply a b c d e = okay-by-parts a b c d (ascii "OK") ∙ ap (λ (t : Bool). t && true) e
+pub okay_reply : (a b c d : ℕ) → is_body 1 (a ∷ b ∷ c ∷ d ∷ []) Powr ≡ true
+    → is_power_okay (reply_line (code "1") a b c d (codes "OK")) ≡ true
+okay_reply a b c d e = okay_by_parts a b c d (codes "OK") ∙ ap (λ (t : Bool). t && true) e
 
 -- a line of the form with a parameter of one byte is spelt by its parts
-abbrev pub powerLine : (a b c d : ℕ) (wanted : Bool) → List ℕ
-powerLine a b c d wanted = ascii "%1" ++ (a ∷ b ∷ c ∷ d ∷ []) ++ ascii " " ++ (switch_code wanted ∷ [])
+abbrev pub power_line : (a b c d : ℕ) (wanted : Bool) → List ℕ
+power_line a b c d wanted = codes "%1" ++ (a ∷ b ∷ c ∷ d ∷ []) ++ codes " " ++ (switch_code wanted ∷ [])
 
 -- with its CR it is read, in any case of letters, as a set to that power and to no other
-abbrev pub isPowerLine : Bool → List ℕ → Bool
-isPowerLine v l = sameBy upperOf l (ascii "%1POWR " ++ (switch_code v ∷ ascii "\r"))
+abbrev pub is_power_line : Bool → List ℕ → Bool
+is_power_line v l = same_by upper_of l (codes "%1POWR " ++ (switch_code v ∷ codes "\r"))
 
-abbrev isSame : Bool → Bool → Bool
-isSame true v = v
-isSame false v = not v
+abbrev is_same : Bool → Bool → Bool
+is_same true v = v
+is_same false v = not v
 
-switch-read : (w v : Bool)
-    → sameBy upperOf (switch_code w ∷ ascii "\r") (switch_code v ∷ ascii "\r") ≡ isSame w v
-switch-read true true = refl
-switch-read true false = refl
-switch-read false true = refl
-switch-read false false = refl
+switch_read : (w v : Bool)
+    → same_by upper_of (switch_code w ∷ codes "\r") (switch_code v ∷ codes "\r") ≡ is_same w v
+switch_read true true = refl
+switch_read true false = refl
+switch_read false true = refl
+switch_read false false = refl
 
-same-itself : (w : Bool) → isSame w w ≡ true
-same-itself true = refl
-same-itself false = refl
+same_itself : (w : Bool) → is_same w w ≡ true
+same_itself true = refl
+same_itself false = refl
 
-not-other : (w : Bool) → isSame w (not w) ≡ false
-not-other true = refl
-not-other false = refl
+not_other : (w : Bool) → is_same w (not w) ≡ false
+not_other true = refl
+not_other false = refl
 
-module _ (a b c d : ℕ) (powr : isBody 1 (a ∷ b ∷ c ∷ d ∷ []) Powr ≡ true) (wanted : Bool) where
-  line-by-parts : (v : Bool) → isPowerLine v (powerLine a b c d wanted ++ ascii "\r") ≡ isSame wanted v
-  line-by-parts v =
-      four-and (eqb (upperOf a) (code "P")) (eqb (upperOf b) (code "O")) (eqb (upperOf c) (code "W"))
-      (eqb (upperOf d) (code "R"))
-      (sameBy upperOf (switch_code wanted ∷ ascii "\r") (switch_code v ∷ ascii "\r"))
-      ∙ (λ i. powr i && switch-read wanted v i)
+module _ (a b c d : ℕ) (powr : is_body 1 (a ∷ b ∷ c ∷ d ∷ []) Powr ≡ true) (wanted : Bool) where
+  line_by_parts : (v : Bool) → is_power_line v (power_line a b c d wanted ++ codes "\r") ≡ is_same wanted v
+  line_by_parts v =
+      four_and (upper_of a == code "P") (upper_of b == code "O") (upper_of c == code "W")
+      (upper_of d == code "R")
+      (same_by upper_of (switch_code wanted ∷ codes "\r") (switch_code v ∷ codes "\r"))
+      ∙ (λ i. powr i && switch_read wanted v i)
 
-  pub power-line-read : isPowerLine wanted (powerLine a b c d wanted ++ ascii "\r") ≡ true
-  power-line-read = line-by-parts wanted ∙ same-itself wanted
+  pub power_line_read : is_power_line wanted (power_line a b c d wanted ++ codes "\r") ≡ true
+  power_line_read = line_by_parts wanted ∙ same_itself wanted
 
-  pub power-line-not-other : isPowerLine (not wanted) (powerLine a b c d wanted ++ ascii "\r") ≡ false
-  power-line-not-other = line-by-parts (not wanted) ∙ not-other wanted
+  pub power_line_not_other : is_power_line (not wanted) (power_line a b c d wanted ++ codes "\r") ≡ false
+  power_line_not_other = line_by_parts (not wanted) ∙ not_other wanted
 
 pub data PowerEffect (s : Settings) (o : Own) (l reply : List ℕ) (k : Own) : Type 0 where
-  quiet : isPowerOkay reply ≡ false → k.power ≡ o.power → k.left ≡ o.left → PowerEffect s o l reply k
-  sets : (a b c d : ℕ) (wanted : Bool) → isBody 1 (a ∷ b ∷ c ∷ d ∷ []) Powr ≡ true → l ≡ powerLine a b c d wanted
-      → reply ≡ replyLine (code "1") a b c d (ascii "OK") → meant s o (Ok (PowerSet wanted)) ≡ okay
+  quiet : is_power_okay reply ≡ false → k.power ≡ o.power → k.left ≡ o.left → PowerEffect s o l reply k
+  sets : (a b c d : ℕ) (wanted : Bool) → is_body 1 (a ∷ b ∷ c ∷ d ∷ []) Powr ≡ true → l ≡ power_line a b c d wanted
+      → reply ≡ reply_line (code "1") a b c d (codes "OK") → meant s o (Ok (PowerSet wanted)) ≡ okay
       → k ≡ done s o (Ok (PowerSet wanted)) → PowerEffect s o l reply k
 
 module _ (s : Settings) (o : Own) (l : List ℕ) where
@@ -122,62 +121,63 @@ module _ (s : Settings) (o : Own) (l : List ℕ) where
   EffectOf a = PowerEffect s o l a.reply a.own
 
   -- a reply under the class byte h
-  abbrev replyUnder : ℕ → List ℕ → List ℕ
-  replyUnder h p = replyLine h (l at 2) (l at 3) (l at 4) (l at 5) p
+  abbrev reply_under : ℕ → List ℕ → List ℕ
+  reply_under h p = reply_line h (l at 2) (l at 3) (l at 4) (l at 5) p
 
-  abbrev isPowr : ℕ → Bool
-  isPowr h = isBody (classNamed h) (headBody l) Powr
+  abbrev is_powr : ℕ → Bool
+  is_powr h = is_body (class_of_byte h) (head_body l) Powr
 
   abbrev said : List ℕ
-  said = saidBytes (meant s o (lineAsks l))
+  said = said_bytes (meant s o (line_asks l))
 
   -- no POWR: no power is set
-  module _ (other : isPowr (l at 1) ≡ false) (quiet-reply : isPowerOkay (replyUnder (l at 1) said) ≡ false) where
-    abbrev not-asked : isPowerSet (lineAsks l) ≡ false
-    not-asked = not-powr (commandParameter l) (lineClass l) (headBody l) other
+  module _ (other : is_powr (l at 1) ≡ false) (quiet-reply : is_power_okay (reply_under (l at 1) said) ≡ false) where
+    abbrev not_asked : is_power_set (line_asks l) ≡ false
+    not_asked = not_powr (command_parameter l) (line_class l) (head_body l) other
 
-    by_turn : PowerTurn s o (lineAsks l) (meant s o (lineAsks l)) (done s o (lineAsks l)) → EffectOf (replied s o l)
+    by_turn : PowerTurn s o (line_asks l) (meant s o (line_asks l)) (done s o (line_asks l)) → EffectOf (replied s o l)
     by_turn (stays p q) = quiet quiet-reply p q
-    by_turn (warms r m h p q) = absurd (false≢true (sym not-asked ∙ ap isPowerSet r))
-    by_turn (cools r m h p q) = absurd (false≢true (sym not-asked ∙ ap isPowerSet r))
+    by_turn (warms r m h p q) = absurd (false≢true (sym not_asked ∙ ap is_power_set r))
+    by_turn (cools r m h p q) = absurd (false≢true (sym not_asked ∙ ap is_power_set r))
 
-    no-power-set : EffectOf (replied s o l)
-    no-power-set = by_turn (power-turns s o (lineAsks l))
+    no_power_set : EffectOf (replied s o l)
+    no_power_set = by_turn (power_turns s o (line_asks l))
 
-  module _ (form : isCommandForm s.class_number l ≡ true) (first : l at 1 ≡ code "1") where
-    module _ (powr : isPowr (code "1") ≡ true) where
-      abbrev is-asked : lineAsks l ≡ asked_of Powr (commandParameter l)
-      is-asked = powr-asked (commandParameter l) (lineClass l) (headBody l) (ap isPowr first ∙ powr)
+  module _ (form : is_command_form s.class_number l ≡ true) (first : l at 1 ≡ code "1") where
+    module _ (powr : is_powr (code "1") ≡ true) where
+      abbrev is_asked : line_asks l ≡ asked_of Powr (command_parameter l)
+      is_asked = powr_asked (command_parameter l) (line_class l) (head_body l) (ap is_powr first ∙ powr)
 
-      by-outcome : Comes s o (lineAsks l) → EffectOf (replied s o l)
-      by-outcome (unchanged n p q) =
-          quiet (ap (λ (h : ℕ). isPowerOkay (replyUnder h said)) first
-          ∙ other-said (l at 2) (l at 3) (l at 4) (l at 5) said n) p q
-      by-outcome (carried wanted r m) =
+      by_outcome : Comes s o (line_asks l) → EffectOf (replied s o l)
+      by_outcome (unchanged n p q) =
+          quiet (ap (λ (h : ℕ). is_power_okay (reply_under h said)) first
+          ∙ other_said (l at 2) (l at 3) (l at 4) (l at 5) said n) p q
+      by_outcome (carried wanted r m) =
           sets (l at 2) (l at 3) (l at 4) (l at 5) wanted powr
-          (form-spelt s.class_number l form
-          ∙ (λ i. ascii "%" ++ (first i ∷ headBody l) ++ ascii " "
-          ++ power-parameter (commandParameter l) wanted (sym is-asked ∙ r) i))
-          (ap (λ (h : ℕ). replyUnder h said) first
-          ∙ okay-said (code "1") (l at 2) (l at 3) (l at 4) (l at 5) (meant s o (lineAsks l)) m)
+          (form_spelt s.class_number l form
+          ∙ (λ i. codes "%" ++ (first i ∷ head_body l) ++ codes " "
+          ++ power_parameter (command_parameter l) wanted (sym is_asked ∙ r) i))
+          (ap (λ (h : ℕ). reply_under h said) first
+          ∙ reply_line-said_bytes (code "1") (l at 2) (l at 3) (l at 4) (l at 5) (meant s o (line_asks l)) m)
           (ap (meant s o) (sym r) ∙ m) (ap (done s o) r)
 
-      powr-effect : EffectOf (replied s o l)
-      powr-effect = by-outcome (rw is-asked (powr-comes s o (commandParameter l)))
+      powr_effect : EffectOf (replied s o l)
+      powr_effect = by_outcome (rw is_asked (powr_comes s o (command_parameter l)))
 
-    by-body : (t : Bool) → isPowr (code "1") ≡ t → EffectOf (replied s o l)
-    by-body true e = powr-effect e
-    by-body false e =
-        no-power-set (ap isPowr first ∙ e)
-        (ap (λ (h : ℕ). isPowerOkay (replyUnder h said)) first ∙ other-reply (l at 2) (l at 3) (l at 4) (l at 5) said e)
+    by_body : (t : Bool) → is_powr (code "1") ≡ t → EffectOf (replied s o l)
+    by_body true e = powr_effect e
+    by_body false e =
+        no_power_set (ap is_powr first ∙ e)
+        (ap (λ (h : ℕ). is_power_okay (reply_under h said)) first
+        ∙ other_reply (l at 2) (l at 3) (l at 4) (l at 5) said e)
 
-  by-class : isCommandForm s.class_number l ≡ true → EffectOf (replied s o l)
-  by-class form =
-      taken-by (EffectOf (replied s o l)) s.class_number (l at 1) (form-takes s.class_number l form)
-      (λ first. by-body form first (isPowr (code "1")) refl)
-      (λ k second. no-power-set (ap isPowr second) (ap (λ (h : ℕ). isPowerOkay (replyUnder h said)) second))
+  by_class : is_command_form s.class_number l ≡ true → EffectOf (replied s o l)
+  by_class form =
+      taken_by (EffectOf (replied s o l)) s.class_number (l at 1) (form_takes s.class_number l form)
+      (λ first. by_body form first (is_powr (code "1")) refl)
+      (λ k second. no_power_set (ap is_powr second) (ap (λ (h : ℕ). is_power_okay (reply_under h said)) second))
 
-  pub line_effect : PowerEffect s o l (lineAnswer s o l).reply (lineAnswer s o l).own
-  unfolding lineAnswer
+  pub line_effect : PowerEffect s o l (line_answer s o l).reply (line_answer s o l).own
+  unfolding line_answer
   line_effect =
-      if-by EffectOf (isCommandForm s.class_number l) by-class (λ n. quiet refl refl refl)
+      if_by EffectOf (is_command_form s.class_number l) by_class (λ n. quiet refl refl refl)

@@ -1,90 +1,88 @@
 -- Receiving changes nothing of the settings, the lamps and their marks, the fault mark and the error digits; opening
 -- and closing change nothing but the connection; and each leaves every other place's connection as it was.
 -- Assumes nothing.
-use Prim.Native.Nat.{ℕ}
-use mathlib.Core.Path.{◌≡◌, refl}
-use mathlib.Core.List.{List}
-use Rattle.text.proofs.Choices.{if-all}
-use Rattle.pjlink.specs.Forms.{isCommandForm}
+use Rattle.std.proofs.Common.{ℕ, ◌≡◌, refl, List}
+use Rattle.text.proofs.Choices.{if_all}
+use Rattle.pjlink.specs.Forms.{is_command_form}
 use Rattle.record.specs.declared.types.Settings.{Settings}
 use Rattle.record.specs.declared.types.Own.{Own}
 use Rattle.record.specs.declared.types.Line.{Line}
 use Rattle.record.specs.declared.types.Connection.{Connection}
 use Rattle.record.specs.declared.types.Device.{Device}
-use Rattle.record.specs.Places.{connectionAt}
-use Rattle.record.proofs.ConnectionsTold.{placed-elsewhere}
-use Rattle.meaning.proofs.Done.{Keeps, done-keeps}
-use Rattle.device.specs.Answering.{Answered, lineAsks, lineAnswer}
-use Rattle.device.specs.Receiving.{lineEnded, takenIn}
-use Rattle.device.specs.Calls.{received, openedBy, placeTaken, closedBy}
-use Rattle.device.proofs.Cases.{received-by, opened-by, opened-placed-by, closed-by}
-use Rattle.device.proofs.LineCases.{ended_by, taken-by}
+use Rattle.record.specs.Places.{connection_at}
+use Rattle.record.proofs.ConnectionsTold.{placed_elsewhere}
+use Rattle.meaning.proofs.Done.{Keeps, done_keeps}
+use Rattle.device.specs.Answering.{Answered, line_asks, line_answer}
+use Rattle.device.specs.Receiving.{line_ended, taken_in}
+use Rattle.device.specs.Calls.{received, opened_by, place_taken, closed_by}
+use Rattle.device.proofs.Cases.{received_by, opened_by_lem, opened_placed_by, closed_by_lem}
+use Rattle.device.proofs.LineCases.{ended_by, taken_by}
 
-itself-kept : (o : Own) → Keeps o o
-itself-kept o = record { lamps = refl; marks = refl; fault = refl; errors = refl }
+itself_kept : (o : Own) → Keeps o o
+itself_kept o = record { lamps = refl; marks = refl; fault = refl; errors = refl }
 
 module _ (s : Settings) (o : Own) where
-  pub answered-keeps : (l : List ℕ) → Keeps o (lineAnswer s o l).own
-  unfolding lineAnswer
-  answered-keeps l =
-      if-all (λ (a : Answered). Keeps o a.own) (isCommandForm s.class_number l) (done-keeps s o (lineAsks l))
-      (itself-kept o)
+  pub answered_keeps : (l : List ℕ) → Keeps o (line_answer s o l).own
+  unfolding line_answer
+  answered_keeps l =
+      if_all (λ (a : Answered). Keeps o a.own) (is_command_form s.class_number l) (done_keeps s o (line_asks l))
+      (itself_kept o)
 
-  pub ended-keeps : (c : Connection) (l : Line) → Keeps o (lineEnded s o c l).own
-  ended-keeps c l =
-      ended_by s o c l (λ e. Keeps o e.own) (λ p m. itself-kept o) (λ p m. answered-keeps _)
-      (λ p m. answered-keeps _) (λ p m. itself-kept o) (λ p q. itself-kept o)
+  pub ended_keeps : (c : Connection) (l : Line) → Keeps o (line_ended s o c l).own
+  ended_keeps c l =
+      ended_by s o c l (λ e. Keeps o e.own) (λ p m. itself_kept o) (λ p m. answered_keeps _)
+      (λ p m. answered_keeps _) (λ p m. itself_kept o) (λ p q. itself_kept o)
 
-  pub taken-keeps : (c : Connection) (bs : List ℕ) → Keeps o (takenIn s o c bs).ended.own
-  taken-keeps c bs =
-      taken-by s o c bs (λ t. Keeps o t.ended.own) (λ e. ended-keeps c _) (λ e. itself-kept o)
+  pub taken_keeps : (c : Connection) (bs : List ℕ) → Keeps o (taken_in s o c bs).ended.own
+  taken_keeps c bs =
+      taken_by s o c bs (λ t. Keeps o t.ended.own) (λ e. ended_keeps c _) (λ e. itself_kept o)
 
 module _ (d : Device) where
   module _ (p : ℕ) (bs : List ℕ) (room : ℕ) where
-    pub receiving-keeps-settings : (received d p bs room).device.settings ≡ d.settings
-    receiving-keeps-settings =
-        received-by d p bs room (λ r. r.device.settings ≡ d.settings) (λ n z. refl)
+    pub receiving_keeps_settings : (received d p bs room).device.settings ≡ d.settings
+    receiving_keeps_settings =
+        received_by d p bs room (λ r. r.device.settings ≡ d.settings) (λ n z. refl)
         (λ h s t c. refl)
 
-    pub receiving-keeps : Keeps d.own (received d p bs room).device.own
-    receiving-keeps =
-        received-by d p bs room (λ r. Keeps d.own r.device.own) (λ n z. itself-kept d.own)
-        (λ h s t c. taken-keeps d.settings d.own (connectionAt d p) bs)
+    pub receiving_keeps : Keeps d.own (received d p bs room).device.own
+    receiving_keeps =
+        received_by d p bs room (λ r. Keeps d.own r.device.own) (λ n z. itself_kept d.own)
+        (λ h s t c. taken_keeps d.settings d.own (connection_at d p) bs)
 
     -- one place's bytes never touch another's connection (RULES, Places)
-    pub receiving-keeps-others : (q : ℕ) → (q ≡ p → ⊥)
-        → connectionAt (received d p bs room).device q ≡ connectionAt d q
-    receiving-keeps-others q other =
-        received-by d p bs room (λ r. connectionAt r.device q ≡ connectionAt d q) (λ n z. refl)
-        (λ h s t c. placed-elsewhere d d.own p _ q other)
+    pub receiving_keeps_others : (q : ℕ) → (q ≡ p → ⊥)
+        → connection_at (received d p bs room).device q ≡ connection_at d q
+    receiving_keeps_others q other =
+        received_by d p bs room (λ r. connection_at r.device q ≡ connection_at d q) (λ n z. refl)
+        (λ h s t c. placed_elsewhere d d.own p _ q other)
 
   module _ (r room : ℕ) where
-    pub opening-keeps-settings : (openedBy d r room).device.settings ≡ d.settings
-    opening-keeps-settings =
-        opened-by d r room (λ q. q.device.settings ≡ d.settings) (λ n z. refl)
+    pub opening_keeps_settings : (opened_by d r room).device.settings ≡ d.settings
+    opening_keeps_settings =
+        opened_by_lem d r room (λ q. q.device.settings ≡ d.settings) (λ n z. refl)
         (λ h s c. refl)
 
-    pub opening-keeps-own : (openedBy d r room).device.own ≡ d.own
-    opening-keeps-own =
-        opened-by d r room (λ q. q.device.own ≡ d.own) (λ n z. refl) (λ h s c. refl)
+    pub opening_keeps_own : (opened_by d r room).device.own ≡ d.own
+    opening_keeps_own =
+        opened_by_lem d r room (λ q. q.device.own ≡ d.own) (λ n z. refl) (λ h s c. refl)
 
     -- nor does opening, but at the place that it takes
-    pub opening-keeps-others : (q : ℕ) → (q ≡ placeTaken d room → ⊥)
-        → connectionAt (openedBy d r room).device q ≡ connectionAt d q
-    opening-keeps-others q =
-        opened-placed-by d r room
-        (λ p k. (q ≡ p → ⊥) → connectionAt k.device q ≡ connectionAt d q) (λ n z e. refl)
-        (λ h s c other. placed-elsewhere d d.own _ _ q other)
+    pub opening_keeps_others : (q : ℕ) → (q ≡ place_taken d room → ⊥)
+        → connection_at (opened_by d r room).device q ≡ connection_at d q
+    opening_keeps_others q =
+        opened_placed_by d r room
+        (λ p k. (q ≡ p → ⊥) → connection_at k.device q ≡ connection_at d q) (λ n z e. refl)
+        (λ h s c other. placed_elsewhere d d.own _ _ q other)
 
   module _ (p : ℕ) where
-    pub closing-keeps-settings : (closedBy d p).device.settings ≡ d.settings
-    closing-keeps-settings =
-        closed-by d p (λ q. q.device.settings ≡ d.settings) (λ n z. refl) (λ h t c. refl)
+    pub closing_keeps_settings : (closed_by d p).device.settings ≡ d.settings
+    closing_keeps_settings =
+        closed_by_lem d p (λ q. q.device.settings ≡ d.settings) (λ n z. refl) (λ h t c. refl)
 
-    pub closing-keeps-own : (closedBy d p).device.own ≡ d.own
-    closing-keeps-own = closed-by d p (λ q. q.device.own ≡ d.own) (λ n z. refl) (λ h t c. refl)
+    pub closing_keeps_own : (closed_by d p).device.own ≡ d.own
+    closing_keeps_own = closed_by_lem d p (λ q. q.device.own ≡ d.own) (λ n z. refl) (λ h t c. refl)
 
-    pub closing-keeps-others : (q : ℕ) → (q ≡ p → ⊥) → connectionAt (closedBy d p).device q ≡ connectionAt d q
-    closing-keeps-others q other =
-        closed-by d p (λ k. connectionAt k.device q ≡ connectionAt d q) (λ n z. refl)
-        (λ h t c. placed-elsewhere d d.own p _ q other)
+    pub connection_at-closed_by : (q : ℕ) → (q ≡ p → ⊥) → connection_at (closed_by d p).device q ≡ connection_at d q
+    connection_at-closed_by q other =
+        closed_by_lem d p (λ k. connection_at k.device q ≡ connection_at d q) (λ n z. refl)
+        (λ h t c. placed_elsewhere d d.own p _ q other)

@@ -2,52 +2,47 @@
 -- an open connection as it is, on an awaiting one behind the matching digest; and a command's line is answered what the
 -- command means.
 -- Assumes nothing.
-use Prim.Native.Nat.{ℕ, ◌+◌, ◌≤◌, ◌<◌}
+use Rattle.std.specs.List.{list_all}
+use Rattle.std.proofs.Common.{ℕ, ◌+◌, ◌≤◌, ◌<◌, ◌≡◌, refl, ap, ◌∙◌, true, List, [], ◌∷◌, ◌++◌, map, arith, length, take}
+use Rattle.std.proofs.Common.{drop, length-append, take_at, drop_at, le-leb, codes}
 use Prim.Native.Char.{code}
-use mathlib.Core.Path.{◌≡◌, refl, ap, ◌∙◌}
-use mathlib.Core.Bool.{true}
-use mathlib.Core.List.{List, [], ◌∷◌, ◌++◌, map}
-use native.Mathlib.Omega.{arith}
-use lib.ListN.{length, take, drop, length-append}
-use lib.Seq.{take_at, drop_at}
-use borrow.Author.Tests.{le-leb}
 use Rattle.std.specs.Prelude.{Ok}
-use Rattle.text.specs.Words.{ascii}
-use Rattle.text.specs.Scans.{every, itself}
+use Rattle.text.specs.Scans.{itself}
 use Rattle.text.proofs.Choices.{both, if_yes, if_no}
-use Rattle.text.proofs.Scanning.{every_append}
+use Rattle.text.proofs.Scanning.{list_all-append}
 use Rattle.text.proofs.Sameness.{turned_same}
-use Rattle.digest.specs.Hex.{leadingDigest}
-use Rattle.digest.proofs.Laws.{leading-digest-length, hex-are-digits, digits-have-no-cr}
-use Rattle.words.specs.Bytes.{notCr, noCr}
-use Rattle.pjlink.specs.Forms.{headBody}
-use Rattle.words.specs.Bytes.{commandMost}
-use Rattle.pjlink.specs.Commands.{bodyText, bodyOf, commandClass, classDigit, isCommand, commandText}
+use Rattle.digest.specs.Hex.{leading_digest}
+use Rattle.digest.proofs.Laws.{length-leading_digest, hex_are_digits, digits_have_no_cr}
+use Rattle.words.specs.Bytes.{not_cr, no_cr}
+use Rattle.pjlink.specs.Forms.{head_body}
+use Rattle.words.specs.Bytes.{command_most}
+use Rattle.pjlink.specs.Commands.{body_text, body_of, command_class, class_digit, is_command, command_text}
 use Rattle.pjlink.specs.declared.command.Command.{Command}
-use Rattle.pjlink.proofs.BodiesNamed.{body-named}
-use Rattle.pjlink.proofs.CommandLines.{command-body, command-parameter, command-class, command-form}
-use Rattle.pjlink.proofs.CommandLines.{command-of-higher-class}
-use Rattle.pjlink.specs.Bodies.{isBody}
-use Rattle.pjlink.specs.Requests.{requestOf}
-use Rattle.pjlink.proofs.CommandsAskedBack.{command-asked-back}
-use Rattle.pjlink.specs.Said.{saidBytes}
-use Rattle.record.specs.Limits.{lineRoom, awaiting, opened}
-use Rattle.record.specs.Record.{inRoom}
-use Rattle.record.specs.Legal.{heldMost, isSettings}
+use Rattle.pjlink.proofs.BodiesNamed.{body_named_lem}
+use Rattle.pjlink.proofs.CommandLines.{head_body-command_text, command_parameter-command_text, line_class-command_text}
+use Rattle.pjlink.proofs.CommandLines.{command_form}
+use Rattle.pjlink.proofs.CommandLines.{command_of_higher_class}
+use Rattle.pjlink.specs.Bodies.{is_body}
+use Rattle.pjlink.specs.Requests.{request_of}
+use Rattle.pjlink.proofs.CommandsAskedBack.{command_asked_back}
+use Rattle.pjlink.specs.Said.{said_bytes}
+use Rattle.record.specs.Limits.{line_room, awaiting, opened}
+use Rattle.record.specs.Record.{in_room}
+use Rattle.record.specs.Legal.{held_most, is_settings}
 use Rattle.record.specs.declared.types.Settings.{Settings}
 use Rattle.record.specs.declared.types.Own.{Own}
 use Rattle.record.specs.declared.types.Line.{Line}
 use Rattle.record.specs.declared.types.Connection.{Connection}
-use Rattle.record.proofs.Kept.{filled-take, room-first}
-use Rattle.record.proofs.ConnectionTold.{held-most-opened, held-most-awaiting}
-use Rattle.stream.specs.Collecting.{lineText, line_of, emptyLine, gathered}
-use Rattle.stream.proofs.LinesCollected.{empty-is-none, line-gathered}
+use Rattle.record.proofs.Kept.{filled_take, room_first}
+use Rattle.record.proofs.ConnectionTold.{held_most_opened, held_most_awaiting}
+use Rattle.stream.specs.Collecting.{line_text, line_of, empty_line, gathered}
+use Rattle.stream.proofs.LinesCollected.{empty_is_none, line_gathered}
 use Rattle.meaning.specs.Meaning.{meant, done}
-use Rattle.meaning.proofs.ClassKnown.{class_low, class-high}
-use Rattle.device.specs.Answering.{lineAsks, replied, swallowed, lineAnswer}
-use Rattle.device.specs.Receiving.{Ended, Taken, spoken, isMatch, digestLong, passwordOf}
-use Rattle.device.specs.Receiving.{lineEnded, taken_of, takenIn}
-use Rattle.device.proofs.LineCases.{ended-open, ended-match}
+use Rattle.meaning.proofs.ClassKnown.{class_low, class_high}
+use Rattle.device.specs.Answering.{line_asks, replied, swallowed, line_answer}
+use Rattle.device.specs.Receiving.{Ended, Taken, spoken, is_match, digest_long, set_up_password}
+use Rattle.device.specs.Receiving.{line_ended, taken_of, taken_in}
+use Rattle.device.proofs.LineCases.{ended_open, ended_match}
 use Rattle.record.specs.Facts.{IsSettings}
 use Rattle.record.proofs.FactsTold.{settings_is}
 
@@ -56,103 +51,107 @@ map-itself [] = refl
 map-itself (x ∷ xs) = ap (λ (l : List ℕ). x ∷ l) (map-itself xs)
 
 -- the text of a line is what was collected
-text-of-line : (xs : List ℕ) → length xs ≤ lineRoom → lineText (line_of xs) ≡ xs
-text-of-line xs h = filled-take lineRoom noCr xs h
+line_text-line_of : (xs : List ℕ) → length xs ≤ line_room → line_text (line_of xs) ≡ xs
+line_text-line_of xs h = filled_take line_room no_cr xs h
 
-module _ (s : Settings) (o : Own) (c : Connection) (empty : c.line ≡ emptyLine) (rest : List ℕ) where
-  whole-line : (xs : List ℕ) → length xs ≤ heldMost c.phase → heldMost c.phase ≤ lineRoom
-      → every notCr xs ≡ true
-      → takenIn s o c (xs ++ (code "\r" ∷ rest))
-      ≡ record { ended = lineEnded s o c (line_of xs); taken = length xs + 1 }
-  unfolding takenIn
-  whole-line xs h room plain =
-      let most = heldMost c.phase in
-      ap (λ (l : Line). taken_of s o c (gathered most l (xs ++ (code "\r" ∷ rest)))) (empty ∙ empty-is-none)
-      ∙ ap (taken_of s o c) (line-gathered most [] xs rest room (omega arith) plain)
+module _ (s : Settings) (o : Own) (c : Connection) (empty : c.line ≡ empty_line) (rest : List ℕ) where
+  whole_line : (xs : List ℕ) → length xs ≤ held_most c.phase → held_most c.phase ≤ line_room
+      → list_all not_cr xs ≡ true
+      → taken_in s o c (xs ++ (code "\r" ∷ rest))
+      ≡ record { ended = line_ended s o c (line_of xs); taken = length xs + 1 }
+  unfolding taken_in
+  whole_line xs h room plain =
+      let most = held_most c.phase in
+      ap (λ (l : Line). taken_of s o c (gathered most l (xs ++ (code "\r" ∷ rest)))) (empty ∙ empty_is_none)
+      ∙ ap (taken_of s o c) (line_gathered most [] xs rest room (omega arith) plain)
 
-  pub open-line-taken : (xs : List ℕ) → c.phase ≡ opened → length xs ≤ commandMost → every notCr xs ≡ true
-      → takenIn s o c (xs ++ (code "\r" ∷ rest))
-      ≡ record { ended = spoken c (lineAnswer s o xs); taken = length xs + 1 }
-  open-line-taken xs phase short plain =
-      let most : heldMost c.phase ≡ commandMost = ap heldMost phase ∙ held-most-opened in
-      let ended : lineEnded s o c (line_of xs) ≡ spoken c (lineAnswer s o xs)
-      = ended-open s o c (line_of xs) phase refl
-      ∙ ap (λ (l : List ℕ). spoken c (lineAnswer s o l)) (text-of-line xs (omega arith)) in
-      whole-line xs (omega arith) (omega arith) plain
+  pub open_line-taken : (xs : List ℕ) → c.phase ≡ opened → length xs ≤ command_most → list_all not_cr xs ≡ true
+      → taken_in s o c (xs ++ (code "\r" ∷ rest))
+      ≡ record { ended = spoken c (line_answer s o xs); taken = length xs + 1 }
+  open_line-taken xs phase short plain =
+      let most : held_most c.phase ≡ command_most = ap held_most phase ∙ held_most_opened in
+      let ended : line_ended s o c (line_of xs) ≡ spoken c (line_answer s o xs)
+      = ended_open s o c (line_of xs) phase refl
+      ∙ ap (λ (l : List ℕ). spoken c (line_answer s o l)) (line_text-line_of xs (omega arith)) in
+      whole_line xs (omega arith) (omega arith) plain
       ∙ ap {B = Taken} (λ (e : Ended). record { ended = e; taken = length xs + 1 }) ended
 
   -- awaiting: the digest of the random number and the password stands before the line
   module _ (xs : List ℕ) where
     abbrev digest : List ℕ
-    digest = leadingDigest c.random (passwordOf s)
+    digest = leading_digest c.random (set_up_password s)
 
     abbrev led : List ℕ
     led = digest ++ xs
 
-    digest-long : length digest ≡ digestLong
-    digest-long = leading-digest-length c.random (passwordOf s)
+    digest_long_lem : length digest ≡ digest_long
+    digest_long_lem = length-leading_digest c.random (set_up_password s)
 
-    led-long : length led ≡ digestLong + length xs
-    led-long = length-append digest xs ∙ ap (λ (n : ℕ). n + length xs) digest-long
+    led_long : length led ≡ digest_long + length xs
+    led_long = length-append digest xs ∙ ap (λ (n : ℕ). n + length xs) digest_long_lem
 
-    led-matches : length xs ≤ commandMost → isMatch s c (line_of led) ≡ true
-    unfolding isMatch
-    led-matches short =
-        let front : take digestLong (inRoom lineRoom led) ≡ digest
-        = room-first lineRoom led digestLong (omega (arith, led-long)) ∙ take_at digest xs digestLong digest-long in
-        both (le-leb digestLong (length led) (omega (arith, led-long)))
-        (turned_same itself (take digestLong (inRoom lineRoom led)) digest (map-itself _ ∙ front))
+    led_matches : length xs ≤ command_most → is_match s c (line_of led) ≡ true
+    unfolding is_match
+    led_matches short =
+        let front : take digest_long (in_room line_room led) ≡ digest
+        = room_first line_room led digest_long (omega (arith, led_long))
+        ∙ take_at digest xs digest_long digest_long_lem in
+        both (le-leb digest_long (length led) (omega (arith, led_long)))
+        (turned_same itself (take digest_long (in_room line_room led)) digest (map-itself _ ∙ front))
 
-    led-rest : length xs ≤ commandMost → drop digestLong (lineText (line_of led)) ≡ xs
-    led-rest short =
-        ap (drop digestLong) (text-of-line led (omega (arith, led-long))) ∙ drop_at digest xs digestLong digest-long
+    drop-line_text : length xs ≤ command_most → drop digest_long (line_text (line_of led)) ≡ xs
+    drop-line_text short =
+        ap (drop digest_long) (line_text-line_of led (omega (arith, led_long)))
+        ∙ drop_at digest xs digest_long digest_long_lem
 
-    pub matching-line-taken : c.phase ≡ awaiting → length xs ≤ commandMost → every notCr xs ≡ true
-        → takenIn s o c (led ++ (code "\r" ∷ rest))
-        ≡ record { ended = spoken c (lineAnswer s o xs); taken = digestLong + length xs + 1 }
-    matching-line-taken phase short plain =
-        let most : heldMost c.phase ≡ lineRoom = ap heldMost phase ∙ held-most-awaiting in
-        let long = led-long in
-        let ended : lineEnded s o c (line_of led) ≡ spoken c (lineAnswer s o xs)
-        = ended-match s o c (line_of led) phase (led-matches short)
-        ∙ ap (λ (l : List ℕ). spoken c (lineAnswer s o l)) (led-rest short) in
-        whole-line led (omega arith) (omega arith)
-        (every_append notCr digest xs (digits-have-no-cr digest (hex-are-digits _)) plain)
+    pub matching_line-taken : c.phase ≡ awaiting → length xs ≤ command_most → list_all not_cr xs ≡ true
+        → taken_in s o c (led ++ (code "\r" ∷ rest))
+        ≡ record { ended = spoken c (line_answer s o xs); taken = digest_long + length xs + 1 }
+    matching_line-taken phase short plain =
+        let most : held_most c.phase ≡ line_room = ap held_most phase ∙ held_most_awaiting in
+        let long = led_long in
+        let ended : line_ended s o c (line_of led) ≡ spoken c (line_answer s o xs)
+        = ended_match s o c (line_of led) phase (led_matches short)
+        ∙ ap (λ (l : List ℕ). spoken c (line_answer s o l)) (drop-line_text short) in
+        whole_line led (omega arith) (omega arith)
+        (list_all-append not_cr digest xs (digits_have_no_cr digest (hex_are_digits _)) plain)
         ∙ (λ i. record { ended = ended i; taken = long i + 1 })
 
 -- a command's line
-module _ (s : Settings) (o : Own) (settings : isSettings s ≡ true) (k : Command) where
+module _ (s : Settings) (o : Own) (settings : is_settings s ≡ true) (k : Command) where
   abbrev known : IsSettings s
   known = (settings_is s).0 settings
 
   -- of a class higher than the set-up's: no form that it takes (RULES, Class 2)
-  pub higher-swallowed : s.class_number < commandClass k → lineAnswer s o (commandText k) ≡ swallowed o
-  unfolding lineAnswer
-  higher-swallowed higher =
-      if_no (replied s o (commandText k)) (swallowed o)
-      (command-of-higher-class k s.class_number (class_low s known) (class-high s known) higher)
+  pub higher_swallowed : s.class_number < command_class k → line_answer s o (command_text k) ≡ swallowed o
+  unfolding line_answer
+  higher_swallowed higher =
+      if_no (replied s o (command_text k)) (swallowed o)
+      (command_of_higher_class k s.class_number (class_low s known) (class_high s known) higher)
 
-  module _ (writable : isCommand k ≡ true) (within : commandClass k ≤ s.class_number) where
-    command-asked : lineAsks (commandText k) ≡ Ok k
-    command-asked =
-        (λ i. requestOf (command-class k i) (headBody (commandText k)) (command-parameter k i))
-        ∙ command-asked-back k (headBody (commandText k)) writable
-        (ap (λ (h : List ℕ). isBody (commandClass k) h (bodyOf k)) (command-body k) ∙ (body-named (bodyOf k)).own)
+  module _ (writable : is_command k ≡ true) (within : command_class k ≤ s.class_number) where
+    line_asks-command_text : line_asks (command_text k) ≡ Ok k
+    line_asks-command_text =
+        (λ i. request_of (line_class-command_text k i) (head_body (command_text k))
+        (command_parameter-command_text k i))
+        ∙ command_asked_back k (head_body (command_text k)) writable
+        (ap (λ (h : List ℕ). is_body (command_class k) h (body_of k)) (head_body-command_text k)
+        ∙ (body_named_lem (body_of k)).own)
 
     -- class and body as sent, what the command means, and what it does
-    pub command-answered : lineAnswer s o (commandText k) ≡ record {
+    pub command_answered : line_answer s o (command_text k) ≡ record {
       own = done s o (Ok k);
       reply =
-          ascii "%" ++ (classDigit (commandClass k) ∷ bodyText (bodyOf k)) ++ ascii "="
-          ++ saidBytes (meant s o (Ok k)) ++ ascii "\r";
+          codes "%" ++ (class_digit (command_class k) ∷ body_text (body_of k)) ++ codes "="
+          ++ said_bytes (meant s o (Ok k)) ++ codes "\r";
     }
-    unfolding lineAnswer
-    command-answered =
-        if_yes (replied s o (commandText k)) (swallowed o)
-        (command-form k s.class_number (class_low s known) (class-high s known) within)
+    unfolding line_answer
+    command_answered =
+        if_yes (replied s o (command_text k)) (swallowed o)
+        (command_form k s.class_number (class_low s known) (class_high s known) within)
         ∙ (λ i. record {
-          own = done s o (command-asked i);
+          own = done s o (line_asks-command_text i);
           reply =
-              ascii "%" ++ (classDigit (commandClass k) ∷ command-body k i) ++ ascii "="
-              ++ saidBytes (meant s o (command-asked i)) ++ ascii "\r";
+              codes "%" ++ (class_digit (command_class k) ∷ head_body-command_text k i) ++ codes "="
+              ++ said_bytes (meant s o (line_asks-command_text i)) ++ codes "\r";
         })

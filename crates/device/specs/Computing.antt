@@ -1,9 +1,10 @@
 -- One name that opens this crate's definitions, for computing on concrete records only (RULES, Commands).
 -- Assumes nothing.
-use Rattle.device.specs.Answering.{lineAnswer}
-use Rattle.device.specs.Receiving.{isMatch, lineEnded, keepingLine, takenIn}
-use Rattle.device.specs.Calls.{received, greeting, greeted, openedBy, placeTaken, closedBy}
+use Rattle.device.specs.Answering.{line_answer}
+use Rattle.device.specs.Receiving.{is_match, line_ended, keeping_line, taken_in}
+use Rattle.device.specs.Calls.{received, greeting, greeted, opened_by, place_taken, closed_by}
 
 unfoldable pub computing : Unit {0}
-unfolding lineAnswer isMatch lineEnded keepingLine takenIn received greeting greeted openedBy placeTaken closedBy
+unfolding line_answer is_match line_ended keeping_line taken_in received greeting greeted opened_by place_taken
+    closed_by
 computing = tt

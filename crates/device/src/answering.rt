@@ -2,11 +2,11 @@
 ghost use Rattle.std.specs.Prelude.{◌≡◌, ◌≤◌, length};
 ghost use Rattle.text.specs.Words.{over};
 ghost use Rattle.words.specs.Bytes.{◌at◌};
-ghost use Rattle.pjlink.specs.Forms.{replyLine};
-ghost use Rattle.pjlink.specs.Said.{parameterMost, saidBytes};
+ghost use Rattle.pjlink.specs.Forms.{reply_line};
+ghost use Rattle.pjlink.specs.Said.{parameter_most, said_bytes};
 ghost use Rattle.pjlink.specs.Carried.{said_by};
-ghost use Rattle.device.specs.Ready.{Ready};
-ghost use Rattle.device.specs.Answering.{lineAnswer};
+ghost use Rattle.device.specs.Ready.{IsReady};
+ghost use Rattle.device.specs.Answering.{line_answer};
 
 use pjlink::answer::Reply;
 use pjlink::{form, request, write};
@@ -17,11 +17,11 @@ use words::codec::Line;
 // The reply to a line of this class byte and these letters, from the start of the lent memory.
 fn put_reply(out: &mut [u8], class: u8, letters: [u8; 4], reply: &Reply<'_>) -> usize
     requires room { 136 ≤ length out.old }
-    requires short { length (saidBytes (said_by reply.now)) ≤ parameterMost }
-    ensures value { result ≡ length (replyLine class (letters at 0) (letters at 1) (letters at 2)
-        (letters at 3) (saidBytes (said_by reply.now))) }
-    ensures out_after { out.new ≡ over (replyLine class (letters at 0) (letters at 1) (letters at 2)
-        (letters at 3) (saidBytes (said_by reply.now))) out.old }
+    requires short { length (said_bytes (said_by reply.now)) ≤ parameter_most }
+    ensures value { result ≡ length (reply_line class (letters at 0) (letters at 1) (letters at 2)
+        (letters at 3) (said_bytes (said_by reply.now))) }
+    ensures written { out.new ≡ over (reply_line class (letters at 0) (letters at 1) (letters at 2)
+        (letters at 3) (said_bytes (said_by reply.now))) out.old }
 {
     let [a, b, c, d] = letters;
     let mut line = Line::new();
@@ -33,12 +33,12 @@ fn put_reply(out: &mut [u8], class: u8, letters: [u8; 4], reply: &Reply<'_>) -> 
 }
 
 /// What the line asks is decided and answered; a line not of the form is swallowed.
-#[tactic(auto, unfolding(crate::specs::Answering::lineAnswer))]
+#[tactic(auto, unfolding(crate::specs::Answering::line_answer))]
 pub fn answer_line(s: &Settings, o: &mut Own, l: &[u8], out: &mut [u8]) -> usize
-    requires { Ready s.now o.old (length out.old) }
-    ensures value { result ≡ length (lineAnswer s.now o.old l.now).reply }
-    ensures own { o.new ≡ (lineAnswer s.now o.old l.now).own }
-    ensures out_after { out.new ≡ over (lineAnswer s.now o.old l.now).reply out.old }
+    requires { IsReady s.now o.old (length out.old) }
+    ensures value { result ≡ length (line_answer s.now o.old l.now).reply }
+    ensures own { o.new ≡ (line_answer s.now o.old l.now).own }
+    ensures written { out.new ≡ over (line_answer s.now o.old l.now).reply out.old }
 {
     let Some(line) = form::command(s.class_number, l) else {
         return 0;

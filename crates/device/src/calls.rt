@@ -3,7 +3,7 @@
 ghost use Rattle.std.specs.Prelude.{◌≡◌, length};
 ghost use Rattle.text.specs.Words.{over};
 ghost use Rattle.record.specs.Refusals.{outcome_number};
-ghost use Rattle.device.specs.Calls.{received, openedBy, placeTaken, closedBy};
+ghost use Rattle.device.specs.Calls.{received, opened_by, place_taken, closed_by};
 ghost use Rattle.device.specs.Outcomes.{told, receiving_told, opening_told, opened_place};
 
 use crate::on_legal;
@@ -47,12 +47,12 @@ pub fn receive(
 
 /// A new connection at the lowest closed place, with the random number that the host lends. Refused: `NotLegal`,
 /// `NoRoom` for less than 136 bytes of memory, `NoPlace` where none is closed, in that order.
-#[tactic(auto, unfolding(crate::specs::Calls::openedBy, crate::specs::Calls::placeTaken))]
+#[tactic(auto, unfolding(crate::specs::Calls::opened_by, crate::specs::Calls::place_taken))]
 pub fn open(device: &mut Device, random: u32, out: &mut [u8]) -> Result<Opened, Refusal>
-    ensures told { opening_told result ≡ told (openedBy device.old random (length out.old)) }
-    ensures place { opened_place result ≡ placeTaken device.old (length out.old) }
-    ensures device { device.new ≡ (openedBy device.old random (length out.old)).device }
-    ensures reply { out.new ≡ over (openedBy device.old random (length out.old)).reply
+    ensures told { opening_told result ≡ told (opened_by device.old random (length out.old)) }
+    ensures place { opened_place result ≡ place_taken device.old (length out.old) }
+    ensures device { device.new ≡ (opened_by device.old random (length out.old)).device }
+    ensures reply { out.new ≡ over (opened_by device.old random (length out.old)).reply
         out.old }
 {
     if !device.is_legal() {
@@ -62,10 +62,10 @@ pub fn open(device: &mut Device, random: u32, out: &mut [u8]) -> Result<Opened, 
 }
 
 /// The connection at a place closed. Refused: `NotLegal`, `OutOfRange` for no such place, `Closed`, in that order.
-#[tactic(auto, unfolding(crate::specs::Calls::closedBy))]
+#[tactic(auto, unfolding(crate::specs::Calls::closed_by))]
 pub fn close(device: &mut Device, place: usize) -> Result<(), Refusal>
-    ensures number { outcome_number result ≡ (closedBy device.old place).number }
-    ensures device { device.new ≡ (closedBy device.old place).device }
+    ensures number { outcome_number result ≡ (closed_by device.old place).number }
+    ensures device { device.new ≡ (closed_by device.old place).device }
 {
     if !device.is_legal() {
         return Err(Refusal::NotLegal);

@@ -2,9 +2,9 @@
 // and keeps it legal calls these, as `floorlog` does; a host calls those of `calls`, which ask for nothing.
 ghost use Rattle.std.specs.Prelude.{◌≡◌, true, ◌≤◌, length};
 ghost use Rattle.text.specs.Words.{over};
-ghost use Rattle.record.specs.Legal.{isLegal};
+ghost use Rattle.record.specs.Legal.{is_legal};
 ghost use Rattle.record.specs.Refusals.{outcome_number};
-ghost use Rattle.device.specs.Calls.{received, openedBy, placeTaken, closedBy, greeting, greeted};
+ghost use Rattle.device.specs.Calls.{received, opened_by, place_taken, closed_by, greeting, greeted};
 ghost use Rattle.device.specs.Outcomes.{told, receiving_told, opening_told, opened_place};
 
 use crate::calls::{Opened, Received};
@@ -24,7 +24,7 @@ pub fn receive(
     bytes: &[u8],
     out: &mut [u8],
 ) -> Result<Received, Refusal>
-    requires { isLegal device.old ≡ true }
+    requires { is_legal device.old ≡ true }
     ensures told { receiving_told result
         ≡ told (received device.old place bytes.now (length out.old)) }
     ensures device { device.new ≡ (received device.old place bytes.now (length out.old)).device }
@@ -83,13 +83,13 @@ fn greet(s: &Settings, random: u32, c: &mut Connection)
 }
 
 /// As `calls::open`, but for `NotLegal`.
-#[tactic(auto, unfolding(crate::specs::Calls::openedBy, crate::specs::Calls::placeTaken))]
+#[tactic(auto, unfolding(crate::specs::Calls::opened_by, crate::specs::Calls::place_taken))]
 pub fn open(device: &mut Device, random: u32, out: &mut [u8]) -> Result<Opened, Refusal>
-    requires { isLegal device.old ≡ true }
-    ensures told { opening_told result ≡ told (openedBy device.old random (length out.old)) }
-    ensures place { opened_place result ≡ placeTaken device.old (length out.old) }
-    ensures device { device.new ≡ (openedBy device.old random (length out.old)).device }
-    ensures reply { out.new ≡ over (openedBy device.old random (length out.old)).reply
+    requires { is_legal device.old ≡ true }
+    ensures told { opening_told result ≡ told (opened_by device.old random (length out.old)) }
+    ensures place { opened_place result ≡ place_taken device.old (length out.old) }
+    ensures device { device.new ≡ (opened_by device.old random (length out.old)).device }
+    ensures reply { out.new ≡ over (opened_by device.old random (length out.old)).reply
         out.old }
 {
     if out.len() < REPLY_ROOM {
@@ -105,11 +105,11 @@ pub fn open(device: &mut Device, random: u32, out: &mut [u8]) -> Result<Opened, 
 }
 
 /// As `calls::close`, but for `NotLegal`.
-#[tactic(auto, unfolding(crate::specs::Calls::closedBy))]
+#[tactic(auto, unfolding(crate::specs::Calls::closed_by))]
 pub fn close(device: &mut Device, place: usize) -> Result<(), Refusal>
-    requires { isLegal device.old ≡ true }
-    ensures number { outcome_number result ≡ (closedBy device.old place).number }
-    ensures device { device.new ≡ (closedBy device.old place).device }
+    requires { is_legal device.old ≡ true }
+    ensures number { outcome_number result ≡ (closed_by device.old place).number }
+    ensures device { device.new ≡ (closed_by device.old place).device }
 {
     if PLACES <= place {
         return Err(Refusal::OutOfRange);

@@ -1,10 +1,10 @@
 // Receiving, on settings, the projector's own part and one connection.
 ghost use Rattle.std.specs.Prelude.{◌≡◌, min, length, take, drop};
 ghost use Rattle.text.specs.Words.{over};
-ghost use Rattle.digest.specs.Hex.{leadingDigest};
-ghost use Rattle.device.specs.Ready.{Ready};
-ghost use Rattle.device.specs.Answering.{lineAnswer};
-ghost use Rattle.device.specs.Receiving.{turned, isMatch, lineEnded, keepingLine, takenIn};
+ghost use Rattle.digest.specs.Hex.{leading_digest};
+ghost use Rattle.device.specs.Ready.{IsReady};
+ghost use Rattle.device.specs.Answering.{line_answer};
+ghost use Rattle.device.specs.Receiving.{turned, is_match, line_ended, keeping_line, taken_in};
 
 use crate::answering;
 use crate::calls::Received;
@@ -32,16 +32,16 @@ fn turn(c: &mut Connection, phase: u8)
 }
 
 fn digest_of(random: u32, secret: &[u8; TEXT_ROOM], len: usize) -> [u8; 32]
-    ensures { result ≡ leadingDigest random (take len secret.now) }
+    ensures { result ≡ leading_digest random (take len secret.now) }
 {
     let used = within(len, TEXT_ROOM);
     digest::leading_digest(random, &secret[0..used])
 }
 
 // Whether the line starts with the digest of the random number and the password.
-#[tactic(auto, unfolding(crate::specs::Receiving::isMatch))]
+#[tactic(auto, unfolding(crate::specs::Receiving::is_match))]
 fn matches(s: &Settings, c: &Connection, l: &Line) -> bool
-    ensures { result ≡ isMatch s.now c.now l.now }
+    ensures { result ≡ is_match s.now c.now l.now }
 {
     let digest = digest_of(c.random, &s.password.bytes, s.password.len);
     !l.overlong & (32 <= l.held) & text::same(&l.bytes[0..32], &digest)
@@ -56,10 +56,10 @@ fn answer_held(
     o: &mut Own,
     out: &mut [u8],
 ) -> usize
-    requires { Ready s.now o.old (length out.old) }
-    ensures value { result ≡ length (lineAnswer s.now o.old (drop from (take held bytes.now))).reply }
-    ensures own { o.new ≡ (lineAnswer s.now o.old (drop from (take held bytes.now))).own }
-    ensures out_after { out.new ≡ over (lineAnswer s.now o.old (drop from (take held bytes.now))).reply out.old }
+    requires { IsReady s.now o.old (length out.old) }
+    ensures value { result ≡ length (line_answer s.now o.old (drop from (take held bytes.now))).reply }
+    ensures own { o.new ≡ (line_answer s.now o.old (drop from (take held bytes.now))).own }
+    ensures written { out.new ≡ over (line_answer s.now o.old (drop from (take held bytes.now))).reply out.old }
 {
     let end = within(held, LINE_ROOM);
     let start = within(from, end);
@@ -67,13 +67,13 @@ fn answer_held(
 }
 
 // What CR does: the reply's length.
-#[tactic(auto, unfolding(crate::specs::Receiving::lineEnded))]
+#[tactic(auto, unfolding(crate::specs::Receiving::line_ended))]
 fn end_line(s: &Settings, o: &mut Own, c: &mut Connection, l: &Line, out: &mut [u8]) -> usize
-    requires { Ready s.now o.old (length out.old) }
-    ensures value { result ≡ length (lineEnded s.now o.old c.old l.now).reply }
-    ensures own { o.new ≡ (lineEnded s.now o.old c.old l.now).own }
-    ensures connection { c.new ≡ (lineEnded s.now o.old c.old l.now).connection }
-    ensures out_after { out.new ≡ over (lineEnded s.now o.old c.old l.now).reply out.old }
+    requires { IsReady s.now o.old (length out.old) }
+    ensures value { result ≡ length (line_ended s.now o.old c.old l.now).reply }
+    ensures own { o.new ≡ (line_ended s.now o.old c.old l.now).own }
+    ensures connection { c.new ≡ (line_ended s.now o.old c.old l.now).connection }
+    ensures written { out.new ≡ over (line_ended s.now o.old c.old l.now).reply out.old }
 {
     match c.phase() {
         Phase::Open { .. } => {
@@ -97,9 +97,9 @@ fn end_line(s: &Settings, o: &mut Own, c: &mut Connection, l: &Line, out: &mut [
 }
 
 // A failed connection keeps no byte.
-#[tactic(auto, unfolding(crate::specs::Receiving::keepingLine))]
+#[tactic(auto, unfolding(crate::specs::Receiving::keeping_line))]
 fn keep(c: &mut Connection, l: &Line)
-    ensures { c.new ≡ keepingLine c.old l.now }
+    ensures { c.new ≡ keeping_line c.old l.now }
 {
     if c.phase != FAILED {
         c.line = *l;
@@ -107,7 +107,7 @@ fn keep(c: &mut Connection, l: &Line)
 }
 
 // Takes the bytes up to and including the first CR, or all.
-#[tactic(auto, unfolding(crate::specs::Receiving::takenIn))]
+#[tactic(auto, unfolding(crate::specs::Receiving::taken_in))]
 pub fn take_in(
     s: &Settings,
     o: &mut Own,
@@ -115,12 +115,12 @@ pub fn take_in(
     bytes: &[u8],
     out: &mut [u8],
 ) -> Received
-    requires { Ready s.now o.old (length out.old) }
-    ensures taken { result.taken ≡ (takenIn s.now o.old c.old bytes.now).taken }
-    ensures value { result.length ≡ length (takenIn s.now o.old c.old bytes.now).ended.reply }
-    ensures own { o.new ≡ (takenIn s.now o.old c.old bytes.now).ended.own }
-    ensures connection { c.new ≡ (takenIn s.now o.old c.old bytes.now).ended.connection }
-    ensures out_after { out.new ≡ over (takenIn s.now o.old c.old bytes.now).ended.reply out.old }
+    requires { IsReady s.now o.old (length out.old) }
+    ensures taken { result.taken ≡ (taken_in s.now o.old c.old bytes.now).taken }
+    ensures value { result.length ≡ length (taken_in s.now o.old c.old bytes.now).ended.reply }
+    ensures own { o.new ≡ (taken_in s.now o.old c.old bytes.now).ended.own }
+    ensures connection { c.new ≡ (taken_in s.now o.old c.old bytes.now).ended.connection }
+    ensures written { out.new ≡ over (taken_in s.now o.old c.old bytes.now).ended.reply out.old }
 {
     let mut line = c.line;
     let passed = stream::gather(c.phase, &mut line, bytes);

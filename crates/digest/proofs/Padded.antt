@@ -5,13 +5,13 @@
 use Rattle.std.proofs.Common.{◌≡◌, ℕ, zero, suc, ◌+◌, ◌-◌, ◌*◌, ◌/◌, ◌%◌, ◌<◌, List, [], ◌∷◌, ◌++◌, length, take, drop}
 use Rattle.std.proofs.Common.{set, replicate, sym, refl, ap, ◌∙◌, append_assoc, append-nil, arith, length-append}
 use Rattle.std.proofs.Common.{length-drop, length-set, take_all, drop_at}
-use mathlib.Core.Path.{◌≡⟨◌⟩◌, ◌∎}
-use lib.ListN.{length-replicate, replicate-append-replicate}
-use lib.Seq.{sets, length-sets}
-use Rattle.text.proofs.Stores.{sets-snoc}
+use Rattle.std.proofs.lemmas.List.{length-replicate, replicate-append-replicate}
+use Rattle.std.proofs.Math.Path.{◌≡⟨◌⟩◌, ◌∎}
+use Rattle.std.proofs.Math.Seq.{sets, length-sets}
+use Rattle.text.proofs.Stores.{sets_snoc}
 use Rattle.digest.specs.Words.{low_first}
-use Rattle.digest.specs.Padding.{padding, zerosAfter}
-use Rattle.digest.proofs.Stored.{sets-between}
+use Rattle.digest.specs.Padding.{padding, zeros_after}
+use Rattle.digest.proofs.Stored.{sets_between}
 
 abbrev zeros : ℕ → List ℕ
 zeros n = replicate n 0
@@ -36,13 +36,13 @@ module _ (rest vs : List ℕ) (f z : ℕ) (e : f + length rest + 1 + z ≡ 120) 
       ∙ ap zeros n
       )
 
-  before-length : set (sets (zeros 128) f rest) (f + length rest) 0x80 ≡ body ++ (zeros 8 ++ [])
-  before-length =
+  before_length : set (sets (zeros 128) f rest) (f + length rest) 0x80 ≡ body ++ (zeros 8 ++ [])
+  before_length =
       let m : ℕ = length marked in
-      set (sets (zeros 128) f rest) (f + length rest) 0x80 ≡⟨ sets-snoc (zeros 128) f rest 0x80 refl refl ⟩
+      set (sets (zeros 128) f rest) (f + length rest) 0x80 ≡⟨ sets_snoc (zeros 128) f rest 0x80 refl refl ⟩
       sets (zeros 128) f marked ≡⟨ ap (λ (l : List ℕ). sets l f marked) in_parts ⟩
       sets (zeros f ++ (zeros m ++ zeros (z + 8))) f marked
-      ≡⟨ sets-between (zeros f) (zeros m) (zeros (z + 8)) marked f (length-replicate f 0) (length-replicate m 0) ⟩
+      ≡⟨ sets_between (zeros f) (zeros m) (zeros (z + 8)) marked f (length-replicate f 0) (length-replicate m 0) ⟩
       zeros f ++ (marked ++ zeros (z + 8))
       ≡⟨ ap (λ (l : List ℕ). zeros f ++ (marked ++ l)) (sym (replicate-append-replicate z 8 0)) ⟩
       zeros f ++ (marked ++ (zeros z ++ zeros 8)) ≡⟨ (simp (append_assoc, append-nil)) ⟩
@@ -52,31 +52,31 @@ module _ (rest vs : List ℕ) (f z : ℕ) (e : f + length rest + 1 + z ≡ 120) 
       ≡ rest ++ (0x80 ∷ (zeros z ++ vs))
   laid_out =
       let long : length body ≡ 120 = simp (length-append, length-replicate) (omega arith) in
-      ap (λ (l : List ℕ). drop f (sets l 120 vs)) before-length
-      ∙ ap (drop f) (sets-between body (zeros 8) [] vs 120 long (sym v))
+      ap (λ (l : List ℕ). drop f (sets l 120 vs)) before_length
+      ∙ ap (drop f) (sets_between body (zeros 8) [] vs 120 long (sym v))
       ∙ ap (drop f) (simp (append_assoc, append-nil))
       ∙ drop_at (zeros f) (rest ++ (0x80 ∷ (zeros z ++ vs))) f (length-replicate f 0)
 
 -- 3.1: "congruent to 448, modulo 512", and no more zeros than that takes
-zeros-reach : (n : ℕ) → ((n + 1 + zerosAfter n) % 64 ≡ 56) × (zerosAfter n < 64)
-unfolding zerosAfter
-zeros-reach n = (omega arith, omega arith)
+zeros_reach : (n : ℕ) → ((n + 1 + zeros_after n) % 64 ≡ 56) × (zeros_after n < 64)
+unfolding zeros_after
+zeros_reach n = (omega arith, omega arith)
 
-low-first-length : (n x : ℕ) → length (low_first n x) ≡ n
-low-first-length zero x = refl
-low-first-length (suc n) x = ap suc (low-first-length n (x / 256))
+length-low_first : (n x : ℕ) → length (low_first n x) ≡ n
+length-low_first zero x = refl
+length-low_first (suc n) x = ap suc (length-low_first n (x / 256))
 
 -- t is the two blocks after what is left was put there, and u after the length was
-pub padded-out : (rest : List ℕ) (b : ℕ) {t u l : List ℕ} → length rest < 64 → t ≡ sets (zeros 128) (start_of rest) rest
+pub padded_out : (rest : List ℕ) (b : ℕ) {t u l : List ℕ} → length rest < 64 → t ≡ sets (zeros 128) (start_of rest) rest
     → l ≡ low_first 8 b → u ≡ sets (set t (start_of rest + length rest) 0x80) 120 l
     → take (128 - start_of rest) (drop (start_of rest) u) ≡ rest ++ padding (length rest) b
-unfolding padding zerosAfter
-padded-out rest b {t} {u} {l} h et el eu =
+unfolding padding zeros_after
+padded_out rest b {t} {u} {l} h et el eu =
     let f : ℕ = start_of rest in
-    let place : f + length rest + 1 + zerosAfter (length rest) ≡ 120 = omega arith in
+    let place : f + length rest + 1 + zeros_after (length rest) ≡ 120 = omega arith in
     let stored : u ≡ sets (set (sets (zeros 128) f rest) (f + length rest) 0x80) 120 (low_first 8 b) =
     eu ∙ (λ i. sets (set (et i) (f + length rest) 0x80) 120 (el i)) in
     let long : length u ≡ 128 = ap length stored ∙ simp (length-sets, length-set) in
     take_all (128 - f) (drop f u) (simp length-drop (omega arith))
     ∙ ap (drop f) stored
-    ∙ laid_out rest (low_first 8 b) f (zerosAfter (length rest)) place (low-first-length 8 b)
+    ∙ laid_out rest (low_first 8 b) f (zeros_after (length rest)) place (length-low_first 8 b)

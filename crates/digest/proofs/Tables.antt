@@ -1,38 +1,38 @@
 -- What holds at each entry of a table, by one test of the whole table that antt computes.
 -- Assumes nothing.
-use Rattle.std.proofs.Common.{◌≡◌, ℕ, ◌+◌, ◌*◌, ◌%◌, ◌<◌, true, eqb, ltb, refl, ltb-true, eqb-true}
+use Rattle.std.proofs.Common.{◌≡◌, ℕ, ◌+◌, ◌*◌, ◌%◌, ◌<◌, true, refl, ltb-true, eqb-true, ◌==◌, nat_lt}
 use Rattle.text.proofs.EachBelow.{each_below}
-use Rattle.digest.specs.Rounds.{byRound, shifts, shift_of, wordNumbers, wordNumber}
-use Rattle.digest.specs.Hex.{hexDigit, isHexDigit, hexWorth}
+use Rattle.digest.specs.Rounds.{by_round, shifts, shift_of, word_numbers, word_number}
+use Rattle.digest.specs.Hex.{hex_digit, is_hex_digit, hex_worth}
 
-pub word-number-by-formula : (i : ℕ) → i < 64 → wordNumber i ≡ byRound i i (5 * i + 1) (3 * i + 5) (7 * i) % 16
-unfolding wordNumber wordNumbers byRound
-word-number-by-formula i h =
+pub word_number_by_formula : (i : ℕ) → i < 64 → word_number i ≡ by_round i i (5 * i + 1) (3 * i + 5) (7 * i) % 16
+unfolding word_number word_numbers by_round
+word_number_by_formula i h =
     eqb-true _ _ (
-    each_below (λ k. eqb (wordNumber k) (byRound k k (5 * k + 1) (3 * k + 5) (7 * k) % 16)) 64 refl i h
+    each_below (λ k. word_number k == (by_round k k (5 * k + 1) (3 * k + 5) (7 * k) % 16)) 64 refl i h
     )
 
 -- the shifts of operation i by its round, and there by its place in the row
-abbrev pub shiftByRows : ℕ → ℕ
-shiftByRows i =
+abbrev pub shift_by_rows : ℕ → ℕ
+shift_by_rows i =
     let k = i % 4 * 16 in
-    byRound i (byRound k 7 12 17 22) (byRound k 5 9 14 20) (byRound k 4 11 16 23) (byRound k 6 10 15 21)
+    by_round i (by_round k 7 12 17 22) (by_round k 5 9 14 20) (by_round k 4 11 16 23) (by_round k 6 10 15 21)
 
-pub shift-by-rows : (i : ℕ) → i < 64 → shift_of i ≡ shiftByRows i
-unfolding shift_of shifts byRound
-shift-by-rows i h = eqb-true _ _ (each_below (λ k. eqb (shift_of k) (shiftByRows k)) 64 refl i h)
+pub shift_by_rows_lem : (i : ℕ) → i < 64 → shift_of i ≡ shift_by_rows i
+unfolding shift_of shifts by_round
+shift_by_rows_lem i h = eqb-true _ _ (each_below (λ k. shift_of k == shift_by_rows k) 64 refl i h)
 
-pub shift-in-word : (i : ℕ) → i < 64 → (0 < shift_of i) × (shift_of i < 32)
+pub shift_in_word : (i : ℕ) → i < 64 → (0 < shift_of i) × (shift_of i < 32)
 unfolding shift_of shifts
-shift-in-word i h = (
-  ltb-true _ _ (each_below (λ k. ltb 0 (shift_of k)) 64 refl i h),
-  ltb-true _ _ (each_below (λ k. ltb (shift_of k) 32) 64 refl i h),
+shift_in_word i h = (
+  ltb-true _ _ (each_below (λ k. nat_lt 0 (shift_of k)) 64 refl i h),
+  ltb-true _ _ (each_below (λ k. nat_lt (shift_of k) 32) 64 refl i h),
 )
 
-pub digit-is-hex : (n : ℕ) → n < 16 → isHexDigit (hexDigit n) ≡ true
-unfolding hexDigit
-digit-is-hex n h = each_below (λ k. isHexDigit (hexDigit k)) 16 refl n h
+pub is_hex_digit-hex_digit : (n : ℕ) → n < 16 → is_hex_digit (hex_digit n) ≡ true
+unfolding hex_digit
+is_hex_digit-hex_digit n h = each_below (λ k. is_hex_digit (hex_digit k)) 16 refl n h
 
-pub digit-worth : (n : ℕ) → n < 16 → hexWorth (hexDigit n) ≡ n
-unfolding hexDigit hexWorth
-digit-worth n h = eqb-true _ _ (each_below (λ k. eqb (hexWorth (hexDigit k)) k) 16 refl n h)
+pub hex_worth-hex_digit : (n : ℕ) → n < 16 → hex_worth (hex_digit n) ≡ n
+unfolding hex_digit hex_worth
+hex_worth-hex_digit n h = eqb-true _ _ (each_below (λ k. hex_worth (hex_digit k) == k) 16 refl n h)

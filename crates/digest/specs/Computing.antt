@@ -1,7 +1,7 @@
 -- One name that opens the hexadecimal digits, for computing on concrete lines only. The digest itself stays shut.
 -- Assumes nothing.
-use Rattle.digest.specs.Hex.{hexDigit, hexWorth, hexOf}
+use Rattle.digest.specs.Hex.{hex_digit, hex_worth, hex_of}
 
 unfoldable pub computing : Unit {0}
-unfolding hexDigit hexWorth hexOf
+unfolding hex_digit hex_worth hex_of
 computing = tt

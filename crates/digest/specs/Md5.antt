@@ -1,9 +1,9 @@
 -- The digest of a message (RFC 1321, 3.3 to 3.5).
---   startWords          3.3: the four words before the first block
---   blocksOf k xs q     3.4: the four words after the first k blocks of xs, from the four words q
---   wholeBlocks xs q    .. after every whole block of xs
---   digestBytes q       3.5: the four words as bytes, low-order byte of A first
---   md5Of s             the 16 bytes of the digest of s
+--   start_words         3.3: the four words before the first block
+--   blocks_of k xs q    3.4: the four words after the first k blocks of xs, from the four words q
+--   whole_blocks xs q   .. after every whole block of xs
+--   digest_bytes q      3.5: the four words as bytes, low-order byte of A first
+--   md5_of s            the 16 bytes of the digest of s
 --   finishing q s b     the digest of a message of b bits that ends with s, from the words q after the blocks before s
 -- Assumes nothing.
 use Rattle.std.specs.Prelude.{ℕ, zero, suc, ◌*◌, ◌/◌, List, ◌++◌, length, take, drop}
@@ -12,21 +12,21 @@ use Rattle.digest.specs.Padding.{padding, padded}
 use Rattle.digest.specs.Rounds.{block_of}
 use Rattle.digest.specs.declared.Buffer.{Buffer}
 
-abbrev pub startWords : Buffer
-startWords = record { a = 0x67452301; b = 0xefcdab89; c = 0x98badcfe; d = 0x10325476 }
+abbrev pub start_words : Buffer
+start_words = record { a = 0x67452301; b = 0xefcdab89; c = 0x98badcfe; d = 0x10325476 }
 
-unfoldable pub blocksOf : ℕ → List ℕ → Buffer → Buffer
-blocksOf zero xs q = q
-blocksOf (suc k) xs q = block_of (take 64 (drop (k * 64) xs)) (blocksOf k xs q)
+unfoldable pub blocks_of : ℕ → List ℕ → Buffer → Buffer
+blocks_of zero xs q = q
+blocks_of (suc k) xs q = block_of (take 64 (drop (k * 64) xs)) (blocks_of k xs q)
 
-abbrev pub wholeBlocks : List ℕ → Buffer → Buffer
-wholeBlocks xs q = blocksOf (length xs / 64) xs q
+abbrev pub whole_blocks : List ℕ → Buffer → Buffer
+whole_blocks xs q = blocks_of (length xs / 64) xs q
 
-abbrev pub digestBytes : Buffer → List ℕ
-digestBytes q = low_first 4 q.a ++ (low_first 4 q.b ++ (low_first 4 q.c ++ low_first 4 q.d))
+abbrev pub digest_bytes : Buffer → List ℕ
+digest_bytes q = low_first 4 q.a ++ (low_first 4 q.b ++ (low_first 4 q.c ++ low_first 4 q.d))
 
-unfoldable pub md5Of : List ℕ → List ℕ
-md5Of s = digestBytes (wholeBlocks (padded s) startWords)
+unfoldable pub md5_of : List ℕ → List ℕ
+md5_of s = digest_bytes (whole_blocks (padded s) start_words)
 
 abbrev pub finishing : Buffer → List ℕ → ℕ → List ℕ
-finishing q s b = digestBytes (wholeBlocks (s ++ padding (length s) b) q)
+finishing q s b = digest_bytes (whole_blocks (s ++ padding (length s) b) q)

@@ -1,20 +1,20 @@
 -- What is appended to a message (RFC 1321, 3.1 and 3.2).
---   zerosAfter n      how many zero bytes bring n + 1 bytes to 448 bits modulo 512: to 56 bytes modulo 64
---   bitLength n       the length in bits of n bytes, modulo 2^64 ("only the low-order 64 bits of b are used")
+--   zeros_after n     how many zero bytes bring n + 1 bytes to 448 bits modulo 512: to 56 bytes modulo 64
+--   bit_length n      the length in bits of n bytes, modulo 2^64 ("only the low-order 64 bits of b are used")
 --   padding n b       after n bytes: a single "1" bit, "0" bits, and the 64 bits of b, low-order byte first
 --   padded s          the message s with its padding and its length
 -- Assumes nothing.
 use Rattle.std.specs.Prelude.{ℕ, ◌+◌, ◌-◌, ◌*◌, ◌%◌, ◌^◌, List, ◌∷◌, ◌++◌, length, replicate}
 use Rattle.digest.specs.Words.{low_first}
 
-unfoldable pub zerosAfter : ℕ → ℕ
-zerosAfter n = (64 + 56 - (n + 1) % 64) % 64
+unfoldable pub zeros_after : ℕ → ℕ
+zeros_after n = (64 + 56 - (n + 1) % 64) % 64
 
-abbrev pub bitLength : ℕ → ℕ
-bitLength n = (8 * n) % 2 ^ 64
+abbrev pub bit_length : ℕ → ℕ
+bit_length n = (8 * n) % 2 ^ 64
 
 unfoldable pub padding : ℕ → ℕ → List ℕ
-padding n b = 0x80 ∷ (replicate (zerosAfter n) 0 ++ low_first 8 b)
+padding n b = 0x80 ∷ (replicate (zeros_after n) 0 ++ low_first 8 b)
 
 abbrev pub padded : List ℕ → List ℕ
-padded s = s ++ padding (length s) (bitLength (length s))
+padded s = s ++ padding (length s) (bit_length (length s))

@@ -1,9 +1,9 @@
 -- One block of 64 bytes (RFC 1321, 3.4). The RFC counts its 64 operations from 1, we count them from 0.
---   fnF fnG fnH fnI       the four auxiliary functions
---   tableT                T[1] to T[64]: the integer part of 4294967296 times abs(sin(i)), i in radians
---   wordNumbers           the k of the 64 operations [abcd k s i], a round a row
+--   fn_f fn_g fn_h fn_i   the four auxiliary functions
+--   table_t               T[1] to T[64]: the integer part of 4294967296 times abs(sin(i)), i in radians
+--   word_numbers          the k of the 64 operations [abcd k s i], a round a row
 --   shifts                their s, a round a row: each row is gone through four times
---   byRound i w x y z     w, x, y or z, as operation i is of round 1, 2, 3 or 4
+--   by_round i w x y z    w, x, y or z, as operation i is of round 1, 2, 3 or 4
 --   in_row f i            what f is of four operations, a row [ABCD k s i] [DABC k s i] [CDAB k s i] [BCDA k s i]
 --   operated q f x s t    a = b + ((a + f + x + t) <<< s), after which DABC are called ABCD, for the next operation
 --   operation xs i q      operation i on the block xs
@@ -17,20 +17,20 @@ use Rattle.std.specs.Prelude.{if◌then◌else◌}
 use Rattle.digest.specs.Words.{◌plus◌, ◌<<<◌, complement, word_at}
 use Rattle.digest.specs.declared.Buffer.{Buffer}
 
-abbrev pub fnF : ℕ → ℕ → ℕ → ℕ
-fnF x y z = bit_or (bit_and x y) (bit_and (complement x) z)
+abbrev pub fn_f : ℕ → ℕ → ℕ → ℕ
+fn_f x y z = bit_or (bit_and x y) (bit_and (complement x) z)
 
-abbrev pub fnG : ℕ → ℕ → ℕ → ℕ
-fnG x y z = bit_or (bit_and x z) (bit_and y (complement z))
+abbrev pub fn_g : ℕ → ℕ → ℕ → ℕ
+fn_g x y z = bit_or (bit_and x z) (bit_and y (complement z))
 
-abbrev pub fnH : ℕ → ℕ → ℕ → ℕ
-fnH x y z = bit_xor (bit_xor x y) z
+abbrev pub fn_h : ℕ → ℕ → ℕ → ℕ
+fn_h x y z = bit_xor (bit_xor x y) z
 
-abbrev pub fnI : ℕ → ℕ → ℕ → ℕ
-fnI x y z = bit_xor y (bit_or x (complement z))
+abbrev pub fn_i : ℕ → ℕ → ℕ → ℕ
+fn_i x y z = bit_xor y (bit_or x (complement z))
 
-unfoldable pub tableT : List ℕ
-tableT =
+unfoldable pub table_t : List ℕ
+table_t =
     0xd76aa478 ∷ 0xe8c7b756 ∷ 0x242070db ∷ 0xc1bdceee ∷ 0xf57c0faf ∷ 0x4787c62a ∷ 0xa8304613 ∷ 0xfd469501 ∷
     0x698098d8 ∷ 0x8b44f7af ∷ 0xffff5bb1 ∷ 0x895cd7be ∷ 0x6b901122 ∷ 0xfd987193 ∷ 0xa679438e ∷ 0x49b40821 ∷
     0xf61e2562 ∷ 0xc040b340 ∷ 0x265e5a51 ∷ 0xe9b6c7aa ∷ 0xd62f105d ∷ 0x02441453 ∷ 0xd8a1e681 ∷ 0xe7d3fbc8 ∷
@@ -41,8 +41,8 @@ tableT =
     0x6fa87e4f ∷ 0xfe2ce6e0 ∷ 0xa3014314 ∷ 0x4e0811a1 ∷ 0xf7537e82 ∷ 0xbd3af235 ∷ 0x2ad7d2bb ∷ 0xeb86d391 ∷
     []
 
-unfoldable pub wordNumbers : List ℕ
-wordNumbers =
+unfoldable pub word_numbers : List ℕ
+word_numbers =
     0 ∷ 1 ∷ 2 ∷ 3 ∷ 4 ∷ 5 ∷ 6 ∷ 7 ∷ 8 ∷ 9 ∷ 10 ∷ 11 ∷ 12 ∷ 13 ∷ 14 ∷ 15 ∷
     1 ∷ 6 ∷ 11 ∷ 0 ∷ 5 ∷ 10 ∷ 15 ∷ 4 ∷ 9 ∷ 14 ∷ 3 ∷ 8 ∷ 13 ∷ 2 ∷ 7 ∷ 12 ∷
     5 ∷ 8 ∷ 11 ∷ 14 ∷ 1 ∷ 4 ∷ 7 ∷ 10 ∷ 13 ∷ 0 ∷ 3 ∷ 6 ∷ 9 ∷ 12 ∷ 15 ∷ 2 ∷
@@ -57,21 +57,21 @@ shifts =
     6 ∷ 10 ∷ 15 ∷ 21 ∷
     []
 
-unfoldable pub byRound : {A : Type 0} → ℕ → A → A → A → A → A
-byRound i w x y z = if nat_lt i 16 then w else if nat_lt i 32 then x else if nat_lt i 48 then y else z
+unfoldable pub by_round : {A : Type 0} → ℕ → A → A → A → A → A
+by_round i w x y z = if nat_lt i 16 then w else if nat_lt i 32 then x else if nat_lt i 48 then y else z
 
 -- of operation i: its constant, its word, its shift, and its function of b, c and d
 unfoldable pub constant_of : ℕ → ℕ
-constant_of i = slice_index tableT i
+constant_of i = slice_index table_t i
 
-unfoldable pub wordNumber : ℕ → ℕ
-wordNumber i = slice_index wordNumbers i
+unfoldable pub word_number : ℕ → ℕ
+word_number i = slice_index word_numbers i
 
 unfoldable pub shift_of : ℕ → ℕ
 shift_of i = slice_index shifts (i / 16 * 4 + i % 4)
 
-unfoldable pub functionOf : ℕ → ℕ → ℕ → ℕ → ℕ
-functionOf i b c d = byRound i (fnF b c d) (fnG b c d) (fnH b c d) (fnI b c d)
+unfoldable pub function_of : ℕ → ℕ → ℕ → ℕ → ℕ
+function_of i b c d = by_round i (fn_f b c d) (fn_g b c d) (fn_h b c d) (fn_i b c d)
 
 abbrev pub in_row : (ℕ → ℕ) → ℕ → List ℕ
 in_row f i = f i ∷ f (i + 1) ∷ f (i + 2) ∷ f (i + 3) ∷ []
@@ -82,7 +82,7 @@ operated q f x s t =
 
 unfoldable pub operation : List ℕ → ℕ → Buffer → Buffer
 operation xs i q =
-    operated q (functionOf i q.b q.c q.d) (word_at xs (4 * wordNumber i)) (shift_of i) (constant_of i)
+    operated q (function_of i q.b q.c q.d) (word_at xs (4 * word_number i)) (shift_of i) (constant_of i)
 
 unfoldable pub operations : ℕ → ℕ → List ℕ → Buffer → Buffer
 operations i zero xs q = q

@@ -3,7 +3,7 @@ mod rounds;
 
 ghost use Rattle.std.specs.Prelude.{◌≡◌, length};
 ghost use Rattle.digest.specs.Rounds.{added, block_of};
-ghost use Rattle.digest.specs.Md5.{wholeBlocks};
+ghost use Rattle.digest.specs.Md5.{whole_blocks};
 
 use crate::Buffer;
 use std::num::wrapping_add_u32;
@@ -32,7 +32,7 @@ pub fn block(s: &[u8], q: Buffer) -> Buffer
 
 // Every whole block of s.
 pub fn blocks(s: &[u8], q: Buffer) -> Buffer
-    ensures { result ≡ wholeBlocks s.now q }
+    ensures { result ≡ whole_blocks s.now q }
 {
     let mut p = q;
     for k in 0..s.len() / 64 {

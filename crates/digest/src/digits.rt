@@ -1,28 +1,28 @@
 // Numbers and bytes as lowercase hexadecimal digits, and numbers read from them.
 ghost use Rattle.std.specs.Prelude.{◌≡◌, ◌/◌, ◌%◌, ◌<◌, ◌≤◌, length};
-ghost use Rattle.digest.specs.Hex.{hexDigit, hexOf, hexDigits, hexWorth, hexValue};
+ghost use Rattle.digest.specs.Hex.{hex_digit, hex_of, hex_digits, hex_worth, hex_value};
 
 use crate::word;
 
 // The digit of x at a place p, a power of 16.
-#[tactic(auto, unfolding(crate::specs::Hex::hexDigit))]
+#[tactic(auto, unfolding(crate::specs::Hex::hex_digit))]
 fn digit(x: u32, p: u32) -> u8
     requires { 0 < p }
-    ensures { result ≡ hexDigit (x / p % 16) }
+    ensures { result ≡ hex_digit (x / p % 16) }
 {
     let digits = b"0123456789abcdef";
     digits[(x / p % 16) as usize]
 }
 
 fn two(x: u8) -> [u8; 2]
-    ensures { result ≡ hexDigits 2 x }
+    ensures { result ≡ hex_digits 2 x }
 {
     let w = word::wide(x);
     [digit(w, 0x10), digit(w, 1)]
 }
 
 pub fn eight(x: u32) -> [u8; 8]
-    ensures { result ≡ hexDigits 8 x }
+    ensures { result ≡ hex_digits 8 x }
 {
     [
         digit(x, 0x10000000),
@@ -39,7 +39,7 @@ pub fn eight(x: u32) -> [u8; 8]
 // The digits of 16 bytes.
 pub fn all(b: &[u8]) -> [u8; 32]
     requires { length b.now ≡ 16 }
-    ensures { result ≡ hexOf b.now }
+    ensures { result ≡ hex_of b.now }
 {
     let mut out = [0u8; 32];
     for (i, x) in b.iter().enumerate() {
@@ -49,9 +49,9 @@ pub fn all(b: &[u8]) -> [u8; 32]
     out
 }
 
-#[tactic(auto, unfolding(crate::specs::Hex::hexWorth))]
+#[tactic(auto, unfolding(crate::specs::Hex::hex_worth))]
 fn worth(b: u8) -> u32
-    ensures { result ≡ hexWorth b }
+    ensures { result ≡ hex_worth b }
 {
     if (b'0' <= b) & (b <= b'9') {
         return (b - b'0') as u32;
@@ -65,7 +65,7 @@ fn worth(b: u8) -> u32
 // The number whose digits are s; a byte that is none counts as 0.
 pub fn value(s: &[u8]) -> u32
     requires { length s.now ≤ 8 }
-    ensures { result ≡ hexValue s.now }
+    ensures { result ≡ hex_value s.now }
 {
     let mut v: u32 = 0;
     for b in s {

@@ -8,8 +8,8 @@ pub mod theorems;
 mod word;
 
 ghost use Rattle.std.specs.Prelude.{◌≡◌, ◌≤◌, ◌++◌, length};
-ghost use Rattle.digest.specs.Md5.{startWords, md5Of, finishing};
-ghost use Rattle.digest.specs.Hex.{hexOf, hexDigits, hexValue, leadingDigest};
+ghost use Rattle.digest.specs.Md5.{start_words, md5_of, finishing};
+ghost use Rattle.digest.specs.Hex.{hex_of, hex_digits, hex_value, leading_digest};
 
 use std::num::wrapping_add_u64;
 
@@ -29,7 +29,7 @@ pub struct Digest {
 }
 
 fn start() -> Buffer
-    ensures { result ≡ startWords }
+    ensures { result ≡ start_words }
 {
     Buffer {
         a: 0x67452301,
@@ -49,14 +49,14 @@ fn finish(s: &[u8], bits: u64, q: Buffer) -> Digest
 }
 
 pub fn md5(s: &[u8]) -> Digest
-    ensures { result.bytes ≡ md5Of s.now }
+    ensures { result.bytes ≡ md5_of s.now }
 {
     finish(s, tail::bit_length(s.len()), start())
 }
 
 // The digest of `head` and s, one after the other, of any length.
 fn md5_after(head: [u8; 8], s: &[u8]) -> Digest
-    ensures { result.bytes ≡ md5Of (head ++ s.now) }
+    ensures { result.bytes ≡ md5_of (head ++ s.now) }
 {
     let mut t = [0u8; 64];
     text::put(&mut t, 0, &head);
@@ -71,14 +71,14 @@ fn md5_after(head: [u8; 8], s: &[u8]) -> Digest
 }
 
 pub fn hex(d: Digest) -> [u8; 32]
-    ensures { result ≡ hexOf d.bytes }
+    ensures { result ≡ hex_of d.bytes }
 {
     let b = d.bytes;
     digits::all(&b)
 }
 
 pub fn hex8(x: u32) -> [u8; 8]
-    ensures { result ≡ hexDigits 8 x }
+    ensures { result ≡ hex_digits 8 x }
 {
     digits::eight(x)
 }
@@ -86,14 +86,14 @@ pub fn hex8(x: u32) -> [u8; 8]
 // The number of at most eight hexadecimal digits.
 pub fn hex_value(s: &[u8]) -> u32
     requires { length s.now ≤ 8 }
-    ensures { result ≡ hexValue s.now }
+    ensures { result ≡ hex_value s.now }
 {
     digits::value(s)
 }
 
 // What a controller that knows the password leads its first line with (PJLink 1.04, 5.1).
 pub fn leading_digest(random: u32, password: &[u8]) -> [u8; 32]
-    ensures { result ≡ leadingDigest random password.now }
+    ensures { result ≡ leading_digest random password.now }
 {
     hex(md5_after(hex8(random), password))
 }

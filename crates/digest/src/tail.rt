@@ -1,14 +1,14 @@
 // The end of a message: its padding and its length (RFC 1321, 3.1 and 3.2), and the digest's bytes (3.5).
 ghost use Rattle.std.specs.Prelude.{◌≡◌, ◌<◌, ◌++◌, length};
 ghost use Rattle.digest.specs.Words.{low_first};
-ghost use Rattle.digest.specs.Padding.{padding, bitLength};
-ghost use Rattle.digest.specs.Md5.{wholeBlocks, digestBytes};
+ghost use Rattle.digest.specs.Padding.{padding, bit_length};
+ghost use Rattle.digest.specs.Md5.{whole_blocks, digest_bytes};
 
 use crate::{Buffer, Digest, block};
 
 // Cut before it is multiplied, so that nothing overflows.
 pub fn bit_length(n: usize) -> u64
-    ensures { result ≡ bitLength n }
+    ensures { result ≡ bit_length n }
 {
     (n as u64) % 0x2000_0000_0000_0000 * 8
 }
@@ -38,7 +38,7 @@ fn length_bytes(x: u64) -> [u8; 8]
 // The block or two that hold what is left of a message. They end where t ends, so that the length has a fixed place.
 pub fn last(rest: &[u8], bits: u64, q: Buffer) -> Buffer
     requires { length rest.now < 64 }
-    ensures { result ≡ wholeBlocks (rest.now ++ padding (length rest.now) bits) q }
+    ensures { result ≡ whole_blocks (rest.now ++ padding (length rest.now) bits) q }
 {
     let mut t = [0u8; 128];
     let from = 128 - (rest.len() + 72) / 64 * 64;
@@ -51,7 +51,7 @@ pub fn last(rest: &[u8], bits: u64, q: Buffer) -> Buffer
 }
 
 pub fn bytes(q: Buffer) -> Digest
-    ensures { result.bytes ≡ digestBytes q }
+    ensures { result.bytes ≡ digest_bytes q }
 {
     Digest {
         bytes: [

@@ -3,8 +3,8 @@
 ghost use Rattle.std.specs.Prelude.{◌≡◌, List, ℕ};
 ghost use Rattle.digest.specs.TestSuite.{TestSuite};
 ghost use Rattle.digest.specs.declared.Digest.{Digest};
-ghost use Rattle.digest.specs.Md5.{md5Of};
-ghost use Rattle.digest.specs.Hex.{hexOf, hexDigits, hexValue, leadingDigest};
+ghost use Rattle.digest.specs.Md5.{md5_of};
+ghost use Rattle.digest.specs.Hex.{hex_of, hex_digits, hex_value, leading_digest};
 
 /// The definition gives the digests that RFC 1321 publishes, and that of PJLink's example.
 pub fn published_digests_come_out()
@@ -13,10 +13,10 @@ pub fn published_digests_come_out()
 
 /// Two results that meet the promise of a call are equal.
 pub fn one_result()
-    ensures digest { (s : List ℕ) (r q : Digest) → r.bytes ≡ md5Of s → q.bytes ≡ md5Of s → r ≡ q }
-    ensures hex_digits { (d : Digest) (r q : List ℕ) → r ≡ hexOf d.bytes → q ≡ hexOf d.bytes → r ≡ q }
-    ensures eight_digits { (x : ℕ) (r q : List ℕ) → r ≡ hexDigits 8 x → q ≡ hexDigits 8 x → r ≡ q }
-    ensures hex_number { (s : List ℕ) (r q : ℕ) → r ≡ hexValue s → q ≡ hexValue s → r ≡ q }
+    ensures digest { (s : List ℕ) (r q : Digest) → r.bytes ≡ md5_of s → q.bytes ≡ md5_of s → r ≡ q }
+    ensures hex_digits { (d : Digest) (r q : List ℕ) → r ≡ hex_of d.bytes → q ≡ hex_of d.bytes → r ≡ q }
+    ensures eight_digits { (x : ℕ) (r q : List ℕ) → r ≡ hex_digits 8 x → q ≡ hex_digits 8 x → r ≡ q }
+    ensures hex_number { (s : List ℕ) (r q : ℕ) → r ≡ hex_value s → q ≡ hex_value s → r ≡ q }
     ensures leading_digest { (random : ℕ) (password r q : List ℕ)
-        → r ≡ leadingDigest random password → q ≡ leadingDigest random password → r ≡ q }
+        → r ≡ leading_digest random password → q ≡ leading_digest random password → r ≡ q }
 {}

@@ -1,32 +1,30 @@
 -- What an event of a log does, by what it is.
 -- Assumes nothing.
-use Prim.Native.Nat.{ℕ}
-use mathlib.Core.Path.{◌≡◌, refl}
-use mathlib.Core.List.{List}
+use Rattle.std.proofs.Common.{ℕ, ◌≡◌, refl, List}
 use Rattle.record.specs.Given.{given_by}
 use Rattle.record.specs.declared.types.Device.{Device}
 use Rattle.clock.specs.Passing.{passed}
-use Rattle.device.specs.Calls.{made, replyRoom, received, closedBy}
-use Rattle.floorlog.specs.Events.{opens, receives, passes, closes, noSuch}
-use Rattle.floorlog.specs.Doing.{changedTo, logPlace, openedInLog, did}
+use Rattle.device.specs.Calls.{made, reply_room, received, closed_by}
+use Rattle.floorlog.specs.Events.{opens, receives, passes, closes, no_such}
+use Rattle.floorlog.specs.Doing.{changed_to, log_place, opened_in_log, did}
 
 module _ (d : Device) where
-  pub did-opening : (r : ℕ) → did d (opens r) ≡ openedInLog d r
+  pub did_opening : (r : ℕ) → did d (opens r) ≡ opened_in_log d r
   unfolding did
-  did-opening r = refl
+  did_opening r = refl
 
-  pub did-receiving : (bs : List ℕ) → did d (receives bs) ≡ received d logPlace bs replyRoom
+  pub did-receives : (bs : List ℕ) → did d (receives bs) ≡ received d log_place bs reply_room
   unfolding did
-  did-receiving bs = refl
+  did-receives bs = refl
 
-  pub did-passing : (n : ℕ) → did d (passes n) ≡ changedTo (given_by d (passed d n))
+  pub did_passing : (n : ℕ) → did d (passes n) ≡ changed_to (given_by d (passed d n))
   unfolding did
-  did-passing n = refl
+  did_passing n = refl
 
-  pub did-closing : did d closes ≡ closedBy d logPlace
+  pub did_closing : did d closes ≡ closed_by d log_place
   unfolding did
-  did-closing = refl
+  did_closing = refl
 
-  pub did_nothing : did d noSuch ≡ made d
+  pub did_nothing : did d no_such ≡ made d
   unfolding did
   did_nothing = refl

@@ -1,46 +1,43 @@
 -- What an event leaves of the places (RULES, Floor log): the one that a log drives may change, and every other is as
 -- much later as the event lets pass.
 -- Assumes nothing.
-use Prim.Native.Nat.{ℕ}
-use mathlib.Core.Path.{◌≡◌, refl, sym, ap, subst, ◌∙◌}
-use mathlib.Core.Bool.{Bool, true, false}
-use mathlib.Core.List.{List, [], ◌∷◌, map}
-use lib.ListN.{get_or, set}
-use lib.Seq.{set-get_or}
-use Rattle.record.specs.Legal.{isLegal}
-use Rattle.record.specs.Places.{noConnection, connectionAt}
+use Rattle.std.proofs.Common.{ℕ, ◌≡◌, refl, sym, ap, subst, ◌∙◌, Bool, true, false, List, [], ◌∷◌, map, slice_index_or}
+use Rattle.std.proofs.Common.{set}
+use Rattle.std.proofs.lemmas.List.{set-get_or}
+use Rattle.record.specs.Legal.{is_legal}
+use Rattle.record.specs.Places.{no_connection, connection_at}
 use Rattle.record.specs.Record.{blank}
 use Rattle.record.specs.declared.types.Connection.{Connection}
 use Rattle.record.specs.declared.types.Device.{Device}
-use Rattle.clock.specs.Second.{times, connectionSecond, second}
-use Rattle.clock.proofs.InOneGo.{parts-pass}
-use Rattle.clock.proofs.TimeAdds.{no-seconds}
-use Rattle.clock.proofs.Cases.{passed-by}
-use Rattle.device.specs.Calls.{replyRoom, greeted}
-use Rattle.device.proofs.Cases.{received-by, opened-by, closed-by}
+use Rattle.clock.specs.Second.{times, connection_second, second}
+use Rattle.clock.proofs.InOneGo.{parts_pass}
+use Rattle.clock.proofs.TimeAdds.{no_seconds}
+use Rattle.clock.proofs.Cases.{passed_by}
+use Rattle.device.specs.Calls.{reply_room, greeted}
+use Rattle.device.proofs.Cases.{received_by, opened_by_lem, closed_by_lem}
 use Rattle.floorlog.specs.declared.line.Says.{Says}
 use Rattle.floorlog.specs.declared.line.Says.TheVariants.{Opens, Receives, Passes, Closes, NoSuch}
-use Rattle.floorlog.specs.Events.{LogEvent, opens, receives, passes, closes, noSuch, eventOf}
-use Rattle.floorlog.specs.Doing.{logPlace, did}
-use Rattle.floorlog.specs.Told.{secondsOf, placesAfter, Drives}
-use Rattle.floorlog.proofs.LogOpenings.{log-opened-by}
-use Rattle.floorlog.proofs.OnePlace.{first-is-lowest-shut}
+use Rattle.floorlog.specs.Events.{LogEvent, opens, receives, passes, closes, no_such, event_of}
+use Rattle.floorlog.specs.Doing.{log_place, did}
+use Rattle.floorlog.specs.Told.{seconds_of, places_after, Drives}
+use Rattle.floorlog.proofs.LogOpenings.{log_opened_by}
+use Rattle.floorlog.proofs.OnePlace.{first_is_lowest_shut}
 
 -- no second
-none-later : (cs : List Connection) → map (times connectionSecond 0) cs ≡ cs
-none-later cs =
+none_later : (cs : List Connection) → map (times connection_second 0) cs ≡ cs
+none_later cs =
     let d : Device = record { settings = blank.settings; own = blank.own; connections = cs } in
-    ap (λ (e : Device). e.connections) (sym (parts-pass 0 d) ∙ no-seconds d)
+    ap (λ (e : Device). e.connections) (sym (parts_pass 0 d) ∙ no_seconds d)
 
-same-places : (legal : Bool) (cs : List Connection) → placesAfter legal 0 cs ≡ cs
-same-places true cs = none-later cs
-same-places false cs = refl
+same_places : (legal : Bool) (cs : List Connection) → places_after legal 0 cs ≡ cs
+same_places true cs = none_later cs
+same_places false cs = refl
 
 -- what was put in its place stands there
-put-there : (cs : List Connection) (c : Connection)
-    → set cs logPlace (get_or (set cs logPlace c) logPlace noConnection) ≡ set cs logPlace c
-put-there [] c = refl
-put-there (x ∷ cs) c = refl
+put_there : (cs : List Connection) (c : Connection)
+    → set cs log_place (slice_index_or (set cs log_place c) log_place no_connection) ≡ set cs log_place c
+put_there [] c = refl
+put_there (x ∷ cs) c = refl
 
 module _ (d : Device) where
   abbrev before : List Connection
@@ -48,59 +45,59 @@ module _ (d : Device) where
 
   -- but for the place that a log drives, the places are as they were
   abbrev Kept : Device → Type 0
-  Kept after = set before logPlace (connectionAt after logPlace) ≡ after.connections
+  Kept after = set before log_place (connection_at after log_place) ≡ after.connections
 
   pub none_pass : (after : Device) → Kept after → Drives 0 d after
   none_pass after kept =
-      ap (λ (cs : List Connection). set cs logPlace (connectionAt after logPlace)) (same-places (isLegal d) before)
+      ap (λ (cs : List Connection). set cs log_place (connection_at after log_place)) (same_places (is_legal d) before)
       ∙ kept
 
-  pub itself-kept : Kept d
-  itself-kept = set-get_or before logPlace noConnection
+  pub itself_kept : Kept d
+  itself_kept = set-get_or before log_place no_connection
 
-  opening-kept : (r : ℕ) → Kept (did d (opens r)).device
+  opening_kept : (r : ℕ) → Kept (did d (opens r)).device
   unfolding did
-  opening-kept r =
-      log-opened-by d r (λ q. Kept q.device) (λ n z. itself-kept)
-      (λ legal free. opened-by d r replyRoom (λ q. Kept q.device) (λ n z. itself-kept)
+  opening_kept r =
+      log_opened_by d r (λ q. Kept q.device) (λ n z. itself_kept)
+      (λ legal free. opened_by_lem d r reply_room (λ q. Kept q.device) (λ n z. itself_kept)
       (λ h s c. let new = greeted d.settings r in subst
-      (λ (k : ℕ). set before logPlace (get_or (set before k new) logPlace noConnection) ≡ set before k new)
-      (sym (first-is-lowest-shut before free)) (put-there before new)))
+      (λ (k : ℕ). set before log_place (slice_index_or (set before k new) log_place no_connection) ≡ set before k new)
+      (sym (first_is_lowest_shut before free)) (put_there before new)))
 
-  passing-drives : (n : ℕ) → Drives n d (did d (passes n)).device
+  passing_drives : (n : ℕ) → Drives n d (did d (passes n)).device
   unfolding did
-  passing-drives n =
-      passed-by (λ r. Drives n d r.device) d n
-      (λ illegal. ap (λ (t : Bool). set (placesAfter t n before) logPlace (connectionAt d logPlace)) illegal
-      ∙ itself-kept)
+  passing_drives n =
+      passed_by (λ r. Drives n d r.device) d n
+      (λ illegal. ap (λ (t : Bool). set (places_after t n before) log_place (connection_at d log_place)) illegal
+      ∙ itself_kept)
       (λ legal. let after = times second n d in
-      ap (λ (t : Bool). set (placesAfter t n before) logPlace (connectionAt after logPlace)) legal
-      ∙ ap (λ (e : Device). set e.connections logPlace (connectionAt after logPlace)) (sym (parts-pass n d))
-      ∙ set-get_or after.connections logPlace noConnection)
+      ap (λ (t : Bool). set (places_after t n before) log_place (connection_at after log_place)) legal
+      ∙ ap (λ (e : Device). set e.connections log_place (connection_at after log_place)) (sym (parts_pass n d))
+      ∙ set-get_or after.connections log_place no_connection)
 
-  pub did-drives : (e : LogEvent) → Drives (secondsOf e) d (did d e).device
+  pub did_drives : (e : LogEvent) → Drives (seconds_of e) d (did d e).device
   unfolding did
-  did-drives (opens r) = none_pass (did d (opens r)).device (opening-kept r)
-  did-drives (receives bs) =
+  did_drives (opens r) = none_pass (did d (opens r)).device (opening_kept r)
+  did_drives (receives bs) =
       none_pass (did d (receives bs)).device
-      (received-by d logPlace bs replyRoom (λ q. Kept q.device) (λ n z. itself-kept)
-      (λ h s t c. put-there before _))
-  did-drives (passes n) = passing-drives n
-  did-drives closes =
+      (received_by d log_place bs reply_room (λ q. Kept q.device) (λ n z. itself_kept)
+      (λ h s t c. put_there before _))
+  did_drives (passes n) = passing_drives n
+  did_drives closes =
       none_pass (did d closes).device
-      (closed-by d logPlace (λ q. Kept q.device) (λ n z. itself-kept) (λ h t c. put-there before _))
-  did-drives noSuch = none_pass d itself-kept
+      (closed_by_lem d log_place (λ q. Kept q.device) (λ n z. itself_kept) (λ h t c. put_there before _))
+  did_drives no_such = none_pass d itself_kept
 
 -- the seconds are the line's, whatever it would have received
-seconds-said : (says : Says) (bs : List ℕ) → secondsOf (eventOf says []) ≡ secondsOf (eventOf says bs)
-seconds-said (Opens x) bs = refl
-seconds-said Receives bs = refl
-seconds-said (Passes n) bs = refl
-seconds-said Closes bs = refl
-seconds-said NoSuch bs = refl
+seconds_said : (says : Says) (bs : List ℕ) → seconds_of (event_of says []) ≡ seconds_of (event_of says bs)
+seconds_said (Opens x) bs = refl
+seconds_said Receives bs = refl
+seconds_said (Passes n) bs = refl
+seconds_said Closes bs = refl
+seconds_said NoSuch bs = refl
 
-pub driven : (d : Device) (says : Says) (bs : List ℕ) {after : Device} → after ≡ (did d (eventOf says bs)).device
-    → Drives (secondsOf (eventOf says [])) d after
+pub driven : (d : Device) (says : Says) (bs : List ℕ) {after : Device} → after ≡ (did d (event_of says bs)).device
+    → Drives (seconds_of (event_of says [])) d after
 driven d says bs {after} left =
-    subst (λ (n : ℕ). Drives n d after) (sym (seconds-said says bs))
-    (subst (Drives (secondsOf (eventOf says bs)) d) (sym left) (did-drives d (eventOf says bs)))
+    subst (λ (n : ℕ). Drives n d after) (sym (seconds_said says bs))
+    (subst (Drives (seconds_of (event_of says bs)) d) (sym left) (did_drives d (event_of says bs)))

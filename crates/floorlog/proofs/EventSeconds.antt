@@ -1,25 +1,21 @@
 -- No event lets more seconds pass than a number of 32 bits can tell.
 -- Assumes nothing.
-use Prim.Native.Nat.{ℕ, ◌≤◌}
-use mathlib.Core.List.{List, ◌++◌}
-use native.Mathlib.Omega.{arith}
-use lib.ListN.{drop}
-use Rattle.text.specs.Words.{ascii}
-use Rattle.clock.specs.Passing.{secondsMost}
+use Rattle.std.proofs.Common.{ℕ, ◌≤◌, List, ◌++◌, arith, drop, codes}
+use Rattle.clock.specs.Passing.{seconds_most}
 use Rattle.floorlog.specs.declared.line.Says.{Says}
 use Rattle.floorlog.specs.declared.line.Says.TheVariants.{Opens, Receives, Passes, Closes, NoSuch}
-use Rattle.floorlog.specs.Lines.{lineSaid}
-use Rattle.floorlog.specs.Events.{eventOf, event}
-use Rattle.floorlog.specs.Told.{secondsOf}
-use Rattle.floorlog.proofs.SecondsSaid.{Within, said-within}
+use Rattle.floorlog.specs.Lines.{line_said}
+use Rattle.floorlog.specs.Events.{event_of, event}
+use Rattle.floorlog.specs.Told.{seconds_of}
+use Rattle.floorlog.proofs.SecondsSaid.{Within, said_within}
 
-of-said : (s : Says) (bs : List ℕ) → Within s → secondsOf (eventOf s bs) ≤ secondsMost
-of-said (Passes n) bs h = h
-of-said (Opens r) bs h = omega arith
-of-said Receives bs h = omega arith
-of-said Closes bs h = omega arith
-of-said NoSuch bs h = omega arith
+of_said : (s : Says) (bs : List ℕ) → Within s → seconds_of (event_of s bs) ≤ seconds_most
+of_said (Passes n) bs h = h
+of_said (Opens r) bs h = omega arith
+of_said Receives bs h = omega arith
+of_said Closes bs h = omega arith
+of_said NoSuch bs h = omega arith
 
-pub event-seconds : (l : List ℕ) → secondsOf (event l) ≤ secondsMost
+pub event_seconds : (l : List ℕ) → seconds_of (event l) ≤ seconds_most
 unfolding event
-event-seconds l = of-said (lineSaid l) (drop 2 l ++ ascii "\r") (said-within l)
+event_seconds l = of_said (line_said l) (drop 2 l ++ codes "\r") (said_within l)

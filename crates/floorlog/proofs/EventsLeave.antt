@@ -1,54 +1,51 @@
 -- What an event leaves of the record: its settings stay, and it stays legal, or not legal. One that is not legal comes
 -- back as it was, with 1 where the line has a form.
 -- Assumes nothing.
-use mathlib.Core.Path.{◌≡◌, refl, ap}
-use mathlib.Core.Bool.{false}
-use mathlib.Core.List.{List}
-use Prim.Native.Nat.{ℕ}
+use Rattle.std.proofs.Common.{◌≡◌, refl, ap, false, List, ℕ}
 use Rattle.std.specs.Prelude.{Result, if◌then◌else◌}
 use Rattle.record.specs.Given.{given_by}
 use Rattle.record.specs.declared.refusal.Refusal.{Refusal}
-use Rattle.record.specs.Legal.{isLegal}
+use Rattle.record.specs.Legal.{is_legal}
 use Rattle.record.specs.declared.types.Device.{Device}
-use Rattle.clock.proofs.Cases.{passed-illegal}
-use Rattle.clock.proofs.TimeLegal.{passed-legality}
-use Rattle.clock.proofs.Untouched.{passed-leaves}
-use Rattle.device.specs.Calls.{refusedBy, replyRoom}
-use Rattle.device.proofs.Untouched.{receiving-keeps-settings, opening-keeps-settings, closing-keeps-settings}
-use Rattle.device.proofs.Illegal.{received-illegal, closed-illegal}
-use Rattle.device.proofs.Illegal.{received-legality, opened-legality, closed-legality}
+use Rattle.clock.proofs.Cases.{passed_illegal}
+use Rattle.clock.proofs.TimeLegal.{passed_legality}
+use Rattle.clock.proofs.Untouched.{passed_leaves}
+use Rattle.device.specs.Calls.{refused_by, reply_room}
+use Rattle.device.proofs.Untouched.{receiving_keeps_settings, opening_keeps_settings, closing_keeps_settings}
+use Rattle.device.proofs.Illegal.{received_illegal, closed_illegal}
+use Rattle.device.proofs.Illegal.{received_legality, opened_legality, closed_legality}
 use Rattle.floorlog.specs.declared.line.Says.{Says}
 use Rattle.floorlog.specs.declared.line.Says.TheVariants.{Opens, Receives, Passes, Closes, NoSuch}
-use Rattle.floorlog.specs.Ending.{isFormed}
-use Rattle.floorlog.specs.Events.{LogEvent, opens, receives, passes, closes, noSuch, eventOf}
-use Rattle.floorlog.specs.Doing.{changedTo, logPlace, did}
-use Rattle.floorlog.proofs.LogOpenings.{log-opened-by, log-opened-illegal}
+use Rattle.floorlog.specs.Ending.{is_formed}
+use Rattle.floorlog.specs.Events.{LogEvent, opens, receives, passes, closes, no_such, event_of}
+use Rattle.floorlog.specs.Doing.{changed_to, log_place, did}
+use Rattle.floorlog.proofs.LogOpenings.{log_opened_by, log_opened_illegal}
 
 module _ (d : Device) where
   pub did-settings : (e : LogEvent) → (did d e).device.settings ≡ d.settings
   unfolding did
   did-settings (opens r) =
-      log-opened-by d r (λ q. q.device.settings ≡ d.settings) (λ n z. refl)
-      (λ h c. opening-keeps-settings d r replyRoom)
-  did-settings (receives bs) = receiving-keeps-settings d logPlace bs replyRoom
-  did-settings (passes n) = (passed-leaves d n).settings
-  did-settings closes = closing-keeps-settings d logPlace
-  did-settings noSuch = refl
+      log_opened_by d r (λ q. q.device.settings ≡ d.settings) (λ n z. refl)
+      (λ h c. opening_keeps_settings d r reply_room)
+  did-settings (receives bs) = receiving_keeps_settings d log_place bs reply_room
+  did-settings (passes n) = (passed_leaves d n).settings
+  did-settings closes = closing_keeps_settings d log_place
+  did-settings no_such = refl
 
-  pub did-legality : (e : LogEvent) → isLegal (did d e).device ≡ isLegal d
+  pub did_legality : (e : LogEvent) → is_legal (did d e).device ≡ is_legal d
   unfolding did
-  did-legality (opens r) =
-      log-opened-by d r (λ q. isLegal q.device ≡ isLegal d) (λ n z. refl) (λ h c. opened-legality d r replyRoom)
-  did-legality (receives bs) = received-legality d logPlace bs replyRoom
-  did-legality (passes n) = passed-legality d n
-  did-legality closes = closed-legality d logPlace
-  did-legality noSuch = refl
+  did_legality (opens r) =
+      log_opened_by d r (λ q. is_legal q.device ≡ is_legal d) (λ n z. refl) (λ h c. opened_legality d r reply_room)
+  did_legality (receives bs) = received_legality d log_place bs reply_room
+  did_legality (passes n) = passed_legality d n
+  did_legality closes = closed_legality d log_place
+  did_legality no_such = refl
 
-  pub did-illegal : (says : Says) (bs : List ℕ) → isLegal d ≡ false
-      → did d (eventOf says bs) ≡ refusedBy (if isFormed says then 1 else 0) d
+  pub did_illegal : (says : Says) (bs : List ℕ) → is_legal d ≡ false
+      → did d (event_of says bs) ≡ refused_by (if is_formed says then 1 else 0) d
   unfolding did
-  did-illegal (Opens r) bs h = log-opened-illegal d r h
-  did-illegal Receives bs h = received-illegal d logPlace bs replyRoom h
-  did-illegal (Passes n) bs h = ap (λ (r : Result Device Refusal). changedTo (given_by d r)) (passed-illegal d n h)
-  did-illegal Closes bs h = closed-illegal d logPlace h
-  did-illegal NoSuch bs h = refl
+  did_illegal (Opens r) bs h = log_opened_illegal d r h
+  did_illegal Receives bs h = received_illegal d log_place bs reply_room h
+  did_illegal (Passes n) bs h = ap (λ (r : Result Device Refusal). changed_to (given_by d r)) (passed_illegal d n h)
+  did_illegal Closes bs h = closed_illegal d log_place h
+  did_illegal NoSuch bs h = refl

@@ -1,20 +1,15 @@
 -- What a line says, case by case.
 -- Assumes nothing.
-use Prim.Native.Nat.{ℕ, ◌≤◌, ◌<◌}
-use mathlib.Core.Path.{◌≡◌, refl, ap, ◌∙◌}
-use mathlib.Core.Bool.{Bool, true, false, ◌&&◌}
-use mathlib.Core.List.{List}
-use native.Mathlib.Omega.{arith}
-use lib.ListN.{length}
-use lib.Dec.{leb, eqb}
-use borrow.Author.Tests.{le-leb, lt-leb, eq-eqb, ne_eqb}
-use Rattle.text.specs.Scans.{every}
+use Rattle.std.specs.List.{list_all}
+use Rattle.std.proofs.Common.{ℕ, ◌≤◌, ◌<◌, ◌≡◌, refl, ap, ◌∙◌, Bool, true, false, ◌&&◌, List, arith, length, nat_le}
+use Rattle.std.proofs.Common.{◌==◌, le-leb, eq-eqb, ne_eqb}
+use Rattle.std.proofs.lemmas.Bool.{lt-leb}
 use Rattle.text.proofs.Choices.{if_yes, if_no, both}
-use Rattle.numbers.specs.Decimal.{isDigit, decimalValue}
-use Rattle.digest.specs.Hex.{isHexDigit, hexValue}
-use Rattle.clock.specs.Passing.{secondsMost}
+use Rattle.numbers.specs.Decimal.{is_digit, decimal_value}
+use Rattle.digest.specs.Hex.{is_hex_digit, hex_value}
+use Rattle.clock.specs.Passing.{seconds_most}
 use Rattle.floorlog.specs.declared.line.Says.TheVariants.{Opens, Passes, NoSuch}
-use Rattle.floorlog.specs.Lines.{lineMost, randomSaid, secondsSaid, lineSaid}
+use Rattle.floorlog.specs.Lines.{line_most, random_said, seconds_said, line_said}
 
 -- a conjunction fails by its second side
 never : (a b : Bool) → b ≡ false → (a && b) ≡ false
@@ -23,48 +18,48 @@ never false b e = refl
 
 -- the random number after `O`
 module _ (s : List ℕ) where
-  pub random-not-8 : (length s ≡ 8 → ⊥) → randomSaid s ≡ NoSuch
-  unfolding randomSaid
-  random-not-8 h = simp (ne_eqb (length s) 8 h)
+  pub random_not_8 : (length s ≡ 8 → ⊥) → random_said s ≡ NoSuch
+  unfolding random_said
+  random_not_8 h = simp (ne_eqb (length s) 8 h)
 
-  pub random-no-digit : every isHexDigit s ≡ false → randomSaid s ≡ NoSuch
-  unfolding randomSaid
-  random-no-digit e = if_no _ _ (never (eqb (length s) 8) (every isHexDigit s) e)
+  pub random_no_digit : list_all is_hex_digit s ≡ false → random_said s ≡ NoSuch
+  unfolding random_said
+  random_no_digit e = if_no _ _ (never (length s == 8) (list_all is_hex_digit s) e)
 
-  pub random-opens : length s ≡ 8 → every isHexDigit s ≡ true → randomSaid s ≡ Opens (hexValue s)
-  unfolding randomSaid
-  random-opens h e = if_yes _ _ (both (eq-eqb (length s) 8 h) e)
+  pub random_opens : length s ≡ 8 → list_all is_hex_digit s ≡ true → random_said s ≡ Opens (hex_value s)
+  unfolding random_said
+  random_opens h e = if_yes _ _ (both (eq-eqb (length s) 8 h) e)
 
 -- the seconds after `T`
 module _ (s : List ℕ) where
-  pub seconds-none : length s < 1 → secondsSaid s ≡ NoSuch
-  unfolding secondsSaid
-  seconds-none h = simp (lt-leb 1 (length s) h)
+  pub seconds_none : length s < 1 → seconds_said s ≡ NoSuch
+  unfolding seconds_said
+  seconds_none h = simp (lt-leb 1 (length s) h)
 
-  pub seconds-long : 10 < length s → secondsSaid s ≡ NoSuch
-  unfolding secondsSaid
-  seconds-long h = simp (le-leb 1 (length s) (omega arith), lt-leb (length s) 10 h)
+  pub seconds_long : 10 < length s → seconds_said s ≡ NoSuch
+  unfolding seconds_said
+  seconds_long h = simp (le-leb 1 (length s) (omega arith), lt-leb (length s) 10 h)
 
   module _ (some : 1 ≤ length s) (few : length s ≤ 10) where
-    sized : (leb 1 (length s) && leb (length s) 10) ≡ true
+    sized : (nat_le 1 (length s) && nat_le (length s) 10) ≡ true
     sized = both (le-leb 1 (length s) some) (le-leb (length s) 10 few)
 
-    pub seconds-no-digit : every isDigit s ≡ false → secondsSaid s ≡ NoSuch
-    unfolding secondsSaid
-    seconds-no-digit e = simp (sized, e)
+    pub seconds_no_digit : list_all is_digit s ≡ false → seconds_said s ≡ NoSuch
+    unfolding seconds_said
+    seconds_no_digit e = simp (sized, e)
 
-    module _ (figures : every isDigit s ≡ true) (v : ℕ) (value : decimalValue s ≡ v) where
-      pub seconds-over : secondsMost < v → secondsSaid s ≡ NoSuch
-      unfolding secondsSaid
-      seconds-over h = simp (sized, figures, lt-leb (decimalValue s) secondsMost (omega arith))
+    module _ (figures : list_all is_digit s ≡ true) (v : ℕ) (value : decimal_value s ≡ v) where
+      pub seconds_over : seconds_most < v → seconds_said s ≡ NoSuch
+      unfolding seconds_said
+      seconds_over h = simp (sized, figures, lt-leb (decimal_value s) seconds_most (omega arith))
 
-      pub seconds-passes : v ≤ secondsMost → secondsSaid s ≡ Passes v
-      unfolding secondsSaid
-      seconds-passes h =
-          if_yes _ _ (both (both sized figures) (le-leb (decimalValue s) secondsMost (omega arith))) ∙ ap Passes value
+      pub seconds_passes : v ≤ seconds_most → seconds_said s ≡ Passes v
+      unfolding seconds_said
+      seconds_passes h =
+          if_yes _ _ (both (both sized figures) (le-leb (decimal_value s) seconds_most (omega arith))) ∙ ap Passes value
 
 -- any line
 module _ (l : List ℕ) where
-  pub line-overlong : lineMost < length l → lineSaid l ≡ NoSuch
-  unfolding lineSaid
-  line-overlong h = simp (lt-leb (length l) lineMost h)
+  pub line_overlong : line_most < length l → line_said l ≡ NoSuch
+  unfolding line_said
+  line_overlong h = simp (lt-leb (length l) line_most h)

@@ -1,9 +1,6 @@
 -- What is printed for a line stands in front of the memory that is lent for it.
 -- Assumes nothing.
-use Prim.Native.Nat.{ℕ}
-use mathlib.Core.Path.{◌≡◌, ap, ◌∙◌}
-use mathlib.Core.List.{List}
-use lib.ListN.{length, take}
+use Rattle.std.proofs.Common.{ℕ, ◌≡◌, ap, ◌∙◌, List, length, take}
 use Rattle.std.proofs.Math.Seq.{take-append_seam}
 use Rattle.record.specs.declared.types.Device.{Device}
 use Rattle.floorlog.specs.Events.{LogEvent}

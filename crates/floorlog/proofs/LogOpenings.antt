@@ -1,38 +1,36 @@
 -- Opening in a log, case by case (RULES, Places): refused with 1, or with 5 where the place that the log drives is not
 -- closed; else the device's own opening.
 -- Assumes nothing.
-use Prim.Native.Nat.{ℕ}
-use mathlib.Core.Path.{◌≡◌, refl, ap, ◌∙◌}
-use mathlib.Core.Bool.{true, false, not}
-use borrow.Author.Tests.{not-false}
-use Rattle.text.proofs.ByRows.{by_rows, rows-done}
+use Rattle.std.proofs.Common.{ℕ, ◌≡◌, refl, ap, ◌∙◌, true, false, not}
+use Rattle.std.proofs.lemmas.Bool.{not-false}
+use Rattle.text.proofs.ByRows.{by_rows_lem, rows_done}
 use Rattle.text.proofs.Choices.{if_yes, if_no}
-use Rattle.record.specs.Legal.{isLegal}
-use Rattle.record.specs.Places.{connectionAt, isShut}
+use Rattle.record.specs.Legal.{is_legal}
+use Rattle.record.specs.Places.{connection_at, is_shut}
 use Rattle.record.specs.declared.types.Device.{Device}
-use Rattle.device.specs.Calls.{Result, refusedBy, replyRoom, openedBy}
-use Rattle.floorlog.specs.Doing.{logPlace, logOpeningRows, openedInLog}
+use Rattle.device.specs.Calls.{Result, refused_by, reply_room, opened_by}
+use Rattle.floorlog.specs.Doing.{log_place, log_opening_rows, opened_in_log}
 
 module _ (d : Device) (r : ℕ) where
-  pub log-opened-by : (P : Result Device → Type 0) → ((n : ℕ) → (n ≡ 0 → ⊥) → P (refusedBy n d))
-      → (isLegal d ≡ true → isShut (connectionAt d logPlace) ≡ true → P (openedBy d r replyRoom))
-      → P (openedInLog d r)
-  unfolding openedInLog
-  log-opened-by P refused opens =
-      by_rows (λ n. refusedBy n d) _ P refused (logOpeningRows d) refl
-      (λ none. opens (not-false (isLegal d) none.0) (not-false (isShut (connectionAt d logPlace)) none.1.0))
+  pub log_opened_by : (P : Result Device → Type 0) → ((n : ℕ) → (n ≡ 0 → ⊥) → P (refused_by n d))
+      → (is_legal d ≡ true → is_shut (connection_at d log_place) ≡ true → P (opened_by d r reply_room))
+      → P (opened_in_log d r)
+  unfolding opened_in_log
+  log_opened_by P refused opens =
+      by_rows_lem (λ n. refused_by n d) _ P refused (log_opening_rows d) refl
+      (λ none. opens (not-false (is_legal d) none.0) (not-false (is_shut (connection_at d log_place)) none.1.0))
 
-  pub log-opened-illegal : isLegal d ≡ false → openedInLog d r ≡ refusedBy 1 d
-  unfolding openedInLog
-  log-opened-illegal h = if_yes _ _ (ap not h)
+  pub log_opened_illegal : is_legal d ≡ false → opened_in_log d r ≡ refused_by 1 d
+  unfolding opened_in_log
+  log_opened_illegal h = if_yes _ _ (ap not h)
 
-  module _ (legal : isLegal d ≡ true) where
+  module _ (legal : is_legal d ≡ true) where
     -- the second one
-    pub log-opened-again : isShut (connectionAt d logPlace) ≡ false → openedInLog d r ≡ refusedBy 5 d
-    unfolding openedInLog
-    log-opened-again live = if_no _ _ (ap not legal) ∙ if_yes _ _ (ap not live)
+    pub log_opened_again : is_shut (connection_at d log_place) ≡ false → opened_in_log d r ≡ refused_by 5 d
+    unfolding opened_in_log
+    log_opened_again live = if_no _ _ (ap not legal) ∙ if_yes _ _ (ap not live)
 
-    pub log-opened-closed : isShut (connectionAt d logPlace) ≡ true → openedInLog d r ≡ openedBy d r replyRoom
-    unfolding openedInLog
-    log-opened-closed shut =
-        rows-done (λ n. refusedBy n d) _ (logOpeningRows d) (ap not legal, (ap not shut, tt))
+    pub log_opened_closed : is_shut (connection_at d log_place) ≡ true → opened_in_log d r ≡ opened_by d r reply_room
+    unfolding opened_in_log
+    log_opened_closed shut =
+        rows_done (λ n. refused_by n d) _ (log_opening_rows d) (ap not legal, (ap not shut, tt))

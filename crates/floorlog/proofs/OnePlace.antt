@@ -1,82 +1,79 @@
 -- A log drives one place only (RULES, Places): opening takes it where it is closed, since there is none lower, and
 -- every other place that is closed stays so, as each is before a log.
 -- Assumes nothing.
-use Prim.Native.Nat.{ℕ, ◌≤◌, ◌<◌}
-use mathlib.Core.Path.{◌≡◌, sym, ap, ◌∙◌}
-use mathlib.Core.Bool.{true, false, false≢true}
-use mathlib.Core.Logic.{⊎_elim}
-use mathlib.Core.List.{List, [], ◌∷◌}
-use native.Mathlib.Omega.{arith}
-use lib.ListN.{get_or, replicate}
-use Rattle.text.proofs.Orders.{le-or-lt}
-use Rattle.record.specs.Limits.{placesCount}
-use Rattle.record.specs.Legal.{isLegal, isTimed}
-use Rattle.record.specs.Places.{noConnection, connectionAt, isShut, lowestShut}
+use Rattle.std.proofs.Common.{ℕ, ◌≤◌, ◌<◌, ◌≡◌, sym, ap, ◌∙◌, true, false, ⊎_elim, List, [], ◌∷◌, arith, slice_index_or}
+use Rattle.std.proofs.Common.{replicate}
+use Rattle.std.proofs.lemmas.Bool.{false≢true}
+use Rattle.text.proofs.Orders.{le_or_lt}
+use Rattle.record.specs.Limits.{places_count}
+use Rattle.record.specs.Legal.{is_legal, is_timed}
+use Rattle.record.specs.Places.{no_connection, connection_at, is_shut, lowest_shut}
 use Rattle.record.specs.Record.{closed, blank}
 use Rattle.record.specs.declared.types.Connection.{Connection}
 use Rattle.record.specs.declared.types.Device.{Device}
-use Rattle.record.proofs.LowestShut.{below-lowest}
-use Rattle.record.proofs.Spelt.{closed-spelt, blank-spelt}
-use Rattle.record.proofs.Calls.{set-up-by}
-use Rattle.record.proofs.ConnectionsTold.{all-closed-at}
-use Rattle.record.proofs.Started.{started-closed}
-use Rattle.clock.proofs.Untouched.{passed-leaves}
-use Rattle.device.specs.Calls.{replyRoom, placeTaken}
-use Rattle.device.proofs.Cases.{opened-lowest}
-use Rattle.device.proofs.Untouched.{receiving-keeps-others, opening-keeps-others, closing-keeps-others}
-use Rattle.floorlog.specs.Events.{LogEvent, opens, receives, passes, closes, noSuch, events}
-use Rattle.floorlog.specs.Doing.{logPlace, did}
-use Rattle.floorlog.specs.Playing.{sampleDevice, stateAfter}
-use Rattle.floorlog.proofs.LogOpenings.{log-opened-by}
+use Rattle.record.proofs.LowestShut.{below_lowest}
+use Rattle.record.proofs.Spelt.{closed_spelt, blank_spelt}
+use Rattle.record.proofs.Calls.{set_up_by}
+use Rattle.record.proofs.ConnectionsTold.{all_closed_at}
+use Rattle.record.proofs.Started.{connection_at-started}
+use Rattle.clock.proofs.Untouched.{passed_leaves}
+use Rattle.device.specs.Calls.{reply_room, place_taken}
+use Rattle.device.proofs.Cases.{opened_lowest}
+use Rattle.device.proofs.Untouched.{receiving_keeps_others, opening_keeps_others, connection_at-closed_by}
+use Rattle.floorlog.specs.Events.{LogEvent, opens, receives, passes, closes, no_such, events}
+use Rattle.floorlog.specs.Doing.{log_place, did}
+use Rattle.floorlog.specs.Playing.{sample_device, state_after}
+use Rattle.floorlog.proofs.LogOpenings.{log_opened_by}
 
-pub first-is-lowest-shut : (cs : List Connection) → isShut (get_or cs 0 noConnection) ≡ true → lowestShut cs ≡ 0
-first-is-lowest-shut cs e =
-    ⊎_elim (λ (h : lowestShut cs ≤ 0). omega arith)
-    (λ (h : 0 < lowestShut cs). absurd (false≢true (sym (below-lowest cs 0 h) ∙ e))) (le-or-lt (lowestShut cs) 0)
+pub first_is_lowest_shut : (cs : List Connection) → is_shut (slice_index_or cs 0 no_connection) ≡ true →
+    lowest_shut cs ≡ 0
+first_is_lowest_shut cs e =
+    ⊎_elim (λ (h : lowest_shut cs ≤ 0). omega arith)
+    (λ (h : 0 < lowest_shut cs). absurd (false≢true (sym (below_lowest cs 0 h) ∙ e))) (le_or_lt (lowest_shut cs) 0)
 
-pub log-place-taken : (d : Device) → isLegal d ≡ true → isShut (connectionAt d logPlace) ≡ true
-    → placeTaken d replyRoom ≡ logPlace
-log-place-taken d legal shut =
-    let lowest = first-is-lowest-shut d.connections shut in
-    opened-lowest d 0 replyRoom legal (omega arith) (omega (arith, lowest)) ∙ lowest
+pub log_place_taken : (d : Device) → is_legal d ≡ true → is_shut (connection_at d log_place) ≡ true
+    → place_taken d reply_room ≡ log_place
+log_place_taken d legal shut =
+    let lowest = first_is_lowest_shut d.connections shut in
+    opened_lowest d 0 reply_room legal (omega arith) (omega (arith, lowest)) ∙ lowest
 
-untimed : (c : Connection) → c ≡ closed → isTimed c.phase ≡ false
-untimed c e = ap (λ (k : Connection). isTimed k.phase) (e ∙ closed-spelt)
+untimed : (c : Connection) → c ≡ closed → is_timed c.phase ≡ false
+untimed c e = ap (λ (k : Connection). is_timed k.phase) (e ∙ closed_spelt)
 
-blank-closed : (p : ℕ) → p < placesCount → connectionAt blank p ≡ closed
+blank-closed : (p : ℕ) → p < places_count → connection_at blank p ≡ closed
 blank-closed p there =
-    ap (λ (d : Device). connectionAt d p) blank-spelt
-    ∙ ap (λ (c : Connection). get_or (replicate placesCount c) p noConnection) (sym closed-spelt)
-    ∙ all-closed-at p there
+    ap (λ (d : Device). connection_at d p) blank_spelt
+    ∙ ap (λ (c : Connection). slice_index_or (replicate places_count c) p no_connection) (sym closed_spelt)
+    ∙ all_closed_at p there
 
 -- set-up leaves every place closed, and so does one that is refused
-sample-closed : (p : ℕ) → p < placesCount → connectionAt sampleDevice p ≡ closed
-unfolding sampleDevice
-sample-closed p there =
+sample_closed : (p : ℕ) → p < places_count → connection_at sample_device p ≡ closed
+unfolding sample_device
+sample_closed p there =
     let none = blank-closed p there in
-    set-up-by _ (λ r. connectionAt r.device p ≡ closed) none none
-    (λ h. started-closed _ p there)
+    set_up_by _ (λ r. connection_at r.device p ≡ closed) none none
+    (λ h. connection_at-started _ p there)
 
-module _ (p : ℕ) (other : p ≡ logPlace → ⊥) where
+module _ (p : ℕ) (other : p ≡ log_place → ⊥) where
   -- a closed place
   abbrev pub ClosedAt : Device → Type 0
-  ClosedAt d = connectionAt d p ≡ closed
+  ClosedAt d = connection_at d p ≡ closed
 
-  pub event-elsewhere : (d : Device) (e : LogEvent) → ClosedAt d → ClosedAt (did d e).device
+  pub event_elsewhere : (d : Device) (e : LogEvent) → ClosedAt d → ClosedAt (did d e).device
   unfolding did
-  event-elsewhere d (opens r) shut =
-      log-opened-by d r (λ q. ClosedAt q.device) (λ n z. shut)
-      (λ legal free. opening-keeps-others d r replyRoom p (λ same. other (same ∙ log-place-taken d legal free)) ∙ shut)
-  event-elsewhere d (receives bs) shut = receiving-keeps-others d logPlace bs replyRoom p other ∙ shut
-  event-elsewhere d (passes n) shut =
-      (passed-leaves d n).connection p (untimed (connectionAt d p) shut) ∙ shut
-  event-elsewhere d closes shut = closing-keeps-others d logPlace p other ∙ shut
-  event-elsewhere d noSuch shut = shut
+  event_elsewhere d (opens r) shut =
+      log_opened_by d r (λ q. ClosedAt q.device) (λ n z. shut)
+      (λ legal free. opening_keeps_others d r reply_room p (λ same. other (same ∙ log_place_taken d legal free)) ∙ shut)
+  event_elsewhere d (receives bs) shut = receiving_keeps_others d log_place bs reply_room p other ∙ shut
+  event_elsewhere d (passes n) shut =
+      (passed_leaves d n).connection p (untimed (connection_at d p) shut) ∙ shut
+  event_elsewhere d closes shut = connection_at-closed_by d log_place p other ∙ shut
+  event_elsewhere d no_such shut = shut
 
-  pub events-elsewhere : (d : Device) (es : List LogEvent) → ClosedAt d → ClosedAt (stateAfter d es)
-  unfolding stateAfter
-  events-elsewhere d [] shut = shut
-  events-elsewhere d (e ∷ es) shut = events-elsewhere (did d e).device es (event-elsewhere d e shut)
+  pub events_elsewhere : (d : Device) (es : List LogEvent) → ClosedAt d → ClosedAt (state_after d es)
+  unfolding state_after
+  events_elsewhere d [] shut = shut
+  events_elsewhere d (e ∷ es) shut = events_elsewhere (did d e).device es (event_elsewhere d e shut)
 
-  pub log-elsewhere : (log : List ℕ) → p < placesCount → ClosedAt (stateAfter sampleDevice (events log))
-  log-elsewhere log there = events-elsewhere sampleDevice (events log) (sample-closed p there)
+  pub log_elsewhere : (log : List ℕ) → p < places_count → ClosedAt (state_after sample_device (events log))
+  log_elsewhere log there = events_elsewhere sample_device (events log) (sample_closed p there)

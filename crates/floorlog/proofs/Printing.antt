@@ -1,27 +1,22 @@
 -- A printed line, as the code puts it together: the number and a space, a reply that loses its CR, and an ending.
 -- Assumes nothing.
-use Prim.Native.Nat.{ℕ, suc, ◌+◌, ◌-◌, ◌≤◌}
-use mathlib.Core.Path.{◌≡◌, sym, ap, ◌∙◌}
-use mathlib.Core.Bool.{Bool, true, not}
-use mathlib.Core.List.{List, [], ◌∷◌, ◌++◌, append-nil, append_assoc}
-use native.Mathlib.Omega.{arith}
-use lib.ListN.{length, get_or, take, set, length-append, length-take}
-use lib.Seq.{sets, set-set, take-suc, take-length, length-take-le}
-use borrow.Author.Tests.{eq-eqb, ne_eqb}
-use Rattle.text.specs.Words.{ascii}
+use Rattle.std.proofs.Common.{ℕ, suc, ◌+◌, ◌-◌, ◌≤◌, ◌≡◌, sym, ap, ◌∙◌, Bool, true, not, List, [], ◌∷◌, ◌++◌}
+use Rattle.std.proofs.Common.{append-nil, append_assoc, arith, length, slice_index_or, take, set, length-append}
+use Rattle.std.proofs.Common.{length-take, set-set, take-suc, length-take-le, eq-eqb, ne_eqb, codes}
+use Rattle.std.proofs.Math.Seq.{sets, take-length}
 use Rattle.text.proofs.Choices.{if_yes, if_no}
 use Rattle.text.proofs.Stores.{sets-append, sets_then, sets_over}
-use Rattle.numbers.specs.Decimal.{digits, longDigits}
-use Rattle.numbers.proofs.Digits.{digits-at-most-10}
+use Rattle.numbers.specs.Decimal.{digits, long_digits}
+use Rattle.numbers.proofs.Digits.{digits_at_most_10}
 use Rattle.record.specs.declared.types.Device.{Device}
-use Rattle.device.specs.Calls.{Result, replyRoom}
+use Rattle.device.specs.Calls.{Result, reply_room}
 use Rattle.floorlog.specs.declared.line.Says.{Says}
-use Rattle.floorlog.specs.Ending.{isFormed, ending}
+use Rattle.floorlog.specs.Ending.{is_formed, ending}
 use Rattle.floorlog.specs.declared.event.Called.{Called}
-use Rattle.floorlog.specs.Events.{eventOf}
+use Rattle.floorlog.specs.Events.{event_of}
 use Rattle.floorlog.specs.Doing.{did, outcome, shown, printed}
-use Rattle.floorlog.specs.Told.{calledOf, PrintedAs}
-use Rattle.floorlog.proofs.Endings.{did-plain, bare, ending-by, shown-formed, shown-unformed}
+use Rattle.floorlog.specs.Told.{called_of, PrintedAs}
+use Rattle.floorlog.proofs.Endings.{did_plain, bare, ending_by, shown_formed, shown_unformed}
 
 -- an ending after no reply, and one in the place of a reply's last byte
 appended : (l text end : List ℕ) → sets (sets l 0 (text ++ [])) (length text + (0 - 1)) end ≡ sets l 0 (text ++ end)
@@ -38,7 +33,7 @@ module _ (l text reply end : List ℕ) (some : length reply ≡ 0 → ⊥) (ends
   kept = take (length reply - 1) reply
 
   abbrev lost : ℕ
-  lost = get_or reply (length reply - 1) 0
+  lost = slice_index_or reply (length reply - 1) 0
 
   parted : reply ≡ kept ++ (lost ∷ [])
   parted =
@@ -59,55 +54,56 @@ module _ (l text reply end : List ℕ) (some : length reply ≡ 0 → ⊥) (ends
 -- all of it
 module _ (n : ℕ) (d : Device) (says : Says) (bs : List ℕ) where
   abbrev pub result : Result Device
-  result = did d (eventOf says bs)
+  result = did d (event_of says bs)
 
   abbrev pub headed : List ℕ
-  headed = longDigits n ++ ascii " "
+  headed = long_digits n ++ codes " "
 
   abbrev pub tail : List ℕ
-  tail = ending (isFormed says) result.number (length result.reply)
+  tail = ending (is_formed says) result.number (length result.reply)
 
-  ends-shown : shown (eventOf says bs) result ++ ascii "\n" ≡ bare result ++ tail
-  ends-shown =
-      let told : isFormed says ≡ true → shown (eventOf says bs) result ≡ outcome result = shown-formed says bs result in
-      ending-by (isFormed says) result (did-plain d says bs)
-      (λ reply end. shown (eventOf says bs) result ++ ascii "\n" ≡ take (length reply - 1) reply ++ end)
-      (λ e. ap (λ (s : List ℕ). s ++ ascii "\n") (shown-unformed says bs result e))
-      (λ e h. ap (λ (s : List ℕ). s ++ ascii "\n") (told e ∙ if_yes _ _ (ap not (ne_eqb result.number 0 h))))
-      (λ e z empty. ap (λ (s : List ℕ). s ++ ascii "\n") (told e ∙ if_no _ _ (ap not (eq-eqb result.number 0 z))
+  ends_shown : shown (event_of says bs) result ++ codes "\n" ≡ bare result ++ tail
+  ends_shown =
+      let told : is_formed says ≡ true → shown (event_of says bs) result ≡ outcome result =
+      shown_formed says bs result in
+      ending_by (is_formed says) result (did_plain d says bs)
+      (λ reply end. shown (event_of says bs) result ++ codes "\n" ≡ take (length reply - 1) reply ++ end)
+      (λ e. ap (λ (s : List ℕ). s ++ codes "\n") (shown_unformed says bs result e))
+      (λ e h. ap (λ (s : List ℕ). s ++ codes "\n") (told e ∙ if_yes _ _ (ap not (ne_eqb result.number 0 h))))
+      (λ e z empty. ap (λ (s : List ℕ). s ++ codes "\n") (told e ∙ if_no _ _ (ap not (eq-eqb result.number 0 z))
       ∙ if_yes _ _ (eq-eqb (length result.reply) 0 (ap length empty))))
-      (λ e z some. ap (λ (s : List ℕ). s ++ ascii "\n") (told e ∙ if_no _ _ (ap not (eq-eqb result.number 0 z))
+      (λ e z some. ap (λ (s : List ℕ). s ++ codes "\n") (told e ∙ if_no _ _ (ap not (eq-eqb result.number 0 z))
       ∙ if_no _ _ (ne_eqb (length result.reply) 0 some)))
 
-  pub printed-as : printed n (eventOf says bs) result ≡ headed ++ (bare result ++ tail)
+  pub printed_as : printed n (event_of says bs) result ≡ headed ++ (bare result ++ tail)
   unfolding printed
-  printed-as =
-      append_assoc headed (shown (eventOf says bs) result) (ascii "\n") ∙ ap (λ (s : List ℕ). headed ++ s) ends-shown
+  printed_as =
+      append_assoc headed (shown (event_of says bs) result) (codes "\n") ∙ ap (λ (s : List ℕ). headed ++ s) ends_shown
 
-  pub tail-fits : (room : ℕ) → length result.reply ≤ room → 13 ≤ room
+  pub tail_fits : (room : ℕ) → length result.reply ≤ room → 13 ≤ room
       → (length result.reply - 1) + length tail ≤ room
-  tail-fits room h k =
-      ending-by (isFormed says) result (did-plain d says bs)
+  tail_fits room h k =
+      ending_by (is_formed says) result (did_plain d says bs)
       (λ reply end. length reply ≤ room → (length reply - 1) + length end ≤ room)
       (λ e h. omega arith)
-      (λ e f h. omega (arith, length-append (digits result.number) (ascii "\n"), digits-at-most-10 result.number))
+      (λ e f h. omega (arith, length-append (digits result.number) (codes "\n"), digits_at_most_10 result.number))
       (λ e z empty h. omega arith) (λ e z some h. omega arith) h
 
-  pub printed-stored : (out : List ℕ)
+  pub printed_stored : (out : List ℕ)
       → sets (sets out 0 (headed ++ result.reply)) (length headed + (length result.reply - 1)) tail
-      ≡ sets out 0 (printed n (eventOf says bs) result)
-  printed-stored out =
-      ending-by (isFormed says) result (did-plain d says bs)
+      ≡ sets out 0 (printed n (event_of says bs) result)
+  printed_stored out =
+      ending_by (is_formed says) result (did_plain d says bs)
       (λ reply end. sets (sets out 0 (headed ++ reply)) (length headed + (length reply - 1)) end
       ≡ sets out 0 (headed ++ (take (length reply - 1) reply ++ end)))
       (λ e. appended out headed _) (λ e h. appended out headed _) (λ e z empty. appended out headed _)
-      (λ e z some. replaced out headed result.reply (ascii "\n") some (omega arith))
-      ∙ ap (sets out 0) (sym printed-as)
+      (λ e z some. replaced out headed result.reply (codes "\n") some (omega arith))
+      ∙ ap (sets out 0) (sym printed_as)
 
-  pub printed-long : length (printed n (eventOf says bs) result)
+  pub length-printed : length (printed n (event_of says bs) result)
       ≡ length headed + (length result.reply - 1) + length tail
-  printed-long =
-      ap length printed-as
+  length-printed =
+      ap length printed_as
       ∙ omega (
         arith,
         length-append headed (bare result ++ tail),
@@ -117,23 +113,23 @@ module _ (n : ℕ) (d : Device) (says : Says) (bs : List ℕ) where
 
   -- the number, a space and the reply stand in memory; what the call gave and whether the line is formed, as told
   module _ (out : List ℕ) where
-    pub record Replied (at : ℕ) (left : List ℕ) : Type 0 where
+    pub record IsReplied (at : ℕ) (left : List ℕ) : Type 0 where
       pub place : at ≡ 0 + length headed
       pub stored : left ≡ sets out 0 (headed ++ result.reply)
       pub long : length left ≡ length out
       pub fits : at + length result.reply ≤ length out
-      pub room : at + replyRoom ≤ length out
+      pub room : at + reply_room ≤ length out
 
-    module _ {at : ℕ} {left : List ℕ} (p : Replied at left) {c : Called} {f : Bool} (gave : c ≡ calledOf result)
-        (formed : f ≡ isFormed says) {last : ℕ} (lasts : last ≡ at + (c.length - 1)) where
+    module _ {at : ℕ} {left : List ℕ} (p : IsReplied at left) {c : Called} {f : Bool} (gave : c ≡ called_of result)
+        (formed : f ≡ is_formed says) {last : ℕ} (lasts : last ≡ at + (c.length - 1)) where
       same_end : ending f c.number c.length ≡ tail
       same_end = (λ i. ending (formed i) (gave i).number (gave i).length)
 
       place : last ≡ length headed + (length result.reply - 1)
       place = omega (arith, lasts, ap (λ (x : Called). x.length) gave, p.place)
 
-      pub ending-fits : last + length (ending f c.number c.length) ≤ length left
-      ending-fits =
+      pub ending_fits : last + length (ending f c.number c.length) ≤ length left
+      ending_fits =
           omega (
             arith,
             ap length same_end,
@@ -141,19 +137,19 @@ module _ (n : ℕ) (d : Device) (says : Says) (bs : List ℕ) where
             p.place,
             p.long,
             p.room,
-            tail-fits (length out - at) (omega (arith, p.fits)) (omega (arith, p.room)),
+            tail_fits (length out - at) (omega (arith, p.fits)) (omega (arith, p.room)),
           )
 
-      pub line-printed : {end : ℕ} {after : Device} {m : List ℕ}
+      pub line_printed : {end : ℕ} {after : Device} {m : List ℕ}
           → end ≡ last + length (ending f c.number c.length) → after ≡ result.device
           → m ≡ sets left last (ending f c.number c.length)
-          → PrintedAs n d (eventOf says bs) out end after m
-      line-printed {end} e left_as q =
-          let all = printed n (eventOf says bs) result in
-          let whole : end ≡ length all = omega (arith, e, ap length same_end, place, printed-long) in
+          → PrintedAs n d (event_of says bs) out end after m
+      line_printed {end} e left_as q =
+          let all = printed n (event_of says bs) result in
+          let whole : end ≡ length all = omega (arith, e, ap length same_end, place, length-printed) in
           record {
             returned = whole;
             device = left_as;
-            stored = q ∙ (λ i. sets (p.stored i) (place i) (same_end i)) ∙ printed-stored out
-                ∙ sets_over all out (omega (arith, whole, e, ending-fits, p.long));
+            stored = q ∙ (λ i. sets (p.stored i) (place i) (same_end i)) ∙ printed_stored out
+                ∙ sets_over all out (omega (arith, whole, e, ending_fits, p.long));
           }

@@ -2,32 +2,29 @@
 --   Played d log old now left n device      so far n lines are played from the device d, `now` is in the sink, and the
 --                                           device is so
 -- Assumes nothing.
-use Prim.Native.Nat.{ℕ, ◌+◌, ◌≤◌}
-use mathlib.Core.Path.{◌≡◌, sym, ap, subst, ◌∙◌}
-use mathlib.Core.List.{List, [], ◌∷◌, ◌++◌, append_assoc, map}
-use lib.ListN.{length, take}
-use Rattle.std.proofs.Common.{None, Some, IfSome}
+use Rattle.std.proofs.Common.{None, Some, IfSome, ℕ, ◌+◌, ◌≤◌, ◌≡◌, sym, ap, subst, ◌∙◌, List, [], ◌∷◌, ◌++◌}
+use Rattle.std.proofs.Common.{append_assoc, map, length, take}
 use Rattle.std.specs.declared.option.Option.{Option}
 use Rattle.std.specs.Io.KnownBytes.{Appends}
 use Rattle.textio.specs.Fronts.{WritesFront}
-use Rattle.textio.specs.Lines.{lines_of, countMost, HasEndlessLine, IsTooLong}
+use Rattle.textio.specs.Lines.{lines_of, count_most, HasEndlessLine, IsTooLong}
 use Rattle.textio.specs.NextLine.{IsNextLine}
 use Rattle.textio.proofs.Underway.{Underway, each, begun, line_is, played, broken, ended, cut, last_is, endless}
 use Rattle.textio.proofs.Underway.{too_many}
 use Rattle.record.specs.declared.types.Device.{Device}
-use Rattle.floorlog.specs.LastLine.{lastLine}
+use Rattle.floorlog.specs.LastLine.{last_device_line}
 use Rattle.floorlog.specs.Events.{LogEvent, event}
 use Rattle.floorlog.specs.Doing.{did, printed}
-use Rattle.floorlog.specs.Playing.{stateAfter, linesPrinted, replayed}
-use Rattle.floorlog.specs.Replaying.{keptMost, IsReplayed}
+use Rattle.floorlog.specs.Playing.{state_after, lines_printed, replayed}
+use Rattle.floorlog.specs.Replaying.{kept_most, IsReplayed}
 use Rattle.floorlog.proofs.KeptText.{event_of_line}
 use Rattle.floorlog.proofs.PlayedSpelt.{state_none, state_more, printed_none, printed_more, replayed_is}
 
 abbrev all_printed : ℕ × Device → List (List ℕ) → List ℕ
-all_printed s ls = linesPrinted s.0 s.1 (map event ls) ++ lastLine (stateAfter s.1 (map event ls))
+all_printed s ls = lines_printed s.0 s.1 (map event ls) ++ last_device_line (state_after s.1 (map event ls))
 
 abbrev all_left : ℕ × Device → List (List ℕ) → Device
-all_left s ls = stateAfter s.1 (map event ls)
+all_left s ls = state_after s.1 (map event ls)
 
 abbrev pub Played : Device → List ℕ → Option (List ℕ) → Option (List ℕ) → Option (List ℕ) → ℕ → Device → Type 0
 Played d log old now left n device = Underway all_printed all_left (0, d) log old now left n (n, device)
@@ -41,13 +38,13 @@ module _ (n : ℕ) (d : Device) (kept first : List ℕ) (same : event kept ≡ e
       ≡ printed (n + 1) (event kept) (did d (event kept)) ++ all_printed (n + 1, (did d (event kept)).device) ls
   printed_then ls =
       let es = map event ls in
-      ap (λ (e : LogEvent). linesPrinted n d (e ∷ es) ++ lastLine (stateAfter d (e ∷ es))) (sym same)
-      ∙ (λ i. printed_more n d (event kept) es i ++ lastLine (state_more d (event kept) es i))
+      ap (λ (e : LogEvent). lines_printed n d (e ∷ es) ++ last_device_line (state_after d (e ∷ es))) (sym same)
+      ∙ (λ i. printed_more n d (event kept) es i ++ last_device_line (state_more d (event kept) es i))
       ∙ append_assoc (printed (n + 1) (event kept) (did d (event kept))) _ _
 
   left_then_by : (ls : List (List ℕ)) → all_left (n, d) (first ∷ ls) ≡ all_left (n + 1, (did d (event kept)).device) ls
   left_then_by ls =
-      ap (λ (e : LogEvent). stateAfter d (e ∷ map event ls)) (sym same) ∙ state_more d (event kept) (map event ls)
+      ap (λ (e : LogEvent). state_after d (e ∷ map event ls)) (sym same) ∙ state_more d (event kept) (map event ls)
 
 module _ {d device : Device} {log : List ℕ} {old now left : Option (List ℕ)} {n : ℕ}
     (u : Played d log old now left n device) where
@@ -55,9 +52,9 @@ module _ {d device : Device} {log : List ℕ} {old now left : Option (List ℕ)}
       → WritesFront old new (replayed d log)
   is_front {new} f = subst (WritesFront old new) (sym (replayed_is d log)) f
 
-  module _ (left_then : Option (List ℕ)) (memory : List ℕ) (held : ℕ) (room : keptMost ≤ length memory)
-      (inside : held ≤ keptMost)
-      (next : IfSome left (λ xs. IsNextLine xs left_then (take keptMost memory) (Some held)))
+  module _ (left_then : Option (List ℕ)) (memory : List ℕ) (held : ℕ) (room : kept_most ≤ length memory)
+      (inside : held ≤ kept_most)
+      (next : IfSome left (λ xs. IsNextLine xs left_then (take kept_most memory) (Some held)))
       (new : Option (List ℕ)) where
     abbrev line : List ℕ
     line = take held memory
@@ -69,7 +66,7 @@ module _ {d device : Device} {log : List ℕ} {old now left : Option (List ℕ)}
     pub line_played : (after : Device) → after ≡ (did device (event line)).device → Appends now new text
         → Played d log old new left_then (n + 1) after
     line_played after a w =
-        let l = line_is u left_then (take keptMost memory) held next in
+        let l = line_is u left_then (take kept_most memory) held next in
         let same = event_of_line memory held room inside l in
         subst (λ (x : Device). Played d log old new left_then (n + 1) x) (sym a)
         (played u l text (n + 1, (did device (event line)).device) (printed_then n device line l.first same)
@@ -78,7 +75,7 @@ module _ {d device : Device} {log : List ℕ} {old now left : Option (List ℕ)}
     -- only some of what is printed for it could be written
     pub line_broken : WritesFront now new text → WritesFront old new (replayed d log)
     line_broken f =
-        let l = line_is u left_then (take keptMost memory) held next in
+        let l = line_is u left_then (take kept_most memory) held next in
         let same = event_of_line memory held room inside l in
         is_front (broken u l text (n + 1, (did device (event line)).device) (printed_then n device line l.first same)
         new f)
@@ -86,16 +83,16 @@ module _ {d device : Device} {log : List ℕ} {old now left : Option (List ℕ)}
   -- no line comes next
   module _ (left_then : Option (List ℕ)) (memory : List ℕ)
       (next : IfSome left (λ xs. IsNextLine xs left_then memory None)) (new : Option (List ℕ)) where
-    last_printed : all_printed (n, device) [] ≡ lastLine device
-    last_printed = (λ i. printed_none n device i ++ lastLine (state_none device i))
+    last_printed : all_printed (n, device) [] ≡ last_device_line device
+    last_printed = (λ i. printed_none n device i ++ last_device_line (state_none device i))
 
-    pub log_ended : Appends now new (lastLine device) → IsReplayed d log old new device
+    pub log_ended : Appends now new (last_device_line device) → IsReplayed d log old new device
     log_ended w = record {
       printed = subst (Appends old new) (sym (replayed_is d log)) (ended u left_then memory next last_printed new w);
       device = sym (last_is u left_then memory next ∙ state_none device);
     }
 
-    pub log_cut : WritesFront now new (lastLine device) → WritesFront old new (replayed d log)
+    pub log_cut : WritesFront now new (last_device_line device) → WritesFront old new (replayed d log)
     log_cut f = is_front (cut u left_then memory next last_printed new f)
 
 -- why it cannot be played on
@@ -104,5 +101,5 @@ module _ (d device : Device) (old now a left : Option (List ℕ)) (n : ℕ)
   pub line_endless : IfSome a (λ log. IfSome left HasEndlessLine → IsTooLong log)
   line_endless = each a (λ log. Played d log old now left n device) _ (λ log x. endless x) u
 
-  pub lines_many : countMost ≤ n → IfSome a IsTooLong
+  pub lines_many : count_most ≤ n → IfSome a IsTooLong
   lines_many many = each a (λ log. Played d log old now left n device) IsTooLong (λ log x. too_many x many) u

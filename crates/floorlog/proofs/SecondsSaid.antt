@@ -1,49 +1,45 @@
 -- No line lets more seconds pass than a number of 32 bits can tell.
 --   Within says      so it is of what a line says
 -- Assumes nothing.
-use Prim.Native.Nat.{ℕ, ◌≤◌}
-use mathlib.Core.Bool.{◌&&◌}
-use mathlib.Core.List.{List}
-use lib.ListN.{length, drop}
-use lib.Dec.{leb, eqb}
-use borrow.Author.Tests.{leb-true}
-use Rattle.text.specs.Scans.{every}
+use Rattle.std.specs.List.{list_all}
+use Rattle.std.proofs.Common.{ℕ, ◌≤◌, ◌&&◌, List, length, drop, nat_le, ◌==◌, leb-true}
 use Rattle.text.specs.Words.{◌is◌}
-use Rattle.text.proofs.Choices.{if-all, if-by, both_right}
-use Rattle.numbers.specs.Decimal.{isDigit, decimalValue}
-use Rattle.digest.specs.Hex.{isHexDigit}
-use Rattle.words.specs.Bytes.{◌at◌, noCr}
-use Rattle.clock.specs.Passing.{secondsMost}
+use Rattle.text.proofs.Choices.{if_all, if_by, both_right}
+use Rattle.numbers.specs.Decimal.{is_digit, decimal_value}
+use Rattle.digest.specs.Hex.{is_hex_digit}
+use Rattle.words.specs.Bytes.{◌at◌, no_cr}
+use Rattle.clock.specs.Passing.{seconds_most}
 use Rattle.floorlog.specs.declared.line.Says.{Says}
 use Rattle.floorlog.specs.declared.line.Says.TheVariants.{Opens, Receives, Passes, Closes, NoSuch}
-use Rattle.floorlog.specs.Lines.{lineMost, randomSaid, secondsSaid, ◌starts◌, formSaid, lineSaid}
+use Rattle.floorlog.specs.Lines.{line_most, random_said, seconds_said, ◌starts◌, form_said, line_said}
 
 abbrev pub Within : Says → Type 0
-Within (Passes n) = n ≤ secondsMost
+Within (Passes n) = n ≤ seconds_most
 Within (Opens r) = Unit {0}
 Within Receives = Unit {0}
 Within Closes = Unit {0}
 Within NoSuch = Unit {0}
 
-seconds-within : (s : List ℕ) → Within (secondsSaid s)
-unfolding secondsSaid
-seconds-within s =
-    if-by Within (leb 1 (length s) && leb (length s) 10 && every isDigit s && leb (decimalValue s) secondsMost)
-    (λ e. leb-true (decimalValue s) secondsMost
-    (both_right (leb 1 (length s) && leb (length s) 10 && every isDigit s) _ e))
+seconds_within : (s : List ℕ) → Within (seconds_said s)
+unfolding seconds_said
+seconds_within s =
+    if_by Within
+    (nat_le 1 (length s) && nat_le (length s) 10 && list_all is_digit s && nat_le (decimal_value s) seconds_most)
+    (λ e. leb-true (decimal_value s) seconds_most
+    (both_right (nat_le 1 (length s) && nat_le (length s) 10 && list_all is_digit s) _ e))
     (λ e. tt)
 
-random-within : (s : List ℕ) → Within (randomSaid s)
-unfolding randomSaid
-random-within s = if-all Within (eqb (length s) 8 && every isHexDigit s) tt tt
+random_within : (s : List ℕ) → Within (random_said s)
+unfolding random_said
+random_within s = if_all Within (length s == 8 && list_all is_hex_digit s) tt tt
 
-form-within : (l : List ℕ) → Within (formSaid l)
-unfolding formSaid
-form-within l =
-    if-all Within (eqb (length l) 1 && l at 0 is "X") tt
-    (if-all Within (l starts "O") (random-within (drop 2 l))
-    (if-all Within (l starts "R") tt (if-all Within (l starts "T") (seconds-within (drop 2 l)) tt)))
+form_within : (l : List ℕ) → Within (form_said l)
+unfolding form_said
+form_within l =
+    if_all Within (length l == 1 && l at 0 is "X") tt
+    (if_all Within (l starts "O") (random_within (drop 2 l))
+    (if_all Within (l starts "R") tt (if_all Within (l starts "T") (seconds_within (drop 2 l)) tt)))
 
-pub said-within : (l : List ℕ) → Within (lineSaid l)
-unfolding lineSaid
-said-within l = if-all Within (leb (length l) lineMost && noCr l) (form-within l) tt
+pub said_within : (l : List ℕ) → Within (line_said l)
+unfolding line_said
+said_within l = if_all Within (nat_le (length l) line_most && no_cr l) (form_within l) tt

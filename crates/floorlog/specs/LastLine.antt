@@ -1,31 +1,30 @@
 -- The last line that is printed for a log (RULES, Floor log: "after the last, one line with power and lamp seconds").
---   lampShown x             a space and the seconds x of a lamp; lampsShown, those of each
---   lampsRoom, lastRoom     so much room these, and the line, never need more than
---   lastLineOf power lamps  the line
---   lastLine d              that of a device
+--   lamp_shown x              a space and the seconds x of a lamp; lamps_shown, those of each
+--   lamps_room, last_room     so much room these, and the line, never need more than
+--   last_line_of power lamps  the line
+--   last_device_line d        that of a device
 -- Assumes nothing.
-use Rattle.std.specs.Prelude.{ℕ, List, ◌++◌, take}
-use Rattle.text.specs.Words.{ascii}
-use Rattle.text.specs.InTurn.{eachInTurn}
+use Rattle.std.specs.Prelude.{ℕ, List, ◌++◌, take, codes}
+use Rattle.text.specs.InTurn.{each_in_turn}
 use Rattle.numbers.specs.Decimal.{digits}
 use Rattle.record.specs.declared.types.Device.{Device}
 
-abbrev pub lampShown : ℕ → List ℕ
-lampShown x = ascii " " ++ digits x
+abbrev pub lamp_shown : ℕ → List ℕ
+lamp_shown x = codes " " ++ digits x
 
-abbrev pub lampsShown : List ℕ → List ℕ
-lampsShown lamps = eachInTurn lampShown lamps
+abbrev pub lamps_shown : List ℕ → List ℕ
+lamps_shown lamps = each_in_turn lamp_shown lamps
 
 -- a space and ten digits for each of eight; and 23 bytes more
-abbrev pub lampsRoom : ℕ
-lampsRoom = 88
+abbrev pub lamps_room : ℕ
+lamps_room = 88
 
-abbrev pub lastRoom : ℕ
-lastRoom = 111
+abbrev pub last_room : ℕ
+last_room = 111
 
-unfoldable pub lastLineOf : ℕ → List ℕ → List ℕ
-lastLineOf power lamps =
-    ascii "power " ++ digits power ++ ascii " lamps" ++ lampsShown lamps ++ ascii "\n"
+unfoldable pub last_line_of : ℕ → List ℕ → List ℕ
+last_line_of power lamps =
+    codes "power " ++ digits power ++ codes " lamps" ++ lamps_shown lamps ++ codes "\n"
 
-abbrev pub lastLine : Device → List ℕ
-lastLine d = lastLineOf d.own.power (take d.settings.lamp_count d.own.lamps)
+abbrev pub last_device_line : Device → List ℕ
+last_device_line d = last_line_of d.own.power (take d.settings.lamp_count d.own.lamps)

@@ -1,13 +1,13 @@
 // How the line ends that is printed for a line of a log.
 ghost use Rattle.std.specs.Prelude.{◌≡◌, ◌+◌, ◌≤◌, ◌<◌, length};
 ghost use Rattle.std.proofs.lemmas.List.Edits.{sets};
-ghost use Rattle.floorlog.specs.Ending.{isFormed, endMark, ending};
+ghost use Rattle.floorlog.specs.Ending.{is_formed, end_mark, ending};
 
 use crate::line::Says;
 
 // Whether a line has one of the four forms.
 pub fn is_formed(says: Says) -> bool
-    ensures { result ≡ isFormed says }
+    ensures { result ≡ is_formed says }
 {
     match says {
         Says::Opens(_) => true,
@@ -19,11 +19,11 @@ pub fn is_formed(says: Says) -> bool
 }
 
 // What stands at a line's end before LF, from `at` on; the place after it.
-#[tactic(auto, unfolding(crate::specs::Ending::endMark))]
+#[tactic(auto, unfolding(crate::specs::Ending::end_mark))]
 fn put_mark(out: &mut [u8], at: usize, formed: bool, number: u32, replied: usize) -> usize
-    requires { at + length (endMark formed number replied) < length out.old }
-    ensures value { result ≡ at + length (endMark formed number replied) }
-    ensures out_after { out.new ≡ sets out.old at (endMark formed number replied) }
+    requires { at + length (end_mark formed number replied) < length out.old }
+    ensures value { result ≡ at + length (end_mark formed number replied) }
+    ensures written { out.new ≡ sets out.old at (end_mark formed number replied) }
 {
     if !formed {
         out[at] = b'?';
@@ -44,7 +44,7 @@ fn put_mark(out: &mut [u8], at: usize, formed: bool, number: u32, replied: usize
 pub fn put_ending(out: &mut [u8], at: usize, formed: bool, number: u32, replied: usize) -> usize
     requires { at + length (ending formed number replied) ≤ length out.old }
     ensures value { result ≡ at + length (ending formed number replied) }
-    ensures out_after { out.new ≡ sets out.old at (ending formed number replied) }
+    ensures written { out.new ≡ sets out.old at (ending formed number replied) }
 {
     let end = put_mark(out, at, formed, number, replied);
     out[end] = b'\n';

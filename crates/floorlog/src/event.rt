@@ -2,12 +2,12 @@
 // record is tested here.
 ghost use Rattle.std.specs.Prelude.{◌≡◌, true, [], ◌+◌, ◌-◌, ◌^◌, ◌≤◌, ◌<◌, length};
 ghost use Rattle.text.specs.Words.{over};
-ghost use Rattle.record.specs.Legal.{isLegal};
-ghost use Rattle.device.specs.Calls.{replyRoom, received, closedBy};
+ghost use Rattle.record.specs.Legal.{is_legal};
+ghost use Rattle.device.specs.Calls.{reply_room, received, closed_by};
 ghost use Rattle.device.specs.Outcomes.{receiving_told, opening_told};
-ghost use Rattle.floorlog.specs.Events.{eventOf};
-ghost use Rattle.floorlog.specs.Doing.{logPlace, openedInLog, did, printRoom};
-ghost use Rattle.floorlog.specs.Told.{calledOf, calledBy, secondsOf, Drives, PrintedAs};
+ghost use Rattle.floorlog.specs.Events.{event_of};
+ghost use Rattle.floorlog.specs.Doing.{log_place, opened_in_log, did, print_room};
+ghost use Rattle.floorlog.specs.Told.{called_of, called_by, seconds_of, Drives, PrintedAs};
 
 use crate::ending;
 use crate::line::Says;
@@ -30,7 +30,7 @@ pub struct Called {
 }
 
 fn of_receiving(outcome: Result<Received, Refusal>) -> Called
-    ensures { result ≡ calledBy (receiving_told outcome) }
+    ensures { result ≡ called_by (receiving_told outcome) }
 {
     match outcome {
         Ok(received) => Called {
@@ -45,7 +45,7 @@ fn of_receiving(outcome: Result<Received, Refusal>) -> Called
 }
 
 fn of_opening(outcome: Result<Opened, Refusal>) -> Called
-    ensures { result ≡ calledBy (opening_told outcome) }
+    ensures { result ≡ called_by (opening_told outcome) }
 {
     match outcome {
         Ok(opened) => Called {
@@ -60,13 +60,13 @@ fn of_opening(outcome: Result<Opened, Refusal>) -> Called
 }
 
 // Opening at that place: 5 where it is not closed. Else it is the lowest closed place, which the device takes.
-#[tactic(auto, unfolding(crate::specs::Doing::openedInLog))]
+#[tactic(auto, unfolding(crate::specs::Doing::opened_in_log))]
 fn open(device: &mut Device, random: u32, out: &mut [u8]) -> Called
-    requires room { replyRoom ≤ length out.old }
-    requires legal { isLegal device.old ≡ true }
-    ensures called { result ≡ calledOf (openedInLog device.old random) }
-    ensures device { device.new ≡ (openedInLog device.old random).device }
-    ensures reply { out.new ≡ over (openedInLog device.old random).reply out.old }
+    requires room { reply_room ≤ length out.old }
+    requires legal { is_legal device.old ≡ true }
+    ensures called { result ≡ called_of (opened_in_log device.old random) }
+    ensures device { device.new ≡ (opened_in_log device.old random).device }
+    ensures reply { out.new ≡ over (opened_in_log device.old random).reply out.old }
 {
     if device.connections[PLACE].phase != SHUT {
         return Called {
@@ -78,20 +78,20 @@ fn open(device: &mut Device, random: u32, out: &mut [u8]) -> Called
 }
 
 fn receive(device: &mut Device, bytes: &[u8], out: &mut [u8]) -> Called
-    requires room { replyRoom ≤ length out.old }
-    requires legal { isLegal device.old ≡ true }
-    ensures called { result ≡ calledOf (received device.old logPlace bytes.now replyRoom) }
-    ensures device { device.new ≡ (received device.old logPlace bytes.now replyRoom).device }
-    ensures reply { out.new ≡ over (received device.old logPlace bytes.now replyRoom).reply
+    requires room { reply_room ≤ length out.old }
+    requires legal { is_legal device.old ≡ true }
+    ensures called { result ≡ called_of (received device.old log_place bytes.now reply_room) }
+    ensures device { device.new ≡ (received device.old log_place bytes.now reply_room).device }
+    ensures reply { out.new ≡ over (received device.old log_place bytes.now reply_room).reply
         out.old }
 {
     of_receiving(on_legal::receive(device, PLACE, bytes, out))
 }
 
 fn close(device: &mut Device) -> Called
-    requires { isLegal device.old ≡ true }
-    ensures called { result ≡ calledOf (closedBy device.old logPlace) }
-    ensures device { device.new ≡ (closedBy device.old logPlace).device }
+    requires { is_legal device.old ≡ true }
+    ensures called { result ≡ called_of (closed_by device.old log_place) }
+    ensures device { device.new ≡ (closed_by device.old log_place).device }
 {
     let number = refusal::number_of(on_legal::close(device, PLACE));
     Called { number, length: 0 }
@@ -100,11 +100,11 @@ fn close(device: &mut Device) -> Called
 // The event that a line says, on a legal record; a text is lent with its CR.
 #[tactic(auto, unfolding(crate::specs::Doing::did))]
 fn call_legal(device: &mut Device, says: Says, bytes: &[u8], out: &mut [u8]) -> Called
-    requires room { replyRoom ≤ length out.old }
-    requires legal { isLegal device.old ≡ true }
-    ensures called { result ≡ calledOf (did device.old (eventOf says bytes.now)) }
-    ensures device { device.new ≡ (did device.old (eventOf says bytes.now)).device }
-    ensures reply { out.new ≡ over (did device.old (eventOf says bytes.now)).reply out.old }
+    requires room { reply_room ≤ length out.old }
+    requires legal { is_legal device.old ≡ true }
+    ensures called { result ≡ called_of (did device.old (event_of says bytes.now)) }
+    ensures device { device.new ≡ (did device.old (event_of says bytes.now)).device }
+    ensures reply { out.new ≡ over (did device.old (event_of says bytes.now)).reply out.old }
 {
     match says {
         Says::Opens(random) => open(device, random, out),
@@ -127,11 +127,11 @@ fn call_legal(device: &mut Device, says: Says, bytes: &[u8], out: &mut [u8]) -> 
 /// The event that a line says, on any record; a text is lent with its CR. A record that is not legal gives 1 where the
 /// line has a form.
 pub fn call(t: &mut Tested, says: Says, bytes: &[u8], out: &mut [u8]) -> Called
-    requires { replyRoom ≤ length out.old }
-    ensures called { result ≡ calledOf (did t.old.device (eventOf says bytes.now)) }
-    ensures device { t.new.device ≡ (did t.old.device (eventOf says bytes.now)).device }
-    ensures reply { out.new ≡ over (did t.old.device (eventOf says bytes.now)).reply out.old }
-    ensures places { Drives (secondsOf (eventOf says [])) t.old.device t.new.device }
+    requires { reply_room ≤ length out.old }
+    ensures called { result ≡ called_of (did t.old.device (event_of says bytes.now)) }
+    ensures device { t.new.device ≡ (did t.old.device (event_of says bytes.now)).device }
+    ensures reply { out.new ≡ over (did t.old.device (event_of says bytes.now)).reply out.old }
+    ensures places { Drives (seconds_of (event_of says [])) t.old.device t.new.device }
 {
     if t.legal {
         return call_legal(&mut t.device, says, bytes, out);
@@ -153,7 +153,7 @@ fn last_place(at: usize, replied: usize) -> usize
 
 /// The seconds that a line lets pass.
 pub fn seconds_of(says: Says) -> u32
-    ensures { result ≡ secondsOf (eventOf says []) }
+    ensures { result ≡ seconds_of (event_of says []) }
 {
     match says {
         Says::Opens(_) => 0,
@@ -166,8 +166,8 @@ pub fn seconds_of(says: Says) -> u32
 
 /// A line's event, and its printed line from the start of the lent memory; its length.
 pub fn print(t: &mut Tested, number: u64, says: Says, bytes: &[u8], out: &mut [u8]) -> usize
-    requires { printRoom ≤ length out.old }
-    ensures { PrintedAs number t.old.device (eventOf says bytes.now) out.old
+    requires { print_room ≤ length out.old }
+    ensures { PrintedAs number t.old.device (event_of says bytes.now) out.old
         result t.new.device out.new }
 {
     let space = numbers::put_long(out, 0, number);

@@ -14,12 +14,12 @@ mod tests;
 pub mod theorems;
 
 ghost use Rattle.std.specs.Prelude.{◌≡◌, true, ◌≢◌, ◌<◌, [], OnOk, IfOk, IfErr, IfSome, Err, length};
-ghost use Rattle.record.specs.Legal.{isLegal};
-ghost use Rattle.textio.specs.Lines.{countMost, IsTooLong};
+ghost use Rattle.record.specs.Legal.{is_legal};
+ghost use Rattle.textio.specs.Lines.{count_most, IsTooLong};
 ghost use Rattle.textio.specs.Fronts.{WritesFront};
 ghost use Rattle.textio.specs.Ahead.{left_in};
 ghost use Rattle.textio.specs.NextLine.{FailureComesOf, OnFailedRead};
-ghost use Rattle.floorlog.specs.Playing.{sampleDevice, replayed};
+ghost use Rattle.floorlog.specs.Playing.{sample_device, replayed};
 ghost use Rattle.floorlog.specs.Replaying.{IsReplayed};
 
 use record::legality::Tested;
@@ -30,10 +30,10 @@ use textio::reader::{ByteSource, Reader};
 use textio::writer::ByteSink;
 
 /// The sample set-up, every place closed.
-#[tactic(auto, unfolding(crate::specs::Playing::sampleDevice), using(crate::proofs::Samples::sample_is_legal))]
+#[tactic(auto, unfolding(crate::specs::Playing::sample_device), using(crate::proofs::Samples::sample_is_legal))]
 pub fn sample() -> Device
-    ensures sample { result ≡ sampleDevice }
-    ensures legal { isLegal result ≡ true }
+    ensures sample { result ≡ sample_device }
+    ensures legal { is_legal result ≡ true }
 {
     let lamps = [0u32; 1];
     let class = Class::One;
@@ -71,7 +71,7 @@ pub fn replay<R: ByteSource, W: ByteSink>(
     ensures read { IfErr result (OnFailedRead (W.waiting to.new ≡ [])) }
     ensures err { IfErr result
         (FailureComesOf R.fails_with W.fails_with IsTooLong (left_in R.remaining from.old)) }
-    ensures short { IfSome (left_in R.remaining from.old) (λ log. length log < countMost
+    ensures short { IfSome (left_in R.remaining from.old) (λ log. length log < count_most
         → result ≢ Err Failure.TooLong) }
 {
     let mut line = [0; playing::KEPT_ROOM];

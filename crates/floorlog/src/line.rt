@@ -1,7 +1,7 @@
 // What a line of a log says (RULES, Floor log).
 ghost use Rattle.std.specs.Prelude.{◌≡◌};
-ghost use Rattle.digest.specs.Hex.{isHexDigit};
-ghost use Rattle.floorlog.specs.Lines.{randomSaid, secondsSaid, formSaid, lineSaid};
+ghost use Rattle.digest.specs.Hex.{is_hex_digit};
+ghost use Rattle.floorlog.specs.Lines.{random_said, seconds_said, form_said, line_said};
 
 /// What a line says: one event, or that it has no such form.
 #[derive(Clone, Copy)]
@@ -24,14 +24,14 @@ pub const LINE_MOST: usize = 4096;
 const SECONDS_MOST: u64 = 4294967295;
 
 fn is_hex_digit(b: u8) -> bool
-    ensures { result ≡ isHexDigit b }
+    ensures { result ≡ is_hex_digit b }
 {
     ((b'0' <= b) & (b <= b'9')) | ((b'a' <= b) & (b <= b'f'))
 }
 
 // Eight lowercase hexadecimal digits.
 fn random_said(s: &[u8]) -> Says
-    ensures { result ≡ randomSaid s.now }
+    ensures { result ≡ random_said s.now }
 {
     if s.len() != 8 {
         return Says::NoSuch;
@@ -46,7 +46,7 @@ fn random_said(s: &[u8]) -> Says
 
 // One to ten decimal digits, of a number that a u32 can hold.
 fn seconds_said(s: &[u8]) -> Says
-    ensures { result ≡ secondsSaid s.now }
+    ensures { result ≡ seconds_said s.now }
 {
     if s.len() < 1 {
         return Says::NoSuch;
@@ -65,9 +65,9 @@ fn seconds_said(s: &[u8]) -> Says
 }
 
 /// What the line l says, without its LF.
-#[tactic(auto, unfolding(crate::specs::Lines::lineSaid))]
+#[tactic(auto, unfolding(crate::specs::Lines::line_said))]
 pub fn line_says(l: &[u8]) -> Says
-    ensures { result ≡ lineSaid l.now }
+    ensures { result ≡ line_said l.now }
 {
     if LINE_MOST < l.len() {
         return Says::NoSuch;
@@ -78,9 +78,9 @@ pub fn line_says(l: &[u8]) -> Says
     form_says(l)
 }
 
-#[tactic(auto, unfolding(crate::specs::Lines::formSaid))]
+#[tactic(auto, unfolding(crate::specs::Lines::form_said))]
 fn form_says(l: &[u8]) -> Says
-    ensures { result ≡ formSaid l.now }
+    ensures { result ≡ form_said l.now }
 {
     if l.len() < 1 {
         return Says::NoSuch;

@@ -5,10 +5,10 @@ ghost use Rattle.textio.specs.Lines.{HasEndlessLine};
 ghost use Rattle.textio.specs.Fronts.{WritesFront};
 ghost use Rattle.textio.specs.NextLine.{IsNextLine, FailureComesOf, OnFailedRead};
 ghost use Rattle.textio.specs.Ahead.{left_in};
-ghost use Rattle.floorlog.specs.LastLine.{lastLine};
+ghost use Rattle.floorlog.specs.LastLine.{last_device_line};
 ghost use Rattle.floorlog.specs.Events.{event};
 ghost use Rattle.floorlog.specs.Doing.{did, printed};
-ghost use Rattle.floorlog.specs.Replaying.{keptMost};
+ghost use Rattle.floorlog.specs.Replaying.{kept_most};
 
 use crate::line::LINE_MOST;
 use crate::{event, last, line};
@@ -37,8 +37,8 @@ pub fn read_line<R: ByteSource, W: ByteSink>(
     line: &mut [u8; KEPT_ROOM],
 ) -> Result<Option<usize>, Failure>
     ensures next { IfOk result (λ held. IfSome (left_in R.remaining from.old) (λ log.
-        IsNextLine log (left_in R.remaining from.new) (take keptMost line.new) held)) }
-    ensures bound { IfOk result (λ held. IfSome held (λ n. n ≤ keptMost)) }
+        IsNextLine log (left_in R.remaining from.new) (take kept_most line.new) held)) }
+    ensures bound { IfOk result (λ held. IfSome held (λ n. n ≤ kept_most)) }
     ensures keeps { Keeps (W.contents to.old) (W.contents to.new) }
     ensures err { IfErr result
         (FailureComesOf R.fails_with W.fails_with HasEndlessLine (left_in R.remaining from.old)) }
@@ -55,7 +55,7 @@ pub fn play<W: ByteSink>(
     held: usize,
     to: &mut W,
 ) -> io::Result<()>
-    requires { held ≤ keptMost }
+    requires { held ≤ kept_most }
     ensures device { t.new.device ≡ (did t.old.device (event (take held line.old))).device }
     ensures whole { OnOk result (Appends (W.contents to.old) (W.contents to.new)
         (printed number (event (take held line.old)) (did t.old.device (event (take held line.old))))) }
@@ -72,8 +72,8 @@ pub fn play<W: ByteSink>(
 
 // What is printed after the last line, with all that waits.
 pub fn finish<W: ByteSink>(device: &Device, to: &mut W) -> io::Result<()>
-    ensures whole { OnOk result (Appends (W.contents to.old) (W.contents to.new) (lastLine device.now)) }
-    ensures front { WritesFront (W.contents to.old) (W.contents to.new) (lastLine device.now) }
+    ensures whole { OnOk result (Appends (W.contents to.old) (W.contents to.new) (last_device_line device.now)) }
+    ensures front { WritesFront (W.contents to.old) (W.contents to.new) (last_device_line device.now) }
     ensures none_waits { OnOk result (W.waiting to.new ≡ []) }
     ensures err { IfErr result W.fails_with }
 {

@@ -1,23 +1,23 @@
 // What is proved beside the contracts of the functions. Nothing is done here: that this function has its contract is
 // that the theorems stand.
 ghost use Rattle.std.specs.Prelude.{◌≡◌, ◌≢◌, ◌<◌, List, ℕ, true, false};
-ghost use Rattle.record.specs.Legal.{isLegal};
-ghost use Rattle.record.specs.Limits.{placesCount};
-ghost use Rattle.record.specs.Places.{connectionAt, isShut};
+ghost use Rattle.record.specs.Legal.{is_legal};
+ghost use Rattle.record.specs.Limits.{places_count};
+ghost use Rattle.record.specs.Places.{connection_at, is_shut};
 ghost use Rattle.record.specs.Record.{closed};
 ghost use Rattle.record.specs.declared.types.Device.{Device};
-ghost use Rattle.device.specs.Calls.{replyRoom, placeTaken, refusedBy};
+ghost use Rattle.device.specs.Calls.{reply_room, place_taken, refused_by};
 ghost use Rattle.floorlog.specs.Events.{events};
-ghost use Rattle.floorlog.specs.Doing.{logPlace, openedInLog};
-ghost use Rattle.floorlog.specs.Playing.{sampleDevice, stateAfter};
+ghost use Rattle.floorlog.specs.Doing.{log_place, opened_in_log};
+ghost use Rattle.floorlog.specs.Playing.{sample_device, state_after};
 
 /// A log drives place 0 only (RULES, Floor log): where that is closed, an `O` takes it; where it is not, the `O` is
 /// refused with 5; and after any log on the sample set-up every other place is closed.
 pub fn a_log_drives_one_place()
-    ensures taken { (d : Device) → isLegal d ≡ true → isShut (connectionAt d logPlace) ≡ true
-        → placeTaken d replyRoom ≡ logPlace }
-    ensures again { (d : Device) (random : ℕ) → isLegal d ≡ true → isShut (connectionAt d logPlace) ≡ false
-        → openedInLog d random ≡ refusedBy 5 d }
-    ensures elsewhere { (p : ℕ) → p ≢ logPlace → (log : List ℕ) → p < placesCount
-        → connectionAt (stateAfter sampleDevice (events log)) p ≡ closed }
+    ensures taken { (d : Device) → is_legal d ≡ true → is_shut (connection_at d log_place) ≡ true
+        → place_taken d reply_room ≡ log_place }
+    ensures again { (d : Device) (random : ℕ) → is_legal d ≡ true → is_shut (connection_at d log_place) ≡ false
+        → opened_in_log d random ≡ refused_by 5 d }
+    ensures elsewhere { (p : ℕ) → p ≢ log_place → (log : List ℕ) → p < places_count
+        → connection_at (state_after sample_device (events log)) p ≡ closed }
 {}

@@ -1,178 +1,179 @@
 -- Every answer of a legal projector is one that its command can have (`CanSay`), and so it fits a reply.
 --   Fits m      the parameter that says m has at most 128 bytes and no CR
 -- Assumes nothing.
-use Prim.Native.Nat.{ℕ, ◌+◌, ◌*◌, ◌/◌, ◌<◌, ◌≤◌}
-use mathlib.Core.Path.{◌≡◌, refl, sym, ap, ◌∙◌}
-use mathlib.Core.Bool.{Bool, true, false, ◌||◌, false≢true, or-true}
-use native.Mathlib.Omega.{arith}
-use lib.ListN.{length, get_or, take}
-use borrow.Author.Tests.{leb-true, le-leb, eqb-false, not-false}
+use Rattle.std.specs.List.{list_all}
+use Rattle.std.proofs.Common.{ℕ, ◌+◌, ◌*◌, ◌/◌, ◌<◌, ◌≤◌, ◌≡◌, refl, sym, ap, ◌∙◌, Bool, true, false, ◌||◌, arith}
+use Rattle.std.proofs.Common.{length, slice_index_or, take, leb-true, le-leb}
+use Rattle.std.proofs.lemmas.Bool.{false≢true, eqb-false, not-false}
+use Rattle.std.proofs.Math.Bool.{or-true}
 use Rattle.std.specs.Prelude.{Option, unwrap_or, Ok, Err}
-use Rattle.text.specs.Scans.{every}
-use Rattle.text.proofs.Scanning.{every-by-place}
-use Rattle.words.specs.Bytes.{noCr}
-use Rattle.words.specs.Inputs.{isInput}
-use Rattle.pjlink.specs.Bodies.{hasParameters}
+use Rattle.text.proofs.Scanning.{list_all_by_place}
+use Rattle.words.specs.Bytes.{no_cr}
+use Rattle.words.specs.Inputs.{is_input}
+use Rattle.pjlink.specs.Bodies.{has_parameters}
 use Rattle.pjlink.specs.declared.body.Body.TheVariants.{Powr, Inpt, Avmt, Erst, Lamp, Inst, Name, Inf1, Inf2, Info}
 use Rattle.pjlink.specs.declared.body.Body.TheVariants.{Clss, Frez, Svol, Mvol, Snum, Sver, Innm, Inpt2, Inst2}
 use Rattle.pjlink.specs.declared.command.Command.{Command}
 use Rattle.pjlink.specs.declared.command.Command.TheVariants.{PowerSet, InputSet, MuteSet, Query}
 use Rattle.pjlink.specs.declared.command.Command.TheVariants.{InputSet2, FreezeSet, VolumeStep, NameQuery}
-use Rattle.words.proofs.InputsReadBack.{named-is-input}
-use Rattle.words.proofs.SourcesFollowed.{named-stands}
+use Rattle.words.proofs.InputsReadBack.{is_input-input_named}
+use Rattle.words.proofs.SourcesFollowed.{named_stands}
 use Rattle.words.specs.declared.input.Input.{Input}
 use Rattle.pjlink.specs.Requests.{Request}
 use Rattle.pjlink.specs.declared.request.Unasked.TheVariants.{Unlisted, UnknownBody}
-use Rattle.pjlink.specs.Said.{Said, saidBytes, saidMost}
-use Rattle.pjlink.specs.Carried.{inputsCarried}
-use Rattle.pjlink.specs.CanSay.{hasOwnParameter, isRefusalTo}
+use Rattle.pjlink.specs.Said.{Said, said_bytes, said_most}
+use Rattle.pjlink.specs.Carried.{inputs_carried}
+use Rattle.pjlink.specs.CanSay.{has_own_parameter, is_refusal_to}
 use Rattle.pjlink.specs.CanSay.{CanSay, done, refuses, power, input, mutes, errors, lamps, inputs, name, maker, model}
-use Rattle.pjlink.specs.CanSay.{other, class-is, freeze, serial, version, input-name, input-2, inputs-2}
+use Rattle.pjlink.specs.CanSay.{other, class_said, freeze, serial, version, input_name, input_2, inputs_2}
 use Rattle.words.specs.Lamps.{is_lamp_hours}
-use Rattle.pjlink.proofs.SaidPlain.{said-most, said_plain}
-use Rattle.record.specs.Limits.{inputRoom, lampsMost, lampLimit, isLit}
-use Rattle.record.specs.Rules.{isLamp, isLamps, isInputs}
-use Rattle.record.specs.Legal.{isSettings, isOwn}
+use Rattle.pjlink.proofs.SaidPlain.{said_within_most, said_plain}
+use Rattle.record.specs.Limits.{input_room, lamps_most, lamp_limit, is_lit}
+use Rattle.record.specs.Rules.{is_lamp, is_lamps, is_inputs}
+use Rattle.record.specs.Legal.{is_settings, is_own}
 use Rattle.record.specs.declared.types.Settings.{Settings}
 use Rattle.record.specs.declared.types.Own.{Own}
-use Rattle.record.proofs.Kept.{kept-length}
-use Rattle.record.proofs.Rules.{errors-long, errors-within, lamps-within}
-use Rattle.record.proofs.SettingsTold.{input-count-low, input-count-high, input-at}
-use Rattle.record.proofs.SettingsTold.{serial-told, version-told, name-at}
+use Rattle.record.proofs.Kept.{kept_length}
+use Rattle.record.proofs.Rules.{errors_long, list_all-at_most, lamps_within}
+use Rattle.record.proofs.SettingsTold.{input_count_low, input_count_high, input_at}
+use Rattle.record.proofs.SettingsTold.{serial_told, version_told, name_at}
 use Rattle.record.specs.Facts.{IsOwn, IsSettings}
 use Rattle.record.proofs.FactsTold.{own_is, settings_is}
-use Rattle.meaning.specs.SetUpInputs.{noInput, pairsOf, inputsOf, place_of}
-use Rattle.meaning.specs.Rules.{isUndefined, isUnlisted}
-use Rattle.meaning.proofs.LampsSaid.{said-length, each-said}
-use Rattle.meaning.specs.Meaning.{chosen_of, lampSaid, lampsOf, tableAnswer, meant}
-use Rattle.meaning.proofs.InputsByPlace.{inputs-counted, input-in-use}
-use Rattle.meaning.proofs.ClassKnown.{class_low, class-high}
-use Rattle.meaning.proofs.Cases.{Passes, meant-by}
+use Rattle.meaning.specs.SetUpInputs.{no_input, pairs_of, inputs_of, place_of}
+use Rattle.meaning.specs.Rules.{is_undefined, is_unlisted}
+use Rattle.meaning.proofs.LampsSaid.{length-lamps_said, list_all-lamps_said}
+use Rattle.meaning.specs.Meaning.{chosen_of, lamp_said, lamps_of, table_answer, meant}
+use Rattle.meaning.proofs.InputsByPlace.{inputs_counted, input_in_use}
+use Rattle.meaning.proofs.ClassKnown.{class_low, class_high}
+use Rattle.meaning.proofs.Cases.{Passes, meant_by}
 
 -- the inputs of a legal set-up
 module _ (s : Settings) (t : IsSettings s) where
-  pub inputs-number : length (inputsOf s) ≡ s.input_count
-  inputs-number = inputs-counted (pairsOf s) s.input_count
-      (kept-length inputRoom (isInputs s.class_number) _ _ t.inputs)
+  pub length-inputs_of : length (inputs_of s) ≡ s.input_count
+  length-inputs_of = inputs_counted (pairs_of s) s.input_count
+      (kept_length input_room (is_inputs s.class_number) _ _ t.inputs)
 
-  pub listed-input : (k : ℕ) → k < s.input_count → isInput (get_or (inputsOf s) k noInput) ≡ true
-  listed-input k h =
+  pub is_input-slice_index_or : (k : ℕ) → k < s.input_count → is_input (slice_index_or (inputs_of s) k no_input) ≡ true
+  is_input-slice_index_or k h =
       let room : 2 * k + 1 < length s.inputs = omega (arith, t.inputs.long, t.inputs.inside) in
-      let a = get_or s.inputs (2 * k) 0 in
-      let b = get_or s.inputs (2 * k + 1) 0 in
-      let named = input-at s t k h in
-      ap isInput (input-in-use s.inputs s.input_count k h room noInput)
-      ∙ ap (λ (m : Option Input). isInput (unwrap_or m noInput)) (named-stands a b 2 named)
-      ∙ named-is-input 2 a b named
+      let a = slice_index_or s.inputs (2 * k) 0 in
+      let b = slice_index_or s.inputs (2 * k + 1) 0 in
+      let named = input_at s t k h in
+      ap is_input (input_in_use s.inputs s.input_count k h room no_input)
+      ∙ ap (λ (m : Option Input). is_input (unwrap_or m no_input)) (named_stands a b 2 named)
+      ∙ is_input-input_named 2 a b named
 
-  pub listed-inputs : every isInput (inputsOf s) ≡ true
-  listed-inputs =
-      every-by-place isInput noInput (inputsOf s) (λ k h. listed-input k (omega (arith, inputs-number)))
+  pub list_all-inputs_of : list_all is_input (inputs_of s) ≡ true
+  list_all-inputs_of =
+      list_all_by_place is_input no_input (inputs_of s)
+      (λ k h. is_input-slice_index_or k (omega (arith, length-inputs_of)))
 
 -- a lamp within the limit has hours of five digits
-lamp-hours : (lit : Bool) (x : ℕ) → isLamp x ≡ true → is_lamp_hours (lampSaid lit x) ≡ true
-lamp-hours lit x e = le-leb (x / 3600) 99999 (omega (arith, leb-true x lampLimit e))
+is_lamp_hours-lamp_said : (lit : Bool) (x : ℕ) → is_lamp x ≡ true → is_lamp_hours (lamp_said lit x) ≡ true
+is_lamp_hours-lamp_said lit x e = le-leb (x / 3600) 99999 (omega (arith, leb-true x lamp_limit e))
 
 -- ERRn but ERR2 may refuse any command, ERR2 one with a parameter of its own
-any-refused : (c : Command) → (hasOwnParameter c || true) ≡ true
-any-refused c = or-true (hasOwnParameter c)
+any_refused : (c : Command) → (has_own_parameter c || true) ≡ true
+any_refused c = or-true (has_own_parameter c)
 
-set-refused : (s : Settings) (c : Command) → isUnlisted s c ≡ true → isRefusalTo c 2 ≡ true
-set-refused s (PowerSet wanted) e = refl
-set-refused s (InputSet i) e = refl
-set-refused s (MuteSet half wanted) e = refl
-set-refused s (Query b) e = e
-set-refused s (InputSet2 i) e = refl
-set-refused s (FreezeSet wanted) e = refl
-set-refused s (VolumeStep v up) e = refl
-set-refused s (NameQuery i) e = refl
+set_refused : (s : Settings) (c : Command) → is_unlisted s c ≡ true → is_refusal_to c 2 ≡ true
+set_refused s (PowerSet wanted) e = refl
+set_refused s (InputSet i) e = refl
+set_refused s (MuteSet half wanted) e = refl
+set_refused s (Query b) e = e
+set_refused s (InputSet2 i) e = refl
+set_refused s (FreezeSet wanted) e = refl
+set_refused s (VolumeStep v up) e = refl
+set_refused s (NameQuery i) e = refl
 
-module _ (s : Settings) (o : Own) (settings : isSettings s ≡ true) (own : isOwn s o ≡ true) where
-  abbrev set-up : IsSettings s
-  set-up = (settings_is s).0 settings
+module _ (s : Settings) (o : Own) (settings : is_settings s ≡ true) (own : is_own s o ≡ true) where
+  abbrev set_up : IsSettings s
+  set_up = (settings_is s).0 settings
 
   abbrev kept : IsOwn s o
   kept = (own_is s o).0 own
 
-  lamps-many : length (lampsOf s o) ≡ s.lamp_count
-  lamps-many =
-      said-length (isLit o.power) o.enabled (take s.lamp_count o.lamps)
-      ∙ kept-length lampsMost isLamps _ _ kept.lamps
+  length-lamps_of : length (lamps_of s o) ≡ s.lamp_count
+  length-lamps_of =
+      length-lamps_said (is_lit o.power) o.enabled (take s.lamp_count o.lamps)
+      ∙ kept_length lamps_most is_lamps _ _ kept.lamps
 
-  chosen-is-input : isInput (chosen_of s o) ≡ true
-  chosen-is-input = listed-input s set-up o.chosen kept.chosen
+  is_input-chosen_of : is_input (chosen_of s o) ≡ true
+  is_input-chosen_of = is_input-slice_index_or s set_up o.chosen kept.chosen
 
-  inputs-some : 1 ≤ length (inputsOf s)
-  inputs-some = omega (arith, inputs-number s set-up, input-count-low s set-up)
+  inputs_some : 1 ≤ length (inputs_of s)
+  inputs_some = omega (arith, length-inputs_of s set_up, input_count_low s set_up)
 
-  inputs-few : length (inputsOf s) ≤ inputsCarried
-  inputs-few = omega (arith, inputs-number s set-up, input-count-high s set-up)
+  inputs_few : length (inputs_of s) ≤ inputs_carried
+  inputs_few = omega (arith, length-inputs_of s set_up, input_count_high s set_up)
 
-  told-can-be-said : (c : Command) → isUndefined s (Ok c) ≡ false → CanSay c (tableAnswer s o c)
-  told-can-be-said (PowerSet wanted) e = done refl
-  told-can-be-said (InputSet i) e = done refl
-  told-can-be-said (MuteSet half wanted) e = done refl
-  told-can-be-said (Query Powr) e = power _
-  told-can-be-said (Query Inpt) e = input (chosen_of s o) chosen-is-input
-  told-can-be-said (Query Avmt) e = mutes _ _
-  told-can-be-said (Query Erst) e = errors o.errors (errors-long _ kept.errors) (errors-within _ kept.errors)
-  told-can-be-said (Query Lamp) e =
+  told_can_be_said : (c : Command) → is_undefined s (Ok c) ≡ false → CanSay c (table_answer s o c)
+  told_can_be_said (PowerSet wanted) e = done refl
+  told_can_be_said (InputSet i) e = done refl
+  told_can_be_said (MuteSet half wanted) e = done refl
+  told_can_be_said (Query Powr) e = power _
+  told_can_be_said (Query Inpt) e = input (chosen_of s o) is_input-chosen_of
+  told_can_be_said (Query Avmt) e = mutes _ _
+  told_can_be_said (Query Erst) e = errors o.errors (errors_long _ kept.errors) (list_all-at_most _ kept.errors)
+  told_can_be_said (Query Lamp) e =
       let some = eqb-false s.lamp_count 0 e in
-      lamps (lampsOf s o) (omega (arith, lamps-many, some)) (omega (arith, lamps-many, set-up.lamps))
-      (each-said (isLit o.power) isLamp is_lamp_hours lamp-hours o.enabled (take s.lamp_count o.lamps)
-      (lamps-within _ kept.lamps.follows))
-  told-can-be-said (Query Inst) e = inputs (inputsOf s) inputs-some inputs-few (listed-inputs s set-up)
-  told-can-be-said (Query Name) e = name _ set-up.name.follows
-  told-can-be-said (Query Inf1) e = maker _ set-up.maker.follows
-  told-can-be-said (Query Inf2) e = model _ set-up.model.follows
-  told-can-be-said (Query Info) e = other _ set-up.other.follows
-  told-can-be-said (Query Clss) e = class-is _ (class_low s set-up) (class-high s set-up)
-  told-can-be-said (Query Frez) e = freeze _
-  told-can-be-said (Query Svol) e = absurd (false≢true (sym e))
-  told-can-be-said (Query Mvol) e = absurd (false≢true (sym e))
-  told-can-be-said (Query Snum) e = serial _ (serial-told s set-up)
-  told-can-be-said (Query Sver) e = version _ (version-told s set-up)
-  told-can-be-said (Query Innm) e = absurd (false≢true (sym e))
-  told-can-be-said (Query Inpt2) e = input-2 (chosen_of s o) chosen-is-input
-  told-can-be-said (Query Inst2) e = inputs-2 (inputsOf s) inputs-some inputs-few (listed-inputs s set-up)
-  told-can-be-said (InputSet2 i) e = done refl
-  told-can-be-said (FreezeSet wanted) e = done refl
-  told-can-be-said (VolumeStep v up) e = done refl
-  told-can-be-said (NameQuery i) e = input-name _ refl (name-at s set-up (place_of s i)).follows
+      lamps (lamps_of s o) (omega (arith, length-lamps_of, some)) (omega (arith, length-lamps_of, set_up.lamps))
+      (list_all-lamps_said (is_lit o.power) is_lamp is_lamp_hours is_lamp_hours-lamp_said o.enabled
+      (take s.lamp_count o.lamps)
+      (lamps_within _ kept.lamps.follows))
+  told_can_be_said (Query Inst) e = inputs (inputs_of s) inputs_some inputs_few (list_all-inputs_of s set_up)
+  told_can_be_said (Query Name) e = name _ set_up.name.follows
+  told_can_be_said (Query Inf1) e = maker _ set_up.maker.follows
+  told_can_be_said (Query Inf2) e = model _ set_up.model.follows
+  told_can_be_said (Query Info) e = other _ set_up.other.follows
+  told_can_be_said (Query Clss) e = class_said _ (class_low s set_up) (class_high s set_up)
+  told_can_be_said (Query Frez) e = freeze _
+  told_can_be_said (Query Svol) e = absurd (false≢true (sym e))
+  told_can_be_said (Query Mvol) e = absurd (false≢true (sym e))
+  told_can_be_said (Query Snum) e = serial _ (serial_told s set_up)
+  told_can_be_said (Query Sver) e = version _ (version_told s set_up)
+  told_can_be_said (Query Innm) e = absurd (false≢true (sym e))
+  told_can_be_said (Query Inpt2) e = input_2 (chosen_of s o) is_input-chosen_of
+  told_can_be_said (Query Inst2) e = inputs_2 (inputs_of s) inputs_some inputs_few (list_all-inputs_of s set_up)
+  told_can_be_said (InputSet2 i) e = done refl
+  told_can_be_said (FreezeSet wanted) e = done refl
+  told_can_be_said (VolumeStep v up) e = done refl
+  told_can_be_said (NameQuery i) e = input_name _ refl (name_at s set_up (place_of s i)).follows
 
-  pub meant-can-be-said : (c : Command) → CanSay c (meant s o (Ok c))
-  meant-can-be-said c =
-      meant-by s o (Ok c) (CanSay c)
-      (λ a. refuses 1 (omega arith) (omega arith) (any-refused c))
-      (λ a b. refuses 2 (omega arith) (omega arith) (set-refused s c b))
-      (λ a b f. refuses 4 (omega arith) (omega arith) (any-refused c))
-      (λ a b f u. refuses 3 (omega arith) (omega arith) (any-refused c))
-      (λ p. told-can-be-said c p.defined)
+  pub meant_can_be_said : (c : Command) → CanSay c (meant s o (Ok c))
+  meant_can_be_said c =
+      meant_by s o (Ok c) (CanSay c)
+      (λ a. refuses 1 (omega arith) (omega arith) (any_refused c))
+      (λ a b. refuses 2 (omega arith) (omega arith) (set_refused s c b))
+      (λ a b f. refuses 4 (omega arith) (omega arith) (any_refused c))
+      (λ a b f u. refuses 3 (omega arith) (omega arith) (any_refused c))
+      (λ p. told_can_be_said c p.defined)
 
   -- a request that is no command is refused, and a set may be refused by any number
-  always-refused : (r : Request) → (Passes s o r → ⊥) → CanSay (PowerSet true) (meant s o r)
-  always-refused r n =
-      meant-by s o r (CanSay (PowerSet true))
+  always_refused : (r : Request) → (Passes s o r → ⊥) → CanSay (PowerSet true) (meant s o r)
+  always_refused r n =
+      meant_by s o r (CanSay (PowerSet true))
       (λ a. refuses 1 (omega arith) (omega arith) refl) (λ a b. refuses 2 (omega arith) (omega arith) refl)
       (λ a b c. refuses 4 (omega arith) (omega arith) refl) (λ a b c d. refuses 3 (omega arith) (omega arith) refl)
       (λ p. absurd (n p))
 
-  abbrev commandOf : Request → Command
-  commandOf (Ok c) = c
-  commandOf (Err (Unlisted b)) = PowerSet true
-  commandOf (Err UnknownBody) = PowerSet true
+  abbrev coded_command : Request → Command
+  coded_command (Ok c) = c
+  coded_command (Err (Unlisted b)) = PowerSet true
+  coded_command (Err UnknownBody) = PowerSet true
 
-  answer-can-be-said : (r : Request) → CanSay (commandOf r) (meant s o r)
-  answer-can-be-said (Ok c) = meant-can-be-said c
-  answer-can-be-said (Err (Unlisted b)) =
-      always-refused (Err (Unlisted b)) (λ p. false≢true (sym p.listed ∙ not-false (hasParameters b) p.defined))
-  answer-can-be-said (Err UnknownBody) = always-refused (Err UnknownBody) (λ p. false≢true (sym p.defined))
+  answer_can_be_said : (r : Request) → CanSay (coded_command r) (meant s o r)
+  answer_can_be_said (Ok c) = meant_can_be_said c
+  answer_can_be_said (Err (Unlisted b)) =
+      always_refused (Err (Unlisted b)) (λ p. false≢true (sym p.listed ∙ not-false (has_parameters b) p.defined))
+  answer_can_be_said (Err UnknownBody) = always_refused (Err UnknownBody) (λ p. false≢true (sym p.defined))
 
 pub record Fits (m : Said) : Type 0 where
-  pub short : length (saidBytes m) ≤ saidMost
-  pub no-cr : noCr (saidBytes m) ≡ true
+  pub short : length (said_bytes m) ≤ said_most
+  pub has_no_cr : no_cr (said_bytes m) ≡ true
 
-pub meant-fits : (s : Settings) (o : Own) → isSettings s ≡ true → isOwn s o ≡ true → (r : Request) → Fits (meant s o r)
-meant-fits s o settings own r =
-    let w = answer-can-be-said s o settings own r in
-    record { short = said-most w; no-cr = (said_plain w).1 }
+pub meant_fits : (s : Settings) (o : Own) → is_settings s ≡ true → is_own s o ≡ true → (r : Request) →
+    Fits (meant s o r)
+meant_fits s o settings own r =
+    let w = answer_can_be_said s o settings own r in
+    record { short = said_within_most w; has_no_cr = (said_plain w).1 }

@@ -2,14 +2,10 @@
 -- a legal projector legal.
 --   Keeps o k      k has the lamps and their marks, the fault mark and the errors of o
 -- Assumes nothing.
-use Prim.Native.Nat.{ℕ, ◌≤◌, ◌<◌}
-use mathlib.Core.Path.{◌≡◌, refl}
-use mathlib.Core.Bool.{Bool, true, false, not, ◌&&◌}
-use native.Mathlib.Omega.{arith}
-use lib.Dec.{ltb, eqb}
-use borrow.Author.Tests.{ltb-true, not-false}
+use Rattle.std.proofs.Common.{ℕ, ◌≤◌, ◌<◌, ◌≡◌, refl, Bool, true, false, not, ◌&&◌, arith, nat_lt, ◌==◌, ltb-true}
+use Rattle.std.proofs.lemmas.Bool.{not-false}
 use Rattle.std.specs.Prelude.{Ok, Err}
-use Rattle.text.proofs.Choices.{if-all, if-by}
+use Rattle.text.proofs.Choices.{if_all, if_by}
 use Rattle.pjlink.specs.declared.command.Half.{Half}
 use Rattle.pjlink.specs.declared.command.Half.TheVariants.{VideoHalf, AudioHalf, BothHalves}
 use Rattle.pjlink.specs.declared.command.Volume.{Volume}
@@ -18,9 +14,9 @@ use Rattle.pjlink.specs.declared.command.Command.TheVariants.{PowerSet, InputSet
 use Rattle.pjlink.specs.declared.command.Command.TheVariants.{InputSet2, FreezeSet, VolumeStep, NameQuery}
 use Rattle.pjlink.specs.Requests.{Request}
 use Rattle.pjlink.specs.Said.{okay}
-use Rattle.record.specs.Limits.{off, on, volumeMost}
-use Rattle.record.specs.Updates.{withChosen, withMutes}
-use Rattle.record.specs.Legal.{isSettings, isOwn}
+use Rattle.record.specs.Limits.{off, on, volume_most}
+use Rattle.record.specs.Updates.{with_chosen, with_mutes}
+use Rattle.record.specs.Legal.{is_settings, is_own}
 use Rattle.record.specs.declared.types.Settings.{Settings}
 use Rattle.record.specs.declared.types.Own.{Own}
 use Rattle.record.specs.Facts.{IsOwn, IsSettings}
@@ -29,11 +25,11 @@ use Rattle.record.specs.declared.views.Power.{Power}
 use Rattle.record.specs.declared.views.Power.TheVariants.{WarmUp, Cooling}
 use Rattle.record.proofs.PowerSeen.{written}
 use Rattle.record.proofs.FactsTold.{own_is, settings_is}
-use Rattle.meaning.specs.SetUpInputs.{place_of, isListed}
-use Rattle.meaning.specs.Rules.{isOutOfParameter}
-use Rattle.meaning.specs.Meaning.{levelAfter, afterPower, afterMute, afterStep, requestAnswer, carriedOut, meant}
+use Rattle.meaning.specs.SetUpInputs.{place_of, is_listed}
+use Rattle.meaning.specs.Rules.{is_out_of_parameter}
+use Rattle.meaning.specs.Meaning.{level_after, after_power, after_mute, after_step, request_answer, carried_out, meant}
 use Rattle.meaning.specs.Meaning.{done}
-use Rattle.meaning.proofs.Cases.{decided-by, done-by}
+use Rattle.meaning.proofs.Cases.{decided_by, done_by}
 
 pub record Keeps (o k : Own) : Type 0 where
   pub lamps : k.lamps ≡ o.lamps
@@ -41,113 +37,113 @@ pub record Keeps (o k : Own) : Type 0 where
   pub fault : k.fault ≡ o.fault
   pub errors : k.errors ≡ o.errors
 
-all-kept : {o : Own} → Keeps o o
-all-kept = record { lamps = refl; marks = refl; fault = refl; errors = refl }
+all_kept : {o : Own} → Keeps o o
+all_kept = record { lamps = refl; marks = refl; fault = refl; errors = refl }
 
 module _ (s : Settings) (o : Own) where
-  power-keeps : (wanted : Bool) → Keeps o (afterPower s o wanted)
-  unfolding afterPower
-  power-keeps wanted =
-      if-all (Keeps o) (wanted && eqb o.power off)
+  power_keeps : (wanted : Bool) → Keeps o (after_power s o wanted)
+  unfolding after_power
+  power_keeps wanted =
+      if_all (Keeps o) (wanted && o.power == off)
       (record { lamps = refl; marks = refl; fault = refl; errors = refl })
-      (if-all (Keeps o) (not wanted && eqb o.power on)
+      (if_all (Keeps o) (not wanted && o.power == on)
       (record { lamps = refl; marks = refl; fault = refl; errors = refl })
-      all-kept)
+      all_kept)
 
-  mute-keeps : (half : Half) (wanted : Bool) → Keeps o (afterMute o half wanted)
-  mute-keeps VideoHalf wanted = record { lamps = refl; marks = refl; fault = refl; errors = refl }
-  mute-keeps AudioHalf wanted = record { lamps = refl; marks = refl; fault = refl; errors = refl }
-  mute-keeps BothHalves wanted = record { lamps = refl; marks = refl; fault = refl; errors = refl }
+  mute_keeps : (half : Half) (wanted : Bool) → Keeps o (after_mute o half wanted)
+  mute_keeps VideoHalf wanted = record { lamps = refl; marks = refl; fault = refl; errors = refl }
+  mute_keeps AudioHalf wanted = record { lamps = refl; marks = refl; fault = refl; errors = refl }
+  mute_keeps BothHalves wanted = record { lamps = refl; marks = refl; fault = refl; errors = refl }
 
-  step_keeps : (v : Volume) (up : Bool) → Keeps o (afterStep o v up)
+  step_keeps : (v : Volume) (up : Bool) → Keeps o (after_step o v up)
   step_keeps Speaker up = record { lamps = refl; marks = refl; fault = refl; errors = refl }
   step_keeps Microphone up = record { lamps = refl; marks = refl; fault = refl; errors = refl }
 
-  after-keeps : (r : Request) → Keeps o (carriedOut s o r)
-  after-keeps (Ok (PowerSet wanted)) = power-keeps wanted
-  after-keeps (Ok (InputSet i)) = record { lamps = refl; marks = refl; fault = refl; errors = refl }
-  after-keeps (Ok (MuteSet half wanted)) = mute-keeps half wanted
-  after-keeps (Ok (Query b)) = all-kept
-  after-keeps (Ok (InputSet2 i)) = record { lamps = refl; marks = refl; fault = refl; errors = refl }
-  after-keeps (Ok (FreezeSet wanted)) = record { lamps = refl; marks = refl; fault = refl; errors = refl }
-  after-keeps (Ok (VolumeStep v up)) = step_keeps v up
-  after-keeps (Ok (NameQuery i)) = all-kept
-  after-keeps (Err u) = all-kept
+  after_keeps : (r : Request) → Keeps o (carried_out s o r)
+  after_keeps (Ok (PowerSet wanted)) = power_keeps wanted
+  after_keeps (Ok (InputSet i)) = record { lamps = refl; marks = refl; fault = refl; errors = refl }
+  after_keeps (Ok (MuteSet half wanted)) = mute_keeps half wanted
+  after_keeps (Ok (Query b)) = all_kept
+  after_keeps (Ok (InputSet2 i)) = record { lamps = refl; marks = refl; fault = refl; errors = refl }
+  after_keeps (Ok (FreezeSet wanted)) = record { lamps = refl; marks = refl; fault = refl; errors = refl }
+  after_keeps (Ok (VolumeStep v up)) = step_keeps v up
+  after_keeps (Ok (NameQuery i)) = all_kept
+  after_keeps (Err u) = all_kept
 
-  pub done-keeps : (r : Request) → Keeps o (done s o r)
-  done-keeps r = done-by s o r (Keeps o) all-kept (λ p. after-keeps r)
+  pub done_keeps : (r : Request) → Keeps o (done s o r)
+  done_keeps r = done_by s o r (Keeps o) all_kept (λ p. after_keeps r)
 
-  told-or-kept : (r : Request) → (requestAnswer s o r ≡ okay → ⊥) → carriedOut s o r ≡ o
-  told-or-kept (Ok (PowerSet wanted)) n = absurd (n refl)
-  told-or-kept (Ok (InputSet i)) n = absurd (n refl)
-  told-or-kept (Ok (MuteSet half wanted)) n = absurd (n refl)
-  told-or-kept (Ok (Query b)) n = refl
-  told-or-kept (Ok (InputSet2 i)) n = absurd (n refl)
-  told-or-kept (Ok (FreezeSet wanted)) n = absurd (n refl)
-  told-or-kept (Ok (VolumeStep v up)) n = absurd (n refl)
-  told-or-kept (Ok (NameQuery i)) n = refl
-  told-or-kept (Err u) n = refl
+  told_or_kept : (r : Request) → (request_answer s o r ≡ okay → ⊥) → carried_out s o r ≡ o
+  told_or_kept (Ok (PowerSet wanted)) n = absurd (n refl)
+  told_or_kept (Ok (InputSet i)) n = absurd (n refl)
+  told_or_kept (Ok (MuteSet half wanted)) n = absurd (n refl)
+  told_or_kept (Ok (Query b)) n = refl
+  told_or_kept (Ok (InputSet2 i)) n = absurd (n refl)
+  told_or_kept (Ok (FreezeSet wanted)) n = absurd (n refl)
+  told_or_kept (Ok (VolumeStep v up)) n = absurd (n refl)
+  told_or_kept (Ok (NameQuery i)) n = refl
+  told_or_kept (Err u) n = refl
 
   -- what is not answered OK does nothing
-  pub done-or-okay : (r : Request) → (meant s o r ≡ okay → ⊥) → done s o r ≡ o
-  done-or-okay r =
-      decided-by s o r (λ m k. (m ≡ okay → ⊥) → k ≡ o) (λ a n. refl) (λ a b n. refl) (λ a b c n. refl)
-      (λ a b c d n. refl) (λ p. told-or-kept r)
+  pub done_or_okay : (r : Request) → (meant s o r ≡ okay → ⊥) → done s o r ≡ o
+  done_or_okay r =
+      decided_by s o r (λ m k. (m ≡ okay → ⊥) → k ≡ o) (λ a n. refl) (λ a b n. refl) (λ a b c n. refl)
+      (λ a b c d n. refl) (λ p. told_or_kept r)
 
-  module _ (settings : isSettings s ≡ true) (own : isOwn s o ≡ true) where
-    abbrev set-up : IsSettings s
-    set-up = (settings_is s).0 settings
+  module _ (settings : is_settings s ≡ true) (own : is_own s o ≡ true) where
+    abbrev set_up : IsSettings s
+    set_up = (settings_is s).0 settings
 
     abbrev kept : IsOwn s o
     kept = (own_is s o).0 own
 
-    with-power-legal : (p : Power) → IsPower s.warm s.cool p → isOwn s (with_power o p) ≡ true
-    with-power-legal p h = (own_is s _).1 (assumption (kept, written _ _ p h))
+    is_own-with_power : (p : Power) → IsPower s.warm s.cool p → is_own s (with_power o p) ≡ true
+    is_own-with_power p h = (own_is s _).1 (assumption (kept, written _ _ p h))
 
-    power-legal : (wanted : Bool) → isOwn s (afterPower s o wanted) ≡ true
-    unfolding afterPower
-    power-legal wanted =
-        let Legal : Own → Type 0 = λ k. isOwn s k ≡ true in
-        if-all Legal (wanted && eqb o.power off) (with-power-legal (WarmUp s.warm) (set-up.warm.low, omega arith))
-        (if-all Legal (not wanted && eqb o.power on)
-        (with-power-legal (Cooling s.cool) (set-up.cool.low, omega arith))
+    is_own-after_power : (wanted : Bool) → is_own s (after_power s o wanted) ≡ true
+    unfolding after_power
+    is_own-after_power wanted =
+        let Legal : Own → Type 0 = λ k. is_own s k ≡ true in
+        if_all Legal (wanted && o.power == off) (is_own-with_power (WarmUp s.warm) (set_up.warm.low, omega arith))
+        (if_all Legal (not wanted && o.power == on)
+        (is_own-with_power (Cooling s.cool) (set_up.cool.low, omega arith))
         own)
 
-    chosen-legal : (place : ℕ) → place < s.input_count → isOwn s (withChosen o place) ≡ true
-    chosen-legal place h = (own_is s _).1 (assumption (kept, h))
+    is_own-with_chosen : (place : ℕ) → place < s.input_count → is_own s (with_chosen o place) ≡ true
+    is_own-with_chosen place h = (own_is s _).1 (assumption (kept, h))
 
-    mutes-legal : (video audio : Bool) → isOwn s (withMutes o video audio) ≡ true
-    mutes-legal video audio = (own_is s _).1 (assumption kept)
+    is_own-with_mutes : (video audio : Bool) → is_own s (with_mutes o video audio) ≡ true
+    is_own-with_mutes video audio = (own_is s _).1 (assumption kept)
 
-    mute-legal : (half : Half) (wanted : Bool) → isOwn s (afterMute o half wanted) ≡ true
-    mute-legal VideoHalf wanted = mutes-legal wanted o.audio_muted
-    mute-legal AudioHalf wanted = mutes-legal o.video_muted wanted
-    mute-legal BothHalves wanted = mutes-legal wanted wanted
+    is_own-after_mute : (half : Half) (wanted : Bool) → is_own s (after_mute o half wanted) ≡ true
+    is_own-after_mute VideoHalf wanted = is_own-with_mutes wanted o.audio_muted
+    is_own-after_mute AudioHalf wanted = is_own-with_mutes o.video_muted wanted
+    is_own-after_mute BothHalves wanted = is_own-with_mutes wanted wanted
 
     -- a step stays within the ends
-    step-within : (up : Bool) (level : ℕ) → level ≤ volumeMost → levelAfter up level ≤ volumeMost
-    unfolding levelAfter
-    step-within true level h =
-        if-by (λ (n : ℕ). n ≤ volumeMost) (ltb level volumeMost)
-        (λ t. let below = ltb-true level volumeMost t in omega arith) (λ t. h)
-    step-within false level h = omega arith
+    step_within : (up : Bool) (level : ℕ) → level ≤ volume_most → level_after up level ≤ volume_most
+    unfolding level_after
+    step_within true level h =
+        if_by (λ (n : ℕ). n ≤ volume_most) (nat_lt level volume_most)
+        (λ t. let below = ltb-true level volume_most t in omega arith) (λ t. h)
+    step_within false level h = omega arith
 
-    step-legal : (v : Volume) (up : Bool) → isOwn s (afterStep o v up) ≡ true
-    step-legal Speaker up = (own_is s _).1 (assumption (kept, step-within up o.speaker kept.speaker))
-    step-legal Microphone up = (own_is s _).1 (assumption (kept, step-within up o.microphone kept.microphone))
+    is_own-after_step : (v : Volume) (up : Bool) → is_own s (after_step o v up) ≡ true
+    is_own-after_step Speaker up = (own_is s _).1 (assumption (kept, step_within up o.speaker kept.speaker))
+    is_own-after_step Microphone up = (own_is s _).1 (assumption (kept, step_within up o.microphone kept.microphone))
 
-    after-legal : (r : Request) → isOutOfParameter s r ≡ false → isOwn s (carriedOut s o r) ≡ true
-    after-legal (Ok (PowerSet wanted)) e = power-legal wanted
-    after-legal (Ok (InputSet i)) e =
-        chosen-legal (place_of s i) (ltb-true (place_of s i) s.input_count (not-false (isListed s i) e))
-    after-legal (Ok (MuteSet half wanted)) e = mute-legal half wanted
-    after-legal (Ok (Query b)) e = own
-    after-legal (Ok (InputSet2 i)) e =
-        chosen-legal (place_of s i) (ltb-true (place_of s i) s.input_count (not-false (isListed s i) e))
-    after-legal (Ok (FreezeSet wanted)) e = (own_is s _).1 (assumption kept)
-    after-legal (Ok (VolumeStep v up)) e = step-legal v up
-    after-legal (Ok (NameQuery i)) e = own
-    after-legal (Err u) e = own
+    is_own-carried_out : (r : Request) → is_out_of_parameter s r ≡ false → is_own s (carried_out s o r) ≡ true
+    is_own-carried_out (Ok (PowerSet wanted)) e = is_own-after_power wanted
+    is_own-carried_out (Ok (InputSet i)) e =
+        is_own-with_chosen (place_of s i) (ltb-true (place_of s i) s.input_count (not-false (is_listed s i) e))
+    is_own-carried_out (Ok (MuteSet half wanted)) e = is_own-after_mute half wanted
+    is_own-carried_out (Ok (Query b)) e = own
+    is_own-carried_out (Ok (InputSet2 i)) e =
+        is_own-with_chosen (place_of s i) (ltb-true (place_of s i) s.input_count (not-false (is_listed s i) e))
+    is_own-carried_out (Ok (FreezeSet wanted)) e = (own_is s _).1 (assumption kept)
+    is_own-carried_out (Ok (VolumeStep v up)) e = is_own-after_step v up
+    is_own-carried_out (Ok (NameQuery i)) e = own
+    is_own-carried_out (Err u) e = own
 
-    pub done-legal : (r : Request) → isOwn s (done s o r) ≡ true
-    done-legal r = done-by s o r (λ k. isOwn s k ≡ true) own (λ p. after-legal r p.listed)
+    pub done_legal : (r : Request) → is_own s (done s o r) ≡ true
+    done_legal r = done_by s o r (λ k. is_own s k ≡ true) own (λ p. is_own-carried_out r p.listed)

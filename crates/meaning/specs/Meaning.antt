@@ -1,15 +1,15 @@
 -- What the projector answers to a request, and what the request does to it (RULES, Commands).
---   tableAnswer s o c     the table of RULES, Commands: what a command that no rule refuses is answered
---   afterCommand s o c    the own part after it
---   inputNameOf s i            the name of the input i (RULES, Class 2)
---   levelAfter up level      a volume one step up or down, which stops at the ends (RULES, Class 2)
---   requestAnswer s o r, carriedOut s o r
+--   table_answer s o c    the table of RULES, Commands: what a command that no rule refuses is answered
+--   after_command s o c   the own part after it
+--   input_name_of s i          the name of the input i (RULES, Class 2)
+--   level_after up level     a volume one step up or down, which stops at the ends (RULES, Class 2)
+--   request_answer s o r, carried_out s o r
 --                         the same of a request; one that is no command is always refused, so `nothing` is never said
 --   meant s o r           the answer to the request r
 --   done s o r            the own part after it
 -- Assumes nothing.
-use Rattle.std.specs.Prelude.{ℕ, ◌+◌, ◌-◌, ◌/◌, Bool, false, not, ◌&&◌, ◌||◌, List, [], ◌∷◌, take, get_or, ltb, eqb}
-use Rattle.std.specs.Prelude.{if◌then◌else◌, Ok, Err}
+use Rattle.std.specs.Prelude.{ℕ, ◌+◌, ◌-◌, ◌/◌, Bool, false, not, ◌&&◌, ◌||◌, List, [], ◌∷◌, take}
+use Rattle.std.specs.Prelude.{if◌then◌else◌, Ok, Err, slice_index_or, nat_lt, ◌==◌}
 use Rattle.words.specs.declared.input.Input.{Input}
 use Rattle.pjlink.specs.declared.body.Body.{Body}
 use Rattle.pjlink.specs.declared.body.Body.TheVariants.{Powr, Inpt, Avmt, Erst, Lamp, Inst, Name, Inf1, Inf2, Info}
@@ -22,137 +22,137 @@ use Rattle.pjlink.specs.declared.command.Command.{Command}
 use Rattle.pjlink.specs.declared.command.Command.TheVariants.{PowerSet, InputSet, MuteSet, Query}
 use Rattle.pjlink.specs.declared.command.Command.TheVariants.{InputSet2, FreezeSet, VolumeStep, NameQuery}
 use Rattle.pjlink.specs.Requests.{Request}
-use Rattle.pjlink.specs.Said.{Said, okay, refused, powerIs, chosenIs, mutesAre, errorsAre, lampsAre, inputsAre}
-use Rattle.pjlink.specs.Said.{textIs, classIs, freezeIs, nothing}
+use Rattle.pjlink.specs.Said.{Said, okay, refused, power_is, chosen_is, mutes_are, errors_are, lamps_are, inputs_are}
+use Rattle.pjlink.specs.Said.{text_is, class_is, freeze_is, nothing}
 use Rattle.words.specs.declared.power.Power.{Power}
 use Rattle.words.specs.declared.power.Power.TheVariants.{Off, On, Cooling, WarmUp}
 use Rattle.words.specs.declared.lamp.LampHours.{LampHours}
-use Rattle.record.specs.Limits.{off, on, cooling, warming, isLit, volumeMost}
-use Rattle.record.specs.Updates.{withPower, withChosen, withMutes, withFreeze, withVolumes}
-use Rattle.record.specs.Record.{blankName}
+use Rattle.record.specs.Limits.{off, on, cooling, warming, is_lit, volume_most}
+use Rattle.record.specs.Updates.{with_power_left, with_chosen, with_mutes, with_freeze, with_volumes}
+use Rattle.record.specs.Record.{blank_name}
 use Rattle.record.specs.declared.types.Text.{Text}
 use Rattle.record.specs.declared.types.InputName.{InputName}
 use Rattle.record.specs.declared.types.Settings.{Settings}
 use Rattle.record.specs.declared.types.Own.{Own}
-use Rattle.meaning.specs.SetUpInputs.{noInput, inputsOf, place_of}
-use Rattle.meaning.specs.Rules.{isUndefined, isOutOfParameter, isFailure, isUnavailable}
+use Rattle.meaning.specs.SetUpInputs.{no_input, inputs_of, place_of}
+use Rattle.meaning.specs.Rules.{is_undefined, is_out_of_parameter, is_failure, is_unavailable}
 
 -- 0 off, 1 on, 2 cooling, 3 warm-up
-unfoldable pub powerSaid : ℕ → Power
-powerSaid power =
-    if eqb power off then Off
-    else if eqb power on then On
-    else if eqb power cooling then Cooling
+unfoldable pub power_said : ℕ → Power
+power_said power =
+    if power == off then Off
+    else if power == on then On
+    else if power == cooling then Cooling
     else WarmUp
 
 abbrev pub chosen_of : Settings → Own → Input
-chosen_of s o = get_or (inputsOf s) o.chosen noInput
+chosen_of s o = slice_index_or (inputs_of s) o.chosen no_input
 
 -- hours are seconds divided by 3,600, rounded down; lit in warm-up or on
-abbrev pub lampSaid : Bool → ℕ → LampHours
-lampSaid lit seconds = record { hours = seconds / 3600; lit = lit }
+abbrev pub lamp_said : Bool → ℕ → LampHours
+lamp_said lit seconds = record { hours = seconds / 3600; lit = lit }
 
 -- only an enabled lamp shows as lit (RULES, Lamps)
-unfoldable pub lampsSaid : Bool → List Bool → List ℕ → List LampHours
-lampsSaid lit marks [] = []
-lampsSaid lit [] (x ∷ xs) = lampSaid false x ∷ lampsSaid lit [] xs
-lampsSaid lit (m ∷ marks) (x ∷ xs) = lampSaid (lit && m) x ∷ lampsSaid lit marks xs
+unfoldable pub lamps_said : Bool → List Bool → List ℕ → List LampHours
+lamps_said lit marks [] = []
+lamps_said lit [] (x ∷ xs) = lamp_said false x ∷ lamps_said lit [] xs
+lamps_said lit (m ∷ marks) (x ∷ xs) = lamp_said (lit && m) x ∷ lamps_said lit marks xs
 
-abbrev pub lampsOf : Settings → Own → List LampHours
-lampsOf s o = lampsSaid (isLit o.power) o.enabled (take s.lamp_count o.lamps)
+abbrev pub lamps_of : Settings → Own → List LampHours
+lamps_of s o = lamps_said (is_lit o.power) o.enabled (take s.lamp_count o.lamps)
 
-abbrev pub textSaid : Text → Said
-textSaid t = textIs (take t.len t.bytes)
+abbrev pub text_said : Text → Said
+text_said t = text_is (take t.len t.bytes)
 
-abbrev pub nameBytes : InputName → List ℕ
-nameBytes n = take n.len n.bytes
+abbrev pub name_bytes : InputName → List ℕ
+name_bytes n = take n.len n.bytes
 
-abbrev pub inputNameOf : Settings → Input → List ℕ
-inputNameOf s i = nameBytes (get_or s.names (place_of s i) blankName)
+abbrev pub input_name_of : Settings → Input → List ℕ
+input_name_of s i = name_bytes (slice_index_or s.names (place_of s i) blank_name)
 
--- a body without a query is never asked one (Rules, `isNoQuery`)
+-- a body without a query is never asked one (Rules, `is_no_query`)
 abbrev pub queried : Settings → Own → Body → Said
-queried s o Powr = powerIs (powerSaid o.power)
-queried s o Inpt = chosenIs (chosen_of s o)
-queried s o Avmt = mutesAre o.video_muted o.audio_muted
-queried s o Erst = errorsAre o.errors
-queried s o Lamp = lampsAre (lampsOf s o)
-queried s o Inst = inputsAre (inputsOf s)
-queried s o Name = textSaid s.name
-queried s o Inf1 = textSaid s.maker
-queried s o Inf2 = textSaid s.model
-queried s o Info = textSaid s.other
-queried s o Clss = classIs s.class_number
-queried s o Frez = freezeIs o.frozen
+queried s o Powr = power_is (power_said o.power)
+queried s o Inpt = chosen_is (chosen_of s o)
+queried s o Avmt = mutes_are o.video_muted o.audio_muted
+queried s o Erst = errors_are o.errors
+queried s o Lamp = lamps_are (lamps_of s o)
+queried s o Inst = inputs_are (inputs_of s)
+queried s o Name = text_said s.name
+queried s o Inf1 = text_said s.maker
+queried s o Inf2 = text_said s.model
+queried s o Info = text_said s.other
+queried s o Clss = class_is s.class_number
+queried s o Frez = freeze_is o.frozen
 queried s o Svol = nothing
 queried s o Mvol = nothing
-queried s o Snum = textSaid s.serial
-queried s o Sver = textSaid s.version
+queried s o Snum = text_said s.serial
+queried s o Sver = text_said s.version
 queried s o Innm = nothing
-queried s o Inpt2 = chosenIs (chosen_of s o)
-queried s o Inst2 = inputsAre (inputsOf s)
+queried s o Inpt2 = chosen_is (chosen_of s o)
+queried s o Inst2 = inputs_are (inputs_of s)
 
 -- a set that passes answers OK
-abbrev pub tableAnswer : Settings → Own → Command → Said
-tableAnswer s o (PowerSet wanted) = okay
-tableAnswer s o (InputSet i) = okay
-tableAnswer s o (MuteSet half wanted) = okay
-tableAnswer s o (Query b) = queried s o b
-tableAnswer s o (InputSet2 i) = okay
-tableAnswer s o (FreezeSet wanted) = okay
-tableAnswer s o (VolumeStep v up) = okay
-tableAnswer s o (NameQuery i) = textIs (inputNameOf s i)
+abbrev pub table_answer : Settings → Own → Command → Said
+table_answer s o (PowerSet wanted) = okay
+table_answer s o (InputSet i) = okay
+table_answer s o (MuteSet half wanted) = okay
+table_answer s o (Query b) = queried s o b
+table_answer s o (InputSet2 i) = okay
+table_answer s o (FreezeSet wanted) = okay
+table_answer s o (VolumeStep v up) = okay
+table_answer s o (NameQuery i) = text_is (input_name_of s i)
 
-abbrev pub requestAnswer : Settings → Own → Request → Said
-requestAnswer s o (Ok c) = tableAnswer s o c
-requestAnswer s o (Err u) = nothing
+abbrev pub request_answer : Settings → Own → Request → Said
+request_answer s o (Ok c) = table_answer s o c
+request_answer s o (Err u) = nothing
 
 -- POWR 1 when off starts warm-up with W left; POWR 0 when on starts cooling with C left; otherwise power stays.
-unfoldable pub afterPower : Settings → Own → Bool → Own
-afterPower s o wanted =
-    if wanted && eqb o.power off then withPower o warming s.warm
-    else if not wanted && eqb o.power on then withPower o cooling s.cool
+unfoldable pub after_power : Settings → Own → Bool → Own
+after_power s o wanted =
+    if wanted && o.power == off then with_power_left o warming s.warm
+    else if not wanted && o.power == on then with_power_left o cooling s.cool
     else o
 
 -- The unnamed half stays.
-abbrev pub afterMute : Own → Half → Bool → Own
-afterMute o VideoHalf wanted = withMutes o wanted o.audio_muted
-afterMute o AudioHalf wanted = withMutes o o.video_muted wanted
-afterMute o BothHalves wanted = withMutes o wanted wanted
+abbrev pub after_mute : Own → Half → Bool → Own
+after_mute o VideoHalf wanted = with_mutes o wanted o.audio_muted
+after_mute o AudioHalf wanted = with_mutes o o.video_muted wanted
+after_mute o BothHalves wanted = with_mutes o wanted wanted
 
 -- a step that can't go further leaves the level
-unfoldable pub levelAfter : Bool → ℕ → ℕ
-levelAfter up level = if up then (if ltb level volumeMost then level + 1 else level) else level - 1
+unfoldable pub level_after : Bool → ℕ → ℕ
+level_after up level = if up then (if nat_lt level volume_most then level + 1 else level) else level - 1
 
-abbrev pub afterStep : Own → Volume → Bool → Own
-afterStep o Speaker up = withVolumes o (levelAfter up o.speaker) o.microphone
-afterStep o Microphone up = withVolumes o o.speaker (levelAfter up o.microphone)
+abbrev pub after_step : Own → Volume → Bool → Own
+after_step o Speaker up = with_volumes o (level_after up o.speaker) o.microphone
+after_step o Microphone up = with_volumes o o.speaker (level_after up o.microphone)
 
-abbrev pub afterCommand : Settings → Own → Command → Own
-afterCommand s o (PowerSet wanted) = afterPower s o wanted
-afterCommand s o (InputSet i) = withChosen o (place_of s i)
-afterCommand s o (MuteSet half wanted) = afterMute o half wanted
-afterCommand s o (Query b) = o
-afterCommand s o (InputSet2 i) = withChosen o (place_of s i)
-afterCommand s o (FreezeSet wanted) = withFreeze o wanted
-afterCommand s o (VolumeStep v up) = afterStep o v up
-afterCommand s o (NameQuery i) = o
+abbrev pub after_command : Settings → Own → Command → Own
+after_command s o (PowerSet wanted) = after_power s o wanted
+after_command s o (InputSet i) = with_chosen o (place_of s i)
+after_command s o (MuteSet half wanted) = after_mute o half wanted
+after_command s o (Query b) = o
+after_command s o (InputSet2 i) = with_chosen o (place_of s i)
+after_command s o (FreezeSet wanted) = with_freeze o wanted
+after_command s o (VolumeStep v up) = after_step o v up
+after_command s o (NameQuery i) = o
 
-abbrev pub carriedOut : Settings → Own → Request → Own
-carriedOut s o (Ok c) = afterCommand s o c
-carriedOut s o (Err u) = o
+abbrev pub carried_out : Settings → Own → Request → Own
+carried_out s o (Ok c) = after_command s o c
+carried_out s o (Err u) = o
 
 -- The first that applies.
 unfoldable pub meant : Settings → Own → Request → Said
 meant s o r =
-    if isUndefined s r then refused 1
-    else if isOutOfParameter s r then refused 2
-    else if isFailure o r then refused 4
-    else if isUnavailable o r then refused 3
-    else requestAnswer s o r
+    if is_undefined s r then refused 1
+    else if is_out_of_parameter s r then refused 2
+    else if is_failure o r then refused 4
+    else if is_unavailable o r then refused 3
+    else request_answer s o r
 
 abbrev pub is_refused : Settings → Own → Request → Bool
-is_refused s o r = isUndefined s r || isOutOfParameter s r || isFailure o r || isUnavailable o r
+is_refused s o r = is_undefined s r || is_out_of_parameter s r || is_failure o r || is_unavailable o r
 
 unfoldable pub done : Settings → Own → Request → Own
-done s o r = if is_refused s o r then o else carriedOut s o r
+done s o r = if is_refused s o r then o else carried_out s o r

@@ -1,6 +1,6 @@
 // What a command that no rule refuses does to the projector (RULES, Commands).
 ghost use Rattle.std.specs.Prelude.{◌≡◌};
-ghost use Rattle.meaning.specs.Meaning.{afterPower, afterMute, levelAfter, afterStep, afterCommand};
+ghost use Rattle.meaning.specs.Meaning.{after_power, after_mute, level_after, after_step, after_command};
 
 use crate::inputs;
 use pjlink::command::{Command, Half, Volume};
@@ -9,9 +9,9 @@ use record::types::{Own, Settings};
 use record::views::Power;
 
 // POWR 1 when off starts warm-up, POWR 0 when on starts cooling; otherwise the power stays.
-#[tactic(auto, unfolding(crate::specs::Meaning::afterPower))]
+#[tactic(auto, unfolding(crate::specs::Meaning::after_power))]
 fn set_power(s: &Settings, o: &mut Own, wanted: bool)
-    ensures { o.new ≡ afterPower s.now o.old wanted }
+    ensures { o.new ≡ after_power s.now o.old wanted }
 {
     if wanted && o.power == OFF {
         o.set_power(Power::WarmUp { left: s.warm });
@@ -22,7 +22,7 @@ fn set_power(s: &Settings, o: &mut Own, wanted: bool)
 
 // The unnamed half stays.
 fn mute(o: &mut Own, half: Half, wanted: bool)
-    ensures { o.new ≡ afterMute o.old half wanted }
+    ensures { o.new ≡ after_mute o.old half wanted }
 {
     match half {
         Half::VideoHalf => o.video_muted = wanted,
@@ -35,9 +35,9 @@ fn mute(o: &mut Own, half: Half, wanted: bool)
 }
 
 // One step up or down, stopped at the ends (RULES, Class 2).
-#[tactic(auto, unfolding(crate::specs::Meaning::levelAfter))]
+#[tactic(auto, unfolding(crate::specs::Meaning::level_after))]
 fn step(up: bool, level: u8) -> u8
-    ensures { result ≡ levelAfter up level }
+    ensures { result ≡ level_after up level }
 {
     if up {
         if level < VOLUME_MOST {
@@ -52,7 +52,7 @@ fn step(up: bool, level: u8) -> u8
 }
 
 fn set_level(o: &mut Own, v: Volume, up: bool)
-    ensures { o.new ≡ afterStep o.old v up }
+    ensures { o.new ≡ after_step o.old v up }
 {
     match v {
         Volume::Speaker => o.speaker = step(up, o.speaker),
@@ -61,7 +61,7 @@ fn set_level(o: &mut Own, v: Volume, up: bool)
 }
 
 pub fn carry_out(s: &Settings, o: &mut Own, c: Command)
-    ensures { o.new ≡ afterCommand s.now o.old c }
+    ensures { o.new ≡ after_command s.now o.old c }
 {
     match c {
         Command::PowerSet(wanted) => set_power(s, o, wanted),

@@ -1,7 +1,7 @@
 //! The inputs of a set-up, which keeps them as pairs of characters (RULES, The legal record).
-ghost use Rattle.std.specs.Prelude.{◌≡◌, ◌*◌, take, get_or};
-ghost use Rattle.words.specs.Sources.{sameInput};
-ghost use Rattle.meaning.specs.SetUpInputs.{noInput, inputOfPair, inputsOfPairs, place_in, place_of, isListed};
+ghost use Rattle.std.specs.Prelude.{◌≡◌, ◌*◌, take, slice_index_or};
+ghost use Rattle.words.specs.Sources.{same_input};
+ghost use Rattle.meaning.specs.SetUpInputs.{no_input, input_of_pair, inputs_of_pairs, place_in, place_of, is_listed};
 
 use arrayvec::ArrayVec;
 use record::types::{INPUT_ROOM, INPUTS_MOST, Settings};
@@ -15,13 +15,13 @@ const NO_INPUT: Input = Input {
 
 // No legal set-up has a pair that stands for no input.
 fn input_of_pair(a: u8, b: u8) -> Input
-    ensures { result ≡ inputOfPair a b }
+    ensures { result ≡ input_of_pair a b }
 {
     input::read_input(a, b).unwrap_or(NO_INPUT)
 }
 
 fn same_input(i: Input, j: Input) -> bool
-    ensures { result ≡ sameInput i j }
+    ensures { result ≡ same_input i j }
 {
     let one = i.source;
     let other = j.source;
@@ -30,7 +30,7 @@ fn same_input(i: Input, j: Input) -> bool
 
 // The first place of the input among the first pairs.
 fn place_in(i: Input, pairs: &[u8; INPUT_ROOM], count: usize) -> usize
-    ensures { result ≡ place_in i (inputsOfPairs (take (2 * count) pairs.now)) }
+    ensures { result ≡ place_in i (inputs_of_pairs (take (2 * count) pairs.now)) }
 {
     let most = count.min(INPUTS_MOST);
     for k in 0..most {
@@ -48,13 +48,13 @@ pub fn place_of(s: &Settings, i: Input) -> usize
 }
 
 pub fn is_listed(s: &Settings, i: Input) -> bool
-    ensures { result ≡ isListed s.now i }
+    ensures { result ≡ is_listed s.now i }
 {
     place_of(s, i) < s.input_count
 }
 
 pub fn input_at(pairs: &[u8; INPUT_ROOM], count: usize, place: usize) -> Input
-    ensures { result ≡ get_or (inputsOfPairs (take (2 * count) pairs.now)) place noInput }
+    ensures { result ≡ slice_index_or (inputs_of_pairs (take (2 * count) pairs.now)) place no_input }
 {
     if INPUTS_MOST <= place {
         return NO_INPUT;
@@ -67,7 +67,7 @@ pub fn input_at(pairs: &[u8; INPUT_ROOM], count: usize, place: usize) -> Input
 
 /// The inputs of the pairs, in set-up order.
 pub fn inputs_of(pairs: &[u8; INPUT_ROOM], count: usize) -> ArrayVec<Input, INPUTS_MOST>
-    ensures { result.items ≡ inputsOfPairs (take (2 * count) pairs.now) }
+    ensures { result.items ≡ inputs_of_pairs (take (2 * count) pairs.now) }
 {
     let mut inputs = ArrayVec::new();
     let most = count.min(INPUTS_MOST);

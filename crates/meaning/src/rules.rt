@@ -1,6 +1,7 @@
 //! When a command is refused: the four rules of RULES, Commands.
 ghost use Rattle.std.specs.Prelude.{◌≡◌, Ok};
-ghost use Rattle.meaning.specs.Rules.{isNoQuery, isUndefined, isOutOfParameter, isFailure, isUntimely, isUnavailable};
+ghost use Rattle.meaning.specs.Rules.{is_no_query, is_undefined, is_out_of_parameter, is_failure, is_untimely};
+ghost use Rattle.meaning.specs.Rules.{is_unavailable};
 
 use crate::inputs;
 use pjlink::command::Command;
@@ -9,7 +10,7 @@ use record::own::ON;
 use record::types::{Own, Settings};
 
 fn is_no_query(c: Command) -> bool
-    ensures { result ≡ isNoQuery c }
+    ensures { result ≡ is_no_query c }
 {
     match c {
         Command::Query(b) => !b.has_query(),
@@ -19,14 +20,14 @@ fn is_no_query(c: Command) -> bool
 
 /// Rule 1: a query that there is not, or one of lamps where there are none.
 pub fn is_undefined(s: &Settings, c: Command) -> bool
-    ensures { result ≡ isUndefined s.now (Ok c) }
+    ensures { result ≡ is_undefined s.now (Ok c) }
 {
     is_no_query(c) || (c.body().row().lamps && s.lamp_count == 0)
 }
 
 /// Rule 2: an input that is not in the set-up.
 pub fn is_out_of_parameter(s: &Settings, c: Command) -> bool
-    ensures { result ≡ isOutOfParameter s.now (Ok c) }
+    ensures { result ≡ is_out_of_parameter s.now (Ok c) }
 {
     match c {
         Command::InputSet(i) | Command::InputSet2(i) | Command::NameQuery(i) => {
@@ -38,13 +39,13 @@ pub fn is_out_of_parameter(s: &Settings, c: Command) -> bool
 
 /// Rule 3: a set, where the projector is at fault.
 pub fn is_failure(o: &Own, c: Command) -> bool
-    ensures { result ≡ isFailure o.now (Ok c) }
+    ensures { result ≡ is_failure o.now (Ok c) }
 {
     c.body().has_set() && o.fault
 }
 
 fn is_untimely(power: u8, c: Command) -> bool
-    ensures { result ≡ isUntimely power c }
+    ensures { result ≡ is_untimely power c }
 {
     match c {
         Command::PowerSet(_) => own::is_between(power),
@@ -54,7 +55,7 @@ fn is_untimely(power: u8, c: Command) -> bool
 
 /// Rule 4: a command that the power does not allow now.
 pub fn is_unavailable(o: &Own, c: Command) -> bool
-    ensures { result ≡ isUnavailable o.now (Ok c) }
+    ensures { result ≡ is_unavailable o.now (Ok c) }
 {
     is_untimely(o.power, c)
 }

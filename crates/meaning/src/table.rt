@@ -1,8 +1,8 @@
 //! What a command that no rule refuses is answered: the table of RULES, Commands.
-ghost use Rattle.std.specs.Prelude.{◌≡◌, take, get_or};
+ghost use Rattle.std.specs.Prelude.{◌≡◌, take, slice_index_or};
 ghost use Rattle.pjlink.specs.Carried.{value_said};
-ghost use Rattle.record.specs.Record.{blankName};
-ghost use Rattle.meaning.specs.Meaning.{powerSaid, lampsSaid, nameBytes, queried, tableAnswer};
+ghost use Rattle.record.specs.Record.{blank_name};
+ghost use Rattle.meaning.specs.Meaning.{power_said, lamps_said, name_bytes, queried, table_answer};
 
 use crate::inputs;
 use arrayvec::ArrayVec;
@@ -20,9 +20,9 @@ use words::power::Power;
 
 const HOUR: u32 = 3600;
 
-#[tactic(auto, unfolding(crate::specs::Meaning::powerSaid))]
+#[tactic(auto, unfolding(crate::specs::Meaning::power_said))]
 fn power_said(power: u8) -> Power
-    ensures { result ≡ powerSaid power }
+    ensures { result ≡ power_said power }
 {
     match power {
         OFF => Power::Off,
@@ -39,7 +39,7 @@ fn lamps_said(
     count: usize,
     lit: bool,
 ) -> ArrayVec<LampHours, LAMPS_MOST>
-    ensures { result.items ≡ lampsSaid lit marks.now (take count seconds.now) }
+    ensures { result.items ≡ lamps_said lit marks.now (take count seconds.now) }
 {
     let mut lamps = ArrayVec::new();
     let most = count.min(LAMPS_MOST);
@@ -59,14 +59,14 @@ fn text_of(t: &Text) -> &[u8]
 }
 
 fn name_of(n: &InputName) -> &[u8]
-    ensures { result.now ≡ nameBytes n.now }
+    ensures { result.now ≡ name_bytes n.now }
 {
     &n.bytes[..n.len.min(INPUT_NAME_MOST)]
 }
 
 // The name at a place; past the list there is none.
 fn name_at(names: &[InputName; INPUTS_MOST], place: usize) -> &[u8]
-    ensures { result.now ≡ nameBytes (get_or names.now place blankName) }
+    ensures { result.now ≡ name_bytes (slice_index_or names.now place blank_name) }
 {
     if INPUTS_MOST <= place {
         return &[];
@@ -107,7 +107,7 @@ fn queried<'a>(s: &'a Settings, o: &Own, b: Body) -> Option<Answer<'a>>
 
 /// A set is answered OK; none is the answer of a query that there is not.
 pub fn answer<'a>(s: &'a Settings, o: &Own, c: Command) -> Option<Answer<'a>>
-    ensures { value_said result ≡ tableAnswer s.now o.now c }
+    ensures { value_said result ≡ table_answer s.now o.now c }
 {
     match c {
         Command::Query(b) => queried(s, o, b),

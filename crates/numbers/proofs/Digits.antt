@@ -1,91 +1,86 @@
 -- The digits of a number: by the quotient and the last digit, how many there are, and that each is a digit.
 -- Assumes nothing.
-use Prim.Native.Nat.{ℕ, zero, suc, ◌+◌, ◌/◌, ◌^◌, ◌<◌, ◌≤◌}
+use Rattle.std.specs.List.{list_all}
+use Rattle.std.proofs.Common.{ℕ, zero, suc, ◌+◌, ◌/◌, ◌^◌, ◌<◌, ◌≤◌, ◌≡◌, refl, sym, ap, ◌∙◌, true, false, not, List}
+use Rattle.std.proofs.Common.{[], ◌∷◌, ◌++◌, pow-suc, suc-add, zero-add, arith, length, slice_index_or, length-append}
+use Rattle.std.proofs.Common.{nat_lt, nat_le, lt-ltb, le-ltb, le-leb, ltb-true, ltb-false, leb-true, ne_eqb}
+use Rattle.std.proofs.Math.Nat.{pow-le-pow_right}
 use Prim.Native.Char.{Char, code}
-use mathlib.Core.Path.{◌≡◌, refl, sym, ap, ◌∙◌}
-use mathlib.Core.Bool.{true, false, not}
-use mathlib.Core.List.{List, [], ◌∷◌, ◌++◌}
-use native.Mathlib.Nat.{pow-suc, pow-le-pow_right, suc-add, zero-add}
-use native.Mathlib.Omega.{arith}
-use lib.ListN.{length, get_or, length-append}
-use lib.Dec.{ltb, leb}
-use borrow.Author.Tests.{lt-ltb, le-ltb, le-leb, ltb-true, ltb-false, leb-true, ne_eqb}
 use Rattle.std.specs.Prelude.{if◌then◌else◌}
 use Rattle.text.specs.Words.{◌is◌}
-use Rattle.text.specs.Scans.{every}
-use Rattle.text.proofs.Choices.{if-by, both, both_left, both_right}
-use Rattle.text.proofs.Scanning.{every_append, every-at, every-implies}
-use Rattle.numbers.specs.Decimal.{lastDigit, digitsIn, digits, longDigits, isDigit}
+use Rattle.text.proofs.Choices.{if_by, both, both_left, both_right}
+use Rattle.text.proofs.Scanning.{list_all-append, list_all_at, list_all_implies}
+use Rattle.numbers.specs.Decimal.{last_digit, digits_in, digits, long_digits, is_digit}
 
 -- one quotient more to take changes nothing
-room : (k n : ℕ) → n < 10 ^ suc k → digitsIn (suc k) n ≡ digitsIn k n
+room : (k n : ℕ) → n < 10 ^ suc k → digits_in (suc k) n ≡ digits_in k n
 room zero n h = simp (lt-ltb n 10 (omega (arith, pow-suc 10 0)))
 room (suc k) n h =
-    ap (λ (l : List ℕ). if ltb n 10 then lastDigit n ∷ [] else l ++ (lastDigit n ∷ []))
+    ap (λ (l : List ℕ). if nat_lt n 10 then last_digit n ∷ [] else l ++ (last_digit n ∷ []))
     (room k (n / 10) (omega (arith, pow-suc 10 (suc k))))
 
-more_room : (j k n : ℕ) → n < 10 ^ suc k → digitsIn (j + k) n ≡ digitsIn k n
-more_room zero k n h = ap (λ (m : ℕ). digitsIn m n) (zero-add k)
+more_room : (j k n : ℕ) → n < 10 ^ suc k → digits_in (j + k) n ≡ digits_in k n
+more_room zero k n h = ap (λ (m : ℕ). digits_in m n) (zero-add k)
 more_room (suc j) k n h =
-    ap (λ (m : ℕ). digitsIn m n) (suc-add j k)
+    ap (λ (m : ℕ). digits_in m n) (suc-add j k)
     ∙ room (j + k) n
     (omega (arith, pow-le-pow_right {n = 10} (omega arith) {i = suc k} {j = suc (j + k)} (omega arith)))
     ∙ more_room j k n h
 
 -- a u32 is a u64
-pub digits_long : (n : ℕ) → n < 2 ^ 32 → digits n ≡ longDigits n
-unfolding digits longDigits
+pub digits_long : (n : ℕ) → n < 2 ^ 32 → digits n ≡ long_digits n
+unfolding digits long_digits
 digits_long n f = sym (more_room 10 9 n (omega arith))
 
 -- by the quotient and the last digit
-low-in : (k n : ℕ) → n < 10 → digitsIn (suc k) n ≡ lastDigit n ∷ []
-low-in k n h = simp (lt-ltb n 10 h)
+low_in : (k n : ℕ) → n < 10 → digits_in (suc k) n ≡ last_digit n ∷ []
+low_in k n h = simp (lt-ltb n 10 h)
 
-high-in : (k n : ℕ) → 10 ≤ n → n / 10 < 10 ^ suc k
-    → digitsIn (suc k) n ≡ digitsIn (suc k) (n / 10) ++ (lastDigit n ∷ [])
-high-in k n h f = simp (le-ltb n 10 h) (ap (λ (l : List ℕ). l ++ (lastDigit n ∷ [])) (sym (room k (n / 10) f)))
+high_in : (k n : ℕ) → 10 ≤ n → n / 10 < 10 ^ suc k
+    → digits_in (suc k) n ≡ digits_in (suc k) (n / 10) ++ (last_digit n ∷ [])
+high_in k n h f = simp (le-ltb n 10 h) (ap (λ (l : List ℕ). l ++ (last_digit n ∷ [])) (sym (room k (n / 10) f)))
 
-pub long-low : (n : ℕ) → n < 10 → longDigits n ≡ lastDigit n ∷ []
-unfolding longDigits
-long-low n h = low-in 18 n h
+pub long_low : (n : ℕ) → n < 10 → long_digits n ≡ last_digit n ∷ []
+unfolding long_digits
+long_low n h = low_in 18 n h
 
-pub long-high : (n : ℕ) → 10 ≤ n → n < 2 ^ 64 → longDigits n ≡ longDigits (n / 10) ++ (lastDigit n ∷ [])
-unfolding longDigits
-long-high n h f = high-in 18 n h (omega arith)
+pub long_high : (n : ℕ) → 10 ≤ n → n < 2 ^ 64 → long_digits n ≡ long_digits (n / 10) ++ (last_digit n ∷ [])
+unfolding long_digits
+long_high n h f = high_in 18 n h (omega arith)
 
-pub long-length-low : (n : ℕ) → n < 10 → length (longDigits n) ≡ 1
-long-length-low n h = ap length (long-low n h)
+pub long_length_low : (n : ℕ) → n < 10 → length (long_digits n) ≡ 1
+long_length_low n h = ap length (long_low n h)
 
-pub long-length-high : (n : ℕ) → 10 ≤ n → n < 2 ^ 64 → length (longDigits n) ≡ length (longDigits (n / 10)) + 1
-long-length-high n h f = ap length (long-high n h f) ∙ length-append (longDigits (n / 10)) (lastDigit n ∷ [])
+pub long_length_high : (n : ℕ) → 10 ≤ n → n < 2 ^ 64 → length (long_digits n) ≡ length (long_digits (n / 10)) + 1
+long_length_high n h f = ap length (long_high n h f) ∙ length-append (long_digits (n / 10)) (last_digit n ∷ [])
 
 -- the one induction: P of how many quotients may be taken, a number, and its digits
 module _
     (P : ℕ → ℕ → List ℕ → Type 0)
-    (end : (n : ℕ) → P 0 n (lastDigit n ∷ []))
-    (low : (k n : ℕ) → n < 10 → P (suc k) n (lastDigit n ∷ []))
-    (high : (k n : ℕ) (l : List ℕ) → 10 ≤ n → P k (n / 10) l → P (suc k) n (l ++ (lastDigit n ∷ [])))
+    (end : (n : ℕ) → P 0 n (last_digit n ∷ []))
+    (low : (k n : ℕ) → n < 10 → P (suc k) n (last_digit n ∷ []))
+    (high : (k n : ℕ) (l : List ℕ) → 10 ≤ n → P k (n / 10) l → P (suc k) n (l ++ (last_digit n ∷ [])))
   where
-    digitsIn-all : (k n : ℕ) → P k n (digitsIn k n)
-    digitsIn-all zero n = end n
-    digitsIn-all (suc k) n =
-        if-by
+    digits_In_all : (k n : ℕ) → P k n (digits_in k n)
+    digits_In_all zero n = end n
+    digits_In_all (suc k) n =
+        if_by
         (P (suc k) n)
-        (ltb n 10)
+        (nat_lt n 10)
         (λ e. low k n (ltb-true n 10 e))
-        (λ e. high k n (digitsIn k (n / 10)) (ltb-false n 10 e) (digitsIn-all k (n / 10)))
+        (λ e. high k n (digits_in k (n / 10)) (ltb-false n 10 e) (digits_In_all k (n / 10)))
 
--- what holds of each number below ten, and of a number where it holds of its quotient, holds of every u32
-pub digits-all :
+-- what holds of each number below ten, and of a number where it holds of its quotient, holds of list_all u32
+pub digits_all :
     (P : ℕ → List ℕ → Type 0)
-    → ((n : ℕ) → n < 10 → P n (lastDigit n ∷ []))
-    → ((n : ℕ) (l : List ℕ) → 10 ≤ n → P (n / 10) l → P n (l ++ (lastDigit n ∷ [])))
+    → ((n : ℕ) → n < 10 → P n (last_digit n ∷ []))
+    → ((n : ℕ) (l : List ℕ) → 10 ≤ n → P (n / 10) l → P n (l ++ (last_digit n ∷ [])))
     → (n : ℕ)
     → n < 2 ^ 32
     → P n (digits n)
 unfolding digits
-digits-all P low high n f =
-    digitsIn-all
+digits_all P low high n f =
+    digits_In_all
     (λ (k n : ℕ) (l : List ℕ). n < 10 ^ suc k → P n l)
     (λ n h. low n (omega (arith, pow-suc 10 0)))
     (λ k n h g. low n h)
@@ -94,71 +89,71 @@ digits-all P low high n f =
     n
     (omega arith)
 
-lengths-in : (k n : ℕ) → (1 ≤ length (digitsIn k n)) × (length (digitsIn k n) ≤ suc k)
-lengths-in =
-    digitsIn-all
+lengths_in : (k n : ℕ) → (1 ≤ length (digits_in k n)) × (length (digits_in k n) ≤ suc k)
+lengths_in =
+    digits_In_all
     (λ (k n : ℕ) (l : List ℕ). (1 ≤ length l) × (length l ≤ suc k))
     (λ n. (omega arith, omega arith))
     (λ k n h. (omega arith, omega arith))
     (λ k n l h p. rw length-append (omega arith, omega arith))
 
-pub digits-at-least-1 : (n : ℕ) → 1 ≤ length (digits n)
+pub digits_at_least_1 : (n : ℕ) → 1 ≤ length (digits n)
 unfolding digits
-digits-at-least-1 n = (lengths-in 9 n).0
+digits_at_least_1 n = (lengths_in 9 n).0
 
-pub digits-at-most-10 : (n : ℕ) → length (digits n) ≤ 10
+pub digits_at_most_10 : (n : ℕ) → length (digits n) ≤ 10
 unfolding digits
-digits-at-most-10 n = (lengths-in 9 n).1
+digits_at_most_10 n = (lengths_in 9 n).1
 
-pub long-at-most-20 : (n : ℕ) → length (longDigits n) ≤ 20
-unfolding longDigits
-long-at-most-20 n = (lengths-in 19 n).1
+pub long_at_most_20 : (n : ℕ) → length (long_digits n) ≤ 20
+unfolding long_digits
+long_at_most_20 n = (lengths_in 19 n).1
 
 -- as many digits as the power of ten above the number
-pub digits-at-most : (k n : ℕ) → n < 2 ^ 32 → n < 10 ^ suc k → length (digits n) ≤ suc k
-digits-at-most k n f = digits-all (λ (n : ℕ) (l : List ℕ). (k : ℕ) → n < 10 ^ suc k → length l ≤ suc k) low high n f k
+pub digits_at_most : (k n : ℕ) → n < 2 ^ 32 → n < 10 ^ suc k → length (digits n) ≤ suc k
+digits_at_most k n f = digits_all (λ (n : ℕ) (l : List ℕ). (k : ℕ) → n < 10 ^ suc k → length l ≤ suc k) low high n f k
   where
     low : (n : ℕ) → n < 10 → (k : ℕ) → n < 10 ^ suc k → 1 ≤ suc k
     low n h k g = omega arith
 
     high : (n : ℕ) (l : List ℕ) → 10 ≤ n → ((k : ℕ) → n / 10 < 10 ^ suc k → length l ≤ suc k) → (k : ℕ) → n < 10 ^ suc k
-        → length (l ++ (lastDigit n ∷ [])) ≤ suc k
+        → length (l ++ (last_digit n ∷ [])) ≤ suc k
     high n l h p zero g = absurd (omega (arith, pow-suc 10 0))
     high n l h p (suc k) g = rw length-append (omega (arith, p k (omega (arith, pow-suc 10 (suc k)))))
 
-pub digits-at-most-5 : (n : ℕ) → n < 100000 → length (digits n) ≤ 5
-digits-at-most-5 n h = digits-at-most 4 n (omega arith) h
+pub digits_at_most_5 : (n : ℕ) → n < 100000 → length (digits n) ≤ 5
+digits_at_most_5 n h = digits_at_most 4 n (omega arith) h
 
-pub digit-is-digit : (b : ℕ) → code "0" ≤ b → b ≤ code "9" → isDigit b ≡ true
-digit-is-digit b l h = simp (le-leb (code "0") b l, le-leb b (code "9") h)
+pub digit_is_digit : (b : ℕ) → code "0" ≤ b → b ≤ code "9" → is_digit b ≡ true
+digit_is_digit b l h = simp (le-leb (code "0") b l, le-leb b (code "9") h)
 
-pub digit-from : (b : ℕ) → isDigit b ≡ true → code "0" ≤ b
-digit-from b e = leb-true (code "0") b (both_left (leb (code "0") b) (leb b (code "9")) e)
+pub digit_from : (b : ℕ) → is_digit b ≡ true → code "0" ≤ b
+digit_from b e = leb-true (code "0") b (both_left (nat_le (code "0") b) (nat_le b (code "9")) e)
 
-pub digit-to : (b : ℕ) → isDigit b ≡ true → b ≤ code "9"
-digit-to b e = leb-true b (code "9") (both_right (leb (code "0") b) (leb b (code "9")) e)
+pub digit_to : (b : ℕ) → is_digit b ≡ true → b ≤ code "9"
+digit_to b e = leb-true b (code "9") (both_right (nat_le (code "0") b) (nat_le b (code "9")) e)
 
-last-is-digit : (n : ℕ) → every isDigit (lastDigit n ∷ []) ≡ true
-last-is-digit n = both (digit-is-digit (lastDigit n) (omega arith) (omega arith)) refl
+last_is_digit : (n : ℕ) → list_all is_digit (last_digit n ∷ []) ≡ true
+last_is_digit n = both (digit_is_digit (last_digit n) (omega arith) (omega arith)) refl
 
-pub digits-are-digits : (n : ℕ) → every isDigit (digits n) ≡ true
+pub digits_are_digits : (n : ℕ) → list_all is_digit (digits n) ≡ true
 unfolding digits
-digits-are-digits =
-    digitsIn-all
-    (λ (k n : ℕ) (l : List ℕ). every isDigit l ≡ true)
-    last-is-digit
-    (λ k n h. last-is-digit n)
-    (λ k n l h p. every_append isDigit l (lastDigit n ∷ []) p (last-is-digit n))
+digits_are_digits =
+    digits_In_all
+    (λ (k n : ℕ) (l : List ℕ). list_all is_digit l ≡ true)
+    last_is_digit
+    (λ k n h. last_is_digit n)
+    (λ k n l h p. list_all-append is_digit l (last_digit n ∷ []) p (last_is_digit n))
     9
 
-pub digits-each-digit : (n i : ℕ) → i < length (digits n) → isDigit (get_or (digits n) i 0) ≡ true
-digits-each-digit n = every-at isDigit (digits n) 0 (digits-are-digits n)
+pub is_digit-slice_index_or : (n i : ℕ) → i < length (digits n) → is_digit (slice_index_or (digits n) i 0) ≡ true
+is_digit-slice_index_or n = list_all_at is_digit (digits n) 0 (digits_are_digits n)
 
 -- no CR, no space, and none of the other characters below the digits
-pub digit-isnt : (c : Char) → code c < code "0" → (b : ℕ) → isDigit b ≡ true → (b is c) ≡ false
-digit-isnt c l b e = ne_eqb b (code c) (λ f. omega (arith, digit-from b e))
+pub digit_isnt : (c : Char) → code c < code "0" → (b : ℕ) → is_digit b ≡ true → (b is c) ≡ false
+digit_isnt c l b e = ne_eqb b (code c) (λ f. omega (arith, digit_from b e))
 
-pub digits-without : (c : Char) → code c < code "0" → (n : ℕ) → every (λ (b : ℕ). not (b is c)) (digits n) ≡ true
-digits-without c l n =
-    every-implies isDigit (λ (b : ℕ). not (b is c)) (λ b e. ap not (digit-isnt c l b e))
-    (digits n) (digits-are-digits n)
+pub digits_without : (c : Char) → code c < code "0" → (n : ℕ) → list_all (λ (b : ℕ). not (b is c)) (digits n) ≡ true
+digits_without c l n =
+    list_all_implies is_digit (λ (b : ℕ). not (b is c)) (λ b e. ap not (digit_isnt c l b e))
+    (digits n) (digits_are_digits n)

@@ -1,63 +1,61 @@
 -- Numbers written and read, worked out.
 -- Assumes nothing.
-use mathlib.Core.Path.{◌≡◌, refl}
-use mathlib.Core.List.{[]}
+use Rattle.std.proofs.Common.{◌≡◌, refl, [], codes}
 use Rattle.std.specs.Prelude.{Some, None}
-use Rattle.text.specs.Words.{ascii}
-use Rattle.numbers.specs.Decimal.{digits, readDigits, readNumber}
+use Rattle.numbers.specs.Decimal.{digits, read_digits, read_number}
 
-writes-0 : digits 0 ≡ ascii "0"
+writes_0 : digits 0 ≡ codes "0"
 unfolding digits
-writes-0 = refl
+writes_0 = refl
 
-writes-7 : digits 7 ≡ ascii "7"
+writes_7 : digits 7 ≡ codes "7"
 unfolding digits
-writes-7 = refl
+writes_7 = refl
 
-writes-10 : digits 10 ≡ ascii "10"
+writes_10 : digits 10 ≡ codes "10"
 unfolding digits
-writes-10 = refl
+writes_10 = refl
 
-writes-99999 : digits 99999 ≡ ascii "99999"
+writes_99999 : digits 99999 ≡ codes "99999"
 unfolding digits
-writes-99999 = refl
+writes_99999 = refl
 
-writes-4294967295 : digits 4294967295 ≡ ascii "4294967295"
+writes_4294967295 : digits 4294967295 ≡ codes "4294967295"
 unfolding digits
-writes-4294967295 = refl
+writes_4294967295 = refl
 
-reads-0 : readNumber (ascii "0") ≡ Some 0
-unfolding readDigits readNumber
-reads-0 = refl
+reads_0 : read_number (codes "0") ≡ Some 0
+unfolding read_digits read_number
+reads_0 = refl
 
-reads-00 : readNumber (ascii "00") ≡ Some 0
-unfolding readDigits readNumber
-reads-00 = refl
+reads_00 : read_number (codes "00") ≡ Some 0
+unfolding read_digits read_number
+reads_00 = refl
 
-reads-00000 : readNumber (ascii "00000") ≡ Some 0
-unfolding readDigits readNumber
-reads-00000 = refl
+reads_00000 : read_number (codes "00000") ≡ Some 0
+unfolding read_digits read_number
+reads_00000 = refl
 
-reads-00412 : readNumber (ascii "00412") ≡ Some 412
-unfolding readDigits readNumber
-reads-00412 = refl
+reads_00412 : read_number (codes "00412") ≡ Some 412
+unfolding read_digits read_number
+reads_00412 = refl
 
-refuses-000000 : readNumber (ascii "000000") ≡ None
-unfolding readDigits readNumber
-refuses-000000 = refl
+refuses_000000 : read_number (codes "000000") ≡ None
+unfolding read_digits read_number
+refuses_000000 = refl
 
-reads-99999 : readNumber (ascii "99999") ≡ Some 99999
-unfolding readDigits readNumber
-reads-99999 = refl
+reads_99999 : read_number (codes "99999") ≡ Some 99999
+unfolding read_digits read_number
+reads_99999 = refl
 
-refuses-100000 : readNumber (ascii "100000") ≡ None
-unfolding readDigits readNumber
-refuses-100000 = refl
+refuses_100000 : read_number (codes "100000") ≡ None
+unfolding read_digits read_number
+refuses_100000 = refl
 
-refuses-nothing : readNumber [] ≡ None
-unfolding readDigits readNumber
-refuses-nothing = refl
+refuses_nothing : read_number [] ≡ None
+unfolding read_digits read_number
+refuses_nothing = refl
 
-refuses-1a : readNumber (ascii "1a") ≡ None
-unfolding readDigits readNumber
-refuses-1a = refl
+refuses_1a : read_number (codes "1a") ≡ None
+unfolding read_digits read_number
+refuses_1a = refl

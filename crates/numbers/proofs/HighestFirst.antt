@@ -1,34 +1,30 @@
 -- Numbers in bytes, the highest first: as the code takes them apart and puts them together, written and read back, and
 -- no other bytes for one number.
 -- Assumes nothing.
-use Prim.Native.Nat.{ℕ, ◌/◌, ◌%◌, ◌^◌, ◌<◌}
-use mathlib.Core.Path.{◌≡◌}
-use mathlib.Core.List.{List, [], ◌∷◌}
-use native.Mathlib.Nat.{div-one}
-use lib.ListN.{length}
+use Rattle.std.proofs.Common.{ℕ, ◌/◌, ◌%◌, ◌^◌, ◌<◌, ◌≡◌, List, [], ◌∷◌, div-one, length}
 use Rattle.text.specs.Scans.{itself}
-use Rattle.text.proofs.Bases.{Digits, low-digits-length, bytes_back, bytes-one-form}
-use Rattle.numbers.specs.HighestFirst.{highestFirst, number_in}
+use Rattle.text.proofs.Bases.{Digits, length-low_digits, bytes_back, bytes_one_form}
+use Rattle.numbers.specs.HighestFirst.{highest_first, number_in}
 
 module _ (n x : ℕ) where
-  pub highest-length : length (highestFirst n x) ≡ n
-  unfolding highestFirst
-  highest-length = low-digits-length 256 itself n x
+  pub length-highest_first : length (highest_first n x) ≡ n
+  unfolding highest_first
+  length-highest_first = length-low_digits 256 itself n x
 
-  pub highest-back : x < 256 ^ n → number_in (highestFirst n x) ≡ x
-  unfolding highestFirst
-  highest-back h = bytes_back n x h
+  pub highest_back : x < 256 ^ n → number_in (highest_first n x) ≡ x
+  unfolding highest_first
+  highest_back h = bytes_back n x h
 
-pub highest-one-form : (s : List ℕ) → Digits 256 itself s → highestFirst (length s) (number_in s) ≡ s
-unfolding highestFirst
-highest-one-form s d = bytes-one-form s d
+pub highest_one_form : (s : List ℕ) → Digits 256 itself s → highest_first (length s) (number_in s) ≡ s
+unfolding highest_first
+highest_one_form s d = bytes_one_form s d
 
 -- the bytes by division
 module _ (x : ℕ) where
-  pub two-highest : highestFirst 2 x ≡ (x / 256 % 256) ∷ (x % 256) ∷ []
-  unfolding highestFirst
-  two-highest = rw (div-one x)
+  pub two_highest : highest_first 2 x ≡ (x / 256 % 256) ∷ (x % 256) ∷ []
+  unfolding highest_first
+  two_highest = rw (div-one x)
 
-  pub four-highest : highestFirst 4 x ≡ (x / 16777216 % 256) ∷ (x / 65536 % 256) ∷ (x / 256 % 256) ∷ (x % 256) ∷ []
-  unfolding highestFirst
-  four-highest = rw (div-one x)
+  pub four_highest : highest_first 4 x ≡ (x / 16777216 % 256) ∷ (x / 65536 % 256) ∷ (x / 256 % 256) ∷ (x % 256) ∷ []
+  unfolding highest_first
+  four_highest = rw (div-one x)

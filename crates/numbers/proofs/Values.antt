@@ -1,32 +1,28 @@
 -- The value of decimal digits: of the digits of a number, and with zeros before them.
 -- Assumes nothing.
-use Prim.Native.Nat.{ℕ, ◌/◌, ◌^◌, ◌<◌, ◌≤◌}
+use Rattle.std.specs.List.{list_all}
+use Rattle.std.proofs.Common.{ℕ, ◌/◌, ◌^◌, ◌<◌, ◌≤◌, ◌≡◌, refl, true, List, [], ◌∷◌, ◌++◌, arith, slice_index_or}
+use Rattle.std.proofs.Common.{replicate}
 use Prim.Native.Char.{code}
-use mathlib.Core.Path.{◌≡◌, refl}
-use mathlib.Core.Bool.{true}
-use mathlib.Core.List.{List, [], ◌∷◌, ◌++◌}
-use native.Mathlib.Omega.{arith}
-use lib.ListN.{get_or, replicate}
-use Rattle.text.specs.Scans.{every}
-use Rattle.text.proofs.Bases.{Digits, value-append, value-padded}
-use Rattle.text.proofs.Scanning.{every-at}
-use Rattle.numbers.specs.Decimal.{lastDigit, digits, isDigit, decimalWorth, decimalValue}
-use Rattle.numbers.proofs.Digits.{digits-all, digit-from, digit-to}
+use Rattle.text.proofs.Bases.{Digits, value_in-append, value_padded}
+use Rattle.text.proofs.Scanning.{list_all_at}
+use Rattle.numbers.specs.Decimal.{last_digit, digits, is_digit, decimal_worth, decimal_value}
+use Rattle.numbers.proofs.Digits.{digits_all, digit_from, digit_to}
 
-pub value-back : (n : ℕ) → n < 2 ^ 32 → decimalValue (digits n) ≡ n
-value-back = digits-all (λ (n : ℕ) (l : List ℕ). decimalValue l ≡ n) low high
+pub decimal_value-digits : (n : ℕ) → n < 2 ^ 32 → decimal_value (digits n) ≡ n
+decimal_value-digits = digits_all (λ (n : ℕ) (l : List ℕ). decimal_value l ≡ n) low high
   where
-    low : (n : ℕ) → n < 10 → decimalValue (lastDigit n ∷ []) ≡ n
+    low : (n : ℕ) → n < 10 → decimal_value (last_digit n ∷ []) ≡ n
     low n h = omega arith
 
-    high : (n : ℕ) (l : List ℕ) → 10 ≤ n → decimalValue l ≡ n / 10 → decimalValue (l ++ (lastDigit n ∷ [])) ≡ n
-    high n l h e = rw (value-append 10 decimalWorth 0 l (lastDigit n ∷ []), e) (omega arith)
+    high : (n : ℕ) (l : List ℕ) → 10 ≤ n → decimal_value l ≡ n / 10 → decimal_value (l ++ (last_digit n ∷ [])) ≡ n
+    high n l h e = rw (value_in-append 10 decimal_worth 0 l (last_digit n ∷ []), e) (omega arith)
 
-pub digits-worth : (s : List ℕ) → every isDigit s ≡ true → Digits 10 decimalWorth s
-digits-worth s e i h =
-    let d = every-at isDigit s 0 e i h in
-    omega (arith, digit-from (get_or s i 0) d, digit-to (get_or s i 0) d)
+pub digits_worth : (s : List ℕ) → list_all is_digit s ≡ true → Digits 10 decimal_worth s
+digits_worth s e i h =
+    let d = list_all_at is_digit s 0 e i h in
+    omega (arith, digit_from (slice_index_or s i 0) d, digit_to (slice_index_or s i 0) d)
 
 -- zeros before the digits change nothing
-pub zeros-before : (k : ℕ) (s : List ℕ) → decimalValue (replicate k (code "0") ++ s) ≡ decimalValue s
-zeros-before = value-padded 10 decimalWorth (code "0") refl
+pub decimal_value-append : (k : ℕ) (s : List ℕ) → decimal_value (replicate k (code "0") ++ s) ≡ decimal_value s
+decimal_value-append = value_padded 10 decimal_worth (code "0") refl

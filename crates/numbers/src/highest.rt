@@ -1,11 +1,11 @@
 // Numbers of two and four bytes, the highest first (RULES, Stored form).
 ghost use Rattle.std.specs.Prelude.{◌≡◌, ◌+◌, ◌%◌, ◌≤◌, ◌<◌, length, take, drop};
 ghost use Rattle.std.proofs.lemmas.List.Edits.{sets};
-ghost use Rattle.numbers.specs.HighestFirst.{highestFirst, number_in};
+ghost use Rattle.numbers.specs.HighestFirst.{highest_first, number_in};
 
 fn wide(x: u8) -> u32
     ensures value { result ≡ x }
-    ensures upper_bound { result < 256 }
+    ensures bound { result < 256 }
 {
     x as u32
 }
@@ -32,7 +32,7 @@ pub fn four_at(s: &[u8], p: usize) -> u32
 
 pub fn put_two(out: &mut [u8], p: usize, x: u32)
     requires { p + 2 ≤ length out.old }
-    ensures { out.new ≡ sets out.old p (highestFirst 2 x) }
+    ensures { out.new ≡ sets out.old p (highest_first 2 x) }
 {
     let bytes = [low(x / 256), low(x)];
     text::put(out, p, &bytes);
@@ -40,7 +40,7 @@ pub fn put_two(out: &mut [u8], p: usize, x: u32)
 
 pub fn put_four(out: &mut [u8], p: usize, x: u32)
     requires { p + 4 ≤ length out.old }
-    ensures { out.new ≡ sets out.old p (highestFirst 4 x) }
+    ensures { out.new ≡ sets out.old p (highest_first 4 x) }
 {
     let bytes = [low(x / 16_777_216), low(x / 65_536), low(x / 256), low(x)];
     text::put(out, p, &bytes);

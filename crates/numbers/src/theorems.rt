@@ -3,11 +3,11 @@
 ghost use Rattle.std.specs.Prelude.{◌≡◌, ◌≢◌, ◌+◌, ◌^◌, ◌<◌, ◌≤◌, ◌++◌, List, ℕ, Option, Some, length, replicate};
 ghost use Rattle.std.specs.Prelude.{slice_index};
 ghost use Rattle.std.proofs.lemmas.List.Edits.{sets};
-ghost use Rattle.numbers.specs.Decimal.{readNumber, digits, mostDigits, WritesNumber};
+ghost use Rattle.numbers.specs.Decimal.{read_number, digits, most_digits, WritesNumber};
 
 /// Two results that meet the promise of a call are equal, lent memory included.
 pub fn one_result()
-    ensures number_read { (t : List ℕ) (r s : Option ℕ) → r ≡ readNumber t → s ≡ readNumber t → r ≡ s }
+    ensures number_read { (t : List ℕ) (r s : Option ℕ) → r ≡ read_number t → s ≡ read_number t → r ≡ s }
     ensures number_written { (out : List ℕ) (at x : ℕ) (r s : ℕ) (m n : List ℕ)
         → (r ≡ at + length (digits x)) × (m ≡ sets out at (digits x))
         → (s ≡ at + length (digits x)) × (n ≡ sets out at (digits x)) → (r ≡ s) × (m ≡ n) }
@@ -16,8 +16,8 @@ pub fn one_result()
 /// A number that is written is read, with zeros before it or not (RULES, Controller), and it is written without one:
 /// 48 is the digit 0.
 pub fn what_is_written_is_read()
-    ensures read_back { (n : ℕ) → n < 100000 → readNumber (digits n) ≡ Some n }
-    ensures with_zeros { (k n : ℕ) (s : List ℕ) → WritesNumber n s → k + length s ≤ mostDigits
+    ensures read_back { (n : ℕ) → n < 100000 → read_number (digits n) ≡ Some n }
+    ensures with_zeros { (k n : ℕ) (s : List ℕ) → WritesNumber n s → k + length s ≤ most_digits
         → WritesNumber n (replicate k 48 ++ s) }
     ensures no_leading_zero { (n : ℕ) → 1 ≤ n → n < 2 ^ 32 → slice_index (digits n) 0 ≢ 48 }
 {}

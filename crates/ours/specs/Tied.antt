@@ -1,8 +1,8 @@
 -- What the product's calls give, as `Board` has it, field by field. The functions of this crate promise with these that
 -- what a call gives is what `ours` says (src/).
 --   lent_as t d m      what the call says, the record that it leaves, the memory that it leaves
---   wroteAs r m        the same of the controller's writer
---   wroteForm r m      the same of storing
+--   wrote_as r m       the same of the controller's writer
+--   wrote_form r m     the same of storing
 --   given_as n d       a number, and the record where it lies
 -- Assumes nothing.
 use Rattle.std.specs.Prelude.{ℕ, List}
@@ -16,11 +16,11 @@ use Rattle.ours.specs.Board.{Lent, Wrote}
 abbrev pub lent_as : Told → Device → List ℕ → Lent Device
 lent_as t d m = record { number = t.number; taken = t.taken; length = t.length; memory = m; device = d }
 
-abbrev pub wroteAs : Written → List ℕ → Wrote
-wroteAs r m = record { number = r.number; length = r.length; memory = m }
+abbrev pub wrote_as : Written → List ℕ → Wrote
+wrote_as r m = record { number = r.number; length = r.length; memory = m }
 
-abbrev pub wroteForm : FormWritten → List ℕ → Wrote
-wroteForm r m = record { number = r.number; length = r.length; memory = m }
+abbrev pub wrote_form : FormWritten → List ℕ → Wrote
+wrote_form r m = record { number = r.number; length = r.length; memory = m }
 
 abbrev pub given_as : ℕ → Device → Given Device
 given_as n d = record { number = n; device = d }

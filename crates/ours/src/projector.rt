@@ -17,7 +17,7 @@ use record::types::Device;
 use setup::wanted::Wanted;
 
 pub fn set_up(wanted: &Wanted<'_>) -> Result<Device, SetUpError>
-    ensures { set_up_given result ≡ ours.set-up (wanted_settings wanted.now) }
+    ensures { set_up_given result ≡ ours.set_up (wanted_settings wanted.now) }
 {
     setup::set_up(wanted)
 }
@@ -57,21 +57,21 @@ pub fn pass(device: &mut Device, seconds: u32) -> Result<(), Refusal>
 
 #[tactic(auto, using(record::proofs::GivenTold::told_given))]
 pub fn set_fault(device: &mut Device, mark: bool) -> Result<(), Refusal>
-    ensures { given_as (outcome_number result) device.new ≡ ours.set-fault device.old mark }
+    ensures { given_as (outcome_number result) device.new ≡ ours.set_fault device.old mark }
 {
     device.set_fault(mark)
 }
 
 #[tactic(auto, using(record::proofs::GivenTold::told_given))]
 pub fn set_errors(device: &mut Device, digits: &[u8]) -> Result<(), Refusal>
-    ensures { given_as (outcome_number result) device.new ≡ ours.set-errors device.old digits.now }
+    ensures { given_as (outcome_number result) device.new ≡ ours.set_errors device.old digits.now }
 {
     device.set_errors(digits)
 }
 
 #[tactic(auto, using(record::proofs::GivenTold::told_given))]
 pub fn set_mark(device: &mut Device, lamp: usize, mark: bool) -> Result<(), Refusal>
-    ensures { given_as (outcome_number result) device.new ≡ ours.set-mark device.old lamp mark }
+    ensures { given_as (outcome_number result) device.new ≡ ours.set_mark device.old lamp mark }
 {
     device.set_mark(lamp, mark)
 }

@@ -9,13 +9,13 @@ use controller::{greeting, reading};
 use pjlink::command::Command;
 
 pub fn read_reply(c: Command, line: &[u8]) -> Result<Reading<'_>, Misread>
-    ensures { read_as result ≡ ours.read-reply c line.now }
+    ensures { read_as result ≡ ours.read_reply c line.now }
 {
     reading::read_reply(c, line)
 }
 
 pub fn read_greeting(line: &[u8]) -> Greeting
-    ensures { result ≡ ours.read-greeting line.now }
+    ensures { result ≡ ours.read_greeting line.now }
 {
     greeting::read_greeting(line)
 }

@@ -2,7 +2,7 @@
 ghost use Rattle.std.specs.Prelude.{◌≡◌};
 ghost use Rattle.stored.specs.Told.{loading_told};
 ghost use Rattle.ours.specs.Board.{ours};
-ghost use Rattle.ours.specs.Tied.{wroteForm};
+ghost use Rattle.ours.specs.Tied.{wrote_form};
 
 use record::types::Device;
 use stored::error::LoadError;
@@ -10,7 +10,7 @@ use stored::storing::FormWritten;
 use stored::{loading, storing};
 
 pub fn store(device: &Device, out: &mut [u8]) -> FormWritten
-    ensures { wroteForm result out.new ≡ ours.store device.now out.old }
+    ensures { wrote_form result out.new ≡ ours.store device.now out.old }
 {
     storing::store(device, out)
 }

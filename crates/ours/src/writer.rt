@@ -1,14 +1,14 @@
 // `ours`'s writing of a command.
 ghost use Rattle.std.specs.Prelude.{◌≡◌};
 ghost use Rattle.ours.specs.Board.{ours};
-ghost use Rattle.ours.specs.Tied.{wroteAs};
+ghost use Rattle.ours.specs.Tied.{wrote_as};
 
 use controller::writing;
 use controller::writing::Written;
 use pjlink::command::Command;
 
 pub fn write(c: Command, secured: bool, random: u32, password: &[u8], out: &mut [u8]) -> Written
-    ensures { wroteAs result out.new
+    ensures { wrote_as result out.new
         ≡ ours.write c secured random password.now out.old }
 {
     writing::write_command(c, secured, random, password, out)

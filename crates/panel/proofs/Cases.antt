@@ -1,72 +1,69 @@
 -- The panel's calls, case by case: what holds of a refusal and of what is done holds of the call, and the equation of
 -- what is done.
 -- Assumes nothing.
-use Prim.Native.Nat.{ℕ, ◌≤◌, ◌<◌}
-use mathlib.Core.Path.{◌≡◌, refl, ap}
-use mathlib.Core.Bool.{true, false, not}
-use mathlib.Core.List.{List}
-use borrow.Author.Tests.{leb-false, lt-leb, ltb-false, le-ltb, not-false}
-use Rattle.text.specs.Rows.{byRows}
-use Rattle.text.proofs.ByRows.{by_rows, rows-done}
-use Rattle.words.specs.Texts.{isPassword}
-use Rattle.controller.specs.Writing.{commandRoom}
-use Rattle.codes.specs.Commands.{commandOf}
+use Rattle.std.proofs.Common.{ℕ, ◌≤◌, ◌<◌, ◌≡◌, refl, ap, true, false, not, List, leb-false, ltb-false, le-ltb}
+use Rattle.std.proofs.lemmas.Bool.{lt-leb, not-false}
+use Rattle.text.specs.Rows.{by_rows}
+use Rattle.text.proofs.ByRows.{by_rows_lem, rows_done}
+use Rattle.words.specs.Texts.{is_password}
+use Rattle.controller.specs.Writing.{command_room}
+use Rattle.codes.specs.Commands.{coded_command}
 use Rattle.codes.specs.declared.command.Coded.{Coded}
-use Rattle.panel.specs.Entries.{freshEntry}
-use Rattle.panel.specs.Stepping.{heardLine, lostEntry, isUnready}
-use Rattle.panel.specs.LegalPanels.{panelMost, isNamed, isPanel}
-use Rattle.panel.specs.PanelCalls.{PanelAs, panelKept, panelMade, entry_at, withEntry, grownBy, addingRows}
-use Rattle.panel.specs.PanelCalls.{commandingRows, projectorRows, addedTo, sentAt, commanded, steppedAt, lostAt}
+use Rattle.panel.specs.Entries.{fresh_entry}
+use Rattle.panel.specs.Stepping.{heard_line, lost_entry, is_unready}
+use Rattle.panel.specs.LegalPanels.{panel_most, names_command, is_panel}
+use Rattle.panel.specs.PanelCalls.{PanelAs, panel_kept, panel_made, entry_at, with_entry, grown_by, adding_rows}
+use Rattle.panel.specs.PanelCalls.{commanding_rows, projector_rows, added_to, sent_at, commanded, stepped_at, lost_at}
 use Rattle.panel.specs.declared.types.Panel.{Panel}
 
 -- a refusal keeps the panel; its number is not 0
 abbrev pub Refusals : Panel → (PanelAs → Type 0) → Type 0
-Refusals p P = (n : ℕ) → (n ≡ 0 → ⊥) → P (panelKept p n)
+Refusals p P = (n : ℕ) → (n ≡ 0 → ⊥) → P (panel_kept p n)
 
 module _ (p : Panel) (s : List ℕ) where
-  pub added-by : (P : PanelAs → Type 0) → Refusals p P
-      → (isPanel p ≡ true → isPassword s ≡ true → p.count < panelMost → P (panelMade (grownBy p (freshEntry s))))
-      → P (addedTo p s)
-  unfolding addedTo
-  added-by P refused done =
-      by_rows (panelKept p) _ P refused (addingRows p s) refl
-      (λ none. done (not-false (isPanel p) none.0) (not-false (isPassword s) none.1.0)
-      (leb-false panelMost p.count none.1.1.0))
+  pub added_by : (P : PanelAs → Type 0) → Refusals p P
+      → (is_panel p ≡ true → is_password s ≡ true → p.count < panel_most → P (panel_made (grown_by p (fresh_entry s))))
+      → P (added_to p s)
+  unfolding added_to
+  added_by P refused done =
+      by_rows_lem (panel_kept p) _ P refused (adding_rows p s) refl
+      (λ none. done (not-false (is_panel p) none.0) (not-false (is_password s) none.1.0)
+      (leb-false panel_most p.count none.1.1.0))
 
-  pub added-done : isPanel p ≡ true → isPassword s ≡ true → p.count < panelMost
-      → addedTo p s ≡ panelMade (grownBy p (freshEntry s))
-  unfolding addedTo
-  added-done legal word free =
-      rows-done (panelKept p) _ (addingRows p s) (ap not legal, (ap not word, (lt-leb panelMost p.count free, tt)))
+  pub added_done : is_panel p ≡ true → is_password s ≡ true → p.count < panel_most
+      → added_to p s ≡ panel_made (grown_by p (fresh_entry s))
+  unfolding added_to
+  added_done legal word free =
+      rows_done (panel_kept p) _ (adding_rows p s) (ap not legal, (ap not word, (lt-leb panel_most p.count free, tt)))
 
 module _ (p : Panel) (i : ℕ) (k : Coded) (room : ℕ) where
   pub record Commands : Type 0 where
-    pub legal : isPanel p ≡ true
-    pub enough : commandRoom ≤ room
+    pub legal : is_panel p ≡ true
+    pub enough : command_room ≤ room
     pub there : i < p.count
-    pub named : isNamed (commandOf k) ≡ true
-    pub ready : isUnready (entry_at p i) ≡ false
+    pub named : names_command (coded_command k) ≡ true
+    pub ready : is_unready (entry_at p i) ≡ false
 
-  pub commanded-by : (P : PanelAs → Type 0) → Refusals p P → (Commands → P (sentAt p i k room))
+  pub commanded_by : (P : PanelAs → Type 0) → Refusals p P → (Commands → P (sent_at p i k room))
       → P (commanded p i k room)
   unfolding commanded
-  commanded-by P refused done =
-      by_rows (panelKept p) _ P refused (commandingRows p i k room) refl
+  commanded_by P refused done =
+      by_rows_lem (panel_kept p) _ P refused (commanding_rows p i k room) refl
       (λ none. done (record {
-        legal = not-false (isPanel p) none.0;
-        enough = ltb-false room commandRoom none.1.0;
+        legal = not-false (is_panel p) none.0;
+        enough = ltb-false room command_room none.1.0;
         there = leb-false p.count i none.1.1.0;
-        named = not-false (isNamed (commandOf k)) none.1.1.1.0;
+        named = not-false (names_command (coded_command k)) none.1.1.1.0;
         ready = none.1.1.1.1.0;
       }))
 
-  pub commanded-done : Commands → commanded p i k room ≡ sentAt p i k room
+  pub commanded_done : Commands → commanded p i k room ≡ sent_at p i k room
   unfolding commanded
-  commanded-done c =
-      rows-done (panelKept p) _ (commandingRows p i k room) (
+  commanded_done c =
+      rows_done (panel_kept p) _ (commanding_rows p i k room) (
         ap not c.legal,
         (
-          le-ltb room commandRoom c.enough,
+          le-ltb room command_room c.enough,
           (
             lt-leb p.count i c.there,
             (
@@ -80,34 +77,35 @@ module _ (p : Panel) (i : ℕ) (k : Coded) (room : ℕ) where
 -- the two calls that only name a projector
 module _ (p : Panel) (i : ℕ) where
   module _ (done : PanelAs) where
-    pub projector-by : (P : PanelAs → Type 0) → Refusals p P → (isPanel p ≡ true → i < p.count → P done)
-        → P (byRows (projectorRows p i) (panelKept p) done)
-    projector-by P refused does =
-        by_rows (panelKept p) done P refused (projectorRows p i) refl
-        (λ none. does (not-false (isPanel p) none.0) (leb-false p.count i none.1.0))
+    pub projector_by : (P : PanelAs → Type 0) → Refusals p P → (is_panel p ≡ true → i < p.count → P done)
+        → P (by_rows (projector_rows p i) (panel_kept p) done)
+    projector_by P refused does =
+        by_rows_lem (panel_kept p) done P refused (projector_rows p i) refl
+        (λ none. does (not-false (is_panel p) none.0) (leb-false p.count i none.1.0))
 
-    pub projector-done : isPanel p ≡ true → i < p.count → byRows (projectorRows p i) (panelKept p) done ≡ done
-    projector-done legal there =
-        rows-done (panelKept p) done (projectorRows p i) (ap not legal, (lt-leb p.count i there, tt))
+    pub projector_done : is_panel p ≡ true → i < p.count → by_rows (projector_rows p i) (panel_kept p) done ≡ done
+    projector_done legal there =
+        rows_done (panel_kept p) done (projector_rows p i) (ap not legal, (lt-leb p.count i there, tt))
 
   module _ (l : List ℕ) where
     pub stepped_by : (P : PanelAs → Type 0) → Refusals p P
-        → (isPanel p ≡ true → i < p.count → P (panelMade (withEntry p i (heardLine (entry_at p i) l))))
-        → P (steppedAt p i l)
-    unfolding steppedAt
-    stepped_by P refused done = projector-by _ P refused done
+        → (is_panel p ≡ true → i < p.count → P (panel_made (with_entry p i (heard_line (entry_at p i) l))))
+        → P (stepped_at p i l)
+    unfolding stepped_at
+    stepped_by P refused done = projector_by _ P refused done
 
-    pub stepped-done : isPanel p ≡ true → i < p.count
-        → steppedAt p i l ≡ panelMade (withEntry p i (heardLine (entry_at p i) l))
-    unfolding steppedAt
-    stepped-done legal there = projector-done _ legal there
+    pub stepped_done : is_panel p ≡ true → i < p.count
+        → stepped_at p i l ≡ panel_made (with_entry p i (heard_line (entry_at p i) l))
+    unfolding stepped_at
+    stepped_done legal there = projector_done _ legal there
 
-  pub lost-by : (P : PanelAs → Type 0) → Refusals p P
-      → (isPanel p ≡ true → i < p.count → P (panelMade (withEntry p i (lostEntry (entry_at p i)))))
-      → P (lostAt p i)
-  unfolding lostAt
-  lost-by P refused done = projector-by _ P refused done
+  pub lost_by : (P : PanelAs → Type 0) → Refusals p P
+      → (is_panel p ≡ true → i < p.count → P (panel_made (with_entry p i (lost_entry (entry_at p i)))))
+      → P (lost_at p i)
+  unfolding lost_at
+  lost_by P refused done = projector_by _ P refused done
 
-  pub lost-done : isPanel p ≡ true → i < p.count → lostAt p i ≡ panelMade (withEntry p i (lostEntry (entry_at p i)))
-  unfolding lostAt
-  lost-done legal there = projector-done _ legal there
+  pub lost_done : is_panel p ≡ true → i < p.count →
+      lost_at p i ≡ panel_made (with_entry p i (lost_entry (entry_at p i)))
+  unfolding lost_at
+  lost_done legal there = projector_done _ legal there

@@ -1,26 +1,21 @@
 -- Lines that the rules leave to be read (docs/DECISIONS.md), each a stray: the ERRA line before a greeting, the
 -- ERRA line and a second greeting with no command under way, and a second greeting with one.
 -- Assumes nothing.
-use Prim.Native.Nat.{ℕ, ◌-◌}
-use mathlib.Core.Path.{◌≡◌, refl, ap}
-use mathlib.Core.Bool.{Bool, true, false, ◌&&◌}
-use mathlib.Core.List.{List}
-use lib.ListN.{length}
-use lib.Dec.{leb, eqb}
+use Rattle.std.proofs.Common.{ℕ, ◌-◌, ◌≡◌, refl, ap, Bool, true, false, ◌&&◌, List, length, nat_le, ◌==◌}
 use Rattle.text.specs.Words.{◌is◌}
-use Rattle.text.specs.Scans.{sameBy, itself}
+use Rattle.text.specs.Scans.{same_by, itself}
 use Rattle.pjlink.specs.Computing.{computing as pjlink}
-use Rattle.words.specs.Bytes.{◌at◌, noCr}
-use Rattle.pjlink.specs.Commands.{commandClass, classDigit}
-use Rattle.pjlink.specs.Forms.{erraLine, greetingOpen, greetingSecured, replyMost, isReplyForm, replyParameter}
+use Rattle.words.specs.Bytes.{◌at◌, no_cr}
+use Rattle.pjlink.specs.Commands.{command_class, class_digit}
+use Rattle.pjlink.specs.Forms.{erra_line, greeting_open, greeting_secured, reply_most, is_reply_form, reply_parameter}
 use Rattle.pjlink.specs.declared.command.Command.{Command}
-use Rattle.controller.specs.Reading.{ReadAs, outcomeNumber}
-use Rattle.controller.proofs.Cases.{reply-unformed, greeting-refused}
+use Rattle.controller.specs.Reading.{ReadAs, reading_outcome_number}
+use Rattle.controller.proofs.Cases.{reply_unformed, greeting_refused}
 use Rattle.panel.specs.Entries.{ungreeted}
-use Rattle.panel.specs.Stepping.{strayed, heardLine}
-use Rattle.panel.specs.StepTable.{isGreeting, UnderWay, ungreeted-malformed, malformed}
+use Rattle.panel.specs.Stepping.{strayed, heard_line}
+use Rattle.panel.specs.StepTable.{is_greeting, IsUnderWay, ungreeted_malformed, malformed}
 use Rattle.panel.specs.declared.types.Entry.{Entry}
-use Rattle.panel.proofs.StepsByTable.{stray-steps, step-late}
+use Rattle.panel.proofs.StepsByTable.{stray_steps, step_late}
 
 -- a line that is not headed is no reply, whatever its length, its class and its end
 unheaded : (long class ends plain : Bool) → (long && false && class && ends && plain) ≡ false
@@ -28,34 +23,34 @@ unheaded true class ends plain = refl
 unheaded false class ends plain = refl
 
 module _ (e : Entry) where
-  pub erra-before-greeting : e.greeting ≡ ungreeted → heardLine e erraLine ≡ strayed e
-  erra-before-greeting g =
-      stray-steps e erraLine (ungreeted-malformed g (ap isGreeting (greeting-refused erraLine refl refl)))
+  pub erra_before_greeting : e.greeting ≡ ungreeted → heard_line e erra_line ≡ strayed e
+  erra_before_greeting g =
+      stray_steps e erra_line (ungreeted_malformed g (ap is_greeting (greeting_refused erra_line refl refl)))
 
   module _ (greeted : e.greeting ≡ ungreeted → ⊥) (rests : e.under_way ≡ false) where
-    pub erra-late : heardLine e erraLine ≡ strayed e
-    erra-late = step-late e erraLine greeted rests
+    pub erra_late : heard_line e erra_line ≡ strayed e
+    erra_late = step_late e erra_line greeted rests
 
-    pub greeting-late : heardLine e greetingOpen ≡ strayed e
-    greeting-late = step-late e greetingOpen greeted rests
+    pub greeting_late : heard_line e greeting_open ≡ strayed e
+    greeting_late = step_late e greeting_open greeted rests
 
-  module _ (c : Command) (waits : UnderWay e c) where
+  module _ (c : Command) (waits : IsUnderWay e c) where
     -- neither the ERRA line nor of a reply's form
-    pub unformed-strays : (l : List ℕ) → sameBy itself l erraLine ≡ false → isReplyForm (commandClass c) l ≡ false
-        → heardLine e l ≡ strayed e
-    unformed-strays l line form =
-        stray-steps e l
-        (malformed c waits (ap (λ (r : ReadAs). outcomeNumber r.outcome) (reply-unformed c l line form)))
+    pub unformed_strays : (l : List ℕ) → same_by itself l erra_line ≡ false → is_reply_form (command_class c) l ≡ false
+        → heard_line e l ≡ strayed e
+    unformed_strays l line form =
+        stray_steps e l
+        (malformed c waits (ap (λ (r : ReadAs). reading_outcome_number r.outcome) (reply_unformed c l line form)))
 
-    pub greeting-malformed : heardLine e greetingOpen ≡ strayed e
+    pub greeting_malformed : heard_line e greeting_open ≡ strayed e
     unfolding pjlink
-    greeting-malformed = unformed-strays greetingOpen refl refl
+    greeting_malformed = unformed_strays greeting_open refl refl
 
     -- whatever its random number
-    pub secured-greeting-malformed : (digits : List ℕ) → heardLine e (greetingSecured digits) ≡ strayed e
+    pub secured_greeting_malformed : (digits : List ℕ) → heard_line e (greeting_secured digits) ≡ strayed e
     unfolding pjlink
-    secured-greeting-malformed digits =
-        let l = greetingSecured digits in
-        unformed-strays l refl
-        (unheaded (leb 8 (length l) && leb (length l) replyMost) (eqb (l at 1) (classDigit (commandClass c)))
-        (l at (length l - 1) is "\r") (noCr (replyParameter l)))
+    secured_greeting_malformed digits =
+        let l = greeting_secured digits in
+        unformed_strays l refl
+        (unheaded (nat_le 8 (length l) && nat_le (length l) reply_most) ((l at 1) == class_digit (command_class c))
+        (l at (length l - 1) is "\r") (no_cr (reply_parameter l)))

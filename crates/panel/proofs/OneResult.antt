@@ -2,12 +2,9 @@
 --   Leaves a n p          the number n, and the panel p, of a call that gives what a says
 --   Sends p i k m ..      the same of a command, with its line's length; m is the lent memory
 -- Assumes nothing.
-use Prim.Native.Nat.{ℕ}
-use mathlib.Core.Path.{◌≡◌}
-use mathlib.Core.List.{List}
-use lib.ListN.{length}
+use Rattle.std.proofs.Common.{ℕ, ◌≡◌, List, length}
 use Rattle.text.specs.Words.{over}
-use Rattle.text.proofs.OneResult.{one-result}
+use Rattle.text.proofs.OneResult.{one_result}
 use Rattle.codes.specs.declared.command.Coded.{Coded}
 use Rattle.panel.specs.PanelCalls.{PanelAs, commanded}
 use Rattle.panel.specs.declared.types.Panel.{Panel}
@@ -16,7 +13,7 @@ abbrev pub Leaves : PanelAs → ℕ → Panel → Type 0
 Leaves a n p = (n ≡ a.number) × (p ≡ a.panel)
 
 pub one_change : (a : PanelAs) {r s : ℕ} {x y : Panel} → Leaves a r x → Leaves a s y → (r ≡ s) × (x ≡ y)
-one_change a e f = (one-result e.0 f.0, one-result e.1 f.1)
+one_change a e f = (one_result e.0 f.0, one_result e.1 f.1)
 
 module _ (p : Panel) (i : ℕ) (k : Coded) (out : List ℕ) where
   abbrev pub Sends : ℕ → ℕ → Panel → List ℕ → Type 0
@@ -26,4 +23,4 @@ module _ (p : Panel) (i : ℕ) (k : Coded) (out : List ℕ) where
 
   pub one_sending : {r s v w : ℕ} {x y : Panel} {m n : List ℕ} → Sends r v x m → Sends s w y n
       → (r ≡ s) × (v ≡ w) × (x ≡ y) × (m ≡ n)
-  one_sending e f = (one-result e.0 f.0, one-result e.1 f.1, one-result e.2 f.2, one-result e.3 f.3)
+  one_sending e f = (one_result e.0 f.0, one_result e.1 f.1, one_result e.2 f.2, one_result e.3 f.3)

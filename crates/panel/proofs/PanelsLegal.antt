@@ -1,180 +1,177 @@
 -- A legal panel stays legal, whatever call is made and whatever line comes.
 -- Assumes nothing.
-use Prim.Native.Nat.{ℕ, zero, suc, ◌<◌}
-use mathlib.Core.Path.{◌≡◌, refl, sym, ap, subst, ◌∙◌}
-use mathlib.Core.Bool.{Bool, true, false, ◌||◌}
-use mathlib.Core.List.{List, [], ◌∷◌}
-use native.Mathlib.Omega.{arith}
-use native.Mathlib.Numerals.{add-one}
-use lib.ListN.{length, get_or, set, drop, replicate, length-set, length-replicate}
-use lib.Seq.{drop-cons, drop-set-lt}
-use Rattle.text.specs.Scans.{every}
+use Rattle.std.specs.List.{list_all}
+use Rattle.std.proofs.Common.{ℕ, zero, suc, ◌<◌, ◌≡◌, refl, sym, ap, subst, ◌∙◌, Bool, true, false, ◌||◌, List, [], ◌∷◌}
+use Rattle.std.proofs.Common.{arith, add-one, length, slice_index_or, set, drop, replicate, length-set, drop-cons}
+use Rattle.std.proofs.Common.{drop-set-lt}
+use Rattle.std.proofs.lemmas.List.{length-replicate}
 use Rattle.text.proofs.Choices.{both, both_left, both_right}
-use Rattle.words.specs.Texts.{isPassword}
-use Rattle.words.proofs.TextsTold.{password-long}
-use Rattle.words.proofs.WithinLength.{password-within}
+use Rattle.words.specs.Texts.{is_password}
+use Rattle.words.proofs.TextsTold.{password_long}
+use Rattle.words.proofs.WithinLength.{password_within}
 use Rattle.std.specs.Prelude.{◌==◌}
 use Rattle.text.proofs.RoomsTold.{uses_told, kept_used}
-use Rattle.panel.specs.Passwords.{passwordRoom, password_of, isPasswordKept}
-use Rattle.controller.specs.Reading.{ReadAs, readReply}
-use Rattle.controller.specs.Reading.{Means}
-use Rattle.controller.proofs.ReadsSound.{reads-sound}
-use Rattle.codes.specs.Commands.{commandOf}
+use Rattle.panel.specs.Passwords.{password_room, password_of, is_password_kept}
+use Rattle.controller.specs.Reading.{ReadAs, read_reply}
+use Rattle.controller.specs.Reading.{means_it}
+use Rattle.controller.proofs.ReadsSound.{reads_sound}
+use Rattle.codes.specs.Commands.{coded_command}
 use Rattle.codes.specs.declared.command.Coded.{Coded}
-use Rattle.panel.specs.Entries.{Talk, Shown, talkOf, shownOf, entryOf, freshEntry, blankEntry}
+use Rattle.panel.specs.Entries.{Talk, Shown, talk_of, shown_of, entry_of, fresh_entry, blank_entry}
 use Rattle.panel.specs.Showing.{showing}
-use Rattle.panel.specs.Stepping.{strayed, withTalk, lostEntry, sentEntry}
-use Rattle.panel.specs.Stepping.{heardLine, isUnready}
-use Rattle.panel.specs.LegalPanels.{panelMost, isNamed, isTalk, isShown, isEntry, isUnused, isPanel}
-use Rattle.panel.specs.PanelCalls.{PanelAs, noPanel, entry_at, withEntry, grownBy, addedTo, commanded, steppedAt}
-use Rattle.panel.specs.PanelCalls.{lostAt}
-use Rattle.panel.specs.StepTable.{StepTo, greets-open, greets-secured, strays, answers, refuses}
+use Rattle.panel.specs.Stepping.{strayed, with_talk, lost_entry, sent_entry}
+use Rattle.panel.specs.Stepping.{heard_line, is_unready}
+use Rattle.panel.specs.LegalPanels.{panel_most, names_command, is_talk, is_shown, is_entry, is_unused, is_panel}
+use Rattle.panel.specs.PanelCalls.{PanelAs, no_panel, entry_at, with_entry, grown_by, added_to, commanded, stepped_at}
+use Rattle.panel.specs.PanelCalls.{lost_at}
+use Rattle.panel.specs.StepTable.{StepTo, greets_open, greets_secured, strays, answers, refuses}
 use Rattle.panel.specs.declared.types.Entry.{Entry}
 use Rattle.panel.specs.declared.types.Panel.{Panel}
-use Rattle.panel.proofs.PanelsTold.{EntryTold, entry-told, entry-legal, PanelTold, panel-told, panel-legal}
-use Rattle.panel.proofs.PanelsTold.{entry-at-legal}
-use Rattle.panel.proofs.TalksTold.{rested-legal, sent-legal, no-talk-legal, open-legal, secured-legal}
-use Rattle.panel.proofs.ShownLegal.{said-shown, nothing-shown-legal}
-use Rattle.panel.proofs.StepsByTable.{steps-by-the-table}
-use Rattle.panel.proofs.Cases.{added-by, commanded-by, stepped_by, lost-by}
+use Rattle.panel.proofs.PanelsTold.{EntryTold, entry_told, entry_legal, PanelTold, panel_told, panel_legal}
+use Rattle.panel.proofs.PanelsTold.{entry_at_legal}
+use Rattle.panel.proofs.TalksTold.{is_talk-rested_on, is_talk-sent_on, no_talk_legal, open_legal, secured_legal}
+use Rattle.panel.proofs.ShownLegal.{said_shown, nothing_shown_legal}
+use Rattle.panel.proofs.StepsByTable.{steps_by_the_table}
+use Rattle.panel.proofs.Cases.{added_by, commanded_by, stepped_by, lost_by}
 
 -- lists
-first-no : (a b : Bool) → (a || b) ≡ false → a ≡ false
-first-no true b h = h
-first-no false b h = refl
+first_no : (a b : Bool) → (a || b) ≡ false → a ≡ false
+first_no true b h = h
+first_no false b h = refl
 
 module _ {A : Type 0} (f : A → Bool) where
-  every_set : (l : List A) (i : ℕ) (x : A) → every f l ≡ true → f x ≡ true → every f (set l i x) ≡ true
-  every_set [] i x h k = refl
-  every_set (y ∷ l) zero x h k = both k (both_right (f y) (every f l) h)
-  every_set (y ∷ l) (suc i) x h k =
-      both (both_left (f y) (every f l) h) (every_set l i x (both_right (f y) (every f l) h) k)
+  list_all-set : (l : List A) (i : ℕ) (x : A) → list_all f l ≡ true → f x ≡ true → list_all f (set l i x) ≡ true
+  list_all-set [] i x h k = refl
+  list_all-set (y ∷ l) zero x h k = both k (both_right (f y) (list_all f l) h)
+  list_all-set (y ∷ l) (suc i) x h k =
+      both (both_left (f y) (list_all f l) h) (list_all-set l i x (both_right (f y) (list_all f l) h) k)
 
-  every-replicate : (n : ℕ) (x : A) → f x ≡ true → every f (replicate n x) ≡ true
-  every-replicate zero x h = refl
-  every-replicate (suc n) x h = both h (every-replicate n x h)
+  list_all-replicate : (n : ℕ) (x : A) → f x ≡ true → list_all f (replicate n x) ≡ true
+  list_all-replicate zero x h = refl
+  list_all-replicate (suc n) x h = both h (list_all-replicate n x h)
 
 -- an entry with another talk, or with other readings
-module _ (e : Entry) (legal : isEntry e ≡ true) where
+module _ (e : Entry) (legal : is_entry e ≡ true) where
   abbrev told : EntryTold e
-  told = entry-told e legal
+  told = entry_told e legal
 
-  talk-kept : (t : Talk) → isTalk t ≡ true → isEntry (withTalk e t) ≡ true
-  talk-kept t h =
-      entry-legal _ (record { password = told.password; talk = h; shown = told.shown; strays = told.strays })
+  is_entry-with_talk : (t : Talk) → is_talk t ≡ true → is_entry (with_talk e t) ≡ true
+  is_entry-with_talk t h =
+      entry_legal _ (record { password = told.password; talk = h; shown = told.shown; strays = told.strays })
 
-  parts-kept : (t : Talk) (s : Shown) → isTalk t ≡ true → isShown s ≡ true
-      → isEntry (entryOf e.password t s e.strays) ≡ true
-  parts-kept t s h k =
-      entry-legal _ (record { password = told.password; talk = h; shown = k; strays = told.strays })
+  is_entry-entry_of : (t : Talk) (s : Shown) → is_talk t ≡ true → is_shown s ≡ true
+      → is_entry (entry_of e.password t s e.strays) ≡ true
+  is_entry-entry_of t s h k =
+      entry_legal _ (record { password = told.password; talk = h; shown = k; strays = told.strays })
 
-  stray-legal : isEntry (strayed e) ≡ true
-  stray-legal =
-      entry-legal _
+  stray_legal : is_entry (strayed e) ≡ true
+  stray_legal =
+      entry_legal _
       (record { password = told.password; talk = told.talk; shown = told.shown; strays = omega arith })
 
-  row-legal : (l : List ℕ) {f : Entry} → StepTo e l f → isEntry f ≡ true
-  row-legal l (greets-open g r) = talk-kept _ open-legal
-  row-legal l (greets-secured random g r) = talk-kept _ (secured-legal random)
-  row-legal l (strays s) = stray-legal
-  row-legal l (answers c m u r) =
-      let means : (readReply c l).outcome ≡ Means = ap (λ (a : ReadAs). a.outcome) r in
-      parts-kept _ _ (rested-legal (talkOf e) told.talk)
-      (subst (λ (a : ReadAs). isShown (showing (shownOf e) a.said) ≡ true) r
-      (said-shown (shownOf e) (reads-sound c l means) told.shown))
-  row-legal l (refuses c u r) = parts-kept _ _ no-talk-legal nothing-shown-legal
+  row_legal : (l : List ℕ) {f : Entry} → StepTo e l f → is_entry f ≡ true
+  row_legal l (greets_open g r) = is_entry-with_talk _ open_legal
+  row_legal l (greets_secured random g r) = is_entry-with_talk _ (secured_legal random)
+  row_legal l (strays s) = stray_legal
+  row_legal l (answers c m u r) =
+      let means : (read_reply c l).outcome ≡ means_it = ap (λ (a : ReadAs). a.outcome) r in
+      is_entry-entry_of _ _ (is_talk-rested_on (talk_of e) told.talk)
+      (subst (λ (a : ReadAs). is_shown (showing (shown_of e) a.said) ≡ true) r
+      (said_shown (shown_of e) (reads_sound c l means) told.shown))
+  row_legal l (refuses c u r) = is_entry-entry_of _ _ no_talk_legal nothing_shown_legal
 
-  pub heard-legal : (l : List ℕ) → isEntry (heardLine e l) ≡ true
-  heard-legal l = row-legal l (steps-by-the-table e l legal)
+  pub is_entry-heard_line : (l : List ℕ) → is_entry (heard_line e l) ≡ true
+  is_entry-heard_line l = row_legal l (steps_by_the_table e l legal)
 
-  pub lost-legal : isEntry (lostEntry e) ≡ true
-  lost-legal = talk-kept _ no-talk-legal
+  pub is_entry-lost_entry : is_entry (lost_entry e) ≡ true
+  is_entry-lost_entry = is_entry-with_talk _ no_talk_legal
 
-  pub sent-entry-legal : (k : Coded) → isUnready e ≡ false → isNamed (commandOf k) ≡ true
-      → isEntry (sentEntry e k) ≡ true
-  sent-entry-legal k ready named = talk-kept _ (sent-legal (talkOf e) told.talk k (first-no _ _ ready) named)
+  pub is_entry-sent_entry : (k : Coded) → is_unready e ≡ false → names_command (coded_command k) ≡ true
+      → is_entry (sent_entry e k) ≡ true
+  is_entry-sent_entry k ready named =
+      is_entry-with_talk _ (is_talk-sent_on (talk_of e) told.talk k (first_no _ _ ready) named)
 
-kept_legal : (s : List ℕ) → isPassword s ≡ true → isPasswordKept (password_of s) ≡ true
+kept_legal : (s : List ℕ) → is_password s ≡ true → is_password_kept (password_of s) ≡ true
 kept_legal s h =
-    let short = password-long s h in
-    (uses_told _ _ _ _ _).1 (kept_used (λ x. x == 0) 0 passwordRoom isPassword s (omega arith) refl h)
+    let short = password_long s h in
+    (uses_told _ _ _ _ _).1 (kept_used (λ x. x == 0) 0 password_room is_password s (omega arith) refl h)
 
-pub fresh-legal : (s : List ℕ) → isPassword s ≡ true → isEntry (freshEntry s) ≡ true
-fresh-legal s h =
-    entry-legal _ (record {
+pub is_entry-fresh_entry : (s : List ℕ) → is_password s ≡ true → is_entry (fresh_entry s) ≡ true
+is_entry-fresh_entry s h =
+    entry_legal _ (record {
       password = kept_legal s h;
-      talk = no-talk-legal;
-      shown = nothing-shown-legal;
+      talk = no_talk_legal;
+      shown = nothing_shown_legal;
       strays = omega arith;
     })
 
-pub blank-legal : isEntry blankEntry ≡ true
-blank-legal = fresh-legal [] (password-within [] (omega arith))
+pub blank_legal : is_entry blank_entry ≡ true
+blank_legal = is_entry-fresh_entry [] (password_within [] (omega arith))
 
-blank-unused : isUnused blankEntry ≡ true
-unfolding isUnused
-blank-unused = refl
+blank_unused : is_unused blank_entry ≡ true
+unfolding is_unused
+blank_unused = refl
 
 -- the panel of no projector
-pub none-legal : isPanel noPanel ≡ true
-none-legal =
-    panel-legal _ (record {
+pub none_legal : is_panel no_panel ≡ true
+none_legal =
+    panel_legal _ (record {
       count = omega arith;
-      long = length-replicate panelMost blankEntry;
-      entries = every-replicate isEntry panelMost blankEntry blank-legal;
-      unused = every-replicate isUnused panelMost blankEntry blank-unused;
+      long = length-replicate panel_most blank_entry;
+      entries = list_all-replicate is_entry panel_most blank_entry blank_legal;
+      unused = list_all-replicate is_unused panel_most blank_entry blank_unused;
     })
 
-module _ (p : Panel) (legal : isPanel p ≡ true) where
+module _ (p : Panel) (legal : is_panel p ≡ true) where
   abbrev known : PanelTold p
-  known = panel-told p legal
+  known = panel_told p legal
 
   -- one entry replaced
-  placed : (i : ℕ) (e : Entry) → i < p.count → isEntry e ≡ true → isPanel (withEntry p i e) ≡ true
+  placed : (i : ℕ) (e : Entry) → i < p.count → is_entry e ≡ true → is_panel (with_entry p i e) ≡ true
   placed i e there h =
-      panel-legal _ (record {
+      panel_legal _ (record {
         count = known.count;
         long = length-set p.entries i e ∙ known.long;
-        entries = every_set isEntry p.entries i e known.entries h;
-        unused = ap (every isUnused) (drop-set-lt p.count p.entries i e there) ∙ known.unused;
+        entries = list_all-set is_entry p.entries i e known.entries h;
+        unused = ap (list_all is_unused) (drop-set-lt p.count p.entries i e there) ∙ known.unused;
       })
 
   -- one entry more
-  grown : (e : Entry) → p.count < panelMost → isEntry e ≡ true → isPanel (grownBy p e) ≡ true
+  grown : (e : Entry) → p.count < panel_most → is_entry e ≡ true → is_panel (grown_by p e) ≡ true
   grown e free h =
       let n = p.count in
       let size = known.long in
       let inside : n < length p.entries = omega arith in
       let later = drop (suc n) p.entries in
-      panel-legal _ (record {
+      panel_legal _ (record {
         count = omega arith;
         long = length-set p.entries n e ∙ known.long;
-        entries = every_set isEntry p.entries n e known.entries h;
+        entries = list_all-set is_entry p.entries n e known.entries h;
         unused = rw (add-one n, drop-set-lt (suc n) p.entries n e (omega arith))
-            (both_right (isUnused (get_or p.entries n blankEntry)) (every isUnused later)
-            (ap (every isUnused) (sym (drop-cons p.entries n blankEntry inside)) ∙ known.unused));
+            (both_right (is_unused (slice_index_or p.entries n blank_entry)) (list_all is_unused later)
+            (ap (list_all is_unused) (sym (drop-cons p.entries n blank_entry inside)) ∙ known.unused));
       })
 
   abbrev StaysLegal : PanelAs → Type 0
-  StaysLegal r = isPanel r.panel ≡ true
+  StaysLegal r = is_panel r.panel ≡ true
 
-  pub added-stays-legal : (s : List ℕ) → StaysLegal (addedTo p s)
-  added-stays-legal s =
-      added-by p s StaysLegal (λ n z. legal) (λ h word free. grown (freshEntry s) free (fresh-legal s word))
+  pub added_stays_legal : (s : List ℕ) → StaysLegal (added_to p s)
+  added_stays_legal s =
+      added_by p s StaysLegal (λ n z. legal) (λ h word free. grown (fresh_entry s) free (is_entry-fresh_entry s word))
 
   module _ (i : ℕ) where
-    pub commanded-stays-legal : (k : Coded) (room : ℕ) → StaysLegal (commanded p i k room)
-    commanded-stays-legal k room =
-        commanded-by p i k room StaysLegal (λ n z. legal) (λ c.
+    pub commanded_stays_legal : (k : Coded) (room : ℕ) → StaysLegal (commanded p i k room)
+    commanded_stays_legal k room =
+        commanded_by p i k room StaysLegal (λ n z. legal) (λ c.
         placed i _ c.there
-        (sent-entry-legal (entry_at p i) (entry-at-legal p legal i c.there) k c.ready c.named))
+        (is_entry-sent_entry (entry_at p i) (entry_at_legal p legal i c.there) k c.ready c.named))
 
-    pub stepped-stays-legal : (l : List ℕ) → StaysLegal (steppedAt p i l)
-    stepped-stays-legal l =
+    pub stepped_stays_legal : (l : List ℕ) → StaysLegal (stepped_at p i l)
+    stepped_stays_legal l =
         stepped_by p i l StaysLegal (λ n z. legal)
-        (λ h there. placed i _ there (heard-legal (entry_at p i) (entry-at-legal p legal i there) l))
+        (λ h there. placed i _ there (is_entry-heard_line (entry_at p i) (entry_at_legal p legal i there) l))
 
-    pub lost-stays-legal : StaysLegal (lostAt p i)
-    lost-stays-legal =
-        lost-by p i StaysLegal (λ n z. legal)
-        (λ h there. placed i _ there (lost-legal (entry_at p i) (entry-at-legal p legal i there)))
+    pub lost_stays_legal : StaysLegal (lost_at p i)
+    lost_stays_legal =
+        lost_by p i StaysLegal (λ n z. legal)
+        (λ h there. placed i _ there (is_entry-lost_entry (entry_at p i) (entry_at_legal p legal i there)))

@@ -1,106 +1,101 @@
 -- What a legal entry and a legal panel tell, part by part, and how they are shown.
---   EntryTold e      the parts of isEntry
---   PanelTold p      the parts of isPanel
+--   EntryTold e      the parts of is_entry
+--   PanelTold p      the parts of is_panel
 -- Assumes nothing.
-use Prim.Native.Nat.{ℕ, ◌≤◌, ◌<◌}
-use mathlib.Core.Path.{◌≡◌}
-use mathlib.Core.Bool.{Bool, true, not, ◌&&◌}
-use mathlib.Core.List.{List}
-use native.Mathlib.Omega.{arith}
-use lib.ListN.{length, get_or, drop}
-use Rattle.text.specs.Scans.{every}
-use Rattle.text.proofs.Scanning.{every-at}
-use Rattle.words.specs.Texts.{isPassword}
+use Rattle.std.specs.List.{list_all}
+use Rattle.std.proofs.Common.{ℕ, ◌≤◌, ◌<◌, ◌≡◌, Bool, true, not, ◌&&◌, List, arith, length, slice_index_or, drop}
+use Rattle.text.proofs.Scanning.{list_all_at}
+use Rattle.words.specs.Texts.{is_password}
 use Rattle.std.specs.Prelude.{is_some, ◌==◌}
-use Rattle.pjlink.specs.Carried.{lampsCarried}
+use Rattle.pjlink.specs.Carried.{lamps_carried}
 use Rattle.text.specs.Rooms.{used, Uses}
 use Rattle.text.proofs.RoomsTold.{is_some_used, uses_told}
-use Rattle.panel.specs.Passwords.{passwordRoom, isPasswordKept}
-use Rattle.panel.specs.Entries.{talkOf, shownOf, passwordIn, blankEntry}
-use Rattle.panel.specs.Stepping.{straysMost}
-use Rattle.panel.specs.LegalPanels.{panelMost, isTalk, isHoursRoom, isLitRoom, isShown, isEntry, isEntries}
-use Rattle.panel.specs.LegalPanels.{isUnused, isPanel}
+use Rattle.panel.specs.Passwords.{password_room, is_password_kept}
+use Rattle.panel.specs.Entries.{talk_of, shown_of, password_in, blank_entry}
+use Rattle.panel.specs.Stepping.{strays_most}
+use Rattle.panel.specs.LegalPanels.{panel_most, is_talk, is_hours_room, is_lit_room, is_shown, is_entry, is_entries}
+use Rattle.panel.specs.LegalPanels.{is_unused, is_panel}
 use Rattle.panel.specs.PanelCalls.{entry_at}
 use Rattle.panel.specs.declared.types.Entry.{Entry}
 use Rattle.panel.specs.declared.types.Panel.{Panel}
 
 pub record EntryTold (e : Entry) : Type 0 where
-  pub password : isPasswordKept e.password ≡ true
-  pub talk : isTalk (talkOf e) ≡ true
-  pub shown : isShown (shownOf e) ≡ true
-  pub strays : e.strays ≤ straysMost
+  pub password : is_password_kept e.password ≡ true
+  pub talk : is_talk (talk_of e) ≡ true
+  pub shown : is_shown (shown_of e) ≡ true
+  pub strays : e.strays ≤ strays_most
 
 module _ (e : Entry) where
-  pub entry-told : isEntry e ≡ true → EntryTold e
-  unfolding isEntry
-  entry-told h = record {
+  pub entry_told : is_entry e ≡ true → EntryTold e
+  unfolding is_entry
+  entry_told h = record {
     password = grind (arith, h);
     talk = grind (arith, h);
     shown = grind (arith, h);
     strays = grind (arith, h);
   }
 
-  pub entry-legal : EntryTold e → isEntry e ≡ true
-  unfolding isEntry
-  entry-legal k = grind (arith, k.password, k.talk, k.shown, k.strays)
+  pub entry_legal : EntryTold e → is_entry e ≡ true
+  unfolding is_entry
+  entry_legal k = grind (arith, k.password, k.talk, k.shown, k.strays)
 
   -- its password is in its room, and one that the writer takes
-  module _ (legal : isEntry e ≡ true) where
-    password_uses : Uses (λ x. x == 0) passwordRoom isPassword e.password.bytes e.password.len
-    password_uses = (uses_told _ _ _ _ _).0 (entry-told legal).password
+  module _ (legal : is_entry e ≡ true) where
+    password_uses : Uses (λ x. x == 0) password_room is_password e.password.bytes e.password.len
+    password_uses = (uses_told _ _ _ _ _).0 (entry_told legal).password
 
-    pub password-fits : e.password.len ≤ passwordRoom
-    password-fits = password_uses.inside
+    pub password_fits : e.password.len ≤ password_room
+    password_fits = password_uses.inside
 
-    pub password-legal : isPassword (passwordIn e) ≡ true
-    password-legal = password_uses.follows
+    pub is_password-password_in : is_password (password_in e) ≡ true
+    is_password-password_in = password_uses.follows
 
 pub record PanelTold (p : Panel) : Type 0 where
-  pub count : p.count ≤ panelMost
-  pub long : length p.entries ≡ panelMost
-  pub entries : every isEntry p.entries ≡ true
-  pub unused : every isUnused (drop p.count p.entries) ≡ true
+  pub count : p.count ≤ panel_most
+  pub long : length p.entries ≡ panel_most
+  pub entries : list_all is_entry p.entries ≡ true
+  pub unused : list_all is_unused (drop p.count p.entries) ≡ true
 
 module _ (p : Panel) where
-  pub panel-told : isPanel p ≡ true → PanelTold p
-  unfolding isPanel isEntries
-  panel-told h = record {
+  pub panel_told : is_panel p ≡ true → PanelTold p
+  unfolding is_panel is_entries
+  panel_told h = record {
     count = grind (arith, h);
     long = grind (arith, h);
     entries = grind (arith, h);
     unused = grind (arith, h);
   }
 
-  pub panel-legal : PanelTold p → isPanel p ≡ true
-  unfolding isPanel isEntries
-  panel-legal k = grind (arith, k.count, k.long, k.entries, k.unused)
+  pub panel_legal : PanelTold p → is_panel p ≡ true
+  unfolding is_panel is_entries
+  panel_legal k = grind (arith, k.count, k.long, k.entries, k.unused)
 
-  module _ (legal : isPanel p ≡ true) (i : ℕ) (there : i < p.count) where
-    pub place-below : i < panelMost
-    place-below = let told = panel-told legal in omega (arith, told.count)
+  module _ (legal : is_panel p ≡ true) (i : ℕ) (there : i < p.count) where
+    pub place_below : i < panel_most
+    place_below = let told = panel_told legal in omega (arith, told.count)
 
     -- whatever stands for what is past the end
-    legal-there : (d : Entry) → isEntry (get_or p.entries i d) ≡ true
-    legal-there d =
-        let told = panel-told legal in
-        every-at isEntry p.entries d told.entries i (omega (arith, told.long, told.count))
+    is_entry-slice_index_or : (d : Entry) → is_entry (slice_index_or p.entries i d) ≡ true
+    is_entry-slice_index_or d =
+        let told = panel_told legal in
+        list_all_at is_entry p.entries d told.entries i (omega (arith, told.long, told.count))
 
-    pub entry-at-legal : isEntry (entry_at p i) ≡ true
-    entry-at-legal = legal-there blankEntry
+    pub entry_at_legal : is_entry (entry_at p i) ≡ true
+    entry_at_legal = is_entry-slice_index_or blank_entry
 
-    pub fits_there : (d : Entry) → (get_or p.entries i d).password.len ≤ passwordRoom
-    fits_there d = password-fits (get_or p.entries i d) (legal-there d)
+    pub fits_there : (d : Entry) → (slice_index_or p.entries i d).password.len ≤ password_room
+    fits_there d = password_fits (slice_index_or p.entries i d) (is_entry-slice_index_or d)
 
 -- the hours and the lit marks of so many lamps, and a panel, by what is used of their room
-pub hours_inside : (hs : List ℕ) (n : ℕ) → isHoursRoom hs n ≡ true → n ≤ lampsCarried
+pub hours_inside : (hs : List ℕ) (n : ℕ) → is_hours_room hs n ≡ true → n ≤ lamps_carried
 hours_inside hs n h = ((uses_told _ _ _ hs n).0 h).inside
 
-pub lit_used : (ms : List Bool) (n : ℕ) → n ≤ lampsCarried → length ms ≡ lampsCarried → isLitRoom ms n
-    ≡ is_some (used not lampsCarried ms n)
-unfolding isLitRoom
-lit_used ms n few long = grind (arith, is_some_used not lampsCarried ms n long)
+pub lit_used : (ms : List Bool) (n : ℕ) → n ≤ lamps_carried → length ms ≡ lamps_carried → is_lit_room ms n
+    ≡ is_some (used not lamps_carried ms n)
+unfolding is_lit_room
+lit_used ms n few long = grind (arith, is_some_used not lamps_carried ms n long)
 
-pub panel_used : (p : Panel) → length p.entries ≡ panelMost → isPanel p
-    ≡ (is_some (used isUnused panelMost p.entries p.count) && isEntries p.entries)
-unfolding isPanel
-panel_used p long = grind (arith, is_some_used isUnused panelMost p.entries p.count long)
+pub panel_used : (p : Panel) → length p.entries ≡ panel_most → is_panel p
+    ≡ (is_some (used is_unused panel_most p.entries p.count) && is_entries p.entries)
+unfolding is_panel
+panel_used p long = grind (arith, is_some_used is_unused panel_most p.entries p.count long)

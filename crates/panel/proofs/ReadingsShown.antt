@@ -2,61 +2,58 @@
 -- an accepted reply, to what it says, and by ERRA, to unknown; by no other line, and by no other call. An OK or an
 -- error changes no reading.
 -- Assumes nothing.
-use Prim.Native.Nat.{ℕ}
-use mathlib.Core.Path.{◌≡◌, refl, ap}
-use mathlib.Core.Bool.{true}
-use mathlib.Core.List.{List}
-use Rattle.pjlink.specs.Forms.{erraLine}
+use Rattle.std.proofs.Common.{ℕ, ◌≡◌, refl, ap, true, List}
+use Rattle.pjlink.specs.Forms.{erra_line}
 use Rattle.pjlink.specs.declared.command.Command.{Command}
 use Rattle.pjlink.specs.Said.{Said, okay, refused}
-use Rattle.controller.specs.Reading.{meaning, readReply}
+use Rattle.controller.specs.Reading.{meaning, read_reply}
 use Rattle.codes.specs.declared.command.Coded.{Coded}
-use Rattle.panel.specs.Entries.{Shown, talkOf, shownOf, nothingShown, freshEntry}
+use Rattle.panel.specs.Entries.{Shown, talk_of, shown_of, nothing_shown, fresh_entry}
 use Rattle.panel.specs.Showing.{showing}
-use Rattle.panel.specs.Stepping.{answeredEntry, lostEntry, sentEntry, heardLine}
-use Rattle.panel.specs.LegalPanels.{isEntry}
-use Rattle.panel.specs.StepTable.{UnderWay, Stray, StepTo, greets-open, greets-secured, strays, answers, refuses}
+use Rattle.panel.specs.Stepping.{answered_entry, lost_entry, sent_entry, heard_line}
+use Rattle.panel.specs.LegalPanels.{is_entry}
+use Rattle.panel.specs.StepTable.{IsUnderWay, IsStray, StepTo, greets_open, greets_secured, strays, answers, refuses}
 use Rattle.panel.specs.declared.types.Entry.{Entry}
-use Rattle.panel.proofs.StepsByTable.{steps-by-the-table, row-steps}
+use Rattle.panel.proofs.StepsByTable.{steps_by_the_table, row_steps}
 
 pub data ShownAfter (e : Entry) (l : List ℕ) : Shown → Type 0 where
-  as_before : ShownAfter e l (shownOf e)
-  as-replied : (c : Command) (m : Said) → UnderWay e c → readReply c l ≡ meaning m
-      → ShownAfter e l (showing (shownOf e) m)
-  unknown : (c : Command) → UnderWay e c → l ≡ erraLine → ShownAfter e l nothingShown
+  as_before : ShownAfter e l (shown_of e)
+  as_replied : (c : Command) (m : Said) → IsUnderWay e c → read_reply c l ≡ meaning m
+      → ShownAfter e l (showing (shown_of e) m)
+  unknown : (c : Command) → IsUnderWay e c → l ≡ erra_line → ShownAfter e l nothing_shown
 
 module _ (e : Entry) (l : List ℕ) where
-  row_shows : {f : Entry} → StepTo e l f → ShownAfter e l (shownOf f)
-  row_shows (greets-open g r) = as_before
-  row_shows (greets-secured random g r) = as_before
+  row_shows : {f : Entry} → StepTo e l f → ShownAfter e l (shown_of f)
+  row_shows (greets_open g r) = as_before
+  row_shows (greets_secured random g r) = as_before
   row_shows (strays s) = as_before
-  row_shows (answers c m u r) = as-replied c m u r
+  row_shows (answers c m u r) = as_replied c m u r
   row_shows (refuses c u r) = unknown c u r
 
-  pub shown-by-replies : isEntry e ≡ true → ShownAfter e l (shownOf (heardLine e l))
-  shown-by-replies legal = row_shows (steps-by-the-table e l legal)
+  pub shown_by_replies : is_entry e ≡ true → ShownAfter e l (shown_of (heard_line e l))
+  shown_by_replies legal = row_shows (steps_by_the_table e l legal)
 
   -- a stray changes nothing but the count
-  pub stray-keeps : Stray e l → (talkOf (heardLine e l) ≡ talkOf e) × (shownOf (heardLine e l) ≡ shownOf e)
-  stray-keeps s = (ap talkOf (row-steps e l (strays s)), ap shownOf (row-steps e l (strays s)))
+  pub stray_keeps : IsStray e l → (talk_of (heard_line e l) ≡ talk_of e) × (shown_of (heard_line e l) ≡ shown_of e)
+  stray_keeps s = (ap talk_of (row_steps e l (strays s)), ap shown_of (row_steps e l (strays s)))
 
   -- an accepted reply ends the command and is shown
-  pub reply-shows : (c : Command) (m : Said) → UnderWay e c → readReply c l ≡ meaning m
-      → heardLine e l ≡ answeredEntry e m
-  reply-shows c m u r = row-steps e l (answers c m u r)
+  pub reply_shows : (c : Command) (m : Said) → IsUnderWay e c → read_reply c l ≡ meaning m
+      → heard_line e l ≡ answered_entry e m
+  reply_shows c m u r = row_steps e l (answers c m u r)
 
 -- an OK or an error changes no reading, and no other call does
-pub okay-shows-nothing : (s : Shown) → showing s okay ≡ s
-okay-shows-nothing s = refl
+pub okay_shows_nothing : (s : Shown) → showing s okay ≡ s
+okay_shows_nothing s = refl
 
-pub error-shows-nothing : (s : Shown) (n : ℕ) → showing s (refused n) ≡ s
-error-shows-nothing s n = refl
+pub error_shows_nothing : (s : Shown) (n : ℕ) → showing s (refused n) ≡ s
+error_shows_nothing s n = refl
 
-pub loss-keeps-shown : (e : Entry) → shownOf (lostEntry e) ≡ shownOf e
-loss-keeps-shown e = refl
+pub loss_keeps_shown : (e : Entry) → shown_of (lost_entry e) ≡ shown_of e
+loss_keeps_shown e = refl
 
-pub sending-keeps-shown : (e : Entry) (k : Coded) → shownOf (sentEntry e k) ≡ shownOf e
-sending-keeps-shown e k = refl
+pub sending_keeps_shown : (e : Entry) (k : Coded) → shown_of (sent_entry e k) ≡ shown_of e
+sending_keeps_shown e k = refl
 
-pub unknown-at-first : (s : List ℕ) → shownOf (freshEntry s) ≡ nothingShown
-unknown-at-first s = refl
+pub unknown_at_first : (s : List ℕ) → shown_of (fresh_entry s) ≡ nothing_shown
+unknown_at_first s = refl

@@ -1,16 +1,14 @@
 -- A number other than 0 leaves the panel that was given and writes nothing; and the number of each call is the first
 -- row of its table that applies.
 -- Assumes nothing.
-use Prim.Native.Nat.{ℕ}
-use mathlib.Core.Path.{◌≡◌, refl}
-use mathlib.Core.List.{List, []}
+use Rattle.std.proofs.Common.{ℕ, ◌≡◌, refl, List, []}
 use Rattle.text.specs.Rows.{first_of}
-use Rattle.text.proofs.ByRows.{rows-number}
+use Rattle.text.proofs.ByRows.{rows_number}
 use Rattle.codes.specs.declared.command.Coded.{Coded}
-use Rattle.panel.specs.PanelCalls.{PanelAs, panelKept, addingRows, commandingRows, projectorRows, addedTo}
-use Rattle.panel.specs.PanelCalls.{commanded, steppedAt, lostAt}
+use Rattle.panel.specs.PanelCalls.{PanelAs, panel_kept, adding_rows, commanding_rows, projector_rows, added_to}
+use Rattle.panel.specs.PanelCalls.{commanded, stepped_at, lost_at}
 use Rattle.panel.specs.declared.types.Panel.{Panel}
-use Rattle.panel.proofs.Cases.{added-by, commanded-by, stepped_by, lost-by}
+use Rattle.panel.proofs.Cases.{added_by, commanded_by, stepped_by, lost_by}
 
 pub record KeptBy (p : Panel) (r : PanelAs) : Type 0 where
   pub panel : r.panel ≡ p
@@ -23,37 +21,37 @@ abbrev number : PanelAs → ℕ
 number r = r.number
 
 module _ (p : Panel) where
-  pub adding-refused : (s : List ℕ) → ((addedTo p s).number ≡ 0 → ⊥) → KeptBy p (addedTo p s)
-  adding-refused s =
-      added-by p s (KeptUnless0 p) (λ n z e. record { panel = refl; line = refl }) (λ h w f n. absurd (n refl))
+  pub adding_refused : (s : List ℕ) → ((added_to p s).number ≡ 0 → ⊥) → KeptBy p (added_to p s)
+  adding_refused s =
+      added_by p s (KeptUnless0 p) (λ n z e. record { panel = refl; line = refl }) (λ h w f n. absurd (n refl))
 
-  pub commanding-refused : (i : ℕ) (k : Coded) (room : ℕ) → ((commanded p i k room).number ≡ 0 → ⊥)
+  pub commanding_refused : (i : ℕ) (k : Coded) (room : ℕ) → ((commanded p i k room).number ≡ 0 → ⊥)
       → KeptBy p (commanded p i k room)
-  commanding-refused i k room =
-      commanded-by p i k room (KeptUnless0 p) (λ n z e. record { panel = refl; line = refl })
+  commanding_refused i k room =
+      commanded_by p i k room (KeptUnless0 p) (λ n z e. record { panel = refl; line = refl })
       (λ served n. absurd (n refl))
 
-  pub stepping-refused : (i : ℕ) (l : List ℕ) → ((steppedAt p i l).number ≡ 0 → ⊥) → KeptBy p (steppedAt p i l)
-  stepping-refused i l =
+  pub stepping_refused : (i : ℕ) (l : List ℕ) → ((stepped_at p i l).number ≡ 0 → ⊥) → KeptBy p (stepped_at p i l)
+  stepping_refused i l =
       stepped_by p i l (KeptUnless0 p) (λ n z e. record { panel = refl; line = refl }) (λ h t n. absurd (n refl))
 
-  pub losing-refused : (i : ℕ) → ((lostAt p i).number ≡ 0 → ⊥) → KeptBy p (lostAt p i)
-  losing-refused i =
-      lost-by p i (KeptUnless0 p) (λ n z e. record { panel = refl; line = refl }) (λ h t n. absurd (n refl))
+  pub losing_refused : (i : ℕ) → ((lost_at p i).number ≡ 0 → ⊥) → KeptBy p (lost_at p i)
+  losing_refused i =
+      lost_by p i (KeptUnless0 p) (λ n z e. record { panel = refl; line = refl }) (λ h t n. absurd (n refl))
 
-  pub adding-number : (s : List ℕ) → (addedTo p s).number ≡ first_of (addingRows p s)
-  unfolding addedTo
-  adding-number s = rows-number (panelKept p) _ number (λ n. refl) refl (addingRows p s)
+  pub adding_number : (s : List ℕ) → (added_to p s).number ≡ first_of (adding_rows p s)
+  unfolding added_to
+  adding_number s = rows_number (panel_kept p) _ number (λ n. refl) refl (adding_rows p s)
 
-  pub commanding-number : (i : ℕ) (k : Coded) (room : ℕ)
-      → (commanded p i k room).number ≡ first_of (commandingRows p i k room)
+  pub commanding_number : (i : ℕ) (k : Coded) (room : ℕ)
+      → (commanded p i k room).number ≡ first_of (commanding_rows p i k room)
   unfolding commanded
-  commanding-number i k room = rows-number (panelKept p) _ number (λ n. refl) refl (commandingRows p i k room)
+  commanding_number i k room = rows_number (panel_kept p) _ number (λ n. refl) refl (commanding_rows p i k room)
 
-  pub stepping-number : (i : ℕ) (l : List ℕ) → (steppedAt p i l).number ≡ first_of (projectorRows p i)
-  unfolding steppedAt
-  stepping-number i l = rows-number (panelKept p) _ number (λ n. refl) refl (projectorRows p i)
+  pub stepping_number : (i : ℕ) (l : List ℕ) → (stepped_at p i l).number ≡ first_of (projector_rows p i)
+  unfolding stepped_at
+  stepping_number i l = rows_number (panel_kept p) _ number (λ n. refl) refl (projector_rows p i)
 
-  pub losing-number : (i : ℕ) → (lostAt p i).number ≡ first_of (projectorRows p i)
-  unfolding lostAt
-  losing-number i = rows-number (panelKept p) _ number (λ n. refl) refl (projectorRows p i)
+  pub losing_number : (i : ℕ) → (lost_at p i).number ≡ first_of (projector_rows p i)
+  unfolding lost_at
+  losing_number i = rows_number (panel_kept p) _ number (λ n. refl) refl (projector_rows p i)

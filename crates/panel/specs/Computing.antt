@@ -1,12 +1,14 @@
 -- One name that opens this crate's definitions, for computing on concrete records only (RULES, Commands).
 -- Assumes nothing.
-use Rattle.panel.specs.Stepping.{heardLine, commandSent}
-use Rattle.panel.specs.LegalPanels.{isCommandKept, isTalk, isPowerShown, isInputShown, isLampCount, isLitRoom}
-use Rattle.panel.specs.LegalPanels.{isLampsShown, isShown, isEntry, isUnused, isEntries, isPanel}
-use Rattle.panel.specs.PanelCalls.{addedTo, commanded, steppedAt, lostAt}
+use Rattle.panel.specs.Stepping.{heard_line, command_sent}
+use Rattle.panel.specs.LegalPanels.{is_command_kept, is_talk, is_power_shown, is_input_shown, is_lamp_count}
+use Rattle.panel.specs.LegalPanels.{is_lit_room}
+use Rattle.panel.specs.LegalPanels.{shows_lamps, is_shown, is_entry, is_unused, is_entries, is_panel}
+use Rattle.panel.specs.PanelCalls.{added_to, commanded, stepped_at, lost_at}
 
 unfoldable pub computing : Unit {0}
 unfolding
-    heardLine commandSent isCommandKept isTalk isPowerShown isInputShown isLampCount isLitRoom isLampsShown isShown
-    isEntry isUnused isEntries isPanel addedTo commanded steppedAt lostAt
+    heard_line command_sent is_command_kept is_talk is_power_shown is_input_shown is_lamp_count is_lit_room shows_lamps
+    is_shown
+    is_entry is_unused is_entries is_panel added_to commanded stepped_at lost_at
 computing = tt

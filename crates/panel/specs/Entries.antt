@@ -3,22 +3,22 @@
 -- under way is zero.
 --   Talk                 where the talk with it stands: its greeting, whether the digest was sent, its command
 --   Shown                what is shown of it: power, input and lamps, each known or not
---   talkOf e, shownOf e, passwordIn e     these parts of the entry e, and its password
---   entryOf t l s n      the entry of a password, a talk, what is shown and a count of strays
---   noTalk               its greeting is awaited
---   greetedBy n r        it greeted: n says how, r is the random number
---   sentOn t k           the command k was sent
---   restedOn t           no command is under way
---   leadsNext t          the next command is the first after a secured greeting, so the digest leads it
---   nothingShown         all is unknown
---   freshEntry s         a projector just added, with the password s
---   blankEntry           all zero
+--   talk_of e, shown_of e, password_in e   these parts of the entry e, and its password
+--   entry_of t l s n     the entry of a password, a talk, what is shown and a count of strays
+--   no_talk              its greeting is awaited
+--   greeted_by n r       it greeted: n says how, r is the random number
+--   sent_on t k          the command k was sent
+--   rested_on t          no command is under way
+--   leads_next t         the next command is the first after a secured greeting, so the digest leads it
+--   nothing_shown        all is unknown
+--   fresh_entry s        a projector just added, with the password s
+--   blank_entry          all zero
 -- Assumes nothing.
-use Rattle.std.specs.Prelude.{ℕ, Bool, true, false, not, ◌&&◌, List, take, replicate, eqb}
-use Rattle.pjlink.specs.Carried.{lampsCarried}
+use Rattle.std.specs.Prelude.{ℕ, Bool, true, false, not, ◌&&◌, List, take, replicate, ◌==◌}
+use Rattle.pjlink.specs.Carried.{lamps_carried}
 use Rattle.codes.specs.Commands.{coded}
 use Rattle.codes.specs.declared.command.Coded.{Coded}
-use Rattle.panel.specs.Passwords.{password_of, noPassword}
+use Rattle.panel.specs.Passwords.{password_of, no_password}
 use Rattle.panel.specs.declared.types.Password.{Password}
 use Rattle.panel.specs.declared.types.Entry.{Entry}
 
@@ -26,17 +26,17 @@ pub record Talk : Type 0 where
   pub greeting : ℕ
   pub random : ℕ
   pub led : Bool
-  pub underWay : Bool
+  pub under_way : Bool
   pub command : Coded
 
 pub record Shown : Type 0 where
-  pub powerKnown : Bool
-  pub inputKnown : Bool
-  pub lampsKnown : Bool
+  pub power_known : Bool
+  pub input_known : Bool
+  pub lamps_known : Bool
   pub power : ℕ
-  pub inputType : ℕ
-  pub inputNumber : ℕ
-  pub lampCount : ℕ
+  pub input_type : ℕ
+  pub input_number : ℕ
+  pub lamp_count : ℕ
   pub hours : List ℕ
   pub lit : List Bool
 
@@ -44,106 +44,106 @@ pub record Shown : Type 0 where
 abbrev pub ungreeted : ℕ
 ungreeted = 0
 
-abbrev pub greetedOpen : ℕ
-greetedOpen = 1
+abbrev pub greeted_open : ℕ
+greeted_open = 1
 
-abbrev pub greetedSecured : ℕ
-greetedSecured = 2
+abbrev pub greeted_secured : ℕ
+greeted_secured = 2
 
-abbrev pub talkOf : Entry → Talk
-talkOf e = record {
+abbrev pub talk_of : Entry → Talk
+talk_of e = record {
   greeting = e.greeting;
   random = e.random;
   led = e.led;
-  underWay = e.under_way;
+  under_way = e.under_way;
   command = e.command;
 }
 
-abbrev pub shownOf : Entry → Shown
-shownOf e = record {
-  powerKnown = e.power_known;
-  inputKnown = e.input_known;
-  lampsKnown = e.lamps_known;
+abbrev pub shown_of : Entry → Shown
+shown_of e = record {
+  power_known = e.power_known;
+  input_known = e.input_known;
+  lamps_known = e.lamps_known;
   power = e.power;
-  inputType = e.input_type;
-  inputNumber = e.input_number;
-  lampCount = e.lamp_count;
+  input_type = e.input_type;
+  input_number = e.input_number;
+  lamp_count = e.lamp_count;
   hours = e.hours;
   lit = e.lit;
 }
 
-abbrev pub passwordIn : Entry → List ℕ
-passwordIn e = take e.password.len e.password.bytes
+abbrev pub password_in : Entry → List ℕ
+password_in e = take e.password.len e.password.bytes
 
-abbrev pub entryOf : Password → Talk → Shown → ℕ → Entry
-entryOf password talk shown strays = record {
+abbrev pub entry_of : Password → Talk → Shown → ℕ → Entry
+entry_of password talk shown strays = record {
   password = password;
   greeting = talk.greeting;
   random = talk.random;
   led = talk.led;
-  under_way = talk.underWay;
+  under_way = talk.under_way;
   command = talk.command;
-  power_known = shown.powerKnown;
-  input_known = shown.inputKnown;
-  lamps_known = shown.lampsKnown;
+  power_known = shown.power_known;
+  input_known = shown.input_known;
+  lamps_known = shown.lamps_known;
   power = shown.power;
-  input_type = shown.inputType;
-  input_number = shown.inputNumber;
-  lamp_count = shown.lampCount;
+  input_type = shown.input_type;
+  input_number = shown.input_number;
+  lamp_count = shown.lamp_count;
   hours = shown.hours;
   lit = shown.lit;
   strays = strays;
 }
 
-abbrev pub noneCoded : Coded
-noneCoded = coded 0 0 0
+abbrev pub none_coded : Coded
+none_coded = coded 0 0 0
 
-abbrev pub greetedBy : ℕ → ℕ → Talk
-greetedBy n r = record { greeting = n; random = r; led = false; underWay = false; command = noneCoded }
+abbrev pub greeted_by : ℕ → ℕ → Talk
+greeted_by n r = record { greeting = n; random = r; led = false; under_way = false; command = none_coded }
 
-abbrev pub noTalk : Talk
-noTalk = greetedBy ungreeted 0
+abbrev pub no_talk : Talk
+no_talk = greeted_by ungreeted 0
 
-abbrev pub isSecuredTalk : Talk → Bool
-isSecuredTalk t = eqb t.greeting greetedSecured
+abbrev pub is_secured_talk : Talk → Bool
+is_secured_talk t = t.greeting == greeted_secured
 
-abbrev pub leadsNext : Talk → Bool
-leadsNext t = isSecuredTalk t && not t.led
+abbrev pub leads_next : Talk → Bool
+leads_next t = is_secured_talk t && not t.led
 
-abbrev pub sentOn : Talk → Coded → Talk
-sentOn t k = record {
+abbrev pub sent_on : Talk → Coded → Talk
+sent_on t k = record {
   greeting = t.greeting;
   random = t.random;
-  led = isSecuredTalk t;
-  underWay = true;
+  led = is_secured_talk t;
+  under_way = true;
   command = k;
 }
 
-abbrev pub restedOn : Talk → Talk
-restedOn t = record {
+abbrev pub rested_on : Talk → Talk
+rested_on t = record {
   greeting = t.greeting;
   random = t.random;
   led = t.led;
-  underWay = false;
-  command = noneCoded;
+  under_way = false;
+  command = none_coded;
 }
 
 -- no lamps: rooms of their own, all zero
-abbrev pub nothingShown : Shown
-nothingShown = record {
-  powerKnown = false;
-  inputKnown = false;
-  lampsKnown = false;
+abbrev pub nothing_shown : Shown
+nothing_shown = record {
+  power_known = false;
+  input_known = false;
+  lamps_known = false;
   power = 0;
-  inputType = 0;
-  inputNumber = 0;
-  lampCount = 0;
-  hours = replicate lampsCarried 0;
-  lit = replicate lampsCarried false;
+  input_type = 0;
+  input_number = 0;
+  lamp_count = 0;
+  hours = replicate lamps_carried 0;
+  lit = replicate lamps_carried false;
 }
 
-abbrev pub freshEntry : List ℕ → Entry
-freshEntry s = entryOf (password_of s) noTalk nothingShown 0
+abbrev pub fresh_entry : List ℕ → Entry
+fresh_entry s = entry_of (password_of s) no_talk nothing_shown 0
 
-abbrev pub blankEntry : Entry
-blankEntry = entryOf noPassword noTalk nothingShown 0
+abbrev pub blank_entry : Entry
+blank_entry = entry_of no_password no_talk nothing_shown 0

@@ -1,88 +1,88 @@
 -- A legal panel, a definition a part (docs/DECISIONS.md, "The panel"). An array of a record is a list of any length
 -- here, so each part says its arrays' lengths.
---   isTalk t          a greeting or none; a random number and a digest of a secured one only; a command under way only
+--   is_talk t         a greeting or none; a random number and a digest of a secured one only; a command under way only
 --                     with a greeting, and one that the writer takes
---   isPowerShown, isInputShown, isLampsShown     what is known is in the reader's range, what is not is zero
---   isEntry e         the entry is legal: a password of 0 to 32 letters and digits, and strays to their stop
---   isEntries es      eight entries, each legal
---   isUnused e        nothing is kept of it: with isEntry, all zero (proofs/Unused)
---   isPanel p         up to eight projectors, and the entries past them unused
+--   is_power_shown, is_input_shown, shows_lamps   what is known is in the reader's range, what is not is zero
+--   is_entry e        the entry is legal: a password of 0 to 32 letters and digits, and strays to their stop
+--   is_entries es     eight entries, each legal
+--   is_unused e       nothing is kept of it: with is_entry, all zero (proofs/Unused)
+--   is_panel p        up to eight projectors, and the entries past them unused
 -- Assumes nothing.
-use Rattle.std.specs.Prelude.{ℕ, ◌==◌, Bool, true, false, not, ◌&&◌, ◌||◌, List, length, drop, leb, eqb, if◌then◌else◌}
-use Rattle.std.specs.Prelude.{Option, Some, None}
-use Rattle.text.specs.Scans.{every}
+use Rattle.std.specs.List.{list_all}
+use Rattle.std.specs.Prelude.{ℕ, ◌==◌, Bool, true, false, not, ◌&&◌, ◌||◌, List, length, drop, if◌then◌else◌}
+use Rattle.std.specs.Prelude.{Option, Some, None, nat_le}
 use Rattle.text.specs.Rooms.{used, holds}
 use Rattle.pjlink.specs.declared.command.Command.{Command}
-use Rattle.pjlink.specs.Carried.{lampsCarried}
+use Rattle.pjlink.specs.Carried.{lamps_carried}
 use Rattle.words.specs.Numerals.{hours_most}
-use Rattle.codes.specs.Commands.{commandOf}
+use Rattle.codes.specs.Commands.{coded_command}
 use Rattle.codes.specs.declared.command.Coded.{Coded}
-use Rattle.panel.specs.Entries.{Talk, Shown, talkOf, shownOf, ungreeted, greetedSecured, isSecuredTalk}
-use Rattle.panel.specs.Passwords.{isPasswordKept}
-use Rattle.panel.specs.Stepping.{straysMost}
+use Rattle.panel.specs.Entries.{Talk, Shown, talk_of, shown_of, ungreeted, greeted_secured, is_secured_talk}
+use Rattle.panel.specs.Passwords.{is_password_kept}
+use Rattle.panel.specs.Stepping.{strays_most}
 use Rattle.panel.specs.declared.types.Entry.{Entry}
 use Rattle.panel.specs.declared.types.Panel.{Panel}
 
-abbrev pub panelMost : ℕ
-panelMost = 8
+abbrev pub panel_most : ℕ
+panel_most = 8
 
-abbrev pub isNamed : Option Command → Bool
-isNamed (Some c) = true
-isNamed None = false
+abbrev pub names_command : Option Command → Bool
+names_command (Some c) = true
+names_command None = false
 
-abbrev pub isNoneCoded : Coded → Bool
-isNoneCoded k = eqb k.code 0 && eqb k.first 0 && eqb k.second 0
+abbrev pub is_none_coded : Coded → Bool
+is_none_coded k = k.code == 0 && k.first == 0 && k.second == 0
 
-unfoldable pub isCommandKept : Talk → Bool
-isCommandKept t =
-    if t.underWay then not (eqb t.greeting ungreeted) && isNamed (commandOf t.command)
-    else isNoneCoded t.command
+unfoldable pub is_command_kept : Talk → Bool
+is_command_kept t =
+    if t.under_way then not (t.greeting == ungreeted) && names_command (coded_command t.command)
+    else is_none_coded t.command
 
-unfoldable pub isTalk : Talk → Bool
-isTalk t =
-    leb t.greeting greetedSecured && (isSecuredTalk t || (eqb t.random 0 && not t.led)) && isCommandKept t
+unfoldable pub is_talk : Talk → Bool
+is_talk t =
+    nat_le t.greeting greeted_secured && (is_secured_talk t || (t.random == 0 && not t.led)) && is_command_kept t
 
-unfoldable pub isPowerShown : Bool → ℕ → Bool
-isPowerShown known power = if known then leb power 3 else eqb power 0
+unfoldable pub is_power_shown : Bool → ℕ → Bool
+is_power_shown known power = if known then nat_le power 3 else power == 0
 
-unfoldable pub isInputShown : Bool → ℕ → ℕ → Bool
-isInputShown known type number =
-    if known then leb 1 type && leb type 6 && leb 1 number && leb number 35
-    else eqb type 0 && eqb number 0
+unfoldable pub is_input_shown : Bool → ℕ → ℕ → Bool
+is_input_shown known type number =
+    if known then nat_le 1 type && nat_le type 6 && nat_le 1 number && nat_le number 35
+    else type == 0 && number == 0
 
-unfoldable pub isLampCount : Bool → ℕ → Bool
-isLampCount known count = if known then leb 1 count && leb count lampsCarried else eqb count 0
+unfoldable pub is_lamp_count : Bool → ℕ → Bool
+is_lamp_count known count = if known then nat_le 1 count && nat_le count lamps_carried else count == 0
 
-abbrev pub isHours : List ℕ → Bool
-isHours hs = every (λ h. leb h hours_most) hs
+abbrev pub is_hours : List ℕ → Bool
+is_hours hs = list_all (λ h. nat_le h hours_most) hs
 
-abbrev pub isHoursRoom : List ℕ → ℕ → Bool
-isHoursRoom hours count = holds isHours (used (λ x. x == 0) lampsCarried hours count)
+abbrev pub is_hours_room : List ℕ → ℕ → Bool
+is_hours_room hours count = holds is_hours (used (λ x. x == 0) lamps_carried hours count)
 
-unfoldable pub isLitRoom : List Bool → ℕ → Bool
-isLitRoom lit count = eqb (length lit) lampsCarried && every not (drop count lit)
+unfoldable pub is_lit_room : List Bool → ℕ → Bool
+is_lit_room lit count = length lit == lamps_carried && list_all not (drop count lit)
 
-unfoldable pub isLampsShown : Bool → ℕ → List ℕ → List Bool → Bool
-isLampsShown known count hours lit =
-    isLampCount known count && isHoursRoom hours count && isLitRoom lit count
+unfoldable pub shows_lamps : Bool → ℕ → List ℕ → List Bool → Bool
+shows_lamps known count hours lit =
+    is_lamp_count known count && is_hours_room hours count && is_lit_room lit count
 
-unfoldable pub isShown : Shown → Bool
-isShown s =
-    isPowerShown s.powerKnown s.power && isInputShown s.inputKnown s.inputType s.inputNumber
-    && isLampsShown s.lampsKnown s.lampCount s.hours s.lit
+unfoldable pub is_shown : Shown → Bool
+is_shown s =
+    is_power_shown s.power_known s.power && is_input_shown s.input_known s.input_type s.input_number
+    && shows_lamps s.lamps_known s.lamp_count s.hours s.lit
 
-unfoldable pub isEntry : Entry → Bool
-isEntry e =
-    isPasswordKept e.password && isTalk (talkOf e) && isShown (shownOf e) && leb e.strays straysMost
+unfoldable pub is_entry : Entry → Bool
+is_entry e =
+    is_password_kept e.password && is_talk (talk_of e) && is_shown (shown_of e) && nat_le e.strays strays_most
 
-unfoldable pub isUnused : Entry → Bool
-isUnused e =
-    eqb e.password.len 0 && eqb e.greeting ungreeted && not e.power_known && not e.input_known
-    && not e.lamps_known && eqb e.strays 0
+unfoldable pub is_unused : Entry → Bool
+is_unused e =
+    e.password.len == 0 && e.greeting == ungreeted && not e.power_known && not e.input_known
+    && not e.lamps_known && e.strays == 0
 
-unfoldable pub isEntries : List Entry → Bool
-isEntries es = eqb (length es) panelMost && every isEntry es
+unfoldable pub is_entries : List Entry → Bool
+is_entries es = length es == panel_most && list_all is_entry es
 
-unfoldable pub isPanel : Panel → Bool
-isPanel p =
-    leb p.count panelMost && isEntries p.entries && every isUnused (drop p.count p.entries)
+unfoldable pub is_panel : Panel → Bool
+is_panel p =
+    nat_le p.count panel_most && is_entries p.entries && list_all is_unused (drop p.count p.entries)

@@ -1,23 +1,23 @@
 -- The panel's calls (RULES, Panel; the numbers in the order of the table, with 9 after them).
 --   PanelAs                what a call gives: its number, the line to be sent, the panel
---   panelKept n p          the number n, no line and the panel that was given
---   noPanel                the panel of no projector
---   entry_at p i, withEntry p i e    the entry of the projector i; the panel with the entry e there
---   addingRows, commandingRows, projectorRows     when each call is refused, and with which number
---   addedTo p s              a projector more, with the password s: 1, then 3
+--   panel_kept n p         the number n, no line and the panel that was given
+--   no_panel               the panel of no projector
+--   entry_at p i, with_entry p i e   the entry of the projector i; the panel with the entry e there
+--   adding_rows, commanding_rows, projector_rows   when each call is refused, and with which number
+--   added_to p s             a projector more, with the password s: 1, then 3
 --   commanded p i k room   the command k to the projector i: 1, 2, 3, 9, or its line
---   steppedAt p i l        the line l from the projector i: 1, 3, or the step on its entry alone
---   lostAt p i             its connection is gone: 1, 3
+--   stepped_at p i l       the line l from the projector i: 1, 3, or the step on its entry alone
+--   lost_at p i            its connection is gone: 1, 3
 -- Assumes nothing.
-use Rattle.std.specs.Prelude.{ℕ, ◌+◌, not, List, [], ◌∷◌, get_or, set, replicate, leb, ltb}
-use Rattle.text.specs.Rows.{Row, ◌when◌, byRows}
-use Rattle.words.specs.Texts.{isPassword}
-use Rattle.controller.specs.Writing.{commandRoom}
-use Rattle.codes.specs.Commands.{commandOf}
+use Rattle.std.specs.Prelude.{ℕ, ◌+◌, not, List, [], ◌∷◌, set, replicate, slice_index_or, nat_le, nat_lt}
+use Rattle.text.specs.Rows.{Row, ◌when◌, by_rows}
+use Rattle.words.specs.Texts.{is_password}
+use Rattle.controller.specs.Writing.{command_room}
+use Rattle.codes.specs.Commands.{coded_command}
 use Rattle.codes.specs.declared.command.Coded.{Coded}
-use Rattle.panel.specs.Entries.{freshEntry, blankEntry}
-use Rattle.panel.specs.Stepping.{heardLine, lostEntry, sentEntry, isUnready, lineSent}
-use Rattle.panel.specs.LegalPanels.{panelMost, isNamed, isPanel}
+use Rattle.panel.specs.Entries.{fresh_entry, blank_entry}
+use Rattle.panel.specs.Stepping.{heard_line, lost_entry, sent_entry, is_unready, line_sent}
+use Rattle.panel.specs.LegalPanels.{panel_most, names_command, is_panel}
 use Rattle.panel.specs.declared.types.Entry.{Entry}
 use Rattle.panel.specs.declared.types.Panel.{Panel}
 
@@ -26,51 +26,51 @@ pub record PanelAs : Type 0 where
   pub line : List ℕ
   pub panel : Panel
 
-abbrev pub panelKept : Panel → ℕ → PanelAs
-panelKept p n = record { number = n; line = []; panel = p }
+abbrev pub panel_kept : Panel → ℕ → PanelAs
+panel_kept p n = record { number = n; line = []; panel = p }
 
-abbrev pub panelMade : Panel → PanelAs
-panelMade p = panelKept p 0
+abbrev pub panel_made : Panel → PanelAs
+panel_made p = panel_kept p 0
 
-abbrev pub noPanel : Panel
-noPanel = record { count = 0; entries = replicate panelMost blankEntry }
+abbrev pub no_panel : Panel
+no_panel = record { count = 0; entries = replicate panel_most blank_entry }
 
 abbrev pub entry_at : Panel → ℕ → Entry
-entry_at p i = get_or p.entries i blankEntry
+entry_at p i = slice_index_or p.entries i blank_entry
 
-abbrev pub withEntry : Panel → ℕ → Entry → Panel
-withEntry p i e = record { count = p.count; entries = set p.entries i e }
+abbrev pub with_entry : Panel → ℕ → Entry → Panel
+with_entry p i e = record { count = p.count; entries = set p.entries i e }
 
-abbrev pub grownBy : Panel → Entry → Panel
-grownBy p e = record { count = p.count + 1; entries = set p.entries p.count e }
+abbrev pub grown_by : Panel → Entry → Panel
+grown_by p e = record { count = p.count + 1; entries = set p.entries p.count e }
 
-abbrev pub addingRows : Panel → List ℕ → List Row
-addingRows p s = (1 when not (isPanel p)) ∷ (3 when not (isPassword s)) ∷ (3 when leb panelMost p.count) ∷ []
+abbrev pub adding_rows : Panel → List ℕ → List Row
+adding_rows p s = (1 when not (is_panel p)) ∷ (3 when not (is_password s)) ∷ (3 when nat_le panel_most p.count) ∷ []
 
-abbrev pub commandingRows : Panel → ℕ → Coded → ℕ → List Row
-commandingRows p i k room =
-    (1 when not (isPanel p)) ∷ (2 when ltb room commandRoom) ∷ (3 when leb p.count i)
-    ∷ (3 when not (isNamed (commandOf k))) ∷ (9 when isUnready (entry_at p i)) ∷ []
+abbrev pub commanding_rows : Panel → ℕ → Coded → ℕ → List Row
+commanding_rows p i k room =
+    (1 when not (is_panel p)) ∷ (2 when nat_lt room command_room) ∷ (3 when nat_le p.count i)
+    ∷ (3 when not (names_command (coded_command k))) ∷ (9 when is_unready (entry_at p i)) ∷ []
 
-abbrev pub projectorRows : Panel → ℕ → List Row
-projectorRows p i = (1 when not (isPanel p)) ∷ (3 when leb p.count i) ∷ []
+abbrev pub projector_rows : Panel → ℕ → List Row
+projector_rows p i = (1 when not (is_panel p)) ∷ (3 when nat_le p.count i) ∷ []
 
-unfoldable pub addedTo : Panel → List ℕ → PanelAs
-addedTo p s = byRows (addingRows p s) (panelKept p) (panelMade (grownBy p (freshEntry s)))
+unfoldable pub added_to : Panel → List ℕ → PanelAs
+added_to p s = by_rows (adding_rows p s) (panel_kept p) (panel_made (grown_by p (fresh_entry s)))
 
-abbrev pub sentAt : Panel → ℕ → Coded → ℕ → PanelAs
-sentAt p i k room = record {
+abbrev pub sent_at : Panel → ℕ → Coded → ℕ → PanelAs
+sent_at p i k room = record {
   number = 0;
-  line = lineSent (entry_at p i) (commandOf k) room;
-  panel = withEntry p i (sentEntry (entry_at p i) k);
+  line = line_sent (entry_at p i) (coded_command k) room;
+  panel = with_entry p i (sent_entry (entry_at p i) k);
 }
 
 unfoldable pub commanded : Panel → ℕ → Coded → ℕ → PanelAs
-commanded p i k room = byRows (commandingRows p i k room) (panelKept p) (sentAt p i k room)
+commanded p i k room = by_rows (commanding_rows p i k room) (panel_kept p) (sent_at p i k room)
 
-unfoldable pub steppedAt : Panel → ℕ → List ℕ → PanelAs
-steppedAt p i l =
-    byRows (projectorRows p i) (panelKept p) (panelMade (withEntry p i (heardLine (entry_at p i) l)))
+unfoldable pub stepped_at : Panel → ℕ → List ℕ → PanelAs
+stepped_at p i l =
+    by_rows (projector_rows p i) (panel_kept p) (panel_made (with_entry p i (heard_line (entry_at p i) l)))
 
-unfoldable pub lostAt : Panel → ℕ → PanelAs
-lostAt p i = byRows (projectorRows p i) (panelKept p) (panelMade (withEntry p i (lostEntry (entry_at p i))))
+unfoldable pub lost_at : Panel → ℕ → PanelAs
+lost_at p i = by_rows (projector_rows p i) (panel_kept p) (panel_made (with_entry p i (lost_entry (entry_at p i))))

@@ -1,67 +1,67 @@
 -- What an accepted reply shows (RULES, Panel: "an OK or error changes no reading", "the panel shows the last accepted
 -- reading").
---   withPowerShown, withInputShown, withLampsShown     what is shown, with that known besides
+--   with_power_shown, with_input_shown, with_lamps_shown   what is shown, with that known besides
 --   showing s m          what was said is shown: a power, an input or lamps; anything else changes nothing
 -- Assumes nothing.
 use Rattle.std.specs.Prelude.{ℕ, Bool, true, false, List, map, length}
-use Rattle.pjlink.specs.Said.{Said, okay, refused, powerIs, chosenIs, mutesAre, errorsAre, lampsAre, inputsAre}
-use Rattle.pjlink.specs.Said.{textIs, classIs, freezeIs, nothing}
-use Rattle.pjlink.specs.Carried.{lampsCarried}
-use Rattle.codes.specs.Commands.{sourceNumber}
-use Rattle.codes.specs.Readings.{filledTo, hoursOf, lit_of, powerNumber}
+use Rattle.pjlink.specs.Said.{Said, okay, refused, power_is, chosen_is, mutes_are, errors_are, lamps_are, inputs_are}
+use Rattle.pjlink.specs.Said.{text_is, class_is, freeze_is, nothing}
+use Rattle.pjlink.specs.Carried.{lamps_carried}
+use Rattle.codes.specs.Commands.{source_number}
+use Rattle.codes.specs.Readings.{filled_to, hours_of, lit_of, power_at_face}
 use Rattle.panel.specs.Entries.{Shown}
 
 module _ (s : Shown) where
-  abbrev pub withPowerShown : ℕ → Shown
-  withPowerShown p = record {
-    powerKnown = true;
-    inputKnown = s.inputKnown;
-    lampsKnown = s.lampsKnown;
+  abbrev pub with_power_shown : ℕ → Shown
+  with_power_shown p = record {
+    power_known = true;
+    input_known = s.input_known;
+    lamps_known = s.lamps_known;
     power = p;
-    inputType = s.inputType;
-    inputNumber = s.inputNumber;
-    lampCount = s.lampCount;
+    input_type = s.input_type;
+    input_number = s.input_number;
+    lamp_count = s.lamp_count;
     hours = s.hours;
     lit = s.lit;
   }
 
-  abbrev pub withInputShown : (type number : ℕ) → Shown
-  withInputShown type number = record {
-    powerKnown = s.powerKnown;
-    inputKnown = true;
-    lampsKnown = s.lampsKnown;
+  abbrev pub with_input_shown : (type number : ℕ) → Shown
+  with_input_shown type number = record {
+    power_known = s.power_known;
+    input_known = true;
+    lamps_known = s.lamps_known;
     power = s.power;
-    inputType = type;
-    inputNumber = number;
-    lampCount = s.lampCount;
+    input_type = type;
+    input_number = number;
+    lamp_count = s.lamp_count;
     hours = s.hours;
     lit = s.lit;
   }
 
-  abbrev pub withLampsShown : (count : ℕ) (hours : List ℕ) (lit : List Bool) → Shown
-  withLampsShown count hours lit = record {
-    powerKnown = s.powerKnown;
-    inputKnown = s.inputKnown;
-    lampsKnown = true;
+  abbrev pub with_lamps_shown : (count : ℕ) (hours : List ℕ) (lit : List Bool) → Shown
+  with_lamps_shown count hours lit = record {
+    power_known = s.power_known;
+    input_known = s.input_known;
+    lamps_known = true;
     power = s.power;
-    inputType = s.inputType;
-    inputNumber = s.inputNumber;
-    lampCount = count;
+    input_type = s.input_type;
+    input_number = s.input_number;
+    lamp_count = count;
     hours = hours;
     lit = lit;
   }
 
   abbrev pub showing : Said → Shown
-  showing (powerIs p) = withPowerShown (powerNumber p)
-  showing (chosenIs i) = withInputShown (sourceNumber i.source) i.number
-  showing (lampsAre ls) = withLampsShown (length ls) (filledTo lampsCarried 0 (map hoursOf ls))
-      (filledTo lampsCarried false (map lit_of ls))
+  showing (power_is p) = with_power_shown (power_at_face p)
+  showing (chosen_is i) = with_input_shown (source_number i.source) i.number
+  showing (lamps_are ls) = with_lamps_shown (length ls) (filled_to lamps_carried 0 (map hours_of ls))
+      (filled_to lamps_carried false (map lit_of ls))
   showing okay = s
   showing (refused n) = s
-  showing (mutesAre video audio) = s
-  showing (errorsAre ds) = s
-  showing (inputsAre is) = s
-  showing (textIs t) = s
-  showing (classIs k) = s
-  showing (freezeIs on) = s
+  showing (mutes_are video audio) = s
+  showing (errors_are ds) = s
+  showing (inputs_are is) = s
+  showing (text_is t) = s
+  showing (class_is k) = s
+  showing (freeze_is on) = s
   showing nothing = s

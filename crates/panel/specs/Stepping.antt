@@ -1,92 +1,92 @@
 -- The step on a lent line (RULES, Panel). Each clause is a sentence there:
 --   strayed e           "A late, foreign or malformed reply changes nothing but a per-projector count of such lines,
 --                       stopped at 65,535."
---   greetedAs e g       "Until a greeting is accepted, any other line is malformed": the ERRA line too
---   heardLine e l       "after it, a line with no command under way is late": whatever the line is
---   heardAs e o m       "A malformed or foreign line leaves the command under way; any accepted reply ends it, and an
+--   greeted_as e g      "Until a greeting is accepted, any other line is malformed": the ERRA line too
+--   heard_line e l      "after it, a line with no command under way is late": whatever the line is
+--   heard_as e o m      "A malformed or foreign line leaves the command under way; any accepted reply ends it, and an
 --                       OK or error changes no reading; ERRA ends it, makes that projector's readings unknown and
 --                       awaits a new greeting." What the reader answers with 10 or 12 is malformed, with 11 foreign.
---   lostEntry e         the connection is gone (docs/DECISIONS.md): as after ERRA, but the readings stay
---   sentEntry e k       the command k was sent
---   isUnready e         "A command before the greeting or over another"
---   commandSent e c room     what is sent of the command c: the digest leads the first one after a secured greeting
---   lineSent e m room        the same of a command by its code; nothing of none
--- Lines are read by the controller's own readers, readGreeting and readReply, and written by its writer.
+--   lost_entry e        the connection is gone (docs/DECISIONS.md): as after ERRA, but the readings stay
+--   sent_entry e k      the command k was sent
+--   is_unready e        "A command before the greeting or over another"
+--   command_sent e c room    what is sent of the command c: the digest leads the first one after a secured greeting
+--   line_sent e m room       the same of a command by its code; nothing of none
+-- Lines are read by the controller's own readers, read_greeting and read_reply, and written by its writer.
 -- Assumes nothing.
-use Rattle.std.specs.Prelude.{ℕ, ◌+◌, min, Bool, not, ◌||◌, List, [], eqb, if◌then◌else◌, Option, Some, None}
+use Rattle.std.specs.Prelude.{ℕ, ◌+◌, min, Bool, not, ◌||◌, List, [], if◌then◌else◌, Option, Some, None, ◌==◌}
 use Rattle.pjlink.specs.declared.command.Command.{Command}
 use Rattle.pjlink.specs.Said.{Said}
-use Rattle.controller.specs.Greetings.{readGreeting}
-use Rattle.controller.specs.Reading.{ReadAs, readReply}
-use Rattle.controller.specs.Writing.{writtenCommand}
+use Rattle.controller.specs.Greetings.{read_greeting}
+use Rattle.controller.specs.Reading.{ReadAs, read_reply}
+use Rattle.controller.specs.Writing.{written_command}
 use Rattle.controller.specs.declared.greeting.Greeting.{Greeting}
 use Rattle.controller.specs.declared.greeting.Greeting.TheVariants.{Open, Secured, Refused, NotAGreeting}
 use Rattle.controller.specs.Reading.{Outcome}
-use Rattle.controller.specs.Reading.{Means, Erra, NotALine, OtherCommand, NotAllowed}
-use Rattle.codes.specs.Commands.{commandOf}
+use Rattle.controller.specs.Reading.{means_it, erra_said, not_a_line, other_command, disallowed}
+use Rattle.codes.specs.Commands.{coded_command}
 use Rattle.codes.specs.declared.command.Coded.{Coded}
-use Rattle.panel.specs.Entries.{Talk, Shown, talkOf, shownOf, passwordIn, entryOf, ungreeted, greetedOpen}
-use Rattle.panel.specs.Entries.{greetedSecured, noTalk, greetedBy, leadsNext, sentOn, restedOn, nothingShown}
+use Rattle.panel.specs.Entries.{Talk, Shown, talk_of, shown_of, password_in, entry_of, ungreeted, greeted_open}
+use Rattle.panel.specs.Entries.{greeted_secured, no_talk, greeted_by, leads_next, sent_on, rested_on, nothing_shown}
 use Rattle.panel.specs.Showing.{showing}
 use Rattle.panel.specs.declared.types.Entry.{Entry}
 
-abbrev pub straysMost : ℕ
-straysMost = 65535
+abbrev pub strays_most : ℕ
+strays_most = 65535
 
 abbrev pub strayed : Entry → Entry
-strayed e = entryOf e.password (talkOf e) (shownOf e) (min straysMost (e.strays + 1))
+strayed e = entry_of e.password (talk_of e) (shown_of e) (min strays_most (e.strays + 1))
 
-abbrev pub withTalk : Entry → Talk → Entry
-withTalk e t = entryOf e.password t (shownOf e) e.strays
+abbrev pub with_talk : Entry → Talk → Entry
+with_talk e t = entry_of e.password t (shown_of e) e.strays
 
-abbrev pub withShown : Entry → Shown → Entry
-withShown e s = entryOf e.password (talkOf e) s e.strays
+abbrev pub with_shown : Entry → Shown → Entry
+with_shown e s = entry_of e.password (talk_of e) s e.strays
 
-abbrev pub answeredEntry : Entry → Said → Entry
-answeredEntry e m = entryOf e.password (restedOn (talkOf e)) (showing (shownOf e) m) e.strays
+abbrev pub answered_entry : Entry → Said → Entry
+answered_entry e m = entry_of e.password (rested_on (talk_of e)) (showing (shown_of e) m) e.strays
 
-abbrev pub erraEntry : Entry → Entry
-erraEntry e = entryOf e.password noTalk nothingShown e.strays
+abbrev pub erra_entry : Entry → Entry
+erra_entry e = entry_of e.password no_talk nothing_shown e.strays
 
-abbrev pub lostEntry : Entry → Entry
-lostEntry e = withTalk e noTalk
+abbrev pub lost_entry : Entry → Entry
+lost_entry e = with_talk e no_talk
 
-abbrev pub sentEntry : Entry → Coded → Entry
-sentEntry e k = withTalk e (sentOn (talkOf e) k)
+abbrev pub sent_entry : Entry → Coded → Entry
+sent_entry e k = with_talk e (sent_on (talk_of e) k)
 
-abbrev pub greetedAs : Entry → Greeting → Entry
-greetedAs e Open = withTalk e (greetedBy greetedOpen 0)
-greetedAs e (Secured random) = withTalk e (greetedBy greetedSecured random)
-greetedAs e Refused = strayed e
-greetedAs e NotAGreeting = strayed e
+abbrev pub greeted_as : Entry → Greeting → Entry
+greeted_as e Open = with_talk e (greeted_by greeted_open 0)
+greeted_as e (Secured random) = with_talk e (greeted_by greeted_secured random)
+greeted_as e Refused = strayed e
+greeted_as e NotAGreeting = strayed e
 
-abbrev pub heardAs : Entry → Outcome → Said → Entry
-heardAs e Means m = answeredEntry e m
-heardAs e Erra m = erraEntry e
-heardAs e NotALine m = strayed e
-heardAs e OtherCommand m = strayed e
-heardAs e NotAllowed m = strayed e
+abbrev pub heard_as : Entry → Outcome → Said → Entry
+heard_as e means_it m = answered_entry e m
+heard_as e erra_said m = erra_entry e
+heard_as e not_a_line m = strayed e
+heard_as e other_command m = strayed e
+heard_as e disallowed m = strayed e
 
-abbrev pub heardBy : Entry → ReadAs → Entry
-heardBy e r = heardAs e r.outcome r.said
+abbrev pub heard_by : Entry → ReadAs → Entry
+heard_by e r = heard_as e r.outcome r.said
 
 -- the command under way is one, in a legal entry
-abbrev pub repliedTo : Entry → Option Command → List ℕ → Entry
-repliedTo e (Some c) l = heardBy e (readReply c l)
-repliedTo e None l = strayed e
+abbrev pub replied_to : Entry → Option Command → List ℕ → Entry
+replied_to e (Some c) l = heard_by e (read_reply c l)
+replied_to e None l = strayed e
 
-unfoldable pub heardLine : Entry → List ℕ → Entry
-heardLine e l =
-    if eqb e.greeting ungreeted then greetedAs e (readGreeting l)
+unfoldable pub heard_line : Entry → List ℕ → Entry
+heard_line e l =
+    if e.greeting == ungreeted then greeted_as e (read_greeting l)
     else if not e.under_way then strayed e
-    else repliedTo e (commandOf e.command) l
+    else replied_to e (coded_command e.command) l
 
-abbrev pub isUnready : Entry → Bool
-isUnready e = eqb e.greeting ungreeted || e.under_way
+abbrev pub is_unready : Entry → Bool
+is_unready e = e.greeting == ungreeted || e.under_way
 
-unfoldable pub commandSent : Entry → Command → ℕ → List ℕ
-commandSent e c room = (writtenCommand c (leadsNext (talkOf e)) e.random (passwordIn e) room).bytes
+unfoldable pub command_sent : Entry → Command → ℕ → List ℕ
+command_sent e c room = (written_command c (leads_next (talk_of e)) e.random (password_in e) room).bytes
 
-abbrev pub lineSent : Entry → Option Command → ℕ → List ℕ
-lineSent e (Some c) room = commandSent e c room
-lineSent e None room = []
+abbrev pub line_sent : Entry → Option Command → ℕ → List ℕ
+line_sent e (Some c) room = command_sent e c room
+line_sent e None room = []

@@ -4,8 +4,8 @@
 --   talk_begun g                   the talk that begins with it
 --   awaits_of e                    what is awaited of the projector
 -- Assumes nothing.
-use Rattle.std.specs.Prelude.{ℕ, Bool, true, false, eqb, if◌then◌else◌}
-use Rattle.panel.specs.Entries.{Talk, ungreeted, greetedOpen, greetedSecured, greetedBy, noTalk}
+use Rattle.std.specs.Prelude.{ℕ, Bool, true, false, if◌then◌else◌, ◌==◌}
+use Rattle.panel.specs.Entries.{Talk, ungreeted, greeted_open, greeted_secured, greeted_by, no_talk}
 use Rattle.panel.specs.declared.types.Entry.{Entry}
 use Rattle.panel.specs.declared.views.Greeted.{Greeted}
 use Rattle.panel.specs.declared.views.Greeted.TheVariants.{NotYet, Open, Secured}
@@ -14,8 +14,8 @@ use Rattle.panel.specs.declared.views.Awaits.TheVariants.{Greeting, Nothing, Rep
 
 abbrev pub greeted_of : (greeting random : ℕ) → Greeted
 greeted_of greeting random =
-    if eqb greeting ungreeted then NotYet
-    else if eqb greeting greetedSecured then Secured random
+    if greeting == ungreeted then NotYet
+    else if greeting == greeted_secured then Secured random
     else Open
 
 abbrev pub is_secured : Greeted → Bool
@@ -24,12 +24,12 @@ is_secured Open = false
 is_secured (Secured random) = true
 
 abbrev pub talk_begun : Greeted → Talk
-talk_begun NotYet = noTalk
-talk_begun Open = greetedBy greetedOpen 0
-talk_begun (Secured random) = greetedBy greetedSecured random
+talk_begun NotYet = no_talk
+talk_begun Open = greeted_by greeted_open 0
+talk_begun (Secured random) = greeted_by greeted_secured random
 
 abbrev pub awaits_of : Entry → Awaits
 awaits_of e =
-    if eqb e.greeting ungreeted then Greeting
+    if e.greeting == ungreeted then Greeting
     else if e.under_way then Reply e.command
     else Nothing

@@ -2,8 +2,8 @@
 // one's entry alone. A refused call leaves the panel and the lent memory as they were.
 ghost use Rattle.std.specs.Prelude.{◌≡◌, length};
 ghost use Rattle.text.specs.Words.{over};
-ghost use Rattle.panel.specs.Entries.{entryOf, noTalk, nothingShown};
-ghost use Rattle.panel.specs.PanelCalls.{noPanel, addedTo, commanded, steppedAt, lostAt};
+ghost use Rattle.panel.specs.Entries.{entry_of, no_talk, nothing_shown};
+ghost use Rattle.panel.specs.PanelCalls.{no_panel, added_to, commanded, stepped_at, lost_at};
 ghost use Rattle.panel.specs.Refusals.{panel_outcome_number, length_sent};
 
 use crate::refusal::Refusal;
@@ -18,7 +18,7 @@ pub const COMMAND_ROOM: usize = 168;
 impl Entry {
     /// A projector with that password: its greeting is awaited, nothing is known, no strays.
     pub fn new(password: Password) -> Entry
-        ensures { result ≡ entryOf password noTalk nothingShown 0 }
+        ensures { result ≡ entry_of password no_talk nothing_shown 0 }
     {
         Entry {
             password,
@@ -44,7 +44,7 @@ impl Entry {
 impl Panel {
     /// The panel of no projector.
     pub fn new() -> Panel
-        ensures { result ≡ noPanel }
+        ensures { result ≡ no_panel }
     {
         Panel {
             count: 0,
@@ -54,10 +54,10 @@ impl Panel {
 
     /// A projector more, numbered by how many there were. Refused: `NotLegal`, then `OutOfRange` for a password that is
     /// not 0 to 32 letters and digits and for a ninth projector.
-    #[tactic(auto, unfolding(crate::specs::PanelCalls::addedTo))]
+    #[tactic(auto, unfolding(crate::specs::PanelCalls::added_to))]
     pub fn add(&mut self, password: &[u8]) -> Result<(), Refusal>
-        ensures number { panel_outcome_number result ≡ (addedTo self.old password.now).number }
-        ensures panel { self.new ≡ (addedTo self.old password.now).panel }
+        ensures number { panel_outcome_number result ≡ (added_to self.old password.now).number }
+        ensures panel { self.new ≡ (added_to self.old password.now).panel }
     {
         if !self.is_legal() {
             return Err(Refusal::NotLegal);
@@ -103,10 +103,10 @@ impl Panel {
 
     /// A line from a projector, with its CR: the step on its entry. Refused: `NotLegal`, then `OutOfRange` for no such
     /// projector.
-    #[tactic(auto, unfolding(crate::specs::PanelCalls::steppedAt))]
+    #[tactic(auto, unfolding(crate::specs::PanelCalls::stepped_at))]
     pub fn hear(&mut self, projector: usize, line: &[u8]) -> Result<(), Refusal>
-        ensures number { panel_outcome_number result ≡ (steppedAt self.old projector line.now).number }
-        ensures panel { self.new ≡ (steppedAt self.old projector line.now).panel }
+        ensures number { panel_outcome_number result ≡ (stepped_at self.old projector line.now).number }
+        ensures panel { self.new ≡ (stepped_at self.old projector line.now).panel }
     {
         if !self.is_legal() {
             return Err(Refusal::NotLegal);
@@ -119,10 +119,10 @@ impl Panel {
     }
 
     /// The connection to a projector is gone. Refused: `NotLegal`, then `OutOfRange` for no such projector.
-    #[tactic(auto, unfolding(crate::specs::PanelCalls::lostAt))]
+    #[tactic(auto, unfolding(crate::specs::PanelCalls::lost_at))]
     pub fn lose(&mut self, projector: usize) -> Result<(), Refusal>
-        ensures number { panel_outcome_number result ≡ (lostAt self.old projector).number }
-        ensures panel { self.new ≡ (lostAt self.old projector).panel }
+        ensures number { panel_outcome_number result ≡ (lost_at self.old projector).number }
+        ensures panel { self.new ≡ (lost_at self.old projector).panel }
     {
         if !self.is_legal() {
             return Err(Refusal::NotLegal);

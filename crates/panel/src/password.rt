@@ -1,6 +1,6 @@
 // A password in its room: 0 to 32 ASCII letters and digits, as the controller's writer takes it (RULES, Passwords).
 ghost use Rattle.std.specs.Prelude.{◌≡◌, ◌≤◌, length};
-ghost use Rattle.panel.specs.Passwords.{passwordRoom, password_of, isPasswordKept};
+ghost use Rattle.panel.specs.Passwords.{password_room, password_of, is_password_kept};
 
 use crate::types::{PASSWORD_ROOM, Password};
 use text::rooms;
@@ -15,7 +15,7 @@ impl Password {
 
     /// A password in its room.
     pub fn of(word: &[u8]) -> Password
-        requires { length word.now ≤ passwordRoom }
+        requires { length word.now ≤ password_room }
         ensures { result ≡ password_of word.now }
     {
         Password {
@@ -26,7 +26,7 @@ impl Password {
 
     /// Whether the password is legal.
     pub fn is_legal(&self) -> bool
-        ensures { result ≡ isPasswordKept self.now }
+        ensures { result ≡ is_password_kept self.now }
     {
         rooms::used(&self.bytes, self.len).is_some_and(|word| texts::is_password(word))
     }

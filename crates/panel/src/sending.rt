@@ -1,8 +1,8 @@
 // A command to a projector, on its entry (RULES, Panel).
 ghost use Rattle.std.specs.Prelude.{◌≡◌, ◌≤◌, length};
 ghost use Rattle.text.specs.Words.{over};
-ghost use Rattle.panel.specs.Passwords.{passwordRoom};
-ghost use Rattle.panel.specs.Stepping.{sentEntry, commandSent};
+ghost use Rattle.panel.specs.Passwords.{password_room};
+ghost use Rattle.panel.specs.Stepping.{sent_entry, command_sent};
 
 use crate::types::Entry;
 use codes::command::Coded;
@@ -12,12 +12,12 @@ use pjlink::command::Command;
 impl Entry {
     /// The line of the command, which the code stands for, from the start of the lent memory, led by the digest where
     /// it is the first after a secured greeting. The command is then under way. Its line's length.
-    #[tactic(auto, unfolding(crate::specs::Stepping::commandSent))]
+    #[tactic(auto, unfolding(crate::specs::Stepping::command_sent))]
     pub(crate) fn send(&mut self, coded: Coded, command: Command, out: &mut [u8]) -> usize
-        requires { self.old.password.len ≤ passwordRoom }
-        ensures length { result ≡ length (commandSent self.old command (length out.old)) }
-        ensures line { out.new ≡ over (commandSent self.old command (length out.old)) out.old }
-        ensures entry { self.new ≡ sentEntry self.old coded }
+        requires { self.old.password.len ≤ password_room }
+        ensures length { result ≡ length (command_sent self.old command (length out.old)) }
+        ensures line { out.new ≡ over (command_sent self.old command (length out.old)) out.old }
+        ensures entry { self.new ≡ sent_entry self.old coded }
     {
         let secured = self.greeted().is_secured();
         let password = &self.password.bytes[0..self.password.len];

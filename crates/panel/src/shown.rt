@@ -1,10 +1,10 @@
 // What is shown of a projector: the last power, input and lamps that it told.
 ghost use Rattle.std.specs.Prelude.{◌≡◌, ◌≤◌, length};
-ghost use Rattle.pjlink.specs.Said.{powerIs, chosenIs, lampsAre};
-ghost use Rattle.pjlink.specs.Carried.{lampsCarried, said_by};
-ghost use Rattle.panel.specs.Entries.{shownOf, nothingShown};
+ghost use Rattle.pjlink.specs.Said.{power_is, chosen_is, lamps_are};
+ghost use Rattle.pjlink.specs.Carried.{lamps_carried, said_by};
+ghost use Rattle.panel.specs.Entries.{shown_of, nothing_shown};
 ghost use Rattle.panel.specs.Showing.{showing};
-ghost use Rattle.panel.specs.Stepping.{withShown};
+ghost use Rattle.panel.specs.Stepping.{with_shown};
 
 use crate::types::{Entry, LAMPS_MOST};
 use codes::lists::FlatLamps;
@@ -17,7 +17,7 @@ use words::power::Power;
 impl Entry {
     /// All is unknown.
     pub(crate) fn show_nothing(&mut self)
-        ensures { self.new ≡ withShown self.old nothingShown }
+        ensures { self.new ≡ with_shown self.old nothing_shown }
     {
         self.power_known = false;
         self.input_known = false;
@@ -31,14 +31,14 @@ impl Entry {
     }
 
     fn show_power(&mut self, power: Power)
-        ensures { self.new ≡ withShown self.old (showing (shownOf self.old) (powerIs power)) }
+        ensures { self.new ≡ with_shown self.old (showing (shown_of self.old) (power_is power)) }
     {
         self.power_known = true;
         self.power = readings::power_number(power);
     }
 
     fn show_input(&mut self, input: Input)
-        ensures { self.new ≡ withShown self.old (showing (shownOf self.old) (chosenIs input)) }
+        ensures { self.new ≡ with_shown self.old (showing (shown_of self.old) (chosen_is input)) }
     {
         self.input_known = true;
         self.input_type = readings::source_number(input.source);
@@ -46,8 +46,8 @@ impl Entry {
     }
 
     fn show_lamps(&mut self, lamps: &[LampHours])
-        requires { length lamps.now ≤ lampsCarried }
-        ensures { self.new ≡ withShown self.old (showing (shownOf self.old) (lampsAre lamps.now)) }
+        requires { length lamps.now ≤ lamps_carried }
+        ensures { self.new ≡ with_shown self.old (showing (shown_of self.old) (lamps_are lamps.now)) }
     {
         let FlatLamps { count, hours, lit } = FlatLamps::of(lamps);
         self.lamps_known = true;
@@ -58,7 +58,7 @@ impl Entry {
 
     /// What an accepted reply says is shown: a power, an input or lamps; anything else changes nothing.
     pub(crate) fn show(&mut self, reply: &Reply<'_>)
-        ensures { self.new ≡ withShown self.old (showing (shownOf self.old) (said_by reply.now)) }
+        ensures { self.new ≡ with_shown self.old (showing (shown_of self.old) (said_by reply.now)) }
     {
         match reply {
             Ok(Answer::Power(power)) => self.show_power(*power),

@@ -1,11 +1,11 @@
 // The step on a lent line, on the entry of the projector that it came from (RULES, Panel).
 ghost use Rattle.std.specs.Prelude.{◌≡◌, ◌+◌, min};
-ghost use Rattle.controller.specs.Greetings.{readGreeting};
+ghost use Rattle.controller.specs.Greetings.{read_greeting};
 ghost use Rattle.controller.specs.Reading.{read_as};
-ghost use Rattle.codes.specs.Commands.{commandOf};
-ghost use Rattle.panel.specs.Entries.{talkOf, restedOn};
-ghost use Rattle.panel.specs.Stepping.{straysMost, strayed, withTalk, erraEntry, lostEntry, greetedAs, heardAs};
-ghost use Rattle.panel.specs.Stepping.{repliedTo, heardLine};
+ghost use Rattle.codes.specs.Commands.{coded_command};
+ghost use Rattle.panel.specs.Entries.{talk_of, rested_on};
+ghost use Rattle.panel.specs.Stepping.{strays_most, strayed, with_talk, erra_entry, lost_entry, greeted_as, heard_as};
+ghost use Rattle.panel.specs.Stepping.{replied_to, heard_line};
 
 use crate::types::{Entry, NO_COMMAND, STRAYS_MOST};
 use crate::views::{Awaits, Greeted};
@@ -16,7 +16,7 @@ use controller::{greeting, reading};
 
 // One more, stopped at 65,535.
 fn one_more(strays: u32) -> u32
-    ensures { result ≡ min straysMost (strays + 1) }
+    ensures { result ≡ min strays_most (strays + 1) }
 {
     if STRAYS_MOST <= strays {
         return STRAYS_MOST;
@@ -34,14 +34,14 @@ impl Entry {
 
     /// The connection is gone: a new greeting is awaited, and what is known stays.
     pub(crate) fn lose(&mut self)
-        ensures { self.new ≡ lostEntry self.old }
+        ensures { self.new ≡ lost_entry self.old }
     {
         self.begin(Greeted::NotYet);
     }
 
     // ERRA: a new greeting is awaited, and nothing is known.
     fn erra(&mut self)
-        ensures { self.new ≡ erraEntry self.old }
+        ensures { self.new ≡ erra_entry self.old }
     {
         self.lose();
         self.show_nothing();
@@ -49,7 +49,7 @@ impl Entry {
 
     // No command is under way.
     fn rest(&mut self)
-        ensures { self.new ≡ withTalk self.old (restedOn (talkOf self.old)) }
+        ensures { self.new ≡ with_talk self.old (rested_on (talk_of self.old)) }
     {
         self.under_way = false;
         self.command = NO_COMMAND;
@@ -57,7 +57,7 @@ impl Entry {
 
     // Until a greeting is accepted, any other line is malformed.
     fn greet(&mut self, line: &[u8])
-        ensures { self.new ≡ greetedAs self.old (readGreeting line.now) }
+        ensures { self.new ≡ greeted_as self.old (read_greeting line.now) }
     {
         match greeting::read_greeting(line) {
             Greeting::Open => self.begin(Greeted::Open),
@@ -69,7 +69,7 @@ impl Entry {
 
     // ERRA and an accepted reply end the command under way, and any other line is malformed or foreign.
     fn take(&mut self, reading: &Result<Reading<'_>, Misread>)
-        ensures { self.new ≡ heardAs self.old (read_as reading.now).outcome (read_as reading.now).said }
+        ensures { self.new ≡ heard_as self.old (read_as reading.now).outcome (read_as reading.now).said }
     {
         match reading {
             Ok(Reading::Means(reply)) => {
@@ -83,7 +83,7 @@ impl Entry {
 
     // A line, where a command is under way: one, in a legal entry.
     fn reply(&mut self, coded: Coded, line: &[u8])
-        ensures { self.new ≡ repliedTo self.old (commandOf coded) line.now }
+        ensures { self.new ≡ replied_to self.old (coded_command coded) line.now }
     {
         let Some(command) = coded.command() else {
             self.stray();
@@ -93,9 +93,9 @@ impl Entry {
     }
 
     /// A line from the projector, with its CR. One with no command under way is late.
-    #[tactic(auto, unfolding(crate::specs::Stepping::heardLine))]
+    #[tactic(auto, unfolding(crate::specs::Stepping::heard_line))]
     pub(crate) fn hear(&mut self, line: &[u8])
-        ensures { self.new ≡ heardLine self.old line.now }
+        ensures { self.new ≡ heard_line self.old line.now }
     {
         match self.awaits() {
             Awaits::Greeting => self.greet(line),

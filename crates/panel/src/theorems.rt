@@ -1,22 +1,22 @@
 // What is proved beside the contracts of the functions. Nothing is done here: that these functions have their contracts
 // is that the theorems stand.
 ghost use Rattle.std.specs.Prelude.{◌≡◌, List, ℕ, true, not, length};
-ghost use Rattle.text.specs.Scans.{every};
+ghost use Rattle.std.specs.List.{list_all};
 ghost use Rattle.text.specs.Words.{over};
 ghost use Rattle.codes.specs.declared.command.Coded.{Coded};
-ghost use Rattle.panel.specs.Entries.{greetedBy, greetedSecured, greetedOpen};
-ghost use Rattle.panel.specs.Stepping.{heardLine, withTalk};
-ghost use Rattle.panel.specs.LegalPanels.{isEntry};
+ghost use Rattle.panel.specs.Entries.{greeted_by, greeted_secured, greeted_open};
+ghost use Rattle.panel.specs.Stepping.{heard_line, with_talk};
+ghost use Rattle.panel.specs.LegalPanels.{is_entry};
 ghost use Rattle.panel.specs.StepTable.{StepTo};
-ghost use Rattle.panel.specs.Talks.{Happens, isFirstLed, ledInTalk};
-ghost use Rattle.panel.specs.PanelCalls.{addedTo, commanded, steppedAt, lostAt};
+ghost use Rattle.panel.specs.Talks.{Happens, is_first_led, led_in_talk};
+ghost use Rattle.panel.specs.PanelCalls.{added_to, commanded, stepped_at, lost_at};
 ghost use Rattle.panel.specs.declared.types.Entry.{Entry};
 ghost use Rattle.panel.specs.declared.types.Panel.{Panel};
 
 /// A legal entry steps by the table of lines, and what the table gives is what the step gives: so it gives one entry.
 pub fn a_line_steps_by_the_table()
-    ensures steps_by_the_table { (e : Entry) (l : List ℕ) → isEntry e ≡ true → StepTo e l (heardLine e l) }
-    ensures row_steps { (e : Entry) (l : List ℕ) (f : Entry) → StepTo e l f → heardLine e l ≡ f }
+    ensures steps_by_the_table { (e : Entry) (l : List ℕ) → is_entry e ≡ true → StepTo e l (heard_line e l) }
+    ensures row_steps { (e : Entry) (l : List ℕ) (f : Entry) → StepTo e l f → heard_line e l ≡ f }
     ensures one_step { (e : Entry) (l : List ℕ) (f g : Entry) → StepTo e l f → StepTo e l g → f ≡ g }
 {}
 
@@ -24,15 +24,15 @@ pub fn a_line_steps_by_the_table()
 /// other; after a greeting without security it leads none.
 pub fn the_digest_leads_the_first()
     ensures secured { (e : Entry) (xs : List Happens) (random : ℕ)
-        → isFirstLed (ledInTalk (withTalk e (greetedBy greetedSecured random)) xs) ≡ true }
+        → is_first_led (led_in_talk (with_talk e (greeted_by greeted_secured random)) xs) ≡ true }
     ensures unsecured { (e : Entry) (xs : List Happens)
-        → every not (ledInTalk (withTalk e (greetedBy greetedOpen 0)) xs) ≡ true }
+        → list_all not (led_in_talk (with_talk e (greeted_by greeted_open 0)) xs) ≡ true }
 {}
 
 /// Two results that meet the promise of a call are equal: what it says, the panel and the lent memory.
 pub fn one_result()
     ensures added { (p : Panel) (password : List ℕ) (r s : ℕ) (x y : Panel)
-        → let a = addedTo p password in
+        → let a = added_to p password in
         (r ≡ a.number) × (x ≡ a.panel) → (s ≡ a.number) × (y ≡ a.panel) → (r ≡ s) × (x ≡ y) }
     ensures sent { (p : Panel) (i : ℕ) (k : Coded) (out : List ℕ) (r s v w : ℕ) (x y : Panel) (m n : List ℕ)
         → let c = commanded p i k (length out) in
@@ -40,9 +40,9 @@ pub fn one_result()
         → (s ≡ c.number) × (w ≡ length c.line) × (y ≡ c.panel) × (n ≡ over c.line out)
         → (r ≡ s) × (v ≡ w) × (x ≡ y) × (m ≡ n) }
     ensures heard { (p : Panel) (i : ℕ) (l : List ℕ) (r s : ℕ) (x y : Panel)
-        → let h = steppedAt p i l in
+        → let h = stepped_at p i l in
         (r ≡ h.number) × (x ≡ h.panel) → (s ≡ h.number) × (y ≡ h.panel) → (r ≡ s) × (x ≡ y) }
     ensures lost { (p : Panel) (i : ℕ) (r s : ℕ) (x y : Panel)
-        → let l = lostAt p i in
+        → let l = lost_at p i in
         (r ≡ l.number) × (x ≡ l.panel) → (s ≡ l.number) × (y ≡ l.panel) → (r ≡ s) × (x ≡ y) }
 {}

@@ -1,6 +1,6 @@
 // What an entry's numbers mean: total views, and how a talk is written back.
 ghost use Rattle.std.specs.Prelude.{◌≡◌};
-ghost use Rattle.panel.specs.Stepping.{withTalk};
+ghost use Rattle.panel.specs.Stepping.{with_talk};
 ghost use Rattle.panel.specs.Views.{greeted_of, awaits_of, is_secured, talk_begun};
 
 use crate::types::{Entry, NO_COMMAND};
@@ -60,7 +60,7 @@ impl Entry {
 
     /// The talk begins anew: no digest was sent, and no command is under way.
     pub fn begin(&mut self, greeted: Greeted)
-        ensures { self.new ≡ withTalk self.old (talk_begun greeted) }
+        ensures { self.new ≡ with_talk self.old (talk_begun greeted) }
     {
         let (greeting, random) = match greeted {
             Greeted::NotYet => (UNGREETED, 0),

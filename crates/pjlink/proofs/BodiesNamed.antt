@@ -1,59 +1,55 @@
 -- The letters of a body name it in a line of its class, whatever their case, and no other body of that class.
 --   Named b          what the bodies' rows show of the letters of b
 -- Assumes nothing.
-use Prim.Native.Nat.{ℕ}
-use mathlib.Core.Path.{◌≡◌, refl, ◌∙◌}
-use mathlib.Core.Bool.{true, ◌&&◌}
-use mathlib.Core.List.{List, map}
-use lib.Dec.{eqb}
-use borrow.Author.Tests.{eqb-true, eq-eqb}
+use Rattle.std.proofs.Common.{ℕ, ◌≡◌, refl, ◌∙◌, true, ◌&&◌, List, map, ◌==◌, eqb-true, eq-eqb}
 use Rattle.std.specs.Prelude.{find, Option, Some}
 use Rattle.std.specs.Option.{option_map}
-use Rattle.text.specs.Scans.{sameBy, itself}
+use Rattle.text.specs.Scans.{same_by, itself}
 use Rattle.text.proofs.Choices.{both_left, both_right}
-use Rattle.text.proofs.Sameness.{same-turned, same_after}
-use Rattle.words.specs.Bytes.{upperOf}
-use Rattle.pjlink.specs.Bodies.{class_of, bodyNamed, isBody}
-use Rattle.pjlink.specs.Commands.{bodyText}
+use Rattle.text.proofs.Sameness.{same_turned, same_after}
+use Rattle.words.specs.Bytes.{upper_of}
+use Rattle.pjlink.specs.Bodies.{class_of, body_named, is_body}
+use Rattle.pjlink.specs.Commands.{body_text}
 use Rattle.pjlink.specs.declared.body.TheConstants.{BODIES}
 use Rattle.pjlink.specs.declared.body.Row.{Row}
 use Rattle.pjlink.specs.declared.body.Body.{Body}
-use Rattle.pjlink.proofs.Bodies.{each-body, yes}
+use Rattle.pjlink.proofs.Bodies.{each_body, yes}
 
 -- the body of Class k whose text is exactly s
 abbrev exactly : ℕ → List ℕ → Option Body
-exactly k s = option_map (λ (r : Row). r.body) (find (λ (r : Row). eqb k r.class && sameBy itself s r.letters) BODIES)
+exactly k s = option_map (λ (r : Row). r.body) (find (λ (r : Row). k == r.class && same_by itself s r.letters) BODIES)
 
 pub record Named (b : Body) : Type 0 where
-  pub own : isBody (class_of b) (bodyText b) b ≡ true
-  pub alone : exactly (class_of b) (bodyText b) ≡ Some b
+  pub own : is_body (class_of b) (body_text b) b ≡ true
+  pub alone : exactly (class_of b) (body_text b) ≡ Some b
 
-pub body-named : (b : Body) → Named b
-body-named b = record {
-  own = each-body (λ (x : Body). isBody (class_of x) (bodyText x) x) yes refl b;
-  alone = each-body (λ (x : Body). exactly (class_of x) (bodyText x)) Some refl b;
+pub body_named_lem : (b : Body) → Named b
+body_named_lem b = record {
+  own = each_body (λ (x : Body). is_body (class_of x) (body_text x) x) yes refl b;
+  alone = each_body (λ (x : Body). exactly (class_of x) (body_text x)) Some refl b;
 }
 
 -- bytes name a body as their upper case does exactly
-in-upper-case : (k : ℕ) (s : List ℕ) → bodyNamed k s ≡ exactly k (map upperOf s)
-in-upper-case k s =
+in_upper_case : (k : ℕ) (s : List ℕ) → body_named k s ≡ exactly k (map upper_of s)
+in_upper_case k s =
     (λ i. option_map (λ (r : Row). r.body)
-    (find (λ (r : Row). eqb k r.class && same_after upperOf s r.letters i) BODIES))
+    (find (λ (r : Row). k == r.class && same_after upper_of s r.letters i) BODIES))
 
-module _ (k : ℕ) (s : List ℕ) (b : Body) (named : isBody k s b ≡ true) where
-  pub body-class : k ≡ class_of b
-  body-class = eqb-true k (class_of b) (both_left (eqb k (class_of b)) (sameBy upperOf s (bodyText b)) named)
+module _ (k : ℕ) (s : List ℕ) (b : Body) (named : is_body k s b ≡ true) where
+  pub body_class : k ≡ class_of b
+  body_class = eqb-true k (class_of b) (both_left (k == class_of b) (same_by upper_of s (body_text b)) named)
 
-  pub body-letters : sameBy upperOf s (bodyText b) ≡ true
-  body-letters = both_right (eqb k (class_of b)) (sameBy upperOf s (bodyText b)) named
+  pub same_by-body_text : same_by upper_of s (body_text b) ≡ true
+  same_by-body_text = both_right (k == class_of b) (same_by upper_of s (body_text b)) named
 
   -- bytes that a body's text is, in any case of letters, name that body
-  pub body-is-named : bodyNamed k s ≡ Some b
-  body-is-named =
-      in-upper-case k s
-      ∙ (λ i. exactly (body-class i) (same-turned upperOf s (bodyText b) body-letters i))
-      ∙ (body-named b).alone
+  pub body_is_named : body_named k s ≡ Some b
+  body_is_named =
+      in_upper_case k s
+      ∙ (λ i. exactly (body_class i) (same_turned upper_of s (body_text b) same_by-body_text i))
+      ∙ (body_named_lem b).alone
 
 -- and so in a line of its class
-pub named-in-class : (s : List ℕ) (b : Body) → sameBy upperOf s (bodyText b) ≡ true → isBody (class_of b) s b ≡ true
-named-in-class s b e = (λ i. eq-eqb (class_of b) (class_of b) refl i && e i)
+pub is_body-class_of : (s : List ℕ) (b : Body) → same_by upper_of s (body_text b) ≡ true →
+    is_body (class_of b) s b ≡ true
+is_body-class_of s b e = (λ i. eq-eqb (class_of b) (class_of b) refl i && e i)

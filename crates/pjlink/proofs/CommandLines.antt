@@ -2,165 +2,160 @@
 -- for a set-up of that class or a higher one, and for no lower one, and gives all three back; no byte of it but the
 -- last is CR.
 -- Assumes nothing.
-use Prim.Native.Nat.{ℕ, zero, suc, ◌+◌, ◌≤◌, ◌<◌}
+use Rattle.std.specs.List.{list_all}
+use Rattle.std.proofs.Common.{ℕ, zero, suc, ◌+◌, ◌≤◌, ◌<◌, ◌≡◌, refl, sym, ap, ◌∙◌, Bool, true, false, not, ◌&&◌, List}
+use Rattle.std.proofs.Common.{◌∷◌, ◌++◌, arith, length, length-append, nat_le, leb-true, le-leb, ne_eqb, codes}
+use Rattle.std.proofs.lemmas.Bool.{lt-leb}
 use Prim.Native.Char.{code}
-use mathlib.Core.Path.{◌≡◌, refl, sym, ap, ◌∙◌}
-use mathlib.Core.Bool.{Bool, true, false, not, ◌&&◌}
-use mathlib.Core.List.{List, ◌∷◌, ◌++◌}
-use native.Mathlib.Omega.{arith}
-use lib.ListN.{length, length-append}
-use lib.Dec.{leb}
-use borrow.Author.Tests.{leb-true, le-leb, lt-leb, ne_eqb}
-use Rattle.text.specs.Words.{ascii}
-use Rattle.text.specs.Scans.{every}
 use Rattle.text.proofs.Choices.{both, both_left}
-use Rattle.text.proofs.Scanning.{every_append, every-implies}
-use Rattle.words.specs.Bytes.{◌at◌, isAlnum, notCr, noCr}
-use Rattle.words.specs.Inputs.{inputText}
-use Rattle.pjlink.specs.Commands.{bodyText, bodyOf, commandClass, classDigit, halfDigit, parameterOf}
+use Rattle.text.proofs.Scanning.{list_all-append, list_all_implies}
+use Rattle.words.specs.Bytes.{◌at◌, is_alnum, not_cr, no_cr}
+use Rattle.words.specs.Inputs.{input_text}
+use Rattle.pjlink.specs.Commands.{body_text, body_of, command_class, class_digit, half_digit, parameter_of}
 use Rattle.words.specs.Powers.{switch_code}
-use Rattle.pjlink.specs.Commands.{commandText, commandLine}
-use Rattle.pjlink.specs.Forms.{headBody, isHeaded, takesClass, isCommandForm, commandParameter}
-use Rattle.words.specs.Bytes.{commandMost}
-use Rattle.pjlink.specs.Forms.{lineClass}
+use Rattle.pjlink.specs.Commands.{command_text, command_line}
+use Rattle.pjlink.specs.Forms.{head_body, is_headed, takes_class, is_command_form, command_parameter}
+use Rattle.words.specs.Bytes.{command_most}
+use Rattle.pjlink.specs.Forms.{line_class}
 use Rattle.words.specs.declared.input.Input.{Input}
 use Rattle.pjlink.specs.declared.command.Half.{Half}
 use Rattle.pjlink.specs.declared.command.Half.TheVariants.{VideoHalf, AudioHalf, BothHalves}
 use Rattle.pjlink.specs.declared.command.Command.{Command}
 use Rattle.pjlink.specs.declared.command.Command.TheVariants.{PowerSet, InputSet, MuteSet, InputSet2, FreezeSet}
 use Rattle.pjlink.specs.declared.command.Command.TheVariants.{VolumeStep, NameQuery, Query}
-use Rattle.words.proofs.Characters.{no-cr-of, alnum-not-cr}
-use Rattle.words.proofs.InputsReadBack.{input-alnum}
-use Rattle.pjlink.proofs.Bodies.{four, body-spelt, class-is}
+use Rattle.words.proofs.Characters.{no_cr_of, alnum_not_cr}
+use Rattle.words.proofs.InputsReadBack.{input_alnum}
+use Rattle.pjlink.proofs.Bodies.{four, body_spelt, class_said}
 use Rattle.pjlink.proofs.RepliesReadBack.{headed}
 
-pub spelt : (c : Command) {h : ℕ} {s p : List ℕ} → h ≡ classDigit (commandClass c) → s ≡ bodyText (bodyOf c)
-    → p ≡ parameterOf c
-    → ascii "%" ++ (h ∷ four s) ++ ascii " " ++ p ++ ascii "\r" ≡ commandLine c
+pub spelt : (c : Command) {h : ℕ} {s p : List ℕ} → h ≡ class_digit (command_class c) → s ≡ body_text (body_of c)
+    → p ≡ parameter_of c
+    → codes "%" ++ (h ∷ four s) ++ codes " " ++ p ++ codes "\r" ≡ command_line c
 spelt c k e f =
-    (λ i. ascii "%" ++ (k i ∷ four (e i)) ++ ascii " " ++ f i ++ ascii "\r")
-    ∙ ap (λ (s : List ℕ). ascii "%" ++ (classDigit (commandClass c) ∷ s) ++ ascii " " ++ parameterOf c ++ ascii "\r")
-    (body-spelt (bodyOf c)).long
+    (λ i. codes "%" ++ (k i ∷ four (e i)) ++ codes " " ++ f i ++ codes "\r")
+    ∙ ap (λ (s : List ℕ). codes "%" ++ (class_digit (command_class c) ∷ s) ++ codes " " ++ parameter_of c ++ codes "\r")
+    (body_spelt (body_of c)).long
 
-parameter-short : (c : Command) → length (parameterOf c) ≤ 3
-parameter-short (PowerSet on) = omega arith
-parameter-short (InputSet i) = omega arith
-parameter-short (MuteSet h on) = omega arith
-parameter-short (InputSet2 i) = omega arith
-parameter-short (FreezeSet on) = omega arith
-parameter-short (VolumeStep v up) = omega arith
-parameter-short (NameQuery i) = omega arith
-parameter-short (Query b) = omega arith
+parameter_short : (c : Command) → length (parameter_of c) ≤ 3
+parameter_short (PowerSet on) = omega arith
+parameter_short (InputSet i) = omega arith
+parameter_short (MuteSet h on) = omega arith
+parameter_short (InputSet2 i) = omega arith
+parameter_short (FreezeSet on) = omega arith
+parameter_short (VolumeStep v up) = omega arith
+parameter_short (NameQuery i) = omega arith
+parameter_short (Query b) = omega arith
 
-switch-not-cr : (on : Bool) → notCr (switch_code on) ≡ true
-switch-not-cr true = refl
-switch-not-cr false = refl
+not_cr-switch_code : (on : Bool) → not_cr (switch_code on) ≡ true
+not_cr-switch_code true = refl
+not_cr-switch_code false = refl
 
-half-not-cr : (h : Half) → notCr (halfDigit h) ≡ true
-half-not-cr VideoHalf = refl
-half-not-cr AudioHalf = refl
-half-not-cr BothHalves = refl
+not_cr-half_digit : (h : Half) → not_cr (half_digit h) ≡ true
+not_cr-half_digit VideoHalf = refl
+not_cr-half_digit AudioHalf = refl
+not_cr-half_digit BothHalves = refl
 
-pub input-no-cr : (i : Input) → every notCr (inputText i) ≡ true
-input-no-cr i = every-implies isAlnum notCr alnum-not-cr (inputText i) (input-alnum i)
+pub input_no_cr : (i : Input) → list_all not_cr (input_text i) ≡ true
+input_no_cr i = list_all_implies is_alnum not_cr alnum_not_cr (input_text i) (input_alnum i)
 
-parameter-no-cr : (c : Command) → every notCr (parameterOf c) ≡ true
-parameter-no-cr (PowerSet on) = both (switch-not-cr on) refl
-parameter-no-cr (InputSet i) = input-no-cr i
-parameter-no-cr (MuteSet h on) = both (half-not-cr h) (both (switch-not-cr on) refl)
-parameter-no-cr (InputSet2 i) = input-no-cr i
-parameter-no-cr (FreezeSet on) = both (switch-not-cr on) refl
-parameter-no-cr (VolumeStep v up) = both (switch-not-cr up) refl
-parameter-no-cr (NameQuery i) = input-no-cr i
-parameter-no-cr (Query b) = refl
+list_all-parameter_of : (c : Command) → list_all not_cr (parameter_of c) ≡ true
+list_all-parameter_of (PowerSet on) = both (not_cr-switch_code on) refl
+list_all-parameter_of (InputSet i) = input_no_cr i
+list_all-parameter_of (MuteSet h on) = both (not_cr-half_digit h) (both (not_cr-switch_code on) refl)
+list_all-parameter_of (InputSet2 i) = input_no_cr i
+list_all-parameter_of (FreezeSet on) = both (not_cr-switch_code on) refl
+list_all-parameter_of (VolumeStep v up) = both (not_cr-switch_code up) refl
+list_all-parameter_of (NameQuery i) = input_no_cr i
+list_all-parameter_of (Query b) = refl
 
 -- what is so of 1 and of 2
-pub one-or-two : (P : ℕ → Type 0) (n : ℕ) → 1 ≤ n → n ≤ 2 → P 1 → P 2 → P n
-one-or-two P zero l h p q = absurd (omega arith)
-one-or-two P (suc zero) l h p q = p
-one-or-two P (suc (suc zero)) l h p q = q
-one-or-two P (suc (suc (suc n))) l h p q = absurd (omega arith)
+pub one_or_two : (P : ℕ → Type 0) (n : ℕ) → 1 ≤ n → n ≤ 2 → P 1 → P 2 → P n
+one_or_two P zero l h p q = absurd (omega arith)
+one_or_two P (suc zero) l h p q = p
+one_or_two P (suc (suc zero)) l h p q = q
+one_or_two P (suc (suc (suc n))) l h p q = absurd (omega arith)
 
 -- a set-up takes the lines of its own class and of a lower one
-pub taken-by-class : (k j : ℕ) → 1 ≤ k → k ≤ 2 → 1 ≤ j → j ≤ 2 → takesClass k (classDigit j) ≡ leb j k
-taken-by-class k j lk hk lj hj =
-    one-or-two (λ n. takesClass n (classDigit j) ≡ leb j n) k lk hk
-    (one-or-two (λ m. takesClass 1 (classDigit m) ≡ leb m 1) j lj hj refl refl)
-    (one-or-two (λ m. takesClass 2 (classDigit m) ≡ leb m 2) j lj hj refl refl)
+pub takes_class-class_digit : (k j : ℕ) → 1 ≤ k → k ≤ 2 → 1 ≤ j → j ≤ 2 → takes_class k (class_digit j) ≡ nat_le j k
+takes_class-class_digit k j lk hk lj hj =
+    one_or_two (λ n. takes_class n (class_digit j) ≡ nat_le j n) k lk hk
+    (one_or_two (λ m. takes_class 1 (class_digit m) ≡ nat_le m 1) j lj hj refl refl)
+    (one_or_two (λ m. takes_class 2 (class_digit m) ≡ nat_le m 2) j lj hj refl refl)
 
 module _ (c : Command) where
   abbrev h : ℕ
-  h = classDigit (commandClass c)
+  h = class_digit (command_class c)
 
   abbrev spelled : List ℕ
-  spelled = ascii "%" ++ (h ∷ four (bodyText (bodyOf c))) ++ ascii " " ++ parameterOf c
+  spelled = codes "%" ++ (h ∷ four (body_text (body_of c))) ++ codes " " ++ parameter_of c
 
-  text : commandText c ≡ spelled
-  text = ap (λ (s : List ℕ). ascii "%" ++ (h ∷ s) ++ ascii " " ++ parameterOf c) (sym (body-spelt (bodyOf c)).long)
+  text : command_text c ≡ spelled
+  text = ap (λ (s : List ℕ). codes "%" ++ (h ∷ s) ++ codes " " ++ parameter_of c) (sym (body_spelt (body_of c)).long)
 
   abbrev body : List ℕ
-  body = bodyText (bodyOf c)
+  body = body_text (body_of c)
 
-  letters : every isAlnum (four body) ≡ true
-  letters = ap (every isAlnum) (body-spelt (bodyOf c)).long ∙ (body-spelt (bodyOf c)).letters
+  letters : list_all is_alnum (four body) ≡ true
+  letters = ap (list_all is_alnum) (body_spelt (body_of c)).long ∙ (body_spelt (body_of c)).letters
 
-  pub command-body : headBody (commandText c) ≡ bodyText (bodyOf c)
-  command-body = ap headBody text ∙ (body-spelt (bodyOf c)).long
+  pub head_body-command_text : head_body (command_text c) ≡ body_text (body_of c)
+  head_body-command_text = ap head_body text ∙ (body_spelt (body_of c)).long
 
-  pub command-parameter : commandParameter (commandText c) ≡ parameterOf c
-  command-parameter = ap commandParameter text
+  pub command_parameter-command_text : command_parameter (command_text c) ≡ parameter_of c
+  command_parameter-command_text = ap command_parameter text
 
-  pub command-class : lineClass (commandText c) ≡ commandClass c
-  command-class = omega arith
+  pub line_class-command_text : line_class (command_text c) ≡ command_class c
+  line_class-command_text = omega arith
 
-  pub command-length : length (commandText c) ≤ 10
-  command-length =
-      let short = parameter-short c in
-      let same : length (commandText c) ≡ length spelled = ap length text in
+  pub command_length : length (command_text c) ≤ 10
+  command_length =
+      let short = parameter_short c in
+      let same : length (command_text c) ≡ length spelled = ap length text in
       omega arith
 
-  pub line-length : length (commandLine c) ≡ length (commandText c) + 1
-  line-length = length-append (commandText c) (ascii "\r")
+  pub length-command_line : length (command_line c) ≡ length (command_text c) + 1
+  length-command_line = length-append (command_text c) (codes "\r")
 
-  pub line-at-most-11 : length (commandLine c) ≤ 11
-  line-at-most-11 =
-      let long = line-length in
-      let short = command-length in
+  pub line_at_most_11 : length (command_line c) ≤ 11
+  line_at_most_11 =
+      let long = length-command_line in
+      let short = command_length in
       omega arith
 
   module _ (k : ℕ) (low : 1 ≤ k) (high : k ≤ 2) where
-    pub form-by-class : isCommandForm k (commandText c) ≡ leb (commandClass c) k
-    unfolding isCommandForm
-    form-by-class =
-        let short = parameter-short c in
-        let class = class-is (bodyOf c) in
+    pub form_by_class : is_command_form k (command_text c) ≡ nat_le (command_class c) k
+    unfolding is_command_form
+    form_by_class =
+        let short = parameter_short c in
+        let class = class_said (body_of c) in
         let from = le-leb 7 (length spelled) (omega arith) in
-        let most = le-leb (length spelled) commandMost (omega arith) in
-        let head = headed (body at 0) (body at 1) (body at 2) (body at 3) letters h (code " ") (parameterOf c) in
-        let taken = taken-by-class k (commandClass c) low high class.0 class.1 in
-        ap (isCommandForm k) text ∙ (λ i. from i && most i && head i && taken i)
+        let most = le-leb (length spelled) command_most (omega arith) in
+        let head = headed (body at 0) (body at 1) (body at 2) (body at 3) letters h (code " ") (parameter_of c) in
+        let taken = takes_class-class_digit k (command_class c) low high class.0 class.1 in
+        ap (is_command_form k) text ∙ (λ i. from i && most i && head i && taken i)
 
-    pub command-form : commandClass c ≤ k → isCommandForm k (commandText c) ≡ true
-    command-form h = form-by-class ∙ le-leb (commandClass c) k h
+    pub command_form : command_class c ≤ k → is_command_form k (command_text c) ≡ true
+    command_form h = form_by_class ∙ le-leb (command_class c) k h
 
     -- a command of a higher class than the set-up's is swallowed
-    pub command-of-higher-class : k < commandClass c → isCommandForm k (commandText c) ≡ false
-    command-of-higher-class h = form-by-class ∙ lt-leb (commandClass c) k h
+    pub command_of_higher_class : k < command_class c → is_command_form k (command_text c) ≡ false
+    command_of_higher_class h = form_by_class ∙ lt-leb (command_class c) k h
 
-  pub command-no-cr : noCr (commandText c) ≡ true
-  command-no-cr =
-      let class = class-is (bodyOf c) in
-      let digit : notCr h ≡ true = ap not (ne_eqb h (code "\r") (omega arith)) in
-      no-cr-of (commandText c) (ap (every notCr) text
-      ∙ every_append notCr (ascii "%" ++ (h ∷ four body) ++ ascii " ") (parameterOf c)
+  pub command_no_cr : no_cr (command_text c) ≡ true
+  command_no_cr =
+      let class = class_said (body_of c) in
+      let digit : not_cr h ≡ true = ap not (ne_eqb h (code "\r") (omega arith)) in
+      no_cr_of (command_text c) (ap (list_all not_cr) text
+      ∙ list_all-append not_cr (codes "%" ++ (h ∷ four body) ++ codes " ") (parameter_of c)
       (both digit
-      (every_append notCr (four body) (ascii " ") (every-implies isAlnum notCr alnum-not-cr (four body) letters) refl))
-      (parameter-no-cr c))
+      (list_all-append not_cr (four body) (codes " ")
+      (list_all_implies is_alnum not_cr alnum_not_cr (four body) letters) refl))
+      (list_all-parameter_of c))
 
 -- a line of the form has its head
-pub form-long : (k : ℕ) (l : List ℕ) → isCommandForm k l ≡ true → 7 ≤ length l
-unfolding isCommandForm
-form-long k l e =
-    let sized = leb 7 (length l) && leb (length l) commandMost in
+pub form_long : (k : ℕ) (l : List ℕ) → is_command_form k l ≡ true → 7 ≤ length l
+unfolding is_command_form
+form_long k l e =
+    let sized = nat_le 7 (length l) && nat_le (length l) command_most in
     leb-true 7 (length l)
-    (both_left (leb 7 (length l)) _ (both_left sized _ (both_left (sized && isHeaded (code " ") l) _ e)))
+    (both_left (nat_le 7 (length l)) _ (both_left sized _ (both_left (sized && is_headed (code " ") l) _ e)))

@@ -1,11 +1,7 @@
 -- Lines, requests and replies of both classes, by computing (RULES, Commands, Controller and Class 2).
 -- Assumes nothing.
-use mathlib.Core.Path.{◌≡◌, refl}
-use mathlib.Core.Bool.{true, false}
-use mathlib.Core.List.{List, [], ◌∷◌, map}
-use Prim.Native.Nat.{ℕ}
+use Rattle.std.proofs.Common.{◌≡◌, refl, true, false, List, [], ◌∷◌, map, ℕ, codes}
 use Rattle.std.specs.Prelude.{Ok, Err}
-use Rattle.text.specs.Words.{ascii}
 use Rattle.numbers.specs.Computing.{computing as numbers}
 use Rattle.words.specs.declared.input.Source.TheVariants.{Digital, Internal}
 use Rattle.words.specs.declared.input.Input.{Input}
@@ -14,27 +10,27 @@ use Rattle.pjlink.specs.declared.command.Volume.TheVariants.{Speaker, Microphone
 use Rattle.pjlink.specs.declared.command.Command.TheVariants.{InputSet, InputSet2, FreezeSet, VolumeStep}
 use Rattle.pjlink.specs.declared.command.Command.TheVariants.{NameQuery, Query}
 use Rattle.pjlink.specs.declared.request.Unasked.TheVariants.{Unlisted, UnknownBody}
-use Rattle.pjlink.specs.Commands.{commandLine}
-use Rattle.pjlink.specs.Forms.{isCommandForm}
-use Rattle.pjlink.specs.Requests.{requestOf}
-use Rattle.pjlink.specs.Said.{refused, lampsAre, inputsAre, textIs, classIs, freezeIs, nothing}
-use Rattle.pjlink.specs.Reading.{readParameter}
+use Rattle.pjlink.specs.Commands.{command_line}
+use Rattle.pjlink.specs.Forms.{is_command_form}
+use Rattle.pjlink.specs.Requests.{request_of}
+use Rattle.pjlink.specs.Said.{refused, lamps_are, inputs_are, text_is, class_is, freeze_is, nothing}
+use Rattle.pjlink.specs.Reading.{read_parameter}
 use Rattle.pjlink.specs.Computing.{computing}
 
 abbrev hdmi : Input
 hdmi = record { source = Digital; number = 1 }
 
 -- lines of Class 2
-written : map commandLine
+written : map command_line
     (InputSet2 hdmi ∷ FreezeSet true ∷ VolumeStep Speaker true ∷ VolumeStep Microphone false ∷ NameQuery hdmi
     ∷ Query Snum ∷ [])
-    ≡ ascii "%2INPT 31\r" ∷ ascii "%2FREZ 1\r" ∷ ascii "%2SVOL 1\r" ∷ ascii "%2MVOL 0\r" ∷ ascii "%2INNM ?31\r"
-    ∷ ascii "%2SNUM ?\r" ∷ []
+    ≡ codes "%2INPT 31\r" ∷ codes "%2FREZ 1\r" ∷ codes "%2SVOL 1\r" ∷ codes "%2MVOL 0\r" ∷ codes "%2INNM ?31\r"
+    ∷ codes "%2SNUM ?\r" ∷ []
 unfolding computing
 written = refl
 
 -- a Class 1 set-up takes no `%2` line, a Class 2 set-up takes both, and none takes `%3`
-forms : map (λ (k : ℕ). map (isCommandForm k) (ascii "%1INST ?" ∷ ascii "%2INST ?" ∷ ascii "%3INST ?" ∷ []))
+forms : map (λ (k : ℕ). map (is_command_form k) (codes "%1INST ?" ∷ codes "%2INST ?" ∷ codes "%3INST ?" ∷ []))
     (1 ∷ 2 ∷ [])
     ≡ (true ∷ false ∷ false ∷ []) ∷ (true ∷ true ∷ false ∷ []) ∷ []
 unfolding computing
@@ -49,11 +45,11 @@ record Line : Type 0 where
 abbrev line : ℕ → List ℕ → List ℕ → Line
 line k b p = record { class = k; body = b; parameter = p }
 
-requests : map (λ (l : Line). requestOf l.class l.body l.parameter)
-    (line 1 (ascii "INPT") (ascii "31") ∷ line 2 (ascii "inpt") (ascii "31") ∷ line 2 (ascii "INPT") (ascii "3a")
-    ∷ line 1 (ascii "INST") (ascii "?") ∷ line 2 (ascii "CLSS") (ascii "?") ∷ line 1 (ascii "SNUM") (ascii "?")
-    ∷ line 2 (ascii "SNUM") (ascii "1") ∷ line 2 (ascii "SVOL") (ascii "?") ∷ line 2 (ascii "INNM") (ascii "?31")
-    ∷ line 2 (ascii "INNM") (ascii "?") ∷ [])
+requests : map (λ (l : Line). request_of l.class l.body l.parameter)
+    (line 1 (codes "INPT") (codes "31") ∷ line 2 (codes "inpt") (codes "31") ∷ line 2 (codes "INPT") (codes "3a")
+    ∷ line 1 (codes "INST") (codes "?") ∷ line 2 (codes "CLSS") (codes "?") ∷ line 1 (codes "SNUM") (codes "?")
+    ∷ line 2 (codes "SNUM") (codes "1") ∷ line 2 (codes "SVOL") (codes "?") ∷ line 2 (codes "INNM") (codes "?31")
+    ∷ line 2 (codes "INNM") (codes "?") ∷ [])
     ≡ Ok (InputSet hdmi) ∷ Ok (InputSet2 hdmi) ∷ Err (Unlisted Inpt2)
     ∷ Ok (Query Inst) ∷ Err UnknownBody ∷ Err UnknownBody
     ∷ Err (Unlisted Snum) ∷ Err (Unlisted Svol) ∷ Ok (NameQuery hdmi)
@@ -62,47 +58,47 @@ unfolding computing
 requests = refl
 
 -- lamps of other makers: leading zeros are taken, six digits and none are not
-padded-hours : readParameter (Query Lamp) (ascii "00412 1") ≡ lampsAre (record { hours = 412; lit = true } ∷ [])
+padded_hours : read_parameter (Query Lamp) (codes "00412 1") ≡ lamps_are (record { hours = 412; lit = true } ∷ [])
 unfolding computing numbers
-padded-hours = refl
+padded_hours = refl
 
-five-zeros : readParameter (Query Lamp) (ascii "00000 0") ≡ lampsAre (record { hours = 0; lit = false } ∷ [])
+five_zeros : read_parameter (Query Lamp) (codes "00000 0") ≡ lamps_are (record { hours = 0; lit = false } ∷ [])
 unfolding computing numbers
-five-zeros = refl
+five_zeros = refl
 
-six-zeros : readParameter (Query Lamp) (ascii "000000 0") ≡ nothing
+six_zeros : read_parameter (Query Lamp) (codes "000000 0") ≡ nothing
 unfolding computing numbers
-six-zeros = refl
+six_zeros = refl
 
-no-hours : readParameter (Query Lamp) (ascii " 0") ≡ nothing
+no_hours : read_parameter (Query Lamp) (codes " 0") ≡ nothing
 unfolding computing numbers
-no-hours = refl
+no_hours = refl
 
-each-as-it-is : readParameter (Query Lamp) (ascii "07 1 7 0")
-    ≡ lampsAre (record { hours = 7; lit = true } ∷ record { hours = 7; lit = false } ∷ [])
+each_as_it_is : read_parameter (Query Lamp) (codes "07 1 7 0")
+    ≡ lamps_are (record { hours = 7; lit = true } ∷ record { hours = 7; lit = false } ∷ [])
 unfolding computing numbers
-each-as-it-is = refl
+each_as_it_is = refl
 
 -- the class is 1 or 2, and frozen 0 or 1
-classes : map (readParameter (Query Clss)) (ascii "1" ∷ ascii "2" ∷ ascii "3" ∷ ascii "12" ∷ [])
-    ≡ classIs 1 ∷ classIs 2 ∷ nothing ∷ nothing ∷ []
+classes : map (read_parameter (Query Clss)) (codes "1" ∷ codes "2" ∷ codes "3" ∷ codes "12" ∷ [])
+    ≡ class_is 1 ∷ class_is 2 ∷ nothing ∷ nothing ∷ []
 unfolding computing numbers
 classes = refl
 
-frozen : map (readParameter (Query Frez)) (ascii "0" ∷ ascii "1" ∷ ascii "2" ∷ ascii "OK" ∷ [])
-    ≡ freezeIs false ∷ freezeIs true ∷ nothing ∷ nothing ∷ []
+frozen : map (read_parameter (Query Frez)) (codes "0" ∷ codes "1" ∷ codes "2" ∷ codes "OK" ∷ [])
+    ≡ freeze_is false ∷ freeze_is true ∷ nothing ∷ nothing ∷ []
 unfolding computing numbers
 frozen = refl
 
 -- inputs of Class 2 stand in a `%1` reply too: the reader is not told the class
-wide-inputs : readParameter (Query Inst) (ascii "31 6B")
-    ≡ inputsAre (hdmi ∷ record { source = Internal; number = 11 } ∷ [])
+wide_inputs : read_parameter (Query Inst) (codes "31 6B")
+    ≡ inputs_are (hdmi ∷ record { source = Internal; number = 11 } ∷ [])
 unfolding computing numbers
-wide-inputs = refl
+wide_inputs = refl
 
 -- ERR2 answers the query of an input's name, and no `?`
-refusals : readParameter (NameQuery hdmi) (ascii "ERR2") ∷ readParameter (Query Snum) (ascii "ERR2")
-    ∷ readParameter (NameQuery hdmi) (ascii "HDMI 1") ∷ []
-    ≡ refused 2 ∷ nothing ∷ textIs (ascii "HDMI 1") ∷ []
+refusals : read_parameter (NameQuery hdmi) (codes "ERR2") ∷ read_parameter (Query Snum) (codes "ERR2")
+    ∷ read_parameter (NameQuery hdmi) (codes "HDMI 1") ∷ []
+    ≡ refused 2 ∷ nothing ∷ text_is (codes "HDMI 1") ∷ []
 unfolding computing numbers
 refusals = refl

@@ -1,77 +1,71 @@
 -- A line of the form is spelt by its parts: `%`, its class byte, the four bytes of its body, a space, its parameter.
 -- Its class is 1, or for a set-up of Class 2 also 2.
 -- Assumes nothing.
-use Prim.Native.Nat.{ℕ, ◌≤◌}
+use Rattle.std.proofs.Common.{ℕ, ◌≤◌, ◌≡◌, ◌∙◌, Bool, true, ◌&&◌, List, ◌∷◌, ◌++◌, arith, length, nat_le, ◌==◌}
+use Rattle.std.proofs.Common.{eqb-true, codes}
 use Prim.Native.Char.{code}
-use mathlib.Core.Path.{◌≡◌, ◌∙◌}
-use mathlib.Core.Bool.{Bool, true, ◌&&◌}
-use mathlib.Core.List.{List, ◌∷◌, ◌++◌}
-use native.Mathlib.Omega.{arith}
-use lib.ListN.{length}
-use lib.Dec.{leb, eqb}
-use borrow.Author.Tests.{eqb-true}
-use Rattle.text.specs.Words.{ascii, ◌is◌}
+use Rattle.text.specs.Words.{◌is◌}
 use Rattle.text.proofs.Choices.{both_left, both_right}
-use Rattle.words.specs.Bytes.{◌at◌, isAlnum}
-use Rattle.pjlink.specs.Commands.{classDigit}
-use Rattle.pjlink.specs.Forms.{takesClass, isCommandForm, isHeaded, headBody, commandParameter}
-use Rattle.words.specs.Bytes.{commandMost}
-use Rattle.pjlink.specs.Forms.{lineClass}
+use Rattle.words.specs.Bytes.{◌at◌, is_alnum}
+use Rattle.pjlink.specs.Commands.{class_digit}
+use Rattle.pjlink.specs.Forms.{takes_class, is_command_form, is_headed, head_body, command_parameter}
+use Rattle.words.specs.Bytes.{command_most}
+use Rattle.pjlink.specs.Forms.{line_class}
 use Rattle.words.proofs.ByPlaces.{from_place}
-use Rattle.words.proofs.Characters.{either-by}
-use Rattle.pjlink.proofs.CommandLines.{form-long}
+use Rattle.words.proofs.Characters.{either_by}
+use Rattle.pjlink.proofs.CommandLines.{form_long}
 
 -- a class byte that a set-up takes, by which it is
-pub taken-by : (P : Type 0) (k b : ℕ) → takesClass k b ≡ true → (b ≡ code "1" → P) → (k ≡ 2 → b ≡ code "2" → P) → P
-taken-by P k b e one two =
-    either-by (b is "1") (eqb k 2 && b is "2") e (λ t. one (eqb-true b _ t))
-    (λ t. two (eqb-true k 2 (both_left (eqb k 2) _ t)) (eqb-true b _ (both_right (eqb k 2) _ t)))
+pub taken_by : (P : Type 0) (k b : ℕ) → takes_class k b ≡ true → (b ≡ code "1" → P) → (k ≡ 2 → b ≡ code "2" → P) → P
+taken_by P k b e one two =
+    either_by (b is "1") (k == 2 && b is "2") e (λ t. one (eqb-true b _ t))
+    (λ t. two (eqb-true k 2 (both_left (k == 2) _ t)) (eqb-true b _ (both_right (k == 2) _ t)))
 
-module _ (k : ℕ) (l : List ℕ) (form : isCommandForm k l ≡ true) where
+module _ (k : ℕ) (l : List ℕ) (form : is_command_form k l ≡ true) where
   abbrev sized : Bool
-  sized = leb 7 (length l) && leb (length l) commandMost
+  sized = nat_le 7 (length l) && nat_le (length l) command_most
 
   abbrev marked : Bool
   marked = l at 0 is "%"
 
   abbrev lettered : Bool
-  lettered = marked && isAlnum (l at 2) && isAlnum (l at 3) && isAlnum (l at 4) && isAlnum (l at 5)
+  lettered = marked && is_alnum (l at 2) && is_alnum (l at 3) && is_alnum (l at 4) && is_alnum (l at 5)
 
-  headed : isHeaded (code " ") l ≡ true
-  unfolding isCommandForm
+  headed : is_headed (code " ") l ≡ true
+  unfolding is_command_form
   headed =
-      both_right sized (isHeaded (code " ") l)
-      (both_left (sized && isHeaded (code " ") l) (takesClass k (l at 1)) form)
+      both_right sized (is_headed (code " ") l)
+      (both_left (sized && is_headed (code " ") l) (takes_class k (l at 1)) form)
 
-  pub form-takes : takesClass k (l at 1) ≡ true
-  unfolding isCommandForm
-  form-takes = both_right (sized && isHeaded (code " ") l) (takesClass k (l at 1)) form
+  pub form_takes : takes_class k (l at 1) ≡ true
+  unfolding is_command_form
+  form_takes = both_right (sized && is_headed (code " ") l) (takes_class k (l at 1)) form
 
   -- the class is one that the set-up takes
-  pub line-class-low : 1 ≤ lineClass l
-  line-class-low = taken-by (1 ≤ lineClass l) k (l at 1) form-takes (λ b. omega arith) (λ e b. omega arith)
+  pub line_class_low : 1 ≤ line_class l
+  line_class_low = taken_by (1 ≤ line_class l) k (l at 1) form_takes (λ b. omega arith) (λ e b. omega arith)
 
-  pub line-class-high : lineClass l ≤ 2
-  line-class-high = taken-by (lineClass l ≤ 2) k (l at 1) form-takes (λ b. omega arith) (λ e b. omega arith)
+  pub line_class_high : line_class l ≤ 2
+  line_class_high = taken_by (line_class l ≤ 2) k (l at 1) form_takes (λ b. omega arith) (λ e b. omega arith)
 
-  pub line-class-taken : 1 ≤ k → lineClass l ≤ k
-  line-class-taken h = taken-by (lineClass l ≤ k) k (l at 1) form-takes (λ b. omega arith) (λ e b. omega arith)
+  pub line_class_taken : 1 ≤ k → line_class l ≤ k
+  line_class_taken h = taken_by (line_class l ≤ k) k (l at 1) form_takes (λ b. omega arith) (λ e b. omega arith)
 
-  pub class-byte : l at 1 ≡ classDigit (lineClass l)
-  class-byte =
-      taken-by (l at 1 ≡ classDigit (lineClass l)) k (l at 1) form-takes (λ b. omega arith) (λ e b. omega arith)
+  pub class_byte : l at 1 ≡ class_digit (line_class l)
+  class_byte =
+      taken_by (l at 1 ≡ class_digit (line_class l)) k (l at 1) form_takes (λ b. omega arith) (λ e b. omega arith)
 
   marks : marked ≡ true
   marks =
-      both_left marked (isAlnum (l at 2))
-      (both_left (marked && isAlnum (l at 2)) (isAlnum (l at 3))
-      (both_left (marked && isAlnum (l at 2) && isAlnum (l at 3)) (isAlnum (l at 4))
-      (both_left (marked && isAlnum (l at 2) && isAlnum (l at 3) && isAlnum (l at 4)) (isAlnum (l at 5))
+      both_left marked (is_alnum (l at 2))
+      (both_left (marked && is_alnum (l at 2)) (is_alnum (l at 3))
+      (both_left (marked && is_alnum (l at 2) && is_alnum (l at 3)) (is_alnum (l at 4))
+      (both_left (marked && is_alnum (l at 2) && is_alnum (l at 3) && is_alnum (l at 4)) (is_alnum (l at 5))
       (both_left lettered (l at 6 is " ") headed))))
 
-  pub form-spelt : l ≡ ascii "%" ++ ((l at 1) ∷ headBody l) ++ ascii " " ++ commandParameter l
-  form-spelt =
+  pub form_spelt : l ≡ codes "%" ++ ((l at 1) ∷ head_body l) ++ codes " " ++ command_parameter l
+  form_spelt =
       let percent = eqb-true (l at 0) (code "%") marks in
       let space = eqb-true (l at 6) (code " ") (both_right lettered (l at 6 is " ") headed) in
-      from_place 0 7 l (form-long k l form)
-      ∙ (λ i. percent i ∷ (l at 1) ∷ (l at 2) ∷ (l at 3) ∷ (l at 4) ∷ (l at 5) ∷ space i ∷ commandParameter l)
+      from_place 0 7 l (form_long k l form)
+      ∙ (λ i. percent i ∷ (l at 1) ∷ (l at 2) ∷ (l at 3) ∷ (l at 4) ∷ (l at 5) ∷ space i ∷ command_parameter l)

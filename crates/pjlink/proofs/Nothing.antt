@@ -4,5 +4,5 @@ use Rattle.pjlink.specs.declared.command.Command.{Command}
 use Rattle.pjlink.specs.Said.{nothing}
 use Rattle.pjlink.specs.CanSay.{CanSay}
 
-pub cannot-say-nothing : {c : Command} → CanSay c nothing → ⊥
-cannot-say-nothing can = elim can [ ]
+pub cannot_say_nothing : {c : Command} → CanSay c nothing → ⊥
+cannot_say_nothing can = elim can [ ]

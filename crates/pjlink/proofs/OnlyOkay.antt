@@ -1,31 +1,27 @@
 -- Of what a projector says to POWR, only OK has the bytes of OK, in any case of letters.
 --   NotOkay m      the parameter that says m is not OK
 -- Assumes nothing.
-use Prim.Native.Nat.{ℕ}
-use mathlib.Core.Path.{◌≡◌, refl}
-use mathlib.Core.Bool.{false}
-use mathlib.Core.List.{◌++◌}
-use Rattle.text.specs.Words.{ascii}
-use Rattle.text.specs.Scans.{sameBy}
-use Rattle.words.specs.Bytes.{upperOf}
-use Rattle.pjlink.specs.Said.{Said, refused, powerIs, nothing, saidBytes}
+use Rattle.std.proofs.Common.{ℕ, ◌≡◌, refl, false, ◌++◌, codes}
+use Rattle.text.specs.Scans.{same_by}
+use Rattle.words.specs.Bytes.{upper_of}
+use Rattle.pjlink.specs.Said.{Said, refused, power_is, nothing, said_bytes}
 use Rattle.words.specs.declared.power.Power.{Power}
 use Rattle.words.specs.declared.power.Power.TheVariants.{Off, On, Cooling, WarmUp}
 
 abbrev pub NotOkay : Said → Type 0
-NotOkay m = sameBy upperOf (saidBytes m ++ ascii "\r") (ascii "OK\r") ≡ false
+NotOkay m = same_by upper_of (said_bytes m ++ codes "\r") (codes "OK\r") ≡ false
 
-pub refusal-not-okay : (n : ℕ) → NotOkay (refused n)
-unfolding saidBytes
-refusal-not-okay n = refl
+pub refusal_not_okay : (n : ℕ) → NotOkay (refused n)
+unfolding said_bytes
+refusal_not_okay n = refl
 
-pub power-not-okay : (p : Power) → NotOkay (powerIs p)
-unfolding saidBytes
-power-not-okay Off = refl
-power-not-okay On = refl
-power-not-okay Cooling = refl
-power-not-okay WarmUp = refl
+pub power_not_okay : (p : Power) → NotOkay (power_is p)
+unfolding said_bytes
+power_not_okay Off = refl
+power_not_okay On = refl
+power_not_okay Cooling = refl
+power_not_okay WarmUp = refl
 
-pub nothing-not-okay : NotOkay nothing
-unfolding saidBytes
-nothing-not-okay = refl
+pub nothing_not_okay : NotOkay nothing
+unfolding said_bytes
+nothing_not_okay = refl

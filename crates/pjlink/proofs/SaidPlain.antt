@@ -1,166 +1,162 @@
 -- An answer's parameter fits a reply: it is short, and no byte of it is CR.
 -- Assumes nothing.
-use Prim.Native.Nat.{ℕ, ◌≤◌}
+use Rattle.std.specs.List.{list_all}
+use Rattle.std.proofs.Common.{ℕ, ◌≤◌, ◌≡◌, refl, ap, Bool, true, false, not, List, [], ◌∷◌, arith, length}
+use Rattle.std.proofs.Common.{length-append, nat_le, ne_eqb, leb-true}
+use Rattle.std.proofs.lemmas.List.{length-map}
 use Prim.Native.Char.{code}
-use mathlib.Core.Path.{◌≡◌, refl, ap}
-use mathlib.Core.Bool.{Bool, true, false, not}
-use mathlib.Core.List.{List, [], ◌∷◌}
-use native.Mathlib.Omega.{arith}
-use lib.ListN.{length, length-append, length-map}
-use lib.Dec.{leb}
-use borrow.Author.Tests.{ne_eqb, leb-true}
-use Rattle.text.specs.Scans.{every}
 use Rattle.text.proofs.Choices.{both, both_left}
-use Rattle.text.proofs.Scanning.{every_append, every-implies}
+use Rattle.text.proofs.Scanning.{list_all-append, list_all_implies}
 use Rattle.numbers.specs.Decimal.{digits}
-use Rattle.numbers.proofs.Digits.{digits-at-most-5, digits-without}
-use Rattle.words.specs.Bytes.{notCr, noCr}
-use Rattle.words.specs.Inputs.{isInput, inputText, numberDigit}
-use Rattle.words.specs.Texts.{isTextByte, isText, nameMost, infoMost, inputNameMost}
+use Rattle.numbers.proofs.Digits.{digits_at_most_5, digits_without}
+use Rattle.words.specs.Bytes.{not_cr, no_cr}
+use Rattle.words.specs.Inputs.{is_input, input_text, number_digit}
+use Rattle.words.specs.Texts.{is_text_byte, is_text, name_most, info_most, input_name_most}
 use Rattle.words.specs.Powers.{switch_code}
 use Rattle.pjlink.specs.declared.command.Command.{Command}
-use Rattle.words.proofs.Characters.{no-cr-of}
-use Rattle.words.proofs.TextsTold.{name-long, info-long, input-name-long}
-use Rattle.pjlink.proofs.CommandLines.{input-no-cr}
-use Rattle.pjlink.specs.Said.{Said, textIs, saidBytes}
+use Rattle.words.proofs.Characters.{no_cr_of}
+use Rattle.words.proofs.TextsTold.{name_long, info_long, input_name_long}
+use Rattle.pjlink.proofs.CommandLines.{input_no_cr}
+use Rattle.pjlink.specs.Said.{Said, text_is, said_bytes}
 use Rattle.words.specs.Lamps.{lamp_text}
 use Rattle.words.specs.Powers.{power_text}
 use Rattle.words.specs.Muting.{halves_text}
 use Rattle.words.specs.ErrorDigits.{errors_text}
-use Rattle.pjlink.specs.Said.{parameterMost, saidMost, bytesMost}
+use Rattle.pjlink.specs.Said.{parameter_most, said_most, bytes_most}
 use Rattle.pjlink.specs.CanSay.{CanSay, done, refuses, power, input, mutes, errors, lamps, inputs, name, maker}
-use Rattle.pjlink.specs.CanSay.{model, other, class-is, freeze, serial, version, input-name, input-2, inputs-2}
+use Rattle.pjlink.specs.CanSay.{model, other, class_said, freeze, serial, version, input_name, input_2, inputs_2}
 use Rattle.words.specs.Numerals.{hours_most}
 use Rattle.words.specs.Lamps.{is_lamp_hours}
 use Rattle.words.specs.declared.power.Power.{Power}
 use Rattle.words.specs.declared.power.Power.TheVariants.{Off, On, Cooling, WarmUp}
 use Rattle.words.specs.declared.lamp.LampHours.{LampHours}
-use Rattle.words.proofs.TextsTold.{text-bytes, name-is-text}
-use Rattle.pjlink.proofs.Joined.{joined-every, joined-long}
+use Rattle.words.proofs.TextsTold.{text_bytes, name_is_text}
+use Rattle.pjlink.proofs.Joined.{list_all-list_text, joined_long}
 
-mutes-within : (v a : Bool) → length (halves_text v a) ≤ 2
-mutes-within true true = omega arith
-mutes-within true false = omega arith
-mutes-within false true = omega arith
-mutes-within false false = omega arith
+mutes_within : (v a : Bool) → length (halves_text v a) ≤ 2
+mutes_within true true = omega arith
+mutes_within true false = omega arith
+mutes_within false true = omega arith
+mutes_within false false = omega arith
 
 -- hours of five digits make a lamp of at most seven bytes
-lamp-of-seven : (x : LampHours) → is_lamp_hours x ≡ true → length (lamp_text x) ≤ 7
-lamp-of-seven x e =
+lamp_of_seven : (x : LampHours) → is_lamp_hours x ≡ true → length (lamp_text x) ≤ 7
+lamp_of_seven x e =
     omega (
       arith,
       length-append (digits x.hours) (code " " ∷ switch_code x.lit ∷ []),
-      digits-at-most-5 x.hours (omega (arith, leb-true x.hours hours_most e)),
+      digits_at_most_5 x.hours (omega (arith, leb-true x.hours hours_most e)),
     )
 
-pub said-long : {c : Command} {m : Said} → CanSay c m → length (saidBytes m) ≤ bytesMost m
-unfolding saidBytes
-said-long (done s) = omega arith
-said-long (refuses n l h t) = omega arith
-said-long (power p) = omega arith
-said-long (input i e) = omega arith
-said-long (mutes v a) = mutes-within v a
-said-long (errors ds h e) = omega (arith, length-map ds numberDigit)
-said-long (lamps ls l h e) = omega (arith, joined-long lamp_text is_lamp_hours 7 lamp-of-seven ls e l)
-said-long (inputs is l h e) = omega (arith, joined-long inputText isInput 2 (λ x f. omega arith) is e l)
-said-long (name s e) = omega arith
-said-long (maker s e) = omega arith
-said-long (model s e) = omega arith
-said-long (other s e) = omega arith
-said-long (class-is k l h) = omega arith
-said-long (freeze on) = omega arith
-said-long (serial s e) = omega arith
-said-long (version s e) = omega arith
-said-long (input-name s b e) = omega arith
-said-long (input-2 i e) = omega arith
-said-long (inputs-2 is l h e) = omega (arith, joined-long inputText isInput 2 (λ x f. omega arith) is e l)
+pub said_long : {c : Command} {m : Said} → CanSay c m → length (said_bytes m) ≤ bytes_most m
+unfolding said_bytes
+said_long (done s) = omega arith
+said_long (refuses n l h t) = omega arith
+said_long (power p) = omega arith
+said_long (input i e) = omega arith
+said_long (mutes v a) = mutes_within v a
+said_long (errors ds h e) = omega (arith, length-map ds number_digit)
+said_long (lamps ls l h e) = omega (arith, joined_long lamp_text is_lamp_hours 7 lamp_of_seven ls e l)
+said_long (inputs is l h e) = omega (arith, joined_long input_text is_input 2 (λ x f. omega arith) is e l)
+said_long (name s e) = omega arith
+said_long (maker s e) = omega arith
+said_long (model s e) = omega arith
+said_long (other s e) = omega arith
+said_long (class_said k l h) = omega arith
+said_long (freeze on) = omega arith
+said_long (serial s e) = omega arith
+said_long (version s e) = omega arith
+said_long (input_name s b e) = omega arith
+said_long (input_2 i e) = omega arith
+said_long (inputs_2 is l h e) = omega (arith, joined_long input_text is_input 2 (λ x f. omega arith) is e l)
 
-most-within : {c : Command} {m : Said} → CanSay c m → bytesMost m ≤ saidMost
-most-within (done s) = omega arith
-most-within (refuses n l h t) = omega arith
-most-within (power p) = omega arith
-most-within (input i e) = omega arith
-most-within (mutes v a) = omega arith
-most-within (errors ds h e) = omega arith
-most-within (lamps ls l h e) = omega arith
-most-within (inputs is l h e) = omega arith
-most-within (name s e) = omega (arith, name-long s e)
-most-within (maker s e) = omega (arith, info-long s e)
-most-within (model s e) = omega (arith, info-long s e)
-most-within (other s e) = omega (arith, info-long s e)
-most-within (class-is k l h) = omega arith
-most-within (freeze on) = omega arith
-most-within (serial s e) = omega (arith, info-long s e)
-most-within (version s e) = omega (arith, info-long s e)
-most-within (input-name s b e) = omega (arith, input-name-long s e)
-most-within (input-2 i e) = omega arith
-most-within (inputs-2 is l h e) = omega arith
+most_within : {c : Command} {m : Said} → CanSay c m → bytes_most m ≤ said_most
+most_within (done s) = omega arith
+most_within (refuses n l h t) = omega arith
+most_within (power p) = omega arith
+most_within (input i e) = omega arith
+most_within (mutes v a) = omega arith
+most_within (errors ds h e) = omega arith
+most_within (lamps ls l h e) = omega arith
+most_within (inputs is l h e) = omega arith
+most_within (name s e) = omega (arith, name_long s e)
+most_within (maker s e) = omega (arith, info_long s e)
+most_within (model s e) = omega (arith, info_long s e)
+most_within (other s e) = omega (arith, info_long s e)
+most_within (class_said k l h) = omega arith
+most_within (freeze on) = omega arith
+most_within (serial s e) = omega (arith, info_long s e)
+most_within (version s e) = omega (arith, info_long s e)
+most_within (input_name s b e) = omega (arith, input_name_long s e)
+most_within (input_2 i e) = omega arith
+most_within (inputs_2 is l h e) = omega arith
 
-pub said-most : {c : Command} {m : Said} → CanSay c m → length (saidBytes m) ≤ saidMost
-said-most w = omega (arith, said-long w, most-within w)
+pub said_within_most : {c : Command} {m : Said} → CanSay c m → length (said_bytes m) ≤ said_most
+said_within_most w = omega (arith, said_long w, most_within w)
 
-digit-no-cr : (d : ℕ) → notCr (numberDigit d) ≡ true
-digit-no-cr d = ap not (ne_eqb (numberDigit d) (code "\r") (omega arith))
+not_cr-number_digit : (d : ℕ) → not_cr (number_digit d) ≡ true
+not_cr-number_digit d = ap not (ne_eqb (number_digit d) (code "\r") (omega arith))
 
-errors-no-cr : (ds : List ℕ) → every notCr (errors_text ds) ≡ true
-errors-no-cr [] = refl
-errors-no-cr (d ∷ ds) = both (digit-no-cr d) (errors-no-cr ds)
+list_all-errors_text : (ds : List ℕ) → list_all not_cr (errors_text ds) ≡ true
+list_all-errors_text [] = refl
+list_all-errors_text (d ∷ ds) = both (not_cr-number_digit d) (list_all-errors_text ds)
 
-text-no-cr : (n : ℕ) (s : List ℕ) → isText n s ≡ true → every notCr s ≡ true
-text-no-cr n s e =
-    every-implies isTextByte notCr
-    (λ b t. ap not (ne_eqb b (code "\r") (λ q. omega (arith, leb-true 0x20 b (both_left (leb 0x20 b) (leb b 0xFF) t)))))
-    s (text-bytes n s e)
+text_no_cr : (n : ℕ) (s : List ℕ) → is_text n s ≡ true → list_all not_cr s ≡ true
+text_no_cr n s e =
+    list_all_implies is_text_byte not_cr
+    (λ b t. ap not
+    (ne_eqb b (code "\r") (λ q. omega (arith, leb-true 0x20 b (both_left (nat_le 0x20 b) (nat_le b 0xFF) t)))))
+    s (text_bytes n s e)
 
-lamp-no-cr : (x : LampHours) → every notCr (lamp_text x) ≡ true
-lamp-no-cr x =
-    every_append notCr (digits x.hours) (code " " ∷ switch_code x.lit ∷ [])
-    (digits-without "\r" (omega arith) x.hours) (flag x.lit)
+list_all-lamp_text : (x : LampHours) → list_all not_cr (lamp_text x) ≡ true
+list_all-lamp_text x =
+    list_all-append not_cr (digits x.hours) (code " " ∷ switch_code x.lit ∷ [])
+    (digits_without "\r" (omega arith) x.hours) (flag x.lit)
   where
-    flag : (on : Bool) → every notCr (code " " ∷ switch_code on ∷ []) ≡ true
+    flag : (on : Bool) → list_all not_cr (code " " ∷ switch_code on ∷ []) ≡ true
     flag true = refl
     flag false = refl
 
-power-no-cr : (p : Power) → every notCr (power_text p) ≡ true
-power-no-cr Off = refl
-power-no-cr On = refl
-power-no-cr Cooling = refl
-power-no-cr WarmUp = refl
+list_all-power_text : (p : Power) → list_all not_cr (power_text p) ≡ true
+list_all-power_text Off = refl
+list_all-power_text On = refl
+list_all-power_text Cooling = refl
+list_all-power_text WarmUp = refl
 
-mutes-no-cr : (v a : Bool) → every notCr (halves_text v a) ≡ true
-mutes-no-cr true true = refl
-mutes-no-cr true false = refl
-mutes-no-cr false true = refl
-mutes-no-cr false false = refl
+list_all-halves_text : (v a : Bool) → list_all not_cr (halves_text v a) ≡ true
+list_all-halves_text true true = refl
+list_all-halves_text true false = refl
+list_all-halves_text false true = refl
+list_all-halves_text false false = refl
 
-no-cr : {c : Command} {m : Said} → CanSay c m → every notCr (saidBytes m) ≡ true
-unfolding saidBytes
-no-cr (done s) = refl
-no-cr (refuses n l h t) = both (digit-no-cr n) refl
-no-cr (power p) = power-no-cr p
-no-cr (input i e) = input-no-cr i
-no-cr (mutes v a) = mutes-no-cr v a
-no-cr (errors ds h e) = errors-no-cr ds
-no-cr (lamps ls l h e) = joined-every lamp_text is_lamp_hours notCr (λ x t. lamp-no-cr x) refl ls e
-no-cr (inputs is l h e) = joined-every inputText isInput notCr (λ x t. input-no-cr x) refl is e
-no-cr (name s e) = text-no-cr nameMost s (name-is-text s e)
-no-cr (maker s e) = text-no-cr infoMost s e
-no-cr (model s e) = text-no-cr infoMost s e
-no-cr (other s e) = text-no-cr infoMost s e
-no-cr (class-is k l h) = both (digit-no-cr k) refl
-no-cr (freeze true) = refl
-no-cr (freeze false) = refl
-no-cr (serial s e) = text-no-cr infoMost s e
-no-cr (version s e) = text-no-cr infoMost s e
-no-cr (input-name s b e) = text-no-cr inputNameMost s e
-no-cr (input-2 i e) = input-no-cr i
-no-cr (inputs-2 is l h e) = joined-every inputText isInput notCr (λ x t. input-no-cr x) refl is e
+has_no_cr : {c : Command} {m : Said} → CanSay c m → list_all not_cr (said_bytes m) ≡ true
+unfolding said_bytes
+has_no_cr (done s) = refl
+has_no_cr (refuses n l h t) = both (not_cr-number_digit n) refl
+has_no_cr (power p) = list_all-power_text p
+has_no_cr (input i e) = input_no_cr i
+has_no_cr (mutes v a) = list_all-halves_text v a
+has_no_cr (errors ds h e) = list_all-errors_text ds
+has_no_cr (lamps ls l h e) = list_all-list_text lamp_text is_lamp_hours not_cr (λ x t. list_all-lamp_text x) refl ls e
+has_no_cr (inputs is l h e) = list_all-list_text input_text is_input not_cr (λ x t. input_no_cr x) refl is e
+has_no_cr (name s e) = text_no_cr name_most s (name_is_text s e)
+has_no_cr (maker s e) = text_no_cr info_most s e
+has_no_cr (model s e) = text_no_cr info_most s e
+has_no_cr (other s e) = text_no_cr info_most s e
+has_no_cr (class_said k l h) = both (not_cr-number_digit k) refl
+has_no_cr (freeze true) = refl
+has_no_cr (freeze false) = refl
+has_no_cr (serial s e) = text_no_cr info_most s e
+has_no_cr (version s e) = text_no_cr info_most s e
+has_no_cr (input_name s b e) = text_no_cr input_name_most s e
+has_no_cr (input_2 i e) = input_no_cr i
+has_no_cr (inputs_2 is l h e) = list_all-list_text input_text is_input not_cr (λ x t. input_no_cr x) refl is e
 
 pub said_plain : {c : Command} {m : Said} → CanSay c m
-    → (length (saidBytes m) ≤ parameterMost) × (noCr (saidBytes m) ≡ true)
-said_plain {c} {m} w = (said-most w, no-cr-of (saidBytes m) (no-cr w))
+    → (length (said_bytes m) ≤ parameter_most) × (no_cr (said_bytes m) ≡ true)
+said_plain {c} {m} w = (said_within_most w, no_cr_of (said_bytes m) (has_no_cr w))
 
 -- a text is its own parameter
-pub text-said : (s : List ℕ) → saidBytes (textIs s) ≡ s
-unfolding saidBytes
-text-said s = refl
+pub text_said : (s : List ℕ) → said_bytes (text_is s) ≡ s
+unfolding said_bytes
+text_said s = refl

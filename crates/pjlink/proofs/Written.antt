@@ -1,53 +1,48 @@
 -- What a projector of ours writes is a writing: so is any bytes that are an answer's parameter by its row.
 -- Assumes nothing.
-use Prim.Native.Nat.{ℕ, ◌≤◌}
-use mathlib.Core.Path.{◌≡◌, refl, sym, subst, ◌∙◌}
-use mathlib.Core.Bool.{Bool, true}
-use mathlib.Core.List.{List}
-use lib.ListN.{length}
-use borrow.Author.Tests.{le-leb}
-use Rattle.text.specs.Scans.{every}
+use Rattle.std.specs.List.{list_all}
+use Rattle.std.proofs.Common.{ℕ, ◌≤◌, ◌≡◌, refl, sym, subst, ◌∙◌, Bool, true, List, length, le-leb}
 use Rattle.text.proofs.Choices.{both}
 use Rattle.words.specs.Joined.{is_list}
 use Rattle.words.specs.Lamps.{is_lamp_hours}
 use Rattle.words.specs.Combinations.{list_says}
 use Rattle.words.specs.Laws.{lamp_codec}
 use Rattle.pjlink.specs.declared.command.Command.{Command}
-use Rattle.pjlink.specs.Said.{Said, lampsAre, saidText, saidBytes}
-use Rattle.pjlink.specs.Carried.{lampsCarried}
+use Rattle.pjlink.specs.Said.{Said, lamps_are, said_text, said_bytes}
+use Rattle.pjlink.specs.Carried.{lamps_carried}
 use Rattle.pjlink.specs.CanSay.{CanSay, done, refuses, power, input, mutes, errors, lamps, inputs, name, maker}
-use Rattle.pjlink.specs.CanSay.{model, other, class-is, freeze, serial, version, input-name, input-2, inputs-2}
+use Rattle.pjlink.specs.CanSay.{model, other, class_said, freeze, serial, version, input_name, input_2, inputs_2}
 use Rattle.pjlink.proofs.SaidRows.{said_row}
 use Rattle.pjlink.specs.Writings.{Writes}
 
 -- things that an answer may have are a list of its codec
-pub list-legal : {A : Type 0} (legal : A → Bool) (n : ℕ) (xs : List A) → 1 ≤ length xs → length xs ≤ n
-    → every legal xs ≡ true
+pub list_legal : {A : Type 0} (legal : A → Bool) (n : ℕ) (xs : List A) → 1 ≤ length xs → length xs ≤ n
+    → list_all legal xs ≡ true
     → is_list legal n xs ≡ true
-list-legal legal n xs l h e = both (both (le-leb 1 (length xs) l) (le-leb (length xs) n h)) e
+list_legal legal n xs l h e = both (both (le-leb 1 (length xs) l) (le-leb (length xs) n h)) e
 
-pub said-is-written : {c : Command} {m : Said} → CanSay c m → Writes m (saidBytes m)
-said-is-written (done s) = refl
-said-is-written (refuses n l h t) = refl
-said-is-written (power p) = refl
-said-is-written (input i e) = refl
-said-is-written (mutes v a) = refl
-said-is-written (errors ds h e) = refl
-said-is-written (lamps ls l h e) =
-    subst (Writes (lampsAre ls)) (sym (said_row (lampsAre ls)))
-    ((list_says lamp_codec lampsCarried).own ls (list-legal is_lamp_hours lampsCarried ls l h e)).1
-said-is-written (inputs is l h e) = refl
-said-is-written (name s e) = refl
-said-is-written (maker s e) = refl
-said-is-written (model s e) = refl
-said-is-written (other s e) = refl
-said-is-written (class-is k l h) = refl
-said-is-written (freeze on) = refl
-said-is-written (serial s e) = refl
-said-is-written (version s e) = refl
-said-is-written (input-name s b e) = refl
-said-is-written (input-2 i e) = refl
-said-is-written (inputs-2 is l h e) = refl
+pub said_is_written : {c : Command} {m : Said} → CanSay c m → Writes m (said_bytes m)
+said_is_written (done s) = refl
+said_is_written (refuses n l h t) = refl
+said_is_written (power p) = refl
+said_is_written (input i e) = refl
+said_is_written (mutes v a) = refl
+said_is_written (errors ds h e) = refl
+said_is_written (lamps ls l h e) =
+    subst (Writes (lamps_are ls)) (sym (said_row (lamps_are ls)))
+    ((list_says lamp_codec lamps_carried).own ls (list_legal is_lamp_hours lamps_carried ls l h e)).1
+said_is_written (inputs is l h e) = refl
+said_is_written (name s e) = refl
+said_is_written (maker s e) = refl
+said_is_written (model s e) = refl
+said_is_written (other s e) = refl
+said_is_written (class_said k l h) = refl
+said_is_written (freeze on) = refl
+said_is_written (serial s e) = refl
+said_is_written (version s e) = refl
+said_is_written (input_name s b e) = refl
+said_is_written (input_2 i e) = refl
+said_is_written (inputs_2 is l h e) = refl
 
-pub row-is-written : {c : Command} {m : Said} → CanSay c m → {p : List ℕ} → p ≡ saidText m → Writes m p
-row-is-written {c} {m} can e = subst (Writes m) (said_row m ∙ sym e) (said-is-written can)
+pub row_is_written : {c : Command} {m : Said} → CanSay c m → {p : List ℕ} → p ≡ said_text m → Writes m p
+row_is_written {c} {m} can e = subst (Writes m) (said_row m ∙ sym e) (said_is_written can)

@@ -6,16 +6,16 @@
 --                      there are lamps (rule 1); whether it is available, set or query, only when on (rule 4)
 --   class_of b         the class of the line that asks for it
 --   is_named k s r      the bytes s name the body of the row r in a line of Class k, in any case of letters
---   isBody k s b       they name the body b
---   bodyNamed k s      the body that they name, or none
---   hasSet b           it sets something (rule 3)
---   hasParameters b    it knows a parameter besides `?`: one that it does not know is out of parameter (rules 1 and 2)
---   hasQuery b         `?` asks it
+--   is_body k s b      they name the body b
+--   body_named k s     the body that they name, or none
+--   has_set b          it sets something (rule 3)
+--   has_parameters b   it knows a parameter besides `?`: one that it does not know is out of parameter (rules 1 and 2)
+--   has_query b        `?` asks it
 -- Assumes nothing.
-use Rattle.std.specs.Prelude.{ℕ, Bool, true, false, ◌&&◌, List, [], map, eqb, get_or, find, Option}
+use Rattle.std.specs.Prelude.{ℕ, Bool, true, false, ◌&&◌, List, [], map, find, Option, ◌==◌, slice_index_or}
 use Rattle.std.specs.Option.{option_map}
-use Rattle.text.specs.Scans.{sameBy}
-use Rattle.words.specs.Bytes.{upperOf}
+use Rattle.text.specs.Scans.{same_by}
+use Rattle.words.specs.Bytes.{upper_of}
 use Rattle.pjlink.specs.declared.body.TheConstants.{BODIES}
 use Rattle.pjlink.specs.declared.body.Row.{Row}
 use Rattle.pjlink.specs.declared.body.Body.{Body}
@@ -51,38 +51,38 @@ row_place Inpt2 = 17
 row_place Inst2 = 18
 
 -- no body lies past the table
-abbrev noRow : Body → Row
-noRow b = record { body = b; class = 0; letters = []; set = QueryOnly; asks = false; lamps = false; on = false }
+abbrev no_row : Body → Row
+no_row b = record { body = b; class = 0; letters = []; set = QueryOnly; asks = false; lamps = false; on = false }
 
 abbrev pub row_of : Body → Row
-row_of b = get_or BODIES (row_place b) (noRow b)
+row_of b = slice_index_or BODIES (row_place b) (no_row b)
 
 abbrev pub class_of : Body → ℕ
 class_of b = (row_of b).class
 
 abbrev pub is_named : ℕ → List ℕ → Row → Bool
-is_named k s r = eqb k r.class && sameBy upperOf s r.letters
+is_named k s r = k == r.class && same_by upper_of s r.letters
 
-abbrev pub isBody : ℕ → List ℕ → Body → Bool
-isBody k s b = is_named k s (row_of b)
+abbrev pub is_body : ℕ → List ℕ → Body → Bool
+is_body k s b = is_named k s (row_of b)
 
-abbrev pub bodyNamed : ℕ → List ℕ → Option Body
-bodyNamed k s = option_map (λ (r : Row). r.body) (find (is_named k s) BODIES)
+abbrev pub body_named : ℕ → List ℕ → Option Body
+body_named k s = option_map (λ (r : Row). r.body) (find (is_named k s) BODIES)
 
-abbrev pub isSetting : Sets → Bool
-isSetting NamesInput = false
-isSetting QueryOnly = false
-isSetting set = true
+abbrev pub is_setting : Sets → Bool
+is_setting NamesInput = false
+is_setting QueryOnly = false
+is_setting set = true
 
-abbrev pub hasSet : Body → Bool
-hasSet b = isSetting (row_of b).set
+abbrev pub has_set : Body → Bool
+has_set b = is_setting (row_of b).set
 
-abbrev pub isKnowing : Sets → Bool
-isKnowing QueryOnly = false
-isKnowing set = true
+abbrev pub is_knowing : Sets → Bool
+is_knowing QueryOnly = false
+is_knowing set = true
 
-abbrev pub hasParameters : Body → Bool
-hasParameters b = isKnowing (row_of b).set
+abbrev pub has_parameters : Body → Bool
+has_parameters b = is_knowing (row_of b).set
 
-abbrev pub hasQuery : Body → Bool
-hasQuery b = (row_of b).asks
+abbrev pub has_query : Body → Bool
+has_query b = (row_of b).asks

@@ -1,41 +1,41 @@
 -- An answer as it is carried, seen as what is said (RULES, What the product holds).
---   lampsCarried      so many lamps an answer tells of at most, and inputsCarried inputs (RULES, Controller: "INST
+--   lamps_carried     so many lamps an answer tells of at most, and inputs_carried inputs (RULES, Controller: "INST
 --                     allows 1 to 32 inputs, repeats included, LAMP 1 to 8 lamps"): what a set-up may have is record's
 --                     to say
---   errorsCarried     so many error digits
+--   errors_carried    so many error digits
 --   answer_said a     what an answer says
 --   said_by r         what a reply says, an answer or a refusal
 --   value_said o      what is read as an answer, where there is one: a parameter that is none says nothing
 --   parameter_said o  the same of what is read as a reply
 -- Assumes nothing.
 use Rattle.std.specs.Prelude.{ℕ, Option, Some, None, Result, Ok, Err}
-use Rattle.pjlink.specs.Said.{Said, okay, refused, powerIs, chosenIs, mutesAre, errorsAre, lampsAre, inputsAre}
-use Rattle.pjlink.specs.Said.{textIs, classIs, freezeIs, nothing}
+use Rattle.pjlink.specs.Said.{Said, okay, refused, power_is, chosen_is, mutes_are, errors_are, lamps_are, inputs_are}
+use Rattle.pjlink.specs.Said.{text_is, class_is, freeze_is, nothing}
 use Rattle.words.specs.declared.refusal.Refusal.{Refusal}
 use Rattle.words.specs.Refusing.{refusal_digit}
 use Rattle.pjlink.specs.declared.answer.Answer.{Answer}
 use Rattle.pjlink.specs.declared.answer.Answer.TheVariants as an
 
-abbrev pub lampsCarried : ℕ
-lampsCarried = 8
+abbrev pub lamps_carried : ℕ
+lamps_carried = 8
 
-abbrev pub inputsCarried : ℕ
-inputsCarried = 32
+abbrev pub inputs_carried : ℕ
+inputs_carried = 32
 
-abbrev pub errorsCarried : ℕ
-errorsCarried = 6
+abbrev pub errors_carried : ℕ
+errors_carried = 6
 
 abbrev pub answer_said : Answer → Said
 answer_said an.Done = okay
-answer_said (an.Power p) = powerIs p
-answer_said (an.Input i) = chosenIs i
-answer_said (an.Mutes video audio) = mutesAre video audio
-answer_said (an.Errors digits) = errorsAre digits
-answer_said (an.Lamps lamps) = lampsAre lamps.items
-answer_said (an.Inputs inputs) = inputsAre inputs.items
-answer_said (an.Text text) = textIs text.now
-answer_said (an.Class k) = classIs k
-answer_said (an.Freeze on) = freezeIs on
+answer_said (an.Power p) = power_is p
+answer_said (an.Input i) = chosen_is i
+answer_said (an.Mutes video audio) = mutes_are video audio
+answer_said (an.Errors digits) = errors_are digits
+answer_said (an.Lamps lamps) = lamps_are lamps.items
+answer_said (an.Inputs inputs) = inputs_are inputs.items
+answer_said (an.Text text) = text_is text.now
+answer_said (an.Class k) = class_is k
+answer_said (an.Freeze on) = freeze_is on
 
 abbrev pub said_by : Result Answer Refusal → Said
 said_by (Ok a) = answer_said a

@@ -1,21 +1,20 @@
 -- The commands that our writer can write, and their lines (PJLink 1.04, 2.1 and 4.1 to 4.14; RULES, Commands and Class
 -- 2).
---   bodyText b           the four letters of a body
---   bodyOf c             the body of a command
---   commandClass c       the class of its line, and classDigit k the character of a class
---   parameterOf c        its parameter: `?` asks, anything else sets (of a step, 1 is up and 0 is down); INNM's names
+--   body_text b          the four letters of a body
+--   body_of c            the body of a command
+--   command_class c      the class of its line, and class_digit k the character of a class
+--   parameter_of c       its parameter: `?` asks, anything else sets (of a step, 1 is up and 0 is down); INNM's names
 --                        the input that is asked for
---   parameterBytes p     the bytes of a parameter
---   isCommand c          a command whose line can be written: its input is one, its query is one
---   commandText c        `%` and the class, the body, a space, the parameter
---   commandLine c        that and CR
+--   parameter_bytes p    the bytes of a parameter
+--   is_command c         a command whose line can be written: its input is one, its query is one
+--   command_text c       `%` and the class, the body, a space, the parameter
+--   command_line c       that and CR
 -- Assumes nothing.
-use Rattle.std.specs.Prelude.{Bool, true, List, [], ◌∷◌, ◌++◌, ℕ, ◌+◌}
+use Rattle.std.specs.Prelude.{Bool, true, List, [], ◌∷◌, ◌++◌, ℕ, ◌+◌, codes}
 use Prim.Native.Char.{code}
-use Rattle.text.specs.Words.{ascii}
-use Rattle.words.specs.Inputs.{isInput, inputText}
+use Rattle.words.specs.Inputs.{is_input, input_text}
 use Rattle.words.specs.Powers.{switch_code}
-use Rattle.pjlink.specs.Bodies.{row_of, class_of, hasQuery}
+use Rattle.pjlink.specs.Bodies.{row_of, class_of, has_query}
 use Rattle.pjlink.specs.declared.body.Body.{Body}
 use Rattle.pjlink.specs.declared.body.Body.TheVariants.{Powr, Inpt, Avmt, Frez, Svol, Mvol, Innm, Inpt2}
 use Rattle.pjlink.specs.declared.command.Half.{Half}
@@ -28,62 +27,62 @@ use Rattle.pjlink.specs.declared.command.Command.{Command}
 use Rattle.pjlink.specs.declared.command.Command.TheVariants.{PowerSet, InputSet, MuteSet, InputSet2, FreezeSet}
 use Rattle.pjlink.specs.declared.command.Command.TheVariants.{VolumeStep, NameQuery, Query}
 
-abbrev pub bodyText : Body → List ℕ
-bodyText b = (row_of b).letters
+abbrev pub body_text : Body → List ℕ
+body_text b = (row_of b).letters
 
-abbrev pub volumeBody : Volume → Body
-volumeBody Speaker = Svol
-volumeBody Microphone = Mvol
+abbrev pub volume_body : Volume → Body
+volume_body Speaker = Svol
+volume_body Microphone = Mvol
 
-abbrev pub bodyOf : Command → Body
-bodyOf (PowerSet on) = Powr
-bodyOf (InputSet i) = Inpt
-bodyOf (MuteSet h on) = Avmt
-bodyOf (InputSet2 i) = Inpt2
-bodyOf (FreezeSet on) = Frez
-bodyOf (VolumeStep v up) = volumeBody v
-bodyOf (NameQuery i) = Innm
-bodyOf (Query b) = b
+abbrev pub body_of : Command → Body
+body_of (PowerSet on) = Powr
+body_of (InputSet i) = Inpt
+body_of (MuteSet h on) = Avmt
+body_of (InputSet2 i) = Inpt2
+body_of (FreezeSet on) = Frez
+body_of (VolumeStep v up) = volume_body v
+body_of (NameQuery i) = Innm
+body_of (Query b) = b
 
-abbrev pub commandClass : Command → ℕ
-commandClass c = class_of (bodyOf c)
+abbrev pub command_class : Command → ℕ
+command_class c = class_of (body_of c)
 
-abbrev pub classDigit : ℕ → ℕ
-classDigit k = code "0" + k
+abbrev pub class_digit : ℕ → ℕ
+class_digit k = code "0" + k
 
 -- 1 video, 2 audio, 3 both
-abbrev pub halfDigit : Half → ℕ
-halfDigit VideoHalf = code "1"
-halfDigit AudioHalf = code "2"
-halfDigit BothHalves = code "3"
+abbrev pub half_digit : Half → ℕ
+half_digit VideoHalf = code "1"
+half_digit AudioHalf = code "2"
+half_digit BothHalves = code "3"
 
-abbrev pub parameterOf : Command → List ℕ
-parameterOf (PowerSet on) = switch_code on ∷ []
-parameterOf (InputSet i) = inputText i
-parameterOf (MuteSet h on) = halfDigit h ∷ switch_code on ∷ []
-parameterOf (InputSet2 i) = inputText i
-parameterOf (FreezeSet on) = switch_code on ∷ []
-parameterOf (VolumeStep v up) = switch_code up ∷ []
-parameterOf (NameQuery i) = ascii "?" ++ inputText i
-parameterOf (Query b) = ascii "?"
+abbrev pub parameter_of : Command → List ℕ
+parameter_of (PowerSet on) = switch_code on ∷ []
+parameter_of (InputSet i) = input_text i
+parameter_of (MuteSet h on) = half_digit h ∷ switch_code on ∷ []
+parameter_of (InputSet2 i) = input_text i
+parameter_of (FreezeSet on) = switch_code on ∷ []
+parameter_of (VolumeStep v up) = switch_code up ∷ []
+parameter_of (NameQuery i) = codes "?" ++ input_text i
+parameter_of (Query b) = codes "?"
 
-abbrev pub parameterBytes : Parameter → List ℕ
-parameterBytes (One a) = a ∷ []
-parameterBytes (Two a b) = a ∷ b ∷ []
-parameterBytes (Three a b c) = a ∷ b ∷ c ∷ []
+abbrev pub parameter_bytes : Parameter → List ℕ
+parameter_bytes (One a) = a ∷ []
+parameter_bytes (Two a b) = a ∷ b ∷ []
+parameter_bytes (Three a b c) = a ∷ b ∷ c ∷ []
 
-abbrev pub isCommand : Command → Bool
-isCommand (PowerSet on) = true
-isCommand (InputSet i) = isInput i
-isCommand (MuteSet h on) = true
-isCommand (InputSet2 i) = isInput i
-isCommand (FreezeSet on) = true
-isCommand (VolumeStep v up) = true
-isCommand (NameQuery i) = isInput i
-isCommand (Query b) = hasQuery b
+abbrev pub is_command : Command → Bool
+is_command (PowerSet on) = true
+is_command (InputSet i) = is_input i
+is_command (MuteSet h on) = true
+is_command (InputSet2 i) = is_input i
+is_command (FreezeSet on) = true
+is_command (VolumeStep v up) = true
+is_command (NameQuery i) = is_input i
+is_command (Query b) = has_query b
 
-abbrev pub commandText : Command → List ℕ
-commandText c = ascii "%" ++ (classDigit (commandClass c) ∷ bodyText (bodyOf c)) ++ ascii " " ++ parameterOf c
+abbrev pub command_text : Command → List ℕ
+command_text c = codes "%" ++ (class_digit (command_class c) ∷ body_text (body_of c)) ++ codes " " ++ parameter_of c
 
-abbrev pub commandLine : Command → List ℕ
-commandLine c = commandText c ++ ascii "\r"
+abbrev pub command_line : Command → List ℕ
+command_line c = command_text c ++ codes "\r"

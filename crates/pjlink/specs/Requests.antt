@@ -10,15 +10,15 @@
 --                            Err UnknownBody      no body of the line's class
 --   or_unlisted b m        the request that the command m of the body b is, where there is one
 --   asked_of b p           the request of the body b with the parameter p
---   requestOf k s p        what the body s with the parameter p asks for in a line of Class k
+--   request_of k s p       what the body s with the parameter p asks for in a line of Class k
 -- Assumes nothing.
-use Rattle.std.specs.Prelude.{ℕ, Bool, ◌&&◌, List, length, drop, eqb, if◌then◌else◌}
-use Rattle.std.specs.Prelude.{Option, Some, None, Result, Ok, Err}
+use Rattle.std.specs.Prelude.{ℕ, Bool, ◌&&◌, List, length, drop, if◌then◌else◌}
+use Rattle.std.specs.Prelude.{Option, Some, None, Result, Ok, Err, ◌==◌}
 use Rattle.std.specs.Option.{option_map}
 use Rattle.text.specs.Words.{◌is◌, ◌from◌to◌}
 use Rattle.words.specs.Bytes.{◌at◌}
 use Rattle.words.specs.Inputs.{input_of}
-use Rattle.pjlink.specs.Bodies.{row_of, bodyNamed, hasQuery}
+use Rattle.pjlink.specs.Bodies.{row_of, body_named, has_query}
 use Rattle.pjlink.specs.declared.body.Body.{Body}
 use Rattle.pjlink.specs.declared.command.Half.{Half}
 use Rattle.pjlink.specs.declared.command.Half.TheVariants.{VideoHalf, AudioHalf, BothHalves}
@@ -34,16 +34,16 @@ use Rattle.pjlink.specs.declared.request.Unasked.TheVariants.{Unlisted, UnknownB
 
 -- POWR, FREZ: off and on; SVOL, MVOL: down and up
 unfoldable pub switch_of : List ℕ → Option Bool
-switch_of p = if eqb (length p) 1 && p at 0 from "0" to "1" then Some (p at 0 is "1") else None
+switch_of p = if length p == 1 && p at 0 from "0" to "1" then Some (p at 0 is "1") else None
 
 -- AVMT: 10 11 20 21 30 31
-unfoldable pub halfNamed : ℕ → Half
-halfNamed a = if a is "1" then VideoHalf else if a is "2" then AudioHalf else BothHalves
+unfoldable pub half_named : ℕ → Half
+half_named a = if a is "1" then VideoHalf else if a is "2" then AudioHalf else BothHalves
 
 unfoldable pub mute_of : List ℕ → Option Command
 mute_of p =
-    if eqb (length p) 2 && (p at 0 from "1" to "3" && p at 1 from "0" to "1")
-    then Some (MuteSet (halfNamed (p at 0)) (p at 1 is "1"))
+    if length p == 2 && (p at 0 from "1" to "3" && p at 1 from "0" to "1")
+    then Some (MuteSet (half_named (p at 0)) (p at 1 is "1"))
     else None
 
 -- INNM: `?` and two characters that name an input
@@ -62,11 +62,11 @@ set_of StepsMicrophone p = option_map (VolumeStep Microphone) (switch_of p)
 set_of NamesInput p = name_query_of p
 set_of QueryOnly p = None
 
-abbrev pub isQuestion : List ℕ → Bool
-isQuestion p = eqb (length p) 1 && p at 0 is "?"
+abbrev pub is_question : List ℕ → Bool
+is_question p = length p == 1 && p at 0 is "?"
 
 abbrev pub command_of : Body → List ℕ → Option Command
-command_of b p = if hasQuery b && isQuestion p then Some (Query b) else set_of (row_of b).set p
+command_of b p = if has_query b && is_question p then Some (Query b) else set_of (row_of b).set p
 
 abbrev pub Request : Type 0
 Request = Result Command Unasked
@@ -82,5 +82,5 @@ abbrev pub asked : Option Body → List ℕ → Request
 asked (Some b) p = asked_of b p
 asked None p = Err UnknownBody
 
-unfoldable pub requestOf : ℕ → List ℕ → List ℕ → Request
-requestOf k s p = asked (bodyNamed k s) p
+unfoldable pub request_of : ℕ → List ℕ → List ℕ → Request
+request_of k s p = asked (body_named k s) p

@@ -3,16 +3,15 @@
 --   Said               OK; ERRn; a power; a chosen input; the mutes of video and audio; six error digits; lamps;
 --                      inputs; a text; a class; whether the picture is frozen; or nothing: a parameter that is not
 --                      allowed
---   saidText m         the parameter, row by row
---   saidBytes m        the same, shut
---   parameterMost      no parameter of a reply is longer
---   bytesMost m        no answer of its kind has a longer one: 63 bytes for 8 lamps, 8 × 7 and 7 spaces (PJLink allows
+--   said_text m        the parameter, row by row
+--   said_bytes m       the same, shut
+--   parameter_most     no parameter of a reply is longer
+--   bytes_most m       no answer of its kind has a longer one: 63 bytes for 8 lamps, 8 × 7 and 7 spaces (PJLink allows
 --                      65)
---   saidMost           no answer has a longer one: an input's name of 128 bytes (RULES, Class 2)
+--   said_most          no answer has a longer one: an input's name of 128 bytes (RULES, Class 2)
 -- Assumes nothing.
-use Rattle.std.specs.Prelude.{ℕ, ◌*◌, ◌-◌, Bool, List, [], ◌∷◌, ◌++◌, length}
-use Rattle.text.specs.Words.{ascii}
-use Rattle.words.specs.Inputs.{inputText, numberDigit}
+use Rattle.std.specs.Prelude.{ℕ, ◌*◌, ◌-◌, Bool, List, [], ◌∷◌, ◌++◌, length, codes}
+use Rattle.words.specs.Inputs.{input_text, number_digit}
 use Rattle.words.specs.Joined.{list_text}
 use Rattle.words.specs.Powers.{power_text, switch_text}
 use Rattle.words.specs.Muting.{halves_text}
@@ -25,53 +24,53 @@ use Rattle.words.specs.declared.lamp.LampHours.{LampHours}
 pub data Said : Type 0 where
   okay : Said
   refused : ℕ → Said
-  powerIs : Power → Said
-  chosenIs : Input → Said
-  mutesAre : Bool → Bool → Said
-  errorsAre : List ℕ → Said
-  lampsAre : List LampHours → Said
-  inputsAre : List Input → Said
-  textIs : List ℕ → Said
-  classIs : ℕ → Said
-  freezeIs : Bool → Said
+  power_is : Power → Said
+  chosen_is : Input → Said
+  mutes_are : Bool → Bool → Said
+  errors_are : List ℕ → Said
+  lamps_are : List LampHours → Said
+  inputs_are : List Input → Said
+  text_is : List ℕ → Said
+  class_is : ℕ → Said
+  freeze_is : Bool → Said
   nothing : Said
 
-abbrev pub refusalText : ℕ → List ℕ
-refusalText n = ascii "ERR" ++ (numberDigit n ∷ [])
+abbrev pub numbered_refusal : ℕ → List ℕ
+numbered_refusal n = codes "ERR" ++ (number_digit n ∷ [])
 
-abbrev pub saidText : Said → List ℕ
-saidText okay = ascii "OK"
-saidText (refused n) = refusalText n
-saidText (powerIs p) = power_text p
-saidText (chosenIs i) = inputText i
-saidText (mutesAre video audio) = halves_text video audio
-saidText (errorsAre ds) = errors_text ds
-saidText (lampsAre ls) = list_text lamp_text ls
-saidText (inputsAre is) = list_text inputText is
-saidText (textIs s) = s
-saidText (classIs k) = numberDigit k ∷ []
-saidText (freezeIs on) = switch_text on
-saidText nothing = []
+abbrev pub said_text : Said → List ℕ
+said_text okay = codes "OK"
+said_text (refused n) = numbered_refusal n
+said_text (power_is p) = power_text p
+said_text (chosen_is i) = input_text i
+said_text (mutes_are video audio) = halves_text video audio
+said_text (errors_are ds) = errors_text ds
+said_text (lamps_are ls) = list_text lamp_text ls
+said_text (inputs_are is) = list_text input_text is
+said_text (text_is s) = s
+said_text (class_is k) = number_digit k ∷ []
+said_text (freeze_is on) = switch_text on
+said_text nothing = []
 
-unfoldable pub saidBytes : Said → List ℕ
-saidBytes m = saidText m
+unfoldable pub said_bytes : Said → List ℕ
+said_bytes m = said_text m
 
-abbrev pub parameterMost : ℕ
-parameterMost = 128
+abbrev pub parameter_most : ℕ
+parameter_most = 128
 
-abbrev pub saidMost : ℕ
-saidMost = 128
+abbrev pub said_most : ℕ
+said_most = 128
 
-abbrev pub bytesMost : Said → ℕ
-bytesMost okay = 2
-bytesMost (refused n) = 4
-bytesMost (powerIs p) = 1
-bytesMost (chosenIs i) = 2
-bytesMost (mutesAre video audio) = 2
-bytesMost (errorsAre ds) = 6
-bytesMost (lampsAre ls) = 63
-bytesMost (inputsAre is) = 3 * length is - 1
-bytesMost (textIs s) = length s
-bytesMost (classIs k) = 1
-bytesMost (freezeIs on) = 1
-bytesMost nothing = 0
+abbrev pub bytes_most : Said → ℕ
+bytes_most okay = 2
+bytes_most (refused n) = 4
+bytes_most (power_is p) = 1
+bytes_most (chosen_is i) = 2
+bytes_most (mutes_are video audio) = 2
+bytes_most (errors_are ds) = 6
+bytes_most (lamps_are ls) = 63
+bytes_most (inputs_are is) = 3 * length is - 1
+bytes_most (text_is s) = length s
+bytes_most (class_is k) = 1
+bytes_most (freeze_is on) = 1
+bytes_most nothing = 0

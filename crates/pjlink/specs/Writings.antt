@@ -5,34 +5,34 @@
 --   Writes m p         the bytes p are a writing of m: lamps, each in a writing of its own, joined by single spaces; of
 --                      any other answer the one that a projector of ours makes
 --   Says c m p         the parameter p says m in reply to the command c
---   Allowed c p t      whether p is allowed there: it says something, or there is nothing that it says
+--   IsAllowed c p t    whether p is allowed there: it says something, or there is nothing that it says
 -- Assumes nothing.
 use Rattle.std.specs.Prelude.{ℕ, ◌≡◌, Bool, true, false, List}
 use Rattle.words.specs.Joined.{JoinedBy}
 use Rattle.words.specs.Lamps.{WritesLampHours}
 use Rattle.pjlink.specs.declared.command.Command.{Command}
-use Rattle.pjlink.specs.Said.{Said, okay, refused, powerIs, chosenIs, mutesAre, errorsAre, lampsAre, inputsAre}
-use Rattle.pjlink.specs.Said.{textIs, classIs, freezeIs, nothing, saidBytes}
+use Rattle.pjlink.specs.Said.{Said, okay, refused, power_is, chosen_is, mutes_are, errors_are, lamps_are, inputs_are}
+use Rattle.pjlink.specs.Said.{text_is, class_is, freeze_is, nothing, said_bytes}
 use Rattle.pjlink.specs.CanSay.{CanSay}
 
 abbrev pub Writes : Said → List ℕ → Type 0
-Writes okay p = p ≡ saidBytes okay
-Writes (refused n) p = p ≡ saidBytes (refused n)
-Writes (powerIs q) p = p ≡ saidBytes (powerIs q)
-Writes (chosenIs i) p = p ≡ saidBytes (chosenIs i)
-Writes (mutesAre video audio) p = p ≡ saidBytes (mutesAre video audio)
-Writes (errorsAre ds) p = p ≡ saidBytes (errorsAre ds)
-Writes (lampsAre ls) p = JoinedBy WritesLampHours ls p
-Writes (inputsAre is) p = p ≡ saidBytes (inputsAre is)
-Writes (textIs s) p = p ≡ saidBytes (textIs s)
-Writes (classIs k) p = p ≡ saidBytes (classIs k)
-Writes (freezeIs on) p = p ≡ saidBytes (freezeIs on)
-Writes nothing p = p ≡ saidBytes nothing
+Writes okay p = p ≡ said_bytes okay
+Writes (refused n) p = p ≡ said_bytes (refused n)
+Writes (power_is q) p = p ≡ said_bytes (power_is q)
+Writes (chosen_is i) p = p ≡ said_bytes (chosen_is i)
+Writes (mutes_are video audio) p = p ≡ said_bytes (mutes_are video audio)
+Writes (errors_are ds) p = p ≡ said_bytes (errors_are ds)
+Writes (lamps_are ls) p = JoinedBy WritesLampHours ls p
+Writes (inputs_are is) p = p ≡ said_bytes (inputs_are is)
+Writes (text_is s) p = p ≡ said_bytes (text_is s)
+Writes (class_is k) p = p ≡ said_bytes (class_is k)
+Writes (freeze_is on) p = p ≡ said_bytes (freeze_is on)
+Writes nothing p = p ≡ said_bytes nothing
 
 pub record Says (c : Command) (m : Said) (p : List ℕ) : Type 0 where
   pub can : CanSay c m
   pub written : Writes m p
 
-pub data Allowed (c : Command) (p : List ℕ) : Bool → Type 0 where
-  says : (m : Said) → Says c m p → Allowed c p true
-  says_nothing : ((m : Said) → Says c m p → ⊥) → Allowed c p false
+pub data IsAllowed (c : Command) (p : List ℕ) : Bool → Type 0 where
+  says : (m : Said) → Says c m p → IsAllowed c p true
+  says_nothing : ((m : Said) → Says c m p → ⊥) → IsAllowed c p false

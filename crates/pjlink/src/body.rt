@@ -1,6 +1,6 @@
 // The bodies of both classes: THE table, a row for each (RULES, Commands; PJLink 1.04, 4.1 to 4.14; RULES, Class 2).
 ghost use Rattle.std.specs.Prelude.{◌≡◌};
-ghost use Rattle.pjlink.specs.Bodies.{row_of, is_named, isBody, bodyNamed, hasSet, hasParameters, hasQuery};
+ghost use Rattle.pjlink.specs.Bodies.{row_of, is_named, is_body, body_named, has_set, has_parameters, has_query};
 
 use self::Sets::{
     NamesInput, QueryOnly, SetsFreeze, SetsInput, SetsInput2, SetsMute, SetsPower, StepsMicrophone,
@@ -114,7 +114,7 @@ impl Body {
 
     /// The body that four letters name in a line of the class, whatever their case.
     pub fn named(class: u8, letters: [u8; 4]) -> Option<Body>
-        ensures { result ≡ bodyNamed class letters }
+        ensures { result ≡ body_named class letters }
     {
         let row = BODIES.iter().find(|row| row.is_named(class, letters))?;
         Some(row.body)
@@ -122,28 +122,28 @@ impl Body {
 
     /// Whether four letters name it in a line of the class, whatever their case.
     pub fn is_named(self, class: u8, letters: [u8; 4]) -> bool
-        ensures { result ≡ isBody class letters self }
+        ensures { result ≡ is_body class letters self }
     {
         self.row().is_named(class, letters)
     }
 
     /// Whether it sets something (rule 3).
     pub fn has_set(self) -> bool
-        ensures { result ≡ hasSet self }
+        ensures { result ≡ has_set self }
     {
         !matches!(self.row().set, Sets::NamesInput | Sets::QueryOnly)
     }
 
     /// Whether it knows a parameter besides `?`: one that it does not know is out of parameter (rules 1 and 2).
     pub fn has_parameters(self) -> bool
-        ensures { result ≡ hasParameters self }
+        ensures { result ≡ has_parameters self }
     {
         !matches!(self.row().set, Sets::QueryOnly)
     }
 
     /// Whether `?` asks it.
     pub fn has_query(self) -> bool
-        ensures { result ≡ hasQuery self }
+        ensures { result ≡ has_query self }
     {
         self.row().asks
     }

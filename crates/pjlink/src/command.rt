@@ -1,9 +1,8 @@
 // The commands that our writer can write, and their lines (PJLink 1.04, 2.1 and 4.1 to 4.14; RULES, Class 2).
-ghost use Rattle.std.specs.Prelude.{◌≡◌, ◌++◌, ◌+◌, ◌≤◌, length};
+ghost use Rattle.std.specs.Prelude.{◌≡◌, ◌++◌, ◌+◌, ◌≤◌, length, codes};
 ghost use Rattle.std.proofs.lemmas.List.Edits.{sets};
-ghost use Rattle.text.specs.Words.{ascii};
-ghost use Rattle.pjlink.specs.Commands.{volumeBody, bodyOf, commandClass, parameterOf};
-ghost use Rattle.pjlink.specs.Commands.{parameterBytes, halfDigit, isCommand, commandLine};
+ghost use Rattle.pjlink.specs.Commands.{volume_body, body_of, command_class, parameter_of};
+ghost use Rattle.pjlink.specs.Commands.{parameter_bytes, half_digit, is_command, command_line};
 
 use crate::body::Body;
 use words::input::Input;
@@ -49,7 +48,7 @@ pub enum Parameter {
 impl Command {
     /// The body that it is about.
     pub fn body(self) -> Body
-        ensures { result ≡ bodyOf self }
+        ensures { result ≡ body_of self }
     {
         match self {
             Command::PowerSet(_) => Body::Powr,
@@ -65,14 +64,14 @@ impl Command {
 
     /// The class of its line, 1 or 2.
     pub fn class(self) -> u8
-        ensures { result ≡ commandClass self }
+        ensures { result ≡ command_class self }
     {
         self.body().row().class
     }
 
     /// Whether its line can be written: its input is one that two characters can name, its query is one.
     pub fn is_legal(self) -> bool
-        ensures { result ≡ isCommand self }
+        ensures { result ≡ is_command self }
     {
         match self {
             Command::InputSet(i) | Command::InputSet2(i) | Command::NameQuery(i) => input::is_input(
@@ -84,7 +83,7 @@ impl Command {
     }
 
     fn parameter(self) -> Parameter
-        ensures { parameterBytes result ≡ parameterOf self }
+        ensures { parameter_bytes result ≡ parameter_of self }
     {
         match self {
             Command::PowerSet(on) | Command::FreezeSet(on) | Command::VolumeStep(_, on) => {
@@ -106,8 +105,8 @@ impl Command {
     /// Its line, with its CR, into `out` from the place `at` on; the place after it.
     pub fn put(self, out: &mut [u8], at: usize) -> usize
         requires { at + 11 ≤ length out.old }
-        ensures after { result ≡ at + length (commandLine self) }
-        ensures written { out.new ≡ sets out.old at (commandLine self) }
+        ensures after { result ≡ at + length (command_line self) }
+        ensures written { out.new ≡ sets out.old at (command_line self) }
     {
         let row = self.body().row();
         let [a, b, c, d] = row.letters;
@@ -117,7 +116,7 @@ impl Command {
 }
 
 fn volume_body(v: Volume) -> Body
-    ensures { result ≡ volumeBody v }
+    ensures { result ≡ volume_body v }
 {
     match v {
         Volume::Speaker => Body::Svol,
@@ -126,7 +125,7 @@ fn volume_body(v: Volume) -> Body
 }
 
 fn half_digit(h: Half) -> u8
-    ensures { result ≡ halfDigit h }
+    ensures { result ≡ half_digit h }
 {
     match h {
         Half::VideoHalf => b'1',
@@ -138,8 +137,8 @@ fn half_digit(h: Half) -> u8
 // The parameter and CR into out, from the place `at` on; the place after them.
 fn put_parameter(out: &mut [u8], at: usize, p: Parameter) -> usize
     requires { at + 4 ≤ length out.old }
-    ensures after { result ≡ at + length (parameterBytes p ++ ascii "\r") }
-    ensures written { out.new ≡ sets out.old at (parameterBytes p ++ ascii "\r") }
+    ensures after { result ≡ at + length (parameter_bytes p ++ codes "\r") }
+    ensures written { out.new ≡ sets out.old at (parameter_bytes p ++ codes "\r") }
 {
     match p {
         Parameter::One(x) => {

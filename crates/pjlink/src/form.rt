@@ -1,8 +1,8 @@
 // The forms of lines, each taken apart once (PJLink 1.04, 2.1 and 2.2; RULES, Connection and Controller and Class 2).
-ghost use Rattle.std.specs.Prelude.{◌≡◌, IfSome, IfNone, false, eqb};
-ghost use Rattle.pjlink.specs.Commands.{classDigit};
-ghost use Rattle.pjlink.specs.Forms.{takesClass, isCommandForm, classNamed, isReplyForm};
-ghost use Rattle.pjlink.specs.Forms.{isHeadedBy, IsCommandOf, IsReplyOf};
+ghost use Rattle.std.specs.Prelude.{◌≡◌, IfSome, IfNone, false, ◌==◌};
+ghost use Rattle.pjlink.specs.Commands.{class_digit};
+ghost use Rattle.pjlink.specs.Forms.{takes_class, is_command_form, class_of_byte, is_reply_form};
+ghost use Rattle.pjlink.specs.Forms.{is_headed_by, IsCommandOf, IsReplyOf};
 
 use words::byte;
 
@@ -19,17 +19,17 @@ pub struct Parts<'a> {
 
 // Whether a set-up of Class k takes a line with this class byte.
 fn takes_class(k: u8, h: u8) -> bool
-    ensures { result ≡ takesClass k h }
+    ensures { result ≡ takes_class k h }
 {
     (h == b'1') | ((k == 2) & (h == b'2'))
 }
 
 /// A line as received, without its CR, that a set-up of Class k takes: `%`, the class, four letters or digits, a space,
 /// 0 to 128 bytes. None of any other.
-#[tactic(auto, unfolding(crate::specs::Forms::isCommandForm))]
+#[tactic(auto, unfolding(crate::specs::Forms::is_command_form))]
 pub fn command(k: u8, l: &[u8]) -> Option<Parts<'_>>
     ensures taken { IfSome result (λ x. IsCommandOf k l.now x.class x.letters x.parameter.now) }
-    ensures other { IfNone result (isCommandForm k l.now ≡ false) }
+    ensures other { IfNone result (is_command_form k l.now ≡ false) }
 {
     let [first, class, a, b, c, d, mark, parameter @ ..] = l else {
         return None;
@@ -47,7 +47,7 @@ pub fn command(k: u8, l: &[u8]) -> Option<Parts<'_>>
 
 // `%`, four letters or digits, and the mark.
 fn is_headed(first: u8, letters: [u8; 4], last: u8, mark: u8) -> bool
-    ensures { result ≡ isHeadedBy mark first letters last }
+    ensures { result ≡ is_headed_by mark first letters last }
 {
     let [a, b, c, d] = letters;
     first == b'%'
@@ -60,24 +60,24 @@ fn is_headed(first: u8, letters: [u8; 4], last: u8, mark: u8) -> bool
 
 /// The class that a byte names; a byte below `0` names none.
 pub fn class_named(h: u8) -> u8
-    ensures { result ≡ classNamed h }
+    ensures { result ≡ class_of_byte h }
 {
     h.saturating_sub(b'0')
 }
 
 // Whether the byte is the digit of the class.
 fn is_class_digit(k: u8, h: u8) -> bool
-    ensures { result ≡ eqb h (classDigit k) }
+    ensures { result ≡ (h == class_digit k) }
 {
     h.checked_sub(b'0') == Some(k)
 }
 
 /// A reply of Class k, with its CR: `%`, the class, four letters or digits, `=`, 0 to 128 bytes with no CR, CR. None of
 /// any other.
-#[tactic(auto, unfolding(crate::specs::Forms::isReplyForm))]
+#[tactic(auto, unfolding(crate::specs::Forms::is_reply_form))]
 pub fn reply(k: u8, l: &[u8]) -> Option<Parts<'_>>
     ensures taken { IfSome result (λ x. IsReplyOf k l.now x.letters x.parameter.now) }
-    ensures other { IfNone result (isReplyForm k l.now ≡ false) }
+    ensures other { IfNone result (is_reply_form k l.now ≡ false) }
 {
     let [first, class, a, b, c, d, mark, parameter @ .., last] = l else {
         return None;

@@ -2,8 +2,8 @@
 ghost use Rattle.std.specs.Prelude.{◌≡◌};
 ghost use Rattle.words.specs.Refusing.{refusal_digit};
 ghost use Rattle.pjlink.specs.Carried.{value_said, parameter_said};
-ghost use Rattle.pjlink.specs.CanSay.{is_set, hasOwnParameter, isRefusalTo};
-ghost use Rattle.pjlink.specs.Reading.{text_or, readQueried, readValue, readParameter};
+ghost use Rattle.pjlink.specs.CanSay.{is_set, has_own_parameter, is_refusal_to};
+ghost use Rattle.pjlink.specs.Reading.{text_or, read_queried, read_value, read_parameter};
 
 use crate::answer::{Answer, Reply};
 use crate::body::Body;
@@ -21,7 +21,7 @@ fn text_if(legal: bool, p: &[u8]) -> Option<Answer<'_>>
 }
 
 fn read_queried(b: Body, p: &[u8]) -> Option<Answer<'_>>
-    ensures { value_said result ≡ readQueried b p.now }
+    ensures { value_said result ≡ read_queried b p.now }
 {
     match b {
         Body::Powr => Some(Answer::Power(codec::parse(p)?)),
@@ -69,7 +69,7 @@ fn is_set(c: Command) -> bool
 
 // Whether the command has another parameter than `?`, which a projector may not know.
 fn has_own_parameter(c: Command) -> bool
-    ensures { result ≡ hasOwnParameter c }
+    ensures { result ≡ has_own_parameter c }
 {
     match c {
         Command::PowerSet(_) => true,
@@ -84,7 +84,7 @@ fn has_own_parameter(c: Command) -> bool
 }
 
 fn read_value(c: Command, p: &[u8]) -> Option<Answer<'_>>
-    ensures { value_said result ≡ readValue c p.now }
+    ensures { value_said result ≡ read_value c p.now }
 {
     if is_set(c) {
         if text::same(p, b"OK") {
@@ -97,15 +97,15 @@ fn read_value(c: Command, p: &[u8]) -> Option<Answer<'_>>
 
 // Whether a refusal is allowed in reply to c: ERR2 is none to `?`.
 fn may_refuse(c: Command, r: Refusal) -> bool
-    ensures { result ≡ isRefusalTo c (refusal_digit r) }
+    ensures { result ≡ is_refusal_to c (refusal_digit r) }
 {
     has_own_parameter(c) | (r.number() != 2)
 }
 
 /// What the parameter p says to the command c; none where it is not allowed there.
-#[tactic(auto, unfolding(crate::specs::Reading::readParameter))]
+#[tactic(auto, unfolding(crate::specs::Reading::read_parameter))]
 pub fn read_parameter(c: Command, p: &[u8]) -> Option<Reply<'_>>
-    ensures { parameter_said result ≡ readParameter c p.now }
+    ensures { parameter_said result ≡ read_parameter c p.now }
 {
     let refusal: Option<Refusal> = codec::parse(p);
     if let Some(r) = refusal {

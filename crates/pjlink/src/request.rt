@@ -1,6 +1,6 @@
 // What a received class, four letters and a parameter ask for (RULES, Commands and Class 2).
 ghost use Rattle.std.specs.Prelude.{◌≡◌};
-ghost use Rattle.pjlink.specs.Requests.{switch_of, halfNamed, mute_of, name_query_of, set_of, command_of, requestOf};
+ghost use Rattle.pjlink.specs.Requests.{switch_of, half_named, mute_of, name_query_of, set_of, command_of, request_of};
 
 use crate::body::{Body, Sets};
 use crate::command::{Command, Half, Volume};
@@ -28,9 +28,9 @@ fn switch_of(p: &[u8]) -> Option<bool>
     }
 }
 
-#[tactic(auto, unfolding(crate::specs::Requests::halfNamed))]
+#[tactic(auto, unfolding(crate::specs::Requests::half_named))]
 fn half_named(a: u8) -> Half
-    ensures { result ≡ halfNamed a }
+    ensures { result ≡ half_named a }
 {
     match a {
         b'1' => Half::VideoHalf,
@@ -90,9 +90,9 @@ fn command_of(b: Body, p: &[u8]) -> Option<Command>
 
 /// What four letters with the parameter p ask for in a line of the class: the letters in any case, the parameter
 /// exactly.
-#[tactic(auto, unfolding(crate::specs::Requests::requestOf, crate::specs::Requests::asked_of))]
+#[tactic(auto, unfolding(crate::specs::Requests::request_of, crate::specs::Requests::asked_of))]
 pub fn request(class: u8, letters: [u8; 4], p: &[u8]) -> Result<Command, Unasked>
-    ensures { result ≡ requestOf class letters p.now }
+    ensures { result ≡ request_of class letters p.now }
 {
     let body = Body::named(class, letters).ok_or(Unasked::UnknownBody)?;
     command_of(body, p).ok_or(Unasked::Unlisted(body))

@@ -4,17 +4,17 @@ ghost use Rattle.std.specs.Prelude.{◌≡◌, ◌++◌, ℕ, List, Option, Resu
 ghost use Rattle.pjlink.specs.declared.answer.Answer.{Answer};
 ghost use Rattle.words.specs.declared.refusal.Refusal.{Refusal};
 ghost use Rattle.pjlink.specs.Carried.{parameter_said};
-ghost use Rattle.pjlink.specs.Said.{saidBytes, nothing, Said};
+ghost use Rattle.pjlink.specs.Said.{said_bytes, nothing, Said};
 ghost use Rattle.pjlink.specs.declared.command.Command.{Command};
-ghost use Rattle.pjlink.specs.Reading.{readParameter};
-ghost use Rattle.pjlink.specs.Writings.{Says, Allowed};
+ghost use Rattle.pjlink.specs.Reading.{read_parameter};
+ghost use Rattle.pjlink.specs.Writings.{Says, IsAllowed};
 
 /// Two lines that meet the promise of a call are equal; two replies that are read say the same.
 pub fn one_result()
     ensures answer_written { (out : List ℕ) (m : Said) (k l : List ℕ)
-        → k ≡ out ++ saidBytes m → l ≡ out ++ saidBytes m → k ≡ l }
+        → k ≡ out ++ said_bytes m → l ≡ out ++ said_bytes m → k ≡ l }
     ensures parameter_read { (c : Command) (p : List ℕ) (r s : Option (Result Answer Refusal))
-        → parameter_said r ≡ readParameter c p → parameter_said s ≡ readParameter c p
+        → parameter_said r ≡ read_parameter c p → parameter_said s ≡ read_parameter c p
         → parameter_said r ≡ parameter_said s }
 {}
 
@@ -22,9 +22,9 @@ pub fn one_result()
 /// nothing is read exactly where the parameter is a writing of none.
 pub fn what_is_read_was_written()
     ensures read_was_written { (c : Command) (p : List ℕ)
-        → (readParameter c p ≡ nothing → ⊥) → Says c (readParameter c p) p }
-    ensures written_is_read { (c : Command) (p : List ℕ) (m : Said) → Says c m p → readParameter c p ≡ m }
+        → (read_parameter c p ≡ nothing → ⊥) → Says c (read_parameter c p) p }
+    ensures written_is_read { (c : Command) (p : List ℕ) (m : Said) → Says c m p → read_parameter c p ≡ m }
     ensures one_meaning { (c : Command) (p : List ℕ) (m n : Said) → Says c m p → Says c n p → m ≡ n }
-    ensures not_allowed { (c : Command) (p : List ℕ) → Allowed c p false → readParameter c p ≡ nothing }
-    ensures allowed { (c : Command) (p : List ℕ) → Allowed c p true → readParameter c p ≡ nothing → ⊥ }
+    ensures not_allowed { (c : Command) (p : List ℕ) → IsAllowed c p false → read_parameter c p ≡ nothing }
+    ensures allowed { (c : Command) (p : List ℕ) → IsAllowed c p true → read_parameter c p ≡ nothing → ⊥ }
 {}

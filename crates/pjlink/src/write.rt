@@ -1,7 +1,7 @@
 //! The parameter that a reply is said by (RULES, Commands).
 ghost use Rattle.std.specs.Prelude.{◌≡◌, ◌+◌, ◌≤◌, ◌++◌, length};
 ghost use Rattle.arrayvec.specs.ArrayVec.{array_vec_len};
-ghost use Rattle.pjlink.specs.Said.{saidBytes};
+ghost use Rattle.pjlink.specs.Said.{said_bytes};
 ghost use Rattle.pjlink.specs.Carried.{answer_said, said_by};
 
 use crate::answer::{Answer, Reply};
@@ -10,10 +10,10 @@ use words::codec::{LINE_MOST, Line, Wire};
 use words::mutes::Mutes;
 use words::{codec, list};
 
-#[tactic(auto, unfolding(crate::specs::Said::saidBytes))]
+#[tactic(auto, unfolding(crate::specs::Said::said_bytes))]
 fn put_answer(a: &Answer<'_>, out: &mut Line)
-    requires { array_vec_len out.old + length (saidBytes (answer_said a.now)) ≤ LINE_MOST }
-    ensures { out.new.items ≡ out.old.items ++ saidBytes (answer_said a.now) }
+    requires { array_vec_len out.old + length (said_bytes (answer_said a.now)) ≤ LINE_MOST }
+    ensures { out.new.items ≡ out.old.items ++ said_bytes (answer_said a.now) }
 {
     match a {
         Answer::Done => codec::put_all(b"OK", out),
@@ -36,10 +36,10 @@ fn put_answer(a: &Answer<'_>, out: &mut Line)
 }
 
 /// Puts the reply's parameter at the end of the line.
-#[tactic(auto, unfolding(crate::specs::Said::saidBytes))]
+#[tactic(auto, unfolding(crate::specs::Said::said_bytes))]
 pub fn put_parameter(r: &Reply<'_>, out: &mut Line)
-    requires { array_vec_len out.old + length (saidBytes (said_by r.now)) ≤ LINE_MOST }
-    ensures { out.new.items ≡ out.old.items ++ saidBytes (said_by r.now) }
+    requires { array_vec_len out.old + length (said_bytes (said_by r.now)) ≤ LINE_MOST }
+    ensures { out.new.items ≡ out.old.items ++ said_bytes (said_by r.now) }
 {
     match r {
         Ok(answer) => put_answer(answer, out),

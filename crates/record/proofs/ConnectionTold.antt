@@ -1,102 +1,97 @@
--- What a legal connection tells, and how it is shown (the crates above never open `isConnection`, `isAge` or
+-- What a legal connection tells, and how it is shown (the crates above never open `is_connection`, `is_age` or
 -- `is_held`).
 --   ConnectionTold c      its line's room, its phase, age, random number and collected bytes
 -- Assumes nothing.
-use Prim.Native.Nat.{ℕ, ◌≤◌, ◌<◌}
-use mathlib.Core.Path.{◌≡◌, refl}
-use mathlib.Core.Bool.{Bool, true, false}
-use mathlib.Core.List.{[]}
-use native.Mathlib.Omega.{arith}
-use borrow.Author.Tests.{lt-ltb}
-use Rattle.words.specs.Bytes.{noCr}
-use Rattle.words.specs.Bytes.{commandMost}
-use Rattle.words.proofs.Characters.{no-cr-of}
-use Rattle.record.specs.Limits.{lineRoom, ageEnd, shut, awaiting, opened}
+use Rattle.std.proofs.Common.{ℕ, ◌≤◌, ◌<◌, ◌≡◌, refl, Bool, true, false, [], arith, lt-ltb}
+use Rattle.words.specs.Bytes.{no_cr}
+use Rattle.words.specs.Bytes.{command_most}
+use Rattle.words.proofs.Characters.{no_cr_of}
+use Rattle.record.specs.Limits.{line_room, age_end, shut, awaiting, opened}
 use Rattle.record.specs.Record.{closed}
-use Rattle.record.specs.Legal.{isTimed, isCollecting, isAge, heldMost, is_held, isConnection}
+use Rattle.record.specs.Legal.{is_timed, is_collecting, is_age, held_most, is_held, is_connection}
 use Rattle.record.specs.declared.types.Connection.{Connection}
 use Rattle.record.specs.Facts.{IsConnection}
 use Rattle.record.proofs.FactsTold.{connection_is}
-use Rattle.record.proofs.Kept.{nothing-kept}
+use Rattle.record.proofs.Kept.{nothing_kept}
 
 abbrev pub ConnectionTold : Connection → Type 0
 ConnectionTold = IsConnection
 
-pub connection-told : (c : Connection) → isConnection c ≡ true → ConnectionTold c
-connection-told c = (connection_is c).0
+pub connection_told : (c : Connection) → is_connection c ≡ true → ConnectionTold c
+connection_told c = (connection_is c).0
 
-pub connection-shown : (c : Connection) → ConnectionTold c → isConnection c ≡ true
-connection-shown c = (connection_is c).1
+pub connection_shown : (c : Connection) → ConnectionTold c → is_connection c ≡ true
+connection_shown c = (connection_is c).1
 
-pub closed-holds-none : closed.line.held ≡ 0
+pub closed_holds_none : closed.line.held ≡ 0
 unfolding closed
-closed-holds-none = refl
+closed_holds_none = refl
 
 -- age, by the phase
 module _ (phase : ℕ) where
-  pub age-early : (age : ℕ) → isAge phase age ≡ true → age < ageEnd
-  unfolding isAge
-  age-early age h = grind (arith, h)
+  pub age_early : (age : ℕ) → is_age phase age ≡ true → age < age_end
+  unfolding is_age
+  age_early age h = grind (arith, h)
 
-  pub age-untimed : (age : ℕ) → isTimed phase ≡ false → isAge phase age ≡ true → age ≡ 0
-  unfolding isAge
-  age-untimed age t h = grind (arith, t, h)
+  pub age_untimed : (age : ℕ) → is_timed phase ≡ false → is_age phase age ≡ true → age ≡ 0
+  unfolding is_age
+  age_untimed age t h = grind (arith, t, h)
 
-  pub timed-age : (age : ℕ) → isTimed phase ≡ true → age < ageEnd → isAge phase age ≡ true
-  unfolding isAge
-  timed-age age t h = rw t (lt-ltb age ageEnd h)
+  pub timed_age : (age : ℕ) → is_timed phase ≡ true → age < age_end → is_age phase age ≡ true
+  unfolding is_age
+  timed_age age t h = rw t (lt-ltb age age_end h)
 
-  pub zero-age : isAge phase 0 ≡ true
-  unfolding isAge
-  zero-age = grind arith
+  pub zero_age : is_age phase 0 ≡ true
+  unfolding is_age
+  zero_age = grind arith
 
 -- collected bytes, by the phase and the mark
-pub held-most-awaiting : heldMost awaiting ≡ lineRoom
-unfolding heldMost
-held-most-awaiting = refl
+pub held_most_awaiting : held_most awaiting ≡ line_room
+unfolding held_most
+held_most_awaiting = refl
 
-pub held-most-opened : heldMost opened ≡ commandMost
-unfolding heldMost
-held-most-opened = refl
+pub held_most_opened : held_most opened ≡ command_most
+unfolding held_most
+held_most_opened = refl
 
-pub held-most-none : (phase : ℕ) → isCollecting phase ≡ false → heldMost phase ≡ 0
-unfolding heldMost
-held-most-none phase h = grind (arith, h)
+pub held_most_none : (phase : ℕ) → is_collecting phase ≡ false → held_most phase ≡ 0
+unfolding held_most
+held_most_none phase h = grind (arith, h)
 
-pub held-most-room : (phase : ℕ) → heldMost phase ≤ lineRoom
-unfolding heldMost
-held-most-room phase = grind arith
+pub held_most_room : (phase : ℕ) → held_most phase ≤ line_room
+unfolding held_most
+held_most_room phase = grind arith
 
 module _ (phase n : ℕ) where
-  pub held-within : (mark : Bool) → is_held phase mark n ≡ true → n ≤ heldMost phase
+  pub held_within : (mark : Bool) → is_held phase mark n ≡ true → n ≤ held_most phase
   unfolding is_held
-  held-within true h = grind (arith, h)
-  held-within false h = grind (arith, h)
+  held_within true h = grind (arith, h)
+  held_within false h = grind (arith, h)
 
-  pub marked-none : is_held phase true n ≡ true → n ≡ 0
+  pub marked_none : is_held phase true n ≡ true → n ≡ 0
   unfolding is_held
-  marked-none h = grind (arith, h)
+  marked_none h = grind (arith, h)
 
-  pub marked-collects : is_held phase true n ≡ true → isCollecting phase ≡ true
+  pub marked_collects : is_held phase true n ≡ true → is_collecting phase ≡ true
   unfolding is_held
-  marked-collects h = grind (arith, h)
+  marked_collects h = grind (arith, h)
 
-  pub unmarked-held : n ≤ heldMost phase → is_held phase false n ≡ true
+  pub unmarked_held : n ≤ held_most phase → is_held phase false n ≡ true
   unfolding is_held
-  unmarked-held h = grind (arith, h)
+  unmarked_held h = grind (arith, h)
 
-pub marked-held : (phase : ℕ) → isCollecting phase ≡ true → is_held phase true 0 ≡ true
+pub marked_held : (phase : ℕ) → is_collecting phase ≡ true → is_held phase true 0 ≡ true
 unfolding is_held
-marked-held phase h = grind (arith, h)
+marked_held phase h = grind (arith, h)
 
-pub closed-legal : isConnection closed ≡ true
+pub closed_legal : is_connection closed ≡ true
 unfolding closed
-closed-legal =
-    connection-shown closed
+closed_legal =
+    connection_shown closed
     (record {
-      line = nothing-kept lineRoom noCr (no-cr-of [] refl);
+      line = nothing_kept line_room no_cr (no_cr_of [] refl);
       phase = omega arith;
-      age = zero-age shut;
+      age = zero_age shut;
       random = λ e. refl;
-      held = unmarked-held shut 0 (omega arith);
+      held = unmarked_held shut 0 (omega arith);
     })

@@ -3,40 +3,40 @@
 use Rattle.std.proofs.Common.{◌≡◌, ℕ, arith, ap, sym, ◌∙◌, Bool, IsTrue, List, length, take, ◌↔◌}
 use Rattle.std.proofs.Math.Seq.{length-take-le}
 use Rattle.std.specs.Prelude.{All}
-use Rattle.text.specs.Scans.{every}
-use Rattle.record.specs.Legal.{is_zero, fillsRoom, isNames, isRestOf2, isSettings, isOwn, isConnection}
-use Rattle.record.specs.Legal.{isConnections, isLegal}
+use Rattle.std.specs.List.{list_all}
+use Rattle.record.specs.Legal.{is_zero, fills_room, is_names, is_rest_of_2, is_settings, is_own, is_connection}
+use Rattle.record.specs.Legal.{is_connections, is_legal}
 use Rattle.text.proofs.RoomsTold.{uses_told}
 use Rattle.record.specs.Facts.{Fills, IsStretch, IsNames, IsSettings, IsOwn, IsConnection, IsLegal}
-use Rattle.words.specs.Texts.{isPassword}
-use Rattle.record.specs.Limits.{textRoom}
-use Rattle.record.specs.Rules.{isLongEnough, isSetUpPassword, isStretch}
+use Rattle.words.specs.Texts.{is_password}
+use Rattle.record.specs.Limits.{text_room}
+use Rattle.record.specs.Rules.{is_long_enough, is_set_up_password, is_stretch}
 use Rattle.record.specs.declared.types.InputName.{InputName}
 use Rattle.record.specs.declared.types.Settings.{Settings}
 use Rattle.record.specs.declared.types.Own.{Own}
 use Rattle.record.specs.declared.types.Connection.{Connection}
 use Rattle.record.specs.declared.types.Device.{Device}
 use Rattle.record.specs.Record.{closed}
-use Rattle.text.proofs.Scanning.{every-at, every-by-place}
+use Rattle.text.proofs.Scanning.{list_all_at, list_all_by_place}
 use Rattle.record.proofs.PowerSeen.{power_is, left_is}
-use Rattle.record.proofs.Rules.{set-up-password-written, set-up-password-long, set-up-password-shown}
+use Rattle.record.proofs.Rules.{set_up_password_written, set_up_password_long, set_up_password_shown}
 
 pub fills_told : (room : ℕ) (rule : List ℕ → Bool) (s : List ℕ) (n : ℕ)
-    → IsTrue (fillsRoom room rule s n) ↔ Fills room rule s n
-unfolding fillsRoom
+    → IsTrue (fills_room room rule s n) ↔ Fills room rule s n
+unfolding fills_room
 fills_told room rule s n = uses_told is_zero room rule s n
 
-fills : {room : ℕ} {rule : List ℕ → Bool} {s : List ℕ} {n : ℕ} → IsTrue (fillsRoom room rule s n) → Fills room rule s n
+fills : {room : ℕ} {rule : List ℕ → Bool} {s : List ℕ} {n : ℕ} → IsTrue (fills_room room rule s n) → Fills room rule s n
 fills h = (fills_told _ _ _ _).0 h
 
-full : {room : ℕ} {rule : List ℕ → Bool} {s : List ℕ} {n : ℕ} → Fills room rule s n → IsTrue (fillsRoom room rule s n)
+full : {room : ℕ} {rule : List ℕ → Bool} {s : List ℕ} {n : ℕ} → Fills room rule s n → IsTrue (fills_room room rule s n)
 full t = (fills_told _ _ _ _).1 t
 
-pub stretch_is : (n : ℕ) → IsTrue (isStretch n) ↔ IsStretch n
+pub stretch_is : (n : ℕ) → IsTrue (is_stretch n) ↔ IsStretch n
 stretch_is n = (λ h. record { low = grind (arith, h); high = grind (arith, h) }, λ t. grind (arith, t.low, t.high))
 
-pub names_is : (n : ℕ) (ns : List InputName) → IsTrue (isNames n ns) ↔ IsNames n ns
-unfolding isNames
+pub names_is : (n : ℕ) (ns : List InputName) → IsTrue (is_names n ns) ↔ IsNames n ns
+unfolding is_names
 names_is n ns = (
   λ h. record { long = grind (arith, h); used = grind (arith, h); unused = grind (arith, h) },
   λ t. grind (arith, t.long, t.used, t.unused),
@@ -44,33 +44,34 @@ names_is n ns = (
 
 -- a password of set-up is one that the controller's writer takes, and long enough
 module _ (s : List ℕ) (n : ℕ) where
-  many : Fills textRoom isPassword s n → length (take n s) ≡ n
+  many : Fills text_room is_password s n → length (take n s) ≡ n
   many t = length-take-le n s (omega (arith, t.long, t.inside))
 
-  password_fills : Fills textRoom isSetUpPassword s n → Fills textRoom isPassword s n
+  password_fills : Fills text_room is_set_up_password s n → Fills text_room is_password s n
   password_fills t = record {
     long = t.long;
     inside = t.inside;
     clear = t.clear;
-    follows = set-up-password-written (take n s) t.follows;
+    follows = set_up_password_written (take n s) t.follows;
   }
 
-  password_long : Fills textRoom isSetUpPassword s n → IsTrue (isLongEnough n)
-  password_long t = ap isLongEnough (sym (many (password_fills t))) ∙ set-up-password-long (take n s) t.follows
+  password_long : Fills text_room is_set_up_password s n → IsTrue (is_long_enough n)
+  password_long t = ap is_long_enough (sym (many (password_fills t))) ∙ set_up_password_long (take n s) t.follows
 
-  set_up_password_fills : Fills textRoom isPassword s n → IsTrue (isLongEnough n) → Fills textRoom isSetUpPassword s n
+  set_up_password_fills : Fills text_room is_password s n → IsTrue (is_long_enough n) →
+      Fills text_room is_set_up_password s n
   set_up_password_fills t h = record {
     long = t.long;
     inside = t.inside;
     clear = t.clear;
-    follows = set-up-password-shown (take n s) t.follows (ap isLongEnough (many t) ∙ h);
+    follows = set_up_password_shown (take n s) t.follows (ap is_long_enough (many t) ∙ h);
   }
 
-pub settings_is : (s : Settings) → IsTrue (isSettings s) ↔ IsSettings s
-unfolding isSettings isRestOf2
+pub settings_is : (s : Settings) → IsTrue (is_settings s) ↔ IsSettings s
+unfolding is_settings is_rest_of_2
 settings_is s = (
   λ h.
-      let secret : Fills textRoom isSetUpPassword s.password.bytes s.password.len = fills (grind (arith, h)) in
+      let secret : Fills text_room is_set_up_password s.password.bytes s.password.len = fills (grind (arith, h)) in
       record {
         name = fills (grind (arith, h));
         maker = fills (grind (arith, h));
@@ -104,8 +105,8 @@ settings_is s = (
       ),
 )
 
-pub own_is : (s : Settings) (o : Own) → IsTrue (isOwn s o) ↔ IsOwn s o
-unfolding isOwn
+pub own_is : (s : Settings) (o : Own) → IsTrue (is_own s o) ↔ IsOwn s o
+unfolding is_own
 own_is s o = (
   λ h. record {
     errors = grind (arith, h);
@@ -129,8 +130,8 @@ own_is s o = (
       ),
 )
 
-pub connection_is : (c : Connection) → IsTrue (isConnection c) ↔ IsConnection c
-unfolding isConnection
+pub connection_is : (c : Connection) → IsTrue (is_connection c) ↔ IsConnection c
+unfolding is_connection
 connection_is c = (
   λ h. record {
     line = fills (grind (arith, h));
@@ -142,14 +143,14 @@ connection_is c = (
   λ t. grind (arith, full t.line, t.phase, t.age, t.random, t.held),
 )
 
-pub each_is : (cs : List Connection) → IsTrue (every isConnection cs) ↔ All IsConnection cs
+pub each_is : (cs : List Connection) → IsTrue (list_all is_connection cs) ↔ All IsConnection cs
 each_is cs = (
-  λ h k d l. (connection_is _).0 (every-at isConnection cs d h k l),
-  λ t. every-by-place isConnection closed cs (λ k l. (connection_is _).1 (t k closed l)),
+  λ h k d l. (connection_is _).0 (list_all_at is_connection cs d h k l),
+  λ t. list_all_by_place is_connection closed cs (λ k l. (connection_is _).1 (t k closed l)),
 )
 
-pub legal_is : (d : Device) → IsTrue (isLegal d) ↔ IsLegal d
-unfolding isLegal isConnections
+pub legal_is : (d : Device) → IsTrue (is_legal d) ↔ IsLegal d
+unfolding is_legal is_connections
 legal_is d = (
   λ h. record {
     settings = (settings_is _).0 (grind (arith, h));

@@ -1,12 +1,12 @@
 -- What a call in place gives, as a host is told of it: one outcome, one record.
 -- Assumes nothing.
-use mathlib.Core.Path.{◌≡◌, refl, sym, ap, ◌∙◌}
+use Rattle.std.proofs.Common.{◌≡◌, refl, sym, ap, ◌∙◌}
 use Rattle.std.specs.Prelude.{Result, Ok, Err, OnErr}
 use Rattle.record.specs.Given.{Given, gives, left_by, given_by}
 use Rattle.record.specs.Refusals.{outcome_number}
 use Rattle.record.specs.declared.refusal.Refusal.{Refusal}
 use Rattle.record.specs.declared.types.Device.{Device}
-use Rattle.record.proofs.Calls.{ok-err}
+use Rattle.record.proofs.Calls.{ok_err}
 
 pub number_given : (e : Device) (r : Result (Unit {0}) Refusal) → outcome_number r ≡ outcome_number (gives r e)
 number_given e (Ok u) = refl
@@ -27,10 +27,10 @@ told_given d e r given p kept =
     (λ i. record { number = number_given e r i; device = device_given d e r kept i }) ∙ ap (given_by d) p
 
 -- the outcome and the record that meet the promise of a call on the record d
-pub one-given : (d : Device) (given : Result Device Refusal) (r s : Result (Unit {0}) Refusal) (x y : Device)
+pub one_given : (d : Device) (given : Result Device Refusal) (r s : Result (Unit {0}) Refusal) (x y : Device)
     → (gives r x ≡ given) × OnErr r (x ≡ d) → (gives s y ≡ given) × OnErr s (y ≡ d) → (r ≡ s) × (x ≡ y)
-one-given d given (Ok u) (Ok v) x y p q = (refl, ap (left_by d) (p.0 ∙ sym q.0))
-one-given d given (Ok u) (Err f) x y p q = absurd (ok-err (p.0 ∙ sym q.0))
-one-given d given (Err f) (Ok v) x y p q = absurd (ok-err (q.0 ∙ sym p.0))
-one-given d given (Err f) (Err g) x y p q =
+one_given d given (Ok u) (Ok v) x y p q = (refl, ap (left_by d) (p.0 ∙ sym q.0))
+one_given d given (Ok u) (Err f) x y p q = absurd (ok_err (p.0 ∙ sym q.0))
+one_given d given (Err f) (Ok v) x y p q = absurd (ok_err (q.0 ∙ sym p.0))
+one_given d given (Err f) (Err g) x y p q =
     (ap (λ (e : Refusal). Err e) (ap (refusal_in f) (p.0 ∙ sym q.0)), p.1 ∙ sym q.1)

@@ -1,89 +1,84 @@
--- What legal settings tell, and how they are shown (the crates above never open `isSettings`).
+-- What legal settings tell, and how they are shown (the crates above never open `is_settings`).
 -- Assumes nothing.
-use Prim.Native.Nat.{ℕ, ◌+◌, ◌*◌, ◌≤◌, ◌<◌}
-use mathlib.Core.Path.{◌≡◌, sym, ◌∙◌}
-use mathlib.Core.Bool.{Bool, true}
-use mathlib.Core.List.{List}
-use native.Mathlib.Omega.{arith}
-use lib.ListN.{length, get_or, take}
-use lib.Seq.{get_or-take}
+use Rattle.std.proofs.Common.{ℕ, ◌+◌, ◌*◌, ◌≤◌, ◌<◌, ◌≡◌, sym, ◌∙◌, Bool, true, List, arith, length, slice_index_or}
+use Rattle.std.proofs.Common.{take, get_or-take}
 use Rattle.words.specs.Bytes.{◌at◌}
-use Rattle.words.specs.Texts.{isInfo, isPassword, infoMost, passwordMost}
-use Rattle.words.specs.Inputs.{isInputText}
-use Rattle.words.proofs.InputsReadBack.{named-widely}
-use Rattle.record.specs.Limits.{textRoom, inputRoom, listedMost, isClass}
-use Rattle.record.specs.Rules.{isInputs}
-use Rattle.record.specs.Record.{blankName}
+use Rattle.words.specs.Texts.{is_info, is_password, info_most, password_most}
+use Rattle.words.specs.Inputs.{is_input_text}
+use Rattle.words.proofs.InputsReadBack.{named_widely}
+use Rattle.record.specs.Limits.{text_room, input_room, listed_most, is_class_number}
+use Rattle.record.specs.Rules.{is_inputs}
+use Rattle.record.specs.Record.{blank_name}
 use Rattle.record.specs.declared.types.Text.{Text}
 use Rattle.record.specs.declared.types.Settings.{Settings}
-use Rattle.words.proofs.TextsTold.{password-long}
+use Rattle.words.proofs.TextsTold.{password_long}
 use Rattle.record.specs.Facts.{IsSettings}
-use Rattle.record.proofs.Kept.{Kept, kept-length}
-use Rattle.record.proofs.Rules.{inputs-class, inputs-some}
-use Rattle.record.proofs.Rules.{only-in-2-within, text-wider}
-use Rattle.record.proofs.NamesTold.{NameKept, name-kept}
-use Rattle.record.proofs.InputsTold.{input-named, inputs-differ}
+use Rattle.record.proofs.Kept.{Kept, kept_length}
+use Rattle.record.proofs.Rules.{inputs_class, inputs_some}
+use Rattle.record.proofs.Rules.{only_in_2_within, text_wider}
+use Rattle.record.proofs.NamesTold.{NameKept, name_kept}
+use Rattle.record.proofs.InputsTold.{input_named, inputs_differ}
 
 -- the bytes of a text
 abbrev pub bytes_of : Text → List ℕ
 bytes_of t = take t.len t.bytes
 
 abbrev pub TextKept : (List ℕ → Bool) → Text → Type 0
-TextKept rule t = Kept textRoom rule t.bytes t.len
+TextKept rule t = Kept text_room rule t.bytes t.len
 
 -- from the settings: the password, the number of inputs, each input
 module _ (s : Settings) (t : IsSettings s) where
-  pub password-within : s.password.len ≤ passwordMost
-  password-within =
-      let long = kept-length textRoom isPassword _ _ t.password in
-      omega (arith, password-long (bytes_of s.password) t.password.follows)
+  pub password_within : s.password.len ≤ password_most
+  password_within =
+      let long = kept_length text_room is_password _ _ t.password in
+      omega (arith, password_long (bytes_of s.password) t.password.follows)
 
   listed : length (take (2 * s.input_count) s.inputs) ≡ 2 * s.input_count
-  listed = kept-length inputRoom (isInputs s.class_number) _ _ t.inputs
+  listed = kept_length input_room (is_inputs s.class_number) _ _ t.inputs
 
-  pub input-count-low : 1 ≤ s.input_count
-  input-count-low = omega (arith, listed, inputs-some _ _ t.inputs.follows)
+  pub input_count_low : 1 ≤ s.input_count
+  input_count_low = omega (arith, listed, inputs_some _ _ t.inputs.follows)
 
-  pub input-count-high : s.input_count ≤ listedMost
-  input-count-high = omega (arith, t.inputs.inside)
+  pub input_count_high : s.input_count ≤ listed_most
+  input_count_high = omega (arith, t.inputs.inside)
 
   -- the bytes that are used are the array's
   used : (i : ℕ) → i < 2 * s.input_count → take (2 * s.input_count) s.inputs at i ≡ s.inputs at i
   used i l = get_or-take (2 * s.input_count) s.inputs i 0 l
 
   -- the class, and each input: one of the class, and so one of either
-  pub class-told : isClass s.class_number ≡ true
-  class-told = inputs-class _ _ t.inputs.follows
+  pub class_told : is_class_number s.class_number ≡ true
+  class_told = inputs_class _ _ t.inputs.follows
 
-  pub input-of-class : (k : ℕ) → k < s.input_count
-      → isInputText s.class_number (s.inputs at (2 * k)) (s.inputs at (2 * k + 1)) ≡ true
-  input-of-class k l =
-      (λ j. isInputText s.class_number (sym (used (2 * k) (omega arith)) j)
+  pub input_of_class : (k : ℕ) → k < s.input_count
+      → is_input_text s.class_number (s.inputs at (2 * k)) (s.inputs at (2 * k + 1)) ≡ true
+  input_of_class k l =
+      (λ j. is_input_text s.class_number (sym (used (2 * k) (omega arith)) j)
       (sym (used (2 * k + 1) (omega arith)) j))
-      ∙ input-named s.class_number (take (2 * s.input_count) s.inputs) t.inputs.follows k
+      ∙ input_named s.class_number (take (2 * s.input_count) s.inputs) t.inputs.follows k
       (omega (arith, listed))
 
-  pub input-at : (k : ℕ) → k < s.input_count → isInputText 2 (s.inputs at (2 * k)) (s.inputs at (2 * k + 1)) ≡ true
-  input-at k l =
-      named-widely s.class_number (s.inputs at (2 * k)) (s.inputs at (2 * k + 1)) (input-of-class k l)
+  pub input_at : (k : ℕ) → k < s.input_count → is_input_text 2 (s.inputs at (2 * k)) (s.inputs at (2 * k + 1)) ≡ true
+  input_at k l =
+      named_widely s.class_number (s.inputs at (2 * k)) (s.inputs at (2 * k + 1)) (input_of_class k l)
 
   -- what Class 2 alone has follows its rule in either class, since nothing does
-  pub serial-told : isInfo (bytes_of s.serial) ≡ true
-  serial-told = text-wider (bytes_of s.serial) _ infoMost (only-in-2-within s.class_number infoMost)
+  pub serial_told : is_info (bytes_of s.serial) ≡ true
+  serial_told = text_wider (bytes_of s.serial) _ info_most (only_in_2_within s.class_number info_most)
       t.serial.follows
 
-  pub version-told : isInfo (bytes_of s.version) ≡ true
-  version-told = text-wider (bytes_of s.version) _ infoMost (only-in-2-within s.class_number infoMost)
+  pub version_told : is_info (bytes_of s.version) ≡ true
+  version_told = text_wider (bytes_of s.version) _ info_most (only_in_2_within s.class_number info_most)
       t.version.follows
 
   -- the name at any place, one of the list or not
-  pub name-at : (k : ℕ) → NameKept (get_or s.names k blankName)
-  name-at k = name-kept _ s.names t.names k
+  pub name_at : (k : ℕ) → NameKept (slice_index_or s.names k blank_name)
+  name_at k = name_kept _ s.names t.names k
 
   pub inputs_apart : (j k : ℕ) → j < k → k < s.input_count → s.inputs at (2 * k) ≡ s.inputs at (2 * j)
       → s.inputs at (2 * k + 1) ≡ s.inputs at (2 * j + 1) → ⊥
   inputs_apart j k l m e f =
-      inputs-differ s.class_number (take (2 * s.input_count) s.inputs) t.inputs.follows j k l
+      inputs_differ s.class_number (take (2 * s.input_count) s.inputs) t.inputs.follows j k l
       (omega (arith, listed))
       (used (2 * k) (omega arith) ∙ e ∙ sym (used (2 * j) (omega arith)))
       (used (2 * k + 1) (omega arith) ∙ f ∙ sym (used (2 * j + 1) (omega arith)))

@@ -1,44 +1,42 @@
 -- The closed connection and the blank record, field by field: as the code's constants `Connection::CLOSED` and
 -- `Device::BLANK` have them.
 -- Assumes nothing.
-use mathlib.Core.Path.{◌≡◌, refl}
-use mathlib.Core.Bool.{false}
-use lib.ListN.{replicate}
-use Rattle.record.specs.Limits.{inputRoom, listedMost, lineRoom, placesCount}
-use Rattle.record.specs.Record.{zeros, closed, blankText, blankName, blankOwn, blank}
+use Rattle.std.proofs.Common.{◌≡◌, refl, false, replicate}
+use Rattle.record.specs.Limits.{input_room, listed_most, line_room, places_count}
+use Rattle.record.specs.Record.{zeros, closed, blank_text, blank_name, blank_own, blank}
 use Rattle.record.specs.declared.types.Connection.{Connection}
 
-abbrev closedFields : Connection
-closedFields = record {
+abbrev closed_fields : Connection
+closed_fields = record {
   phase = 0;
   age = 0;
   random = 0;
-  line = record { overlong = false; held = 0; bytes = zeros lineRoom };
+  line = record { overlong = false; held = 0; bytes = zeros line_room };
 }
 
-pub closed-spelt : closed ≡ closedFields
+pub closed_spelt : closed ≡ closed_fields
 unfolding closed
-closed-spelt = refl
+closed_spelt = refl
 
-pub blank-spelt : blank ≡ record {
+pub blank_spelt : blank ≡ record {
   settings = record {
-    name = blankText;
-    maker = blankText;
-    model = blankText;
-    other = blankText;
-    password = blankText;
+    name = blank_text;
+    maker = blank_text;
+    model = blank_text;
+    other = blank_text;
+    password = blank_text;
     input_count = 0;
-    inputs = zeros inputRoom;
+    inputs = zeros input_room;
     lamp_count = 0;
     warm = 0;
     cool = 0;
     class_number = 0;
-    serial = blankText;
-    version = blankText;
-    names = replicate listedMost blankName;
+    serial = blank_text;
+    version = blank_text;
+    names = replicate listed_most blank_name;
   };
-  own = blankOwn;
-  connections = replicate placesCount closedFields;
+  own = blank_own;
+  connections = replicate places_count closed_fields;
 }
 unfolding blank closed
-blank-spelt = refl
+blank_spelt = refl

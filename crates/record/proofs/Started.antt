@@ -1,143 +1,142 @@
 -- What set-up leaves: an accepted one a legal record, a refused one the blank record, which is not legal.
 -- Assumes nothing.
-use Prim.Native.Nat.{ℕ, ◌*◌, ◌/◌, ◌<◌}
-use mathlib.Core.Path.{◌≡◌, refl, sym, ap, subst, ◌∙◌}
-use mathlib.Core.Bool.{true, false}
-use mathlib.Core.List.{List}
-use native.Mathlib.Omega.{arith}
-use lib.ListN.{length, get_or, drop, get_or-append}
-use Rattle.text.proofs.Choices.{by-not}
-use Rattle.words.specs.Texts.{isText, isName, isInfo, isPassword, infoMost}
-use Rattle.record.specs.Limits.{textRoom, inputRoom, lampsMost, placesCount, onlyIn2}
+use Rattle.std.proofs.Common.{ℕ, ◌*◌, ◌/◌, ◌<◌, ◌≡◌, refl, sym, ap, subst, ◌∙◌, true, false, List, arith, length}
+use Rattle.std.proofs.Common.{slice_index_or, drop}
+use Rattle.std.proofs.Math.ListN.{get_or-append}
+use Rattle.text.proofs.Choices.{by_not}
+use Rattle.words.specs.Texts.{is_text, is_name, is_info, is_password, info_most}
+use Rattle.record.specs.Limits.{text_room, input_room, lamps_most, places_count, only_in_2}
 use Rattle.record.specs.Wanted.{Wanted}
-use Rattle.record.specs.Rules.{isNewInput, isInputs, isLamps, isErrors}
-use Rattle.record.specs.Record.{zeros, inRoom, namesKept, closed, allClosed, allMarks, settingsOf}
-use Rattle.record.specs.Record.{startOwn, started, blank}
-use Rattle.record.specs.Legal.{isNames, isSettings, isOwn, isLegal}
+use Rattle.record.specs.Rules.{is_new_input, is_inputs, is_lamps, is_error_list}
+use Rattle.record.specs.Record.{zeros, in_room, names_kept, closed, all_closed, all_marks, settings_of}
+use Rattle.record.specs.Record.{start_own, started, blank}
+use Rattle.record.specs.Legal.{is_names, is_settings, is_own, is_legal}
 use Rattle.record.specs.Facts.{Fills}
-use Rattle.record.specs.Places.{connectionAt}
-use Rattle.record.specs.SetUp.{isSettingInRange, isSetUp, setUp}
+use Rattle.record.specs.Places.{connection_at}
+use Rattle.record.specs.SetUp.{is_setting_in_range, is_set_up, set_up}
 use Rattle.record.specs.Given.{set_up_given}
 use Rattle.record.specs.declared.types.Setting.{Setting}
 use Rattle.record.specs.declared.types.Setting.TheVariants.{Name, Maker, Model, Other, Password, Inputs}
 use Rattle.record.specs.declared.types.Setting.TheVariants.{Lamps, WarmUp, Cooling, Serial, Version}
 use Rattle.record.specs.declared.types.Setting.TheVariants.{Names}
-use Rattle.words.proofs.TextsTold.{name-long, info-long, password-long}
-use Rattle.record.proofs.Rules.{inputs-some, inputs-few, inputs-new, lamps-few}
-use Rattle.record.proofs.Rules.{only-in-2-within, names-many, names-each, text-most}
-use Rattle.record.proofs.NamesTold.{names-kept}
-use Rattle.record.proofs.Places.{pairs-even}
-use Rattle.record.proofs.Kept.{filled-kept}
+use Rattle.words.proofs.TextsTold.{name_long, info_long, password_long}
+use Rattle.record.proofs.Rules.{inputs_some, inputs_few, each_pair-is_new_input, lamps_few}
+use Rattle.record.proofs.Rules.{only_in_2_within, names_many, names_each, text_most}
+use Rattle.record.proofs.NamesTold.{names_kept_lem}
+use Rattle.record.proofs.Places.{pairs_even}
+use Rattle.record.proofs.Kept.{filled_kept}
 use Rattle.record.specs.declared.views.Power.TheVariants.{Off}
 use Rattle.record.proofs.PowerSeen.{written}
 use Rattle.record.proofs.FactsTold.{own_is, settings_is, stretch_is, names_is}
-use Rattle.record.proofs.MarksTold.{all-marks-legal}
-use Rattle.record.proofs.ConnectionsTold.{all-closed-legal, all-closed-at}
-use Rattle.record.proofs.LegalTold.{legal-by-parts, settings-of-legal}
-use Rattle.record.proofs.SettingsTold.{input-count-low}
-use Rattle.record.proofs.Calls.{set-up-long, set-up-by}
-use Rattle.record.proofs.OutOfRange.{each-in-range}
+use Rattle.record.proofs.MarksTold.{all_marks_legal}
+use Rattle.record.proofs.ConnectionsTold.{all_closed_legal, all_closed_at}
+use Rattle.record.proofs.LegalTold.{legal_by_parts, settings_of_legal}
+use Rattle.record.proofs.SettingsTold.{input_count_low}
+use Rattle.record.proofs.Calls.{set_up_long, set_up_by}
+use Rattle.record.proofs.OutOfRange.{each_in_range}
 
 -- it has no input
-pub blank-illegal : isLegal blank ≡ false
+pub blank_illegal : is_legal blank ≡ false
 unfolding blank
-blank-illegal =
-    by-not (isLegal blank) (λ h. omega (arith, input-count-low blank.settings (settings-of-legal blank h)))
+blank_illegal =
+    by_not (is_legal blank) (λ h. omega (arith, input_count_low blank.settings (settings_of_legal blank h)))
 
 -- inputs come in pairs
-pub inputs-halved : (k : ℕ) (s : List ℕ) → isInputs k s ≡ true → 2 * (length s / 2) ≡ length s
-inputs-halved k s h =
-    let most = pairs-even (isNewInput k) s (inputs-new k s h) (length s / 2) (omega arith) (omega arith) in
+pub inputs_halved : (k : ℕ) (s : List ℕ) → is_inputs k s ≡ true → 2 * (length s / 2) ≡ length s
+inputs_halved k s h =
+    let most =
+    pairs_even (is_new_input k) s (each_pair-is_new_input k s h) (length s / 2) (omega arith) (omega arith) in
     omega arith
 
 module _ (w : Wanted) where
-  module _ (h : isSetUp w ≡ true) where
-    met : (s : Setting) → isSettingInRange w s ≡ true
-    met = each-in-range w h
+  module _ (h : is_set_up w ≡ true) where
+    met : (s : Setting) → is_setting_in_range w s ≡ true
+    met = each_in_range w h
 
-    info-kept : (s : List ℕ) → isInfo s ≡ true → Fills textRoom isInfo (inRoom textRoom s) (length s)
-    info-kept s t = filled-kept textRoom isInfo s (omega (arith, info-long s t)) t
+    info_kept : (s : List ℕ) → is_info s ≡ true → Fills text_room is_info (in_room text_room s) (length s)
+    info_kept s t = filled_kept text_room is_info s (omega (arith, info_long s t)) t
 
     -- of Class 2 alone
-    info-in-2-kept : (s : List ℕ) → isText (onlyIn2 w.class infoMost) s ≡ true
-        → Fills textRoom (isText (onlyIn2 w.class infoMost)) (inRoom textRoom s) (length s)
-    info-in-2-kept s t =
-        filled-kept textRoom (isText (onlyIn2 w.class infoMost)) s
-        (omega (arith, text-most s _ t, only-in-2-within w.class infoMost)) t
+    info_in_2_kept : (s : List ℕ) → is_text (only_in_2 w.class info_most) s ≡ true
+        → Fills text_room (is_text (only_in_2 w.class info_most)) (in_room text_room s) (length s)
+    info_in_2_kept s t =
+        filled_kept text_room (is_text (only_in_2 w.class info_most)) s
+        (omega (arith, text_most s _ t, only_in_2_within w.class info_most)) t
 
-    named : isNames (onlyIn2 w.class (length w.inputs / 2)) (namesKept w.names) ≡ true
+    named : is_names (only_in_2 w.class (length w.inputs / 2)) (names_kept w.names) ≡ true
     named =
-        let many = names-many _ w.names (met Names) in
-        let few = inputs-few _ w.inputs (met Inputs) in
-        ap (λ (n : ℕ). isNames n (namesKept w.names)) (sym many)
-        ∙ names-kept w.names (omega (arith, only-in-2-within w.class (length w.inputs / 2)))
-        (names-each _ w.names (met Names))
+        let many = names_many _ w.names (met Names) in
+        let few = inputs_few _ w.inputs (met Inputs) in
+        ap (λ (n : ℕ). is_names n (names_kept w.names)) (sym many)
+        ∙ names_kept_lem w.names (omega (arith, only_in_2_within w.class (length w.inputs / 2)))
+        (names_each _ w.names (met Names))
 
-    settings-legal : isSettings (settingsOf w) ≡ true
-    settings-legal = (settings_is (settingsOf w)).1 (record {
-      name = filled-kept textRoom isName w.name (name-long w.name (met Name)) (met Name);
-      maker = info-kept w.maker (met Maker);
-      model = info-kept w.model (met Model);
-      other = info-kept w.other (met Other);
+    is_settings-settings_of : is_settings (settings_of w) ≡ true
+    is_settings-settings_of = (settings_is (settings_of w)).1 (record {
+      name = filled_kept text_room is_name w.name (name_long w.name (met Name)) (met Name);
+      maker = info_kept w.maker (met Maker);
+      model = info_kept w.model (met Model);
+      other = info_kept w.other (met Other);
       password =
-          filled-kept textRoom isPassword w.password (omega (arith, password-long w.password (met Password)))
+          filled_kept text_room is_password w.password (omega (arith, password_long w.password (met Password)))
           (met Password);
-      long_enough = set-up-long w h;
+      long_enough = set_up_long w h;
       inputs =
-          subst (Fills inputRoom (isInputs w.class) (inRoom inputRoom w.inputs))
-          (sym (inputs-halved _ w.inputs (met Inputs)))
-          (filled-kept inputRoom (isInputs w.class) w.inputs (inputs-few _ w.inputs (met Inputs)) (met Inputs));
-      lamps = lamps-few w.lamps (met Lamps);
+          subst (Fills input_room (is_inputs w.class) (in_room input_room w.inputs))
+          (sym (inputs_halved _ w.inputs (met Inputs)))
+          (filled_kept input_room (is_inputs w.class) w.inputs (inputs_few _ w.inputs (met Inputs)) (met Inputs));
+      lamps = lamps_few w.lamps (met Lamps);
       warm = (stretch_is w.warm).0 (met WarmUp);
       cool = (stretch_is w.cool).0 (met Cooling);
-      serial = info-in-2-kept w.serial (met Serial);
-      version = info-in-2-kept w.version (met Version);
+      serial = info_in_2_kept w.serial (met Serial);
+      version = info_in_2_kept w.version (met Version);
       names = (names_is _ _).0 named;
     })
 
-    own-legal : isOwn (settingsOf w) (startOwn w.lamps) ≡ true
-    unfolding isErrors
-    own-legal = (own_is _ (startOwn w.lamps)).1 (record {
+    own_legal : is_own (settings_of w) (start_own w.lamps) ≡ true
+    unfolding is_error_list
+    own_legal = (own_is _ (start_own w.lamps)).1 (record {
       errors = refl;
-      lamps = filled-kept lampsMost isLamps w.lamps (lamps-few w.lamps (met Lamps)) (met Lamps);
-      marks = all-marks-legal (length w.lamps) (lamps-few w.lamps (met Lamps));
+      lamps = filled_kept lamps_most is_lamps w.lamps (lamps_few w.lamps (met Lamps)) (met Lamps);
+      marks = all_marks_legal (length w.lamps) (lamps_few w.lamps (met Lamps));
       power = written w.warm w.cool Off tt;
-      chosen = omega (arith, inputs-some _ w.inputs (met Inputs));
+      chosen = omega (arith, inputs_some _ w.inputs (met Inputs));
       speaker = omega arith;
       microphone = omega arith;
     })
 
-    pub started-legal : isLegal (started w) ≡ true
+    pub started_legal : is_legal (started w) ≡ true
     unfolding started
-    started-legal = legal-by-parts (started w) settings-legal own-legal all-closed-legal
+    started_legal = legal_by_parts (started w) is_settings-settings_of own_legal all_closed_legal
 
   -- the lamps' starting seconds, place by place
-  pub started-lamp : (k : ℕ) → k < length w.lamps → get_or (started w).own.lamps k 0 ≡ get_or w.lamps k 0
-  unfolding started inRoom
-  started-lamp k l = get_or-append w.lamps (drop (length w.lamps) (zeros lampsMost)) 0 k l
+  pub started_lamp : (k : ℕ) → k < length w.lamps →
+      slice_index_or (started w).own.lamps k 0 ≡ slice_index_or w.lamps k 0
+  unfolding started in_room
+  started_lamp k l = get_or-append w.lamps (drop (length w.lamps) (zeros lamps_most)) 0 k l
 
   -- each lamp is enabled (RULES, Lamps)
-  pub started-marks : (started w).own.enabled ≡ allMarks (length w.lamps)
+  pub started_marks : (started w).own.enabled ≡ all_marks (length w.lamps)
   unfolding started
-  started-marks = refl
+  started_marks = refl
 
   -- the started device, part by part
-  pub started-parts : started w ≡ record { settings = settingsOf w; own = startOwn w.lamps; connections = allClosed }
+  pub started_parts : started w ≡ record { settings = settings_of w; own = start_own w.lamps; connections = all_closed }
   unfolding started
-  started-parts = refl
+  started_parts = refl
 
   -- at each place there is the closed connection
-  pub started-closed : (p : ℕ) → p < placesCount → connectionAt (started w) p ≡ closed
+  pub connection_at-started : (p : ℕ) → p < places_count → connection_at (started w) p ≡ closed
   unfolding started
-  started-closed p there = all-closed-at p there
+  connection_at-started p there = all_closed_at p there
 
   -- an accepted set-up is legal, and gives the started device
-  pub set-up-legal : (set_up_given (setUp w)).number ≡ 0 → isLegal (set_up_given (setUp w)).device ≡ true
-  set-up-legal =
-      set-up-by w (λ r. r.number ≡ 0 → isLegal r.device ≡ true) (λ e. absurd (omega arith))
-      (λ e. absurd (omega arith)) (λ h e. started-legal h)
+  pub set_up_legal : (set_up_given (set_up w)).number ≡ 0 → is_legal (set_up_given (set_up w)).device ≡ true
+  set_up_legal =
+      set_up_by w (λ r. r.number ≡ 0 → is_legal r.device ≡ true) (λ e. absurd (omega arith))
+      (λ e. absurd (omega arith)) (λ h e. started_legal h)
 
-  pub set-up-started : (set_up_given (setUp w)).number ≡ 0 → (set_up_given (setUp w)).device ≡ started w
-  set-up-started =
-      set-up-by w (λ r. r.number ≡ 0 → r.device ≡ started w) (λ e. absurd (omega arith))
+  pub set_up_started : (set_up_given (set_up w)).number ≡ 0 → (set_up_given (set_up w)).device ≡ started w
+  set_up_started =
+      set_up_by w (λ r. r.number ≡ 0 → r.device ≡ started w) (λ e. absurd (omega arith))
       (λ e. absurd (omega arith)) (λ h e. refl)

@@ -1,21 +1,20 @@
 -- The window through which a text in its room is seen: what the low end of each byte must be.
 --   window           128 spaces, and 128 zeros after them
 -- Assumes nothing.
-use Rattle.std.proofs.Common.{◌≡◌, ℕ, ◌+◌, ◌-◌, ◌<◌, ◌≤◌, min, List, ◌++◌, length, get_or, take, drop}
-use Rattle.std.proofs.Common.{replicate, ◌∙◌, eqb, arith, eq-eqb, false, not, ◌&&◌, zero, suc}
-use Rattle.std.specs.Prelude.{nat_le, ◌==◌, is_some}
-use Rattle.std.proofs.lemmas.Bool.{ne_eqb}
+use Rattle.std.specs.List.{list_all}
+use Rattle.std.proofs.Common.{◌≡◌, ℕ, ◌+◌, ◌-◌, ◌<◌, ◌≤◌, min, List, ◌++◌, length, take, drop}
+use Rattle.std.proofs.Common.{replicate, ◌∙◌, arith, eq-eqb, false, not, ◌&&◌, zero, suc, slice_index_or, nat_le}
+use Rattle.std.proofs.Common.{le-leb, ⊎_elim}
+use Rattle.std.specs.Prelude.{◌==◌, is_some}
+use Rattle.std.proofs.lemmas.Bool.{ne_eqb, lt-leb}
 use Rattle.std.proofs.lemmas.List.{get_or-take, get_or-drop, get_or-replicate, get_or_append_left, length-replicate}
 use Rattle.std.proofs.Math.Seq.{get_or-append_right}
-use borrow.Author.Tests.{le-leb, lt-leb}
-use mathlib.Core.Logic.{⊎_elim}
-use Rattle.text.proofs.Orders.{le-or-lt}
-use Rattle.text.specs.Scans.{every}
-use Rattle.words.specs.Texts.{isTextByte, isText, isRefusal}
-use Rattle.words.proofs.WithinLength.{text-within, text-longer}
+use Rattle.text.proofs.Orders.{le_or_lt}
+use Rattle.words.specs.Texts.{is_text_byte, is_text, is_refusal}
+use Rattle.words.proofs.WithinLength.{text_within, text_longer}
 use Rattle.text.specs.Rooms.{used}
-use Rattle.record.specs.Legal.{is_zero, fillsRoom}
-use Rattle.record.proofs.Rules.{empty-text}
+use Rattle.record.specs.Legal.{is_zero, fills_room}
+use Rattle.record.proofs.Rules.{empty_text}
 use Rattle.text.proofs.RoomsTold.{used_many, used_blank, used_not_blank, is_some_used, holds_used}
 use Rattle.std.proofs.Math.Seq.{length-take-le}
 use Rattle.std.proofs.lemmas.Grind.{common_steps}
@@ -33,100 +32,101 @@ module _ (n m k : ℕ) (used : n ≤ 128) (room : m ≤ 128) (h : k < m) where
   abbrev cut : List ℕ
   cut = take ((128 - n + m) - (128 - n)) (drop (128 - n) window)
 
-  at : get_or cut k 0 ≡ get_or window (128 - n + k) 0
+  at : slice_index_or cut k 0 ≡ slice_index_or window (128 - n + k) 0
   at = get_or-take ((128 - n + m) - (128 - n)) (drop (128 - n) window) k 0 (omega arith)
       ∙ get_or-drop (128 - n) window k 0
 
   half : length spaces ≡ 128
   half = length-replicate {A = ℕ} 128 0x20
 
-  pub wanted-space : k < n → get_or cut k 0 ≡ 0x20
-  wanted-space g =
+  pub wanted_space : k < n → slice_index_or cut k 0 ≡ 0x20
+  wanted_space g =
       at ∙ get_or_append_left spaces none 0 (128 - n + k) (omega (arith, half))
       ∙ get_or-replicate 128 (128 - n + k) 0x20 0 (omega arith)
 
-  pub wanted-zero : n ≤ k → get_or cut k 0 ≡ 0
-  wanted-zero g =
+  pub wanted_zero : n ≤ k → slice_index_or cut k 0 ≡ 0
+  wanted_zero g =
       at ∙ get_or-append_right spaces none (128 - n + k) 0 (omega (arith, half))
       ∙ get_or-replicate 128 (128 - n + k - length spaces) 0 0 (omega (arith, half))
 
 module _ (b w r : ℕ) (low : r ≡ min b 0x20) where
-  pub low-used : b ≤ 0xFF → w ≡ 0x20 → eqb r w ≡ isTextByte b
-  low-used small e = ⊎_elim over under (le-or-lt 0x20 b)
+  pub low_used : b ≤ 0xFF → w ≡ 0x20 → (r == w) ≡ is_text_byte b
+  low_used small e = ⊎_elim over under (le_or_lt 0x20 b)
     where
-      over : 0x20 ≤ b → eqb r w ≡ isTextByte b
+      over : 0x20 ≤ b → (r == w) ≡ is_text_byte b
       over g = rw (le-leb 0x20 b g, le-leb b 0xFF small) (eq-eqb r w (omega arith))
 
-      under : b < 0x20 → eqb r w ≡ isTextByte b
+      under : b < 0x20 → (r == w) ≡ is_text_byte b
       under g = rw (lt-leb 0x20 b g) (ne_eqb r w (omega arith))
 
-  pub low-unused : w ≡ 0 → eqb r w ≡ is_zero b
-  low-unused e = ⊎_elim over under (le-or-lt 1 b)
+  pub low_unused : w ≡ 0 → (r == w) ≡ is_zero b
+  low_unused e = ⊎_elim over under (le_or_lt 1 b)
     where
-      over : 1 ≤ b → eqb r w ≡ is_zero b
+      over : 1 ≤ b → (r == w) ≡ is_zero b
       over g = rw (ne_eqb b 0 (omega arith)) (ne_eqb r w (omega arith))
 
-      under : b < 1 → eqb r w ≡ is_zero b
+      under : b < 1 → (r == w) ≡ is_zero b
       under g = rw (eq-eqb b 0 (omega arith)) (eq-eqb r w (omega arith))
 
 -- the rule of a text, by the tests of its length and of its bytes
-text_by_tests : (s : List ℕ) (m : ℕ) → isText m s ≡ (nat_le (length s) m && every isTextByte s && not (isRefusal s))
-text_by_tests s m = ⊎_elim short over (le-or-lt (length s) m)
+text_by_tests : (s : List ℕ) (m : ℕ) →
+    is_text m s ≡ (nat_le (length s) m && list_all is_text_byte s && not (is_refusal s))
+text_by_tests s m = ⊎_elim short over (le_or_lt (length s) m)
   where
-    short : length s ≤ m → isText m s ≡ (nat_le (length s) m && every isTextByte s && not (isRefusal s))
-    short h = grind (arith, common_steps, text-within s m h)
+    short : length s ≤ m → is_text m s ≡ (nat_le (length s) m && list_all is_text_byte s && not (is_refusal s))
+    short h = grind (arith, common_steps, text_within s m h)
 
-    over : m < length s → isText m s ≡ (nat_le (length s) m && every isTextByte s && not (isRefusal s))
-    over h = grind (arith, common_steps, text-longer s m h)
+    over : m < length s → is_text m s ≡ (nat_le (length s) m && list_all is_text_byte s && not (is_refusal s))
+    over h = grind (arith, common_steps, text_longer s m h)
 
 -- a text in its room, by what one pass finds: the tests in their order
-pub text_filled : (room : ℕ) (s : List ℕ) (n most : ℕ) → length s ≡ room → fillsRoom room (isText most) s n
-    ≡ (nat_le n most && nat_le n room && (every is_zero (drop n s) && every isTextByte (take n s))
-    && not (isRefusal (take n s)))
-unfolding fillsRoom
-text_filled room s n most long = ⊎_elim inside over (le-or-lt n room)
+pub text_filled : (room : ℕ) (s : List ℕ) (n most : ℕ) → length s ≡ room → fills_room room (is_text most) s n
+    ≡ (nat_le n most && nat_le n room && (list_all is_zero (drop n s) && list_all is_text_byte (take n s))
+    && not (is_refusal (take n s)))
+unfolding fills_room
+text_filled room s n most long = ⊎_elim inside over (le_or_lt n room)
   where
-    inside : n ≤ room → fillsRoom room (isText most) s n
-        ≡ (nat_le n most && nat_le n room && (every is_zero (drop n s) && every isTextByte (take n s))
-        && not (isRefusal (take n s)))
+    inside : n ≤ room → fills_room room (is_text most) s n
+        ≡ (nat_le n most && nat_le n room && (list_all is_zero (drop n s) && list_all is_text_byte (take n s))
+        && not (is_refusal (take n s)))
     inside h =
         let many : length (take n s) ≡ n = length-take-le n s (omega arith) in
         let rule = text_by_tests (take n s) most in
         let blank = used_blank is_zero room s n long h in
         grind (arith, common_steps, blank, used_not_blank is_zero room s n long h, rule, many)
 
-    over : room < n → fillsRoom room (isText most) s n
-        ≡ (nat_le n most && nat_le n room && (every is_zero (drop n s) && every isTextByte (take n s))
-        && not (isRefusal (take n s)))
+    over : room < n → fills_room room (is_text most) s n
+        ≡ (nat_le n most && nat_le n room && (list_all is_zero (drop n s) && list_all is_text_byte (take n s))
+        && not (is_refusal (take n s)))
     over h = grind (arith, common_steps, used_many is_zero room s n long h)
 
 -- no name in its room: nothing of it is used
 module _ (room : ℕ) (s : List ℕ) (long : length s ≡ room) where
-  none_named : fillsRoom room (isText 0) s 0 ≡ is_some (used is_zero room s 0)
-  unfolding fillsRoom
+  none_named : fills_room room (is_text 0) s 0 ≡ is_some (used is_zero room s 0)
+  unfolding fills_room
   none_named =
       grind (
         arith,
         common_steps,
-        empty-text 0,
+        empty_text 0,
         is_some_used is_zero room s 0 long,
-        holds_used is_zero room (isText 0) s 0 (omega arith) long,
+        holds_used is_zero room (is_text 0) s 0 (omega arith) long,
       )
 
-  some_named : (n : ℕ) → 0 < n → fillsRoom room (isText 0) s n ≡ false
-  unfolding fillsRoom
-  some_named n some = ⊎_elim inside over (le-or-lt n room)
+  some_named : (n : ℕ) → 0 < n → fills_room room (is_text 0) s n ≡ false
+  unfolding fills_room
+  some_named n some = ⊎_elim inside over (le_or_lt n room)
     where
-      inside : n ≤ room → fillsRoom room (isText 0) s n ≡ false
+      inside : n ≤ room → fills_room room (is_text 0) s n ≡ false
       inside h =
           let many : length (take n s) ≡ n = length-take-le n s (omega arith) in
-          let longer = text-longer (take n s) 0 (omega arith) in
+          let longer = text_longer (take n s) 0 (omega arith) in
           let blank = used_blank is_zero room s n long h in
           grind (arith, common_steps, blank, used_not_blank is_zero room s n long h, longer)
 
-      over : room < n → fillsRoom room (isText 0) s n ≡ false
+      over : room < n → fills_room room (is_text 0) s n ≡ false
       over h = grind (arith, common_steps, used_many is_zero room s n long h)
 
-  pub no_name : (n : ℕ) → fillsRoom room (isText 0) s n ≡ (n == 0 && is_some (used is_zero room s 0))
+  pub no_name : (n : ℕ) → fills_room room (is_text 0) s n ≡ (n == 0 && is_some (used is_zero room s 0))
   no_name zero = none_named
   no_name (suc n) = grind (arith, some_named (suc n) (omega arith))

@@ -3,17 +3,20 @@
 -- Assumes nothing.
 use Rattle.text.specs.Computing.{computing as text}
 use Rattle.words.specs.Computing.{computing as words}
-use Rattle.record.specs.Rules.{isSetUpPassword, eachPair, is_none, isInputs, isLamps, isMarks, isErrors, areNames}
-use Rattle.record.specs.Record.{inRoom, namesKept, closed, allMarks, started, blank}
-use Rattle.record.specs.Legal.{fillsRoom, isNames, isRestOf2, isSettings, isLeft, isOwn}
-use Rattle.record.specs.Legal.{isAge, heldMost, is_held, isConnection, isConnections, isLegal}
-use Rattle.record.specs.Places.{lowestShut}
-use Rattle.record.specs.SetUp.{isInRange, isSetUp, setUp}
-use Rattle.record.specs.HostCalls.{faultSet, errorsSet, markSet}
+use Rattle.record.specs.Rules.{is_set_up_password, each_pair, is_none, is_inputs, is_lamps, is_marks, is_error_list}
+use Rattle.record.specs.Rules.{are_names}
+use Rattle.record.specs.Record.{in_room, names_kept, closed, all_marks, started, blank}
+use Rattle.record.specs.Legal.{fills_room, is_names, is_rest_of_2, is_settings, is_left, is_own}
+use Rattle.record.specs.Legal.{is_age, held_most, is_held, is_connection, is_connections, is_legal}
+use Rattle.record.specs.Places.{lowest_shut}
+use Rattle.record.specs.SetUp.{is_in_range, is_set_up, set_up}
+use Rattle.record.specs.HostCalls.{fault_set, errors_set, mark_set}
 
 unfoldable pub computing : Unit {0}
 unfolding
-    text words isSetUpPassword eachPair is_none isInputs isLamps isMarks isErrors areNames inRoom namesKept closed
-    allMarks started blank fillsRoom isNames isRestOf2 isSettings isLeft isOwn isAge heldMost is_held isConnection
-    isConnections isLegal isInRange isSetUp setUp lowestShut faultSet errorsSet markSet
+    text words is_set_up_password each_pair is_none is_inputs is_lamps is_marks is_error_list are_names in_room
+    names_kept closed
+    all_marks started blank fills_room is_names is_rest_of_2 is_settings is_left is_own is_age held_most is_held
+    is_connection
+    is_connections is_legal is_in_range is_set_up set_up lowest_shut fault_set errors_set mark_set
 computing = tt

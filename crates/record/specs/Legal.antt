@@ -1,32 +1,33 @@
 -- A legal record (RULES, The legal record, last paragraph), a definition a part: settings alone, the own part with the
 -- settings, each connection alone. An array of a record is a list of any length here, so each part says its arrays'
 -- lengths.
---   fillsRoom room rule s n      the array s has that room; its first n places follow the rule, the rest is zero
---   fillsTextRoom rule t         a text follows the rule
---   fillsNameRoom most t         the name of an input has at most so many bytes
---   isNames n ns              the first n places have a name each (RULES, Class 2), the others none
---   isRestOf2 ..              what Class 2 alone has is in range: in Class 1 it is empty
---   isSettings s              the settings are in range
---   isLeft power left w c     seconds left: 1 to w in warm-up, 1 to c in cooling, else 0
---   isOwn s o                 the own part is legal under the settings s
---   isTimed, isCollecting     the phases in which a connection ages; in which it collects bytes
---   isAge phase age           0 to 29 in a phase that ages, else 0
---   heldMost phase            the most collected bytes: 167 while awaiting, 135 while open, none otherwise
+--   fills_room room rule s n     the array s has that room; its first n places follow the rule, the rest is zero
+--   fills_text_room rule t       a text follows the rule
+--   fills_name_room most t       the name of an input has at most so many bytes
+--   is_names n ns             the first n places have a name each (RULES, Class 2), the others none
+--   is_rest_of_2 ..           what Class 2 alone has is in range: in Class 1 it is empty
+--   is_settings s             the settings are in range
+--   is_left power left w c    seconds left: 1 to w in warm-up, 1 to c in cooling, else 0
+--   is_own s o                the own part is legal under the settings s
+--   is_timed, is_collecting   the phases in which a connection ages; in which it collects bytes
+--   is_age phase age          0 to 29 in a phase that ages, else 0
+--   held_most phase           the most collected bytes: 167 while awaiting, 135 while open, none otherwise
 --   is_held phase mark n      n bytes may be collected: none under the overlong mark, which stands in those phases only
---   isConnection c            the connection is legal
---   isConnections cs          a connection at each place, each legal (RULES, Places)
---   isLegal d                 the record is
+--   is_connection c           the connection is legal
+--   is_connections cs         a connection at each place, each legal (RULES, Places)
+--   is_legal d                the record is
 -- Assumes nothing.
-use Rattle.std.specs.Prelude.{ℕ, ◌*◌, Bool, not, ◌&&◌, ◌||◌, List, length, take, drop, leb, ltb, eqb, if◌then◌else◌}
-use Rattle.text.specs.Scans.{every}
-use Rattle.words.specs.Bytes.{noCr}
-use Rattle.words.specs.Texts.{isText, isName, isInfo, infoMost, inputNameMost}
-use Rattle.words.specs.Bytes.{commandMost}
+use Rattle.std.specs.List.{list_all}
+use Rattle.std.specs.Prelude.{ℕ, ◌*◌, Bool, not, ◌&&◌, ◌||◌, List, length, take, drop, if◌then◌else◌, nat_le, nat_lt}
+use Rattle.std.specs.Prelude.{◌==◌}
+use Rattle.words.specs.Bytes.{no_cr}
+use Rattle.words.specs.Texts.{is_text, is_name, is_info, info_most, input_name_most}
+use Rattle.words.specs.Bytes.{command_most}
 use Rattle.text.specs.Rooms.{used, holds}
-use Rattle.record.specs.Limits.{textRoom, listedMost, inputRoom, lampsMost, lineRoom, ageEnd}
-use Rattle.record.specs.Limits.{placesCount, onlyIn2, cooling, warming}
-use Rattle.record.specs.Limits.{shut, awaiting, opened, failed, isPower, isPhase}
-use Rattle.record.specs.Rules.{isSetUpPassword, isInputs, isLamps, isMarks, isStretch, isErrors, isVolume}
+use Rattle.record.specs.Limits.{text_room, listed_most, input_room, lamps_most, line_room, age_end}
+use Rattle.record.specs.Limits.{places_count, only_in_2, cooling, warming}
+use Rattle.record.specs.Limits.{shut, awaiting, opened, failed, is_power, is_phase}
+use Rattle.record.specs.Rules.{is_set_up_password, is_inputs, is_lamps, is_marks, is_stretch, is_error_list, is_volume}
 use Rattle.record.specs.declared.types.Text.{Text}
 use Rattle.record.specs.declared.types.InputName.{InputName}
 use Rattle.record.specs.declared.types.Settings.{Settings}
@@ -35,71 +36,73 @@ use Rattle.record.specs.declared.types.Connection.{Connection}
 use Rattle.record.specs.declared.types.Device.{Device}
 
 abbrev pub is_zero : ℕ → Bool
-is_zero x = eqb x 0
+is_zero x = x == 0
 
-unfoldable pub fillsRoom : ℕ → (List ℕ → Bool) → List ℕ → ℕ → Bool
-fillsRoom room rule s n = holds rule (used is_zero room s n)
+unfoldable pub fills_room : ℕ → (List ℕ → Bool) → List ℕ → ℕ → Bool
+fills_room room rule s n = holds rule (used is_zero room s n)
 
-abbrev pub fillsTextRoom : (List ℕ → Bool) → Text → Bool
-fillsTextRoom rule t = fillsRoom textRoom rule t.bytes t.len
+abbrev pub fills_text_room : (List ℕ → Bool) → Text → Bool
+fills_text_room rule t = fills_room text_room rule t.bytes t.len
 
-abbrev pub fillsNameRoom : ℕ → InputName → Bool
-fillsNameRoom most t = fillsRoom inputNameMost (isText most) t.bytes t.len
+abbrev pub fills_name_room : ℕ → InputName → Bool
+fills_name_room most t = fills_room input_name_most (is_text most) t.bytes t.len
 
-unfoldable pub isNames : ℕ → List InputName → Bool
-isNames n ns =
-    eqb (length ns) listedMost && every (fillsNameRoom 0) (drop n ns) && every (fillsNameRoom inputNameMost) (take n ns)
+unfoldable pub is_names : ℕ → List InputName → Bool
+is_names n ns =
+    length ns == listed_most && list_all (fills_name_room 0) (drop n ns)
+    && list_all (fills_name_room input_name_most) (take n ns)
 
-unfoldable pub isRestOf2 : (class inputs : ℕ) (serial version : Text) (names : List InputName) → Bool
-isRestOf2 class inputs serial version names =
-    fillsTextRoom (isText (onlyIn2 class infoMost)) serial && fillsTextRoom (isText (onlyIn2 class infoMost)) version
-    && isNames (onlyIn2 class inputs) names
+unfoldable pub is_rest_of_2 : (class inputs : ℕ) (serial version : Text) (names : List InputName) → Bool
+is_rest_of_2 class inputs serial version names =
+    fills_text_room (is_text (only_in_2 class info_most)) serial
+    && fills_text_room (is_text (only_in_2 class info_most)) version
+    && is_names (only_in_2 class inputs) names
 
-unfoldable pub isSettings : Settings → Bool
-isSettings s =
-    fillsTextRoom isName s.name && fillsTextRoom isInfo s.maker && fillsTextRoom isInfo s.model
-    && fillsTextRoom isInfo s.other && fillsTextRoom isSetUpPassword s.password
-    && fillsRoom inputRoom (isInputs s.class_number) s.inputs (2 * s.input_count)
-    && leb s.lamp_count lampsMost && isStretch s.warm && isStretch s.cool
-    && isRestOf2 s.class_number s.input_count s.serial s.version s.names
+unfoldable pub is_settings : Settings → Bool
+is_settings s =
+    fills_text_room is_name s.name && fills_text_room is_info s.maker && fills_text_room is_info s.model
+    && fills_text_room is_info s.other && fills_text_room is_set_up_password s.password
+    && fills_room input_room (is_inputs s.class_number) s.inputs (2 * s.input_count)
+    && nat_le s.lamp_count lamps_most && is_stretch s.warm && is_stretch s.cool
+    && is_rest_of_2 s.class_number s.input_count s.serial s.version s.names
 
-unfoldable pub isLeft : ℕ → ℕ → ℕ → ℕ → Bool
-isLeft power left warm cool =
-    if eqb power warming then leb 1 left && leb left warm
-    else if eqb power cooling then leb 1 left && leb left cool
-    else isPower power && eqb left 0
+unfoldable pub is_left : ℕ → ℕ → ℕ → ℕ → Bool
+is_left power left warm cool =
+    if power == warming then nat_le 1 left && nat_le left warm
+    else if power == cooling then nat_le 1 left && nat_le left cool
+    else is_power power && left == 0
 
 -- the chosen input is listed: its place is one of the list's
-unfoldable pub isOwn : Settings → Own → Bool
-isOwn s o =
-    isErrors o.errors && fillsRoom lampsMost isLamps o.lamps s.lamp_count
-    && isMarks s.lamp_count o.enabled && isLeft o.power o.left s.warm s.cool
-    && ltb o.chosen s.input_count && isVolume o.speaker && isVolume o.microphone
+unfoldable pub is_own : Settings → Own → Bool
+is_own s o =
+    is_error_list o.errors && fills_room lamps_most is_lamps o.lamps s.lamp_count
+    && is_marks s.lamp_count o.enabled && is_left o.power o.left s.warm s.cool
+    && nat_lt o.chosen s.input_count && is_volume o.speaker && is_volume o.microphone
 
-abbrev pub isTimed : ℕ → Bool
-isTimed phase = eqb phase awaiting || eqb phase failed
+abbrev pub is_timed : ℕ → Bool
+is_timed phase = phase == awaiting || phase == failed
 
-abbrev pub isCollecting : ℕ → Bool
-isCollecting phase = eqb phase awaiting || eqb phase opened
+abbrev pub is_collecting : ℕ → Bool
+is_collecting phase = phase == awaiting || phase == opened
 
-unfoldable pub isAge : ℕ → ℕ → Bool
-isAge phase age = if isTimed phase then ltb age ageEnd else eqb age 0
+unfoldable pub is_age : ℕ → ℕ → Bool
+is_age phase age = if is_timed phase then nat_lt age age_end else age == 0
 
-unfoldable pub heldMost : ℕ → ℕ
-heldMost phase = if eqb phase awaiting then lineRoom else if eqb phase opened then commandMost else 0
+unfoldable pub held_most : ℕ → ℕ
+held_most phase = if phase == awaiting then line_room else if phase == opened then command_most else 0
 
 unfoldable pub is_held : ℕ → Bool → ℕ → Bool
-is_held phase mark n = if mark then isCollecting phase && eqb n 0 else leb n (heldMost phase)
+is_held phase mark n = if mark then is_collecting phase && n == 0 else nat_le n (held_most phase)
 
-unfoldable pub isConnection : Connection → Bool
-isConnection c =
-    fillsRoom lineRoom noCr c.line.bytes c.line.held
-    && isPhase c.phase && isAge c.phase c.age
-    && (not (eqb c.phase shut) || eqb c.random 0)
+unfoldable pub is_connection : Connection → Bool
+is_connection c =
+    fills_room line_room no_cr c.line.bytes c.line.held
+    && is_phase c.phase && is_age c.phase c.age
+    && (not (c.phase == shut) || c.random == 0)
     && is_held c.phase c.line.overlong c.line.held
 
-unfoldable pub isConnections : List Connection → Bool
-isConnections cs = eqb (length cs) placesCount && every isConnection cs
+unfoldable pub is_connections : List Connection → Bool
+is_connections cs = length cs == places_count && list_all is_connection cs
 
-unfoldable pub isLegal : Device → Bool
-isLegal d = isSettings d.settings && isOwn d.settings d.own && isConnections d.connections
+unfoldable pub is_legal : Device → Bool
+is_legal d = is_settings d.settings && is_own d.settings d.own && is_connections d.connections

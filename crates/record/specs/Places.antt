@@ -1,34 +1,34 @@
 -- The places for controllers (RULES, Places): each has its own random number, collected bytes, mark, age and phase, and
 -- all share the settings, the own part and the clock.
---   noConnection           what an array of connections has past its end; no result holds it
---   connectionAt d p       the connection at place p
---   withPlace d o p c      the device with that own part, and the connection c at place p
---   isShut c               the connection is closed
---   lowestShut cs          the lowest closed place, or their number where none is closed
+--   no_connection          what an array of connections has past its end; no result holds it
+--   connection_at d p      the connection at place p
+--   with_place d o p c     the device with that own part, and the connection c at place p
+--   is_shut c              the connection is closed
+--   lowest_shut cs         the lowest closed place, or their number where none is closed
 -- Assumes nothing.
-use Rattle.std.specs.Prelude.{ℕ, suc, Bool, false, List, [], ◌∷◌, get_or, set, eqb, if◌then◌else◌}
+use Rattle.std.specs.Prelude.{ℕ, suc, Bool, false, List, [], ◌∷◌, set, if◌then◌else◌, slice_index_or, ◌==◌}
 use Rattle.record.specs.Limits.{shut}
 use Rattle.record.specs.declared.types.Own.{Own}
 use Rattle.record.specs.declared.types.Connection.{Connection}
 use Rattle.record.specs.declared.types.Device.{Device}
 
-abbrev pub noConnection : Connection
-noConnection = record {
+abbrev pub no_connection : Connection
+no_connection = record {
   phase = shut;
   age = 0;
   random = 0;
   line = record { overlong = false; held = 0; bytes = [] };
 }
 
-abbrev pub connectionAt : Device → ℕ → Connection
-connectionAt d p = get_or d.connections p noConnection
+abbrev pub connection_at : Device → ℕ → Connection
+connection_at d p = slice_index_or d.connections p no_connection
 
-abbrev pub withPlace : Device → Own → ℕ → Connection → Device
-withPlace d o p c = record { settings = d.settings; own = o; connections = set d.connections p c }
+abbrev pub with_place : Device → Own → ℕ → Connection → Device
+with_place d o p c = record { settings = d.settings; own = o; connections = set d.connections p c }
 
-abbrev pub isShut : Connection → Bool
-isShut c = eqb c.phase shut
+abbrev pub is_shut : Connection → Bool
+is_shut c = c.phase == shut
 
-unfoldable pub lowestShut : List Connection → ℕ
-lowestShut [] = 0
-lowestShut (c ∷ cs) = if isShut c then 0 else suc (lowestShut cs)
+unfoldable pub lowest_shut : List Connection → ℕ
+lowest_shut [] = 0
+lowest_shut (c ∷ cs) = if is_shut c then 0 else suc (lowest_shut cs)

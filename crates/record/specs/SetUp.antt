@@ -1,24 +1,23 @@
 -- Set-up (RULES, The legal record; number 3 of "The numbers a call gives"; number 8 of RULES, Passwords): which device
--- it gives, or why none, for every input.
---   settingsInOrder           the settings, in the order in which set-up is lent them
---   isSettingInRange w s      the setting s is in its range: a password of 1 to 7 characters is in its
---   isInRange w               each setting is: every 3 is ruled out
---   isSetUp w                 and the password is long enough
---   firstFailing f l          the first of l whose rule f is not met, or none
---   firstOutOfRange w         the first setting out of its range, or none
+-- it gives, or why none, for list_all input.
+--   settings_in_order         the settings, in the order in which set-up is lent them
+--   is_setting_in_range w s   the setting s is in its range: a password of 1 to 7 characters is in its
+--   is_in_range w             each setting is: list_all 3 is ruled out
+--   is_set_up w               and the password is long enough
+--   first_failing f l         the first of l whose rule f is not met, or none
+--   first_out_of_range w      the first setting out of its range, or none
 --   unless_out m r            refused for the setting m; r where m is none
---   setUp w                   the started device; refused for the first setting out of its range, else for a short
+--   set_up w                  the started device; refused for the first setting out of its range, else for a short
 --                             password
 -- An odd number of characters is no list of inputs, and so out of range.
 -- Assumes nothing.
 use Rattle.std.specs.Prelude.{Bool, not, ◌&&◌, List, [], ◌∷◌, ◌/◌, length, if◌then◌else◌}
 use Rattle.std.specs.Prelude.{Option, Some, None, Result, Ok, Err}
-use Rattle.std.specs.List.{find}
-use Rattle.text.specs.Scans.{every}
-use Rattle.words.specs.Texts.{isText, isName, isInfo, isPassword, infoMost}
-use Rattle.record.specs.Limits.{onlyIn2}
+use Rattle.std.specs.List.{find, list_all}
+use Rattle.words.specs.Texts.{is_text, is_name, is_info, is_password, info_most}
+use Rattle.record.specs.Limits.{only_in_2}
 use Rattle.record.specs.Wanted.{Wanted}
-use Rattle.record.specs.Rules.{isLongEnough, isInputs, isLamps, isStretch, areNames}
+use Rattle.record.specs.Rules.{is_long_enough, is_inputs, is_lamps, is_stretch, are_names}
 use Rattle.record.specs.Record.{started}
 use Rattle.record.specs.declared.types.Device.{Device}
 use Rattle.record.specs.declared.set_up_error.SetUpError.{SetUpError}
@@ -28,41 +27,41 @@ use Rattle.record.specs.declared.types.Setting.TheVariants.{Name, Maker, Model, 
 use Rattle.record.specs.declared.types.Setting.TheVariants.{Lamps, WarmUp, Cooling, Serial, Version}
 use Rattle.record.specs.declared.types.Setting.TheVariants.{Names}
 
-abbrev pub settingsInOrder : List Setting
-settingsInOrder =
+abbrev pub settings_in_order : List Setting
+settings_in_order =
     Name ∷ Maker ∷ Model ∷ Other ∷ Password ∷ Inputs ∷ Lamps ∷ WarmUp ∷ Cooling ∷ Serial ∷ Version ∷ Names ∷ []
 
-abbrev pub isSettingInRange : Wanted → Setting → Bool
-isSettingInRange w Name = isName w.name
-isSettingInRange w Maker = isInfo w.maker
-isSettingInRange w Model = isInfo w.model
-isSettingInRange w Other = isInfo w.other
-isSettingInRange w Password = isPassword w.password
-isSettingInRange w Inputs = isInputs w.class w.inputs
-isSettingInRange w Lamps = isLamps w.lamps
-isSettingInRange w WarmUp = isStretch w.warm
-isSettingInRange w Cooling = isStretch w.cool
-isSettingInRange w Serial = isText (onlyIn2 w.class infoMost) w.serial
-isSettingInRange w Version = isText (onlyIn2 w.class infoMost) w.version
-isSettingInRange w Names = areNames (onlyIn2 w.class (length w.inputs / 2)) w.names
+abbrev pub is_setting_in_range : Wanted → Setting → Bool
+is_setting_in_range w Name = is_name w.name
+is_setting_in_range w Maker = is_info w.maker
+is_setting_in_range w Model = is_info w.model
+is_setting_in_range w Other = is_info w.other
+is_setting_in_range w Password = is_password w.password
+is_setting_in_range w Inputs = is_inputs w.class w.inputs
+is_setting_in_range w Lamps = is_lamps w.lamps
+is_setting_in_range w WarmUp = is_stretch w.warm
+is_setting_in_range w Cooling = is_stretch w.cool
+is_setting_in_range w Serial = is_text (only_in_2 w.class info_most) w.serial
+is_setting_in_range w Version = is_text (only_in_2 w.class info_most) w.version
+is_setting_in_range w Names = are_names (only_in_2 w.class (length w.inputs / 2)) w.names
 
-unfoldable pub isInRange : Wanted → Bool
-isInRange w = every (isSettingInRange w) settingsInOrder
+unfoldable pub is_in_range : Wanted → Bool
+is_in_range w = list_all (is_setting_in_range w) settings_in_order
 
-unfoldable pub isSetUp : Wanted → Bool
-isSetUp w = isInRange w && isLongEnough (length w.password)
+unfoldable pub is_set_up : Wanted → Bool
+is_set_up w = is_in_range w && is_long_enough (length w.password)
 
-abbrev pub firstFailing : (Setting → Bool) → List Setting → Option Setting
-firstFailing f l = find (λ s. not (f s)) l
+abbrev pub first_failing : (Setting → Bool) → List Setting → Option Setting
+first_failing f l = find (λ s. not (f s)) l
 
-abbrev pub firstOutOfRange : Wanted → Option Setting
-firstOutOfRange w = firstFailing (isSettingInRange w) settingsInOrder
+abbrev pub first_out_of_range : Wanted → Option Setting
+first_out_of_range w = first_failing (is_setting_in_range w) settings_in_order
 
 abbrev pub unless_out : Option Setting → Result Device SetUpError → Result Device SetUpError
 unless_out (Some s) r = Err (OutOfRange s)
 unless_out None r = r
 
-unfoldable pub setUp : Wanted → Result Device SetUpError
-setUp w =
-    unless_out (firstOutOfRange w)
-    (if isLongEnough (length w.password) then Ok (started w) else Err ShortPassword)
+unfoldable pub set_up : Wanted → Result Device SetUpError
+set_up w =
+    unless_out (first_out_of_range w)
+    (if is_long_enough (length w.password) then Ok (started w) else Err ShortPassword)

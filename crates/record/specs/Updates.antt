@@ -1,14 +1,14 @@
 -- The own part, a connection or the record with something else in one place, and all else as it was. The own part is
 -- spelled field by field here, and nowhere else but where it starts.
---   withPower o power left      the power, with so many seconds left of warm-up or cooling
---   withChosen o place          the place of the chosen input;    withMutes o video audio     both mutes
---   withFault o mark            the fault mark;                   withErrors o digits         the error digits
---   withSeconds o s             the lamps' seconds;               withMarks o ms              their marks (RULES,
---                               Lamps)
---   withFreeze o mark           the freeze mark (RULES, Class 2)
---   withVolumes o speaker microphone     both volumes (RULES, Class 2)
---   aged c age, withLine c l    the connection at that age; with that line
---   withOwn d o                 the device with that own part
+--   with_power_left o power left   the power, with so many seconds left of warm-up or cooling
+--   with_chosen o place            the place of the chosen input;    with_mutes o video audio     both mutes
+--   with_fault o mark              the fault mark;                   with_errors o digits         the error digits
+--   with_seconds o s               the lamps' seconds;               with_marks o ms              their marks (RULES,
+--                                  Lamps)
+--   with_freeze o mark             the freeze mark (RULES, Class 2)
+--   with_volumes o speaker microphone    both volumes (RULES, Class 2)
+--   aged c age, with_line c l      the connection at that age; with that line
+--   with_own d o                   the device with that own part
 -- Assumes nothing.
 use Rattle.std.specs.Prelude.{ℕ, Bool, List}
 use Rattle.record.specs.declared.types.Own.{Own}
@@ -34,56 +34,56 @@ own_of power left chosen video audio fault errors lamps enabled frozen speaker m
 }
 
 module _ (o : Own) where
-  abbrev pub withPower : (power left : ℕ) → Own
-  withPower p n =
+  abbrev pub with_power_left : (power left : ℕ) → Own
+  with_power_left p n =
       own_of p n o.chosen o.video_muted o.audio_muted o.fault o.errors o.lamps o.enabled
       o.frozen o.speaker o.microphone
 
-  abbrev pub withChosen : (place : ℕ) → Own
-  withChosen k =
+  abbrev pub with_chosen : (place : ℕ) → Own
+  with_chosen k =
       own_of o.power o.left k o.video_muted o.audio_muted o.fault o.errors o.lamps
       o.enabled o.frozen o.speaker o.microphone
 
-  abbrev pub withMutes : (video audio : Bool) → Own
-  withMutes v a =
+  abbrev pub with_mutes : (video audio : Bool) → Own
+  with_mutes v a =
       own_of o.power o.left o.chosen v a o.fault o.errors o.lamps o.enabled o.frozen
       o.speaker o.microphone
 
-  abbrev pub withFault : (mark : Bool) → Own
-  withFault m =
+  abbrev pub with_fault : (mark : Bool) → Own
+  with_fault m =
       own_of o.power o.left o.chosen o.video_muted o.audio_muted m o.errors o.lamps
       o.enabled o.frozen o.speaker o.microphone
 
-  abbrev pub withErrors : (digits : List ℕ) → Own
-  withErrors ds =
+  abbrev pub with_errors : (digits : List ℕ) → Own
+  with_errors ds =
       own_of o.power o.left o.chosen o.video_muted o.audio_muted o.fault ds o.lamps
       o.enabled o.frozen o.speaker o.microphone
 
-  abbrev pub withSeconds : List ℕ → Own
-  withSeconds s =
+  abbrev pub with_seconds : List ℕ → Own
+  with_seconds s =
       own_of o.power o.left o.chosen o.video_muted o.audio_muted o.fault o.errors s
       o.enabled o.frozen o.speaker o.microphone
 
-  abbrev pub withMarks : List Bool → Own
-  withMarks ms =
+  abbrev pub with_marks : List Bool → Own
+  with_marks ms =
       own_of o.power o.left o.chosen o.video_muted o.audio_muted o.fault o.errors o.lamps
       ms o.frozen o.speaker o.microphone
 
-  abbrev pub withFreeze : (mark : Bool) → Own
-  withFreeze m =
+  abbrev pub with_freeze : (mark : Bool) → Own
+  with_freeze m =
       own_of o.power o.left o.chosen o.video_muted o.audio_muted o.fault o.errors o.lamps
       o.enabled m o.speaker o.microphone
 
-  abbrev pub withVolumes : (speaker microphone : ℕ) → Own
-  withVolumes s m =
+  abbrev pub with_volumes : (speaker microphone : ℕ) → Own
+  with_volumes s m =
       own_of o.power o.left o.chosen o.video_muted o.audio_muted o.fault o.errors o.lamps
       o.enabled o.frozen s m
 
 abbrev pub aged : Connection → ℕ → Connection
 aged c age = record { phase = c.phase; age = age; random = c.random; line = c.line }
 
-abbrev pub withLine : Connection → Line → Connection
-withLine c l = record { phase = c.phase; age = c.age; random = c.random; line = l }
+abbrev pub with_line : Connection → Line → Connection
+with_line c l = record { phase = c.phase; age = c.age; random = c.random; line = l }
 
-abbrev pub withOwn : Device → Own → Device
-withOwn d o = record { settings = d.settings; own = o; connections = d.connections }
+abbrev pub with_own : Device → Own → Device
+with_own d o = record { settings = d.settings; own = o; connections = d.connections }

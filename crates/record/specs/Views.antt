@@ -9,9 +9,9 @@
 --   IsPowerOf warm cool power left   the numbers are those of such a power
 --   phase_of phase age random        the phase of a connection
 -- Assumes nothing.
-use Rattle.std.specs.Prelude.{ℕ, ◌≤◌, ◌≡◌, Bool, true, false, eqb, if◌then◌else◌}
+use Rattle.std.specs.Prelude.{ℕ, ◌≤◌, ◌≡◌, Bool, true, false, if◌then◌else◌, ◌==◌}
 use Rattle.record.specs.Limits.{off, on, cooling, warming, awaiting, opened, failed}
-use Rattle.record.specs.Updates.{withPower}
+use Rattle.record.specs.Updates.{with_power_left}
 use Rattle.record.specs.declared.types.Own.{Own}
 use Rattle.record.specs.declared.views.Power.{Power}
 use Rattle.record.specs.declared.views.Power.TheVariants.{Off, WarmUp, On, Cooling}
@@ -20,9 +20,9 @@ use Rattle.record.specs.declared.views.Phase.TheVariants.{Closed, Awaiting, Open
 
 abbrev pub power_of : (power left : ℕ) → Power
 power_of power left =
-    if eqb power warming then WarmUp left
-    else if eqb power on then On
-    else if eqb power cooling then Cooling left
+    if power == warming then WarmUp left
+    else if power == on then On
+    else if power == cooling then Cooling left
     else Off
 
 abbrev pub power_seen : Own → Power
@@ -40,7 +40,7 @@ power_left (Cooling left) = left
 power_left p = 0
 
 abbrev pub with_power : Own → Power → Own
-with_power o p = withPower o (power_number p) (power_left p)
+with_power o p = with_power_left o (power_number p) (power_left p)
 
 abbrev pub IsPower : (warm cool : ℕ) → Power → Type 0
 IsPower warm cool Off = Unit {0}
@@ -62,7 +62,7 @@ pub record IsPowerOf (warm cool power left : ℕ) : Type 0 where
 
 abbrev pub phase_of : (phase age random : ℕ) → Phase
 phase_of phase age random =
-    if eqb phase awaiting then Awaiting age random
-    else if eqb phase opened then Open random
-    else if eqb phase failed then Failed age random
+    if phase == awaiting then Awaiting age random
+    else if phase == opened then Open random
+    else if phase == failed then Failed age random
     else Closed

@@ -1,16 +1,16 @@
 // The two classes of a set-up (RULES, Class 2).
 ghost use Rattle.std.specs.Prelude.{◌≡◌};
-ghost use Rattle.record.specs.Limits.{isClass, onlyIn2};
+ghost use Rattle.record.specs.Limits.{is_class_number, only_in_2};
 
 pub fn is_class(class: u8) -> bool
-    ensures { result ≡ isClass class }
+    ensures { result ≡ is_class_number class }
 {
     (class == 1) | (class == 2)
 }
 
 // What Class 2 alone has: so much of it there, none in any other class.
 pub fn only_in_2(class: u8, n: usize) -> usize
-    ensures { result ≡ onlyIn2 class n }
+    ensures { result ≡ only_in_2 class n }
 {
     if class == 2 {
         return n;

@@ -1,6 +1,6 @@
 // The record that a refused set-up or load leaves, and the places of a fresh one (RULES, The legal record and Places).
 ghost use Rattle.std.specs.Prelude.{◌≡◌};
-ghost use Rattle.record.specs.Record.{blank, allClosed};
+ghost use Rattle.record.specs.Record.{blank, all_closed};
 
 use crate::types::{Connection, Device, PLACES};
 
@@ -15,7 +15,7 @@ pub fn blank() -> Device
 /// Every place closed.
 #[tactic(auto, unfolding(crate::specs::Record::closed))]
 pub fn all_closed() -> [Connection; PLACES]
-    ensures { result ≡ allClosed }
+    ensures { result ≡ all_closed }
 {
     [Connection::CLOSED; PLACES]
 }

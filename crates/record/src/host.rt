@@ -1,7 +1,7 @@
 // The host's calls (RULES, Time and Lamps): each replaces the fault mark, the six error digits or a lamp's enabled
 // mark where the record lies, and nothing else; a refused one leaves the record as it was.
 ghost use Rattle.std.specs.Prelude.{◌≡◌, OnErr};
-ghost use Rattle.record.specs.HostCalls.{faultSet, errorsSet, markSet};
+ghost use Rattle.record.specs.HostCalls.{fault_set, errors_set, mark_set};
 ghost use Rattle.record.specs.Given.{gives};
 
 use crate::own;
@@ -11,9 +11,9 @@ use crate::types::Device;
 
 impl Device {
     /// The fault mark, from now on. Refused: `NotLegal`.
-    #[tactic(auto, unfolding(crate::specs::HostCalls::faultSet))]
+    #[tactic(auto, unfolding(crate::specs::HostCalls::fault_set))]
     pub fn set_fault(&mut self, mark: bool) -> Result<(), Refusal>
-        ensures given { gives result self.new ≡ faultSet self.old mark }
+        ensures given { gives result self.new ≡ fault_set self.old mark }
         ensures kept { OnErr result (self.new ≡ self.old) }
     {
         if !self.is_legal() {
@@ -25,9 +25,9 @@ impl Device {
 
     /// The error status: six digits 0 to 2, of fan, lamp, temperature, cover, filter and other. Refused: `NotLegal`,
     /// then `OutOfRange` for any other digits.
-    #[tactic(auto, unfolding(crate::specs::HostCalls::errorsSet))]
+    #[tactic(auto, unfolding(crate::specs::HostCalls::errors_set))]
     pub fn set_errors(&mut self, digits: &[u8]) -> Result<(), Refusal>
-        ensures given { gives result self.new ≡ errorsSet self.old digits.now }
+        ensures given { gives result self.new ≡ errors_set self.old digits.now }
         ensures kept { OnErr result (self.new ≡ self.old) }
     {
         if !self.is_legal() {
@@ -42,9 +42,9 @@ impl Device {
 
     /// Whether the lamp, counted from 0, is enabled from now on. Refused: `NotLegal`, then `OutOfRange` for no such
     /// lamp and for the last mark cleared, then `NotOff` unless the power is off.
-    #[tactic(auto, unfolding(crate::specs::HostCalls::markSet))]
+    #[tactic(auto, unfolding(crate::specs::HostCalls::mark_set))]
     pub fn set_mark(&mut self, lamp: usize, mark: bool) -> Result<(), Refusal>
-        ensures given { gives result self.new ≡ markSet self.old lamp mark }
+        ensures given { gives result self.new ≡ mark_set self.old lamp mark }
         ensures kept { OnErr result (self.new ≡ self.old) }
     {
         if !self.is_legal() {

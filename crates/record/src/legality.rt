@@ -1,15 +1,15 @@
 // The legality of the whole record (RULES, The legal record): a factor a part.
 ghost use Rattle.std.specs.Prelude.{◌≡◌};
-ghost use Rattle.record.specs.Legal.{isLegal};
+ghost use Rattle.record.specs.Legal.{is_legal};
 
 use crate::connections;
 use crate::types::Device;
 
 impl Device {
     /// Whether the record is one that set-up and calls can leave.
-    #[tactic(auto, unfolding(crate::specs::Legal::isLegal))]
+    #[tactic(auto, unfolding(crate::specs::Legal::is_legal))]
     pub fn is_legal(&self) -> bool
-        ensures { result ≡ isLegal self.now }
+        ensures { result ≡ is_legal self.now }
     {
         self.settings.is_legal()
             && self.own.is_legal(&self.settings)
@@ -23,7 +23,7 @@ impl Device {
 pub struct Tested {
     pub device: Device,
     pub legal: bool,
-    ghost tested: { legal ≡ isLegal device },
+    ghost tested: { legal ≡ is_legal device },
 }
 
 impl Tested {

@@ -1,32 +1,32 @@
 // The names that a set-up of Class 2 is lent (RULES, Class 2).
 ghost use Rattle.std.specs.Prelude.{◌≡◌, suc, take, drop};
-ghost use Rattle.text.specs.Scans.{every};
+ghost use Rattle.std.specs.List.{list_all};
 ghost use Rattle.words.specs.Bytes.{◌at◌};
-ghost use Rattle.words.specs.Texts.{isText, isInputName, infoMost};
-ghost use Rattle.record.specs.Limits.{onlyIn2};
-ghost use Rattle.record.specs.Wanted.{namesIn, countedIn};
-ghost use Rattle.record.specs.Rules.{areNames};
+ghost use Rattle.words.specs.Texts.{is_text, is_input_name, info_most};
+ghost use Rattle.record.specs.Limits.{only_in_2};
+ghost use Rattle.record.specs.Wanted.{names_in, counted_in};
+ghost use Rattle.record.specs.Rules.{are_names};
 
 use crate::class;
 use words::texts;
 
 // A text of at most 32 bytes, of Class 2 alone.
 pub fn info_fits(class: u8, s: &[u8]) -> bool
-    ensures { result ≡ isText (onlyIn2 class infoMost) s.now }
+    ensures { result ≡ is_text (only_in_2 class info_most) s.now }
 {
     texts::is_text(s, class::only_in_2(class, 32))
 }
 
 // A name for each input, of Class 2 alone.
 pub fn names_fit(class: u8, inputs: usize, bytes: &[u8], lengths: &[usize]) -> bool
-    ensures { result ≡ areNames (onlyIn2 class inputs) (namesIn lengths.now bytes.now) }
+    ensures { result ≡ are_names (only_in_2 class inputs) (names_in lengths.now bytes.now) }
 {
     are_names(bytes, lengths, class::only_in_2(class, inputs))
 }
 
 // So many names, one after the other in `bytes`, each of its length.
 fn are_names(bytes: &[u8], lengths: &[usize], count: usize) -> bool
-    ensures { result ≡ areNames count (namesIn lengths.now bytes.now) }
+    ensures { result ≡ are_names count (names_in lengths.now bytes.now) }
 {
     let mut ok = true;
     let mut at = 0;
@@ -63,13 +63,13 @@ pub fn first_counted(row: &[u8]) -> (&[u8], &[u8])
 /// bytes each.
 #[tactic(auto, using(crate::proofs::CountedNames::counted_fits))]
 pub fn counted_fit(class: u8, inputs: usize, row: &[u8], count: usize) -> bool
-    ensures { result ≡ areNames (onlyIn2 class inputs) (countedIn count row.now) }
+    ensures { result ≡ are_names (only_in_2 class inputs) (counted_in count row.now) }
 {
     (count == class::only_in_2(class, inputs)) & are_counted(row, count)
 }
 
 fn are_counted(row: &[u8], count: usize) -> bool
-    ensures { result ≡ every isInputName (countedIn count row.now) }
+    ensures { result ≡ list_all is_input_name (counted_in count row.now) }
 {
     let mut ok = true;
     let mut left = row;

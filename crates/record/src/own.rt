@@ -1,9 +1,9 @@
 // The power, and the legality of the projector's own part (RULES, The legal record).
 ghost use Rattle.std.specs.Prelude.{◌≡◌, ◌≤◌, not};
-ghost use Rattle.text.specs.Scans.{every};
-ghost use Rattle.record.specs.Limits.{lampsMost, isLit, isBetween};
-ghost use Rattle.record.specs.Rules.{isLamps, isMarks, isErrors};
-ghost use Rattle.record.specs.Legal.{fillsRoom, isLeft, isOwn};
+ghost use Rattle.std.specs.List.{list_all};
+ghost use Rattle.record.specs.Limits.{lamps_most, is_lit, is_between};
+ghost use Rattle.record.specs.Rules.{is_lamps, is_marks, is_error_list};
+ghost use Rattle.record.specs.Legal.{fills_room, is_left, is_own};
 
 use crate::scan;
 use crate::types::{ERRORS, LAMPS_MOST, Own, Settings};
@@ -30,36 +30,36 @@ pub const WARMING: u8 = 3;
 
 // A lamp burns in warm-up and power-on.
 pub fn is_lit(power: u8) -> bool
-    ensures { result ≡ isLit power }
+    ensures { result ≡ is_lit power }
 {
     (power == WARMING) | (power == ON)
 }
 
 // Seconds are left in warm-up and cooling.
 pub fn is_between(power: u8) -> bool
-    ensures { result ≡ isBetween power }
+    ensures { result ≡ is_between power }
 {
     (power == WARMING) | (power == COOLING)
 }
 
 /// 0 to 8 lamps, each within the limit.
-#[tactic(auto, unfolding(crate::specs::Rules::isLamps))]
+#[tactic(auto, unfolding(crate::specs::Rules::is_lamps))]
 pub fn lamps_ok(s: &[u32]) -> bool
-    ensures { result ≡ isLamps s.now }
+    ensures { result ≡ is_lamps s.now }
 {
     (s.len() <= LAMPS_MOST) & scan::numbers_within(s, LAMP_LIMIT)
 }
 
-#[tactic(auto, unfolding(crate::specs::Legal::fillsRoom))]
+#[tactic(auto, unfolding(crate::specs::Legal::fills_room))]
 fn lamp_room_ok(room: &[u32; LAMPS_MOST], count: usize) -> bool
-    ensures { result ≡ fillsRoom lampsMost isLamps room.now count }
+    ensures { result ≡ fills_room lamps_most is_lamps room.now count }
 {
     rooms::used(room, count).is_some_and(|lamps| lamps_ok(lamps))
 }
 
 /// Whether no lamp is enabled.
 pub fn none_marked(marks: &[bool; LAMPS_MOST]) -> bool
-    ensures { result ≡ every not marks.now }
+    ensures { result ≡ list_all not marks.now }
 {
     rooms::are_blank(marks)
 }
@@ -67,24 +67,24 @@ pub fn none_marked(marks: &[bool; LAMPS_MOST]) -> bool
 // None past the lamps, and one at least where there are lamps (RULES, Lamps).
 #[tactic(auto, using(crate::proofs::RoomsTold::marks_used))]
 fn marks_ok(marks: &[bool; LAMPS_MOST], count: usize) -> bool
-    requires { count ≤ lampsMost }
-    ensures { result ≡ isMarks count marks.now }
+    requires { count ≤ lamps_most }
+    ensures { result ≡ is_marks count marks.now }
 {
     rooms::used(marks, count).is_some() && (count == 0 || !none_marked(marks))
 }
 
 /// Six error digits, each 0 to 2.
-#[tactic(auto, unfolding(crate::specs::Rules::isErrors))]
+#[tactic(auto, unfolding(crate::specs::Rules::is_error_list))]
 pub fn errors_ok(s: &[u8]) -> bool
-    ensures { result ≡ isErrors s.now }
+    ensures { result ≡ is_error_list s.now }
 {
     (s.len() == ERRORS) & scan::bytes_within(s, ERROR_MOST)
 }
 
 // Seconds left: 1 to `warm` in warm-up, 1 to `cool` in cooling, else 0.
-#[tactic(auto, unfolding(crate::specs::Legal::isLeft))]
+#[tactic(auto, unfolding(crate::specs::Legal::is_left))]
 fn left_ok(power: u8, left: u32, warm: u32, cool: u32) -> bool
-    ensures { result ≡ isLeft power left warm cool }
+    ensures { result ≡ is_left power left warm cool }
 {
     if power == WARMING {
         return (1 <= left) & (left <= warm);
@@ -97,9 +97,9 @@ fn left_ok(power: u8, left: u32, warm: u32, cool: u32) -> bool
 
 impl Own {
     /// Whether the own part is one that calls can leave under these settings.
-    #[tactic(auto, using(crate::proofs::RoomsTold::fills_inside), unfolding(crate::specs::Legal::isOwn))]
+    #[tactic(auto, using(crate::proofs::RoomsTold::fills_inside), unfolding(crate::specs::Legal::is_own))]
     pub fn is_legal(&self, s: &Settings) -> bool
-        ensures { result ≡ isOwn s.now self.now }
+        ensures { result ≡ is_own s.now self.now }
     {
         errors_ok(&self.errors)
             && lamp_room_ok(&self.lamps, s.lamp_count)

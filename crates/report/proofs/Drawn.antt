@@ -1,7 +1,6 @@
 -- The choices of `Days`, by what was tested.
-use Rattle.std.proofs.Common.{◌≡◌, ℕ, ◌+◌, ◌-◌, ◌*◌, ◌/◌, ◌<◌, ◌≤◌, min, max, Bool, List, [], arith}
+use Rattle.std.proofs.Common.{◌≡◌, ℕ, ◌+◌, ◌-◌, ◌*◌, ◌/◌, ◌<◌, ◌≤◌, min, max, Bool, List, [], arith, lt-ltb, le-ltb}
 use Rattle.std.specs.List.{flat_map, range_with_len}
-use borrow.Author.Tests.{lt-ltb, le-ltb}
 use Rattle.text.proofs.Choices.{if_yes, if_no}
 use Rattle.report.specs.Days.{day_length, days_of, rows_before, bars, bars_in, drawn_in, drawn}
 

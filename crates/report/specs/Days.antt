@@ -14,7 +14,7 @@
 --   drawn rows lit from to    what is written of a stretch, where there are `rows`
 -- Assumes nothing.
 use Rattle.std.specs.Prelude.{ℕ, ◌+◌, ◌-◌, ◌*◌, ◌/◌, ◌%◌, min, max, nat_lt, Bool, false, List, [], ◌∷◌, ◌++◌}
-use Rattle.std.specs.Prelude.{length, get_or, codes, if◌then◌else◌}
+use Rattle.std.specs.Prelude.{length, codes, if◌then◌else◌, slice_index_or}
 use Rattle.std.specs.List.{flat_map, range_with_len}
 use Rattle.textio.specs.Forms.{form_filled}
 
@@ -72,7 +72,7 @@ bar_if is_lit from to x seconds k = if is_lit then bar from to x seconds k else 
 
 unfoldable pub bars : List Bool → ℕ → ℕ → ℕ → ℕ → List ℕ
 bars lit from to x seconds =
-    flat_map (λ k. bar_if (get_or lit k false) from to x seconds k) (range_with_len 0 (length lit))
+    flat_map (λ k. bar_if (slice_index_or lit k false) from to x seconds k) (range_with_len 0 (length lit))
 
 unfoldable pub bars_in : ℕ → List Bool → ℕ → ℕ → List ℕ
 bars_in day lit from to =

@@ -6,7 +6,7 @@
 --   page_begun       what stands above the rows
 --   page_ended rows seconds n ..    the rows up to the end of a log of so many seconds, and what stands below them
 -- Assumes nothing.
-use Rattle.std.specs.Prelude.{ℕ, ◌+◌, List, [], ◌∷◌, ◌++◌, get_or, codes}
+use Rattle.std.specs.Prelude.{ℕ, ◌+◌, List, [], ◌∷◌, ◌++◌, codes, slice_index_or}
 use Rattle.std.specs.List.{flat_map, range_with_len}
 use Rattle.textio.specs.Forms.{form_filled}
 use Rattle.report.specs.Days.{days_of, rows_opened, row_ended}
@@ -40,7 +40,7 @@ hours = codes "<svg viewBox=\"0 0 1100 16\" role=\"img\" aria-label=\"hours of t
 
 unfoldable pub total_at : List ℕ → List ℕ → List ℕ → ℕ → List ℕ
 total_at starts burnt lasts k = form_filled (codes "<tr><th>#</th><td>#</td><td>#</td><td>#</td></tr>\n")
-    ((k + 1) ∷ get_or starts k 0 ∷ get_or burnt k 0 ∷ get_or lasts k 0 ∷ [])
+    ((k + 1) ∷ slice_index_or starts k 0 ∷ slice_index_or burnt k 0 ∷ slice_index_or lasts k 0 ∷ [])
 
 unfoldable pub totals : ℕ → List ℕ → List ℕ → List ℕ → List ℕ
 totals lamps starts burnt lasts = flat_map (total_at starts burnt lasts) (range_with_len 0 lamps)

@@ -1,33 +1,33 @@
 -- What is printed of a lamp.
 --   numbered word n          a word, and a number after it
---   stretchLine k f t        the lamp with the number k burnt from the second f to the second t
---   stretchLines k ms f t    the line of a stretch for each lamp whose mark of ms is set, the first having the number k
---   totalLine k a b c        it had a seconds at the start, burnt b, and has c now
+--   stretch_line k f t       the lamp with the number k burnt from the second f to the second t
+--   stretch_lines k ms f t   the line of a stretch for each lamp whose mark of ms is set, the first having the number k
+--   total_line k a b c       it had a seconds at the start, burnt b, and has c now
 --   total_lines n as bs cs   that line for each of n lamps, the first having the number 1
 -- Assumes nothing.
-use Rattle.std.specs.Prelude.{ℕ, ◌+◌, Bool, List, [], ◌∷◌, ◌++◌, get_or, if◌then◌else◌}
+use Rattle.std.specs.Prelude.{ℕ, ◌+◌, Bool, List, [], ◌∷◌, ◌++◌, if◌then◌else◌, slice_index_or, codes}
 use Rattle.std.specs.List.{flat_map, range_with_len}
-use Rattle.text.specs.Words.{ascii}
-use Rattle.numbers.specs.Decimal.{longDigits}
+use Rattle.numbers.specs.Decimal.{long_digits}
 
 abbrev pub numbered : List ℕ → ℕ → List ℕ
-numbered word n = word ++ longDigits n
+numbered word n = word ++ long_digits n
 
-unfoldable pub stretchLine : ℕ → ℕ → ℕ → List ℕ
-stretchLine lamp f t =
-    ((numbered (ascii "lamp ") lamp ++ numbered (ascii " from ") f) ++ numbered (ascii " to ") t) ++ ascii "\n"
+unfoldable pub stretch_line : ℕ → ℕ → ℕ → List ℕ
+stretch_line lamp f t =
+    ((numbered (codes "lamp ") lamp ++ numbered (codes " from ") f) ++ numbered (codes " to ") t) ++ codes "\n"
 
-unfoldable pub stretchLines : ℕ → List Bool → ℕ → ℕ → List ℕ
-stretchLines lamp [] f t = []
-stretchLines lamp (m ∷ ms) f t = (if m then stretchLine lamp f t else []) ++ stretchLines (lamp + 1) ms f t
+unfoldable pub stretch_lines : ℕ → List Bool → ℕ → ℕ → List ℕ
+stretch_lines lamp [] f t = []
+stretch_lines lamp (m ∷ ms) f t = (if m then stretch_line lamp f t else []) ++ stretch_lines (lamp + 1) ms f t
 
-unfoldable pub totalLine : ℕ → ℕ → ℕ → ℕ → List ℕ
-totalLine lamp start burnt now =
-    (((numbered (ascii "lamp ") lamp ++ numbered (ascii " start ") start) ++ numbered (ascii " burnt ") burnt)
-    ++ numbered (ascii " now ") now) ++ ascii "\n"
+unfoldable pub total_line : ℕ → ℕ → ℕ → ℕ → List ℕ
+total_line lamp start burnt now =
+    (((numbered (codes "lamp ") lamp ++ numbered (codes " start ") start) ++ numbered (codes " burnt ") burnt)
+    ++ numbered (codes " now ") now) ++ codes "\n"
 
 abbrev pub total_line_at : List ℕ → List ℕ → List ℕ → ℕ → List ℕ
-total_line_at starts burnt lasts k = totalLine (k + 1) (get_or starts k 0) (get_or burnt k 0) (get_or lasts k 0)
+total_line_at starts burnt lasts k =
+    total_line (k + 1) (slice_index_or starts k 0) (slice_index_or burnt k 0) (slice_index_or lasts k 0)
 
 unfoldable pub total_lines : ℕ → List ℕ → List ℕ → List ℕ → List ℕ
 total_lines lamps starts burnt lasts = flat_map (total_line_at starts burnt lasts) (range_with_len 0 lamps)

@@ -6,7 +6,7 @@
 --   ended_text r seconds n ..         the end of a log of so many seconds, with the totals of n lamps
 -- Assumes nothing.
 use Rattle.std.specs.Prelude.{ℕ, Bool, true, false, List, []}
-use Rattle.report.specs.LampLines.{stretchLines, total_lines}
+use Rattle.report.specs.LampLines.{stretch_lines, total_lines}
 use Rattle.report.specs.Days.{rows_drawn, drawn}
 use Rattle.report.specs.Frame.{page_begun, page_ended}
 use Rattle.report.specs.declared.Report.{Report}
@@ -21,7 +21,7 @@ begun_text Lines = []
 begun_text (Page rows) = page_begun
 
 abbrev pub told_text : Report → List Bool → ℕ → ℕ → List ℕ
-told_text Lines lit from to = stretchLines 1 lit from to
+told_text Lines lit from to = stretch_lines 1 lit from to
 told_text (Page rows) lit from to = drawn rows lit from to
 
 abbrev pub report_told : Report → ℕ → ℕ → Report

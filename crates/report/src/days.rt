@@ -157,7 +157,7 @@ fn put_bars<W: ByteSink>(out: &mut W, lit: &[bool], p: Part) -> io::Result<()>
 fn put_bars_in<W: ByteSink>(out: &mut W, day: u64, lit: &[bool], s: Stretch) -> io::Result<()>
     requires eight_at_most { length lit.now ≤ 8 }
     requires begun { (1 ≤ day) × ((day - 1) * 86400 < s.to) }
-    requires from_le_to { s.from ≤ s.to }
+    requires in_order { s.from ≤ s.to }
     ensures { WritesText W.fails_with (W.contents out.old) (W.contents out.new) result
         (bars_in day lit.now s.from s.to) }
 {
@@ -188,7 +188,7 @@ pub fn draw_in<W: ByteSink>(
 ) -> io::Result<u64>
     requires eight_at_most { length lit.now ≤ 8 }
     requires begun { (1 ≤ day) × ((day - 1) * 86400 < s.to) }
-    requires from_le_to { s.from ≤ s.to }
+    requires in_order { s.from ≤ s.to }
     ensures rows { IfOk result (λ n. n ≡ max rows day) }
     ensures text { WritesText W.fails_with (W.contents out.old) (W.contents out.new) result
         (rows_opened (length lit.now) rows day ++ bars_in day lit.now s.from s.to) }

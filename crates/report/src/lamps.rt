@@ -2,7 +2,7 @@
 // from 1, and lie at places from 0.
 ghost use Rattle.std.specs.Prelude.{◌+◌, ◌<◌, ◌≤◌, [], length, if◌then◌else◌};
 ghost use Rattle.textio.specs.Fronts.{WritesText};
-ghost use Rattle.report.specs.LampLines.{stretchLine, stretchLines, total_line_at, total_lines};
+ghost use Rattle.report.specs.LampLines.{stretch_line, stretch_lines, total_line_at, total_lines};
 
 use std::io;
 use textio::forms::fill;
@@ -30,7 +30,7 @@ fn put_stretch<W: ByteSink>(
 ) -> io::Result<()>
     requires { k < 8 }
     ensures { WritesText W.fails_with (W.contents out.old) (W.contents out.new) result
-        (if is_lit then stretchLine (k + 1) from to else []) }
+        (if is_lit then stretch_line (k + 1) from to else []) }
 {
     if !is_lit {
         return Ok(());
@@ -42,7 +42,7 @@ fn put_stretch<W: ByteSink>(
 pub fn put_stretches<W: ByteSink>(out: &mut W, lit: &[bool], from: u64, to: u64) -> io::Result<()>
     requires { length lit.now ≤ 8 }
     ensures { WritesText W.fails_with (W.contents out.old) (W.contents out.new) result
-        (stretchLines 1 lit.now from to) }
+        (stretch_lines 1 lit.now from to) }
 {
     for (k, is_lit) in lit.iter().enumerate() {
         put_stretch(out, k, *is_lit, from, to)?;

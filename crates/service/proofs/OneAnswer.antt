@@ -3,9 +3,9 @@
 use Rattle.std.proofs.Common.{ℕ, ◌≡◌, ◌<◌, ◌≤◌, List, length, Option, Some, None, Result, Ok, Err, refl, sym}
 use Rattle.std.proofs.Common.{ap, ◌∙◌, arith, ⊎_elim}
 use Rattle.std.specs.Prelude.{ℤ, All}
-use Rattle.text.proofs.Orders.{le-or-lt}
+use Rattle.text.proofs.Orders.{le_or_lt}
 use Rattle.service.specs.Differences.{IsForwards}
-use Rattle.service.specs.ComparedHolds.{FirstBack, ComparedHolds, ComparedAs}
+use Rattle.service.specs.ComparedHolds.{IsFirstBack, ComparedHolds, ComparedAs}
 use Rattle.service.specs.declared.Reading.{Reading}
 use Rattle.service.specs.declared.CompareError.{CompareError}
 use Rattle.service.specs.declared.CompareError.TheVariants.{TooMany, NoRoom}
@@ -15,16 +15,16 @@ abbrev pub unread : Reading
 unread = record { earlier = 0; later = 0 }
 
 module _ (rs : List Reading) where
-  back_above : {j k : ℕ} → FirstBack rs j → FirstBack rs k → j < k → ⊥
+  back_above : {j k : ℕ} → IsFirstBack rs j → IsFirstBack rs k → j < k → ⊥
   back_above {j} a b h = omega (arith, a.back unread, b.kept j unread (omega arith) h)
 
-  one_back : {j k : ℕ} → FirstBack rs j → FirstBack rs k → j ≡ k
+  one_back : {j k : ℕ} → IsFirstBack rs j → IsFirstBack rs k → j ≡ k
   one_back {j} {k} a b =
       ⊎_elim
-      (λ (h : j ≤ k). ⊎_elim (λ (l : k ≤ j). omega arith) (λ l. absurd (back_above a b l)) (le-or-lt k j))
-      (λ h. absurd (back_above b a h)) (le-or-lt j k)
+      (λ (h : j ≤ k). ⊎_elim (λ (l : k ≤ j). omega arith) (λ l. absurd (back_above a b l)) (le_or_lt k j))
+      (λ h. absurd (back_above b a h)) (le_or_lt j k)
 
-  none_back : {k : ℕ} → FirstBack rs k → All IsForwards rs → ⊥
+  none_back : {k : ℕ} → IsFirstBack rs k → All IsForwards rs → ⊥
   none_back {k} a all = omega (arith, a.back unread, all k unread a.inside)
 
   module _ (room : ℕ) where

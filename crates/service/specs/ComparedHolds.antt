@@ -1,6 +1,6 @@
 -- What each answer of the comparison says of the readings, apart from how it is found. Exactly one holds (src/theorems,
 -- the_answer_told_holds).
---   FirstBack rs k               at k the lamp went backwards, and at no place before it
+--   IsFirstBack rs k             at k the lamp went backwards, and at no place before it
 --   IsComparable rs room         as many readings as a table may have, and room for as many differences
 --   ComparedHolds rs room c      what the answer c says, with room for so many differences
 --   ComparedAs rs out c m        what a comparison leaves where the list out was lent: the answer c, and the list m
@@ -14,7 +14,7 @@ use Rattle.service.specs.declared.TheConstants.{TABLE_MOST}
 use Rattle.service.specs.declared.CompareError.{CompareError}
 use Rattle.service.specs.declared.CompareError.TheVariants.{TooMany, NoRoom}
 
-pub record FirstBack (rs : List Reading) (k : ℕ) : Type 0 where
+pub record IsFirstBack (rs : List Reading) (k : ℕ) : Type 0 where
   pub inside : k < length rs
   pub back : HoldsAt IsBackwards rs k
   pub kept : AllWithin IsForwards rs 0 k
@@ -26,7 +26,7 @@ pub record IsComparable (rs : List Reading) (room : ℕ) : Type 0 where
 module _ (rs : List Reading) (room : ℕ) where
   abbrev pub ComparedHolds : Result (Option ℕ) CompareError → Type 0
   ComparedHolds (Ok None) = IsComparable rs room × All IsForwards rs
-  ComparedHolds (Ok (Some k)) = IsComparable rs room × FirstBack rs k
+  ComparedHolds (Ok (Some k)) = IsComparable rs room × IsFirstBack rs k
   ComparedHolds (Err TooMany) = TABLE_MOST < length rs
   ComparedHolds (Err NoRoom) = (length rs ≤ TABLE_MOST) × (room < length rs)
 

@@ -7,7 +7,7 @@ pub mod theorems;
 
 ghost use Rattle.std.specs.Prelude.{◌≡◌, ◌≤◌, ◌++◌, length, drop, All, MatchOption, OnOk, OnErr};
 ghost use Rattle.service.specs.Differences.{IsForwards, difference_of, differences};
-ghost use Rattle.service.specs.ComparedHolds.{FirstBack, ComparedHolds};
+ghost use Rattle.service.specs.ComparedHolds.{IsFirstBack, ComparedHolds};
 
 /// The most lamps of a table.
 pub const TABLE_MOST: usize = 64;
@@ -47,7 +47,7 @@ fn put_differences(readings: &[Reading], out: &mut [i64])
 }
 
 fn first_backwards(readings: &[Reading]) -> Option<usize>
-    ensures { MatchOption result (All IsForwards readings.now) (FirstBack readings.now) }
+    ensures { MatchOption result (All IsForwards readings.now) (IsFirstBack readings.now) }
 {
     readings.iter().position(|r| r.later < r.earlier)
 }

@@ -1,6 +1,6 @@
 -- the lines that settle it hold of our calls, and those of Class 2 (RULES, Class 2): each row is computed.
 -- Assumes nothing.
-use mathlib.Core.Path.{refl}
+use Rattle.std.proofs.Common.{refl}
 use Rattle.ours.specs.Board.{ours}
 use Rattle.settled.specs.Settled.{Settles, SettlesClass2}
 use Rattle.demands.specs.Computing.{computing}
@@ -10,6 +10,6 @@ unfolding computing
 settled =
     (refl, (refl, (refl, (refl, (refl, (refl, (refl, (refl, (refl, (refl, (refl, (refl, tt))))))))))))
 
-pub settled-class-2 : SettlesClass2 ours
+pub settled_class_2 : SettlesClass2 ours
 unfolding computing
-settled-class-2 = (refl, (refl, (refl, (refl, (refl, (refl, (refl, (refl, (refl, (refl, (refl, tt)))))))))))
+settled_class_2 = (refl, (refl, (refl, (refl, (refl, (refl, (refl, (refl, (refl, (refl, (refl, tt)))))))))))

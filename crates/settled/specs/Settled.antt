@@ -1,5 +1,5 @@
 -- RULES, Commands, as one statement over the list. The device is `sample`, a connection opened; each row is
--- a line, its answer, and the calls before it. Then `class2Sample`, of Class 2 (RULES, Class 2).
+-- a line, its answer, and the calls before it. Then `class_2_sample`, of Class 2 (RULES, Class 2).
 --   t gives u after cs      the line t is answered u, after the calls cs
 --   Settles B               every row holds of the board B
 --   SettlesClass2 B         so does every row of Class 2
@@ -9,12 +9,12 @@ use Rattle.std.specs.Prelude.{◌≡◌, List, [], ◌∷◌}
 use Rattle.record.specs.Wanted.{Wanted}
 use Rattle.ours.specs.Board.{Board, reply}
 use Rattle.demands.specs.Calls.{Call, opens, passes, run}
-use Rattle.demands.specs.Sample.{sample, class2Sample, memory, withCr, says, rounds}
+use Rattle.demands.specs.Sample.{sample, class_2_sample, memory, with_cr, says, rounds}
 
 infix 30 ◌gives◌after◌
 -- nine sessions of forty minutes are six hours
-abbrev pub nineSessions : List Call
-nineSessions = rounds 9 (says "%1POWR 1" ∷ passes 2400 ∷ says "%1POWR 0" ∷ passes 60 ∷ [])
+abbrev pub nine_sessions : List Call
+nine_sessions = rounds 9 (says "%1POWR 1" ∷ passes 2400 ∷ says "%1POWR 0" ∷ passes 60 ∷ [])
 
 pub record SettledLine : Type 0 where
   pub said : String
@@ -37,12 +37,12 @@ rows =
     ∷ ("%1POWR ?" gives "%1POWR=1" after says "%1POWR 1" ∷ passes 20 ∷ [])
     ∷ ("%1LAMP ?" gives "%1LAMP=0 1" after says "%1POWR 1" ∷ passes 3599 ∷ [])
     ∷ ("%1LAMP ?" gives "%1LAMP=1 1" after says "%1POWR 1" ∷ passes 3600 ∷ [])
-    ∷ ("%1LAMP ?" gives "%1LAMP=6 0" after nineSessions)
+    ∷ ("%1LAMP ?" gives "%1LAMP=6 0" after nine_sessions)
     ∷ []
 
 -- a line goes by its own class: each body under it, and the class as received in the reply
-abbrev pub class2Rows : List SettledLine
-class2Rows =
+abbrev pub class_2_rows : List SettledLine
+class_2_rows =
     ("%1CLSS ?" gives "%1CLSS=2" after [])
     ∷ ("%2CLSS ?" gives "%2CLSS=ERR1" after [])
     ∷ ("%2snum ?" gives "%2snum=SN 7" after [])
@@ -59,8 +59,8 @@ class2Rows =
 module _ (B : Board) where
   abbrev pub Holds : Wanted → SettledLine → Type 0
   Holds w row =
-      let d = run B (B.set-up w).device (opens 0 memory ∷ row.before) in
-      reply (B.receive d 0 (withCr row.said) memory) ≡ withCr row.answer
+      let d = run B (B.set_up w).device (opens 0 memory ∷ row.before) in
+      reply (B.receive d 0 (with_cr row.said) memory) ≡ with_cr row.answer
 
   abbrev pub All : Wanted → List SettledLine → Type 0
   All w [] = Unit {0}
@@ -70,4 +70,4 @@ module _ (B : Board) where
   Settles = All sample rows
 
   abbrev pub SettlesClass2 : Type 0
-  SettlesClass2 = All class2Sample class2Rows
+  SettlesClass2 = All class_2_sample class_2_rows

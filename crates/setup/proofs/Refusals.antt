@@ -2,25 +2,25 @@
 -- Assumes nothing.
 use Rattle.std.proofs.Common.{◌≡◌, true, false, length, Some, None, Ok, Err, sym, ap}
 use Rattle.record.specs.Wanted.{Wanted}
-use Rattle.record.specs.Rules.{isLongEnough}
-use Rattle.record.specs.SetUp.{firstOutOfRange, setUp}
+use Rattle.record.specs.Rules.{is_long_enough}
+use Rattle.record.specs.SetUp.{first_out_of_range, set_up}
 use Rattle.record.specs.SetUpErrors.{check_of}
 use Rattle.record.specs.declared.types.Setting.{Setting}
 use Rattle.record.specs.declared.set_up_error.SetUpError.TheVariants.{OutOfRange, ShortPassword}
-use Rattle.record.proofs.Calls.{refused_out, refused_short, none_refused, checked_set_up, checked_refused, set-up-made}
+use Rattle.record.proofs.Calls.{refused_out, refused_short, none_refused, checked_set_up, checked_refused, set_up_made}
 use Rattle.setup.proofs.Fits.{lamps_fit}
 
 module _ (w : Wanted) where
-  pub out_checked : (s : Setting) → Some s ≡ firstOutOfRange w → Err (OutOfRange s) ≡ check_of (setUp w)
+  pub out_checked : (s : Setting) → Some s ≡ first_out_of_range w → Err (OutOfRange s) ≡ check_of (set_up w)
   out_checked s e = sym (ap check_of (refused_out w s (sym e)))
 
-  module _ (e : None ≡ firstOutOfRange w) where
-    pub short_checked : isLongEnough (length w.password) ≡ false → Err ShortPassword ≡ check_of (setUp w)
+  module _ (e : None ≡ first_out_of_range w) where
+    pub short_checked : is_long_enough (length w.password) ≡ false → Err ShortPassword ≡ check_of (set_up w)
     short_checked h = sym (ap check_of (refused_short w (sym e) h))
 
-    pub all_checked : isLongEnough (length w.password) ≡ true → Ok tt ≡ check_of (setUp w)
+    pub all_checked : is_long_enough (length w.password) ≡ true → Ok tt ≡ check_of (set_up w)
     all_checked h = sym (ap check_of (none_refused w (sym e) h))
 
 pub ruleset reasons = (short_checked, all_checked)
 
-pub ruleset outcomes = (checked_set_up, checked_refused, lamps_fit, set-up-made)
+pub ruleset outcomes = (checked_set_up, checked_refused, lamps_fit, set_up_made)

@@ -5,7 +5,7 @@
 --   wanted_settings w    the settings that are wanted
 -- Assumes nothing.
 use Rattle.std.specs.Prelude.{ℕ, List, []}
-use Rattle.record.specs.Wanted.{Wanted, wantedIn, namesIn, countedIn}
+use Rattle.record.specs.Wanted.{Wanted, wanted_in, names_in, counted_in}
 use Rattle.setup.specs.declared.wanted.Names.{Names}
 use Rattle.setup.specs.declared.wanted.Names.TheVariants.{Row, Counted}
 use Rattle.setup.specs.declared.wanted.Class.{Class}
@@ -25,8 +25,8 @@ version_of One = []
 version_of (Two serial version names) = version.now
 
 abbrev pub names_lent : Names → List (List ℕ)
-names_lent (Row bytes lengths) = namesIn lengths.now bytes.now
-names_lent (Counted bytes count) = countedIn count bytes.now
+names_lent (Row bytes lengths) = names_in lengths.now bytes.now
+names_lent (Counted bytes count) = counted_in count bytes.now
 
 abbrev pub names_of : Class → List (List ℕ)
 names_of One = []
@@ -34,5 +34,5 @@ names_of (Two serial version names) = names_lent names
 
 abbrev pub wanted_settings : Lent → Wanted
 wanted_settings w =
-    wantedIn (class_number w.class) w.name.now w.maker.now w.model.now w.other.now w.password.now w.inputs.now
+    wanted_in (class_number w.class) w.name.now w.maker.now w.model.now w.other.now w.password.now w.inputs.now
     w.lamps.now w.warm w.cool (serial_of w.class) (version_of w.class) (names_of w.class)

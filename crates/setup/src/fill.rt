@@ -1,10 +1,10 @@
 // What set-up keeps of the lent slices: each at the start of a cleared room (RULES, The legal record).
 ghost use Rattle.std.specs.Prelude.{◌≡◌, ◌≤◌, length, replicate, true};
-ghost use Rattle.words.specs.Texts.{inputNameMost};
-ghost use Rattle.record.specs.Limits.{textRoom, inputRoom, listedMost, lampsMost};
-ghost use Rattle.record.specs.Wanted.{namesIn, countedIn};
-ghost use Rattle.record.specs.Rules.{areNames};
-ghost use Rattle.record.specs.Record.{inRoom, text_of, name_of, blankName, namesKept, allMarks, startOwn};
+ghost use Rattle.words.specs.Texts.{input_name_most};
+ghost use Rattle.record.specs.Limits.{text_room, input_room, listed_most, lamps_most};
+ghost use Rattle.record.specs.Wanted.{names_in, counted_in};
+ghost use Rattle.record.specs.Rules.{are_names};
+ghost use Rattle.record.specs.Record.{in_room, text_of, name_of, blank_name, names_kept, all_marks, start_own};
 ghost use Rattle.setup.specs.Lent.{names_lent};
 
 use crate::wanted::Names;
@@ -16,7 +16,7 @@ use text::rooms;
 /// A text in its room: at most 64 bytes.
 #[tactic(auto, using(crate::proofs::KeptInRoom::kept_in_room))]
 pub fn text_of(s: &[u8]) -> Text
-    requires { length s.now ≤ textRoom }
+    requires { length s.now ≤ text_room }
     ensures { result ≡ text_of s.now }
 {
     Text {
@@ -28,7 +28,7 @@ pub fn text_of(s: &[u8]) -> Text
 /// An input's name in its room: at most 128 bytes (RULES, Class 2).
 #[tactic(auto, using(crate::proofs::KeptInRoom::kept_in_room))]
 pub fn name_of(s: &[u8]) -> InputName
-    requires { length s.now ≤ inputNameMost }
+    requires { length s.now ≤ input_name_most }
     ensures { result ≡ name_of s.now }
 {
     InputName {
@@ -39,9 +39,9 @@ pub fn name_of(s: &[u8]) -> InputName
 
 /// So many names, as they are lent, into the record's list (RULES, Class 2).
 pub fn keep_names(list: &mut [InputName; INPUTS_MOST], lent: &Names<'_>, count: usize)
-    requires named { areNames count (names_lent lent.now) ≡ true }
-    requires few { count ≤ listedMost }
-    ensures { list.new ≡ namesKept (names_lent lent.now) }
+    requires named { are_names count (names_lent lent.now) ≡ true }
+    requires few { count ≤ listed_most }
+    ensures { list.new ≡ names_kept (names_lent lent.now) }
 {
     list.fill(InputName::EMPTY);
     match *lent {
@@ -52,10 +52,10 @@ pub fn keep_names(list: &mut [InputName; INPUTS_MOST], lent: &Names<'_>, count: 
 
 // So many names, each after its length in one byte.
 fn keep_counted(list: &mut [InputName; INPUTS_MOST], bytes: &[u8], count: usize)
-    requires empty { list.old ≡ replicate listedMost blankName }
-    requires named { areNames count (countedIn count bytes.now) ≡ true }
-    requires few { count ≤ listedMost }
-    ensures { list.new ≡ namesKept (countedIn count bytes.now) }
+    requires empty { list.old ≡ replicate listed_most blank_name }
+    requires named { are_names count (counted_in count bytes.now) ≡ true }
+    requires few { count ≤ listed_most }
+    ensures { list.new ≡ names_kept (counted_in count bytes.now) }
 {
     let mut left = bytes;
     for i in 0..count {
@@ -67,10 +67,10 @@ fn keep_counted(list: &mut [InputName; INPUTS_MOST], bytes: &[u8], count: usize)
 
 // So many names, one after the other in `bytes`, each of its length.
 fn keep_row(list: &mut [InputName; INPUTS_MOST], bytes: &[u8], lengths: &[usize], count: usize)
-    requires empty { list.old ≡ replicate listedMost blankName }
-    requires named { areNames count (namesIn lengths.now bytes.now) ≡ true }
-    requires few { count ≤ listedMost }
-    ensures { list.new ≡ namesKept (namesIn lengths.now bytes.now) }
+    requires empty { list.old ≡ replicate listed_most blank_name }
+    requires named { are_names count (names_in lengths.now bytes.now) ≡ true }
+    requires few { count ≤ listed_most }
+    ensures { list.new ≡ names_kept (names_in lengths.now bytes.now) }
 {
     let mut at = 0;
     for i in 0..count {
@@ -83,8 +83,8 @@ fn keep_row(list: &mut [InputName; INPUTS_MOST], bytes: &[u8], lengths: &[usize]
 /// A list of inputs in its room: two characters each, at most 32 inputs (RULES, Inputs).
 #[tactic(auto, using(crate::proofs::KeptInRoom::kept_in_room))]
 pub fn input_room(s: &[u8]) -> [u8; INPUT_ROOM]
-    requires { length s.now ≤ inputRoom }
-    ensures { result ≡ inRoom inputRoom s.now }
+    requires { length s.now ≤ input_room }
+    ensures { result ≡ in_room input_room s.now }
 {
     rooms::kept(s, 0)
 }
@@ -92,16 +92,16 @@ pub fn input_room(s: &[u8]) -> [u8; INPUT_ROOM]
 /// The starting seconds of at most 8 lamps, in their room (RULES, Lamps).
 #[tactic(auto, using(crate::proofs::KeptInRoom::kept_in_room))]
 pub fn lamp_room(s: &[u32]) -> [u32; LAMPS_MOST]
-    requires { length s.now ≤ lampsMost }
-    ensures { result ≡ inRoom lampsMost s.now }
+    requires { length s.now ≤ lamps_most }
+    ensures { result ≡ in_room lamps_most s.now }
 {
     rooms::kept(s, 0)
 }
 
 /// Each of so many lamps is enabled (RULES, Lamps).
 pub fn mark_room(count: usize) -> [bool; LAMPS_MOST]
-    requires { count ≤ lampsMost }
-    ensures { result ≡ allMarks count }
+    requires { count ≤ lamps_most }
+    ensures { result ≡ all_marks count }
 {
     let mut list = [false; LAMPS_MOST];
     for i in 0..count {
@@ -113,8 +113,8 @@ pub fn mark_room(count: usize) -> [bool; LAMPS_MOST]
 /// Off, both mutes off, the first input, no fault, error status 000000, and the lamps' starting seconds, each enabled,
 /// and both volumes half way.
 pub fn start_own(lamps: &[u32]) -> Own
-    requires { length lamps.now ≤ lampsMost }
-    ensures { result ≡ startOwn lamps.now }
+    requires { length lamps.now ≤ lamps_most }
+    ensures { result ≡ start_own lamps.now }
 {
     let seconds = lamp_room(lamps);
     let marks = mark_room(lamps.len());

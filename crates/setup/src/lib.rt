@@ -6,9 +6,9 @@ pub mod theorems;
 pub mod wanted;
 
 ghost use Rattle.std.specs.Prelude.{◌≡◌, true, OnErr};
-ghost use Rattle.record.specs.Record.{settingsOf, blank};
+ghost use Rattle.record.specs.Record.{settings_of, blank};
 ghost use Rattle.record.specs.Given.{gives};
-ghost use Rattle.record.specs.SetUp.{isSetUp, setUp};
+ghost use Rattle.record.specs.SetUp.{is_set_up, set_up};
 ghost use Rattle.setup.specs.Lent.{wanted_settings};
 
 use crate::wanted::Wanted;
@@ -19,8 +19,8 @@ use record::{class, fresh};
 // The settings, each where it lies in the record.
 #[tactic(auto, using(crate::proofs::Fits::fits))]
 fn keep_settings(settings: &mut Settings, wanted: &Wanted<'_>)
-    requires { isSetUp (wanted_settings wanted.now) ≡ true }
-    ensures { settings.new ≡ settingsOf (wanted_settings wanted.now) }
+    requires { is_set_up (wanted_settings wanted.now) ≡ true }
+    ensures { settings.new ≡ settings_of (wanted_settings wanted.now) }
 {
     let class = wanted.class.number();
     let input_count = wanted.inputs.len() / 2;
@@ -50,7 +50,7 @@ fn keep_settings(settings: &mut Settings, wanted: &Wanted<'_>)
 /// Passwords).
 #[tactic(auto, using(crate::proofs::Refusals::outcomes))]
 pub fn set_up_in(device: &mut Device, wanted: &Wanted<'_>) -> Result<(), SetUpError>
-    ensures made { gives result device.new ≡ setUp (wanted_settings wanted.now) }
+    ensures made { gives result device.new ≡ set_up (wanted_settings wanted.now) }
     ensures refused { OnErr result (device.new ≡ blank) }
 {
     if let Err(error) = wanted.check() {
@@ -65,7 +65,7 @@ pub fn set_up_in(device: &mut Device, wanted: &Wanted<'_>) -> Result<(), SetUpEr
 
 /// The same, of a record of its own.
 pub fn set_up(wanted: &Wanted<'_>) -> Result<Device, SetUpError>
-    ensures { result ≡ setUp (wanted_settings wanted.now) }
+    ensures { result ≡ set_up (wanted_settings wanted.now) }
 {
     let mut device = fresh::blank();
     set_up_in(&mut device, wanted)?;

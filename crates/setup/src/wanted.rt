@@ -1,9 +1,9 @@
 // What set-up is lent, and whether it can be set up (RULES, The legal record).
 ghost use Rattle.std.specs.Prelude.{◌≡◌};
-ghost use Rattle.record.specs.SetUp.{isSettingInRange, firstOutOfRange, setUp};
+ghost use Rattle.record.specs.SetUp.{is_setting_in_range, first_out_of_range, set_up};
 ghost use Rattle.record.specs.SetUpErrors.{check_of};
-ghost use Rattle.record.specs.Limits.{onlyIn2};
-ghost use Rattle.record.specs.Rules.{areNames};
+ghost use Rattle.record.specs.Limits.{only_in_2};
+ghost use Rattle.record.specs.Rules.{are_names};
 ghost use Rattle.setup.specs.Lent.{wanted_settings, class_number, serial_of, version_of, names_lent, names_of};
 
 use record::set_up_error::SetUpError;
@@ -63,7 +63,7 @@ pub struct Wanted<'a> {
 impl<'a> Names<'a> {
     // Whether they are those of so many inputs of the class.
     fn fit(&self, class: u8, inputs: usize) -> bool
-        ensures { result ≡ areNames (onlyIn2 class inputs) (names_lent self.now) }
+        ensures { result ≡ are_names (only_in_2 class inputs) (names_lent self.now) }
     {
         match *self {
             Names::Row { bytes, lengths } => names::names_fit(class, inputs, bytes, lengths),
@@ -119,7 +119,7 @@ impl<'a> Class<'a> {
 
 impl<'a> Wanted<'a> {
     fn is_in_range(&self, setting: Setting) -> bool
-        ensures { result ≡ isSettingInRange (wanted_settings self.now) setting }
+        ensures { result ≡ is_setting_in_range (wanted_settings self.now) setting }
     {
         let class = self.class.number();
         match setting {
@@ -140,7 +140,7 @@ impl<'a> Wanted<'a> {
 
     /// The first setting that is out of its range: a short password is in its.
     pub fn first_out_of_range(&self) -> Option<Setting>
-        ensures { result ≡ firstOutOfRange (wanted_settings self.now) }
+        ensures { result ≡ first_out_of_range (wanted_settings self.now) }
     {
         Setting::IN_ORDER
             .iter()
@@ -151,7 +151,7 @@ impl<'a> Wanted<'a> {
     /// Whether this can be set up, and else why not: a setting out of its range before a short password.
     #[tactic(auto, using(crate::proofs::Refusals::reasons))]
     pub fn check(&self) -> Result<(), SetUpError>
-        ensures { result ≡ check_of (setUp (wanted_settings self.now)) }
+        ensures { result ≡ check_of (set_up (wanted_settings self.now)) }
     {
         if let Some(setting) = self.first_out_of_range() {
             return Err(SetUpError::OutOfRange(setting));

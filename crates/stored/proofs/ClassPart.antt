@@ -1,51 +1,46 @@
 -- The class and what Class 2 alone has, after C (RULES, Class 2), as the code writes them.
 -- Assumes nothing.
-use Prim.Native.Nat.{ℕ, ◌+◌, ◌≤◌}
-use mathlib.Core.Path.{◌≡◌, refl, sym, ap, ◌∙◌}
-use mathlib.Core.Bool.{true, false}
-use mathlib.Core.List.{List, [], ◌∷◌, ◌++◌, map, append_assoc}
-use native.Mathlib.Omega.{arith}
-use lib.ListN.{length, take, length-append}
-use lib.Dec.{eqb}
-use borrow.Author.Tests.{eq-eqb}
+use Rattle.std.proofs.Common.{ℕ, ◌+◌, ◌≤◌, ◌≡◌, refl, sym, ap, ◌∙◌, true, false, List, [], ◌∷◌, ◌++◌, map, append_assoc}
+use Rattle.std.proofs.Common.{arith, length, take, length-append, ◌==◌, eq-eqb}
 use Rattle.std.specs.Prelude.{if◌then◌else◌}
 use Rattle.text.proofs.Choices.{if_yes, if_no}
-use Rattle.record.specs.Limits.{onlyIn2}
+use Rattle.record.specs.Limits.{only_in_2}
 use Rattle.record.specs.declared.types.InputName.{InputName}
 use Rattle.record.specs.declared.types.Text.{Text}
-use Rattle.stored.specs.Form.{textSection, textsBytes, textStored, nameStored, classPart}
+use Rattle.stored.specs.Form.{text_section, texts_bytes, text_stored, name_stored, class_part_text}
 
 module _ (k : ℕ) where
-  pub class-part : (ts : List (List ℕ)) → classPart k ts ≡ k ∷ (if eqb k 2 then textsBytes ts else [])
-  unfolding classPart
-  class-part ts = refl
+  pub class_part : (ts : List (List ℕ)) → class_part_text k ts ≡ k ∷ (if k == 2 then texts_bytes ts else [])
+  unfolding class_part_text
+  class_part ts = refl
 
-  pub part-some : (ts : List (List ℕ)) → 1 ≤ length (classPart k ts)
-  unfolding classPart
-  part-some ts = omega arith
+  pub part_some : (ts : List (List ℕ)) → 1 ≤ length (class_part_text k ts)
+  unfolding class_part_text
+  part_some ts = omega arith
 
-  pub part-of-other : (ts : List (List ℕ)) → eqb k 2 ≡ false → classPart k ts ≡ k ∷ []
-  unfolding classPart
-  part-of-other ts e = ap (λ (l : List ℕ). k ∷ l) (if_no _ _ e)
+  pub part_of_other : (ts : List (List ℕ)) → (k == 2) ≡ false → class_part_text k ts ≡ k ∷ []
+  unfolding class_part_text
+  part_of_other ts e = ap (λ (l : List ℕ). k ∷ l) (if_no _ _ e)
 
-  pub part-of-2 : (a b : List ℕ) (ns : List (List ℕ)) → eqb k 2 ≡ true
-      → classPart k (a ∷ b ∷ ns) ≡ (k ∷ []) ++ textSection a ++ textSection b ++ textsBytes ns
-  unfolding classPart textsBytes
-  part-of-2 a b ns e =
-      ap (λ (l : List ℕ). k ∷ l) (if_yes _ _ e ∙ sym (append_assoc (textSection a) (textSection b) (textsBytes ns)))
+  pub part_of_2 : (a b : List ℕ) (ns : List (List ℕ)) → (k == 2) ≡ true
+      → class_part_text k (a ∷ b ∷ ns) ≡ (k ∷ []) ++ text_section a ++ text_section b ++ texts_bytes ns
+  unfolding class_part_text texts_bytes
+  part_of_2 a b ns e =
+      ap (λ (l : List ℕ). k ∷ l) (if_yes _ _ e ∙ sym (append_assoc (text_section a) (text_section b) (texts_bytes ns)))
 
   -- with the names of a record's n inputs
-  pub part-with-names : (a b : List ℕ) (n : ℕ) (names : List InputName) → k ≡ 2
-      → classPart k (a ∷ b ∷ map nameStored (take (onlyIn2 k n) names))
-      ≡ (k ∷ []) ++ textSection a ++ textSection b ++ textsBytes (map nameStored (take n names))
-  part-with-names a b n names e =
-      let two : eqb k 2 ≡ true = eq-eqb k 2 e in
-      ap (λ (m : ℕ). classPart k (a ∷ b ∷ map nameStored (take m names))) (if_yes n 0 two)
-      ∙ part-of-2 a b (map nameStored (take n names)) two
+  pub part_with_names : (a b : List ℕ) (n : ℕ) (names : List InputName) → k ≡ 2
+      → class_part_text k (a ∷ b ∷ map name_stored (take (only_in_2 k n) names))
+      ≡ (k ∷ []) ++ text_section a ++ text_section b ++ texts_bytes (map name_stored (take n names))
+  part_with_names a b n names e =
+      let two : (k == 2) ≡ true = eq-eqb k 2 e in
+      ap (λ (m : ℕ). class_part_text k (a ∷ b ∷ map name_stored (take m names))) (if_yes n 0 two)
+      ∙ part_of_2 a b (map name_stored (take n names)) two
 
-  pub part-long : (n : ℕ) (serial version : Text) (names : List InputName) → k ≡ 2
-      → length (textStored serial) ≡ serial.len → length (textStored version) ≡ version.len
-      → length (classPart k (textStored serial ∷ textStored version ∷ map nameStored (take (onlyIn2 k n) names)))
-      ≡ 3 + serial.len + version.len + length (textsBytes (map nameStored (take n names)))
-  part-long n serial version names e s v =
-      rw (part-with-names (textStored serial) (textStored version) n names e) (simp length-append (omega arith))
+  pub part_long : (n : ℕ) (serial version : Text) (names : List InputName) → k ≡ 2
+      → length (text_stored serial) ≡ serial.len → length (text_stored version) ≡ version.len
+      → length (class_part_text k
+      (text_stored serial ∷ text_stored version ∷ map name_stored (take (only_in_2 k n) names)))
+      ≡ 3 + serial.len + version.len + length (texts_bytes (map name_stored (take n names)))
+  part_long n serial version names e s v =
+      rw (part_with_names (text_stored serial) (text_stored version) n names e) (simp length-append (omega arith))

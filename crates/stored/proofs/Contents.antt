@@ -2,39 +2,39 @@
 -- no marks, loads as the set-up itself.
 -- Assumes nothing.
 use Rattle.std.proofs.Common.{◌≡◌, ◌≤◌, true, Bool, List, length, replicate, ap, sym, ◌∙◌}
-use lib.ListN.{length-replicate}
-use Rattle.record.specs.Limits.{lampsMost}
+use Rattle.std.proofs.lemmas.List.{length-replicate}
+use Rattle.record.specs.Limits.{lamps_most}
 use Rattle.record.specs.Wanted.{Wanted}
-use Rattle.record.specs.Rules.{isMarks}
-use Rattle.record.specs.Updates.{withOwn, withMarks}
-use Rattle.record.specs.Record.{allMarks, started}
-use Rattle.record.specs.SetUp.{isSetUp}
+use Rattle.record.specs.Rules.{is_marks}
+use Rattle.record.specs.Updates.{with_own, with_marks}
+use Rattle.record.specs.Record.{all_marks, started}
+use Rattle.record.specs.SetUp.{is_set_up}
 use Rattle.record.specs.declared.types.Setting.TheVariants.{Lamps}
-use Rattle.record.proofs.Rules.{lamps-few}
-use Rattle.record.proofs.MarksTold.{all-marks-legal}
-use Rattle.record.proofs.OutOfRange.{each-in-range}
-use Rattle.record.proofs.Started.{started-marks}
-use Rattle.stored.specs.Loading.{markRoom, areMarks, startedWith}
-use Rattle.stored.proofs.MarkBytes.{all_room, ones-marked, ones-are-bytes, are-marks-shown}
+use Rattle.record.proofs.Rules.{lamps_few}
+use Rattle.record.proofs.MarksTold.{all_marks_legal}
+use Rattle.record.proofs.OutOfRange.{each_in_range}
+use Rattle.record.proofs.Started.{started_marks}
+use Rattle.stored.specs.Loading.{mark_room, are_marks, started_with}
+use Rattle.stored.proofs.MarkBytes.{all_room, ones_marked, ones_are_bytes, are_marks_shown}
 
 module _ (w : Wanted) where
-  pub few-lamps : isSetUp w ≡ true → length w.lamps ≤ lampsMost
-  few-lamps ok = lamps-few w.lamps (each-in-range w ok Lamps)
+  pub few_lamps : is_set_up w ≡ true → length w.lamps ≤ lamps_most
+  few_lamps ok = lamps_few w.lamps (each_in_range w ok Lamps)
 
-  module _ (ok : isSetUp w ≡ true) where
-    all_set : markRoom (replicate (length w.lamps) true) ≡ allMarks (length w.lamps)
-    all_set = all_room (length w.lamps) (few-lamps ok)
+  module _ (ok : is_set_up w ≡ true) where
+    all_set : mark_room (replicate (length w.lamps) true) ≡ all_marks (length w.lamps)
+    all_set = all_room (length w.lamps) (few_lamps ok)
 
-    pub started-all : startedWith w (replicate (length w.lamps) true) ≡ started w
-    started-all =
-        ap (λ (ms : List Bool). withOwn (started w) (withMarks (started w).own ms)) (all_set ∙ sym (started-marks w))
+    pub started_with-replicate : started_with w (replicate (length w.lamps) true) ≡ started w
+    started_with-replicate =
+        ap (λ (ms : List Bool). with_own (started w) (with_marks (started w).own ms)) (all_set ∙ sym (started_marks w))
 
     -- as the bytes of a version that has none
-    pub ones-are-marks : areMarks (length w.lamps) (replicate (length w.lamps) 1) ≡ true
-    ones-are-marks =
+    pub ones_are_marks : are_marks (length w.lamps) (replicate (length w.lamps) 1) ≡ true
+    ones_are_marks =
         let n = length w.lamps in
-        are-marks-shown n (replicate n 1) (record {
-          each = ones-are-bytes n;
+        are_marks_shown n (replicate n 1) (record {
+          each = ones_are_bytes n;
           many = length-replicate n 1;
-          legal = ap (isMarks n) (ap markRoom (ones-marked n) ∙ all_set) ∙ all-marks-legal n (few-lamps ok);
+          legal = ap (is_marks n) (ap mark_room (ones_marked n) ∙ all_set) ∙ all_marks_legal n (few_lamps ok);
         })

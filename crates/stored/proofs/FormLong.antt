@@ -1,49 +1,47 @@
 -- A form by its sections, and how long it is: a byte for the version, one for each count, four for W and C, and the
 -- contents.
 -- Assumes nothing.
-use Prim.Native.Nat.{ℕ, ◌+◌, ◌*◌, ◌/◌, ◌≤◌}
-use mathlib.Core.Path.{◌≡◌, refl}
-use mathlib.Core.Bool.{true}
-use mathlib.Core.List.{List, ◌∷◌, ◌++◌, map, append_assoc}
-use native.Mathlib.Omega.{arith}
-use lib.ListN.{length, length-append, length-map}
-use Rattle.numbers.specs.HighestFirst.{highestFirst}
-use Rattle.numbers.proofs.HighestFirst.{highest-length}
-use Rattle.words.specs.Texts.{isName, isInfo, isPassword}
-use Rattle.record.specs.Limits.{textRoom, inputRoom, listedMost, lampsMost, onlyIn2}
+use Rattle.std.proofs.Common.{ℕ, ◌+◌, ◌*◌, ◌/◌, ◌≤◌, ◌≡◌, refl, true, List, ◌∷◌, ◌++◌, map, append_assoc, arith, length}
+use Rattle.std.proofs.Common.{length-append}
+use Rattle.std.proofs.lemmas.List.{length-map}
+use Rattle.numbers.specs.HighestFirst.{highest_first}
+use Rattle.numbers.proofs.HighestFirst.{length-highest_first}
+use Rattle.words.specs.Texts.{is_name, is_info, is_password}
+use Rattle.record.specs.Limits.{text_room, input_room, listed_most, lamps_most, only_in_2}
 use Rattle.record.specs.Wanted.{Wanted}
-use Rattle.record.specs.Rules.{isInputs, isLamps}
-use Rattle.record.specs.Legal.{isNames, isSettings, isLegal}
+use Rattle.record.specs.Rules.{is_inputs, is_lamps}
+use Rattle.record.specs.Legal.{is_names, is_settings, is_legal}
 use Rattle.record.specs.declared.types.Settings.{Settings}
 use Rattle.record.specs.declared.types.Device.{Device}
-use Rattle.record.proofs.Kept.{kept-length}
-use Rattle.record.proofs.SettingsTold.{input-count-high}
-use Rattle.record.proofs.LegalTold.{legal-settings, settings-of-legal, own-of-legal}
-use Rattle.record.proofs.MarksTold.{front-many}
-use Rattle.stored.specs.Form.{formVersion, section, textSection, secondsBytes, markByte}
-use Rattle.stored.specs.Form.{marksSection, textsOf2, classPart, formWith, storedOf, marksStored, storedForm}
-use Rattle.stored.proofs.SecondsWritten.{seconds-long}
+use Rattle.record.proofs.Kept.{kept_length}
+use Rattle.record.proofs.SettingsTold.{input_count_high}
+use Rattle.record.proofs.LegalTold.{legal_settings, settings_of_legal, own_of_legal}
+use Rattle.record.proofs.MarksTold.{front_many}
+use Rattle.stored.specs.Form.{form_version, section, text_section, seconds_bytes, mark_byte}
+use Rattle.stored.specs.Form.{marks_section, texts_in_class_2, class_part_text, form_with, stored_of, marks_stored}
+use Rattle.stored.specs.Form.{stored_form}
+use Rattle.stored.proofs.SecondsWritten.{seconds_long}
 use Rattle.record.proofs.FactsTold.{names_is, settings_is}
 
-abbrev fiveLong : Wanted → ℕ
-fiveLong w = length w.name + length w.maker + length w.model + length w.other + length w.password
+abbrev five_long : Wanted → ℕ
+five_long w = length w.name + length w.maker + length w.model + length w.other + length w.password
 
-pub form-with : (v : ℕ) (marks rest : List ℕ) (w : Wanted)
-    → formWith v marks rest w
-    ≡ v ∷ (textSection w.name ++ textSection w.maker ++ textSection w.model ++ textSection w.other
-    ++ textSection w.password ++ section (length w.inputs / 2) w.inputs
-    ++ section (length w.lamps) (secondsBytes w.lamps) ++ marks
-    ++ highestFirst 2 w.warm ++ highestFirst 2 w.cool ++ rest)
-unfolding formWith
-form-with v marks rest w = refl
+pub form_with_lem : (v : ℕ) (marks rest : List ℕ) (w : Wanted)
+    → form_with v marks rest w
+    ≡ v ∷ (text_section w.name ++ text_section w.maker ++ text_section w.model ++ text_section w.other
+    ++ text_section w.password ++ section (length w.inputs / 2) w.inputs
+    ++ section (length w.lamps) (seconds_bytes w.lamps) ++ marks
+    ++ highest_first 2 w.warm ++ highest_first 2 w.cool ++ rest)
+unfolding form_with
+form_with_lem v marks rest w = refl
 
-pub form-long : (v : ℕ) (marks rest : List ℕ) (w : Wanted)
-    → length (formWith v marks rest w)
-    ≡ 12 + fiveLong w + length w.inputs + 4 * length w.lamps + length marks + length rest
-unfolding formWith
-form-long v marks rest w =
+pub form_long : (v : ℕ) (marks rest : List ℕ) (w : Wanted)
+    → length (form_with v marks rest w)
+    ≡ 12 + five_long w + length w.inputs + 4 * length w.lamps + length marks + length rest
+unfolding form_with
+form_long v marks rest w =
     simp length-append
-    (omega (arith, highest-length 2 w.warm, highest-length 2 w.cool, seconds-long w.lamps))
+    (omega (arith, length-highest_first 2 w.warm, length-highest_first 2 w.cool, seconds_long w.lamps))
 
 regroup : (v : ℕ) (a b c d e f g h i j k : List ℕ)
     → v ∷ (a ++ b ++ c ++ d ++ e ++ f ++ g ++ h ++ i ++ j ++ k)
@@ -51,19 +49,19 @@ regroup : (v : ℕ) (a b c d e f g h i j k : List ℕ)
 regroup v a b c d e f g h i j k = simp append_assoc
 
 -- what legal settings are at most, and their names
-pub record Sized (s : Settings) : Type 0 where
-  pub name : s.name.len ≤ textRoom
-  pub maker : s.maker.len ≤ textRoom
-  pub model : s.model.len ≤ textRoom
-  pub other : s.other.len ≤ textRoom
-  pub password : s.password.len ≤ textRoom
-  pub inputs : s.input_count ≤ listedMost
-  pub lamps : s.lamp_count ≤ lampsMost
-  pub serial : s.serial.len ≤ textRoom
-  pub version : s.version.len ≤ textRoom
-  pub names : isNames (onlyIn2 s.class_number s.input_count) s.names ≡ true
+pub record IsSized (s : Settings) : Type 0 where
+  pub name : s.name.len ≤ text_room
+  pub maker : s.maker.len ≤ text_room
+  pub model : s.model.len ≤ text_room
+  pub other : s.other.len ≤ text_room
+  pub password : s.password.len ≤ text_room
+  pub inputs : s.input_count ≤ listed_most
+  pub lamps : s.lamp_count ≤ lamps_most
+  pub serial : s.serial.len ≤ text_room
+  pub version : s.version.len ≤ text_room
+  pub names : is_names (only_in_2 s.class_number s.input_count) s.names ≡ true
 
-pub sized : (s : Settings) → isSettings s ≡ true → Sized s
+pub sized : (s : Settings) → is_settings s ≡ true → IsSized s
 sized s h =
     let t = (settings_is s).0 h in
     record {
@@ -72,96 +70,96 @@ sized s h =
       model = t.model.inside;
       other = t.other.inside;
       password = t.password.inside;
-      inputs = input-count-high s t;
+      inputs = input_count_high s t;
       lamps = t.lamps;
       serial = t.serial.inside;
       version = t.version.inside;
       names = (names_is _ _).1 t.names;
     }
 
-pub legal_sized : (d : Device) → isLegal d ≡ true → Sized d.settings
-legal_sized d h = sized d.settings (legal-settings d h)
+pub legal_sized : (d : Device) → is_legal d ≡ true → IsSized d.settings
+legal_sized d h = sized d.settings (legal_settings d h)
 
 -- of a legal record: the form in the three parts that the code writes, with the counts that the record has
-abbrev pub textsPart : Device → List ℕ
-textsPart d =
-    formVersion
-    ∷ (textSection (storedOf d).name ++ textSection (storedOf d).maker ++ textSection (storedOf d).model
-    ++ textSection (storedOf d).other ++ textSection (storedOf d).password)
+abbrev pub texts_part : Device → List ℕ
+texts_part d =
+    form_version
+    ∷ (text_section (stored_of d).name ++ text_section (stored_of d).maker ++ text_section (stored_of d).model
+    ++ text_section (stored_of d).other ++ text_section (stored_of d).password)
 
-abbrev pub listsPart : Device → List ℕ
-listsPart d =
-    section d.settings.input_count (storedOf d).inputs
-    ++ section d.settings.lamp_count (secondsBytes (storedOf d).lamps)
-    ++ section d.settings.lamp_count (map markByte (marksStored d))
-    ++ highestFirst 2 d.settings.warm ++ highestFirst 2 d.settings.cool
+abbrev pub lists_part : Device → List ℕ
+lists_part d =
+    section d.settings.input_count (stored_of d).inputs
+    ++ section d.settings.lamp_count (seconds_bytes (stored_of d).lamps)
+    ++ section d.settings.lamp_count (map mark_byte (marks_stored d))
+    ++ highest_first 2 d.settings.warm ++ highest_first 2 d.settings.cool
 
-abbrev pub restPart : Device → List ℕ
-restPart d = classPart (storedOf d).class (textsOf2 (storedOf d))
+abbrev pub rest_part : Device → List ℕ
+rest_part d = class_part_text (stored_of d).class (texts_in_class_2 (stored_of d))
 
-module _ (d : Device) (h : isLegal d ≡ true) where
+module _ (d : Device) (h : is_legal d ≡ true) where
   pub record StoredLong : Type 0 where
-    pub name : length (storedOf d).name ≡ d.settings.name.len
-    pub maker : length (storedOf d).maker ≡ d.settings.maker.len
-    pub model : length (storedOf d).model ≡ d.settings.model.len
-    pub other : length (storedOf d).other ≡ d.settings.other.len
-    pub password : length (storedOf d).password ≡ d.settings.password.len
-    pub inputs : length (storedOf d).inputs ≡ 2 * d.settings.input_count
-    pub lamps : length (storedOf d).lamps ≡ d.settings.lamp_count
-    pub marks : length (marksStored d) ≡ d.settings.lamp_count
+    pub name : length (stored_of d).name ≡ d.settings.name.len
+    pub maker : length (stored_of d).maker ≡ d.settings.maker.len
+    pub model : length (stored_of d).model ≡ d.settings.model.len
+    pub other : length (stored_of d).other ≡ d.settings.other.len
+    pub password : length (stored_of d).password ≡ d.settings.password.len
+    pub inputs : length (stored_of d).inputs ≡ 2 * d.settings.input_count
+    pub lamps : length (stored_of d).lamps ≡ d.settings.lamp_count
+    pub marks : length (marks_stored d) ≡ d.settings.lamp_count
 
-  pub stored-long : StoredLong
-  stored-long =
-      let t = settings-of-legal d h in
+  pub stored_long : StoredLong
+  stored_long =
+      let t = settings_of_legal d h in
       record {
-        name = kept-length textRoom isName _ _ t.name;
-        maker = kept-length textRoom isInfo _ _ t.maker;
-        model = kept-length textRoom isInfo _ _ t.model;
-        other = kept-length textRoom isInfo _ _ t.other;
-        password = kept-length textRoom isPassword _ _ t.password;
-        inputs = kept-length inputRoom (isInputs _) _ _ t.inputs;
-        lamps = kept-length lampsMost isLamps _ _ (own-of-legal d h).lamps;
-        marks = front-many _ _ (own-of-legal d h).marks t.lamps;
+        name = kept_length text_room is_name _ _ t.name;
+        maker = kept_length text_room is_info _ _ t.maker;
+        model = kept_length text_room is_info _ _ t.model;
+        other = kept_length text_room is_info _ _ t.other;
+        password = kept_length text_room is_password _ _ t.password;
+        inputs = kept_length input_room (is_inputs _) _ _ t.inputs;
+        lamps = kept_length lamps_most is_lamps _ _ (own_of_legal d h).lamps;
+        marks = front_many _ _ (own_of_legal d h).marks t.lamps;
       }
 
-  pub stored-form : storedForm d ≡ textsPart d ++ listsPart d ++ restPart d
-  unfolding formWith
-  stored-form =
-      let half : length (storedOf d).inputs / 2 ≡ d.settings.input_count = omega (arith, stored-long.inputs) in
-      rw (half, stored-long.lamps, stored-long.marks)
-      (regroup formVersion (textSection (storedOf d).name) (textSection (storedOf d).maker)
-      (textSection (storedOf d).model) (textSection (storedOf d).other) (textSection (storedOf d).password)
-      (section d.settings.input_count (storedOf d).inputs)
-      (section d.settings.lamp_count (secondsBytes (storedOf d).lamps))
-      (section d.settings.lamp_count (map markByte (marksStored d))) (highestFirst 2 d.settings.warm)
-      (highestFirst 2 d.settings.cool) (restPart d))
+  pub stored_form_parts : stored_form d ≡ texts_part d ++ lists_part d ++ rest_part d
+  unfolding form_with
+  stored_form_parts =
+      let half : length (stored_of d).inputs / 2 ≡ d.settings.input_count = omega (arith, stored_long.inputs) in
+      rw (half, stored_long.lamps, stored_long.marks)
+      (regroup form_version (text_section (stored_of d).name) (text_section (stored_of d).maker)
+      (text_section (stored_of d).model) (text_section (stored_of d).other) (text_section (stored_of d).password)
+      (section d.settings.input_count (stored_of d).inputs)
+      (section d.settings.lamp_count (seconds_bytes (stored_of d).lamps))
+      (section d.settings.lamp_count (map mark_byte (marks_stored d))) (highest_first 2 d.settings.warm)
+      (highest_first 2 d.settings.cool) (rest_part d))
 
-  pub texts-long : length (textsPart d)
+  pub length-texts_part : length (texts_part d)
       ≡ 6 + (d.settings.name.len + d.settings.maker.len + d.settings.model.len + d.settings.other.len
       + d.settings.password.len)
-  texts-long = let l = stored-long in simp length-append (omega arith)
+  length-texts_part = let l = stored_long in simp length-append (omega arith)
 
-  pub lists-long : length (listsPart d) ≡ 7 + 2 * d.settings.input_count + 5 * d.settings.lamp_count
-  lists-long =
-      let l = stored-long in
+  pub length-lists_part : length (lists_part d) ≡ 7 + 2 * d.settings.input_count + 5 * d.settings.lamp_count
+  length-lists_part =
+      let l = stored_long in
       simp length-append
       (omega (
         arith,
-        highest-length 2 d.settings.warm,
-        highest-length 2 d.settings.cool,
-        seconds-long (storedOf d).lamps,
-        length-map (marksStored d) markByte,
+        length-highest_first 2 d.settings.warm,
+        length-highest_first 2 d.settings.cool,
+        seconds_long (stored_of d).lamps,
+        length-map (marks_stored d) mark_byte,
       ))
 
-  pub stored-form-long : length (storedForm d)
+  pub stored_form_long : length (stored_form d)
       ≡ 13 + (d.settings.name.len + d.settings.maker.len + d.settings.model.len + d.settings.other.len
       + d.settings.password.len) + 2 * d.settings.input_count + 5 * d.settings.lamp_count
-      + length (restPart d)
-  stored-form-long =
-      let l = stored-long in
+      + length (rest_part d)
+  stored_form_long =
+      let l = stored_long in
       omega (
         arith,
-        form-long formVersion (marksSection (marksStored d)) (restPart d) (storedOf d),
+        form_long form_version (marks_section (marks_stored d)) (rest_part d) (stored_of d),
         length-map
-            (marksStored d) markByte,
+            (marks_stored d) mark_byte,
       )

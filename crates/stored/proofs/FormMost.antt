@@ -1,92 +1,87 @@
--- No form is longer than `formMost`; proofs/Samples has one that is as long.
+-- No form is longer than `form_most`; proofs/Samples has one that is as long.
 -- Assumes nothing.
-use Prim.Native.Nat.{ℕ, suc, ◌*◌, ◌/◌, ◌≤◌}
-use mathlib.Core.Path.{◌≡◌, refl, ap}
-use mathlib.Core.Bool.{Bool, true, false}
-use mathlib.Core.List.{List, [], ◌∷◌}
-use native.Mathlib.Omega.{arith}
-use lib.ListN.{length, length-append, length-map}
-use lib.Dec.{eqb}
-use borrow.Author.Tests.{eqb-true}
+use Rattle.std.specs.List.{list_all}
+use Rattle.std.proofs.Common.{ℕ, suc, ◌*◌, ◌/◌, ◌≤◌, ◌≡◌, refl, ap, Bool, true, false, List, [], ◌∷◌, arith, length}
+use Rattle.std.proofs.Common.{length-append, ◌==◌, eqb-true}
+use Rattle.std.proofs.lemmas.List.{length-map}
 use Rattle.std.specs.Prelude.{if◌then◌else◌}
-use Rattle.text.specs.Scans.{every}
 use Rattle.text.proofs.Choices.{both_left, both_right}
-use Rattle.words.specs.Texts.{isInputName, infoMost}
-use Rattle.words.proofs.TextsTold.{name-long, info-long, password-long, input-name-long}
+use Rattle.words.specs.Texts.{is_input_name, info_most}
+use Rattle.words.proofs.TextsTold.{name_long, info_long, password_long, input_name_long}
 use Rattle.record.specs.Wanted.{Wanted}
-use Rattle.record.specs.Legal.{isLegal}
-use Rattle.record.specs.SetUp.{isSettingInRange, isSetUp}
+use Rattle.record.specs.Legal.{is_legal}
+use Rattle.record.specs.SetUp.{is_setting_in_range, is_set_up}
 use Rattle.record.specs.declared.types.Device.{Device}
 use Rattle.record.specs.declared.types.Setting.{Setting}
 use Rattle.record.specs.declared.types.Setting.TheVariants.{Serial, Version, Names}
 use Rattle.record.specs.declared.types.Setting.TheVariants.{Name, Maker, Model, Other, Password, Inputs, Lamps}
-use Rattle.record.proofs.Rules.{inputs-few, lamps-few, only-in-2-within, names-many, names-each, text-most}
-use Rattle.record.proofs.OutOfRange.{each-in-range}
-use Rattle.stored.specs.Form.{formVersion, markByte, marksSection, form_of, formMost, storedOf, marksStored}
-use Rattle.stored.specs.Form.{textsBytes, textsOf2, classPart, storedForm}
-use Rattle.stored.proofs.TextsWritten.{no-texts, first-text}
-use Rattle.stored.proofs.ClassPart.{class-part}
-use Rattle.stored.proofs.FormLong.{form-long}
-use Rattle.stored.specs.Loading.{isMarksOf}
-use Rattle.stored.proofs.StoredLoads.{stored-in-range, stored-marks}
+use Rattle.record.proofs.Rules.{inputs_few, lamps_few, only_in_2_within, names_many, names_each, text_most}
+use Rattle.record.proofs.OutOfRange.{each_in_range}
+use Rattle.stored.specs.Form.{form_version, mark_byte, marks_section, form_of, form_most, stored_of, marks_stored}
+use Rattle.stored.specs.Form.{texts_bytes, texts_in_class_2, class_part_text, stored_form}
+use Rattle.stored.proofs.TextsWritten.{no_texts, texts_bytes-cons}
+use Rattle.stored.proofs.ClassPart.{class_part}
+use Rattle.stored.proofs.FormLong.{form_long}
+use Rattle.stored.specs.Loading.{is_marks_of}
+use Rattle.stored.proofs.StoredLoads.{stored_in_range, stored_marks}
 
 -- names of 128 bytes at most, each with its count
-names-most : (ts : List (List ℕ)) → every isInputName ts ≡ true → length (textsBytes ts) ≤ 129 * length ts
-names-most [] e = omega (arith, ap length no-texts)
-names-most (t ∷ ts) e =
+names_most : (ts : List (List ℕ)) → list_all is_input_name ts ≡ true → length (texts_bytes ts) ≤ 129 * length ts
+names_most [] e = omega (arith, ap length no_texts)
+names_most (t ∷ ts) e =
     omega (
       arith,
-      ap length (first-text t ts),
-      length-append t (textsBytes ts),
-      input-name-long t (both_left (isInputName t) (every isInputName ts) e),
-      names-most ts (both_right (isInputName t) (every isInputName ts) e),
+      ap length (texts_bytes-cons t ts),
+      length-append t (texts_bytes ts),
+      input_name_long t (both_left (is_input_name t) (list_all is_input_name ts) e),
+      names_most ts (both_right (is_input_name t) (list_all is_input_name ts) e),
     )
 
 -- the class, and what Class 2 alone has
-class-most : (w : Wanted) → isSetUp w ≡ true → length (classPart w.class (textsOf2 w)) ≤ 4195
-class-most w ok = rw (class-part w.class (textsOf2 w)) (by (eqb w.class 2) refl)
+class_most : (w : Wanted) → is_set_up w ≡ true → length (class_part_text w.class (texts_in_class_2 w)) ≤ 4195
+class_most w ok = rw (class_part w.class (texts_in_class_2 w)) (by (w.class == 2) refl)
   where
-    met : (s : Setting) → isSettingInRange w s ≡ true
-    met = each-in-range w ok
+    met : (s : Setting) → is_setting_in_range w s ≡ true
+    met = each_in_range w ok
 
-    by : (two : Bool) → eqb w.class 2 ≡ two
-        → suc (length (if two then textsBytes (textsOf2 w) else [])) ≤ 4195
+    by : (two : Bool) → (w.class == 2) ≡ two
+        → suc (length (if two then texts_bytes (texts_in_class_2 w) else [])) ≤ 4195
     by false e = omega arith
     by true e =
         omega (
           arith,
-          ap length (first-text w.serial (w.version ∷ w.names)),
-          ap length (first-text w.version w.names),
-          length-append w.serial (textsBytes (w.version ∷ w.names)),
-          length-append w.version (textsBytes w.names),
-          names-most w.names (names-each _ w.names (met Names)),
-          names-many _ w.names (met Names),
-          only-in-2-within w.class (length w.inputs / 2),
-          only-in-2-within w.class infoMost,
-          text-most w.serial _ (met Serial),
-          text-most w.version _ (met Version),
-          inputs-few _ w.inputs (met Inputs),
+          ap length (texts_bytes-cons w.serial (w.version ∷ w.names)),
+          ap length (texts_bytes-cons w.version w.names),
+          length-append w.serial (texts_bytes (w.version ∷ w.names)),
+          length-append w.version (texts_bytes w.names),
+          names_most w.names (names_each _ w.names (met Names)),
+          names_many _ w.names (met Names),
+          only_in_2_within w.class (length w.inputs / 2),
+          only_in_2_within w.class info_most,
+          text_most w.serial _ (met Serial),
+          text_most w.version _ (met Version),
+          inputs_few _ w.inputs (met Inputs),
         )
 
-pub form-most : (w : Wanted) (ms : List Bool) → isSetUp w ≡ true → isMarksOf (length w.lamps) ms ≡ true
-    → length (form_of w ms) ≤ formMost
-form-most w ms ok marks =
-    let met = each-in-range w ok in
+pub form_within_most : (w : Wanted) (ms : List Bool) → is_set_up w ≡ true → is_marks_of (length w.lamps) ms ≡ true
+    → length (form_of w ms) ≤ form_most
+form_within_most w ms ok marks =
+    let met = each_in_range w ok in
     omega (
       arith,
-      form-long formVersion (marksSection ms) (classPart w.class (textsOf2 w)) w,
-      class-most w ok,
-      length-map ms markByte,
-      eqb-true (length ms) (length w.lamps) (both_left (eqb (length ms) (length w.lamps)) _ marks),
-      name-long w.name (met Name),
-      info-long w.maker (met Maker),
-      info-long w.model (met Model),
-      info-long w.other (met Other),
-      password-long w.password (met Password),
-      inputs-few _ w.inputs (met Inputs),
-      lamps-few w.lamps (met Lamps),
+      form_long form_version (marks_section ms) (class_part_text w.class (texts_in_class_2 w)) w,
+      class_most w ok,
+      length-map ms mark_byte,
+      eqb-true (length ms) (length w.lamps) (both_left (length ms == length w.lamps) _ marks),
+      name_long w.name (met Name),
+      info_long w.maker (met Maker),
+      info_long w.model (met Model),
+      info_long w.other (met Other),
+      password_long w.password (met Password),
+      inputs_few _ w.inputs (met Inputs),
+      lamps_few w.lamps (met Lamps),
     )
 
 -- so memory of that size is never too short for a legal record
-pub stored-most : (d : Device) → isLegal d ≡ true → length (storedForm d) ≤ formMost
-stored-most d h = form-most (storedOf d) (marksStored d) (stored-in-range d h) (stored-marks d h)
+pub stored_most : (d : Device) → is_legal d ≡ true → length (stored_form d) ≤ form_most
+stored_most d h = form_within_most (stored_of d) (marks_stored d) (stored_in_range d h) (stored_marks d h)

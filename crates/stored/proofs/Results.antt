@@ -1,100 +1,99 @@
 -- What loading gives (RULES, Stored form): the number is that of the first row that applies, for every byte string; a
 -- refused load gives the blank record; a load that is accepted is a set-up with the marks that the form has (RULES,
 -- Lamps), and legal; and the promise leaves one result.
---   Accepted s        an accepted load: the version is known, the form is all that stands there, the contents are legal
+--   IsAccepted s      an accepted load: the version is known, the form is all that stands there, the contents are legal
 -- Assumes nothing.
 use Rattle.std.proofs.Common.{◌≡◌, ℕ, Bool, true, false, ◌&&◌, List, [], length, Option, Some, None}
-use Rattle.std.proofs.Common.{refl, ap, ◌∙◌, arith}
-use lib.Dec.{eqb}
-use borrow.Author.Tests.{eqb-true, not-false}
+use Rattle.std.proofs.Common.{refl, ap, ◌∙◌, arith, ◌==◌, eqb-true}
+use Rattle.std.proofs.lemmas.Bool.{not-false}
 use Rattle.text.specs.Rows.{first_of}
-use Rattle.text.proofs.ByRows.{by_rows, rows-number}
+use Rattle.text.proofs.ByRows.{by_rows_lem, rows_number}
 use Rattle.text.proofs.Choices.{both_left, both_right}
-use Rattle.text.proofs.OneResult.{one-result}
+use Rattle.text.proofs.OneResult.{one_result}
 use Rattle.words.specs.Bytes.{◌at◌}
 use Rattle.record.specs.Wanted.{Wanted}
-use Rattle.record.specs.Rules.{isMarks}
-use Rattle.record.specs.Updates.{withMarks}
+use Rattle.record.specs.Rules.{is_marks}
+use Rattle.record.specs.Updates.{with_marks}
 use Rattle.record.specs.Record.{started, blank}
 use Rattle.record.specs.Given.{Given, accepted, refused}
-use Rattle.record.specs.Legal.{isLegal}
-use Rattle.record.specs.SetUp.{isSetUp}
+use Rattle.record.specs.Legal.{is_legal}
+use Rattle.record.specs.SetUp.{is_set_up}
 use Rattle.record.specs.declared.types.Device.{Device}
-use Rattle.record.proofs.LegalTold.{own-of-legal}
-use Rattle.record.proofs.HostKept.{with-own-legal}
-use Rattle.record.proofs.Started.{started-parts, started-legal}
-use Rattle.stored.specs.Form.{formVersion}
+use Rattle.record.proofs.LegalTold.{own_of_legal}
+use Rattle.record.proofs.HostKept.{is_legal-with_own}
+use Rattle.record.proofs.Started.{started_parts, started_legal}
+use Rattle.stored.specs.Form.{form_version}
 use Rattle.stored.specs.Reading.{FormSaid, form}
-use Rattle.stored.specs.Loading.{isOtherVersion, endsEarly, leavesMore, said, said_in, settingsIn}
-use Rattle.stored.specs.Loading.{markBytesIn, marksRead, markRoom, areMarks, startedWith, loadRows, loaded}
-use Rattle.stored.proofs.MarkBytes.{marks-told}
-use Rattle.stored.proofs.Grammar.{nothing, older-said}
+use Rattle.stored.specs.Loading.{is_other_version, ends_early, leaves_more, said, said_in, settings_in}
+use Rattle.stored.specs.Loading.{mark_bytes_in, marks_read, mark_room, are_marks, started_with, load_rows, loaded}
+use Rattle.stored.proofs.MarkBytes.{marks_told}
+use Rattle.stored.proofs.Grammar.{nothing, older_said}
 
 -- a set-up with legal marks is legal
-pub started-with-legal : (w : Wanted) (ms : List Bool) → isSetUp w ≡ true
-    → isMarks (length w.lamps) (markRoom ms) ≡ true → isLegal (startedWith w ms) ≡ true
-started-with-legal w ms ok h =
-    let legal = started-legal w ok in
-    let t = own-of-legal (started w) legal in
-    with-own-legal (started w) legal (withMarks (started w).own (markRoom ms))
-    (assumption (t, ap (λ (d : Device). isMarks d.settings.lamp_count (markRoom ms)) (started-parts w) ∙ h))
+pub is_legal-started_with : (w : Wanted) (ms : List Bool) → is_set_up w ≡ true
+    → is_marks (length w.lamps) (mark_room ms) ≡ true → is_legal (started_with w ms) ≡ true
+is_legal-started_with w ms ok h =
+    let legal = started_legal w ok in
+    let t = own_of_legal (started w) legal in
+    is_legal-with_own (started w) legal (with_marks (started w).own (mark_room ms))
+    (assumption (t, ap (λ (d : Device). is_marks d.settings.lamp_count (mark_room ms)) (started_parts w) ∙ h))
 
 -- what neither ends early nor leaves more
-read-whole : (o : Option (FormSaid × List ℕ)) → endsEarly o ≡ false → leavesMore o ≡ false → o ≡ Some (said o, [])
-read-whole None e l = absurd (cc)
-read-whole (Some x) e l =
-    let none = eqb-true (length x.1) 0 (not-false (eqb (length x.1) 0) l) in
+read_whole : (o : Option (FormSaid × List ℕ)) → ends_early o ≡ false → leaves_more o ≡ false → o ≡ Some (said o, [])
+read_whole None e l = absurd (cc)
+read_whole (Some x) e l =
+    let none = eqb-true (length x.1) 0 (not-false (length x.1 == 0) l) in
     ap (λ (r : List ℕ). Some (x.0, r)) (nothing x.1 (omega arith))
 
 module _ (s : List ℕ) where
   abbrev given : Given Device
-  given = accepted (startedWith (settingsIn s) (marksRead s))
+  given = accepted (started_with (settings_in s) (marks_read s))
 
-  pub record Accepted : Type 0 where
-    pub version : isOtherVersion s ≡ false
+  pub record IsAccepted : Type 0 where
+    pub version : is_other_version s ≡ false
     pub read : form s ≡ Some (said_in s, [])
-    pub contents : isSetUp (settingsIn s) ≡ true
-    pub marks : areMarks (length (settingsIn s).lamps) (markBytesIn s) ≡ true
+    pub contents : is_set_up (settings_in s) ≡ true
+    pub marks : are_marks (length (settings_in s).lamps) (mark_bytes_in s) ≡ true
 
-  pub loading-by : (P : Given Device → Type 0) → ((n : ℕ) → (n ≡ 0 → ⊥) → P (refused n blank)) → (Accepted → P given)
+  pub loading_by : (P : Given Device → Type 0) → ((n : ℕ) → (n ≡ 0 → ⊥) → P (refused n blank)) → (IsAccepted → P given)
       → P (loaded s)
   unfolding loaded
-  loading-by P refuse accept =
-      let makes = isSetUp (settingsIn s) in
-      let marked = areMarks (length (settingsIn s).lamps) (markBytesIn s) in
-      by_rows (λ n. refused n blank) given P refuse (loadRows s) refl
+  loading_by P refuse accept =
+      let makes = is_set_up (settings_in s) in
+      let marked = are_marks (length (settings_in s).lamps) (mark_bytes_in s) in
+      by_rows_lem (λ n. refused n blank) given P refuse (load_rows s) refl
       (λ none. accept (record {
         version = none.0;
-        read = read-whole (form s) none.1.0 none.1.1.0;
+        read = read_whole (form s) none.1.0 none.1.1.0;
         contents = both_left makes marked (not-false (makes && marked) none.1.1.1.0);
         marks = both_right makes marked (not-false (makes && marked) none.1.1.1.0);
       }))
 
   -- 20, 21, 22, 23, in that order, or 0
-  pub loading-number : (loaded s).number ≡ first_of (loadRows s)
+  pub loading_number : (loaded s).number ≡ first_of (load_rows s)
   unfolding loaded
-  loading-number = rows-number (λ n. refused n blank) given (λ r. r.number) (λ n. refl) refl (loadRows s)
+  loading_number = rows_number (λ n. refused n blank) given (λ r. r.number) (λ n. refl) refl (load_rows s)
 
-  pub refused-load-blank : ((loaded s).number ≡ 0 → ⊥) → (loaded s).device ≡ blank
-  refused-load-blank =
-      loading-by (λ r. (r.number ≡ 0 → ⊥) → r.device ≡ blank) (λ n some k. refl) (λ a k. absurd (k refl))
+  pub refused_load_blank : ((loaded s).number ≡ 0 → ⊥) → (loaded s).device ≡ blank
+  refused_load_blank =
+      loading_by (λ r. (r.number ≡ 0 → ⊥) → r.device ≡ blank) (λ n some k. refl) (λ a k. absurd (k refl))
 
-  pub accepted-told : (loaded s).number ≡ 0 → Accepted
-  accepted-told = loading-by (λ r. r.number ≡ 0 → Accepted) (λ n some e. absurd (some e)) (λ a e. a)
+  pub accepted_told : (loaded s).number ≡ 0 → IsAccepted
+  accepted_told = loading_by (λ r. r.number ≡ 0 → IsAccepted) (λ n some e. absurd (some e)) (λ a e. a)
 
-  pub accepted-set-up : (loaded s).number ≡ 0 → loaded s ≡ accepted (startedWith (settingsIn s) (marksRead s))
-  accepted-set-up = loading-by (λ r. r.number ≡ 0 → r ≡ given) (λ n some e. absurd (some e)) (λ a e. refl)
+  pub accepted_set_up : (loaded s).number ≡ 0 → loaded s ≡ accepted (started_with (settings_in s) (marks_read s))
+  accepted_set_up = loading_by (λ r. r.number ≡ 0 → r ≡ given) (λ n some e. absurd (some e)) (λ a e. refl)
 
-  pub accepted-legal : (loaded s).number ≡ 0 → isLegal (loaded s).device ≡ true
-  accepted-legal e =
-      let told = accepted-told e in
-      ap (λ (c : Given Device). isLegal c.device) (accepted-set-up e)
-      ∙ started-with-legal (settingsIn s) (marksRead s) told.contents
-      (marks-told _ (markBytesIn s) told.marks).legal
+  pub accepted_legal : (loaded s).number ≡ 0 → is_legal (loaded s).device ≡ true
+  accepted_legal e =
+      let told = accepted_told e in
+      ap (λ (c : Given Device). is_legal c.device) (accepted_set_up e)
+      ∙ is_legal-started_with (settings_in s) (marks_read s) told.contents
+      (marks_told _ (mark_bytes_in s) told.marks).legal
 
   -- versions 1 and 2 are of Class 1 (RULES, Class 2)
-  pub older-is-class-1 : eqb (s at 0) formVersion ≡ false → (loaded s).number ≡ 0 → (settingsIn s).class ≡ 1
-  older-is-class-1 older e = (older-said s (said_in s) [] (accepted-told e).read).class older
+  pub older_is_class_1 : ((s at 0) == form_version) ≡ false → (loaded s).number ≡ 0 → (settings_in s).class ≡ 1
+  older_is_class_1 older e = (older_said s (said_in s) [] (accepted_told e).read).class older
 
-  pub one-loading : {r q : Given Device} → r ≡ loaded s → q ≡ loaded s → r ≡ q
-  one-loading e f = one-result e f
+  pub one_loading : {r q : Given Device} → r ≡ loaded s → q ≡ loaded s → r ≡ q
+  one_loading e f = one_result e f

@@ -2,152 +2,147 @@
 -- of its lamps' seconds as they are, each lamp with its mark, with the number 0. What is stored of a fresh set-up is
 -- what it was set up with.
 -- Assumes nothing.
-use Prim.Native.Nat.{ℕ, ◌/◌, ◌≤◌}
-use mathlib.Core.Path.{◌≡◌, refl, sym, ap, ◌∙◌}
-use mathlib.Core.Bool.{Bool, true}
-use mathlib.Core.List.{List, [], ◌∷◌, map}
-use native.Mathlib.Omega.{arith}
-use lib.ListN.{length, take, length-map}
-use lib.Seq.{length-take-le}
-use borrow.Author.Tests.{eq-eqb}
-use Rattle.text.specs.Scans.{every}
+use Rattle.std.specs.List.{list_all}
+use Rattle.std.proofs.Common.{ℕ, ◌/◌, ◌≤◌, ◌≡◌, refl, sym, ap, ◌∙◌, Bool, true, List, [], ◌∷◌, map, arith, length, take}
+use Rattle.std.proofs.Common.{length-take-le, eq-eqb}
+use Rattle.std.proofs.lemmas.List.{length-map}
 use Rattle.text.proofs.Choices.{both, both_left, both_right}
-use Rattle.text.proofs.Scanning.{every_map}
-use Rattle.words.specs.Texts.{isText, isInfo, isPassword, isInputName, infoMost, inputNameMost}
-use Rattle.words.proofs.TextsTold.{name-long, info-long, password-long, input-name-long}
-use Rattle.record.specs.Limits.{textRoom, inputRoom, lampsMost, onlyIn2}
-use Rattle.record.specs.Wanted.{Wanted, wantedIn}
-use Rattle.record.specs.Rules.{isLongEnough, isInputs, isLamps, isMarks, areNames}
-use Rattle.record.specs.Updates.{withOwn, withMarks}
-use Rattle.record.specs.Record.{inRoom, name_of, namesKept, started}
+use Rattle.text.proofs.Scanning.{list_all-map}
+use Rattle.words.specs.Texts.{is_text, is_info, is_password, is_input_name, info_most, input_name_most}
+use Rattle.words.proofs.TextsTold.{name_long, info_long, password_long, input_name_long}
+use Rattle.record.specs.Limits.{text_room, input_room, lamps_most, only_in_2}
+use Rattle.record.specs.Wanted.{Wanted, wanted_in}
+use Rattle.record.specs.Rules.{is_long_enough, is_inputs, is_lamps, is_marks, are_names}
+use Rattle.record.specs.Updates.{with_own, with_marks}
+use Rattle.record.specs.Record.{in_room, name_of, names_kept, started}
 use Rattle.record.specs.Given.{accepted}
-use Rattle.record.specs.Legal.{fillsNameRoom, isLegal}
-use Rattle.record.specs.SetUp.{isSettingInRange, isSetUp}
+use Rattle.record.specs.Legal.{fills_name_room, is_legal}
+use Rattle.record.specs.SetUp.{is_setting_in_range, is_set_up}
 use Rattle.record.specs.declared.types.Device.{Device}
 use Rattle.record.specs.declared.types.Setting.{Setting}
 use Rattle.record.specs.declared.types.Setting.TheVariants.{Name, Maker, Model, Other, Password, Inputs}
 use Rattle.record.specs.declared.types.Setting.TheVariants.{Lamps, WarmUp, Cooling, Serial, Version, Names}
-use Rattle.record.proofs.Kept.{kept-told, kept-length, filled-take}
-use Rattle.record.proofs.Rules.{inputs-few, lamps-few, only-in-2-within, names-many, names-each, names-shown, text-most}
-use Rattle.record.proofs.NamesTold.{names-first}
-use Rattle.record.proofs.SettingsTold.{input-count-high}
-use Rattle.record.proofs.LegalTold.{settings-of-legal, own-of-legal}
-use Rattle.record.proofs.OutOfRange.{each-in-range}
-use Rattle.record.proofs.InRange.{in-range-shown}
-use Rattle.record.proofs.Calls.{set-up-shown}
-use Rattle.record.proofs.Started.{started-parts, inputs-halved}
-use Rattle.stored.specs.Form.{nameStored, storedOf, marksStored, storedForm}
-use Rattle.stored.proofs.FormLong.{stored-long}
-use Rattle.stored.specs.Loading.{markRoom, isMarksOf, startedWith, loaded}
-use Rattle.stored.proofs.MarkBytes.{room-again, room-front}
-use Rattle.stored.proofs.FormsLoad.{form-loads}
+use Rattle.record.proofs.Kept.{kept_told, kept_length, filled_take}
+use Rattle.record.proofs.Rules.{inputs_few, lamps_few, only_in_2_within, names_many, names_each, names_shown, text_most}
+use Rattle.record.proofs.NamesTold.{names_first}
+use Rattle.record.proofs.SettingsTold.{input_count_high}
+use Rattle.record.proofs.LegalTold.{settings_of_legal, own_of_legal}
+use Rattle.record.proofs.OutOfRange.{each_in_range}
+use Rattle.record.proofs.InRange.{in_range_shown}
+use Rattle.record.proofs.Calls.{set_up_shown}
+use Rattle.record.proofs.Started.{started_parts, inputs_halved}
+use Rattle.stored.specs.Form.{name_stored, stored_of, marks_stored, stored_form}
+use Rattle.stored.proofs.FormLong.{stored_long}
+use Rattle.stored.specs.Loading.{mark_room, is_marks_of, started_with, loaded}
+use Rattle.stored.proofs.MarkBytes.{mark_room-take, room_front}
+use Rattle.stored.proofs.FormsLoad.{form_loads}
 use Rattle.record.proofs.FactsTold.{stretch_is}
 
-module _ (d : Device) (h : isLegal d ≡ true) where
-  in-range : (s : Setting) → isSettingInRange (storedOf d) s ≡ true
-  in-range Name = (settings-of-legal d h).name.follows
-  in-range Maker = (settings-of-legal d h).maker.follows
-  in-range Model = (settings-of-legal d h).model.follows
-  in-range Other = (settings-of-legal d h).other.follows
-  in-range Password = (settings-of-legal d h).password.follows
-  in-range Inputs = (settings-of-legal d h).inputs.follows
-  in-range Lamps = (own-of-legal d h).lamps.follows
-  in-range WarmUp = (stretch_is d.settings.warm).1 (settings-of-legal d h).warm
-  in-range Cooling = (stretch_is d.settings.cool).1 (settings-of-legal d h).cool
-  in-range Serial = (settings-of-legal d h).serial.follows
-  in-range Version = (settings-of-legal d h).version.follows
-  in-range Names =
-      let told = settings-of-legal d h in
-      let n = onlyIn2 d.settings.class_number d.settings.input_count in
-      let few = only-in-2-within d.settings.class_number d.settings.input_count in
-      let count : length (storedOf d).inputs / 2
-      ≡ d.settings.input_count = omega (arith, (stored-long d h).inputs) in
+module _ (d : Device) (h : is_legal d ≡ true) where
+  in_range : (s : Setting) → is_setting_in_range (stored_of d) s ≡ true
+  in_range Name = (settings_of_legal d h).name.follows
+  in_range Maker = (settings_of_legal d h).maker.follows
+  in_range Model = (settings_of_legal d h).model.follows
+  in_range Other = (settings_of_legal d h).other.follows
+  in_range Password = (settings_of_legal d h).password.follows
+  in_range Inputs = (settings_of_legal d h).inputs.follows
+  in_range Lamps = (own_of_legal d h).lamps.follows
+  in_range WarmUp = (stretch_is d.settings.warm).1 (settings_of_legal d h).warm
+  in_range Cooling = (stretch_is d.settings.cool).1 (settings_of_legal d h).cool
+  in_range Serial = (settings_of_legal d h).serial.follows
+  in_range Version = (settings_of_legal d h).version.follows
+  in_range Names =
+      let told = settings_of_legal d h in
+      let n = only_in_2 d.settings.class_number d.settings.input_count in
+      let few = only_in_2_within d.settings.class_number d.settings.input_count in
+      let count : length (stored_of d).inputs / 2
+      ≡ d.settings.input_count = omega (arith, (stored_long d h).inputs) in
       let many : length (take n d.settings.names) ≡ n =
       length-take-le n d.settings.names
-      (omega (arith, few, told.names.long, input-count-high d.settings told)) in
-      ap (λ (m : ℕ). areNames (onlyIn2 d.settings.class_number m) (storedOf d).names) count
-      ∙ names-shown n (storedOf d).names (length-map (take n d.settings.names) nameStored ∙ many)
-      (every_map (fillsNameRoom inputNameMost) isInputName nameStored
-      (λ t e. (kept-told inputNameMost isInputName t.bytes t.len e).follows) (take n d.settings.names)
+      (omega (arith, few, told.names.long, input_count_high d.settings told)) in
+      ap (λ (m : ℕ). are_names (only_in_2 d.settings.class_number m) (stored_of d).names) count
+      ∙ names_shown n (stored_of d).names (length-map (take n d.settings.names) name_stored ∙ many)
+      (list_all-map (fills_name_room input_name_most) is_input_name name_stored
+      (λ t e. (kept_told input_name_most is_input_name t.bytes t.len e).follows) (take n d.settings.names)
       told.names.used)
 
-  pub stored-in-range : isSetUp (storedOf d) ≡ true
-  stored-in-range =
-      let told = settings-of-legal d h in
-      let long = ap isLongEnough (kept-length textRoom isPassword _ _ told.password) ∙ told.long_enough in
-      set-up-shown (storedOf d) (in-range-shown (storedOf d) in-range) long
+  pub stored_in_range : is_set_up (stored_of d) ≡ true
+  stored_in_range =
+      let told = settings_of_legal d h in
+      let long = ap is_long_enough (kept_length text_room is_password _ _ told.password) ∙ told.long_enough in
+      set_up_shown (stored_of d) (in_range_shown (stored_of d) in_range) long
 
   abbrev many : ℕ
   many = d.settings.lamp_count
 
-  legal-marks : isMarks many d.own.enabled ≡ true
-  legal-marks = (own-of-legal d h).marks
+  legal_marks : is_marks many d.own.enabled ≡ true
+  legal_marks = (own_of_legal d h).marks
 
   -- each mark as it was
-  pub stored-marks-kept : markRoom (marksStored d) ≡ d.own.enabled
-  stored-marks-kept = room-again many d.own.enabled legal-marks (settings-of-legal d h).lamps
+  pub mark_room-marks_stored : mark_room (marks_stored d) ≡ d.own.enabled
+  mark_room-marks_stored = mark_room-take many d.own.enabled legal_marks (settings_of_legal d h).lamps
 
-  pub stored-marks : isMarksOf (length (storedOf d).lamps) (marksStored d) ≡ true
-  stored-marks =
-      let lamps = (stored-long d h).lamps in
-      both (eq-eqb (length (marksStored d)) (length (storedOf d).lamps) ((stored-long d h).marks ∙ sym lamps))
-      ((λ i. isMarks (lamps i) (stored-marks-kept i)) ∙ legal-marks)
+  pub stored_marks : is_marks_of (length (stored_of d).lamps) (marks_stored d) ≡ true
+  stored_marks =
+      let lamps = (stored_long d h).lamps in
+      both (eq-eqb (length (marks_stored d)) (length (stored_of d).lamps) ((stored_long d h).marks ∙ sym lamps))
+      ((λ i. is_marks (lamps i) (mark_room-marks_stored i)) ∙ legal_marks)
 
-  pub stored-loads : loaded (storedForm d) ≡ accepted (startedWith (storedOf d) (marksStored d))
-  stored-loads = form-loads (storedOf d) stored-in-range (marksStored d) stored-marks
+  pub stored_loads : loaded (stored_form d) ≡ accepted (started_with (stored_of d) (marks_stored d))
+  stored_loads = form_loads (stored_of d) stored_in_range (marks_stored d) stored_marks
 
   -- in the words of the record
-  pub stored-loads-as : loaded (storedForm d)
-      ≡ accepted (withOwn (started (storedOf d)) (withMarks (started (storedOf d)).own d.own.enabled))
-  stored-loads-as =
-      stored-loads
+  pub stored_loads_as : loaded (stored_form d)
+      ≡ accepted (with_own (started (stored_of d)) (with_marks (started (stored_of d)).own d.own.enabled))
+  stored_loads_as =
+      stored_loads
       ∙ ap (λ (ms : List Bool). accepted
-      (withOwn (started (storedOf d)) (withMarks (started (storedOf d)).own ms))) stored-marks-kept
+      (with_own (started (stored_of d)) (with_marks (started (stored_of d)).own ms))) mark_room-marks_stored
 
-module _ (w : Wanted) (ok : isSetUp w ≡ true) where
-  met : (s : Setting) → isSettingInRange w s ≡ true
-  met = each-in-range w ok
+module _ (w : Wanted) (ok : is_set_up w ≡ true) where
+  met : (s : Setting) → is_setting_in_range w s ≡ true
+  met = each_in_range w ok
 
-  text-kept : (t : List ℕ) → length t ≤ textRoom → take (length t) (inRoom textRoom t) ≡ t
-  text-kept t l = filled-take textRoom isInfo t l
+  text_kept : (t : List ℕ) → length t ≤ text_room → take (length t) (in_room text_room t) ≡ t
+  text_kept t l = filled_take text_room is_info t l
 
-  info-kept : (t : List ℕ) → isInfo t ≡ true → take (length t) (inRoom textRoom t) ≡ t
-  info-kept t e = text-kept t (omega (arith, info-long t e))
+  info_kept : (t : List ℕ) → is_info t ≡ true → take (length t) (in_room text_room t) ≡ t
+  info_kept t e = text_kept t (omega (arith, info_long t e))
 
-  in-2-kept : (t : List ℕ) → isText (onlyIn2 w.class infoMost) t ≡ true → take (length t) (inRoom textRoom t) ≡ t
-  in-2-kept t e = text-kept t (omega (arith, text-most t _ e, only-in-2-within w.class infoMost))
+  in_2_kept : (t : List ℕ) → is_text (only_in_2 w.class info_most) t ≡ true → take (length t) (in_room text_room t) ≡ t
+  in_2_kept t e = text_kept t (omega (arith, text_most t _ e, only_in_2_within w.class info_most))
 
-  each-name : (ns : List (List ℕ)) → every isInputName ns ≡ true → map nameStored (map name_of ns) ≡ ns
-  each-name [] e = refl
-  each-name (t ∷ ts) e =
-      (λ i. filled-take inputNameMost isInputName t
-      (input-name-long t (both_left (isInputName t) (every isInputName ts) e)) i
-      ∷ each-name ts (both_right (isInputName t) (every isInputName ts) e) i)
+  each_name : (ns : List (List ℕ)) → list_all is_input_name ns ≡ true → map name_stored (map name_of ns) ≡ ns
+  each_name [] e = refl
+  each_name (t ∷ ts) e =
+      (λ i. filled_take input_name_most is_input_name t
+      (input_name_long t (both_left (is_input_name t) (list_all is_input_name ts) e)) i
+      ∷ each_name ts (both_right (is_input_name t) (list_all is_input_name ts) e) i)
 
-  names-stored : map nameStored (take (onlyIn2 w.class (length w.inputs / 2)) (namesKept w.names)) ≡ w.names
-  names-stored =
-      ap (λ (n : ℕ). map nameStored (take n (namesKept w.names))) (sym (names-many _ w.names (met Names)))
-      ∙ ap (map nameStored) (names-first w.names)
-      ∙ each-name w.names (names-each _ w.names (met Names))
+  names_stored : map name_stored (take (only_in_2 w.class (length w.inputs / 2)) (names_kept w.names)) ≡ w.names
+  names_stored =
+      ap (λ (n : ℕ). map name_stored (take n (names_kept w.names))) (sym (names_many _ w.names (met Names)))
+      ∙ ap (map name_stored) (names_first w.names)
+      ∙ each_name w.names (names_each _ w.names (met Names))
 
-  pub started-stored : storedOf (started w) ≡ w
-  started-stored =
-      ap storedOf (started-parts w)
-      ∙ (λ i. wantedIn w.class
-      (text-kept w.name (name-long w.name (met Name)) i)
-      (info-kept w.maker (met Maker) i)
-      (info-kept w.model (met Model) i)
-      (info-kept w.other (met Other) i)
-      (text-kept w.password (omega (arith, password-long w.password (met Password))) i)
-      ((ap (λ (n : ℕ). take n (inRoom inputRoom w.inputs)) (inputs-halved _ w.inputs (met Inputs))
-      ∙ filled-take inputRoom (isInputs w.class) w.inputs (inputs-few _ w.inputs (met Inputs))) i)
-      (filled-take lampsMost isLamps w.lamps (lamps-few w.lamps (met Lamps)) i)
-      w.warm w.cool (in-2-kept w.serial (met Serial) i) (in-2-kept w.version (met Version) i)
-      (names-stored i))
+  pub started_stored : stored_of (started w) ≡ w
+  started_stored =
+      ap stored_of (started_parts w)
+      ∙ (λ i. wanted_in w.class
+      (text_kept w.name (name_long w.name (met Name)) i)
+      (info_kept w.maker (met Maker) i)
+      (info_kept w.model (met Model) i)
+      (info_kept w.other (met Other) i)
+      (text_kept w.password (omega (arith, password_long w.password (met Password))) i)
+      ((ap (λ (n : ℕ). take n (in_room input_room w.inputs)) (inputs_halved _ w.inputs (met Inputs))
+      ∙ filled_take input_room (is_inputs w.class) w.inputs (inputs_few _ w.inputs (met Inputs))) i)
+      (filled_take lamps_most is_lamps w.lamps (lamps_few w.lamps (met Lamps)) i)
+      w.warm w.cool (in_2_kept w.serial (met Serial) i) (in_2_kept w.version (met Version) i)
+      (names_stored i))
 
   -- and the marks that a load gave it
-  pub started-marks-stored : (ms : List Bool) → length ms ≡ length w.lamps → marksStored (startedWith w ms) ≡ ms
-  started-marks-stored ms many =
-      ap (λ (d : Device). take d.settings.lamp_count (markRoom ms)) (started-parts w)
-      ∙ ap (λ (n : ℕ). take n (markRoom ms)) (sym many)
-      ∙ room-front ms
+  pub marks_stored-started_with : (ms : List Bool) → length ms ≡ length w.lamps → marks_stored (started_with w ms) ≡ ms
+  marks_stored-started_with ms many =
+      ap (λ (d : Device). take d.settings.lamp_count (mark_room ms)) (started_parts w)
+      ∙ ap (λ (n : ℕ). take n (mark_room ms)) (sym many)
+      ∙ room_front ms

@@ -1,19 +1,18 @@
 -- Texts written one after the other, each after its count (RULES, Class 2): none, the first, and one more.
 -- Assumes nothing.
-use Prim.Native.Nat.{ℕ}
-use mathlib.Core.Path.{◌≡◌, refl}
-use mathlib.Core.List.{List, [], ◌∷◌, ◌++◌}
-use Rattle.text.proofs.InTurn.{turns-snoc}
-use Rattle.stored.specs.Form.{textSection, textsBytes}
+use Rattle.std.proofs.Common.{ℕ, ◌≡◌, refl, List, [], ◌∷◌, ◌++◌}
+use Rattle.text.proofs.InTurn.{turns_snoc}
+use Rattle.stored.specs.Form.{text_section, texts_bytes}
 
-pub no-texts : textsBytes [] ≡ []
-unfolding textsBytes
-no-texts = refl
+pub no_texts : texts_bytes [] ≡ []
+unfolding texts_bytes
+no_texts = refl
 
-pub first-text : (t : List ℕ) (ts : List (List ℕ)) → textsBytes (t ∷ ts) ≡ textSection t ++ textsBytes ts
-unfolding textsBytes
-first-text t ts = refl
+pub texts_bytes-cons : (t : List ℕ) (ts : List (List ℕ)) → texts_bytes (t ∷ ts) ≡ text_section t ++ texts_bytes ts
+unfolding texts_bytes
+texts_bytes-cons t ts = refl
 
-pub texts-snoc : (ts : List (List ℕ)) (t : List ℕ) → textsBytes (ts ++ (t ∷ [])) ≡ textsBytes ts ++ textSection t
-unfolding textsBytes
-texts-snoc = turns-snoc textSection
+pub texts_bytes-append : (ts : List (List ℕ)) (t : List ℕ) →
+    texts_bytes (ts ++ (t ∷ [])) ≡ texts_bytes ts ++ text_section t
+unfolding texts_bytes
+texts_bytes-append = turns_snoc text_section

@@ -4,148 +4,149 @@
 -- byte 0 or 1 each, after the lamps .. Each version has one form; the newest is written" (RULES, Lamps). Version 3 has
 -- the class after C in one byte, and in Class 2 a serial number, a version and a name for each input, each after its
 -- count (RULES, Class 2).
---   formVersion               the version byte of the newest form. Still loaded: markedVersion, which has marks and no
---                             class; oldVersion, which has neither
---   section count items       a section: its count, then what is section_of
---   textSection s             of a text, whose items are its bytes
---   secondsBytes xs           the seconds of each lamp, four bytes a lamp
---   markByte m                the byte of a lamp's enabled mark
---   marksSection ms           the section of the marks ms
---   textsBytes ts             texts, each after its count
---   textsOf2 w                the texts of the settings w that Class 2 alone has
---   classPart k ts            the class k, and these texts in Class 2
---   formWith v marks rest w   a form of the settings w: of the version v, which has these bytes after the lamps, these
---                             after C
---   form_of w ms              the newest form: of the settings w, the lamps with the marks ms
---   markedFormOf w ms         version 2's form of the settings w of Class 1;    oldFormOf w    version 1's
---   versionForm v w ms        the form of the version v
---   formMost                  no form is longer
---   textStored t              what is stored of a text: the bytes that it has;    nameStored t    of an input's name
---   storedOf d                what is stored of a record: its settings, and each lamp's seconds as they are now
---   marksStored d             and each lamp's mark
---   storedForm d              the form of both
---   StoredAs                  what storing gives: its number, and the bytes from the start of the lent memory
---   nothingStored n           a refusal: the number n, and no bytes
---   storingRows d room        when it is refused, and with which number: memory is short by this form's own length
---   storedBy d room           refused with no byte, or the form
---   toldStored                the same as the code returns it
+--   form_version               the version byte of the newest form. Still loaded: marked_version, which has marks and
+--                              no
+--                              class; old_version, which has neither
+--   section count items        a section: its count, then what is section_of
+--   text_section s             of a text, whose items are its bytes
+--   seconds_bytes xs           the seconds of each lamp, four bytes a lamp
+--   mark_byte m                the byte of a lamp's enabled mark
+--   marks_section ms           the section of the marks ms
+--   texts_bytes ts             texts, each after its count
+--   texts_in_class_2 w         the texts of the settings w that Class 2 alone has
+--   class_part_text k ts       the class k, and these texts in Class 2
+--   form_with v marks rest w   a form of the settings w: of the version v, which has these bytes after the lamps, these
+--                              after C
+--   form_of w ms               the newest form: of the settings w, the lamps with the marks ms
+--   marked_form_of w ms        version 2's form of the settings w of Class 1;    old_form_of w    version 1's
+--   version_form v w ms        the form of the version v
+--   form_most                  no form is longer
+--   text_stored t              what is stored of a text: the bytes that it has;    name_stored t    of an input's name
+--   stored_of d                what is stored of a record: its settings, and each lamp's seconds as they are now
+--   marks_stored d             and each lamp's mark
+--   stored_form d              the form of both
+--   StoredAs                   what storing gives: its number, and the bytes from the start of the lent memory
+--   nothing_stored n           a refusal: the number n, and no bytes
+--   storing_rows d room        when it is refused, and with which number: memory is short by this form's own length
+--   stored_by d room           refused with no byte, or the form
+--   told_stored                the same as the code returns it
 -- Assumes nothing.
-use Rattle.std.specs.Prelude.{ℕ, ◌*◌, ◌/◌, Bool, true, false, not, List, [], ◌∷◌, ◌++◌, map, length, take, ltb, eqb}
-use Rattle.std.specs.Prelude.{if◌then◌else◌}
-use Rattle.text.specs.InTurn.{eachInTurn}
-use Rattle.text.specs.Rows.{Row, ◌when◌, byRows}
-use Rattle.numbers.specs.HighestFirst.{highestFirst}
-use Rattle.record.specs.Limits.{onlyIn2}
+use Rattle.std.specs.Prelude.{ℕ, ◌*◌, ◌/◌, Bool, true, false, not, List, [], ◌∷◌, ◌++◌, map, length, take}
+use Rattle.std.specs.Prelude.{if◌then◌else◌, nat_lt, ◌==◌}
+use Rattle.text.specs.InTurn.{each_in_turn}
+use Rattle.text.specs.Rows.{Row, ◌when◌, by_rows}
+use Rattle.numbers.specs.HighestFirst.{highest_first}
+use Rattle.record.specs.Limits.{only_in_2}
 use Rattle.record.specs.Wanted.{Wanted}
-use Rattle.record.specs.Legal.{isLegal}
+use Rattle.record.specs.Legal.{is_legal}
 use Rattle.record.specs.declared.types.Text.{Text}
 use Rattle.record.specs.declared.types.InputName.{InputName}
 use Rattle.record.specs.declared.types.Device.{Device}
 use Rattle.stored.specs.declared.storing.FormWritten.{FormWritten}
 
-abbrev pub formVersion : ℕ
-formVersion = 3
+abbrev pub form_version : ℕ
+form_version = 3
 
-abbrev pub markedVersion : ℕ
-markedVersion = 2
+abbrev pub marked_version : ℕ
+marked_version = 2
 
-abbrev pub oldVersion : ℕ
-oldVersion = 1
+abbrev pub old_version : ℕ
+old_version = 1
 
 abbrev pub section : ℕ → List ℕ → List ℕ
 section count items = count ∷ items
 
-abbrev pub textSection : List ℕ → List ℕ
-textSection s = section (length s) s
+abbrev pub text_section : List ℕ → List ℕ
+text_section s = section (length s) s
 
-unfoldable pub secondsBytes : List ℕ → List ℕ
-secondsBytes xs = eachInTurn (highestFirst 4) xs
+unfoldable pub seconds_bytes : List ℕ → List ℕ
+seconds_bytes xs = each_in_turn (highest_first 4) xs
 
-abbrev pub markByte : Bool → ℕ
-markByte false = 0
-markByte true = 1
+abbrev pub mark_byte : Bool → ℕ
+mark_byte false = 0
+mark_byte true = 1
 
-abbrev pub marksSection : List Bool → List ℕ
-marksSection ms = section (length ms) (map markByte ms)
+abbrev pub marks_section : List Bool → List ℕ
+marks_section ms = section (length ms) (map mark_byte ms)
 
-unfoldable pub textsBytes : List (List ℕ) → List ℕ
-textsBytes ts = eachInTurn textSection ts
+unfoldable pub texts_bytes : List (List ℕ) → List ℕ
+texts_bytes ts = each_in_turn text_section ts
 
-abbrev pub textsOf2 : Wanted → List (List ℕ)
-textsOf2 w = w.serial ∷ w.version ∷ w.names
+abbrev pub texts_in_class_2 : Wanted → List (List ℕ)
+texts_in_class_2 w = w.serial ∷ w.version ∷ w.names
 
-unfoldable pub classPart : ℕ → List (List ℕ) → List ℕ
-classPart k ts = k ∷ (if eqb k 2 then textsBytes ts else [])
+unfoldable pub class_part_text : ℕ → List (List ℕ) → List ℕ
+class_part_text k ts = k ∷ (if k == 2 then texts_bytes ts else [])
 
-unfoldable pub formWith : ℕ → List ℕ → List ℕ → Wanted → List ℕ
-formWith version marks rest w =
+unfoldable pub form_with : ℕ → List ℕ → List ℕ → Wanted → List ℕ
+form_with version marks rest w =
     version
-    ∷ (textSection w.name ++ textSection w.maker ++ textSection w.model ++ textSection w.other
-    ++ textSection w.password ++ section (length w.inputs / 2) w.inputs
-    ++ section (length w.lamps) (secondsBytes w.lamps) ++ marks
-    ++ highestFirst 2 w.warm ++ highestFirst 2 w.cool ++ rest)
+    ∷ (text_section w.name ++ text_section w.maker ++ text_section w.model ++ text_section w.other
+    ++ text_section w.password ++ section (length w.inputs / 2) w.inputs
+    ++ section (length w.lamps) (seconds_bytes w.lamps) ++ marks
+    ++ highest_first 2 w.warm ++ highest_first 2 w.cool ++ rest)
 
 abbrev pub form_of : Wanted → List Bool → List ℕ
-form_of w ms = formWith formVersion (marksSection ms) (classPart w.class (textsOf2 w)) w
+form_of w ms = form_with form_version (marks_section ms) (class_part_text w.class (texts_in_class_2 w)) w
 
-abbrev pub markedFormOf : Wanted → List Bool → List ℕ
-markedFormOf w ms = formWith markedVersion (marksSection ms) [] w
+abbrev pub marked_form_of : Wanted → List Bool → List ℕ
+marked_form_of w ms = form_with marked_version (marks_section ms) [] w
 
-abbrev pub oldFormOf : Wanted → List ℕ
-oldFormOf w = formWith oldVersion [] [] w
+abbrev pub old_form_of : Wanted → List ℕ
+old_form_of w = form_with old_version [] [] w
 
-abbrev pub versionForm : ℕ → Wanted → List Bool → List ℕ
-versionForm v w ms =
-    formWith v (if eqb v oldVersion then [] else marksSection ms)
-    (if eqb v formVersion then classPart w.class (textsOf2 w) else []) w
+abbrev pub version_form : ℕ → Wanted → List Bool → List ℕ
+version_form v w ms =
+    form_with v (if v == old_version then [] else marks_section ms)
+    (if v == form_version then class_part_text w.class (texts_in_class_2 w) else []) w
 
 -- a version; a name of 64 bytes; three texts and a password of 32; 32 inputs; 8 lamps and their marks; W and C; the
 -- class; two texts of 32 bytes, and 32 names of 128
-abbrev pub formMost : ℕ
-formMost = 4504
+abbrev pub form_most : ℕ
+form_most = 4504
 
-abbrev pub textStored : Text → List ℕ
-textStored t = take t.len t.bytes
+abbrev pub text_stored : Text → List ℕ
+text_stored t = take t.len t.bytes
 
-abbrev pub nameStored : InputName → List ℕ
-nameStored t = take t.len t.bytes
+abbrev pub name_stored : InputName → List ℕ
+name_stored t = take t.len t.bytes
 
-abbrev pub storedOf : Device → Wanted
-storedOf d = record {
-  name = textStored d.settings.name;
-  maker = textStored d.settings.maker;
-  model = textStored d.settings.model;
-  other = textStored d.settings.other;
-  password = textStored d.settings.password;
+abbrev pub stored_of : Device → Wanted
+stored_of d = record {
+  name = text_stored d.settings.name;
+  maker = text_stored d.settings.maker;
+  model = text_stored d.settings.model;
+  other = text_stored d.settings.other;
+  password = text_stored d.settings.password;
   inputs = take (2 * d.settings.input_count) d.settings.inputs;
   lamps = take d.settings.lamp_count d.own.lamps;
   warm = d.settings.warm;
   cool = d.settings.cool;
   class = d.settings.class_number;
-  serial = textStored d.settings.serial;
-  version = textStored d.settings.version;
-  names = map nameStored
-      (take (onlyIn2 d.settings.class_number d.settings.input_count) d.settings.names);
+  serial = text_stored d.settings.serial;
+  version = text_stored d.settings.version;
+  names = map name_stored
+      (take (only_in_2 d.settings.class_number d.settings.input_count) d.settings.names);
 }
 
-abbrev pub marksStored : Device → List Bool
-marksStored d = take d.settings.lamp_count d.own.enabled
+abbrev pub marks_stored : Device → List Bool
+marks_stored d = take d.settings.lamp_count d.own.enabled
 
-abbrev pub storedForm : Device → List ℕ
-storedForm d = form_of (storedOf d) (marksStored d)
+abbrev pub stored_form : Device → List ℕ
+stored_form d = form_of (stored_of d) (marks_stored d)
 
 pub record StoredAs : Type 0 where
   pub number : ℕ
   pub bytes : List ℕ
 
-abbrev pub nothingStored : ℕ → StoredAs
-nothingStored n = record { number = n; bytes = [] }
+abbrev pub nothing_stored : ℕ → StoredAs
+nothing_stored n = record { number = n; bytes = [] }
 
-abbrev pub storingRows : Device → ℕ → List Row
-storingRows d room = (1 when not (isLegal d)) ∷ (2 when ltb room (length (storedForm d))) ∷ []
+abbrev pub storing_rows : Device → ℕ → List Row
+storing_rows d room = (1 when not (is_legal d)) ∷ (2 when nat_lt room (length (stored_form d))) ∷ []
 
-unfoldable pub storedBy : Device → ℕ → StoredAs
-storedBy d room = byRows (storingRows d room) nothingStored (record { number = 0; bytes = storedForm d })
+unfoldable pub stored_by : Device → ℕ → StoredAs
+stored_by d room = by_rows (storing_rows d room) nothing_stored (record { number = 0; bytes = stored_form d })
 
-abbrev pub toldStored : StoredAs → FormWritten
-toldStored s = record { number = s.number; length = length s.bytes }
+abbrev pub told_stored : StoredAs → FormWritten
+told_stored s = record { number = s.number; length = length s.bytes }

@@ -7,18 +7,18 @@
 --   number n             a number of so many bytes, the highest first
 --   section_of width     items of so many bytes each, after their count in one byte;    text    of one byte each
 --   texts n              so many texts, one after the other
---   secondsIn n s        the first n numbers of four bytes in s
+--   seconds_in n s       the first n numbers of four bytes in s
 --   ClassPart            the class, and what Class 2 alone has;    alone k    the class k, which has nothing more
 --   class_part n         both, where there are n inputs;    class_in v n    in the version v: the older are of Class 1
 --   marks_of v n         the bytes of n lamps' marks: each 1 in the version that has none
 --   FormSaid             what a form says: the settings, the lamps' seconds among them, and the bytes of the marks
 --   form                 the form, of whatever version
 -- Assumes nothing.
-use Rattle.std.specs.Prelude.{ℕ, zero, suc, ◌*◌, ◌/◌, List, [], ◌∷◌, length, take, drop, replicate, ltb, eqb}
-use Rattle.std.specs.Prelude.{Option, Some, None, if◌then◌else◌}
+use Rattle.std.specs.Prelude.{ℕ, zero, suc, ◌*◌, ◌/◌, List, [], ◌∷◌, length, take, drop, replicate}
+use Rattle.std.specs.Prelude.{Option, Some, None, if◌then◌else◌, nat_lt, ◌==◌}
 use Rattle.numbers.specs.HighestFirst.{number_in}
-use Rattle.record.specs.Wanted.{Wanted, wantedIn}
-use Rattle.stored.specs.Form.{formVersion, oldVersion}
+use Rattle.record.specs.Wanted.{Wanted, wanted_in}
+use Rattle.stored.specs.Form.{form_version, old_version}
 
 abbrev pub Field : Type 0 → Type 0
 Field A = List ℕ → Option (A × List ℕ)
@@ -39,7 +39,7 @@ byte [] = None
 byte (b ∷ s) = Some (b, s)
 
 unfoldable pub bytes : ℕ → Field (List ℕ)
-bytes n s = if ltb (length s) n then None else Some (take n s, drop n s)
+bytes n s = if nat_lt (length s) n then None else Some (take n s, drop n s)
 
 unfoldable pub number : ℕ → Field ℕ
 number n =
@@ -61,9 +61,9 @@ texts (suc n) =
     texts n giving λ ts.
     given (t ∷ ts)
 
-unfoldable pub secondsIn : ℕ → List ℕ → List ℕ
-secondsIn zero s = []
-secondsIn (suc n) s = number_in (take 4 s) ∷ secondsIn n (drop 4 s)
+unfoldable pub seconds_in : ℕ → List ℕ → List ℕ
+seconds_in zero s = []
+seconds_in (suc n) s = number_in (take 4 s) ∷ seconds_in n (drop 4 s)
 
 pub record ClassPart : Type 0 where
   pub class : ℕ
@@ -84,13 +84,13 @@ texts_of_2 n =
 unfoldable pub class_part : ℕ → Field ClassPart
 class_part n =
     byte giving λ k.
-    if eqb k 2 then texts_of_2 n else given (alone k)
+    if k == 2 then texts_of_2 n else given (alone k)
 
 unfoldable pub class_in : ℕ → ℕ → Field ClassPart
-class_in v n = if eqb v formVersion then class_part n else given (alone 1)
+class_in v n = if v == form_version then class_part n else given (alone 1)
 
 unfoldable pub marks_of : ℕ → ℕ → Field (List ℕ)
-marks_of v n = if eqb v oldVersion then given (replicate n 1) else text
+marks_of v n = if v == old_version then given (replicate n 1) else text
 
 pub record FormSaid : Type 0 where
   pub settings : Wanted
@@ -111,7 +111,7 @@ form =
     number 2 giving λ cool.
     class_in v (length inputs / 2) giving λ rest.
     given (record {
-      settings = wantedIn rest.class name maker model other password inputs (secondsIn (length lamps / 4) lamps)
+      settings = wanted_in rest.class name maker model other password inputs (seconds_in (length lamps / 4) lamps)
           warm cool rest.serial rest.version rest.names;
       marks = marks;
     })

@@ -4,15 +4,15 @@
 --   class_lent c              the class that set-up is lent, with what it has
 --   said_of f                 what a form says
 -- Assumes nothing.
-use Rattle.std.specs.Prelude.{ℕ, ◌/◌, List, length, replicate, eqb, if◌then◌else◌}
-use Rattle.std.specs.Prelude.{Option, Some, None}
+use Rattle.std.specs.Prelude.{ℕ, ◌/◌, List, length, replicate, if◌then◌else◌}
+use Rattle.std.specs.Prelude.{Option, Some, None, ◌==◌}
 use Rattle.std.specs.Borrow.{Bor}
-use Rattle.record.specs.Wanted.{wantedIn, countedIn}
+use Rattle.record.specs.Wanted.{wanted_in, counted_in}
 use Rattle.setup.specs.Lent.{class_number, serial_of, version_of, names_of}
 use Rattle.setup.specs.declared.wanted.Class.{Class}
 use Rattle.stored.specs.declared.form.Rest.{Rest}
 use Rattle.stored.specs.declared.form.Form.{Form}
-use Rattle.stored.specs.Reading.{ClassPart, alone, FormSaid, secondsIn}
+use Rattle.stored.specs.Reading.{ClassPart, alone, FormSaid, seconds_in}
 
 abbrev pub marks_said : ℕ → Option (Bor (List ℕ)) → List ℕ
 marks_said n None = replicate n 1
@@ -20,8 +20,8 @@ marks_said n (Some m) = m.now
 
 abbrev pub class_said : ℕ → Rest → ClassPart
 class_said n r =
-    if eqb r.class 2
-    then record { class = 2; serial = r.serial.now; version = r.version.now; names = countedIn n r.names.now }
+    if r.class == 2
+    then record { class = 2; serial = r.serial.now; version = r.version.now; names = counted_in n r.names.now }
     else alone r.class
 
 abbrev pub class_lent : Class → ClassPart
@@ -31,7 +31,7 @@ abbrev pub said_of : Form → FormSaid
 said_of f =
     let rest = class_said (length f.inputs.now / 2) f.rest in
     record {
-      settings = wantedIn rest.class f.name.now f.maker.now f.model.now f.other.now f.password.now f.inputs.now
-          (secondsIn (length f.lamps.now / 4) f.lamps.now) f.warm f.cool rest.serial rest.version rest.names;
+      settings = wanted_in rest.class f.name.now f.maker.now f.model.now f.other.now f.password.now f.inputs.now
+          (seconds_in (length f.lamps.now / 4) f.lamps.now) f.warm f.cool rest.serial rest.version rest.names;
       marks = marks_said (length f.lamps.now / 4) f.marks;
     }

@@ -1,6 +1,6 @@
 // A stored form, read from left to right as its grammar has it (RULES, Stored form, Lamps and Class 2).
 ghost use Rattle.std.specs.Prelude.{◌≡◌, false, IfSome, IsNone};
-ghost use Rattle.record.specs.Limits.{isClass};
+ghost use Rattle.record.specs.Limits.{is_class_number};
 ghost use Rattle.stored.specs.Reading.{texts_of_2, class_part, class_in, marks_of, form};
 ghost use Rattle.stored.specs.Reads.{Reads};
 ghost use Rattle.stored.specs.Views.{marks_said, class_said, class_lent, said_of};
@@ -56,7 +56,7 @@ impl<'a> Rest<'a> {
     /// The class with what it has of n inputs, if there is such a class.
     pub fn class(&self, n: usize) -> Option<Class<'a>>
         ensures lent { IfSome result (λ c. class_lent c ≡ class_said n self.now) }
-        ensures none { IsNone result → isClass self.now.class ≡ false }
+        ensures none { IsNone result → is_class_number self.now.class ≡ false }
     {
         match self.class {
             1 => Some(Class::One),

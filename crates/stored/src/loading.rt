@@ -2,13 +2,13 @@
 // what it says. The record is made where it lies, so that no copy of it is on the stack.
 ghost use Rattle.std.specs.Prelude.{◌≡◌, ◌/◌, ◌≤◌, true, map, length, OnErr};
 ghost use Rattle.std.specs.Result.{result_ok};
-ghost use Rattle.record.specs.Limits.{lampsMost};
-ghost use Rattle.record.specs.Record.{inRoom, blank};
-ghost use Rattle.record.specs.Updates.{withOwn, withMarks};
-ghost use Rattle.record.specs.Legal.{isLegal};
+ghost use Rattle.record.specs.Limits.{lamps_most};
+ghost use Rattle.record.specs.Record.{in_room, blank};
+ghost use Rattle.record.specs.Updates.{with_own, with_marks};
+ghost use Rattle.record.specs.Legal.{is_legal};
 ghost use Rattle.record.specs.Given.{gives};
-ghost use Rattle.stored.specs.Reading.{secondsIn};
-ghost use Rattle.stored.specs.Loading.{isOtherVersion, isMarked, markRoom, areMarks, device_of, contents, loaded};
+ghost use Rattle.stored.specs.Reading.{seconds_in};
+ghost use Rattle.stored.specs.Loading.{is_other_version, is_marked, mark_room, are_marks, device_of, contents, loaded};
 ghost use Rattle.stored.specs.Told.{loading_told};
 ghost use Rattle.stored.specs.Views.{said_of};
 
@@ -23,7 +23,7 @@ use record::{fresh, scan};
 use setup::wanted::Wanted;
 
 fn is_other_version(bytes: &[u8]) -> bool
-    ensures { result ≡ isOtherVersion bytes.now }
+    ensures { result ≡ is_other_version bytes.now }
 {
     match bytes {
         [] => false,
@@ -35,8 +35,8 @@ fn is_other_version(bytes: &[u8]) -> bool
 
 // The seconds of lamps, four bytes each, in their room.
 fn seconds_of(bytes: &[u8]) -> [u32; LAMPS_MOST]
-    requires { length bytes.now / 4 ≤ lampsMost }
-    ensures { result ≡ inRoom lampsMost (secondsIn (length bytes.now / 4) bytes.now) }
+    requires { length bytes.now / 4 ≤ lamps_most }
+    ensures { result ≡ in_room lamps_most (seconds_in (length bytes.now / 4) bytes.now) }
 {
     let mut list = [0u32; LAMPS_MOST];
     for i in 0..bytes.len() / 4 {
@@ -47,8 +47,8 @@ fn seconds_of(bytes: &[u8]) -> [u32; LAMPS_MOST]
 
 // The marks that the bytes are, in their room.
 fn marks_of(bytes: &[u8]) -> [bool; LAMPS_MOST]
-    requires { length bytes.now ≤ lampsMost }
-    ensures { result ≡ markRoom (map isMarked bytes.now) }
+    requires { length bytes.now ≤ lamps_most }
+    ensures { result ≡ mark_room (map is_marked bytes.now) }
 {
     let mut list = [false; LAMPS_MOST];
     for (i, b) in bytes.iter().enumerate() {
@@ -60,10 +60,10 @@ fn marks_of(bytes: &[u8]) -> [bool; LAMPS_MOST]
 // The marks that the bytes are, if they are marks of its lamps, and whether they are: the record's own test says which
 // marks are legal.
 fn enable(device: &mut Device, bytes: &[u8]) -> bool
-    requires { isLegal device.old ≡ true }
-    ensures value { result ≡ areMarks device.old.settings.lamp_count bytes.now }
+    requires { is_legal device.old ≡ true }
+    ensures value { result ≡ are_marks device.old.settings.lamp_count bytes.now }
     ensures device { result ≡ true
-        → device.new ≡ withOwn device.old (withMarks device.old.own (markRoom (map isMarked bytes.now))) }
+        → device.new ≡ with_own device.old (with_marks device.old.own (mark_room (map is_marked bytes.now))) }
 {
     if bytes.len() != device.settings.lamp_count {
         return false;

@@ -1,7 +1,7 @@
 // What is left to read of a stored form (RULES, Stored form): each method takes one field from its front. Where the
 // bytes end before the field does, they are cut short, and the reader is not used again.
 ghost use Rattle.std.specs.Prelude.{◌≡◌, ◌*◌, ◌==◌, ◌≤◌, IfOk, length};
-ghost use Rattle.record.specs.Wanted.{countedIn};
+ghost use Rattle.record.specs.Wanted.{counted_in};
 ghost use Rattle.stored.specs.Reading.{byte, bytes, number, section_of, text, texts};
 ghost use Rattle.stored.specs.Reads.{Reads};
 
@@ -79,7 +79,7 @@ impl<'a> Reader<'a> {
     pub fn section(&mut self, width: usize) -> Result<&'a [u8], LoadError>
         requires { width ≤ 4 }
         ensures read { Reads (λ s. s.now) result self.new (section_of width self.old) }
-        ensures upper_bound { IfOk result (λ s. length s.now ≤ 255 * width) }
+        ensures bound { IfOk result (λ s. length s.now ≤ 255 * width) }
     {
         let n = self.byte()?;
         let s = self.bytes(width * n as usize)?;
@@ -95,7 +95,7 @@ impl<'a> Reader<'a> {
 
     /// So many texts, one after the other, each with its count before it.
     pub fn texts(&mut self, n: usize) -> Result<&'a [u8], LoadError>
-        ensures { Reads (λ s. countedIn n s.now) result self.new (texts n self.old) }
+        ensures { Reads (λ s. counted_in n s.now) result self.new (texts n self.old) }
     {
         let whole = self.rest;
         for _ in 0..n {

@@ -3,12 +3,12 @@
 ghost use Rattle.std.specs.Prelude.{◌≡◌, true, ◌∷◌, ◌++◌, map, ◌+◌, ◌*◌, ◌≤◌, length, take};
 ghost use Rattle.std.proofs.lemmas.List.Edits.{sets};
 ghost use Rattle.text.specs.Words.{over};
-ghost use Rattle.numbers.specs.HighestFirst.{highestFirst};
-ghost use Rattle.record.specs.Limits.{textRoom, listedMost, onlyIn2};
-ghost use Rattle.record.specs.Legal.{isNames, isSettings, isLegal};
-ghost use Rattle.stored.specs.Form.{formVersion, section, textSection, secondsBytes, textStored};
-ghost use Rattle.stored.specs.Form.{markByte, classPart, nameStored, storedForm, storedBy};
-ghost use Rattle.stored.specs.Form.{toldStored};
+ghost use Rattle.numbers.specs.HighestFirst.{highest_first};
+ghost use Rattle.record.specs.Limits.{text_room, listed_most, only_in_2};
+ghost use Rattle.record.specs.Legal.{is_names, is_settings, is_legal};
+ghost use Rattle.stored.specs.Form.{form_version, section, text_section, seconds_bytes, text_stored};
+ghost use Rattle.stored.specs.Form.{mark_byte, class_part_text, name_stored, stored_form, stored_by};
+ghost use Rattle.stored.specs.Form.{told_stored};
 
 use crate::writing;
 use numbers::highest;
@@ -32,13 +32,13 @@ fn rest_length(
     version: Text,
     names: &[InputName; INPUTS_MOST],
 ) -> usize
-    requires names_value { isNames (onlyIn2 class n) names.now ≡ true }
-    requires n_le_listed_most { n ≤ listedMost }
-    requires len_le_text_room { serial.len ≤ textRoom }
-    requires len_le_text_room_2 { version.len ≤ textRoom }
-    ensures value { result ≡ length (classPart class (textStored serial ∷ textStored version
-        ∷ map nameStored (take (onlyIn2 class n) names.now))) }
-    ensures upper_bound { result ≤ 4300 }
+    requires legal_names { is_names (only_in_2 class n) names.now ≡ true }
+    requires few_inputs { n ≤ listed_most }
+    requires text_short { serial.len ≤ text_room }
+    requires version_short { version.len ≤ text_room }
+    ensures value { result ≡ length (class_part_text class (text_stored serial ∷ text_stored version
+        ∷ map name_stored (take (only_in_2 class n) names.now))) }
+    ensures bound { result ≤ 4300 }
 {
     if class != 2 {
         return 1;
@@ -56,14 +56,14 @@ fn put_rest(
     version: Text,
     names: &[InputName; INPUTS_MOST],
 )
-    requires names_value { isNames (onlyIn2 class n) names.now ≡ true }
-    requires n_le_listed_most { n ≤ listedMost }
-    requires len_le_text_room { serial.len ≤ textRoom }
-    requires len_le_text_room_2 { version.len ≤ textRoom }
-    requires names_in_bounds { p + length (classPart class (textStored serial ∷ textStored version
-        ∷ map nameStored (take (onlyIn2 class n) names.now))) ≤ length out.old }
-    ensures { out.new ≡ sets out.old p (classPart class (textStored serial
-        ∷ textStored version ∷ map nameStored (take (onlyIn2 class n) names.now))) }
+    requires legal_names { is_names (only_in_2 class n) names.now ≡ true }
+    requires few_inputs { n ≤ listed_most }
+    requires text_short { serial.len ≤ text_room }
+    requires version_short { version.len ≤ text_room }
+    requires names_fit { p + length (class_part_text class (text_stored serial ∷ text_stored version
+        ∷ map name_stored (take (only_in_2 class n) names.now))) ≤ length out.old }
+    ensures { out.new ≡ sets out.old p (class_part_text class (text_stored serial
+        ∷ text_stored version ∷ map name_stored (take (only_in_2 class n) names.now))) }
 {
     let lead = [class];
     text::put(out, p, &lead);
@@ -77,8 +77,8 @@ fn put_rest(
 
 // The length of the form of a legal record.
 fn form_length(d: &Device) -> usize
-    requires { isLegal d.now ≡ true }
-    ensures { result ≡ length (storedForm d.now) }
+    requires { is_legal d.now ≡ true }
+    ensures { result ≡ length (stored_form d.now) }
 {
     let s = &d.settings;
     let texts = s.name.len + s.maker.len + s.model.len + s.other.len + s.password.len;
@@ -88,15 +88,15 @@ fn form_length(d: &Device) -> usize
 
 // The version and the texts. Returns the place after them.
 fn put_texts(out: &mut [u8], s: &Settings) -> usize
-    requires s_value { isSettings s.now ≡ true }
-    requires len_in_bounds { 6 + (s.now.name.len + s.now.maker.len + s.now.model.len
+    requires legal_settings { is_settings s.now ≡ true }
+    requires fits { 6 + (s.now.name.len + s.now.maker.len + s.now.model.len
         + s.now.other.len + s.now.password.len)
         ≤ length out.old }
     ensures value { result ≡ 6 + (s.now.name.len + s.now.maker.len + s.now.model.len
         + s.now.other.len + s.now.password.len) }
-    ensures out_after { out.new ≡ sets out.old 0 (formVersion ∷ (textSection (textStored s.now.name)
-        ++ textSection (textStored s.now.maker) ++ textSection (textStored s.now.model)
-        ++ textSection (textStored s.now.other) ++ textSection (textStored s.now.password))) }
+    ensures written { out.new ≡ sets out.old 0 (form_version ∷ (text_section (text_stored s.now.name)
+        ++ text_section (text_stored s.now.maker) ++ text_section (text_stored s.now.model)
+        ++ text_section (text_stored s.now.other) ++ text_section (text_stored s.now.password))) }
 {
     let version = [VERSION];
     text::put(out, 0, &version);
@@ -115,13 +115,13 @@ fn put_lists(
     lamps: &[u32; LAMPS_MOST],
     marks: &[bool; LAMPS_MOST],
 ) -> usize
-    requires s_value { isSettings s.now ≡ true }
-    requires lamp_count_in_bounds { p + 7 + 2 * s.now.input_count + 5 * s.now.lamp_count ≤ length out.old }
+    requires legal_settings { is_settings s.now ≡ true }
+    requires lists_fit { p + 7 + 2 * s.now.input_count + 5 * s.now.lamp_count ≤ length out.old }
     ensures value { result ≡ p + 7 + 2 * s.now.input_count + 5 * s.now.lamp_count }
-    ensures out_after { out.new ≡ sets out.old p (section s.now.input_count
+    ensures written { out.new ≡ sets out.old p (section s.now.input_count
         (take (2 * s.now.input_count) s.now.inputs) ++ section s.now.lamp_count
-        (secondsBytes (take s.now.lamp_count lamps.now)) ++ section s.now.lamp_count
-        (map markByte (take s.now.lamp_count marks.now)) ++ highestFirst 2 s.now.warm ++ highestFirst 2 s.now.cool) }
+        (seconds_bytes (take s.now.lamp_count lamps.now)) ++ section s.now.lamp_count
+        (map mark_byte (take s.now.lamp_count marks.now)) ++ highest_first 2 s.now.warm ++ highest_first 2 s.now.cool) }
 {
     let count = s.input_count;
     let n = s.lamp_count;
@@ -142,9 +142,9 @@ fn put_lists(
 
 // The form of a legal record from the start of memory that has room for it.
 fn put_form(out: &mut [u8], d: &Device)
-    requires d_value { isLegal d.now ≡ true }
-    requires d_in_bounds { length (storedForm d.now) ≤ length out.old }
-    ensures { out.new ≡ over (storedForm d.now) out.old }
+    requires legal { is_legal d.now ≡ true }
+    requires form_fits { length (stored_form d.now) ≤ length out.old }
+    ensures { out.new ≡ over (stored_form d.now) out.old }
 {
     let settings = &d.settings;
     let lists = put_texts(out, settings);
@@ -162,8 +162,8 @@ fn put_form(out: &mut [u8], d: &Device)
 
 // 1 for a record that is not legal, then 2 for memory shorter than the form.
 pub fn store(d: &Device, out: &mut [u8]) -> FormWritten
-    ensures value { result ≡ toldStored (storedBy d.now (length out.old)) }
-    ensures out_after { out.new ≡ over (storedBy d.now (length out.old)).bytes out.old }
+    ensures value { result ≡ told_stored (stored_by d.now (length out.old)) }
+    ensures written { out.new ≡ over (stored_by d.now (length out.old)).bytes out.old }
 {
     if !d.is_legal() {
         return FormWritten {

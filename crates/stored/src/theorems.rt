@@ -2,44 +2,45 @@
 // is that the theorems stand.
 ghost use Rattle.std.specs.Prelude.{◌≡◌, ◌<◌, ◌≤◌, ◌∷◌, ◌++◌, true, List, Bool, ℕ, length, take, Result};
 ghost use Rattle.record.specs.Wanted.{Wanted};
-ghost use Rattle.record.specs.SetUp.{isSetUp};
+ghost use Rattle.record.specs.SetUp.{is_set_up};
 ghost use Rattle.record.specs.Given.{Given};
 ghost use Rattle.text.specs.Words.{over};
-ghost use Rattle.stored.specs.Form.{form_of, markedFormOf, oldFormOf, storedForm, formMost, storedBy, toldStored};
+ghost use Rattle.stored.specs.Form.{form_of, marked_form_of, old_form_of, stored_form, form_most, stored_by};
+ghost use Rattle.stored.specs.Form.{told_stored};
 ghost use Rattle.stored.specs.declared.storing.FormWritten.{FormWritten};
 ghost use Rattle.stored.specs.Loading.{loaded};
 ghost use Rattle.record.specs.declared.types.Device.{Device};
-ghost use Rattle.record.specs.Legal.{isLegal};
+ghost use Rattle.record.specs.Legal.{is_legal};
 ghost use Rattle.stored.specs.declared.error.LoadError.{LoadError};
 ghost use Rattle.stored.specs.Told.{loading_told};
 
 /// A form of any version that is cut anywhere is 21, and one with more after it 22.
 pub fn a_form_is_whole()
-    ensures cut_short { (w : Wanted) → isSetUp w ≡ true → (ms : List Bool) (k : ℕ) → k < length (form_of w ms)
+    ensures cut_short { (w : Wanted) → is_set_up w ≡ true → (ms : List Bool) (k : ℕ) → k < length (form_of w ms)
         → (loaded (take k (form_of w ms))).number ≡ 21 }
-    ensures cut_short_marked { (w : Wanted) → isSetUp w ≡ true → w.class ≡ 1 → (ms : List Bool) (k : ℕ)
-        → k < length (markedFormOf w ms) → (loaded (take k (markedFormOf w ms))).number ≡ 21 }
-    ensures cut_short_old { (w : Wanted) → isSetUp w ≡ true → w.class ≡ 1 → (k : ℕ) → k < length (oldFormOf w)
-        → (loaded (take k (oldFormOf w))).number ≡ 21 }
-    ensures left_over { (w : Wanted) → isSetUp w ≡ true → (ms : List Bool) (x : ℕ) (xs : List ℕ)
+    ensures cut_short_marked { (w : Wanted) → is_set_up w ≡ true → w.class ≡ 1 → (ms : List Bool) (k : ℕ)
+        → k < length (marked_form_of w ms) → (loaded (take k (marked_form_of w ms))).number ≡ 21 }
+    ensures cut_short_old { (w : Wanted) → is_set_up w ≡ true → w.class ≡ 1 → (k : ℕ) → k < length (old_form_of w)
+        → (loaded (take k (old_form_of w))).number ≡ 21 }
+    ensures left_over { (w : Wanted) → is_set_up w ≡ true → (ms : List Bool) (x : ℕ) (xs : List ℕ)
         → (loaded (form_of w ms ++ x ∷ xs)).number ≡ 22 }
-    ensures left_over_marked { (w : Wanted) → isSetUp w ≡ true → w.class ≡ 1 → (ms : List Bool) (x : ℕ) (xs : List ℕ)
-        → (loaded (markedFormOf w ms ++ x ∷ xs)).number ≡ 22 }
-    ensures left_over_old { (w : Wanted) → isSetUp w ≡ true → w.class ≡ 1 → (x : ℕ) (xs : List ℕ)
-        → (loaded (oldFormOf w ++ x ∷ xs)).number ≡ 22 }
+    ensures left_over_marked { (w : Wanted) → is_set_up w ≡ true → w.class ≡ 1 → (ms : List Bool) (x : ℕ) (xs : List ℕ)
+        → (loaded (marked_form_of w ms ++ x ∷ xs)).number ≡ 22 }
+    ensures left_over_old { (w : Wanted) → is_set_up w ≡ true → w.class ≡ 1 → (x : ℕ) (xs : List ℕ)
+        → (loaded (old_form_of w ++ x ∷ xs)).number ≡ 22 }
 {}
 
 /// Memory of this size is never too short for the form of a legal record.
 pub fn a_form_is_short()
-    ensures { (d : Device) → isLegal d ≡ true → length (storedForm d) ≤ formMost }
+    ensures { (d : Device) → is_legal d ≡ true → length (stored_form d) ≤ form_most }
 {}
 
 /// Two results that meet the promise of a call are equal, lent memory included.
 pub fn one_result()
     ensures storing { (d : Device) (out : List ℕ) (r s : FormWritten) (m n : List ℕ)
-        → let w = storedBy d (length out) in
-        (r ≡ toldStored w) × (m ≡ over w.bytes out)
-        → (s ≡ toldStored w) × (n ≡ over w.bytes out) → (r ≡ s) × (m ≡ n) }
+        → let w = stored_by d (length out) in
+        (r ≡ told_stored w) × (m ≡ over w.bytes out)
+        → (s ≡ told_stored w) × (n ≡ over w.bytes out) → (r ≡ s) × (m ≡ n) }
     ensures number_and_record { (bs : List ℕ) (r s : Given Device) → r ≡ loaded bs → s ≡ loaded bs → r ≡ s }
     ensures outcome { (bs : List ℕ) (r s : Result Device LoadError)
         → loading_told r ≡ loaded bs → loading_told s ≡ loaded bs → r ≡ s }

@@ -1,27 +1,24 @@
 -- Collecting goes on where it stopped, and from nothing it gives the bytes themselves or, past the room, the mark
 -- alone.
 -- Assumes nothing.
-use Prim.Native.Nat.{ℕ, ◌≤◌, ◌<◌}
-use mathlib.Core.Path.{◌≡◌, refl, ap, ◌∙◌}
-use mathlib.Core.List.{List, [], ◌++◌, foldl-append}
-use native.Mathlib.Omega.{arith}
-use lib.ListN.{length}
-use Rattle.record.specs.Limits.{lineRoom}
+use Rattle.std.proofs.Common.{ℕ, ◌≤◌, ◌<◌, ◌≡◌, refl, ap, ◌∙◌, List, [], ◌++◌, arith, length}
+use mathlib.Core.List.{foldl-append}
+use Rattle.record.specs.Limits.{line_room}
 use Rattle.record.specs.declared.types.Line.{Line}
-use Rattle.stream.specs.Collecting.{line_of, emptyLine, overlongLine, collected, collectedAll}
+use Rattle.stream.specs.Collecting.{line_of, empty_line, overlong_line, collected, collected_all}
 use Rattle.stream.proofs.AllAtOnce.{all_past}
-use Rattle.stream.proofs.LinesCollected.{empty-is-none, line-collected}
+use Rattle.stream.proofs.LinesCollected.{empty_is_none, collected_all-line_of}
 
-pub collected-on : (most : ℕ) (l : Line) (xs ys : List ℕ)
-    → collectedAll most l (xs ++ ys) ≡ collectedAll most (collectedAll most l xs) ys
-collected-on most l xs ys = foldl-append (collected most) l xs ys
+pub collected_all-append : (most : ℕ) (l : Line) (xs ys : List ℕ)
+    → collected_all most l (xs ++ ys) ≡ collected_all most (collected_all most l xs) ys
+collected_all-append most l xs ys = foldl-append (collected most) l xs ys
 
 module _ (xs : List ℕ) where
-  from-none : collectedAll lineRoom emptyLine xs ≡ collectedAll lineRoom (line_of []) xs
-  from-none = ap (λ (l : Line). collectedAll lineRoom l xs) empty-is-none
+  from_none : collected_all line_room empty_line xs ≡ collected_all line_room (line_of []) xs
+  from_none = ap (λ (l : Line). collected_all line_room l xs) empty_is_none
 
-  pub collected-whole : length xs ≤ lineRoom → collectedAll lineRoom emptyLine xs ≡ line_of xs
-  collected-whole short = from-none ∙ line-collected lineRoom [] xs (omega arith) (omega arith)
+  pub collected_whole : length xs ≤ line_room → collected_all line_room empty_line xs ≡ line_of xs
+  collected_whole short = from_none ∙ collected_all-line_of line_room [] xs (omega arith) (omega arith)
 
-  pub collected-overlong : lineRoom < length xs → collectedAll lineRoom emptyLine xs ≡ overlongLine
-  collected-overlong long = from-none ∙ all_past lineRoom (line_of []) xs refl (omega arith) (omega arith)
+  pub collected_overlong : line_room < length xs → collected_all line_room empty_line xs ≡ overlong_line
+  collected_overlong long = from_none ∙ all_past line_room (line_of []) xs refl (omega arith) (omega arith)

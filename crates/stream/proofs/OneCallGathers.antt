@@ -1,41 +1,38 @@
 -- A machine that keeps its line in its state takes in one call what it gathers.
 -- Assumes nothing.
-use mathlib.Core.Path.{◌≡◌, ap, ◌∙◌}
-use mathlib.Core.Bool.{true}
-use mathlib.Core.List.{List, ◌∷◌, ◌++◌, foldl}
-use lib.ListN.{length}
-use Prim.Native.Nat.{ℕ, ◌+◌}
+use Rattle.std.specs.List.{list_all}
+use Rattle.std.proofs.Common.{◌≡◌, ap, ◌∙◌, true, List, ◌∷◌, ◌++◌, length, ℕ, ◌+◌}
+use mathlib.Core.List.{foldl}
 use Prim.Native.Char.{code}
 use Rattle.std.specs.Prelude.{if◌then◌else◌}
-use Rattle.text.specs.Scans.{every}
 use Rattle.record.specs.declared.types.Line.{Line}
 use Rattle.stream.specs.declared.Gathered.{Gathered}
 use Rattle.stream.specs.Collecting.{collected, gathered}
-use Rattle.stream.specs.Machine.{Out, Took, up_to, unanswered, tookBytes, call_of, oneCall}
-use Rattle.stream.proofs.UpToTheEnd.{notEnd, up-to-by, up-to-kept-in}
+use Rattle.stream.specs.Machine.{Out, Took, up_to, unanswered, took_bytes, call_of, one_call}
+use Rattle.stream.proofs.UpToTheEnd.{not_end, up_to_by, up_to_kept_in}
 
 -- `keep` puts a line into the state, `end` is what its end does to it
 module _ {L D : Type 0} (end : ℕ) (collect : L → ℕ → L) (collects : D → ℕ → D) (ends : D → Out D) (keep : L → D)
     (ending : L → Out D) (is-collect : (l : L) (b : ℕ) → collects (keep l) b ≡ keep (collect l b))
     (is-end : (l : L) → ends (keep l) ≡ ending l) where
-  pub call-gathers : (l : L) (bs : List ℕ)
-      → oneCall end D collects ends (keep l) bs ≡ call_of keep ending (up_to end collect l bs)
-  unfolding oneCall
-  call-gathers l bs =
+  pub call_gathers : (l : L) (bs : List ℕ)
+      → one_call end D collects ends (keep l) bs ≡ call_of keep ending (up_to end collect l bs)
+  unfolding one_call
+  call_gathers l bs =
       let g = up_to end collect l bs in
-      ap (call_of (λ (d : D). d) ends) (up-to-kept-in end collect collects keep is-collect l bs)
-      ∙ (λ i. if g.ended then tookBytes (g.before + 1) (is-end g.line i)
-      else tookBytes g.before (unanswered (keep g.line)))
+      ap (call_of (λ (d : D). d) ends) (up_to_kept_in end collect collects keep is-collect l bs)
+      ∙ (λ i. if g.ended then took_bytes (g.before + 1) (is-end g.line i)
+      else took_bytes g.before (unanswered (keep g.line)))
 
 -- a call, by where the first line ends
 module _ (end : ℕ) (D : Type 0) (collect : D → ℕ → D) (ends : D → Out D) where
   pub call_by : (d : D) (bs : List ℕ) (P : List ℕ → Took D → Type 0)
-      → (every (notEnd end) bs ≡ true → P bs (tookBytes (length bs) (unanswered (foldl collect d bs))))
-      → ((xs more : List ℕ) → every (notEnd end) xs ≡ true
-      → P (xs ++ (end ∷ more)) (tookBytes (length xs + 1) (ends (foldl collect d xs))))
-      → P bs (oneCall end D collect ends d bs)
-  unfolding oneCall
-  call_by d bs P none line = up-to-by end collect d bs (λ l g. P l (call_of (λ (x : D). x) ends g)) none line
+      → (list_all (not_end end) bs ≡ true → P bs (took_bytes (length bs) (unanswered (foldl collect d bs))))
+      → ((xs more : List ℕ) → list_all (not_end end) xs ≡ true
+      → P (xs ++ (end ∷ more)) (took_bytes (length xs + 1) (ends (foldl collect d xs))))
+      → P bs (one_call end D collect ends d bs)
+  unfolding one_call
+  call_by d bs P none line = up_to_by end collect d bs (λ l g. P l (call_of (λ (x : D). x) ends g)) none line
 
 -- the same for a line that CR ends
 abbrev pub finished : {D : Type 0} → (Line → D) → (Line → Out D) → Gathered → Took D
@@ -44,7 +41,7 @@ finished keep ending g = call_of keep ending (record { line = g.line; before = g
 module _ (D : Type 0) (collects : D → ℕ → D) (ends : D → Out D) (most : ℕ) (keep : Line → D) (ending : Line → Out D)
     (is-collect : (l : Line) (b : ℕ) → collects (keep l) b ≡ keep (collected most l b))
     (is-end : (l : Line) → ends (keep l) ≡ ending l) where
-  pub call-finishes : (l : Line) (bs : List ℕ)
-      → oneCall (code "\r") D collects ends (keep l) bs ≡ finished keep ending (gathered most l bs)
+  pub call_finishes : (l : Line) (bs : List ℕ)
+      → one_call (code "\r") D collects ends (keep l) bs ≡ finished keep ending (gathered most l bs)
   unfolding gathered
-  call-finishes = call-gathers (code "\r") (collected most) collects ends keep ending is-collect is-end
+  call_finishes = call_gathers (code "\r") (collected most) collects ends keep ending is-collect is-end

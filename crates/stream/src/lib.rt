@@ -2,9 +2,9 @@
 #![tactic(auto)]
 
 ghost use Rattle.std.specs.Prelude.{◌≡◌, ◌≤◌, length};
-ghost use Rattle.record.specs.Limits.{lineRoom};
-ghost use Rattle.record.specs.Legal.{heldMost};
-ghost use Rattle.stream.specs.Collecting.{collectedAll, gathered};
+ghost use Rattle.record.specs.Limits.{line_room};
+ghost use Rattle.record.specs.Legal.{held_most};
+ghost use Rattle.stream.specs.Collecting.{collected_all, gathered};
 ghost use Rattle.stream.specs.Places.{index_of};
 
 use record::connection;
@@ -36,8 +36,8 @@ impl Gathered {
 
 // The bytes `more`, none of them CR, after those collected; or the overlong mark where there is no room for them all.
 fn collect(most: usize, l: &mut Line, more: &[u8])
-    requires { most ≤ lineRoom }
-    ensures { l.new ≡ collectedAll most l.old more.now }
+    requires { most ≤ line_room }
+    ensures { l.new ≡ collected_all most l.old more.now }
 {
     if l.overlong {
         return;
@@ -68,9 +68,9 @@ pub fn find(s: &[u8], b: u8) -> usize
 
 // The bytes up to the first CR, collected as the phase allows.
 pub fn gather(phase: u8, l: &mut Line, bytes: &[u8]) -> Passed
-    ensures line { l.new ≡ (gathered (heldMost phase) l.old bytes.now).line }
-    ensures before { result.before ≡ (gathered (heldMost phase) l.old bytes.now).before }
-    ensures ended { result.ended ≡ (gathered (heldMost phase) l.old bytes.now).ended }
+    ensures line { l.new ≡ (gathered (held_most phase) l.old bytes.now).line }
+    ensures before { result.before ≡ (gathered (held_most phase) l.old bytes.now).before }
+    ensures ended { result.ended ≡ (gathered (held_most phase) l.old bytes.now).ended }
 {
     let before = find(bytes, b'\r');
     collect(connection::held_most(phase), l, &bytes[0..before]);

@@ -1,37 +1,33 @@
 -- A second lies in a stretch exactly if it is lit.
 -- Assumes nothing.
-use Prim.Native.Nat.{ℕ, zero, suc, ◌-◌, ◌≤◌, ◌<◌}
-use mathlib.Core.Path.{◌≡◌, refl, ap, ◌∙◌}
-use mathlib.Core.Bool.{Bool, true, false, ◌&&◌, ◌||◌}
-use mathlib.Core.List.{List, [], ◌∷◌, ◌++◌}
-use native.Mathlib.Omega.{arith}
-use lib.ListN.{get_or}
-use lib.Dec.{leb, ltb}
-use borrow.Author.Tests.{le-leb, lt-leb, lt-ltb, le-ltb}
+use Rattle.std.proofs.Common.{ℕ, zero, suc, ◌-◌, ◌≤◌, ◌<◌, ◌≡◌, refl, ap, ◌∙◌, Bool, true, false, ◌&&◌, ◌||◌, List, []}
+use Rattle.std.proofs.Common.{◌∷◌, ◌++◌, arith, slice_index_or, nat_le, nat_lt, le-leb, lt-ltb, le-ltb}
+use Rattle.std.proofs.lemmas.Bool.{lt-leb}
 use Rattle.std.specs.Prelude.{if◌then◌else◌}
-use Rattle.stretches.specs.Stretches.{Stretch, stretchIf, stretchesFrom, stretchesOf, isIn}
+use Rattle.stretches.specs.Stretches.{Stretch, stretch_if, stretches_from, stretches_of, is_in}
 
 -- by the side of t on which i lies
-abbrev litAt : Bool → ℕ → ℕ → List Bool → ℕ → Bool
-litAt lit f t ls i = if ltb i t then lit && leb f i else get_or ls (i - t) false
+abbrev lit_at : Bool → ℕ → ℕ → List Bool → ℕ → Bool
+lit_at lit f t ls i = if nat_lt i t then lit && nat_le f i else slice_index_or ls (i - t) false
 
-in-append : (xs ys : List Stretch) (i : ℕ) → isIn (xs ++ ys) i ≡ (isIn xs i || isIn ys i)
-in-append [] ys i = refl
-in-append (s ∷ xs) ys i = ap (λ (b : Bool). leb s.from i && ltb i s.to || b) (in-append xs ys i)
-    ∙ split (leb s.from i && ltb i s.to) (isIn xs i) (isIn ys i)
+is_in-append : (xs ys : List Stretch) (i : ℕ) → is_in (xs ++ ys) i ≡ (is_in xs i || is_in ys i)
+is_in-append [] ys i = refl
+is_in-append (s ∷ xs) ys i = ap (λ (b : Bool). nat_le s.from i && nat_lt i s.to || b) (is_in-append xs ys i)
+    ∙ split (nat_le s.from i && nat_lt i s.to) (is_in xs i) (is_in ys i)
   where
     split : (a b c : Bool) → (a || (b || c)) ≡ ((a || b) || c)
     split true b c = refl
     split false b c = refl
 
 -- the stretch that has begun, if any, has the seconds before t
-begun-in : (lit : Bool) (f t i : ℕ) → isIn (stretchIf lit f t) i ≡ (if ltb i t then lit && leb f i else false)
-begun-in false f t i = by (ltb i t)
+is_in-stretch_if : (lit : Bool) (f t i : ℕ) →
+    is_in (stretch_if lit f t) i ≡ (if nat_lt i t then lit && nat_le f i else false)
+is_in-stretch_if false f t i = by (nat_lt i t)
   where
     by : (b : Bool) → false ≡ (if b then false else false)
     by true = refl
     by false = refl
-begun-in true f t i = by (leb f i) (ltb i t)
+is_in-stretch_if true f t i = by (nat_le f i) (nat_lt i t)
   where
     by : (a b : Bool) → (a && b || false) ≡ (if b then a else false)
     by true true = refl
@@ -55,21 +51,22 @@ side (suc i) (suc t) = up (side i t)
     up (now h) = now (ap suc h)
     up (later h) = later (omega arith)
 
-shifted : (b : Bool) (ls : List Bool) (i t : ℕ) → t < i → get_or (b ∷ ls) (i - t) false ≡ get_or ls (i - suc t) false
-shifted b ls i t h = let e : i - t ≡ suc (i - suc t) = omega arith in ap (λ (n : ℕ). get_or (b ∷ ls) n false) e
+shifted : (b : Bool) (ls : List Bool) (i t : ℕ) → t < i →
+    slice_index_or (b ∷ ls) (i - t) false ≡ slice_index_or ls (i - suc t) false
+shifted b ls i t h = let e : i - t ≡ suc (i - suc t) = omega arith in ap (λ (n : ℕ). slice_index_or (b ∷ ls) n false) e
 
-pub from-exactly : (ls : List Bool) (lit : Bool) (f t i : ℕ) → f ≤ t
-    → isIn (stretchesFrom lit f t ls) i ≡ litAt lit f t ls i
-unfolding stretchesFrom
-from-exactly [] lit f t i h = begun-in lit f t i
-from-exactly (true ∷ ls) lit f t i h = from-exactly ls true (if lit then f else t) (suc t) i (early lit)
+pub is_in-stretches_from : (ls : List Bool) (lit : Bool) (f t i : ℕ) → f ≤ t
+    → is_in (stretches_from lit f t ls) i ≡ lit_at lit f t ls i
+unfolding stretches_from
+is_in-stretches_from [] lit f t i h = is_in-stretch_if lit f t i
+is_in-stretches_from (true ∷ ls) lit f t i h = is_in-stretches_from ls true (if lit then f else t) (suc t) i (early lit)
     ∙ by lit (side i t)
   where
     early : (l : Bool) → (if l then f else t) ≤ suc t
     early true = omega arith
     early false = omega arith
 
-    by : (l : Bool) → Side i t → litAt true (if l then f else t) (suc t) ls i ≡ litAt l f t (true ∷ ls) i
+    by : (l : Bool) → Side i t → lit_at true (if l then f else t) (suc t) ls i ≡ lit_at l f t (true ∷ ls) i
     by true (earlier e) = rw (lt-ltb i (suc t) (omega arith), lt-ltb i t e)
     by false (earlier e) = rw (lt-ltb i (suc t) (omega arith), lt-ltb i t e, lt-leb t i e)
     by true (now e) = rw (lt-ltb i (suc t) (omega arith), le-ltb i t (omega arith), le-leb f i (omega arith), here)
@@ -81,26 +78,26 @@ from-exactly (true ∷ ls) lit f t i h = from-exactly ls true (if lit then f els
         here : i - t ≡ 0
         here = omega arith
     by l (later e) = rw (le-ltb i (suc t) (omega arith), le-ltb i t (omega arith), shifted true ls i t e)
-from-exactly (false ∷ ls) lit f t i h =
-    in-append (stretchIf lit f t) (stretchesFrom false f (suc t) ls) i
-    ∙ (λ j. begun-in lit f t i j || from-exactly ls false f (suc t) i (omega arith) j)
+is_in-stretches_from (false ∷ ls) lit f t i h =
+    is_in-append (stretch_if lit f t) (stretches_from false f (suc t) ls) i
+    ∙ (λ j. is_in-stretch_if lit f t i j || is_in-stretches_from ls false f (suc t) i (omega arith) j)
     ∙ by (side i t)
   where
-    or-none : (b : Bool) → (b || false) ≡ b
-    or-none true = refl
-    or-none false = refl
+    or_none : (b : Bool) → (b || false) ≡ b
+    or_none true = refl
+    or_none false = refl
 
-    by : Side i t → ((if ltb i t then lit && leb f i else false) || litAt false f (suc t) ls i)
-        ≡ litAt lit f t (false ∷ ls) i
-    by (earlier e) = rw (lt-ltb i (suc t) (omega arith), lt-ltb i t e) (or-none (lit && leb f i))
+    by : Side i t → ((if nat_lt i t then lit && nat_le f i else false) || lit_at false f (suc t) ls i)
+        ≡ lit_at lit f t (false ∷ ls) i
+    by (earlier e) = rw (lt-ltb i (suc t) (omega arith), lt-ltb i t e) (or_none (lit && nat_le f i))
     by (now e) = rw (lt-ltb i (suc t) (omega arith), le-ltb i t (omega arith), here)
       where
         here : i - t ≡ 0
         here = omega arith
     by (later e) = rw (le-ltb i (suc t) (omega arith), le-ltb i t (omega arith), shifted false ls i t e)
 
-pub exactly-lit : (ls : List Bool) (i : ℕ) → isIn (stretchesOf ls) i ≡ get_or ls i false
-exactly-lit ls i = from-exactly ls false 0 0 i (omega arith) ∙ rw (le-ltb i 0 (omega arith), same)
+pub exactly_lit : (ls : List Bool) (i : ℕ) → is_in (stretches_of ls) i ≡ slice_index_or ls i false
+exactly_lit ls i = is_in-stretches_from ls false 0 0 i (omega arith) ∙ rw (le-ltb i 0 (omega arith), same)
   where
     same : i - 0 ≡ i
     same = omega arith

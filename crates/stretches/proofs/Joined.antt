@@ -2,51 +2,44 @@
 --   joined lit f t ls    the stretches from the second t on, where the lamp is lit since f if `lit`
 --   Dim ls               the first of the seconds ls is not lit
 -- Assumes nothing.
-use Prim.Native.Nat.{ℕ, zero, suc, ◌+◌, ◌≤◌, ◌<◌}
-use mathlib.Core.Path.{◌≡◌, refl, sym, ap, ◌∙◌}
-use mathlib.Core.Bool.{Bool, true, false, ◌&&◌}
-use mathlib.Core.List.{List, [], ◌∷◌, ◌++◌, append-nil}
-use mathlib.Core.Logic.{⊎_elim}
-use native.Mathlib.Nat.{add-zero}
-use native.Mathlib.Omega.{arith}
-use lib.ListN.{get_or, replicate}
-use lib.Dec.{leb, ltb, eqb}
-use borrow.Author.Tests.{lt-ltb, le-ltb}
+use Rattle.std.proofs.Common.{ℕ, zero, suc, ◌+◌, ◌≤◌, ◌<◌, ◌≡◌, refl, sym, ap, ◌∙◌, Bool, true, false, ◌&&◌, List, []}
+use Rattle.std.proofs.Common.{◌∷◌, ◌++◌, append-nil, ⊎_elim, add-zero, arith, slice_index_or, replicate, nat_le, nat_lt}
+use Rattle.std.proofs.Common.{◌==◌, lt-ltb, le-ltb}
 use Rattle.std.specs.Prelude.{if◌then◌else◌}
-use Rattle.text.proofs.Choices.{if-all}
-use Rattle.text.proofs.Orders.{le-or-lt}
+use Rattle.text.proofs.Choices.{if_all}
+use Rattle.text.proofs.Orders.{le_or_lt}
 use Rattle.record.specs.Wanted.{Wanted}
-use Rattle.demands.specs.History.{Event, switched, aSecond, markSwitched, Stage, steady, towards, next, marksNext}
-use Rattle.demands.specs.History.{isBurning, reached}
-use Rattle.demands.proofs.HistorySpelt.{reached-none, reached-more}
-use Rattle.stretches.specs.Stretches.{Stretch, stretchIf, stretchesFrom, isLitThen, secondsLitFrom}
+use Rattle.demands.specs.History.{Event, switched, a_second, mark_switched, Stage, steady, towards, next, marks_next}
+use Rattle.demands.specs.History.{stage_is_burning, reached}
+use Rattle.demands.proofs.HistorySpelt.{reached_none, reached-cons}
+use Rattle.stretches.specs.Stretches.{Stretch, stretch_if, stretches_from, is_lit_then, seconds_lit_from}
 
 abbrev pub joined : Bool → ℕ → ℕ → List Bool → List Stretch
-joined lit f t ls = stretchesFrom (lit && ltb f t) f t ls
+joined lit f t ls = stretches_from (lit && nat_lt f t) f t ls
 
 -- where none is under way it does not matter since when
-pub since_none : (ls : List Bool) (f g t : ℕ) → stretchesFrom false f t ls ≡ stretchesFrom false g t ls
-unfolding stretchesFrom
+pub since_none : (ls : List Bool) (f g t : ℕ) → stretches_from false f t ls ≡ stretches_from false g t ls
+unfolding stretches_from
 since_none [] f g t = refl
 since_none (true ∷ ls) f g t = refl
 since_none (false ∷ ls) f g t = since_none ls f g (suc t)
 
 -- one second
-pub one-second : (lit : Bool) (f t : ℕ) (ls : List Bool) → f ≤ t → joined lit f t (lit ∷ ls) ≡ joined lit f (suc t) ls
-unfolding stretchesFrom
-one-second false f t ls h = refl
-one-second true f t ls h =
-    ap (λ (g : ℕ). stretchesFrom true g (suc t) ls) (⊎_elim
+pub joined-cons : (lit : Bool) (f t : ℕ) (ls : List Bool) → f ≤ t → joined lit f t (lit ∷ ls) ≡ joined lit f (suc t) ls
+unfolding stretches_from
+joined-cons false f t ls h = refl
+joined-cons true f t ls h =
+    ap (λ (g : ℕ). stretches_from true g (suc t) ls) (⊎_elim
     (λ (k : t ≤ f). let same : t ≡ f = omega arith in ap (λ (b : Bool). if b then f else t) (le-ltb f t k) ∙ same)
-    (λ (k : f < t). ap (λ (b : Bool). if b then f else t) (lt-ltb f t k)) (le-or-lt t f))
-    ∙ ap (λ (b : Bool). stretchesFrom b f (suc t) ls) (sym (lt-ltb f (suc t) (omega arith)))
+    (λ (k : f < t). ap (λ (b : Bool). if b then f else t) (lt-ltb f t k)) (le_or_lt t f))
+    ∙ ap (λ (b : Bool). stretches_from b f (suc t) ls) (sym (lt-ltb f (suc t) (omega arith)))
 
-pub some-seconds : (n : ℕ) (lit : Bool) (f t : ℕ) (ls : List Bool) → f ≤ t
+pub joined-append : (n : ℕ) (lit : Bool) (f t : ℕ) (ls : List Bool) → f ≤ t
     → joined lit f t (replicate n lit ++ ls) ≡ joined lit f (t + n) ls
-some-seconds zero lit f t ls h = ap (λ (u : ℕ). joined lit f u ls) (sym (add-zero t))
-some-seconds (suc n) lit f t ls h =
-    one-second lit f t (replicate n lit ++ ls) h
-    ∙ some-seconds n lit f (suc t) ls (omega arith)
+joined-append zero lit f t ls h = ap (λ (u : ℕ). joined lit f u ls) (sym (add-zero t))
+joined-append (suc n) lit f t ls h =
+    joined-cons lit f t (replicate n lit ++ ls) h
+    ∙ joined-append n lit f (suc t) ls (omega arith)
     ∙ ap (λ (u : ℕ). joined lit f u ls) (omega arith)
 
 abbrev pub Dim : List Bool → Type 0
@@ -54,43 +47,46 @@ Dim [] = Unit {0}
 Dim (b ∷ ls) = b ≡ false
 
 -- a stretch that ends here
-pub ends-here : (lit : Bool) (f t : ℕ) (ls : List Bool) → Dim ls
-    → stretchesFrom lit f t ls ≡ stretchIf lit f t ++ stretchesFrom false f t ls
-unfolding stretchesFrom
-ends-here lit f t [] d = sym (append-nil (stretchIf lit f t))
-ends-here lit f t (true ∷ ls) d = cc
-ends-here lit f t (false ∷ ls) d = refl
+pub ends_here : (lit : Bool) (f t : ℕ) (ls : List Bool) → Dim ls
+    → stretches_from lit f t ls ≡ stretch_if lit f t ++ stretches_from false f t ls
+unfolding stretches_from
+ends_here lit f t [] d = sym (append-nil (stretch_if lit f t))
+ends_here lit f t (true ∷ ls) d = cc
+ends_here lit f t (false ∷ ls) d = refl
 
 -- ---- the outsider's seconds
 
 -- while it cools nothing is lit
-pub cooling-dim : (w : Wanted) (ms : List Bool) (k n : ℕ) (es : List Event)
-    → Dim (secondsLitFrom w (towards false n) ms k es)
-unfolding secondsLitFrom
-cooling-dim w ms k n [] = tt
-cooling-dim w ms k n (aSecond ∷ es) = refl
-cooling-dim w ms k n (switched wanted ∷ es) = cooling-dim w ms k n es
-cooling-dim w ms k n (markSwitched lamp mark ∷ es) = cooling-dim w (marksNext ms (markSwitched lamp mark)) k n es
+pub cooling_dim : (w : Wanted) (ms : List Bool) (k n : ℕ) (es : List Event)
+    → Dim (seconds_lit_from w (towards false n) ms k es)
+unfolding seconds_lit_from
+cooling_dim w ms k n [] = tt
+cooling_dim w ms k n (a_second ∷ es) = refl
+cooling_dim w ms k n (switched wanted ∷ es) = cooling_dim w ms k n es
+cooling_dim w ms k n (mark_switched lamp mark ∷ es) = cooling_dim w (marks_next ms (mark_switched lamp mark)) k n es
 
-pub burns-on : (w : Wanted) (g : Stage) → isBurning (next w g aSecond) ≡ isBurning g
-burns-on w (steady on) = refl
-burns-on w (towards on n) = if-all (λ (h : Stage). isBurning h ≡ on) (leb n 1) refl refl
+pub stage_is_burning-next : (w : Wanted) (g : Stage) → stage_is_burning (next w g a_second) ≡ stage_is_burning g
+stage_is_burning-next w (steady on) = refl
+stage_is_burning-next w (towards on n) = if_all (λ (h : Stage). stage_is_burning h ≡ on) (nat_le n 1) refl refl
 
-pub seconds-burn : (n : ℕ) (w : Wanted) (g : Stage) → isBurning (reached w g (replicate n aSecond)) ≡ isBurning g
-seconds-burn zero w g = ap isBurning (reached-none w g)
-seconds-burn (suc n) w g =
-    ap isBurning (reached-more w g aSecond (replicate n aSecond)) ∙ seconds-burn n w (next w g aSecond) ∙ burns-on w g
+pub stage_is_burning-reached : (n : ℕ) (w : Wanted) (g : Stage) →
+    stage_is_burning (reached w g (replicate n a_second)) ≡ stage_is_burning g
+stage_is_burning-reached zero w g = ap stage_is_burning (reached_none w g)
+stage_is_burning-reached (suc n) w g =
+    ap stage_is_burning (reached-cons w g a_second (replicate n a_second))
+    ∙ stage_is_burning-reached n w (next w g a_second) ∙ stage_is_burning-next w g
 
-pub lit-by : (ms : List Bool) (k : ℕ) (g h : Stage) → isBurning g ≡ isBurning h → isLitThen g ms k ≡ isLitThen h ms k
-lit-by ms k g h e = (λ i. eqb (if e i && get_or ms k false then 1 else 0) 1)
+pub lit_by : (ms : List Bool) (k : ℕ) (g h : Stage) → stage_is_burning g ≡ stage_is_burning h →
+    is_lit_then g ms k ≡ is_lit_then h ms k
+lit_by ms k g h e = (λ i. (if e i && slice_index_or ms k false then 1 else 0) == 1)
 
-pub lit-seconds : (n : ℕ) (w : Wanted) (g : Stage) (ms : List Bool) (k : ℕ) (es : List Event)
-    → secondsLitFrom w g ms k (replicate n aSecond ++ es)
-    ≡ replicate n (isLitThen g ms k) ++ secondsLitFrom w (reached w g (replicate n aSecond)) ms k es
-unfolding secondsLitFrom
-lit-seconds zero w g ms k es = ap (λ (h : Stage). secondsLitFrom w h ms k es) (sym (reached-none w g))
-lit-seconds (suc n) w g ms k es =
-    ap (λ (ls : List Bool). isLitThen g ms k ∷ ls)
-    (lit-seconds n w (next w g aSecond) ms k es
-    ∙ (λ i. replicate n (lit-by ms k (next w g aSecond) g (burns-on w g) i)
-    ++ secondsLitFrom w (sym (reached-more w g aSecond (replicate n aSecond)) i) ms k es))
+pub seconds_lit_from-append : (n : ℕ) (w : Wanted) (g : Stage) (ms : List Bool) (k : ℕ) (es : List Event)
+    → seconds_lit_from w g ms k (replicate n a_second ++ es)
+    ≡ replicate n (is_lit_then g ms k) ++ seconds_lit_from w (reached w g (replicate n a_second)) ms k es
+unfolding seconds_lit_from
+seconds_lit_from-append zero w g ms k es = ap (λ (h : Stage). seconds_lit_from w h ms k es) (sym (reached_none w g))
+seconds_lit_from-append (suc n) w g ms k es =
+    ap (λ (ls : List Bool). is_lit_then g ms k ∷ ls)
+    (seconds_lit_from-append n w (next w g a_second) ms k es
+    ∙ (λ i. replicate n (lit_by ms k (next w g a_second) g (stage_is_burning-next w g) i)
+    ++ seconds_lit_from w (sym (reached-cons w g a_second (replicate n a_second)) i) ms k es))

@@ -1,22 +1,19 @@
 -- What the stretches of a lamp tell, over any history.
 -- Assumes nothing.
-use Prim.Native.Nat.{ℕ}
-use mathlib.Core.Path.{◌∙◌}
-use mathlib.Core.Bool.{Bool, false}
-use mathlib.Core.List.{List}
+use Rattle.std.proofs.Common.{ℕ, ◌∙◌, Bool, false, List}
 use Rattle.record.specs.Wanted.{Wanted}
 use Rattle.demands.specs.History.{Event, steady}
-use Rattle.stretches.specs.Stretches.{secondsLit, stretchesOf, StretchesTell}
-use Rattle.stretches.proofs.Exactly.{exactly-lit}
+use Rattle.stretches.specs.Stretches.{seconds_lit, stretches_of, StretchesTell}
+use Rattle.stretches.proofs.Exactly.{exactly_lit}
 use Rattle.stretches.proofs.OrderKept.{in_order}
-use Rattle.stretches.proofs.LengthsAdd.{lengths-lit, lit-burns}
+use Rattle.stretches.proofs.LengthsAdd.{lengths_lit, lit_burns}
 
-pub stretches-tell : (w : Wanted) (ms : List Bool) (k : ℕ) (es : List Event)
-    → StretchesTell w ms k es (stretchesOf (secondsLit w ms k es))
-stretches-tell w ms k es =
-    let ls = secondsLit w ms k es in
+pub stretches_tell : (w : Wanted) (ms : List Bool) (k : ℕ) (es : List Event)
+    → StretchesTell w ms k es (stretches_of (seconds_lit w ms k es))
+stretches_tell w ms k es =
+    let ls = seconds_lit w ms k es in
     record {
-      exactly = exactly-lit ls;
+      exactly = exactly_lit ls;
       apart = in_order ls;
-      adds-up = lengths-lit ls ∙ lit-burns w (steady false) ms k es;
+      adds_up = lengths_lit ls ∙ lit_burns w (steady false) ms k es;
     }

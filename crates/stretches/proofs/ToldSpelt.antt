@@ -1,50 +1,47 @@
 -- What is told of a lamp, by what comes: the end of the log, or an event and the rest.
 -- Assumes nothing.
-use Prim.Native.Nat.{ℕ}
-use mathlib.Core.Path.{◌≡◌, refl, sym, ap, ◌∙◌}
-use mathlib.Core.Bool.{Bool, true, false, ◌&&◌}
-use mathlib.Core.List.{List, [], ◌∷◌, ◌++◌, append_assoc}
+use Rattle.std.proofs.Common.{ℕ, ◌≡◌, refl, sym, ap, ◌∙◌, Bool, true, false, ◌&&◌, List, [], ◌∷◌, ◌++◌, append_assoc}
 use Rattle.watch.specs.Marking.{FloorEvent}
-use Rattle.watch.specs.Watching.{Watching, isBurningIn, isLong, darkWith, watchedOn}
-use Rattle.watch.specs.Telling.{Telling, tellingIf, tellings}
-use Rattle.watch.proofs.TellingsSpelt.{tellings-none, tellings-more}
-use Rattle.stretches.specs.Stretches.{Stretch, stretchIf}
-use Rattle.stretches.specs.LogTold.{isMarkedIn, stretchesIn, toldOf}
+use Rattle.watch.specs.Watching.{Watching, is_burning_in, is_long, dark_with, watched_on}
+use Rattle.watch.specs.Telling.{Telling, telling_if, tellings}
+use Rattle.watch.proofs.TellingsSpelt.{tellings_none, tellings_more}
+use Rattle.stretches.specs.Stretches.{Stretch, stretch_if}
+use Rattle.stretches.specs.LogTold.{is_marked_in, stretches_in, told_of}
 
 module _ (k : ℕ) where
-  stretches-append : (ts us : List Telling) → stretchesIn k (ts ++ us) ≡ stretchesIn k ts ++ stretchesIn k us
-  stretches-append [] us = refl
-  stretches-append (t ∷ ts) us =
-      ap (λ (l : List Stretch). stretchIf (isMarkedIn t.device k) t.from t.to ++ l) (stretches-append ts us)
-      ∙ sym (append_assoc (stretchIf (isMarkedIn t.device k) t.from t.to) (stretchesIn k ts)
-      (stretchesIn k us))
+  stretches_in-append : (ts us : List Telling) → stretches_in k (ts ++ us) ≡ stretches_in k ts ++ stretches_in k us
+  stretches_in-append [] us = refl
+  stretches_in-append (t ∷ ts) us =
+      ap (λ (l : List Stretch). stretch_if (is_marked_in t.device k) t.from t.to ++ l) (stretches_in-append ts us)
+      ∙ sym (append_assoc (stretch_if (is_marked_in t.device k) t.from t.to) (stretches_in k ts)
+      (stretches_in k us))
 
   -- lamps that burn no longer, for some time: of this one, if its mark is set
-  told-if : (s : Watching) (dark long : Bool)
-      → stretchesIn k (tellingIf (dark && long) s)
-      ≡ stretchIf (dark && isMarkedIn s.device k && long) s.from s.time
-  told-if s true true = by (isMarkedIn s.device k)
+  stretches_in-telling_if : (s : Watching) (dark long : Bool)
+      → stretches_in k (telling_if (dark && long) s)
+      ≡ stretch_if (dark && is_marked_in s.device k && long) s.from s.time
+  stretches_in-telling_if s true true = by (is_marked_in s.device k)
     where
-      by : (m : Bool) → stretchIf m s.from s.time ++ [] ≡ stretchIf (m && true) s.from s.time
+      by : (m : Bool) → stretch_if m s.from s.time ++ [] ≡ stretch_if (m && true) s.from s.time
       by true = refl
       by false = refl
-  told-if s true false = by (isMarkedIn s.device k)
+  stretches_in-telling_if s true false = by (is_marked_in s.device k)
     where
-      by : (m : Bool) → [] ≡ stretchIf (m && false) s.from s.time
+      by : (m : Bool) → [] ≡ stretch_if (m && false) s.from s.time
       by true = refl
       by false = refl
-  told-if s false long = refl
+  stretches_in-telling_if s false long = refl
 
   pub told_none : (s : Watching)
-      → toldOf k s [] ≡ stretchIf (isBurningIn s.device && isMarkedIn s.device k && isLong s) s.from s.time
-  told_none s = ap (stretchesIn k) (tellings-none s) ∙ told-if s (isBurningIn s.device) (isLong s)
+      → told_of k s [] ≡ stretch_if (is_burning_in s.device && is_marked_in s.device k && is_long s) s.from s.time
+  told_none s = ap (stretches_in k) (tellings_none s) ∙ stretches_in-telling_if s (is_burning_in s.device) (is_long s)
 
-  pub told_more : (s : Watching) (e : FloorEvent) (es : List FloorEvent) → let t = watchedOn s e in
-      toldOf k s (e ∷ es)
-      ≡ stretchIf (darkWith s t.device && isMarkedIn t.device k && isLong t) t.from t.time ++ toldOf k t es
+  pub told_more : (s : Watching) (e : FloorEvent) (es : List FloorEvent) → let t = watched_on s e in
+      told_of k s (e ∷ es)
+      ≡ stretch_if (dark_with s t.device && is_marked_in t.device k && is_long t) t.from t.time ++ told_of k t es
   told_more s e es =
-      let t = watchedOn s e in
-      let dark = darkWith s t.device in
-      ap (stretchesIn k) (tellings-more s e es)
-      ∙ stretches-append (tellingIf (dark && isLong t) t) (tellings t es)
-      ∙ ap (λ (l : List Stretch). l ++ toldOf k t es) (told-if t dark (isLong t))
+      let t = watched_on s e in
+      let dark = dark_with s t.device in
+      ap (stretches_in k) (tellings_more s e es)
+      ∙ stretches_in-append (telling_if (dark && is_long t) t) (tellings t es)
+      ∙ ap (λ (l : List Stretch). l ++ told_of k t es) (stretches_in-telling_if t dark (is_long t))

@@ -1,7 +1,6 @@
 -- What holds of a choice: by its test, or of both its sides.
 -- Assumes nothing.
-use mathlib.Core.Path.{◌≡◌, refl, sym, ap}
-use mathlib.Core.Bool.{Bool, true, false, ◌&&◌}
+use Rattle.std.proofs.Common.{◌≡◌, refl, sym, ap, Bool, true, false, ◌&&◌}
 use Rattle.std.specs.Prelude.{if◌then◌else◌}
 
 module _ {A : Type 0} where
@@ -11,13 +10,13 @@ module _ {A : Type 0} where
   pub if_no : {t : Bool} (a b : A) → t ≡ false → (if t then a else b) ≡ b
   if_no a b e = ap (λ (t : Bool). if t then a else b) e
 
-  pub if-all : (P : A → Type 0) (t : Bool) {a b : A} → P a → P b → P (if t then a else b)
-  if-all P true p q = p
-  if-all P false p q = q
+  pub if_all : (P : A → Type 0) (t : Bool) {a b : A} → P a → P b → P (if t then a else b)
+  if_all P true p q = p
+  if_all P false p q = q
 
-  pub if-by : (P : A → Type 0) (t : Bool) {a b : A} → (t ≡ true → P a) → (t ≡ false → P b) → P (if t then a else b)
-  if-by P true p q = p refl
-  if-by P false p q = q refl
+  pub if_by : (P : A → Type 0) (t : Bool) {a b : A} → (t ≡ true → P a) → (t ≡ false → P b) → P (if t then a else b)
+  if_by P true p q = p refl
+  if_by P false p q = q refl
 
 -- a conjunction that holds, taken apart and put together
 pub both_left : (a b : Bool) → (a && b) ≡ true → a ≡ true
@@ -38,6 +37,6 @@ alike false true p q = q refl
 alike false false p q = refl
 
 -- a test that does not hold, by what would follow if it did
-pub by-not : (b : Bool) → (b ≡ true → ⊥) → b ≡ false
-by-not true h = absurd (h refl)
-by-not false h = refl
+pub by_not : (b : Bool) → (b ≡ true → ⊥) → b ≡ false
+by_not true h = absurd (h refl)
+by_not false h = refl

@@ -1,46 +1,43 @@
--- Things written one after the other: two lists, one thing more, how long, and what holds of every element.
+-- Things written one after the other: two lists, one thing more, how long, and what holds of list_all element.
 -- Assumes nothing.
-use Prim.Native.Nat.{ℕ, ◌+◌, ◌*◌, ◌<◌}
-use mathlib.Core.Path.{◌≡◌, refl, sym, ap, ◌∙◌}
-use mathlib.Core.Bool.{Bool, true}
-use mathlib.Core.List.{List, [], ◌∷◌, ◌++◌, append_assoc, append-nil}
-use native.Mathlib.Nat.{mul-zero, mul-suc}
-use native.Mathlib.Numerals.{add-one}
-use native.Mathlib.Omega.{arith}
-use lib.ListN.{length, get_or, take, length-append}
-use lib.Seq.{take-suc}
-use Rattle.text.specs.Scans.{every}
-use Rattle.text.specs.InTurn.{eachInTurn}
-use Rattle.text.proofs.Scanning.{every_append}
+use Rattle.std.specs.List.{list_all}
+use Rattle.std.proofs.Common.{ℕ, ◌+◌, ◌*◌, ◌<◌, ◌≡◌, refl, sym, ap, ◌∙◌, Bool, true, List, [], ◌∷◌, ◌++◌, append_assoc}
+use Rattle.std.proofs.Common.{append-nil, mul-zero, mul-suc, add-one, arith, length, slice_index_or, take}
+use Rattle.std.proofs.Common.{length-append, take-suc}
+use Rattle.text.specs.InTurn.{each_in_turn}
+use Rattle.text.proofs.Scanning.{list_all-append}
 
 module _ {A B : Type 0} (w : A → List B) where
-  pub turns-append : (xs ys : List A) → eachInTurn w (xs ++ ys) ≡ eachInTurn w xs ++ eachInTurn w ys
-  turns-append [] ys = refl
-  turns-append (x ∷ xs) ys =
-      ap (λ (l : List B). w x ++ l) (turns-append xs ys) ∙ sym (append_assoc (w x) (eachInTurn w xs) (eachInTurn w ys))
+  pub turns_append : (xs ys : List A) → each_in_turn w (xs ++ ys) ≡ each_in_turn w xs ++ each_in_turn w ys
+  turns_append [] ys = refl
+  turns_append (x ∷ xs) ys =
+      ap (λ (l : List B). w x ++ l) (turns_append xs ys)
+      ∙ sym (append_assoc (w x) (each_in_turn w xs) (each_in_turn w ys))
 
-  pub turns-snoc : (xs : List A) (y : A) → eachInTurn w (xs ++ (y ∷ [])) ≡ eachInTurn w xs ++ w y
-  turns-snoc xs y = turns-append xs (y ∷ []) ∙ ap (λ (l : List B). eachInTurn w xs ++ l) (append-nil (w y))
+  pub turns_snoc : (xs : List A) (y : A) → each_in_turn w (xs ++ (y ∷ [])) ≡ each_in_turn w xs ++ w y
+  turns_snoc xs y = turns_append xs (y ∷ []) ∙ ap (λ (l : List B). each_in_turn w xs ++ l) (append-nil (w y))
 
   -- one turn of a loop over xs
-  pub one-turn-more : (xs : List A) (i : ℕ) (d : A) → i < length xs
-      → eachInTurn w (take (i + 1) xs) ≡ eachInTurn w (take i xs) ++ w (get_or xs i d)
-  one-turn-more xs i d h =
-      ap (eachInTurn w) (ap (λ (k : ℕ). take k xs) (add-one i) ∙ take-suc xs i d h)
-      ∙ turns-snoc (take i xs) (get_or xs i d)
+  pub each_in_turn-take : (xs : List A) (i : ℕ) (d : A) → i < length xs
+      → each_in_turn w (take (i + 1) xs) ≡ each_in_turn w (take i xs) ++ w (slice_index_or xs i d)
+  each_in_turn-take xs i d h =
+      ap (each_in_turn w) (ap (λ (k : ℕ). take k xs) (add-one i) ∙ take-suc xs i d h)
+      ∙ turns_snoc (take i xs) (slice_index_or xs i d)
 
-  pub turns-long : (n : ℕ) → ((x : A) → length (w x) ≡ n) → (xs : List A) → length (eachInTurn w xs) ≡ n * length xs
-  turns-long n long [] = sym (mul-zero n)
-  turns-long n long (x ∷ xs) =
+  pub length-each_in_turn : (n : ℕ) → ((x : A) → length (w x) ≡ n) → (xs : List A) →
+      length (each_in_turn w xs) ≡ n * length xs
+  length-each_in_turn n long [] = sym (mul-zero n)
+  length-each_in_turn n long (x ∷ xs) =
       omega (
         arith,
-        length-append (w x) (eachInTurn w xs),
+        length-append (w x) (each_in_turn w xs),
         long x,
-        turns-long n long xs,
+        length-each_in_turn n long xs,
         mul-suc n (length xs),
       )
 
-  pub turns-pass : (f : B → Bool) → ((x : A) → every f (w x) ≡ true) → (xs : List A)
-      → every f (eachInTurn w xs) ≡ true
-  turns-pass f each [] = refl
-  turns-pass f each (x ∷ xs) = every_append f (w x) (eachInTurn w xs) (each x) (turns-pass f each xs)
+  pub list_all-each_in_turn : (f : B → Bool) → ((x : A) → list_all f (w x) ≡ true) → (xs : List A)
+      → list_all f (each_in_turn w xs) ≡ true
+  list_all-each_in_turn f each [] = refl
+  list_all-each_in_turn f each (x ∷ xs) =
+      list_all-append f (w x) (each_in_turn w xs) (each x) (list_all-each_in_turn f each xs)

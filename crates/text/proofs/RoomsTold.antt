@@ -1,13 +1,12 @@
 -- What is used of a room, by the tests that find it; what these tests tell; and that what is kept in a room is used.
 -- Assumes nothing.
 use Rattle.std.proofs.Common.{◌≡◌, ℕ, ◌-◌, ◌<◌, ◌≤◌, ◌↔◌, IsTrue, Bool, true, false, List, ◌++◌, length, take, drop}
-use Rattle.std.proofs.Common.{zero, suc, replicate, Some, None, arith, ap, refl, ◌∙◌, ◌&&◌}
-use Rattle.std.specs.Prelude.{is_some, nat_le}
+use Rattle.std.proofs.Common.{zero, suc, replicate, Some, None, arith, ap, refl, ◌∙◌, ◌&&◌, nat_le, length-append}
+use Rattle.std.specs.List.{list_all}
+use Rattle.std.specs.Prelude.{is_some}
 use Rattle.std.proofs.Math.Seq.{take-append_seam, drop-append_seam}
-use Rattle.std.proofs.lemmas.List.{drop-replicate}
+use Rattle.std.proofs.lemmas.List.{drop-replicate, length-replicate}
 use Rattle.std.proofs.lemmas.Grind.{common_steps}
-use lib.ListN.{length-append, length-replicate}
-use Rattle.text.specs.Scans.{every}
 use Rattle.text.specs.Rooms.{used, holds, kept, Uses}
 
 module _ {A : Type 0} (blank : A → Bool) (room : ℕ) (s : List A) (n : ℕ) (long : length s ≡ room) where
@@ -15,11 +14,11 @@ module _ {A : Type 0} (blank : A → Bool) (room : ℕ) (s : List A) (n : ℕ) (
   unfolding used
   used_many h = grind (arith, common_steps)
 
-  pub used_not_blank : n ≤ room → every blank (drop n s) ≡ false → used blank room s n ≡ None
+  pub used_not_blank : n ≤ room → list_all blank (drop n s) ≡ false → used blank room s n ≡ None
   unfolding used
   used_not_blank h e = grind (arith, common_steps)
 
-  pub used_blank : n ≤ room → every blank (drop n s) ≡ true → used blank room s n ≡ Some (take n s)
+  pub used_blank : n ≤ room → list_all blank (drop n s) ≡ true → used blank room s n ≡ Some (take n s)
   unfolding used
   used_blank h e = grind (arith, common_steps)
 
@@ -30,12 +29,12 @@ pub rest_kept : {A : Type 0} (x : A) (items : List A) (n : ℕ)
 rest_kept x items n = ap (λ r. items ++ r) (drop-replicate (length items) n x)
 
 pub is_some_used : {A : Type 0} (blank : A → Bool) (room : ℕ) (s : List A) (n : ℕ) → length s ≡ room
-    → is_some (used blank room s n) ≡ (nat_le n room && every blank (drop n s))
+    → is_some (used blank room s n) ≡ (nat_le n room && list_all blank (drop n s))
 unfolding used
 is_some_used blank room s n long = grind (arith, common_steps)
 
 pub holds_used : {A : Type 0} (blank : A → Bool) (room : ℕ) (rule : List A → Bool) (s : List A) (n : ℕ) → n ≤ room
-    → length s ≡ room → holds rule (used blank room s n) ≡ (every blank (drop n s) && rule (take n s))
+    → length s ≡ room → holds rule (used blank room s n) ≡ (list_all blank (drop n s) && rule (take n s))
 unfolding used
 holds_used blank room rule s n few long = grind (arith, common_steps)
 
@@ -53,7 +52,7 @@ uses_told blank room rule s n = (
   λ t. grind (arith, t.long, t.inside, t.clear, t.follows),
 )
 
-all_blank : {A : Type 0} (blank : A → Bool) (x : A) (n : ℕ) → blank x ≡ true → every blank (replicate n x) ≡ true
+all_blank : {A : Type 0} (blank : A → Bool) (x : A) (n : ℕ) → blank x ≡ true → list_all blank (replicate n x) ≡ true
 all_blank blank x zero h = refl
 all_blank blank x (suc n) h = rw h (all_blank blank x n h)
 
@@ -64,6 +63,6 @@ kept_used {A} blank x room rule items fits blanks follows =
     let rest = replicate (room - length items) x in record {
       long = length-append items rest ∙ omega (arith, length-replicate {A = A} (room - length items) x);
       inside = fits;
-      clear = ap (every blank) (drop-append_seam items rest) ∙ all_blank blank x (room - length items) blanks;
+      clear = ap (list_all blank) (drop-append_seam items rest) ∙ all_blank blank x (room - length items) blanks;
       follows = ap rule (take-append_seam items rest) ∙ follows;
     }

@@ -1,12 +1,8 @@
 -- Memory that is written from a place on, part after part.
 --   Wrote lent b out p s      the bytes s stand in the lent memory from b on, and p is the place after them
 -- Assumes nothing.
-use Prim.Native.Nat.{ℕ, ◌+◌}
-use mathlib.Core.Path.{◌≡◌, ap, ◌∙◌}
-use mathlib.Core.List.{List, ◌++◌}
-use native.Mathlib.Omega.{arith}
-use lib.ListN.{length, length-append}
-use lib.Seq.{sets, length-sets}
+use Rattle.std.proofs.Common.{ℕ, ◌+◌, ◌≡◌, ap, ◌∙◌, List, ◌++◌, arith, length, length-append}
+use Rattle.std.proofs.Math.Seq.{sets, length-sets}
 use Rattle.text.proofs.Stores.{sets_then}
 
 module _ (lent : List ℕ) (b : ℕ) where
@@ -15,8 +11,8 @@ module _ (lent : List ℕ) (b : ℕ) where
     pub place : p ≡ b + length s
 
   module _ {out : List ℕ} {p : ℕ} {s : List ℕ} (w : Wrote out p s) where
-    pub wrote-room : length out ≡ length lent
-    wrote-room = ap length w.bytes ∙ length-sets lent b s
+    pub wrote_room : length out ≡ length lent
+    wrote_room = ap length w.bytes ∙ length-sets lent b s
 
     pub wrote_then : (t : List ℕ) {m : List ℕ} {q : ℕ} → m ≡ sets out p t → q ≡ p + length t → Wrote m q (s ++ t)
     wrote_then t e f = record {

@@ -7,11 +7,11 @@
 -- Assumes nothing.
 use Rattle.std.specs.Prelude.{ℕ, ◌-◌, ◌≡◌, ◌≤◌, IsTrue, Bool, false, ◌&&◌, List, ◌++◌, length, take, drop, replicate}
 use Rattle.std.specs.Prelude.{nat_le, ◌==◌, Option, Some, None, if◌then◌else◌}
-use Rattle.text.specs.Scans.{every}
+use Rattle.std.specs.List.{list_all}
 
 unfoldable pub used : {A : Type 0} → (A → Bool) → ℕ → List A → ℕ → Option (List A)
 used blank room s n =
-    if length s == room && nat_le n room && every blank (drop n s) then Some (take n s) else None
+    if length s == room && nat_le n room && list_all blank (drop n s) then Some (take n s) else None
 
 abbrev pub holds : {A : Type 0} → (List A → Bool) → Option (List A) → Bool
 holds rule None = false
@@ -23,5 +23,5 @@ kept x room items = items ++ replicate (room - length items) x
 pub record Uses {A : Type 0} (blank : A → Bool) (room : ℕ) (rule : List A → Bool) (s : List A) (n : ℕ) : Type 0 where
   pub long : length s ≡ room
   pub inside : n ≤ room
-  pub clear : IsTrue (every blank (drop n s))
+  pub clear : IsTrue (list_all blank (drop n s))
   pub follows : IsTrue (rule (take n s))

@@ -1,11 +1,11 @@
 -- Tables of numbers (RULES, The numbers a call gives): the first row that applies decides.
 --   n when t                    the row of the number n, which applies where t holds
 --   first_of rows               the number of the first row that applies, and 0 where none does
---   byRows rows refuse done     what is refused with that number; what is done where no row applies
+--   by_rows rows refuse done    what is refused with that number; what is done where no row applies
 --   NoneOf rows                 no row applies
---   isNumbered row              its number is not 0, which no refusal has
+--   is_numbered row             its number is not 0, which no refusal has
 -- Assumes nothing.
-use Rattle.std.specs.Prelude.{ℕ, ◌≡◌, Bool, false, not, List, [], ◌∷◌, eqb, if◌then◌else◌}
+use Rattle.std.specs.Prelude.{ℕ, ◌≡◌, Bool, false, not, List, [], ◌∷◌, if◌then◌else◌, ◌==◌}
 
 infix 30 ◌when◌
 pub record Row : Type 0 where
@@ -19,13 +19,13 @@ abbrev pub first_of : List Row → ℕ
 first_of [] = 0
 first_of (row ∷ rows) = if row.applies then row.number else first_of rows
 
-abbrev pub byRows : {R : Type 0} → List Row → (ℕ → R) → R → R
-byRows [] refuse done = done
-byRows (row ∷ rows) refuse done = if row.applies then refuse row.number else byRows rows refuse done
+abbrev pub by_rows : {R : Type 0} → List Row → (ℕ → R) → R → R
+by_rows [] refuse done = done
+by_rows (row ∷ rows) refuse done = if row.applies then refuse row.number else by_rows rows refuse done
 
 abbrev pub NoneOf : List Row → Type 0
 NoneOf [] = Unit {0}
 NoneOf (row ∷ rows) = (row.applies ≡ false) × NoneOf rows
 
-abbrev pub isNumbered : Row → Bool
-isNumbered row = not (eqb row.number 0)
+abbrev pub is_numbered : Row → Bool
+is_numbered row = not (row.number == 0)

@@ -5,7 +5,7 @@ pub mod rooms;
 
 ghost use Rattle.std.specs.Prelude.{◌≡◌, ◌+◌, ◌≤◌, length};
 ghost use Rattle.std.proofs.lemmas.List.Edits.{sets};
-ghost use Rattle.text.specs.Scans.{sameBy, itself};
+ghost use Rattle.text.specs.Scans.{same_by, itself};
 
 /// All of `src` into `out`, from the place `at` on. A byte at a time: the compiler cannot know that two lent memories
 /// lie apart, so `copy_from_slice` would be `memmove`, which the archive does not ask a host for.
@@ -20,7 +20,7 @@ pub fn put(out: &mut [u8], at: usize, src: &[u8])
 
 // Whether a and b hold the same bytes.
 pub fn same(a: &[u8], b: &[u8]) -> bool
-    ensures { result ≡ sameBy itself a.now b.now }
+    ensures { result ≡ same_by itself a.now b.now }
 {
     if a.len() != b.len() {
         return false;

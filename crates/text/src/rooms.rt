@@ -1,7 +1,7 @@
 // A room: an array of a record, of which so many places are used, from its start, and the others are blank
 // (RULES, The legal record, "Unused room").
 ghost use Rattle.std.specs.Prelude.{◌≡◌, ◌==◌, ◌≤◌, Bool, not, length, option_map};
-ghost use Rattle.text.specs.Scans.{every};
+ghost use Rattle.std.specs.List.{list_all};
 ghost use Rattle.text.specs.Rooms.{used, kept};
 
 /// What stands at a place that is not used: zero, of whatever type.
@@ -39,7 +39,7 @@ impl Blank for bool {
 
 /// Whether each of these places is blank. No turn leaves early, so that sixteen bytes go at once.
 pub fn are_blank<T: Blank>(places: &[T]) -> bool
-    ensures { result ≡ every T.blank places.now }
+    ensures { result ≡ list_all T.blank places.now }
 {
     let mut blank = true;
     for place in places {

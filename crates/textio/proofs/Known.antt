@@ -1,15 +1,10 @@
 -- What is known of a source and a sink behind memory: what is taken of the bytes read ahead, and the front of a line
 -- that is kept.
 -- Assumes nothing.
-use Prim.Native.Nat.{ℕ, ◌+◌, ◌-◌, ◌≤◌, min}
-use mathlib.Core.Path.{◌≡◌, sym, ap, ◌∙◌}
-use mathlib.Core.List.{List, ◌++◌, append_assoc}
-use native.Mathlib.Omega.{arith}
-use lib.ListN.{length, take, drop, length-take}
-use lib.Seq.{drop-append-le, length-take-le}
-use Rattle.std.proofs.Common.{slice_range, take-append-drop, drop-drop}
+use Rattle.std.proofs.Common.{slice_range, take-append-drop, drop-drop, ℕ, ◌+◌, ◌-◌, ◌≤◌, min, ◌≡◌, sym, ap, ◌∙◌, List}
+use Rattle.std.proofs.Common.{◌++◌, append_assoc, arith, length, take, drop, length-take, length-take-le}
 use Rattle.std.proofs.Math.Seq.{take-append-add}
-use Rattle.std.proofs.lemmas.List.{take_min, drop-take}
+use Rattle.std.proofs.lemmas.List.{take_min, drop-take, drop-append-le}
 use Rattle.std.proofs.lemmas.Slice.{between_is}
 use Rattle.std.specs.Prelude.{None, Some}
 use Rattle.std.specs.declared.option.Option.{Option}

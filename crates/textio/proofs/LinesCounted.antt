@@ -1,19 +1,12 @@
 -- A log has no more lines than bytes, and no line longer than it.
 -- Assumes nothing.
-use Prim.Native.Nat.{ℕ, zero, suc, ◌+◌, ◌≤◌}
-use mathlib.Core.Path.{◌≡◌, sym, subst}
-use mathlib.Core.Bool.{Bool, true, false}
-use mathlib.Core.List.{List, [], ◌∷◌, ◌++◌}
-use native.Mathlib.Omega.{arith}
-use mathlib.Core.Logic.{⊎_elim}
-use lib.ListN.{length, length-append}
-use lib.Dec.{eqb}
-use borrow.Author.Tests.{eqb-false}
-use Rattle.std.proofs.Common.{Any, ◌⊎◌, inl, inr}
+use Rattle.std.proofs.lemmas.Bool.{eqb-false}
+use Rattle.std.proofs.Common.{Any, ◌⊎◌, inl, inr, ℕ, zero, suc, ◌+◌, ◌≤◌, ◌≡◌, sym, subst, Bool, true, false, List, []}
+use Rattle.std.proofs.Common.{◌∷◌, ◌++◌, arith, ⊎_elim, length, length-append, ◌==◌}
 use Rattle.std.specs.Prelude.{if◌then◌else◌}
 use Rattle.text.specs.Words.{◌is◌}
-use Rattle.text.proofs.Choices.{if-all, if-by}
-use Rattle.textio.specs.Lines.{lines_from, lines_of, countMost, HasEndlessLine, IsTooLong}
+use Rattle.text.proofs.Choices.{if_all, if_by}
+use Rattle.textio.specs.Lines.{lines_from, lines_of, count_most, HasEndlessLine, IsTooLong}
 
 -- what holds of a line holds of the first or of a later one
 any_line : (P : List ℕ → Type 0) (l : List ℕ) (ls : List (List ℕ)) → Any P (l ∷ ls) → P l ⊎ Any P ls
@@ -33,7 +26,7 @@ line_fits : (m : ℕ) (g bs : List ℕ) → Any (λ (l : List ℕ). m ≤ length
 unfolding lines_from
 line_fits m g [] h =
     let P : List ℕ → Type 0 = λ l. m ≤ length l in
-    either_line P (m ≤ length g + 0) (eqb (length g) 0) [] (g ∷ []) (λ k. absurd (no_line P k))
+    either_line P (m ≤ length g + 0) (length g == 0) [] (g ∷ []) (λ k. absurd (no_line P k))
     (λ k. ⊎_elim (λ (e : m ≤ length g). omega (arith, e)) (λ (e : Any P []). absurd (no_line P e)) (any_line P g [] k))
     h
 line_fits m g (b ∷ bs) h =
@@ -47,14 +40,14 @@ line_fits m g (b ∷ bs) h =
 pub lines_fit : (g bs : List ℕ) → length (lines_from g bs) ≤ length g + length bs
 unfolding lines_from
 lines_fit g [] =
-    if-by (λ (ls : List (List ℕ)). length ls ≤ length g + 0) (eqb (length g) 0) (λ e. omega arith)
+    if_by (λ (ls : List (List ℕ)). length ls ≤ length g + 0) (length g == 0) (λ e. omega arith)
     (λ e. let h : length g ≡ 0 → ⊥ = eqb-false (length g) 0 e in omega arith)
 lines_fit g (b ∷ bs) =
-    if-all (λ (ls : List (List ℕ)). length ls ≤ length g + suc (length bs)) (b is "\n")
+    if_all (λ (ls : List (List ℕ)). length ls ≤ length g + suc (length bs)) (b is "\n")
     (omega (arith, lines_fit [] bs)) (omega (arith, lines_fit (g ++ (b ∷ [])) bs, length-append g (b ∷ [])))
 
 -- a log that is too long has as many bytes
-pub too_long_bytes : (log : List ℕ) → IsTooLong log → countMost ≤ length log
+pub too_long_bytes : (log : List ℕ) → IsTooLong log → count_most ≤ length log
 too_long_bytes log h =
-    ⊎_elim (λ (e : countMost ≤ length (lines_of log)). omega (arith, e, lines_fit [] log))
-    (λ (e : HasEndlessLine log). omega (arith, line_fits countMost [] log e)) h
+    ⊎_elim (λ (e : count_most ≤ length (lines_of log)). omega (arith, e, lines_fit [] log))
+    (λ (e : HasEndlessLine log). omega (arith, line_fits count_most [] log e)) h

@@ -1,13 +1,8 @@
 -- A line of a log by the parts in which it is read.
 -- Assumes nothing.
-use Prim.Native.Nat.{ℕ, zero, suc, ◌+◌, ◌<◌, ◌≤◌}
-use mathlib.Core.Path.{◌≡◌, refl, sym, ap, subst, ◌∙◌}
-use mathlib.Core.Bool.{Bool, true, false}
-use mathlib.Core.List.{List, [], ◌∷◌, ◌++◌, append-nil, append_assoc}
-use native.Mathlib.Omega.{arith}
-use lib.ListN.{length, take, length-append, length-take}
-use borrow.Author.Tests.{ne_eqb}
-use Rattle.std.proofs.Common.{All, Any, ◌≢◌, None, Some, IfSome}
+use Rattle.std.proofs.Common.{All, Any, ◌≢◌, None, Some, IfSome, ℕ, zero, suc, ◌+◌, ◌<◌, ◌≤◌, ◌≡◌, refl, sym, ap, subst}
+use Rattle.std.proofs.Common.{◌∙◌, Bool, true, false, List, [], ◌∷◌, ◌++◌, append-nil, append_assoc, arith, length}
+use Rattle.std.proofs.Common.{take, length-append, length-take, ne_eqb}
 use Rattle.std.specs.declared.option.Option.{Option}
 use Rattle.std.specs.Io.KnownBytes.{Keeps, Consumes, IsAtEnd}
 use Rattle.std.proofs.KnownBytes.{Consumes-nil, Consumes-trans}
@@ -15,7 +10,7 @@ use Rattle.std.proofs.lemmas.List.Elements.{All-nil, All-head, All-tail, All-app
 use Rattle.std.specs.Prelude.{if◌then◌else◌}
 use Rattle.text.specs.Words.{◌is◌}
 use Rattle.text.proofs.Choices.{if_no}
-use Rattle.textio.specs.Lines.{lines_from, lines_of, countMost, HasEndlessLine}
+use Rattle.textio.specs.Lines.{lines_from, lines_of, count_most, HasEndlessLine}
 use Rattle.textio.specs.NextLine.{TakesPart, IsNextLine}
 
 abbrev NoLf : List ℕ → Type 0
@@ -49,18 +44,18 @@ take_kept (suc m) [] ys = refl
 take_kept (suc m) (x ∷ xs) ys = ap (λ (l : List ℕ). x ∷ l) (take_kept m xs ys)
 
 abbrev AnyEndless : List (List ℕ) → Type 0
-AnyEndless ls = Any (λ (l : List ℕ). countMost ≤ length l) ls
+AnyEndless ls = Any (λ (l : List ℕ). count_most ≤ length l) ls
 
-first_here : (g : List ℕ) (ls : List (List ℕ)) → countMost ≤ length g → AnyEndless (g ∷ ls)
+first_here : (g : List ℕ) (ls : List (List ℕ)) → count_most ≤ length g → AnyEndless (g ∷ ls)
 first_here g ls h = (0, g, omega arith, refl, h)
 
-either : (lf : Bool) (g : List ℕ) (ls ms : List (List ℕ)) → countMost ≤ length g → AnyEndless ms
+either : (lf : Bool) (g : List ℕ) (ls ms : List (List ℕ)) → count_most ≤ length g → AnyEndless ms
     → AnyEndless (if lf then g ∷ ls else ms)
 either true g ls ms h k = first_here g ls h
 either false g ls ms h k = k
 
 -- a line that has begun so is the first
-first_long : (g rest : List ℕ) → countMost ≤ length g → AnyEndless (lines_from g rest)
+first_long : (g rest : List ℕ) → count_most ≤ length g → AnyEndless (lines_from g rest)
 unfolding lines_from
 first_long g [] h =
     subst AnyEndless (sym (if_no _ _ (ne_eqb (length g) 0 (λ e. omega (arith, h, e))))) (first_here g [] h)
@@ -166,10 +161,10 @@ module _ (old new : Option (List ℕ)) (memory : List ℕ) where
             ∙ nothing p.part (omega (arith, ap length p.kept, length-take held memory, none))
 
     -- so many parts, of a byte at least each
-    pub endless : countMost ≤ n → IfSome old HasEndlessLine
+    pub endless : count_most ≤ n → IfSome old HasEndlessLine
     endless many = by old mid p.taken
       where
-        long : countMost ≤ length p.part
+        long : count_most ≤ length p.part
         long = omega (arith, many, p.some)
 
         by : (a b : Option (List ℕ)) → Consumes a b (p.part ++ []) → IfSome a HasEndlessLine

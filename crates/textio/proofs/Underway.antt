@@ -4,18 +4,15 @@
 --       `told s ls` is what is written for the lines ls from the state s on, `last s ls` what they leave. From s on n
 --       lines of the log are played: the state is `at`, and `now` is in the sink
 -- Assumes nothing.
-use Prim.Native.Nat.{ℕ, suc, ◌+◌, ◌≤◌}
-use mathlib.Core.Path.{◌≡◌, refl, sym, ap, subst, ◌∙◌}
-use mathlib.Core.List.{List, [], ◌∷◌, ◌++◌, append-nil, append_assoc}
-use native.Mathlib.Omega.{arith}
-use lib.ListN.{length, take, drop, length-append}
-use Rattle.std.proofs.Common.{None, Some, IfSome, IfErr, Result, Err, ◌≢◌, Any, take-append-drop, inl, inr, ◌<◌}
+use Rattle.std.proofs.Common.{None, Some, IfSome, IfErr, Result, Err, ◌≢◌, Any, take-append-drop, inl, inr, ◌<◌, ℕ, suc}
+use Rattle.std.proofs.Common.{◌+◌, ◌≤◌, ◌≡◌, refl, sym, ap, subst, ◌∙◌, List, [], ◌∷◌, ◌++◌, append-nil, append_assoc}
+use Rattle.std.proofs.Common.{arith, length, take, drop, length-append}
 use Rattle.std.proofs.Math.Seq.{take-append_seam}
 use Rattle.std.specs.declared.option.Option.{Option}
 use Rattle.std.specs.declared.io.Error.{Error}
 use Rattle.std.specs.Io.KnownBytes.{Keeps, Appends}
 use Rattle.std.proofs.KnownBytes.{Appends-nil, Appends-trans, Appends-kept}
-use Rattle.textio.specs.Lines.{lines_of, countMost, HasEndlessLine, IsTooLong}
+use Rattle.textio.specs.Lines.{lines_of, count_most, HasEndlessLine, IsTooLong}
 use Rattle.textio.specs.Fronts.{WritesFront}
 use Rattle.textio.specs.NextLine.{IsNextLine, IsLine, FailureComesOf}
 use Rattle.textio.specs.declared.lines.Failure.{Failure}
@@ -98,14 +95,14 @@ module _ {S T : Type 0} {told : S → List (List ℕ) → List ℕ} {last : S �
     parted = u.parted;
   }
 
-  pub too_many : countMost ≤ n → IsTooLong log
+  pub too_many : count_most ≤ n → IsTooLong log
   too_many h = inl (omega (arith, h, u.many, ap length u.parted, length-append u.front (lines_of u.rest)))
 
   pub endless : IfSome left HasEndlessLine → IsTooLong log
   endless h =
       let rest = subst (λ (o : Option (List ℕ)). IfSome o HasEndlessLine) u.known h in
-      inr (subst (λ (ls : List (List ℕ)). Any (λ (l : List ℕ). countMost ≤ length l) ls) (sym u.parted)
-      (later_of (λ (l : List ℕ). countMost ≤ length l) u.front (lines_of u.rest) rest))
+      inr (subst (λ (ls : List (List ℕ)). Any (λ (l : List ℕ). count_most ≤ length l) ls) (sym u.parted)
+      (later_of (λ (l : List ℕ). count_most ≤ length l) u.front (lines_of u.rest) rest))
 
   -- a line comes next
   pub line_is : (left_then : Option (List ℕ)) (memory : List ℕ) (held : ℕ)
@@ -175,7 +172,7 @@ came reads writes long a left TooLong f h = each a _ _ (λ log x. x h) f
 -- a log with fewer bytes is not too long
 pub not_too_long : {T : Type 0} (a : Option (List ℕ)) (r : Result T Failure) (reads writes : Error → Type 0)
     → IfErr r (FailureComesOf reads writes IsTooLong a)
-    → IfSome a (λ log. length log < countMost → r ≢ Err TooLong)
+    → IfSome a (λ log. length log < count_most → r ≢ Err TooLong)
 not_too_long None r reads writes h = tt
 not_too_long {T} (Some log) r reads writes h =
     λ short e.

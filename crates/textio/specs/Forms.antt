@@ -4,11 +4,11 @@
 use Rattle.std.specs.Prelude.{ℕ, Bool, List, [], ◌∷◌, ◌++◌, ◌==◌}
 use Rattle.std.specs.List.{before_first, after_first}
 use Prim.Native.Char.{code}
-use Rattle.numbers.specs.Decimal.{longDigits}
+use Rattle.numbers.specs.Decimal.{long_digits}
 
 abbrev pub is_gap : ℕ → Bool
 is_gap b = b == code "#"
 
 unfoldable pub form_filled : List ℕ → List ℕ → List ℕ
 form_filled form [] = form
-form_filled form (n ∷ ns) = before_first is_gap form ++ (longDigits n ++ form_filled (after_first is_gap form) ns)
+form_filled form (n ∷ ns) = before_first is_gap form ++ (long_digits n ++ form_filled (after_first is_gap form) ns)

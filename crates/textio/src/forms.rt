@@ -2,7 +2,7 @@
 // and the caller ends there: nothing is written after a gap.
 ghost use Rattle.std.specs.Prelude.{◌≡◌};
 ghost use Rattle.std.specs.List.{before_first, after_first};
-ghost use Rattle.numbers.specs.Decimal.{longDigits};
+ghost use Rattle.numbers.specs.Decimal.{long_digits};
 ghost use Rattle.textio.specs.Fronts.{WritesText};
 ghost use Rattle.textio.specs.Forms.{is_gap, form_filled};
 
@@ -11,7 +11,7 @@ use std::io;
 
 /// Writes the number in decimal digits, with no leading zero.
 pub fn put_number<W: ByteSink>(to: &mut W, n: u64) -> io::Result<()>
-    ensures { WritesText W.fails_with (W.contents to.old) (W.contents to.new) result (longDigits n) }
+    ensures { WritesText W.fails_with (W.contents to.old) (W.contents to.new) result (long_digits n) }
 {
     let mut digits = [0u8; 20];
     let length = numbers::put_long(&mut digits, 0, n);

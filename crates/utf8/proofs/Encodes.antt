@@ -1,18 +1,14 @@
 -- RFC 3629 by bytes and by numbers is one (RULES, Texts): bytes are well-formed by the table of section 4 exactly where
 -- they are what section 3 makes of a list of scalar values. Each row of the table is gone through once (`ladder`).
 -- Assumes nothing.
-use Prim.Native.Nat.{ℕ, suc, ◌≤◌}
-use mathlib.Core.Path.{◌≡◌, refl, ap, ◌∙◌}
-use mathlib.Core.Bool.{true, false≢true}
-use mathlib.Core.List.{List, [], ◌∷◌, ◌++◌}
-use mathlib.Core.Logic.{⊎_elim}
-use native.Mathlib.Omega.{arith}
-use Rattle.text.specs.Scans.{every}
-use Rattle.text.proofs.Choices.{if-by, both, both_left, both_right}
-use Rattle.text.proofs.Orders.{le-or-lt}
-use Rattle.utf8.specs.Utf8.{Range, ◌upto◌, ◌in_range◌, utf8Rows, noRest, restFrom, isFrom, isUtf8}
-use Rattle.utf8.specs.Utf8.{is_scalar, encoded, encodedAll, Encodes}
-use Rattle.utf8.proofs.Rows.{is_row, in-range-low, in-range-high, past}
+use Rattle.std.specs.List.{list_all}
+use Rattle.std.proofs.Common.{ℕ, suc, ◌≤◌, ◌≡◌, refl, ap, ◌∙◌, true, List, [], ◌∷◌, ◌++◌, ⊎_elim, arith}
+use Rattle.std.proofs.lemmas.Bool.{false≢true}
+use Rattle.text.proofs.Choices.{if_by, both, both_left, both_right}
+use Rattle.text.proofs.Orders.{le_or_lt}
+use Rattle.utf8.specs.Utf8.{Range, ◌upto◌, ◌in_range◌, utf8_rows, no_rest, rest_from, is_from, is_utf8}
+use Rattle.utf8.specs.Utf8.{is_scalar, encoded, encoded_all, Encodes}
+use Rattle.utf8.proofs.Rows.{is_row, in_range-low, in_range-high, past}
 use Rattle.utf8.proofs.Ladder.{Meant, Ladder, top, surrogates, rung, ladder, scalar}
 
 -- ---- a scalar value is found in the table: by its first byte, and the bytes after it
@@ -22,25 +18,25 @@ pub record Found (b : ℕ) (rows : List (List Range)) (c : List ℕ) : Type 0 wh
   pub least : b ≤ first
   pub after : List ℕ
   pub same : c ≡ first ∷ after
-  pub fits : is_row (restFrom rows first) after ≡ true
+  pub fits : is_row (rest_from rows first) after ≡ true
 
 module _ {b : ℕ} {r : Range} {rest : List Range} {rows : List (List Range)} (up : b ≤ r.low) (o : r.low ≤ r.high)
   where
     here : (c : List ℕ) → is_row (r ∷ rest) c ≡ true → Found b ((r ∷ rest) ∷ rows) c
-    unfolding restFrom
+    unfolding rest_from
     here [] e = absurd (false≢true e)
     here (x ∷ c) e =
-        let first-in = both_left (x in_range r) _ e in
+        let first_in = both_left (x in_range r) _ e in
         record {
           first = x;
-          least = omega (arith, in-range-low x r first-in);
+          least = omega (arith, in_range-low x r first_in);
           after = c;
           same = refl;
-          fits = rw first-in (both_right (x in_range r) _ e);
+          fits = rw first_in (both_right (x in_range r) _ e);
         }
 
     there : {c : List ℕ} → Found (suc r.high) rows c → Found b ((r ∷ rest) ∷ rows) c
-    unfolding restFrom
+    unfolding rest_from
     there f = record {
       first = f.first;
       least = omega arith;
@@ -55,61 +51,61 @@ found top n l s = absurd (⊎_elim (λ p. omega arith) (λ p. omega arith) (scal
 found (surrogates rows) n l s =
     found rows n (⊎_elim (λ p. omega arith) (λ p. omega arith) (scalar n s)) s
 found (rung {b} {high} {r} m o rows) n l s =
-    let up = in-range-low r.low (b upto r.high) o in
-    let wide = in-range-high r.low (b upto r.high) o in
-    ⊎_elim (λ h. here up wide (encoded n) (m.encodes n l h)) (λ h. there up wide (found rows n h s)) (le-or-lt n high)
+    let up = in_range-low r.low (b upto r.high) o in
+    let wide = in_range-high r.low (b upto r.high) o in
+    ⊎_elim (λ h. here up wide (encoded n) (m.encodes n l h)) (λ h. there up wide (found rows n h s)) (le_or_lt n high)
 
 -- ---- and what is found in the table is a scalar value
 
-no-rest : (c : List ℕ) → is_row noRest c ≡ true → ⊥
-no-rest [] e = false≢true e
-no-rest (b ∷ c) e =
-    let in-none = both_left (b in_range (1 upto 0)) _ e in
-    omega (arith, in-range-low b (1 upto 0) in-none, in-range-high b (1 upto 0) in-none)
+no_rest_lem : (c : List ℕ) → is_row no_rest c ≡ true → ⊥
+no_rest_lem [] e = false≢true e
+no_rest_lem (b ∷ c) e =
+    let in_none = both_left (b in_range (1 upto 0)) _ e in
+    omega (arith, in_range-low b (1 upto 0) in_none, in_range-high b (1 upto 0) in_none)
 
 meant : {b n₀ : ℕ} {rows : List (List Range)} → Ladder b n₀ rows → (x : ℕ) (c : List ℕ)
-    → is_row (restFrom rows x) c ≡ true → Meant (x ∷ c)
-unfolding restFrom
-meant top x c = (λ e. absurd (no-rest c e))
+    → is_row (rest_from rows x) c ≡ true → Meant (x ∷ c)
+unfolding rest_from
+meant top x c = (λ e. absurd (no_rest_lem c e))
 meant (surrogates rows) x c = meant rows x c
 meant (rung {r} m o rows) x c =
-    if-by (λ (rest : List Range). is_row rest c ≡ true → Meant (x ∷ c)) (x in_range r)
-    (λ first-in e. m.decodes (x ∷ c) (both first-in e)) (λ out. meant rows x c)
+    if_by (λ (rest : List Range). is_row rest c ≡ true → Meant (x ∷ c)) (x in_range r)
+    (λ first_in e. m.decodes (x ∷ c) (both first_in e)) (λ out. meant rows x c)
 
 -- ---- sequences
 
-passed : (row : List Range) (c s : List ℕ) → is_row row c ≡ true → isFrom row (c ++ s) ≡ isFrom [] s
+passed : (row : List Range) (c s : List ℕ) → is_row row c ≡ true → is_from row (c ++ s) ≡ is_from [] s
 passed [] [] s e = refl
 passed [] (b ∷ c) s e = absurd (false≢true e)
 passed (r ∷ row) [] s e = absurd (false≢true e)
 passed (r ∷ row) (b ∷ c) s e =
     rw (both_left (b in_range r) _ e) (passed row c s (both_right (b in_range r) _ e))
 
-one-encoded : (n : ℕ) (s : List ℕ) → is_scalar n ≡ true → isFrom [] (encoded n ++ s) ≡ isFrom [] s
-one-encoded n s e =
+one_encoded : (n : ℕ) (s : List ℕ) → is_scalar n ≡ true → is_from [] (encoded n ++ s) ≡ is_from [] s
+one_encoded n s e =
     let f = found ladder n (omega arith) e in
-    ap (λ (c : List ℕ). isFrom [] (c ++ s)) f.same ∙ passed (restFrom utf8Rows f.first) f.after s f.fits
+    ap (λ (c : List ℕ). is_from [] (c ++ s)) f.same ∙ passed (rest_from utf8_rows f.first) f.after s f.fits
 
 -- what section 3 makes of scalar values is well-formed by section 4
-pub encodings-well-formed : (ns : List ℕ) → every is_scalar ns ≡ true → isUtf8 (encodedAll ns) ≡ true
-unfolding isUtf8
-encodings-well-formed [] e = refl
-encodings-well-formed (n ∷ ns) e =
-    one-encoded n (encodedAll ns) (both_left (is_scalar n) _ e)
-    ∙ encodings-well-formed ns (both_right (is_scalar n) _ e)
+pub encodings_well_formed : (ns : List ℕ) → list_all is_scalar ns ≡ true → is_utf8 (encoded_all ns) ≡ true
+unfolding is_utf8
+encodings_well_formed [] e = refl
+encodings_well_formed (n ∷ ns) e =
+    one_encoded n (encoded_all ns) (both_left (is_scalar n) _ e)
+    ∙ encodings_well_formed ns (both_right (is_scalar n) _ e)
 
 -- the rest of a character, and the numbers of those after it
 record Read (row : List Range) (s : List ℕ) : Type 0 where
   rest : List ℕ
   fits : is_row row rest ≡ true
   numbers : List ℕ
-  legal : every is_scalar numbers ≡ true
-  same : s ≡ rest ++ encodedAll numbers
+  legal : list_all is_scalar numbers ≡ true
+  same : s ≡ rest ++ encoded_all numbers
 
-read : (row : List Range) (s : List ℕ) → isFrom row s ≡ true → Read row s
+read : (row : List Range) (s : List ℕ) → is_from row s ≡ true → Read row s
 read [] [] e = record { rest = []; fits = refl; numbers = []; legal = refl; same = refl }
 read [] (b ∷ s) e =
-    let after = read (restFrom utf8Rows b) s e in
+    let after = read (rest_from utf8_rows b) s e in
     let first = meant ladder b after.rest after.fits in
     record {
       rest = [];
@@ -117,7 +113,7 @@ read [] (b ∷ s) e =
       numbers = first.number ∷ after.numbers;
       legal = both first.legal after.legal;
       same = ap (λ (t : List ℕ). b ∷ t) after.same
-          ∙ ap (λ (c : List ℕ). c ++ encodedAll after.numbers) first.same;
+          ∙ ap (λ (c : List ℕ). c ++ encoded_all after.numbers) first.same;
     }
 read (r ∷ row) [] e = absurd (false≢true e)
 read (r ∷ row) (b ∷ s) e =
@@ -135,12 +131,12 @@ no_row [] e = refl
 no_row (b ∷ c) e = absurd (false≢true e)
 
 -- and what is well-formed by section 4 is what section 3 makes of scalar values
-pub well-formed-encodes : (s : List ℕ) → isUtf8 s ≡ true → Encodes s
-unfolding isUtf8
-well-formed-encodes s e =
+pub well_formed_encodes : (s : List ℕ) → is_utf8 s ≡ true → Encodes s
+unfolding is_utf8
+well_formed_encodes s e =
     let all = read [] s e in
     record {
       numbers = all.numbers;
       legal = all.legal;
-      same = all.same ∙ ap (λ (c : List ℕ). c ++ encodedAll all.numbers) (no_row all.rest all.fits);
+      same = all.same ∙ ap (λ (c : List ℕ). c ++ encoded_all all.numbers) (no_row all.rest all.fits);
     }

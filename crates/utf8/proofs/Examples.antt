@@ -1,11 +1,8 @@
 -- Vectors of UTF-8: the examples of RFC 3629, section 7, and the borders of its tables.
 -- Assumes nothing.
-use Prim.Native.Nat.{ℕ}
-use mathlib.Core.Path.{◌≡◌, refl}
-use mathlib.Core.Bool.{Bool, true, not}
-use mathlib.Core.List.{List, [], ◌∷◌, map}
-use Rattle.text.specs.Scans.{every}
-use Rattle.utf8.specs.Utf8.{isUtf8, is_scalar, encoded, encodedAll}
+use Rattle.std.specs.List.{list_all}
+use Rattle.std.proofs.Common.{ℕ, ◌≡◌, refl, Bool, true, not, List, [], ◌∷◌, map}
+use Rattle.utf8.specs.Utf8.{is_utf8, is_scalar, encoded, encoded_all}
 
 -- "A<NOT IDENTICAL TO><ALPHA>."; the Korean "hangugeo"; the Japanese "nihongo"; a byte order mark and U+233B4
 abbrev points : List (List ℕ)
@@ -24,13 +21,13 @@ octets =
     ∷ (0xEF ∷ 0xBB ∷ 0xBF ∷ 0xF0 ∷ 0xA3 ∷ 0x8E ∷ 0xB4 ∷ [])
     ∷ []
 
-section-7 : map encodedAll points ≡ octets
+section_7 : map encoded_all points ≡ octets
 unfolding encoded
-section-7 = refl
+section_7 = refl
 
-section-7-well-formed : every isUtf8 octets ≡ true
-unfolding isUtf8
-section-7-well-formed = refl
+section_7_well_formed : list_all is_utf8 octets ≡ true
+unfolding is_utf8
+section_7_well_formed = refl
 
 -- the first and the last number of each length, and those beside the surrogates
 borders : map encoded
@@ -41,61 +38,61 @@ borders : map encoded
 unfolding encoded
 borders = refl
 
-well-formed : every isUtf8
+well_formed : list_all is_utf8
     ((0x00 ∷ []) ∷ (0x7F ∷ []) ∷ (0xC2 ∷ 0x80 ∷ []) ∷ (0xDF ∷ 0xBF ∷ []) ∷ (0xE0 ∷ 0xA0 ∷ 0x80 ∷ [])
     ∷ (0xED ∷ 0x9F ∷ 0xBF ∷ []) ∷ (0xEE ∷ 0x80 ∷ 0x80 ∷ []) ∷ (0xEF ∷ 0xBF ∷ 0xBF ∷ [])
     ∷ (0xF0 ∷ 0x90 ∷ 0x80 ∷ 0x80 ∷ []) ∷ (0xF4 ∷ 0x8F ∷ 0xBF ∷ 0xBF ∷ []) ∷ []) ≡ true
-unfolding isUtf8
-well-formed = refl
+unfolding is_utf8
+well_formed = refl
 
-no-scalars : every (λ (n : ℕ). not (is_scalar n)) (0xD800 ∷ 0xDFFF ∷ 0x110000 ∷ []) ≡ true
-no-scalars = refl
+no_scalars : list_all (λ (n : ℕ). not (is_scalar n)) (0xD800 ∷ 0xDFFF ∷ 0x110000 ∷ []) ≡ true
+no_scalars = refl
 
 abbrev ill : List ℕ → Bool
-ill s = not (isUtf8 s)
+ill s = not (is_utf8 s)
 
 -- overlong forms of U+0000, U+007F, U+07FF and U+FFFF
-overlong : every ill
+overlong : list_all ill
     ((0xC0 ∷ 0x80 ∷ []) ∷ (0xC1 ∷ 0xBF ∷ []) ∷ (0xE0 ∷ 0x80 ∷ 0x80 ∷ []) ∷ (0xE0 ∷ 0x9F ∷ 0xBF ∷ [])
     ∷ (0xF0 ∷ 0x80 ∷ 0x80 ∷ 0x80 ∷ []) ∷ (0xF0 ∷ 0x8F ∷ 0xBF ∷ 0xBF ∷ []) ∷ []) ≡ true
-unfolding isUtf8
+unfolding is_utf8
 overlong = refl
 
 -- U+D800 and U+DFFF, alone and as a pair that means U+10000 elsewhere
-surrogates : every ill
+surrogates : list_all ill
     ((0xED ∷ 0xA0 ∷ 0x80 ∷ []) ∷ (0xED ∷ 0xBF ∷ 0xBF ∷ [])
     ∷ (0xED ∷ 0xA0 ∷ 0x80 ∷ 0xED ∷ 0xB0 ∷ 0x80 ∷ []) ∷ []) ≡ true
-unfolding isUtf8
+unfolding is_utf8
 surrogates = refl
 
 -- U+110000 and more, and bytes that begin nothing
-too_large : every ill
+too_large : list_all ill
     ((0xF4 ∷ 0x90 ∷ 0x80 ∷ 0x80 ∷ []) ∷ (0xF5 ∷ 0x80 ∷ 0x80 ∷ 0x80 ∷ [])
     ∷ (0xF8 ∷ 0x88 ∷ 0x80 ∷ 0x80 ∷ 0x80 ∷ []) ∷ (0xFE ∷ []) ∷ (0xFF ∷ []) ∷ []) ≡ true
-unfolding isUtf8
+unfolding is_utf8
 too_large = refl
 
 -- bytes that only continue, with no character to continue
-lone : every ill
+lone : list_all ill
     ((0x80 ∷ []) ∷ (0xBF ∷ []) ∷ (0x41 ∷ 0x80 ∷ []) ∷ (0xC2 ∷ 0x80 ∷ 0x80 ∷ [])
     ∷ (0xE2 ∷ 0x89 ∷ 0xA2 ∷ 0xBF ∷ []) ∷ []) ≡ true
-unfolding isUtf8
+unfolding is_utf8
 lone = refl
 
 -- characters cut at the end
-cut-at-the-end : every ill
+cut_at_the_end : list_all ill
     ((0xC2 ∷ []) ∷ (0xE2 ∷ []) ∷ (0xE2 ∷ 0x89 ∷ []) ∷ (0xF0 ∷ []) ∷ (0xF0 ∷ 0xA3 ∷ []) ∷ (0xF0 ∷ 0xA3 ∷ 0x8E ∷ [])
     ∷ (0x41 ∷ 0xE2 ∷ 0x89 ∷ []) ∷ []) ≡ true
-unfolding isUtf8
-cut-at-the-end = refl
+unfolding is_utf8
+cut_at_the_end = refl
 
 -- and in the middle, by a letter or by the next character
-cut-in-the-middle : every ill
+cut_in_the_middle : list_all ill
     ((0xC2 ∷ 0x41 ∷ []) ∷ (0xE2 ∷ 0x89 ∷ 0x41 ∷ []) ∷ (0xF0 ∷ 0xA3 ∷ 0x8E ∷ 0x41 ∷ [])
     ∷ (0xE2 ∷ 0x89 ∷ 0xCE ∷ 0x91 ∷ []) ∷ (0xF0 ∷ 0xE2 ∷ 0x89 ∷ 0xA2 ∷ []) ∷ []) ≡ true
-unfolding isUtf8
-cut-in-the-middle = refl
+unfolding is_utf8
+cut_in_the_middle = refl
 
-nothing : isUtf8 [] ≡ true
-unfolding isUtf8
+nothing : is_utf8 [] ≡ true
+unfolding is_utf8
 nothing = refl

@@ -3,17 +3,13 @@
 --   Means low high row      the characters of the row are the encodings of low to high, which are all scalar values
 --   Ladder b n rows         the rows start with bytes from b on, and hold the scalar values from n on
 -- Assumes nothing.
-use Prim.Native.Nat.{ℕ, suc, ◌≤◌}
-use mathlib.Core.Path.{◌≡◌, refl, sym, subst, ◌∙◌}
-use mathlib.Core.Bool.{Bool, true, false, ◌||◌, or-true}
-use mathlib.Core.List.{List, [], ◌∷◌}
-use mathlib.Core.Logic.{◌⊎◌, inl, inr, ⊎_elim}
-use native.Mathlib.Omega.{arith}
-use lib.Dec.{leb}
-use borrow.Author.Tests.{le-leb, lt-leb, leb-true}
+use Rattle.std.proofs.Common.{ℕ, suc, ◌≤◌, ◌≡◌, refl, sym, subst, ◌∙◌, Bool, true, false, ◌||◌, List, [], ◌∷◌, ◌⊎◌, inl}
+use Rattle.std.proofs.Common.{inr, ⊎_elim, arith, nat_le, le-leb, leb-true}
+use Rattle.std.proofs.lemmas.Bool.{lt-leb}
+use Rattle.std.proofs.Math.Bool.{or-true}
 use Rattle.text.proofs.Choices.{if_yes, if_no, both_left, both_right}
-use Rattle.utf8.specs.Utf8.{Range, ◌upto◌, ◌in_range◌, utf8Rows, is_scalar, filled, encoded}
-use Rattle.utf8.proofs.Filled.{filled-once}
+use Rattle.utf8.specs.Utf8.{Range, ◌upto◌, ◌in_range◌, utf8_rows, is_scalar, filled, encoded}
+use Rattle.utf8.proofs.Filled.{filled_once}
 use Rattle.utf8.proofs.Rows.{is_row, Spans, single, second, tailed}
 
 -- ---- scalar values
@@ -29,12 +25,12 @@ module _ (n : ℕ) where
   pub scalar : is_scalar n ≡ true → Scalar n
   scalar e =
       ⊎_elim (λ l. inl (leb-true _ _ l))
-      (λ u. inr (leb-true _ _ (both_left (leb 0xE000 n) _ u), leb-true _ _ (both_right (leb 0xE000 n) _ u)))
-      (either (leb n 0xD7FF) _ e)
+      (λ u. inr (leb-true _ _ (both_left (nat_le 0xE000 n) _ u), leb-true _ _ (both_right (nat_le 0xE000 n) _ u)))
+      (either (nat_le n 0xD7FF) _ e)
 
-  is-scalar : Scalar n → is_scalar n ≡ true
-  is-scalar (inl l) = rw (le-leb n 0xD7FF l)
-  is-scalar (inr u) = rw (le-leb 0xE000 n u.0, le-leb n 0x10FFFF u.1) (or-true (leb n 0xD7FF))
+  is_scalar_lem : Scalar n → is_scalar n ≡ true
+  is_scalar_lem (inl l) = rw (le-leb n 0xD7FF l)
+  is_scalar_lem (inr u) = rw (le-leb 0xE000 n u.0, le-leb n 0x10FFFF u.1) (or-true (nat_le n 0xD7FF))
 
   -- ---- the bit patterns of section 3, each by its numbers
 
@@ -77,10 +73,10 @@ means {lead} {k} {low} {high} {row} m e clear = record {
       let held = m.holds c f in
       record {
         number = held.number;
-        legal = is-scalar held.number (⊎_elim (λ p. inl (omega arith)) (λ p. inr (omega arith, omega arith)) clear);
+        legal = is_scalar_lem held.number (⊎_elim (λ p. inl (omega arith)) (λ p. inr (omega arith, omega arith)) clear);
         same = held.same ∙ sym (e held.number held.least held.most);
       };
-  once = λ a b p q l h same. filled-once lead k a b (sym (e a p q) ∙ same ∙ e b l h);
+  once = λ a b p q l h same. filled_once lead k a b (sym (e a p q) ∙ same ∙ e b l h);
 }
 
 three : {low high : ℕ} {row : List Range} → Spans 0xE0 2 low high row → (0x800 ≤ low) × (high ≤ 0xFFFF)
@@ -100,7 +96,7 @@ pub data Ladder : ℕ → ℕ → List (List Range) → Type 0 where
       → r.low in_range (b upto r.high) ≡ true → Ladder (suc r.high) (suc high) rows
       → Ladder b n ((r ∷ rest) ∷ rows)
 
-pub ladder : Ladder 0x00 0 utf8Rows
+pub ladder : Ladder 0x00 0 utf8_rows
 ladder =
     rung (means (single 0x00 0x00 0x7F) (λ n l h. in_one n h) (inl (omega arith))) refl
     (rung (means (tailed (single 0xC0 0x02 0x1F)) in_two (inl (omega arith))) refl

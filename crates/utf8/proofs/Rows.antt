@@ -3,13 +3,10 @@
 --   is_row row c                  c is a character of the row: one byte in each of its ranges
 --   Spans lead k low high row     its characters are the numbers low to high, filled over `lead` and k bytes after it
 -- Assumes nothing.
-use Prim.Native.Nat.{ℕ, suc, ◌+◌, ◌-◌, ◌*◌, ◌/◌, ◌%◌, ◌≤◌, ◌<◌}
-use mathlib.Core.Path.{◌≡◌, refl, ap, ◌∙◌}
-use mathlib.Core.Bool.{Bool, true, false, ◌&&◌, false≢true, and-false}
-use mathlib.Core.List.{List, [], ◌∷◌, ◌++◌}
-use native.Mathlib.Omega.{arith}
-use lib.Dec.{leb}
-use borrow.Author.Tests.{le-leb, lt-leb, leb-true}
+use Rattle.std.proofs.Common.{ℕ, suc, ◌+◌, ◌-◌, ◌*◌, ◌/◌, ◌%◌, ◌≤◌, ◌<◌, ◌≡◌, refl, ap, ◌∙◌, Bool, true, false, ◌&&◌}
+use Rattle.std.proofs.Common.{List, [], ◌∷◌, ◌++◌, arith, nat_le, le-leb, leb-true}
+use Rattle.std.proofs.lemmas.Bool.{false≢true, lt-leb}
+use Rattle.std.proofs.Math.Bool.{and-false}
 use Rattle.text.proofs.Choices.{both, both_left, both_right}
 use Rattle.utf8.specs.Utf8.{Range, ◌upto◌, ◌in_range◌, filled}
 
@@ -23,14 +20,14 @@ module _ (b : ℕ) (r : Range) where
   pub inside : r.low ≤ b → b ≤ r.high → b in_range r ≡ true
   inside l h = both (le-leb _ _ l) (le-leb _ _ h)
 
-  pub in-range-low : b in_range r ≡ true → r.low ≤ b
-  in-range-low e = leb-true _ _ (both_left (leb r.low b) _ e)
+  pub in_range-low : b in_range r ≡ true → r.low ≤ b
+  in_range-low e = leb-true _ _ (both_left (nat_le r.low b) _ e)
 
-  pub in-range-high : b in_range r ≡ true → b ≤ r.high
-  in-range-high e = leb-true _ _ (both_right (leb r.low b) _ e)
+  pub in_range-high : b in_range r ≡ true → b ≤ r.high
+  in_range-high e = leb-true _ _ (both_right (nat_le r.low b) _ e)
 
   pub past : r.high < b → b in_range r ≡ false
-  past h = rw (lt-leb b r.high h) (and-false (leb r.low b))
+  past h = rw (lt-leb b r.high h) (and-false (nat_le r.low b))
 
 -- a character of a longer row, taken apart at its last byte and put together
 record Ended (row : List Range) (r : Range) (c : List ℕ) : Type 0 where
@@ -82,8 +79,8 @@ module _ (lead low high : ℕ) where
   held [] e = absurd (false≢true e)
   held (b ∷ x ∷ c) e = absurd (false≢true (both_right (b in_range first) false e))
   held (b ∷ []) e =
-      let l = in-range-low b first (both_left (b in_range first) true e) in
-      let h = in-range-high b first (both_left (b in_range first) true e) in
+      let l = in_range-low b first (both_left (b in_range first) true e) in
+      let h = in_range-high b first (both_left (b in_range first) true e) in
       let same : b ≡ lead + (b - lead) = omega arith in
       record { number = b - lead; least = omega arith; most = omega arith; same = ap (λ (x : ℕ). x ∷ []) same }
 
@@ -105,8 +102,8 @@ module _ {lead k low high : ℕ} {row : List Range} (m : Spans lead k low high r
   abbrev most : ℕ
   most = high * 64 + h
 
-  fills-more : (n : ℕ) → least ≤ n → n ≤ most → is_row (row ++ next ∷ []) (filled lead (suc k) n) ≡ true
-  fills-more n p q =
+  fills_more : (n : ℕ) → least ≤ n → n ≤ most → is_row (row ++ next ∷ []) (filled lead (suc k) n) ≡ true
+  fills_more n p q =
       let digit = whole n p q in
       put row next (filled lead k (n / 64)) (0x80 + n % 64)
       (m.fills (n / 64) (omega arith) (omega arith))
@@ -116,21 +113,21 @@ module _ {lead k low high : ℕ} {row : List Range} (m : Spans lead k low high r
   holds_more c e =
       let parts = ended row next c e in
       let above = m.holds parts.start parts.started in
-      let p = in-range-low parts.last next parts.ends in
-      let q = in-range-high parts.last next parts.ends in
+      let p = in_range-low parts.last next parts.ends in
+      let q = in_range-high parts.last next parts.ends in
       let n : ℕ = above.number * 64 + (parts.last - 0x80) in
-      let high-digits : above.number ≡ n / 64 = omega arith in
-      let last-digit : parts.last ≡ 0x80 + n % 64 = omega arith in
+      let high_digits : above.number ≡ n / 64 = omega arith in
+      let last_digit : parts.last ≡ 0x80 + n % 64 = omega arith in
       record {
         number = n;
         least = omega arith;
         most = omega arith;
         same = parts.same ∙ ap (λ (s : List ℕ). s ++ parts.last ∷ []) above.same
-            ∙ (λ i. filled lead k (high-digits i) ++ last-digit i ∷ []);
+            ∙ (λ i. filled lead k (high_digits i) ++ last_digit i ∷ []);
       }
 
   pub more : Spans lead (suc k) least most (row ++ next ∷ [])
-  more = record { fills = fills-more; holds = holds_more }
+  more = record { fills = fills_more; holds = holds_more }
 
 -- after one number of first bytes, any part of the digits; after any, all of them
 module _ {lead k : ℕ} {row : List Range} where

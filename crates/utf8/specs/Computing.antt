@@ -1,7 +1,7 @@
 -- One name that opens this crate's definitions, for computing on concrete bytes only.
 -- Assumes nothing.
-use Rattle.utf8.specs.Utf8.{restFrom, isUtf8, encoded}
+use Rattle.utf8.specs.Utf8.{rest_from, is_utf8, encoded}
 
 unfoldable pub computing : Unit {0}
-unfolding restFrom isUtf8 encoded
+unfolding rest_from is_utf8 encoded
 computing = tt

@@ -4,9 +4,9 @@
 pub mod theorems;
 
 ghost use Rattle.std.specs.Prelude.{◌≡◌, List, ◌∷◌, ℕ};
-ghost use Rattle.utf8.specs.Utf8.{utf8Rows, restFrom, isFrom, isUtf8};
-ghost use Rattle.utf8.specs.Rest.{ranges, isAscii};
-ghost use Rattle.text.specs.Scans.{every};
+ghost use Rattle.utf8.specs.Utf8.{utf8_rows, rest_from, is_from, is_utf8};
+ghost use Rattle.utf8.specs.Rest.{ranges, is_ascii};
+ghost use Rattle.std.specs.List.{list_all};
 
 // What is left of a character: how many bytes, and from which to which the next of them is. Those after it are any that
 // only continue.
@@ -15,7 +15,7 @@ struct Rest(u8, u8, u8);
 
 // What follows a character's first byte, by the rows of the table. No byte is from 1 to 0, where there is no row.
 fn after_first(b: u8) -> Rest
-    ensures { ranges result ≡ restFrom utf8Rows b }
+    ensures { ranges result ≡ rest_from utf8_rows b }
 {
     match b {
         0x00..=0x7F => Rest(0, 0x80, 0xBF),
@@ -33,7 +33,7 @@ fn after_first(b: u8) -> Rest
 
 // What is left after one byte more.
 fn after(r: Rest, b: u8) -> Rest
-    ensures { (s : List ℕ) → isFrom (ranges r) (b ∷ s) ≡ isFrom (ranges result) s }
+    ensures { (s : List ℕ) → is_from (ranges r) (b ∷ s) ≡ is_from (ranges result) s }
 {
     if r.0 == 0 {
         return after_first(b);
@@ -46,7 +46,7 @@ fn after(r: Rest, b: u8) -> Rest
 
 // Well-formed UTF-8, byte by byte.
 fn all_characters(s: &[u8]) -> bool
-    ensures { result ≡ isUtf8 s.now }
+    ensures { result ≡ is_utf8 s.now }
 {
     let mut rest = Rest(0, 0x80, 0xBF);
     for b in s {
@@ -57,7 +57,7 @@ fn all_characters(s: &[u8]) -> bool
 
 // Each byte is a character by itself: what most names are, and sixteen bytes go at once.
 fn all_ascii(s: &[u8]) -> bool
-    ensures { result ≡ every isAscii s.now }
+    ensures { result ≡ list_all is_ascii s.now }
 {
     let mut ok = true;
     for b in s {
@@ -68,7 +68,7 @@ fn all_ascii(s: &[u8]) -> bool
 
 // Whether s is well-formed UTF-8.
 pub fn is_utf8(s: &[u8]) -> bool
-    ensures { result ≡ isUtf8 s.now }
+    ensures { result ≡ is_utf8 s.now }
 {
     if all_ascii(s) {
         return true;

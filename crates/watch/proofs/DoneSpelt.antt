@@ -1,40 +1,37 @@
 -- What an event leaves, by what it is.
 -- Assumes nothing.
-use Prim.Native.Nat.{ℕ}
-use mathlib.Core.Path.{◌≡◌, refl, ap}
-use mathlib.Core.Bool.{Bool}
-use mathlib.Core.List.{List}
+use Rattle.std.proofs.Common.{ℕ, ◌≡◌, refl, ap, Bool, List}
 use Rattle.record.specs.Given.{left_by}
-use Rattle.record.specs.HostCalls.{markSet}
+use Rattle.record.specs.HostCalls.{mark_set}
 use Rattle.record.specs.declared.types.Device.{Device}
 use Rattle.clock.specs.Passing.{passed}
-use Rattle.device.specs.Calls.{Result, replyRoom, received, closedBy}
-use Rattle.floorlog.specs.Events.{opens, receives, passes, closes, noSuch}
-use Rattle.floorlog.specs.Doing.{logPlace, openedInLog}
-use Rattle.floorlog.proofs.DidSpelt.{did-opening, did-receiving, did-passing, did-closing, did_nothing}
-use Rattle.watch.specs.Marking.{logged, marked, doneBy}
+use Rattle.device.specs.Calls.{Result, reply_room, received, closed_by}
+use Rattle.floorlog.specs.Events.{opens, receives, passes, closes, no_such}
+use Rattle.floorlog.specs.Doing.{log_place, opened_in_log}
+use Rattle.floorlog.proofs.DidSpelt.{did_opening, did-receives, did_passing, did_closing, did_nothing}
+use Rattle.watch.specs.Marking.{logged, marked, done_by}
 
 module _ (d : Device) where
-  pub done-opening : (r : ℕ) → doneBy d (logged (opens r)) ≡ (openedInLog d r).device
-  unfolding doneBy
-  done-opening r = ap (λ (q : Result Device). q.device) (did-opening d r)
+  pub done_opening : (r : ℕ) → done_by d (logged (opens r)) ≡ (opened_in_log d r).device
+  unfolding done_by
+  done_opening r = ap (λ (q : Result Device). q.device) (did_opening d r)
 
-  pub done-receiving : (bs : List ℕ) → doneBy d (logged (receives bs)) ≡ (received d logPlace bs replyRoom).device
-  unfolding doneBy
-  done-receiving bs = ap (λ (q : Result Device). q.device) (did-receiving d bs)
+  pub done_receiving : (bs : List ℕ) → done_by d (logged (receives bs)) ≡ (received d log_place bs reply_room).device
+  unfolding done_by
+  done_receiving bs = ap (λ (q : Result Device). q.device) (did-receives d bs)
 
-  pub done-passing : (n : ℕ) → doneBy d (logged (passes n)) ≡ (left_by d (passed d n))
-  unfolding doneBy
-  done-passing n = ap (λ (q : Result Device). q.device) (did-passing d n)
+  pub done_passing : (n : ℕ) → done_by d (logged (passes n)) ≡ (left_by d (passed d n))
+  unfolding done_by
+  done_passing n = ap (λ (q : Result Device). q.device) (did_passing d n)
 
-  pub done-closing : doneBy d (logged closes) ≡ (closedBy d logPlace).device
-  unfolding doneBy
-  done-closing = ap (λ (q : Result Device). q.device) (did-closing d)
+  pub done_closing : done_by d (logged closes) ≡ (closed_by d log_place).device
+  unfolding done_by
+  done_closing = ap (λ (q : Result Device). q.device) (did_closing d)
 
-  pub done-nothing : doneBy d (logged noSuch) ≡ d
-  unfolding doneBy
-  done-nothing = ap (λ (q : Result Device). q.device) (did_nothing d)
+  pub done_nothing : done_by d (logged no_such) ≡ d
+  unfolding done_by
+  done_nothing = ap (λ (q : Result Device). q.device) (did_nothing d)
 
-  pub done-marking : (lamp : ℕ) (mark : Bool) → doneBy d (marked lamp mark) ≡ (left_by d (markSet d lamp mark))
-  unfolding doneBy
-  done-marking lamp mark = refl
+  pub done_marking : (lamp : ℕ) (mark : Bool) → done_by d (marked lamp mark) ≡ (left_by d (mark_set d lamp mark))
+  unfolding done_by
+  done_marking lamp mark = refl

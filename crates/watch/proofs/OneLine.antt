@@ -1,54 +1,48 @@
 -- One line of a log that is watched, by what the functions that play it give.
 -- Assumes nothing.
-use Prim.Native.Nat.{ℕ, ◌+◌, ◌-◌, ◌^◌, ◌<◌}
-use mathlib.Core.Path.{◌≡◌, refl, sym, ap, subst, ◌∙◌}
-use mathlib.Core.Bool.{Bool, true, not, ◌&&◌}
-use mathlib.Core.List.{List, [], ◌++◌}
-use native.Mathlib.Omega.{arith}
-use lib.ListN.{get_or, drop}
-use lib.Dec.{ltb}
+use Rattle.std.proofs.Common.{ℕ, ◌+◌, ◌-◌, ◌^◌, ◌<◌, ◌≡◌, refl, sym, ap, subst, ◌∙◌, Bool, true, not, ◌&&◌, List, []}
+use Rattle.std.proofs.Common.{◌++◌, arith, slice_index_or, drop, nat_lt, codes}
 use Rattle.std.specs.Prelude.{if◌then◌else◌}
-use Rattle.text.specs.Words.{ascii}
 use Rattle.text.proofs.Choices.{both_left}
 use Rattle.record.specs.declared.types.Device.{Device}
 use Rattle.floorlog.specs.declared.line.Says.{Says}
-use Rattle.floorlog.specs.Lines.{lineSaid}
-use Rattle.floorlog.specs.Events.{LogEvent, event, eventOf}
+use Rattle.floorlog.specs.Lines.{line_said}
+use Rattle.floorlog.specs.Events.{LogEvent, event, event_of}
 use Rattle.floorlog.proofs.KeptText.{event_said}
 use Rattle.watch.specs.declared.marking.MarkSaid.{MarkSaid}
 use Rattle.watch.specs.declared.marking.MarkSaid.TheVariants.{Sets, NoMark}
 use Rattle.watch.specs.declared.light.Light.{Light}
-use Rattle.watch.specs.Marking.{markSaid, eventBy, floorEvent, doneBy, secondsBy}
-use Rattle.watch.specs.Watching.{Watching, isBurningIn, gainedBy, watchedBy, watchedOn, isSound}
-use Rattle.watch.specs.States.{lightOf, IsWatched}
-use Rattle.watch.proofs.MarksSaid.{seconds-any}
-use Rattle.watch.proofs.Sound.{sound-after, burnt-fits}
+use Rattle.watch.specs.Marking.{mark_said, event_by, floor_event, done_by, seconds_by}
+use Rattle.watch.specs.Watching.{Watching, is_burning_in, gained_by, watched_by, watched_on, is_sound}
+use Rattle.watch.specs.States.{light_of, IsWatched}
+use Rattle.watch.proofs.MarksSaid.{seconds_of-event_of}
+use Rattle.watch.proofs.Sound.{sound_after, burnt_fits}
 
-module _ (l : List ℕ) {mark : MarkSaid} (m : mark ≡ markSaid l) where
-  event_is : eventBy mark (event l) ≡ floorEvent l
-  unfolding floorEvent
-  event_is = ap (λ (x : MarkSaid). eventBy x (event l)) m
+module _ (l : List ℕ) {mark : MarkSaid} (m : mark ≡ mark_said l) where
+  event_is : event_by mark (event l) ≡ floor_event l
+  unfolding floor_event
+  event_is = ap (λ (x : MarkSaid). event_by x (event l)) m
 
-  pub seconds_is : {says : Says} {n : ℕ} → says ≡ lineSaid l → n ≡ secondsBy (eventBy mark (eventOf says []))
-      → n ≡ secondsBy (floorEvent l)
+  pub seconds_is : {says : Says} {n : ℕ} → says ≡ line_said l → n ≡ seconds_by (event_by mark (event_of says []))
+      → n ≡ seconds_by (floor_event l)
   seconds_is {says} said e =
-      let bs = drop 2 l ++ ascii "\r" in
-      e ∙ by mark bs ∙ ap (λ (x : Says). secondsBy (eventBy mark (eventOf x bs))) said
-      ∙ ap (λ (e : LogEvent). secondsBy (eventBy mark e)) (sym (event_said l)) ∙ ap secondsBy event_is
+      let bs = drop 2 l ++ codes "\r" in
+      e ∙ by mark bs ∙ ap (λ (x : Says). seconds_by (event_by mark (event_of x bs))) said
+      ∙ ap (λ (e : LogEvent). seconds_by (event_by mark e)) (sym (event_said l)) ∙ ap seconds_by event_is
     where
       by : (x : MarkSaid) (bs : List ℕ)
-          → secondsBy (eventBy x (eventOf says [])) ≡ secondsBy (eventBy x (eventOf says bs))
+          → seconds_by (event_by x (event_of says [])) ≡ seconds_by (event_by x (event_of says bs))
       by (Sets lamp to) bs = refl
-      by NoMark bs = seconds-any says bs
+      by NoMark bs = seconds_of-event_of says bs
 
-  module _ (s : Watching) {d : Device} (done : d ≡ doneBy s.device (eventBy mark (event l))) where
-    pub left_is : d ≡ doneBy s.device (floorEvent l)
-    left_is = done ∙ ap (doneBy s.device) event_is
+  module _ (s : Watching) {d : Device} (done : d ≡ done_by s.device (event_by mark (event l))) where
+    pub left_is : d ≡ done_by s.device (floor_event l)
+    left_is = done ∙ ap (done_by s.device) event_is
 
-    module _ {t n : ℕ} (seconds : n ≡ secondsBy (floorEvent l)) (timed : t ≡ s.time + n) {was is : Bool}
-        (before : was ≡ isBurningIn s.device) (past : is ≡ isBurningIn d) {light : Light}
-        (lit : light ≡ lightOf was is t s.from) {burnt : List ℕ}
-        (gained : burnt ≡ (if light.dark then gainedBy d (t - s.from) s.burnt else s.burnt)) where
+    module _ {t n : ℕ} (seconds : n ≡ seconds_by (floor_event l)) (timed : t ≡ s.time + n) {was is : Bool}
+        (before : was ≡ is_burning_in s.device) (past : is ≡ is_burning_in d) {light : Light}
+        (lit : light ≡ light_of was is t s.from) {burnt : List ℕ}
+        (gained : burnt ≡ (if light.dark then gained_by d (t - s.from) s.burnt else s.burnt)) where
       abbrev after : Watching
       after = record { device = d; time = t; from = light.from; burnt = burnt }
 
@@ -57,10 +51,10 @@ module _ (l : List ℕ) {mark : MarkSaid} (m : mark ≡ markSaid l) where
         device = d;
         time = t;
         from = x.from;
-        burnt = if x.dark then gainedBy d (t - s.from) s.burnt else s.burnt;
+        burnt = if x.dark then gained_by d (t - s.from) s.burnt else s.burnt;
       }
 
-      pub watched_is : after ≡ watchedOn s (floorEvent l)
+      pub watched_is : after ≡ watched_on s (floor_event l)
       watched_is =
           (λ i. record { device = d; time = t; from = light.from; burnt = gained i })
           ∙ ap as_light lit
@@ -69,24 +63,24 @@ module _ (l : List ℕ) {mark : MarkSaid} (m : mark ≡ markSaid l) where
             device = d;
             time = time;
             from = if not (before i) && past i then time else s.from;
-            burnt = if before i && not (past i) then gainedBy d (time - s.from) s.burnt else s.burnt;
+            burnt = if before i && not (past i) then gained_by d (time - s.from) s.burnt else s.burnt;
           })
-          ∙ ap (λ (x : Device). watchedBy s x (secondsBy (floorEvent l))) left_is
+          ∙ ap (λ (x : Device). watched_by s x (seconds_by (floor_event l))) left_is
 
-      pub line_watched : IsWatched s (floorEvent l) after light.told
+      pub line_watched : IsWatched s (floor_event l) after light.told
       line_watched = record {
         state = watched_is;
-        told = (λ i. (lit i).told) ∙ (λ i. before i && not (past i) && ltb (sym lit i).from t);
+        told = (λ i. (lit i).told) ∙ (λ i. before i && not (past i) && nat_lt (sym lit i).from t);
       }
 
-      pub stays_sound : isSound s ≡ true → isSound after ≡ true
+      pub stays_sound : is_sound s ≡ true → is_sound after ≡ true
       stays_sound sound =
-          subst (λ (x : Watching). isSound x ≡ true) (sym watched_is) (sound-after s sound (floorEvent l))
+          subst (λ (x : Watching). is_sound x ≡ true) (sym watched_is) (sound_after s sound (floor_event l))
 
     -- the lamps burn no longer
-    pub can_gain : isSound s ≡ true → {t : ℕ} (n : ℕ) → t ≡ s.time + n → t < 2 ^ 64 → {was : Bool} (is : Bool)
-        → was ≡ isBurningIn s.device → {light : Light} → light ≡ lightOf was is t s.from → light.dark ≡ true
-        → (k : ℕ) → get_or s.burnt k 0 + (t - s.from) < 2 ^ 64
+    pub can_gain : is_sound s ≡ true → {t : ℕ} (n : ℕ) → t ≡ s.time + n → t < 2 ^ 64 → {was : Bool} (is : Bool)
+        → was ≡ is_burning_in s.device → {light : Light} → light ≡ light_of was is t s.from → light.dark ≡ true
+        → (k : ℕ) → slice_index_or s.burnt k 0 + (t - s.from) < 2 ^ 64
     can_gain sound {t} n timed fits is before lit dark =
-        burnt-fits s sound (sym before ∙ both_left _ _ (sym (ap (λ (x : Light). x.dark) lit) ∙ dark)) t
+        burnt_fits s sound (sym before ∙ both_left _ _ (sym (ap (λ (x : Light). x.dark) lit) ∙ dark)) t
         (omega arith) fits

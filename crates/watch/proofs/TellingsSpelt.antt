@@ -1,44 +1,41 @@
 -- What is told and left with the events of a log, by what comes: nothing more, or an event and the rest.
 -- Assumes nothing.
-use Prim.Native.Nat.{ℕ, ◌+◌, ◌*◌, ◌≤◌}
-use mathlib.Core.Path.{◌≡◌, refl}
-use mathlib.Core.List.{List, [], ◌∷◌, ◌++◌, map}
-use native.Mathlib.Omega.{arith}
-use lib.ListN.{length}
-use Rattle.clock.specs.Passing.{secondsMost}
-use Rattle.watch.specs.Marking.{FloorEvent, floorEvent, secondsBy}
-use Rattle.watch.specs.Watching.{Watching, watchedOn}
-use Rattle.watch.specs.Telling.{toldOn, toldAtEnd, tellings, afterLog, secondsTogether}
-use Rattle.watch.proofs.LineLeaves.{floor-seconds}
+use Rattle.std.proofs.Common.{ℕ, ◌+◌, ◌*◌, ◌≤◌, ◌≡◌, refl, List, [], ◌∷◌, ◌++◌, map, arith, length}
+use Rattle.clock.specs.Passing.{seconds_most}
+use Rattle.watch.specs.Marking.{FloorEvent, floor_event, seconds_by}
+use Rattle.watch.specs.Watching.{Watching, watched_on}
+use Rattle.watch.specs.Telling.{told_on, told_at_end, tellings, after_log, seconds_together}
+use Rattle.watch.proofs.LineLeaves.{floor_seconds}
 
 module _ (s : Watching) where
-  pub tellings-none : tellings s [] ≡ toldAtEnd s
+  pub tellings_none : tellings s [] ≡ told_at_end s
   unfolding tellings
-  tellings-none = refl
+  tellings_none = refl
 
-  pub after-none : afterLog s [] ≡ s
-  unfolding afterLog
-  after-none = refl
+  pub after_none : after_log s [] ≡ s
+  unfolding after_log
+  after_none = refl
 
   module _ (e : FloorEvent) (es : List FloorEvent) where
-    pub tellings-more : tellings s (e ∷ es) ≡ toldOn s e ++ tellings (watchedOn s e) es
+    pub tellings_more : tellings s (e ∷ es) ≡ told_on s e ++ tellings (watched_on s e) es
     unfolding tellings
-    tellings-more = refl
+    tellings_more = refl
 
-    pub after-more : afterLog s (e ∷ es) ≡ afterLog (watchedOn s e) es
-    unfolding afterLog
-    after-more = refl
+    pub after_more : after_log s (e ∷ es) ≡ after_log (watched_on s e) es
+    unfolding after_log
+    after_more = refl
 
-pub seconds-none : secondsTogether [] ≡ 0
-unfolding secondsTogether
-seconds-none = refl
+pub seconds_none : seconds_together [] ≡ 0
+unfolding seconds_together
+seconds_none = refl
 
-pub seconds-more : (e : FloorEvent) (es : List FloorEvent) → secondsTogether (e ∷ es) ≡ secondsBy e + secondsTogether es
-unfolding secondsTogether
-seconds-more e es = refl
+pub seconds_together-cons : (e : FloorEvent) (es : List FloorEvent) →
+    seconds_together (e ∷ es) ≡ seconds_by e + seconds_together es
+unfolding seconds_together
+seconds_together-cons e es = refl
 
 -- a log of so many lines lets no more seconds pass than each could
-pub seconds-most : (ls : List (List ℕ)) → secondsTogether (map floorEvent ls) ≤ length ls * secondsMost
-unfolding secondsTogether
-seconds-most [] = omega arith
-seconds-most (l ∷ ls) = omega (arith, floor-seconds l, seconds-most ls)
+pub seconds_most_lem : (ls : List (List ℕ)) → seconds_together (map floor_event ls) ≤ length ls * seconds_most
+unfolding seconds_together
+seconds_most_lem [] = omega arith
+seconds_most_lem (l ∷ ls) = omega (arith, floor_seconds l, seconds_most_lem ls)

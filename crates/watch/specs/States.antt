@@ -1,22 +1,22 @@
 -- The state of a `Watch`, and what a line does to it.
---   lightOf was is t from  what it does to the light, by whether the lamps burnt before it and burn after it
---   stateOf w              the state
---   IsWatched s e after t  the event e leaves `after` of the state s; t says whether it ended stretches
+--   light_of was is t from  what it does to the light, by whether the lamps burnt before it and burn after it
+--   state_of w              the state
+--   IsWatched s e after t   the event e leaves `after` of the state s; t says whether it ended stretches
 -- Assumes nothing.
-use Rattle.std.specs.Prelude.{ℕ, ◌≡◌, Bool, not, ◌&&◌, ltb, if◌then◌else◌}
+use Rattle.std.specs.Prelude.{ℕ, ◌≡◌, Bool, not, ◌&&◌, if◌then◌else◌, nat_lt}
 use Rattle.watch.specs.declared.light.Light.{Light}
 use Rattle.watch.specs.declared.Watch.{Watch}
 use Rattle.watch.specs.Marking.{FloorEvent}
-use Rattle.watch.specs.Watching.{Watching, watchedOn, darkWith, isLong}
+use Rattle.watch.specs.Watching.{Watching, watched_on, dark_with, is_long}
 
-abbrev pub lightOf : Bool → Bool → ℕ → ℕ → Light
-lightOf was is time from =
+abbrev pub light_of : Bool → Bool → ℕ → ℕ → Light
+light_of was is time from =
     let since = if not was && is then time else from in
-    record { dark = was && not is; from = since; told = was && not is && ltb since time }
+    record { dark = was && not is; from = since; told = was && not is && nat_lt since time }
 
-abbrev pub stateOf : Watch → Watching
-stateOf w = record { device = w.tested.device; time = w.time; from = w.from; burnt = w.burnt }
+abbrev pub state_of : Watch → Watching
+state_of w = record { device = w.tested.device; time = w.time; from = w.from; burnt = w.burnt }
 
 pub record IsWatched (s : Watching) (e : FloorEvent) (after : Watching) (ended : Bool) : Type 0 where
-  pub state : after ≡ watchedOn s e
-  pub told : ended ≡ (darkWith s after.device && isLong after)
+  pub state : after ≡ watched_on s e
+  pub told : ended ≡ (dark_with s after.device && is_long after)

@@ -3,22 +3,22 @@
 -- one second is kept for all of them.
 --   Watching              the device; the seconds gone since the log began; the second at which the lamps began to burn
 --                         last; the seconds that each lamp burnt in stretches that have ended
---   watchingFrom d        before a log that begins with the device d
---   isBurningIn d         the lamps burn, those whose marks are set
---   gainedBy d n burnt    these burnt n seconds more
---   watchedOn s e         the state after the event e
---   darkWith s d          with an event that leaves d the lamps burn no longer: it ends stretches, those of the lamps
+--   watching_from d       before a log that begins with the device d
+--   is_burning_in d       the lamps burn, those whose marks are set
+--   gained_by d n burnt   these burnt n seconds more
+--   watched_on s e        the state after the event e
+--   dark_with s d         with an event that leaves d the lamps burn no longer: it ends stretches, those of the lamps
 --                         whose marks are set, from `from` to `time` of the state after it
---   isLong s              these are not empty
---   burntBy s             the seconds that each lamp burnt, should the log end here
---   isSound s             no lamp burnt longer than there was time, and the stretch under way began before now
+--   is_long s             these are not empty
+--   burnt_by s            the seconds that each lamp burnt, should the log end here
+--   is_sound s            no lamp burnt longer than there was time, and the stretch under way began before now
 -- Assumes nothing.
-use Rattle.std.specs.Prelude.{ℕ, ◌+◌, ◌-◌, Bool, not, ◌&&◌, List, replicate, leb, ltb, if◌then◌else◌}
-use Rattle.text.specs.Scans.{every}
-use Rattle.record.specs.Limits.{isLit, lampsMost}
+use Rattle.std.specs.List.{list_all}
+use Rattle.std.specs.Prelude.{ℕ, ◌+◌, ◌-◌, Bool, not, ◌&&◌, List, replicate, if◌then◌else◌, nat_le, nat_lt}
+use Rattle.record.specs.Limits.{is_lit, lamps_most}
 use Rattle.record.specs.declared.types.Device.{Device}
-use Rattle.clock.specs.Second.{changedWhere, marksIn}
-use Rattle.watch.specs.Marking.{FloorEvent, doneBy, secondsBy}
+use Rattle.clock.specs.Second.{changed_where, marks_in}
+use Rattle.watch.specs.Marking.{FloorEvent, done_by, seconds_by}
 
 pub record Watching : Type 0 where
   pub device : Device
@@ -26,40 +26,40 @@ pub record Watching : Type 0 where
   pub from : ℕ
   pub burnt : List ℕ
 
-abbrev pub watchingFrom : Device → Watching
-watchingFrom d = record { device = d; time = 0; from = 0; burnt = replicate lampsMost 0 }
+abbrev pub watching_from : Device → Watching
+watching_from d = record { device = d; time = 0; from = 0; burnt = replicate lamps_most 0 }
 
-abbrev pub isBurningIn : Device → Bool
-isBurningIn d = isLit d.own.power
+abbrev pub is_burning_in : Device → Bool
+is_burning_in d = is_lit d.own.power
 
-abbrev pub gainedBy : Device → ℕ → List ℕ → List ℕ
-gainedBy d n burnt = changedWhere (λ (b : ℕ). b + n) (marksIn d.settings d.own) burnt
+abbrev pub gained_by : Device → ℕ → List ℕ → List ℕ
+gained_by d n burnt = changed_where (λ (b : ℕ). b + n) (marks_in d.settings d.own) burnt
 
 -- what an event leaves that let n seconds pass and left the device d
-abbrev pub watchedBy : Watching → Device → ℕ → Watching
-watchedBy s d n =
+abbrev pub watched_by : Watching → Device → ℕ → Watching
+watched_by s d n =
     let t = s.time + n in
     record {
       device = d;
       time = t;
-      from = if not (isBurningIn s.device) && isBurningIn d then t else s.from;
-      burnt = if isBurningIn s.device && not (isBurningIn d) then gainedBy d (t - s.from) s.burnt else s.burnt;
+      from = if not (is_burning_in s.device) && is_burning_in d then t else s.from;
+      burnt = if is_burning_in s.device && not (is_burning_in d) then gained_by d (t - s.from) s.burnt else s.burnt;
     }
 
-abbrev pub watchedOn : Watching → FloorEvent → Watching
-watchedOn s e = watchedBy s (doneBy s.device e) (secondsBy e)
+abbrev pub watched_on : Watching → FloorEvent → Watching
+watched_on s e = watched_by s (done_by s.device e) (seconds_by e)
 
-abbrev pub darkWith : Watching → Device → Bool
-darkWith s d = isBurningIn s.device && not (isBurningIn d)
+abbrev pub dark_with : Watching → Device → Bool
+dark_with s d = is_burning_in s.device && not (is_burning_in d)
 
-abbrev pub isLong : Watching → Bool
-isLong s = ltb s.from s.time
+abbrev pub is_long : Watching → Bool
+is_long s = nat_lt s.from s.time
 
-abbrev pub burntBy : Watching → List ℕ
-burntBy s = if isBurningIn s.device then gainedBy s.device (s.time - s.from) s.burnt else s.burnt
+abbrev pub burnt_by : Watching → List ℕ
+burnt_by s = if is_burning_in s.device then gained_by s.device (s.time - s.from) s.burnt else s.burnt
 
-abbrev pub soundTop : Watching → ℕ
-soundTop s = if isBurningIn s.device then s.from else s.time
+abbrev pub sound_top : Watching → ℕ
+sound_top s = if is_burning_in s.device then s.from else s.time
 
-unfoldable pub isSound : Watching → Bool
-isSound s = leb s.from s.time && every (λ (b : ℕ). leb b (soundTop s)) s.burnt
+unfoldable pub is_sound : Watching → Bool
+is_sound s = nat_le s.from s.time && list_all (λ (b : ℕ). nat_le b (sound_top s)) s.burnt

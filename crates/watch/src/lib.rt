@@ -6,7 +6,7 @@ mod light;
 mod marking;
 
 ghost use Rattle.std.specs.Prelude.{◌≡◌, true};
-ghost use Rattle.watch.specs.Watching.{isSound};
+ghost use Rattle.watch.specs.Watching.{is_sound};
 
 use floorlog::line;
 use floorlog::playing::KEPT_ROOM;
@@ -22,20 +22,20 @@ pub struct Watch {
     time: u64,
     from: u64,
     burnt: [u64; LAMPS_MOST],
-    ghost sound: { isSound (record { device = tested.device; time = time; from = from; burnt = burnt }) ≡ true },
+    ghost sound: { is_sound (record { device = tested.device; time = time; from = from; burnt = burnt }) ≡ true },
 }
 
 impl Watch {
     ghost use Rattle.std.specs.Prelude.{◌+◌, ◌&&◌, ◌^◌, ◌≤◌, take, IfSome, None};
-    ghost use Rattle.floorlog.specs.Replaying.{keptMost};
+    ghost use Rattle.floorlog.specs.Replaying.{kept_most};
     ghost use Rattle.floorlog.specs.Told.{Drives};
-    ghost use Rattle.watch.specs.Marking.{floorEvent, secondsBy};
-    ghost use Rattle.watch.specs.Watching.{watchingFrom, isBurningIn, isLong, burntBy};
-    ghost use Rattle.watch.specs.States.{stateOf, IsWatched};
+    ghost use Rattle.watch.specs.Marking.{floor_event, seconds_by};
+    ghost use Rattle.watch.specs.Watching.{watching_from, is_burning_in, is_long, burnt_by};
+    ghost use Rattle.watch.specs.States.{state_of, IsWatched};
 
     /// Before a log that begins with a device, which need not be legal.
     pub fn new(device: Device) -> Watch
-        ensures { stateOf result ≡ watchingFrom device }
+        ensures { state_of result ≡ watching_from device }
     {
         Watch {
             tested: Tested::of(device),
@@ -49,12 +49,12 @@ impl Watch {
     /// stretches: those of the lamps whose marks are set, from `from` to `time`. None where 64 bits cannot count the
     /// seconds that are then gone: nothing is done.
     pub fn play(&mut self, line: &mut [u8; KEPT_ROOM], held: usize) -> Option<bool>
-        requires { held ≤ keptMost }
+        requires { held ≤ kept_most }
         ensures watched { IfSome result
-            (IsWatched (stateOf self.old) (floorEvent (take held line.old)) (stateOf self.new)) }
-        ensures kept { result ≡ None → stateOf self.new ≡ stateOf self.old }
-        ensures uncounted { result ≡ None → 2 ^ 64 ≤ self.old.time + secondsBy (floorEvent (take held line.old)) }
-        ensures places { IfSome result (λ _. Drives (secondsBy (floorEvent (take held line.old)))
+            (IsWatched (state_of self.old) (floor_event (take held line.old)) (state_of self.new)) }
+        ensures kept { result ≡ None → state_of self.new ≡ state_of self.old }
+        ensures uncounted { result ≡ None → 2 ^ 64 ≤ self.old.time + seconds_by (floor_event (take held line.old)) }
+        ensures places { IfSome result (λ _. Drives (seconds_by (floor_event (take held line.old)))
             self.old.tested.device self.new.tested.device) }
     {
         let mark = marking::mark_says(&line[..held]);
@@ -103,14 +103,14 @@ impl Watch {
 
     /// Whether stretches are under way, which the end of the log would end.
     pub fn is_underway(&self) -> bool
-        ensures { result ≡ (isBurningIn self.now.tested.device && isLong (stateOf self.now)) }
+        ensures { result ≡ (is_burning_in self.now.tested.device && is_long (state_of self.now)) }
     {
         own::is_lit(self.tested.device.own.power) && self.from < self.time
     }
 
     /// The seconds that each lamp burnt, should the log end here.
     pub fn burnt(&self) -> [u64; LAMPS_MOST]
-        ensures { result ≡ burntBy (stateOf self.now) }
+        ensures { result ≡ burnt_by (state_of self.now) }
     {
         light::gained_if(
             own::is_lit(self.tested.device.own.power),

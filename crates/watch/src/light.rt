@@ -1,7 +1,7 @@
 // The light of a log's lamps: when they began to burn, when they ended, and what each burnt meanwhile.
-ghost use Rattle.std.specs.Prelude.{◌≡◌, true, ℕ, ◌+◌, ◌^◌, ◌<◌, get_or, take, if◌then◌else◌};
-ghost use Rattle.clock.specs.Second.{changedWhere};
-ghost use Rattle.watch.specs.States.{lightOf};
+ghost use Rattle.std.specs.Prelude.{◌≡◌, true, ℕ, ◌+◌, ◌^◌, ◌<◌, take, if◌then◌else◌, slice_index_or};
+ghost use Rattle.clock.specs.Second.{changed_where};
+ghost use Rattle.watch.specs.States.{light_of};
 
 use record::types::LAMPS_MOST;
 
@@ -22,8 +22,8 @@ pub fn gained(
     count: usize,
     n: u64,
 ) -> [u64; LAMPS_MOST]
-    requires { (k : ℕ) → get_or burnt k 0 + n < 2 ^ 64 }
-    ensures { result ≡ changedWhere (λ (b : ℕ). b + n) (take count marks) burnt }
+    requires { (k : ℕ) → slice_index_or burnt k 0 + n < 2 ^ 64 }
+    ensures { result ≡ changed_where (λ (b : ℕ). b + n) (take count marks) burnt }
 {
     let mut after = burnt;
     for k in 0..LAMPS_MOST {
@@ -43,8 +43,8 @@ pub fn gained_if(
     count: usize,
     n: u64,
 ) -> [u64; LAMPS_MOST]
-    requires { ended ≡ true → (k : ℕ) → get_or burnt k 0 + n < 2 ^ 64 }
-    ensures { result ≡ (if ended then changedWhere (λ (b : ℕ). b + n) (take count marks) burnt else burnt) }
+    requires { ended ≡ true → (k : ℕ) → slice_index_or burnt k 0 + n < 2 ^ 64 }
+    ensures { result ≡ (if ended then changed_where (λ (b : ℕ). b + n) (take count marks) burnt else burnt) }
 {
     if ended {
         return gained(burnt, marks, count, n);
@@ -72,7 +72,7 @@ fn begin(lights: bool, time: u64, from: u64) -> u64
 
 // By whether the lamps burnt before it and burn after it, at that time.
 pub fn light_after(was: bool, is: bool, time: u64, from: u64) -> Light
-    ensures { result ≡ lightOf was is time from }
+    ensures { result ≡ light_of was is time from }
 {
     let dark = was & !is;
     let since = begin(!was & is, time, from);

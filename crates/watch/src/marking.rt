@@ -1,9 +1,9 @@
 // One line of a log that is watched for its lamps: what it does to the device, where it lies.
 ghost use Rattle.std.specs.Prelude.{◌≡◌, ◌≤◌, [], take};
-ghost use Rattle.floorlog.specs.Lines.{lineSaid};
-ghost use Rattle.floorlog.specs.Events.{eventOf, event};
-ghost use Rattle.floorlog.specs.Replaying.{keptMost};
-ghost use Rattle.watch.specs.Marking.{logged, marked, markSaid, eventBy, doneBy, secondsBy};
+ghost use Rattle.floorlog.specs.Lines.{line_said};
+ghost use Rattle.floorlog.specs.Events.{event_of, event};
+ghost use Rattle.floorlog.specs.Replaying.{kept_most};
+ghost use Rattle.watch.specs.Marking.{logged, marked, mark_said, event_by, done_by, seconds_by};
 
 use device::on_legal::REPLY_ROOM;
 use floorlog::event;
@@ -20,7 +20,7 @@ pub enum MarkSaid {
 
 // `M`, a space, a lamp's number from 1, a space, 0 or 1.
 pub fn mark_says(l: &[u8]) -> MarkSaid
-    ensures { result ≡ markSaid l.now }
+    ensures { result ≡ mark_said l.now }
 {
     if l.len() != 5 {
         return MarkSaid::NoMark;
@@ -44,7 +44,7 @@ pub fn mark_says(l: &[u8]) -> MarkSaid
 
 // The seconds that a line lets pass, by what it says.
 pub fn seconds_of(mark: MarkSaid, says: Says) -> u32
-    ensures { result ≡ secondsBy (eventBy mark (eventOf says [])) }
+    ensures { result ≡ seconds_by (event_by mark (event_of says [])) }
 {
     match mark {
         MarkSaid::Sets(_, _) => 0,
@@ -54,16 +54,16 @@ pub fn seconds_of(mark: MarkSaid, says: Says) -> u32
 
 // A lamp's mark is set, or not: the number is nothing to a log.
 fn set_mark(t: &mut Tested, lamp: u8, mark: bool)
-    ensures { t.new.device ≡ doneBy t.old.device (marked lamp mark) }
+    ensures { t.new.device ≡ done_by t.old.device (marked lamp mark) }
 {
     let _told = t.device.set_mark(lamp as usize, mark);
 }
 
 // The event of a line that is no mark call; CR is put behind the line, as a text is received.
 fn call(t: &mut Tested, says: Says, line: &mut [u8; KEPT_ROOM], held: usize)
-    requires says { says ≡ lineSaid (take held line.old) }
-    requires inside { held ≤ keptMost }
-    ensures { t.new.device ≡ doneBy t.old.device (logged (event (take held line.old))) }
+    requires says { says ≡ line_said (take held line.old) }
+    requires inside { held ≤ kept_most }
+    ensures { t.new.device ≡ done_by t.old.device (logged (event (take held line.old))) }
 {
     line[held] = b'\r';
     let mut reply = [0; REPLY_ROOM];
@@ -72,9 +72,9 @@ fn call(t: &mut Tested, says: Says, line: &mut [u8; KEPT_ROOM], held: usize)
 
 // The line, which says so, is played.
 pub fn end_line(t: &mut Tested, mark: MarkSaid, says: Says, line: &mut [u8; KEPT_ROOM], held: usize)
-    requires says { says ≡ lineSaid (take held line.old) }
-    requires inside { held ≤ keptMost }
-    ensures { t.new.device ≡ doneBy t.old.device (eventBy mark (event (take held line.old))) }
+    requires says { says ≡ line_said (take held line.old) }
+    requires inside { held ≤ kept_most }
+    ensures { t.new.device ≡ done_by t.old.device (event_by mark (event (take held line.old))) }
 {
     match mark {
         MarkSaid::Sets(lamp, to) => set_mark(t, lamp, to),

@@ -1,39 +1,35 @@
 -- An input's two characters name that input and no other; two characters that name an input, of either class, are its
 -- characters.
 -- Assumes nothing.
-use Prim.Native.Nat.{ℕ, ◌≤◌}
+use Rattle.std.specs.List.{list_all}
+use Rattle.std.proofs.Common.{ℕ, ◌≤◌, ◌≡◌, refl, sym, ap, ◌∙◌, Bool, true, ◌||◌, [], ◌∷◌, arith, nat_le, ◌==◌, eqb-true}
+use Rattle.std.proofs.Common.{leb-true, le-leb}
+use Rattle.std.proofs.lemmas.Bool.{eqb-false}
 use Prim.Native.Char.{code}
-use mathlib.Core.Path.{◌≡◌, refl, sym, ap, ◌∙◌}
-use mathlib.Core.Bool.{Bool, true, ◌||◌}
-use mathlib.Core.List.{[], ◌∷◌}
-use native.Mathlib.Omega.{arith}
-use lib.Dec.{leb, eqb}
-use borrow.Author.Tests.{eqb-true, eqb-false, leb-true, le-leb}
 use Rattle.std.specs.Prelude.{Option, Some, None}
 use Rattle.text.specs.Words.{◌is◌, ◌from◌to◌}
-use Rattle.text.specs.Scans.{every}
-use Rattle.text.proofs.Choices.{if_yes, if-by, both, both_left, both_right}
-use Rattle.words.specs.Bytes.{isAlnum}
-use Rattle.words.specs.Sources.{isNumberCharacter, numberFor, numberCharacter}
-use Rattle.words.specs.Inputs.{isInputText, sourceNamed, inputNamed, read_input, input_of, isInput, sourceDigit}
-use Rattle.words.specs.Inputs.{inputText}
+use Rattle.text.proofs.Choices.{if_yes, if_by, both, both_left, both_right}
+use Rattle.words.specs.Bytes.{is_alnum}
+use Rattle.words.specs.Sources.{is_number_character, number_for, number_character}
+use Rattle.words.specs.Inputs.{is_input_text, source_named, input_named, read_input, input_of, is_input, source_digit}
+use Rattle.words.specs.Inputs.{input_text}
 use Rattle.words.specs.Combinations.{whole_says}
 use Rattle.words.specs.Laws.{input_codec}
 use Rattle.words.specs.declared.input.Source.{Source}
 use Rattle.words.specs.declared.input.Source.TheVariants.{Rgb, Video, Digital, Storage, Network, Internal}
 use Rattle.words.specs.declared.input.Input.{Input}
-use Rattle.words.proofs.Characters.{in-range}
-use Rattle.words.proofs.NumbersReadBack.{number-is-character, number-back, number-low, number-high}
-use Rattle.words.proofs.NumbersReadBack.{character-back, number-alnum}
+use Rattle.words.proofs.Characters.{in_range}
+use Rattle.words.proofs.NumbersReadBack.{is_number_character-number_character, number_back, number_low, number_high}
+use Rattle.words.proofs.NumbersReadBack.{number_character-number_for, is_alnum-number_character}
 
 -- a source's character is one of the six, a digit, and names it
 pub record SourceTold (s : Source) : Type 0 where
-  pub listed : (sourceDigit s from "1" to "6") ≡ true
-  pub alnum : isAlnum (sourceDigit s) ≡ true
-  pub back : sourceNamed (sourceDigit s) ≡ s
+  pub listed : (source_digit s from "1" to "6") ≡ true
+  pub alnum : is_alnum (source_digit s) ≡ true
+  pub back : source_named (source_digit s) ≡ s
 
 pub source_told : (s : Source) → SourceTold s
-unfolding sourceNamed
+unfolding source_named
 source_told Rgb = record { listed = refl; alnum = refl; back = refl }
 source_told Video = record { listed = refl; alnum = refl; back = refl }
 source_told Digital = record { listed = refl; alnum = refl; back = refl }
@@ -42,56 +38,57 @@ source_told Network = record { listed = refl; alnum = refl; back = refl }
 source_told Internal = record { listed = refl; alnum = refl; back = refl }
 
 -- its characters are a letter or digit each, whatever the number
-pub input-alnum : (i : Input) → every isAlnum (inputText i) ≡ true
-input-alnum i = both (source_told i.source).alnum (both (number-alnum i.number) refl)
+pub input_alnum : (i : Input) → list_all is_alnum (input_text i) ≡ true
+input_alnum i = both (source_told i.source).alnum (both (is_alnum-number_character i.number) refl)
 
-module _ (i : Input) (legal : isInput i ≡ true) where
+module _ (i : Input) (legal : is_input i ≡ true) where
   low : 1 ≤ i.number
-  low = leb-true 1 i.number (both_left (leb 1 i.number) _ legal)
+  low = leb-true 1 i.number (both_left (nat_le 1 i.number) _ legal)
 
   high : i.number ≤ 35
-  high = leb-true i.number 35 (both_right (leb 1 i.number) _ legal)
+  high = leb-true i.number 35 (both_right (nat_le 1 i.number) _ legal)
 
-  pub input-is-text : isInputText 2 (sourceDigit i.source) (numberCharacter i.number) ≡ true
-  input-is-text = both (source_told i.source).listed (number-is-character i.number low high)
+  pub input_is_text : is_input_text 2 (source_digit i.source) (number_character i.number) ≡ true
+  input_is_text = both (source_told i.source).listed (is_number_character-number_character i.number low high)
 
-  pub input-read-back : read_input (sourceDigit i.source) (numberCharacter i.number) ≡ Some i
+  pub input_read_back : read_input (source_digit i.source) (number_character i.number) ≡ Some i
   unfolding read_input
-  input-read-back =
-      let same = number-back i.number low high in
-      if_yes _ None input-is-text
+  input_read_back =
+      let same = number_back i.number low high in
+      if_yes _ None input_is_text
       ∙ (λ j. Some (record { source = (source_told i.source).back j; number = same j }))
 
-  pub input-of-text : input_of (inputText i) ≡ Some i
+  pub input_of-input_text : input_of (input_text i) ≡ Some i
   unfolding input_of
-  input-of-text = (whole_says input_codec).back i (inputText i) (legal, refl)
+  input_of-input_text = (whole_says input_codec).back i (input_text i) (legal, refl)
 
 -- what names an input of Class 1 names one of Class 2
-wider : (a b : ℕ) → isInputText 1 a b ≡ true → isInputText 2 a b ≡ true
+wider : (a b : ℕ) → is_input_text 1 a b ≡ true → is_input_text 2 a b ≡ true
 wider a b e =
-    let type = in-range a "1" "5" (both_left (a from "1" to "5") (b from "1" to "9") e) in
+    let type = in_range a "1" "5" (both_left (a from "1" to "5") (b from "1" to "9") e) in
     both (both (le-leb (code "1") a type.0) (le-leb a (code "6") (omega arith)))
     (ap (λ (t : Bool). t || b from "A" to "Z") (both_right (a from "1" to "5") (b from "1" to "9") e))
 
-pub named-widely : (k a b : ℕ) → isInputText k a b ≡ true → isInputText 2 a b ≡ true
-named-widely k a b = if-by (λ (t : Bool). t ≡ true → isInputText 2 a b ≡ true) (eqb k 1) (λ h e. wider a b e) (λ h e. e)
+pub named_widely : (k a b : ℕ) → is_input_text k a b ≡ true → is_input_text 2 a b ≡ true
+named_widely k a b =
+    if_by (λ (t : Bool). t ≡ true → is_input_text 2 a b ≡ true) (k == 1) (λ h e. wider a b e) (λ h e. e)
 
-module _ (k a b : ℕ) (named : isInputText k a b ≡ true) where
+module _ (k a b : ℕ) (named : is_input_text k a b ≡ true) where
   source_is : (code "1" ≤ a) × (a ≤ code "6")
-  source_is = in-range a "1" "6" (both_left (a from "1" to "6") (isNumberCharacter b) (named-widely k a b named))
+  source_is = in_range a "1" "6" (both_left (a from "1" to "6") (is_number_character b) (named_widely k a b named))
 
-  pub number_is : isNumberCharacter b ≡ true
-  number_is = both_right (a from "1" to "6") (isNumberCharacter b) (named-widely k a b named)
+  pub number_is : is_number_character b ≡ true
+  number_is = both_right (a from "1" to "6") (is_number_character b) (named_widely k a b named)
 
-  source-back : sourceDigit (sourceNamed a) ≡ a
-  unfolding sourceNamed
-  source-back =
-      let P : Source → Type 0 = λ s. sourceDigit s ≡ a in
-      if-by P (a is "1") (λ e. sym (eqb-true a _ e)) (λ n₁.
-      if-by P (a is "2") (λ e. sym (eqb-true a _ e)) (λ n₂.
-      if-by P (a is "3") (λ e. sym (eqb-true a _ e)) (λ n₃.
-      if-by P (a is "4") (λ e. sym (eqb-true a _ e)) (λ n₄.
-      if-by P (a is "5") (λ e. sym (eqb-true a _ e)) (λ n₅.
+  source_digit-source_named : source_digit (source_named a) ≡ a
+  unfolding source_named
+  source_digit-source_named =
+      let P : Source → Type 0 = λ s. source_digit s ≡ a in
+      if_by P (a is "1") (λ e. sym (eqb-true a _ e)) (λ n₁.
+      if_by P (a is "2") (λ e. sym (eqb-true a _ e)) (λ n₂.
+      if_by P (a is "3") (λ e. sym (eqb-true a _ e)) (λ n₃.
+      if_by P (a is "4") (λ e. sym (eqb-true a _ e)) (λ n₄.
+      if_by P (a is "5") (λ e. sym (eqb-true a _ e)) (λ n₅.
       omega (
         arith,
         source_is,
@@ -102,16 +99,16 @@ module _ (k a b : ℕ) (named : isInputText k a b ≡ true) where
         eqb-false a _ n₅,
       ))))))
 
-  pub named-is-input : isInput (inputNamed a b) ≡ true
-  named-is-input =
-      both (le-leb 1 (numberFor b) (number-low b number_is)) (le-leb (numberFor b) 35 (number-high b number_is))
+  pub is_input-input_named : is_input (input_named a b) ≡ true
+  is_input-input_named =
+      both (le-leb 1 (number_for b) (number_low b number_is)) (le-leb (number_for b) 35 (number_high b number_is))
 
-  pub named-text : inputText (inputNamed a b) ≡ a ∷ b ∷ []
-  named-text = (λ j. source-back j ∷ character-back b number_is j ∷ [])
+  pub named_text : input_text (input_named a b) ≡ a ∷ b ∷ []
+  named_text = (λ j. source_digit-source_named j ∷ number_character-number_for b number_is j ∷ [])
 
 -- what is read of two characters, by whether they name an input
-pub read-input-by : (P : Option Input → Type 0) (a b : ℕ) → (isInputText 2 a b ≡ true → P (Some (inputNamed a b)))
+pub read_input_by : (P : Option Input → Type 0) (a b : ℕ) → (is_input_text 2 a b ≡ true → P (Some (input_named a b)))
     → P None
     → P (read_input a b)
 unfolding read_input
-read-input-by P a b named none = if-by P (isInputText 2 a b) named (λ e. none)
+read_input_by P a b named none = if_by P (is_input_text 2 a b) named (λ e. none)

@@ -1,51 +1,46 @@
 -- What the rules of texts tell: their lengths and their bytes.
 -- Assumes nothing.
-use Prim.Native.Nat.{ℕ, ◌≤◌}
-use mathlib.Core.Path.{◌≡◌}
-use mathlib.Core.Bool.{true, not, ◌&&◌}
-use mathlib.Core.List.{List}
-use lib.ListN.{length}
-use lib.Dec.{leb}
-use borrow.Author.Tests.{leb-true}
-use Rattle.text.specs.Scans.{every}
-use Rattle.utf8.specs.Utf8.{isUtf8}
+use Rattle.std.specs.List.{list_all}
+use Rattle.std.proofs.Common.{ℕ, ◌≤◌, ◌≡◌, true, not, ◌&&◌, List, length, nat_le, leb-true}
+use Rattle.utf8.specs.Utf8.{is_utf8}
 use Rattle.text.proofs.Choices.{both_left, both_right}
-use Rattle.words.specs.Bytes.{isAlnum}
-use Rattle.words.specs.Texts.{isRefusal, isTextByte, isText, isName, isInfo, isInputName}
-use Rattle.words.specs.Texts.{isPassword, nameMost, infoMost, inputNameMost, passwordMost}
+use Rattle.words.specs.Bytes.{is_alnum}
+use Rattle.words.specs.Texts.{is_refusal, is_text_byte, is_text, is_name, is_info, is_input_name}
+use Rattle.words.specs.Texts.{is_password, name_most, info_most, input_name_most, password_most}
 
 module _ (s : List ℕ) where
-  text-long : (n : ℕ) → isText n s ≡ true → length s ≤ n
-  unfolding isText
-  text-long n h =
+  text_long : (n : ℕ) → is_text n s ≡ true → length s ≤ n
+  unfolding is_text
+  text_long n h =
       leb-true (length s) n
-      (both_left (leb (length s) n) (every isTextByte s)
-      (both_left (leb (length s) n && every isTextByte s) (not (isRefusal s)) h))
+      (both_left (nat_le (length s) n) (list_all is_text_byte s)
+      (both_left (nat_le (length s) n && list_all is_text_byte s) (not (is_refusal s)) h))
 
   -- a name is such a text, and more
-  pub name-is-text : isName s ≡ true → isText nameMost s ≡ true
-  unfolding isName
-  name-is-text h = both_left (isText nameMost s) (isUtf8 s) h
+  pub name_is_text : is_name s ≡ true → is_text name_most s ≡ true
+  unfolding is_name
+  name_is_text h = both_left (is_text name_most s) (is_utf8 s) h
 
-  pub name-is-utf8 : isName s ≡ true → isUtf8 s ≡ true
-  unfolding isName
-  name-is-utf8 h = both_right (isText nameMost s) (isUtf8 s) h
+  pub name_is_utf8 : is_name s ≡ true → is_utf8 s ≡ true
+  unfolding is_name
+  name_is_utf8 h = both_right (is_text name_most s) (is_utf8 s) h
 
-  pub name-long : isName s ≡ true → length s ≤ nameMost
-  name-long h = text-long nameMost (name-is-text h)
+  pub name_long : is_name s ≡ true → length s ≤ name_most
+  name_long h = text_long name_most (name_is_text h)
 
-  pub info-long : isInfo s ≡ true → length s ≤ infoMost
-  info-long h = text-long infoMost h
+  pub info_long : is_info s ≡ true → length s ≤ info_most
+  info_long h = text_long info_most h
 
-  pub input-name-long : isInputName s ≡ true → length s ≤ inputNameMost
-  input-name-long h = text-long inputNameMost h
+  pub input_name_long : is_input_name s ≡ true → length s ≤ input_name_most
+  input_name_long h = text_long input_name_most h
 
-  pub password-long : isPassword s ≡ true → length s ≤ passwordMost
-  unfolding isPassword
-  password-long h = leb-true (length s) passwordMost (both_left (leb (length s) passwordMost) (every isAlnum s) h)
+  pub password_long : is_password s ≡ true → length s ≤ password_most
+  unfolding is_password
+  password_long h =
+      leb-true (length s) password_most (both_left (nat_le (length s) password_most) (list_all is_alnum s) h)
 
-pub text-bytes : (n : ℕ) (s : List ℕ) → isText n s ≡ true → every isTextByte s ≡ true
-unfolding isText
-text-bytes n s e =
-    let sized = both_left (leb (length s) n && every isTextByte s) (not (isRefusal s)) e in
-    both_right (leb (length s) n) (every isTextByte s) sized
+pub text_bytes : (n : ℕ) (s : List ℕ) → is_text n s ≡ true → list_all is_text_byte s ≡ true
+unfolding is_text
+text_bytes n s e =
+    let sized = both_left (nat_le (length s) n && list_all is_text_byte s) (not (is_refusal s)) e in
+    both_right (nat_le (length s) n) (list_all is_text_byte s) sized

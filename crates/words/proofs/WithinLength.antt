@@ -1,28 +1,24 @@
 -- Where the length is known, what is left of a rule is a rule of each byte; over its length no rule is met.
 -- Assumes nothing.
-use Prim.Native.Nat.{ℕ, ◌<◌, ◌≤◌}
-use mathlib.Core.Path.{◌≡◌, refl}
-use mathlib.Core.Bool.{false, not, ◌&&◌}
-use mathlib.Core.List.{List}
-use lib.ListN.{length}
-use borrow.Author.Tests.{le-leb, lt-leb}
-use Rattle.text.specs.Scans.{every}
-use Rattle.words.specs.Bytes.{isAlnum, notCr, noCr}
-use Rattle.words.specs.Texts.{isRefusal, isTextByte, isText, isPassword, passwordMost}
+use Rattle.std.specs.List.{list_all}
+use Rattle.std.proofs.Common.{ℕ, ◌<◌, ◌≤◌, ◌≡◌, refl, false, not, ◌&&◌, List, length, le-leb}
+use Rattle.std.proofs.lemmas.Bool.{lt-leb}
+use Rattle.words.specs.Bytes.{is_alnum, not_cr, no_cr}
+use Rattle.words.specs.Texts.{is_refusal, is_text_byte, is_text, is_password, password_most}
 
 module _ (s : List ℕ) where
-  pub text-within : (n : ℕ) → length s ≤ n → isText n s ≡ (every isTextByte s && not (isRefusal s))
-  unfolding isText
-  text-within n h = rw (le-leb (length s) n h)
+  pub text_within : (n : ℕ) → length s ≤ n → is_text n s ≡ (list_all is_text_byte s && not (is_refusal s))
+  unfolding is_text
+  text_within n h = rw (le-leb (length s) n h)
 
-  pub text-longer : (n : ℕ) → n < length s → isText n s ≡ false
-  unfolding isText
-  text-longer n h = rw (lt-leb (length s) n h)
+  pub text_longer : (n : ℕ) → n < length s → is_text n s ≡ false
+  unfolding is_text
+  text_longer n h = rw (lt-leb (length s) n h)
 
-  pub password-within : length s ≤ passwordMost → isPassword s ≡ every isAlnum s
-  unfolding isPassword
-  password-within h = rw (le-leb (length s) passwordMost h)
+  pub password_within : length s ≤ password_most → is_password s ≡ list_all is_alnum s
+  unfolding is_password
+  password_within h = rw (le-leb (length s) password_most h)
 
-  pub plain-bytes : noCr s ≡ every notCr s
-  unfolding noCr
-  plain-bytes = refl
+  pub plain_bytes : no_cr s ≡ list_all not_cr s
+  unfolding no_cr
+  plain_bytes = refl

@@ -15,8 +15,8 @@
 --   WholeCodec legal text writes read  the same of all of a parameter
 --   taken r            what a reader of the code returned, apart from where the rest lies
 -- Assumes nothing.
-use Rattle.std.specs.Prelude.{ℕ, zero, suc, ◌≡◌, Bool, true, List, [], ◌∷◌, ◌++◌, eqb, if◌then◌else◌}
-use Rattle.std.specs.Prelude.{Option, Some, None}
+use Rattle.std.specs.Prelude.{ℕ, zero, suc, ◌≡◌, Bool, true, List, [], ◌∷◌, ◌++◌, if◌then◌else◌}
+use Rattle.std.specs.Prelude.{Option, Some, None, ◌==◌}
 use Rattle.std.specs.Option.{option_or}
 use Rattle.std.specs.Borrow.{Bor}
 use Prim.Native.Char.{Char, code}
@@ -29,7 +29,7 @@ None >>= f = None
 
 abbrev pub named : {A : Type 0} → (A → ℕ) → List A → ℕ → Option A
 named of [] b = None
-named of (x ∷ xs) b = if eqb b (of x) then Some x else named of xs b
+named of (x ∷ xs) b = if b == (of x) then Some x else named of xs b
 
 abbrev pub letter : {A : Type 0} → (ℕ → Option A) → List ℕ → Option (A × List ℕ)
 letter f [] = None
@@ -38,7 +38,7 @@ letter f (b ∷ s) = f b >>= λ x. Some (x, s)
 abbrev pub behind : List ℕ → List ℕ → Option (List ℕ)
 behind [] s = Some s
 behind (c ∷ t) [] = None
-behind (c ∷ t) (b ∷ s) = if eqb b c then behind t s else None
+behind (c ∷ t) (b ∷ s) = if b == c then behind t s else None
 
 abbrev pub spelled : {A : Type 0} → (A → List ℕ) → List A → List ℕ → Option (A × List ℕ)
 spelled text [] s = None

@@ -2,13 +2,13 @@
 -- records only (RULES, Commands).
 -- Assumes nothing.
 use Rattle.utf8.specs.Computing.{computing as utf8}
-use Rattle.words.specs.Bytes.{noCr}
-use Rattle.words.specs.Sources.{numberFor, numberCharacter, inputFor}
-use Rattle.words.specs.Inputs.{sourceNamed, read_input, input_of}
-use Rattle.words.specs.Texts.{isRefusal, isText, isName, isPassword}
+use Rattle.words.specs.Bytes.{no_cr}
+use Rattle.words.specs.Sources.{number_for, number_character, input_for}
+use Rattle.words.specs.Inputs.{source_named, read_input, input_of}
+use Rattle.words.specs.Texts.{is_refusal, is_text, is_name, is_password}
 
 unfoldable pub computing : Unit {0}
 unfolding
-    utf8 noCr numberFor numberCharacter inputFor sourceNamed read_input input_of isRefusal isText isName
-    isPassword
+    utf8 no_cr number_for number_character input_for source_named read_input input_of is_refusal is_text is_name
+    is_password
 computing = tt

@@ -4,24 +4,24 @@
 --   errors_text ds       their characters
 --   errors_read s        the six at the front of s
 -- Assumes nothing.
-use Rattle.std.specs.Prelude.{ℕ, ◌-◌, Bool, ◌&&◌, List, map, length, leb, eqb, Option, Some, None, if◌then◌else◌}
+use Rattle.std.specs.List.{list_all}
+use Rattle.std.specs.Prelude.{ℕ, ◌-◌, Bool, ◌&&◌, List, map, length, Option, Some, None, if◌then◌else◌, nat_le, ◌==◌}
 use Prim.Native.Char.{code}
 use Rattle.text.specs.Words.{◌from◌to◌}
-use Rattle.text.specs.Scans.{every}
 use Rattle.words.specs.Codec.{letter, counted}
-use Rattle.words.specs.Inputs.{numberDigit}
+use Rattle.words.specs.Inputs.{number_digit}
 
 abbrev pub is_error_digit : ℕ → Bool
-is_error_digit d = leb d 2
+is_error_digit d = nat_le d 2
 
 abbrev pub is_errors : List ℕ → Bool
-is_errors ds = eqb (length ds) 6 && every is_error_digit ds
+is_errors ds = length ds == 6 && list_all is_error_digit ds
 
 abbrev pub error_named : ℕ → Option ℕ
 error_named b = if b from "0" to "2" then Some (b - code "0") else None
 
 abbrev pub errors_text : List ℕ → List ℕ
-errors_text ds = map numberDigit ds
+errors_text ds = map number_digit ds
 
 abbrev pub errors_read : List ℕ → Option (List ℕ × List ℕ)
 errors_read s = counted 6 (letter error_named) s

@@ -6,12 +6,11 @@
 --   is_list legal n xs    one to n things, each legal
 --   WritesList W n xs s   s is such a list of at most n things
 -- Assumes nothing.
-use Rattle.std.specs.Prelude.{ℕ, zero, suc, ◌≡◌, ◌≤◌, Bool, ◌&&◌, List, [], ◌∷◌, ◌++◌, length, leb}
-use Rattle.std.specs.Prelude.{Option, Some, None, if◌then◌else◌}
-use Rattle.std.specs.List.{flat_map}
+use Rattle.std.specs.Prelude.{ℕ, zero, suc, ◌≡◌, ◌≤◌, Bool, ◌&&◌, List, [], ◌∷◌, ◌++◌, length}
+use Rattle.std.specs.Prelude.{Option, Some, None, if◌then◌else◌, nat_le}
+use Rattle.std.specs.List.{flat_map, list_all}
 use Prim.Native.Char.{code}
 use Rattle.text.specs.Words.{◌is◌}
-use Rattle.text.specs.Scans.{every}
 use Rattle.words.specs.Codec.{◌>>=◌}
 
 abbrev pub list_text : {A : Type 0} → (A → List ℕ) → List A → List ℕ
@@ -33,7 +32,7 @@ list_read read zero s = None
 list_read read (suc n) s = read s >>= λ r. following r.0 (list_read read n) r.1
 
 abbrev pub is_list : {A : Type 0} → (A → Bool) → ℕ → List A → Bool
-is_list legal n xs = leb 1 (length xs) && leb (length xs) n && every legal xs
+is_list legal n xs = nat_le 1 (length xs) && nat_le (length xs) n && list_all legal xs
 
 abbrev pub WritesList : {A : Type 0} → (A → List ℕ → Type 0) → ℕ → List A → List ℕ → Type 0
 WritesList W n xs s = (length xs ≤ n) × JoinedBy W xs s

@@ -2,16 +2,15 @@
 --   mutes_text m     11 video only, 21 audio only, 31 both, 30 neither
 --   mutes_read s     the mutes at the front of s
 -- Assumes nothing.
-use Rattle.std.specs.Prelude.{ℕ, Bool, true, false, List, [], ◌∷◌, Option}
-use Rattle.text.specs.Words.{ascii}
+use Rattle.std.specs.Prelude.{ℕ, Bool, true, false, List, [], ◌∷◌, Option, codes}
 use Rattle.words.specs.Codec.{spelled}
 use Rattle.words.specs.declared.mutes.Mutes.{Mutes}
 
 abbrev pub halves_text : Bool → Bool → List ℕ
-halves_text true false = ascii "11"
-halves_text false true = ascii "21"
-halves_text true true = ascii "31"
-halves_text false false = ascii "30"
+halves_text true false = codes "11"
+halves_text false true = codes "21"
+halves_text true true = codes "31"
+halves_text false false = codes "30"
 
 abbrev pub mutes_text : Mutes → List ℕ
 mutes_text m = halves_text m.video m.audio

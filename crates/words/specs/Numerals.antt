@@ -4,19 +4,19 @@
 --   figures s        how many digits stand at the front of s
 --   number_read s    the number at the front of s
 -- Assumes nothing.
-use Rattle.std.specs.Prelude.{ℕ, Bool, List, Option, Some, take, drop, leb}
+use Rattle.std.specs.Prelude.{ℕ, Bool, List, Option, Some, take, drop, nat_le}
 use Rattle.std.specs.List.{prefix_len}
-use Rattle.numbers.specs.Decimal.{isDigit, readNumber}
+use Rattle.numbers.specs.Decimal.{is_digit, read_number}
 use Rattle.words.specs.Codec.{◌>>=◌}
 
 abbrev pub hours_most : ℕ
 hours_most = 99999
 
 abbrev pub is_numeral : ℕ → Bool
-is_numeral n = leb n hours_most
+is_numeral n = nat_le n hours_most
 
 abbrev pub figures : List ℕ → ℕ
-figures s = prefix_len isDigit s
+figures s = prefix_len is_digit s
 
 abbrev pub number_read : List ℕ → Option (ℕ × List ℕ)
-number_read s = readNumber (take (figures s) s) >>= λ n. Some (n, drop (figures s) s)
+number_read s = read_number (take (figures s) s) >>= λ n. Some (n, drop (figures s) s)

@@ -6,7 +6,7 @@
 use Rattle.std.specs.Prelude.{ℕ, List, [], ◌∷◌, Option}
 use Prim.Native.Char.{code}
 use Rattle.words.specs.Codec.{named, letter, past}
-use Rattle.words.specs.Inputs.{numberDigit}
+use Rattle.words.specs.Inputs.{number_digit}
 use Rattle.words.specs.declared.refusal.Refusal.{Refusal}
 use Rattle.words.specs.declared.refusal.Refusal.TheVariants.{Undefined, OutOfParameter, Unavailable, Failure}
 
@@ -17,7 +17,7 @@ refusal_digit Unavailable = 3
 refusal_digit Failure = 4
 
 abbrev pub refusal_code : Refusal → ℕ
-refusal_code r = numberDigit (refusal_digit r)
+refusal_code r = number_digit (refusal_digit r)
 
 abbrev pub refusals : List Refusal
 refusals = Undefined ∷ OutOfParameter ∷ Unavailable ∷ Failure ∷ []

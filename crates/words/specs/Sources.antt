@@ -1,17 +1,17 @@
 -- The table of the types of an input (RULES, The legal record; PJLink 1.04, 4.3; RULES, Class 2: type 6 and numbers
 -- with letters are of Class 2), and what two characters stand for by it. What reads and what writes characters has
 -- definitions of its own (Inputs), which are proved to follow this table (proofs/SourcesFollowed), and so has the C
--- face for its codes (`sourceNumber` of codes/specs/Commands; `face-follows` of codes/proofs/CodesBack).
---   type_of s              the type of a source, 1 to 6
---   sameInput i j          i and j have the same type and the same number
---   character n            the character of a number below ten
---   isNumberCharacter b    a character that numbers an input: 1 to 9, A to Z
---   numberFor b            the number that it stands for: 1 to 9, and 10 to 35 for A to Z
---   numberCharacter n      the character of the number n
---   inputFor a b           the input for which the characters a b stand, a type's and a number's; or none
+-- face for its codes (`source_number` of codes/specs/Commands; `face_follows` of codes/proofs/CodesBack).
+--   type_of s               the type of a source, 1 to 6
+--   same_input i j          i and j have the same type and the same number
+--   character n             the character of a number below ten
+--   is_number_character b   a character that numbers an input: 1 to 9, A to Z
+--   number_for b            the number that it stands for: 1 to 9, and 10 to 35 for A to Z
+--   number_character n      the character of the number n
+--   input_for a b           the input for which the characters a b stand, a type's and a number's; or none
 -- Assumes nothing.
-use Rattle.std.specs.Prelude.{ℕ, ◌+◌, ◌-◌, ◌%◌, Bool, ◌&&◌, ◌||◌, List, [], ◌∷◌, eqb, leb, if◌then◌else◌}
-use Rattle.std.specs.Prelude.{Option, Some, None}
+use Rattle.std.specs.Prelude.{ℕ, ◌+◌, ◌-◌, ◌%◌, Bool, ◌&&◌, ◌||◌, List, [], ◌∷◌, if◌then◌else◌}
+use Rattle.std.specs.Prelude.{Option, Some, None, ◌==◌, nat_le}
 use Prim.Native.Char.{code}
 use Rattle.text.specs.Words.{◌from◌to◌}
 use Rattle.words.specs.declared.input.Source.{Source}
@@ -29,26 +29,26 @@ type_of Internal = 6
 abbrev pub sources : List Source
 sources = Rgb ∷ Video ∷ Digital ∷ Storage ∷ Network ∷ Internal ∷ []
 
-abbrev pub sameInput : Input → Input → Bool
-sameInput i j = eqb (type_of i.source) (type_of j.source) && eqb i.number j.number
+abbrev pub same_input : Input → Input → Bool
+same_input i j = type_of i.source == type_of j.source && i.number == j.number
 
 abbrev pub character : ℕ → ℕ
 character n = code "0" + n
 
-abbrev pub isNumberCharacter : ℕ → Bool
-isNumberCharacter b = b from "1" to "9" || b from "A" to "Z"
+abbrev pub is_number_character : ℕ → Bool
+is_number_character b = b from "1" to "9" || b from "A" to "Z"
 
-unfoldable pub numberFor : ℕ → ℕ
-numberFor b = if leb b (code "9") then b - code "0" else 10 + (b - code "A")
+unfoldable pub number_for : ℕ → ℕ
+number_for b = if nat_le b (code "9") then b - code "0" else 10 + (b - code "A")
 
 -- a number past 35 has none: it gets one of the letters
-unfoldable pub numberCharacter : ℕ → ℕ
-numberCharacter n = if leb n 9 then character n else code "A" + (n - 10) % 26
+unfoldable pub number_character : ℕ → ℕ
+number_character n = if nat_le n 9 then character n else code "A" + (n - 10) % 26
 
-abbrev pub inputAmong : List Source → ℕ → ℕ → Option Input
-inputAmong [] a b = None
-inputAmong (s ∷ ss) a b =
-    if eqb a (character (type_of s)) then Some (record { source = s; number = numberFor b }) else inputAmong ss a b
+abbrev pub input_among : List Source → ℕ → ℕ → Option Input
+input_among [] a b = None
+input_among (s ∷ ss) a b =
+    if a == character (type_of s) then Some (record { source = s; number = number_for b }) else input_among ss a b
 
-unfoldable pub inputFor : ℕ → ℕ → Option Input
-inputFor a b = if isNumberCharacter b then inputAmong sources a b else None
+unfoldable pub input_for : ℕ → ℕ → Option Input
+input_for a b = if is_number_character b then input_among sources a b else None

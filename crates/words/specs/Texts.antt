@@ -1,47 +1,47 @@
 -- Texts of the set-up and of replies (RULES, The legal record and Controller; PJLink 1.04, 4.10 to 4.13 and 5.1).
---   isRefusal s       s is exactly ERR1, ERR2, ERR3 or ERR4
---   isText n s        0 to n bytes, each 0x20 to 0xFF, and no refusal: a reader couldn't tell it from one
---   isName s          the rule of the name: such a text of at most 64 bytes, in well-formed UTF-8 (RULES, Texts)
---   isInfo s          the rule of maker, model, other information, serial number and version (RULES, Class 2)
---   isInputName s     the rule of an input's name (RULES, Class 2)
---   isPassword s      0 to 32 ASCII letters and digits
+--   is_refusal s      s is exactly ERR1, ERR2, ERR3 or ERR4
+--   is_text n s       0 to n bytes, each 0x20 to 0xFF, and no refusal: a reader couldn't tell it from one
+--   is_name s         the rule of the name: such a text of at most 64 bytes, in well-formed UTF-8 (RULES, Texts)
+--   is_info s         the rule of maker, model, other information, serial number and version (RULES, Class 2)
+--   is_input_name s   the rule of an input's name (RULES, Class 2)
+--   is_password s     0 to 32 ASCII letters and digits
 -- PJLink 1.04, 4.11 to 4.13, narrow INF1, INF2 and INFO to 0x20 to 0x7E; the rule of RULES, Texts, stands for all.
 -- Assumes nothing.
-use Rattle.std.specs.Prelude.{ℕ, Bool, not, ◌&&◌, List, length, leb, eqb}
+use Rattle.std.specs.List.{list_all}
+use Rattle.std.specs.Prelude.{ℕ, Bool, not, ◌&&◌, List, length, nat_le, ◌==◌}
 use Rattle.text.specs.Words.{◌is◌, ◌from◌to◌}
-use Rattle.text.specs.Scans.{every}
-use Rattle.utf8.specs.Utf8.{isUtf8}
-use Rattle.words.specs.Bytes.{isAlnum, ◌at◌}
+use Rattle.utf8.specs.Utf8.{is_utf8}
+use Rattle.words.specs.Bytes.{is_alnum, ◌at◌}
 
-unfoldable pub isRefusal : List ℕ → Bool
-isRefusal s = eqb (length s) 4 && s at 0 is "E" && s at 1 is "R" && s at 2 is "R" && s at 3 from "1" to "4"
+unfoldable pub is_refusal : List ℕ → Bool
+is_refusal s = length s == 4 && s at 0 is "E" && s at 1 is "R" && s at 2 is "R" && s at 3 from "1" to "4"
 
-abbrev pub isTextByte : ℕ → Bool
-isTextByte b = leb 0x20 b && leb b 0xFF
+abbrev pub is_text_byte : ℕ → Bool
+is_text_byte b = nat_le 0x20 b && nat_le b 0xFF
 
-unfoldable pub isText : ℕ → List ℕ → Bool
-isText n s = leb (length s) n && every isTextByte s && not (isRefusal s)
+unfoldable pub is_text : ℕ → List ℕ → Bool
+is_text n s = nat_le (length s) n && list_all is_text_byte s && not (is_refusal s)
 
-abbrev pub nameMost : ℕ
-nameMost = 64
+abbrev pub name_most : ℕ
+name_most = 64
 
-abbrev pub infoMost : ℕ
-infoMost = 32
+abbrev pub info_most : ℕ
+info_most = 32
 
-abbrev pub inputNameMost : ℕ
-inputNameMost = 128
+abbrev pub input_name_most : ℕ
+input_name_most = 128
 
-abbrev pub passwordMost : ℕ
-passwordMost = 32
+abbrev pub password_most : ℕ
+password_most = 32
 
-unfoldable pub isName : List ℕ → Bool
-isName s = isText nameMost s && isUtf8 s
+unfoldable pub is_name : List ℕ → Bool
+is_name s = is_text name_most s && is_utf8 s
 
-abbrev pub isInfo : List ℕ → Bool
-isInfo s = isText infoMost s
+abbrev pub is_info : List ℕ → Bool
+is_info s = is_text info_most s
 
-abbrev pub isInputName : List ℕ → Bool
-isInputName s = isText inputNameMost s
+abbrev pub is_input_name : List ℕ → Bool
+is_input_name s = is_text input_name_most s
 
-unfoldable pub isPassword : List ℕ → Bool
-isPassword s = leb (length s) passwordMost && every isAlnum s
+unfoldable pub is_password : List ℕ → Bool
+is_password s = nat_le (length s) password_most && list_all is_alnum s

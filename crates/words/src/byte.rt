@@ -1,17 +1,17 @@
 // Single bytes of a line (PJLink 1.04, 2.1).
 ghost use Rattle.std.specs.Prelude.{◌≡◌};
-ghost use Rattle.words.specs.Bytes.{isAlnum, upperOf, noCr};
+ghost use Rattle.words.specs.Bytes.{is_alnum, upper_of, no_cr};
 
 // An ASCII letter or digit.
 pub fn is_alnum(b: u8) -> bool
-    ensures { result ≡ isAlnum b }
+    ensures { result ≡ is_alnum b }
 {
     ((b'0' <= b) & (b <= b'9')) | ((b'A' <= b) & (b <= b'Z')) | ((b'a' <= b) & (b <= b'z'))
 }
 
 // The upper case of a letter; any other byte as it is.
 pub fn upper(b: u8) -> u8
-    ensures { result ≡ upperOf b }
+    ensures { result ≡ upper_of b }
 {
     if b < b'a' {
         return b;
@@ -23,9 +23,9 @@ pub fn upper(b: u8) -> u8
 }
 
 // Whether no byte of s is CR.
-#[tactic(auto, unfolding(crate::specs::Bytes::noCr))]
+#[tactic(auto, unfolding(crate::specs::Bytes::no_cr))]
 pub fn no_cr(s: &[u8]) -> bool
-    ensures { result ≡ noCr s.now }
+    ensures { result ≡ no_cr s.now }
 {
     let mut ok = true;
     for &b in s {

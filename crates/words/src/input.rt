@@ -1,8 +1,8 @@
 // Inputs and their two characters (RULES, The legal record; PJLink 1.04, 4.3; RULES, Class 2).
 ghost use Rattle.std.specs.Prelude.{◌≡◌, true};
-ghost use Rattle.words.specs.Sources.{isNumberCharacter, numberFor, numberCharacter};
-ghost use Rattle.words.specs.Inputs.{isInputText, sourceNamed, read_input, input_of, isInput, sourceDigit};
-ghost use Rattle.words.specs.Inputs.{numberDigit, inputText, input_read};
+ghost use Rattle.words.specs.Sources.{is_number_character, number_for, number_character};
+ghost use Rattle.words.specs.Inputs.{is_input_text, source_named, read_input, input_of, is_input, source_digit};
+ghost use Rattle.words.specs.Inputs.{number_digit, input_text, input_read};
 ghost use Rattle.words.specs.Codec.{Plain};
 ghost use Rattle.words.specs.Laws.{input_codec};
 
@@ -28,14 +28,14 @@ pub struct Input {
 }
 
 fn is_number_character(b: u8) -> bool
-    ensures { result ≡ isNumberCharacter b }
+    ensures { result ≡ is_number_character b }
 {
     ((b'1' <= b) & (b <= b'9')) | ((b'A' <= b) & (b <= b'Z'))
 }
 
 // Whether two characters name an input of Class k: 11 and 59 do; 10 and 20 do not; 61 and 1A do of Class 2 only.
 pub fn is_input_text(k: u8, a: u8, b: u8) -> bool
-    ensures { result ≡ isInputText k a b }
+    ensures { result ≡ is_input_text k a b }
 {
     if k == 1 {
         return ((b'1' <= a) & (a <= b'5')) & ((b'1' <= b) & (b <= b'9'));
@@ -43,9 +43,9 @@ pub fn is_input_text(k: u8, a: u8, b: u8) -> bool
     ((b'1' <= a) & (a <= b'6')) & is_number_character(b)
 }
 
-#[tactic(auto, unfolding(crate::specs::Inputs::sourceNamed))]
+#[tactic(auto, unfolding(crate::specs::Inputs::source_named))]
 fn source_named(a: u8) -> Source
-    ensures { result ≡ sourceNamed a }
+    ensures { result ≡ source_named a }
 {
     match a {
         b'1' => Source::Rgb,
@@ -57,10 +57,10 @@ fn source_named(a: u8) -> Source
     }
 }
 
-#[tactic(auto, unfolding(crate::specs::Sources::numberFor))]
+#[tactic(auto, unfolding(crate::specs::Sources::number_for))]
 fn number_for(b: u8) -> u8
-    requires { isNumberCharacter b ≡ true }
-    ensures { result ≡ numberFor b }
+    requires { is_number_character b ≡ true }
+    ensures { result ≡ number_for b }
 {
     if b <= b'9' {
         return b - b'0';
@@ -91,14 +91,14 @@ pub fn input_of(w: &[u8]) -> Option<Input>
 
 // Whether two characters can name the input.
 pub fn is_input(i: Input) -> bool
-    ensures { result ≡ isInput i }
+    ensures { result ≡ is_input i }
 {
     (1 <= i.number) & (i.number <= 35)
 }
 
 // The two characters, the source's first.
 pub fn source_digit(s: Source) -> u8
-    ensures { result ≡ sourceDigit s }
+    ensures { result ≡ source_digit s }
 {
     match s {
         Source::Rgb => b'1',
@@ -110,9 +110,9 @@ pub fn source_digit(s: Source) -> u8
     }
 }
 
-#[tactic(auto, unfolding(crate::specs::Sources::numberCharacter))]
+#[tactic(auto, unfolding(crate::specs::Sources::number_character))]
 pub fn number_character(n: u8) -> u8
-    ensures { result ≡ numberCharacter n }
+    ensures { result ≡ number_character n }
 {
     if n <= 9 {
         return b'0' + n;
@@ -121,24 +121,24 @@ pub fn number_character(n: u8) -> u8
 }
 
 pub fn input_text(i: Input) -> [u8; 2]
-    ensures { result ≡ inputText i }
+    ensures { result ≡ input_text i }
 {
     let source = i.source;
     [source_digit(source), number_character(i.number)]
 }
 
 pub fn number_digit(n: u8) -> u8
-    ensures { result ≡ numberDigit n }
+    ensures { result ≡ number_digit n }
 {
     b'0' + n % 10
 }
 
 impl Wire for Input {
-    ghost legal = { isInput };
+    ghost legal = { is_input };
 
-    ghost text = { inputText };
+    ghost text = { input_text };
 
-    ghost writes = { Plain isInput inputText };
+    ghost writes = { Plain is_input input_text };
 
     ghost read = { input_read };
 

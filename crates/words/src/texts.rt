@@ -1,16 +1,16 @@
 // Texts and passwords (RULES, The legal record).
 ghost use Rattle.std.specs.Prelude.{◌≡◌};
-ghost use Rattle.text.specs.Scans.{every};
-ghost use Rattle.words.specs.Bytes.{isAlnum};
-ghost use Rattle.words.specs.Texts.{isRefusal, isTextByte, isText, isName, isInfo, isInputName};
-ghost use Rattle.words.specs.Texts.{isPassword};
+ghost use Rattle.std.specs.List.{list_all};
+ghost use Rattle.words.specs.Bytes.{is_alnum};
+ghost use Rattle.words.specs.Texts.{is_refusal, is_text_byte, is_text, is_name, is_info, is_input_name};
+ghost use Rattle.words.specs.Texts.{is_password};
 
 use crate::byte;
 
 // Whether s is exactly ERR1, ERR2, ERR3 or ERR4.
-#[tactic(auto, unfolding(crate::specs::Texts::isRefusal))]
+#[tactic(auto, unfolding(crate::specs::Texts::is_refusal))]
 pub fn is_refusal(s: &[u8]) -> bool
-    ensures { result ≡ isRefusal s.now }
+    ensures { result ≡ is_refusal s.now }
 {
     if s.len() != 4 {
         return false;
@@ -20,7 +20,7 @@ pub fn is_refusal(s: &[u8]) -> bool
 
 // Each byte is 0x20 to 0xFF.
 fn all_text(s: &[u8]) -> bool
-    ensures { result ≡ every isTextByte s.now }
+    ensures { result ≡ list_all is_text_byte s.now }
 {
     let mut ok = true;
     for &b in s {
@@ -30,37 +30,37 @@ fn all_text(s: &[u8]) -> bool
 }
 
 // 0 to `most` bytes, each 0x20 to 0xFF, and no refusal.
-#[tactic(auto, unfolding(crate::specs::Texts::isText))]
+#[tactic(auto, unfolding(crate::specs::Texts::is_text))]
 pub fn is_text(s: &[u8], most: usize) -> bool
-    ensures { result ≡ isText most s.now }
+    ensures { result ≡ is_text most s.now }
 {
     (s.len() <= most) & all_text(s) & !is_refusal(s)
 }
 
 // The rule of the projector's name, for set-up, legality and reader alike (RULES, Texts).
-#[tactic(auto, unfolding(crate::specs::Texts::isName))]
+#[tactic(auto, unfolding(crate::specs::Texts::is_name))]
 pub fn is_name(s: &[u8]) -> bool
-    ensures { result ≡ isName s.now }
+    ensures { result ≡ is_name s.now }
 {
     is_text(s, 64) & utf8::is_utf8(s)
 }
 
 // The rule of maker, model, other information, serial number and version.
 pub fn is_info(s: &[u8]) -> bool
-    ensures { result ≡ isInfo s.now }
+    ensures { result ≡ is_info s.now }
 {
     is_text(s, 32)
 }
 
 // The rule of an input's name (RULES, Class 2).
 pub fn is_input_name(s: &[u8]) -> bool
-    ensures { result ≡ isInputName s.now }
+    ensures { result ≡ is_input_name s.now }
 {
     is_text(s, 128)
 }
 
 fn all_alnum(s: &[u8]) -> bool
-    ensures { result ≡ every isAlnum s.now }
+    ensures { result ≡ list_all is_alnum s.now }
 {
     let mut ok = true;
     for &b in s {
@@ -70,9 +70,9 @@ fn all_alnum(s: &[u8]) -> bool
 }
 
 // 0 to 32 ASCII letters and digits.
-#[tactic(auto, unfolding(crate::specs::Texts::isPassword))]
+#[tactic(auto, unfolding(crate::specs::Texts::is_password))]
 pub fn is_password(s: &[u8]) -> bool
-    ensures { result ≡ isPassword s.now }
+    ensures { result ≡ is_password s.now }
 {
     (s.len() <= 32) & all_alnum(s)
 }

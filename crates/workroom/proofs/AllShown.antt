@@ -2,87 +2,84 @@
 -- on the device alone, and there alone others do what they do meanwhile; what another projector is sent or says touches
 -- that one's entry alone.
 -- Assumes nothing.
-use Prim.Native.Nat.{ℕ}
-use mathlib.Core.Path.{◌≡◌, refl, sym, ap, subst, ◌∙◌}
-use mathlib.Core.Bool.{true, false, false≢true}
-use mathlib.Core.List.{List, [], ◌∷◌}
-use native.Mathlib.Omega.{arith}
-use Rattle.record.specs.Legal.{isLegal}
-use Rattle.record.specs.Places.{connectionAt, isShut}
+use Rattle.std.proofs.Common.{ℕ, ◌≡◌, refl, sym, ap, subst, ◌∙◌, true, false, List, [], ◌∷◌, arith}
+use Rattle.std.proofs.lemmas.Bool.{false≢true}
+use Rattle.record.specs.Legal.{is_legal}
+use Rattle.record.specs.Places.{connection_at, is_shut}
 use Rattle.record.specs.declared.types.Settings.{Settings}
 use Rattle.record.specs.declared.types.Own.{Own}
 use Rattle.record.specs.declared.types.Connection.{Connection}
 use Rattle.record.specs.declared.types.Device.{Device}
 use Rattle.record.specs.Given.{left_by}
-use Rattle.record.proofs.Spelt.{closed-spelt}
-use Rattle.stream.specs.Collecting.{emptyLine}
-use Rattle.clock.specs.After.{partsAfter}
-use Rattle.clock.specs.Second.{times, connectionSecond}
+use Rattle.record.proofs.Spelt.{closed_spelt}
+use Rattle.stream.specs.Collecting.{empty_line}
+use Rattle.clock.specs.After.{parts_after}
+use Rattle.clock.specs.Second.{times, connection_second}
 use Rattle.clock.specs.Passing.{passed}
-use Rattle.clock.proofs.Cases.{passed-accepted}
-use Rattle.clock.proofs.ConnectionsAge.{connection-then}
-use Rattle.clock.proofs.InOneGo.{parts-pass, place-passes}
-use Rattle.clock.proofs.TimeLegal.{passed-legal}
-use Rattle.device.specs.Receiving.{passwordOf}
-use Rattle.panel.specs.Entries.{Talk, Shown, talkOf, shownOf, passwordIn}
+use Rattle.clock.proofs.Cases.{passed_accepted}
+use Rattle.clock.proofs.ConnectionsAge.{connection_then}
+use Rattle.clock.proofs.InOneGo.{parts_pass, place_passes}
+use Rattle.clock.proofs.TimeLegal.{passed_legal}
+use Rattle.device.specs.Receiving.{set_up_password}
+use Rattle.panel.specs.Entries.{Talk, Shown, talk_of, shown_of, password_in}
 use Rattle.panel.specs.Showing.{showing}
-use Rattle.panel.specs.LegalPanels.{isPanel}
+use Rattle.panel.specs.LegalPanels.{is_panel}
 use Rattle.panel.specs.PanelCalls.{entry_at}
 use Rattle.panel.specs.declared.types.Entry.{Entry}
 use Rattle.panel.specs.declared.types.Panel.{Panel}
-use Rattle.panel.proofs.OnlyItsEntry.{OnlyAt, step-touches-its-entry, command-touches-its-entry}
-use Rattle.panel.proofs.PanelsLegal.{commanded-stays-legal, stepped-stays-legal}
-use Rattle.workroom.specs.AnyPanel.{oursPanel}
-use Rattle.workroom.specs.Workroom.{Workroom, roomOf}
-use Rattle.workroom.specs.Workroom.{RoomMove, asks, waits, asks-another, hears-another, meanwhile}
-use Rattle.workroom.specs.Workroom.{happened, allHappened}
-use Rattle.workroom.specs.MeantThrough.{saidAt, own_at, shownThrough, ownThrough}
-use Rattle.workroom.specs.ShowsWhatWasMeant.{Fit, both-open, both-secured, ourEntry, Joined, KeptUp, AllKeptUp}
+use Rattle.panel.proofs.OnlyItsEntry.{OnlyAt, step_touches_its_entry, command_touches_its_entry}
+use Rattle.panel.proofs.PanelsLegal.{commanded_stays_legal, stepped_stays_legal}
+use Rattle.workroom.specs.AnyPanel.{ours_panel}
+use Rattle.workroom.specs.Workroom.{Workroom, room_of}
+use Rattle.workroom.specs.Workroom.{RoomMove, asks, waits, asks_another, hears_another, meanwhile}
+use Rattle.workroom.specs.Workroom.{happened, all_happened}
+use Rattle.workroom.specs.MeantThrough.{said_at, own_at, shown_through, own_through}
+use Rattle.workroom.specs.ShowsWhatWasMeant.{Fit, both_open, both_secured, our_entry, IsJoined, IsKeptUp, AllKeptUp}
 use Rattle.workroom.specs.ShowsWhatWasMeant.{Aside, ShownAs}
-use Rattle.workroom.proofs.RepliesShown.{as_it_was, command-shown}
+use Rattle.workroom.proofs.RepliesShown.{as_it_was, command_shown}
 
 -- a connection that is not closed of age still fits
 pub record FitsStill (t : Talk) (c : Connection) : Type 0 where
   pub fit : Fit t c
-  pub between : c.line ≡ emptyLine
+  pub between : c.line ≡ empty_line
 
 abbrev UnlessShut : Talk → Connection → Type 0
-UnlessShut t c = isShut c ≡ false → FitsStill t c
+UnlessShut t c = is_shut c ≡ false → FitsStill t c
 
-older-fits : {t : Talk} (c : Connection) (age : ℕ) → Fit t c
+older_fits : {t : Talk} (c : Connection) (age : ℕ) → Fit t c
     → Fit t (record { phase = c.phase; age = age; random = c.random; line = c.line })
-older-fits c age (both-open phase greeted later) = both-open phase greeted later
-older-fits c age (both-secured phase greeted first same) = both-secured phase greeted first same
+older_fits c age (both_open phase greeted later) = both_open phase greeted later
+older_fits c age (both_secured phase greeted first same) = both_secured phase greeted first same
 
-seconds-fit : (t : Talk) (n : ℕ) (c : Connection) → FitsStill t c → UnlessShut t (times connectionSecond n c)
-seconds-fit t n c fits =
-    connection-then (UnlessShut t)
-    (λ live. absurd (false≢true (sym live ∙ ap isShut closed-spelt)))
-    (λ k age still live. record { fit = older-fits k age (still live).fit; between = (still live).between })
+seconds_fit : (t : Talk) (n : ℕ) (c : Connection) → FitsStill t c → UnlessShut t (times connection_second n c)
+seconds_fit t n c fits =
+    connection_then (UnlessShut t)
+    (λ live. absurd (false≢true (sym live ∙ ap is_shut closed_spelt)))
+    (λ k age still live. record { fit = older_fits k age (still live).fit; between = (still live).between })
     n c (λ live. fits)
 
-module _ (i p : ℕ) (w : Workroom) (j : Joined i p w) where
+module _ (i p : ℕ) (w : Workroom) (j : IsJoined i p w) where
   abbrev entry : Entry
-  entry = ourEntry i w
+  entry = our_entry i w
 
   abbrev device : Device
   device = w.device
 
   abbrev connection : Connection
-  connection = connectionAt device p
+  connection = connection_at device p
 
-  time-keeps : (n : ℕ) → isShut (connectionAt (left_by device (passed device n)) p) ≡ false
-      → ShownAs i p w (shownOf entry) (own_at device.settings device.own (waits n))
-      (happened oursPanel i p w (waits n))
-  time-keeps n live =
-      let then : (left_by device (passed device n)) ≡ partsAfter n device
-      = ap (left_by device) (passed-accepted device n j.acquainted.device) ∙ parts-pass n device in
-      let here : connectionAt (partsAfter n device) p ≡ times connectionSecond n connection
-      = ap (λ (d : Device). connectionAt d p) (sym (parts-pass n device)) ∙ place-passes n device p in
-      let still = seconds-fit (talkOf entry) n connection (record { fit = j.fit; between = j.between })
-      (ap isShut (sym here) ∙ sym (ap (λ (d : Device). isShut (connectionAt d p)) then) ∙ live) in
-      subst (λ (d : Device). ShownAs i p w (shownOf entry) (own_at device.settings device.own (waits n))
-      (roomOf w.panel d)) (sym then)
+  time_keeps : (n : ℕ) → is_shut (connection_at (left_by device (passed device n)) p) ≡ false
+      → ShownAs i p w (shown_of entry) (own_at device.settings device.own (waits n))
+      (happened ours_panel i p w (waits n))
+  time_keeps n live =
+      let then : (left_by device (passed device n)) ≡ parts_after n device
+      = ap (left_by device) (passed_accepted device n j.acquainted.device) ∙ parts_pass n device in
+      let here : connection_at (parts_after n device) p ≡ times connection_second n connection
+      = ap (λ (d : Device). connection_at d p) (sym (parts_pass n device)) ∙ place_passes n device p in
+      let still = seconds_fit (talk_of entry) n connection (record { fit = j.fit; between = j.between })
+      (ap is_shut (sym here) ∙ sym (ap (λ (d : Device). is_shut (connection_at d p)) then) ∙ live) in
+      subst (λ (d : Device). ShownAs i p w (shown_of entry) (own_at device.settings device.own (waits n))
+      (room_of w.panel d)) (sym then)
       (record {
         shows = refl;
         strays = refl;
@@ -92,25 +89,25 @@ module _ (i p : ℕ) (w : Workroom) (j : Joined i p w) where
           acquainted = record {
             panel = j.acquainted.panel;
             there = j.acquainted.there;
-            device = ap isLegal (sym then) ∙ passed-legal device n j.acquainted.device;
+            device = ap is_legal (sym then) ∙ passed_legal device n j.acquainted.device;
             password = j.acquainted.password;
           };
           place = j.place;
           between = ap (λ (c : Connection). c.line) here ∙ still.between;
           rests = j.rests;
-          fit = subst (Fit (talkOf entry)) (sym here) still.fit;
+          fit = subst (Fit (talk_of entry)) (sym here) still.fit;
         };
       })
 
   -- what another projector is sent or says
-  elsewhere : (q : Panel) (k : ℕ) → isPanel q ≡ true → OnlyAt w.panel k q → (k ≡ i → ⊥)
-      → ShownAs i p w (shownOf entry) device.own (roomOf q device)
+  elsewhere : (q : Panel) (k : ℕ) → is_panel q ≡ true → OnlyAt w.panel k q → (k ≡ i → ⊥)
+      → ShownAs i p w (shown_of entry) device.own (room_of q device)
   elsewhere q k legal only other =
       let same : entry_at q i ≡ entry = only.others i (λ e. other (sym e)) in
       let count = only.count in
       let here = j.acquainted.there in
       record {
-        shows = ap (λ (e : Entry). shownOf e) same;
+        shows = ap (λ (e : Entry). shown_of e) same;
         strays = ap (λ (e : Entry). e.strays) same;
         settings = refl;
         does = refl;
@@ -119,17 +116,17 @@ module _ (i p : ℕ) (w : Workroom) (j : Joined i p w) where
             panel = legal;
             there = omega arith;
             device = j.acquainted.device;
-            password = ap passwordIn same ∙ j.acquainted.password;
+            password = ap password_in same ∙ j.acquainted.password;
           };
           place = j.place;
           between = j.between;
           rests = ap (λ (e : Entry). e.under_way) same ∙ j.rests;
-          fit = subst (λ (e : Entry). Fit (talkOf e) connection) (sym same) j.fit;
+          fit = subst (λ (e : Entry). Fit (talk_of e) connection) (sym same) j.fit;
         };
       }
 
   -- what others do with the device
-  others_keep : (d : Device) → Aside p device d → ShownAs i p w (shownOf entry) d.own (roomOf w.panel d)
+  others_keep : (d : Device) → Aside p device d → ShownAs i p w (shown_of entry) d.own (room_of w.panel d)
   others_keep d aside = record {
     shows = refl;
     strays = refl;
@@ -140,44 +137,44 @@ module _ (i p : ℕ) (w : Workroom) (j : Joined i p w) where
         panel = j.acquainted.panel;
         there = j.acquainted.there;
         device = aside.device;
-        password = j.acquainted.password ∙ ap passwordOf (sym aside.settings);
+        password = j.acquainted.password ∙ ap set_up_password (sym aside.settings);
       };
       place = j.place;
       between = ap (λ (c : Connection). c.line) aside.connection ∙ j.between;
       rests = j.rests;
-      fit = subst (Fit (talkOf entry)) (sym aside.connection) j.fit;
+      fit = subst (Fit (talk_of entry)) (sym aside.connection) j.fit;
     };
   }
 
-  pub shown-then : (h : RoomMove) → KeptUp i p w h
-      → ShownAs i p w (showing (shownOf entry) (saidAt device.settings device.own h))
-      (own_at device.settings device.own h) (happened oursPanel i p w h)
-  shown-then (asks k there back) within = command-shown i p w j k there back within
-  shown-then (waits n) live = time-keeps n live
-  shown-then (asks-another k c) other =
-      elsewhere _ k (commanded-stays-legal w.panel j.acquainted.panel k c _)
-      (command-touches-its-entry w.panel k c _) other
-  shown-then (hears-another k l) other =
-      elsewhere _ k (stepped-stays-legal w.panel j.acquainted.panel k l)
-      (step-touches-its-entry w.panel k l) other
-  shown-then (meanwhile d) aside = others_keep d aside
+  pub shown_then : (h : RoomMove) → IsKeptUp i p w h
+      → ShownAs i p w (showing (shown_of entry) (said_at device.settings device.own h))
+      (own_at device.settings device.own h) (happened ours_panel i p w h)
+  shown_then (asks k there back) within = command_shown i p w j k there back within
+  shown_then (waits n) live = time_keeps n live
+  shown_then (asks_another k c) other =
+      elsewhere _ k (commanded_stays_legal w.panel j.acquainted.panel k c _)
+      (command_touches_its_entry w.panel k c _) other
+  shown_then (hears_another k l) other =
+      elsewhere _ k (stepped_stays_legal w.panel j.acquainted.panel k l)
+      (step_touches_its_entry w.panel k l) other
+  shown_then (meanwhile d) aside = others_keep d aside
 
 -- one after the other
 module _ (i p : ℕ) where
   abbrev Through : Workroom → Settings → Own → Shown → List RoomMove → Workroom → Type 0
-  Through w s o v hs x = ShownAs i p w (shownThrough s o v hs) (ownThrough s o hs) x
+  Through w s o v hs x = ShownAs i p w (shown_through s o v hs) (own_through s o hs) x
 
-  pub all_shown : (w : Workroom) (hs : List RoomMove) → Joined i p w → AllKeptUp i p oursPanel w hs
-      → Through w w.device.settings w.device.own (shownOf (ourEntry i w)) hs (allHappened oursPanel i p w hs)
+  pub all_shown : (w : Workroom) (hs : List RoomMove) → IsJoined i p w → AllKeptUp i p ours_panel w hs
+      → Through w w.device.settings w.device.own (shown_of (our_entry i w)) hs (all_happened ours_panel i p w hs)
   all_shown w [] j kept = as_it_was i p w j
   all_shown w (h ∷ hs) j kept =
-      let one = shown-then i p w j h kept.0 in
-      let x = happened oursPanel i p w h in
+      let one = shown_then i p w j h kept.0 in
+      let x = happened ours_panel i p w h in
       let rest = all_shown x hs one.joined kept.1 in
       record {
-        shows = rest.shows ∙ (λ n. shownThrough (one.settings n) (one.does n) (one.shows n) hs);
+        shows = rest.shows ∙ (λ n. shown_through (one.settings n) (one.does n) (one.shows n) hs);
         strays = rest.strays ∙ one.strays;
         settings = rest.settings ∙ one.settings;
-        does = rest.does ∙ (λ n. ownThrough (one.settings n) (one.does n) hs);
+        does = rest.does ∙ (λ n. own_through (one.settings n) (one.does n) hs);
         joined = rest.joined;
       }

@@ -2,176 +2,170 @@
 -- the digest. One of a class no higher than the device's is answered, and the reply is read as what the device meant;
 -- a higher one is swallowed (RULES, Class 2).
 -- Assumes nothing.
-use Prim.Native.Nat.{ℕ, ◌≤◌, ◌<◌}
-use mathlib.Core.Path.{◌≡◌, refl, sym, ap, subst, ◌∙◌}
-use mathlib.Core.Bool.{Bool, true, false, ◌||◌}
-use mathlib.Core.List.{List, ◌++◌}
-use native.Mathlib.Omega.{arith}
-use lib.ListN.{length}
-use lib.Dec.{eqb}
-use borrow.Author.Tests.{ne_eqb}
+use Rattle.std.proofs.Common.{ℕ, ◌≤◌, ◌<◌, ◌≡◌, refl, sym, ap, subst, ◌∙◌, Bool, true, false, ◌||◌, List, ◌++◌, arith}
+use Rattle.std.proofs.Common.{length, ◌==◌, ne_eqb}
 use Rattle.std.specs.Prelude.{Option, Some, Ok}
 use Rattle.text.proofs.Choices.{if_yes}
-use Rattle.digest.specs.Hex.{leadingDigest}
-use Rattle.pjlink.specs.Commands.{commandClass, isCommand, commandLine}
+use Rattle.digest.specs.Hex.{leading_digest}
+use Rattle.pjlink.specs.Commands.{command_class, is_command, command_line}
 use Rattle.pjlink.specs.declared.command.Command.{Command}
 use Rattle.pjlink.specs.Said.{Said}
 use Rattle.record.specs.Limits.{shut, awaiting, opened}
-use Rattle.record.specs.Places.{connectionAt, isShut}
+use Rattle.record.specs.Places.{connection_at, is_shut}
 use Rattle.record.specs.declared.types.Line.{Line}
 use Rattle.record.specs.declared.types.Connection.{Connection}
 use Rattle.record.specs.declared.types.Device.{Device}
-use Rattle.record.proofs.LegalTold.{legal-settings, legal-own}
+use Rattle.record.proofs.LegalTold.{legal_settings, legal_own}
 use Rattle.stream.specs.Machine.{Out}
-use Rattle.stream.proofs.LinesSpelt.{empty-spelt}
+use Rattle.stream.proofs.LinesSpelt.{empty_spelt}
 use Rattle.meaning.specs.Meaning.{meant}
-use Rattle.meaning.proofs.CanBeSaid.{meant-fits, meant-can-be-said}
-use Rattle.device.specs.Receiving.{passwordOf}
-use Rattle.device.specs.Calls.{Result, replyRoom, received}
-use Rattle.device.proofs.CommandsReceived.{replyTo, commandResult, command-received, command-received-secured}
-use Rattle.device.proofs.CommandsReceived.{swallowedAt, higher-received, higher-received-secured}
-use Rattle.controller.specs.Writing.{commandRoom, ledBy}
-use Rattle.controller.specs.Reading.{meaning, readReply}
-use Rattle.controller.proofs.ReadsBack.{reply-read}
-use Rattle.codes.specs.Commands.{commandOf}
+use Rattle.meaning.proofs.CanBeSaid.{meant_fits, meant_can_be_said}
+use Rattle.device.specs.Receiving.{set_up_password}
+use Rattle.device.specs.Calls.{Result, reply_room, received}
+use Rattle.device.proofs.CommandsReceived.{reply_to, command_result, command_received, command_received_secured}
+use Rattle.device.proofs.CommandsReceived.{swallowed_at, higher_received, higher_received_secured}
+use Rattle.controller.specs.Writing.{command_room, led_by}
+use Rattle.controller.specs.Reading.{meaning, read_reply}
+use Rattle.controller.proofs.ReadsBack.{reply_read}
+use Rattle.codes.specs.Commands.{coded_command}
 use Rattle.codes.specs.declared.command.Coded.{Coded}
-use Rattle.codes.proofs.CodesBack.{command-writable}
-use Rattle.panel.specs.Entries.{Talk, talkOf, passwordIn, ungreeted, leadsNext}
-use Rattle.panel.specs.Stepping.{isUnready, lineSent}
-use Rattle.panel.specs.LegalPanels.{isNamed}
+use Rattle.codes.proofs.CodesBack.{command_writable}
+use Rattle.panel.specs.Entries.{Talk, talk_of, password_in, ungreeted, leads_next}
+use Rattle.panel.specs.Stepping.{is_unready, line_sent}
+use Rattle.panel.specs.LegalPanels.{names_command}
 use Rattle.panel.specs.declared.types.Entry.{Entry}
-use Rattle.panel.specs.PanelCalls.{PanelAs, sentAt, commanded}
-use Rattle.panel.proofs.Cases.{Commands, commanded-done}
-use Rattle.panel.proofs.LinesSent.{line-sent}
-use Rattle.workroom.specs.AnyPanel.{oursPanel}
-use Rattle.workroom.specs.Workroom.{Workroom, roomOf, asks, handedThere, delivered, answeredBack, happened}
-use Rattle.workroom.specs.ShowsWhatWasMeant.{Fit, both-open, both-secured, ourEntry, Joined}
-use Rattle.workroom.specs.PanelDemand.{Served}
-use Rattle.workroom.proofs.Cuts.{handed-in-cuts}
-use Rattle.workroom.proofs.EntriesStep.{entry-legal-there}
+use Rattle.panel.specs.PanelCalls.{PanelAs, sent_at, commanded}
+use Rattle.panel.proofs.Cases.{Commands, commanded_done}
+use Rattle.panel.proofs.LinesSent.{line_sent_whole}
+use Rattle.workroom.specs.AnyPanel.{ours_panel}
+use Rattle.workroom.specs.Workroom.{Workroom, room_of, asks, handed_there, delivered, answered_back, happened}
+use Rattle.workroom.specs.ShowsWhatWasMeant.{Fit, both_open, both_secured, our_entry, IsJoined}
+use Rattle.workroom.specs.PanelDemand.{IsServed}
+use Rattle.workroom.proofs.Cuts.{handed_in_cuts}
+use Rattle.workroom.proofs.EntriesStep.{entry_legal_there}
 
 -- both sides that fit have a connection
-pub fit-greeted : {t : Talk} {c : Connection} → Fit t c → t.greeting ≡ ungreeted → ⊥
-fit-greeted (both-open phase greeted later) = greeted
-fit-greeted (both-secured phase greeted first same) = greeted
+pub fit_greeted : {t : Talk} {c : Connection} → Fit t c → t.greeting ≡ ungreeted → ⊥
+fit_greeted (both_open phase greeted later) = greeted
+fit_greeted (both_secured phase greeted first same) = greeted
 
-pub fit-live : {t : Talk} {c : Connection} → Fit t c → isShut c ≡ false
-fit-live (both-open phase greeted later) = ap (λ (p : ℕ). eqb p shut) phase
-fit-live (both-secured phase greeted first same) = ap (λ (p : ℕ). eqb p shut) phase
+pub fit_live : {t : Talk} {c : Connection} → Fit t c → is_shut c ≡ false
+fit_live (both_open phase greeted later) = ap (λ (p : ℕ). p == shut) phase
+fit_live (both_secured phase greeted first same) = ap (λ (p : ℕ). p == shut) phase
 
-module _ (i p : ℕ) (w : Workroom) (j : Joined i p w) where
+module _ (i p : ℕ) (w : Workroom) (j : IsJoined i p w) where
   abbrev entry : Entry
-  entry = ourEntry i w
+  entry = our_entry i w
 
   abbrev device : Device
   device = w.device
 
   abbrev connection : Connection
-  connection = connectionAt device p
+  connection = connection_at device p
 
-  pub joined-served : Served w.panel i
-  joined-served = record { legal = j.acquainted.panel; there = j.acquainted.there }
+  pub joined_served : IsServed w.panel i
+  joined_served = record { legal = j.acquainted.panel; there = j.acquainted.there }
 
-  pub joined-ready : isUnready entry ≡ false
-  joined-ready =
-      let greeted = ne_eqb entry.greeting ungreeted (fit-greeted j.fit) in
+  pub joined_ready : is_unready entry ≡ false
+  joined_ready =
+      let greeted = ne_eqb entry.greeting ungreeted (fit_greeted j.fit) in
       let rests = j.rests in
       (λ n. greeted n || rests n)
 
-  module _ (k : Coded) (c : Command) (is : commandOf k ≡ Some c) where
-    pub can-command : Commands w.panel i k commandRoom
-    can-command = record {
+  module _ (k : Coded) (c : Command) (is : coded_command k ≡ Some c) where
+    pub can_command : Commands w.panel i k command_room
+    can_command = record {
       legal = j.acquainted.panel;
       enough = omega arith;
       there = j.acquainted.there;
-      named = ap isNamed is;
-      ready = joined-ready;
+      named = ap names_command is;
+      ready = joined_ready;
     }
 
-    abbrev writable : isCommand c ≡ true
-    writable = command-writable k c is
+    abbrev writable : is_command c ≡ true
+    writable = command_writable k c is
 
     abbrev told : Said
     told = meant device.settings device.own (Ok c)
 
     abbrev sent : List ℕ
-    sent = lineSent entry (commandOf k) commandRoom
+    sent = line_sent entry (coded_command k) command_room
 
-    spelt : sent ≡ ledBy (leadsNext (talkOf entry)) entry.random (passwordIn entry) ++ commandLine c
+    spelt : sent ≡ led_by (leads_next (talk_of entry)) entry.random (password_in entry) ++ command_line c
     spelt =
-        ap (λ (m : Option Command). lineSent entry m commandRoom) is
-        ∙ line-sent entry c commandRoom (entry-legal-there w.panel i joined-served) writable (omega arith)
+        ap (λ (m : Option Command). line_sent entry m command_room) is
+        ∙ line_sent_whole entry c command_room (entry_legal_there w.panel i joined_served) writable (omega arith)
 
     -- how the device takes a line
     abbrev Answers : (ℕ → Result Device) → List ℕ → Type 0
-    Answers r l = received device p l replyRoom ≡ r (length l)
+    Answers r l = received device p l reply_room ≡ r (length l)
 
     unmarked : connection.line.overlong ≡ false
-    unmarked = ap (λ (l : Line). l.overlong) (j.between ∙ empty-spelt)
+    unmarked = ap (λ (l : Line). l.overlong) (j.between ∙ empty_spelt)
 
-    none-held : connection.line.held ≡ 0
-    none-held = ap (λ (l : Line). l.held) (j.between ∙ empty-spelt)
+    none_held : connection.line.held ≡ 0
+    none_held = ap (λ (l : Line). l.held) (j.between ∙ empty_spelt)
 
-    led-alike : (led : Bool) → leadsNext (talkOf entry) ≡ led → {random : ℕ} → entry.random ≡ random
-        → sent ≡ ledBy led random (passwordOf device.settings) ++ commandLine c
-    led-alike led e same =
-        spelt ∙ (λ n. ledBy (e n) (same n) (j.acquainted.password n) ++ commandLine c)
+    led_alike : (led : Bool) → leads_next (talk_of entry) ≡ led → {random : ℕ} → entry.random ≡ random
+        → sent ≡ led_by led random (set_up_password device.settings) ++ command_line c
+    led_alike led e same =
+        spelt ∙ (λ n. led_by (e n) (same n) (j.acquainted.password n) ++ command_line c)
 
-    abbrev led-line : List ℕ
-    led-line = leadingDigest connection.random (passwordOf device.settings) ++ commandLine c
+    abbrev led_line : List ℕ
+    led_line = leading_digest connection.random (set_up_password device.settings) ++ command_line c
 
-    taken-by-fit : (r : ℕ → Result Device) → (connection.phase ≡ opened → Answers r (commandLine c))
-        → (connection.phase ≡ awaiting → Answers r led-line) → Fit (talkOf entry) connection → Answers r sent
-    taken-by-fit r plain led (both-open phase greeted later) =
-        subst (Answers r) (sym (led-alike false later refl)) (plain phase)
-    taken-by-fit r plain led (both-secured phase greeted first same) =
-        subst (Answers r) (sym (led-alike true first same)) (led phase)
+    taken_by_fit : (r : ℕ → Result Device) → (connection.phase ≡ opened → Answers r (command_line c))
+        → (connection.phase ≡ awaiting → Answers r led_line) → Fit (talk_of entry) connection → Answers r sent
+    taken_by_fit r plain led (both_open phase greeted later) =
+        subst (Answers r) (sym (led_alike false later refl)) (plain phase)
+    taken_by_fit r plain led (both_secured phase greeted first same) =
+        subst (Answers r) (sym (led_alike true first same)) (led phase)
 
-    pub command-taken : commandClass c ≤ device.settings.class_number → Answers (commandResult device p c) sent
-    command-taken within =
-        taken-by-fit (commandResult device p c)
-        (command-received device p j.place replyRoom j.acquainted.device (omega arith) unmarked none-held c
+    pub command_taken : command_class c ≤ device.settings.class_number → Answers (command_result device p c) sent
+    command_taken within =
+        taken_by_fit (command_result device p c)
+        (command_received device p j.place reply_room j.acquainted.device (omega arith) unmarked none_held c
         writable within)
-        (command-received-secured device p j.place replyRoom j.acquainted.device (omega arith) unmarked none-held
+        (command_received_secured device p j.place reply_room j.acquainted.device (omega arith) unmarked none_held
         c writable within)
         j.fit
 
-    pub higher-taken : device.settings.class_number < commandClass c → Answers (swallowedAt device p) sent
-    higher-taken higher =
-        taken-by-fit (swallowedAt device p)
-        (higher-received device p j.place replyRoom j.acquainted.device (omega arith) unmarked none-held c
+    pub higher_taken : device.settings.class_number < command_class c → Answers (swallowed_at device p) sent
+    higher_taken higher =
+        taken_by_fit (swallowed_at device p)
+        (higher_received device p j.place reply_room j.acquainted.device (omega arith) unmarked none_held c
         higher)
-        (higher-received-secured device p j.place replyRoom j.acquainted.device (omega arith) unmarked none-held
+        (higher_received_secured device p j.place reply_room j.acquainted.device (omega arith) unmarked none_held
         c higher)
         j.fit
 
     abbrev pub sending : PanelAs
-    sending = commanded w.panel i k commandRoom
+    sending = commanded w.panel i k command_room
 
-    done-sending : sending ≡ sentAt w.panel i k commandRoom
-    done-sending = commanded-done w.panel i k commandRoom can-command
+    done_sending : sending ≡ sent_at w.panel i k command_room
+    done_sending = commanded_done w.panel i k command_room can_command
 
     -- a line that is taken whole, and what comes back of it
     module _ (r : ℕ → Result Device) (taken : Answers r sent) (whole : (r (length sent)).taken ≡ length sent)
         (there back : List ℕ) where
-      comes_back : handedThere device p there sending.line
+      comes_back : handed_there device p there sending.line
           ≡ record { state = (r (length sent)).device; reply = (r (length sent)).reply }
       comes_back =
-          ap (λ (s : PanelAs). handedThere device p there s.line) done-sending
-          ∙ handed-in-cuts device p there sent j.place j.acquainted.device (fit-live j.fit)
+          ap (λ (s : PanelAs). handed_there device p there s.line) done_sending
+          ∙ handed_in_cuts device p there sent j.place j.acquainted.device (fit_live j.fit)
           (ap (λ (t : Result Device). t.taken) taken ∙ whole)
           ∙ ap {B = Out Device} (λ (t : Result Device). record { state = t.device; reply = t.reply }) taken
 
-      pub asked-as : happened oursPanel i p w (asks k there back)
-          ≡ roomOf (delivered oursPanel i sending.panel back (r (length sent)).reply) (r (length sent)).device
-      asked-as =
-          if_yes _ _ (ap (λ (s : PanelAs). eqb s.number 0) done-sending)
-          ∙ ap (answeredBack oursPanel i sending.panel back) comes_back
+      pub asked_as_lem : happened ours_panel i p w (asks k there back)
+          ≡ room_of (delivered ours_panel i sending.panel back (r (length sent)).reply) (r (length sent)).device
+      asked_as_lem =
+          if_yes _ _ (ap (λ (s : PanelAs). s.number == 0) done_sending)
+          ∙ ap (answered_back ours_panel i sending.panel back) comes_back
 
-    pub told_back : readReply c (replyTo c told) ≡ meaning told
+    pub told_back : read_reply c (reply_to c told) ≡ meaning told
     told_back =
-        let settings = legal-settings device j.acquainted.device in
-        let own = legal-own device j.acquainted.device in
-        let fits = meant-fits device.settings device.own settings own (Ok c) in
+        let settings = legal_settings device j.acquainted.device in
+        let own = legal_own device j.acquainted.device in
+        let fits = meant_fits device.settings device.own settings own (Ok c) in
         let short = fits.short in
-        reply-read c (meant-can-be-said device.settings device.own settings own c) (omega arith) fits.no-cr
+        reply_read c (meant_can_be_said device.settings device.own settings own c) (omega arith) fits.has_no_cr

@@ -4,44 +4,41 @@
 -- greeting.
 --   Told d p m c w r     the writing w of m, which is the command c, and the receiving r of its bytes at place p
 -- Assumes nothing.
-use Prim.Native.Nat.{ℕ, ◌^◌, ◌≤◌, ◌<◌}
-use mathlib.Core.Path.{◌≡◌, sym, ap, subst}
-use mathlib.Core.Bool.{true, false}
-use mathlib.Core.List.{List}
+use Rattle.std.proofs.Common.{ℕ, ◌^◌, ◌≤◌, ◌<◌, ◌≡◌, sym, ap, subst, true, false, List}
 use Rattle.std.specs.Prelude.{Option, Some, Ok}
-use Rattle.pjlink.specs.Commands.{commandClass}
+use Rattle.pjlink.specs.Commands.{command_class}
 use Rattle.pjlink.specs.declared.command.Command.{Command}
-use Rattle.record.specs.Limits.{placesCount, awaiting, opened}
-use Rattle.record.specs.Legal.{isLegal}
-use Rattle.record.specs.Places.{connectionAt, lowestShut}
+use Rattle.record.specs.Limits.{places_count, awaiting, opened}
+use Rattle.record.specs.Legal.{is_legal}
+use Rattle.record.specs.Places.{connection_at, lowest_shut}
 use Rattle.record.specs.declared.types.Device.{Device}
-use Rattle.stream.specs.Collecting.{emptyLine}
+use Rattle.stream.specs.Collecting.{empty_line}
 use Rattle.meaning.specs.Meaning.{meant}
-use Rattle.device.specs.Receiving.{passwordOf}
-use Rattle.device.specs.Calls.{Result, replyRoom, received, openedBy, placeTaken}
-use Rattle.controller.specs.Writing.{WrittenAs, commandRoom}
-use Rattle.controller.specs.Greetings.{readGreeting}
-use Rattle.demands.specs.Greeted.{greetedOn}
+use Rattle.device.specs.Receiving.{set_up_password}
+use Rattle.device.specs.Calls.{Result, reply_room, received, opened_by, place_taken}
+use Rattle.controller.specs.Writing.{WrittenAs, command_room}
+use Rattle.controller.specs.Greetings.{read_greeting}
+use Rattle.demands.specs.Greeted.{greeted_on}
 use Rattle.demands.proofs.TakenAndRead.{TakenAndRead}
-use Rattle.demands.proofs.WrittenReadBack.{written-reads-back, written-reads-back-secured}
-use Rattle.demands.proofs.GreetsBack.{greets-back}
-use Rattle.codes.specs.Commands.{commandOf}
-use Rattle.codes.specs.Readings.{flatGreeting, saidFlat, flat}
+use Rattle.demands.proofs.WrittenReadBack.{written_reads_back, written_reads_back_secured}
+use Rattle.demands.proofs.GreetsBack.{greets_back}
+use Rattle.codes.specs.Commands.{coded_command}
+use Rattle.codes.specs.Readings.{flat_greeting, said_flat, flat}
 use Rattle.codes.specs.ByCode.{written_by, read_by}
 use Rattle.codes.specs.declared.command.Coded.{Coded}
-use Rattle.codes.proofs.CodesBack.{command-writable}
+use Rattle.codes.proofs.CodesBack.{command_writable}
 
 pub record Told (d : Device) (p : ℕ) (m : Option Command) (c : Command) (w : WrittenAs) (r : Result Device)
     : Type 0 where
   pub written : w.number ≡ 0
   pub taken : TakenAndRead d p c w.bytes r
-  pub read : read_by m r.reply ≡ saidFlat (meant d.settings d.own (Ok c))
+  pub read : read_by m r.reply ≡ said_flat (meant d.settings d.own (Ok c))
 
-module _ (d : Device) (p : ℕ) (there : p < placesCount) (legal : isLegal d ≡ true)
-    (between : (connectionAt d p).line ≡ emptyLine)
-    (k : Coded) (c : Command) (named : commandOf k ≡ Some c)
-    (within : commandClass c ≤ d.settings.class_number)
-    (room : ℕ) (enough : replyRoom ≤ room) (memory : ℕ) (lent : commandRoom ≤ memory) where
+module _ (d : Device) (p : ℕ) (there : p < places_count) (legal : is_legal d ≡ true)
+    (between : (connection_at d p).line ≡ empty_line)
+    (k : Coded) (c : Command) (named : coded_command k ≡ Some c)
+    (within : command_class c ≤ d.settings.class_number)
+    (room : ℕ) (enough : reply_room ≤ room) (memory : ℕ) (lent : command_room ≤ memory) where
   -- of the command itself, and so of its code
   abbrev ToldBy : (Option Command → WrittenAs) → Option Command → Type 0
   ToldBy write m = Told d p m c (write m) (received d p (write m).bytes room)
@@ -49,29 +46,29 @@ module _ (d : Device) (p : ℕ) (there : p < placesCount) (legal : isLegal d ≡
   told : (write : Option Command → WrittenAs)
       → ((write (Some c)).number ≡ 0) × TakenAndRead d p c (write (Some c)).bytes
       (received d p (write (Some c)).bytes room)
-      → ToldBy write (commandOf k)
+      → ToldBy write (coded_command k)
   told write through =
       subst (ToldBy write) (sym named)
       (record { written = through.0; taken = through.1; read = ap flat through.1.said })
 
-  pub face-reads-back : (connectionAt d p).phase ≡ opened → (random : ℕ) (password : List ℕ)
-      → ToldBy (λ m. written_by m false random password memory) (commandOf k)
-  face-reads-back phase random password =
+  pub face_reads_back : (connection_at d p).phase ≡ opened → (random : ℕ) (password : List ℕ)
+      → ToldBy (λ m. written_by m false random password memory) (coded_command k)
+  face_reads_back phase random password =
       told (λ m. written_by m false random password memory)
-      (written-reads-back d p there legal between c (command-writable k c named) within room enough memory lent phase
+      (written_reads_back d p there legal between c (command_writable k c named) within room enough memory lent phase
       random password)
 
   -- with the device's own random number and password
-  pub face-reads-back-secured : (connectionAt d p).phase ≡ awaiting
-      → ToldBy (λ m. written_by m true (connectionAt d p).random (passwordOf d.settings) memory) (commandOf k)
-  face-reads-back-secured phase =
-      told (λ m. written_by m true (connectionAt d p).random (passwordOf d.settings) memory)
-      (written-reads-back-secured d p there legal between c (command-writable k c named) within room enough memory lent
+  pub face_reads_back_secured : (connection_at d p).phase ≡ awaiting
+      → ToldBy (λ m. written_by m true (connection_at d p).random (set_up_password d.settings) memory) (coded_command k)
+  face_reads_back_secured phase =
+      told (λ m. written_by m true (connection_at d p).random (set_up_password d.settings) memory)
+      (written_reads_back_secured d p there legal between c (command_writable k c named) within room enough memory lent
       phase)
 
-pub face-greets-back : (d : Device) (r room : ℕ) → isLegal d ≡ true → lowestShut d.connections < placesCount
-    → replyRoom ≤ room → r < 2 ^ 32
-    → let o = openedBy d r room in
-    flatGreeting (readGreeting o.reply) ≡ flatGreeting (greetedOn (connectionAt o.device (placeTaken d room)))
-face-greets-back d r room legal free enough word =
-    ap flatGreeting (greets-back d r room legal free enough word).heard
+pub face_greets_back : (d : Device) (r room : ℕ) → is_legal d ≡ true → lowest_shut d.connections < places_count
+    → reply_room ≤ room → r < 2 ^ 32
+    → let o = opened_by d r room in
+    flat_greeting (read_greeting o.reply) ≡ flat_greeting (greeted_on (connection_at o.device (place_taken d room)))
+face_greets_back d r room legal free enough word =
+    ap flat_greeting (greets_back d r room legal free enough word).heard

@@ -1,56 +1,54 @@
 -- Our panel does what RULES, Panel asks of one: by the table of what each kind of line does (`StepTo` of panel), which
 -- a legal entry steps by.
 -- Assumes nothing.
-use Prim.Native.Nat.{ℕ}
-use mathlib.Core.Path.{◌≡◌, refl, sym, ap, subst, ◌∙◌}
-use mathlib.Core.List.{List}
-use Rattle.panel.specs.Entries.{talkOf, shownOf}
-use Rattle.panel.specs.StepTable.{StepTo, greets-open, greets-secured, strays, answers, refuses}
-use Rattle.panel.specs.PanelCalls.{entry_at, steppedAt}
+use Rattle.std.proofs.Common.{ℕ, ◌≡◌, refl, sym, ap, subst, ◌∙◌, List}
+use Rattle.panel.specs.Entries.{talk_of, shown_of}
+use Rattle.panel.specs.StepTable.{StepTo, greets_open, greets_secured, strays, answers, refuses}
+use Rattle.panel.specs.PanelCalls.{entry_at, stepped_at}
 use Rattle.panel.specs.declared.types.Entry.{Entry}
 use Rattle.panel.specs.declared.types.Panel.{Panel}
-use Rattle.panel.proofs.OnlyItsEntry.{step-touches-its-entry}
-use Rattle.panel.proofs.StepsByTable.{row-steps, steps-by-the-table}
-use Rattle.workroom.specs.AnyPanel.{oursPanel}
-use Rattle.workroom.specs.PanelDemand.{Served, PartsAre, ShownBy, stays-shown, by-reply, by-erra, PanelDemand}
-use Rattle.workroom.proofs.EntriesStep.{entry-legal-there, entry-heard}
+use Rattle.panel.proofs.OnlyItsEntry.{step_touches_its_entry}
+use Rattle.panel.proofs.StepsByTable.{row_steps, steps_by_the_table}
+use Rattle.workroom.specs.AnyPanel.{ours_panel}
+use Rattle.workroom.specs.PanelDemand.{IsServed, PartsAre, ShownBy, stays_shown, by_reply, by_erra, PanelDemand}
+use Rattle.workroom.proofs.EntriesStep.{entry_legal_there, entry_at-stepped_at}
 
-module _ (p : Panel) (i : ℕ) (l : List ℕ) (served : Served p i) where
+module _ (p : Panel) (i : ℕ) (l : List ℕ) (served : IsServed p i) where
   abbrev before : Entry
   before = entry_at p i
 
   -- a row that keeps the password
   by_row : {f : Entry} → StepTo before l f → f.password ≡ before.password
-      → PartsAre (entry_at (steppedAt p i l).panel i) before (talkOf f) (shownOf f) f.strays
+      → PartsAre (entry_at (stepped_at p i l).panel i) before (talk_of f) (shown_of f) f.strays
   by_row {f} row same =
-      let steps : entry_at (steppedAt p i l).panel i ≡ f = entry-heard p i served l ∙ row-steps before l row in
+      let steps : entry_at (stepped_at p i l).panel i ≡ f = entry_at-stepped_at p i served l ∙ row_steps before l row in
       record {
-        same-password = ap (λ (e : Entry). e.password) steps ∙ same;
-        talks = ap (λ (e : Entry). talkOf e) steps;
-        shows = ap (λ (e : Entry). shownOf e) steps;
+        same_password = ap (λ (e : Entry). e.password) steps ∙ same;
+        talks = ap (λ (e : Entry). talk_of e) steps;
+        shows = ap (λ (e : Entry). shown_of e) steps;
         counts = ap (λ (e : Entry). e.strays) steps;
       }
 
-  row-shown : {f : Entry} → StepTo before l f → ShownBy before l f
-  row-shown (greets-open g r) = stays-shown refl
-  row-shown (greets-secured random g r) = stays-shown refl
-  row-shown (strays s) = stays-shown refl
-  row-shown (answers c m u r) = by-reply c m u r refl
-  row-shown (refuses c u r) = by-erra c u r refl
+  row_shown : {f : Entry} → StepTo before l f → ShownBy before l f
+  row_shown (greets_open g r) = stays_shown refl
+  row_shown (greets_secured random g r) = stays_shown refl
+  row_shown (strays s) = stays_shown refl
+  row_shown (answers c m u r) = by_reply c m u r refl
+  row_shown (refuses c u r) = by_erra c u r refl
 
-  any-shown : ShownBy before l (entry_at (steppedAt p i l).panel i)
-  any-shown =
-      subst (ShownBy before l) (sym (entry-heard p i served l))
-      (row-shown (steps-by-the-table before l (entry-legal-there p i served)))
+  any_shown : ShownBy before l (entry_at (stepped_at p i l).panel i)
+  any_shown =
+      subst (ShownBy before l) (sym (entry_at-stepped_at p i served l))
+      (row_shown (steps_by_the_table before l (entry_legal_there p i served)))
 
-pub our-panel-does : PanelDemand oursPanel
-our-panel-does = record {
-  strays-counted = λ p i l served stray. by_row p i l served (strays stray) refl;
-  replies-shown = λ p i l c m served asked says. by_row p i l served (answers c m asked says) refl;
-  erra-forgets = λ p i c served asked. by_row p i _ served (refuses c asked refl) refl;
-  open-greets = λ p i l served none says. by_row p i l served (greets-open none says) refl;
-  secured-greets = λ p i l random served none says. by_row p i l served (greets-secured random none says) refl;
-  others-stay = λ p i l j other. (step-touches-its-entry p i l).others j other;
-  none-comes-or-goes = λ p i l. (step-touches-its-entry p i l).count;
-  shown-by-replies = any-shown;
+pub our_panel_does : PanelDemand ours_panel
+our_panel_does = record {
+  strays_counted = λ p i l served stray. by_row p i l served (strays stray) refl;
+  replies_shown = λ p i l c m served asked says. by_row p i l served (answers c m asked says) refl;
+  erra_forgets = λ p i c served asked. by_row p i _ served (refuses c asked refl) refl;
+  open_greets = λ p i l served none says. by_row p i l served (greets_open none says) refl;
+  secured_greets = λ p i l random served none says. by_row p i l served (greets_secured random none says) refl;
+  others_stay = λ p i l j other. (step_touches_its_entry p i l).others j other;
+  none_comes_or_goes = λ p i l. (step_touches_its_entry p i l).count;
+  shown_by_replies = any_shown;
 }

@@ -1,25 +1,25 @@
 -- THE PANEL SHOWS WHAT THE PROJECTOR MEANT: the theorem of specs/ShowsWhatWasMeant, for our panel.
 -- Assumes nothing.
-use Rattle.workroom.specs.AnyPanel.{oursPanel}
+use Rattle.workroom.specs.AnyPanel.{ours_panel}
 use Rattle.workroom.specs.ShowsWhatWasMeant.{ShowsWhatWasMeant}
-use Rattle.workroom.proofs.RepliesShown.{asked-open}
-use Rattle.workroom.proofs.Unanswered.{gets-no-reply}
-use Rattle.workroom.proofs.Beginning.{added-apart}
-use Rattle.workroom.proofs.Connecting.{greeted-joined, parted-apart}
-use Rattle.workroom.proofs.AllShown.{shown-then, all_shown}
-use Rattle.workroom.proofs.OthersAside.{others-aside}
-use Rattle.workroom.proofs.StaysOpen.{open-throughout, young-kept-up}
+use Rattle.workroom.proofs.RepliesShown.{asked_open}
+use Rattle.workroom.proofs.Unanswered.{gets_no_reply}
+use Rattle.workroom.proofs.Beginning.{added_apart}
+use Rattle.workroom.proofs.Connecting.{greeted_joined, parted_apart}
+use Rattle.workroom.proofs.AllShown.{shown_then, all_shown}
+use Rattle.workroom.proofs.OthersAside.{others_aside}
+use Rattle.workroom.proofs.StaysOpen.{open_throughout, young_kept_up}
 
-pub the-panel-shows-what-was-meant : ShowsWhatWasMeant oursPanel
-the-panel-shows-what-was-meant = record {
-  begins = added-apart;
-  joins = λ i w random back apart word. greeted-joined i w apart back random word;
-  shows = λ i p w h j kept. shown-then i p w j h kept;
-  shows-through = all_shown;
-  unanswered = λ i p w k c there back j is higher. gets-no-reply i p w j k c is higher there back;
-  others = others-aside;
-  stays_open = open-throughout;
-  asking-opens = λ i p w k there back j named. asked-open i p w j k there back named;
-  stays-awaited = young-kept-up;
-  parts = parted-apart;
+pub the_panel_shows_what_was_meant : ShowsWhatWasMeant ours_panel
+the_panel_shows_what_was_meant = record {
+  begins = added_apart;
+  joins = λ i w random back apart word. greeted_joined i w apart back random word;
+  shows = λ i p w h j kept. shown_then i p w j h kept;
+  shows_through = all_shown;
+  unanswered = λ i p w k c there back j is higher. gets_no_reply i p w j k c is higher there back;
+  others = others_aside;
+  stays_open = open_throughout;
+  asking_opens = λ i p w k there back j named. asked_open i p w j k there back named;
+  stays_awaited = young_kept_up;
+  parts = parted_apart;
 }

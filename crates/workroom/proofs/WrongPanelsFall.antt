@@ -1,95 +1,93 @@
 -- The panels of specs/WrongPanels.antt fall, each to what is asked of one sample, where the two numbers shown differ.
 -- Assumes nothing.
-use Prim.Native.Nat.{ℕ}
-use mathlib.Core.Path.{◌≡◌, refl, ap}
-use mathlib.Core.List.{List, []}
-use native.Mathlib.Omega.{arith}
-use Rattle.text.specs.Words.{ascii}
+use Rattle.std.proofs.Common.{ℕ, ◌≡◌, refl, ap, List, [], arith, codes}
 use Rattle.pjlink.specs.declared.command.Command.TheVariants.{Query}
 use Rattle.pjlink.specs.declared.body.Body.TheVariants.{Powr, Lamp}
 use Rattle.codes.specs.Commands.{bit, code_of}
 use Rattle.panel.specs.Entries.{Talk, Shown}
-use Rattle.panel.specs.StepTable.{Stray, late, malformed, foreign}
+use Rattle.panel.specs.StepTable.{IsStray, late, malformed, foreign}
 use Rattle.panel.specs.PanelCalls.{entry_at}
 use Rattle.workroom.specs.Workroom.{asks}
 use Rattle.workroom.specs.ShowsWhatWasMeant.{ShowsWhatWasMeant}
 use Rattle.workroom.specs.PanelDemand.{PanelDemand}
-use Rattle.workroom.specs.WrongPanels.{takesForeign, endsOnMalformed, keepsAfterErra, strayCountWraps, showsLate}
-use Rattle.workroom.specs.WrongPanels.{countsNothing, showsNoReply}
+use Rattle.workroom.specs.WrongPanels.{takes_foreign, ends_on_malformed, keeps_after_erra, stray_count_wraps}
+use Rattle.workroom.specs.WrongPanels.{shows_late}
+use Rattle.workroom.specs.WrongPanels.{counts_nothing, shows_no_reply}
 use Rattle.workroom.specs.Computing.{computing}
-use Rattle.workroom.proofs.Samples.{resting, asked, resting-served, full-served, asked-served, lamps-asked}
-use Rattle.workroom.proofs.Samples.{workroom, workroom-joined, powr-within}
+use Rattle.workroom.proofs.Samples.{resting, asked, resting_served, full_served, asked_served, lamps_asked}
+use Rattle.workroom.proofs.Samples.{workroom, workroom_joined, powr_within}
 
-abbrev powerOff : List ℕ
-powerOff = ascii "%1POWR=0\r"
+abbrev power_off : List ℕ
+power_off = codes "%1POWR=0\r"
 
-abbrev powerShown : Shown → ℕ
-powerShown s = s.power
+abbrev power_shown : Shown → ℕ
+power_shown s = s.power
 
 abbrev waits_for : Talk → ℕ
-waits_for t = bit t.underWay
+waits_for t = bit t.under_way
 
-late-line : (strays : ℕ) (l : List ℕ) → Stray (entry_at (resting strays) 0) l
-late-line strays l = late (λ none. omega arith) refl
+late_line : (strays : ℕ) (l : List ℕ) → IsStray (entry_at (resting strays) 0) l
+late_line strays l = late (λ none. omega arith) refl
 
-foreign-line : Stray (entry_at (asked 0) 0) powerOff
+foreign_line : IsStray (entry_at (asked 0) 0) power_off
 unfolding computing
-foreign-line = foreign (Query Lamp) lamps-asked refl
+foreign_line = foreign (Query Lamp) lamps_asked refl
 
-broken-line : Stray (entry_at (asked 0) 0) (ascii "%1LAMP")
+broken_line : IsStray (entry_at (asked 0) 0) (codes "%1LAMP")
 unfolding computing
-broken-line = malformed (Query Lamp) lamps-asked refl
+broken_line = malformed (Query Lamp) lamps_asked refl
 
 -- LAMP is under way, and POWR is answered: the power that is shown
-pub takes-foreign-falls : PanelDemand takesForeign → ⊥
+pub takes_foreign_falls : PanelDemand takes_foreign → ⊥
 unfolding computing
-takes-foreign-falls h =
-    let e : ◌≡◌ {A = ℕ} 0 1 = ap powerShown (h.strays-counted (asked 0) 0 powerOff asked-served foreign-line).shows in
+takes_foreign_falls h =
+    let e : ◌≡◌ {A = ℕ} 0 1 = ap power_shown (h.strays_counted (asked 0) 0 power_off asked_served foreign_line).shows in
     absurd (omega arith)
 
 -- a part of the reply, as a host that joins no lines would hand it on: whether a command is under way
-pub ends-on-malformed-falls : PanelDemand endsOnMalformed → ⊥
+pub ends_on_malformed_falls : PanelDemand ends_on_malformed → ⊥
 unfolding computing
-ends-on-malformed-falls h =
+ends_on_malformed_falls h =
     let e : ◌≡◌ {A = ℕ} 0 1
-    = ap waits_for (h.strays-counted (asked 0) 0 (ascii "%1LAMP") asked-served broken-line).talks in
+    = ap waits_for (h.strays_counted (asked 0) 0 (codes "%1LAMP") asked_served broken_line).talks in
     absurd (omega arith)
 
 -- the power that is shown after ERRA
-pub keeps-after-erra-falls : PanelDemand keepsAfterErra → ⊥
+pub keeps_after_erra_falls : PanelDemand keeps_after_erra → ⊥
 unfolding computing
-keeps-after-erra-falls h =
+keeps_after_erra_falls h =
     let e : ◌≡◌ {A = ℕ} 1 0
-    = ap powerShown (h.erra-forgets (asked 0) 0 (Query Lamp) asked-served lamps-asked).shows in
+    = ap power_shown (h.erra_forgets (asked 0) 0 (Query Lamp) asked_served lamps_asked).shows in
     absurd (omega arith)
 
 -- the 65,536th stray
-pub stray-count-wraps-falls : PanelDemand strayCountWraps → ⊥
+pub stray_count_wraps_falls : PanelDemand stray_count_wraps → ⊥
 unfolding computing
-stray-count-wraps-falls h =
+stray_count_wraps_falls h =
     let e : ◌≡◌ {A = ℕ} 0 65535
-    = (h.strays-counted (resting 65535) 0 powerOff full-served (late-line 65535 powerOff)).counts in
+    = (h.strays_counted (resting 65535) 0 power_off full_served (late_line 65535 power_off)).counts in
     absurd (omega arith)
 
 -- a late reply: the power that is shown
-pub shows-late-falls : PanelDemand showsLate → ⊥
+pub shows_late_falls : PanelDemand shows_late → ⊥
 unfolding computing
-shows-late-falls h =
+shows_late_falls h =
     let e : ◌≡◌ {A = ℕ} 0 1
-    = ap powerShown (h.strays-counted (resting 0) 0 powerOff resting-served (late-line 0 powerOff)).shows in
+    = ap power_shown (h.strays_counted (resting 0) 0 power_off resting_served (late_line 0 power_off)).shows in
     absurd (omega arith)
 
 -- the first stray
-pub counts-nothing-falls : PanelDemand countsNothing → ⊥
+pub counts_nothing_falls : PanelDemand counts_nothing → ⊥
 unfolding computing
-counts-nothing-falls h =
-    let e : ◌≡◌ {A = ℕ} 0 1 = (h.strays-counted (resting 0) 0 powerOff resting-served (late-line 0 powerOff)).counts in
+counts_nothing_falls h =
+    let e : ◌≡◌ {A = ℕ} 0 1 =
+    (h.strays_counted (resting 0) 0 power_off resting_served (late_line 0 power_off)).counts in
     absurd (omega arith)
 
 -- POWR is asked of a device that is off: the power that is shown afterwards
-pub shows-no-reply-falls : ShowsWhatWasMeant showsNoReply → ⊥
+pub shows_no_reply_falls : ShowsWhatWasMeant shows_no_reply → ⊥
 unfolding computing
-shows-no-reply-falls h =
+shows_no_reply_falls h =
     let e : ◌≡◌ {A = ℕ} 1 0
-    = ap powerShown (h.shows 0 0 workroom (asks (code_of (Query Powr)) [] []) workroom-joined powr-within).shows in
+    = ap power_shown (h.shows 0 0 workroom (asks (code_of (Query Powr)) [] []) workroom_joined powr_within).shows in
     absurd (omega arith)

@@ -1,14 +1,14 @@
 -- A panel: anything that answers the calls on the panel record that RULES, Panel speaks of. What is asked of one is
 -- stated over it, so that wrong panels can be tried.
---   AnyPanel       `add p s`: a projector more, with the password s; `command p i k room`: the command k to the
---                  projector i, with so much memory for its line; `hear p i l`: the line l from the projector i;
---                  `lose p i`: its connection is gone
---   oursPanel      our calls: beside each, the function whose contract says this very definition
---   oursHearing f  our panel, with f in the place of the step
+--   AnyPanel        `add p s`: a projector more, with the password s; `command p i k room`: the command k to the
+--                   projector i, with so much memory for its line; `hear p i l`: the line l from the projector i;
+--                   `lose p i`: its connection is gone
+--   ours_panel      our calls: beside each, the function whose contract says this very definition
+--   ours_hearing f  our panel, with f in the place of the step
 -- Assumes nothing.
 use Rattle.std.specs.Prelude.{ℕ, List}
 use Rattle.codes.specs.declared.command.Coded.{Coded}
-use Rattle.panel.specs.PanelCalls.{PanelAs, addedTo, commanded, steppedAt, lostAt}
+use Rattle.panel.specs.PanelCalls.{PanelAs, added_to, commanded, stepped_at, lost_at}
 use Rattle.panel.specs.declared.types.Panel.{Panel}
 
 pub record AnyPanel : Type 0 where
@@ -17,17 +17,17 @@ pub record AnyPanel : Type 0 where
   pub hear : Panel → ℕ → List ℕ → PanelAs
   pub lose : Panel → ℕ → PanelAs
 
-abbrev pub oursHearing : (Panel → ℕ → List ℕ → PanelAs) → AnyPanel
-oursHearing f = record {
+abbrev pub ours_hearing : (Panel → ℕ → List ℕ → PanelAs) → AnyPanel
+ours_hearing f = record {
   -- Panel::add
-  add = addedTo;
+  add = added_to;
   -- Panel::send
   command = commanded;
   hear = f;
   -- Panel::lose
-  lose = lostAt;
+  lose = lost_at;
 }
 
-abbrev pub oursPanel : AnyPanel
+abbrev pub ours_panel : AnyPanel
 -- Panel::hear
-oursPanel = oursHearing steppedAt
+ours_panel = ours_hearing stepped_at

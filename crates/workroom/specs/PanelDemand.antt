@@ -1,10 +1,12 @@
 -- What RULES, Panel asks of a panel's step, sentence by sentence, over any panel: on a legal panel, for a projector
--- that it has, whatever line comes. Which lines are late, foreign or malformed is `Stray` of panel/specs/StepTable, by
+-- that it has, whatever line comes. Which lines are late, foreign or malformed is `IsStray` of panel/specs/StepTable,
+-- by
 -- the reader's own numbers; what a line says is what the controller's readers take from it.
 -- TO BELIEVE IT, believe, and nothing else: the readers (controller/specs: Reading, Greetings), the codes
--- (codes/specs/Commands), an entry's parts and what is shown (panel/specs: Entries, Showing), `UnderWay` and `Stray`
+-- (codes/specs/Commands), an entry's parts and what is shown (panel/specs: Entries, Showing), `IsUnderWay` and
+-- `IsStray`
 -- (panel/specs/StepTable), a legal panel (panel/specs/LegalPanels); here AnyPanel.
---   Served p i         the panel is legal and has the projector i
+--   IsServed p i       the panel is legal and has the projector i
 --   OnlyCounted e f    e and f differ in the count of strays alone, which is one more, or has stopped
 --   EndedBy e m f      the command is ended, and m is shown
 --   ForgotIn e f       the command is ended, all is unknown, a new greeting is awaited
@@ -13,79 +15,81 @@
 --                      it was the ERRA line and f shows nothing
 -- Assumes nothing.
 use Rattle.std.specs.Prelude.{ℕ, ◌+◌, ◌<◌, min, ◌≡◌, true, List}
-use Rattle.pjlink.specs.Forms.{erraLine}
+use Rattle.pjlink.specs.Forms.{erra_line}
 use Rattle.pjlink.specs.declared.command.Command.{Command}
 use Rattle.pjlink.specs.Said.{Said}
-use Rattle.controller.specs.Greetings.{readGreeting}
-use Rattle.controller.specs.Reading.{meaning, readReply}
+use Rattle.controller.specs.Greetings.{read_greeting}
+use Rattle.controller.specs.Reading.{meaning, read_reply}
 use Rattle.controller.specs.declared.greeting.Greeting.TheVariants.{Open, Secured}
-use Rattle.panel.specs.Entries.{Talk, Shown, talkOf, shownOf, ungreeted, greetedOpen, greetedSecured, greetedBy, noTalk}
-use Rattle.panel.specs.Entries.{restedOn, nothingShown}
+use Rattle.panel.specs.Entries.{Talk, Shown, talk_of, shown_of, ungreeted, greeted_open, greeted_secured, greeted_by}
+use Rattle.panel.specs.Entries.{no_talk}
+use Rattle.panel.specs.Entries.{rested_on, nothing_shown}
 use Rattle.panel.specs.Showing.{showing}
-use Rattle.panel.specs.LegalPanels.{isPanel}
-use Rattle.panel.specs.StepTable.{UnderWay, Stray}
+use Rattle.panel.specs.LegalPanels.{is_panel}
+use Rattle.panel.specs.StepTable.{IsUnderWay, IsStray}
 use Rattle.panel.specs.PanelCalls.{entry_at}
 use Rattle.panel.specs.declared.types.Entry.{Entry}
 use Rattle.panel.specs.declared.types.Panel.{Panel}
 use Rattle.workroom.specs.AnyPanel.{AnyPanel}
 
-pub record Served (p : Panel) (i : ℕ) : Type 0 where
-  pub legal : isPanel p ≡ true
+pub record IsServed (p : Panel) (i : ℕ) : Type 0 where
+  pub legal : is_panel p ≡ true
   pub there : i < p.count
 
 -- an entry's four parts, afterwards
 pub record PartsAre (f : Entry) (e : Entry) (talk : Talk) (shown : Shown) (strays : ℕ) : Type 0 where
-  pub same-password : f.password ≡ e.password
-  pub talks : talkOf f ≡ talk
-  pub shows : shownOf f ≡ shown
+  pub same_password : f.password ≡ e.password
+  pub talks : talk_of f ≡ talk
+  pub shows : shown_of f ≡ shown
   pub counts : f.strays ≡ strays
 
 abbrev pub OnlyCounted : Entry → Entry → Type 0
-OnlyCounted e f = PartsAre f e (talkOf e) (shownOf e) (min 65535 (e.strays + 1))
+OnlyCounted e f = PartsAre f e (talk_of e) (shown_of e) (min 65535 (e.strays + 1))
 
 abbrev pub EndedBy : Entry → Said → Entry → Type 0
-EndedBy e m f = PartsAre f e (restedOn (talkOf e)) (showing (shownOf e) m) e.strays
+EndedBy e m f = PartsAre f e (rested_on (talk_of e)) (showing (shown_of e) m) e.strays
 
 abbrev pub ForgotIn : Entry → Entry → Type 0
-ForgotIn e f = PartsAre f e noTalk nothingShown e.strays
+ForgotIn e f = PartsAre f e no_talk nothing_shown e.strays
 
 abbrev pub Greeted : Entry → Talk → Entry → Type 0
-Greeted e t f = PartsAre f e t (shownOf e) e.strays
+Greeted e t f = PartsAre f e t (shown_of e) e.strays
 
 pub data ShownBy (e : Entry) (l : List ℕ) (f : Entry) : Type 0 where
-  stays-shown : shownOf f ≡ shownOf e → ShownBy e l f
-  by-reply : (c : Command) (m : Said) → UnderWay e c → readReply c l ≡ meaning m → shownOf f ≡ showing (shownOf e) m
+  stays_shown : shown_of f ≡ shown_of e → ShownBy e l f
+  by_reply : (c : Command) (m : Said) → IsUnderWay e c → read_reply c l ≡ meaning m →
+      shown_of f ≡ showing (shown_of e) m
       → ShownBy e l f
-  by-erra : (c : Command) → UnderWay e c → l ≡ erraLine → shownOf f ≡ nothingShown → ShownBy e l f
+  by_erra : (c : Command) → IsUnderWay e c → l ≡ erra_line → shown_of f ≡ nothing_shown → ShownBy e l f
 
 module _ (P : AnyPanel) where
-  abbrev pub afterLine : Panel → ℕ → List ℕ → Entry
-  afterLine p i l = entry_at (P.hear p i l).panel i
+  abbrev pub after_line : Panel → ℕ → List ℕ → Entry
+  after_line p i l = entry_at (P.hear p i l).panel i
 
   pub record PanelDemand : Type 0 where
     -- "A late, foreign or malformed reply changes nothing but a per-projector count of such lines, stopped at 65,535. A
     -- malformed or foreign line leaves the command under way"
-    pub strays-counted : (p : Panel) (i : ℕ) (l : List ℕ) → Served p i → Stray (entry_at p i) l
-        → OnlyCounted (entry_at p i) (afterLine p i l)
+    pub strays_counted : (p : Panel) (i : ℕ) (l : List ℕ) → IsServed p i → IsStray (entry_at p i) l
+        → OnlyCounted (entry_at p i) (after_line p i l)
     -- "any accepted reply ends it, and an OK or error changes no reading"
-    pub replies-shown : (p : Panel) (i : ℕ) (l : List ℕ) (c : Command) (m : Said) → Served p i
-        → UnderWay (entry_at p i) c → readReply c l ≡ meaning m
-        → EndedBy (entry_at p i) m (afterLine p i l)
+    pub replies_shown : (p : Panel) (i : ℕ) (l : List ℕ) (c : Command) (m : Said) → IsServed p i
+        → IsUnderWay (entry_at p i) c → read_reply c l ≡ meaning m
+        → EndedBy (entry_at p i) m (after_line p i l)
     -- "ERRA ends it, makes that projector's readings unknown and awaits a new greeting"
-    pub erra-forgets : (p : Panel) (i : ℕ) (c : Command) → Served p i → UnderWay (entry_at p i) c
-        → ForgotIn (entry_at p i) (afterLine p i erraLine)
+    pub erra_forgets : (p : Panel) (i : ℕ) (c : Command) → IsServed p i → IsUnderWay (entry_at p i) c
+        → ForgotIn (entry_at p i) (after_line p i erra_line)
     -- "Until a greeting is accepted": each of the two is
-    pub open-greets : (p : Panel) (i : ℕ) (l : List ℕ) → Served p i → (entry_at p i).greeting ≡ ungreeted
-        → readGreeting l ≡ Open
-        → Greeted (entry_at p i) (greetedBy greetedOpen 0) (afterLine p i l)
-    pub secured-greets : (p : Panel) (i : ℕ) (l : List ℕ) (random : ℕ)
-        → Served p i → (entry_at p i).greeting ≡ ungreeted
-        → readGreeting l ≡ Secured random
-        → Greeted (entry_at p i) (greetedBy greetedSecured random) (afterLine p i l)
+    pub open_greets : (p : Panel) (i : ℕ) (l : List ℕ) → IsServed p i → (entry_at p i).greeting ≡ ungreeted
+        → read_greeting l ≡ Open
+        → Greeted (entry_at p i) (greeted_by greeted_open 0) (after_line p i l)
+    pub secured_greets : (p : Panel) (i : ℕ) (l : List ℕ) (random : ℕ)
+        → IsServed p i → (entry_at p i).greeting ≡ ungreeted
+        → read_greeting l ≡ Secured random
+        → Greeted (entry_at p i) (greeted_by greeted_secured random) (after_line p i l)
     -- "The step touches only the named projector's entry"
-    pub others-stay : (p : Panel) (i : ℕ) (l : List ℕ) (j : ℕ) → (j ≡ i → ⊥)
+    pub others_stay : (p : Panel) (i : ℕ) (l : List ℕ) (j : ℕ) → (j ≡ i → ⊥)
         → entry_at (P.hear p i l).panel j ≡ entry_at p j
-    pub none-comes-or-goes : (p : Panel) (i : ℕ) (l : List ℕ) → (P.hear p i l).panel.count ≡ p.count
+    pub none_comes_or_goes : (p : Panel) (i : ℕ) (l : List ℕ) → (P.hear p i l).panel.count ≡ p.count
     -- "Otherwise the panel shows the last accepted reading": whatever line comes, what is shown changes by an accepted
     -- reply only, and by ERRA
-    pub shown-by-replies : (p : Panel) (i : ℕ) (l : List ℕ) → Served p i → ShownBy (entry_at p i) l (afterLine p i l)
+    pub shown_by_replies : (p : Panel) (i : ℕ) (l : List ℕ) → IsServed p i → ShownBy (entry_at p i) l (after_line p i l)

@@ -8,15 +8,16 @@
 -- TO BELIEVE IT, believe, and nothing else: what is meant and done (meaning/specs), what a second does (clock/specs/
 -- Second), the codes of the commands (codes/specs/Commands) and their classes (lines/specs/Bodies), what is shown of
 -- what was said (`showing` of panel/specs/Showing), the records (record/specs, panel/specs: Entries, LegalPanels), a
--- command under way (`UnderWay` of panel/specs/StepTable), a stream in cuts (stream/specs/Machine), the device's calls
+-- command under way (`IsUnderWay` of panel/specs/StepTable), a stream in cuts (stream/specs/Machine), the device's
+-- calls
 -- (device/specs/Calls) as demand 2 has them; here AnyPanel, Workroom and MeantThrough.
---   Acquainted i w     a legal panel that has the projector i, a legal device, one password
+--   IsAcquainted i w   a legal panel that has the projector i, a legal device, one password
 --   Apart i w          no greeting is accepted, and a place of the device is free
 --   Fit t c            the panel's talk t and the connection c: open on both sides, or the digest is awaited and will
 --                      lead
---   Joined i p w       on the connection at place p, between lines, with no command under way
+--   IsJoined i p w     on the connection at place p, between lines, with no command under way
 --   Aside p d e        the device d became e, which is legal, with the same settings and the same connection at place p
---   KeptUp i p w h     the connection does not close of age; a command is of a class no higher than the device's, what
+--   IsKeptUp i p w h   the connection does not close of age; a command is of a class no higher than the device's, what
 --                      is called another projector is another, and what is done meanwhile is aside (`IsOther`)
 --   ShownAs i p w v o x     in the workroom x, which was w, v is shown and the own part is o; no stray was counted, and
 --                      it is joined
@@ -26,104 +27,104 @@
 --   PartedAs i w x     the connection is gone: what was shown stays, and they are apart
 -- Assumes nothing.
 use Rattle.std.specs.Prelude.{ℕ, ◌+◌, ◌<◌, ◌^◌, ◌≡◌, Bool, true, false, List, [], ◌∷◌, Some}
-use Rattle.pjlink.specs.Commands.{commandClass}
+use Rattle.pjlink.specs.Commands.{command_class}
 use Rattle.pjlink.specs.declared.command.Command.{Command}
 use Rattle.record.specs.Given.{left_by}
-use Rattle.record.specs.Limits.{placesCount, ageEnd, awaiting, opened}
-use Rattle.record.specs.Legal.{isLegal}
-use Rattle.record.specs.Places.{connectionAt, isShut, lowestShut}
-use Rattle.record.specs.HostCalls.{faultSet, errorsSet, markSet}
+use Rattle.record.specs.Limits.{places_count, age_end, awaiting, opened}
+use Rattle.record.specs.Legal.{is_legal}
+use Rattle.record.specs.Places.{connection_at, is_shut, lowest_shut}
+use Rattle.record.specs.HostCalls.{fault_set, errors_set, mark_set}
 use Rattle.record.specs.declared.types.Own.{Own}
 use Rattle.record.specs.declared.types.Connection.{Connection}
 use Rattle.record.specs.declared.types.Device.{Device}
 use Rattle.clock.specs.Passing.{passed}
-use Rattle.stream.specs.Collecting.{emptyLine}
-use Rattle.device.specs.Receiving.{passwordOf}
-use Rattle.device.specs.Calls.{replyRoom, received, openedBy, placeTaken, closedBy}
-use Rattle.codes.specs.Commands.{commandOf}
+use Rattle.stream.specs.Collecting.{empty_line}
+use Rattle.device.specs.Receiving.{set_up_password}
+use Rattle.device.specs.Calls.{reply_room, received, opened_by, place_taken, closed_by}
+use Rattle.codes.specs.Commands.{coded_command}
 use Rattle.codes.specs.declared.command.Coded.{Coded}
-use Rattle.panel.specs.Entries.{Talk, Shown, talkOf, shownOf, passwordIn, ungreeted, leadsNext, nothingShown}
+use Rattle.panel.specs.Entries.{Talk, Shown, talk_of, shown_of, password_in, ungreeted, leads_next, nothing_shown}
 use Rattle.panel.specs.Showing.{showing}
-use Rattle.panel.specs.LegalPanels.{isNamed, isPanel}
-use Rattle.panel.specs.StepTable.{UnderWay}
+use Rattle.panel.specs.LegalPanels.{names_command, is_panel}
+use Rattle.panel.specs.StepTable.{IsUnderWay}
 use Rattle.panel.specs.PanelCalls.{entry_at}
 use Rattle.panel.specs.declared.types.Entry.{Entry}
 use Rattle.panel.specs.declared.types.Panel.{Panel}
 use Rattle.workroom.specs.AnyPanel.{AnyPanel}
-use Rattle.workroom.specs.Workroom.{Workroom, roomOf}
-use Rattle.workroom.specs.Workroom.{RoomMove, asks, waits, asks-another, hears-another, meanwhile}
-use Rattle.workroom.specs.Workroom.{connected, happened, allHappened, parted}
-use Rattle.workroom.specs.MeantThrough.{IsWithin, saidAt, own_at, shownThrough, ownThrough}
+use Rattle.workroom.specs.Workroom.{Workroom, room_of}
+use Rattle.workroom.specs.Workroom.{RoomMove, asks, waits, asks_another, hears_another, meanwhile}
+use Rattle.workroom.specs.Workroom.{connected, happened, all_happened, parted}
+use Rattle.workroom.specs.MeantThrough.{IsWithin, said_at, own_at, shown_through, own_through}
 
 pub data Fit (t : Talk) (c : Connection) : Type 0 where
-  both-open : c.phase ≡ opened → (t.greeting ≡ ungreeted → ⊥) → leadsNext t ≡ false → Fit t c
-  both-secured : c.phase ≡ awaiting → (t.greeting ≡ ungreeted → ⊥) → leadsNext t ≡ true → t.random ≡ c.random
+  both_open : c.phase ≡ opened → (t.greeting ≡ ungreeted → ⊥) → leads_next t ≡ false → Fit t c
+  both_secured : c.phase ≡ awaiting → (t.greeting ≡ ungreeted → ⊥) → leads_next t ≡ true → t.random ≡ c.random
       → Fit t c
 
 pub record Aside (p : ℕ) (before after : Device) : Type 0 where
   pub settings : after.settings ≡ before.settings
-  pub device : isLegal after ≡ true
-  pub connection : connectionAt after p ≡ connectionAt before p
+  pub device : is_legal after ≡ true
+  pub connection : connection_at after p ≡ connection_at before p
 
 module _ (i : ℕ) where
-  abbrev pub ourEntry : Workroom → Entry
-  ourEntry w = entry_at w.panel i
+  abbrev pub our_entry : Workroom → Entry
+  our_entry w = entry_at w.panel i
 
-  pub record Acquainted (w : Workroom) : Type 0 where
-    pub panel : isPanel w.panel ≡ true
+  pub record IsAcquainted (w : Workroom) : Type 0 where
+    pub panel : is_panel w.panel ≡ true
     pub there : i < w.panel.count
-    pub device : isLegal w.device ≡ true
-    pub password : passwordIn (ourEntry w) ≡ passwordOf w.device.settings
+    pub device : is_legal w.device ≡ true
+    pub password : password_in (our_entry w) ≡ set_up_password w.device.settings
 
   pub record Apart (w : Workroom) : Type 0 where
-    pub acquainted : Acquainted w
-    pub waiting : (ourEntry w).greeting ≡ ungreeted
-    pub free : lowestShut w.device.connections < placesCount
+    pub acquainted : IsAcquainted w
+    pub waiting : (our_entry w).greeting ≡ ungreeted
+    pub free : lowest_shut w.device.connections < places_count
 
   pub record PartedAs (w x : Workroom) : Type 0 where
-    pub shows : shownOf (ourEntry x) ≡ shownOf (ourEntry w)
-    pub strays : (ourEntry x).strays ≡ (ourEntry w).strays
+    pub shows : shown_of (our_entry x) ≡ shown_of (our_entry w)
+    pub strays : (our_entry x).strays ≡ (our_entry w).strays
     pub settings : x.device.settings ≡ w.device.settings
     pub does : x.device.own ≡ w.device.own
     pub apart : Apart x
 
   pub record UnansweredAs (w : Workroom) (c : Command) (x : Workroom) : Type 0 where
-    pub shows : shownOf (ourEntry x) ≡ shownOf (ourEntry w)
-    pub strays : (ourEntry x).strays ≡ (ourEntry w).strays
+    pub shows : shown_of (our_entry x) ≡ shown_of (our_entry w)
+    pub strays : (our_entry x).strays ≡ (our_entry w).strays
     pub settings : x.device.settings ≡ w.device.settings
     pub does : x.device.own ≡ w.device.own
-    pub still : UnderWay (ourEntry x) c
+    pub still : IsUnderWay (our_entry x) c
 
   pub record BegunAs (w : Workroom) : Type 0 where
-    pub shows : shownOf (ourEntry w) ≡ nothingShown
-    pub strays : (ourEntry w).strays ≡ 0
+    pub shows : shown_of (our_entry w) ≡ nothing_shown
+    pub strays : (our_entry w).strays ≡ 0
     pub apart : Apart w
 
-abbrev pub ourConnection : ℕ → Workroom → Connection
-ourConnection p w = connectionAt w.device p
+abbrev pub our_connection : ℕ → Workroom → Connection
+our_connection p w = connection_at w.device p
 
 module _ (i p : ℕ) where
-  pub record Joined (w : Workroom) : Type 0 where
-    pub acquainted : Acquainted i w
-    pub place : p < placesCount
-    pub between : (ourConnection p w).line ≡ emptyLine
-    pub rests : (ourEntry i w).under_way ≡ false
-    pub fit : Fit (talkOf (ourEntry i w)) (ourConnection p w)
+  pub record IsJoined (w : Workroom) : Type 0 where
+    pub acquainted : IsAcquainted i w
+    pub place : p < places_count
+    pub between : (our_connection p w).line ≡ empty_line
+    pub rests : (our_entry i w).under_way ≡ false
+    pub fit : Fit (talk_of (our_entry i w)) (our_connection p w)
 
   -- of a command, of what is called another, and of what is done meanwhile
   abbrev pub IsOther : Workroom → RoomMove → Type 0
-  IsOther w (asks k there back) = IsWithin w.device.settings (commandOf k)
+  IsOther w (asks k there back) = IsWithin w.device.settings (coded_command k)
   IsOther w (waits n) = Unit {0}
-  IsOther w (asks-another j k) = j ≡ i → ⊥
-  IsOther w (hears-another j l) = j ≡ i → ⊥
+  IsOther w (asks_another j k) = j ≡ i → ⊥
+  IsOther w (hears_another j l) = j ≡ i → ⊥
   IsOther w (meanwhile d) = Aside p w.device d
 
-  abbrev pub KeptUp : Workroom → RoomMove → Type 0
-  KeptUp w (asks k there back) = IsWithin w.device.settings (commandOf k)
-  KeptUp w (waits n) = isShut (connectionAt (left_by w.device (passed w.device n)) p) ≡ false
-  KeptUp w (asks-another j k) = j ≡ i → ⊥
-  KeptUp w (hears-another j l) = j ≡ i → ⊥
-  KeptUp w (meanwhile d) = Aside p w.device d
+  abbrev pub IsKeptUp : Workroom → RoomMove → Type 0
+  IsKeptUp w (asks k there back) = IsWithin w.device.settings (coded_command k)
+  IsKeptUp w (waits n) = is_shut (connection_at (left_by w.device (passed w.device n)) p) ≡ false
+  IsKeptUp w (asks_another j k) = j ≡ i → ⊥
+  IsKeptUp w (hears_another j l) = j ≡ i → ⊥
+  IsKeptUp w (meanwhile d) = Aside p w.device d
 
   -- each, where it comes
   abbrev pub Throughout : (Workroom → RoomMove → Type 0) → AnyPanel → Workroom → List RoomMove → Type 0
@@ -131,65 +132,65 @@ module _ (i p : ℕ) where
   Throughout Holds P w (h ∷ hs) = Holds w h × Throughout Holds P (happened P i p w h) hs
 
   abbrev pub AllKeptUp : AnyPanel → Workroom → List RoomMove → Type 0
-  AllKeptUp = Throughout KeptUp
+  AllKeptUp = Throughout IsKeptUp
 
   abbrev pub AllOther : AnyPanel → Workroom → List RoomMove → Type 0
   AllOther = Throughout IsOther
 
   pub record ShownAs (w : Workroom) (shown : Shown) (own : Own) (x : Workroom) : Type 0 where
-    pub shows : shownOf (ourEntry i x) ≡ shown
-    pub strays : (ourEntry i x).strays ≡ (ourEntry i w).strays
+    pub shows : shown_of (our_entry i x) ≡ shown
+    pub strays : (our_entry i x).strays ≡ (our_entry i w).strays
     pub settings : x.device.settings ≡ w.device.settings
     pub does : x.device.own ≡ own
-    pub joined : Joined x
+    pub joined : IsJoined x
 
 -- what the other controllers of a device do at their places, and the host, is aside of a connection at place p (RULES,
 -- Places)
 pub record OthersAside (p : ℕ) (d : Device) : Type 0 where
   pub receiving : (q : ℕ) (bs : List ℕ) (room : ℕ) → (p ≡ q → ⊥) → Aside p d (received d q bs room).device
-  pub closing : (q : ℕ) → (p ≡ q → ⊥) → Aside p d (closedBy d q).device
-  pub opening : (random room : ℕ) → isShut (connectionAt d p) ≡ false → Aside p d (openedBy d random room).device
-  pub fault : (mark : Bool) → Aside p d (left_by d (faultSet d mark))
-  pub errors : (digits : List ℕ) → Aside p d (left_by d (errorsSet d digits))
-  pub marks : (lamp : ℕ) (mark : Bool) → Aside p d (left_by d (markSet d lamp mark))
+  pub closing : (q : ℕ) → (p ≡ q → ⊥) → Aside p d (closed_by d q).device
+  pub opening : (random room : ℕ) → is_shut (connection_at d p) ≡ false → Aside p d (opened_by d random room).device
+  pub fault : (mark : Bool) → Aside p d (left_by d (fault_set d mark))
+  pub errors : (digits : List ℕ) → Aside p d (left_by d (errors_set d digits))
+  pub marks : (lamp : ℕ) (mark : Bool) → Aside p d (left_by d (mark_set d lamp mark))
 
 pub record ShowsWhatWasMeant (P : AnyPanel) : Type 0 where
   -- a projector just added, with the password of a device that has a free place: "unknown at first"
-  pub begins : (p : Panel) (s : List ℕ) (d : Device) → (P.add p s).number ≡ 0 → isLegal d ≡ true
-      → lowestShut d.connections < placesCount → passwordOf d.settings ≡ s
-      → BegunAs p.count (roomOf (P.add p s).panel d)
+  pub begins : (p : Panel) (s : List ℕ) (d : Device) → (P.add p s).number ≡ 0 → is_legal d ≡ true
+      → lowest_shut d.connections < places_count → set_up_password d.settings ≡ s
+      → BegunAs p.count (room_of (P.add p s).panel d)
   -- the device greets, with or without security, and they are joined at the place that opening took; nothing else is
   -- shown yet
   pub joins : (i : ℕ) (w : Workroom) (random : ℕ) (back : List ℕ) → Apart i w → random < 2 ^ 32
-      → ShownAs i (placeTaken w.device replyRoom) w (shownOf (ourEntry i w)) w.device.own
+      → ShownAs i (place_taken w.device reply_room) w (shown_of (our_entry i w)) w.device.own
       (connected P i w random back)
   -- "after each accepted reply": every reply of the device is accepted, shows what was meant, and ends its command
-  pub shows : (i p : ℕ) (w : Workroom) (h : RoomMove) → Joined i p w → KeptUp i p w h
+  pub shows : (i p : ℕ) (w : Workroom) (h : RoomMove) → IsJoined i p w → IsKeptUp i p w h
       → let s = w.device.settings in
       let o = w.device.own in
-      ShownAs i p w (showing (shownOf (ourEntry i w)) (saidAt s o h)) (own_at s o h) (happened P i p w h)
+      ShownAs i p w (showing (shown_of (our_entry i w)) (said_at s o h)) (own_at s o h) (happened P i p w h)
   -- and so over all that happens
-  pub shows-through : (i p : ℕ) (w : Workroom) (hs : List RoomMove) → Joined i p w → AllKeptUp i p P w hs
+  pub shows_through : (i p : ℕ) (w : Workroom) (hs : List RoomMove) → IsJoined i p w → AllKeptUp i p P w hs
       → let s = w.device.settings in
       let o = w.device.own in
-      ShownAs i p w (shownThrough s o (shownOf (ourEntry i w)) hs) (ownThrough s o hs) (allHappened P i p w hs)
+      ShownAs i p w (shown_through s o (shown_of (our_entry i w)) hs) (own_through s o hs) (all_happened P i p w hs)
   -- a command of a class higher than the device's gets no reply: it stays under way till the connection is gone
-  pub unanswered : (i p : ℕ) (w : Workroom) (k : Coded) (c : Command) (there back : List ℕ) → Joined i p w
-      → commandOf k ≡ Some c → w.device.settings.class_number < commandClass c
+  pub unanswered : (i p : ℕ) (w : Workroom) (k : Coded) (c : Command) (there back : List ℕ) → IsJoined i p w
+      → coded_command k ≡ Some c → w.device.settings.class_number < command_class c
       → UnansweredAs i w c (happened P i p w (asks k there back))
   -- whatever others do with the device meanwhile may be among it
-  pub others : (p : ℕ) (d : Device) → isLegal d ≡ true → OthersAside p d
+  pub others : (p : ℕ) (d : Device) → is_legal d ≡ true → OthersAside p d
   -- a connection that is open, as it is once anything was asked on it, never closes of age: then the commands and the
   -- seconds may be any
-  pub stays_open : (i p : ℕ) (w : Workroom) (hs : List RoomMove) → Joined i p w
-      → (ourConnection p w).phase ≡ opened → AllOther i p P w hs
+  pub stays_open : (i p : ℕ) (w : Workroom) (hs : List RoomMove) → IsJoined i p w
+      → (our_connection p w).phase ≡ opened → AllOther i p P w hs
       → AllKeptUp i p P w hs
-  pub asking-opens : (i p : ℕ) (w : Workroom) (k : Coded) (there back : List ℕ) → Joined i p w
-      → isNamed (commandOf k) ≡ true
-      → (ourConnection p (happened P i p w (asks k there back))).phase ≡ opened
+  pub asking_opens : (i p : ℕ) (w : Workroom) (k : Coded) (there back : List ℕ) → IsJoined i p w
+      → names_command (coded_command k) ≡ true
+      → (our_connection p (happened P i p w (asks k there back))).phase ≡ opened
   -- and one whose digest is awaited does not close before its age is 30 seconds
-  pub stays-awaited : (i p : ℕ) (w : Workroom) (n : ℕ) → Joined i p w → (ourConnection p w).phase ≡ awaiting
-      → (ourConnection p w).age + n < ageEnd
-      → KeptUp i p w (waits n)
+  pub stays_awaited : (i p : ℕ) (w : Workroom) (n : ℕ) → IsJoined i p w → (our_connection p w).phase ≡ awaiting
+      → (our_connection p w).age + n < age_end
+      → IsKeptUp i p w (waits n)
   -- a connection that is gone, however it stood, can be made again, and the readings stay till then
-  pub parts : (i p : ℕ) (w : Workroom) → Acquainted i w → p < placesCount → PartedAs i w (parted P i p w)
+  pub parts : (i p : ℕ) (w : Workroom) → IsAcquainted i w → p < places_count → PartedAs i w (parted P i p w)

@@ -1,91 +1,92 @@
 -- Wrong panels: each is ours but for what its name says of one kind of line; proofs/WrongPanelsFall.antt has where each
 -- falls.
---   hearingAs f      ours, but where a command is under way f takes the reading of the line
+--   hearing_as f     ours, but where a command is under way f takes the reading of the line
 -- Assumes nothing.
-use Rattle.std.specs.Prelude.{ℕ, ◌+◌, not, List, eqb, if◌then◌else◌, Option, Some, None}
+use Rattle.std.specs.Prelude.{ℕ, ◌+◌, not, List, if◌then◌else◌, Option, Some, None, ◌==◌}
 use Rattle.pjlink.specs.declared.command.Command.TheVariants.{Query}
 use Rattle.pjlink.specs.declared.body.Body.TheVariants.{Powr}
 use Rattle.pjlink.specs.declared.command.Command.{Command}
 use Rattle.pjlink.specs.Said.{Said}
-use Rattle.controller.specs.Reading.{ReadAs, readReply}
+use Rattle.controller.specs.Reading.{ReadAs, read_reply}
 use Rattle.controller.specs.Reading.{Outcome}
-use Rattle.controller.specs.Reading.{Means, Erra, NotALine, OtherCommand, NotAllowed}
-use Rattle.codes.specs.Commands.{commandOf}
-use Rattle.panel.specs.Entries.{talkOf, shownOf, entryOf, restedOn}
-use Rattle.panel.specs.Stepping.{strayed, withTalk, answeredEntry, erraEntry, lostEntry, heardBy, heardLine, isUnready}
-use Rattle.panel.specs.PanelCalls.{panelMade, entry_at, withEntry}
+use Rattle.controller.specs.Reading.{means_it, erra_said, not_a_line, other_command, disallowed}
+use Rattle.codes.specs.Commands.{coded_command}
+use Rattle.panel.specs.Entries.{talk_of, shown_of, entry_of, rested_on}
+use Rattle.panel.specs.Stepping.{strayed, with_talk, answered_entry, erra_entry, lost_entry, heard_by, heard_line}
+use Rattle.panel.specs.Stepping.{is_unready}
+use Rattle.panel.specs.PanelCalls.{panel_made, entry_at, with_entry}
 use Rattle.panel.specs.declared.types.Entry.{Entry}
-use Rattle.workroom.specs.AnyPanel.{AnyPanel, oursHearing}
+use Rattle.workroom.specs.AnyPanel.{AnyPanel, ours_hearing}
 
-abbrev steppingBy : (Entry → List ℕ → Entry) → AnyPanel
-steppingBy f = oursHearing (λ p i l. panelMade (withEntry p i (f (entry_at p i) l)))
+abbrev stepping_by : (Entry → List ℕ → Entry) → AnyPanel
+stepping_by f = ours_hearing (λ p i l. panel_made (with_entry p i (f (entry_at p i) l)))
 
-abbrev repliedAs : (Entry → List ℕ → ReadAs → Entry) → Entry → List ℕ → Option Command → Entry
-repliedAs f e l (Some c) = f e l (readReply c l)
-repliedAs f e l None = strayed e
+abbrev replied_as : (Entry → List ℕ → ReadAs → Entry) → Entry → List ℕ → Option Command → Entry
+replied_as f e l (Some c) = f e l (read_reply c l)
+replied_as f e l None = strayed e
 
-abbrev hearingAs : (Entry → List ℕ → ReadAs → Entry) → AnyPanel
-hearingAs f =
-    steppingBy (λ e l. if e.under_way then repliedAs f e l (commandOf e.command) else heardLine e l)
+abbrev hearing_as : (Entry → List ℕ → ReadAs → Entry) → AnyPanel
+hearing_as f =
+    stepping_by (λ e l. if e.under_way then replied_as f e l (coded_command e.command) else heard_line e l)
 
 -- takes a foreign reply for the one under way: a power reading is shown whatever was asked
-abbrev takenForeign : Entry → List ℕ → Outcome → Said → Entry
-takenForeign e l Means m = answeredEntry e m
-takenForeign e l Erra m = erraEntry e
-takenForeign e l NotALine m = strayed e
-takenForeign e l OtherCommand m = heardBy e (readReply (Query Powr) l)
-takenForeign e l NotAllowed m = strayed e
+abbrev taken_foreign : Entry → List ℕ → Outcome → Said → Entry
+taken_foreign e l means_it m = answered_entry e m
+taken_foreign e l erra_said m = erra_entry e
+taken_foreign e l not_a_line m = strayed e
+taken_foreign e l other_command m = heard_by e (read_reply (Query Powr) l)
+taken_foreign e l disallowed m = strayed e
 
-abbrev pub takesForeign : AnyPanel
-takesForeign = hearingAs (λ e l r. takenForeign e l r.outcome r.said)
+abbrev pub takes_foreign : AnyPanel
+takes_foreign = hearing_as (λ e l r. taken_foreign e l r.outcome r.said)
 
 -- ends the command on a malformed line
-abbrev endedMalformed : Entry → Outcome → Said → Entry
-endedMalformed e Means m = answeredEntry e m
-endedMalformed e Erra m = erraEntry e
-endedMalformed e NotALine m = strayed (withTalk e (restedOn (talkOf e)))
-endedMalformed e OtherCommand m = strayed e
-endedMalformed e NotAllowed m = strayed e
+abbrev ended_malformed : Entry → Outcome → Said → Entry
+ended_malformed e means_it m = answered_entry e m
+ended_malformed e erra_said m = erra_entry e
+ended_malformed e not_a_line m = strayed (with_talk e (rested_on (talk_of e)))
+ended_malformed e other_command m = strayed e
+ended_malformed e disallowed m = strayed e
 
-abbrev pub endsOnMalformed : AnyPanel
-endsOnMalformed = hearingAs (λ e l r. endedMalformed e r.outcome r.said)
+abbrev pub ends_on_malformed : AnyPanel
+ends_on_malformed = hearing_as (λ e l r. ended_malformed e r.outcome r.said)
 
 -- keeps its readings after ERRA
-abbrev erraKept : Entry → Outcome → Said → Entry
-erraKept e Means m = answeredEntry e m
-erraKept e Erra m = lostEntry e
-erraKept e NotALine m = strayed e
-erraKept e OtherCommand m = strayed e
-erraKept e NotAllowed m = strayed e
+abbrev erra_kept : Entry → Outcome → Said → Entry
+erra_kept e means_it m = answered_entry e m
+erra_kept e erra_said m = lost_entry e
+erra_kept e not_a_line m = strayed e
+erra_kept e other_command m = strayed e
+erra_kept e disallowed m = strayed e
 
-abbrev pub keepsAfterErra : AnyPanel
-keepsAfterErra = hearingAs (λ e l r. erraKept e r.outcome r.said)
+abbrev pub keeps_after_erra : AnyPanel
+keeps_after_erra = hearing_as (λ e l r. erra_kept e r.outcome r.said)
 
 -- its count of strays wraps, where nothing is under way
 abbrev wrapped : ℕ → ℕ
-wrapped n = if eqb n 65535 then 0 else n + 1
+wrapped n = if n == 65535 then 0 else n + 1
 
 abbrev wrapping : Entry → Entry
-wrapping e = entryOf e.password (talkOf e) (shownOf e) (wrapped e.strays)
+wrapping e = entry_of e.password (talk_of e) (shown_of e) (wrapped e.strays)
 
-abbrev pub strayCountWraps : AnyPanel
-strayCountWraps = steppingBy (λ e l. if not (isUnready e) then wrapping e else heardLine e l)
+abbrev pub stray_count_wraps : AnyPanel
+stray_count_wraps = stepping_by (λ e l. if not (is_unready e) then wrapping e else heard_line e l)
 
 -- a late reply is shown: whatever was asked last, a power reading is
-abbrev pub showsLate : AnyPanel
-showsLate = steppingBy (λ e l. if not (isUnready e) then heardBy e (readReply (Query Powr) l) else heardLine e l)
+abbrev pub shows_late : AnyPanel
+shows_late = stepping_by (λ e l. if not (is_unready e) then heard_by e (read_reply (Query Powr) l) else heard_line e l)
 
 -- counts nothing
-abbrev pub countsNothing : AnyPanel
-countsNothing = steppingBy (λ e l. if not (isUnready e) then e else heardLine e l)
+abbrev pub counts_nothing : AnyPanel
+counts_nothing = stepping_by (λ e l. if not (is_unready e) then e else heard_line e l)
 
 -- accepts a reply, and shows nothing of it
 abbrev unshown : Entry → Outcome → Said → Entry
-unshown e Means m = withTalk e (restedOn (talkOf e))
-unshown e Erra m = erraEntry e
-unshown e NotALine m = strayed e
-unshown e OtherCommand m = strayed e
-unshown e NotAllowed m = strayed e
+unshown e means_it m = with_talk e (rested_on (talk_of e))
+unshown e erra_said m = erra_entry e
+unshown e not_a_line m = strayed e
+unshown e other_command m = strayed e
+unshown e disallowed m = strayed e
 
-abbrev pub showsNoReply : AnyPanel
-showsNoReply = hearingAs (λ e l r. unshown e r.outcome r.said)
+abbrev pub shows_no_reply : AnyPanel
+shows_no_reply = hearing_as (λ e l r. unshown e r.outcome r.said)

@@ -1,42 +1,42 @@
-// `oursPanel`'s calls: what each says, the panel afterwards, and the memory that is lent for a line.
+// `ours_panel`'s calls: what each says, the panel afterwards, and the memory that is lent for a line.
 ghost use Rattle.std.specs.Prelude.{◌≡◌, length};
 ghost use Rattle.text.specs.Words.{over};
 ghost use Rattle.panel.specs.Refusals.{panel_outcome_number, length_sent};
-ghost use Rattle.workroom.specs.AnyPanel.{oursPanel};
+ghost use Rattle.workroom.specs.AnyPanel.{ours_panel};
 
 use codes::command::Coded;
 use panel::refusal::Refusal;
 use panel::types::Panel;
 
 pub fn adds(p: &mut Panel, password: &[u8]) -> Result<(), Refusal>
-    ensures number { panel_outcome_number result ≡ (oursPanel.add p.old password.now).number }
-    ensures panel { p.new ≡ (oursPanel.add p.old password.now).panel }
+    ensures number { panel_outcome_number result ≡ (ours_panel.add p.old password.now).number }
+    ensures panel { p.new ≡ (ours_panel.add p.old password.now).panel }
 {
     p.add(password)
 }
 
 pub fn commands(p: &mut Panel, projector: usize, k: Coded, out: &mut [u8]) -> Result<usize, Refusal>
     ensures number { panel_outcome_number result
-        ≡ (oursPanel.command p.old projector k (length out.old)).number }
+        ≡ (ours_panel.command p.old projector k (length out.old)).number }
     ensures length { length_sent result
-        ≡ length (oursPanel.command p.old projector k (length out.old)).line }
-    ensures panel { p.new ≡ (oursPanel.command p.old projector k (length out.old)).panel }
-    ensures line { out.new ≡ over (oursPanel.command p.old projector k (length out.old)).line
+        ≡ length (ours_panel.command p.old projector k (length out.old)).line }
+    ensures panel { p.new ≡ (ours_panel.command p.old projector k (length out.old)).panel }
+    ensures line { out.new ≡ over (ours_panel.command p.old projector k (length out.old)).line
         out.old }
 {
     p.send(projector, k, out)
 }
 
 pub fn hears(p: &mut Panel, projector: usize, line: &[u8]) -> Result<(), Refusal>
-    ensures number { panel_outcome_number result ≡ (oursPanel.hear p.old projector line.now).number }
-    ensures panel { p.new ≡ (oursPanel.hear p.old projector line.now).panel }
+    ensures number { panel_outcome_number result ≡ (ours_panel.hear p.old projector line.now).number }
+    ensures panel { p.new ≡ (ours_panel.hear p.old projector line.now).panel }
 {
     p.hear(projector, line)
 }
 
 pub fn loses(p: &mut Panel, projector: usize) -> Result<(), Refusal>
-    ensures number { panel_outcome_number result ≡ (oursPanel.lose p.old projector).number }
-    ensures panel { p.new ≡ (oursPanel.lose p.old projector).panel }
+    ensures number { panel_outcome_number result ≡ (ours_panel.lose p.old projector).number }
+    ensures panel { p.new ≡ (ours_panel.lose p.old projector).panel }
 {
     p.lose(projector)
 }

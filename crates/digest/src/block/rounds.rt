@@ -1,15 +1,15 @@
 // The 64 operations of RFC 1321, 3.4, in rows of four. One function for all four rounds: where it is inlined, the
 // number of the operation is known, and nothing is left to choose.
 ghost use Rattle.std.specs.Prelude.{◌≡◌, ◌<◌, [], ◌∷◌, length};
-ghost use Rattle.digest.specs.Rounds.{byRound, constant_of, wordNumber, shift_of, functionOf, in_row};
+ghost use Rattle.digest.specs.Rounds.{by_round, constant_of, word_number, shift_of, function_of, in_row};
 ghost use Rattle.digest.specs.Rounds.{operation, operations};
 
 use crate::{Buffer, word};
 use std::num::wrapping_add_u32;
 
-#[tactic(auto, unfolding(crate::specs::Rounds::byRound))]
+#[tactic(auto, unfolding(crate::specs::Rounds::by_round))]
 fn by_round(i: u32, w: u32, x: u32, y: u32, z: u32) -> u32
-    ensures { result ≡ byRound i w x y z }
+    ensures { result ≡ by_round i w x y z }
 {
     if i < 16 {
         return w;
@@ -24,7 +24,7 @@ fn by_round(i: u32, w: u32, x: u32, y: u32, z: u32) -> u32
 }
 
 fn function(i: u32, b: u32, c: u32, d: u32) -> u32
-    ensures { result ≡ functionOf i b c d }
+    ensures { result ≡ function_of i b c d }
 {
     // F as it is defined has one operation more that waits for b, the newest word
     by_round(
@@ -38,7 +38,7 @@ fn function(i: u32, b: u32, c: u32, d: u32) -> u32
 
 fn word_number(i: u32) -> u32
     requires { i < 64 }
-    ensures { (result ≡ wordNumber i) × (result < 16) }
+    ensures { (result ≡ word_number i) × (result < 16) }
 {
     by_round(i, i, 5 * i + 1, 3 * i + 5, 7 * i) % 16
 }
@@ -83,7 +83,7 @@ fn row(m: &[u8], i: u32, t0: u32, t1: u32, t2: u32, t3: u32, q: Buffer) -> Buffe
 }
 
 // Rounds 1 and 2. (All 64 operations in one function are more facts than a search looks at.)
-#[tactic(auto, unfolding(crate::specs::Rounds::tableT, crate::specs::Rounds::constant_of))]
+#[tactic(auto, unfolding(crate::specs::Rounds::table_t, crate::specs::Rounds::constant_of))]
 pub fn first_two(m: &[u8], q: Buffer) -> Buffer
     requires { length m.now ≡ 64 }
     ensures { result ≡ operations 0 32 m.now q }
@@ -99,7 +99,7 @@ pub fn first_two(m: &[u8], q: Buffer) -> Buffer
 }
 
 // Rounds 3 and 4.
-#[tactic(auto, unfolding(crate::specs::Rounds::tableT, crate::specs::Rounds::constant_of))]
+#[tactic(auto, unfolding(crate::specs::Rounds::table_t, crate::specs::Rounds::constant_of))]
 pub fn last_two(m: &[u8], q: Buffer) -> Buffer
     requires { length m.now ≡ 64 }
     ensures { result ≡ operations 32 32 m.now q }

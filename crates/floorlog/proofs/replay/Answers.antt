@@ -2,7 +2,7 @@
 use Rattle.std.proofs.Common.{arith, IfSome, sym, subst, take}
 use Rattle.textio.specs.Ahead.{left_in}
 use Rattle.record.specs.declared.types.Device.{Device}
-use Rattle.floorlog.specs.Replaying.{keptMost}
+use Rattle.floorlog.specs.Replaying.{kept_most}
 use Rattle.textio.specs.Lines.{IsTooLong}
 use Rattle.textio.proofs.Underway.{each, so_far, flushed, came, not_too_long}
 use Rattle.floorlog.proofs.Replayed.{Played, none_played, is_front, line_played, line_broken, log_ended, log_cut}
@@ -41,7 +41,7 @@ returns-in-Ok-finish-clause-whole g c =
     let left_then = left_in g.R.ByteSource.remaining c.read_line.new.from in
     let none = rw c.in-Ok-None.field-0-is at c.in-Ok-None.ensures.next in
     each _ _ _
-    (λ log u. log_ended (flushed u _ c.read_line.ensures.keeps) left_then (take keptMost c.read_line.new.line) none _
+    (λ log u. log_ended (flushed u _ c.read_line.ensures.keeps) left_then (take kept_most c.read_line.new.line) none _
     c.in-Ok-finish.ensures.whole)
     c.loop-played.invariant
 
@@ -50,7 +50,7 @@ returns-in-Ok-finish-clause-front g c =
     let left_then = left_in g.R.ByteSource.remaining c.read_line.new.from in
     let none = rw c.in-Ok-None.field-0-is at c.in-Ok-None.ensures.next in
     each _ _ _
-    (λ log u. log_cut (flushed u _ c.read_line.ensures.keeps) left_then (take keptMost c.read_line.new.line) none _
+    (λ log u. log_cut (flushed u _ c.read_line.ensures.keeps) left_then (take kept_most c.read_line.new.line) none _
     c.finish.ensures.front)
     c.loop-played.invariant
 
@@ -59,7 +59,7 @@ returns-in-Err-finish-clause-front g c =
     let left_then = left_in g.R.ByteSource.remaining c.read_line.new.from in
     let none = rw c.in-Ok-None.field-0-is at c.in-Ok-None.ensures.next in
     each _ _ _
-    (λ log u. log_cut (flushed u _ c.read_line.ensures.keeps) left_then (take keptMost c.read_line.new.line) none _
+    (λ log u. log_cut (flushed u _ c.read_line.ensures.keeps) left_then (take kept_most c.read_line.new.line) none _
     c.finish.ensures.front)
     c.loop-played.invariant
 

@@ -1,8 +1,7 @@
 -- The first place that `position` tells, or the length where it tells none, is what `index_of` counts.
-use Rattle.std.proofs.Common.{◌≡◌, ◌≢◌, rules, refl, sym, ◌∙◌, add-one, eq-eqb}
+use Rattle.std.proofs.Common.{◌≡◌, ◌≢◌, rules, refl, sym, ◌∙◌, add-one, eq-eqb, tests}
 use Rattle.std.proofs.lemmas.Bool.{ne_eqb}
 use Rattle.std.proofs.lemmas.Iterator.{YieldsList-from_slice, IsFirst-from_position, index_from_first}
-use borrow.Author.Tests.{tests}
 use Rattle.stream.specs.Places.{index_after, index_of}
 use Rattle.stream.proofs.find.Goals as goal
 

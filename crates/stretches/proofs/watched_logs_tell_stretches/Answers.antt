@@ -1,5 +1,5 @@
-use Rattle.stretches.proofs.WholeLogTold.{log-watched}
+use Rattle.stretches.proofs.WholeLogTold.{log_watched}
 use Rattle.stretches.proofs.watched_logs_tell_stretches.Goals as goal
 
 pub returns : goal.returns
-returns c = log-watched
+returns c = log_watched

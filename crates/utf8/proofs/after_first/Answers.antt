@@ -1,6 +1,6 @@
 -- Each arm is a row of the table, and what is left has no row.
 use Rattle.std.proofs.Common.{arith}
-use Rattle.utf8.proofs.FirstBytes.{row_at, row_is, none-low, none-high}
+use Rattle.utf8.proofs.FirstBytes.{row_at, row_is, none_low, none_high}
 use Rattle.utf8.proofs.after_first.Goals as goal
 
 pub returns-in-224 : goal.returns-in-224
@@ -31,7 +31,7 @@ pub returns-in-241-to-243 : goal.returns-in-241-to-243
 returns-in-241-to-243 c = row_at 7 (omega arith) (omega arith) (omega arith)
 
 pub returns-in_default : goal.returns-in_default
-returns-in_default c = none-low (omega arith) (omega arith)
+returns-in_default c = none_low (omega arith) (omega arith)
 
 pub returns-in_default-2 : goal.returns-in_default-2
-returns-in_default-2 c = none-high (omega arith) (omega arith) (omega arith)
+returns-in_default-2 c = none_high (omega arith) (omega arith) (omega arith)

@@ -1,6 +1,5 @@
 -- Its rig is one, and it burns there W plus its length.
-use Rattle.std.proofs.Common.{◌≡◌, ◌≤◌, [], ◌∷◌, ◌++◌, subst, arith}
-use borrow.Author.Tests.{leb-true, le-leb}
+use Rattle.std.proofs.Common.{◌≡◌, ◌≤◌, [], ◌∷◌, ◌++◌, subst, arith, leb-true, le-leb}
 use Rattle.day.specs.Rules.{burnt}
 use Rattle.day.specs.declared.Rig.{Rig}
 use Rattle.day.proofs.Keeping.{burnt_here}

@@ -1,5 +1,4 @@
-use Rattle.std.proofs.Common.{arith}
-use borrow.Author.Tests.{ltb-true, lt-ltb}
+use Rattle.std.proofs.Common.{arith, ltb-true, lt-ltb}
 use Rattle.day.proofs.Meeting.{meet_from_starts, starts_from_meet}
 use Rattle.day.proofs.Rig.meets.Goals as goal
 

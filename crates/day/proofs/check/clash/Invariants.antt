@@ -1,7 +1,7 @@
 -- No job passed shares a second with a later one.
 use Rattle.std.proofs.Common.{ℕ, ◌<◌}
-use Rattle.day.specs.Verdicts.{AloneAt}
+use Rattle.day.specs.Verdicts.{IsAloneAt}
 use Rattle.day.proofs.check.clash.Given as goal
 
 abbrev pub invariant-loop-i : goal.invariant-loop-i
-invariant-loop-i l = (k : ℕ) → k < l.i → AloneAt l.rigs l.plan k
+invariant-loop-i l = (k : ℕ) → k < l.i → IsAloneAt l.rigs l.plan k

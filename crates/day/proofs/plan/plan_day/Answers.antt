@@ -1,10 +1,9 @@
-use Rattle.std.proofs.Common.{◌+◌, List, refl, sym, subst}
+use Rattle.std.proofs.Common.{◌+◌, List, refl, sym, subst, slice_index_or}
 use Rattle.std.specs.Prelude.{All}
-use Rattle.std.proofs.Math.ListN.{get_or}
 use Rattle.std.proofs.lemmas.Option.{slice_get-get_or}
 use Rattle.day.specs.Days.{IsJob}
 use Rattle.day.specs.Rules.{Keeps}
-use Rattle.day.specs.Plans.{LowestRig, FindsNone}
+use Rattle.day.specs.Plans.{IsLowestRig, FindsNone}
 use Rattle.day.specs.declared.Placement.{Placement}
 use Rattle.day.proofs.Greedily.{nobody, Going, going_more, greedy_kept, all_in_range}
 use Rattle.day.proofs.plan.plan_day.Goals as goal
@@ -26,9 +25,10 @@ returns-in-None c = (
     placed = c.loop-j.plan;
     before = c.loop-j.invariant.before;
     greedy = c.loop-j.invariant.greedy;
-    job = get_or c.args.jobs.now c.loop-j.j nobody.job;
+    job = slice_index_or c.args.jobs.now c.loop-j.j nobody.job;
     next = slice_get-get_or c.args.jobs.now c.loop-j.j nobody.job c.loop-j-test.true;
-    none = subst (λ (s : List Placement). FindsNone c.args.rigs.now s (get_or c.args.jobs.now c.loop-j.j nobody.job))
+    none = subst
+        (λ (s : List Placement). FindsNone c.args.rigs.now s (slice_index_or c.args.jobs.now c.loop-j.j nobody.job))
         c.placements.ensures c.in-None.ensures;
   },
 )
@@ -39,5 +39,5 @@ loop-j-preserved c =
     (going_more _ _ c.loop-j.invariant c.loop-j-test.true nobody.job
     (subst
     (λ (s : List Placement).
-    LowestRig c.args.rigs.now s (get_or c.args.jobs.now c.loop-j.j nobody.job) c.in-Some.rig)
+    IsLowestRig c.args.rigs.now s (slice_index_or c.args.jobs.now c.loop-j.j nobody.job) c.in-Some.rig)
     c.placements.ensures c.in-Some.ensures))

@@ -1,10 +1,10 @@
-use Rattle.demands.proofs.WrongClassesFall.{answers-class-2-falls, refuses-letters-falls}
-use Rattle.demands.proofs.WrongClassesFall.{volume-wraps-falls}
+use Rattle.demands.proofs.WrongClassesFall.{answers_class_2_falls, refuses_letters_falls}
+use Rattle.demands.proofs.WrongClassesFall.{volume_wraps_falls}
 use Rattle.demands.proofs.wrong_boards.wrong_classes_fall.Goals as goal
 
 pub returns : goal.returns
 returns c = record {
-  answers_class_2_in_class_1 = answers-class-2-falls;
-  refuses_an_input_with_a_letter = refuses-letters-falls;
-  wraps_the_volume = volume-wraps-falls;
+  answers_class_2_in_class_1 = answers_class_2_falls;
+  refuses_an_input_with_a_letter = refuses_letters_falls;
+  wraps_the_volume = volume_wraps_falls;
 }

@@ -1,11 +1,11 @@
-use Rattle.demands.proofs.WrongClocksFall.{still-clock-falls, still-clock-adds, first-only-falls}
-use Rattle.demands.proofs.WrongClocksFall.{drops-part-hour-falls}
+use Rattle.demands.proofs.WrongClocksFall.{still_clock_falls, still_clock_adds, first_only_falls}
+use Rattle.demands.proofs.WrongClocksFall.{drops_part_hour_falls}
 use Rattle.demands.proofs.wrong_boards.wrong_clocks_fall.Goals as goal
 
 pub returns : goal.returns
 returns c = record {
-  stands_still = still-clock-falls;
-  standing_still_adds = still-clock-adds;
-  counts_the_first_session_only = first-only-falls;
-  drops_the_part_hour = drops-part-hour-falls;
+  stands_still = still_clock_falls;
+  standing_still_adds = still_clock_adds;
+  counts_the_first_session_only = first_only_falls;
+  drops_the_part_hour = drops_part_hour_falls;
 }

@@ -1,10 +1,10 @@
-use Rattle.demands.proofs.WrongLampsFall.{burns-all-lamps-falls, counts-disabled-falls}
-use Rattle.demands.proofs.WrongLampsFall.{forgets-marks-falls}
+use Rattle.demands.proofs.WrongLampsFall.{burns_all_lamps_falls, counts_disabled_falls}
+use Rattle.demands.proofs.WrongLampsFall.{forgets_marks_falls}
 use Rattle.demands.proofs.wrong_boards.wrong_lamps_fall.Goals as goal
 
 pub returns : goal.returns
 returns c = record {
-  burns_all_lamps = burns-all-lamps-falls;
-  counts_a_disabled_lamp = counts-disabled-falls;
-  forgets_a_mark = forgets-marks-falls;
+  burns_all_lamps = burns_all_lamps_falls;
+  counts_a_disabled_lamp = counts_disabled_falls;
+  forgets_a_mark = forgets_marks_falls;
 }

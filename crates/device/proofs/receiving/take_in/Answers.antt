@@ -1,5 +1,5 @@
 use Rattle.std.proofs.Common.{sym, ◌∙◌, arith}
-use borrow.Author.Tests.{not-false}
+use Rattle.std.proofs.lemmas.Bool.{not-false}
 use Rattle.stream.proofs.GatheredOn.{gathered-ended}
 use Rattle.device.proofs.receiving.take_in.Goals as goal
 

@@ -1,8 +1,8 @@
-use Rattle.device.proofs.Cases.{secured-greeting, secured-greeted, open-greeting, open-greeted}
+use Rattle.device.proofs.Cases.{secured_greeting, secured_greeted, open_greeting, open_greeted}
 use Rattle.device.proofs.theorems.a_password_is_asked_for.Goals as goal
 
 pub returns : goal.returns
 returns c = record {
-  secured = λ s random on. (secured-greeting s random on, secured-greeted s random on);
-  unsecured = λ s random none. (open-greeting s random none, open-greeted s random none);
+  secured = λ s random on. (secured_greeting s random on, secured_greeted s random on);
+  unsecured = λ s random none. (open_greeting s random none, open_greeted s random none);
 }

@@ -1,11 +1,11 @@
 -- Two rounds and two rounds are the 64 operations.
 use Rattle.std.proofs.Common.{ap, ◌∙◌}
 use Rattle.digest.specs.Rounds.{operations, added, block_of}
-use Rattle.digest.proofs.Rows.{all-rounds}
+use Rattle.digest.proofs.Rows.{operations-operations}
 use Rattle.digest.proofs.block.block.Goals as goal
 
 pub returns : goal.returns
 unfolding block_of
 returns c =
     c.add.ensures
-    ∙ ap (added _) (c.last_two-p.ensures ∙ ap (operations 32 32 _) c.first_two-p.ensures ∙ all-rounds _ _)
+    ∙ ap (added _) (c.last_two-p.ensures ∙ ap (operations 32 32 _) c.first_two-p.ensures ∙ operations-operations _ _)

@@ -1,6 +1,6 @@
 -- LF stands after the mark.
-use Rattle.text.proofs.Stores.{sets-snoc}
+use Rattle.text.proofs.Stores.{sets_snoc}
 use Rattle.floorlog.proofs.ending.put_ending.Goals as goal
 
-pub returns-clause-out_after : goal.returns-clause-out_after
-returns-clause-out_after c = sets-snoc _ _ _ _ c.put_mark-end.ensures.out_after c.put_mark-end.ensures.value
+pub returns-clause-written : goal.returns-clause-written
+returns-clause-written c = sets_snoc _ _ _ _ c.put_mark-end.ensures.written c.put_mark-end.ensures.value

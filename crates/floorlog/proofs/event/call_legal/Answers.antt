@@ -1,10 +1,10 @@
 -- Closing has no reply.
 use Rattle.std.proofs.Common.{ap, sym, ◌∙◌, List, ℕ}
 use Rattle.text.specs.Words.{over}
-use Rattle.device.proofs.EnoughRoom.{closing-quiet}
+use Rattle.device.proofs.EnoughRoom.{closing_quiet}
 use Rattle.floorlog.specs.declared.line.Says.{Says}
-use Rattle.floorlog.specs.Events.{eventOf}
-use Rattle.floorlog.specs.Doing.{logPlace, did}
+use Rattle.floorlog.specs.Events.{event_of}
+use Rattle.floorlog.specs.Doing.{log_place, did}
 use Rattle.floorlog.proofs.event.call_legal.Goals as goal
 
 pub returns-in-Closes-clause-reply : goal.returns-in-Closes-clause-reply
@@ -12,5 +12,5 @@ unfolding did
 returns-in-Closes-clause-reply c =
     let d = c.args.device.now in
     let out = c.args.out.now in
-    ap (λ (r : List ℕ). over r out) (sym (closing-quiet d logPlace))
-    ∙ ap (λ (s : Says). over (did d (eventOf s c.args.bytes.now)).reply out) (sym c.in-Closes.is)
+    ap (λ (r : List ℕ). over r out) (sym (closing_quiet d log_place))
+    ∙ ap (λ (s : Says). over (did d (event_of s c.args.bytes.now)).reply out) (sym c.in-Closes.is)

@@ -1,10 +1,10 @@
 use Rattle.std.proofs.Common.{◌∷◌, ◌++◌, [], ◌∙◌, arith, sym, ap, length}
-use Rattle.meaning.specs.SetUpInputs.{inputsOfPairs}
-use Rattle.meaning.proofs.InputsByPlace.{one-more-named}
+use Rattle.meaning.specs.SetUpInputs.{inputs_of_pairs}
+use Rattle.meaning.proofs.InputsByPlace.{one_more_named}
 use Rattle.meaning.proofs.inputs.inputs_of.Goals as goal
 
 pub loop-k-init : goal.loop-k-init
-unfolding inputsOfPairs
+unfolding inputs_of_pairs
 loop-k-init c = record {
   many = ap length c.new-inputs.ensures;
   counted = omega arith;
@@ -18,5 +18,5 @@ loop-k-preserved c = record {
   told =
       c.push.ensures.items
       ∙ (λ i. c.loop-k.invariant.told i ++ (c.input_of_pair.ensures i ∷ []))
-      ∙ sym (one-more-named c.args.pairs.now c.loop-k.k (omega (arith, c.told-pairs)));
+      ∙ sym (one_more_named c.args.pairs.now c.loop-k.k (omega (arith, c.told-pairs)));
 }

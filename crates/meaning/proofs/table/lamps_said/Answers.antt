@@ -1,6 +1,6 @@
 use Rattle.std.proofs.Common.{◌≡◌, ◌∷◌, ◌++◌, [], ◌∙◌, List, arith, length, sym, ap}
 use Rattle.words.specs.declared.lamp.LampHours.{LampHours}
-use Rattle.meaning.proofs.LampsSaid.{none_said, one-more-said}
+use Rattle.meaning.proofs.LampsSaid.{none_said, one_more_said}
 use Rattle.meaning.proofs.table.lamps_said.Goals as goal
 
 grown : {xs ys zs us : List LampHours} (x : LampHours) → zs ≡ xs ++ (x ∷ []) → xs ≡ ys → us ≡ ys ++ (x ∷ []) → zs ≡ us
@@ -19,5 +19,5 @@ loop-k-preserved c = record {
   counted = omega arith;
   told =
       grown _ c.push.ensures.items c.loop-k.invariant.told
-      (one-more-said c.args.lit c.args.marks.now c.args.seconds.now c.loop-k.k (omega (arith, c.told-seconds)));
+      (one_more_said c.args.lit c.args.marks.now c.args.seconds.now c.loop-k.k (omega (arith, c.told-seconds)));
 }

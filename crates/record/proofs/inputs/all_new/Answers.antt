@@ -1,24 +1,24 @@
 use Rattle.std.proofs.Common.{arith}
-use Rattle.record.proofs.Marks.{none-backed, turn-named, one-backed, placed_below}
+use Rattle.record.proofs.Marks.{none_backed, turn_named, one_backed, placed_below}
 use Rattle.record.proofs.inputs.all_new.Goals as goal
 
 pub loop-j-init : goal.loop-j-init
-loop-j-init c = none-backed _ _ c.requires
+loop-j-init c = none_backed _ _ c.requires
 
 pub place_of-k-requires : goal.place_of-k-requires
-place_of-k-requires c = turn-named _ _ c.loop-j.invariant c.requires (omega arith)
+place_of-k-requires c = turn_named _ _ c.loop-j.invariant c.requires (omega arith)
 
 pub bounds-seen-k : goal.bounds-seen-k
 bounds-seen-k c =
     rw c.place_of-k.ensures (placed_below c.args.class _ _
-    (turn-named _ _ c.loop-j.invariant c.requires (omega arith)))
+    (turn_named _ _ c.loop-j.invariant c.requires (omega arith)))
 
 pub bounds-seen-k-in-loop-j : goal.bounds-seen-k-in-loop-j
 bounds-seen-k-in-loop-j c =
     rw c.place_of-k.ensures (placed_below c.args.class _ _
-    (turn-named _ _ c.loop-j.invariant c.requires (omega arith)))
+    (turn_named _ _ c.loop-j.invariant c.requires (omega arith)))
 
 pub loop-j-preserved : goal.loop-j-preserved
 loop-j-preserved c =
-    let names = turn-named _ _ c.loop-j.invariant c.requires (omega arith) in
-    one-backed _ _ c.loop-j.invariant (omega arith) names c.place_of-k.result c.place_of-k.ensures
+    let names = turn_named _ _ c.loop-j.invariant c.requires (omega arith) in
+    one_backed _ _ c.loop-j.invariant (omega arith) names c.place_of-k.result c.place_of-k.ensures

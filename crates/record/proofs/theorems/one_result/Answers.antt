@@ -1,14 +1,14 @@
-use Rattle.record.proofs.Results.{set-up-one, legal-one}
-use Rattle.record.proofs.OutOfRange.{one-setting}
-use Rattle.record.proofs.GivenTold.{one-given}
+use Rattle.record.proofs.Results.{one_set_up, one_legality}
+use Rattle.record.proofs.OutOfRange.{one_setting}
+use Rattle.record.proofs.GivenTold.{one_given}
 use Rattle.record.proofs.theorems.one_result.Goals as goal
 
 pub returns : goal.returns
 returns c = record {
-  set_up = λ w r s. set-up-one w;
-  setting = λ w r s. one-setting w;
-  legality = λ d r s. legal-one d;
-  fault = λ d mark. one-given d _;
-  errors = λ d digits. one-given d _;
-  mark = λ d lamp mark. one-given d _;
+  set_up = λ w r s. one_set_up w;
+  setting = λ w r s. one_setting w;
+  legality = λ d r s. one_legality d;
+  fault = λ d mark. one_given d _;
+  errors = λ d digits. one_given d _;
+  mark = λ d lamp mark. one_given d _;
 }

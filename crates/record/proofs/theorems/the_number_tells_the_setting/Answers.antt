@@ -1,13 +1,13 @@
-use Rattle.record.proofs.RefusedSetting.{gives-3-first, gives-8-password, gives-0-none, none-gives-0}
-use Rattle.record.proofs.Results.{set-up-3, set-up-8}
+use Rattle.record.proofs.RefusedSetting.{gives_3_first, gives_8_password, gives_0_none, none_gives_0}
+use Rattle.record.proofs.Results.{set_up_3, set_up_8}
 use Rattle.record.proofs.theorems.the_number_tells_the_setting.Goals as goal
 
 pub returns : goal.returns
 returns c = record {
-  out = set-up-3;
-  short = set-up-8;
-  out_of_range = gives-3-first;
-  too_short = gives-8-password;
-  none_where_accepted = gives-0-none;
-  accepted_where_none = none-gives-0;
+  out = set_up_3;
+  short = set_up_8;
+  out_of_range = gives_3_first;
+  too_short = gives_8_password;
+  none_where_accepted = gives_0_none;
+  accepted_where_none = none_gives_0;
 }

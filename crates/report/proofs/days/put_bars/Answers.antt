@@ -1,4 +1,4 @@
-use Rattle.std.proofs.Common.{ℕ, List, ◌≡◌, false, get_or, length, arith}
+use Rattle.std.proofs.Common.{ℕ, List, ◌≡◌, false, length, arith, slice_index_or}
 use Rattle.textio.proofs.Each.{each_more, each_fails}
 use Rattle.textio.proofs.Fronts.{writes_all}
 use Rattle.report.specs.Days.{bar_if, bars}
@@ -7,7 +7,8 @@ use Rattle.report.proofs.days.put_bars.Goals as goal
 pub loop-k-preserved : goal.loop-k-preserved
 loop-k-preserved g c =
     let p = c.args.p in
-    let shown : ℕ → List ℕ = λ k. bar_if (get_or c.args.lit.now k false) p.whole.from p.whole.to p.x p.seconds k in
+    let shown : ℕ → List ℕ =
+    λ k. bar_if (slice_index_or c.args.lit.now k false) p.whole.from p.whole.to p.x p.seconds k in
     each_more shown 0 c.loop-k.k _ c.loop-k.k _ _ _ (omega arith) (omega arith) c.loop-k.invariant
     c.in_ok-put_bar.ensures.whole
 
@@ -15,7 +16,8 @@ pub returns-in_err-put_bar : goal.returns-in_err-put_bar
 unfolding bars
 returns-in_err-put_bar g c =
     let p = c.args.p in
-    let shown : ℕ → List ℕ = λ k. bar_if (get_or c.args.lit.now k false) p.whole.from p.whole.to p.x p.seconds k in
+    let shown : ℕ → List ℕ =
+    λ k. bar_if (slice_index_or c.args.lit.now k false) p.whole.from p.whole.to p.x p.seconds k in
     each_fails shown 0 c.loop-k.k (length c.args.lit.now) c.loop-k.k (omega arith) c.loop-k-test.true
     c.loop-k.invariant c.in_err-put_bar.ensures c.from_residual.ensures
 

@@ -1,6 +1,6 @@
 -- what is read ahead, with its LF, is what is taken
 use Rattle.std.proofs.Common.{◌≡◌, ◌++◌, ◌+◌, ℕ, [], ◌∷◌, sym, ap, subst, ◌∙◌, arith, length, take, take_all}
-use mathlib.Core.List.{append-nil}
+use Rattle.std.proofs.Common.{append-nil}
 use Rattle.std.proofs.lemmas.List.{take_more}
 use Rattle.std.specs.Io.KnownBytes.{Consumes}
 use Rattle.textio.proofs.Known.{appended_front, kept_then_consumed}

@@ -1,6 +1,5 @@
-use Rattle.std.proofs.Common.{◌≡◌, ◌++◌, ◌+◌, ◌-◌, ap, sym, ◌∙◌, List, ℕ, arith, length, take}
+use Rattle.std.proofs.Common.{◌≡◌, ◌++◌, ◌+◌, ◌-◌, ap, sym, ◌∙◌, List, ℕ, arith, length, take, length-take-le}
 use Rattle.std.proofs.lemmas.Slice.{take-put_mid}
-use lib.Seq.{length-take-le}
 use Rattle.textio.proofs.memory.append.Goals as goal
 
 pub returns-clause-appended : goal.returns-clause-appended

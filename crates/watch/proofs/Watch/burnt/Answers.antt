@@ -1,13 +1,13 @@
 -- what it burnt has room for the stretch that is under way
 use Rattle.std.proofs.Common.{arith, sym, ◌∙◌}
-use Rattle.watch.specs.States.{stateOf}
-use Rattle.watch.proofs.Sound.{sound-from, burnt-fits}
+use Rattle.watch.specs.States.{state_of}
+use Rattle.watch.proofs.Sound.{sound_from, burnt_fits}
 use Rattle.watch.proofs.Watch.burnt.Goals as goal
 
 pub overflow_sub-self : goal.overflow_sub-self
-overflow_sub-self c = sound-from (stateOf c.args.self.now) c.args.self.now.sound
+overflow_sub-self c = sound_from (state_of c.args.self.now) c.args.self.now.sound
 
 pub gained_if-requires : goal.gained_if-requires
 gained_if-requires c =
-    let s = stateOf c.args.self.now in
-    λ lit. burnt-fits s c.args.self.now.sound (sym c.is_lit.ensures ∙ lit) s.time (omega arith) (omega arith)
+    let s = state_of c.args.self.now in
+    λ lit. burnt_fits s c.args.self.now.sound (sym c.is_lit.ensures ∙ lit) s.time (omega arith) (omega arith)

@@ -1,9 +1,9 @@
 -- The line's event is played, and moves the light on.
 use Rattle.std.proofs.Common.{◌≡◌, ◌+◌, refl, take, arith}
-use Rattle.watch.specs.Marking.{floorEvent}
-use Rattle.watch.specs.States.{stateOf}
+use Rattle.watch.specs.Marking.{floor_event}
+use Rattle.watch.specs.States.{state_of}
 use Rattle.watch.proofs.LineLeaves.{driven}
-use Rattle.watch.proofs.Sound.{sound-from}
+use Rattle.watch.proofs.Sound.{sound_from}
 use Rattle.watch.proofs.OneLine.{seconds_is, left_is, line_watched, stays_sound, can_gain}
 use Rattle.watch.proofs.Watch.play.Goals as goal
 
@@ -14,14 +14,14 @@ returns-in_default-clause-uncounted c =
     λ e. omega arith
 
 pub overflow_sub-time : goal.overflow_sub-time
-overflow_sub-time c = omega (arith, sound-from (stateOf c.args.self.now) c.args.self.now.sound)
+overflow_sub-time c = omega (arith, sound_from (state_of c.args.self.now) c.args.self.now.sound)
 
 pub gained_if-burnt-requires : goal.gained_if-burnt-requires
 gained_if-burnt-requires c =
     let l = take c.args.held c.args.line.now in
     let timed : c.in-Some.time ≡ c.args.self.now.time + c.seconds_of-seconds.result = omega arith in
     λ dark.
-    can_gain l c.mark_says-mark.ensures (stateOf c.args.self.now) c.end_line.ensures c.args.self.now.sound
+    can_gain l c.mark_says-mark.ensures (state_of c.args.self.now) c.end_line.ensures c.args.self.now.sound
     c.seconds_of-seconds.result timed (omega arith) c.is_lit-is.result c.is_lit-was.ensures
     c.light_after-next.ensures dark
 
@@ -31,7 +31,7 @@ invariant_of-self c =
     let timed : c.in-Some.time ≡ c.args.self.now.time + c.seconds_of-seconds.result = omega arith in
     let seconds = seconds_is l c.mark_says-mark.ensures c.line_says-says.ensures c.seconds_of-seconds.ensures in
     record {
-      sound = stays_sound l c.mark_says-mark.ensures (stateOf c.args.self.now) c.end_line.ensures seconds timed
+      sound = stays_sound l c.mark_says-mark.ensures (state_of c.args.self.now) c.end_line.ensures seconds timed
           c.is_lit-was.ensures c.is_lit-is.ensures c.light_after-next.ensures c.gained_if-burnt.ensures
           c.args.self.now.sound;
     }
@@ -41,11 +41,11 @@ returns-clause-watched c =
     let l = take c.args.held c.args.line.now in
     let timed : c.in-Some.time ≡ c.args.self.now.time + c.seconds_of-seconds.result = omega arith in
     let seconds = seconds_is l c.mark_says-mark.ensures c.line_says-says.ensures c.seconds_of-seconds.ensures in
-    line_watched l c.mark_says-mark.ensures (stateOf c.args.self.now) c.end_line.ensures seconds timed
+    line_watched l c.mark_says-mark.ensures (state_of c.args.self.now) c.end_line.ensures seconds timed
     c.is_lit-was.ensures c.is_lit-is.ensures c.light_after-next.ensures c.gained_if-burnt.ensures
 
 pub returns-clause-places : goal.returns-clause-places
 returns-clause-places c =
     let l = take c.args.held c.args.line.now in
-    driven c.args.self.now.tested.device (floorEvent l) refl
-    (left_is l c.mark_says-mark.ensures (stateOf c.args.self.now) c.end_line.ensures)
+    driven c.args.self.now.tested.device (floor_event l) refl
+    (left_is l c.mark_says-mark.ensures (state_of c.args.self.now) c.end_line.ensures)

@@ -3,11 +3,11 @@ use Rattle.std.proofs.Common.{ap, ◌∙◌, arith}
 use Rattle.floorlog.specs.Events.{LogEvent}
 use Rattle.floorlog.specs.Doing.{did}
 use Rattle.floorlog.proofs.KeptText.{event_of_memory}
-use Rattle.watch.specs.Marking.{doneBy}
+use Rattle.watch.specs.Marking.{done_by}
 use Rattle.watch.proofs.marking.call.Goals as goal
 
 pub returns : goal.returns
-unfolding doneBy
+unfolding done_by
 returns c =
     let same =
     event_of_memory c.args.line.now c.args.held c.min.result c.args.says (omega arith) (omega arith) c.requires.says in

@@ -1,6 +1,6 @@
-use Rattle.workroom.proofs.PanelDemand.{our-panel-does}
-use Rattle.workroom.proofs.ShowsWhatWasMeant.{the-panel-shows-what-was-meant}
+use Rattle.workroom.proofs.PanelDemand.{our_panel_does}
+use Rattle.workroom.proofs.ShowsWhatWasMeant.{the_panel_shows_what_was_meant}
 use Rattle.workroom.proofs.theorems.our_panel_keeps_its_demand.Goals as goal
 
 pub returns : goal.returns
-returns c = record { panel = our-panel-does; shows_what_was_meant = the-panel-shows-what-was-meant }
+returns c = record { panel = our_panel_does; shows_what_was_meant = the_panel_shows_what_was_meant }

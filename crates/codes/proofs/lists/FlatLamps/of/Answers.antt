@@ -1,6 +1,6 @@
 use Rattle.std.proofs.Common.{arith}
-use Rattle.codes.proofs.Filling.{one-filled, one-more-turned}
-use Rattle.codes.specs.Readings.{hoursOf, lit_of}
+use Rattle.codes.proofs.Filling.{one_filled, one_more_turned}
+use Rattle.codes.specs.Readings.{hours_of, lit_of}
 use Rattle.codes.proofs.lists.FlatLamps.of.Goals as goal
 
 pub loop-k-preserved : goal.loop-k-preserved
@@ -8,7 +8,8 @@ loop-k-preserved c =
     let lamps = c.args.lamps.now in
     let k = c.loop-k.k in
     record {
-      told = one-filled _ _ _ _ c.loop-k.invariant.told (omega arith) (one-more-turned hoursOf lamps k _ (omega arith));
+      told = one_filled _ _ _ _ c.loop-k.invariant.told (omega arith)
+          (one_more_turned hours_of lamps k _ (omega arith));
       shown =
-          one-filled _ _ _ _ c.loop-k.invariant.shown (omega arith) (one-more-turned lit_of lamps k _ (omega arith));
+          one_filled _ _ _ _ c.loop-k.invariant.shown (omega arith) (one_more_turned lit_of lamps k _ (omega arith));
     }

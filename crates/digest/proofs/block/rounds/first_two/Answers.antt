@@ -1,10 +1,10 @@
 -- The rows of rounds 1 and 2 are the 32 operations from 0 on.
 use Rattle.std.proofs.Common.{◌∙◌}
-use Rattle.digest.proofs.Rows.{eight-rows, first_rows}
+use Rattle.digest.proofs.Rows.{eight_rows, first_rows}
 use Rattle.digest.proofs.block.rounds.first_two.Goals as goal
 
 pub returns : goal.returns
 returns c =
-    eight-rows 0 _ _ c.row-q.ensures c.row-q-2.ensures c.row-q-3.ensures c.row-q-4.ensures c.row-q-5.ensures
+    eight_rows 0 _ _ c.row-q.ensures c.row-q-2.ensures c.row-q-3.ensures c.row-q-4.ensures c.row-q-5.ensures
     c.row-q-6.ensures c.row-q-7.ensures c.row.ensures
     ∙ first_rows _ _

@@ -1,10 +1,10 @@
 -- The rows of rounds 3 and 4 are the 32 operations from 32 on.
 use Rattle.std.proofs.Common.{◌∙◌}
-use Rattle.digest.proofs.Rows.{eight-rows, last-rows}
+use Rattle.digest.proofs.Rows.{eight_rows, last_rows}
 use Rattle.digest.proofs.block.rounds.last_two.Goals as goal
 
 pub returns : goal.returns
 returns c =
-    eight-rows 32 _ _ c.row-q.ensures c.row-q-2.ensures c.row-q-3.ensures c.row-q-4.ensures c.row-q-5.ensures
+    eight_rows 32 _ _ c.row-q.ensures c.row-q-2.ensures c.row-q-3.ensures c.row-q-4.ensures c.row-q-5.ensures
     c.row-q-6.ensures c.row-q-7.ensures c.row.ensures
-    ∙ last-rows _ _
+    ∙ last_rows _ _

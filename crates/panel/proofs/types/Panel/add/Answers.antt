@@ -1,7 +1,7 @@
 use Rattle.std.proofs.Common.{arith, sym, ◌∙◌}
-use Rattle.words.proofs.TextsTold.{password-long}
+use Rattle.words.proofs.TextsTold.{password_long}
 use Rattle.panel.proofs.types.Panel.add.Goals as goal
 
 pub of-requires : goal.of-requires
 of-requires c =
-    omega (arith, password-long c.args.password.now (sym c.is_password.ensures ∙ c.if-not-is_password.false))
+    omega (arith, password_long c.args.password.now (sym c.is_password.ensures ∙ c.if-not-is_password.false))

@@ -1,17 +1,17 @@
 -- A projector of a legal panel has its entry, and the password in it fits its room.
 use Rattle.std.proofs.Common.{arith, sym, ◌∙◌}
-use Rattle.panel.proofs.PanelsTold.{place-below, fits_there}
+use Rattle.panel.proofs.PanelsTold.{place_below, fits_there}
 use Rattle.panel.proofs.types.Panel.send.Goals as goal
 
 pub offset_bounds-self-projector : goal.offset_bounds-self-projector
 offset_bounds-self-projector c =
-    let there = place-below c.args.self.now (sym c.is_legal.ensures ∙ c.if-not-is_legal.false) c.args.projector
+    let there = place_below c.args.self.now (sym c.is_legal.ensures ∙ c.if-not-is_legal.false) c.args.projector
     (omega arith) in
     omega arith
 
 pub bounds-self-projector : goal.bounds-self-projector
 bounds-self-projector c =
-    place-below c.args.self.now (sym c.is_legal.ensures ∙ c.if-not-is_legal.false) c.args.projector (omega arith)
+    place_below c.args.self.now (sym c.is_legal.ensures ∙ c.if-not-is_legal.false) c.args.projector (omega arith)
 
 pub send-requires : goal.send-requires
 send-requires c =

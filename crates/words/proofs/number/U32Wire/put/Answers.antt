@@ -3,7 +3,7 @@ use Rattle.std.proofs.Common.{◌≡◌, ◌≤◌, ◌+◌, ◌++◌, ℕ, List
 use Rattle.std.proofs.Math.Seq.{take-append_seam}
 use Rattle.std.proofs.lemmas.List.Edits.{sets, sets-eq}
 use Rattle.std.proofs.lemmas.List.{length-append}
-use Rattle.numbers.proofs.Digits.{digits-at-most-10}
+use Rattle.numbers.proofs.Digits.{digits_at_most_10}
 use Rattle.words.proofs.number.U32Wire.put.Goals as goal
 
 module _ (all t m : List ℕ) (n : ℕ) (room : length t ≤ length all) (same : m ≡ sets all 0 t) (long : n ≡ 0 + length t)
@@ -24,21 +24,21 @@ module _ (all t m : List ℕ) (n : ℕ) (room : length t ≤ length all) (same :
         )
 
 pub put_number-n-requires : goal.put_number-n-requires
-put_number-n-requires c = omega (arith, digits-at-most-10 c.args.self)
+put_number-n-requires c = omega (arith, digits_at_most_10 c.args.self)
 
 pub slice_bounds-all-end : goal.slice_bounds-all-end
 slice_bounds-all-end c =
     let e = c.put_number-n.ensures in
-    inside _ _ _ _ (omega (arith, digits-at-most-10 c.args.self)) e.bytes e.count
+    inside _ _ _ _ (omega (arith, digits_at_most_10 c.args.self)) e.bytes e.count
 
 pub slice_bounds-put_all-end : goal.slice_bounds-put_all-end
 slice_bounds-put_all-end c =
     let e = c.put_number-n.ensures in
-    let f = front _ _ _ _ (omega (arith, digits-at-most-10 c.args.self)) e.bytes e.count in
+    let f = front _ _ _ _ (omega (arith, digits_at_most_10 c.args.self)) e.bytes e.count in
     omega (arith, e.count, ap length f)
 
 pub returns : goal.returns
 returns c =
     let e = c.put_number-n.ensures in
-    let f = front _ _ _ _ (omega (arith, digits-at-most-10 c.args.self)) e.bytes e.count in
+    let f = front _ _ _ _ (omega (arith, digits_at_most_10 c.args.self)) e.bytes e.count in
     c.put_all.ensures ∙ ap (λ t. c.args.out.now.items ++ t) f
