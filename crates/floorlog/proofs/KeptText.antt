@@ -4,8 +4,8 @@ use Rattle.std.proofs.lemmas.List.{drop-append-le}
 use Prim.Native.Char.{code}
 use Rattle.std.specs.declared.option.Option.{Option}
 use Rattle.textio.specs.NextLine.{IsLine}
-use Rattle.std.proofs.Common.{take_all, ℕ, ◌+◌, ◌-◌, ◌≤◌, ◌<◌, min, ◌≡◌, sym, ap, ◌∙◌, List, ◌++◌, ⊎_elim, add-one}
-use Rattle.std.proofs.Common.{arith, length, take, drop, set, drop_of_length-le, take-suc-set, length-take-le}
+use Rattle.std.proofs.Common.{take_all, ℕ, ◌+◌, ◌-◌, ◌≤◌, ◌<◌, min, ◌≡◌, refl, sym, ap, ◌∙◌, List, ◌++◌, ⊎_elim}
+use Rattle.std.proofs.Common.{add-one, arith, length, take, drop, set, drop_of_length-le, take-suc-set, length-take-le}
 use Rattle.std.proofs.Common.{take-take, codes}
 use Rattle.text.proofs.Orders.{le_or_lt}
 use Rattle.text.proofs.Parts.{drop-take}
