@@ -1,14 +1,14 @@
 -- what is written so far is a front of what is told of the log; in the end it is all
 use Rattle.std.proofs.Common.{arith, refl, take}
 use Rattle.textio.specs.Ahead.{left_in}
-use Rattle.textio.proofs.Underway.{each, so_far, flushed, came}
+use Rattle.textio.proofs.Underway.{each, flushed, came}
 use Rattle.floorlog.specs.Replaying.{kept_most}
 use Rattle.watch.specs.Marking.{floor_event}
 use Rattle.watch.specs.Watching.{watching_from}
 use Rattle.watch.specs.States.{state_of}
 use Rattle.burnt.specs.Told.{IsUntold}
 use Rattle.burnt.proofs.LinesTold.{none_told, line_told, line_untold, line_over, line_came, end_told, end_cut}
-use Rattle.burnt.proofs.LinesTold.{line_endless, lines_many}
+use Rattle.burnt.proofs.LinesTold.{lines_front, lines_front_kept, line_endless, lines_many}
 use Rattle.burnt.proofs.telling.tell_lines.Goals as goal
 
 pub loop-init : goal.loop-init
@@ -80,7 +80,10 @@ returns-in-Err-tell_end-clause-front g c =
 
 pub returns-in-Err-clause-front : goal.returns-in-Err-clause-front
 returns-in-Err-clause-front g c =
-    each _ _ _ (λ log u. so_far (flushed u _ c.read_line.ensures.keeps)) c.loop.invariant
+    lines_front_kept c.args.starts c.args.begun_report c.loop.report (watching_from c.args.begun)
+    (state_of c.loop.watch) (g.W.ByteSink.contents c.args.to.now) (g.W.ByteSink.contents c.loop.to)
+    (left_in g.R.ByteSource.remaining c.args.from.now) (left_in g.R.ByteSource.remaining c.loop.from) c.loop.counter
+    c.loop.invariant _ c.read_line.ensures.keeps
 
 pub returns-in-Err-clause-err : goal.returns-in-Err-clause-err
 returns-in-Err-clause-err g c =
@@ -92,7 +95,11 @@ returns-in-Err-clause-err g c =
     c.in-Err.ensures.err
 
 pub returns-clause-front : goal.returns-clause-front
-returns-clause-front g c = each _ _ _ (λ log u. so_far u) c.loop.invariant
+returns-clause-front g c =
+    lines_front c.args.starts c.args.begun_report c.loop.report (watching_from c.args.begun) (state_of c.loop.watch)
+    (g.W.ByteSink.contents c.args.to.now) (g.W.ByteSink.contents c.loop.to)
+    (left_in g.R.ByteSource.remaining c.args.from.now) (left_in g.R.ByteSource.remaining c.loop.from) c.loop.counter
+    c.loop.invariant
 
 pub returns-clause-err : goal.returns-clause-err
 returns-clause-err g c =
