@@ -1,7 +1,6 @@
 pub mod TakenAndRead
 pub mod WrittenReadBack
 pub mod GreetsBack
-pub mod CallsReadBack
 pub mod OutsidersReadErra
 pub mod LentMemory
 pub mod StaysInside

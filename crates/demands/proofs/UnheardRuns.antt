@@ -1,45 +1,21 @@
--- Two runs of the sample set-up with a password, for RULES, Places. Place 0 is opened by someone who does not know the
--- password, place 1 by someone who does, who powers on, and 20 seconds later off. Nothing is computed here.
+-- The two runs of specs/TwoRuns.antt: they differ in what is given to place 0 only, and what place 1 says is not heard
+-- there. Nothing is computed here.
 -- Assumes nothing.
-use Rattle.std.proofs.Common.{ℕ, ◌≡◌, Bool, true, false, ◌&&◌, List, [], ◌∷◌, ◌++◌, ◌==◌, codes}
+use Rattle.std.proofs.Common.{ℕ, ◌≡◌, Bool, true, false, ◌&&◌, List, ◌∷◌, ◌==◌}
 use Rattle.std.specs.Prelude.{if◌then◌else◌}
-use Rattle.digest.specs.Hex.{leading_digest}
 use Rattle.record.specs.declared.types.Device.{Device}
 use Rattle.device.specs.Receiving.{set_up_password}
 use Rattle.ours.specs.Board.{ours}
-use Rattle.demands.specs.Calls.{Call, opens, receives, passes, after}
+use Rattle.demands.specs.Calls.{opens, receives, passes, after}
 use Rattle.demands.specs.Outsider.{Session, unopened, goes_on, noted, is_matched, IsNeverMatched}
 use Rattle.demands.specs.Sample.{memory, with_cr}
-use Rattle.demands.specs.WrongDoors.{secured_sample}
+use Rattle.demands.specs.TwoRuns.{fresh_secured, led_on, calls_later, calls_given, asking, waiting}
 use Rattle.demands.specs.Unheard.{AllAlike, no_calls, one_more, same_call, other_bytes}
 
-abbrev pub fresh : Device
-fresh = (ours.set_up secured_sample).device
-
 abbrev pub password : List ℕ
-password = set_up_password fresh.settings
+password = set_up_password fresh_secured.settings
 
--- the digest that place 1 awaits, and power-on
-abbrev pub led_on : List ℕ
-led_on = leading_digest 8 (codes "JBMIAProjectorLink") ++ codes "%1POWR 1" ++ codes "\r"
-
-abbrev pub later : List Call
-later = passes 20 ∷ receives 1 (with_cr "%1POWR 0") memory ∷ []
-
-abbrev pub since : List ℕ → List Call
-since bs = receives 0 bs memory ∷ receives 1 led_on memory ∷ later
-
-abbrev pub calls : List ℕ → List Call
-calls bs = opens 7 memory ∷ opens 8 memory ∷ since bs
-
--- what is given to place 0
-abbrev pub asks : List ℕ
-asks = with_cr "%1POWR 1"
-
-abbrev pub waits : List ℕ
-waits = codes "hello"
-
-pub alike : AllAlike 0 (calls asks) (calls waits)
+pub alike : AllAlike 0 (calls_given asking) (calls_given waiting)
 alike =
     one_more same_call (one_more same_call (one_more other_bytes (one_more same_call (one_more same_call (one_more
     same_call no_calls)))))
@@ -56,7 +32,7 @@ is_matched-noted d s bs = by ((ours.receive d 1 bs memory).number == 0)
     by false h = h
 
 pub later_never : (d : Device) (s : Session) → is_matched password s ≡ false
-    → IsNeverMatched ours 0 password d s (receives 1 led_on memory ∷ later)
+    → IsNeverMatched ours 0 password d s (receives 1 led_on memory ∷ calls_later)
 later_never d s h =
     let next = after ours (after ours d (receives 1 led_on memory)) (passes 20) in
     let still = is_matched-noted d s led_on h in
@@ -65,7 +41,7 @@ later_never d s h =
 
 -- the records and the sessions of the first calls
 abbrev pub greeted_one : Device
-greeted_one = after ours fresh (opens 7 memory)
+greeted_one = after ours fresh_secured (opens 7 memory)
 
 abbrev pub greeted_two : Device
 greeted_two = after ours greeted_one (opens 8 memory)
@@ -74,7 +50,7 @@ abbrev pub spoken_to : List ℕ → Device
 spoken_to bs = after ours greeted_two (receives 0 bs memory)
 
 abbrev pub session_one : Session
-session_one = noted ours 0 fresh unopened (opens 7 memory)
+session_one = noted ours 0 fresh_secured unopened (opens 7 memory)
 
 abbrev pub session_two : Session
 session_two = noted ours 0 greeted_one session_one (opens 8 memory)

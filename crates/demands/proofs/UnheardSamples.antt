@@ -1,6 +1,6 @@
--- RULES, Places is not empty: the two runs of proofs/UnheardRuns.antt meet every premise of it. In the one he at place
--- 0 asks for power-on and has failed, in the other he sends five bytes and is still awaited; what place 1 did is the
--- same in both. And its premise about openings is needed.
+-- RULES, Places is not empty: the two runs of specs/TwoRuns.antt meet every premise of it, place 0 has failed in the
+-- one and is still awaited in the other, and what place 1 did is the same in both. And its premise about openings is
+-- needed.
 -- Assumes nothing.
 use Rattle.std.proofs.Common.{ℕ, ◌≡◌, refl, ap, ◌∙◌, true, false, List, [], ◌∷◌, arith, length, slice_index_or, codes}
 use Rattle.record.specs.Limits.{awaiting, failed, cooling}
@@ -21,8 +21,8 @@ use Rattle.demands.specs.Unheard.{phase_at, HeardAlike}
 use Rattle.demands.specs.Computing.{computing}
 use Rattle.demands.proofs.Unheard.{ours_unheard}
 use Rattle.demands.proofs.UnheardMoments.{nobody_opens}
-use Rattle.demands.proofs.UnheardRuns.{fresh, password, led_on, later, since, calls, asks, waits, alike}
-use Rattle.demands.proofs.UnheardRuns.{later_never, greeted_two, spoken_to}
+use Rattle.demands.specs.TwoRuns.{fresh_secured, led_on, calls_later, calls_since, calls_given, asking, waiting}
+use Rattle.demands.proofs.UnheardRuns.{password, alike, later_never, greeted_two, spoken_to}
 use Rattle.demands.proofs.Unled.{same_by-leading_digest}
 use Rattle.demands.proofs.UnheardRuns.{session_one, session_two, session_three}
 
@@ -36,39 +36,39 @@ unmatched_two : is_matched password session_two ≡ false
 unfolding computing
 unmatched_two = refl
 
-unmatched_asks : is_matched password (session_three asks) ≡ false
+pub unmatched_asks : is_matched password (session_three asking) ≡ false
 unfolding computing
 unmatched_asks = same_by-leading_digest 7 (codes "JBMIAProjectorLink") (codes "%1POWR 1") (omega arith)
 
-unmatched_waits : is_matched password (session_three waits) ≡ false
+pub unmatched_waits : is_matched password (session_three waiting) ≡ false
 unfolding computing
 unmatched_waits = refl
 
-never : (bs : List ℕ) → is_matched password (session_three bs) ≡ false
-    → IsNeverMatched ours 0 password fresh unopened (calls bs)
+pub never : (bs : List ℕ) → is_matched password (session_three bs) ≡ false
+    → IsNeverMatched ours 0 password fresh_secured unopened (calls_given bs)
 never bs unmatched =
     (unmatched_one, (unmatched_two, (unmatched, later_never (spoken_to bs) (session_three bs) unmatched)))
 
 -- ---- they differ after the last opening
 
-quiet : QuietOnceApart ours 0 fresh fresh (calls asks) (calls waits)
+pub quiet : QuietOnceApart ours 0 fresh_secured fresh_secured (calls_given asking) (calls_given waiting)
 unfolding computing
 quiet =
-    let none = nobody_opens ours 0 greeted_two greeted_two (since asks) (since waits) refl in
+    let none = nobody_opens ours 0 greeted_two greeted_two (calls_since asking) (calls_since waiting) refl in
     ((λ apart. absurd (apart refl)), ((λ apart. absurd (apart refl)), none))
 
-accepted : (ours.set_up secured_sample).number ≡ 0
+pub accepted : (ours.set_up secured_sample).number ≡ 0
 unfolding computing
 accepted = refl
 
-secured : has_password fresh.settings ≡ true
+pub secured : has_password fresh_secured.settings ≡ true
 unfolding computing
 secured = refl
 
-pub unheard : HeardAlike ours 0 fresh fresh (calls asks) (calls waits)
+pub unheard : HeardAlike ours 0 fresh_secured fresh_secured (calls_given asking) (calls_given waiting)
 unheard =
-    ours_unheard.outsider_unheard secured_sample 0 (calls asks) (calls waits) accepted secured alike
-    (never asks unmatched_asks) (never waits unmatched_waits) quiet
+    ours_unheard.outsider_unheard secured_sample 0 (calls_given asking) (calls_given waiting) accepted secured alike
+    (never asking unmatched_asks) (never waiting unmatched_waits) quiet
 
 -- ---- where they end
 
@@ -81,46 +81,47 @@ let_in bs =
 abbrev PowersOn : List ℕ → Type 0
 PowersOn bs = received (spoken_to bs) 1 led_on (length memory) ≡ let_in bs
 
-asks_powers_on : PowersOn asks
+asks_powers_on : PowersOn asking
 unfolding computing
 asks_powers_on =
-    led_line-received (spoken_to asks) 1 (omega arith) (length memory) refl (omega arith) refl refl (codes "%1POWR 1")
-    refl refl (omega arith)
+    led_line-received (spoken_to asking) 1 (omega arith) (length memory) refl (omega arith) refl refl
+    (codes "%1POWR 1") refl refl (omega arith)
 
-waits_powers_on : PowersOn waits
+waits_powers_on : PowersOn waiting
 unfolding computing
 waits_powers_on =
-    led_line-received (spoken_to waits) 1 (omega arith) (length memory) refl (omega arith) refl refl (codes "%1POWR 1")
-    refl refl (omega arith)
+    led_line-received (spoken_to waiting) 1 (omega arith) (length memory) refl (omega arith) refl refl
+    (codes "%1POWR 1") refl refl (omega arith)
 
-ends_as : (bs : List ℕ) → PowersOn bs → run ours fresh (calls bs) ≡ run ours (let_in bs).device later
+ends_as : (bs : List ℕ) → PowersOn bs
+    → run ours fresh_secured (calls_given bs) ≡ run ours (let_in bs).device calls_later
 unfolding run
-ends_as bs on = ap (λ (r : Result Device). run ours r.device later) on
+ends_as bs on = ap (λ (r : Result Device). run ours r.device calls_later) on
 
 -- what place 0 is: failed, or awaiting
-pub asks-failed : phase_at ours 0 (run ours fresh (calls asks)) ≡ failed
+pub asks_failed : phase_at ours 0 (run ours fresh_secured (calls_given asking)) ≡ failed
 unfolding computing
-asks-failed = ap (phase_at ours 0) (ends_as asks asks_powers_on)
+asks_failed = ap (phase_at ours 0) (ends_as asking asks_powers_on)
 
-pub waits_awaited : phase_at ours 0 (run ours fresh (calls waits)) ≡ awaiting
+pub waits_awaited : phase_at ours 0 (run ours fresh_secured (calls_given waiting)) ≡ awaiting
 unfolding computing
-waits_awaited = ap (phase_at ours 0) (ends_as waits waits_powers_on)
+waits_awaited = ap (phase_at ours 0) (ends_as waiting waits_powers_on)
 
 -- what place 1 was answered and did, which is the same in both runs: the lamp burnt for 20 seconds, and the projector
 -- cools down
-pub power_on_answered : reply (ours.receive (spoken_to asks) 1 led_on memory) ≡ with_cr "%1POWR=OK"
+pub power_on_answered : reply (ours.receive (spoken_to asking) 1 led_on memory) ≡ with_cr "%1POWR=OK"
 unfolding computing
 power_on_answered = ap (λ (r : Result Device). reply (lent_by r memory)) asks_powers_on
 
-pub asks_cools : (run ours fresh (calls asks)).own.power ≡ cooling
+pub asks_cools : (run ours fresh_secured (calls_given asking)).own.power ≡ cooling
 unfolding computing
-asks_cools = ap (λ (d : Device). d.own.power) (ends_as asks asks_powers_on)
+asks_cools = ap (λ (d : Device). d.own.power) (ends_as asking asks_powers_on)
 
-pub asks_burnt : slice_index_or (run ours fresh (calls asks)).own.lamps 0 0 ≡ 20
+pub asks_burnt : slice_index_or (run ours fresh_secured (calls_given asking)).own.lamps 0 0 ≡ 20
 unfolding computing
-asks_burnt = ap (λ (d : Device). slice_index_or d.own.lamps 0 0) (ends_as asks asks_powers_on)
+asks_burnt = ap (λ (d : Device). slice_index_or d.own.lamps 0 0) (ends_as asking asks_powers_on)
 
-pub waits_cools : (run ours fresh (calls waits)).own.power ≡ cooling
+pub waits_cools : (run ours fresh_secured (calls_given waiting)).own.power ≡ cooling
 waits_cools = ap (λ (o : Own). o.power) unheard.left.device.own ∙ asks_cools
 
 -- ---- openings: "as closing frees a place"
@@ -134,13 +135,13 @@ parted : AllAlike 0 (parting (with_cr "x")) (parting (codes "x"))
 parted =
     one_more same_call (one_more same_call (one_more other_bytes (one_more same_call (one_more same_call no_calls))))
 
-never_failed : IsNeverMatched ours 0 (set_up_password fresh.settings) fresh unopened (parting (with_cr "x"))
+never_failed : IsNeverMatched ours 0 password fresh_secured unopened (parting (with_cr "x"))
 unfolding computing
 never_failed =
     let unled = same_by-leading_digest 7 (codes "JBMIAProjectorLink") (codes "x") (omega arith) in
     (refl, (refl, (unled, (unled, (unled, tt)))))
 
-never_awaited : IsNeverMatched ours 0 (set_up_password fresh.settings) fresh unopened (parting (codes "x"))
+never_awaited : IsNeverMatched ours 0 password fresh_secured unopened (parting (codes "x"))
 unfolding computing
 never_awaited = (refl, (refl, (refl, (refl, (refl, tt)))))
 

@@ -14,10 +14,10 @@ use Rattle.record.specs.declared.types.Device.{Device}
 use Rattle.controller.specs.Writing.{command_room}
 use Rattle.controller.specs.Reading.{ReadAs, LineSays, reading_outcome_number}
 use Rattle.demands.specs.Demand2.{Demand2, BetweenLines}
-use Rattle.demands.specs.Sample.{class_2_sample, memory, with_cr}
+use Rattle.demands.specs.Sample.{class_2_sample, memory, with_cr, opened_after}
 use Rattle.demands.specs.WrongClasses.{answers_class_2, refuses_letters, volume_wraps}
 use Rattle.demands.specs.Computing.{computing}
-use Rattle.demands.proofs.Samples.{opened_sample, opened_after, ready}
+use Rattle.demands.proofs.Samples.{opened_sample, ready}
 
 -- the reply's length: a set-up of Class 1 replies nothing to `%2SNUM ?`
 pub answers_class_2_falls : Demand2 answers_class_2 → ⊥

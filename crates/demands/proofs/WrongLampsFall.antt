@@ -1,17 +1,12 @@
 -- Demand 3: the boards of specs/WrongLamps.antt fall to what the demand says of the second of two lamps, whose mark was
 -- cleared before the lamps burnt for 100 seconds: the seconds stored and those burnt differ.
 -- Assumes nothing.
-use Rattle.std.proofs.Common.{ℕ, ◌≡◌, refl, false, List, [], ◌∷◌, arith, slice_index_or}
+use Rattle.std.proofs.Common.{ℕ, ◌≡◌, refl, arith, slice_index_or}
 use Rattle.ours.specs.Board.{Board, ours}
-use Rattle.demands.specs.Calls.{Call, opens, passes, enables}
 use Rattle.demands.specs.History.{burning, lamp_with}
 use Rattle.demands.specs.Demand3.{Demand3, sets_up, all_enabled, IsAccepted, run_of, history_of}
-use Rattle.demands.specs.Sample.{memory, says}
-use Rattle.demands.specs.WrongLamps.{two_lamps, burns_all_lamps, counts_disabled, forgets_marks}
+use Rattle.demands.specs.WrongLamps.{two_lamps, one_rests, burns_all_lamps, counts_disabled, forgets_marks}
 use Rattle.demands.specs.Computing.{computing}
-
-abbrev one_rests : List Call
-one_rests = opens 0 memory ∷ enables 1 false ∷ says "%1POWR 1" ∷ passes 100 ∷ []
 
 module _ (B : Board) (h : Demand3 B) (accepted : IsAccepted B sets_up two_lamps) where
   -- what the demand says of the second lamp
@@ -33,8 +28,7 @@ unfolding computing
 forgets_marks_falls h = let e : ◌≡◌ {A = ℕ} 100 0 = told forgets_marks h refl in absurd (omega arith)
 
 -- ours: the first burns, the second rests
-pub ours_rests : slice_index_or (run_of ours sets_up two_lamps one_rests).own.lamps 0 0 ∷ slice_index_or
-    (run_of ours sets_up two_lamps one_rests).own.lamps 1 0 ∷ []
-    ≡ 100 ∷ 0 ∷ []
+pub ours_rests : (slice_index_or (run_of ours sets_up two_lamps one_rests).own.lamps 0 0 ≡ 100)
+    × (slice_index_or (run_of ours sets_up two_lamps one_rests).own.lamps 1 0 ≡ 0)
 unfolding computing
-ours_rests = refl
+ours_rests = (refl, refl)

@@ -1,11 +1,11 @@
 -- The boards of specs/WrongPlaces.antt fall: one to what demand 3 says of two places that speak in turn, the other to
 -- what is promised of two lines that are interleaved.
 -- Assumes nothing.
-use Rattle.std.proofs.Common.{ℕ, ◌≡◌, refl, ap, List, [], ◌∷◌, arith, length, codes}
-use Rattle.ours.specs.Board.{Board, ours}
-use Rattle.demands.specs.Calls.{Call, opens, receives, passes, run}
+use Rattle.std.proofs.Common.{ℕ, ◌≡◌, refl, ap, List, [], ◌∷◌, arith, length}
+use Rattle.ours.specs.Board.{ours}
+use Rattle.demands.specs.Calls.{Call, opens, receives, passes}
 use Rattle.demands.specs.Demand3.{Demand3, sets_up}
-use Rattle.demands.specs.Sample.{sample, memory, with_cr}
+use Rattle.demands.specs.Sample.{sample, memory, with_cr, two_opened, halves}
 use Rattle.demands.specs.Interleaved.{Interleaved, heard, alone_at}
 use Rattle.demands.specs.WrongPlaces.{forgets_others_power, one_line_for_all}
 use Rattle.demands.specs.Computing.{computing}
@@ -23,16 +23,6 @@ unfolding computing
 forgets_others_power_falls h =
     let e : ◌≡◌ {A = ℕ} 30 130 = h.lamps_tell_the_history sets_up sample in_turn 0 refl (omega arith) in
     absurd (omega arith)
-
--- a power set at place 0 and a power query at place 1, each in two halves
-abbrev halves : List Call
-halves =
-    receives 0 (codes "%1PO") memory ∷ receives 1 (codes "%1PO") memory
-    ∷ receives 0 (with_cr "WR 1") memory ∷ receives 1 (with_cr "WR ?") memory ∷ []
-
-module _ (B : Board) where
-  abbrev two_opened : B.Record
-  two_opened = run B (B.set_up sample).device (opens 0 memory ∷ opens 0 memory ∷ [])
 
 -- the length of what is replied at place 1, and of what that place alone gets: `%1POWR=0` and CR
 pub one_line_for_all_falls : Interleaved one_line_for_all → ⊥

@@ -18,6 +18,7 @@ pub mod WrongLines
 pub mod WrongClasses
 pub mod WrongDoors
 pub mod WrongOutsiders
+pub mod TwoRuns
 pub mod WrongClocks
 pub mod WrongPlaces
 pub mod WrongLamps

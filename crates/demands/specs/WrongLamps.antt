@@ -1,17 +1,23 @@
 -- Wrong boards against demand 3 with marks (RULES, Lamps); proofs/WrongLampsFall.antt has where each falls.
 --   two_lamps     the sample set-up with two lamps
+--   one_rests     the second lamp's mark is cleared before the lamps burn for 100 seconds
 -- Assumes nothing.
-use Rattle.std.specs.Prelude.{Bool, true, ◌&&◌, List, [], ◌∷◌, set, if◌then◌else◌, ◌==◌, codes}
+use Rattle.std.specs.Prelude.{Bool, true, false, ◌&&◌, List, [], ◌∷◌, set, if◌then◌else◌, ◌==◌, codes}
 use Rattle.record.specs.Limits.{off, warming}
 use Rattle.record.specs.Wanted.{Wanted, wanted_of}
 use Rattle.record.specs.Record.{all_marks}
 use Rattle.record.specs.Updates.{with_own, with_marks}
 use Rattle.record.specs.declared.types.Device.{Device}
 use Rattle.ours.specs.Board.{Board, ours}
+use Rattle.demands.specs.Calls.{Call, opens, passes, enables}
+use Rattle.demands.specs.Sample.{memory, says}
 use Rattle.demands.specs.OursBut.{but_receive, but_pass}
 
 abbrev pub two_lamps : Wanted
 two_lamps = wanted_of [] [] [] [] [] (codes "11") (0 ∷ 0 ∷ []) 20 60
+
+abbrev pub one_rests : List Call
+one_rests = opens 0 memory ∷ enables 1 false ∷ says "%1POWR 1" ∷ passes 100 ∷ []
 
 abbrev having_marks : Device → List Bool → Device
 having_marks d ms = with_own d (with_marks d.own ms)

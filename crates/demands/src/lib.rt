@@ -2,6 +2,7 @@
 //! link.
 #![tactic(auto)]
 
+pub mod theorems;
 pub mod wrong_boards;
 
 ghost use Rattle.ours.specs.Board.{ours};

@@ -1,0 +1,72 @@
+// What is proved beside the demands, and what our board does on the samples that they are tried on. Nothing is done
+// here: that these functions have their contracts is that the theorems stand.
+ghost use Rattle.std.specs.Prelude.{◌≡◌, ◌<◌, ◌≤◌, true, false, ℕ, List, length, slice_index_or, codes};
+ghost use Rattle.pjlink.specs.declared.command.Command.{Command};
+ghost use Rattle.record.specs.Limits.{places_count, awaiting, failed, cooling};
+ghost use Rattle.record.specs.Legal.{is_legal, held_most};
+ghost use Rattle.record.specs.Places.{connection_at};
+ghost use Rattle.record.specs.declared.types.Device.{Device};
+ghost use Rattle.stream.specs.Collecting.{gathered};
+ghost use Rattle.device.specs.Receiving.{is_match, set_up_password};
+ghost use Rattle.device.specs.Calls.{reply_room, longest_reply, has_password, received};
+ghost use Rattle.controller.specs.Reading.{read_reply, without, erra_said};
+ghost use Rattle.ours.specs.Board.{ours, reply};
+ghost use Rattle.demands.specs.Calls.{run, after, opens, receives};
+ghost use Rattle.demands.specs.ClassOne.{longest_before};
+ghost use Rattle.demands.specs.Demand3.{sets_up, run_of};
+ghost use Rattle.demands.specs.Interleaved.{heard};
+ghost use Rattle.demands.specs.Outsider.{unopened, IsNeverMatched};
+ghost use Rattle.demands.specs.Sample.{sockets, long_named, memory, with_cr, opened_after, two_opened, halves};
+ghost use Rattle.demands.specs.TwoRuns.{fresh_secured, led_on, calls_given, asking, waiting};
+ghost use Rattle.demands.specs.Unheard.{AllAlike, QuietOnceApart, phase_at};
+ghost use Rattle.demands.specs.WrongDoors.{secured_sample};
+ghost use Rattle.demands.specs.WrongLamps.{two_lamps, one_rests};
+
+/// A controller whose first line ends without the matching digest reads the ERRA line, whatever it asked, and whatever
+/// part of that line came before (RULES, Connection and Controller).
+pub fn outsiders_read_erra()
+    ensures { (d : Device) (p : ℕ) (bytes : List ℕ) (room : ℕ) (c : Command) → is_legal d ≡ true → reply_room ≤ room
+        → p < places_count → let k = connection_at d p in k.phase ≡ awaiting
+        → let g = gathered (held_most k.phase) k.line bytes in g.ended ≡ true → is_match d.settings k g.line ≡ false
+        → read_reply c (received d p bytes room).reply ≡ without erra_said }
+{}
+
+/// The bounds on a reply's length are reached: in Class 1 by 32 inputs, in Class 2 by the longest name of an input
+/// (RULES, Commands).
+pub fn the_longest_replies_are_reached()
+    ensures class_1 { (ours.receive (opened_after sockets) 0 (codes "%1INST ?\r") memory).length ≡ longest_before }
+    ensures class_2 { (ours.receive (opened_after long_named) 0 (codes "%2INNM ?11\r") memory).length ≡ longest_reply }
+{}
+
+/// Two lines at two places, each in halves by turns, are both answered, and what place 1 asks for is what place 0 did:
+/// warm-up (RULES, Places).
+pub fn halves_by_turns_are_answered()
+    ensures power_set { (heard ours 0 (two_opened ours) halves).replied ≡ with_cr "%1POWR=OK" }
+    ensures power_told { (heard ours 1 (two_opened ours) halves).replied ≡ with_cr "%1POWR=3" }
+{}
+
+/// Of two lamps that burn for 100 seconds, the one whose mark was cleared before rests (RULES, Lamps).
+pub fn a_disabled_lamp_rests()
+    ensures burns { slice_index_or (run_of ours sets_up two_lamps one_rests).own.lamps 0 0 ≡ 100 }
+    ensures rests { slice_index_or (run_of ours sets_up two_lamps one_rests).own.lamps 1 0 ≡ 0 }
+{}
+
+/// That an outsider is unheard is said of some runs (RULES, Places): these two meet each premise, place 0 has failed in
+/// the one and is still awaited in the other, and in both the lamp burnt for the 20 seconds between what place 1 said.
+pub fn an_outsider_can_be_unheard()
+    ensures accepted { (ours.set_up secured_sample).number ≡ 0 }
+    ensures secured { has_password fresh_secured.settings ≡ true }
+    ensures alike { AllAlike 0 (calls_given asking) (calls_given waiting) }
+    ensures one_unmatched { IsNeverMatched ours 0 (set_up_password fresh_secured.settings) fresh_secured unopened
+        (calls_given asking) }
+    ensures other_unmatched { IsNeverMatched ours 0 (set_up_password fresh_secured.settings) fresh_secured unopened
+        (calls_given waiting) }
+    ensures quiet { QuietOnceApart ours 0 fresh_secured fresh_secured (calls_given asking) (calls_given waiting) }
+    ensures failed_in_one { phase_at ours 0 (run ours fresh_secured (calls_given asking)) ≡ failed }
+    ensures awaited_in_other { phase_at ours 0 (run ours fresh_secured (calls_given waiting)) ≡ awaiting }
+    ensures power_on_answered { let d = after ours (after ours fresh_secured (opens 7 memory)) (opens 8 memory) in
+        reply (ours.receive (after ours d (receives 0 asking memory)) 1 led_on memory) ≡ with_cr "%1POWR=OK" }
+    ensures one_burnt { slice_index_or (run ours fresh_secured (calls_given asking)).own.lamps 0 0 ≡ 20 }
+    ensures one_cools { (run ours fresh_secured (calls_given asking)).own.power ≡ cooling }
+    ensures other_cools { (run ours fresh_secured (calls_given waiting)).own.power ≡ cooling }
+{}
