@@ -2,9 +2,23 @@
 //! link.
 #![tactic(auto)]
 
+ghost use Rattle.std.specs.Prelude.{Bool, List, ℕ};
+ghost use Rattle.record.specs.Wanted.{Wanted};
+ghost use Rattle.demands.specs.History.{Event};
 ghost use Rattle.stretches.specs.LogTold.{LogsWatched};
+ghost use Rattle.stretches.specs.Stretches.{StretchesTell, seconds_lit, stretches_of};
 
-// Nothing is done: that it has this contract is that every log is watched so.
+// Nothing is done: that these functions have their contracts is that every log is watched so, and every history told.
+
+/// What is told of a log, from any set-up or load that is accepted, is what demand 3's history of it says (RULES, Floor
+/// log).
 pub fn watched_logs_tell_stretches()
     ensures { LogsWatched }
+{}
+
+/// Over any history, that of no log too, and any marks that it begins with: the stretches of the lamp at place k are
+/// exactly its seconds, in order and apart, and add up to what it burnt.
+pub fn any_history_tells_its_stretches()
+    ensures { (w : Wanted) (marks : List Bool) (k : ℕ) (es : List Event)
+        → StretchesTell w marks k es (stretches_of (seconds_lit w marks k es)) }
 {}
