@@ -10,7 +10,7 @@ use Rattle.pjlink.specs.declared.command.Command.{Command}
 use Rattle.pjlink.specs.Said.{Said, okay, refused, power_is, chosen_is, mutes_are, errors_are, lamps_are, inputs_are}
 use Rattle.pjlink.specs.Said.{text_is, class_is, freeze_is, nothing}
 use Rattle.pjlink.specs.Reading.{read_parameter}
-use Rattle.controller.specs.Writing.{WrittenAs, nothing_written, command_room, is_writable}
+use Rattle.controller.specs.Writing.{WrittenAs, nothing_written, command_room}
 use Rattle.controller.specs.Reading.{reading_outcome_number, saying, read_reply}
 use Rattle.controller.specs.Reading.{Outcome}
 use Rattle.controller.specs.Reading.{means_it, erra_said, not_a_line, other_command, disallowed}
@@ -20,8 +20,9 @@ use Rattle.codes.specs.Commands.{coded_command}
 use Rattle.codes.specs.Readings.{meaningless, flat_as, flat}
 use Rattle.codes.specs.ByCode.{none_written, written_by, read_by}
 use Rattle.codes.specs.declared.command.Coded.{Coded}
+use Rattle.board.specs.Writable.{is_writable_by}
 
-pub none_bytes : (room : ℕ) → (none_written room).bytes ≡ []
+none_bytes : (room : ℕ) → (none_written room).bytes ≡ []
 none_bytes room = if_all (λ (w : WrittenAs). w.bytes ≡ []) (nat_lt room command_room) refl refl
 
 none_number : (room : ℕ) → (none_written room).number ≡ (if nat_lt room command_room then 2 else 3)
@@ -30,10 +31,6 @@ none_number room = by (nat_lt room command_room)
     by : (t : Bool) → (if t then nothing_written 2 else nothing_written 3).number ≡ (if t then 2 else 3)
     by true = refl
     by false = refl
-
-abbrev pub is_writable_by : Option Command → Bool → List ℕ → Bool
-is_writable_by (Some c) secured password = is_writable c secured password
-is_writable_by None secured password = false
 
 module _ (secured : Bool) (random : ℕ) (password : List ℕ) (room : ℕ) where
   pub write_number : (m : Option Command) → (written_by m secured random password room).number

@@ -4,3 +4,4 @@ pub mod Days
 pub mod Lamps
 pub mod Which
 pub mod Results
+pub mod Writable

@@ -1,11 +1,14 @@
 // What is proved beside the contracts of the functions. Nothing is done here: that these functions have their contracts
 // is that the theorems stand.
-ghost use Rattle.std.specs.Prelude.{◌≡◌, ℕ, ℤ, List, length, Bool, Option, Result};
+ghost use Rattle.std.specs.Prelude.{[], ◌≡◌, ◌≢◌, ◌≤◌, ℕ, ℤ, List, length, Bool, not, if◌then◌else◌, nat_lt};
+ghost use Rattle.std.specs.Prelude.{Option, Some, None, Result};
+ghost use Rattle.pjlink.specs.declared.command.Command.{Command};
 ghost use Rattle.codes.specs.declared.command.Coded.{Coded};
 ghost use Rattle.codes.specs.Commands.{coded_command};
-ghost use Rattle.controller.specs.Writing.{told_written};
+ghost use Rattle.controller.specs.Writing.{nothing_written, command_room, told_written};
+ghost use Rattle.controller.specs.Reading.{reading_outcome_number, read_reply};
 ghost use Rattle.codes.specs.ByCode.{written_by, read_by};
-ghost use Rattle.codes.specs.Readings.{flat_greeting};
+ghost use Rattle.codes.specs.Readings.{flat_greeting, meaningless};
 ghost use Rattle.controller.specs.Greetings.{read_greeting};
 ghost use Rattle.day.specs.declared.check.CheckError.{CheckError};
 ghost use Rattle.day.specs.declared.plan.PlanError.{PlanError};
@@ -20,6 +23,7 @@ ghost use Rattle.panel.specs.PanelCalls.{panel_made, no_panel, added_to, command
 ghost use Rattle.panel.specs.declared.types.Panel.{Panel};
 ghost use Rattle.record.specs.declared.types.Setting.{Setting};
 ghost use Rattle.board.specs.Which.{setting_number};
+ghost use Rattle.board.specs.Writable.{is_writable_by};
 ghost use Rattle.controller.specs.declared.writing.Written.{Written};
 ghost use Rattle.text.specs.Words.{over};
 ghost use Rattle.codes.specs.declared.readings.FlatReading.{FlatReading};
@@ -27,14 +31,50 @@ ghost use Rattle.codes.specs.declared.readings.FlatGreeting.{FlatGreeting};
 ghost use Rattle.board.specs.declared.days.FlatVerdict.{FlatVerdict};
 ghost use Rattle.board.specs.declared.days.FlatPlan.{FlatPlan};
 ghost use Rattle.record.specs.Wanted.{Wanted};
-ghost use Rattle.record.specs.SetUp.{set_up};
+ghost use Rattle.record.specs.OutOfRange.{setting_place};
+ghost use Rattle.record.specs.SetUp.{first_out_of_range, set_up};
 ghost use Rattle.record.specs.SetUpErrors.{setting_told};
+ghost use Rattle.record.specs.Given.{set_up_given};
+ghost use Rattle.record.specs.declared.types.Setting.TheVariants.{Password};
 
 /// No two verdicts, no two answers of the planner and no two settings have the same numbers.
 pub fn numbers_tell_apart()
     ensures verdicts { (v w : Result (Unit {0}) CheckError) → flat_verdict v ≡ flat_verdict w → v ≡ w }
     ensures plans { (p q : Result (Unit {0}) PlanError) → flat_plan p ≡ flat_plan q → p ≡ q }
     ensures settings { (m n : Option Setting) → setting_number m ≡ setting_number n → m ≡ n }
+{}
+
+/// The numbers of the writer and of the reader of a command by its code are the first row of the table that applies
+/// (RULES, The numbers a call gives). What is no command is 3; where the number is not 0, nothing is written or meant.
+pub fn a_refusal_has_its_number_only()
+    ensures write_number { (m : Option Command) (secured : Bool) (random : ℕ) (password : List ℕ) (room : ℕ)
+        → (written_by m secured random password room).number
+        ≡ (if nat_lt room command_room then 2 else if not (is_writable_by m secured password) then 3 else 0) }
+    ensures nothing_written { (m : Option Command) (secured : Bool) (random : ℕ) (password : List ℕ) (room : ℕ)
+        → (written_by m secured random password room).number ≢ 0
+        → (written_by m secured random password room).bytes ≡ [] }
+    ensures no_command_written { (k : Coded) (secured : Bool) (random : ℕ) (password : List ℕ) (room : ℕ)
+        → coded_command k ≡ None → command_room ≤ room
+        → written_by (coded_command k) secured random password room ≡ nothing_written 3 }
+    ensures read_number { (c : Command) (l : List ℕ)
+        → (read_by (Some c) l).number ≡ reading_outcome_number (read_reply c l).outcome }
+    ensures nothing_meant { (m : Option Command) (l : List ℕ)
+        → (read_by m l).number ≢ 0 → read_by m l ≡ meaningless (read_by m l).number }
+    ensures no_command_read { (k : Coded) (l : List ℕ)
+        → coded_command k ≡ None → read_by (coded_command k) l ≡ meaningless 3 }
+{}
+
+/// Of a set-up: the setting told is 0 exactly where set-up gives 0; where it gives 3 it is the first that is out of its
+/// range, and where it gives 8 the password.
+pub fn the_setting_told_goes_with_the_number()
+    ensures accepted_where_0 { (w : Wanted)
+        → setting_number (setting_told (set_up w)) ≡ 0 → (set_up_given (set_up w)).number ≡ 0 }
+    ensures is_0_where_accepted { (w : Wanted)
+        → (set_up_given (set_up w)).number ≡ 0 → setting_number (setting_told (set_up w)) ≡ 0 }
+    ensures first_out { (w : Wanted) → (set_up_given (set_up w)).number ≡ 3
+        → setting_number (setting_told (set_up w)) ≡ setting_number (first_out_of_range w) }
+    ensures short_password { (w : Wanted) → (set_up_given (set_up w)).number ≡ 8
+        → setting_number (setting_told (set_up w)) ≡ setting_place Password }
 {}
 
 /// Two results that meet the promise of a call are equal, lent memory included.

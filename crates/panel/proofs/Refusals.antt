@@ -10,9 +10,8 @@ use Rattle.panel.specs.PanelCalls.{commanded, stepped_at, lost_at}
 use Rattle.panel.specs.declared.types.Panel.{Panel}
 use Rattle.panel.proofs.Cases.{added_by, commanded_by, stepped_by, lost_by}
 
-pub record KeptBy (p : Panel) (r : PanelAs) : Type 0 where
-  pub panel : r.panel ≡ p
-  pub line : r.line ≡ []
+abbrev KeptBy : Panel → PanelAs → Type 0
+KeptBy p r = (r.panel ≡ p) × (r.line ≡ [])
 
 abbrev KeptUnless0 : Panel → PanelAs → Type 0
 KeptUnless0 p r = (r.number ≡ 0 → ⊥) → KeptBy p r
@@ -23,21 +22,21 @@ number r = r.number
 module _ (p : Panel) where
   pub adding_refused : (s : List ℕ) → ((added_to p s).number ≡ 0 → ⊥) → KeptBy p (added_to p s)
   adding_refused s =
-      added_by p s (KeptUnless0 p) (λ n z e. record { panel = refl; line = refl }) (λ h w f n. absurd (n refl))
+      added_by p s (KeptUnless0 p) (λ n z e. (refl, refl)) (λ h w f n. absurd (n refl))
 
   pub commanding_refused : (i : ℕ) (k : Coded) (room : ℕ) → ((commanded p i k room).number ≡ 0 → ⊥)
       → KeptBy p (commanded p i k room)
   commanding_refused i k room =
-      commanded_by p i k room (KeptUnless0 p) (λ n z e. record { panel = refl; line = refl })
+      commanded_by p i k room (KeptUnless0 p) (λ n z e. (refl, refl))
       (λ served n. absurd (n refl))
 
   pub stepping_refused : (i : ℕ) (l : List ℕ) → ((stepped_at p i l).number ≡ 0 → ⊥) → KeptBy p (stepped_at p i l)
   stepping_refused i l =
-      stepped_by p i l (KeptUnless0 p) (λ n z e. record { panel = refl; line = refl }) (λ h t n. absurd (n refl))
+      stepped_by p i l (KeptUnless0 p) (λ n z e. (refl, refl)) (λ h t n. absurd (n refl))
 
   pub losing_refused : (i : ℕ) → ((lost_at p i).number ≡ 0 → ⊥) → KeptBy p (lost_at p i)
   losing_refused i =
-      lost_by p i (KeptUnless0 p) (λ n z e. record { panel = refl; line = refl }) (λ h t n. absurd (n refl))
+      lost_by p i (KeptUnless0 p) (λ n z e. (refl, refl)) (λ h t n. absurd (n refl))
 
   pub adding_number : (s : List ℕ) → (added_to p s).number ≡ first_of (adding_rows p s)
   unfolding added_to

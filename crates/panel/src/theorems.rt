@@ -1,14 +1,25 @@
 // What is proved beside the contracts of the functions. Nothing is done here: that these functions have their contracts
 // is that the theorems stand.
-ghost use Rattle.std.specs.Prelude.{◌≡◌, List, ℕ, true, not, length};
+ghost use Rattle.std.specs.Prelude.{[], ◌≡◌, ◌≢◌, ◌≤◌, ◌<◌, ◌++◌, List, ℕ, Some, true, false, not, length};
 ghost use Rattle.std.specs.List.{list_all};
+ghost use Rattle.text.specs.Rows.{first_of};
 ghost use Rattle.text.specs.Words.{over};
+ghost use Rattle.digest.specs.Hex.{leading_digest};
+ghost use Rattle.pjlink.specs.Commands.{command_line};
+ghost use Rattle.pjlink.specs.declared.command.Command.{Command};
+ghost use Rattle.pjlink.specs.Said.{Said, okay, refused};
+ghost use Rattle.controller.specs.Reading.{meaning, read_reply};
+ghost use Rattle.controller.specs.Writing.{command_room, written_command};
+ghost use Rattle.codes.specs.Commands.{coded_command};
 ghost use Rattle.codes.specs.declared.command.Coded.{Coded};
-ghost use Rattle.panel.specs.Entries.{greeted_by, greeted_secured, greeted_open};
-ghost use Rattle.panel.specs.Stepping.{heard_line, with_talk};
-ghost use Rattle.panel.specs.LegalPanels.{is_entry};
-ghost use Rattle.panel.specs.StepTable.{StepTo};
+ghost use Rattle.panel.specs.Entries.{Shown, talk_of, shown_of, password_in, leads_next, nothing_shown};
+ghost use Rattle.panel.specs.Entries.{greeted_by, greeted_secured, greeted_open, fresh_entry, blank_entry};
+ghost use Rattle.panel.specs.Showing.{showing};
+ghost use Rattle.panel.specs.Stepping.{heard_line, with_talk, answered_entry, lost_entry, sent_entry, command_sent};
+ghost use Rattle.panel.specs.LegalPanels.{is_entry, is_panel};
+ghost use Rattle.panel.specs.StepTable.{IsUnderWay, IsStray, StepTo};
 ghost use Rattle.panel.specs.Talks.{Happens, is_first_led, led_in_talk};
+ghost use Rattle.panel.specs.PanelCalls.{no_panel, entry_at, adding_rows, commanding_rows, projector_rows};
 ghost use Rattle.panel.specs.PanelCalls.{added_to, commanded, stepped_at, lost_at};
 ghost use Rattle.panel.specs.declared.types.Entry.{Entry};
 ghost use Rattle.panel.specs.declared.types.Panel.{Panel};
@@ -27,6 +38,60 @@ pub fn the_digest_leads_the_first()
         → is_first_led (led_in_talk (with_talk e (greeted_by greeted_secured random)) xs) ≡ true }
     ensures unsecured { (e : Entry) (xs : List Happens)
         → list_all not (led_in_talk (with_talk e (greeted_by greeted_open 0)) xs) ≡ true }
+{}
+
+/// What is sent is what the controller's writer gives: the digest and the command's line where it leads, else the line.
+pub fn the_line_is_the_writers()
+    ensures by_the_writer { (e : Entry) (c : Command) (room : ℕ) → command_sent e c room
+        ≡ (written_command c (leads_next (talk_of e)) e.random (password_in e) room).bytes }
+    ensures led { (e : Entry) (k : Coded) (c : Command) (room : ℕ)
+        → is_entry e ≡ true → coded_command k ≡ Some c → command_room ≤ room → leads_next (talk_of e) ≡ true
+        → command_sent e c room ≡ leading_digest e.random (password_in e) ++ command_line c }
+    ensures plain { (e : Entry) (k : Coded) (c : Command) (room : ℕ)
+        → is_entry e ≡ true → coded_command k ≡ Some c → command_room ≤ room → leads_next (talk_of e) ≡ false
+        → command_sent e c room ≡ command_line c }
+{}
+
+/// What is shown changes by an accepted reply that tells a reading, and by ERRA: by no stray, no OK, no error, no
+/// command and no loss. At first nothing is known.
+pub fn only_a_reading_is_shown()
+    ensures stray_keeps { (e : Entry) (l : List ℕ) → IsStray e l
+        → (talk_of (heard_line e l) ≡ talk_of e) × (shown_of (heard_line e l) ≡ shown_of e) }
+    ensures reply_shows { (e : Entry) (l : List ℕ) (c : Command) (m : Said)
+        → IsUnderWay e c → read_reply c l ≡ meaning m → heard_line e l ≡ answered_entry e m }
+    ensures okay_keeps { (s : Shown) → showing s okay ≡ s }
+    ensures error_keeps { (s : Shown) (n : ℕ) → showing s (refused n) ≡ s }
+    ensures loss_keeps { (e : Entry) → shown_of (lost_entry e) ≡ shown_of e }
+    ensures sending_keeps { (e : Entry) (k : Coded) → shown_of (sent_entry e k) ≡ shown_of e }
+    ensures unknown_at_first { (s : List ℕ) → shown_of (fresh_entry s) ≡ nothing_shown }
+{}
+
+/// A refused call keeps the panel and sends nothing; the number of a call is the first row of its table that applies
+/// (RULES, The numbers a call gives).
+pub fn a_refusal_keeps_the_panel()
+    ensures adding { (p : Panel) (s : List ℕ) → let a = added_to p s in
+        a.number ≢ 0 → (a.panel ≡ p) × (a.line ≡ []) }
+    ensures sending { (p : Panel) (i : ℕ) (k : Coded) (room : ℕ) → let c = commanded p i k room in
+        c.number ≢ 0 → (c.panel ≡ p) × (c.line ≡ []) }
+    ensures hearing { (p : Panel) (i : ℕ) (l : List ℕ) → let h = stepped_at p i l in
+        h.number ≢ 0 → (h.panel ≡ p) × (h.line ≡ []) }
+    ensures losing { (p : Panel) (i : ℕ) → let l = lost_at p i in
+        l.number ≢ 0 → (l.panel ≡ p) × (l.line ≡ []) }
+    ensures adding_number { (p : Panel) (s : List ℕ) → (added_to p s).number ≡ first_of (adding_rows p s) }
+    ensures sending_number { (p : Panel) (i : ℕ) (k : Coded) (room : ℕ)
+        → (commanded p i k room).number ≡ first_of (commanding_rows p i k room) }
+    ensures hearing_number { (p : Panel) (i : ℕ) (l : List ℕ)
+        → (stepped_at p i l).number ≡ first_of (projector_rows p i) }
+    ensures losing_number { (p : Panel) (i : ℕ) → (lost_at p i).number ≡ first_of (projector_rows p i) }
+{}
+
+/// The panel of no projector is legal; past its count a legal panel is blank; a projector more leaves the others.
+pub fn a_panel_grows_by_one()
+    ensures none_legal { is_panel no_panel ≡ true }
+    ensures blank_past { (p : Panel) (i : ℕ) → is_panel p ≡ true → p.count ≤ i → i < length p.entries
+        → entry_at p i ≡ blank_entry }
+    ensures others_stay { (p : Panel) (s : List ℕ) (j : ℕ) → j ≢ p.count
+        → entry_at (added_to p s).panel j ≡ entry_at p j }
 {}
 
 /// Two results that meet the promise of a call are equal: what it says, the panel and the lent memory.
