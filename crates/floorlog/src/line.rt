@@ -1,4 +1,5 @@
 // What a line of a log says (RULES, Floor log).
+ghost use Rattle.std.specs.List.{list_all};
 ghost use Rattle.std.specs.Prelude.{◌≡◌};
 ghost use Rattle.digest.specs.Hex.{is_hex_digit};
 ghost use Rattle.floorlog.specs.Lines.{random_said, seconds_said, form_said, line_said};
@@ -29,39 +30,35 @@ fn is_hex_digit(b: u8) -> bool
     ((b'0' <= b) & (b <= b'9')) | ((b'a' <= b) & (b <= b'f'))
 }
 
+fn are_hex_digits(s: &[u8]) -> bool
+    ensures { result ≡ list_all is_hex_digit s.now }
+{
+    s.iter().all(|b| is_hex_digit(*b))
+}
+
 // Eight lowercase hexadecimal digits.
+#[tactic(auto, unfolding(crate::specs::Lines::random_said))]
 fn random_said(s: &[u8]) -> Says
     ensures { result ≡ random_said s.now }
 {
-    if s.len() != 8 {
-        return Says::NoSuch;
+    if s.len() == 8 && are_hex_digits(s) {
+        return Says::Opens(digest::hex_value(s));
     }
-    for b in s {
-        if !is_hex_digit(*b) {
-            return Says::NoSuch;
-        }
-    }
-    Says::Opens(digest::hex_value(s))
+    Says::NoSuch
 }
 
 // One to ten decimal digits, of a number that a u32 can hold.
+#[tactic(auto, unfolding(crate::specs::Lines::seconds_said))]
 fn seconds_said(s: &[u8]) -> Says
     ensures { result ≡ seconds_said s.now }
 {
-    if s.len() < 1 {
+    if s.len() < 1 || 10 < s.len() {
         return Says::NoSuch;
     }
-    if 10 < s.len() {
-        return Says::NoSuch;
+    match numbers::read_digits(s) {
+        Some(v) if v <= SECONDS_MOST => Says::Passes(v as u32),
+        _ => Says::NoSuch,
     }
-    let read = numbers::read_digits(s);
-    let Some(v) = read else {
-        return Says::NoSuch;
-    };
-    if SECONDS_MOST < v {
-        return Says::NoSuch;
-    }
-    Says::Passes(v as u32)
 }
 
 /// What the line l says, without its LF.
@@ -82,27 +79,11 @@ pub fn line_says(l: &[u8]) -> Says
 fn form_says(l: &[u8]) -> Says
     ensures { result ≡ form_said l.now }
 {
-    if l.len() < 1 {
-        return Says::NoSuch;
+    match l {
+        [b'X'] => Says::Closes,
+        [b'O', b' ', s @ ..] => random_said(s),
+        [b'R', b' ', ..] => Says::Receives,
+        [b'T', b' ', s @ ..] => seconds_said(s),
+        _ => Says::NoSuch,
     }
-    let first = l[0];
-    if l.len() < 2 {
-        if first == b'X' {
-            return Says::Closes;
-        }
-        return Says::NoSuch;
-    }
-    if l[1] != b' ' {
-        return Says::NoSuch;
-    }
-    if first == b'O' {
-        return random_said(&l[2..]);
-    }
-    if first == b'R' {
-        return Says::Receives;
-    }
-    if first == b'T' {
-        return seconds_said(&l[2..]);
-    }
-    Says::NoSuch
 }
