@@ -1,6 +1,6 @@
 // The lists of a call, one for each field, as jobs, rigs, placements and readings: the element at a place has the
 // number there of each list.
-ghost use Rattle.std.specs.Prelude.{◌≡◌, ◌≤◌, ◌<◌, ◌↔◌, IsTrue, length, take};
+ghost use Rattle.std.specs.Prelude.{◌≡◌, ◌≤◌, ◌<◌, ◌↔◌, IsTrue, length, take, drop};
 ghost use Rattle.board.specs.Lists.{HaveOneLength, FitADay, job_at, jobs_in, rigs_in, plan_in, readings_in};
 ghost use Rattle.board.specs.Lent.{day_lists};
 
@@ -71,23 +71,25 @@ impl DayLists<'_> {
         }
     }
 
-    /// The jobs, at the start of `jobs`.
+    /// The jobs, over the start of `jobs`.
     pub fn put_jobs(&self, jobs: &mut [Job])
         requires alike { HaveOneLength (day_lists self.now) }
         requires room { length self.now.starts.now ≤ length jobs.old }
-        ensures { take (length self.now.starts.now) jobs.new ≡ jobs_in (day_lists self.now) }
+        ensures filled { take (length self.now.starts.now) jobs.new ≡ jobs_in (day_lists self.now) }
+        ensures rest { drop (length self.now.starts.now) jobs.new ≡ drop (length self.now.starts.now) jobs.old }
     {
         for j in 0..self.starts.len() {
             jobs[j] = self.job(j);
         }
     }
 
-    /// The jobs, each on its rig of the list, at the start of `plan`.
+    /// The jobs, each on its rig of the list, over the start of `plan`.
     pub fn put_plan(&self, rigs: &[u8], plan: &mut [Placement])
         requires alike { HaveOneLength (day_lists self.now) }
         requires one_each { length rigs.now ≡ length self.now.starts.now }
         requires room { length self.now.starts.now ≤ length plan.old }
-        ensures { take (length self.now.starts.now) plan.new ≡ plan_in (day_lists self.now) rigs.now }
+        ensures filled { take (length self.now.starts.now) plan.new ≡ plan_in (day_lists self.now) rigs.now }
+        ensures rest { drop (length self.now.starts.now) plan.new ≡ drop (length self.now.starts.now) plan.old }
     {
         for j in 0..self.starts.len() {
             plan[j] = Placement {
@@ -97,11 +99,12 @@ impl DayLists<'_> {
         }
     }
 
-    /// The rigs, at the start of `rigs`.
+    /// The rigs, over the start of `rigs`.
     pub fn put_rigs(&self, rigs: &mut [Rig])
         requires alike { HaveOneLength (day_lists self.now) }
         requires room { length self.now.warm.now ≤ length rigs.old }
-        ensures { take (length self.now.warm.now) rigs.new ≡ rigs_in (day_lists self.now) }
+        ensures filled { take (length self.now.warm.now) rigs.new ≡ rigs_in (day_lists self.now) }
+        ensures rest { drop (length self.now.warm.now) rigs.new ≡ drop (length self.now.warm.now) rigs.old }
     {
         for k in 0..self.warm.len() {
             rigs[k] = Rig {
@@ -113,11 +116,12 @@ impl DayLists<'_> {
     }
 }
 
-/// The lamps' seconds at both readings, at the start of `readings`.
+/// The lamps' seconds at both readings, over the start of `readings`.
 pub fn put_readings(earlier: &[u32], later: &[u32], readings: &mut [Reading])
     requires alike { length later.now ≡ length earlier.now }
     requires room { length earlier.now ≤ length readings.old }
-    ensures { take (length earlier.now) readings.new ≡ readings_in earlier.now later.now }
+    ensures filled { take (length earlier.now) readings.new ≡ readings_in earlier.now later.now }
+    ensures rest { drop (length earlier.now) readings.new ≡ drop (length earlier.now) readings.old }
 {
     for k in 0..earlier.len() {
         readings[k] = Reading {
