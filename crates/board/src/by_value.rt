@@ -1,5 +1,5 @@
 // The same calls by value, for a host that keeps its record by copying: the record is given, and the changed one comes
-// back. Each is its call in place on a copy, but for set-up, which has no record to change.
+// back. Each is its call in place on a copy; set-up, which is given none, makes its record in a blank one.
 ghost use Rattle.std.specs.Prelude.{◌≡◌, length};
 ghost use Rattle.text.specs.Words.{over};
 ghost use Rattle.record.specs.Legal.{is_legal};
