@@ -9,9 +9,8 @@ ghost use Rattle.floorlog.specs.Events.{event_of};
 ghost use Rattle.floorlog.specs.Doing.{log_place, opened_in_log, did, print_room};
 ghost use Rattle.floorlog.specs.Told.{called_of, called_by, seconds_of, Drives, PrintedAs};
 
-use crate::digits;
-use crate::ending;
 use crate::line::Says;
+use crate::{digits, ending};
 use device::calls::{Opened, Received};
 use device::on_legal;
 use record::connection::SHUT;

@@ -38,7 +38,9 @@ pub fn put_long<const N: usize>(n: u64, out: &mut ArrayVec<u8, N>)
 {
     let mut figures = ArrayVec::new();
     put_figures(n, &mut figures);
-    out.try_extend_from_slice(&figures).unwrap();
+    for &b in figures.as_slice() {
+        out.push(b);
+    }
 }
 
 /// The same of a u32.

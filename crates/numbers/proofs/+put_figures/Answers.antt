@@ -1,5 +1,5 @@
 -- The digits of the quotient stand there, and the last goes after them.
-use Rattle.std.proofs.Common.{arith, ◌∙◌, ◌/◌, [], ◌∷◌, ◌++◌, append_assoc, length, ap, length-append}
+use Rattle.std.proofs.Common.{arith, ◌∙◌, ◌/◌, [], ◌∷◌, append_assoc, length, ap, length-append}
 use Rattle.numbers.specs.Decimal.{last_digit, long_digits}
 use Rattle.numbers.proofs.Digits.{long_high, long_length_high}
 use Rattle.numbers.proofs.+put_figures.Goals as goal
