@@ -2,6 +2,7 @@
 ghost use Rattle.std.specs.Prelude.{◌≡◌, ◌≤◌, length};
 ghost use Rattle.text.specs.Words.{over};
 ghost use Rattle.words.specs.Bytes.{◌at◌};
+ghost use Rattle.words.specs.Classes.{class_code};
 ghost use Rattle.pjlink.specs.Forms.{reply_line};
 ghost use Rattle.pjlink.specs.Said.{parameter_most, said_bytes};
 ghost use Rattle.pjlink.specs.Carried.{said_by};
@@ -11,21 +12,22 @@ ghost use Rattle.device.specs.Answering.{line_answer};
 use pjlink::answer::Reply;
 use pjlink::{form, request, write};
 use record::types::{Own, Settings};
+use words::class::ClassNumber;
 use words::codec;
 use words::codec::Line;
 
-// The reply to a line of this class byte and these letters, from the start of the lent memory.
-fn put_reply(out: &mut [u8], class: u8, letters: [u8; 4], reply: &Reply<'_>) -> usize
+// The reply to a line of this class and these letters, from the start of the lent memory.
+fn put_reply(out: &mut [u8], class: ClassNumber, letters: [u8; 4], reply: &Reply<'_>) -> usize
     requires room { 136 ≤ length out.old }
     requires short { length (said_bytes (said_by reply.now)) ≤ parameter_most }
-    ensures value { result ≡ length (reply_line class (letters at 0) (letters at 1) (letters at 2)
+    ensures value { result ≡ length (reply_line (class_code class) (letters at 0) (letters at 1) (letters at 2)
         (letters at 3) (said_bytes (said_by reply.now))) }
-    ensures written { out.new ≡ over (reply_line class (letters at 0) (letters at 1) (letters at 2)
+    ensures written { out.new ≡ over (reply_line (class_code class) (letters at 0) (letters at 1) (letters at 2)
         (letters at 3) (said_bytes (said_by reply.now))) out.old }
 {
     let [a, b, c, d] = letters;
     let mut line = Line::new();
-    codec::put_all(&[b'%', class, a, b, c, d, b'='], &mut line);
+    codec::put_all(&[b'%', class.code(), a, b, c, d, b'='], &mut line);
     write::put_parameter(reply, &mut line);
     line.push(b'\r');
     text::put(out, 0, line.as_slice());
@@ -40,10 +42,10 @@ pub fn answer_line(s: &Settings, o: &mut Own, l: &[u8], out: &mut [u8]) -> usize
     ensures own { o.new ≡ (line_answer s.now o.old l.now).own }
     ensures written { out.new ≡ over (line_answer s.now o.old l.now).reply out.old }
 {
-    let Some(line) = form::command(s.class_number, l) else {
+    let Some(line) = form::command(s.class(), l) else {
         return 0;
     };
-    let asked = request::request(form::class_named(line.class), line.letters, line.parameter);
+    let asked = request::request(line.class, line.letters, line.parameter);
     let reply = meaning::decide(s, o, asked);
     put_reply(out, line.class, line.letters, &reply)
 }

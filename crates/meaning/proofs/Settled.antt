@@ -2,6 +2,7 @@
 -- Assumes nothing.
 use Rattle.std.proofs.Common.{ℕ, ◌≡◌, refl, true, List, [], ◌∷◌, map, codes}
 use Rattle.std.specs.Prelude.{Ok, Err}
+use Rattle.words.specs.declared.class.ClassNumber.TheVariants.{One}
 use Rattle.words.specs.declared.input.Source.TheVariants.{Rgb}
 use Rattle.pjlink.specs.declared.body.Body.TheVariants.{Powr, Inpt, Lamp, Name, Clss}
 use Rattle.pjlink.specs.declared.command.Command.TheVariants.{PowerSet, InputSet, Query}
@@ -33,7 +34,7 @@ requests =
 
 -- POWR 1, POWR 2, ABCD x, NAME x, CLSS ?, INPT ?, INPT 12
 pub settled : map (meant settings own) requests
-    ≡ okay ∷ refused 2 ∷ refused 1 ∷ refused 1 ∷ class_is 1 ∷ refused 3 ∷ refused 2 ∷ []
+    ≡ okay ∷ refused 2 ∷ refused 1 ∷ refused 1 ∷ class_is One ∷ refused 3 ∷ refused 2 ∷ []
 unfolding computing record-computing pjlink-computing
 settled = refl
 

@@ -2,13 +2,12 @@
 --   is_power_set r    the request r sets the power
 -- Assumes nothing.
 use Rattle.std.specs.List.{list_all}
-use Rattle.std.proofs.Common.{ℕ, ◌≤◌, ◌≡◌, refl, sym, ap, ◌∙◌, Bool, true, false, ◌&&◌, List, [], ◌∷◌, arith, length}
-use Rattle.std.proofs.Common.{drop, ◌==◌, eqb-true}
-use Rattle.std.proofs.lemmas.Bool.{false≢true, eqb-false}
-use Prim.Native.Char.{code}
+use Rattle.std.proofs.Common.{ℕ, ◌≡◌, refl, sym, ap, ◌∙◌, Bool, true, false, ◌&&◌, List, [], ◌∷◌}
+use Rattle.std.proofs.Common.{drop}
+use Rattle.std.proofs.lemmas.Bool.{false≢true}
 use Rattle.std.specs.Prelude.{find, Option, Some, None, Ok, Err}
 use Rattle.std.specs.Option.{option_map}
-use Rattle.text.specs.Words.{◌is◌, ◌from◌to◌}
+use Rattle.text.specs.Words.{◌is◌}
 use Rattle.text.proofs.Choices.{if_by, if_all, both_left, both_right}
 use Rattle.words.specs.Bytes.{◌at◌}
 use Rattle.words.specs.Codec.{◌>>=◌, ended, whole}
@@ -33,8 +32,6 @@ use Rattle.pjlink.specs.declared.command.Command.TheVariants.{PowerSet, InputSet
 use Rattle.pjlink.specs.declared.command.Half.{Half}
 use Rattle.pjlink.specs.declared.command.Command.TheVariants.{VolumeStep, NameQuery, Query}
 use Rattle.pjlink.specs.declared.request.Unasked.TheVariants.{Unlisted}
-use Rattle.words.proofs.ByPlaces.{by_places}
-use Rattle.words.proofs.Characters.{in_range}
 use Rattle.pjlink.proofs.BodiesNamed.{body_is_named}
 
 abbrev pub is_power_set : Request → Bool

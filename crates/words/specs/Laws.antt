@@ -33,7 +33,7 @@ use Rattle.words.specs.declared.input.Source.TheVariants.{Rgb, Video, Digital, S
 use Rattle.words.specs.declared.lamp.LampHours.{LampHours}
 use Rattle.words.specs.declared.power.Power.TheVariants.{Off, On, Cooling, WarmUp}
 use Rattle.words.specs.declared.refusal.Refusal.TheVariants.{Undefined, OutOfParameter, Unavailable, Failure}
-use Rattle.words.specs.Combinations.{bind_some, cond_is, letter_codec, counted_codec, named_codec}
+use Rattle.words.specs.Combinations.{bind_some, cond_is, counted_codec, named_codec}
 use Rattle.words.specs.Combinations.{pair_back, pair_sound, past_codec, spelled_codec}
 
 pub power_codec : Codec Ends (λ _. true) power_text (Plain (λ _. true) power_text) power_read
