@@ -2,7 +2,7 @@
 ghost use Rattle.std.specs.Prelude.{◌≡◌, ◌+◌, ◌≤◌, ◌++◌, length};
 ghost use Rattle.arrayvec.specs.ArrayVec.{array_vec_len};
 ghost use Rattle.text.specs.Words.{over};
-ghost use Rattle.controller.specs.Writing.{led_by, written_command, told_written};
+ghost use Rattle.controller.specs.Writing.{is_writable, led_by, written_command, told_written};
 
 use pjlink::command::Command;
 use words::codec::{LINE_MOST, Line};
@@ -13,6 +13,13 @@ use words::{codec, texts};
 pub struct Written {
     pub number: u32,
     pub length: usize,
+}
+
+// The command's line can be written, and a digest is asked for of a legal password.
+fn is_writable(c: Command, secured: bool, password: &[u8]) -> bool
+    ensures { result ≡ is_writable c secured password.now }
+{
+    c.is_legal() && (!secured || texts::is_password(password))
 }
 
 // What leads the line: where it is asked for, the digest.
@@ -45,7 +52,7 @@ pub fn write_command(
             length: 0,
         };
     }
-    if !c.is_legal() || (secured && !texts::is_password(password)) {
+    if !is_writable(c, secured, password) {
         return Written {
             number: 3,
             length: 0,

@@ -1,5 +1,5 @@
 // The commands that our writer can write, and their lines (PJLink 1.04, 2.1 and 4.1 to 4.14; RULES, Class 2).
-ghost use Rattle.std.specs.Prelude.{◌≡◌, ◌++◌, ◌+◌, ◌≤◌, length, true};
+ghost use Rattle.std.specs.Prelude.{◌≡◌, ◌++◌, ◌+◌, ◌≤◌, true};
 ghost use Rattle.arrayvec.specs.ArrayVec.{array_vec_len};
 ghost use Rattle.words.specs.Classes.{class_number};
 ghost use Rattle.words.specs.Codec.{Plain};
@@ -80,7 +80,7 @@ impl Command {
     }
 
     fn put_parameter(self, out: &mut Line)
-        requires { array_vec_len out.old + length (parameter_of self) ≤ LINE_MOST }
+        requires { array_vec_len out.old + 3 ≤ LINE_MOST }
         ensures { out.new.items ≡ out.old.items ++ parameter_of self }
     {
         match self {
@@ -100,9 +100,9 @@ impl Command {
         }
     }
 
-    /// Puts its line at the end of `out`, with its CR.
+    /// Puts its line at the end of `out`, with its CR: eleven bytes at most.
     pub fn put(self, out: &mut Line)
-        requires { array_vec_len out.old + length (command_line self) ≤ LINE_MOST }
+        requires { array_vec_len out.old + 11 ≤ LINE_MOST }
         ensures { out.new.items ≡ out.old.items ++ command_line self }
     {
         let row = self.body().row();

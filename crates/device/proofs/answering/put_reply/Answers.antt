@@ -5,5 +5,6 @@ use Rattle.device.proofs.answering.put_reply.Goals as goal
 
 pub returns-clause-written : goal.returns-clause-written
 returns-clause-written c =
-    reply_written _ _ _ _ _ _ c.args.out.now c.requires.room c.requires.short c.new-line.ensures c.put_all.ensures
+    reply_written _ _ _ _ _ _ c.args.out.now c.requires.room c.requires.short c.new-line.ensures
+    (rw c.code.ensures at c.put_all.ensures)
     c.put_parameter.ensures (c.as_slice.ensures.value ∙ c.push.ensures.items) c.put.ensures
