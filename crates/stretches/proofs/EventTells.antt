@@ -47,6 +47,10 @@ module _ (w : Wanted) (k : ℕ) where
       by true = refl
       by false = refl
 
+  none : (g : Stage) (ms : List Bool) (f t : ℕ) (ys : List Event)
+      → turned g g ms f t (seconds_lit_from w g ms k ys) ≡ joined (is_lit_then g ms k) f t (seconds_lit_from w g ms k ys)
+  none g ms f t ys = unchanged g g ms f t (seconds_lit_from w g ms k ys) refl
+
   by_power : (g : Stage) (wanted : Bool) (ms : List Bool) (f t : ℕ) (ys : List Event) → f ≤ t
       → let h = next w g (switched wanted) in
       turned g h ms f t (seconds_lit_from w h ms k ys) ≡ joined (is_lit_then g ms k) f t (seconds_lit_from w h ms k ys)
@@ -65,9 +69,9 @@ module _ (w : Wanted) (k : ℕ) where
       let m = slice_index_or ms k false in
       sym (ap (λ (b : Bool). stretches_from (b && nat_lt f t) f t ls) (one_is m)
       ∙ ends_here (m && nat_lt f t) f t ls (cooling_dim w ms k w.cool ys))
-  by_power (steady true) true ms f t ys le = unchanged (steady true) (steady true) ms f t _ refl
-  by_power (steady false) false ms f t ys le = unchanged (steady false) (steady false) ms f t _ refl
-  by_power (towards on n) wanted ms f t ys le = unchanged (towards on n) (towards on n) ms f t _ refl
+  by_power (steady true) true ms f t ys le = none (steady true) ms f t ys
+  by_power (steady false) false ms f t ys le = none (steady false) ms f t ys
+  by_power (towards on n) wanted ms f t ys le = none (towards on n) ms f t ys
 
   marks_stay : (n : ℕ) (ms : List Bool) → marks_after ms (replicate n a_second) ≡ ms
   marks_stay zero ms = refl
@@ -81,7 +85,7 @@ module _ (w : Wanted) (k : ℕ) where
   by_seen g ms n f t xs ys le (nothing e) =
       let same : t + n ≡ t = omega arith in
       (λ i. turned g g ms f (same i) (seconds_lit_from w g ms k ys))
-      ∙ unchanged g g ms f t (seconds_lit_from w g ms k ys) refl
+      ∙ none g ms f t ys
   by_seen g ms n f t xs ys le time =
       let h = reached w g (replicate n a_second) in
       let burns = stage_is_burning-reached n w g in
