@@ -3,7 +3,8 @@
 -- leaves them so, an opening if they agree in that place's phase.
 --   AlikeFrom p d e c     the call c gives the same from d and from e, and leaves them the same but for place p
 -- Assumes nothing.
-use Rattle.std.proofs.Common.{ℕ, ◌≡◌, refl, sym, ap, ◌∙◌, Bool, true, false, not, ◌||◌, List, [], ◌∷◌, length, set, nat_le, nat_lt}
+use Rattle.std.proofs.Common.{ℕ, ◌≡◌, refl, sym, ap, ◌∙◌, Bool, true, false, not, ◌||◌, List, [], ◌∷◌, length, set}
+use Rattle.std.proofs.Common.{nat_le, nat_lt}
 use Rattle.std.proofs.Common.{◌==◌, eqb-true}
 use Rattle.std.proofs.lemmas.Bool.{false≢true, eqb-false}
 use Rattle.std.specs.Prelude.{if◌then◌else◌}
@@ -46,7 +47,8 @@ module _ (d e : Device) (legal-d : is_legal d ≡ true) (legal-e : is_legal e �
     host_rows (reports errors) h = (λ i. (1 when not (legal_same i)) ∷ (3 when not (is_error_list errors)) ∷ [])
     host_rows (enables lamp mark) h =
         (λ i. (1 when not (legal_same i))
-        ∷ (3 when (nat_le (sym same.settings i).lamp_count lamp || is_none_left (set (sym same.own i).enabled lamp mark)))
+        ∷ (3 when (nat_le (sym same.settings i).lamp_count lamp
+        || is_none_left (set (sym same.own i).enabled lamp mark)))
         ∷ (7 when not ((sym same.own i).power == off)) ∷ [])
 
     host_own : (c : Call) → is_hosts c ≡ true → own_then e c ≡ own_then d c

@@ -10,7 +10,8 @@ use Rattle.device.specs.Receiving.{set_up_password}
 use Rattle.ours.specs.Board.{ours}
 use Rattle.demands.specs.Calls.{Call, opens, closes, receives, passes, marks, reports, enables, after}
 use Rattle.demands.specs.Outsider.{Session, unopened, noted, is_matched, IsNeverMatched}
-use Rattle.demands.specs.Unheard.{Alike, same_call, other_bytes, AllAlike, no_calls, one_more, opens_none, phase_at, is_opening}
+use Rattle.demands.specs.Unheard.{Alike, same_call, other_bytes, AllAlike, no_calls, one_more, opens_none, phase_at}
+use Rattle.demands.specs.Unheard.{is_opening}
 use Rattle.demands.specs.Unheard.{QuietOnceApart, Gave, gave_by, is_at_place, SameElsewhere, HeardAlike}
 use Rattle.demands.specs.Unheard.{Unheard}
 use Rattle.demands.proofs.CallsDo.{settings_stay, call_by}
@@ -84,7 +85,8 @@ module _ (password : List ℕ) (p : ℕ) (s t : Session) (d e : Device) (same : 
           → phase_at ours p d ≡ phase_at ours p e
       phases true z opening = eqb-true (phase_at ours p d) (phase_at ours p e) z
       phases false z opening =
-          let none = both_left (not (is_opening c)) (opens_none cs) (quiet (eqb-false (phase_at ours p d) (phase_at ours p e) z)) in
+          let none = both_left (not (is_opening c)) (opens_none cs)
+          (quiet (eqb-false (phase_at ours p d) (phase_at ours p e) z)) in
           absurd (false≢true (rw opening at none))
 
       by_place : (at : Bool) → is_at_place p c ≡ at → Stepped c c

@@ -65,8 +65,9 @@ module _ (d : Device) (p : ℕ) (c : Command) (paper m : List ℕ) (writable : i
         higher = λ higher. record {
           wrote = refl;
           left =
-              subst (λ (r : Result Device). AnsweredAs ours d p (bytes_written (wrote_by (record { number = 0; bytes = bs })
-              paper)) (swallowed d.own) (lent_by r m)) (sym (ignored higher))
+              subst (λ (r : Result Device). AnsweredAs ours d p
+              (bytes_written (wrote_by (record { number = 0; bytes = bs }) paper)) (swallowed d.own) (lent_by r m))
+              (sym (ignored higher))
               (record { number = refl; taken = ap length (sym (over_front bs paper)); replied = refl; device = refl });
         };
       }))

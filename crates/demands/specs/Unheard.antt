@@ -17,8 +17,8 @@
 -- So someone on the network without the password can do nothing to the projector but take up places: each for 30
 -- seconds, and for 30 more from a refused line on. Against that a host can close whoever stays silent (closing at a
 -- place is its own call), or keep strangers off the network.
--- TO BELIEVE IT, believe, and nothing else: what a password is (`has_password` of device/specs/Calls), when a first line
--- matches (`IsNeverMatched` of Outsider), ours/specs/Board, and here Calls.
+-- TO BELIEVE IT, believe, and nothing else: what a password is (`has_password` of device/specs/Calls), when a first
+-- line matches (`IsNeverMatched` of Outsider), ours/specs/Board, and here Calls.
 -- Assumes nothing.
 use Rattle.std.specs.List.{list_all}
 use Rattle.std.specs.Prelude.{ℕ, ◌≡◌, Bool, true, false, not, List, [], ◌∷◌, if◌then◌else◌, ◌==◌}

@@ -48,7 +48,8 @@ module _ (w : Wanted) (k : ℕ) where
       by false = refl
 
   none : (g : Stage) (ms : List Bool) (f t : ℕ) (ys : List Event)
-      → turned g g ms f t (seconds_lit_from w g ms k ys) ≡ joined (is_lit_then g ms k) f t (seconds_lit_from w g ms k ys)
+      → turned g g ms f t (seconds_lit_from w g ms k ys)
+      ≡ joined (is_lit_then g ms k) f t (seconds_lit_from w g ms k ys)
   none g ms f t ys = unchanged g g ms f t (seconds_lit_from w g ms k ys) refl
 
   by_power : (g : Stage) (wanted : Bool) (ms : List Bool) (f t : ℕ) (ys : List Event) → f ≤ t

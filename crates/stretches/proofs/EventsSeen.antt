@@ -112,6 +112,7 @@ module _ (w : Wanted) (g : Stage) (ms : List Bool) (n : ℕ → ℕ) (stream : S
     event_seen (logged no_such) = no_call (logged no_such) refl (done_nothing d) refl
     event_seen (marked lamp to) =
         one_call (marked lamp to) (enables lamp to) refl (sym (done_marking d lamp to))
-        (mark_set_by d (λ (r : Given Device). Seen g 0 (if r.number == 0 then mark_switched lamp to ∷ [] else [])) lamp to
+        (mark_set_by d (λ (r : Given Device). Seen g 0 (if r.number == 0 then mark_switched lamp to ∷ [] else []))
+        lamp to
         (λ m z. subst (Seen g 0) (sym (if_no _ _ (ne_eqb m 0 z))) (nothing refl))
         (λ h there left idle. mark lamp to (is_off g (sym a.power ∙ idle)) refl))
