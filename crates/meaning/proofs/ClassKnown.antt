@@ -2,7 +2,7 @@
 -- Assumes nothing.
 use Rattle.std.proofs.Common.{ℕ, ◌≤◌, ◌≡◌, arith, ◌==◌, eqb-true}
 use Rattle.std.proofs.lemmas.Bool.Decides.{nat_tests}
-use Rattle.words.specs.Classes.{class_number}
+use Rattle.words.specs.Classes.{class_as_number}
 use Rattle.words.proofs.Characters.{either_by}
 use Rattle.record.specs.Views.{class_seen}
 use Rattle.record.specs.declared.types.Settings.{Settings}
@@ -24,8 +24,8 @@ module _ (s : Settings) (t : IsSettings s) where
       (λ e. omega (arith, eqb-true k 1 e)) (λ e. omega (arith, eqb-true k 2 e))
 
   -- and the view of it loses nothing
-  pub class_number-class_seen : class_number (class_seen s) ≡ s.class_number
-  class_number-class_seen =
+  pub class_as_number-class_seen : class_as_number (class_seen s) ≡ s.class_number
+  class_as_number-class_seen =
       let low = class_low in
       let high = class_high in
       grind (arith, nat_tests)

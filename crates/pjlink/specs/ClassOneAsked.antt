@@ -10,7 +10,7 @@ use Rattle.std.specs.Option.{option_map}
 use Rattle.text.specs.Words.{◌is◌, ◌from◌to◌}
 use Rattle.text.specs.Scans.{same_by}
 use Rattle.words.specs.Bytes.{◌at◌, upper_of}
-use Rattle.words.specs.Classes.{class_number}
+use Rattle.words.specs.Classes.{class_as_number}
 use Rattle.words.specs.declared.input.Input.{Input}
 use Rattle.pjlink.specs.Bodies.{row_of}
 use Rattle.words.specs.ClassOne.{read_input_1}
@@ -27,7 +27,7 @@ use Rattle.pjlink.specs.Requests.{Request, is_question}
 use Rattle.pjlink.specs.declared.request.Unasked.TheVariants.{Unlisted, UnknownBody}
 
 abbrev pub rows1 : List Row
-rows1 = filter (λ (r : Row). class_number r.class == 1) BODIES
+rows1 = filter (λ (r : Row). class_as_number r.class == 1) BODIES
 
 abbrev pub is_body_1 : List ℕ → Row → Bool
 is_body_1 s r = same_by upper_of s r.letters

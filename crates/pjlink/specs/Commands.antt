@@ -55,14 +55,14 @@ half_code VideoHalf = code "1"
 half_code AudioHalf = code "2"
 half_code BothHalves = code "3"
 
-abbrev pub halves : List Half
-halves = VideoHalf ∷ AudioHalf ∷ BothHalves ∷ []
+abbrev pub all_halves : List Half
+all_halves = VideoHalf ∷ AudioHalf ∷ BothHalves ∷ []
 
 abbrev pub half_text : Half → List ℕ
 half_text h = half_code h ∷ []
 
 abbrev pub half_named : ℕ → Option Half
-half_named b = named half_code halves b
+half_named b = named half_code all_halves b
 
 abbrev pub half_read : List ℕ → Option (Half × List ℕ)
 half_read s = letter half_named s

@@ -1,6 +1,6 @@
 // The bodies of both classes: THE table, a row for each (RULES, Commands; PJLink 1.04, 4.1 to 4.14; RULES, Class 2).
 ghost use Rattle.std.specs.Prelude.{◌≡◌};
-ghost use Rattle.words.specs.Classes.{class_number};
+ghost use Rattle.words.specs.Classes.{class_as_number};
 ghost use Rattle.pjlink.specs.Bodies.{row_of, is_named, is_body, body_named, has_set, has_parameters, has_query};
 
 use self::Sets::{
@@ -95,7 +95,7 @@ pub const BODIES: [Row; 19] = [
 impl Row {
     /// Whether four letters name its body in a line of the class, whatever their case.
     fn is_named(&self, class: ClassNumber, letters: [u8; 4]) -> bool
-        ensures { result ≡ is_named (class_number class) letters self.now }
+        ensures { result ≡ is_named (class_as_number class) letters self.now }
     {
         let [a, b, c, d] = letters;
         let [w, x, y, z] = self.letters;
@@ -117,7 +117,7 @@ impl Body {
 
     /// The body that four letters name in a line of the class, whatever their case.
     pub fn named(class: ClassNumber, letters: [u8; 4]) -> Option<Body>
-        ensures { result ≡ body_named (class_number class) letters }
+        ensures { result ≡ body_named (class_as_number class) letters }
     {
         let row = BODIES.iter().find(|row| row.is_named(class, letters))?;
         Some(row.body)
@@ -125,7 +125,7 @@ impl Body {
 
     /// Whether four letters name it in a line of the class, whatever their case.
     pub fn is_named(self, class: ClassNumber, letters: [u8; 4]) -> bool
-        ensures { result ≡ is_body (class_number class) letters self }
+        ensures { result ≡ is_body (class_as_number class) letters self }
     {
         self.row().is_named(class, letters)
     }

@@ -1,7 +1,7 @@
 // The commands that our writer can write, and their lines (PJLink 1.04, 2.1 and 4.1 to 4.14; RULES, Class 2).
 ghost use Rattle.std.specs.Prelude.{◌≡◌, ◌++◌, ◌+◌, ◌≤◌, true};
 ghost use Rattle.arrayvec.specs.ArrayVec.{array_vec_len};
-ghost use Rattle.words.specs.Classes.{class_number};
+ghost use Rattle.words.specs.Classes.{class_as_number};
 ghost use Rattle.words.specs.Codec.{Plain};
 ghost use Rattle.pjlink.specs.Commands.{volume_body, body_of, command_class, parameter_of, is_command, command_line};
 ghost use Rattle.pjlink.specs.Commands.{half_code, half_named, half_text, half_read};
@@ -61,7 +61,7 @@ impl Command {
 
     /// The class of its line.
     pub fn class(self) -> ClassNumber
-        ensures { class_number result ≡ command_class self }
+        ensures { class_as_number result ≡ command_class self }
     {
         self.body().row().class
     }

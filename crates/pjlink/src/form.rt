@@ -1,6 +1,6 @@
 // The forms of lines, each taken apart once (PJLink 1.04, 2.1 and 2.2; RULES, Connection and Controller and Class 2).
 ghost use Rattle.std.specs.Prelude.{◌≡◌, IfSome, IfNone, true, false};
-ghost use Rattle.words.specs.Classes.{class_number, class_code};
+ghost use Rattle.words.specs.Classes.{class_as_number, class_code};
 ghost use Rattle.pjlink.specs.Forms.{takes_class, is_command_form, is_reply_form};
 ghost use Rattle.pjlink.specs.Forms.{is_headed_by, IsCommandOf, IsReplyOf};
 
@@ -20,8 +20,8 @@ pub struct Parts<'a> {
 
 // The class of a line with this class byte, where a set-up of Class k takes it.
 fn class_for(k: ClassNumber, h: u8) -> Option<ClassNumber>
-    ensures taken { IfSome result (λ class. takes_class (class_number k) h ≡ true × h ≡ class_code class) }
-    ensures other { IfNone result (takes_class (class_number k) h ≡ false) }
+    ensures taken { IfSome result (λ class. takes_class (class_as_number k) h ≡ true × h ≡ class_code class) }
+    ensures other { IfNone result (takes_class (class_as_number k) h ≡ false) }
 {
     match (k, h) {
         (_, b'1') => Some(ClassNumber::One),
@@ -35,8 +35,8 @@ fn class_for(k: ClassNumber, h: u8) -> Option<ClassNumber>
 #[tactic(auto, unfolding(crate::specs::Forms::is_command_form))]
 pub fn command(k: ClassNumber, l: &[u8]) -> Option<Parts<'_>>
     ensures taken { IfSome result
-        (λ x. IsCommandOf (class_number k) l.now (class_number x.class) x.letters x.parameter.now) }
-    ensures other { IfNone result (is_command_form (class_number k) l.now ≡ false) }
+        (λ x. IsCommandOf (class_as_number k) l.now (class_as_number x.class) x.letters x.parameter.now) }
+    ensures other { IfNone result (is_command_form (class_as_number k) l.now ≡ false) }
 {
     let [first, class, a, b, c, d, mark, parameter @ ..] = l else {
         return None;
@@ -70,8 +70,8 @@ fn is_headed(first: u8, letters: [u8; 4], last: u8, mark: u8) -> bool
 /// any other.
 #[tactic(auto, unfolding(crate::specs::Forms::is_reply_form))]
 pub fn reply(k: ClassNumber, l: &[u8]) -> Option<Parts<'_>>
-    ensures taken { IfSome result (λ x. IsReplyOf (class_number k) l.now x.letters x.parameter.now) }
-    ensures other { IfNone result (is_reply_form (class_number k) l.now ≡ false) }
+    ensures taken { IfSome result (λ x. IsReplyOf (class_as_number k) l.now x.letters x.parameter.now) }
+    ensures other { IfNone result (is_reply_form (class_as_number k) l.now ≡ false) }
 {
     let [first, class, a, b, c, d, mark, parameter @ .., last] = l else {
         return None;

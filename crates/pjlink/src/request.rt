@@ -1,6 +1,6 @@
 // What a received class, four letters and a parameter ask for (RULES, Commands and Class 2).
 ghost use Rattle.std.specs.Prelude.{◌≡◌};
-ghost use Rattle.words.specs.Classes.{class_number};
+ghost use Rattle.words.specs.Classes.{class_as_number};
 ghost use Rattle.pjlink.specs.Requests.{mute_of, name_query_of, set_of, command_of, request_of};
 
 use crate::body::{Body, Sets};
@@ -68,7 +68,7 @@ fn command_of(b: Body, p: &[u8]) -> Option<Command>
 /// exactly.
 #[tactic(auto, unfolding(crate::specs::Requests::request_of, crate::specs::Requests::asked_of))]
 pub fn request(class: ClassNumber, letters: [u8; 4], p: &[u8]) -> Result<Command, Unasked>
-    ensures { result ≡ request_of (class_number class) letters p.now }
+    ensures { result ≡ request_of (class_as_number class) letters p.now }
 {
     let body = Body::named(class, letters).ok_or(Unasked::UnknownBody)?;
     command_of(body, p).ok_or(Unasked::Unlisted(body))

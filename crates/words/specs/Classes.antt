@@ -1,5 +1,5 @@
 -- The class of a projector, of a body and of a line: 1 or 2 (RULES, Commands and Class 2; PJLink 1.04, 4.14).
---   class_number k   1 or 2
+--   class_as_number k   1 or 2
 --   class_code k     its character, with class_text and class_read alike
 -- Assumes nothing.
 use Rattle.std.specs.Prelude.{ℕ, ◌+◌, List, [], ◌∷◌, Option}
@@ -8,12 +8,12 @@ use Rattle.words.specs.Codec.{named, letter}
 use Rattle.words.specs.declared.class.ClassNumber.{ClassNumber}
 use Rattle.words.specs.declared.class.ClassNumber.TheVariants.{One, Two}
 
-abbrev pub class_number : ClassNumber → ℕ
-class_number One = 1
-class_number Two = 2
+abbrev pub class_as_number : ClassNumber → ℕ
+class_as_number One = 1
+class_as_number Two = 2
 
 abbrev pub class_code : ClassNumber → ℕ
-class_code k = code "0" + class_number k
+class_code k = code "0" + class_as_number k
 
 abbrev pub classes : List ClassNumber
 classes = One ∷ Two ∷ []

@@ -1,7 +1,7 @@
 // The class of a projector (RULES, Commands and Class 2; PJLink 1.04, 4.14).
 ghost use Rattle.std.specs.Prelude.{◌≡◌, true};
 ghost use Rattle.words.specs.Codec.{Plain};
-ghost use Rattle.words.specs.Classes.{class_number, class_code, class_named, class_text, class_read};
+ghost use Rattle.words.specs.Classes.{class_as_number, class_code, class_named, class_text, class_read};
 ghost use Rattle.words.specs.Laws.{class_codec};
 
 use crate::codec::{Line, Wire};
@@ -18,7 +18,7 @@ pub enum ClassNumber {
 impl ClassNumber {
     /// 1 or 2.
     pub fn number(self) -> u8
-        ensures { result ≡ class_number self }
+        ensures { result ≡ class_as_number self }
     {
         match self {
             ClassNumber::One => 1,

@@ -2,7 +2,7 @@
 use Rattle.std.proofs.Common.{ℕ, ◌≤◌, ◌≡◌, length, sym, subst, ap, ◌∙◌, Bool, true, false, List, [], arith}
 use Rattle.text.specs.Words.{over}
 use Rattle.words.specs.Bytes.{◌at◌}
-use Rattle.words.specs.Classes.{class_number, class_code}
+use Rattle.words.specs.Classes.{class_as_number, class_code}
 use Rattle.words.specs.declared.class.ClassNumber.{ClassNumber}
 use Rattle.words.specs.declared.refusal.Refusal.{Refusal}
 use Rattle.std.specs.Prelude.{Result}
@@ -18,31 +18,31 @@ use Rattle.record.specs.declared.types.Settings.{Settings}
 use Rattle.record.proofs.FactsTold.{settings_is}
 use Rattle.meaning.specs.Meaning.{meant, done}
 use Rattle.meaning.proofs.CanBeSaid.{meant_fits}
-use Rattle.meaning.proofs.ClassKnown.{class_number-class_seen}
+use Rattle.meaning.proofs.ClassKnown.{class_as_number-class_seen}
 use Rattle.text.proofs.Choices.{if_yes, if_no}
 use Rattle.device.specs.Answering.{line_asks, swallowed, replied, line_answer}
 use Rattle.device.proofs.answering.answer_line.Goals as goal
 
 module _ (s : Settings) (o : Own) (l : List ℕ) {k : ClassNumber} (legal : is_settings s ≡ true) (e : k ≡ class_seen s) where
-  at_class : {t : Bool} → is_command_form (class_number k) l ≡ t → is_command_form s.class_number l ≡ t
+  at_class : {t : Bool} → is_command_form (class_as_number k) l ≡ t → is_command_form s.class_number l ≡ t
   at_class f =
-      ap (λ n. is_command_form n l) (sym (ap class_number e ∙ class_number-class_seen s ((settings_is s).0 legal))) ∙ f
+      ap (λ n. is_command_form n l) (sym (ap class_as_number e ∙ class_as_number-class_seen s ((settings_is s).0 legal))) ∙ f
 
-  unformed : is_command_form (class_number k) l ≡ false → swallowed o ≡ line_answer s o l
+  unformed : is_command_form (class_as_number k) l ≡ false → swallowed o ≡ line_answer s o l
   unfolding line_answer
   unformed f = sym (if_no (replied s o l) (swallowed o) (at_class f))
 
-  module _ (j : ClassNumber) {letters p : List ℕ} (taken : IsCommandOf (class_number k) l (class_number j) letters p) where
+  module _ (j : ClassNumber) {letters p : List ℕ} (taken : IsCommandOf (class_as_number k) l (class_as_number j) letters p) where
     formed : replied s o l ≡ line_answer s o l
     unfolding line_answer
     formed = sym (if_yes (replied s o l) (swallowed o) (at_class taken.form))
 
-    asks : {r : Request} → r ≡ request_of (class_number j) letters p → r ≡ line_asks l
+    asks : {r : Request} → r ≡ request_of (class_as_number j) letters p → r ≡ line_asks l
     asks f =
-        let class : class_number j ≡ line_class l = omega (arith, taken.class) in
+        let class : class_as_number j ≡ line_class l = omega (arith, taken.class) in
         f ∙ (λ i. request_of (class i) (taken.body i) (taken.parameter i))
 
-    answers : {r : Request} (reply : Result Answer Refusal) → r ≡ request_of (class_number j) letters p
+    answers : {r : Request} (reply : Result Answer Refusal) → r ≡ request_of (class_as_number j) letters p
         → said_by reply ≡ meant s o r
         → reply_line (class_code j) (letters at 0) (letters at 1) (letters at 2) (letters at 3)
         (said_bytes (said_by reply))
