@@ -18,7 +18,9 @@ use Rattle.pjlink.proofs.Bodies.{each_body, yes}
 
 -- the body of Class k whose text is exactly s
 abbrev exactly : ℕ → List ℕ → Option Body
-exactly k s = option_map (λ (r : Row). r.body) (find (λ (r : Row). k == class_as_number r.class && same_by itself s r.letters) BODIES)
+exactly k s =
+    option_map (λ (r : Row). r.body)
+    (find (λ (r : Row). k == class_as_number r.class && same_by itself s r.letters) BODIES)
 
 pub record Named (b : Body) : Type 0 where
   pub own : is_body (class_of b) (body_text b) b ≡ true

@@ -1,4 +1,5 @@
--- The law of what a mute is of, as a value on a line: a trait's law is named from specs/, and no reader has to believe it.
+-- The law of what a mute is of, as a value on a line. A trait's law is named from specs/, so it stands here, and no
+-- reader has to believe it.
 -- Assumes nothing.
 use Rattle.std.proofs.Common.{true, refl}
 use Rattle.words.specs.Codec.{Codec, Plain, Ends}

@@ -1,5 +1,5 @@
 -- What a legal projector answers is short enough for the room; the line is taken apart into what its answer speaks of.
-use Rattle.std.proofs.Common.{ℕ, ◌≤◌, ◌≡◌, length, sym, subst, ap, ◌∙◌, Bool, true, false, List, [], arith}
+use Rattle.std.proofs.Common.{ℕ, ◌≤◌, ◌≡◌, length, sym, subst, ap, ◌∙◌, Bool, true, false, List, arith}
 use Rattle.text.specs.Words.{over}
 use Rattle.words.specs.Bytes.{◌at◌}
 use Rattle.words.specs.Classes.{class_as_number, class_code}
@@ -23,16 +23,29 @@ use Rattle.text.proofs.Choices.{if_yes, if_no}
 use Rattle.device.specs.Answering.{line_asks, swallowed, replied, line_answer}
 use Rattle.device.proofs.answering.answer_line.Goals as goal
 
-module _ (s : Settings) (o : Own) (l : List ℕ) {k : ClassNumber} (legal : is_settings s ≡ true) (e : k ≡ class_seen s) where
+module _
+    (s : Settings)
+    (o : Own)
+    (l : List ℕ)
+    {k : ClassNumber}
+    (legal : is_settings s ≡ true)
+    (e : k ≡ class_seen s)
+  where
   at_class : {t : Bool} → is_command_form (class_as_number k) l ≡ t → is_command_form s.class_number l ≡ t
   at_class f =
-      ap (λ n. is_command_form n l) (sym (ap class_as_number e ∙ class_as_number-class_seen s ((settings_is s).0 legal))) ∙ f
+      ap (λ n. is_command_form n l)
+      (sym (ap class_as_number e ∙ class_as_number-class_seen s ((settings_is s).0 legal)))
+      ∙ f
 
   unformed : is_command_form (class_as_number k) l ≡ false → swallowed o ≡ line_answer s o l
   unfolding line_answer
   unformed f = sym (if_no (replied s o l) (swallowed o) (at_class f))
 
-  module _ (j : ClassNumber) {letters p : List ℕ} (taken : IsCommandOf (class_as_number k) l (class_as_number j) letters p) where
+  module _
+      (j : ClassNumber)
+      {letters p : List ℕ}
+      (taken : IsCommandOf (class_as_number k) l (class_as_number j) letters p)
+    where
     formed : replied s o l ≡ line_answer s o l
     unfolding line_answer
     formed = sym (if_yes (replied s o l) (swallowed o) (at_class taken.form))
@@ -92,5 +105,6 @@ returns-clause-own c =
 pub returns-clause-written : goal.returns-clause-written
 returns-clause-written c =
     c.put_reply.ensures.written
-    ∙ ap (λ r. over r c.args.out.now) (answers c.args.s.now c.args.o.now c.args.l.now c.requires.settings c.class.ensures _
+    ∙ ap (λ r. over r c.args.out.now)
+    (answers c.args.s.now c.args.o.now c.args.l.now c.requires.settings c.class.ensures _
     c.in-Some.ensures.taken c.decide-reply.result c.request-asked.ensures c.decide-reply.ensures.value)
