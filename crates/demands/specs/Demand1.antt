@@ -10,7 +10,7 @@
 -- of record/specs/Places (RULES, Places), those of storing and loading as form/specs/Form and stored/specs/Loading have
 -- them, against the order of RULES, Stored form, with numbers in bytes as numbers/specs/HighestFirst has them; what is
 -- legal and what is in range (record/specs: Limits, Rules, Legal, SetUp, and `blank` of Record; lines/specs: Bytes,
--- Inputs, Texts; utf8/specs: Utf8); the length 168 (`command_room` of controller/specs/Writing); for the readers, the
+-- Inputs, Texts; words/specs: Utf8); the length 168 (`command_room` of controller/specs/Writing); for the readers, the
 -- forms of lines (lines/specs: Forms, Commands; `is_body` of requests/specs/Requests) and which parameter says what
 -- (answers/specs: Lists, Said, CanSay; replies/specs: Words, Writings; `greets`, `random_in` of
 -- controller/specs/Greetings); ours/specs/Board; here Calls.

@@ -5,7 +5,7 @@
 -- lamps stay." What the projector meant is `meant`, the table of RULES, Commands (crate `meaning`), which knows no
 -- bytes but a set-up's inputs, two characters each, by the table of RULES, Inputs.
 -- TO BELIEVE IT, believe, and nothing else: MD5 and its digits (digest/specs); lines, inputs, texts and commands
--- (lines/specs; for names also utf8/specs/Utf8), and requests (requests/specs/Requests); what an answer is and which
+-- (lines/specs; for names also words/specs/Utf8), and requests (requests/specs/Requests); what an answer is and which
 -- bytes say it (answers/specs: Lists, Said, CanSay; replies/specs: Words, Writings); what a reading means and a
 -- greeting is (controller/specs: `meaning`, `LineSays` of Reading, `Exactly` of Greetings; here Greeted); what is meant
 -- and done (meaning/specs); how a line is answered and a connection greeted (device/specs: Answering, `is_led_by` of
