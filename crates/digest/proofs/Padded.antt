@@ -5,15 +5,17 @@ use Rattle.std.proofs.Common.{replicate, ap, ◌∙◌, append_assoc, arith, len
 use Rattle.std.proofs.lemmas.List.{length-replicate}
 use Rattle.std.proofs.Math.Seq.{sets, length-sets}
 use Rattle.text.proofs.Stores.{sets_snoc}
-use Rattle.digest.specs.Padding.{zeros_after}
+use Rattle.std.specs.Int.{to_le_bytes, w64}
+use Rattle.digest.specs.Padding.{padding, zeros_after}
 use Rattle.digest.proofs.Stored.{take-sets_zeros, take-sets_end}
 
 -- the two blocks, up to the end of what is used of them: what is left of the message, the "1" bit, zeros, the length
-pub padded_out : (rest l : List ℕ) {t u : List ℕ} → length rest < 64 → t ≡ sets (replicate 128 0) 0 rest
-    → u ≡ sets (set t (length rest) 0x80) ((length rest + 72) / 64 * 64 - 8) l → length l ≡ 8
-    → take ((length rest + 72) / 64 * 64) u ≡ rest ++ 0x80 ∷ (replicate (zeros_after (length rest)) 0 ++ l)
-unfolding zeros_after
-padded_out rest l {t} {u} h et eu el =
+pub padded_out : (rest : List ℕ) (b : ℕ) {t u l : List ℕ} → length rest < 64 → t ≡ sets (replicate 128 0) 0 rest
+    → u ≡ sets (set t (length rest) 0x80) ((length rest + 72) / 64 * 64 - 8) l → l ≡ to_le_bytes w64 b
+    → take ((length rest + 72) / 64 * 64) u ≡ rest ++ padding (length rest) b
+unfolding padding zeros_after
+padded_out rest b {t} {u} {l} h et eu el =
+    let eight : length l ≡ 8 = ap length el in
     let e : ℕ = (length rest + 72) / 64 * 64 in
     let marked : List ℕ = rest ++ 0x80 ∷ [] in
     let m : List ℕ = set t (length rest) 0x80 in
@@ -25,5 +27,5 @@ padded_out rest l {t} {u} h et eu el =
     ∙ take-sets_zeros 128 (e - 8) marked (omega arith) (omega arith) in
     ap (take e) eu
     ∙ take-sets_end m l (e - 8) e (omega arith) (omega arith)
-    ∙ ap (λ (s : List ℕ). s ++ l) (front ∙ ap (λ (z : ℕ). marked ++ replicate z 0) zeros)
+    ∙ (λ i. (front ∙ ap (λ (z : ℕ). marked ++ replicate z 0) zeros) i ++ el i)
     ∙ simp append_assoc
