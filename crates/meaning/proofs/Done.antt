@@ -29,7 +29,7 @@ use Rattle.meaning.specs.SetUpInputs.{place_of, is_listed}
 use Rattle.meaning.specs.Rules.{is_out_of_parameter}
 use Rattle.meaning.specs.Meaning.{level_after, after_power, after_mute, after_step, request_answer, carried_out, meant}
 use Rattle.meaning.specs.Meaning.{done}
-use Rattle.meaning.proofs.Cases.{decided_by, done_by}
+use Rattle.meaning.proofs.Cases.{refused_or_passed, done_by}
 
 pub record Keeps (o k : Own) : Type 0 where
   pub lamps : k.lamps ≡ o.lamps
@@ -86,9 +86,7 @@ module _ (s : Settings) (o : Own) where
 
   -- what is not answered OK does nothing
   pub done_or_okay : (r : Request) → (meant s o r ≡ okay → ⊥) → done s o r ≡ o
-  done_or_okay r =
-      decided_by s o r (λ m k. (m ≡ okay → ⊥) → k ≡ o) (λ a n. refl) (λ a b n. refl) (λ a b c n. refl)
-      (λ a b c d n. refl) (λ p. told_or_kept r)
+  done_or_okay r = refused_or_passed s o r (λ m k. (m ≡ okay → ⊥) → k ≡ o) (λ n e. refl) (λ p. told_or_kept r)
 
   module _ (settings : is_settings s ≡ true) (own : is_own s o ≡ true) where
     abbrev set_up : IsSettings s
