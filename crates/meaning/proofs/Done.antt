@@ -2,7 +2,7 @@
 -- a legal projector legal.
 --   Keeps o k      k has the lamps and their marks, the fault mark and the errors of o
 -- Assumes nothing.
-use Rattle.std.proofs.Common.{ℕ, ◌≤◌, ◌<◌, ◌≡◌, refl, Bool, true, false, not, ◌&&◌, arith, nat_lt, ◌==◌, ltb-true}
+use Rattle.std.proofs.Common.{ℕ, ◌≤◌, ◌<◌, ◌≡◌, refl, Bool, true, false, not, ◌&&◌, arith, ◌==◌, ltb-true}
 use Rattle.std.proofs.lemmas.Bool.{not-false}
 use Rattle.std.specs.Prelude.{Ok, Err}
 use Rattle.text.proofs.Choices.{if_all, if_by}
@@ -121,9 +121,7 @@ module _ (s : Settings) (o : Own) where
     -- a step stays within the ends
     step_within : (up : Bool) (level : ℕ) → level ≤ volume_most → level_after up level ≤ volume_most
     unfolding level_after
-    step_within true level h =
-        if_by (λ (n : ℕ). n ≤ volume_most) (nat_lt level volume_most)
-        (λ t. let below = ltb-true level volume_most t in omega arith) (λ t. h)
+    step_within true level h = grind (arith, if_by, ltb-true)
     step_within false level h = omega arith
 
     is_own-after_step : (v : Volume) (up : Bool) → is_own s (after_step o v up) ≡ true

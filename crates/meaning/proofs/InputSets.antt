@@ -21,9 +21,7 @@ use Rattle.record.proofs.FactsTold.{settings_is}
 
 module _ (s : Settings) (settings : is_settings s ≡ true) (i : Input) where
   pub chosen_is_asked : (o : Own) → is_listed s i ≡ true → chosen_of s (with_chosen o (place_of s i)) ≡ i
-  chosen_is_asked o listed =
-      let below = ltb-true (place_of s i) s.input_count listed in
-      found_at_place i no_input (inputs_of s) (omega (arith, length-inputs_of s ((settings_is s).0 settings)))
+  chosen_is_asked o listed = grind (arith, ltb-true, found_at_place, length-inputs_of, settings_is)
 
   -- an input that is listed is one that two characters can name
   pub listed_is_input : is_listed s i ≡ true → is_input i ≡ true

@@ -61,10 +61,7 @@ module _ (l : List ℕ) where
   pub input_at_place : (k : ℕ) (d : Input) → 2 * k + 1 < length l
       → slice_index_or (inputs_of_pairs l) k d
       ≡ input_of_pair (slice_index_or l (2 * k) 0) (slice_index_or l (2 * k + 1) 0)
-  input_at_place k d h =
-      let odd : suc (twice k) ≡ 2 * k + 1 = omega (arith, twice_is k) in
-      named_at k l d (omega (arith, twice_is k))
-      ∙ (λ i. input_of_pair (slice_index_or l (twice_is k i) 0) (slice_index_or l (odd i) 0))
+  input_at_place k d h = grind (arith, twice_is, named_at)
 
   pub inputs_counted : (k : ℕ) → length l ≡ 2 * k → length (inputs_of_pairs l) ≡ k
   inputs_counted k h = named_long k l (omega (arith, twice_is k))
@@ -74,10 +71,7 @@ module _ (l : List ℕ) (count k : ℕ) (h : k < count) (room : 2 * k + 1 < leng
   pub input_in_use : (d : Input)
       → slice_index_or (inputs_of_pairs (take (2 * count) l)) k d
       ≡ input_of_pair (slice_index_or l (2 * k) 0) (slice_index_or l (2 * k + 1) 0)
-  input_in_use d =
-      let first = get_or-take (2 * count) l (2 * k) 0 (omega arith) in
-      let second = get_or-take (2 * count) l (2 * k + 1) 0 (omega arith) in
-      input_at_place (take (2 * count) l) k d (omega (arith, length-take (2 * count) l)) ∙ (λ j. input_of_pair (first j) (second j))
+  input_in_use d = grind (arith, get_or-take, input_at_place, length-take)
 
 -- the input at the place that is found is the one sought
 pub found_at_place : (i d : Input) (is : List Input) → place_in i is < length is →
