@@ -1,4 +1,4 @@
--- However a stream is cut: once, for list_all machine, whatever byte ends its lines. The calls may leave the machine's
+-- However a stream is cut: once, for any machine, whatever byte ends its lines. The calls may leave the machine's
 -- state in a larger record, and may take several lines each.
 --   out_through g, took_through g   what is left of a state, of the record that g makes of it
 --   Taking ..                       what a call does that is handed bytes: it takes some of them and runs over these
@@ -116,6 +116,16 @@ module _ (end : ℕ) (D : Type 0) (collect : D → ℕ → D) (ends : D → Out 
       (λ p. ap (took_bytes (length bs)) (sym (ap (ran d) (take-length bs) ∙ run_plain d bs p)))
       (λ xs more p.
       ap (took_bytes (length xs + 1)) (sym (ap (ran d) (take-append-add xs (end ∷ more) 1) ∙ run_line d xs p)))
+
+  -- what is run over: one call's bytes, and then the rest
+  pub run_called : (d : D) (bs : List ℕ) → let t = called d bs in
+      ran d bs ≡ reply_then t.reply (ran t.state (drop t.taken bs))
+  run_called d bs =
+      let n = (called d bs).taken in
+      let t = call_runs d bs in
+      ap (ran d) (sym (take-append-drop n bs))
+      ∙ run_append d (take n bs) (drop n bs)
+      ∙ (λ i. reply_then (sym t i).reply (ran (sym t i).state (drop n bs)))
 
   some_taken : (d : D) (bs : List ℕ) → 1 ≤ length bs → 1 ≤ (called d bs).taken
   some_taken d bs =
