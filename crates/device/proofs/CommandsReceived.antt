@@ -76,9 +76,9 @@ module _ (d : Device) (p : ℕ) (there : p < places_count) (room : ℕ) (legal :
   abbrev pub digest : List ℕ
   digest = leading_digest c.random (set_up_password d.settings)
 
-  taken-received : c.phase ≡ opened
+  command_line-received : c.phase ≡ opened
       → received d p (command_line k) room ≡ spoken_after (length (command_line k)) answered
-  taken-received phase =
+  command_line-received phase =
       line-received d p there room legal enough unmarked none (command_text k) (command_no_cr k) phase
       (omega (arith, command_length k))
       ∙ ap (λ (n : ℕ). spoken_after n answered) (sym (length-append (command_text k) (codes "\r")))
@@ -106,7 +106,7 @@ module _ (d : Device) (p : ℕ) (there : p < places_count) (room : ℕ) (legal :
 
     pub command_received : c.phase ≡ opened
         → received d p (command_line k) room ≡ command_result d p k (length (command_line k))
-    command_received phase = taken-received phase ∙ answers (length (command_line k))
+    command_received phase = command_line-received phase ∙ answers (length (command_line k))
 
     pub command_received_secured : c.phase ≡ awaiting
         → received d p (digest ++ command_line k) room ≡ command_result d p k (length (digest ++ command_line k))
@@ -119,7 +119,7 @@ module _ (d : Device) (p : ℕ) (there : p < places_count) (room : ℕ) (legal :
 
     pub higher_received : c.phase ≡ opened
         → received d p (command_line k) room ≡ swallowed_at d p (length (command_line k))
-    higher_received phase = taken-received phase ∙ swallows (length (command_line k))
+    higher_received phase = command_line-received phase ∙ swallows (length (command_line k))
 
     pub higher_received_secured : c.phase ≡ awaiting
         → received d p (digest ++ command_line k) room ≡ swallowed_at d p (length (digest ++ command_line k))

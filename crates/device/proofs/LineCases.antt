@@ -77,7 +77,8 @@ pub match_long : (s : Settings) (c : Connection) (l : Line) â†’ is_match s c l â
 unfolding is_match
 match_long s c l e =
     let led = same_by itself (take digest_long l.bytes) (leading_digest c.random (set_up_password s)) in
-    leb-true digest_long l.held (both_right (not l.overlong) _ (both_left (not l.overlong && nat_le digest_long l.held) led e))
+    leb-true digest_long l.held
+    (both_right (not l.overlong) _ (both_left (not l.overlong && nat_le digest_long l.held) led e))
 
 -- a failed connection keeps no byte
 module _ (c : Connection) (l : Line) where

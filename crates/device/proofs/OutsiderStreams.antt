@@ -22,7 +22,7 @@ use Rattle.record.proofs.ConnectionsTold.{placed_here, placed_elsewhere}
 use Rattle.stream.specs.declared.Gathered.{Gathered}
 use Rattle.stream.specs.Collecting.{gathered}
 use Rattle.stream.specs.Machine.{Out, Took, unanswered, reply_then, run_over, handed_parts, uncut}
-use Rattle.stream.proofs.GatheredOn.{gathered-whole}
+use Rattle.stream.proofs.GatheredOn.{gathered_whole}
 use Rattle.stream.proofs.LinesSpelt.{run_none, run_more}
 use Rattle.stream.proofs.SameHoweverCut.{out_through, run_called}
 use Rattle.device.specs.Receiving.{Ended, turned}
@@ -85,7 +85,7 @@ module _ (s : Settings) where
       ∙ ap (reply_then erra_line) (failed_run (state_of o (turned c failed)) (drop (g.before + 1) bs) refl)
       ∙ ap leaves_then (sym e))
       (λ e. (λ i. ran (state_of o (keeping_line_lem c g.line (λ f. omega arith) i))
-      (drop_of_length-le bs {i = g.before} (omega (arith, gathered-whole (held_most c.phase) c.line bs e)) i))
+      (drop_of_length-le bs {i = g.before} (omega (arith, gathered_whole (held_most c.phase) c.line bs e)) i))
       ∙ run_none (code "\r") State collects (ends s) (state_of o (with_line c g.line))
       ∙ ap leaves_then (sym e))
 

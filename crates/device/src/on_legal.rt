@@ -20,7 +20,7 @@ use words::codec::Line;
 pub const REPLY_ROOM: usize = 136;
 
 /// As `calls::receive`, but for `NotLegal`.
-#[tactic(auto, using(record::proofs::LegalTold::legal_settings, record::proofs::LegalTold::legal_own), unfolding(crate::specs::Calls::received))]
+#[tactic(auto, unfolding(crate::specs::Calls::received))]
 pub fn receive(
     device: &mut Device,
     place: usize,

@@ -161,9 +161,9 @@ module _ (s : Settings) (o : Own) (settings : is_settings s ≡ true) (own : is_
 
   pub meant_fits : (r : Request) → Fits (meant s o r)
   meant_fits r =
-      meant_by s o r Fits (λ a. refusal_fits 1 (omega arith) (omega arith)) (λ a b. refusal_fits 2 (omega arith) (omega arith))
-      (λ a b c. refusal_fits 4 (omega arith) (omega arith)) (λ a b c d. refusal_fits 3 (omega arith) (omega arith))
-      (passed_fits r)
+      meant_by s o r Fits (λ a. refusal_fits 1 (omega arith) (omega arith))
+      (λ a b. refusal_fits 2 (omega arith) (omega arith)) (λ a b c. refusal_fits 4 (omega arith) (omega arith))
+      (λ a b c d. refusal_fits 3 (omega arith) (omega arith)) (passed_fits r)
     where
       passed_fits : (r : Request) → Passes s o r → Fits (request_answer s o r)
       passed_fits (Ok c) p = fits (told_can_be_said c p.defined)

@@ -56,7 +56,8 @@ module _ (s : Settings) (o : Own) (r : Request) where
   -- either some rule refuses and nothing is done, or none does
   pub refused_or_passed : (P : Said → Own → Type 0) → ((n : ℕ) → P (refused n) o)
       → (Passes → P (request_answer s o r) (carried_out s o r)) → P (meant s o r) (done s o r)
-  refused_or_passed P refuses = decided_by P (λ a. refuses 1) (λ a b. refuses 2) (λ a b c. refuses 4) (λ a b c d. refuses 3)
+  refused_or_passed P refuses =
+      decided_by P (λ a. refuses 1) (λ a b. refuses 2) (λ a b c. refuses 4) (λ a b c d. refuses 3)
 
   pub done_by : (P : Own → Type 0) → P o → (Passes → P (carried_out s o r)) → P (done s o r)
   done_by P kept = refused_or_passed (λ m k. P k) (λ n. kept)

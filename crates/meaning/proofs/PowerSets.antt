@@ -73,7 +73,8 @@ module _ (s : Settings) (o : Own) where
     pub power_set_done : meant s o (Ok (PowerSet wanted)) ≡ okay
         → done s o (Ok (PowerSet wanted)) ≡ after_power s o wanted
     power_set_done =
-        refused_or_passed s o (Ok (PowerSet wanted)) (λ m k. m ≡ okay → k ≡ after_power s o wanted) (λ n e. cc) (λ p e. refl)
+        refused_or_passed s o (Ok (PowerSet wanted)) (λ m k. m ≡ okay → k ≡ after_power s o wanted)
+        (λ n e. cc) (λ p e. refl)
 
   pub on_when_off : meant s o (Ok (PowerSet true)) ≡ okay → o.power ≡ off
       → done s o (Ok (PowerSet true)) ≡ with_power_left o warming s.warm
