@@ -73,10 +73,7 @@ module _ (end : ℕ) (D : Type 0) (collect : D → ℕ → D) (ends : D → Out 
           rw k.runs (reply_then-handed n d (b ∷ bs) k (handed_runs n _ (drop k.taken (b ∷ bs)) k.ready less))
 
       part_runs : (d : D) (p : List ℕ) → IsReady d p → handed_part f (g d) p ≡ out_through g (ran d p)
-      part_runs d p r =
-          let k = takes d p r in
-          let less : length (drop k.taken p) ≤ length p = simp length-drop (omega arith) in
-          rw k.runs (reply_then-handed (length p) d p k (handed_runs (length p) _ (drop k.taken p) k.ready less))
+      part_runs d p r = grind (arith, length-drop, reply_then-handed, handed_runs)
 
       -- Ahead: what is known of the parts that are still to come
       module _ (Ahead : D → List (List ℕ) → Type 0)
@@ -103,12 +100,7 @@ module _ (end : ℕ) (D : Type 0) (collect : D → ℕ → D) (ends : D → Out 
   run_line : (d : D) (xs : List ℕ) → list_all (not_end end) xs ≡ true
       → ran d (xs ++ (end ∷ [])) ≡ ends (foldl collect d xs)
   unfolding run_over
-  run_line d xs p =
-      let line = foldl collect d xs in
-      run_append d xs (end ∷ [])
-      ∙ ap (λ (o : Out D). reply_then o.reply (ran o.state (end ∷ []))) (run_plain d xs p)
-      ∙ ap (λ (o : Out D). reply_then o.reply (unanswered o.state)) (if_yes _ _ (eq-eqb end end refl))
-      ∙ ap {B = Out D} (λ (r : List ℕ). record { state = (ends line).state; reply = r }) (append-nil (ends line).reply)
+  run_line d xs p = grind (arith, run_append, run_plain, if_yes, eq-eqb, append-nil)
 
   pub call_runs : (d : D) (bs : List ℕ) → let t = called d bs in t ≡ took_bytes t.taken (ran d (take t.taken bs))
   call_runs d bs =
