@@ -13,9 +13,6 @@ module _ {B : Type 0} (g : ℕ → List B) (blank : List B) (count : ℕ) where
     pub stored : arr ≡ sets blank 0 (g k)
     pub long : k ≡ length (g k)
 
-  pub none_filled : g 0 ≡ [] → IsFilled blank 0
-  none_filled e = record { counted = omega arith; stored = ap (sets blank 0) (sym e); long = ap length (sym e) }
-
   pub one_filled : {arr : List B} {k : ℕ} (b : B) → IsFilled arr k → k < count → g (k + 1) ≡ g k ++ (b ∷ [])
       → IsFilled (set arr k b) (k + 1)
   one_filled {arr} {k} b f h e = record {
@@ -31,6 +28,3 @@ module _ {A B : Type 0} (f : A → B) (l : List A) where
   one_more_turned k d h =
       ap (λ (j : ℕ). map f (take j l)) (add-one k) ∙ ap (map f) (take-suc l k d h)
       ∙ map-append f (take k l) (slice_index_or l k d ∷ [])
-
-  pub all_turned : (k n : ℕ) → length l ≤ k → length l ≤ n → map f (take k l) ≡ map f (take n l)
-  all_turned k n h m = ap (map f) (take_all k l h ∙ sym (take_all n l m))

@@ -8,7 +8,7 @@ ghost use Rattle.panel.specs.Stepping.{strays_most, strayed, with_talk, erra_ent
 ghost use Rattle.panel.specs.Stepping.{replied_to, heard_line};
 
 use crate::types::{Entry, NO_COMMAND, STRAYS_MOST};
-use crate::views::{Awaits, Greeted};
+use crate::talk::{Awaits, Greeted};
 use codes::command::Coded;
 use controller::greeting::Greeting;
 use controller::reading::{Misread, Reading};

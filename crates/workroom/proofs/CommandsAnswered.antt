@@ -4,7 +4,7 @@
 -- Assumes nothing.
 use Rattle.std.proofs.Common.{ℕ, ◌≤◌, ◌<◌, ◌≡◌, refl, sym, ap, subst, ◌∙◌, Bool, true, false, ◌||◌, List, ◌++◌, arith}
 use Rattle.std.proofs.Common.{length, ◌==◌, ne_eqb}
-use Rattle.std.specs.Prelude.{Option, Some, Ok}
+use Rattle.std.specs.Prelude.{Option, Some, Ok, is_some}
 use Rattle.text.proofs.Choices.{if_yes}
 use Rattle.digest.specs.Hex.{leading_digest}
 use Rattle.pjlink.specs.Commands.{command_class, is_command, command_line}
@@ -32,7 +32,6 @@ use Rattle.codes.specs.declared.command.Coded.{Coded}
 use Rattle.codes.proofs.CodesBack.{command_writable}
 use Rattle.panel.specs.Entries.{Talk, talk_of, password_in, ungreeted, leads_next}
 use Rattle.panel.specs.Stepping.{is_unready, line_sent}
-use Rattle.panel.specs.LegalPanels.{names_command}
 use Rattle.panel.specs.declared.types.Entry.{Entry}
 use Rattle.panel.specs.PanelCalls.{PanelAs, sent_at, commanded}
 use Rattle.panel.proofs.Cases.{Commands, commanded_done}
@@ -78,7 +77,7 @@ module _ (i p : ℕ) (w : Workroom) (j : IsJoined i p w) where
       legal = j.acquainted.panel;
       enough = omega arith;
       there = j.acquainted.there;
-      named = ap names_command is;
+      named = ap is_some is;
       ready = joined_ready;
     }
 

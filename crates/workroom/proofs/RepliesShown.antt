@@ -4,7 +4,7 @@
 use Rattle.std.proofs.Common.{ℕ, ◌≤◌, ◌<◌, ◌≡◌, refl, sym, ap, subst, ◌∙◌, Bool, true, false, not, ◌&&◌, ⊎_elim, List}
 use Rattle.std.proofs.Common.{ne_eqb}
 use Rattle.std.proofs.lemmas.Bool.{false≢true}
-use Rattle.std.specs.Prelude.{Option, Some, None, Ok}
+use Rattle.std.specs.Prelude.{Option, Some, None, Ok, is_some}
 use Rattle.text.proofs.Choices.{if_no}
 use Rattle.text.proofs.Orders.{le_or_lt}
 use Rattle.pjlink.specs.Commands.{command_class}
@@ -28,7 +28,6 @@ use Rattle.codes.specs.declared.command.Coded.{Coded}
 use Rattle.panel.specs.Entries.{talk_of, shown_of, password_in, is_secured_talk, leads_next}
 use Rattle.panel.specs.Showing.{showing}
 use Rattle.panel.specs.Stepping.{answered_entry, sent_entry, heard_line}
-use Rattle.panel.specs.LegalPanels.{names_command}
 use Rattle.panel.specs.StepTable.{IsUnderWay, answers}
 use Rattle.panel.specs.PanelCalls.{entry_at, stepped_at}
 use Rattle.panel.specs.declared.types.Entry.{Entry}
@@ -136,10 +135,10 @@ module _ (i p : ℕ) (w : Workroom) (j : IsJoined i p w) where
   refused_so k there back none =
       commanded_by w.panel i k command_room (λ r. asked_as ours_panel i p r device there back ≡ w)
       (λ n other. if_no _ _ (ne_eqb n 0 other))
-      (λ can. absurd (false≢true (sym (ap names_command none) ∙ can.named)))
+      (λ can. absurd (false≢true (sym (ap is_some none) ∙ can.named)))
 
   -- once something was asked the connection is open, answered or not, and an open one stays so
-  pub asked_open : (k : Coded) (there back : List ℕ) → names_command (coded_command k) ≡ true
+  pub asked_open : (k : Coded) (there back : List ℕ) → is_some (coded_command k) ≡ true
       → (our_connection p (happened ours_panel i p w (asks k there back))).phase ≡ opened
   asked_open k there back named = by (coded_command k) refl
     where
@@ -154,7 +153,7 @@ module _ (i p : ℕ) (w : Workroom) (j : IsJoined i p w) where
           ap (λ (x : Workroom). (our_connection p x).phase) (swallowed_so i p w j k c is higher there back)
           ∙ ap (λ (q : Connection). q.phase) (swallowed_stands i p w j k c is higher there back))
           (le_or_lt (command_class c) device.settings.class_number)
-      by None none = absurd (false≢true (sym (ap names_command none) ∙ named))
+      by None none = absurd (false≢true (sym (ap is_some none) ∙ named))
 
   pub open_asked : (k : Coded) (there back : List ℕ) → (connection_at device p).phase ≡ opened
       → (our_connection p (happened ours_panel i p w (asks k there back))).phase ≡ opened
@@ -162,7 +161,7 @@ module _ (i p : ℕ) (w : Workroom) (j : IsJoined i p w) where
     where
       by : (m : Option Command) → coded_command k ≡ m
           → (our_connection p (happened ours_panel i p w (asks k there back))).phase ≡ opened
-      by (Some c) is = asked_open k there back (ap names_command is)
+      by (Some c) is = asked_open k there back (ap is_some is)
       by None none =
           ap (λ (x : Workroom). (our_connection p x).phase) (refused_so k there back none) ∙ stands
 

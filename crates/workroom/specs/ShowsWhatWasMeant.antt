@@ -26,7 +26,7 @@
 --   BegunAs i w        nothing was heard yet
 --   PartedAs i w x     the connection is gone: what was shown stays, and they are apart
 -- Assumes nothing.
-use Rattle.std.specs.Prelude.{ℕ, ◌+◌, ◌<◌, ◌^◌, ◌≡◌, Bool, true, false, List, [], ◌∷◌, Some}
+use Rattle.std.specs.Prelude.{ℕ, ◌+◌, ◌<◌, ◌^◌, ◌≡◌, Bool, true, false, List, [], ◌∷◌, Some, is_some}
 use Rattle.pjlink.specs.Commands.{command_class}
 use Rattle.pjlink.specs.declared.command.Command.{Command}
 use Rattle.record.specs.Given.{left_by}
@@ -45,7 +45,7 @@ use Rattle.codes.specs.Commands.{coded_command}
 use Rattle.codes.specs.declared.command.Coded.{Coded}
 use Rattle.panel.specs.Entries.{Talk, Shown, talk_of, shown_of, password_in, ungreeted, leads_next, nothing_shown}
 use Rattle.panel.specs.Showing.{showing}
-use Rattle.panel.specs.LegalPanels.{names_command, is_panel}
+use Rattle.panel.specs.LegalPanels.{is_panel}
 use Rattle.panel.specs.StepTable.{IsUnderWay}
 use Rattle.panel.specs.PanelCalls.{entry_at}
 use Rattle.panel.specs.declared.types.Entry.{Entry}
@@ -186,7 +186,7 @@ pub record ShowsWhatWasMeant (P : AnyPanel) : Type 0 where
       → (our_connection p w).phase ≡ opened → AllOther i p P w hs
       → AllKeptUp i p P w hs
   pub asking_opens : (i p : ℕ) (w : Workroom) (k : Coded) (there back : List ℕ) → IsJoined i p w
-      → names_command (coded_command k) ≡ true
+      → is_some (coded_command k) ≡ true
       → (our_connection p (happened P i p w (asks k there back))).phase ≡ opened
   -- and one whose digest is awaited does not close before its age is 30 seconds
   pub stays_awaited : (i p : ℕ) (w : Workroom) (n : ℕ) → IsJoined i p w → (our_connection p w).phase ≡ awaiting
