@@ -119,11 +119,8 @@ module _ (i p : ℕ) where
   IsOther w (meanwhile d) = Aside p w.device d
 
   abbrev pub IsKeptUp : Workroom → RoomMove → Type 0
-  IsKeptUp w (asks k there back) = IsWithin w.device.settings (coded_command k)
   IsKeptUp w (waits n) = is_shut (connection_at (left_by w.device (passed w.device n)) p) ≡ false
-  IsKeptUp w (asks_another j k) = j ≡ i → ⊥
-  IsKeptUp w (hears_another j l) = j ≡ i → ⊥
-  IsKeptUp w (meanwhile d) = Aside p w.device d
+  IsKeptUp w h = IsOther w h
 
   -- each, where it comes
   abbrev pub Throughout : (Workroom → RoomMove → Type 0) → AnyPanel → Workroom → List RoomMove → Type 0
