@@ -3,7 +3,7 @@
 --   Right n b      what the code n stands for has that code
 --   Stands u m     where m is a command, it can be written and has the code u
 -- Assumes nothing.
-use Rattle.std.proofs.Common.{ℕ, ◌≡◌, refl, sym, ap, subst, ◌∙◌, Bool, true, false, ◌&&◌, List, [], ◌∷◌, arith, nat_le}
+use Rattle.std.proofs.Common.{ℕ, ◌≡◌, refl, sym, ap, subst, ◌∙◌, Bool, true, ◌&&◌, List, [], ◌∷◌, arith, nat_le}
 use Rattle.std.proofs.Common.{◌==◌, eqb-true}
 use Rattle.std.specs.Prelude.{Option, Some, None, IfSome, option_map, option_and_then}
 use Rattle.std.specs.Option.{option_map_or}
@@ -15,7 +15,7 @@ use Rattle.words.specs.declared.input.Input.{Input}
 use Rattle.pjlink.specs.declared.command.Half.{Half}
 use Rattle.pjlink.specs.declared.command.Command.{Command}
 use Rattle.codes.specs.Commands.{CodedBy, alone, switch, of_input, of_half, CodeRow, code_rows, switch_at, source_at}
-use Rattle.codes.specs.Commands.{input_at, half_at, stands_for, row_of, coded_command, coded, used_by, used_of, bit}
+use Rattle.codes.specs.Commands.{input_at, half_at, stands_for, coded_by, coded_command, coded, used_by, used_of, bit}
 use Rattle.codes.specs.Commands.{source_number, half_number, input_code, code_of}
 use Rattle.codes.specs.declared.command.Coded.{Coded}
 use Rattle.codes.proofs.CommandsCoded.{code_back}
@@ -113,7 +113,7 @@ module _ (n first second : ℕ) where
   row_stands (of_half f) right = half_stands f right (half_at first) (half_there first)
 
 -- what stands in a row is right
-right_row : (n : ℕ) (rs : List CodeRow) → AllRight rs → IfSome (row_of n rs) (Right n)
+right_row : (n : ℕ) (rs : List CodeRow) → AllRight rs → IfSome (coded_by n rs) (Right n)
 right_row n [] right = tt
 right_row n (r ∷ rs) right =
     if_by (λ (b : Option CodedBy). IfSome b (Right n)) (n == r.code)
@@ -121,7 +121,7 @@ right_row n (r ∷ rs) right =
 
 command_stands : (k : Coded) → Stands (used_of k) (coded_command k)
 unfolding coded_command used_of
-command_stands k = by (row_of k.code code_rows) (right_row k.code code_rows codes_right)
+command_stands k = by (coded_by k.code code_rows) (right_row k.code code_rows codes_right)
   where
     by : (o : Option CodedBy) → IfSome o (Right k.code)
         → Stands (option_map_or (λ b. used_by b k) o (coded k.code 0 0))
@@ -147,11 +147,11 @@ one_code j k c e f = sym (command_back j c e) ∙ command_back k c f
 -- what a code does not use is passed over
 command_used : (k : Coded) → coded_command (used_of k) ≡ coded_command k
 unfolding coded_command used_of
-command_used k = by (row_of k.code code_rows) refl
+command_used k = by (coded_by k.code code_rows) refl
   where
-    by : (o : Option CodedBy) → row_of k.code code_rows ≡ o
+    by : (o : Option CodedBy) → coded_by k.code code_rows ≡ o
         → let u = option_map_or (λ b. used_by b k) o (coded k.code 0 0) in
-        option_and_then (λ b. stands_for b u.first u.second) (row_of u.code code_rows)
+        option_and_then (λ b. stands_for b u.first u.second) (coded_by u.code code_rows)
         ≡ option_and_then (λ b. stands_for b k.first k.second) o
     by (Some (alone c)) e = ap (option_and_then (λ b. stands_for b 0 0)) e
     by (Some (switch f)) e = ap (option_and_then (λ b. stands_for b k.first 0)) e

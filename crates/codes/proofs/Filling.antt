@@ -2,7 +2,7 @@
 --   Filled arr k      the array arr, blank before, has k things of at most `count`
 -- Assumes nothing.
 use Rattle.std.proofs.Common.{ℕ, ◌+◌, ◌<◌, ◌≤◌, ◌≡◌, sym, ap, ◌∙◌, List, [], ◌∷◌, ◌++◌, map, add-one, arith, length}
-use Rattle.std.proofs.Common.{slice_index_or, set, take, length-append, take-suc, take_all}
+use Rattle.std.proofs.Common.{slice_index_or, set, take, length-append, take-suc}
 use Rattle.std.proofs.lemmas.List.{map-append}
 use Rattle.std.proofs.Math.Seq.{sets}
 use Rattle.text.proofs.Stores.{sets_snoc}

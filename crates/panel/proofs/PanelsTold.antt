@@ -3,9 +3,11 @@
 --   PanelTold p      the parts of is_panel
 -- Assumes nothing.
 use Rattle.std.specs.List.{list_all}
-use Rattle.std.proofs.Common.{ℕ, ◌≤◌, ◌<◌, ◌≡◌, Bool, true, ◌&&◌, List, arith, length, slice_index_or, drop}
-use Rattle.std.specs.Prelude.{◌==◌}
-use Rattle.text.specs.Rooms.{used, Uses}
+use Rattle.std.proofs.Common.{ℕ, ◌≤◌, ◌<◌, ◌≡◌, ◌↔◌, refl, sym, ◌∙◌, Bool, true, List, arith, length, slice_index_or}
+use Rattle.std.proofs.Common.{drop}
+use Rattle.std.specs.Prelude.{Option, Some, None, is_some, ◌==◌}
+use Rattle.text.proofs.Choices.{both, both_left, both_right}
+use Rattle.text.specs.Rooms.{used, holds, Uses}
 use Rattle.text.proofs.RoomsTold.{uses_told}
 use Rattle.text.proofs.Scanning.{list_all_at}
 use Rattle.words.specs.Texts.{is_password}
@@ -45,6 +47,18 @@ module _ (e : Entry) where
   pub is_password-password_in : is_entry e ≡ true → is_password (password_in e) ≡ true
   is_password-password_in legal = (password_uses legal).follows
 
+-- a room of which something is used
+some_holds : {A : Type 0} (u : Option (List A)) → is_some u ≡ holds (λ _. true) u
+some_holds (Some s) = refl
+some_holds None = refl
+
+pub room_told : {A : Type 0} (blank : A → Bool) (room : ℕ) (s : List A) (n : ℕ)
+    → (is_some (used blank room s n) ≡ true) ↔ Uses blank room (λ _. true) s n
+room_told blank room s n =
+    let same = some_holds (used blank room s n) in
+    let told = uses_told blank room (λ _. true) s n in
+    (λ e. told.0 (sym same ∙ e), λ u. same ∙ told.1 u)
+
 pub record PanelTold (p : Panel) : Type 0 where
   pub count : p.count ≤ panel_most
   pub long : length p.entries ≡ panel_most
@@ -53,17 +67,16 @@ pub record PanelTold (p : Panel) : Type 0 where
 
 module _ (p : Panel) where
   pub panel_told : is_panel p ≡ true → PanelTold p
-  unfolding is_panel used
-  panel_told h = record {
-    count = grind (arith, h);
-    long = grind (arith, h);
-    entries = grind (arith, h);
-    unused = grind (arith, h);
-  }
+  unfolding is_panel
+  panel_told h =
+      let room = (room_told is_unused panel_most p.entries p.count).0 (both_left _ _ h) in
+      record { count = room.inside; long = room.long; entries = both_right _ _ h; unused = room.clear }
 
   pub panel_legal : PanelTold p → is_panel p ≡ true
-  unfolding is_panel used
-  panel_legal k = grind (arith, k.count, k.long, k.entries, k.unused)
+  unfolding is_panel
+  panel_legal k =
+      both ((room_told is_unused panel_most p.entries p.count).1
+      (record { long = k.long; inside = k.count; clear = k.unused; follows = refl })) k.entries
 
   pub few_projectors : is_panel p ≡ true → p.count ≤ panel_most
   few_projectors legal = (panel_told legal).count
@@ -80,3 +93,5 @@ module _ (p : Panel) where
 
     pub fits_there : (d : Entry) → (slice_index_or p.entries i d).password.len ≤ password_room
     fits_there d = (password_uses (slice_index_or p.entries i d) (is_entry-slice_index_or d)).inside
+
+pub ruleset projectors_there = (few_projectors, fits_there)

@@ -2,7 +2,7 @@
 -- number is that of the first row that applies.
 -- Assumes nothing.
 use Rattle.std.specs.List.{list_all}
-use Rattle.std.proofs.Common.{ℕ, ◌≡◌, refl, true, List, []}
+use Rattle.std.proofs.Common.{◌≡◌, refl, true, List, []}
 use Rattle.text.specs.Rows.{Row, first_of, by_rows, is_numbered}
 use Rattle.text.proofs.ByRows.{by_rows_lem, rows_number}
 use Rattle.panel.specs.PanelCalls.{PanelAs, panel_kept}

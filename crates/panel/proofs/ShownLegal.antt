@@ -7,7 +7,7 @@ use Rattle.std.proofs.Common.{◌++◌, map, arith, length, drop, replicate, nat
 use Rattle.std.proofs.lemmas.List.{length-map, length-replicate}
 use Rattle.std.proofs.Math.Seq.{sets-eq}
 use Rattle.std.specs.Prelude.{◌==◌}
-use Rattle.text.specs.Rooms.{used, kept, Uses}
+use Rattle.text.specs.Rooms.{kept, Uses}
 use Rattle.text.proofs.RoomsTold.{rest_kept, uses_told, kept_used}
 use Rattle.text.proofs.Scanning.{list_all-map}
 use Rattle.words.specs.Inputs.{is_input}
@@ -29,6 +29,7 @@ use Rattle.panel.specs.Entries.{Shown, nothing_shown}
 use Rattle.panel.specs.Showing.{showing}
 use Rattle.panel.specs.LegalPanels.{is_power_shown, is_input_shown, is_lamp_count, is_hours, is_hours_room, is_lit_room}
 use Rattle.panel.specs.LegalPanels.{shows_lamps, is_shown}
+use Rattle.panel.proofs.PanelsTold.{room_told}
 
 -- the parts of is_shown
 pub record ShownTold (s : Shown) : Type 0 where
@@ -76,10 +77,9 @@ room_used blank x rule xs {n} long few blanks follows =
 
 module _ (n : ℕ) (few : n ≤ lamps_carried) where
   lit_shown : (bs : List Bool) → n ≡ length bs → is_lit_room (filled_to lamps_carried false bs) n ≡ true
-  unfolding is_lit_room used
+  unfolding is_lit_room
   lit_shown bs long =
-      let u = room_used not false (λ _. true) bs long (omega arith) refl refl in
-      grind (arith, u.long, u.inside, u.clear)
+      (room_told not lamps_carried _ n).1 (room_used not false (λ _. true) bs long (omega arith) refl refl)
 
   hours_shown : (hs : List ℕ) → n ≡ length hs → is_hours hs ≡ true
       → is_hours_room (filled_to lamps_carried 0 hs) n ≡ true

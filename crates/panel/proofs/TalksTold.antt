@@ -1,7 +1,7 @@
 -- What a legal talk tells, and how one is shown.
 --   TalkTold t      the parts of is_talk
 -- Assumes nothing.
-use Rattle.std.proofs.Common.{◌≡◌, refl, Bool, true, false, not, ◌&&◌, ◌||◌, arith, nat_le, ◌==◌}
+use Rattle.std.proofs.Common.{◌≡◌, refl, true, false, not, ◌&&◌, ◌||◌, arith, nat_le, ◌==◌}
 use Rattle.std.specs.Prelude.{is_some}
 use Rattle.codes.specs.Commands.{coded_command}
 use Rattle.codes.specs.declared.command.Coded.{Coded}

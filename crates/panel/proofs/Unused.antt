@@ -2,26 +2,23 @@
 --   NoneKept e      nothing but zero is kept in e, part by part
 -- Assumes nothing.
 use Rattle.std.specs.List.{list_all}
-use Rattle.std.proofs.Common.{ℕ, ◌<◌, ◌≤◌, ◌+◌, ◌-◌, ◌≡◌, sym, ap, ◌∙◌, Bool, true, false, not, List, []}
-use Rattle.std.proofs.Common.{◌∷◌, arith, length, slice_index_or, drop, replicate, length-drop, get_or-drop, eqb-true, refl}
+use Rattle.std.proofs.Common.{ℕ, ◌<◌, ◌≤◌, ◌+◌, ◌-◌, ◌≡◌, refl, sym, ap, ◌∙◌, Bool, true, false, not, List, []}
+use Rattle.std.proofs.Common.{◌∷◌, arith, length, slice_index_or, drop, replicate, length-drop, get_or-drop, eqb-true}
 use Rattle.std.proofs.lemmas.Bool.{not-true}
 use Rattle.std.specs.Prelude.{◌==◌}
-use Rattle.text.specs.Rooms.{used}
 use Rattle.text.proofs.RoomsTold.{uses_told}
 use Rattle.text.proofs.Choices.{both_left, both_right}
 use Rattle.text.proofs.Scanning.{list_all_at}
-use Rattle.words.specs.Texts.{is_password}
 use Rattle.pjlink.specs.Carried.{lamps_carried}
-use Rattle.panel.specs.Passwords.{password_room}
 use Rattle.panel.specs.Entries.{talk_of, shown_of, ungreeted, blank_entry}
-use Rattle.panel.specs.LegalPanels.{is_command_kept, is_power_shown, is_input_shown, is_lamp_count, is_hours, is_lit_room}
+use Rattle.panel.specs.LegalPanels.{is_command_kept, is_power_shown, is_input_shown, is_lamp_count, is_lit_room}
 use Rattle.panel.specs.LegalPanels.{is_hours_room, shows_lamps, is_entry, is_unused, is_panel}
 use Rattle.panel.specs.PanelCalls.{entry_at}
 use Rattle.panel.specs.declared.types.Entry.{Entry}
 use Rattle.panel.specs.declared.types.Panel.{Panel}
-use Rattle.panel.proofs.PanelsTold.{EntryTold, entry_told, password_uses, panel_told}
-use Rattle.panel.proofs.TalksTold.{TalkTold, talk_told}
-use Rattle.panel.proofs.ShownLegal.{ShownTold, shown_told}
+use Rattle.panel.proofs.PanelsTold.{entry_told, password_uses, room_told, panel_told}
+use Rattle.panel.proofs.TalksTold.{talk_told}
+use Rattle.panel.proofs.ShownLegal.{shown_told}
 
 -- a room of which nothing is used is blank
 module _ {A : Type 0} (blank : A → Bool) (x : A) (only : (y : A) → blank y ≡ true → y ≡ x) where
@@ -100,12 +97,10 @@ module _ (e : Entry) where
         }
 
     none_lit : e.lit ≡ replicate lamps_carried false
-    unfolding is_lit_room used
+    unfolding is_lit_room
     none_lit =
-        let none = none_kept in
-        let long : length e.lit ≡ lamps_carried = grind (arith, none.lit) in
-        let clear : list_all not (drop e.lamp_count e.lit) ≡ true = grind (arith, none.lit) in
-        unused_room not false not-true e.lit long clear none.lamp_count
+        let room = (room_told not lamps_carried e.lit e.lamp_count).0 none_kept.lit in
+        unused_room not false not-true e.lit room.long room.clear none_kept.lamp_count
 
     pub unused_is_blank : e ≡ blank_entry
     unused_is_blank =
@@ -113,8 +108,9 @@ module _ (e : Entry) where
         let password = password_uses e legal in
         let hours = (uses_told _ _ _ e.hours e.lamp_count).0 none.hours in
         let is_nought = λ (x : ℕ). x == 0 in
-        let no_bytes = unused_room is_nought 0 (λ x. eqb-true x 0) e.password.bytes password.long password.clear none.len in
-        let no_hours = unused_room is_nought 0 (λ x. eqb-true x 0) e.hours hours.long hours.clear none.lamp_count in
+        let zero = λ (x : ℕ). eqb-true x 0 in
+        let no_bytes = unused_room is_nought 0 zero e.password.bytes password.long password.clear none.len in
+        let no_hours = unused_room is_nought 0 zero e.hours hours.long hours.clear none.lamp_count in
         let lit = none_lit in
         (λ i. record {
           password = record { len = none.len i; bytes = no_bytes i };

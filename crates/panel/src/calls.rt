@@ -7,8 +7,8 @@ ghost use Rattle.panel.specs.PanelCalls.{no_panel, added_to, commanded, stepped_
 ghost use Rattle.panel.specs.Refusals.{panel_outcome_number, length_sent};
 
 use crate::refusal::Refusal;
-use crate::types::{Entry, LAMPS_MOST, NO_COMMAND, PANEL_MOST, Panel, Password};
 use crate::talk::Awaits;
+use crate::types::{Entry, LAMPS_MOST, NO_COMMAND, PANEL_MOST, Panel, Password};
 use codes::command::Coded;
 use words::texts;
 
@@ -73,11 +73,7 @@ impl Panel {
     /// A command to a projector: its line is written from the start of the lent memory, and is so long. Refused:
     /// `NotLegal`, `NoRoom` for less than 168 bytes, `OutOfRange` for no such projector and for no command, `NotReady`
     /// before the greeting or over another command, in that order.
-    #[tactic(
-        auto,
-        using(crate::proofs::PanelsTold::few_projectors, crate::proofs::PanelsTold::fits_there),
-        unfolding(crate::specs::PanelCalls::commanded)
-    )]
+    #[tactic(auto, using(crate::proofs::PanelsTold::projectors_there), unfolding(crate::specs::PanelCalls::commanded))]
     pub fn send(&mut self, projector: usize, coded: Coded, out: &mut [u8]) -> Result<usize, Refusal>
         ensures number { panel_outcome_number result
             ≡ (commanded self.old projector coded (length out.old)).number }

@@ -1,5 +1,5 @@
-// The legality of the panel, a function a part: what is kept of a projector is in its ranges, and what is not known, not
-// under way or past a count is zero.
+// The legality of the panel, a function a part: what is kept of a projector is in its ranges, and what is not known,
+// not under way or past a count is zero.
 ghost use Rattle.std.specs.List.{list_all};
 ghost use Rattle.std.specs.Prelude.{◌≡◌};
 ghost use Rattle.panel.specs.Entries.{talk_of, shown_of};

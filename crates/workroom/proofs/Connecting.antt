@@ -2,8 +2,8 @@
 -- of it. The greeting joins a panel and a device that were apart, with a password or without, at the place that opening
 -- takes; a connection that is gone leaves them apart, however it stood.
 -- Assumes nothing.
-use Rattle.std.proofs.Common.{ℕ, ◌^◌, ◌-◌, ◌≤◌, ◌<◌, ◌≡◌, refl, sym, ap, subst, ◌∙◌, Bool, true, false, ⊎_elim, List, arith}
-use Rattle.std.proofs.Common.{length, slice_index_or, replicate, get_or-set_same}
+use Rattle.std.proofs.Common.{ℕ, ◌^◌, ◌-◌, ◌≤◌, ◌<◌, ◌≡◌, refl, sym, ap, subst, ◌∙◌, Bool, true, false, ⊎_elim, List}
+use Rattle.std.proofs.Common.{arith, length, slice_index_or, replicate, get_or-set_same}
 use Rattle.std.proofs.Math.Seq.{take-append_seam}
 use Rattle.std.proofs.lemmas.Bool.{false≢true}
 use Rattle.text.proofs.Orders.{le_or_lt}
@@ -28,7 +28,7 @@ use Rattle.device.proofs.Untouched.{closing_keeps_settings, closing_keeps_own}
 use Rattle.record.proofs.LowestShut.{below_lowest}
 use Rattle.controller.specs.Greetings.{read_greeting}
 use Rattle.controller.proofs.GreetingsHeard.{open_heard, secured_heard}
-use Rattle.panel.specs.Entries.{Talk, talk_of, shown_of, password_in, greeted_open, greeted_secured, greeted_by}
+use Rattle.panel.specs.Entries.{Talk, shown_of, password_in, greeted_open, greeted_secured, greeted_by}
 use Rattle.panel.specs.Entries.{fresh_entry, blank_entry}
 use Rattle.panel.specs.Passwords.{password_room}
 use Rattle.panel.specs.LegalPanels.{panel_most, is_panel}
@@ -112,12 +112,13 @@ module _ (i : ℕ) (w : Workroom) where
         (room_of (delivered ours_panel i w.panel back g) (with_connection c))
 
     -- a greeting, which the panel hears whole, as the talk t
-    joins : (g : List ℕ) (c : Connection) (t : Talk) → delivered ours_panel i w.panel back g ≡ (stepped_at w.panel i g).panel
-        → Fit t c → c.line ≡ empty_line → t.under_way ≡ false → greeted_as entry (read_greeting g) ≡ with_talk entry t
+    joins : (g : List ℕ) (c : Connection) (t : Talk)
+        → delivered ours_panel i w.panel back g ≡ (stepped_at w.panel i g).panel → Fit t c
+        → c.line ≡ empty_line → t.under_way ≡ false → greeted_as entry (read_greeting g) ≡ with_talk entry t
         → JoinsBy g c
     joins g c t whole fits between rests heard legal =
-        subst (λ (p : Panel). ShownAs i lowest w (shown_of entry) device.own (room_of p (with_connection c))) (sym whole)
-        (greeting_joins g c t legal fits between rests heard)
+        subst (λ (p : Panel). ShownAs i lowest w (shown_of entry) device.own (room_of p (with_connection c)))
+        (sym whole) (greeting_joins g c t legal fits between rests heard)
 
     secured_joins : (r : ℕ) → r < 2 ^ 32 → JoinsBy (greeting_secured (hex_digits 8 r)) (begun_in awaiting r)
     secured_joins r word =

@@ -70,7 +70,8 @@ stray_count_wraps_falls h =
 pub shows_late_falls : PanelDemand shows_late → ⊥
 unfolding computing
 shows_late_falls h =
-    differ 0 1 refl (ap power_shown (h.strays_counted (resting 0) 0 power_off resting_served (late_line 0 power_off)).shows)
+    differ 0 1 refl
+    (ap power_shown (h.strays_counted (resting 0) 0 power_off resting_served (late_line 0 power_off)).shows)
 
 -- the first stray
 pub counts_nothing_falls : PanelDemand counts_nothing → ⊥
@@ -82,4 +83,5 @@ counts_nothing_falls h =
 pub shows_no_reply_falls : ShowsWhatWasMeant shows_no_reply → ⊥
 unfolding computing
 shows_no_reply_falls h =
-    differ 1 0 refl (ap power_shown (h.shows 0 0 workroom (asks (code_of (Query Powr)) [] []) workroom_joined powr_within).shows)
+    differ 1 0 refl
+    (ap power_shown (h.shows 0 0 workroom (asks (code_of (Query Powr)) [] []) workroom_joined powr_within).shows)

@@ -1,5 +1,6 @@
 use Rattle.std.proofs.Common.{refl}
-use Rattle.panel.specs.PanelCalls.{adding_rows, commanding_rows, projector_rows, added_to, commanded, stepped_at, lost_at}
+use Rattle.panel.specs.PanelCalls.{adding_rows, commanding_rows, projector_rows, added_to, commanded, stepped_at}
+use Rattle.panel.specs.PanelCalls.{lost_at}
 use Rattle.panel.proofs.Refusals.{refused_keeps, number_by_rows}
 use Rattle.panel.proofs.theorems.a_refusal_keeps_the_panel.Goals as goal
 
