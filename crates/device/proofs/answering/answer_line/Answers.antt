@@ -66,14 +66,10 @@ module _
         (taken.body i at 3) (said_bytes (said i)))
         ∙ ap (λ a. a.reply) formed
 
-pub put_reply-requires-clause-short : goal.put_reply-requires-clause-short
-put_reply-requires-clause-short c =
-    let fits = meant_fits c.args.s.now c.args.o.now c.requires.settings c.requires.own c.request-asked.result in
-    subst (λ (m : Said). length (said_bytes m) ≤ parameter_most) (sym c.decide-reply.ensures.value) fits.short
-
-pub returns-in_default-clause-value : goal.returns-in_default-clause-value
-returns-in_default-clause-value c =
-    ap (λ a. length a.reply)
+pub returns-in_default-clause-reply : goal.returns-in_default-clause-reply
+returns-in_default-clause-reply c =
+    c.new.ensures
+    ∙ ap (λ a. a.reply)
     (unformed c.args.s.now c.args.o.now c.args.l.now c.requires.settings c.class.ensures c.in_default.ensures.other)
 
 pub returns-in_default-clause-own : goal.returns-in_default-clause-own
@@ -81,16 +77,11 @@ returns-in_default-clause-own c =
     ap (λ a. a.own)
     (unformed c.args.s.now c.args.o.now c.args.l.now c.requires.settings c.class.ensures c.in_default.ensures.other)
 
-pub returns-in_default-clause-written : goal.returns-in_default-clause-written
-returns-in_default-clause-written c =
-    ap (λ a. over a.reply c.args.out.now)
-    (unformed c.args.s.now c.args.o.now c.args.l.now c.requires.settings c.class.ensures c.in_default.ensures.other)
-
-pub returns-clause-value : goal.returns-clause-value
-returns-clause-value c =
-    c.put_reply.ensures.value
-    ∙ ap length (answers c.args.s.now c.args.o.now c.args.l.now c.requires.settings c.class.ensures _
-    c.in-Some.ensures.taken c.decide-reply.result c.request-asked.ensures c.decide-reply.ensures.value)
+pub returns-clause-reply : goal.returns-clause-reply
+returns-clause-reply c =
+    c.reply_line.ensures
+    ∙ answers c.args.s.now c.args.o.now c.args.l.now c.requires.settings c.class.ensures _ c.in-Some.ensures.taken
+    c.decide-reply.result c.request-asked.ensures c.decide-reply.ensures.value
 
 pub returns-clause-own : goal.returns-clause-own
 returns-clause-own c =
@@ -101,10 +92,3 @@ returns-clause-own c =
     ∙ ap (done s o)
     (asks s o l c.requires.settings c.class.ensures _ c.in-Some.ensures.taken c.request-asked.ensures)
     ∙ ap (λ a. a.own) (formed s o l c.requires.settings c.class.ensures _ c.in-Some.ensures.taken)
-
-pub returns-clause-written : goal.returns-clause-written
-returns-clause-written c =
-    c.put_reply.ensures.written
-    ∙ ap (λ r. over r c.args.out.now)
-    (answers c.args.s.now c.args.o.now c.args.l.now c.requires.settings c.class.ensures _
-    c.in-Some.ensures.taken c.decide-reply.result c.request-asked.ensures c.decide-reply.ensures.value)
