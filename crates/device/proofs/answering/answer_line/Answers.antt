@@ -1,6 +1,5 @@
--- What a legal projector answers is short enough for the room; the line is taken apart into what its answer speaks of.
-use Rattle.std.proofs.Common.{ℕ, ◌≤◌, ◌≡◌, length, sym, subst, ap, ◌∙◌, Bool, true, false, List, arith}
-use Rattle.text.specs.Words.{over}
+-- The line is taken apart into what its answer speaks of, and its class is one that the set-up takes.
+use Rattle.std.proofs.Common.{ℕ, ◌≡◌, sym, ap, ◌∙◌, Bool, true, false, List, arith}
 use Rattle.words.specs.Bytes.{◌at◌}
 use Rattle.words.specs.Classes.{class_as_number, class_code}
 use Rattle.words.specs.declared.class.ClassNumber.{ClassNumber}
@@ -10,14 +9,13 @@ use Rattle.pjlink.specs.declared.answer.Answer.{Answer}
 use Rattle.pjlink.specs.Carried.{said_by}
 use Rattle.pjlink.specs.Forms.{is_command_form, line_class, reply_line, IsCommandOf}
 use Rattle.pjlink.specs.Requests.{Request, request_of}
-use Rattle.pjlink.specs.Said.{Said, said_bytes, parameter_most}
+use Rattle.pjlink.specs.Said.{said_bytes}
 use Rattle.record.specs.Legal.{is_settings}
 use Rattle.record.specs.Views.{class_seen}
 use Rattle.record.specs.declared.types.Own.{Own}
 use Rattle.record.specs.declared.types.Settings.{Settings}
 use Rattle.record.proofs.FactsTold.{settings_is}
 use Rattle.meaning.specs.Meaning.{meant, done}
-use Rattle.meaning.proofs.CanBeSaid.{meant_fits}
 use Rattle.meaning.proofs.ClassKnown.{class_as_number-class_seen}
 use Rattle.text.proofs.Choices.{if_yes, if_no}
 use Rattle.device.specs.Answering.{line_asks, swallowed, replied, line_answer}
