@@ -1,6 +1,6 @@
 -- A connection after n seconds: one that does not age stays, one that does is n older, or closed from the age 30 on.
 -- Assumes nothing.
-use Rattle.std.proofs.Common.{ℕ, zero, suc, ◌+◌, ◌≤◌, ◌<◌, ◌≡◌, ap, ◌∙◌, true, false, ⊎_elim, add-zero, arith}
+use Rattle.std.proofs.Common.{ℕ, zero, suc, ◌+◌, ◌≤◌, ◌<◌, ◌≡◌, ap, true, false, ⊎_elim, add-zero, arith}
 use Rattle.std.proofs.Common.{nat_lt, lt-ltb, le-ltb}
 use Rattle.text.proofs.Choices.{if_all}
 use Rattle.record.specs.Limits.{age_end}
@@ -34,9 +34,7 @@ pub grows_older : (n : ℕ) (c : Connection) → is_timed c.phase ≡ true → c
     → times connection_second n c ≡ aged c (c.age + n)
 unfolding times
 grows_older zero c e h = rw add-zero
-grows_older (suc n) c e h =
-    let one : c.age + n + 1 ≡ c.age + suc n = omega arith in
-    rw (grows_older n c e (omega arith)) (second_older (aged c (c.age + n)) e (omega arith) ∙ ap (aged c) one)
+grows_older (suc n) c e h = grind (arith, second_older, grows_older n c e (omega arith))
 
 pub closes : (n : ℕ) (c : Connection) → is_timed c.phase ≡ true → 1 ≤ n → age_end ≤ c.age + n
     → times connection_second n c ≡ closed
