@@ -42,7 +42,8 @@ unfolding times
 closes zero c e g h = absurd (omega arith)
 closes (suc zero) c e g h = second_closes c e (omega arith)
 closes (suc (suc n)) c e g h =
-    ⊎_elim (λ k. rw (closes (suc n) c e (omega arith) k) (second_untimed closed (ap (λ x. is_timed x.phase) closed_spelt)))
+    ⊎_elim
+    (λ k. rw (closes (suc n) c e (omega arith) k) (second_untimed closed (ap (λ x. is_timed x.phase) closed_spelt)))
     (λ k. rw (grows_older (suc n) c e k) (second_closes (aged c (c.age + suc n)) e (omega arith)))
     (le_or_lt age_end (c.age + suc n))
 
