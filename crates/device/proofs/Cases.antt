@@ -145,3 +145,5 @@ module _ (d : Device) (p : ℕ) where
   unfolding closed_by
   closed-made legal there live =
       rows_done (λ n. refused_by n d) _ (closing_rows d p) (ap not legal, (lt-leb places_count p there, (live, tt)))
+
+pub ruleset greetings = (secured_greeting, secured_greeted, open_greeting, open_greeted)

@@ -59,3 +59,5 @@ pub received_within : (d : Device) (p : ℕ) (bs : List ℕ) (room : ℕ) → (r
 received_within d p bs room =
     received_by d p bs room (λ r. r.taken ≤ length bs) (λ n z. omega arith)
     (λ h s t c. taken_within d.settings d.own (connection_at d p) bs)
+
+pub ruleset counts = (all_taken, line_taken, nothing_taken)

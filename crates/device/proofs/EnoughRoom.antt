@@ -33,3 +33,5 @@ module _ (d : Device) (room : ℕ) (enough : reply_room ≤ room) where
 
 pub closing_quiet : (d : Device) (p : ℕ) → (closed_by d p).reply ≡ []
 closing_quiet d p = closed_by_lem d p (λ (x : Result Device). x.reply ≡ []) (λ n z. refl) (λ h t c. refl)
+
+pub ruleset enough_room = (opened_room, place_room, received_room)

@@ -4,7 +4,6 @@ pub mod EnoughRoom
 pub mod Refusals
 pub mod Numbers
 pub mod Counts
-pub mod Results
 pub mod Untouched
 pub mod Legal
 pub mod Illegal
