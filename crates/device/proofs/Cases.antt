@@ -17,12 +17,10 @@ use Rattle.record.specs.Places.{connection_at, with_place, is_shut, lowest_shut}
 use Rattle.record.specs.declared.types.Settings.{Settings}
 use Rattle.record.specs.declared.types.Connection.{Connection}
 use Rattle.record.specs.declared.types.Device.{Device}
-use Rattle.device.specs.Receiving.{Taken, begun_in}
-use Rattle.device.specs.Receiving.{taken_in}
-use Rattle.device.specs.Calls.{Result, refused_by, made, reply_room, accepted_taken}
-use Rattle.device.specs.Calls.{receiving_rows, opening_rows, closing_rows}
-use Rattle.device.specs.Calls.{received, has_password, greeting, greeted, accepted_opening, opened_by, place_taken}
-use Rattle.device.specs.Calls.{closed_by}
+use Rattle.device.specs.Receiving.{Taken, begun_in, taken_in}
+use Rattle.device.specs.Calls.{Result, refused_by, made, reply_room, accepted_taken, receiving_rows, opening_rows}
+use Rattle.device.specs.Calls.{closing_rows, received, has_password, greeting, greeted, accepted_opening, opened_by}
+use Rattle.device.specs.Calls.{place_taken, closed_by}
 
 abbrev pub takes : Device → ℕ → List ℕ → Taken
 takes d p bs = taken_in d.settings d.own (connection_at d p) bs

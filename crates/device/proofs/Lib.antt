@@ -16,6 +16,5 @@ pub mod WholeLines
 pub mod CommandsReceived
 pub mod FirstLines
 pub mod LinesReceived
-pub mod PowerRequests
 pub mod PowerLines
 pub mod Histories
