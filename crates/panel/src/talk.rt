@@ -1,16 +1,19 @@
-// What an entry's numbers mean: total views, and how a talk is written back.
+// Where the talk with a projector stands: what its numbers mean, what is awaited, and how it begins anew.
 ghost use Rattle.std.specs.Prelude.{◌≡◌};
+ghost use Rattle.panel.specs.Entries.{talk_of, is_secured_talk};
 ghost use Rattle.panel.specs.Stepping.{with_talk};
-ghost use Rattle.panel.specs.Views.{greeted_of, awaits_of, is_secured, talk_begun};
+ghost use Rattle.panel.specs.Awaited.{awaits_of, talk_begun};
 
 use crate::types::{Entry, NO_COMMAND};
 use codes::command::Coded;
 
-// `Entry::greeting`.
+/// `Entry::greeting`: none yet.
 pub const UNGREETED: u8 = 0;
 
+// It was `PJLINK 0`.
 const GREETED_OPEN: u8 = 1;
 
+/// `Entry::greeting`: it was `PJLINK 1`.
 pub const GREETED_SECURED: u8 = 2;
 
 /// How a projector greeted.
@@ -35,27 +38,12 @@ pub enum Awaits {
     Reply(Coded),
 }
 
-impl Greeted {
-    /// It asks for a digest.
-    pub fn is_secured(self) -> bool
-        ensures { result ≡ is_secured self }
-    {
-        matches!(self, Greeted::Secured { .. })
-    }
-}
-
 impl Entry {
-    /// How the projector greeted.
-    pub fn greeted(&self) -> Greeted
-        ensures { result ≡ greeted_of self.now.greeting self.now.random }
+    /// The projector asks for a digest.
+    pub fn is_secured(&self) -> bool
+        ensures { result ≡ is_secured_talk (talk_of self.now) }
     {
-        match self.greeting {
-            UNGREETED => Greeted::NotYet,
-            GREETED_SECURED => Greeted::Secured {
-                random: self.random,
-            },
-            _ => Greeted::Open,
-        }
+        self.greeting == GREETED_SECURED
     }
 
     /// The talk begins anew: no digest was sent, and no command is under way.
