@@ -4,8 +4,8 @@
 --   is_power_okay r        the reply r is `%1POWR=OK` and CR, in any case of letters
 --   power_line a b c d w   the line that sets the power to w, with the body bytes a b c d
 --   PowerEffect s o l r k  the line l, replied to by r, leaves the own part k of o
---   Outcome s o r m k       the request r, a POWR answered m, leaves the own part k of o: only a set that is answered OK is
---                           carried out
+--   Outcome s o r m k      the request r, a POWR answered m, leaves the own part k of o: only a set that is answered OK
+--                          is carried out
 -- Assumes nothing.
 use Rattle.std.proofs.Common.{ℕ, ◌≡◌, refl, sym, ap, ◌∙◌, Bool, true, false, not, ◌&&◌, List, [], ◌∷◌, ◌++◌, ◌==◌}
 use Rattle.std.proofs.Common.{codes}

@@ -46,7 +46,7 @@ fn lamps_said(
     for k in 0..most {
         lamps.push(LampHours {
             hours: seconds[k] / HOUR,
-            lit: lit && marks[k],
+            lit: lit & marks[k],
         });
     }
     lamps
