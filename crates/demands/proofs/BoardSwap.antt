@@ -29,7 +29,7 @@ use Rattle.demands.specs.History.{no_streams, history, marks_after, burns, burni
 use Rattle.demands.specs.History.{lamp_with}
 use Rattle.demands.specs.Demand3.{Beginning, loads, IsClass1, start_marks, IsAccepted, run_of, history_of}
 use Rattle.demands.specs.BoardSwap.{LoadsAs, BoardSwap}
-use Rattle.demands.proofs.LentMemory.{over_front}
+use Rattle.demands.proofs.Demand1.{over_front}
 use Rattle.demands.proofs.Agrees.{Agrees}
 use Rattle.demands.proofs.HistoryTold.{history_told}
 

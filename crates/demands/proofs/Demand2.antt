@@ -1,21 +1,55 @@
--- DEMAND 2 holds of our calls.
+-- DEMAND 2 holds of our calls: here that a name which set-up accepts is one that the reader accepts (RULES, Texts), and
+-- what set-up and opening leave; the rest stands in the files that it names.
 -- Assumes nothing.
-use Rattle.std.proofs.Common.{refl, length}
+use Rattle.std.proofs.Common.{◌≡◌, ◌++◌, arith, codes, ℕ, refl, List, length}
+use Rattle.pjlink.specs.declared.command.Command.TheVariants.{Query}
+use Rattle.pjlink.specs.declared.body.Body.TheVariants.{Name}
+use Rattle.pjlink.specs.Said.{text_is}
+use Rattle.record.specs.Wanted.{Wanted}
+use Rattle.record.specs.declared.types.Device.{Device}
+use Rattle.record.specs.Given.{Given}
+use Rattle.record.specs.declared.types.Setting.TheVariants.{Name as ItsName}
+use Rattle.record.proofs.Calls.{set_up_by}
+use Rattle.record.proofs.OutOfRange.{each_in_range}
+use Rattle.controller.specs.Reading.{meaning}
+use Rattle.controller.proofs.NamesRead.{accepted_name_is_read}
+use Rattle.ours.specs.Board.{ours, lent_by}
+use Rattle.record.specs.Record.{started}
+use Rattle.record.proofs.Started.{set_up_started}
+use Rattle.device.specs.Calls.{greeting}
+use Rattle.device.proofs.Cases.{opened_placed_by}
+use Rattle.demands.specs.CallsDone.{OpenedAs, Leaves}
+use Rattle.demands.proofs.Demand1.{over_front}
 use Rattle.device.proofs.Short.{receiving_short}
 use Rattle.controller.proofs.GreetingsHeard.{heard_exactly}
 use Rattle.controller.proofs.ReadsSound.{means_what_was_written, what_was_written_is_meant, erra_exactly}
-use Rattle.ours.specs.Board.{ours}
 use Rattle.demands.specs.Calls.{closes, marks, reports, enables}
 use Rattle.demands.specs.Demand2.{Demand2}
-use Rattle.demands.proofs.LinesAnswered.{line_answered, led_line_answered}
-use Rattle.demands.proofs.CutsOnBoards.{same_however_cut}
-use Rattle.demands.proofs.NamesRead.{names_read}
-use Rattle.demands.proofs.OutsidersRefused.{outsider_refused}
+use Rattle.demands.proofs.LinesAnswered.{line_answered, led_line_answered, same_however_cut, outsider_refused}
 use Rattle.demands.proofs.OutsiderHasNoSay.{outsider_has_no_say, outsiders_have_no_say}
-use Rattle.demands.proofs.OthersUntouched.{others_untouched}
+use Rattle.demands.proofs.CallsKeep.{others_untouched}
 use Rattle.demands.proofs.CallsDo.{served_after}
-use Rattle.demands.proofs.CallsLeave.{set_up_shows, opens}
 use Rattle.demands.proofs.WrittenAndRead.{writes, reads_back, reads_back_secured, greets_back}
+
+pub names_read : (w : Wanted) → (ours.set_up w).number ≡ 0
+    → ours.read_reply (Query Name) (codes "%1NAME=" ++ w.name ++ codes "\r") ≡ meaning (text_is w.name)
+names_read w =
+    set_up_by w
+    (λ (r : Given Device). r.number ≡ 0
+    → ours.read_reply (Query Name) (codes "%1NAME=" ++ w.name ++ codes "\r") ≡ meaning (text_is w.name))
+    (λ e. absurd (omega arith)) (λ e. absurd (omega arith))
+    (λ h e. accepted_name_is_read w.name (each_in_range w h ItsName))
+
+pub set_up_shows : (w : Wanted) → Leaves ours (ours.set_up w) (started w)
+set_up_shows w accepted = set_up_started w accepted
+
+module _ (d : Device) where
+  pub opens : (random : ℕ) (m : List ℕ) → (ours.opening d random m).number ≡ 0
+      → OpenedAs ours d random (ours.place_opened d random m) (ours.opening d random m)
+  opens random m =
+      opened_placed_by d random (length m)
+      (λ p r. r.number ≡ 0 → OpenedAs ours d random p (lent_by r m)) (λ n z e. absurd (z e))
+      (λ h k c e. record { replied = over_front (greeting d.settings random) m; lowest = refl; device = refl })
 
 pub ours_2 : Demand2 ours
 ours_2 = record {
