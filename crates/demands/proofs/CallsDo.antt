@@ -33,8 +33,8 @@ use Rattle.device.proofs.Cases.{takes, received_by, opened_placed_by, closed_by_
 use Rattle.ours.specs.Board.{ours, lent_by, closed_as}
 use Rattle.demands.specs.Calls.{Call, opens, closes, receives, passes, marks, reports, enables, after, number_of, Gave}
 use Rattle.demands.specs.Calls.{gave_lent, gave_number, gave_by}
-use Rattle.demands.specs.Demand1.{rows_of}
-use Rattle.demands.proofs.Demand1.{number_is_first}
+use Rattle.demands.specs.KeepsRunning.{rows_of}
+use Rattle.demands.proofs.KeepsRunning.{number_is_first}
 
 abbrev pub lent_to : Call → List ℕ
 lent_to (opens random m) = m

@@ -1,7 +1,7 @@
--- A Class 1 set-up is as it was (RULES, Class 2): it holds of our board. A line of the form asks for what it asked for
--- before, but for an input of Class 2 alone, which was no input then and is in no Class 1 set-up now: ERR2 either way. No
--- reply is longer than 103 bytes (RULES, Inputs), eight around a parameter of at most 95: only an input's name is longer,
--- and a Class 1 set-up has none.
+-- A Class 1 set-up is as it was (RULES, Class 2): it holds of our board. A line of the form asks for what it asked
+-- for before, but for an input of Class 2 alone, which was no input then and is in no Class 1 set-up now: ERR2 either
+-- way. No reply is longer than 103 bytes (RULES, Inputs), eight around a parameter of at most 95: only an input's
+-- name is longer, and a Class 1 set-up has none.
 -- Assumes nothing.
 use Rattle.std.specs.List.{list_all}
 use Rattle.std.proofs.Common.{ℕ, ◌≤◌, ◌<◌, ◌≡◌, refl, sym, ap, subst, ◌∙◌, Bool, true, false, not, ◌&&◌, ◌||◌, List, []}
@@ -69,7 +69,7 @@ use Rattle.pjlink.proofs.ClassOneAsked.{KeptAs, as_before, of_class_2, asked_kep
 use Rattle.record.proofs.SettingsTold.{input_of_class}
 use Rattle.meaning.proofs.InputsByPlace.{found_at_place, input_in_use}
 use Rattle.ours.specs.Board.{ours}
-use Rattle.demands.specs.Demand2.{BetweenLines, AnsweredAs, answer_to, digest_for}
+use Rattle.demands.specs.SpeaksPjlink.{BetweenLines, AnsweredAs, answer_to, digest_for}
 use Rattle.demands.proofs.LinesAnswered.{line_answered, led_line_answered}
 
 abbrev parameter_before : ℕ

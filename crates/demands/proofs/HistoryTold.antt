@@ -1,7 +1,7 @@
 -- Demand 3: the lamps tell the history. A device that was just set up, or loaded, agrees with someone who saw nothing
 -- yet, and what he notes of each call agrees with it; so they agree after any calls. Of a power set he sees this: a
--- stream that ends in its line, with a reply that says OK, shows that set and no other; and he sees none where the reply
--- says anything else.
+-- stream that ends in its line, with a reply that says OK, shows that set and no other; and he sees none where the
+-- reply says anything else.
 --   IsNoted a c    so it is of the call c, where what he knew before agreed with the device
 -- Assumes nothing.
 use Rattle.std.proofs.Common.{ℕ, ◌+◌, ◌-◌, ◌≡◌, ap, ◌∙◌, Bool, true, false, not, List, [], ◌∷◌, ◌++◌, arith, length}
@@ -57,8 +57,9 @@ use Rattle.stored.specs.Loading.{started_with}
 use Rattle.stored.proofs.FormsLoad.{form_loads, form_marks, marked_form_loads, marked_form_marks, old_form_loads}
 use Rattle.stored.proofs.Contents.{started_with-replicate}
 use Rattle.stored.proofs.MarkBytes.{slice_index_or-mark_room}
-use Rattle.demands.specs.Demand3.{Beginning, sets_up, loads, loads_marked, loads_old, start_marks, begun_by, IsAccepted}
-use Rattle.demands.specs.Demand3.{run_of, history_of}
+use Rattle.demands.specs.CountsSeconds.{Beginning, sets_up, loads, loads_marked, loads_old, start_marks, begun_by}
+use Rattle.demands.specs.CountsSeconds.{IsAccepted}
+use Rattle.demands.specs.CountsSeconds.{run_of, history_of}
 
 module _ (a b c d : ℕ) (powr : is_body 1 (a ∷ b ∷ c ∷ d ∷ []) Powr ≡ true) (stream reply : List ℕ)
     (okay : is_power_okay reply ≡ true) where

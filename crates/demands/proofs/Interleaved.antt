@@ -1,7 +1,7 @@
 -- What is seen at a place is what its connection alone gets of its own stream (RULES, Places): each call at the place
 -- does to the connection there what it would do alone with the own part of that moment, and a call elsewhere does
--- nothing to it. Receiving on the parts is one call of a machine, so the bytes are all collected, or collected up to a CR
--- that ends their line.
+-- nothing to it. Receiving on the parts is one call of a machine, so the bytes are all collected, or collected up to
+-- a CR that ends their line.
 --   Hears s c h k      of what is seen, h, the connection c alone makes the connection k, whatever follows
 -- Assumes nothing.
 use Rattle.std.specs.List.{list_all}
@@ -37,7 +37,7 @@ use Rattle.device.proofs.Cases.{received_by, received_taken, takes}
 use Rattle.device.proofs.Untouched.{receiving_keeps_others}
 use Rattle.ours.specs.Board.{ours, reply}
 use Rattle.demands.specs.Calls.{Call, opens, closes, receives, passes, marks, reports, enables, after, run}
-use Rattle.demands.proofs.Demand1.{over_front}
+use Rattle.demands.proofs.KeepsRunning.{over_front}
 use Rattle.demands.proofs.CallsDo.{settings_stay}
 
 abbrev pub cr : List ℕ

@@ -1,7 +1,7 @@
 pub mod WrittenAndRead
 pub mod LinesAnswered
-pub mod Demand1
-pub mod Demand2
+pub mod KeepsRunning
+pub mod SpeaksPjlink
 pub mod Sessions
 pub mod CallsDo
 pub mod CallsAlike
@@ -13,7 +13,7 @@ pub mod UnheardSamples
 pub mod ClassOne
 pub mod HistoryTold
 pub mod Agrees
-pub mod Demand3
+pub mod CountsSeconds
 pub mod Interleaved
 pub mod BoardSwap
 pub mod Samples

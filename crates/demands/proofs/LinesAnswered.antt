@@ -1,7 +1,8 @@
 -- Demand 2, of lines: any line of any controller is answered as the tables of RULES say, on an open connection and
--- behind the matching digest; a stream gives the same reply bytes and end state however it is cut; who does not send the
--- digest gets the refusal line only, reads it as such, and changes nothing, whatever he sends after it. What is read of
--- the lent memory is the reply, so our calls on it are the calls of `device`, and its laws of streams hold of them.
+-- behind the matching digest; a stream gives the same reply bytes and end state however it is cut; who does not send
+-- the digest gets the refusal line only, reads it as such, and changes nothing, whatever he sends after it. What is
+-- read of the lent memory is the reply, so our calls on it are the calls of `device`, and its laws of streams hold of
+-- them.
 -- Assumes nothing.
 use Rattle.std.proofs.Common.{ℕ, ◌+◌, ◌≤◌, ◌<◌, ◌≡◌, refl, sym, ap, subst, ◌∙◌, true, List, ◌++◌, ⊎_elim, arith, length}
 use Rattle.std.proofs.Common.{length-append, le-leb, codes, false, ◌∷◌, append_assoc, ◌==◌}
@@ -18,9 +19,9 @@ use Rattle.device.specs.Receiving.{digest_long, set_up_password, is_match}
 use Rattle.device.specs.Calls.{Result, reply_room, received}
 use Rattle.device.proofs.LinesReceived.{line_result, line-received, overlong-line-received, led_line-received}
 use Rattle.ours.specs.Board.{lent_by, ours}
-use Rattle.demands.specs.Demand2.{BetweenLines, AnsweredAs, answer_to, digest_for, call_on, handed_on, is_led}
-use Rattle.demands.specs.Demand2.{RefusalOnly}
-use Rattle.demands.proofs.Demand1.{over_front}
+use Rattle.demands.specs.SpeaksPjlink.{BetweenLines, AnsweredAs, answer_to, digest_for, call_on, handed_on, is_led}
+use Rattle.demands.specs.SpeaksPjlink.{RefusalOnly}
+use Rattle.demands.proofs.KeepsRunning.{over_front}
 use Rattle.record.specs.Legal.{is_legal, held_most}
 use Rattle.stream.specs.Machine.{Took, handed_parts, uncut}
 use Rattle.device.proofs.SameCuts.{receives, received_however_cut}

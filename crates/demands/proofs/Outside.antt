@@ -26,7 +26,7 @@ use Rattle.device.proofs.Cases.{takes, secured_greeted}
 use Rattle.ours.specs.Board.{ours}
 use Rattle.demands.specs.Calls.{Call, opens, closes, receives, passes, marks, reports, enables, after}
 use Rattle.demands.specs.Outsider.{Session, opened_with, unopened, noted_of, noted, is_matched, is_received_at, silence}
-use Rattle.demands.proofs.Demand1.{stays_legal, over_front}
+use Rattle.demands.proofs.KeepsRunning.{stays_legal, over_front}
 use Rattle.demands.proofs.Sessions.{Standing, is_closed, awaits, nothing_yet, answered_so, closed_stands, heard}
 use Rattle.demands.proofs.Sessions.{stands_on, stands_later}
 use Rattle.demands.proofs.CallsDo.{unserved, IsServed, gives, own_then, connection_left, call_by, connection_at-served}

@@ -15,7 +15,7 @@ use Rattle.ours.specs.Board.{ours}
 use Rattle.demands.specs.Calls.{Call, opens, closes, receives, passes, marks, reports, enables, after, run}
 use Rattle.demands.specs.Outsider.{Session, unopened, noted, session_after, IsNeverMatched, is_hosts, host_calls}
 use Rattle.demands.specs.Outsider.{SameDevicePart, IsKeptThere, NoSay, HostsAlone}
-use Rattle.demands.proofs.Demand1.{stays_legal}
+use Rattle.demands.proofs.KeepsRunning.{stays_legal}
 use Rattle.demands.proofs.Sessions.{answered_so}
 use Rattle.demands.proofs.CallsDo.{settings_stay, call_by}
 use Rattle.demands.proofs.CallsAlike.{host_alike}

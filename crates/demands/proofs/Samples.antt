@@ -1,6 +1,6 @@
--- The sample device, opened at place 0, on which the wrong boards fall; and the longest replies, which 32 inputs reach
--- in Class 1 (RULES, Inputs) and an input's name in Class 2 (RULES, Class 2). A line shorter than a digest is not led by
--- it: so are those that somebody without the password sends here.
+-- The sample device, opened at place 0, on which the wrong boards fall; and the longest replies, which 32 inputs
+-- reach in Class 1 (RULES, Inputs) and an input's name in Class 2 (RULES, Class 2). A line shorter than a digest is
+-- not led by it: so are those that somebody without the password sends here.
 -- Assumes nothing.
 use Rattle.std.proofs.Common.{ℕ, ◌<◌, ◌≡◌, false, List, arith, length, codes, refl, sym, ap, ◌∙◌, ◌==◌, eq-eqb}
 use Rattle.text.specs.Scans.{same_by, itself}
@@ -13,7 +13,7 @@ use Rattle.record.specs.Limits.{opened}
 use Rattle.record.specs.declared.types.Device.{Device}
 use Rattle.device.specs.Calls.{longest_reply}
 use Rattle.ours.specs.Board.{ours}
-use Rattle.demands.specs.Demand2.{BetweenLines}
+use Rattle.demands.specs.SpeaksPjlink.{BetweenLines}
 use Rattle.demands.specs.ClassOne.{longest_before}
 use Rattle.demands.specs.Sample.{sample, sockets, long_named, memory, opened_after}
 use Rattle.demands.specs.Computing.{computing}

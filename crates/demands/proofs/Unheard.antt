@@ -1,6 +1,6 @@
--- An outsider has no say (RULES, Places), of our board: call by call, the two runs leave records that are the same but
--- for his place, and each other call gives the same in both. What holds at the end of two such runs holds at every moment
--- of them: what came before is two such runs, on any board.
+-- An outsider has no say (RULES, Places), of our board: call by call, the two runs leave records that are the same
+-- but for his place, and each other call gives the same in both. What holds at the end of two such runs holds at
+-- every moment of them: what came before is two such runs, on any board.
 -- Assumes nothing.
 use Rattle.std.proofs.Common.{ℕ, ◌≡◌, refl, sym, ◌∙◌, Bool, true, false, not, List, ◌∷◌, ◌==◌, eqb-true, eq-eqb, zero}
 use Rattle.std.proofs.Common.{suc, [], take}

@@ -1,7 +1,7 @@
 -- THE LAW, from writer to reader: for a legal projector on a connection between lines, what the writer wrote for a
 -- command of a class no higher than the set-up's is taken whole, and what the reader takes from the reply is what the
--- projector meant (RULES, Controller and Class 2); one of a higher class is swallowed. And what the greeting reader takes
--- from the opening reply is what opening did.
+-- projector meant (RULES, Controller and Class 2); one of a higher class is swallowed. And what the greeting reader
+-- takes from the opening reply is what opening did.
 --   TakenAndRead d p c bs r    the result r of receiving bs at place p: number 0, exactly bs taken, the record as the
 --                              command leaves it on a connection open between lines with the random number kept, the
 --                              reply read as meant
@@ -45,8 +45,8 @@ use Rattle.text.proofs.Orders.{le_or_lt}
 use Rattle.record.proofs.LowestShut.{below_lowest}
 use Rattle.device.specs.Answering.{swallowed}
 use Rattle.ours.specs.Board.{bytes_written, reply, lent_by, wrote_by, ours}
-use Rattle.demands.specs.Demand2.{BetweenLines, AnsweredAs, ByClass}
-use Rattle.demands.proofs.Demand1.{over_front}
+use Rattle.demands.specs.SpeaksPjlink.{BetweenLines, AnsweredAs, ByClass}
+use Rattle.demands.proofs.KeepsRunning.{over_front}
 
 -- "between lines", no collected bytes and no overlong mark, is what the laws ask of the line
 pub is_between : (d : Device) (p : ℕ) → p < places_count → is_legal d ≡ true
@@ -84,7 +84,8 @@ module _ (d : Device) (p : ℕ) (there : p < places_count) (legal : is_legal d �
       let said = reply_read c (meant_can_be_said d.settings d.own settings own c) (omega arith) fits.has_no_cr in
       subst (TakenAndRead d p c bs) (sym e) (record { number = refl; taken = refl; device = refl; said = said })
 
-  pub command_reads_back : here.phase ≡ opened → TakenAndRead d p c (command_line c) (received d p (command_line c) room)
+  pub command_reads_back : here.phase ≡ opened
+      → TakenAndRead d p c (command_line c) (received d p (command_line c) room)
   command_reads_back phase =
       read_back (command_line c) (command_received d p there room legal enough unmarked none c writable within phase)
 
@@ -103,7 +104,8 @@ module _ (d : Device) (p : ℕ) (there : p < places_count) (legal : is_legal d �
     pub written_reads_back : here.phase ≡ opened → (random : ℕ) (password : List ℕ)
         → Through (written_command c false random password memory)
     written_reads_back phase random password =
-        subst Through (sym (written_plain c false random password memory lent writable refl)) (refl, command_reads_back phase)
+        subst Through (sym (written_plain c false random password memory lent writable refl))
+        (refl, command_reads_back phase)
 
     -- the device's own random number and password
     pub written_reads_back_secured : here.phase ≡ awaiting

@@ -6,7 +6,7 @@ use Rattle.words.specs.Bytes.{◌at◌}
 use Rattle.record.specs.Places.{connection_at}
 use Rattle.record.specs.declared.types.Device.{Device}
 use Rattle.demands.specs.Calls.{receives, Call, opens, passes, Gave}
-use Rattle.demands.specs.Demand1.{Demand1}
+use Rattle.demands.specs.KeepsRunning.{KeepsRunning}
 use Rattle.demands.specs.Sample.{with_cr, memory, class_2_sample, opened_after, says, sample, rounds, two_opened}
 use Rattle.demands.specs.Sample.{halves}
 use Rattle.demands.specs.WrongRefusals.{writes_first, changes_refused}
@@ -20,7 +20,7 @@ use Rattle.record.specs.Limits.{opened, on, volume_most, volume_start}
 use Rattle.stream.specs.Machine.{Out}
 use Rattle.controller.specs.Reading.{ReadAs, LineSays, reading_outcome_number}
 use Rattle.ours.specs.Board.{Board, ours}
-use Rattle.demands.specs.Demand2.{Demand2, BetweenLines, AnsweredAs, answer_to}
+use Rattle.demands.specs.SpeaksPjlink.{SpeaksPjlink, BetweenLines, AnsweredAs, answer_to}
 use Rattle.demands.specs.WrongLines.{drops_all, ok_to_all, refuses_all, made_up_length, made_up_taken, upper_cases}
 use Rattle.demands.specs.WrongLines.{forgets_at_nothing, others_nameless}
 use Rattle.words.specs.declared.input.Source.TheVariants.{Internal}
@@ -37,7 +37,7 @@ use Rattle.demands.specs.WrongOutsiders.{closes_next, counts_failures, refuses_e
 use Rattle.demands.specs.Unheard.{AllAlike, no_calls, one_more, same_call, other_bytes, Unheard}
 use Rattle.demands.proofs.UnheardSamples.{nothing}
 use Rattle.demands.specs.History.{burning, lamp_with}
-use Rattle.demands.specs.Demand3.{Demand3, TimeAdds, sets_up, all_enabled, IsAccepted, run_of, history_of}
+use Rattle.demands.specs.CountsSeconds.{CountsSeconds, TimeAdds, sets_up, all_enabled, IsAccepted, run_of, history_of}
 use Rattle.demands.specs.WrongClocks.{still_clock, first_only, drops_part_hour}
 use Rattle.demands.specs.Interleaved.{Interleaved, heard, alone_at}
 use Rattle.demands.specs.WrongPlaces.{forgets_others_power, one_line_for_all}
@@ -49,14 +49,14 @@ abbrev short : List ℕ
 short = replicate 135 0
 
 -- the first byte of the memory: `%`, and what it was
-pub writes_first_falls : Demand1 writes_first → ⊥
+pub writes_first_falls : KeepsRunning writes_first → ⊥
 unfolding computing
 writes_first_falls h =
     let kept = h.refused_keeps opened_sample (receives 0 (with_cr "%1POWR ?") short) (λ e. omega arith) in
     apart (λ (bs : List ℕ). bs at 0) kept.1.memory refl
 
 -- the phase: closed, and open
-pub changes_refused_falls : Demand1 changes_refused → ⊥
+pub changes_refused_falls : KeepsRunning changes_refused → ⊥
 unfolding computing
 changes_refused_falls h =
     let kept = h.refused_keeps opened_sample (receives 0 (with_cr "%1POWR ?") short) (λ e. omega arith) in
@@ -64,40 +64,40 @@ changes_refused_falls h =
 
 -- ---- demand 2: lines. Here a power query, its body in small letters
 
-module _ (B : Board) (h : Demand2 B) (d : B.Record) (between : BetweenLines opened (B.shows d) 0) where
+module _ (B : Board) (h : SpeaksPjlink B) (d : B.Record) (between : BetweenLines opened (B.shows d) 0) where
   queried : AnsweredAs B d 0 (with_cr "%1powr ?") (answer_to (B.shows d) (codes "%1powr ?"))
       (B.receive d 0 (with_cr "%1powr ?") memory)
   unfolding computing
   queried = h.answers d 0 (codes "%1powr ?") memory between refl (omega arith)
 
 -- the reply's length; the right one is `%1powr=0` and CR
-pub drops_all_falls : Demand2 drops_all → ⊥
+pub drops_all_falls : SpeaksPjlink drops_all → ⊥
 unfolding computing
 drops_all_falls h = apart length (queried drops_all h opened_sample ready).replied refl
 
-pub ok_to_all_falls : Demand2 ok_to_all → ⊥
+pub ok_to_all_falls : SpeaksPjlink ok_to_all → ⊥
 unfolding computing
 ok_to_all_falls h = apart length (queried ok_to_all h opened_sample ready).replied refl
 
-pub made_up_length_falls : Demand2 made_up_length → ⊥
+pub made_up_length_falls : SpeaksPjlink made_up_length → ⊥
 unfolding computing
 made_up_length_falls h = apart length (queried made_up_length h opened_sample ready).replied refl
 
-pub refuses_all_falls : Demand2 refuses_all → ⊥
+pub refuses_all_falls : SpeaksPjlink refuses_all → ⊥
 unfolding computing
 refuses_all_falls h = apart (λ (n : ℕ). n) (queried refuses_all h opened_sample ready).number refl
 
-pub made_up_taken_falls : Demand2 made_up_taken → ⊥
+pub made_up_taken_falls : SpeaksPjlink made_up_taken → ⊥
 unfolding computing
 made_up_taken_falls h = apart (λ (n : ℕ). n) (queried made_up_taken h opened_sample ready).taken refl
 
 -- the first letter of the body: P and p
-pub upper_cases_falls : Demand2 upper_cases → ⊥
+pub upper_cases_falls : SpeaksPjlink upper_cases → ⊥
 unfolding computing
 upper_cases_falls h = apart (λ (bs : List ℕ). bs at 2) (queried upper_cases h opened_sample ready).replied refl
 
 -- the query whole, and in three parts of which the second is empty
-pub forgets_at_nothing_falls : Demand2 forgets_at_nothing → ⊥
+pub forgets_at_nothing_falls : SpeaksPjlink forgets_at_nothing → ⊥
 unfolding computing
 forgets_at_nothing_falls h =
     let parts : List (List ℕ) = codes "%1POWR" ∷ [] ∷ with_cr " ?" ∷ [] in
@@ -106,7 +106,7 @@ forgets_at_nothing_falls h =
     (h.same_however_cut opened_sample 0 memory parts whole refl (omega arith) refl (omega arith) refl) refl
 
 -- the text that is read of another maker's reply
-pub others_nameless_falls : Demand2 others_nameless → ⊥
+pub others_nameless_falls : SpeaksPjlink others_nameless → ⊥
 unfolding computing
 others_nameless_falls h =
     let foo = codes "Foo" in
@@ -118,7 +118,7 @@ others_nameless_falls h =
 -- ---- demand 2: the class
 
 -- the reply's length: a set-up of Class 1 replies nothing to `%2SNUM ?`
-pub answers_class_2_falls : Demand2 answers_class_2 → ⊥
+pub answers_class_2_falls : SpeaksPjlink answers_class_2 → ⊥
 unfolding computing
 answers_class_2_falls h =
     let said = h.reads_back opened_sample 0 (Query Snum) 0 [] (replicate command_room 0) memory ready refl (omega arith)
@@ -126,7 +126,7 @@ answers_class_2_falls h =
     apart length (said.higher (omega arith)).left.replied refl
 
 -- the number of the outcome: `6A` is an input of Class 2, which `%1INPT ?` may be told
-pub refuses_letters_falls : Demand2 refuses_letters → ⊥
+pub refuses_letters_falls : SpeaksPjlink refuses_letters → ⊥
 unfolding computing
 refuses_letters_falls h =
     let i : Input = record { source = Internal; number = 10 } in
@@ -146,7 +146,7 @@ unfolding computing
 loud = record { legal = refl; there = omega arith; in_phase = refl; unmarked = refl; none_held = refl }
 
 -- the speaker after one step up
-pub volume_wraps_falls : Demand2 volume_wraps → ⊥
+pub volume_wraps_falls : SpeaksPjlink volume_wraps → ⊥
 unfolding computing
 volume_wraps_falls h =
     apart (λ (d : Device). d.own.speaker)
@@ -159,17 +159,17 @@ abbrev secured : Device
 secured = (ours.set_up secured_sample).device
 
 -- the password's length
-pub forgets_password_falls : Demand2 forgets_password → ⊥
+pub forgets_password_falls : SpeaksPjlink forgets_password → ⊥
 unfolding computing
 forgets_password_falls h = apart (λ (d : Device). d.settings.password.len) (h.set_up_shows secured_sample refl) refl
 
 -- the phase: open, and awaiting
-pub ignores_password_falls : Demand2 ignores_password → ⊥
+pub ignores_password_falls : SpeaksPjlink ignores_password → ⊥
 unfolding computing
 ignores_password_falls h = apart (λ (d : Device). (connection_at d 0).phase) (h.opens secured 7 memory refl).device refl
 
 -- the number that the connection keeps
-pub greets_with_zero_falls : Demand2 greets_with_zero → ⊥
+pub greets_with_zero_falls : SpeaksPjlink greets_with_zero → ⊥
 unfolding computing
 greets_with_zero_falls h =
     apart (λ (d : Device). (connection_at d 0).random) (h.opens secured 7 memory refl).device refl
@@ -177,7 +177,7 @@ greets_with_zero_falls h =
 -- ---- the outsider, who powers on
 
 -- the power that he leaves, and the one that he found
-pub time_opens_falls : Demand2 time_opens → ⊥
+pub time_opens_falls : SpeaksPjlink time_opens → ⊥
 unfolding computing
 time_opens_falls h =
     let calls : List Call = opens 7 memory ∷ passes 1 ∷ says "%1POWR 1" ∷ [] in
@@ -185,7 +185,7 @@ time_opens_falls h =
     (refl, (refl, (same_by-leading_digest 7 (codes "JBMIAProjectorLink") (codes "%1POWR 1") (omega arith), tt))) in
     apart (λ o. o.power) (out.kept.1.1.0 refl).own refl
 
-pub failed_answers_falls : Demand2 failed_answers → ⊥
+pub failed_answers_falls : SpeaksPjlink failed_answers → ⊥
 unfolding computing
 failed_answers_falls h =
     let calls : List Call = opens 7 memory ∷ says "x" ∷ passes 1 ∷ says "%1POWR 1" ∷ [] in
@@ -195,16 +195,16 @@ failed_answers_falls h =
 -- ---- calls that do nothing
 
 -- the phase: open, and closed
-pub never_closes_falls : Demand2 never_closes → ⊥
+pub never_closes_falls : SpeaksPjlink never_closes → ⊥
 unfolding computing
 never_closes_falls h = apart (λ (d : Device). (connection_at d 0).phase) (h.closes opened_sample 0 refl) refl
 
-pub hides_faults_falls : Demand2 hides_faults → ⊥
+pub hides_faults_falls : SpeaksPjlink hides_faults → ⊥
 unfolding computing
 hides_faults_falls h = false≢true (ap (λ (d : Device). d.own.fault) (h.marks opened_sample true refl))
 
 -- the first error digit
-pub hides_errors_falls : Demand2 hides_errors → ⊥
+pub hides_errors_falls : SpeaksPjlink hides_errors → ⊥
 unfolding computing
 hides_errors_falls h =
     let digits : List ℕ = 2 ∷ 0 ∷ 0 ∷ 0 ∷ 0 ∷ 0 ∷ [] in
@@ -245,27 +245,27 @@ refuses_elsewhere_falls h =
     ((λ z. absurd (z refl)), ((λ z. absurd (z refl)), ((λ z. refl), ((λ z. refl), tt)))) in
     apart (λ (l : List Gave). (slice_index_or l 2 nothing).length) out.got refl
 
--- ---- demand 3: the clock, over two sessions of twenty seconds (nine of forty minutes would do as well: each is computed)
+-- ---- demand 3: the clock, over two sessions of twenty seconds (each second is computed)
 
 abbrev sessions : List Call
 sessions = opens 0 memory ∷ rounds 2 (says "%1POWR 1" ∷ passes 20 ∷ says "%1POWR 0" ∷ passes 60 ∷ [])
 
-module _ (B : Board) (h : Demand3 B) (accepted : IsAccepted B sets_up sample) where
+module _ (B : Board) (h : CountsSeconds B) (accepted : IsAccepted B sets_up sample) where
   -- what the demand says of the one lamp
   told : slice_index_or (B.shows (run_of B sets_up sample sessions)).own.lamps 0 0
       ≡ lamp_with (burning sample (all_enabled sample) 0 (history_of B sets_up sample sessions)) 0
   told = h.lamps_tell_the_history sets_up sample sessions 0 accepted (omega arith)
 
 -- stored, and burnt: its power stays in warm-up, so one set is answered OK and every second burns
-pub still_clock_falls : Demand3 still_clock → ⊥
+pub still_clock_falls : CountsSeconds still_clock → ⊥
 unfolding computing
 still_clock_falls h = apart (λ (n : ℕ). n) (told still_clock h refl) refl
 
-pub first_only_falls : Demand3 first_only → ⊥
+pub first_only_falls : CountsSeconds first_only → ⊥
 unfolding computing
 first_only_falls h = apart (λ (n : ℕ). n) (told first_only h refl) refl
 
-pub drops_part_hour_falls : Demand3 drops_part_hour → ⊥
+pub drops_part_hour_falls : CountsSeconds drops_part_hour → ⊥
 unfolding computing
 drops_part_hour_falls h = apart (λ (n : ℕ). n) (told drops_part_hour h refl) refl
 
@@ -283,7 +283,7 @@ in_turn =
     ∷ receives 1 (with_cr "%1POWR ?") memory ∷ passes 100 ∷ []
 
 -- the seconds stored, and burnt
-pub forgets_others_power_falls : Demand3 forgets_others_power → ⊥
+pub forgets_others_power_falls : CountsSeconds forgets_others_power → ⊥
 unfolding computing
 forgets_others_power_falls h =
     apart (λ (n : ℕ). n) (h.lamps_tell_the_history sets_up sample in_turn 0 refl (omega arith)) refl
@@ -303,22 +303,22 @@ ours_answers_halves = (refl, refl)
 
 -- ---- demand 3: the second of two lamps, whose mark was cleared before they burnt for 100 seconds
 
-module _ (B : Board) (h : Demand3 B) (accepted : IsAccepted B sets_up two_lamps) where
+module _ (B : Board) (h : CountsSeconds B) (accepted : IsAccepted B sets_up two_lamps) where
   -- what the demand says of the second lamp
   rests_told : slice_index_or (B.shows (run_of B sets_up two_lamps one_rests)).own.lamps 1 0
       ≡ lamp_with (burning two_lamps (all_enabled two_lamps) 1 (history_of B sets_up two_lamps one_rests)) 0
   rests_told = h.lamps_tell_the_history sets_up two_lamps one_rests 1 accepted (omega arith)
 
 -- stored, and burnt
-pub burns_all_lamps_falls : Demand3 burns_all_lamps → ⊥
+pub burns_all_lamps_falls : CountsSeconds burns_all_lamps → ⊥
 unfolding computing
 burns_all_lamps_falls h = apart (λ (n : ℕ). n) (rests_told burns_all_lamps h refl) refl
 
-pub counts_disabled_falls : Demand3 counts_disabled → ⊥
+pub counts_disabled_falls : CountsSeconds counts_disabled → ⊥
 unfolding computing
 counts_disabled_falls h = apart (λ (n : ℕ). n) (rests_told counts_disabled h refl) refl
 
-pub forgets_marks_falls : Demand3 forgets_marks → ⊥
+pub forgets_marks_falls : CountsSeconds forgets_marks → ⊥
 unfolding computing
 forgets_marks_falls h = apart (λ (n : ℕ). n) (rests_told forgets_marks h refl) refl
 

@@ -1,6 +1,7 @@
--- DEMAND 3 holds of our calls. The fleet's question (RULES, Lamps): while no lamp reaches the limit, the seconds that the
--- lamps gained are, added up, the seconds of burning, each counted once for each mark that stood. The hours that LAMP
--- answers are the whole hours in the history, at each place, and the lamps are told lit where the history says so.
+-- DEMAND 3 holds of our calls. The fleet's question (RULES, Lamps): while no lamp reaches the limit, the seconds that
+-- the lamps gained are, added up, the seconds of burning, each counted once for each mark that stood. The hours that
+-- LAMP answers are the whole hours in the history, at each place, and the lamps are told lit where the history says
+-- so.
 -- Assumes nothing.
 use Rattle.std.proofs.Common.{ℕ, zero, suc, ◌+◌, ◌-◌, ◌≤◌, ◌<◌, ◌≡◌, refl, sym, ap, ◌∙◌, Bool, true, false, ◌&&◌, List}
 use Rattle.std.proofs.Common.{[], ◌∷◌, arith, length, slice_index_or, set, length-set, ⊎_elim, add-zero, zero-add, take}
@@ -12,8 +13,9 @@ use Rattle.ours.specs.Board.{ours, reply}
 use Rattle.demands.specs.Calls.{Call}
 use Rattle.demands.specs.History.{Event, switched, a_second, mark_switched, Stage, steady, next, stage_is_burning}
 use Rattle.demands.specs.History.{burns, burning_from, burning, Streams, marks_after, stage_after}
-use Rattle.demands.specs.Demand3.{Beginning, start_marks, IsAccepted, run_of, history_of, count_set, burnt_by_marks}
-use Rattle.demands.specs.Demand3.{sum_of, lamp_then, each_place, lamps_then, LampsTold, Demand3}
+use Rattle.demands.specs.CountsSeconds.{Beginning, start_marks, IsAccepted, run_of, history_of, count_set}
+use Rattle.demands.specs.CountsSeconds.{burnt_by_marks}
+use Rattle.demands.specs.CountsSeconds.{sum_of, lamp_then, each_place, lamps_then, LampsTold, CountsSeconds}
 use Rattle.demands.proofs.HistoryTold.{history_told, marks_many}
 use Rattle.pjlink.specs.Commands.{command_line}
 use Rattle.pjlink.specs.declared.command.Command.TheVariants.{Query}
@@ -32,8 +34,8 @@ use Rattle.device.specs.Calls.{Result, reply_room, received}
 use Rattle.device.proofs.CommandsReceived.{reply_to, command_received}
 use Rattle.controller.specs.Reading.{meaning, read_reply}
 use Rattle.demands.proofs.WrittenAndRead.{is_between, command_reads_back}
-use Rattle.demands.specs.Demand2.{BetweenLines}
-use Rattle.demands.proofs.Demand1.{over_front}
+use Rattle.demands.specs.SpeaksPjlink.{BetweenLines}
+use Rattle.demands.proofs.KeepsRunning.{over_front}
 use Rattle.demands.proofs.Agrees.{Agrees, lit_shown}
 use Rattle.record.proofs.FactsTold.{settings_is}
 use Rattle.record.specs.Given.{Given}
@@ -181,8 +183,8 @@ module _ (w : Wanted) (ms : List Bool) (es : List Event) {stream : Streams} {d :
         read = ap (read_reply (Query Lamp)) seam ∙ back.said ∙ ap meaning lamps;
       }
 
-pub ours_3 : Demand3 ours
-ours_3 = record {
+pub ours_counts_seconds : CountsSeconds ours
+ours_counts_seconds = record {
   time_adds = λ d a b legal within. time_adds a b d within;
   second_by_second = λ d n. passed_by (λ (r : Given Device). Leaves ours r (times second n d)) d n
       (λ h e. absurd (omega arith)) (λ h e. refl);

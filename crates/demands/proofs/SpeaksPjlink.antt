@@ -19,12 +19,12 @@ use Rattle.record.proofs.Started.{set_up_started}
 use Rattle.device.specs.Calls.{greeting}
 use Rattle.device.proofs.Cases.{opened_placed_by}
 use Rattle.demands.specs.CallsDone.{OpenedAs, Leaves}
-use Rattle.demands.proofs.Demand1.{over_front}
+use Rattle.demands.proofs.KeepsRunning.{over_front}
 use Rattle.device.proofs.Short.{receiving_short}
 use Rattle.controller.proofs.GreetingsHeard.{heard_exactly}
 use Rattle.controller.proofs.ReadsSound.{means_what_was_written, what_was_written_is_meant, erra_exactly}
 use Rattle.demands.specs.Calls.{closes, marks, reports, enables}
-use Rattle.demands.specs.Demand2.{Demand2}
+use Rattle.demands.specs.SpeaksPjlink.{SpeaksPjlink}
 use Rattle.demands.proofs.LinesAnswered.{line_answered, led_line_answered, same_however_cut, outsider_refused}
 use Rattle.demands.proofs.OutsiderHasNoSay.{outsider_has_no_say, outsiders_have_no_say}
 use Rattle.demands.proofs.CallsKeep.{others_untouched}
@@ -51,8 +51,8 @@ module _ (d : Device) where
       (λ p r. r.number ≡ 0 → OpenedAs ours d random p (lent_by r m)) (λ n z e. absurd (z e))
       (λ h k c e. record { replied = over_front (greeting d.settings random) m; lowest = refl; device = refl })
 
-pub ours_2 : Demand2 ours
-ours_2 = record {
+pub ours_speaks_pjlink : SpeaksPjlink ours
+ours_speaks_pjlink = record {
   digest = λ s. refl;
   answers = λ d p l m between plain enough. line_answered d p l m plain enough between;
   answers_led = λ d p l m between plain short enough. led_line_answered d p l m plain enough between short;

@@ -1,7 +1,7 @@
 -- DEMAND 1 holds of our calls: every call stays inside its memory, whatever bytes arrive, on any record; it gives the
--- number of the first row of the table that applies to it; one that gives a number returns the record that it was given,
--- takes nothing and writes nothing; and none makes a legal record otherwise. A refusal replies nothing; a reply has at
--- most 136 bytes, and a digest with a command's line at most 168: no more than what the calls ask for.
+-- number of the first row of the table that applies to it; one that gives a number returns the record that it was
+-- given, takes nothing and writes nothing; and none makes a legal record otherwise. A refusal replies nothing; a
+-- reply has at most 136 bytes, and a digest with a command's line at most 168: no more than what the calls ask for.
 -- Assumes nothing.
 use Rattle.std.proofs.Common.{ℕ, ◌≤◌, ◌≡◌, ap, List, [], arith, length, take, drop, length-append, length-drop, Bool}
 use Rattle.std.proofs.Common.{true, false, refl, sym, ◌∙◌, not, ◌∷◌}
@@ -24,8 +24,8 @@ use Rattle.controller.proofs.Cases.{written_by, greeting_open_lem, greeting_refu
 use Rattle.controller.proofs.Cases.{greeting_none}
 use Rattle.ours.specs.Board.{lent_by, ours}
 use Rattle.demands.specs.Calls.{Call, opens, closes, receives, passes, marks, reports, enables, number_of, after}
-use Rattle.demands.specs.Demand1.{Inside, WroteInside, StaysInside, rows_of, set_up_rows, writer_rows, reader_rows}
-use Rattle.demands.specs.Demand1.{greeting_rows, Untouched, WritesNothing, Demand1}
+use Rattle.demands.specs.KeepsRunning.{Inside, WroteInside, StaysInside, rows_of, set_up_rows, writer_rows, reader_rows}
+use Rattle.demands.specs.KeepsRunning.{greeting_rows, Untouched, WritesNothing, KeepsRunning}
 use Rattle.std.specs.Prelude.{if◌then◌else◌}
 use Rattle.text.specs.Rows.{◌when◌, first_of}
 use Rattle.text.proofs.Choices.{if_yes, if_no}
@@ -219,8 +219,8 @@ stays_legal d (marks fault) h = fault_legal d h fault
 stays_legal d (reports errors) h = errors_legal d h errors
 stays_legal d (enables lamp mark) h = mark_legal d h lamp mark
 
-pub ours_1 : Demand1 ours
-ours_1 = record {
+pub ours_keeps_running : KeepsRunning ours
+ours_keeps_running = record {
   stays_inside = stays_inside;
   writer_stays_inside = writer_stays_inside;
   store_stays_inside = store_stays_inside;
