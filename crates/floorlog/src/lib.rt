@@ -4,10 +4,10 @@
 #![tactic(auto)]
 
 pub mod cut;
-mod ending;
 pub mod event;
 mod last;
 pub mod line;
+pub mod outcome;
 pub mod playing;
 #[cfg(test)]
 mod tests;

@@ -23,7 +23,7 @@ loop-played-preserved g c =
     let inside = rw c.in-Ok-Some.field-0-is at c.in-Ok-Some.ensures.bound in
     each _ _ _
     (λ log u. line_played (flushed u _ c.read_line.ensures.keeps) left_then c.read_line.new.line c.in-Ok-Some.held
-    (omega (arith, c.read_line.array_long)) inside line _ _ c.play.ensures.device c.in-Ok.ensures.whole)
+    (omega (arith, c.read_line.array_long)) inside line _ _ c.play.ensures.device c.in-Ok.ensures.text.whole)
     c.loop-played.invariant
 
 pub returns-in-Err-play-clause-front : goal.returns-in-Err-play-clause-front
@@ -33,7 +33,7 @@ returns-in-Err-play-clause-front g c =
     let inside = rw c.in-Ok-Some.field-0-is at c.in-Ok-Some.ensures.bound in
     each _ _ _
     (λ log u. line_broken (flushed u _ c.read_line.ensures.keeps) left_then c.read_line.new.line c.in-Ok-Some.held
-    (omega (arith, c.read_line.array_long)) inside line _ c.play.ensures.front)
+    (omega (arith, c.read_line.array_long)) inside line _ c.play.ensures.text.front)
     c.loop-played.invariant
 
 pub returns-in-Ok-finish-clause-whole : goal.returns-in-Ok-finish-clause-whole
@@ -42,7 +42,7 @@ returns-in-Ok-finish-clause-whole g c =
     let none = rw c.in-Ok-None.field-0-is at c.in-Ok-None.ensures.next in
     each _ _ _
     (λ log u. log_ended (flushed u _ c.read_line.ensures.keeps) left_then (take kept_most c.read_line.new.line) none _
-    c.in-Ok-finish.ensures.whole)
+    c.in-Ok-finish.ensures.text.whole)
     c.loop-played.invariant
 
 pub returns-in-Ok-finish-clause-front : goal.returns-in-Ok-finish-clause-front
@@ -51,7 +51,7 @@ returns-in-Ok-finish-clause-front g c =
     let none = rw c.in-Ok-None.field-0-is at c.in-Ok-None.ensures.next in
     each _ _ _
     (λ log u. log_cut (flushed u _ c.read_line.ensures.keeps) left_then (take kept_most c.read_line.new.line) none _
-    c.finish.ensures.front)
+    c.finish.ensures.text.front)
     c.loop-played.invariant
 
 pub returns-in-Err-finish-clause-front : goal.returns-in-Err-finish-clause-front
@@ -60,7 +60,7 @@ returns-in-Err-finish-clause-front g c =
     let none = rw c.in-Ok-None.field-0-is at c.in-Ok-None.ensures.next in
     each _ _ _
     (λ log u. log_cut (flushed u _ c.read_line.ensures.keeps) left_then (take kept_most c.read_line.new.line) none _
-    c.finish.ensures.front)
+    c.finish.ensures.text.front)
     c.loop-played.invariant
 
 pub returns-in-Err-clause-front : goal.returns-in-Err-clause-front
