@@ -6,6 +6,7 @@ use Rattle.std.proofs.Common.{◌≡◌, refl, sym, ap, false, ℕ, List}
 use Rattle.std.specs.Prelude.{Result}
 use Rattle.record.specs.Given.{given_by}
 use Rattle.record.specs.declared.refusal.Refusal.{Refusal}
+use Rattle.text.specs.Words.{over}
 use Rattle.record.specs.Legal.{is_legal}
 use Rattle.record.specs.declared.types.Device.{Device}
 use Rattle.clock.proofs.Cases.{passed_illegal}
@@ -58,6 +59,9 @@ module _ (d : Device) where
 
   pub illegal_kept : (e : LogEvent) → is_legal d ≡ false → d ≡ (did d e).device
   illegal_kept e h = ap (λ (r : Played Device). r.device) (sym (did_illegal e h))
+
+  pub illegal_silent : (e : LogEvent) (m : List ℕ) → is_legal d ≡ false → m ≡ over (did d e).reply m
+  illegal_silent e m h = ap (λ (r : Played Device). over r.reply m) (sym (did_illegal e h))
 
   pub illegal_text : (says : Says) (bs m : List ℕ) → is_legal d ≡ false → (says ≡ NoSuch → ⊥)
       → outcome_text (Refused NotLegal) m ≡ shown (event_of says bs) (did d (event_of says bs))

@@ -1,6 +1,7 @@
 // One event of a log: what it does, and what is printed for it. The record is lent with what its one test said, and no
 // record is tested here.
 ghost use Rattle.std.specs.Prelude.{◌≡◌, true, List, [], ℕ};
+ghost use Rattle.text.specs.Words.{over};
 ghost use Rattle.record.specs.Legal.{is_legal};
 ghost use Rattle.device.specs.Calls.{reply_room, received, closed_by};
 ghost use Rattle.floorlog.specs.Outcomes.{outcome_text, IsReplyWithin};
@@ -20,7 +21,7 @@ use record::types::Device;
 /// The place that a log drives (RULES, Floor log).
 pub const PLACE: usize = 0;
 
-// Opening at that place, where it is closed. Then it is the lowest closed place, which the device takes.
+// Opening at that place, where it is closed: then it is the lowest closed place, which the device takes.
 #[tactic(
     auto,
     using(
@@ -33,6 +34,7 @@ fn open(device: &mut Device, random: u32, reply: &mut [u8; REPLY_ROOM]) -> Outco
     ensures within { IsReplyWithin result reply_room }
     ensures text { outcome_text result reply.new ≡ outcome (opened_in_log device.old random) }
     ensures device { device.new ≡ (opened_in_log device.old random).device }
+    ensures reply { reply.new ≡ over (opened_in_log device.old random).reply reply.old }
 {
     if device.connections[PLACE].phase != SHUT {
         return Outcome::AlreadyOpen;
@@ -48,6 +50,7 @@ fn receive(device: &mut Device, bytes: &[u8], reply: &mut [u8; REPLY_ROOM]) -> O
     ensures within { IsReplyWithin result reply_room }
     ensures text { outcome_text result reply.new ≡ outcome (received device.old log_place bytes.now reply_room) }
     ensures device { device.new ≡ (received device.old log_place bytes.now reply_room).device }
+    ensures reply { reply.new ≡ over (received device.old log_place bytes.now reply_room).reply reply.old }
 {
     match on_legal::receive(device, PLACE, bytes, reply) {
         Ok(received) => Outcome::Served(received.length),
@@ -80,6 +83,7 @@ fn call_legal(
     ensures text { outcome_text result reply.new
         ≡ shown (event_of says bytes.now) (did device.old (event_of says bytes.now)) }
     ensures device { device.new ≡ (did device.old (event_of says bytes.now)).device }
+    ensures reply { reply.new ≡ over (did device.old (event_of says bytes.now)).reply reply.old }
 {
     match says {
         Says::Opens(random) => open(device, random, reply),
@@ -100,6 +104,7 @@ pub fn call(t: &mut Tested, says: Says, bytes: &[u8], reply: &mut [u8; REPLY_ROO
     ensures text { outcome_text result reply.new
         ≡ shown (event_of says bytes.now) (did t.old.device (event_of says bytes.now)) }
     ensures device { t.new.device ≡ (did t.old.device (event_of says bytes.now)).device }
+    ensures reply { reply.new ≡ over (did t.old.device (event_of says bytes.now)).reply reply.old }
     ensures places { Drives (seconds_of (event_of says [])) t.old.device t.new.device }
 {
     if t.legal {

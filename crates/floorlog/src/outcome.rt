@@ -28,8 +28,8 @@ pub enum Outcome {
     NoSuch,
 }
 
-/// Puts bytes at the end of a line.
-pub fn put_text(text: &[u8], out: &mut Printed)
+// Bytes at the end of a line.
+pub(crate) fn put_text(text: &[u8], out: &mut Printed)
     requires { array_vec_len out.old + length text.now ≤ line_room }
     ensures { out.new.items ≡ out.old.items ++ text.now }
 {

@@ -2,7 +2,7 @@
 use Rattle.std.proofs.Common.{ap, sym, refl, ◌∙◌}
 use Rattle.record.specs.Legal.{is_legal}
 use Rattle.floorlog.specs.Events.{event_of}
-use Rattle.floorlog.proofs.EventsLeave.{did_legality, illegal_text, illegal_kept}
+use Rattle.floorlog.proofs.EventsLeave.{did_legality, illegal_text, illegal_kept, illegal_silent}
 use Rattle.floorlog.proofs.Driven.{driven}
 use Rattle.floorlog.proofs.event.call.Goals as goal
 
@@ -41,3 +41,13 @@ returns-in-NoSuch-clause-places c =
 pub returns-in_default-clause-places : goal.returns-in_default-clause-places
 returns-in_default-clause-places c =
     driven c.args.t.now.device c.args.says c.args.bytes.now (returns-in_default-clause-device c)
+
+pub returns-in-NoSuch-clause-reply : goal.returns-in-NoSuch-clause-reply
+returns-in-NoSuch-clause-reply c =
+    illegal_silent c.args.t.now.device (event_of c.args.says c.args.bytes.now) c.args.reply.now
+    (sym c.args.t.now.tested ∙ c.if-t.false)
+
+pub returns-in_default-clause-reply : goal.returns-in_default-clause-reply
+returns-in_default-clause-reply c =
+    illegal_silent c.args.t.now.device (event_of c.args.says c.args.bytes.now) c.args.reply.now
+    (sym c.args.t.now.tested ∙ c.if-t.false)
