@@ -67,7 +67,7 @@ fn call(t: &mut Tested, says: Says, line: &mut [u8; KEPT_ROOM], held: usize)
 {
     line[held] = b'\r';
     let mut reply = [0; REPLY_ROOM];
-    let _outcome = event::call(t, says, &line[held.min(2)..held + 1], &mut reply);
+    event::call(t, says, &line[held.min(2)..held + 1], &mut reply);
 }
 
 // The line, which says so, is played.
