@@ -2,20 +2,19 @@
 --   Told starts r s log old now left n report at      so far n lines are played from the state s on, `now` is in the
 --                                                     sink, and report and state are so
 -- Assumes nothing.
-use Rattle.std.proofs.Common.{None, Some, IfSome, IfErr, Result, Err, ◌≢◌, inl, inr, ℕ, ◌+◌, ◌^◌, ◌≤◌, ◌<◌, ◌≡◌, sym}
+use Rattle.std.proofs.Common.{None, Some, IfSome, IfErr, Result, Err, ◌≢◌, inr, ℕ, ◌+◌, ◌^◌, ◌≤◌, ◌<◌, ◌≡◌, sym}
 use Rattle.std.proofs.Common.{ap, subst, ◌∙◌, List, [], ◌∷◌, ◌++◌, map, ⊎_elim, arith, length, take}
 use Rattle.std.specs.declared.option.Option.{Option}
 use Rattle.std.specs.declared.io.Error.{Error}
-use Rattle.std.specs.Io.KnownBytes.{Keeps, Appends}
+use Rattle.std.specs.Io.KnownBytes.{Appends}
 use Rattle.textio.specs.Fronts.{WritesFront}
-use Rattle.textio.specs.Lines.{lines_of, count_most, HasEndlessLine, IsTooLong}
+use Rattle.textio.specs.Lines.{lines_of, IsTooLong}
 use Rattle.textio.specs.NextLine.{IsNextLine, FailureComesOf}
 use Rattle.textio.specs.declared.lines.Failure.{Failure}
 use Rattle.textio.specs.declared.lines.Failure.TheVariants.{Read, Write, TooLong}
 use Rattle.textio.proofs.LinesCounted.{lines_fit, too_long_bytes}
 use Rattle.textio.proofs.Fronts.{front_then, front_more}
-use Rattle.textio.proofs.Underway.{Underway, each, begun, so_far, flushed, line_is, played, broken, ended, cut}
-use Rattle.textio.proofs.Underway.{endless, too_many}
+use Rattle.textio.proofs.Underway.{Underway, each, begun, line_is, played, broken, ended, cut}
 use Rattle.floorlog.specs.Replaying.{kept_most}
 use Rattle.watch.specs.Marking.{FloorEvent, floor_event, seconds_by}
 use Rattle.watch.specs.Watching.{Watching, watched_on}

@@ -14,7 +14,7 @@ use Rattle.record.specs.declared.types.Device.{Device}
 use Rattle.device.specs.Calls.{Result, reply_room}
 use Rattle.floorlog.specs.declared.outcome.Outcome.{Outcome}
 use Rattle.floorlog.specs.declared.outcome.Outcome.TheVariants.{Served, Refused, AlreadyOpen, NoSuch}
-use Rattle.floorlog.specs.Outcomes.{reply_text, refusal_text, outcome_text, IsReplyWithin}
+use Rattle.floorlog.specs.Outcomes.{reply_text, refusal_shown, outcome_text, IsReplyWithin}
 use Rattle.floorlog.specs.LastLine.{lamp_shown, lamps_shown}
 use Rattle.floorlog.specs.Doing.{outcome}
 
@@ -36,9 +36,9 @@ module _ (r : Result Device) where
 
   pub refused_text : (x : Refusal) (m : List ℕ) → refusal_number x ≡ r.number → outcome_text (Refused x) m ≡ outcome r
   refused_text x m e =
-      ap refusal_text e ∙ sym (if_no _ _ (ne_eqb r.number 0 (λ z. refused x (e ∙ z))))
+      ap refusal_shown e ∙ sym (if_no _ _ (ne_eqb r.number 0 (λ z. refused x (e ∙ z))))
 
-refusal_short : (n : ℕ) → length (refusal_text n) ≤ 12
+refusal_short : (n : ℕ) → length (refusal_shown n) ≤ 12
 refusal_short n = omega (arith, length-append (codes "! ") (digits n), digits_at_most_10 n)
 
 pub outcome_short : (o : Outcome) (m : List ℕ) → IsReplyWithin o reply_room

@@ -17,7 +17,7 @@ use Rattle.record.specs.declared.types.Device.{Device}
 use Rattle.record.specs.Given.{Given, given_by}
 use Rattle.clock.specs.Passing.{passed}
 use Rattle.device.specs.Calls.{Result, refused_by, made, reply_room, received, opened_by, closed_by}
-use Rattle.floorlog.specs.Outcomes.{reply_text, refusal_text}
+use Rattle.floorlog.specs.Outcomes.{reply_text, refusal_shown}
 use Rattle.floorlog.specs.Events.{LogEvent, opens, receives, passes, closes, no_such}
 
 abbrev pub changed_to : Given Device → Result Device
@@ -41,7 +41,7 @@ did d closes = closed_by d log_place
 did d no_such = made d
 
 abbrev pub outcome : Result Device → List ℕ
-outcome r = if r.number == 0 then reply_text r.reply else refusal_text r.number
+outcome r = if r.number == 0 then reply_text r.reply else refusal_shown r.number
 
 abbrev pub shown : LogEvent → Result Device → List ℕ
 shown no_such r = codes "?"

@@ -1,9 +1,9 @@
 -- What an event of a log comes to, and how it is printed (RULES, Floor log).
 --   reply_text s           what is printed for the reply s: "the reply without CR, or `-` for none"
---   refusal_text n         "`! ` and the number of a refusal"
+--   refusal_shown n        "`! ` and the number of a refusal"
 --   outcome_text o m       what is printed for what an event came to, where its reply stands at the front of m
 --   IsReplyWithin o n      a reply has at most so many bytes
---   line_room              a printed line never needs more room, nor does the last one
+--   printed_most           a printed line never needs more room, nor does the last one
 -- Assumes nothing.
 use Rattle.std.specs.Prelude.{ℕ, ◌-◌, ◌≤◌, List, ◌++◌, length, take, if◌then◌else◌, ◌==◌, codes}
 use Rattle.numbers.specs.Decimal.{digits}
@@ -14,13 +14,13 @@ use Rattle.floorlog.specs.declared.outcome.Outcome.TheVariants.{Served, Refused,
 abbrev pub reply_text : List ℕ → List ℕ
 reply_text s = if length s == 0 then codes "-" else take (length s - 1) s
 
-abbrev pub refusal_text : ℕ → List ℕ
-refusal_text n = codes "! " ++ digits n
+abbrev pub refusal_shown : ℕ → List ℕ
+refusal_shown n = codes "! " ++ digits n
 
 abbrev pub outcome_text : Outcome → List ℕ → List ℕ
 outcome_text (Served n) m = reply_text (take n m)
-outcome_text (Refused r) m = refusal_text (refusal_number r)
-outcome_text AlreadyOpen m = refusal_text 5
+outcome_text (Refused r) m = refusal_shown (refusal_number r)
+outcome_text AlreadyOpen m = refusal_shown 5
 outcome_text NoSuch m = codes "?"
 
 abbrev pub IsReplyWithin : Outcome → ℕ → Type 0
@@ -29,5 +29,5 @@ IsReplyWithin (Refused r) most = Unit {0}
 IsReplyWithin AlreadyOpen most = Unit {0}
 IsReplyWithin NoSuch most = Unit {0}
 
-abbrev pub line_room : ℕ
-line_room = 158
+abbrev pub printed_most : ℕ
+printed_most = 158

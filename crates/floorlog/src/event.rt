@@ -22,13 +22,7 @@ use record::types::Device;
 pub const PLACE: usize = 0;
 
 // Opening at that place, where it is closed: then it is the lowest closed place, which the device takes.
-#[tactic(
-    auto,
-    using(
-        crate::proofs::LogOpenings::log_opened_again,
-        crate::proofs::LogOpenings::log_opened_closed
-    )
-)]
+#[tactic(auto, using(crate::proofs::LogOpenings::log_opened_again, crate::proofs::LogOpenings::log_opened_closed))]
 fn open(device: &mut Device, random: u32, reply: &mut [u8; REPLY_ROOM]) -> Outcome
     requires { is_legal device.old ≡ true }
     ensures within { IsReplyWithin result reply_room }
@@ -127,11 +121,7 @@ pub fn seconds_of(says: Says) -> u32
 }
 
 /// A line's event, and its printed line.
-#[tactic(
-    auto,
-    using(crate::proofs::Outcomes::line_lengths),
-    unfolding(crate::specs::Doing::printed)
-)]
+#[tactic(auto, using(crate::proofs::Outcomes::line_lengths), unfolding(crate::specs::Doing::printed))]
 pub fn print(t: &mut Tested, number: u64, says: Says, bytes: &[u8], out: &mut Printed)
     requires { out.old.items ≡ [] }
     ensures printed { out.new.items

@@ -2,8 +2,7 @@
 ghost use Rattle.std.specs.Prelude.{◌≡◌, ◌+◌, ◌≤◌, ◌++◌, length};
 ghost use Rattle.arrayvec.specs.ArrayVec.{array_vec_len};
 ghost use Rattle.device.specs.Calls.{reply_room};
-ghost use Rattle.numbers.specs.Decimal.{digits};
-ghost use Rattle.floorlog.specs.Outcomes.{outcome_text, IsReplyWithin, reply_text, refusal_text, line_room};
+ghost use Rattle.floorlog.specs.Outcomes.{outcome_text, IsReplyWithin, reply_text, refusal_shown, printed_most};
 
 use arrayvec::ArrayVec;
 use device::on_legal::REPLY_ROOM;
@@ -30,7 +29,7 @@ pub enum Outcome {
 
 // Bytes at the end of a line.
 pub(crate) fn put_text(text: &[u8], out: &mut Printed)
-    requires { array_vec_len out.old + length text.now ≤ line_room }
+    requires { array_vec_len out.old + length text.now ≤ printed_most }
     ensures { out.new.items ≡ out.old.items ++ text.now }
 {
     out.try_extend_from_slice(text).unwrap();
@@ -38,7 +37,7 @@ pub(crate) fn put_text(text: &[u8], out: &mut Printed)
 
 // The reply without its CR, or `-` for none.
 fn put_reply(reply: &[u8], out: &mut Printed)
-    requires { array_vec_len out.old + length (reply_text reply.now) ≤ line_room }
+    requires { array_vec_len out.old + length (reply_text reply.now) ≤ printed_most }
     ensures { out.new.items ≡ out.old.items ++ reply_text reply.now }
 {
     if reply.is_empty() {
@@ -50,8 +49,8 @@ fn put_reply(reply: &[u8], out: &mut Printed)
 
 // `! ` and the number of a refusal.
 fn put_refusal(number: u32, out: &mut Printed)
-    requires { array_vec_len out.old + length (refusal_text number) ≤ line_room }
-    ensures { out.new.items ≡ out.old.items ++ refusal_text number }
+    requires { array_vec_len out.old + length (refusal_shown number) ≤ printed_most }
+    ensures { out.new.items ≡ out.old.items ++ refusal_shown number }
 {
     put_text(b"! ", out);
     numbers::put_number(number, out);
@@ -61,7 +60,7 @@ impl Outcome {
     /// Puts what is printed for it at the end of a line; its reply stands at the front of the memory.
     pub fn put(self, memory: &[u8; REPLY_ROOM], out: &mut Printed)
         requires within { IsReplyWithin self reply_room }
-        requires room { array_vec_len out.old + length (outcome_text self memory.now) ≤ line_room }
+        requires room { array_vec_len out.old + length (outcome_text self memory.now) ≤ printed_most }
         ensures { out.new.items ≡ out.old.items ++ outcome_text self memory.now }
     {
         match self {

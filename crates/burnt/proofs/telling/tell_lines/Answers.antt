@@ -49,24 +49,27 @@ pub returns-in-Ok-tell_end-clause-whole : goal.returns-in-Ok-tell_end-clause-who
 returns-in-Ok-tell_end-clause-whole g c =
     let none = rw c.in-Ok-None.field-0-is at c.in-Ok-None.ensures.next in
     each _ _ _
-    (λ log u. end_told c.args.starts (flushed u _ c.read_line.ensures.keeps) (left_in g.R.ByteSource.remaining c.read_line.new.from)
-    (take kept_most c.read_line.new.line) none _ c.in-Ok-tell_end.ensures.text.whole)
+    (λ log u. end_told c.args.starts (flushed u _ c.read_line.ensures.keeps)
+    (left_in g.R.ByteSource.remaining c.read_line.new.from) (take kept_most c.read_line.new.line) none _
+    c.in-Ok-tell_end.ensures.text.whole)
     c.loop.invariant
 
 pub returns-in-Ok-tell_end-clause-front : goal.returns-in-Ok-tell_end-clause-front
 returns-in-Ok-tell_end-clause-front g c =
     let none = rw c.in-Ok-None.field-0-is at c.in-Ok-None.ensures.next in
     each _ _ _
-    (λ log u. end_cut c.args.starts (flushed u _ c.read_line.ensures.keeps) (left_in g.R.ByteSource.remaining c.read_line.new.from)
-    (take kept_most c.read_line.new.line) none _ c.tell_end.ensures.text.front)
+    (λ log u. end_cut c.args.starts (flushed u _ c.read_line.ensures.keeps)
+    (left_in g.R.ByteSource.remaining c.read_line.new.from) (take kept_most c.read_line.new.line) none _
+    c.tell_end.ensures.text.front)
     c.loop.invariant
 
 pub returns-in-Err-tell_end-clause-front : goal.returns-in-Err-tell_end-clause-front
 returns-in-Err-tell_end-clause-front g c =
     let none = rw c.in-Ok-None.field-0-is at c.in-Ok-None.ensures.next in
     each _ _ _
-    (λ log u. end_cut c.args.starts (flushed u _ c.read_line.ensures.keeps) (left_in g.R.ByteSource.remaining c.read_line.new.from)
-    (take kept_most c.read_line.new.line) none _ c.tell_end.ensures.text.front)
+    (λ log u. end_cut c.args.starts (flushed u _ c.read_line.ensures.keeps)
+    (left_in g.R.ByteSource.remaining c.read_line.new.from) (take kept_most c.read_line.new.line) none _
+    c.tell_end.ensures.text.front)
     c.loop.invariant
 
 pub returns-in-Err-clause-front : goal.returns-in-Err-clause-front
