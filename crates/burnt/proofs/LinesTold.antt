@@ -2,19 +2,20 @@
 --   Told starts r s log old now left n report at      so far n lines are played from the state s on, `now` is in the
 --                                                     sink, and report and state are so
 -- Assumes nothing.
-use Rattle.std.proofs.Common.{None, Some, IfSome, IfErr, Result, Err, ◌≢◌, inr, ℕ, ◌+◌, ◌^◌, ◌≤◌, ◌<◌, ◌≡◌, sym}
+use Rattle.std.proofs.Common.{None, Some, IfSome, IfErr, Result, Err, ◌≢◌, inl, inr, ℕ, ◌+◌, ◌^◌, ◌≤◌, ◌<◌, ◌≡◌, sym}
 use Rattle.std.proofs.Common.{ap, subst, ◌∙◌, List, [], ◌∷◌, ◌++◌, map, ⊎_elim, arith, length, take}
 use Rattle.std.specs.declared.option.Option.{Option}
 use Rattle.std.specs.declared.io.Error.{Error}
-use Rattle.std.specs.Io.KnownBytes.{Appends}
+use Rattle.std.specs.Io.KnownBytes.{Keeps, Appends}
 use Rattle.textio.specs.Fronts.{WritesFront}
-use Rattle.textio.specs.Lines.{lines_of, IsTooLong}
+use Rattle.textio.specs.Lines.{lines_of, count_most, HasEndlessLine, IsTooLong}
 use Rattle.textio.specs.NextLine.{IsNextLine, FailureComesOf}
 use Rattle.textio.specs.declared.lines.Failure.{Failure}
 use Rattle.textio.specs.declared.lines.Failure.TheVariants.{Read, Write, TooLong}
 use Rattle.textio.proofs.LinesCounted.{lines_fit, too_long_bytes}
 use Rattle.textio.proofs.Fronts.{front_then, front_more}
-use Rattle.textio.proofs.Underway.{Underway, each, begun, line_is, played, broken, ended, cut}
+use Rattle.textio.proofs.Underway.{Underway, each, begun, so_far, flushed, line_is, played, broken, ended, cut}
+use Rattle.textio.proofs.Underway.{endless, too_many}
 use Rattle.floorlog.specs.Replaying.{kept_most}
 use Rattle.watch.specs.Marking.{FloorEvent, floor_event, seconds_by}
 use Rattle.watch.specs.Watching.{Watching, watched_on}
@@ -109,6 +110,40 @@ module _ (starts : List ℕ) {r report : Report} {s at : Watching} {log : List �
     pub end_cut : WritesFront now new (last_text starts report at)
         → WritesFront old new (told_from starts r s (floor_events log))
     end_cut f = cut u left_then memory next (told_none starts report at) new f
+
+-- so far; and why it cannot be told on
+module _ (starts : List ℕ) (r report : Report) (s at : Watching) (old now a left : Option (List ℕ)) (n : ℕ)
+    (u : IfSome a (λ log. Told starts r s log old now left n report at)) where
+  -- what is written is a front of what is told of the log, and is where more is only handed on
+  pub lines_front : IfSome a (λ log. WritesFront old now (told_from starts r s (floor_events log)))
+  lines_front =
+      each a (λ log. Told starts r s log old now left n report at)
+      (λ log. WritesFront old now (told_from starts r s (floor_events log))) (λ log x. so_far x) u
+
+  pub lines_front_kept : (new : Option (List ℕ)) → Keeps now new
+      → IfSome a (λ log. WritesFront old new (told_from starts r s (floor_events log)))
+  lines_front_kept new k =
+      each a (λ log. Told starts r s log old now left n report at)
+      (λ log. WritesFront old new (told_from starts r s (floor_events log))) (λ log x. so_far (flushed x new k)) u
+
+  pub line_endless : IfSome a (λ log. IfSome left HasEndlessLine → IsUntold log)
+  line_endless =
+      each a (λ log. Told starts r s log old now left n report at) (λ log. IfSome left HasEndlessLine → IsUntold log)
+      (λ log x h. inl (endless x h)) u
+
+  pub lines_many : count_most ≤ n → IfSome a IsUntold
+  lines_many many =
+      each a (λ log. Told starts r s log old now left n report at) IsUntold (λ log x. inl (too_many x many)) u
+
+  -- a line's seconds cannot be counted
+  pub line_over : (left_then : Option (List ℕ)) (memory : List ℕ) (held : ℕ) → kept_most ≤ length memory
+      → held ≤ kept_most → IfSome left (λ xs. IsNextLine xs left_then (take kept_most memory) (Some held))
+      → s.time ≡ 0
+      → IfSome a (λ log. 2 ^ 64 ≤ at.time + seconds_by (floor_event (take held memory)) → IsUntold log)
+  line_over left_then memory held room inside next zero =
+      each a (λ log. Told starts r s log old now left n report at)
+      (λ log. 2 ^ 64 ≤ at.time + seconds_by (floor_event (take held memory)) → IsUntold log)
+      (λ log x h. line_uncounted starts x left_then memory held room inside next h zero) u
 
 -- a line that could not be told is why the log was not
 pub line_came : (reads writes : Error → Type 0) (a : Option (List ℕ)) (s : Watching) (e : FloorEvent) (f : Failure)
