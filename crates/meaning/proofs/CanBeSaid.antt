@@ -42,7 +42,7 @@ use Rattle.meaning.specs.Rules.{is_undefined, is_unlisted}
 use Rattle.meaning.proofs.LampsSaid.{length-lamps_said, list_all-lamps_said}
 use Rattle.meaning.specs.Meaning.{chosen_of, lamp_said, lamps_of, table_answer, request_answer, meant}
 use Rattle.meaning.proofs.InputsByPlace.{inputs_counted, input_in_use}
-use Rattle.meaning.proofs.ClassKnown.{class_low, class_high}
+use Rattle.record.specs.Views.{class_seen}
 use Rattle.meaning.proofs.Cases.{Passes, meant_by}
 
 pub record Fits (m : Said) : Type 0 where
@@ -135,7 +135,7 @@ module _ (s : Settings) (o : Own) (settings : is_settings s ≡ true) (own : is_
   told_can_be_said (Query Inf1) e = maker _ set_up.maker.follows
   told_can_be_said (Query Inf2) e = model _ set_up.model.follows
   told_can_be_said (Query Info) e = other _ set_up.other.follows
-  told_can_be_said (Query Clss) e = class_said _ (class_low s set_up) (class_high s set_up)
+  told_can_be_said (Query Clss) e = class_said (class_seen s)
   told_can_be_said (Query Frez) e = freeze _
   told_can_be_said (Query Svol) e = absurd (false≢true (sym e))
   told_can_be_said (Query Mvol) e = absurd (false≢true (sym e))
