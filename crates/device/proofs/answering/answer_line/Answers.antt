@@ -29,40 +29,40 @@ module _
     (legal : is_settings s ≡ true)
     (e : k ≡ class_seen s)
   where
-  at_class : {t : Bool} → is_command_form (class_as_number k) l ≡ t → is_command_form s.class_number l ≡ t
-  at_class f =
-      ap (λ n. is_command_form n l)
-      (sym (ap class_as_number e ∙ class_as_number-class_seen s ((settings_is s).0 legal)))
-      ∙ f
+    at_class : {t : Bool} → is_command_form (class_as_number k) l ≡ t → is_command_form s.class_number l ≡ t
+    at_class f =
+        ap (λ n. is_command_form n l)
+        (sym (ap class_as_number e ∙ class_as_number-class_seen s ((settings_is s).0 legal)))
+        ∙ f
 
-  unformed : is_command_form (class_as_number k) l ≡ false → swallowed o ≡ line_answer s o l
-  unfolding line_answer
-  unformed f = sym (if_no (replied s o l) (swallowed o) (at_class f))
-
-  module _
-      (j : ClassNumber)
-      {letters p : List ℕ}
-      (taken : IsCommandOf (class_as_number k) l (class_as_number j) letters p)
-    where
-    formed : replied s o l ≡ line_answer s o l
+    unformed : is_command_form (class_as_number k) l ≡ false → swallowed o ≡ line_answer s o l
     unfolding line_answer
-    formed = sym (if_yes (replied s o l) (swallowed o) (at_class taken.form))
+    unformed f = sym (if_no (replied s o l) (swallowed o) (at_class f))
 
-    asks : {r : Request} → r ≡ request_of (class_as_number j) letters p → r ≡ line_asks l
-    asks f =
-        let class : class_as_number j ≡ line_class l = omega (arith, taken.class) in
-        f ∙ (λ i. request_of (class i) (taken.body i) (taken.parameter i))
+    module _
+        (j : ClassNumber)
+        {letters p : List ℕ}
+        (taken : IsCommandOf (class_as_number k) l (class_as_number j) letters p)
+      where
+        formed : replied s o l ≡ line_answer s o l
+        unfolding line_answer
+        formed = sym (if_yes (replied s o l) (swallowed o) (at_class taken.form))
 
-    answers : {r : Request} (reply : Result Answer Refusal) → r ≡ request_of (class_as_number j) letters p
-        → said_by reply ≡ meant s o r
-        → reply_line (class_code j) (letters at 0) (letters at 1) (letters at 2) (letters at 3)
-        (said_bytes (said_by reply))
-        ≡ (line_answer s o l).reply
-    answers reply f g =
-        let said = g ∙ ap (meant s o) (asks f) in
-        (λ i. reply_line (sym taken.class i) (taken.body i at 0) (taken.body i at 1) (taken.body i at 2)
-        (taken.body i at 3) (said_bytes (said i)))
-        ∙ ap (λ a. a.reply) formed
+        asks : {r : Request} → r ≡ request_of (class_as_number j) letters p → r ≡ line_asks l
+        asks f =
+            let class : class_as_number j ≡ line_class l = omega (arith, taken.class) in
+            f ∙ (λ i. request_of (class i) (taken.body i) (taken.parameter i))
+
+        answers : {r : Request} (reply : Result Answer Refusal) → r ≡ request_of (class_as_number j) letters p
+            → said_by reply ≡ meant s o r
+            → reply_line (class_code j) (letters at 0) (letters at 1) (letters at 2) (letters at 3)
+            (said_bytes (said_by reply))
+            ≡ (line_answer s o l).reply
+        answers reply f g =
+            let said = g ∙ ap (meant s o) (asks f) in
+            (λ i. reply_line (sym taken.class i) (taken.body i at 0) (taken.body i at 1) (taken.body i at 2)
+            (taken.body i at 3) (said_bytes (said i)))
+            ∙ ap (λ a. a.reply) formed
 
 pub returns-in_default-clause-reply : goal.returns-in_default-clause-reply
 returns-in_default-clause-reply c =
@@ -79,7 +79,7 @@ pub returns-clause-reply : goal.returns-clause-reply
 returns-clause-reply c =
     c.reply_line.ensures
     ∙ answers c.args.s.now c.args.o.now c.args.l.now c.requires.settings c.class.ensures _ c.in-Some.ensures.taken
-    c.decide-reply.result c.request-asked.ensures c.decide-reply.ensures.value
+    c.decide-reply.result c.request-asked.ensures c.decide-reply.ensures.said
 
 pub returns-clause-own : goal.returns-clause-own
 returns-clause-own c =
