@@ -29,8 +29,7 @@ use Rattle.stored.specs.Form.{texts_bytes, texts_in_class_2, class_part_text, fo
 use Rattle.stored.specs.Reading.{given, byte, number, section_of, text, seconds_in}
 use Rattle.stored.specs.Reading.{ClassPart, alone, texts_of_2, class_part, class_in, marks_of, FormSaid, form}
 use Rattle.stored.proofs.BytesAgain.{Bytes, drop_bytes, take_bytes, seconds_bytes-seconds_in}
-use Rattle.stored.proofs.SecondsWritten.{seconds_long}
-use Rattle.stored.proofs.Seconds.{length-seconds_in, seconds_back}
+use Rattle.stored.proofs.Seconds.{length-seconds_in, seconds_back, seconds_long}
 use Rattle.stored.proofs.Fields.{section_again, text_again, number_again, texts_again, taking, reading}
 use Rattle.stored.proofs.Fields.{Extends, extends_given, extends_then, extends_if, extends_byte, extends_number}
 use Rattle.stored.proofs.Fields.{extends_section, extends_texts}
