@@ -1,4 +1,5 @@
--- The lamps' seconds, four bytes each: none, the first, how long; read, how many, lamp by lamp, and back from the bytes that were written.
+-- The lamps' seconds, four bytes each: none, the first, how long; read, how many, lamp by lamp, and back from the bytes
+-- that were written.
 -- Assumes nothing.
 use Rattle.std.proofs.Common.{ℕ, zero, suc, ◌+◌, ◌*◌, ◌^◌, ◌≤◌, ◌<◌, ◌≡◌, refl, sym, ap, ◌∙◌, List, [], ◌∷◌, ◌++◌}
 use Rattle.std.proofs.Common.{append_assoc, arith, length, slice_index_or, take, drop, take_at, drop_at, drop-drop}

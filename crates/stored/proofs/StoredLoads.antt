@@ -3,8 +3,8 @@
 -- what it was set up with.
 -- Assumes nothing.
 use Rattle.std.specs.List.{list_all}
-use Rattle.std.proofs.Common.{ℕ, ◌*◌, ◌/◌, ◌≤◌, ◌≡◌, refl, sym, ap, ◌∙◌, Bool, true, List, [], ◌∷◌, map, arith, length, take}
-use Rattle.std.proofs.Common.{length-take-le, eq-eqb}
+use Rattle.std.proofs.Common.{ℕ, ◌*◌, ◌/◌, ◌≤◌, ◌≡◌, refl, sym, ap, ◌∙◌, Bool, true, List, [], ◌∷◌, map, arith}
+use Rattle.std.proofs.Common.{length, take, length-take-le, eq-eqb}
 use Rattle.std.proofs.lemmas.List.{length-map}
 use Rattle.text.proofs.Choices.{both, both_left, both_right}
 use Rattle.text.proofs.Scanning.{list_all-map}
@@ -40,14 +40,14 @@ use Rattle.record.proofs.FactsTold.{stretch_is}
 
 module _ (d : Device) (h : is_legal d ≡ true) where
   -- how much is stored
-  length-inputs : length (stored_of d).inputs ≡ 2 * d.settings.input_count
-  length-inputs = kept_length input_room (is_inputs _) _ _ (settings_of_legal d h).inputs
+  inputs_long : length (stored_of d).inputs ≡ 2 * d.settings.input_count
+  inputs_long = kept_length input_room (is_inputs _) _ _ (settings_of_legal d h).inputs
 
-  length-lamps : length (stored_of d).lamps ≡ d.settings.lamp_count
-  length-lamps = kept_length lamps_most is_lamps _ _ (own_of_legal d h).lamps
+  lamps_many : length (stored_of d).lamps ≡ d.settings.lamp_count
+  lamps_many = kept_length lamps_most is_lamps _ _ (own_of_legal d h).lamps
 
-  length-marks : length (marks_stored d) ≡ d.settings.lamp_count
-  length-marks = front_many _ _ (own_of_legal d h).marks (settings_of_legal d h).lamps
+  marks_many : length (marks_stored d) ≡ d.settings.lamp_count
+  marks_many = front_many _ _ (own_of_legal d h).marks (settings_of_legal d h).lamps
 
   in_range : (s : Setting) → is_setting_in_range (stored_of d) s ≡ true
   in_range Name = (settings_of_legal d h).name.follows
@@ -66,7 +66,7 @@ module _ (d : Device) (h : is_legal d ≡ true) where
       let n = only_in_2 d.settings.class_number d.settings.input_count in
       let few = only_in_2_within d.settings.class_number d.settings.input_count in
       let count : length (stored_of d).inputs / 2
-      ≡ d.settings.input_count = omega (arith, length-inputs) in
+      ≡ d.settings.input_count = omega (arith, inputs_long) in
       let many : length (take n d.settings.names) ≡ n =
       length-take-le n d.settings.names
       (omega (arith, few, told.names.long, input_count_high d.settings told)) in
@@ -94,8 +94,8 @@ module _ (d : Device) (h : is_legal d ≡ true) where
 
   pub stored_marks : is_marks_of (length (stored_of d).lamps) (marks_stored d) ≡ true
   stored_marks =
-      both (eq-eqb (length (marks_stored d)) (length (stored_of d).lamps) (length-marks ∙ sym length-lamps))
-      ((λ i. is_marks (length-lamps i) (mark_room-marks_stored i)) ∙ legal_marks)
+      both (eq-eqb (length (marks_stored d)) (length (stored_of d).lamps) (marks_many ∙ sym lamps_many))
+      ((λ i. is_marks (lamps_many i) (mark_room-marks_stored i)) ∙ legal_marks)
 
   pub stored_loads : loaded (stored_form d) ≡ accepted (started_with (stored_of d) (marks_stored d))
   stored_loads = form_loads (stored_of d) stored_in_range (marks_stored d) stored_marks

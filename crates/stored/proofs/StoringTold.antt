@@ -1,4 +1,5 @@
--- What storing gives (RULES, Stored form): the number is that of the first row that applies, for every record; a refused store writes no byte; and the promise leaves one result.
+-- What storing gives (RULES, Stored form): the number is that of the first row that applies, for every record; a
+-- refused store writes no byte; and the promise leaves one result.
 --   StoredTold r      an accepted store: the record is legal, the memory has room, the bytes are the form's
 --   Stores r m        the result r and the lent bytes m meet what storing promises
 -- Assumes nothing.

@@ -1,7 +1,7 @@
 -- The law of the writer (RULES, Stored form): field after field, each in turn, and what is past the end of the memory.
 -- Assumes nothing.
-use Rattle.std.proofs.Common.{ℕ, zero, suc, ◌+◌, ◌≤◌, ◌<◌, ◌≡◌, refl, sym, ap, subst, ◌∙◌, Bool, false, List, [], ◌∷◌, ◌++◌}
-use Rattle.std.proofs.Common.{map, arith, length, length-append, length-set, set, slice_index_or, take}
+use Rattle.std.proofs.Common.{ℕ, zero, suc, ◌+◌, ◌≤◌, ◌<◌, ◌≡◌, refl, sym, ap, subst, ◌∙◌, Bool, false, List, []}
+use Rattle.std.proofs.Common.{◌∷◌, ◌++◌, map, arith, length, length-append, length-set, set, slice_index_or, take}
 use Rattle.std.proofs.lemmas.List.Edits.{sets}
 use Rattle.text.specs.InTurn.{each_in_turn}
 use Rattle.text.proofs.InTurn.{each_in_turn-take}
@@ -10,7 +10,7 @@ use Rattle.text.proofs.Stores.{sets_then, sets_over}
 use Rattle.record.specs.declared.types.InputName.{InputName}
 use Rattle.numbers.specs.HighestFirst.{highest_first}
 use Rattle.stored.specs.Form.{text_section, texts_bytes, seconds_bytes, mark_byte, name_stored}
-use Rattle.stored.specs.Writes.{Writes}
+use Rattle.stored.specs.Puts.{Puts}
 use Rattle.stored.specs.declared.writer.Writer.{Writer}
 
 -- ---- past the end of the memory
@@ -43,12 +43,12 @@ map_in_turn : {A : Type 0} (f : A → ℕ) (xs : List A) → each_in_turn (λ (x
 map_in_turn f [] = refl
 map_in_turn f (x ∷ xs) = ap (λ (l : List ℕ). f x ∷ l) (map_in_turn f xs)
 
-pub writes_none : (w : Writer) → Writes w w []
-writes_none w = record { lent = refl; memory = refl; count = omega arith }
+pub puts_none : (w : Writer) → Puts w w []
+puts_none w = record { lent = refl; memory = refl; count = omega arith }
 
 module _ {a b c : Writer} where
-  pub writes_then : {s t : List ℕ} → Writes a b s → Writes b c t → Writes a c (s ++ t)
-  writes_then {s} {t} p q = record {
+  pub puts_then : {s t : List ℕ} → Puts a b s → Puts b c t → Puts a c (s ++ t)
+  puts_then {s} {t} p q = record {
     lent = q.lent ∙ p.lent;
     memory = q.memory ∙ sets_then a.out.now a.at s t p.memory p.count;
     count = omega (arith, length-append s t, p.count, q.count);
@@ -56,42 +56,42 @@ module _ {a b c : Writer} where
 
   -- one turn of a loop over xs
   each : {A : Type 0} (f : A → List ℕ) (xs : List A) (i : ℕ) (d : A) → i < length xs
-      → Writes a b (each_in_turn f (take i xs)) → Writes b c (f (slice_index_or xs i d))
-      → Writes a c (each_in_turn f (take (i + 1) xs))
-  each f xs i d h p q = subst (Writes a c) (sym (each_in_turn-take f xs i d h)) (writes_then p q)
+      → Puts a b (each_in_turn f (take i xs)) → Puts b c (f (slice_index_or xs i d))
+      → Puts a c (each_in_turn f (take (i + 1) xs))
+  each f xs i d h p q = subst (Puts a c) (sym (each_in_turn-take f xs i d h)) (puts_then p q)
 
   pub one_name : (ns : List InputName) (i : ℕ) (d : InputName) → i < length ns
-      → Writes a b (texts_bytes (map name_stored (take i ns)))
-      → Writes b c (text_section (name_stored (slice_index_or ns i d)))
-      → Writes a c (texts_bytes (map name_stored (take (i + 1) ns)))
+      → Puts a b (texts_bytes (map name_stored (take i ns)))
+      → Puts b c (text_section (name_stored (slice_index_or ns i d)))
+      → Puts a c (texts_bytes (map name_stored (take (i + 1) ns)))
   unfolding texts_bytes
   one_name ns i d h p q =
       let f = λ (t : InputName). text_section (name_stored t) in
       let turn : (k : ℕ) → each_in_turn f (take k ns) ≡ each_in_turn text_section (map name_stored (take k ns))
       = λ k. sym (each_in_turn-map text_section name_stored (take k ns)) in
-      subst (Writes a c) (turn (i + 1)) (each f ns i d h (subst (Writes a b) (sym (turn i)) p) q)
+      subst (Puts a c) (turn (i + 1)) (each f ns i d h (subst (Puts a b) (sym (turn i)) p) q)
 
-  pub one_lamp : (xs : List ℕ) (i : ℕ) {s : List ℕ} → i < length xs → Writes a b (seconds_bytes (take i xs))
-      → s ≡ highest_first 4 (slice_index_or xs i 0) → Writes b c s → Writes a c (seconds_bytes (take (i + 1) xs))
+  pub one_lamp : (xs : List ℕ) (i : ℕ) {s : List ℕ} → i < length xs → Puts a b (seconds_bytes (take i xs))
+      → s ≡ highest_first 4 (slice_index_or xs i 0) → Puts b c s → Puts a c (seconds_bytes (take (i + 1) xs))
   unfolding seconds_bytes
-  one_lamp xs i h p e q = each (highest_first 4) xs i 0 h p (subst (Writes b c) e q)
+  one_lamp xs i h p e q = each (highest_first 4) xs i 0 h p (subst (Puts b c) e q)
 
-  pub one_mark : (ms : List Bool) (i : ℕ) {m : ℕ} → i < length ms → Writes a b (map mark_byte (take i ms))
-      → m ≡ mark_byte (slice_index_or ms i false) → Writes b c (m ∷ [])
-      → Writes a c (map mark_byte (take (i + 1) ms))
+  pub one_mark : (ms : List Bool) (i : ℕ) {m : ℕ} → i < length ms → Puts a b (map mark_byte (take i ms))
+      → m ≡ mark_byte (slice_index_or ms i false) → Puts b c (m ∷ [])
+      → Puts a c (map mark_byte (take (i + 1) ms))
   one_mark ms i h p e q =
       let f = λ (m : Bool). mark_byte m ∷ [] in
-      subst (Writes a c) (map_in_turn mark_byte (take (i + 1) ms))
-      (each f ms i false h (subst (Writes a b) (sym (map_in_turn mark_byte (take i ms))) p)
-      (subst (λ (n : ℕ). Writes b c (n ∷ [])) e q))
+      subst (Puts a c) (map_in_turn mark_byte (take (i + 1) ms))
+      (each f ms i false h (subst (Puts a b) (sym (map_in_turn mark_byte (take i ms))) p)
+      (subst (λ (n : ℕ). Puts b c (n ∷ [])) e q))
 
-pub no_lamp : (w : Writer) → Writes w w (seconds_bytes [])
+pub no_lamp : (w : Writer) → Puts w w (seconds_bytes [])
 unfolding seconds_bytes
-no_lamp w = writes_none w
+no_lamp w = puts_none w
 
-pub no_name : (w : Writer) → Writes w w (texts_bytes [])
+pub no_name : (w : Writer) → Puts w w (texts_bytes [])
 unfolding texts_bytes
-no_name w = writes_none w
+no_name w = puts_none w
 
 -- ---- a whole form
 

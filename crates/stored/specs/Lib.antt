@@ -5,4 +5,4 @@ pub mod Views
 pub mod Loading
 pub mod Computing
 pub mod Told
-pub mod Writes
+pub mod Puts

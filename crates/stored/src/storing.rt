@@ -1,12 +1,12 @@
 // Storing a record (RULES, Stored form, Lamps and Class 2): its settings, each lamp's seconds as they are now, and its
 // enabled mark. The parts stand in the order of the form.
-ghost use Rattle.std.specs.Prelude.{◌≡◌, true, ◌∷◌, map, ◌+◌, ◌^◌, ◌<◌, length, take};
+ghost use Rattle.std.specs.Prelude.{◌≡◌, ◌∷◌, map, ◌+◌, ◌^◌, ◌<◌, length, take};
 ghost use Rattle.text.specs.Words.{over};
 ghost use Rattle.record.specs.Limits.{only_in_2};
 ghost use Rattle.record.specs.Legal.{is_legal};
 ghost use Rattle.record.specs.Facts.{IsSettings, IsLegal};
 ghost use Rattle.stored.specs.Form.{text_stored, name_stored, class_part_text, stored_form, stored_by, told_stored};
-ghost use Rattle.stored.specs.Writes.{Writes};
+ghost use Rattle.stored.specs.Puts.{Puts};
 
 use crate::writer::Writer;
 use record::types::{Device, Settings};
@@ -27,7 +27,7 @@ impl<'a> Writer<'a> {
     fn class_part(&mut self, s: &Settings)
         requires legal { IsSettings s.now }
         requires short { self.old.at + 4300 < 2 ^ 64 }
-        ensures { Writes self.old self.new (class_part_text s.now.class_number
+        ensures { Puts self.old self.new (class_part_text s.now.class_number
             (text_stored s.now.serial ∷ text_stored s.now.version
             ∷ map name_stored (take (only_in_2 s.now.class_number s.now.input_count) s.now.names))) }
     {
@@ -44,7 +44,7 @@ impl<'a> Writer<'a> {
     fn form(&mut self, d: &Device)
         requires legal { IsLegal d.now }
         requires first { self.old.at ≡ 0 }
-        ensures { Writes self.old self.new (stored_form d.now) }
+        ensures { Puts self.old self.new (stored_form d.now) }
     {
         let s = &d.settings;
         let inputs = &s.inputs[..2 * s.input_count];

@@ -6,7 +6,7 @@ ghost use Rattle.words.specs.Texts.{input_name_most};
 ghost use Rattle.record.specs.Limits.{text_room, lamps_most};
 ghost use Rattle.stored.specs.Form.{section, text_section, seconds_bytes, mark_byte, marks_section, texts_bytes};
 ghost use Rattle.stored.specs.Form.{text_stored, name_stored};
-ghost use Rattle.stored.specs.Writes.{Writes};
+ghost use Rattle.stored.specs.Puts.{Puts};
 
 use numbers::highest;
 use record::types::{InputName, Text};
@@ -46,7 +46,7 @@ impl<'a> Writer<'a> {
     /// These bytes.
     pub fn bytes(&mut self, s: &[u8])
         requires { self.old.at + length s.now < 2 ^ 64 }
-        ensures { Writes self.old self.new s.now }
+        ensures { Puts self.old self.new s.now }
     {
         if self.at < self.out.len() {
             let n = s.len().min(self.out.len() - self.at);
@@ -58,7 +58,7 @@ impl<'a> Writer<'a> {
     /// One byte.
     pub fn byte(&mut self, b: u8)
         requires { self.old.at + 1 < 2 ^ 64 }
-        ensures { Writes self.old self.new (b ∷ []) }
+        ensures { Puts self.old self.new (b ∷ []) }
     {
         self.bytes(&[b]);
     }
@@ -66,7 +66,7 @@ impl<'a> Writer<'a> {
     /// A number of two bytes, the highest first.
     pub fn number(&mut self, x: u32)
         requires { self.old.at + 2 < 2 ^ 64 }
-        ensures written { Writes self.old self.new (highest_first 2 x) }
+        ensures written { Puts self.old self.new (highest_first 2 x) }
         ensures bound { self.new.at ≤ self.old.at + 2 }
     {
         self.bytes(&highest::two_bytes(x));
@@ -76,7 +76,7 @@ impl<'a> Writer<'a> {
     pub fn section(&mut self, count: usize, items: &[u8])
         requires few { count < 256 }
         requires short { self.old.at + 1 + length items.now < 2 ^ 64 }
-        ensures { Writes self.old self.new (section count items.now) }
+        ensures { Puts self.old self.new (section count items.now) }
     {
         self.byte(count as u8);
         self.bytes(items);
@@ -86,7 +86,7 @@ impl<'a> Writer<'a> {
     pub fn text(&mut self, t: &Text)
         requires inside { t.now.len ≤ text_room }
         requires short { self.old.at + 65 < 2 ^ 64 }
-        ensures written { Writes self.old self.new (text_section (text_stored t.now)) }
+        ensures written { Puts self.old self.new (text_section (text_stored t.now)) }
         ensures bound { self.new.at ≤ self.old.at + 65 }
     {
         let s = &t.bytes[..t.len];
@@ -97,7 +97,7 @@ impl<'a> Writer<'a> {
     fn name(&mut self, t: &InputName)
         requires inside { t.now.len ≤ input_name_most }
         requires short { self.old.at + 129 < 2 ^ 64 }
-        ensures written { Writes self.old self.new (text_section (name_stored t.now)) }
+        ensures written { Puts self.old self.new (text_section (name_stored t.now)) }
         ensures bound { self.new.at ≤ self.old.at + 129 }
     {
         let s = &t.bytes[..t.len];
@@ -108,7 +108,7 @@ impl<'a> Writer<'a> {
     pub fn names(&mut self, names: &[InputName])
         requires inside { All (λ t. t.len ≤ input_name_most) names.now }
         requires short { self.old.at + 129 * length names.now < 2 ^ 64 }
-        ensures { Writes self.old self.new (texts_bytes (map name_stored names.now)) }
+        ensures { Puts self.old self.new (texts_bytes (map name_stored names.now)) }
     {
         for name in names {
             self.name(name);
@@ -119,7 +119,7 @@ impl<'a> Writer<'a> {
     pub fn seconds(&mut self, lamps: &[u32])
         requires few { length lamps.now ≤ lamps_most }
         requires short { self.old.at + 33 < 2 ^ 64 }
-        ensures written { Writes self.old self.new (section (length lamps.now) (seconds_bytes lamps.now)) }
+        ensures written { Puts self.old self.new (section (length lamps.now) (seconds_bytes lamps.now)) }
         ensures bound { self.new.at ≤ self.old.at + 33 }
     {
         self.byte(lamps.len() as u8);
@@ -132,7 +132,7 @@ impl<'a> Writer<'a> {
     pub fn marks(&mut self, marks: &[bool])
         requires few { length marks.now ≤ lamps_most }
         requires short { self.old.at + 9 < 2 ^ 64 }
-        ensures written { Writes self.old self.new (marks_section marks.now) }
+        ensures written { Puts self.old self.new (marks_section marks.now) }
         ensures bound { self.new.at ≤ self.old.at + 9 }
     {
         self.byte(marks.len() as u8);
