@@ -109,20 +109,12 @@ module _ (B : Board) where
   StaysInside d (opens random m) = Inside B.Record m (B.opening d random m)
   StaysInside d (receives p bs m) =
       Inside B.Record m (B.receive d p bs m) × ((B.receive d p bs m).taken ≤ length bs)
-  StaysInside d (closes p) = Unit {0}
-  StaysInside d (passes n) = Unit {0}
-  StaysInside d (marks fault) = Unit {0}
-  StaysInside d (reports errors) = Unit {0}
-  StaysInside d (enables lamp mark) = Unit {0}
+  StaysInside d c = Unit {0}
 
   abbrev pub WritesNothing : B.Record → Call → Type 0
   WritesNothing d (opens random m) = Untouched B.Record m (B.opening d random m)
   WritesNothing d (receives p bs m) = Untouched B.Record m (B.receive d p bs m)
-  WritesNothing d (closes p) = Unit {0}
-  WritesNothing d (passes n) = Unit {0}
-  WritesNothing d (marks fault) = Unit {0}
-  WritesNothing d (reports errors) = Unit {0}
-  WritesNothing d (enables lamp mark) = Unit {0}
+  WritesNothing d c = Unit {0}
 
 -- ---- the demand
 

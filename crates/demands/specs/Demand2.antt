@@ -134,9 +134,7 @@ Elsewhere B d (opens random m) q = q ≡ B.place_opened d random m → ⊥
 Elsewhere B d (closes p) q = q ≡ p → ⊥
 Elsewhere B d (receives p bs m) q = q ≡ p → ⊥
 Elsewhere B d (passes n) q = ⊥
-Elsewhere B d (marks fault) q = Unit {0}
-Elsewhere B d (reports errors) q = Unit {0}
-Elsewhere B d (enables lamp mark) q = Unit {0}
+Elsewhere B d c q = Unit {0}
 
 -- what someone without the password gets, and leaves as it was
 pub record RefusalOnly (B : Board) (d : B.Record) (p : ℕ) (out : Out B.Record) : Type 0 where

@@ -15,7 +15,7 @@ use Rattle.numbers.proofs.HighestFirst.{highest_one_form}
 use Rattle.record.specs.Wanted.{counted_in}
 use Rattle.record.proofs.CountedNames.{counted_none, counted_first, counted_many}
 use Rattle.stored.specs.Form.{form_version, old_version, section, text_section, texts_bytes, class_part_text}
-use Rattle.stored.specs.Reading.{Field, onward, ◌giving◌, given, byte, bytes, number, section_of, text, texts}
+use Rattle.stored.specs.Reading.{Field, given, byte, bytes, number, section_of, text, texts}
 use Rattle.stored.specs.Reading.{ClassPart, alone, texts_of_2, class_part, class_in, marks_of}
 use Rattle.stored.proofs.BytesAgain.{Bytes, take_bytes}
 use Rattle.stored.proofs.TextsWritten.{texts_bytes-append}

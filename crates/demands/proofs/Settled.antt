@@ -2,7 +2,7 @@
 -- Assumes nothing.
 use Rattle.std.proofs.Common.{refl}
 use Rattle.ours.specs.Board.{ours}
-use Rattle.settled.specs.Settled.{Settles, SettlesClass2}
+use Rattle.demands.specs.Settled.{Settles, SettlesClass2}
 use Rattle.demands.specs.Computing.{computing}
 
 pub settled : Settles ours
