@@ -34,7 +34,8 @@ use Rattle.stored.proofs.Fields.{section_again, text_again, number_again, texts_
 use Rattle.stored.proofs.Fields.{Extends, extends_given, extends_then, extends_if, extends_byte, extends_number}
 use Rattle.stored.proofs.Fields.{extends_section, extends_texts}
 use Rattle.stored.proofs.Taken.{same, ended, first_byte, section_taken, takes_byte, takes_text, takes_inputs}
-use Rattle.stored.proofs.Taken.{takes_lamps, takes_number, marks_part, rest_part, takes_marks, takes_class, older_class, old_marked}
+use Rattle.stored.proofs.Taken.{takes_lamps, takes_number, marks_part, rest_part, takes_marks, takes_class}
+use Rattle.stored.proofs.Taken.{older_class, old_marked}
 
 -- ---- read again
 
