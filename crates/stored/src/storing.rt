@@ -14,6 +14,9 @@ use record::types::{Device, Settings};
 // The newest, which is written: it has a class (RULES, Class 2).
 pub const VERSION: u8 = 3;
 
+// No form is longer, so memory that has room for it is not measured.
+const FORM_MOST: usize = 4504;
+
 /// What storing gives: 0, or why nothing is stored, and how long the form is.
 #[repr(C)]
 #[derive(Clone, Copy)]
@@ -74,9 +77,9 @@ fn form_length(d: &Device) -> usize
     counting.count()
 }
 
-#[tactic(auto, using(crate::proofs::Writing::written_over), unfolding(crate::specs::Form::stored_by))]
 /// The form of a record, from the start of lent memory: 1 for a record that is not legal, then 2 for memory shorter
 /// than the form, and nothing is written.
+#[tactic(auto, using(crate::proofs::Writing::written_over, crate::proofs::FormMost::stored_most), unfolding(crate::specs::Form::stored_by))]
 pub fn store(d: &Device, out: &mut [u8]) -> FormWritten
     ensures value { result ≡ told_stored (stored_by d.now (length out.old)) }
     ensures written { out.new ≡ over (stored_by d.now (length out.old)).bytes out.old }
@@ -87,13 +90,16 @@ pub fn store(d: &Device, out: &mut [u8]) -> FormWritten
             length: 0,
         };
     }
-    let length = form_length(d);
-    if out.len() < length {
+    if out.len() < FORM_MOST && out.len() < form_length(d) {
         return FormWritten {
             number: 2,
             length: 0,
         };
     }
-    Writer::new(out).form(d);
-    FormWritten { number: 0, length }
+    let mut writer = Writer::new(out);
+    writer.form(d);
+    FormWritten {
+        number: 0,
+        length: writer.count(),
+    }
 }

@@ -60,7 +60,10 @@ impl<'a> Writer<'a> {
         requires { self.old.at + 1 < 2 ^ 64 }
         ensures { Puts self.old self.new (b ∷ []) }
     {
-        self.bytes(&[b]);
+        if self.at < self.out.len() {
+            self.out[self.at] = b;
+        }
+        self.at += 1;
     }
 
     /// A number of two bytes, the highest first.
