@@ -9,7 +9,7 @@
 -- `lowest_shut` of record/specs/Places (RULES, Places), those of storing and loading as stored/specs: Form, Loading
 -- have them, against the order of RULES, Stored form, with numbers in bytes as numbers/specs/HighestFirst has them;
 -- what is legal and what is in range (record/specs: Limits, Rules, Legal, SetUp, and `blank` of Record; words/specs:
--- Bytes, Sources, Inputs, Texts; utf8/specs/Utf8); the length 168 (`command_room` of controller/specs/Writing); for the
+-- Bytes, Sources, Inputs, Texts, Utf8); the length 168 (`command_room` of controller/specs/Writing); for the
 -- readers, the forms of lines (pjlink/specs: Forms, Commands, Bodies) and which parameter says what (pjlink/specs:
 -- Said, CanSay, Writings, with the values of words/specs: Numerals, Powers, Muting, ErrorDigits, Lamps, Classes,
 -- Refusing, Joined; `greets`, `random_in` of controller/specs/Greetings); ours/specs/Board; here Calls.

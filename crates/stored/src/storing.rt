@@ -1,6 +1,6 @@
 // Storing a record (RULES, Stored form, Lamps and Class 2): its settings, each lamp's seconds as they are now, and its
 // enabled mark. The parts stand in the order of the form.
-ghost use Rattle.std.specs.Prelude.{◌≡◌, ◌∷◌, map, ◌+◌, ◌^◌, ◌<◌, length, take};
+ghost use Rattle.std.specs.Prelude.{◌≡◌, ◌∷◌, map, ◌+◌, ◌^◌, ◌<◌, ◌≤◌, length, take};
 ghost use Rattle.text.specs.Words.{over};
 ghost use Rattle.record.specs.Limits.{only_in_2};
 ghost use Rattle.record.specs.Legal.{is_legal};
@@ -77,9 +77,22 @@ fn form_length(d: &Device) -> usize
     counting.count()
 }
 
+// The form of a legal record from the start of memory that has room for it, and its length.
+#[tactic(auto, using(crate::proofs::Writing::written_over))]
+fn put_form(d: &Device, out: &mut [u8]) -> usize
+    requires legal { IsLegal d.now }
+    requires fits { length (stored_form d.now) ≤ length out.old }
+    ensures count { result ≡ length (stored_form d.now) }
+    ensures written { out.new ≡ over (stored_form d.now) out.old }
+{
+    let mut writer = Writer::new(out);
+    writer.form(d);
+    writer.count()
+}
+
 /// The form of a record, from the start of lent memory: 1 for a record that is not legal, then 2 for memory shorter
 /// than the form, and nothing is written.
-#[tactic(auto, using(crate::proofs::Writing::written_over, crate::proofs::FormMost::stored_most), unfolding(crate::specs::Form::stored_by))]
+#[tactic(auto, using(crate::proofs::FormMost::stored_most), unfolding(crate::specs::Form::stored_by))]
 pub fn store(d: &Device, out: &mut [u8]) -> FormWritten
     ensures value { result ≡ told_stored (stored_by d.now (length out.old)) }
     ensures written { out.new ≡ over (stored_by d.now (length out.old)).bytes out.old }
@@ -96,10 +109,6 @@ pub fn store(d: &Device, out: &mut [u8]) -> FormWritten
             length: 0,
         };
     }
-    let mut writer = Writer::new(out);
-    writer.form(d);
-    FormWritten {
-        number: 0,
-        length: writer.count(),
-    }
+    let length = put_form(d, out);
+    FormWritten { number: 0, length }
 }
