@@ -1,6 +1,5 @@
 // Numbers of two and four bytes, the highest first (RULES, Stored form).
 ghost use Rattle.std.specs.Prelude.{◌≡◌, ◌+◌, ◌%◌, ◌≤◌, ◌<◌, length, take, drop};
-ghost use Rattle.std.proofs.lemmas.List.Edits.{sets};
 ghost use Rattle.numbers.specs.HighestFirst.{highest_first, number_in};
 
 fn wide(x: u8) -> u32
@@ -30,18 +29,16 @@ pub fn four_at(s: &[u8], p: usize) -> u32
     ((wide(s[p]) * 256 + wide(s[p + 1])) * 256 + wide(s[p + 2])) * 256 + wide(s[p + 3])
 }
 
-pub fn put_two(out: &mut [u8], p: usize, x: u32)
-    requires { p + 2 ≤ length out.old }
-    ensures { out.new ≡ sets out.old p (highest_first 2 x) }
+/// The two lowest bytes of a number.
+pub fn two_bytes(x: u32) -> [u8; 2]
+    ensures { result ≡ highest_first 2 x }
 {
-    let bytes = [low(x / 256), low(x)];
-    text::put(out, p, &bytes);
+    [low(x / 256), low(x)]
 }
 
-pub fn put_four(out: &mut [u8], p: usize, x: u32)
-    requires { p + 4 ≤ length out.old }
-    ensures { out.new ≡ sets out.old p (highest_first 4 x) }
+/// The four bytes of a number.
+pub fn four_bytes(x: u32) -> [u8; 4]
+    ensures { result ≡ highest_first 4 x }
 {
-    let bytes = [low(x / 16_777_216), low(x / 65_536), low(x / 256), low(x)];
-    text::put(out, p, &bytes);
+    [low(x / 16_777_216), low(x / 65_536), low(x / 256), low(x)]
 }

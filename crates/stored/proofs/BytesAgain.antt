@@ -8,7 +8,7 @@ use Rattle.text.proofs.Bases.{Digits}
 use Rattle.numbers.specs.HighestFirst.{highest_first, number_in}
 use Rattle.numbers.proofs.HighestFirst.{highest_one_form}
 use Rattle.stored.specs.Form.{seconds_bytes}
-use Rattle.stored.proofs.SecondsWritten.{no_seconds, seconds_bytes-cons}
+use Rattle.stored.proofs.Seconds.{no_seconds, seconds_bytes-cons}
 use Rattle.stored.specs.Reading.{seconds_in}
 
 abbrev pub Bytes : List ℕ → Type 0

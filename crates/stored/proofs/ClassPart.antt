@@ -1,22 +1,17 @@
 -- The class and what Class 2 alone has, after C (RULES, Class 2), as the code writes them.
 -- Assumes nothing.
-use Rattle.std.proofs.Common.{ℕ, ◌+◌, ◌≤◌, ◌≡◌, refl, sym, ap, ◌∙◌, true, false, List, [], ◌∷◌, ◌++◌, map, append_assoc}
-use Rattle.std.proofs.Common.{arith, length, take, length-append, ◌==◌, eq-eqb}
+use Rattle.std.proofs.Common.{ℕ, ◌≡◌, refl, sym, ap, ◌∙◌, true, false, List, [], ◌∷◌, ◌++◌, map, append_assoc}
+use Rattle.std.proofs.Common.{take, ◌==◌, eq-eqb}
 use Rattle.std.specs.Prelude.{if◌then◌else◌}
 use Rattle.text.proofs.Choices.{if_yes, if_no}
 use Rattle.record.specs.Limits.{only_in_2}
 use Rattle.record.specs.declared.types.InputName.{InputName}
-use Rattle.record.specs.declared.types.Text.{Text}
-use Rattle.stored.specs.Form.{text_section, texts_bytes, text_stored, name_stored, class_part_text}
+use Rattle.stored.specs.Form.{text_section, texts_bytes, name_stored, class_part_text}
 
 module _ (k : ℕ) where
   pub class_part : (ts : List (List ℕ)) → class_part_text k ts ≡ k ∷ (if k == 2 then texts_bytes ts else [])
   unfolding class_part_text
   class_part ts = refl
-
-  pub part_some : (ts : List (List ℕ)) → 1 ≤ length (class_part_text k ts)
-  unfolding class_part_text
-  part_some ts = omega arith
 
   pub part_of_other : (ts : List (List ℕ)) → (k == 2) ≡ false → class_part_text k ts ≡ k ∷ []
   unfolding class_part_text
@@ -36,11 +31,3 @@ module _ (k : ℕ) where
       let two : (k == 2) ≡ true = eq-eqb k 2 e in
       ap (λ (m : ℕ). class_part_text k (a ∷ b ∷ map name_stored (take m names))) (if_yes n 0 two)
       ∙ part_of_2 a b (map name_stored (take n names)) two
-
-  pub part_long : (n : ℕ) (serial version : Text) (names : List InputName) → k ≡ 2
-      → length (text_stored serial) ≡ serial.len → length (text_stored version) ≡ version.len
-      → length (class_part_text k
-      (text_stored serial ∷ text_stored version ∷ map name_stored (take (only_in_2 k n) names)))
-      ≡ 3 + serial.len + version.len + length (texts_bytes (map name_stored (take n names)))
-  part_long n serial version names e s v =
-      rw (part_with_names (text_stored serial) (text_stored version) n names e) (simp length-append (omega arith))

@@ -1,12 +1,14 @@
--- No form is longer than `form_most`; proofs/Samples has one that is as long.
+-- How long a form is: a byte for the version, one for each count, four for W and C, and the contents. None is longer
+-- than `form_most`; proofs/Samples has one that is as long.
 -- Assumes nothing.
 use Rattle.std.specs.List.{list_all}
-use Rattle.std.proofs.Common.{ℕ, suc, ◌*◌, ◌/◌, ◌≤◌, ◌≡◌, refl, ap, Bool, true, false, List, [], ◌∷◌, arith, length}
-use Rattle.std.proofs.Common.{length-append, ◌==◌, eqb-true}
+use Rattle.std.proofs.Common.{ℕ, suc, ◌+◌, ◌*◌, ◌/◌, ◌≤◌, ◌≡◌, refl, ap, Bool, true, false, List, [], ◌∷◌, arith}
+use Rattle.std.proofs.Common.{length, length-append, ◌==◌, eqb-true}
 use Rattle.std.proofs.lemmas.List.{length-map}
 use Rattle.std.specs.Prelude.{if◌then◌else◌}
 use Rattle.text.proofs.Choices.{both_left, both_right}
 use Rattle.words.specs.Texts.{is_input_name, info_most}
+use Rattle.numbers.proofs.HighestFirst.{length-highest_first}
 use Rattle.words.proofs.TextsTold.{name_long, info_long, password_long, input_name_long}
 use Rattle.record.specs.Wanted.{Wanted}
 use Rattle.record.specs.Legal.{is_legal}
@@ -18,12 +20,21 @@ use Rattle.record.specs.declared.types.Setting.TheVariants.{Name, Maker, Model, 
 use Rattle.record.proofs.Rules.{inputs_few, lamps_few, only_in_2_within, names_many, names_each, text_most}
 use Rattle.record.proofs.OutOfRange.{each_in_range}
 use Rattle.stored.specs.Form.{form_version, mark_byte, marks_section, form_of, form_most, stored_of, marks_stored}
-use Rattle.stored.specs.Form.{texts_bytes, texts_in_class_2, class_part_text, stored_form}
+use Rattle.stored.specs.Form.{texts_bytes, texts_in_class_2, class_part_text, form_with, stored_form}
 use Rattle.stored.proofs.TextsWritten.{no_texts, texts_bytes-cons}
 use Rattle.stored.proofs.ClassPart.{class_part}
-use Rattle.stored.proofs.FormLong.{form_long}
+use Rattle.stored.proofs.Seconds.{seconds_long}
 use Rattle.stored.specs.Loading.{is_marks_of}
 use Rattle.stored.proofs.StoredLoads.{stored_in_range, stored_marks}
+
+pub form_long : (v : ℕ) (marks rest : List ℕ) (w : Wanted)
+    → length (form_with v marks rest w)
+    ≡ 12 + (length w.name + length w.maker + length w.model + length w.other + length w.password)
+    + length w.inputs + 4 * length w.lamps + length marks + length rest
+unfolding form_with
+form_long v marks rest w =
+    simp length-append
+    (omega (arith, length-highest_first 2 w.warm, length-highest_first 2 w.cool, seconds_long w.lamps))
 
 -- names of 128 bytes at most, each with its count
 names_most : (ts : List (List ℕ)) → list_all is_input_name ts ≡ true → length (texts_bytes ts) ≤ 129 * length ts

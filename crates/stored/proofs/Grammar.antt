@@ -29,13 +29,13 @@ use Rattle.stored.specs.Form.{texts_bytes, texts_in_class_2, class_part_text, fo
 use Rattle.stored.specs.Reading.{given, byte, number, section_of, text, seconds_in}
 use Rattle.stored.specs.Reading.{ClassPart, alone, texts_of_2, class_part, class_in, marks_of, FormSaid, form}
 use Rattle.stored.proofs.BytesAgain.{Bytes, drop_bytes, take_bytes, seconds_bytes-seconds_in}
-use Rattle.stored.proofs.SecondsWritten.{seconds_long}
-use Rattle.stored.proofs.Seconds.{length-seconds_in, seconds_back}
+use Rattle.stored.proofs.Seconds.{length-seconds_in, seconds_back, seconds_long}
 use Rattle.stored.proofs.Fields.{section_again, text_again, number_again, texts_again, taking, reading}
 use Rattle.stored.proofs.Fields.{Extends, extends_given, extends_then, extends_if, extends_byte, extends_number}
 use Rattle.stored.proofs.Fields.{extends_section, extends_texts}
-use Rattle.stored.proofs.Taken.{same, first_byte, section_taken, takes_byte, takes_text, takes_inputs, takes_lamps}
-use Rattle.stored.proofs.Taken.{takes_number, marks_part, rest_part, takes_marks, takes_class, older_class, old_marked}
+use Rattle.stored.proofs.Taken.{same, ended, first_byte, section_taken, takes_byte, takes_text, takes_inputs}
+use Rattle.stored.proofs.Taken.{takes_lamps, takes_number, marks_part, rest_part, takes_marks, takes_class}
+use Rattle.stored.proofs.Taken.{older_class, old_marked}
 
 -- ---- read again
 
@@ -197,40 +197,23 @@ lamps_again s raw rest b e =
     ∙ ap (λ (l : List ℕ). take (length raw) l) (sym (append-nil raw)) ∙ take-append_seam raw [] in
     (λ j. sym (length-seconds_in n raw) j ∷ sym bytes j)
 
+-- all of the form, by what each field read
+all_taken : (s : List ℕ) (v : ℕ) (marks rest left : List ℕ) (w : Wanted)
+    → s ≡ v ∷ (text_section w.name ++ (text_section w.maker ++ (text_section w.model ++ (text_section w.other
+    ++ (text_section w.password ++ (section (length w.inputs / 2) w.inputs
+    ++ (section (length w.lamps) (seconds_bytes w.lamps) ++ (marks ++ (highest_first 2 w.warm
+    ++ (highest_first 2 w.cool ++ (rest ++ left)))))))))))
+    → s ≡ form_with v marks rest w ++ left
+unfolding form_with
+all_taken s v marks rest left w spelled =
+    spelled
+    ∙ sym
+    (in_turn v (text_section w.name) (text_section w.maker) (text_section w.model) (text_section w.other)
+    (text_section w.password) (section (length w.inputs / 2) w.inputs)
+    (section (length w.lamps) (seconds_bytes w.lamps)) marks (highest_first 2 w.warm) (highest_first 2 w.cool) rest
+    left)
+
 module _ (s : List ℕ) (f : FormSaid) (rest : List ℕ) where
-  -- by what each field read
-  module _ (v : ℕ) (name maker model other password inputs lamps marks : List ℕ) (warm cool : ℕ) (class : ClassPart)
-      (left : List ℕ) where
-    abbrev seconds : List ℕ
-    seconds = seconds_in (length lamps / 4) lamps
-
-    abbrev told : FormSaid
-    told = record {
-      settings = wanted_in class.class name maker model other password inputs seconds warm cool class.serial
-          class.version class.names;
-      marks = marks;
-    }
-
-    abbrev Same : Type 0
-    Same = ◌≡◌ {A = FormSaid × List ℕ} (told, left) (f, rest)
-
-    all_taken : Same
-        → s ≡ v ∷ (text_section name ++ (text_section maker ++ (text_section model ++ (text_section other
-        ++ (text_section password ++ (section (length inputs / 2) inputs
-        ++ (section (length seconds) (seconds_bytes seconds) ++ (marks_part v marks ++ (highest_first 2 warm
-        ++ (highest_first 2 cool ++ (rest_part v class ++ left)))))))))))
-        → s ≡ formed (s at 0) f ++ rest
-    unfolding form_with
-    all_taken two spelled =
-        let first : s at 0 ≡ v = ap (λ (l : List ℕ). l at 0) spelled in
-        spelled
-        ∙ sym
-        (in_turn v (text_section name) (text_section maker) (text_section model) (text_section other)
-        (text_section password)
-        (section (length inputs / 2) inputs) (section (length seconds) (seconds_bytes seconds)) (marks_part v marks)
-        (highest_first 2 warm) (highest_first 2 cool) (rest_part v class) left)
-        ∙ (λ j. formed (sym first j) (two j).0 ++ (two j).1)
-
   pub form_spelled : Bytes s → form s ≡ Some (f, rest) → s ≡ formed (s at 0) f ++ rest
   unfolding form
   form_spelled b e =
@@ -247,51 +230,48 @@ module _ (s : List ℕ) (f : FormSaid) (rest : List ℕ) where
       (λ warm s10 r10 p10 b10 e10. taking (takes_number 2) b10 e10
       (λ cool s11 r11 p11 b11 e11. taking (takes_class v (length inputs / 2)) b11 e11
       (λ class s12 r12 p12 b12 e12.
-      all_taken v name maker model other password inputs lamps marks warm cool class s12 (same e12)
-      (p1 ∙ ap (λ (l : List ℕ). v ∷ l)
-      (p2 ∙ ap (λ (l : List ℕ). text_section name ++ l)
-      (p3 ∙ ap (λ (l : List ℕ). text_section maker ++ l)
-      (p4 ∙ ap (λ (l : List ℕ). text_section model ++ l)
-      (p5 ∙ ap (λ (l : List ℕ). text_section other ++ l)
-      (p6 ∙ ap (λ (l : List ℕ). text_section password ++ l)
-      (p7 ∙ ap (λ (l : List ℕ). section (length inputs / 2) inputs ++ l)
-      (p8 ∙ (λ j. lamps_again s7 lamps s8 b7 r8 j ++ (p9 ∙ ap (λ (l : List ℕ). marks_part v marks ++ l)
-      (p10 ∙ ap (λ (l : List ℕ). highest_first 2 warm ++ l)
-      (p11 ∙ ap (λ (l : List ℕ). highest_first 2 cool ++ l) p12))) j)))))))))))))))))))))
+      ended (λ f rest. s ≡ formed (s at 0) f ++ rest) e12
+      (subst (λ (v : ℕ). s ≡ formed v (record {
+        settings = wanted_in class.class name maker model other password inputs (seconds_in (length lamps / 4) lamps)
+            warm cool class.serial class.version class.names;
+        marks = marks;
+      }) ++ s12)
+      (sym (ap (λ (l : List ℕ). l at 0) p1))
+      (all_taken s v (marks_part v marks) (rest_part v class) s12
+      (wanted_in class.class name maker model other password inputs (seconds_in (length lamps / 4) lamps) warm cool
+      class.serial class.version class.names)
+      (cc (lamps_again s7 lamps s8 b7 r8))))))))))))))))
 
   -- by the version, what the older ones lack
   pub record Older : Type 0 where
     pub class : ((s at 0) == form_version) ≡ false → f.settings.class ≡ 1
     pub marks : ((s at 0) == old_version) ≡ true → f.marks ≡ replicate (length f.settings.lamps) 1
 
-  pub older_said : form s ≡ Some (f, rest) → Older
-  unfolding form
-  older_said e =
-      reading byte e
-      (λ v s1 r1 e1. reading text e1
-      (λ name s2 r2 e2. reading text e2
-      (λ maker s3 r3 e3. reading text e3
-      (λ model s4 r4 e4. reading text e4
-      (λ other s5 r5 e5. reading text e5
-      (λ password s6 r6 e6. reading (section_of 2) e6
-      (λ inputs s7 r7 e7. reading (section_of 4) e7
-      (λ lamps s8 r8 e8. reading (marks_of v (length lamps / 4)) e8
-      (λ marks s9 r9 e9. reading (number 2) e9
-      (λ warm s10 r10 e10. reading (number 2) e10
-      (λ cool s11 r11 e11. reading (class_in v (length inputs / 2)) e11
-      (λ class s12 r12 e12.
-      let two : Same v name maker model other password inputs lamps marks warm cool class s12 = same e12 in
-      let first = first_byte s v s1 r1 in
-      record {
-        class = λ h.
-            ap (λ (z : FormSaid × List ℕ). z.0.settings.class) (sym two)
-            ∙ older_class v (length inputs / 2) s11 class s12 (ap (λ (k : ℕ). k == form_version) (sym first) ∙ h) r12;
-        marks = λ h.
-            ap (λ (z : FormSaid × List ℕ). z.0.marks) (sym two)
-            ∙ old_marked v (length lamps / 4) s8 marks s9 (ap (λ (k : ℕ). k == old_version) (sym first) ∙ h) r9
-            ∙ ap (λ (n : ℕ). replicate n 1) (sym (length-seconds_in (length lamps / 4) lamps))
-            ∙ ap (λ (z : FormSaid × List ℕ). replicate (length z.0.settings.lamps) 1) two;
-      }))))))))))))
+pub older_said : (s : List ℕ) (f : FormSaid) (rest : List ℕ) → form s ≡ Some (f, rest) → Older s f rest
+unfolding form
+older_said s f rest e =
+    reading byte e
+    (λ v s1 r1 e1. reading text e1
+    (λ name s2 r2 e2. reading text e2
+    (λ maker s3 r3 e3. reading text e3
+    (λ model s4 r4 e4. reading text e4
+    (λ other s5 r5 e5. reading text e5
+    (λ password s6 r6 e6. reading (section_of 2) e6
+    (λ inputs s7 r7 e7. reading (section_of 4) e7
+    (λ lamps s8 r8 e8. reading (marks_of v (length lamps / 4)) e8
+    (λ marks s9 r9 e9. reading (number 2) e9
+    (λ warm s10 r10 e10. reading (number 2) e10
+    (λ cool s11 r11 e11. reading (class_in v (length inputs / 2)) e11
+    (λ class s12 r12 e12.
+    let first = first_byte s v s1 r1 in
+    ended (λ f rest. Older s f rest) e12
+    (record {
+      class = λ h.
+          older_class v (length inputs / 2) s11 class s12 (ap (λ (k : ℕ). k == form_version) (sym first) ∙ h) r12;
+      marks = λ h.
+          old_marked v (length lamps / 4) s8 marks s9 (ap (λ (k : ℕ). k == old_version) (sym first) ∙ h) r9
+          ∙ ap (λ (n : ℕ). replicate n 1) (sym (length-seconds_in (length lamps / 4) lamps));
+    })))))))))))))
 
 -- ---- cut
 

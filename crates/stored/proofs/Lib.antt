@@ -1,10 +1,6 @@
-pub mod SecondsWritten
-pub mod MarksPut
-pub mod Written
 pub mod TextsWritten
-pub mod NamesWritten
+pub mod Writing
 pub mod ClassPart
-pub mod FormLong
 pub mod StoringTold
 pub mod MarkBytes
 pub mod MarksKept

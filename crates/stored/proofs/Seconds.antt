@@ -1,7 +1,9 @@
--- The lamps' seconds, four bytes each, read: how many, lamp by lamp, and back from the bytes that were written.
+-- The lamps' seconds, four bytes each: none, the first, how long; read, how many, lamp by lamp, and back from the bytes
+-- that were written.
 -- Assumes nothing.
 use Rattle.std.proofs.Common.{ℕ, zero, suc, ◌+◌, ◌*◌, ◌^◌, ◌≤◌, ◌<◌, ◌≡◌, refl, sym, ap, ◌∙◌, List, [], ◌∷◌, ◌++◌}
 use Rattle.std.proofs.Common.{append_assoc, arith, length, slice_index_or, take, drop, take_at, drop_at, drop-drop}
+use Rattle.text.proofs.InTurn.{length-each_in_turn}
 use Rattle.numbers.specs.HighestFirst.{highest_first, number_in}
 use Rattle.numbers.proofs.HighestFirst.{length-highest_first, highest_back}
 use Rattle.record.specs.Limits.{lamps_most}
@@ -9,8 +11,19 @@ use Rattle.record.specs.Rules.{is_lamps}
 use Rattle.record.specs.Record.{in_room}
 use Rattle.record.proofs.Kept.{filled_take}
 use Rattle.stored.specs.Form.{seconds_bytes}
-use Rattle.stored.proofs.SecondsWritten.{seconds_bytes-cons}
 use Rattle.stored.specs.Reading.{seconds_in}
+
+pub no_seconds : seconds_bytes [] ≡ []
+unfolding seconds_bytes
+no_seconds = refl
+
+pub seconds_bytes-cons : (x : ℕ) (xs : List ℕ) → seconds_bytes (x ∷ xs) ≡ highest_first 4 x ++ seconds_bytes xs
+unfolding seconds_bytes
+seconds_bytes-cons x xs = refl
+
+pub seconds_long : (xs : List ℕ) → length (seconds_bytes xs) ≡ 4 * length xs
+unfolding seconds_bytes
+seconds_long = length-each_in_turn (highest_first 4) 4 (length-highest_first 4)
 
 pub length-seconds_in : (n : ℕ) (s : List ℕ) → length (seconds_in n s) ≡ n
 unfolding seconds_in

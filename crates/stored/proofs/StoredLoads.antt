@@ -3,8 +3,8 @@
 -- what it was set up with.
 -- Assumes nothing.
 use Rattle.std.specs.List.{list_all}
-use Rattle.std.proofs.Common.{ℕ, ◌/◌, ◌≤◌, ◌≡◌, refl, sym, ap, ◌∙◌, Bool, true, List, [], ◌∷◌, map, arith, length, take}
-use Rattle.std.proofs.Common.{length-take-le, eq-eqb}
+use Rattle.std.proofs.Common.{ℕ, ◌*◌, ◌/◌, ◌≤◌, ◌≡◌, refl, sym, ap, ◌∙◌, Bool, true, List, [], ◌∷◌, map, arith}
+use Rattle.std.proofs.Common.{length, take, length-take-le, eq-eqb}
 use Rattle.std.proofs.lemmas.List.{length-map}
 use Rattle.text.proofs.Choices.{both, both_left, both_right}
 use Rattle.text.proofs.Scanning.{list_all-map}
@@ -26,19 +26,29 @@ use Rattle.record.proofs.Kept.{kept_told, kept_length, filled_take}
 use Rattle.record.proofs.Rules.{inputs_few, lamps_few, only_in_2_within, names_many, names_each, names_shown, text_most}
 use Rattle.record.proofs.NamesTold.{names_first}
 use Rattle.record.proofs.SettingsTold.{input_count_high}
+use Rattle.record.proofs.MarksTold.{front_many}
 use Rattle.record.proofs.LegalTold.{settings_of_legal, own_of_legal}
 use Rattle.record.proofs.OutOfRange.{each_in_range}
 use Rattle.record.proofs.InRange.{in_range_shown}
 use Rattle.record.proofs.Calls.{set_up_shown}
 use Rattle.record.proofs.Started.{started_parts, inputs_halved}
 use Rattle.stored.specs.Form.{name_stored, stored_of, marks_stored, stored_form}
-use Rattle.stored.proofs.FormLong.{stored_long}
 use Rattle.stored.specs.Loading.{mark_room, is_marks_of, started_with, loaded}
 use Rattle.stored.proofs.MarkBytes.{mark_room-take, room_front}
 use Rattle.stored.proofs.FormsLoad.{form_loads}
 use Rattle.record.proofs.FactsTold.{stretch_is}
 
 module _ (d : Device) (h : is_legal d ≡ true) where
+  -- how much is stored
+  inputs_long : length (stored_of d).inputs ≡ 2 * d.settings.input_count
+  inputs_long = kept_length input_room (is_inputs _) _ _ (settings_of_legal d h).inputs
+
+  lamps_many : length (stored_of d).lamps ≡ d.settings.lamp_count
+  lamps_many = kept_length lamps_most is_lamps _ _ (own_of_legal d h).lamps
+
+  marks_many : length (marks_stored d) ≡ d.settings.lamp_count
+  marks_many = front_many _ _ (own_of_legal d h).marks (settings_of_legal d h).lamps
+
   in_range : (s : Setting) → is_setting_in_range (stored_of d) s ≡ true
   in_range Name = (settings_of_legal d h).name.follows
   in_range Maker = (settings_of_legal d h).maker.follows
@@ -56,7 +66,7 @@ module _ (d : Device) (h : is_legal d ≡ true) where
       let n = only_in_2 d.settings.class_number d.settings.input_count in
       let few = only_in_2_within d.settings.class_number d.settings.input_count in
       let count : length (stored_of d).inputs / 2
-      ≡ d.settings.input_count = omega (arith, (stored_long d h).inputs) in
+      ≡ d.settings.input_count = omega (arith, inputs_long) in
       let many : length (take n d.settings.names) ≡ n =
       length-take-le n d.settings.names
       (omega (arith, few, told.names.long, input_count_high d.settings told)) in
@@ -84,9 +94,8 @@ module _ (d : Device) (h : is_legal d ≡ true) where
 
   pub stored_marks : is_marks_of (length (stored_of d).lamps) (marks_stored d) ≡ true
   stored_marks =
-      let lamps = (stored_long d h).lamps in
-      both (eq-eqb (length (marks_stored d)) (length (stored_of d).lamps) ((stored_long d h).marks ∙ sym lamps))
-      ((λ i. is_marks (lamps i) (mark_room-marks_stored i)) ∙ legal_marks)
+      both (eq-eqb (length (marks_stored d)) (length (stored_of d).lamps) (marks_many ∙ sym lamps_many))
+      ((λ i. is_marks (lamps_many i) (mark_room-marks_stored i)) ∙ legal_marks)
 
   pub stored_loads : loaded (stored_form d) ≡ accepted (started_with (stored_of d) (marks_stored d))
   stored_loads = form_loads (stored_of d) stored_in_range (marks_stored d) stored_marks

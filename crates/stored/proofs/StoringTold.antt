@@ -1,35 +1,18 @@
--- What storing gives (RULES, Stored form): by the tests that decide it; the number is that of the first row that
--- applies, for every record; a refused store writes no byte; and the promise leaves one result.
+-- What storing gives (RULES, Stored form): the number is that of the first row that applies, for every record; a
+-- refused store writes no byte; and the promise leaves one result.
 --   StoredTold r      an accepted store: the record is legal, the memory has room, the bytes are the form's
 --   Stores r m        the result r and the lent bytes m meet what storing promises
 -- Assumes nothing.
-use Rattle.std.proofs.Common.{ℕ, ◌≤◌, ◌<◌, ◌≡◌, refl, ap, ◌∙◌, true, false, not, List, [], length, lt-ltb, le-ltb}
-use Rattle.std.proofs.Common.{ltb-false}
+use Rattle.std.proofs.Common.{ℕ, ◌≤◌, ◌≡◌, refl, true, List, [], length, ltb-false}
 use Rattle.std.proofs.lemmas.Bool.{not-false}
 use Rattle.text.specs.Words.{over}
 use Rattle.text.specs.Rows.{first_of}
 use Rattle.text.proofs.ByRows.{by_rows_lem, rows_number}
-use Rattle.text.proofs.Choices.{if_yes, if_no}
 use Rattle.text.proofs.OneResult.{Left, one_left}
 use Rattle.record.specs.Legal.{is_legal}
 use Rattle.record.specs.declared.types.Device.{Device}
 use Rattle.stored.specs.Form.{stored_form, StoredAs, nothing_stored, storing_rows, stored_by, told_stored}
 use Rattle.stored.specs.declared.storing.FormWritten.{FormWritten}
-
-module _ (d : Device) (room : ℕ) where
-  pub stored_illegal : is_legal d ≡ false → stored_by d room ≡ nothing_stored 1
-  unfolding stored_by
-  stored_illegal h = if_yes _ _ (ap not h)
-
-  module _ (h : is_legal d ≡ true) where
-    pub stored_short : room < length (stored_form d) → stored_by d room ≡ nothing_stored 2
-    unfolding stored_by
-    stored_short l = if_no _ _ (ap not h) ∙ if_yes _ _ (lt-ltb room _ l)
-
-    pub stored_whole : length (stored_form d) ≤ room
-        → stored_by d room ≡ record { number = 0; bytes = stored_form d }
-    unfolding stored_by
-    stored_whole l = if_no _ _ (ap not h) ∙ if_no _ _ (le-ltb room _ l)
 
 module _ (d : Device) (room : ℕ) where
   pub storing_number : (stored_by d room).number ≡ first_of (storing_rows d room)

@@ -3,10 +3,11 @@
 --   TextsRead s i rest    i texts have been read from s
 -- Assumes nothing.
 use Rattle.std.proofs.Common.{◌≡◌, ℕ, zero, suc, ◌+◌, ◌-◌, ◌*◌, ◌/◌, ◌<◌, ◌≤◌, Bool, true, false, List, [], ◌∷◌, ◌++◌}
-use Rattle.std.proofs.Common.{length, take, drop, Option, Some, None, refl, sym, ap, ◌∙◌, arith, append_assoc}
+use Rattle.std.proofs.Common.{length, take, drop, Option, Some, None, refl, sym, ap, subst, ◌∙◌, arith, append_assoc}
 use Rattle.std.proofs.Common.{if◌then◌else◌, append-nil, replicate, ◌==◌, nat_lt, take-append-drop, length-append}
 use Rattle.std.proofs.Common.{length-take-le, take_at, ltb-false, eqb-true}
 use Rattle.std.proofs.Math.Seq.{take-append_seam}
+use Rattle.text.specs.InTurn.{each_in_turn}
 use Rattle.text.proofs.Choices.{if_yes, if_no}
 use Rattle.words.specs.Bytes.{◌at◌}
 use Rattle.numbers.specs.HighestFirst.{highest_first, number_in}
@@ -14,7 +15,7 @@ use Rattle.numbers.proofs.HighestFirst.{highest_one_form}
 use Rattle.record.specs.Wanted.{counted_in}
 use Rattle.record.proofs.CountedNames.{counted_none, counted_first, counted_many}
 use Rattle.stored.specs.Form.{form_version, old_version, section, text_section, texts_bytes, class_part_text}
-use Rattle.stored.specs.Reading.{Field, onward, ◌giving◌, given, byte, bytes, number, section_of, text, texts}
+use Rattle.stored.specs.Reading.{Field, given, byte, bytes, number, section_of, text, texts}
 use Rattle.stored.specs.Reading.{ClassPart, alone, texts_of_2, class_part, class_in, marks_of}
 use Rattle.stored.proofs.BytesAgain.{Bytes, take_bytes}
 use Rattle.stored.proofs.TextsWritten.{texts_bytes-append}
@@ -28,6 +29,11 @@ got d (Some x) = x
 module _ {A : Type 0} {x y : A} where
   pub same : Some x ≡ Some y → x ≡ y
   same e = ap (got x) e
+
+-- what holds of what was given holds of what was read
+pub ended : {A : Type 0} (P : A → List ℕ → Type 0) {x y : A} {s rest : List ℕ}
+    → ◌≡◌ {A = Option (A × List ℕ)} (Some (x, s)) (Some (y, rest)) → P x s → P y rest
+ended {A} P e h = subst (λ (z : A × List ℕ). P z.0 z.1) (same e) h
 
 pub record Cut (n : ℕ) (s t rest : List ℕ) : Type 0 where
   pub spelled : s ≡ t ++ rest
@@ -71,7 +77,7 @@ takes_byte = record { back = by }
   where
     by : (s : List ℕ) (x : ℕ) (rest : List ℕ) → Bytes s → byte s ≡ Some (x, rest) → s ≡ x ∷ rest
     by [] x rest b e = absurd (cc)
-    by (y ∷ s) x rest b e = let two = same e in (λ j. (two j).0 ∷ (two j).1)
+    by (y ∷ s) x rest b e = ended (λ x rest. y ∷ s ≡ x ∷ rest) e refl
 
 pub first_byte : (s : List ℕ) (v : ℕ) (rest : List ℕ) → byte s ≡ Some (v, rest) → s at 0 ≡ v
 unfolding byte
@@ -81,88 +87,49 @@ first_byte (b ∷ s) v rest e = ap (λ (z : ℕ × List ℕ). z.0) (same e)
 pub takes_text : Takes text text_section
 takes_text = record { back = λ s t rest b e. text_taken s t rest e }
 
-pub takes_inputs : Takes (section_of 2) (λ t. section (length t / 2) t)
-takes_inputs = record {
+pub takes_section : (width : ℕ) → ((k : ℕ) → width * k / width ≡ k)
+    → Takes (section_of width) (λ t. section (length t / width) t)
+takes_section width halves = record {
   back = λ s t rest b e.
-      let c = section_taken 2 s t rest e in
-      let n : c.count ≡ length t / 2 = omega (arith, c.long) in
-      c.spelled ∙ ap (λ (k : ℕ). k ∷ (t ++ rest)) n;
+      let c = section_taken width s t rest e in
+      c.spelled
+      ∙ ap (λ (k : ℕ). k ∷ (t ++ rest)) (sym (halves c.count) ∙ ap (λ (k : ℕ). k / width) (sym c.long));
 }
 
+pub takes_inputs : Takes (section_of 2) (λ t. section (length t / 2) t)
+takes_inputs = takes_section 2 (λ k. omega arith)
+
 pub takes_lamps : Takes (section_of 4) (λ t. section (length t / 4) t)
-takes_lamps = record {
-  back = λ s t rest b e.
-      let c = section_taken 4 s t rest e in
-      let n : c.count ≡ length t / 4 = omega (arith, c.long) in
-      c.spelled ∙ ap (λ (k : ℕ). k ∷ (t ++ rest)) n;
-}
+takes_lamps = takes_section 4 (λ k. omega arith)
 
 pub takes_number : (n : ℕ) → Takes (number n) (highest_first n)
 unfolding number
-takes_number n = record { back = λ s x rest b e. by s x rest b e (bytes n s) refl }
-  where
-    by : (s : List ℕ) (x : ℕ) (rest : List ℕ) → Bytes s → number n s ≡ Some (x, rest) → (o : Option (List ℕ × List ℕ))
-        → bytes n s ≡ o → s ≡ highest_first n x ++ rest
-    by s x rest b e None h =
-        absurd (let none : None ≡ Some (x, rest) = sym (ap (onward (λ t. given (number_in t))) h) ∙ e in cc)
-    by s x rest b e (Some y) h =
-        let c = bytes_taken n s y.0 y.1 h in
-        let two : (number_in y.0, y.1) ≡ (x, rest) = same (sym (ap (onward (λ t. given (number_in t))) h) ∙ e) in
-        let front : take n s ≡ y.0 = ap (take n) c.spelled ∙ take_at y.0 y.1 n c.long in
-        let some = rw front at (take_bytes n s (omega (arith, ap length c.spelled, length-append y.0 y.1, c.long)) b) in
-        c.spelled
-        ∙ (λ j. (sym (highest_one_form y.0 some) ∙ (λ i. highest_first (c.long i) (number_in y.0))) j ++ y.1)
-        ∙ (λ j. highest_first n (two j).0 ++ (two j).1)
-
-pub record IsSpelled (n : ℕ) (s : List ℕ) (ts : List (List ℕ)) (rest : List ℕ) : Type 0 where
-  pub spelled : s ≡ texts_bytes ts ++ rest
-  pub many : length ts ≡ n
-
--- one text before others
-module _ (n : ℕ) (others : (s : List ℕ) (ts : List (List ℕ)) (rest : List ℕ) → texts n s ≡ Some (ts, rest)
-    → IsSpelled n s ts rest) (s : List ℕ) (ts : List (List ℕ)) (rest : List ℕ) where
-  abbrev then_others : List ℕ → Field (List (List ℕ))
-  then_others first = texts n giving λ left. given (first ∷ left)
-
-  one_taken : (text giving then_others) s ≡ Some (ts, rest) → IsSpelled (suc n) s ts rest
-  unfolding texts_bytes
-  one_taken e = by (text s) refl
-    where
-      by : (o : Option (List ℕ × List ℕ)) → text s ≡ o → IsSpelled (suc n) s ts rest
-      by None h = absurd (let none : None ≡ Some (ts, rest) = sym (ap (onward then_others) h) ∙ e in cc)
-      by (Some x) h = next (texts n x.1) refl
-        where
-          left : then_others x.0 x.1 ≡ Some (ts, rest)
-          left = sym (ap (onward then_others) h) ∙ e
-
-          next : (o : Option (List (List ℕ) × List ℕ)) → texts n x.1 ≡ o → IsSpelled (suc n) s ts rest
-          next None k =
-              absurd
-              (let none : None ≡ Some (ts, rest) = sym (ap (onward (λ l. given (x.0 ∷ l))) k) ∙ left in cc)
-          next (Some y) k =
-              let c = others x.1 y.0 y.1 k in
-              let two : (x.0 ∷ y.0, y.1) ≡ (ts, rest) = same (sym (ap (onward (λ l. given (x.0 ∷ l))) k) ∙ left) in
-              record {
-                spelled = text_taken s x.0 x.1 h
-                    ∙ ap (λ (l : List ℕ). text_section x.0 ++ l) c.spelled
-                    ∙ sym (append_assoc (text_section x.0) (texts_bytes y.0) y.1)
-                    ∙ (λ j. texts_bytes (two j).0 ++ (two j).1);
-                many = ap (λ (z : List (List ℕ) × List ℕ). length z.0) (sym two) ∙ ap suc c.many;
-              }
-
-pub texts_taken : (n : ℕ) (s : List ℕ) (ts : List (List ℕ)) (rest : List ℕ) → texts n s ≡ Some (ts, rest)
-    → IsSpelled n s ts rest
-unfolding texts texts_bytes
-texts_taken zero s ts rest e =
-    let two : ([], s) ≡ (ts, rest) = same e in
-    record {
-      spelled = (λ j. texts_bytes (two j).0 ++ (two j).1);
-      many = ap (λ (x : List (List ℕ) × List ℕ). length x.0) (sym two);
-    }
-texts_taken (suc n) s ts rest e = one_taken n (texts_taken n) s ts rest e
+takes_number n = record {
+  back = λ s x rest b e.
+      reading (bytes n) e
+      (λ y left h k.
+      let c = bytes_taken n s y left h in
+      let front : take n s ≡ y = ap (take n) c.spelled ∙ take_at y left n c.long in
+      let some = rw front at (take_bytes n s (omega (arith, ap length c.spelled, length-append y left, c.long)) b) in
+      ended (λ x rest. s ≡ highest_first n x ++ rest) k
+      (c.spelled
+      ∙ (λ j. (sym (highest_one_form y some) ∙ (λ i. highest_first (c.long i) (number_in y))) j ++ left)));
+}
 
 pub takes_texts : (n : ℕ) → Takes (texts n) texts_bytes
-takes_texts n = record { back = λ s ts rest b e. (texts_taken n s ts rest e).spelled }
+unfolding texts texts_bytes
+takes_texts zero = record {
+  back = λ s ts rest b e. ended (λ ts rest. s ≡ each_in_turn text_section ts ++ rest) e refl;
+}
+takes_texts (suc n) = record {
+  back = λ s ts rest b e.
+      taking takes_text b e
+      (λ t s1 r1 p1 b1 e1. taking (takes_texts n) b1 e1
+      (λ others s2 r2 p2 b2 e2.
+      ended (λ ts rest. s ≡ each_in_turn text_section ts ++ rest) e2
+      (p1 ∙ ap (λ (l : List ℕ). text_section t ++ l) p2
+      ∙ sym (append_assoc (text_section t) (each_in_turn text_section others) s2))));
+}
 
 -- ---- the texts in a row
 
@@ -232,56 +199,33 @@ takes_marks v n = by (v == old_version)
     by true = takes_given (replicate n 1)
     by false = takes_text
 
-abbrev two_of : List ℕ → List ℕ → List (List ℕ) → ClassPart
-two_of serial version names = record { class = 2; serial = serial; version = version; names = names }
+regroup : (a b c d : List ℕ) → a ++ (b ++ (c ++ d)) ≡ (a ++ (b ++ c)) ++ d
+regroup a b c d = simp append_assoc
 
-takes_texts_of_2 : (n : ℕ) → Takes (texts_of_2 n) (λ c. texts_bytes (c.serial ∷ c.version ∷ c.names))
-unfolding texts_of_2 texts_bytes
-takes_texts_of_2 n = record {
-  back = λ s c rest b e.
-      taking takes_text b e
-      (λ serial s1 r1 p1 b1 e1. taking takes_text b1 e1
-      (λ version s2 r2 p2 b2 e2. taking (takes_texts n) b2 e2
-      (λ names s3 r3 p3 b3 e3.
-      let two : (two_of serial version names, s3) ≡ (c, rest) = same e3 in
-      p1 ∙ ap (λ (l : List ℕ). text_section serial ++ l) (p2 ∙ ap (λ (l : List ℕ). text_section version ++ l) p3)
-      ∙ regroup (text_section serial) (text_section version) (texts_bytes names) s3
-      ∙ (λ j. texts_bytes ((two j).0.serial ∷ (two j).0.version ∷ (two j).0.names) ++ (two j).1))));
-}
-  where
-    regroup : (a b c d : List ℕ) → a ++ (b ++ (c ++ d)) ≡ (a ++ (b ++ c)) ++ d
-    regroup a b c d = simp append_assoc
+abbrev part : ClassPart → List ℕ
+part c = c.class ∷ (if c.class == 2 then each_in_turn text_section (c.serial ∷ c.version ∷ c.names) else [])
 
-two_class : (n : ℕ) (s : List ℕ) (c : ClassPart) (rest : List ℕ) → texts_of_2 n s ≡ Some (c, rest) → c.class ≡ 2
-unfolding texts_of_2
-two_class n s c rest e =
-    reading text e
-    (λ serial s1 r1 e1. reading text e1
-    (λ version s2 r2 e2. reading (texts n) e2
-    (λ names s3 r3 e3. ap (λ (z : ClassPart × List ℕ). z.0.class) (sym (same e3)))))
-
-takes_class_part : (n : ℕ) → Takes (class_part n) (λ c. class_part_text c.class (c.serial ∷ c.version ∷ c.names))
-unfolding class_part class_part_text
+pub takes_class_part : (n : ℕ) → Takes (class_part n) (λ c. class_part_text c.class (c.serial ∷ c.version ∷ c.names))
+unfolding class_part class_part_text texts_of_2 texts_bytes
 takes_class_part n = record {
-  back = λ s c rest b e.
-      taking takes_byte b e (λ k s1 r1 p1 b1 e1. p1 ∙ by n k s1 c rest b1 (k == 2) refl e1);
+  back = λ s c rest b e. taking takes_byte b e (λ k s1 r1 p1 b1 e1. by s s1 k c rest p1 b1 (k == 2) refl e1);
 }
   where
-    by : (n k : ℕ) (s : List ℕ) (c : ClassPart) (rest : List ℕ) → Bytes s → (two : Bool) → (k == 2) ≡ two
-        → (if two then texts_of_2 n else given (alone k)) s ≡ Some (c, rest)
-        → k ∷ s ≡ (c.class ∷ (if c.class == 2 then texts_bytes (c.serial ∷ c.version ∷ c.names) else [])) ++ rest
-    by n k s c rest b true h e =
-        let two = two_class n s c rest e in
-        let known : k ≡ c.class = eqb-true k 2 h ∙ sym two in
-        let yes : (c.class == 2) ≡ true = ap (λ (m : ℕ). m == 2) two in
-        let texts = texts_bytes (c.serial ∷ c.version ∷ c.names) in
-        (λ j. known j
-        ∷ ((takes_texts_of_2 n).back s c rest b e ∙ ap (λ (l : List ℕ). l ++ rest) (sym (if_yes texts [] yes))) j)
-    by n k s c rest b false h e =
-        let two : (alone k, s) ≡ (c, rest) = same e in
-        ap (λ (l : List ℕ). k ∷ (l ++ s)) (sym (if_no (texts_bytes ([] ∷ [] ∷ [])) [] h))
-        ∙ (λ j. ((two j).0.class ∷ (if (two j).0.class == 2
-        then texts_bytes ((two j).0.serial ∷ (two j).0.version ∷ (two j).0.names) else [])) ++ (two j).1)
+    by : (s s1 : List ℕ) (k : ℕ) (c : ClassPart) (rest : List ℕ) → s ≡ k ∷ s1 → Bytes s1 → (two : Bool) → (k == 2) ≡ two
+        → (if two then texts_of_2 n else given (alone k)) s1 ≡ Some (c, rest) → s ≡ part c ++ rest
+    by s s1 k c rest p b true h e =
+        taking takes_text b e
+        (λ serial s2 r2 p2 b2 e2. taking takes_text b2 e2
+        (λ version s3 r3 p3 b3 e3. taking (takes_texts n) b3 e3
+        (λ names s4 r4 p4 b4 e4.
+        ended (λ c rest. s ≡ part c ++ rest) e4
+        (p ∙ (λ j. eqb-true k 2 h j ∷ (p2 ∙ ap (λ (l : List ℕ). text_section serial ++ l)
+        (p3 ∙ ap (λ (l : List ℕ). text_section version ++ l) p4)
+        ∙ regroup (text_section serial) (text_section version) (each_in_turn text_section names) s4) j)))))
+    by s s1 k c rest p b false h e =
+        ended (λ c rest. s ≡ part c ++ rest) e
+        (p ∙ ap (λ (l : List ℕ). k ∷ (l ++ s1))
+        (sym (if_no (each_in_turn text_section ([] ∷ [] ∷ [])) [] h)))
 
 pub takes_class : (v n : ℕ) → Takes (class_in v n) (rest_part v)
 unfolding class_in
@@ -297,13 +241,13 @@ pub older_class : (v n : ℕ) (s : List ℕ) (c : ClassPart) (rest : List ℕ) �
     → class_in v n s ≡ Some (c, rest) → c.class ≡ 1
 unfolding class_in
 older_class v n s c rest h e =
-    ap (λ (z : ClassPart × List ℕ). z.0.class)
-    (sym (same (ap (λ (r : Field ClassPart). r s) (sym (if_no (class_part n) (given (alone 1)) h)) ∙ e)))
+    ended (λ c rest. c.class ≡ 1)
+    (ap (λ (r : Field ClassPart). r s) (sym (if_no (class_part n) (given (alone 1)) h)) ∙ e) refl
 
 -- and the oldest has every mark
 pub old_marked : (v n : ℕ) (s m rest : List ℕ) → (v == old_version) ≡ true → marks_of v n s ≡ Some (m, rest)
     → m ≡ replicate n 1
 unfolding marks_of
 old_marked v n s m rest h e =
-    ap (λ (z : List ℕ × List ℕ). z.0)
-    (sym (same (ap (λ (r : Field (List ℕ)). r s) (sym (if_yes (given (replicate n 1)) text h)) ∙ e)))
+    ended (λ m rest. m ≡ replicate n 1)
+    (ap (λ (r : Field (List ℕ)). r s) (sym (if_yes (given (replicate n 1)) text h)) ∙ e) refl

@@ -7,4 +7,4 @@ pub mod loading;
 mod reader;
 pub mod storing;
 pub mod theorems;
-mod writing;
+mod writer;
