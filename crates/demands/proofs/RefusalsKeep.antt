@@ -3,7 +3,8 @@
 use Rattle.std.proofs.Common.{ℕ, ◌≡◌, ap, Bool, List, length}
 use Rattle.pjlink.specs.declared.command.Command.{Command}
 use Rattle.record.specs.declared.types.Device.{Device}
-use Rattle.record.proofs.Results.{fault_refusal, errors_refusal, mark_refusal}
+use Rattle.record.specs.HostCalls.{fault_set, errors_set, mark_set}
+use Rattle.record.proofs.Results.{refusal_leaves}
 use Rattle.stored.specs.Form.{stored_by}
 use Rattle.stored.proofs.StoringTold.{refused_store_writes_nothing}
 use Rattle.clock.proofs.Results.{passed_refusal}
@@ -33,9 +34,9 @@ refused_keeps d (receives p bs m) n =
     (h.device, lent_untouched d (received d p bs (length m)) m h)
 refused_keeps d (closes p) n = ((closing_refused d p n).device, tt)
 refused_keeps d (passes k) n = (passed_refusal d k n, tt)
-refused_keeps d (marks fault) n = (fault_refusal d fault n, tt)
-refused_keeps d (reports errors) n = (errors_refusal d errors n, tt)
-refused_keeps d (enables lamp mark) n = (mark_refusal d lamp mark n, tt)
+refused_keeps d (marks fault) n = (refusal_leaves d (fault_set d fault) n, tt)
+refused_keeps d (reports errors) n = (refusal_leaves d (errors_set d errors) n, tt)
+refused_keeps d (enables lamp mark) n = (refusal_leaves d (mark_set d lamp mark) n, tt)
 
 pub refused_writer : (c : Command) (secured : Bool) (random : ℕ) (password m : List ℕ)
     → let w = ours.write c secured random password m in

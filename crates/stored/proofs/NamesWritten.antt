@@ -14,10 +14,11 @@ use Rattle.words.specs.Texts.{is_input_name, input_name_most}
 use Rattle.record.specs.Limits.{listed_most}
 use Rattle.record.specs.Legal.{fills_name_room, is_names}
 use Rattle.record.specs.declared.types.InputName.{InputName}
-use Rattle.record.proofs.Kept.{Kept, kept_told, kept_length}
+use Rattle.record.proofs.Kept.{kept_length}
 use Rattle.stored.specs.Form.{text_section, texts_bytes, name_stored}
 use Rattle.stored.proofs.TextsWritten.{texts_bytes-append}
-use Rattle.record.proofs.FactsTold.{names_is}
+use Rattle.record.proofs.FactsTold.{names_is, fills_told}
+use Rattle.record.specs.Facts.{Fills}
 
 -- what an array of names has past its end
 abbrev pub no_name : InputName
@@ -94,11 +95,11 @@ module _ (n : ℕ) (names : List InputName) (legal : is_names n names ≡ true) 
     pub name_inside : i < length names
     name_inside = omega (arith, names_room)
 
-    kept : Kept input_name_most is_input_name (slice_index_or names i d).bytes (slice_index_or names i d).len
+    kept : Fills input_name_most is_input_name (slice_index_or names i d).bytes (slice_index_or names i d).len
     kept =
-        kept_told input_name_most is_input_name _ _
+        (fills_told input_name_most is_input_name _ _).0
         (ap (fills_name_room input_name_most) (sym (get_or-take n names i d more))
-        ∙ list_all_at (fills_name_room input_name_most) (take n names) d ((names_is n names).0 legal).used i
+        ∙ list_all_at (fills_name_room input_name_most) (take n names) d ((names_is n names).0 legal).follows i
         (omega (arith, length-take-le n names (omega (arith, names_room)))))
 
     pub name_within : (slice_index_or names i d).len ≤ input_name_most

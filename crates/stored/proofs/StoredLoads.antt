@@ -22,13 +22,12 @@ use Rattle.record.specs.declared.types.Device.{Device}
 use Rattle.record.specs.declared.types.Setting.{Setting}
 use Rattle.record.specs.declared.types.Setting.TheVariants.{Name, Maker, Model, Other, Password, Inputs}
 use Rattle.record.specs.declared.types.Setting.TheVariants.{Lamps, WarmUp, Cooling, Serial, Version, Names}
-use Rattle.record.proofs.Kept.{kept_told, kept_length, filled_take}
+use Rattle.record.proofs.Kept.{kept_length, filled_take}
 use Rattle.record.proofs.Rules.{inputs_few, lamps_few, only_in_2_within, names_many, names_each, names_shown, text_most}
 use Rattle.record.proofs.NamesTold.{names_first}
 use Rattle.record.proofs.SettingsTold.{input_count_high}
 use Rattle.record.proofs.LegalTold.{settings_of_legal, own_of_legal}
-use Rattle.record.proofs.OutOfRange.{each_in_range}
-use Rattle.record.proofs.InRange.{in_range_shown}
+use Rattle.record.proofs.OutOfRange.{each_in_range, in_range_shown}
 use Rattle.record.proofs.Calls.{set_up_shown}
 use Rattle.record.proofs.Started.{started_parts, inputs_halved}
 use Rattle.stored.specs.Form.{name_stored, stored_of, marks_stored, stored_form}
@@ -36,7 +35,7 @@ use Rattle.stored.proofs.FormLong.{stored_long}
 use Rattle.stored.specs.Loading.{mark_room, is_marks_of, started_with, loaded}
 use Rattle.stored.proofs.MarkBytes.{mark_room-take, room_front}
 use Rattle.stored.proofs.FormsLoad.{form_loads}
-use Rattle.record.proofs.FactsTold.{stretch_is}
+use Rattle.record.proofs.FactsTold.{stretch_is, fills_told}
 
 module _ (d : Device) (h : is_legal d ≡ true) where
   in_range : (s : Setting) → is_setting_in_range (stored_of d) s ≡ true
@@ -63,7 +62,7 @@ module _ (d : Device) (h : is_legal d ≡ true) where
       ap (λ (m : ℕ). are_names (only_in_2 d.settings.class_number m) (stored_of d).names) count
       ∙ names_shown n (stored_of d).names (length-map (take n d.settings.names) name_stored ∙ many)
       (list_all-map (fills_name_room input_name_most) is_input_name name_stored
-      (λ t e. (kept_told input_name_most is_input_name t.bytes t.len e).follows) (take n d.settings.names)
+      (λ t e. ((fills_told input_name_most is_input_name t.bytes t.len).0 e).follows) (take n d.settings.names)
       told.names.used)
 
   pub stored_in_range : is_set_up (stored_of d) ≡ true
