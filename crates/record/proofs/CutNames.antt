@@ -1,13 +1,14 @@
 -- Names that are lent one after the other, each of its length (RULES, Class 2).
 --   CutTo ns s at i      a loop has passed i names, to the place `at`
 -- Assumes nothing.
-use Rattle.std.proofs.Common.{ℕ, suc, ◌+◌, ◌≤◌, ◌<◌, ◌≡◌, refl, ap, ◌∙◌, Bool, ◌&&◌, List, [], ◌∷◌, add-one, arith}
+use Rattle.std.proofs.Common.{ℕ, suc, ◌+◌, ◌≤◌, ◌<◌, ◌≡◌, refl, ap, ◌∙◌, Bool, true, ◌&&◌, List, [], ◌∷◌, add-one, arith}
 use Rattle.std.proofs.Common.{length, slice_index_or, take, drop, drop_of_length-le, drop-cons, drop-drop, ◌==◌}
 use Rattle.std.specs.List.{list_all}
 use Rattle.text.proofs.Scanning.{Gathered}
 use Rattle.words.specs.Texts.{is_input_name}
 use Rattle.record.specs.Wanted.{total_of, cut_by, names_in}
 use Rattle.record.specs.Rules.{are_names}
+use Rattle.record.proofs.Rules.{names_many}
 
 -- a loop that tests names, one after the other
 module _ (ns : List (List ℕ)) {i : ℕ} {ok : Bool} (p : Gathered is_input_name ns i ok) where
@@ -79,3 +80,21 @@ module _ (ns s : List ℕ) where
   all_named {i} count e end g =
       let all = all_gathered (cut_by ns s) g (omega (arith, length-cut_by ns s)) in
       grind (arith, names_matched e, length-cut_by ns s, all)
+
+-- where they are the names of so many inputs, each stands in the bytes
+module _ (ns s : List ℕ) {n i : ℕ} (legal : are_names n (names_in ns s) ≡ true) (more : i < n) where
+  sums : total_of ns ≡ length s
+  sums = names_add_up ns s i (omega (arith, names_many n (names_in ns s) legal))
+
+  matched : names_in ns s ≡ cut_by ns s
+  matched = names_matched ns s sums
+
+  pub cut_there : i < length ns
+  cut_there = omega (arith, names_many n (names_in ns s) legal, ap length matched, length-cut_by ns s)
+
+  module _ {at : ℕ} (p : CutTo ns s at i) where
+    pub cut_ends : at + slice_index_or ns i 0 ≤ length s
+    cut_ends = omega (arith, sums, total_next ns s p cut_there)
+
+    pub cut_here : slice_index_or (names_in ns s) i [] ≡ take (slice_index_or ns i 0) (drop at s)
+    cut_here = rw matched (name_here ns s p cut_there)

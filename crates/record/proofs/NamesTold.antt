@@ -2,21 +2,22 @@
 -- Assumes nothing.
 use Rattle.std.specs.List.{list_all}
 use Rattle.std.proofs.Common.{ℕ, ◌≤◌, ◌<◌, ◌≡◌, refl, sym, ap, subst, ◌∙◌, true, List, map, ⊎_elim, arith, length, take}
-use Rattle.std.proofs.Common.{slice_index_or, drop, replicate, take-append-drop, take_at}
-use Rattle.std.proofs.lemmas.List.{length-map}
+use Rattle.std.proofs.Common.{◌+◌, [], set, slice_index_or, drop, replicate, take-append-drop, take_at}
+use Rattle.std.proofs.lemmas.List.{length-map, get_or-map}
 use Rattle.std.proofs.Math.ListN.{get_or-eq_default}
 use Rattle.text.proofs.Orders.{le_or_lt}
 use Rattle.text.proofs.RoomsTold.{kept_used}
 use Rattle.text.proofs.Scanning.{list_all_at, list_all-append, list_all_implies, list_all-map}
 use Rattle.words.specs.Texts.{is_text, input_name_most, is_input_name}
 use Rattle.record.specs.Limits.{listed_most}
+use Rattle.record.specs.Rules.{are_names}
 use Rattle.record.specs.Record.{name_of, blank_name, names_kept}
 use Rattle.record.specs.Legal.{fills_name_room}
 use Rattle.record.specs.Facts.{Fills, IsNames}
 use Rattle.record.specs.declared.types.InputName.{InputName}
 use Rattle.record.proofs.FactsTold.{fills_told}
-use Rattle.record.proofs.Kept.{filled_kept, nothing_kept}
-use Rattle.record.proofs.Rules.{text_most, text_wider, empty_text}
+use Rattle.record.proofs.Kept.{IsCopied, one_copied, all_copied, filled_kept, nothing_kept}
+use Rattle.record.proofs.Rules.{names_many, names_each, text_most, text_wider, empty_text}
 
 no_name_fits : (most : ℕ) → fills_name_room most blank_name ≡ true
 no_name_fits most = (fills_told _ _ _ _).1 (nothing_kept input_name_most (is_text most) (empty_text most))
@@ -63,3 +64,28 @@ module _ (ns : List (List ℕ)) where
   pub names_first : take (length ns) (names_kept ns) ≡ map name_of ns
   unfolding names_kept
   names_first = take_at (map name_of ns) _ (length ns) (length-map ns name_of)
+
+-- as a loop keeps them, one after the other
+abbrev pub NamesCopied : List (List ℕ) → List InputName → ℕ → Type 0
+NamesCopied ns list i = IsCopied blank_name listed_most (map name_of ns) list i
+
+module _ (ns : List (List ℕ)) (n : ℕ) (legal : are_names n ns ≡ true) where
+  pub name_short : (i : ℕ) → i < n → length (slice_index_or ns i []) ≤ input_name_most
+  name_short i l =
+      text_most (slice_index_or ns i []) input_name_most
+      (list_all_at is_input_name ns [] (names_each n ns legal) i (omega (arith, names_many n ns legal)))
+
+  module _ (few : n ≤ listed_most) {list : List InputName} {i : ℕ} (p : NamesCopied ns list i) where
+    many : length (map name_of ns) ≡ n
+    many = length-map ns name_of ∙ names_many n ns legal
+
+    pub one_name_copied : {t : InputName} → i < n → t ≡ name_of (slice_index_or ns i [])
+        → NamesCopied ns (set list i t) (i + 1)
+    one_name_copied l e =
+        one_copied blank_name listed_most (map name_of ns) (omega (arith, many)) p (omega (arith, many))
+        (e ∙ sym (get_or-map name_of ns i [] blank_name (omega (arith, names_many n ns legal))))
+
+    pub all_names_copied : n ≤ i → list ≡ names_kept ns
+    unfolding names_kept
+    all_names_copied l =
+        all_copied blank_name listed_most (map name_of ns) (omega (arith, many)) p (omega (arith, many))
