@@ -1,13 +1,11 @@
 -- Names that stand in a row, each after its length in one byte (RULES, Stored form).
 --   CountedTo n s left i      a loop has passed i names of the n in s, and `left` is what follows them
 -- Assumes nothing.
-use Rattle.std.proofs.Common.{◌≡◌, ℕ, zero, suc, ◌+◌, ◌-◌, ◌<◌, ◌≤◌, ◌&&◌, List, [], ◌∷◌, ◌++◌, length, take, drop, refl, true}
-use Rattle.std.proofs.Common.{ap, ◌∙◌, arith, add-one, slice_index_or, drop-cons, ◌==◌}
-use Rattle.std.specs.List.{list_all}
+use Rattle.std.proofs.Common.{◌≡◌, ℕ, zero, suc, ◌+◌, ◌-◌, ◌<◌, ◌≤◌, List, [], ◌∷◌, ◌++◌, length, take, drop, refl, true}
+use Rattle.std.proofs.Common.{ap, ◌∙◌, arith, add-one, slice_index_or, drop-cons}
 use Rattle.std.proofs.Math.Seq.{take-append_seam, drop-append_seam}
 use native.Mathlib.Numerals.{unary_clauses}
 use Rattle.words.specs.Bytes.{◌at◌}
-use Rattle.words.specs.Texts.{is_input_name}
 use Rattle.record.specs.Wanted.{counted_in}
 use Rattle.record.specs.Rules.{are_names}
 
@@ -24,11 +22,6 @@ pub counted_many : (n : ℕ) (s : List ℕ) → length (counted_in n s) ≡ n
 unfolding counted_in
 counted_many zero s = refl
 counted_many (suc n) s = ap suc (counted_many n (drop (suc (s at 0)) s))
-
-pub counted_fits : (m n : ℕ) (s : List ℕ)
-    → (n == m && list_all is_input_name (counted_in n s)) ≡ are_names m (counted_in n s)
-unfolding are_names
-counted_fits m n s = rw (counted_many n s) refl
 
 pub as_many_counted : (m n : ℕ) (s : List ℕ) → are_names m (counted_in n s) ≡ true → m ≡ n
 unfolding are_names

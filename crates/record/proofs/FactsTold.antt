@@ -1,6 +1,6 @@
 -- The tests of legality say the facts.
 -- Assumes nothing.
-use Rattle.std.proofs.Common.{◌≡◌, ℕ, arith, ap, sym, ◌∙◌, Bool, IsTrue, List, length, take, ◌↔◌}
+use Rattle.std.proofs.Common.{◌≡◌, ℕ, arith, Bool, IsTrue, List, length, take, ◌↔◌}
 use Rattle.std.proofs.Math.Seq.{length-take-le}
 use Rattle.std.specs.Prelude.{All}
 use Rattle.std.specs.List.{list_all}

@@ -1,6 +1,6 @@
 -- What a call in place gives, as a host is told of it: one outcome, one record.
 -- Assumes nothing.
-use Rattle.std.proofs.Common.{◌≡◌, refl, sym, ap, ◌∙◌}
+use Rattle.std.proofs.Common.{◌≡◌, refl, ap, ◌∙◌}
 use Rattle.std.specs.Prelude.{Result, Ok, Err, OnErr}
 use Rattle.record.specs.Given.{Given, gives, left_by, given_by}
 use Rattle.record.specs.Refusals.{outcome_number}

@@ -1,8 +1,8 @@
 -- What the names of a legal record tell (RULES, Class 2), and how they are shown: those that a set-up keeps.
 -- Assumes nothing.
 use Rattle.std.specs.List.{list_all}
-use Rattle.std.proofs.Common.{ℕ, ◌≤◌, ◌<◌, ◌≡◌, refl, sym, ap, subst, ◌∙◌, true, List, map, ⊎_elim, arith, length, take}
-use Rattle.std.proofs.Common.{◌+◌, [], set, slice_index_or, drop, replicate, take-append-drop, take_at}
+use Rattle.std.proofs.Common.{ℕ, ◌≤◌, ◌<◌, ◌≡◌, sym, ap, subst, ◌∙◌, true, List, map, ⊎_elim, arith, length, take}
+use Rattle.std.proofs.Common.{◌+◌, [], set, slice_index_or, drop, take-append-drop, take_at}
 use Rattle.std.proofs.lemmas.List.{length-map, get_or-map}
 use Rattle.std.proofs.Math.ListN.{get_or-eq_default}
 use Rattle.text.proofs.Orders.{le_or_lt}

@@ -4,7 +4,7 @@
 -- Assumes nothing.
 use Rattle.std.specs.List.{list_all}
 use Rattle.std.proofs.Common.{ℕ, suc, ◌-◌, ◌≤◌, ◌<◌, ◌≡◌, refl, sym, ap, subst, ◌∙◌, Bool, true, false, List, [], ◌∷◌}
-use Rattle.std.proofs.Common.{arith, length, slice_index_or}
+use Rattle.std.proofs.Common.{arith, slice_index_or}
 use Rattle.std.specs.Prelude.{not, Option, Some, None}
 use Rattle.text.proofs.Choices.{if_by}
 use Rattle.record.specs.Wanted.{Wanted}

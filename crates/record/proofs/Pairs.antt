@@ -2,14 +2,14 @@
 -- inputs.
 --   IsPaired f s k ok    the loop has passed k pairs, and ok is the answer for them
 -- Assumes nothing.
-use Rattle.std.proofs.Common.{ℕ, ◌+◌, ◌*◌, ◌≤◌, ◌<◌, ◌≡◌, refl, sym, ap, ◌∙◌, Bool, true, false, ◌&&◌, List, [], ◌∷◌}
+use Rattle.std.proofs.Common.{ℕ, ◌+◌, ◌*◌, ◌≤◌, ◌<◌, ◌≡◌, refl, sym, ap, ◌∙◌, Bool, true, ◌&&◌, List, [], ◌∷◌}
 use Rattle.std.proofs.Common.{⊎_elim, eq-or-lt_of_le, arith, length, slice_index_or, drop, drop_of_length-le, ◌==◌}
-use Rattle.std.proofs.Common.{eq-eqb, eqb-true}
+use Rattle.std.proofs.Common.{eq-eqb, eqb-true, nat_le}
 use Rattle.text.proofs.Choices.{both, both_left, both_right, by_not}
 use Rattle.words.specs.Inputs.{is_input_text}
 use Rattle.record.specs.Rules.{each_pair, is_none, is_new_input, each_named, is_inputs}
 use Rattle.record.proofs.Places.{two_left, one_left}
-use Rattle.record.proofs.Rules.{each_pair-is_new_input}
+use Rattle.record.specs.Limits.{is_class_number, input_room}
 use Rattle.record.proofs.Sifted.{together}
 
 module _ (f : ℕ → ℕ → Bool) (s : List ℕ) where
@@ -65,7 +65,9 @@ module _ (k : ℕ) where
       (both_left (is_new_input k a b s) (each_pair (is_new_input k) s) h))
       (new_named s (both_right (is_new_input k a b s) (each_pair (is_new_input k) s) h))
 
-  pub inputs_unnamed : (s : List ℕ) → each_named k s ≡ false → is_inputs k s ≡ false
-  inputs_unnamed s e = by_not (is_inputs k s) (λ h.
-      let n = new_named s (each_pair-is_new_input k s h) in
-      let z : ◌≡◌ {A = ℕ} 0 1 = cc in omega arith)
+  -- and so that they name inputs may be tested first
+  pub inputs_named_first : (s : List ℕ) → is_inputs k s
+      ≡ (each_named k s && is_class_number k && nat_le 2 (length s) && nat_le (length s) input_room
+      && each_pair (is_new_input k) s)
+  unfolding is_inputs
+  inputs_named_first s = grind (arith, new_named s)

@@ -1,8 +1,7 @@
 -- What the rules of set-up tell of what follows them.
 -- Assumes nothing.
 use Rattle.std.specs.List.{list_all}
-use Rattle.std.proofs.Common.{ℕ, ◌≤◌, ◌<◌, ◌≡◌, sym, ap, ◌∙◌, true, not, ◌⊎◌, inl, inr, ⊎_elim, List, [], arith, length}
-use Rattle.std.proofs.Common.{◌==◌}
+use Rattle.std.proofs.Common.{ℕ, ◌≤◌, ◌<◌, ◌≡◌, true, ◌⊎◌, inl, inr, ⊎_elim, List, [], arith, length}
 use Rattle.text.proofs.Orders.{le_or_lt}
 use Rattle.words.specs.Texts.{is_text, is_input_name}
 use Rattle.words.proofs.Refusals.{refusal_long}

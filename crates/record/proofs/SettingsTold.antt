@@ -1,6 +1,6 @@
 -- What legal settings tell, and how they are shown (the crates above never open `is_settings`).
 -- Assumes nothing.
-use Rattle.std.proofs.Common.{ℕ, ◌+◌, ◌*◌, ◌≤◌, ◌<◌, ◌≡◌, sym, ◌∙◌, Bool, true, List, arith, length, slice_index_or}
+use Rattle.std.proofs.Common.{ℕ, ◌+◌, ◌*◌, ◌≤◌, ◌<◌, ◌≡◌, sym, ◌∙◌, true, List, arith, length}
 use Rattle.std.proofs.Common.{take, get_or-take}
 use Rattle.words.specs.Bytes.{◌at◌}
 use Rattle.words.specs.Texts.{is_info, is_password, info_most, password_most}

@@ -8,10 +8,11 @@ pub loop-preserved : goal.loop-preserved
 loop-preserved c =
     let p = c.loop.invariant.0 in
     let here = name_here p c.loop-test.true in
-    let many = counted_many c.args.count c.args.row.now in
-    (rw c.first_counted.ensures.left (one_passed p c.loop-test.true),
-    one_gathered _ c.loop.invariant.1 (omega (arith, many))
-    (c.is_text-ok.ensures ∙ ap is_input_name (c.first_counted.ensures.name ∙ sym here)))
+    let many = counted_many c.args.count c.args.row.now in (
+      rw c.first_counted.ensures.left (one_passed p c.loop-test.true),
+      one_gathered _ c.loop.invariant.1 (omega (arith, many))
+          (c.is_text-ok.ensures ∙ ap is_input_name (c.first_counted.ensures.name ∙ sym here)),
+    )
 
 pub returns : goal.returns
 returns c =

@@ -13,17 +13,25 @@ pub loop-n-preserved : goal.loop-n-preserved
 loop-n-preserved c =
     let p = c.loop-n.invariant.0 in
     let here = name_here _ _ p (omega arith) in
-    let many = length-cut_by c.args.lengths.now c.args.bytes.now in
-    (one_cut _ _ p (omega arith) (omega (arith, c.if-bytes-at.false)),
-    one_gathered _ c.loop-n.invariant.1 (omega (arith, many))
-    (grind (arith, c.is_text-ok.ensures, here)))
+    let many = length-cut_by c.args.lengths.now c.args.bytes.now in (
+      one_cut _ _ p (omega arith) (omega (arith, c.if-bytes-at.false)),
+      one_gathered _ c.loop-n.invariant.1 (omega (arith, many))
+          (grind (arith, c.is_text-ok.ensures, here)),
+    )
 
 pub returns-then-at-bytes : goal.returns-then-at-bytes
 returns-then-at-bytes c =
     none_wanted _ _ _
     (λ e. omega (arith, all_cut _ _ c.loop-n.invariant.0 (omega arith), c.if-at-bytes.true, e))
 
-pub returns : goal.returns
-returns c =
-    all_named _ _ _ (omega (arith, all_cut _ _ c.loop-n.invariant.0 (omega arith), c.if-at-bytes.false)) (omega arith)
-    c.loop-n.invariant.1
+pub returns-then-lengths-count : goal.returns-then-lengths-count
+returns-then-lengths-count c =
+    let total = all_cut _ _ c.loop-n.invariant.0 (omega arith) in
+    let all = all_named _ _ c.args.count (omega (arith, total, c.if-at-bytes.false)) (omega arith) c.loop-n.invariant.1 in
+    grind (arith, all)
+
+pub returns-else-lengths-count : goal.returns-else-lengths-count
+returns-else-lengths-count c =
+    let total = all_cut _ _ c.loop-n.invariant.0 (omega arith) in
+    let all = all_named _ _ c.args.count (omega (arith, total, c.if-at-bytes.false)) (omega arith) c.loop-n.invariant.1 in
+    grind (arith, all)

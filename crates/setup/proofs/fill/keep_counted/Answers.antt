@@ -1,4 +1,4 @@
-use Rattle.std.proofs.Common.{arith, ap, sym, ◌∙◌}
+use Rattle.std.proofs.Common.{ap, sym, ◌∙◌}
 use Rattle.record.specs.Record.{name_of}
 use Rattle.record.proofs.Kept.{none_copied}
 use Rattle.record.proofs.CountedNames.{none_passed, name_here, one_passed}
@@ -15,10 +15,11 @@ name_of-requires c =
 
 pub loop-i-preserved : goal.loop-i-preserved
 loop-i-preserved c =
-    let here = name_here c.loop-i.invariant.0 c.loop-i-test.true in
-    (rw c.first_counted.ensures.left (one_passed c.loop-i.invariant.0 c.loop-i-test.true),
-    one_name_copied _ _ c.requires.named c.requires.few c.loop-i.invariant.1 c.loop-i-test.true
-    (c.name_of.ensures ∙ ap name_of (c.first_counted.ensures.name ∙ sym here)))
+    let here = name_here c.loop-i.invariant.0 c.loop-i-test.true in (
+      rw c.first_counted.ensures.left (one_passed c.loop-i.invariant.0 c.loop-i-test.true),
+      one_name_copied _ _ c.requires.named c.requires.few c.loop-i.invariant.1 c.loop-i-test.true
+          (c.name_of.ensures ∙ ap name_of (c.first_counted.ensures.name ∙ sym here)),
+    )
 
 pub returns : goal.returns
 returns c = all_names_copied _ _ c.requires.named c.requires.few c.loop-i.invariant.1 c.loop-i-test.false

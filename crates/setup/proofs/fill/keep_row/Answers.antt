@@ -27,10 +27,11 @@ name_of-requires c =
 pub loop-i-preserved : goal.loop-i-preserved
 loop-i-preserved c =
     let here = cut_here _ _ c.requires.named c.loop-i-test.true c.loop-i.invariant.0 in
-    let ends = cut_ends _ _ c.requires.named c.loop-i-test.true c.loop-i.invariant.0 in
-    (one_cut _ _ c.loop-i.invariant.0 (cut_there _ _ c.requires.named c.loop-i-test.true) ends,
-    one_name_copied _ _ c.requires.named c.requires.few c.loop-i.invariant.1 c.loop-i-test.true
-    (grind (arith, c.name_of.ensures, here)))
+    let ends = cut_ends _ _ c.requires.named c.loop-i-test.true c.loop-i.invariant.0 in (
+      one_cut _ _ c.loop-i.invariant.0 (cut_there _ _ c.requires.named c.loop-i-test.true) ends,
+      one_name_copied _ _ c.requires.named c.requires.few c.loop-i.invariant.1 c.loop-i-test.true
+          (grind (arith, c.name_of.ensures, here)),
+    )
 
 pub returns : goal.returns
 returns c = all_names_copied _ _ c.requires.named c.requires.few c.loop-i.invariant.1 c.loop-i-test.false
