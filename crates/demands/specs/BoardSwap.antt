@@ -1,7 +1,7 @@
 -- SETTINGS THAT SURVIVE A BOARD SWAP (RULES, Stored form), over any board: what is stored, what loads, and that the
 -- hours go on. TO BELIEVE IT, believe, and nothing else: the stored form and what is stored of a record
--- (form/specs/Form); what demand 3 says of a history (Demand3, History); ours/specs/Board, and here Calls. Which bytes
--- load is in demand 1, row by row.
+-- (stored/specs/Form); what demand 3 says of a history (Demand3, History); ours/specs/Board, and here Calls. Which
+-- bytes load is in demand 1, row by row.
 --   LoadsAs B s w ms    the bytes s load, and give the record that the set-up of w gives, with the marks ms
 --   BoardSwap           the theorem
 -- Assumes nothing.

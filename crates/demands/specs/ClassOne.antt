@@ -1,8 +1,9 @@
 -- A CLASS 1 SET-UP IS AS IT WAS (RULES, Class 2: "A Class 1 set-up answers every Class 1 line exactly as before and
 -- drops `%2` lines"), over any board, against the definitions that stood before that landing.
--- TO BELIEVE IT, believe, and nothing else: the form of a line and what a line asks for, as they were (lines/specs:
--- ClassOne); what is meant and done (meaning/specs); which bytes say it (answers/specs: Said); the record
--- (record/specs); ours/specs/Board, and here `BetweenLines`, `AnsweredAs`, `digest_for` of Demand2.
+-- TO BELIEVE IT, believe, and nothing else: the form of a line and what a line asks for, as they were
+-- (words/specs/ClassOne, pjlink/specs: ClassOne, ClassOneAsked); what is meant and done (meaning/specs); which bytes
+-- say it (pjlink/specs/Said); the record (record/specs); ours/specs/Board, and here `BetweenLines`, `AnsweredAs`,
+-- `digest_for` of Demand2.
 --   asked_as_before l      what a line asked for
 --   line_before s o l      how a line was answered: `%1`, the four body bytes as received, `=`, the parameter, CR; or
 --                          swallowed

@@ -1,19 +1,18 @@
 -- DEMAND 1. "Whatever bytes arrive, in whatever cuts, every call ends and stays inside its memory. A call that can't be
--- served gives the one number that the table lists for it, returns the device record it was given (a
--- refused set-up gives the blank record), and writes no byte of the reply memory."
+-- served gives the one number that the table lists for it, returns the device record it was given (a refused set-up
+-- gives the blank record), and writes no byte of the reply memory."
 -- That a call ends is no field below: each call of a board is a function, and a Rattle function meets its contract only
 -- if it ends.
 -- TO BELIEVE IT, believe, and nothing else: the rows below, against the table of RULES, The numbers a call gives, those
 -- of opening, closing and receiving as device/specs/Calls has them, with `is_no_lamp` and `is_none_left` of
 -- record/specs/HostCalls (RULES, Lamps), with `reply_room` and `is_no_place`, and `is_shut`, `connection_at`,
--- `lowest_shut`
--- of record/specs/Places (RULES, Places), those of storing and loading as form/specs/Form and stored/specs/Loading have
--- them, against the order of RULES, Stored form, with numbers in bytes as numbers/specs/HighestFirst has them; what is
--- legal and what is in range (record/specs: Limits, Rules, Legal, SetUp, and `blank` of Record; lines/specs: Bytes,
--- Inputs, Texts; utf8/specs: Utf8); the length 168 (`command_room` of controller/specs/Writing); for the readers, the
--- forms of lines (lines/specs: Forms, Commands; `is_body` of requests/specs/Requests) and which parameter says what
--- (answers/specs: Lists, Said, CanSay; replies/specs: Words, Writings; `greets`, `random_in` of
--- controller/specs/Greetings); ours/specs/Board; here Calls.
+-- `lowest_shut` of record/specs/Places (RULES, Places), those of storing and loading as stored/specs: Form, Loading
+-- have them, against the order of RULES, Stored form, with numbers in bytes as numbers/specs/HighestFirst has them;
+-- what is legal and what is in range (record/specs: Limits, Rules, Legal, SetUp, and `blank` of Record; words/specs:
+-- Bytes, Sources, Inputs, Texts; utf8/specs/Utf8); the length 168 (`command_room` of controller/specs/Writing); for the
+-- readers, the forms of lines (pjlink/specs: Forms, Commands, Bodies) and which parameter says what (pjlink/specs:
+-- Said, CanSay, Writings, with the values of words/specs: Numerals, Powers, Muting, ErrorDigits, Lamps, Classes,
+-- Refusing, Joined; `greets`, `random_in` of controller/specs/Greetings); ours/specs/Board; here Calls.
 --   rows_of d c         the rows that the call c can meet, in the table's order; so for set-up, writer and readers
 --   Inside m r          a call that is lent the memory m stays in it, and changes no byte past its reply
 --   Untouched m r       it took nothing, replied nothing and wrote nothing

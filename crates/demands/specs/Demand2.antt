@@ -4,12 +4,12 @@
 -- secured connection a first line without the matching digest yields the refusal line only; power, input, mutes and
 -- lamps stay." What the projector meant is `meant`, the table of RULES, Commands (crate `meaning`), which knows no
 -- bytes but a set-up's inputs, two characters each, by the table of RULES, Inputs.
--- TO BELIEVE IT, believe, and nothing else: MD5 and its digits (digest/specs); lines, inputs, texts and commands
--- (lines/specs; for names also utf8/specs/Utf8), and requests (requests/specs/Requests); what an answer is and which
--- bytes say it (answers/specs: Lists, Said, CanSay; replies/specs: Words, Writings); what a reading means and a
--- greeting is (controller/specs: `meaning`, `LineSays` of Reading, `Exactly` of Greetings; here Greeted); what is meant
--- and done (meaning/specs); how a line is answered and a connection greeted (device/specs: Answering, `is_led_by` of
--- Receiving, and `greeting`, `greeted` of Calls); the record (record/specs); a stream in cuts (stream/specs/Machine);
+-- TO BELIEVE IT, believe, and nothing else: MD5 and its digits (digest/specs); inputs, texts and values (words/specs;
+-- for names also utf8/specs/Utf8), lines, commands and requests (pjlink/specs: Bodies, Commands, Forms, Requests); what
+-- an answer is and which bytes say it (pjlink/specs: Said, CanSay, Writings); what a reading means and a greeting is
+-- (controller/specs: `meaning`, `LineSays` of Reading, `Exactly` of Greetings; here Greeted); what is meant and done
+-- (meaning/specs); how a line is answered and a connection greeted (device/specs: Answering, `is_led_by` of Receiving,
+-- and `greeting`, `greeted` of Calls); the record (record/specs); a stream in cuts (stream/specs/Machine);
 -- ours/specs/Board; here Calls, CallsDone, Outsider. RULES, Places: "Demand 2 holds place by place": what is said of a
 -- connection is said of that at any place p, whatever the other places hold. RULES, Class 2: lines, commands and
 -- set-ups are of Class 1 or Class 2, and all is said of both; that a Class 1 set-up is as it was before is in ClassOne.

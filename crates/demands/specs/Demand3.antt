@@ -3,8 +3,8 @@
 -- nothing, each lamp's stored seconds are its starting seconds plus every second the history puts in warm-up or
 -- power-on, stopped at 359,999,999; the hours answered are the whole hours in that."
 -- TO BELIEVE IT, believe, and nothing else: one second (clock/specs/Second), and what is legal (record/specs); what
--- someone outside sees of a history, and his own clock (History, here); the stored form (form/specs/Form); the line
--- of a command and the text of lamps (lines/specs: Commands; answers/specs: Said; numbers/specs: Decimal);
+-- someone outside sees of a history, and his own clock (History, here); the stored form (stored/specs/Form); the line
+-- of a command and the text of lamps (pjlink/specs: Commands, Said; words/specs/Lamps; numbers/specs/Decimal);
 -- ours/specs/Board; here Calls, CallsDone, and `BetweenLines` of Demand2, `meaning` of controller/specs/Reading.
 --   Beginning            a history begins with a set-up, or with the load of a stored form (RULES, Stored form:
 --                        "Loading

@@ -6,11 +6,10 @@
 -- answered, open or secured: so after all of them it is what the tables of `meaning` and `clock` make of the same
 -- commands and seconds, and of what others left. A command of a higher class gets no reply, and stays under way.
 -- TO BELIEVE IT, believe, and nothing else: what is meant and done (meaning/specs), what a second does (clock/specs/
--- Second), the codes of the commands (codes/specs/Commands) and their classes (lines/specs/Bodies), what is shown of
+-- Second), the codes of the commands (codes/specs/Commands) and their classes (pjlink/specs/Bodies), what is shown of
 -- what was said (`showing` of panel/specs/Showing), the records (record/specs, panel/specs: Entries, LegalPanels), a
 -- command under way (`IsUnderWay` of panel/specs/StepTable), a stream in cuts (stream/specs/Machine), the device's
--- calls
--- (device/specs/Calls) as demand 2 has them; here AnyPanel, Workroom and MeantThrough.
+-- calls (device/specs/Calls) as demand 2 has them; here AnyPanel, Workroom and MeantThrough.
 --   IsAcquainted i w   a legal panel that has the projector i, a legal device, one password
 --   Apart i w          no greeting is accepted, and a place of the device is free
 --   Fit t c            the panel's talk t and the connection c: open on both sides, or the digest is awaited and will
