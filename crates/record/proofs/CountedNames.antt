@@ -1,8 +1,8 @@
 -- Names that stand in a row, each after its length in one byte (RULES, Stored form).
 --   CountedTo n s left i      a loop has passed i names of the n in s, and `left` is what follows them
 -- Assumes nothing.
-use Rattle.std.proofs.Common.{◌≡◌, ℕ, zero, suc, ◌+◌, ◌-◌, ◌<◌, ◌≤◌, List, [], ◌∷◌, ◌++◌, length, take, drop, refl, true}
-use Rattle.std.proofs.Common.{ap, ◌∙◌, arith, add-one, slice_index_or, drop-cons}
+use Rattle.std.proofs.Common.{◌≡◌, ℕ, zero, suc, ◌+◌, ◌-◌, ◌<◌, ◌≤◌, List, [], ◌∷◌, ◌++◌, length, take, drop, refl}
+use Rattle.std.proofs.Common.{true, ap, ◌∙◌, arith, add-one, slice_index_or, drop-cons}
 use Rattle.std.proofs.Math.Seq.{take-append_seam, drop-append_seam}
 use native.Mathlib.Numerals.{unary_clauses}
 use Rattle.words.specs.Bytes.{◌at◌}

@@ -1,8 +1,8 @@
 -- Names that are lent one after the other, each of its length (RULES, Class 2).
 --   CutTo ns s at i      a loop has passed i names, to the place `at`
 -- Assumes nothing.
-use Rattle.std.proofs.Common.{ℕ, suc, ◌+◌, ◌≤◌, ◌<◌, ◌≡◌, refl, ap, ◌∙◌, Bool, true, ◌&&◌, List, [], ◌∷◌, add-one, arith}
-use Rattle.std.proofs.Common.{length, slice_index_or, take, drop, drop_of_length-le, drop-cons, drop-drop, ◌==◌}
+use Rattle.std.proofs.Common.{ℕ, suc, ◌+◌, ◌≤◌, ◌<◌, ◌≡◌, refl, ap, ◌∙◌, Bool, true, ◌&&◌, List, [], ◌∷◌, arith}
+use Rattle.std.proofs.Common.{add-one, length, slice_index_or, take, drop, drop_of_length-le, drop-cons, drop-drop, ◌==◌}
 use Rattle.std.specs.List.{list_all}
 use Rattle.text.proofs.Scanning.{Gathered}
 use Rattle.words.specs.Texts.{is_input_name}
@@ -74,12 +74,12 @@ module _ (ns s : List ℕ) where
     pub all_cut : length ns ≤ i → total_of ns ≡ at
     all_cut end = omega (arith, p.sum, ap total_of (drop_of_length-le ns {i = i} end))
 
-  pub all_named : {i : ℕ} {ok : Bool} (count : ℕ) → total_of ns ≡ length s → length ns ≤ i
-      → Gathered is_input_name (cut_by ns s) i ok → (length ns == count && ok) ≡ are_names count (names_in ns s)
-  unfolding are_names
-  all_named {i} count e end g =
-      let all = all_gathered (cut_by ns s) g (omega (arith, length-cut_by ns s)) in
-      grind (arith, names_matched e, length-cut_by ns s, all)
+    pub all_named : {ok : Bool} (count : ℕ) → Gathered is_input_name (cut_by ns s) i ok → length ns ≤ i → at ≡ length s
+        → (length ns == count && ok) ≡ are_names count (names_in ns s)
+    unfolding are_names
+    all_named count g end e =
+        let all = all_gathered (cut_by ns s) g (omega (arith, length-cut_by ns s)) in
+        grind (arith, names_matched (all_cut end ∙ e), length-cut_by ns s, all)
 
 -- where they are the names of so many inputs, each stands in the bytes
 module _ (ns s : List ℕ) {n i : ℕ} (legal : are_names n (names_in ns s) ≡ true) (more : i < n) where

@@ -40,14 +40,14 @@ clear_by_place s n h =
     (λ k l. eq-eqb (slice_index_or (drop n s) k 0) 0 (get_or-drop n s k 0 ∙ h (n + k) (omega arith)))
 
 -- what fills a cleared room from its start is kept there
-module _ (room : ℕ) (rule : List ℕ → Bool) (s : List ℕ) where
-  pub filled_take : take (length s) (in_room room s) ≡ s
-  unfolding in_room
-  filled_take = take-append_seam s (zeros (room - length s))
+pub filled_take : (room : ℕ) (s : List ℕ) → take (length s) (in_room room s) ≡ s
+unfolding in_room
+filled_take room s = take-append_seam s (zeros (room - length s))
 
-  pub filled_kept : length s ≤ room → rule s ≡ true → Fills room rule (in_room room s) (length s)
-  unfolding in_room
-  filled_kept fits h = kept_used is_zero 0 room rule s fits refl h
+pub filled_kept : (room : ℕ) (rule : List ℕ → Bool) (s : List ℕ) → length s ≤ room → rule s ≡ true
+    → Fills room rule (in_room room s) (length s)
+unfolding in_room
+filled_kept room rule s fits h = kept_used is_zero 0 room rule s fits refl h
 
 pub kept_in_room : (room : ℕ) (s : List ℕ) → kept 0 room s ≡ in_room room s
 unfolding in_room

@@ -50,7 +50,8 @@ module _ (n : ℕ) (few : n ≤ lamps_most) where
   all_marks_legal =
       let many : length (replicate n true) ≡ n = length-replicate n true in
       let t = kept_used not false lamps_most (λ ms. true) (replicate n true) (omega (arith, many)) refl refl in
-      let past = subst (λ (m : ℕ). list_all not (drop m (kept false lamps_most (replicate n true))) ≡ true) many t.clear in
+      let room = kept false lamps_most (replicate n true) in
+      let past = subst (λ (m : ℕ). list_all not (drop m room) ≡ true) many t.clear in
       marks_shown n (all_marks n) t.long past (one_set n)
 
   pub marks_kept : kept false lamps_most (take n (replicate lamps_most true)) ≡ all_marks n

@@ -57,8 +57,8 @@ module _ (ns : List (List ℕ)) where
       let named = list_all (fills_name_room input_name_most) in
       let each = list_all-map is_input_name (fills_name_room input_name_most) name_of name_of_fits ns h in
       subst (λ (n : ℕ). IsNames n (names_kept ns)) (length-map ns name_of)
-      (kept_used (fills_name_room 0) blank_name listed_most named (map name_of ns) (omega (arith, length-map ns name_of))
-      (no_name_fits 0) each)
+      (kept_used (fills_name_room 0) blank_name listed_most named (map name_of ns)
+      (omega (arith, length-map ns name_of)) (no_name_fits 0) each)
 
   -- the first places have them
   pub names_first : take (length ns) (names_kept ns) ≡ map name_of ns

@@ -1,7 +1,7 @@
--- The calls of this crate, against the table of numbers: the number is the first row that applies, a refusal leaves the
--- record that was given (a refused set-up the blank one), and the setting told is that for which set-up refused: where it
--- gives 3 the first that is out of its range, where it gives 8 the password (RULES, Passwords), and none exactly where it
--- gives 0.
+-- The calls of this crate, against the table of numbers: the number is the first row that applies, a refusal leaves
+-- the record that was given (a refused set-up the blank one), and the setting told is that for which set-up refused:
+-- where it gives 3 the first that is out of its range, where it gives 8 the password (RULES, Passwords), and none
+-- exactly where it gives 0.
 -- Assumes nothing.
 use Rattle.std.proofs.Common.{ℕ, ◌≡◌, refl, sym, Bool, true, false, not, ◌||◌, List, [], ◌∷◌, arith, length, set, ◌==◌}
 use Rattle.std.specs.Prelude.{Result, Ok, Err, Some, None, if◌then◌else◌}

@@ -26,12 +26,10 @@ returns-then-at-bytes c =
 
 pub returns-then-lengths-count : goal.returns-then-lengths-count
 returns-then-lengths-count c =
-    let total = all_cut _ _ c.loop-n.invariant.0 (omega arith) in
-    let all = all_named _ _ c.args.count (omega (arith, total, c.if-at-bytes.false)) (omega arith) c.loop-n.invariant.1 in
-    grind (arith, all)
+    let p = c.loop-n.invariant in
+    grind (arith, all_named _ _ p.0 c.args.count p.1 (omega arith) c.if-at-bytes.false)
 
 pub returns-else-lengths-count : goal.returns-else-lengths-count
 returns-else-lengths-count c =
-    let total = all_cut _ _ c.loop-n.invariant.0 (omega arith) in
-    let all = all_named _ _ c.args.count (omega (arith, total, c.if-at-bytes.false)) (omega arith) c.loop-n.invariant.1 in
-    grind (arith, all)
+    let p = c.loop-n.invariant in
+    grind (arith, all_named _ _ p.0 c.args.count p.1 (omega arith) c.if-at-bytes.false)
