@@ -1,12 +1,13 @@
 -- Every command that can be written has one code, and every code that stands for a command stands for one that can be
 -- written: `code_of` and `coded_command` are inverse, but for what a code does not use.
 --   Right n b      what the code n stands for has that code
---   Stands u m     m is no command, or one that can be written and has the code u
+--   Stands u m     where m is a command, it can be written and has the code u
 -- Assumes nothing.
-use Rattle.std.proofs.Common.{ℕ, ◌≡◌, refl, sym, ap, subst, ◌∙◌, Bool, true, false, ◌&&◌, List, [], ◌∷◌, arith, nat_le}
+use Rattle.std.proofs.Common.{ℕ, ◌≡◌, refl, sym, ap, subst, ◌∙◌, Bool, true, ◌&&◌, List, [], ◌∷◌, arith, nat_le}
 use Rattle.std.proofs.Common.{◌==◌, eqb-true}
-use Rattle.std.specs.Prelude.{if◌then◌else◌, Option, Some, None, IfSome, option_map, option_and_then}
-use Rattle.text.proofs.Choices.{if_yes, if_no, if_by}
+use Rattle.std.specs.Prelude.{Option, Some, None, IfSome, option_map, option_and_then}
+use Rattle.std.specs.Option.{option_map_or}
+use Rattle.text.proofs.Choices.{if_by}
 use Rattle.words.specs.Inputs.{is_input}
 use Rattle.pjlink.specs.Commands.{is_command}
 use Rattle.words.specs.declared.input.Source.{Source}
@@ -14,9 +15,8 @@ use Rattle.words.specs.declared.input.Input.{Input}
 use Rattle.pjlink.specs.declared.command.Half.{Half}
 use Rattle.pjlink.specs.declared.command.Command.{Command}
 use Rattle.codes.specs.Commands.{CodedBy, alone, switch, of_input, of_half, CodeRow, code_rows, switch_at, source_at}
-use Rattle.codes.specs.Commands.{input_at, half_at, stands_for, command_among, coded_command, coded, used_by}
-use Rattle.codes.specs.Commands.{used_among}
-use Rattle.codes.specs.Commands.{used_of, bit, source_number, half_number, input_code, code_of}
+use Rattle.codes.specs.Commands.{input_at, half_at, stands_for, coded_by, coded_command, coded, used_by, used_of, bit}
+use Rattle.codes.specs.Commands.{source_number, half_number, input_code, code_of}
 use Rattle.codes.specs.declared.command.Coded.{Coded}
 use Rattle.codes.proofs.CommandsCoded.{code_back}
 
@@ -79,107 +79,84 @@ codes_right =
     also (λ on. (refl, refl)) also (λ on. (refl, refl)) also (λ on. (refl, refl)) also (refl, refl) also (refl, refl)
     also (λ i. (refl, refl)) also (refl, refl) also (λ i. (refl, refl)) also (refl, refl) also tt
 
-pub data Stands (u : Coded) : Option Command → Type 0 where
-  none : Stands u None
-  stands : {c : Command} → is_command c ≡ true → code_of c ≡ u → Stands u (Some c)
+abbrev Stands : Coded → Option Command → Type 0
+Stands u m = IfSome m (λ c. (is_command c ≡ true) × (code_of c ≡ u))
 
 module _ (n first second : ℕ) where
   switch_stands : (f : Bool → Command) → Right n (switch f) → (o : Option Bool) → SwitchIs first o
       → Stands (coded n first 0) (option_map f o)
   switch_stands f right (Some on) there =
-      stands (right on).0 ((right on).1 ∙ ap (λ (j : ℕ). coded n j 0) there)
-  switch_stands f right None there = none
+      ((right on).0, (right on).1 ∙ ap (λ (j : ℕ). coded n j 0) there)
+  switch_stands f right None there = tt
 
   input_stands : (f : Input → Command) → Right n (of_input f) → (o : Option Input) → InputIs n first second o
       → Stands (coded n first second) (option_map f o)
-  input_stands f right (Some i) there = stands ((right i).0 ∙ there.0) ((right i).1 ∙ there.1)
-  input_stands f right None there = none
+  input_stands f right (Some i) there = ((right i).0 ∙ there.0, (right i).1 ∙ there.1)
+  input_stands f right None there = tt
 
   module _ (f : Half → Bool → Command) (right : Right n (of_half f)) where
     mute_stands : (h : Half) → half_number h ≡ first → (o : Option Bool) → SwitchIs second o
         → Stands (coded n first second) (option_map (f h) o)
     mute_stands h here (Some on) there =
-        stands (right h on).0 ((right h on).1 ∙ (λ i. coded n (here i) (there i)))
-    mute_stands h here None there = none
+        ((right h on).0, (right h on).1 ∙ (λ i. coded n (here i) (there i)))
+    mute_stands h here None there = tt
 
     half_stands : (o : Option Half) → HalfIs first o
         → Stands (coded n first second) (option_and_then (λ h. option_map (f h) (switch_at second)) o)
     half_stands (Some h) here = mute_stands h here (switch_at second) (switch_there second)
-    half_stands None here = none
+    half_stands None here = tt
 
   row_stands : (b : CodedBy) → Right n b → Stands (used_by b (coded n first second)) (stands_for b first second)
-  row_stands (alone c) right = stands right.0 right.1
+  row_stands (alone c) right = right
   row_stands (switch f) right = switch_stands f right (switch_at first) (switch_there first)
   row_stands (of_input f) right = input_stands f right (input_at first second) (input_there n first second)
   row_stands (of_half f) right = half_stands f right (half_at first) (half_there first)
 
-among_stands : (k : Coded) (rs : List CodeRow) → AllRight rs → Stands (used_among rs k) (command_among rs k)
-among_stands k [] right = none
-among_stands k (r ∷ rs) right = by (among_stands k rs right.1) (k.code == r.code) refl
-  where
-    by : Stands (used_among rs k) (command_among rs k) → (t : Bool) → (k.code == r.code) ≡ t
-        → Stands (if t then used_by r.by k else used_among rs k)
-        (if t then stands_for r.by k.first k.second else command_among rs k)
-    by later true e =
-        row_stands k.code k.first k.second r.by
-        (subst (λ (n : ℕ). Right n r.by) (sym (eqb-true k.code r.code e)) right.0)
-    by later false e = later
+-- what stands in a row is right
+right_row : (n : ℕ) (rs : List CodeRow) → AllRight rs → IfSome (coded_by n rs) (Right n)
+right_row n [] right = tt
+right_row n (r ∷ rs) right =
+    if_by (λ (b : Option CodedBy). IfSome b (Right n)) (n == r.code)
+    (λ e. subst (λ (m : ℕ). Right m r.by) (sym (eqb-true n r.code e)) right.0) (λ e. right_row n rs right.1)
 
-pub command_stands : (k : Coded) → Stands (used_of k) (coded_command k)
+command_stands : (k : Coded) → Stands (used_of k) (coded_command k)
 unfolding coded_command used_of
-command_stands k = among_stands k code_rows codes_right
-
-told : {u : Coded} {c : Command} → Stands u (Some c) → (is_command c ≡ true) × (code_of c ≡ u)
-told (stands e f) = (e, f)
+command_stands k = by (coded_by k.code code_rows) (right_row k.code code_rows codes_right)
+  where
+    by : (o : Option CodedBy) → IfSome o (Right k.code)
+        → Stands (option_map_or (λ b. used_by b k) o (coded k.code 0 0))
+        (option_and_then (λ b. stands_for b k.first k.second) o)
+    by (Some b) right = row_stands k.code k.first k.second b right
+    by None right = tt
 
 module _ (k : Coded) (c : Command) (e : coded_command k ≡ Some c) where
-  stands_for_lem : Stands (used_of k) (Some c)
-  stands_for_lem = subst (Stands (used_of k)) e (command_stands k)
+  told : (is_command c ≡ true) × (code_of c ≡ used_of k)
+  told = subst (Stands (used_of k)) e (command_stands k)
 
   pub command_writable : is_command c ≡ true
-  command_writable = (told stands_for_lem).0
+  command_writable = told.0
 
   pub command_back : code_of c ≡ used_of k
-  command_back = (told stands_for_lem).1
+  command_back = told.1
 
--- two code_rows of one command differ in nothing that they use
+-- two codes of one command differ in nothing that they use
 pub one_code : (j k : Coded) (c : Command) → coded_command j ≡ Some c → coded_command k ≡ Some c
     → used_of j ≡ used_of k
 one_code j k c e f = sym (command_back j c e) ∙ command_back k c f
 
 -- what a code does not use is passed over
-used_code : (b : CodedBy) (k : Coded) → (used_by b k).code ≡ k.code
-used_code (alone c) k = refl
-used_code (switch f) k = refl
-used_code (of_input f) k = refl
-used_code (of_half f) k = refl
-
-used_stands : (b : CodedBy) (k : Coded)
-    → stands_for b (used_by b k).first (used_by b k).second ≡ stands_for b k.first k.second
-used_stands (alone c) k = refl
-used_stands (switch f) k = refl
-used_stands (of_input f) k = refl
-used_stands (of_half f) k = refl
-
-among_code : (rs : List CodeRow) (k : Coded) → (used_among rs k).code ≡ k.code
-among_code [] k = refl
-among_code (r ∷ rs) k =
-    if_by (λ (u : Coded). u.code ≡ k.code) (k.code == r.code) (λ e. used_code r.by k) (λ e. among_code rs k)
-
-among_used : (rs : List CodeRow) (k : Coded) → command_among rs (used_among rs k) ≡ command_among rs k
-among_used [] k = refl
-among_used (r ∷ rs) k = by (among_used rs k) (k.code == r.code) refl
-  where
-    by : command_among rs (used_among rs k) ≡ command_among rs k → (t : Bool) → (k.code == r.code) ≡ t
-        → command_among (r ∷ rs) (if t then used_by r.by k else used_among rs k)
-        ≡ (if t then stands_for r.by k.first k.second else command_among rs k)
-    by later true e =
-        if_yes _ _ (ap (λ (n : ℕ). n == r.code) (used_code r.by k) ∙ e) ∙ used_stands r.by k
-    by later false e = if_no _ _ (ap (λ (n : ℕ). n == r.code) (among_code rs k) ∙ e) ∙ later
-
 command_used : (k : Coded) → coded_command (used_of k) ≡ coded_command k
 unfolding coded_command used_of
-command_used k = among_used code_rows k
+command_used k = by (coded_by k.code code_rows) refl
+  where
+    by : (o : Option CodedBy) → coded_by k.code code_rows ≡ o
+        → let u = option_map_or (λ b. used_by b k) o (coded k.code 0 0) in
+        option_and_then (λ b. stands_for b u.first u.second) (coded_by u.code code_rows)
+        ≡ option_and_then (λ b. stands_for b k.first k.second) o
+    by (Some (alone c)) e = ap (option_and_then (λ b. stands_for b 0 0)) e
+    by (Some (switch f)) e = ap (option_and_then (λ b. stands_for b k.first 0)) e
+    by (Some b) e = ap (option_and_then (λ b. stands_for b k.first k.second)) e
+    by None e = ap (option_and_then (λ b. stands_for b 0 0)) e
 
 pub stands_for_its_command : (k : Coded) (c : Command) → is_command c ≡ true → code_of c ≡ used_of k
     → coded_command k ≡ Some c

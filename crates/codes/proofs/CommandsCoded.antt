@@ -7,11 +7,11 @@ use Rattle.words.specs.Sources.{type_of}
 use Rattle.pjlink.specs.Bodies.{has_query}
 use Rattle.pjlink.specs.Commands.{is_command}
 use Rattle.words.specs.declared.input.Source.{Source}
-use Rattle.words.specs.declared.input.Source.TheVariants.{Rgb, Video, Digital, Storage, Network, Internal}
+use Rattle.words.specs.declared.input.Source.TheVariants.{Rgb}
 use Rattle.words.specs.declared.input.Input.{Input}
 use Rattle.pjlink.specs.declared.body.Body.{Body}
 use Rattle.pjlink.specs.declared.command.Half.{Half}
-use Rattle.pjlink.specs.declared.command.Half.TheVariants.{VideoHalf, AudioHalf, BothHalves}
+use Rattle.pjlink.specs.declared.command.Half.TheVariants.{VideoHalf}
 use Rattle.pjlink.specs.declared.command.Volume.TheVariants.{Speaker, Microphone}
 use Rattle.pjlink.specs.declared.command.Command.{Command}
 use Rattle.pjlink.specs.declared.command.Command.TheVariants.{PowerSet, InputSet, MuteSet, InputSet2, FreezeSet}
@@ -23,11 +23,7 @@ use Rattle.codes.specs.Commands.{coded_command, bit, source_number, half_number,
 -- the face tells a type by the table's number of it
 pub face_follows : (s : Source) → source_number s ≡ type_of s
 face_follows Rgb = refl
-face_follows Video = refl
-face_follows Digital = refl
-face_follows Storage = refl
-face_follows Network = refl
-face_follows Internal = refl
+face_follows s = refl
 
 -- from a command to its code and back
 asked_back : (b : Body) → has_query b ≡ true → coded_command (code_of (Query b)) ≡ Some (Query b)
@@ -47,21 +43,15 @@ input_back : (f : Input → Command) (s : Source) (n : ℕ) → (nat_le 1 n && n
     → stands_for (of_input f) (source_number s) n ≡ Some (f (record { source = s; number = n }))
 unfolding input_at source_at
 input_back f Rgb n e = ap (option_map f) (if_yes _ _ e)
-input_back f Video n e = ap (option_map f) (if_yes _ _ e)
-input_back f Digital n e = ap (option_map f) (if_yes _ _ e)
-input_back f Storage n e = ap (option_map f) (if_yes _ _ e)
-input_back f Network n e = ap (option_map f) (if_yes _ _ e)
-input_back f Internal n e = ap (option_map f) (if_yes _ _ e)
+input_back f s n e = ap (option_map f) (if_yes _ _ e)
 
 half_back : (f : Half → Bool → Command) (h : Half) (on : Bool)
     → stands_for (of_half f) (half_number h) (bit on) ≡ Some (f h on)
 unfolding half_at switch_at
 half_back f VideoHalf true = refl
+half_back f h true = refl
 half_back f VideoHalf false = refl
-half_back f AudioHalf true = refl
-half_back f AudioHalf false = refl
-half_back f BothHalves true = refl
-half_back f BothHalves false = refl
+half_back f h false = refl
 
 pub code_back : (c : Command) → is_command c ≡ true → coded_command (code_of c) ≡ Some c
 unfolding coded_command

@@ -2,7 +2,7 @@
 --   Filled arr k      the array arr, blank before, has k things of at most `count`
 -- Assumes nothing.
 use Rattle.std.proofs.Common.{ℕ, ◌+◌, ◌<◌, ◌≤◌, ◌≡◌, sym, ap, ◌∙◌, List, [], ◌∷◌, ◌++◌, map, add-one, arith, length}
-use Rattle.std.proofs.Common.{slice_index_or, set, take, length-append, take-suc, take_all}
+use Rattle.std.proofs.Common.{slice_index_or, set, take, length-append, take-suc}
 use Rattle.std.proofs.lemmas.List.{map-append}
 use Rattle.std.proofs.Math.Seq.{sets}
 use Rattle.text.proofs.Stores.{sets_snoc}
@@ -12,9 +12,6 @@ module _ {B : Type 0} (g : ℕ → List B) (blank : List B) (count : ℕ) where
     pub counted : k ≤ count
     pub stored : arr ≡ sets blank 0 (g k)
     pub long : k ≡ length (g k)
-
-  pub none_filled : g 0 ≡ [] → IsFilled blank 0
-  none_filled e = record { counted = omega arith; stored = ap (sets blank 0) (sym e); long = ap length (sym e) }
 
   pub one_filled : {arr : List B} {k : ℕ} (b : B) → IsFilled arr k → k < count → g (k + 1) ≡ g k ++ (b ∷ [])
       → IsFilled (set arr k b) (k + 1)
@@ -31,6 +28,3 @@ module _ {A B : Type 0} (f : A → B) (l : List A) where
   one_more_turned k d h =
       ap (λ (j : ℕ). map f (take j l)) (add-one k) ∙ ap (map f) (take-suc l k d h)
       ∙ map-append f (take k l) (slice_index_or l k d ∷ [])
-
-  pub all_turned : (k n : ℕ) → length l ≤ k → length l ≤ n → map f (take k l) ≡ map f (take n l)
-  all_turned k n h m = ap (map f) (take_all k l h ∙ sym (take_all n l m))

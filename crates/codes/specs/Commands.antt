@@ -1,5 +1,6 @@
 -- The commands by their code_rows (include/ceiling.h), a code and two numbers each.
 --   code_rows              what each code stands for, and which of the two numbers it uses
+--   coded_by n rows        what the code n stands for by these rows, and which numbers it uses
 --   switch_at n, input_at type number, half_at n     what the numbers of a command stand for, or nothing
 --   coded_command k    the command that k stands for, or none; what a code does not use is passed over
 --   code_of c          the code of a command, with 0 for what it does not use
@@ -7,6 +8,7 @@
 -- Assumes nothing.
 use Rattle.std.specs.Prelude.{ℕ, Bool, true, false, ◌&&◌, List, [], ◌∷◌, if◌then◌else◌}
 use Rattle.std.specs.Prelude.{Option, Some, None, option_map, option_and_then, nat_le, ◌==◌}
+use Rattle.std.specs.Option.{option_map_or}
 use Rattle.words.specs.declared.input.Source.{Source}
 use Rattle.words.specs.declared.input.Source.TheVariants.{Rgb, Video, Digital, Storage, Network, Internal}
 use Rattle.words.specs.declared.input.Input.{Input}
@@ -91,13 +93,12 @@ stands_for (switch f) first second = option_map f (switch_at first)
 stands_for (of_input f) first second = option_map f (input_at first second)
 stands_for (of_half f) first second = option_and_then (λ half. option_map (f half) (switch_at second)) (half_at first)
 
-abbrev pub command_among : List CodeRow → Coded → Option Command
-command_among [] k = None
-command_among (r ∷ rs) k =
-    if k.code == r.code then stands_for r.by k.first k.second else command_among rs k
+abbrev pub coded_by : ℕ → List CodeRow → Option CodedBy
+coded_by n [] = None
+coded_by n (r ∷ rs) = if n == r.code then Some r.by else coded_by n rs
 
 unfoldable pub coded_command : Coded → Option Command
-coded_command k = command_among code_rows k
+coded_command k = option_and_then (λ b. stands_for b k.first k.second) (coded_by k.code code_rows)
 
 abbrev pub coded : ℕ → ℕ → ℕ → Coded
 coded code first second = record { code = code; first = first; second = second }
@@ -105,15 +106,10 @@ coded code first second = record { code = code; first = first; second = second }
 abbrev pub used_by : CodedBy → Coded → Coded
 used_by (alone c) k = coded k.code 0 0
 used_by (switch f) k = coded k.code k.first 0
-used_by (of_input f) k = k
-used_by (of_half f) k = k
-
-abbrev pub used_among : List CodeRow → Coded → Coded
-used_among [] k = coded k.code 0 0
-used_among (r ∷ rs) k = if k.code == r.code then used_by r.by k else used_among rs k
+used_by b k = k
 
 unfoldable pub used_of : Coded → Coded
-used_of k = used_among code_rows k
+used_of k = option_map_or (λ b. used_by b k) (coded_by k.code code_rows) (coded k.code 0 0)
 
 abbrev pub bit : Bool → ℕ
 bit true = 1

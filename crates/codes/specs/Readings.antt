@@ -14,11 +14,9 @@ use Rattle.words.specs.declared.power.Power.{Power}
 use Rattle.words.specs.declared.power.Power.TheVariants.{Off, On, Cooling, WarmUp}
 use Rattle.words.specs.declared.lamp.LampHours.{LampHours}
 use Rattle.controller.specs.Greetings.{greeting_number}
-use Rattle.controller.specs.Reading.{ReadAs, reading_outcome_number}
+use Rattle.controller.specs.Reading.{ReadAs, Outcome, means_it, erra_said, disallowed, reading_outcome_number}
 use Rattle.controller.specs.declared.greeting.Greeting.{Greeting}
 use Rattle.controller.specs.declared.greeting.Greeting.TheVariants.{Open, Secured, Refused, NotAGreeting}
-use Rattle.controller.specs.Reading.{Outcome}
-use Rattle.controller.specs.Reading.{means_it, erra_said, not_a_line, other_command, disallowed}
 use Rattle.codes.specs.Commands.{bit, source_number}
 use Rattle.codes.specs.declared.lists.FlatLamps.{FlatLamps}
 use Rattle.codes.specs.declared.readings.FlatGreeting.{FlatGreeting}
@@ -31,10 +29,8 @@ greeting_kind Refused = 3
 greeting_kind NotAGreeting = 0
 
 abbrev pub greeting_random : Greeting → ℕ
-greeting_random Open = 0
 greeting_random (Secured r) = r
-greeting_random Refused = 0
-greeting_random NotAGreeting = 0
+greeting_random g = 0
 
 abbrev pub flat_greeting : Greeting → FlatGreeting
 flat_greeting g = record { number = greeting_number g; kind = greeting_kind g; random = greeting_random g }
@@ -127,9 +123,7 @@ said_flat nothing = meaningless (reading_outcome_number disallowed)
 abbrev pub flat_as : Outcome → Said → FlatReading
 flat_as means_it m = said_flat m
 flat_as erra_said m = plain 11 0 0
-flat_as not_a_line m = meaningless (reading_outcome_number not_a_line)
-flat_as other_command m = meaningless (reading_outcome_number other_command)
-flat_as disallowed m = meaningless (reading_outcome_number disallowed)
+flat_as o m = meaningless (reading_outcome_number o)
 
 abbrev pub flat : ReadAs → FlatReading
 flat r = flat_as r.outcome r.said

@@ -9,7 +9,7 @@ use Rattle.std.proofs.Common.{ℕ, ◌+◌, ◌<◌, ◌≡◌, refl, sym, ap, s
 use Rattle.std.proofs.Common.{slice_index_or, set, length-set, get_or-set_same, get_or-set_other, ◌==◌, eqb-true}
 use Rattle.std.proofs.lemmas.Bool.{eqb-false}
 use Rattle.std.specs.Prelude.{if◌then◌else◌}
-use Rattle.record.specs.Limits.{off, on, cooling, warming, is_lit}
+use Rattle.record.specs.Limits.{is_lit}
 use Rattle.record.specs.Wanted.{Wanted}
 use Rattle.record.specs.Legal.{is_legal}
 use Rattle.record.specs.Record.{closed, settings_of}
@@ -21,6 +21,7 @@ use Rattle.record.specs.declared.types.Line.{Line}
 use Rattle.record.specs.declared.types.Connection.{Connection}
 use Rattle.record.specs.declared.types.Device.{Device}
 use Rattle.record.proofs.ConnectionTold.{closed_holds_none}
+use Rattle.record.proofs.PowerSeen.{seen_again}
 use Rattle.record.specs.Views.{power_of as seen, power_number, power_left}
 use Rattle.record.specs.declared.views.Power.{Power}
 use Rattle.record.specs.declared.views.Power.TheVariants.{Off, WarmUp, On, Cooling}
@@ -41,15 +42,18 @@ pub record PowerThen (p l : ℕ) (o : Own) : Type 0 where
   pub power : o.power ≡ p
   pub left : o.left ≡ l
 
+-- the stage, as the power is seen
+abbrev pub seen_in : Stage → Power
+seen_in (steady true) = On
+seen_in (steady false) = Off
+seen_in (towards true n) = WarmUp n
+seen_in (towards false n) = Cooling n
+
 abbrev pub power_of : Stage → ℕ
-power_of (steady true) = on
-power_of (steady false) = off
-power_of (towards true n) = warming
-power_of (towards false n) = cooling
+power_of g = power_number (seen_in g)
 
 abbrev pub left_of : Stage → ℕ
-left_of (steady is-on) = 0
-left_of (towards is-on n) = n
+left_of g = power_left (seen_in g)
 
 abbrev pub Shows : Stage → Own → Type 0
 Shows g o = PowerThen (power_of g) (left_of g) o
@@ -74,25 +78,6 @@ lit_shown (towards false n) = refl
 
 -- ---- one second
 
--- the stage, as the power is seen
-abbrev seen_in : Stage → Power
-seen_in (steady true) = On
-seen_in (steady false) = Off
-seen_in (towards true n) = WarmUp n
-seen_in (towards false n) = Cooling n
-
-stage_seen : (g : Stage) → seen (power_of g) (left_of g) ≡ seen_in g
-stage_seen (steady true) = refl
-stage_seen (steady false) = refl
-stage_seen (towards true n) = refl
-stage_seen (towards false n) = refl
-
-stage_number : (g : Stage) → (power_number (seen_in g) ≡ power_of g) × (power_left (seen_in g) ≡ left_of g)
-stage_number (steady true) = (refl, refl)
-stage_number (steady false) = (refl, refl)
-stage_number (towards true n) = (refl, refl)
-stage_number (towards false n) = (refl, refl)
-
 power_second-seen_in : (w : Wanted) (g : Stage) → power_second (seen_in g) ≡ seen_in (next w g a_second)
 power_second-seen_in w (steady true) = refl
 power_second-seen_in w (steady false) = refl
@@ -103,10 +88,10 @@ power_second_lem : (w : Wanted) (s : Settings) (o : Own) (g : Stage) → o.power
     → Shows (next w g a_second) (times (own_second s) 1 o)
 power_second_lem w s o g p l =
     let after : power_second (seen o.power o.left) ≡ seen_in (next w g a_second)
-    = (λ i. power_second (seen (p i) (l i))) ∙ ap power_second (stage_seen g) ∙ power_second-seen_in w g in
+    = (λ i. power_second (seen (p i) (l i))) ∙ ap power_second (seen_again (seen_in g)) ∙ power_second-seen_in w g in
     record {
-      power = power_in_a_second s o ∙ ap power_number after ∙ (stage_number (next w g a_second)).0;
-      left = left_in_a_second s o ∙ ap power_left after ∙ (stage_number (next w g a_second)).1;
+      power = power_in_a_second s o ∙ ap power_number after;
+      left = left_in_a_second s o ∙ ap power_left after;
     }
 
 lamp_second : (g : Stage) (mark : Bool) (n x : ℕ)

@@ -15,20 +15,17 @@ use Rattle.demands.proofs.Agrees.{Agrees, recounted, agrees_second}
 
 pub reached-append : (w : Wanted) (g : Stage) (es fs : List Event)
     → reached w g (es ++ fs) ≡ reached w (reached w g es) fs
-unfolding reached
 reached-append w g [] fs = refl
 reached-append w g (e ∷ es) fs = reached-append w (next w g e) es fs
 
 pub marks_after-append : (ms : List Bool) (es fs : List Event) →
     marks_after ms (es ++ fs) ≡ marks_after (marks_after ms es) fs
-unfolding marks_after
 marks_after-append ms [] fs = refl
 marks_after-append ms (e ∷ es) fs = marks_after-append (marks_next ms e) es fs
 
 pub burning_from-append : (w : Wanted) (g : Stage) (ms : List Bool) (k : ℕ) (es fs : List Event)
     → burning_from w g ms k (es ++ fs)
     ≡ burning_from w g ms k es + burning_from w (reached w g es) (marks_after ms es) k fs
-unfolding reached burning_from marks_after
 burning_from-append w g ms k [] fs = rw zero-add
 burning_from-append w g ms k (e ∷ es) fs =
     rw (burning_from-append w (next w g e) (marks_next ms e) k es fs) (omega arith)
@@ -39,26 +36,22 @@ Then w g ms n es stream d =
 
 module _ {w : Wanted} {ms : List Bool} {n : ℕ → ℕ} {stream : Streams} {d : Device} where
   pub agrees_none : {g : Stage} → Agrees w g ms n stream d → Then w g ms n [] stream d
-  unfolding reached burning_from marks_after
   agrees_none a = recounted a (λ k. sym (add-zero (n k)))
 
   -- a power set is no second
   pub agrees_switched : (wanted : Bool) (g : Stage) → Agrees w (next w g (switched wanted)) ms n stream d
       → Then w g ms n (switched wanted ∷ []) stream d
-  unfolding reached burning_from marks_after
   agrees_switched wanted g a = recounted a (λ k. sym (add-zero (n k)))
 
 -- nor is a mark
 pub agrees_marked : {w : Wanted} (ms : List Bool) {n : ℕ → ℕ} {stream : Streams} {d : Device} (lamp : ℕ) (mark : Bool)
     (g : Stage) → next w g (mark_switched lamp mark) ≡ g
     → Agrees w g (set ms lamp mark) n stream d → Then w g ms n (mark_switched lamp mark ∷ []) stream d
-unfolding reached burning_from marks_after
 agrees_marked ms {n} lamp mark g still a = rw still (recounted a (λ k. sym (add-zero (n k))))
 
 pub agrees_seconds : (k : ℕ) {w : Wanted} {g : Stage} {ms : List Bool} {n : ℕ → ℕ} {stream : Streams} {d : Device}
     → is_legal d ≡ true → Agrees w g ms n stream d
     → Then w g ms n (replicate k a_second) stream (times second k d)
-unfolding reached burning_from marks_after
 agrees_seconds zero {w} {g} {ms} {n} {stream} {d} legal a = rw (no_seconds d) (agrees_none a)
 agrees_seconds (suc k) {w} {g} {ms} {n} {stream} {d} legal a =
     let one : 1 + k ≡ suc k = omega arith in

@@ -21,7 +21,8 @@ use Rattle.device.specs.Receiving.{line_ended}
 use Rattle.device.proofs.ReceivingAsMachine.{State, state_of, collects, ends, takes_in, takes_in-state_of}
 use Rattle.demands.specs.Interleaved.{Heard, heard_nothing, heard_then, heard_of, answered_first, alone_at}
 use Rattle.demands.specs.Interleaved.{line_ends, to_first_cr}
-use Rattle.demands.proofs.LinesTaken.{cr, first_plain, rest_plain, no_end, one_end, has_cr, all_taken}
+use Rattle.demands.proofs.FirstLinesSeen.{cr_seen}
+use Rattle.demands.proofs.LinesTaken.{cr, first_plain, rest_plain, no_end, one_end, all_taken}
 use Rattle.demands.proofs.LinesTaken.{line_taken, ends_add}
 
 -- collecting leaves the own part as it was
@@ -38,7 +39,6 @@ module _ (s : Settings) where
     pub lines : length h.owns ≡ line_ends h.taken
 
   pub hears_nothing : (c : Connection) → Hears c heard_nothing c
-  unfolding line_ends
   hears_nothing c = record { goes_on = λ owns rest. refl; lines = refl }
 
   alone_at-append : (o : Own) (c : Connection) (owns : List Own) (xs rest : List ℕ) → list_all not_cr xs ≡ true
@@ -67,13 +67,13 @@ module _ (s : Settings) where
     hears_line =
         record {
           goes_on = λ owns rest.
-              ap (λ (l : List Own). alone_at s c (l ++ owns) (xs ++ cr ++ rest)) (if_no _ _ (has_cr xs))
+              ap (λ (l : List Own). alone_at s c (l ++ owns) (xs ++ cr ++ rest)) (if_no _ _ (cr_seen [] xs))
               ∙ ap (alone_at s c (o ∷ owns)) (append_assoc xs cr rest)
               ∙ alone_at-append o c (o ∷ owns) xs (code "\r" ∷ rest) none
               ∙ (λ i. let k = gathered.connection in
               let e = line_ended s (sym (own_stays o c xs) i) k k.line in
               answered_first e.reply (alone_at s e.connection owns rest));
-          lines = ap length (if_no _ _ (has_cr xs)) ∙ sym (one_end xs none);
+          lines = ap length (if_no _ _ (cr_seen [] xs)) ∙ sym (one_end xs none);
         }
 
   -- a call that took nothing

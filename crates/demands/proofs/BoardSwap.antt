@@ -55,7 +55,6 @@ module _ (v w : Wanted) (warm : v.warm ≡ w.warm) (cool : v.cool ≡ w.cool) wh
 
   burning_alike : (g : Stage) (ms : List Bool) (k : ℕ) (es : List Event) → burning_from v g ms k es
       ≡ burning_from w g ms k es
-  unfolding burning_from
   burning_alike g ms k [] = refl
   burning_alike g ms k (e ∷ es) =
       ap (λ (h : Stage). burns g ms k e + burning_from v h (marks_next ms e) k es) (next_alike g e)

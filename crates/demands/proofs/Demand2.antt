@@ -5,6 +5,7 @@ use Rattle.device.proofs.Short.{receiving_short}
 use Rattle.controller.proofs.GreetingsHeard.{heard_exactly}
 use Rattle.controller.proofs.ReadsSound.{means_what_was_written, what_was_written_is_meant, erra_exactly}
 use Rattle.ours.specs.Board.{ours}
+use Rattle.demands.specs.Calls.{closes, marks, reports, enables}
 use Rattle.demands.specs.Demand2.{Demand2}
 use Rattle.demands.proofs.LinesAnswered.{line_answered, led_line_answered}
 use Rattle.demands.proofs.CutsOnBoards.{same_however_cut}
@@ -12,7 +13,8 @@ use Rattle.demands.proofs.NamesRead.{names_read}
 use Rattle.demands.proofs.OutsidersRefused.{outsider_refused}
 use Rattle.demands.proofs.OutsiderHasNoSay.{outsider_has_no_say, outsiders_have_no_say}
 use Rattle.demands.proofs.OthersUntouched.{others_untouched}
-use Rattle.demands.proofs.CallsLeave.{set_up_shows, opens, closes, marks, reports, enables}
+use Rattle.demands.proofs.CallsDo.{served_after}
+use Rattle.demands.proofs.CallsLeave.{set_up_shows, opens}
 use Rattle.demands.proofs.WrittenAndRead.{writes, reads_back, reads_back_secured, greets_back}
 
 pub ours_2 : Demand2 ours
@@ -35,12 +37,12 @@ ours_2 = record {
   outsiders_have_no_say = outsiders_have_no_say;
   set_up_shows = set_up_shows;
   opens = opens;
-  closes = closes;
-  marks = marks;
-  reports = reports;
-  enables = enables;
+  closes = λ d p. served_after d (closes p);
+  marks = λ d fault. served_after d (marks fault);
+  reports = λ d errors. served_after d (reports errors);
+  enables = λ d lamp mark. served_after d (enables lamp mark);
   greets_back = greets_back;
   greeting_is = heard_exactly;
   same_however_cut = same_however_cut;
-  others_untouched = others_untouched;
+  others_untouched = λ d c q. others_untouched d q c;
 }

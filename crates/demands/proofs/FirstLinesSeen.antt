@@ -24,7 +24,7 @@ module _ (more : List ℕ) where
   cr_inside [] e = false≢true e
   cr_inside (b ∷ l) e = cr_inside l (both_right (not_cr b) _ e)
 
-  cr_seen : (l : List ℕ) → no_cr (l ++ (code "\r" ∷ more)) ≡ false
+  pub cr_seen : (l : List ℕ) → no_cr (l ++ (code "\r" ∷ more)) ≡ false
   cr_seen l = alike _ false (λ e. absurd (cr_inside l (no_cr_each _ e))) (λ e. absurd (false≢true e))
 
 -- the line with its CR, and no more

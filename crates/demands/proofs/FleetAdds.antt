@@ -56,7 +56,6 @@ second_counted false ms = sum_none (length ms)
 
 pub burnt_adds_up : (w : Wanted) (g : Stage) (ms : List Bool) (es : List Event)
     → sum_of (length ms) (λ k. burning_from w g ms k es) ≡ burnt_by_marks w g ms es
-unfolding burning_from burnt_by_marks
 burnt_adds_up w g ms [] = sum_none (length ms)
 burnt_adds_up w g ms (a_second ∷ es) =
     sum_of-add (length ms) (λ k. burns g ms k a_second) (λ k. burning_from w (next w g a_second) ms k es)

@@ -24,9 +24,10 @@ use Rattle.stored.proofs.Contents.{started_with-replicate}
 use Rattle.stored.proofs.MarkBytes.{slice_index_or-mark_room}
 use Rattle.ours.specs.Board.{ours}
 use Rattle.demands.specs.Calls.{Call, after, run}
-use Rattle.demands.specs.History.{Streams, no_streams, Stage, steady, streams_after, seen, history, reached}
+use Rattle.demands.specs.History.{Event, Streams, no_streams, Stage, steady, streams_after, seen, history, reached}
 use Rattle.demands.specs.History.{marks_after, burning_from, burning, stage_after}
 use Rattle.demands.specs.Demand3.{Beginning, sets_up, loads, loads_marked, loads_old, start_marks, begun_by, IsAccepted}
+use Rattle.demands.specs.Demand3.{run_of, history_of}
 use Rattle.demands.proofs.Agrees.{Agrees, recounted}
 use Rattle.demands.proofs.AgreesThen.{reached-append, marks_after-append, burning_from-append, Then, agrees_none}
 use Rattle.demands.proofs.CallsNoted.{noted}
@@ -53,7 +54,7 @@ module _ (w : Wanted) (ms : List Bool) (h : is_set_up w ≡ true) (many : length
   none_held (suc (suc (suc zero))) = closed_holds_none
   none_held (suc (suc (suc (suc q)))) = refl
 
-  pub agrees_started : Agrees w (steady false) ms (λ k. 0) no_streams (started_with w ms)
+  agrees_started : Agrees w (steady false) ms (λ k. 0) no_streams (started_with w ms)
   agrees_started = record {
     settings = ap (λ (d : Device). d.settings) parts;
     power = ap (λ (d : Device). d.own.power) parts;
@@ -74,7 +75,6 @@ module _ (w : Wanted) (ms : List Bool) (h : is_set_up w ≡ true) (many : length
 -- the last record agrees with the whole history, and with some streams
 run_agrees : (cs : List Call) (w : Wanted) (g : Stage) (ms : List Bool) (n : ℕ → ℕ) (stream : Streams) (d : Device)
     → Agrees w g ms n stream d → (now : Streams) × Then w g ms n (history ours d stream cs) now (run ours d cs)
-unfolding run history
 run_agrees [] w g ms n stream d a = (stream, agrees_none a)
 run_agrees (c ∷ cs) w g ms n stream d a =
     let now = streams_after ours d stream c in
@@ -90,13 +90,13 @@ run_agrees (c ∷ cs) w g ms n stream d a =
     )
 
 -- however it begins, it is the set-up of its settings, with the marks that it begins with
-pub set_up_too : (b : Beginning) (w : Wanted) → IsAccepted ours b w → is_set_up w ≡ true
+set_up_too : (b : Beginning) (w : Wanted) → IsAccepted ours b w → is_set_up w ≡ true
 set_up_too sets_up w h = set_up_in_range w h
 set_up_too (loads ms) w h = h.0
 set_up_too (loads_marked ms) w h = h.0.set_up
 set_up_too loads_old w h = h.0.set_up
 
-pub begins_so : (b : Beginning) (w : Wanted) → IsAccepted ours b w
+begins_so : (b : Beginning) (w : Wanted) → IsAccepted ours b w
     → (begun_by ours b w).device ≡ started_with w (start_marks b w)
 begins_so sets_up w h = set_up_started w h ∙ sym (started_with-replicate w (set_up_in_range w h))
 begins_so (loads ms) w h =
@@ -119,19 +119,21 @@ marks_many (loads_marked ms) w h =
     (both_left _ _ (marked_form_marks w h.0.set_up h.0.class_1 ms h.1))
 marks_many loads_old w h = length-replicate (length w.lamps) true
 
+pub begun_agrees : (b : Beginning) (w : Wanted) → IsAccepted ours b w
+    → Agrees w (steady false) (start_marks b w) (λ k. 0) no_streams (begun_by ours b w).device
+begun_agrees b w h =
+    subst (Agrees w (steady false) (start_marks b w) (λ k. 0) no_streams) (sym (begins_so b w h))
+    (agrees_started w (start_marks b w) (set_up_too b w h) (marks_many b w h))
+
 module _ (b : Beginning) (w : Wanted) (cs : List Call) (h : IsAccepted ours b w) where
   abbrev ms : List Bool
   ms = start_marks b w
 
-  abbrev Told : Device → Type 0
-  Told d =
-      let known = history ours d no_streams cs in
-      (now : Streams)
-      × Agrees w (stage_after w known) (marks_after ms known) (λ k. burning w ms k known) now (run ours d cs)
+  abbrev known : List Event
+  known = history_of ours b w cs
 
-  pub history_told : Told (begun_by ours b w).device
+  pub history_told : (now : Streams)
+      × Agrees w (stage_after w known) (marks_after ms known) (λ k. burning w ms k known) now (run_of ours b w cs)
   history_told =
-      let fresh = agrees_started w ms (set_up_too b w h) (marks_many b w h) in
-      let known = history ours (started_with w ms) no_streams cs in
-      let all = run_agrees cs w (steady false) ms (λ k. 0) no_streams (started_with w ms) fresh in
-      subst Told (sym (begins_so b w h)) (all.0, recounted all.1 (λ k. zero-add (burning w ms k known)))
+      let all = run_agrees cs w (steady false) ms (λ k. 0) no_streams (begun_by ours b w).device (begun_agrees b w h) in
+      (all.0, recounted all.1 (λ k. zero-add (burning w ms k known)))

@@ -23,7 +23,7 @@ use Rattle.demands.specs.Calls.{Call, opens, closes, receives, passes, marks, re
 use Rattle.demands.specs.Interleaved.{Heard, heard_nothing, heard_of, heard_in, heard, ByBytes, ByBytesOnly, Alone}
 use Rattle.demands.specs.Interleaved.{alone_at, alone_of, to_first_cr, SeenAlone, Interleaved}
 use Rattle.demands.proofs.LentMemory.{over_front}
-use Rattle.demands.proofs.UnheardOutside.{settings_stay}
+use Rattle.demands.proofs.CallsDo.{settings_stay}
 use Rattle.demands.proofs.AloneCalls.{OneCall, Hears, hears_nothing, hears_none, hears_then, taking_heard}
 
 module _ (q : ℕ) (d : Device) where
@@ -84,7 +84,6 @@ module _ (q : ℕ) (d : Device) where
 module _ (q : ℕ) where
   all_calls : (d : Device) (cs : List Call) → ByBytesOnly ours q d cs
       → Hears d.settings (connection_at d q) (heard ours q d cs) (connection_at (run ours d cs) q)
-  unfolding heard run
   all_calls d [] h = hears_nothing d.settings (connection_at d q)
   all_calls d (c ∷ cs) (h, hs) =
       let e = after ours d c in

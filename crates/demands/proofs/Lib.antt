@@ -1,5 +1,4 @@
 pub mod TakenAndRead
-pub mod WrittenReadBack
 pub mod GreetsBack
 pub mod OutsidersReadErra
 pub mod LentMemory
@@ -14,17 +13,11 @@ pub mod OutsidersRefused
 pub mod CallsLeave
 pub mod FirstLinesSeen
 pub mod Sessions
-pub mod HostCallsDo
-pub mod PlacesStand
+pub mod CallsDo
+pub mod CallsAlike
+pub mod Outside
 pub mod OutsiderHasNoSay
 pub mod OthersUntouched
-pub mod UnheardPlace
-pub mod UnheardOutside
-pub mod UnheardLowest
-pub mod UnheardBoth
-pub mod UnheardHost
-pub mod UnheardOpening
-pub mod UnheardElsewhere
 pub mod Unheard
 pub mod UnheardMoments
 pub mod UnheardRuns
@@ -39,7 +32,6 @@ pub mod PowerSetsSeen
 pub mod Agrees
 pub mod AgreesThen
 pub mod CallsNoted
-pub mod HistorySpelt
 pub mod HistoryTold
 pub mod HoursTold
 pub mod FleetAdds
@@ -58,3 +50,4 @@ pub mod WrongOutsidersFall
 pub mod WrongClocksFall
 pub mod WrongPlacesFall
 pub mod WrongLampsFall
+pub mod Settled

@@ -2,14 +2,13 @@
 -- their first CR.
 -- Assumes nothing.
 use Rattle.std.specs.List.{list_all}
-use Rattle.std.proofs.Common.{ℕ, suc, ◌+◌, ◌≡◌, refl, ap, ◌∙◌, Bool, true, false, ◌&&◌, List, [], ◌∷◌, ◌++◌, arith}
+use Rattle.std.proofs.Common.{ℕ, suc, ◌+◌, ◌≡◌, refl, ap, ◌∙◌, Bool, true, false, List, [], ◌∷◌, ◌++◌, arith}
 use Rattle.std.proofs.Common.{◌==◌}
 use Rattle.std.proofs.lemmas.Bool.{not-true}
 use Prim.Native.Char.{code}
 use Rattle.std.specs.Prelude.{if◌then◌else◌}
 use Rattle.text.proofs.Choices.{if_no, both_left, both_right}
-use Rattle.words.specs.Bytes.{not_cr, no_cr}
-use Rattle.words.proofs.WithinLength.{plain_bytes}
+use Rattle.words.specs.Bytes.{not_cr}
 use Rattle.demands.specs.Interleaved.{line_ends, to_first_cr}
 
 abbrev pub cr : List ℕ
@@ -22,39 +21,23 @@ pub rest_plain : (b : ℕ) (bs : List ℕ) → list_all not_cr (b ∷ bs) ≡ tr
 rest_plain b bs p = both_right (not_cr b) (list_all not_cr bs) p
 
 pub no_end : (xs : List ℕ) → list_all not_cr xs ≡ true → line_ends xs ≡ 0
-unfolding line_ends
 no_end [] p = refl
 no_end (x ∷ xs) p = if_no _ _ (first_plain x xs p) ∙ no_end xs (rest_plain x xs p)
 
 pub one_end : (xs : List ℕ) → list_all not_cr xs ≡ true → line_ends (xs ++ cr) ≡ 1
-unfolding line_ends
 one_end [] p = refl
 one_end (x ∷ xs) p = if_no _ _ (first_plain x xs p) ∙ one_end xs (rest_plain x xs p)
 
-pub has_cr : (xs : List ℕ) → no_cr (xs ++ cr) ≡ false
-has_cr xs = plain_bytes (xs ++ cr) ∙ some xs
-  where
-    fails : {u : Bool} (t : Bool) → u ≡ false → (t && u) ≡ false
-    fails true e = e
-    fails false e = refl
-
-    some : (ys : List ℕ) → list_all not_cr (ys ++ cr) ≡ false
-    some [] = refl
-    some (y ∷ ys) = fails (not_cr y) (some ys)
-
 pub all_taken : (xs : List ℕ) → list_all not_cr xs ≡ true → to_first_cr xs ≡ xs
-unfolding to_first_cr
 all_taken [] p = refl
 all_taken (x ∷ xs) p = if_no _ _ (first_plain x xs p) ∙ ap (λ (l : List ℕ). x ∷ l) (all_taken xs (rest_plain x xs p))
 
 pub line_taken : (xs more : List ℕ) → list_all not_cr xs ≡ true → to_first_cr (xs ++ (code "\r" ∷ more)) ≡ xs ++ cr
-unfolding to_first_cr
 line_taken [] more p = refl
 line_taken (x ∷ xs) more p =
     if_no _ _ (first_plain x xs p) ∙ ap (λ (l : List ℕ). x ∷ l) (line_taken xs more (rest_plain x xs p))
 
 pub ends_add : (xs ys : List ℕ) → line_ends (xs ++ ys) ≡ line_ends xs + line_ends ys
-unfolding line_ends
 ends_add [] ys = omega arith
 ends_add (x ∷ xs) ys = by (x == code "\r") (ends_add xs ys)
   where

@@ -1,36 +1,29 @@
 -- RULES, Connection: "Either way the random number is kept until closing": whatever call comes on a connection that is
 -- not closed, at whatever place, it is closed afterwards or has the number that it had, over lines and over time.
 -- Assumes nothing.
-use Rattle.std.proofs.Common.{ℕ, ◌<◌, ◌≡◌, refl, sym, ap, subst, ◌∙◌, Bool, true, false, List, inl, inr, arith, length}
+use Rattle.std.proofs.Common.{ℕ, ◌≡◌, refl, sym, ap, subst, ◌∙◌, Bool, true, false, List, inl, inr, arith}
 use Rattle.std.proofs.Common.{◌==◌, eqb-true}
 use Rattle.std.proofs.lemmas.Bool.{eqb-false}
-use Rattle.record.specs.Limits.{places_count, shut, failed}
-use Rattle.record.specs.Legal.{is_legal}
-use Rattle.record.specs.Record.{closed}
-use Rattle.record.specs.Places.{connection_at, with_place, is_shut, lowest_shut}
+use Rattle.text.proofs.Choices.{if_by, if_all}
+use Rattle.record.specs.Limits.{shut, failed}
+use Rattle.record.specs.Places.{connection_at, is_shut, lowest_shut}
 use Rattle.record.specs.declared.types.Settings.{Settings}
 use Rattle.record.specs.declared.types.Own.{Own}
 use Rattle.record.specs.declared.types.Line.{Line}
 use Rattle.record.specs.declared.types.Connection.{Connection}
-use Rattle.record.specs.Given.{Given}
 use Rattle.record.specs.declared.types.Device.{Device}
 use Rattle.record.proofs.Spelt.{closed_spelt}
 use Rattle.record.proofs.LegalTold.{legal_places}
-use Rattle.record.proofs.ConnectionsTold.{placed_elsewhere, placed_either}
-use Rattle.record.proofs.Calls.{fault_set_by, errors_set_by, mark_set_by}
 use Rattle.clock.specs.Second.{times, connection_second}
-use Rattle.clock.proofs.Cases.{passed_by}
 use Rattle.clock.proofs.ConnectionsAge.{connection_then}
-use Rattle.clock.proofs.InOneGo.{place_passes}
 use Rattle.device.specs.Receiving.{line_ended, keeping_line, taken_in}
-use Rattle.device.specs.Calls.{Result}
-use Rattle.device.proofs.Cases.{takes, received_by, opened_by_lem, closed_by_lem}
 use Rattle.device.proofs.LineCases.{ended_by, keeping_none, keeping_line_lem}
 use Rattle.device.proofs.LineCases.{taken_by}
 use Rattle.record.proofs.LowestShut.{lowest_is_shut}
 use Rattle.ours.specs.Board.{ours}
 use Rattle.demands.specs.Calls.{Call, opens, closes, receives, passes, marks, reports, enables, after}
 use Rattle.demands.specs.Beside.{ClosedOr}
+use Rattle.demands.proofs.CallsDo.{IsServed, connection_left, call_by, connection_at-served}
 
 module _ (c : Connection) where
   keeping_keeps : (l : Line) → (keeping_line c l).random ≡ c.random
@@ -59,44 +52,30 @@ module _ (d : Device) (p : ℕ) (live : (connection_at d p).phase ≡ shut → �
   abbrev KeptIn : Connection → Type 0
   KeptIn = ClosedOr (connection_at d p).random
 
-  abbrev Keeps : Device → Type 0
-  Keeps e = KeptIn (connection_at e p)
+  kept : KeptIn (connection_at d p)
+  kept = inr refl
 
-  stays : Keeps d
-  stays = inr refl
-
+  kept_then : (c : Call) → IsServed d c → KeptIn (connection_left d c p)
   -- what opening takes is a closed place, so another one
-  other_opened : is_legal d ≡ true → lowest_shut d.connections < places_count → p ≡ lowest_shut d.connections → ⊥
-  other_opened legal low same =
-      let shut_there = lowest_is_shut d.connections (omega (arith, legal_places d legal)) in
-      live (eqb-true (connection_at d p).phase shut (ap (λ (q : ℕ). is_shut (connection_at d q)) same ∙ shut_there))
+  kept_then (opens random m) h =
+      if_by KeptIn (lowest_shut d.connections == p)
+      (λ e.
+      let closed_there = lowest_is_shut d.connections (omega (arith, legal_places d h.legal, h.there)) in
+      absurd (live (eqb-true (connection_at d p).phase shut
+      (ap (λ (q : ℕ). is_shut (connection_at d q)) (sym (eqb-true (lowest_shut d.connections) p e)) ∙ closed_there))))
+      (λ e. kept)
+  kept_then (closes q) h = if_all KeptIn (q == p) (inl (ap (λ (k : Connection). k.phase) closed_spelt)) kept
+  kept_then (receives q bs m) h =
+      if_by KeptIn (q == p)
+      (λ e. inr (bytes_keep (connection_at d q) d.settings d.own bs
+      ∙ ap (λ (k : ℕ). (connection_at d k).random) (eqb-true q p e)))
+      (λ e. kept)
+  kept_then (passes n) h = time_keeps (connection_at d p) n
+  kept_then (marks fault) h = kept
+  kept_then (reports errors) h = kept
+  kept_then (enables lamp mark) h = kept
 
-  pub random_kept : (c : Call) → Keeps (after ours d c)
-  random_kept (opens random m) =
-      opened_by_lem d random (length m) (λ (r : Result Device). Keeps r.device) (λ n z. stays)
-      (λ h k low. subst KeptIn (sym (placed_elsewhere d d.own _ _ p (other_opened h low))) stays)
-  random_kept (closes q) =
-      closed_by_lem d q (λ (r : Result Device). Keeps r.device) (λ n z. stays)
-      (λ h t c. placed_either KeptIn d d.own q closed p (inl (ap (λ (k : Connection). k.phase) closed_spelt)) stays)
-  random_kept (receives q bs m) =
-      received_by d q bs (length m) (λ (r : Result Device). Keeps r.device) (λ n z. stays)
-      (λ h k t c. by_place (p == q) refl)
-    where
-      by_place : (t : Bool) → (p == q) ≡ t
-          → KeptIn (connection_at (with_place d d.own q (takes d q bs).ended.connection) p)
-      by_place true e =
-          let same = eqb-true p q e in
-          placed_either KeptIn d d.own q _ p
-          (inr (bytes_keep (connection_at d q) d.settings d.own bs
-          ∙ ap (λ (k : ℕ). (connection_at d k).random) (sym same))) stays
-      by_place false e =
-          subst KeptIn (sym (placed_elsewhere d d.own q _ p (eqb-false p q e))) stays
-  random_kept (passes n) =
-      passed_by (λ (r : Given Device). Keeps r.device) d n (λ h. stays)
-      (λ h. subst KeptIn (sym (place_passes n d p)) (time_keeps (connection_at d p) n))
-  random_kept (marks fault) =
-      fault_set_by d (λ (r : Given Device). Keeps r.device) fault stays (λ h. stays)
-  random_kept (reports errors) =
-      errors_set_by d (λ (r : Given Device). Keeps r.device) errors stays stays (λ h k. stays)
-  random_kept (enables lamp mark) =
-      mark_set_by d (λ (r : Given Device). Keeps r.device) lamp mark (λ n z. stays) (λ h i l k. stays)
+  pub random_kept : (c : Call) → KeptIn (connection_at (after ours d c) p)
+  random_kept c =
+      call_by d c (λ g e. KeptIn (connection_at e p)) (λ n some. kept)
+      (λ h. subst KeptIn (sym (connection_at-served d c p h)) (kept_then c h))

@@ -1,7 +1,8 @@
 -- the sample device, opened at place 0, on which the wrong boards fall; and the longest replies, which 32 inputs reach
 -- in Class 1 (RULES, Inputs) and an input's name in Class 2 (RULES, Class 2).
 -- Assumes nothing.
-use Rattle.std.proofs.Common.{◌≡◌, refl, arith, codes}
+use Rattle.std.proofs.Common.{ℕ, ◌≡◌, refl, sym, ap, ◌∙◌, false, ◌==◌, eq-eqb, arith, codes}
+use Rattle.std.proofs.lemmas.Bool.{false≢true}
 use Rattle.record.specs.Limits.{opened}
 use Rattle.record.specs.declared.types.Device.{Device}
 use Rattle.device.specs.Calls.{longest_reply}
@@ -10,6 +11,10 @@ use Rattle.demands.specs.Demand2.{BetweenLines}
 use Rattle.demands.specs.ClassOne.{longest_before}
 use Rattle.demands.specs.Sample.{sample, sockets, long_named, memory, opened_after}
 use Rattle.demands.specs.Computing.{computing}
+
+-- what is said equal, and differs by a number of it
+pub apart : {A : Type 0} {x y : A} (f : A → ℕ) → x ≡ y → (f x == f y) ≡ false → ⊥
+apart {x = x} {y = y} f e differs = false≢true (sym differs ∙ eq-eqb (f x) (f y) (ap f e))
 
 -- off, open, between lines
 abbrev pub opened_sample : Device

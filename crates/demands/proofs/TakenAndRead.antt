@@ -1,40 +1,35 @@
--- THE LAW: for a legal projector on a connection between lines, what the reader takes from the reply to a command's
--- line is what the projector meant (RULES, Controller), for list_all command of a class no higher than the set-up's; a
--- higher one gets no reply (RULES, Class 2).
+-- THE LAW, from writer to reader: for a legal projector on a connection between lines, what the writer wrote for a
+-- command of a class no higher than the set-up's is taken whole, and what the reader takes from the reply is what the
+-- projector meant (RULES, Controller and Class 2).
 --   TakenAndRead d p c bs r    the result r of receiving bs at place p: number 0, exactly bs taken, the record as the
 --                              command leaves it on a connection open between lines with the random number kept, the
 --                              reply read as meant
 -- Assumes nothing.
-use Rattle.std.specs.List.{list_all}
-use Rattle.std.proofs.Common.{ℕ, ◌+◌, ◌≤◌, ◌<◌, ◌≡◌, refl, sym, ap, subst, ◌∙◌, true, false, List, [], ◌∷◌, ◌++◌}
-use Rattle.std.proofs.Common.{append_assoc, arith, length, length-append, ◌==◌, codes}
+use Rattle.std.proofs.Common.{ℕ, ◌≤◌, ◌<◌, ◌≡◌, refl, sym, ap, subst, ◌∙◌, true, false, List, ◌++◌, arith, length}
 use Rattle.std.specs.Prelude.{Ok}
 use Rattle.digest.specs.Hex.{leading_digest}
-use Rattle.digest.proofs.Laws.{length-leading_digest}
-use Rattle.words.specs.Bytes.{not_cr}
-use Rattle.pjlink.specs.Commands.{body_text, body_of, command_class, class_digit, is_command, command_text}
-use Rattle.pjlink.specs.Commands.{command_line}
+use Rattle.pjlink.specs.Commands.{command_class, is_command, command_line}
 use Rattle.pjlink.specs.declared.command.Command.{Command}
-use Rattle.words.proofs.Characters.{no_cr_each}
-use Rattle.pjlink.proofs.CommandLines.{command_length, length-command_line, command_no_cr}
-use Rattle.pjlink.specs.Said.{Said, said_bytes}
-use Rattle.record.specs.Limits.{places_count, shut, awaiting, opened}
+use Rattle.record.specs.Limits.{places_count, awaiting, opened}
 use Rattle.record.specs.Legal.{is_legal}
 use Rattle.record.specs.Places.{connection_at, with_place}
 use Rattle.record.specs.declared.types.Connection.{Connection}
 use Rattle.record.specs.declared.types.Device.{Device}
+use Rattle.record.specs.declared.types.Line.{Line}
 use Rattle.record.proofs.LegalTold.{legal_settings, legal_own, legal_connection}
+use Rattle.record.proofs.FactsTold.{settings_is}
 use Rattle.stream.specs.Collecting.{empty_line}
+use Rattle.stream.proofs.LegalLines.{between_lines}
+use Rattle.stream.proofs.LinesCollected.{empty_is_none}
 use Rattle.meaning.specs.Meaning.{meant, done}
 use Rattle.meaning.proofs.CanBeSaid.{meant_fits, meant_can_be_said}
-use Rattle.device.specs.Answering.{Answered, line_answer}
-use Rattle.device.specs.Receiving.{Taken, turned, spoken, set_up_password, digest_long}
-use Rattle.device.specs.Calls.{Result, reply_room, accepted_taken, received}
-use Rattle.device.proofs.Cases.{takes, received_taken}
+use Rattle.device.specs.Receiving.{turned, set_up_password}
+use Rattle.device.specs.Calls.{Result, reply_room, received}
+use Rattle.device.proofs.CommandsReceived.{command_result, command_received, command_received_secured}
 use Rattle.device.proofs.Legal.{line_legal}
-use Rattle.stream.proofs.LegalLines.{between_lines}
-use Rattle.device.proofs.WholeLines.{open_line-taken, matching_line-taken, command_answered}
 use Rattle.controller.specs.Reading.{meaning, read_reply}
+use Rattle.controller.specs.Writing.{WrittenAs, command_room, written_command}
+use Rattle.controller.proofs.Cases.{written_plain, written_led}
 use Rattle.controller.proofs.ReadsBack.{reply_read}
 
 -- "between lines", no collected bytes and no overlong mark, is what the laws ask of the line
@@ -57,64 +52,49 @@ module _ (d : Device) (p : ℕ) (there : p < places_count) (legal : is_legal d �
   abbrev here : Connection
   here = connection_at d p
 
-  abbrev told : Said
-  told = meant d.settings d.own (Ok c)
+  unmarked : here.line.overlong ≡ false
+  unmarked = ap (λ (l : Line). l.overlong) (between ∙ empty_is_none)
 
-  abbrev answer : Answered
-  answer = record {
-    own = done d.settings d.own (Ok c);
-    reply = codes "%" ++ (class_digit (command_class c) ∷ body_text (body_of c)) ++ codes "=" ++ said_bytes told
-        ++ codes "\r";
-  }
+  none : here.line.held ≡ 0
+  none = ap (λ (l : Line). l.held) (between ∙ empty_is_none)
 
-  answer_read : read_reply c answer.reply ≡ meaning told
-  answer_read =
+  read_back : (bs : List ℕ) → received d p bs room ≡ command_result d p c (length bs)
+      → TakenAndRead d p c bs (received d p bs room)
+  read_back bs e =
       let settings = legal_settings d legal in
       let own = legal_own d legal in
       let fits = meant_fits d.settings d.own settings own (Ok c) in
       let short = fits.short in
-      reply_read c (meant_can_be_said d.settings d.own settings own c) (omega arith) fits.has_no_cr
-
-  -- what is left to show: the bytes are taken as the command's line
-  abbrev taken_as : Answered → ℕ → Taken
-  taken_as a n = record { ended = spoken here a; taken = n }
-
-  abbrev line_answered : Answered
-  line_answered = line_answer d.settings d.own (command_text c)
-
-  read_back : (bs : List ℕ) → (here.phase == shut) ≡ false → takes d p bs ≡ taken_as line_answered (length bs)
-      → TakenAndRead d p c bs (received d p bs room)
-  read_back bs listens takes-it =
-      let answers = command_answered d.settings d.own (legal_settings d legal) c writable within in
-      let result : received d p bs room ≡ accepted_taken d p (taken_as answer (length bs))
-      = received_taken d p bs room legal enough there listens
-      ∙ ap (accepted_taken d p) (takes-it ∙ ap (λ (a : Answered). taken_as a (length bs)) answers) in
-      subst (TakenAndRead d p c bs) (sym result)
-      (record { number = refl; taken = refl; device = refl; said = answer_read })
-
-  plain_line : list_all not_cr (command_text c) ≡ true
-  plain_line = no_cr_each (command_text c) (command_no_cr c)
+      let said = reply_read c (meant_can_be_said d.settings d.own settings own c) (omega arith) fits.has_no_cr in
+      subst (TakenAndRead d p c bs) (sym e) (record { number = refl; taken = refl; device = refl; said = said })
 
   pub reads_back : here.phase ≡ opened → TakenAndRead d p c (command_line c) (received d p (command_line c) room)
   reads_back phase =
-      let short = command_length c in
-      read_back (command_line c) (ap (λ (q : ℕ). q == shut) phase)
-      (open_line-taken d.settings d.own here between [] (command_text c) phase (omega arith) plain_line
-      ∙ ap (taken_as line_answered) (sym (length-command_line c)))
+      read_back (command_line c) (command_received d p there room legal enough unmarked none c writable within phase)
 
   abbrev led_line : List ℕ
   led_line = leading_digest here.random (set_up_password d.settings) ++ command_line c
 
   pub reads_back_secured : here.phase ≡ awaiting → TakenAndRead d p c led_line (received d p led_line room)
   reads_back_secured phase =
-      let short = command_length c in
-      let digest = leading_digest here.random (set_up_password d.settings) in
-      let digest_long_lem = length-leading_digest here.random (set_up_password d.settings) in
-      let long = length-command_line c in
-      let all_long = length-append digest (command_line c) in
-      let count : digest_long + length (command_text c) + 1 ≡ length led_line = omega arith in
-      read_back led_line (ap (λ (q : ℕ). q == shut) phase)
-      (ap (takes d p) (sym (append_assoc digest (command_text c) (codes "\r")))
-      ∙ matching_line-taken d.settings d.own here between [] (command_text c) phase (omega arith)
-      plain_line
-      ∙ ap (taken_as line_answered) count)
+      read_back led_line (command_received_secured d p there room legal enough unmarked none c writable within phase)
+
+  -- what is written is no refusal, and is read back
+  module _ (memory : ℕ) (lent : command_room ≤ memory) where
+    abbrev Through : WrittenAs → Type 0
+    Through w = (w.number ≡ 0) × TakenAndRead d p c w.bytes (received d p w.bytes room)
+
+    pub written_reads_back : here.phase ≡ opened → (random : ℕ) (password : List ℕ)
+        → Through (written_command c false random password memory)
+    written_reads_back phase random password =
+        subst Through (sym (written_plain c false random password memory lent writable refl)) (refl, reads_back phase)
+
+    -- the device's own random number and password
+    pub written_reads_back_secured : here.phase ≡ awaiting
+        → Through (written_command c true here.random (set_up_password d.settings) memory)
+    written_reads_back_secured phase =
+        let told = (settings_is d.settings).0 (legal_settings d legal) in
+        subst Through
+        (sym (written_led c true here.random (set_up_password d.settings) memory lent writable refl
+        told.password.follows))
+        (refl, reads_back_secured phase)

@@ -1,38 +1,52 @@
 -- An outsider has no say (RULES, Places), of our board: call by call, the two runs leave records that are the same but
 -- for his place, and each other call gives the same in both.
 -- Assumes nothing.
-use Rattle.std.proofs.Common.{ℕ, ◌≡◌, refl, sym, ap, subst, ◌∙◌, Bool, true, false, List, ◌∷◌, eqb-true, eq-eqb}
-use Rattle.std.proofs.lemmas.Bool.{false≢true}
+use Rattle.std.proofs.Common.{ℕ, ◌≡◌, refl, sym, ◌∙◌, Bool, true, false, not, List, ◌∷◌, ◌==◌, eqb-true, eq-eqb}
+use Rattle.std.proofs.lemmas.Bool.{false≢true, eqb-false}
+use Rattle.text.proofs.Choices.{both_left}
 use Rattle.std.specs.Prelude.{if◌then◌else◌}
 use Rattle.record.specs.declared.types.Device.{Device}
 use Rattle.device.specs.Receiving.{set_up_password}
 use Rattle.ours.specs.Board.{ours}
-use Rattle.demands.specs.Calls.{Call, opens, closes, receives, passes, marks, reports, enables, after, run}
+use Rattle.demands.specs.Calls.{Call, opens, closes, receives, passes, marks, reports, enables, after}
 use Rattle.demands.specs.Outsider.{Session, unopened, noted, is_matched, IsNeverMatched}
 use Rattle.demands.specs.Unheard.{Alike, same_call, other_bytes, AllAlike, no_calls, one_more, opens_none, phase_at}
+use Rattle.demands.specs.Unheard.{is_opening}
 use Rattle.demands.specs.Unheard.{QuietOnceApart, Gave, gave_by, is_at_place, SameElsewhere, HeardAlike}
 use Rattle.demands.specs.Unheard.{Unheard}
-use Rattle.demands.proofs.UnheardPlace.{Outside}
-use Rattle.demands.proofs.UnheardOutside.{settings_stay, outside_after, his_bytes, his_closing, fresh_outside}
-use Rattle.demands.proofs.UnheardElsewhere.{alike_elsewhere}
+use Rattle.demands.proofs.CallsDo.{settings_stay, call_by}
+use Rattle.demands.proofs.CallsAlike.{alike_elsewhere}
+use Rattle.demands.proofs.OthersUntouched.{others_untouched}
+use Rattle.demands.proofs.Outside.{Outside, outside_after, received_keeps, fresh_outside}
 
 -- ---- one call of each run
 
-module _ (p : ℕ) (password : List ℕ) (s t : Session) (d e : Device) (same : SameElsewhere ours p d e)
-    (out-d : Outside p s d) (out-e : Outside p t e) (known : set_up_password d.settings ≡ password) where
-  known_e : set_up_password e.settings ≡ password
-  known_e = ap set_up_password same.device.settings ∙ known
+-- a call at his place touches nothing else
+his_call : (password : List ℕ) (p : ℕ) (s : Session) (d : Device) → Outside password p s d → (c : Call)
+    → is_at_place p c ≡ true → is_matched password (noted ours p d s c) ≡ false
+    → SameElsewhere ours p d (after ours d c)
+his_call password p s d out (closes q) at u = record {
+  device = record {
+    settings = settings_stay d (closes q);
+    own = call_by d (closes q) (λ g e. e.own ≡ d.own) (λ n z. refl) (λ h. refl);
+  };
+  others = λ k away. others_untouched d k (closes q) (λ z. away (z ∙ eqb-true q p at));
+}
+his_call password p s d out (receives q bs m) at u = record {
+  device = record {
+    settings = settings_stay d (receives q bs m);
+    own = received_keeps password p s d out (receives q bs m) u at;
+  };
+  others = λ k away. others_untouched d k (receives q bs m) (λ z. away (z ∙ eqb-true q p at));
+}
+his_call password p s d out (opens random m) at u = absurd (false≢true at)
+his_call password p s d out (passes n) at u = absurd (false≢true at)
+his_call password p s d out (marks fault) at u = absurd (false≢true at)
+his_call password p s d out (reports errors) at u = absurd (false≢true at)
+his_call password p s d out (enables lamp mark) at u = absurd (false≢true at)
 
-  -- each run changed nothing but place p
-  both_touched : (x y : Device) → SameElsewhere ours p d x → SameElsewhere ours p e y → SameElsewhere ours p x y
-  both_touched x y one other = record {
-    device = record {
-      settings = other.device.settings ∙ same.device.settings ∙ sym one.device.settings;
-      own = other.device.own ∙ same.device.own ∙ sym one.device.own;
-    };
-    others = λ q away. other.others q away ∙ same.others q away ∙ sym (one.others q away);
-  }
-
+module _ (password : List ℕ) (p : ℕ) (s t : Session) (d e : Device) (same : SameElsewhere ours p d e)
+    (out-d : Outside password p s d) (out-e : Outside password p t e) where
   record Stepped (a b : Call) : Type 0 where
     at_once : is_at_place p a ≡ is_at_place p b
     got : is_at_place p a ≡ false → gave_by ours d a ≡ gave_by ours e b
@@ -41,43 +55,44 @@ module _ (p : ℕ) (password : List ℕ) (s t : Session) (d e : Device) (same : 
   abbrev NotMatched : Device → Session → Call → Type 0
   NotMatched x k c = is_matched password (noted ours p x k c) ≡ false
 
-  bytes_step : (bs cs m : List ℕ) → NotMatched d s (receives p bs m) → NotMatched e t (receives p cs m)
-      → Stepped (receives p bs m) (receives p cs m)
-  bytes_step bs cs m u v = record {
-    at_once = refl;
-    got = λ z. absurd (false≢true (sym z ∙ eq-eqb p p refl));
-    left = both_touched _ _ (his_bytes p s d out-d bs m (rw known u)) (his_bytes p t e out-e cs m (rw known_e v));
-  }
-
-  closing_step : Stepped (closes p) (closes p)
-  closing_step = record {
-    at_once = refl;
-    got = λ z. absurd (false≢true (sym z ∙ eq-eqb p p refl));
-    left = both_touched _ _ (his_closing p s d out-d) (his_closing p t e out-e);
-  }
-
-  -- the same call in both
-  his_step : (c : Call) → is_at_place p c ≡ true → NotMatched d s c → NotMatched e t c → Stepped c c
-  his_step (closes q) at u v = rw (eqb-true q p at) closing_step
-  his_step (receives q bs m) at u v =
-      subst (λ (k : ℕ). NotMatched d s (receives k bs m) → NotMatched e t (receives k bs m)
-      → Stepped (receives k bs m) (receives k bs m)) (sym (eqb-true q p at)) (bytes_step bs bs m) u v
-  his_step (opens random m) at u v = absurd (false≢true at)
-  his_step (passes n) at u v = absurd (false≢true at)
-  his_step (marks fault) at u v = absurd (false≢true at)
-  his_step (reports errors) at u v = absurd (false≢true at)
-  his_step (enables lamp mark) at u v = absurd (false≢true at)
+  -- each run changed nothing but place p
+  his_step : (a b : Call) → is_at_place p a ≡ true → is_at_place p b ≡ true → NotMatched d s a → NotMatched e t b
+      → Stepped a b
+  his_step a b at at-too u v =
+      let one = his_call password p s d out-d a at u in
+      let other = his_call password p t e out-e b at-too v in
+      record {
+        at_once = at ∙ sym at-too;
+        got = λ z. absurd (false≢true (sym z ∙ at));
+        left = record {
+          device = record {
+            settings = other.device.settings ∙ same.device.settings ∙ sym one.device.settings;
+            own = other.device.own ∙ same.device.own ∙ sym one.device.own;
+          };
+          others = λ q away. other.others q away ∙ same.others q away ∙ sym (one.others q away);
+        };
+      }
 
   step : {a b : Call} (cs : List Call) → Alike p a b
       → ((phase_at ours p d ≡ phase_at ours p e → ⊥) → opens_none (a ∷ cs) ≡ true)
       → NotMatched d s a → NotMatched e t b → Stepped a b
-  step cs (other_bytes {bs = bs} {cs = ks} {memory = m}) quiet u v = bytes_step bs ks m u v
+  step cs (other_bytes {bs = bs} {cs = ks} {memory = m}) quiet u v =
+      his_step (receives p bs m) (receives p ks m) (eq-eqb p p refl) (eq-eqb p p refl) u v
   step cs (same_call {c = c}) quiet u v = by_place (is_at_place p c) refl
     where
+      -- who opens finds both in one phase
+      phases : (t : Bool) → (phase_at ours p d == phase_at ours p e) ≡ t → is_opening c ≡ true
+          → phase_at ours p d ≡ phase_at ours p e
+      phases true z opening = eqb-true (phase_at ours p d) (phase_at ours p e) z
+      phases false z opening =
+          let none = both_left (not (is_opening c)) (opens_none cs)
+          (quiet (eqb-false (phase_at ours p d) (phase_at ours p e) z)) in
+          absurd (false≢true (rw opening at none))
+
       by_place : (at : Bool) → is_at_place p c ≡ at → Stepped c c
-      by_place true at = his_step c at u v
+      by_place true at = his_step c c at at u v
       by_place false at =
-          let alike = alike_elsewhere p d e same out-d.legal out-e.legal c cs at quiet in
+          let alike = alike_elsewhere d e out-d.legal out-e.legal p same c at (phases _ refl) in
           record { at_once = refl; got = λ z. alike.got; left = alike.left }
 
 -- ---- the runs
@@ -90,19 +105,16 @@ listed true false at got rest = absurd (false≢true (sym at))
 listed false true at got rest = absurd (false≢true at)
 listed false false at got rest = (λ i. got refl i ∷ rest i)
 
-module _ (p : ℕ) (password : List ℕ) where
+module _ (password : List ℕ) (p : ℕ) where
   runs_alike : {xs ys : List Call} → AllAlike p xs ys → (s t : Session) (d e : Device) → SameElsewhere ours p d e
-      → Outside p s d → Outside p t e → set_up_password d.settings ≡ password
+      → Outside password p s d → Outside password p t e
       → IsNeverMatched ours p password d s xs → IsNeverMatched ours p password e t ys → QuietOnceApart ours p d e xs ys
       → HeardAlike ours p d e xs ys
-  unfolding run
-  runs_alike no_calls s t d e same out-d out-e known u v quiet = record { got = refl; left = same }
-  runs_alike (one_more {a = a} {b = b} {xs = xs} {ys = ys} alike more) s t d e same out-d out-e known u v quiet =
-      let one = step p password s t d e same out-d out-e known xs alike quiet.0 u.0 v.0 in
+  runs_alike no_calls s t d e same out-d out-e u v quiet = record { got = refl; left = same }
+  runs_alike (one_more {a = a} {b = b} {xs = xs} {ys = ys} alike more) s t d e same out-d out-e u v quiet =
+      let one = step password p s t d e same out-d out-e xs alike quiet.0 u.0 v.0 in
       let rest = runs_alike more (noted ours p d s a) (noted ours p e t b) (after ours d a) (after ours e b) one.left
-      (outside_after p s d out-d a (rw known u.0))
-      (outside_after p t e out-e b (rw (ap set_up_password same.device.settings ∙ known) v.0))
-      (ap set_up_password (settings_stay d a) ∙ known) u.1 v.1 quiet.1 in
+      (outside_after password p s d out-d a u.0) (outside_after password p t e out-e b v.0) u.1 v.1 quiet.1 in
       record { got = listed (is_at_place p a) (is_at_place p b) one.at_once one.got rest.got; left = rest.left }
 
 pub ours_unheard : Unheard ours
@@ -112,5 +124,5 @@ ours_unheard = record {
       let out = fresh_outside w p accepted secured in
       let itself : SameElsewhere ours p d d
       = record { device = record { settings = refl; own = refl }; others = λ q away. refl } in
-      runs_alike p (set_up_password d.settings) alike unopened unopened d d itself out out refl never never-too quiet;
+      runs_alike (set_up_password d.settings) p alike unopened unopened d d itself out out never never-too quiet;
 }

@@ -2,12 +2,12 @@
 -- runs, on any board.
 -- Assumes nothing.
 use Rattle.std.proofs.Common.{ℕ, zero, suc, ◌≡◌, refl, true, List, [], ◌∷◌, take}
-use Rattle.std.proofs.lemmas.Bool.{false≢true}
+use Rattle.text.proofs.Choices.{both, both_left, both_right}
 use Rattle.record.specs.Wanted.{Wanted}
 use Rattle.device.specs.Receiving.{set_up_password}
 use Rattle.device.specs.Calls.{has_password}
 use Rattle.ours.specs.Board.{Board}
-use Rattle.demands.specs.Calls.{Call, opens, closes, receives, passes, marks, reports, enables, after}
+use Rattle.demands.specs.Calls.{Call, after}
 use Rattle.demands.specs.Outsider.{Session, unopened, noted, IsNeverMatched}
 use Rattle.demands.specs.Unheard.{AllAlike, no_calls, one_more, opens_none, QuietOnceApart, HeardAlike, Unheard}
 
@@ -19,22 +19,7 @@ alike_before (suc n) (one_more one more) = one_more one (alike_before n more)
 none_before : (n : ℕ) (cs : List Call) → opens_none cs ≡ true → opens_none (take n cs) ≡ true
 none_before zero cs h = refl
 none_before (suc n) [] h = refl
-none_before (suc n) (opens random m ∷ cs) h = h
-none_before (suc n) (closes p ∷ cs) h = none_before n cs h
-none_before (suc n) (receives p bs m ∷ cs) h = none_before n cs h
-none_before (suc n) (passes seconds ∷ cs) h = none_before n cs h
-none_before (suc n) (marks fault ∷ cs) h = none_before n cs h
-none_before (suc n) (reports errors ∷ cs) h = none_before n cs h
-none_before (suc n) (enables lamp mark ∷ cs) h = none_before n cs h
-
-none_after : (c : Call) (cs : List Call) → opens_none (c ∷ cs) ≡ true → opens_none cs ≡ true
-none_after (opens random m) cs h = absurd (false≢true h)
-none_after (closes p) cs h = h
-none_after (receives p bs m) cs h = h
-none_after (passes seconds) cs h = h
-none_after (marks fault) cs h = h
-none_after (reports errors) cs h = h
-none_after (enables lamp mark) cs h = h
+none_before (suc n) (c ∷ cs) h = both (both_left _ _ h) (none_before n cs (both_right _ _ h))
 
 module _ (B : Board) (p : ℕ) where
   never_before : (password : List ℕ) (n : ℕ) (d : B.Record) (s : Session) (cs : List Call)
@@ -57,7 +42,7 @@ module _ (B : Board) (p : ℕ) where
   nobody_opens d e [] ys h = tt
   nobody_opens d e (a ∷ xs) [] h = tt
   nobody_opens d e (a ∷ xs) (b ∷ ys) h =
-      ((λ apart. h), nobody_opens (after B d a) (after B e b) xs ys (none_after a xs h))
+      ((λ apart. h), nobody_opens (after B d a) (after B e b) xs ys (both_right _ _ h))
 
   pub unheard_throughout : Unheard B → (w : Wanted) (xs ys : List Call)
       → let d = (B.set_up w).device in

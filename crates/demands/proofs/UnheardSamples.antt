@@ -95,7 +95,6 @@ waits_powers_on =
 
 ends_as : (bs : List ℕ) → PowersOn bs
     → run ours fresh_secured (calls_given bs) ≡ run ours (let_in bs).device calls_later
-unfolding run
 ends_as bs on = ap (λ (r : Result Device). run ours r.device calls_later) on
 
 -- what place 0 is: failed, or awaiting

@@ -6,7 +6,7 @@ use Rattle.std.proofs.Common.{arith, length}
 use Rattle.std.proofs.lemmas.Bool.{false≢true}
 use Rattle.text.proofs.Orders.{le_or_lt}
 use Rattle.digest.specs.Hex.{leading_digest}
-use Rattle.pjlink.specs.Commands.{is_command, command_line}
+use Rattle.pjlink.specs.Commands.{command_class, is_command, command_line}
 use Rattle.pjlink.specs.declared.command.Command.{Command}
 use Rattle.record.specs.Limits.{places_count, awaiting, opened}
 use Rattle.record.specs.Legal.{is_legal}
@@ -18,22 +18,18 @@ use Rattle.device.specs.Answering.{swallowed}
 use Rattle.device.specs.Receiving.{set_up_password}
 use Rattle.device.specs.Calls.{Result, reply_room, received, opened_by}
 use Rattle.device.proofs.CommandsReceived.{swallowed_at, higher_received, higher_received_secured}
-use Rattle.controller.specs.Writing.{WrittenAs, command_room, led_by, written_command}
+use Rattle.controller.specs.Writing.{WrittenAs, command_room, led_by}
 use Rattle.controller.specs.Reading.{read_reply}
 use Rattle.controller.specs.Greetings.{read_greeting}
 use Rattle.demands.specs.Greeted.{greeted_on}
 use Rattle.controller.proofs.Cases.{written_by, written_plain, written_led}
 use Rattle.demands.proofs.TakenAndRead.{is_between, TakenAndRead}
-use Rattle.demands.proofs.WrittenReadBack.{written_reads_back, written_reads_back_secured}
+use Rattle.demands.proofs.TakenAndRead.{reads_back as taken_and_read, reads_back_secured as taken_and_read_secured}
 use Rattle.demands.proofs.GreetsBack.{greets_back as greeted-back}
 use Rattle.ours.specs.Board.{bytes_written, reply, lent_by, wrote_by, ours}
-use Rattle.demands.specs.Demand2.{BetweenLines, ReadBack, AnsweredAs, IsSwallowed, ByClass}
+use Rattle.demands.specs.Demand2.{BetweenLines, AnsweredAs, ByClass}
 use Rattle.demands.proofs.LentMemory.{over_front}
 use Rattle.record.proofs.FactsTold.{settings_is}
-
--- what is read of the lent paper is the line
-pub bytes_written-wrote_by : (w : WrittenAs) (m : List ℕ) → bytes_written (wrote_by w m) ≡ w.bytes
-bytes_written-wrote_by w m = over_front w.bytes m
 
 pub writes : (c : Command) (secured : Bool) (random : ℕ) (password m : List ℕ)
     → let w = ours.write c secured random password m in
@@ -41,56 +37,50 @@ pub writes : (c : Command) (secured : Bool) (random : ℕ) (password m : List �
 writes c secured random password m =
     written_by c secured random password (length m)
     (λ w. w.number ≡ 0 → bytes_written (wrote_by w m) ≡ led_by secured random password ++ command_line c)
-    (λ h e. absurd (omega arith)) (λ h w e. absurd (omega arith))
-    (λ h w e. bytes_written-wrote_by
-    (record { number = 0; bytes = led_by secured random password ++ command_line c }) m)
+    (λ h e. absurd (omega arith)) (λ h w e. absurd (omega arith)) (λ h w e. over_front _ m)
 
 module _ (d : Device) (p : ℕ) (c : Command) (paper m : List ℕ) (writable : is_command c ≡ true)
     (roomy : command_room ≤ length paper) (enough : reply_room ≤ length m) where
-  -- from the calls' results to the lent memory
-  on_memory : (w : WrittenAs) → (w.number ≡ 0) × TakenAndRead d p c w.bytes (received d p w.bytes (length m))
-      → ReadBack ours d p c (wrote_by w paper) (ours.receive d p (bytes_written (wrote_by w paper)) m)
-  on_memory w (number, back) =
-      subst (λ (bs : List ℕ). ReadBack ours d p c (wrote_by w paper) (ours.receive d p bs m))
-      (sym (bytes_written-wrote_by w paper))
+  abbrev Told : WrittenAs → List ℕ → Type 0
+  Told w bs = ByClass ours d p c (wrote_by w paper) (ours.receive d p bs m)
+
+  -- what was written stands on the paper, and is read back, or swallowed
+  on_paper : (bs : List ℕ) (w : WrittenAs) → w ≡ record { number = 0; bytes = bs }
+      → (command_class c ≤ d.settings.class_number → TakenAndRead d p c bs (received d p bs (length m)))
+      → (d.settings.class_number < command_class c → received d p bs (length m) ≡ swallowed_at d p (length bs))
+      → Told w (bytes_written (wrote_by w paper))
+  on_paper bs w e back ignored =
+      subst (λ (w : WrittenAs). Told w (bytes_written (wrote_by w paper))) (sym e)
+      (subst (Told (record { number = 0; bytes = bs })) (sym (over_front bs paper))
       (record {
-        wrote = number;
-        number = back.number;
-        taken = back.taken;
-        read = ap (read_reply c) (over_front (received d p w.bytes (length m)).reply m) ∙ back.said;
-        device = back.device;
-      })
-
-  -- of a class higher than the set-up's
-  abbrev IsIgnored : WrittenAs → Type 0
-  IsIgnored w = IsSwallowed ours d p (wrote_by w paper) (ours.receive d p (bytes_written (wrote_by w paper)) m)
-
-  ignored : (bs : List ℕ) → received d p bs (length m) ≡ swallowed_at d p (length bs)
-      → IsIgnored (record { number = 0; bytes = bs })
-  ignored bs taken = record {
-    wrote = refl;
-    left =
-        subst (λ (l : List ℕ). AnsweredAs ours d p l (swallowed d.own) (ours.receive d p l m))
-        (sym (bytes_written-wrote_by (record { number = 0; bytes = bs }) paper))
-        (subst (λ (r : Result Device). AnsweredAs ours d p bs (swallowed d.own) (lent_by r m)) (sym taken)
-        (record { number = refl; taken = refl; replied = refl; device = refl }));
-  }
+        no_higher = λ within.
+            let told = back within in
+            record {
+              wrote = refl;
+              number = told.number;
+              taken = told.taken;
+              read = ap (read_reply c) (over_front (received d p bs (length m)).reply m) ∙ told.said;
+              device = told.device;
+            };
+        higher = λ higher. record {
+          wrote = refl;
+          left =
+              subst (λ (r : Result Device). AnsweredAs ours d p
+              (bytes_written (wrote_by (record { number = 0; bytes = bs }) paper)) (swallowed d.own) (lent_by r m))
+              (sym (ignored higher))
+              (record { number = refl; taken = ap length (sym (over_front bs paper)); replied = refl; device = refl });
+        };
+      }))
 
   pub reads_back : (random : ℕ) (password : List ℕ) → BetweenLines opened d p
       → let w = ours.write c false random password paper in ByClass ours d p c w (ours.receive d p (bytes_written w) m)
   reads_back random password between =
-      let empty = is_between d p between.there between.legal between.unmarked between.none_held in
-      record {
-        no_higher = λ within.
-            on_memory (written_command c false random password (length paper))
-            (written_reads_back d p between.there between.legal empty c writable within (length m) enough
-            (length paper) roomy between.in_phase random password);
-        higher = λ higher.
-            subst IsIgnored (sym (written_plain c false random password (length paper) roomy writable refl))
-            (ignored (command_line c)
-            (higher_received d p between.there (length m) between.legal enough between.unmarked
-            between.none_held c higher between.in_phase));
-      }
+      on_paper (command_line c) _ (written_plain c false random password (length paper) roomy writable refl)
+      (λ within. taken_and_read d p between.there between.legal
+      (is_between d p between.there between.legal between.unmarked between.none_held) c writable within (length m)
+      enough between.in_phase)
+      (λ higher. higher_received d p between.there (length m) between.legal enough between.unmarked between.none_held
+      c higher between.in_phase)
 
   pub reads_back_secured : BetweenLines awaiting d p
       → let w = ours.write c true (connection_at d p).random (set_up_password d.settings) paper in
@@ -98,20 +88,14 @@ module _ (d : Device) (p : ℕ) (c : Command) (paper m : List ℕ) (writable : i
   reads_back_secured between =
       let random = (connection_at d p).random in
       let password = set_up_password d.settings in
-      let empty = is_between d p between.there between.legal between.unmarked between.none_held in
       let told = (settings_is d.settings).0 (legal_settings d between.legal) in
-      record {
-        no_higher = λ within.
-            on_memory (written_command c true random password (length paper))
-            (written_reads_back_secured d p between.there between.legal empty c writable within (length m) enough
-            (length paper) roomy between.in_phase);
-        higher = λ higher.
-            subst IsIgnored
-            (sym (written_led c true random password (length paper) roomy writable refl told.password.follows))
-            (ignored (leading_digest random password ++ command_line c)
-            (higher_received_secured d p between.there (length m) between.legal enough between.unmarked
-            between.none_held c higher between.in_phase));
-      }
+      on_paper (leading_digest random password ++ command_line c) _
+      (written_led c true random password (length paper) roomy writable refl told.password.follows)
+      (λ within. taken_and_read_secured d p between.there between.legal
+      (is_between d p between.there between.legal between.unmarked between.none_held) c writable within (length m)
+      enough between.in_phase)
+      (λ higher. higher_received_secured d p between.there (length m) between.legal enough between.unmarked
+      between.none_held c higher between.in_phase)
 
 pub greets_back : (d : Device) (random : ℕ) (m : List ℕ) → is_legal d ≡ true
     → (q : ℕ) → q < places_count → is_shut (connection_at d q) ≡ true → reply_room ≤ length m → random < 2 ^ 32

@@ -9,6 +9,7 @@ use Rattle.demands.specs.Demand3.{Demand3, TimeAdds, sets_up, all_enabled, IsAcc
 use Rattle.demands.specs.Sample.{sample, memory, says, rounds}
 use Rattle.demands.specs.WrongClocks.{still_clock, first_only, drops_part_hour}
 use Rattle.demands.specs.Computing.{computing}
+use Rattle.demands.proofs.Samples.{apart}
 
 abbrev sessions : List Call
 sessions = opens 0 memory ∷ rounds 2 (says "%1POWR 1" ∷ passes 20 ∷ says "%1POWR 0" ∷ passes 60 ∷ [])
@@ -22,15 +23,15 @@ module _ (B : Board) (h : Demand3 B) (accepted : IsAccepted B sets_up sample) wh
 -- stored, and burnt: its power stays in warm-up, so one set is answered OK and every second burns
 pub still_clock_falls : Demand3 still_clock → ⊥
 unfolding computing
-still_clock_falls h = let e : ◌≡◌ {A = ℕ} 0 160 = told still_clock h refl in absurd (omega arith)
+still_clock_falls h = apart (λ (n : ℕ). n) (told still_clock h refl) refl
 
 pub first_only_falls : Demand3 first_only → ⊥
 unfolding computing
-first_only_falls h = let e : ◌≡◌ {A = ℕ} 20 40 = told first_only h refl in absurd (omega arith)
+first_only_falls h = apart (λ (n : ℕ). n) (told first_only h refl) refl
 
 pub drops_part_hour_falls : Demand3 drops_part_hour → ⊥
 unfolding computing
-drops_part_hour_falls h = let e : ◌≡◌ {A = ℕ} 0 40 = told drops_part_hour h refl in absurd (omega arith)
+drops_part_hour_falls h = apart (λ (n : ℕ). n) (told drops_part_hour h refl) refl
 
 -- yet a clock that does nothing obeys the adding law
 pub still_clock_adds : TimeAdds still_clock

@@ -1,7 +1,7 @@
 -- Demand 2: the boards of specs/WrongDoors.antt fall, each to what the demand says of one sample, where the two numbers
 -- shown differ. The password is on; nobody sends the digest.
 -- Assumes nothing.
-use Rattle.std.proofs.Common.{ℕ, ◌≡◌, refl, ap, true, List, [], ◌∷◌, arith, slice_index_or, codes}
+use Rattle.std.proofs.Common.{ℕ, refl, ap, true, List, [], ◌∷◌, arith, slice_index_or, codes}
 use Rattle.std.proofs.lemmas.Bool.{false≢true}
 use Rattle.record.specs.Places.{connection_at}
 use Rattle.record.specs.declared.types.Device.{Device}
@@ -12,8 +12,8 @@ use Rattle.demands.specs.Sample.{memory, says}
 use Rattle.demands.specs.WrongDoors.{secured_sample, forgets_password, ignores_password, greets_with_zero, time_opens}
 use Rattle.demands.specs.WrongDoors.{failed_answers, never_closes, hides_faults, hides_errors}
 use Rattle.demands.specs.Computing.{computing}
-use Rattle.demands.proofs.Samples.{opened_sample}
-use Rattle.demands.proofs.Unled.{same_by-leading_digest}
+use Rattle.demands.proofs.Samples.{apart, opened_sample}
+use Rattle.demands.proofs.Unled.{same_by-leading_digest, x_unled}
 
 -- closed, off, with a password
 abbrev secured : Device
@@ -22,23 +22,18 @@ secured = (ours.set_up secured_sample).device
 -- the password's length
 pub forgets_password_falls : Demand2 forgets_password → ⊥
 unfolding computing
-forgets_password_falls h =
-    let e : ◌≡◌ {A = ℕ} 0 18 = ap (λ (d : Device). d.settings.password.len) (h.set_up_shows secured_sample refl) in
-    absurd (omega arith)
+forgets_password_falls h = apart (λ (d : Device). d.settings.password.len) (h.set_up_shows secured_sample refl) refl
 
 -- the phase: open, and awaiting
 pub ignores_password_falls : Demand2 ignores_password → ⊥
 unfolding computing
-ignores_password_falls h =
-    let e : ◌≡◌ {A = ℕ} 2 1 = ap (λ (d : Device). (connection_at d 0).phase) (h.opens secured 7 memory refl).device in
-    absurd (omega arith)
+ignores_password_falls h = apart (λ (d : Device). (connection_at d 0).phase) (h.opens secured 7 memory refl).device refl
 
 -- the number that the connection keeps
 pub greets_with_zero_falls : Demand2 greets_with_zero → ⊥
 unfolding computing
 greets_with_zero_falls h =
-    let e : ◌≡◌ {A = ℕ} 0 7 = ap (λ (d : Device). (connection_at d 0).random) (h.opens secured 7 memory refl).device in
-    absurd (omega arith)
+    apart (λ (d : Device). (connection_at d 0).random) (h.opens secured 7 memory refl).device refl
 
 -- ---- the outsider, who powers on
 
@@ -49,26 +44,21 @@ time_opens_falls h =
     let calls : List Call = opens 7 memory ∷ passes 1 ∷ says "%1POWR 1" ∷ [] in
     let out = h.outsider_has_no_say secured 0 calls refl refl refl
     (refl, (refl, (same_by-leading_digest 7 (codes "JBMIAProjectorLink") (codes "%1POWR 1") (omega arith), tt))) in
-    let e : ◌≡◌ {A = ℕ} 3 0 = ap (λ o. o.power) (out.kept.1.1.0 refl).own in
-    absurd (omega arith)
+    apart (λ o. o.power) (out.kept.1.1.0 refl).own refl
 
 pub failed_answers_falls : Demand2 failed_answers → ⊥
 unfolding computing
 failed_answers_falls h =
     let calls : List Call = opens 7 memory ∷ says "x" ∷ passes 1 ∷ says "%1POWR 1" ∷ [] in
-    let unled = same_by-leading_digest 7 (codes "JBMIAProjectorLink") (codes "x") (omega arith) in
-    let out = h.outsider_has_no_say secured 0 calls refl refl refl (refl, (unled, (unled, (unled, tt)))) in
-    let e : ◌≡◌ {A = ℕ} 3 0 = ap (λ o. o.power) (out.kept.1.1.1.0 refl).own in
-    absurd (omega arith)
+    let out = h.outsider_has_no_say secured 0 calls refl refl refl (refl, (x_unled, (x_unled, (x_unled, tt)))) in
+    apart (λ o. o.power) (out.kept.1.1.1.0 refl).own refl
 
 -- ---- calls that do nothing
 
 -- the phase: open, and closed
 pub never_closes_falls : Demand2 never_closes → ⊥
 unfolding computing
-never_closes_falls h =
-    let e : ◌≡◌ {A = ℕ} 2 0 = ap (λ (d : Device). (connection_at d 0).phase) (h.closes opened_sample 0 refl) in
-    absurd (omega arith)
+never_closes_falls h = apart (λ (d : Device). (connection_at d 0).phase) (h.closes opened_sample 0 refl) refl
 
 pub hides_faults_falls : Demand2 hides_faults → ⊥
 unfolding computing
@@ -79,6 +69,4 @@ pub hides_errors_falls : Demand2 hides_errors → ⊥
 unfolding computing
 hides_errors_falls h =
     let digits : List ℕ = 2 ∷ 0 ∷ 0 ∷ 0 ∷ 0 ∷ 0 ∷ [] in
-    let e : ◌≡◌ {A = ℕ} 0 2 =
-    ap (λ (d : Device). slice_index_or d.own.errors 0 0) (h.reports opened_sample digits refl) in
-    absurd (omega arith)
+    apart (λ (d : Device). slice_index_or d.own.errors 0 0) (h.reports opened_sample digits refl) refl

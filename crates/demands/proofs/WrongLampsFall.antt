@@ -7,6 +7,7 @@ use Rattle.demands.specs.History.{burning, lamp_with}
 use Rattle.demands.specs.Demand3.{Demand3, sets_up, all_enabled, IsAccepted, run_of, history_of}
 use Rattle.demands.specs.WrongLamps.{two_lamps, one_rests, burns_all_lamps, counts_disabled, forgets_marks}
 use Rattle.demands.specs.Computing.{computing}
+use Rattle.demands.proofs.Samples.{apart}
 
 module _ (B : Board) (h : Demand3 B) (accepted : IsAccepted B sets_up two_lamps) where
   -- what the demand says of the second lamp
@@ -17,15 +18,15 @@ module _ (B : Board) (h : Demand3 B) (accepted : IsAccepted B sets_up two_lamps)
 -- stored, and burnt
 pub burns_all_lamps_falls : Demand3 burns_all_lamps → ⊥
 unfolding computing
-burns_all_lamps_falls h = let e : ◌≡◌ {A = ℕ} 100 0 = told burns_all_lamps h refl in absurd (omega arith)
+burns_all_lamps_falls h = apart (λ (n : ℕ). n) (told burns_all_lamps h refl) refl
 
 pub counts_disabled_falls : Demand3 counts_disabled → ⊥
 unfolding computing
-counts_disabled_falls h = let e : ◌≡◌ {A = ℕ} 100 0 = told counts_disabled h refl in absurd (omega arith)
+counts_disabled_falls h = apart (λ (n : ℕ). n) (told counts_disabled h refl) refl
 
 pub forgets_marks_falls : Demand3 forgets_marks → ⊥
 unfolding computing
-forgets_marks_falls h = let e : ◌≡◌ {A = ℕ} 100 0 = told forgets_marks h refl in absurd (omega arith)
+forgets_marks_falls h = apart (λ (n : ℕ). n) (told forgets_marks h refl) refl
 
 -- ours: the first burns, the second rests
 pub ours_rests : (slice_index_or (run_of ours sets_up two_lamps one_rests).own.lamps 0 0 ≡ 100)

@@ -1,8 +1,7 @@
 -- Demand 1: the boards of specs/WrongRefusals.antt fall to what the demand says of a refusal, here of memory one byte
 -- short.
 -- Assumes nothing.
-use Rattle.std.proofs.Common.{ℕ, ◌≡◌, ap, List, arith, replicate}
-use Prim.Native.Char.{code}
+use Rattle.std.proofs.Common.{ℕ, refl, List, arith, replicate}
 use Rattle.words.specs.Bytes.{◌at◌}
 use Rattle.record.specs.Places.{connection_at}
 use Rattle.record.specs.declared.types.Device.{Device}
@@ -11,7 +10,7 @@ use Rattle.demands.specs.Demand1.{Demand1}
 use Rattle.demands.specs.Sample.{with_cr}
 use Rattle.demands.specs.WrongRefusals.{writes_first, changes_refused}
 use Rattle.demands.specs.Computing.{computing}
-use Rattle.demands.proofs.Samples.{opened_sample}
+use Rattle.demands.proofs.Samples.{apart, opened_sample}
 
 abbrev short : List ℕ
 short = replicate 135 0
@@ -21,13 +20,11 @@ pub writes_first_falls : Demand1 writes_first → ⊥
 unfolding computing
 writes_first_falls h =
     let kept = h.refused_keeps opened_sample (receives 0 (with_cr "%1POWR ?") short) (λ e. omega arith) in
-    let e : ◌≡◌ {A = ℕ} (code "%") 0 = ap (λ (bs : List ℕ). bs at 0) kept.1.memory in
-    absurd (omega arith)
+    apart (λ (bs : List ℕ). bs at 0) kept.1.memory refl
 
 -- the phase: closed, and open
 pub changes_refused_falls : Demand1 changes_refused → ⊥
 unfolding computing
 changes_refused_falls h =
     let kept = h.refused_keeps opened_sample (receives 0 (with_cr "%1POWR ?") short) (λ e. omega arith) in
-    let e : ◌≡◌ {A = ℕ} 0 2 = ap (λ (d : Device). (connection_at d 0).phase) kept.0 in
-    absurd (omega arith)
+    apart (λ (d : Device). (connection_at d 0).phase) kept.0 refl

@@ -36,6 +36,6 @@ module _ (B : Board) where
   number_of d (reports errors) = (B.set_errors d errors).number
   number_of d (enables lamp mark) = (B.set_mark d lamp mark).number
 
-  unfoldable pub run : B.Record → List Call → B.Record
+  abbrev pub run : B.Record → List Call → B.Record
   run d [] = d
   run d (c ∷ cs) = run (after d c) cs

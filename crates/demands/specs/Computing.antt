@@ -10,11 +10,9 @@ use Rattle.meaning.specs.Computing.{computing as meaning}
 use Rattle.stream.specs.Computing.{computing as stream}
 use Rattle.device.specs.Computing.{computing as device}
 use Rattle.controller.specs.Computing.{computing as controller}
-use Rattle.demands.specs.Calls.{run}
-use Rattle.demands.specs.History.{power_set, history, marks_after, reached, burning_from}
+use Rattle.demands.specs.History.{power_set}
 
 unfoldable pub computing : Unit {0}
 unfolding
-    numbers pjlink records stored clock meaning stream device controller run power_set
-    history marks_after reached burning_from
+    numbers pjlink records stored clock meaning stream device controller power_set
 computing = tt

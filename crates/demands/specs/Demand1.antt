@@ -9,7 +9,7 @@
 -- `lowest_shut` of record/specs/Places (RULES, Places), those of storing and loading as stored/specs: Form, Loading
 -- have them, against the order of RULES, Stored form, with numbers in bytes as numbers/specs/HighestFirst has them;
 -- what is legal and what is in range (record/specs: Limits, Rules, Legal, SetUp, and `blank` of Record; words/specs:
--- Bytes, Sources, Inputs, Texts; utf8/specs/Utf8); the length 168 (`command_room` of controller/specs/Writing); for the
+-- Bytes, Sources, Inputs, Texts, Utf8); the length 168 (`command_room` of controller/specs/Writing); for the
 -- readers, the forms of lines (pjlink/specs: Forms, Commands, Bodies) and which parameter says what (pjlink/specs:
 -- Said, CanSay, Writings, with the values of words/specs: Numerals, Powers, Muting, ErrorDigits, Lamps, Classes,
 -- Refusing, Joined; `greets`, `random_in` of controller/specs/Greetings); ours/specs/Board; here Calls.
@@ -109,20 +109,12 @@ module _ (B : Board) where
   StaysInside d (opens random m) = Inside B.Record m (B.opening d random m)
   StaysInside d (receives p bs m) =
       Inside B.Record m (B.receive d p bs m) × ((B.receive d p bs m).taken ≤ length bs)
-  StaysInside d (closes p) = Unit {0}
-  StaysInside d (passes n) = Unit {0}
-  StaysInside d (marks fault) = Unit {0}
-  StaysInside d (reports errors) = Unit {0}
-  StaysInside d (enables lamp mark) = Unit {0}
+  StaysInside d c = Unit {0}
 
   abbrev pub WritesNothing : B.Record → Call → Type 0
   WritesNothing d (opens random m) = Untouched B.Record m (B.opening d random m)
   WritesNothing d (receives p bs m) = Untouched B.Record m (B.receive d p bs m)
-  WritesNothing d (closes p) = Unit {0}
-  WritesNothing d (passes n) = Unit {0}
-  WritesNothing d (marks fault) = Unit {0}
-  WritesNothing d (reports errors) = Unit {0}
-  WritesNothing d (enables lamp mark) = Unit {0}
+  WritesNothing d c = Unit {0}
 
 -- ---- the demand
 

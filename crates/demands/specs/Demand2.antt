@@ -4,8 +4,8 @@
 -- secured connection a first line without the matching digest yields the refusal line only; power, input, mutes and
 -- lamps stay." What the projector meant is `meant`, the table of RULES, Commands (crate `meaning`), which knows no
 -- bytes but a set-up's inputs, two characters each, by the table of RULES, Inputs.
--- TO BELIEVE IT, believe, and nothing else: MD5 and its digits (digest/specs); inputs, texts and values (words/specs;
--- for names also utf8/specs/Utf8), lines, commands and requests (pjlink/specs: Bodies, Commands, Forms, Requests); what
+-- TO BELIEVE IT, believe, and nothing else: MD5 and its digits (digest/specs); inputs, texts, UTF-8 and values
+-- (words/specs), lines, commands and requests (pjlink/specs: Bodies, Commands, Forms, Requests); what
 -- an answer is and which bytes say it (pjlink/specs: Said, CanSay, Writings); what a reading means and a greeting is
 -- (controller/specs: `meaning`, `LineSays` of Reading, `Exactly` of Greetings; here Greeted); what is meant and done
 -- (meaning/specs); how a line is answered and a connection greeted (device/specs: Answering, `is_led_by` of Receiving,
@@ -134,9 +134,7 @@ Elsewhere B d (opens random m) q = q ≡ B.place_opened d random m → ⊥
 Elsewhere B d (closes p) q = q ≡ p → ⊥
 Elsewhere B d (receives p bs m) q = q ≡ p → ⊥
 Elsewhere B d (passes n) q = ⊥
-Elsewhere B d (marks fault) q = Unit {0}
-Elsewhere B d (reports errors) q = Unit {0}
-Elsewhere B d (enables lamp mark) q = Unit {0}
+Elsewhere B d c q = Unit {0}
 
 -- what someone without the password gets, and leaves as it was
 pub record RefusalOnly (B : Board) (d : B.Record) (p : ℕ) (out : Out B.Record) : Type 0 where

@@ -102,7 +102,7 @@ abbrev pub count_set : List Bool → ℕ
 count_set [] = 0
 count_set (m ∷ ms) = (if m then 1 else 0) + count_set ms
 
-unfoldable pub burnt_by_marks : Wanted → Stage → List Bool → List Event → ℕ
+abbrev pub burnt_by_marks : Wanted → Stage → List Bool → List Event → ℕ
 burnt_by_marks w g ms [] = 0
 burnt_by_marks w g ms (a_second ∷ es) =
     (if stage_is_burning g then count_set ms else 0) + burnt_by_marks w (next w g a_second) ms es

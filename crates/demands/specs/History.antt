@@ -20,7 +20,7 @@ use Rattle.words.specs.Bytes.{upper_of}
 use Rattle.record.specs.Limits.{lamp_limit}
 use Rattle.record.specs.Wanted.{Wanted}
 use Rattle.ours.specs.Board.{Board, reply}
-use Rattle.demands.specs.Calls.{Call, opens, closes, receives, passes, marks, reports, enables, after}
+use Rattle.demands.specs.Calls.{Call, receives, passes, enables, after}
 
 infix 40 ◌says◌
 infix 40 ◌ends_in◌
@@ -60,25 +60,17 @@ module _ (B : Board) where
   abbrev pub streams_after : B.Record → Streams → Call → Streams
   streams_after d w (receives p bs m) =
       if (B.receive d p bs m).number == 0 then going_on_at w p (take (B.receive d p bs m).taken bs) else w
-  streams_after d w (opens random m) = w
-  streams_after d w (closes p) = w
-  streams_after d w (passes n) = w
-  streams_after d w (marks fault) = w
-  streams_after d w (reports errors) = w
-  streams_after d w (enables lamp mark) = w
+  streams_after d w c = w
 
   -- what a call tells; the bytes that it took are in its place's stream already
   abbrev pub seen : B.Record → Streams → Call → List Event
   seen d w (receives p bs m) =
       if (B.receive d p bs m).number == 0 then power_set (w p) (reply (B.receive d p bs m)) else []
   seen d w (passes n) = if (B.pass d n).number == 0 then replicate n a_second else []
-  seen d w (opens random m) = []
-  seen d w (closes p) = []
-  seen d w (marks fault) = []
-  seen d w (reports errors) = []
   seen d w (enables lamp mark) = if (B.set_mark d lamp mark).number == 0 then mark_switched lamp mark ∷ [] else []
+  seen d w c = []
 
-  unfoldable pub history : B.Record → Streams → List Call → List Event
+  abbrev pub history : B.Record → Streams → List Call → List Event
   history d w [] = []
   history d w (c ∷ cs) = seen d (streams_after d w c) c ++ history (after B d c) (streams_after d w c) cs
 
@@ -103,10 +95,9 @@ next w (towards on n) (mark_switched lamp mark) = towards on n
 -- his marks, one a lamp
 abbrev pub marks_next : List Bool → Event → List Bool
 marks_next ms (mark_switched lamp mark) = set ms lamp mark
-marks_next ms (switched wanted) = ms
-marks_next ms a_second = ms
+marks_next ms e = ms
 
-unfoldable pub marks_after : List Bool → List Event → List Bool
+abbrev pub marks_after : List Bool → List Event → List Bool
 marks_after ms [] = ms
 marks_after ms (e ∷ es) = marks_after (marks_next ms e) es
 
@@ -117,15 +108,14 @@ stage_is_burning (towards on n) = on
 
 -- the lamp at place k, if its mark is set (RULES, Lamps)
 abbrev pub burns : Stage → List Bool → ℕ → Event → ℕ
-burns g ms k (switched wanted) = 0
 burns g ms k a_second = if stage_is_burning g && slice_index_or ms k false then 1 else 0
-burns g ms k (mark_switched lamp mark) = 0
+burns g ms k e = 0
 
-unfoldable pub reached : Wanted → Stage → List Event → Stage
+abbrev pub reached : Wanted → Stage → List Event → Stage
 reached w g [] = g
 reached w g (e ∷ es) = reached w (next w g e) es
 
-unfoldable pub burning_from : Wanted → Stage → List Bool → ℕ → List Event → ℕ
+abbrev pub burning_from : Wanted → Stage → List Bool → ℕ → List Event → ℕ
 burning_from w g ms k [] = 0
 burning_from w g ms k (e ∷ es) = burns g ms k e + burning_from w (next w g e) (marks_next ms e) k es
 

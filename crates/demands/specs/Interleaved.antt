@@ -31,7 +31,7 @@ use Rattle.stream.specs.Collecting.{collected}
 use Rattle.device.specs.Receiving.{line_ended, keeping_line}
 use Rattle.device.specs.Calls.{reply_room}
 use Rattle.ours.specs.Board.{Board, reply}
-use Rattle.demands.specs.Calls.{Call, opens, closes, receives, passes, marks, reports, enables, after, run}
+use Rattle.demands.specs.Calls.{Call, receives, after, run}
 
 -- ---- what is seen at a place
 
@@ -59,28 +59,15 @@ module _ (B : Board) (q : ℕ) where
   heard_in d (receives p bs m) =
       let r = B.receive d p bs m in
       if p == q then heard_of (B.shows d).own (take r.taken bs) (reply r) else heard_nothing
-  heard_in d (opens random m) = heard_nothing
-  heard_in d (closes p) = heard_nothing
-  heard_in d (passes n) = heard_nothing
-  heard_in d (marks fault) = heard_nothing
-  heard_in d (reports errors) = heard_nothing
-  heard_in d (enables lamp mark) = heard_nothing
+  heard_in d c = heard_nothing
 
-  unfoldable pub heard : B.Record → List Call → Heard
+  abbrev pub heard : B.Record → List Call → Heard
   heard d [] = heard_nothing
   heard d (c ∷ cs) = heard_then (heard_in d c) (heard (after B d c) cs)
 
-  abbrev LeavesIt : B.Record → Call → Type 0
-  LeavesIt d c = connection_at (B.shows (after B d c)) q ≡ connection_at (B.shows d) q
-
   abbrev pub ByBytes : B.Record → Call → Type 0
   ByBytes d (receives p bs m) = Unit {0}
-  ByBytes d (opens random m) = LeavesIt d (opens random m)
-  ByBytes d (closes p) = LeavesIt d (closes p)
-  ByBytes d (passes n) = LeavesIt d (passes n)
-  ByBytes d (marks fault) = LeavesIt d (marks fault)
-  ByBytes d (reports errors) = LeavesIt d (reports errors)
-  ByBytes d (enables lamp mark) = LeavesIt d (enables lamp mark)
+  ByBytes d c = connection_at (B.shows (after B d c)) q ≡ connection_at (B.shows d) q
 
   abbrev pub ByBytesOnly : B.Record → List Call → Type 0
   ByBytesOnly d [] = Unit {0}
@@ -107,11 +94,11 @@ alone_at s c owns (b ∷ bs) =
     if b is "\r" then answered_first e.reply (alone_at s e.connection (drop 1 owns) bs)
     else alone_at s (keeping_line c (collected (held_most c.phase) c.line b)) owns bs
 
-unfoldable pub line_ends : List ℕ → ℕ
+abbrev pub line_ends : List ℕ → ℕ
 line_ends [] = 0
 line_ends (b ∷ bs) = if b is "\r" then suc (line_ends bs) else line_ends bs
 
-unfoldable pub to_first_cr : List ℕ → List ℕ
+abbrev pub to_first_cr : List ℕ → List ℕ
 to_first_cr [] = []
 to_first_cr (b ∷ bs) = if b is "\r" then b ∷ [] else b ∷ to_first_cr bs
 

@@ -23,3 +23,4 @@ pub mod WrongClocks
 pub mod WrongPlaces
 pub mod WrongLamps
 pub mod Computing
+pub mod Settled

@@ -10,21 +10,22 @@
 --   first_line bs             the bytes before the first CR
 --   is_matched password s     the session's first line has ended, and is led by the digest of the session's number
 --   IsNeverMatched            at no moment of the calls is the session matched
---   host_calls cs             the passes and the host's calls among cs: what no connection has a say in
+--   is_hosts c                the call c is a pass or one of the host's: no connection has a say in it
+--   host_calls cs             those among cs
 --   RefusalAtMost bs          nothing, or the refusal line once
 --   IsKeptThere B p d cs      at no moment of the calls does what place p receives change the settings or the own part
 --   NoSay B p d s cs          that, and the session at place p was answered the refusal line at most
 --   HostsAlone B d cs         what the calls cs leave of the settings and the own part is what the passes and the
---                             host's
---                             calls among them leave
+--                             host's calls among them leave
 -- Assumes nothing.
-use Rattle.std.specs.Prelude.{ℕ, ◌≡◌, Bool, true, false, not, ◌&&◌, List, [], ◌∷◌, ◌++◌, take, if◌then◌else◌, ◌==◌}
+use Rattle.std.specs.Prelude.{ℕ, ◌≡◌, Bool, true, false, not, ◌&&◌, List, [], ◌∷◌, ◌++◌, take, filter}
+use Rattle.std.specs.Prelude.{if◌then◌else◌, ◌==◌}
 use Rattle.text.specs.Words.{◌is◌}
 use Rattle.words.specs.Bytes.{no_cr}
 use Rattle.pjlink.specs.Forms.{erra_line}
 use Rattle.device.specs.Receiving.{is_led_by}
 use Rattle.ours.specs.Board.{Board, Lent, reply}
-use Rattle.demands.specs.Calls.{Call, opens, closes, receives, passes, marks, reports, enables, after, run}
+use Rattle.demands.specs.Calls.{Call, opens, closes, receives, after, run}
 
 -- ---- what is seen of a connection
 
@@ -53,11 +54,7 @@ module _ (B : Board) (p : ℕ) where
       if (B.opening d random m).number == 0 && B.place_opened d random m == p then opened_with random else s
   noted d s (receives q bs m) =
       if (B.receive d q bs m).number == 0 && q == p then goes_on s bs (B.receive d q bs m) else s
-  noted d s (closes q) = s
-  noted d s (passes n) = s
-  noted d s (marks fault) = s
-  noted d s (reports errors) = s
-  noted d s (enables lamp mark) = s
+  noted d s c = s
 
   abbrev pub session_after : B.Record → Session → List Call → Session
   session_after d s [] = s
@@ -79,15 +76,14 @@ IsNeverMatched B p password d s (c ∷ cs) =
 
 -- ---- what he gets, and what he changes
 
+abbrev pub is_hosts : Call → Bool
+is_hosts (opens random m) = false
+is_hosts (closes p) = false
+is_hosts (receives p bs m) = false
+is_hosts c = true
+
 abbrev pub host_calls : List Call → List Call
-host_calls [] = []
-host_calls (opens random m ∷ cs) = host_calls cs
-host_calls (closes p ∷ cs) = host_calls cs
-host_calls (receives p bs m ∷ cs) = host_calls cs
-host_calls (passes n ∷ cs) = passes n ∷ host_calls cs
-host_calls (marks fault ∷ cs) = marks fault ∷ host_calls cs
-host_calls (reports errors ∷ cs) = reports errors ∷ host_calls cs
-host_calls (enables lamp mark ∷ cs) = enables lamp mark ∷ host_calls cs
+host_calls cs = filter is_hosts cs
 
 pub data RefusalAtMost : List ℕ → Type 0 where
   silence : RefusalAtMost []
@@ -95,12 +91,7 @@ pub data RefusalAtMost : List ℕ → Type 0 where
 
 abbrev pub is_received_at : ℕ → Call → Bool
 is_received_at p (receives q bs m) = q == p
-is_received_at p (opens random m) = false
-is_received_at p (closes q) = false
-is_received_at p (passes n) = false
-is_received_at p (marks fault) = false
-is_received_at p (reports errors) = false
-is_received_at p (enables lamp mark) = false
+is_received_at p c = false
 
 pub record SameDevicePart (B : Board) (d e : B.Record) : Type 0 where
   pub settings : (B.shows e).settings ≡ (B.shows d).settings

@@ -1,4 +1,4 @@
--- The device of the lines that settle it, on which wrong boards are tried and lines computed (crate `settled`):
+-- The device of the lines that settle it, on which wrong boards are tried and lines computed (Settled):
 -- W = 20, C = 60, one lamp at 0 s, input 11, texts empty, no password. Then the same device set up for Class 2 (RULES,
 -- Class 2), with the inputs 11 and 6A, their names, a serial number and a version.
 --   sample, class_2_sample   what they are set up with

@@ -3,7 +3,7 @@
 -- matches its digest".
 --   Alike p a b                    the same call, or receiving at place p with other bytes
 --   AllAlike p xs ys               the same calls in the same order, but for the bytes given to place p
---   opens_none cs                  no call of cs opens
+--   is_opening c, opens_none cs    the call c opens; no call of cs does
 --   phase_at B p d                 the phase of place p
 --   QuietOnceApart B p d e xs ys   from any moment at which the two runs differ in the phase of place p, nobody opens
 --   Gave                           what a call gives beside the record: the reply is as much of the memory as the
@@ -18,10 +18,10 @@
 -- seconds, and for 30 more from a refused line on. Against that a host can close whoever stays silent (closing at a
 -- place is its own call), or keep strangers off the network.
 -- TO BELIEVE IT, believe, and nothing else: what a password is (`has_password` of device/specs/Calls), when a first
--- line
--- matches (`IsNeverMatched` of Outsider), ours/specs/Board, and here Calls.
+-- line matches (`IsNeverMatched` of Outsider), ours/specs/Board, and here Calls.
 -- Assumes nothing.
-use Rattle.std.specs.Prelude.{ℕ, ◌≡◌, Bool, true, false, List, [], ◌∷◌, if◌then◌else◌, ◌==◌}
+use Rattle.std.specs.List.{list_all}
+use Rattle.std.specs.Prelude.{ℕ, ◌≡◌, Bool, true, false, not, List, [], ◌∷◌, if◌then◌else◌, ◌==◌}
 use Rattle.record.specs.Wanted.{Wanted}
 use Rattle.record.specs.Places.{connection_at}
 use Rattle.device.specs.Receiving.{set_up_password}
@@ -41,15 +41,12 @@ pub data AllAlike (p : ℕ) : List Call → List Call → Type 0 where
   no_calls : AllAlike p [] []
   one_more : {a b : Call} {xs ys : List Call} → Alike p a b → AllAlike p xs ys → AllAlike p (a ∷ xs) (b ∷ ys)
 
+abbrev pub is_opening : Call → Bool
+is_opening (opens random m) = true
+is_opening c = false
+
 abbrev pub opens_none : List Call → Bool
-opens_none [] = true
-opens_none (opens random m ∷ cs) = false
-opens_none (closes p ∷ cs) = opens_none cs
-opens_none (receives p bs m ∷ cs) = opens_none cs
-opens_none (passes n ∷ cs) = opens_none cs
-opens_none (marks fault ∷ cs) = opens_none cs
-opens_none (reports errors ∷ cs) = opens_none cs
-opens_none (enables lamp mark ∷ cs) = opens_none cs
+opens_none cs = list_all (λ c. not (is_opening c)) cs
 
 abbrev pub phase_at : (B : Board) → ℕ → B.Record → ℕ
 phase_at B p d = (connection_at (B.shows d) p).phase
@@ -97,11 +94,7 @@ module _ (B : Board) where
 abbrev pub is_at_place : ℕ → Call → Bool
 is_at_place p (closes q) = q == p
 is_at_place p (receives q bs m) = q == p
-is_at_place p (opens random m) = false
-is_at_place p (passes n) = false
-is_at_place p (marks fault) = false
-is_at_place p (reports errors) = false
-is_at_place p (enables lamp mark) = false
+is_at_place p c = false
 
 abbrev pub others_got : (B : Board) → ℕ → B.Record → List Call → List Gave
 others_got B p d [] = []

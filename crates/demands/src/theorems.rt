@@ -17,6 +17,7 @@ ghost use Rattle.demands.specs.Demand3.{sets_up, run_of};
 ghost use Rattle.demands.specs.Interleaved.{heard};
 ghost use Rattle.demands.specs.Outsider.{unopened, IsNeverMatched};
 ghost use Rattle.demands.specs.Sample.{sockets, long_named, memory, with_cr, opened_after, two_opened, halves};
+ghost use Rattle.demands.specs.Settled.{Settles, SettlesClass2};
 ghost use Rattle.demands.specs.TwoRuns.{fresh_secured, led_on, calls_given, asking, waiting};
 ghost use Rattle.demands.specs.Unheard.{AllAlike, QuietOnceApart, phase_at};
 ghost use Rattle.demands.specs.WrongDoors.{secured_sample};
@@ -29,6 +30,12 @@ pub fn outsiders_read_erra()
         → p < places_count → let k = connection_at d p in k.phase ≡ awaiting
         → let g = gathered (held_most k.phase) k.line bytes in g.ended ≡ true → is_match d.settings k g.line ≡ false
         → read_reply c (received d p bytes room).reply ≡ without erra_said }
+{}
+
+/// The lines that settle the rules are answered so, and eleven of Class 2 (RULES, Commands and Class 2).
+pub fn ours_settles()
+    ensures class_1 { Settles ours }
+    ensures class_2 { SettlesClass2 ours }
 {}
 
 /// The bounds on a reply's length are reached: in Class 1 by 32 inputs, in Class 2 by the longest name of an input

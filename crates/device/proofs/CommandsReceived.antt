@@ -1,26 +1,22 @@
 -- The projector's half of demand 2's reading back: on a legal record between lines, for list_all command that can be
 -- written, its line is taken whole, the reply says what the command means, and the record is what the command does to
 -- it. On an open connection, and on an awaiting one behind the matching digest, which is open afterwards. So for
--- list_all
--- command of a class no higher than the set-up's; a higher one is taken and swallowed (RULES, Class 2).
+-- any command of a class no higher than the set-up's; a higher one is taken and swallowed (RULES, Class 2).
 --   reply_to k m                 the reply that says m to the command k
 --   command_result d p k n       the result of receiving it at place p where n bytes are taken
 --   swallowed_at d p n           the same of a command of a higher class: no reply, the connection open between lines
 -- Assumes nothing.
-use Rattle.std.specs.List.{list_all}
 use Rattle.std.proofs.Common.{ℕ, ◌+◌, ◌≤◌, ◌<◌, ◌≡◌, sym, ap, ◌∙◌, true, false, List, [], ◌∷◌, ◌++◌, append_assoc}
-use Rattle.std.proofs.Common.{arith, length, length-append, ◌==◌, codes}
+use Rattle.std.proofs.Common.{arith, length, length-append, codes}
 use Rattle.std.specs.Prelude.{Ok}
 use Rattle.digest.specs.Hex.{leading_digest}
 use Rattle.digest.proofs.Laws.{length-leading_digest}
-use Rattle.words.specs.Bytes.{not_cr}
 use Rattle.pjlink.specs.Commands.{body_text, body_of, command_class, class_digit, is_command, command_text}
 use Rattle.pjlink.specs.Commands.{command_line}
 use Rattle.pjlink.specs.declared.command.Command.{Command}
-use Rattle.words.proofs.Characters.{no_cr_each}
 use Rattle.pjlink.proofs.CommandLines.{command_length, command_no_cr}
 use Rattle.pjlink.specs.Said.{Said, said_bytes}
-use Rattle.record.specs.Limits.{places_count, shut, awaiting, opened}
+use Rattle.record.specs.Limits.{places_count, awaiting, opened}
 use Rattle.record.specs.Legal.{is_timed, is_legal}
 use Rattle.record.specs.Places.{connection_at, with_place}
 use Rattle.record.specs.declared.types.Connection.{Connection}
@@ -31,13 +27,10 @@ use Rattle.record.proofs.FactsTold.{connection_is}
 use Rattle.stream.specs.Collecting.{empty_line}
 use Rattle.meaning.specs.Meaning.{meant, done}
 use Rattle.device.specs.Answering.{Answered, line_answer}
-use Rattle.device.specs.Receiving.{turned, spoken, digest_long, set_up_password, taken_in}
-use Rattle.device.specs.Calls.{Result, reply_room, accepted_taken, received}
-use Rattle.device.proofs.Cases.{received_taken}
-use Rattle.device.proofs.Legal.{line_legal}
-use Rattle.stream.proofs.LegalLines.{between_lines}
-use Rattle.device.proofs.WholeLines.{open_line-taken, matching_line-taken, command_answered}
-use Rattle.device.proofs.WholeLines.{higher_swallowed}
+use Rattle.device.specs.Receiving.{turned, digest_long, set_up_password}
+use Rattle.device.specs.Calls.{Result, reply_room, received}
+use Rattle.device.proofs.LinesReceived.{line_result, line-received, led_line-received}
+use Rattle.device.proofs.WholeLines.{command_answered, higher_swallowed}
 
 abbrev pub reply_to : Command → Said → List ℕ
 reply_to k m =
@@ -59,9 +52,6 @@ swallowed_at d p n = record {
   device = with_place d d.own p (turned (connection_at d p) opened);
 }
 
-plain_text : (k : Command) → list_all not_cr (command_text k) ≡ true
-plain_text k = no_cr_each (command_text k) (command_no_cr k)
-
 -- an open connection between lines stays as it was
 pub open_again : (d : Device) (p : ℕ) → p < places_count → is_legal d ≡ true → (connection_at d p).phase ≡ opened
     → (connection_at d p).line ≡ empty_line → turned (connection_at d p) opened ≡ connection_at d p
@@ -77,12 +67,9 @@ module _ (d : Device) (p : ℕ) (there : p < places_count) (room : ℕ) (legal :
   abbrev c : Connection
   c = connection_at d p
 
-  empty : c.line ≡ empty_line
-  empty = between_lines c.phase c.line (line_legal c (legal_connection d legal p there)) unmarked none
-
   -- its line is taken whole, whatever it is answered
   abbrev spoken_after : ℕ → Answered → Result Device
-  spoken_after n a = accepted_taken d p (record { ended = spoken c a; taken = n })
+  spoken_after n a = line_result d p a n
 
   abbrev answered : Answered
   answered = line_answer d.settings d.own (command_text k)
@@ -90,19 +77,16 @@ module _ (d : Device) (p : ℕ) (there : p < places_count) (room : ℕ) (legal :
   abbrev pub digest : List ℕ
   digest = leading_digest c.random (set_up_password d.settings)
 
-  line-received : c.phase ≡ opened
+  command_line-received : c.phase ≡ opened
       → received d p (command_line k) room ≡ spoken_after (length (command_line k)) answered
-  line-received phase =
-      let short = command_length k in
-      received_taken d p (command_line k) room legal enough there (ap (λ (q : ℕ). q == shut) phase)
-      ∙ ap (accepted_taken d p)
-      (open_line-taken d.settings d.own c empty [] (command_text k) phase (omega arith) (plain_text k))
+  command_line-received phase =
+      line-received d p there room legal enough unmarked none (command_text k) (command_no_cr k) phase
+      (omega (arith, command_length k))
       ∙ ap (λ (n : ℕ). spoken_after n answered) (sym (length-append (command_text k) (codes "\r")))
 
   led_received : c.phase ≡ awaiting
       → received d p (digest ++ command_line k) room ≡ spoken_after (length (digest ++ command_line k)) answered
   led_received phase =
-      let short = command_length k in
       let count : digest_long + length (command_text k) + 1 ≡ length (digest ++ command_line k)
       = omega (
         arith,
@@ -110,11 +94,9 @@ module _ (d : Device) (p : ℕ) (there : p < places_count) (room : ℕ) (legal :
         length-append (command_text k) (codes "\r"),
         length-leading_digest c.random (set_up_password d.settings),
       ) in
-      received_taken d p (digest ++ command_line k) room legal enough there (ap (λ (q : ℕ). q == shut) phase)
-      ∙ ap (λ (bs : List ℕ). accepted_taken d p (taken_in d.settings d.own c bs))
-      (sym (append_assoc digest (command_text k) (codes "\r")))
-      ∙ ap (accepted_taken d p)
-      (matching_line-taken d.settings d.own c empty [] (command_text k) phase (omega arith) (plain_text k))
+      ap (λ (bs : List ℕ). received d p bs room) (sym (append_assoc digest (command_text k) (codes "\r")))
+      ∙ led_line-received d p there room legal enough unmarked none (command_text k) (command_no_cr k) phase
+      (omega (arith, command_length k))
       ∙ ap (λ (n : ℕ). spoken_after n answered) count
 
   module _ (writable : is_command k ≡ true) (within : command_class k ≤ d.settings.class_number) where
@@ -125,7 +107,7 @@ module _ (d : Device) (p : ℕ) (there : p < places_count) (room : ℕ) (legal :
 
     pub command_received : c.phase ≡ opened
         → received d p (command_line k) room ≡ command_result d p k (length (command_line k))
-    command_received phase = line-received phase ∙ answers (length (command_line k))
+    command_received phase = command_line-received phase ∙ answers (length (command_line k))
 
     pub command_received_secured : c.phase ≡ awaiting
         → received d p (digest ++ command_line k) room ≡ command_result d p k (length (digest ++ command_line k))
@@ -138,7 +120,7 @@ module _ (d : Device) (p : ℕ) (there : p < places_count) (room : ℕ) (legal :
 
     pub higher_received : c.phase ≡ opened
         → received d p (command_line k) room ≡ swallowed_at d p (length (command_line k))
-    higher_received phase = line-received phase ∙ swallows (length (command_line k))
+    higher_received phase = command_line-received phase ∙ swallows (length (command_line k))
 
     pub higher_received_secured : c.phase ≡ awaiting
         → received d p (digest ++ command_line k) room ≡ swallowed_at d p (length (digest ++ command_line k))

@@ -21,6 +21,7 @@ use Rattle.record.proofs.FactsTold.{connection_is}
 use Rattle.record.specs.Facts.{IsConnection}
 use Rattle.stream.proofs.LegalLines.{LegalLine, empty_legal, gathered_legal}
 use Rattle.meaning.proofs.Done.{done_legal}
+use Rattle.device.specs.Ready.{IsReady}
 use Rattle.device.specs.Answering.{Answered, line_asks, line_answer}
 use Rattle.device.specs.Receiving.{turned, line_ended, keeping_line, taken_in}
 use Rattle.device.specs.Calls.{Result, has_password, greeted, received, opened_by, closed_by}
@@ -68,6 +69,9 @@ module _ (c : Connection) where
     is_connection-keeping_line l n p =
         if_by (λ (k : Connection). is_connection k ≡ true) (c.phase == failed) (λ f. legal) (λ f.
         is_connection-with_line l (p (collecting c.phase known.phase n (eqb-false c.phase failed f))))
+
+pub parts_ready : (d : Device) → is_legal d ≡ true → IsReady d.settings d.own
+parts_ready d legal = record { settings = legal_settings d legal; own = legal_own d legal }
 
 -- the parts of receiving
 module _ (s : Settings) (o : Own) (settings : is_settings s ≡ true) (own : is_own s o ≡ true) where

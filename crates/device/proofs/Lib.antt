@@ -20,5 +20,3 @@ pub mod LinesReceived
 pub mod PowerRequests
 pub mod PowerLines
 pub mod Histories
-mod Used
-mod Written

@@ -13,8 +13,8 @@ use Rattle.pjlink.specs.Said.{Said, okay}
 use Rattle.pjlink.proofs.OnlyOkay.{NotOkay, refusal_not_okay, power_not_okay, nothing_not_okay}
 use Rattle.record.specs.declared.types.Settings.{Settings}
 use Rattle.record.specs.declared.types.Own.{Own}
-use Rattle.meaning.specs.Meaning.{power_said, meant, done}
-use Rattle.meaning.proofs.Cases.{decided_by}
+use Rattle.meaning.specs.Meaning.{power_said, request_answer, carried_out, meant, done}
+use Rattle.meaning.proofs.Cases.{Passes, refused_or_passed}
 
 pub data Outcome (s : Settings) (o : Own) (r : Request) (m : Said) (k : Own) : Type 0 where
   unchanged : NotOkay m → k.power ≡ o.power → k.left ≡ o.left → Outcome s o r m k
@@ -24,26 +24,12 @@ module _ (s : Settings) (o : Own) where
   abbrev pub Comes : Request → Type 0
   Comes r = Outcome s o r (meant s o r) (done s o r)
 
-  set_comes : (wanted : Bool) → Comes (Ok (PowerSet wanted))
-  set_comes wanted =
-      decided_by s o (Ok (PowerSet wanted)) (Outcome s o (Ok (PowerSet wanted)))
-      (λ a. unchanged (refusal_not_okay 1) refl refl) (λ a b. unchanged (refusal_not_okay 2) refl refl)
-      (λ a b c. unchanged (refusal_not_okay 4) refl refl) (λ a b c d. unchanged (refusal_not_okay 3) refl refl)
-      (λ p. carried wanted refl refl)
-
-  query_comes : Comes (Ok (Query Powr))
-  query_comes =
-      decided_by s o (Ok (Query Powr)) (Outcome s o (Ok (Query Powr)))
-      (λ a. unchanged (refusal_not_okay 1) refl refl) (λ a b. unchanged (refusal_not_okay 2) refl refl)
-      (λ a b c. unchanged (refusal_not_okay 4) refl refl) (λ a b c d. unchanged (refusal_not_okay 3) refl refl)
-      (λ p. unchanged (power_not_okay (power_said o.power)) refl refl)
-
-  unlisted_comes : Comes (Err (Unlisted Powr))
-  unlisted_comes =
-      decided_by s o (Err (Unlisted Powr)) (Outcome s o (Err (Unlisted Powr)))
-      (λ a. unchanged (refusal_not_okay 1) refl refl) (λ a b. unchanged (refusal_not_okay 2) refl refl)
-      (λ a b c. unchanged (refusal_not_okay 4) refl refl) (λ a b c d. unchanged (refusal_not_okay 3) refl refl)
-      (λ p. unchanged nothing_not_okay refl refl)
+  -- refused, it does nothing
+  comes : (r : Request) → (Passes s o r → Outcome s o r (request_answer s o r) (carried_out s o r)) → Comes r
+  comes r = refused_or_passed s o r (Outcome s o r) (λ n. unchanged (refusal_not_okay n) refl refl)
 
   pub powr_comes : (p : List ℕ) → Comes (asked_of Powr p)
-  powr_comes p = powr_by Comes p query_comes set_comes unlisted_comes
+  powr_comes p =
+      powr_by Comes p (comes (Ok (Query Powr)) (λ p. unchanged (power_not_okay (power_said o.power)) refl refl))
+      (λ wanted. comes (Ok (PowerSet wanted)) (λ p. carried wanted refl refl))
+      (comes (Err (Unlisted Powr)) (λ p. unchanged nothing_not_okay refl refl))

@@ -1,6 +1,5 @@
 //! A line on an open connection: decided over what it asks, then written.
 ghost use Rattle.std.specs.Prelude.{◌≡◌, ◌≤◌, length};
-ghost use Rattle.text.specs.Words.{over};
 ghost use Rattle.words.specs.Bytes.{◌at◌};
 ghost use Rattle.pjlink.specs.Forms.{reply_line};
 ghost use Rattle.pjlink.specs.Said.{parameter_most, said_bytes};
@@ -14,36 +13,31 @@ use record::types::{Own, Settings};
 use words::codec;
 use words::codec::Line;
 
-// The reply to a line of this class byte and these letters, from the start of the lent memory.
-fn put_reply(out: &mut [u8], class: u8, letters: [u8; 4], reply: &Reply<'_>) -> usize
-    requires room { 136 ≤ length out.old }
-    requires short { length (said_bytes (said_by reply.now)) ≤ parameter_most }
-    ensures value { result ≡ length (reply_line class (letters at 0) (letters at 1) (letters at 2)
-        (letters at 3) (said_bytes (said_by reply.now))) }
-    ensures written { out.new ≡ over (reply_line class (letters at 0) (letters at 1) (letters at 2)
-        (letters at 3) (said_bytes (said_by reply.now))) out.old }
+// The reply to a line of this class byte and these letters.
+fn reply_line(class: u8, letters: [u8; 4], reply: &Reply<'_>) -> Line
+    requires { length (said_bytes (said_by reply.now)) ≤ parameter_most }
+    ensures { result.items ≡ reply_line class (letters at 0) (letters at 1) (letters at 2)
+        (letters at 3) (said_bytes (said_by reply.now)) }
 {
     let [a, b, c, d] = letters;
     let mut line = Line::new();
     codec::put_all(&[b'%', class, a, b, c, d, b'='], &mut line);
     write::put_parameter(reply, &mut line);
     line.push(b'\r');
-    text::put(out, 0, line.as_slice());
-    line.len()
+    line
 }
 
 /// What the line asks is decided and answered; a line not of the form is swallowed.
-#[tactic(auto, unfolding(crate::specs::Answering::line_answer))]
-pub fn answer_line(s: &Settings, o: &mut Own, l: &[u8], out: &mut [u8]) -> usize
-    requires { IsReady s.now o.old (length out.old) }
-    ensures value { result ≡ length (line_answer s.now o.old l.now).reply }
+#[tactic(auto, using(meaning::proofs::CanBeSaid::meant_fits), unfolding(crate::specs::Answering::line_answer))]
+pub fn answer_line(s: &Settings, o: &mut Own, l: &[u8]) -> Line
+    requires { IsReady s.now o.old }
+    ensures reply { result.items ≡ (line_answer s.now o.old l.now).reply }
     ensures own { o.new ≡ (line_answer s.now o.old l.now).own }
-    ensures written { out.new ≡ over (line_answer s.now o.old l.now).reply out.old }
 {
     let Some(line) = form::command(s.class_number, l) else {
-        return 0;
+        return Line::new();
     };
     let asked = request::request(form::class_named(line.class), line.letters, line.parameter);
     let reply = meaning::decide(s, o, asked);
-    put_reply(out, line.class, line.letters, &reply)
+    reply_line(line.class, line.letters, &reply)
 }

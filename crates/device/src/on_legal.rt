@@ -8,10 +8,13 @@ ghost use Rattle.device.specs.Calls.{received, opened_by, place_taken, closed_by
 ghost use Rattle.device.specs.Outcomes.{told, receiving_told, opening_told, opened_place};
 
 use crate::calls::{Opened, Received};
+use crate::receiving::Taken;
 use crate::{places, receiving};
-use record::connection::{AWAITING, OPENED, SHUT};
+use record::connection::{AWAITING, OPENED};
 use record::refusal::Refusal;
 use record::types::{Connection, Device, PLACES, Settings};
+use words::codec;
+use words::codec::Line;
 
 /// Room for the longest reply that the standard allows.
 pub const REPLY_ROOM: usize = 136;
@@ -37,49 +40,59 @@ pub fn receive(
     if PLACES <= place {
         return Err(Refusal::OutOfRange);
     }
-    if device.connections[place].phase == SHUT {
+    if places::is_shut(&device.connections[place]) {
         return Err(Refusal::Closed);
     }
-    let received = receiving::take_in(
+    let Taken { taken, reply } = receiving::take_in(
         &device.settings,
         &mut device.own,
         &mut device.connections[place],
         bytes,
-        out,
     );
-    Ok(received)
+    Ok(Received {
+        taken,
+        length: lend(&reply, out),
+    })
 }
 
-// The greeting, from the start of the lent memory; its length.
-#[tactic(auto, unfolding(crate::specs::Calls::greeting))]
-fn put_greeting(s: &Settings, random: u32, out: &mut [u8]) -> usize
+// The line from the start of the lent memory; its length.
+#[tactic(auto, using(text::proofs::Stores::sets_over))]
+fn lend(line: &Line, out: &mut [u8]) -> usize
     requires { 136 ≤ length out.old }
-    ensures length { result ≡ length (greeting s.now random) }
-    ensures reply { out.new ≡ over (greeting s.now random) out.old }
+    ensures length { result ≡ length line.now.items }
+    ensures memory { out.new ≡ over line.now.items out.old }
 {
+    text::put(out, 0, line.as_slice());
+    line.len()
+}
+
+#[tactic(auto, unfolding(crate::specs::Calls::greeting))]
+fn greeting(s: &Settings, random: u32) -> Line
+    ensures { result.items ≡ greeting s.now random }
+{
+    let mut line = Line::new();
     if s.password.len == 0 {
-        text::put(out, 0, b"PJLINK 0\r");
-        return 9;
+        codec::put_all(b"PJLINK 0\r", &mut line);
+        return line;
     }
-    let digits = digest::hex8(random);
-    text::put(out, 0, b"PJLINK 1 ");
-    text::put(out, 9, &digits);
-    text::put(out, 17, b"\r");
-    18
+    codec::put_all(b"PJLINK 1 ", &mut line);
+    codec::put_all(&digest::hex8(random), &mut line);
+    line.push(b'\r');
+    line
 }
 
 // The connection as a greeting leaves it: open where there is no password, else awaiting the digest.
-#[tactic(auto, unfolding(crate::specs::Calls::greeted))]
+#[tactic(auto, using(stream::proofs::LinesSpelt::empty_spelt), unfolding(crate::specs::Calls::greeted))]
 fn greet(s: &Settings, random: u32, c: &mut Connection)
     ensures { c.new ≡ greeted s.now random }
 {
     *c = Connection::CLOSED;
     c.random = random;
-    if s.password.len == 0 {
-        c.phase = OPENED;
-        return;
-    }
-    c.phase = AWAITING;
+    c.phase = if s.password.len == 0 {
+        OPENED
+    } else {
+        AWAITING
+    };
 }
 
 /// As `calls::open`, but for `NotLegal`.
@@ -99,7 +112,7 @@ pub fn open(device: &mut Device, random: u32, out: &mut [u8]) -> Result<Opened, 
     if PLACES <= place {
         return Err(Refusal::NoPlace);
     }
-    let length = put_greeting(&device.settings, random, out);
+    let length = lend(&greeting(&device.settings, random), out);
     greet(&device.settings, random, &mut device.connections[place]);
     Ok(Opened { place, length })
 }
@@ -114,7 +127,7 @@ pub fn close(device: &mut Device, place: usize) -> Result<(), Refusal>
     if PLACES <= place {
         return Err(Refusal::OutOfRange);
     }
-    if device.connections[place].phase == SHUT {
+    if places::is_shut(&device.connections[place]) {
         return Err(Refusal::Closed);
     }
     device.connections[place] = Connection::CLOSED;

@@ -1,28 +1,25 @@
 // Receiving, on settings, the projector's own part and one connection.
-ghost use Rattle.std.specs.Prelude.{◌≡◌, min, length, take, drop};
-ghost use Rattle.text.specs.Words.{over};
-ghost use Rattle.digest.specs.Hex.{leading_digest};
+ghost use Rattle.std.specs.Prelude.{◌≡◌, take};
 ghost use Rattle.device.specs.Ready.{IsReady};
-ghost use Rattle.device.specs.Answering.{line_answer};
 ghost use Rattle.device.specs.Receiving.{turned, is_match, line_ended, keeping_line, taken_in};
 
 use crate::answering;
-use crate::calls::Received;
 use record::connection::{FAILED, OPENED};
-use record::types::{Connection, LINE_ROOM, Line, Own, Settings, TEXT_ROOM};
+use record::types::{Connection, Line, Own, Settings};
 use record::views::Phase;
+use words::codec;
 
-// A count that may lie past an array's end, cut there.
-fn within(n: usize, room: usize) -> usize
-    ensures { result ≡ min n room }
-{
-    if n <= room {
-        return n;
-    }
-    room
+const DIGEST_LONG: usize = 32;
+
+/// How many bytes are taken, and the reply to the line that they end: empty where there is none.
+#[derive(Drop)]
+pub struct Taken {
+    pub taken: usize,
+    pub reply: codec::Line,
 }
 
 // The connection in another phase, with nothing collected.
+#[tactic(auto, using(stream::proofs::LinesSpelt::empty_spelt))]
 fn turn(c: &mut Connection, phase: u8)
     ensures { c.new ≡ turned c.old phase }
 {
@@ -31,11 +28,11 @@ fn turn(c: &mut Connection, phase: u8)
     c.line = Connection::CLOSED.line;
 }
 
-fn digest_of(random: u32, secret: &[u8; TEXT_ROOM], len: usize) -> [u8; 32]
-    ensures { result ≡ leading_digest random (take len secret.now) }
+// The first `n` of the bytes, or all.
+fn first<const N: usize>(bytes: &[u8; N], n: usize) -> &[u8]
+    ensures { result.now ≡ take n bytes.now }
 {
-    let used = within(len, TEXT_ROOM);
-    digest::leading_digest(random, &secret[0..used])
+    &bytes[..n.min(N)]
 }
 
 // Whether the line starts with the digest of the random number and the password.
@@ -43,57 +40,43 @@ fn digest_of(random: u32, secret: &[u8; TEXT_ROOM], len: usize) -> [u8; 32]
 fn matches(s: &Settings, c: &Connection, l: &Line) -> bool
     ensures { result ≡ is_match s.now c.now l.now }
 {
-    let digest = digest_of(c.random, &s.password.bytes, s.password.len);
-    !l.overlong & (32 <= l.held) & text::same(&l.bytes[0..32], &digest)
+    !l.overlong
+        && DIGEST_LONG <= l.held
+        && text::same(
+            &l.bytes[..DIGEST_LONG],
+            &digest::leading_digest(c.random, first(&s.password.bytes, s.password.len)),
+        )
 }
 
-// The collected bytes, from the place `from` on, answered.
-fn answer_held(
-    bytes: &[u8; LINE_ROOM],
-    held: usize,
-    from: usize,
-    s: &Settings,
-    o: &mut Own,
-    out: &mut [u8],
-) -> usize
-    requires { IsReady s.now o.old (length out.old) }
-    ensures value { result ≡ length (line_answer s.now o.old (drop from (take held bytes.now))).reply }
-    ensures own { o.new ≡ (line_answer s.now o.old (drop from (take held bytes.now))).own }
-    ensures written { out.new ≡ over (line_answer s.now o.old (drop from (take held bytes.now))).reply out.old }
-{
-    let end = within(held, LINE_ROOM);
-    let start = within(from, end);
-    answering::answer_line(s, o, &bytes[start..end], out)
-}
-
-// What CR does: the reply's length.
+// What CR does; the reply, empty where there is none.
 #[tactic(auto, unfolding(crate::specs::Receiving::line_ended))]
-fn end_line(s: &Settings, o: &mut Own, c: &mut Connection, l: &Line, out: &mut [u8]) -> usize
-    requires { IsReady s.now o.old (length out.old) }
-    ensures value { result ≡ length (line_ended s.now o.old c.old l.now).reply }
+fn end_line(s: &Settings, o: &mut Own, c: &mut Connection, l: &Line) -> codec::Line
+    requires { IsReady s.now o.old }
+    ensures reply { result.items ≡ (line_ended s.now o.old c.old l.now).reply }
     ensures own { o.new ≡ (line_ended s.now o.old c.old l.now).own }
     ensures connection { c.new ≡ (line_ended s.now o.old c.old l.now).connection }
-    ensures written { out.new ≡ over (line_ended s.now o.old c.old l.now).reply out.old }
 {
+    let mut reply = codec::Line::new();
     match c.phase() {
         Phase::Open { .. } => {
             turn(c, OPENED);
-            if l.overlong {
-                return 0;
+            if !l.overlong {
+                reply = answering::answer_line(s, o, first(&l.bytes, l.held));
             }
-            answer_held(&l.bytes, l.held, 0, s, o, out)
         }
         Phase::Awaiting { .. } => {
             if matches(s, c, l) {
                 turn(c, OPENED);
-                return answer_held(&l.bytes, l.held, 32, s, o, out);
+                let (_, line) = first(&l.bytes, l.held).split_at(DIGEST_LONG);
+                reply = answering::answer_line(s, o, line);
+            } else {
+                turn(c, FAILED);
+                codec::put_all(b"PJLINK ERRA\r", &mut reply);
             }
-            text::put(out, 0, b"PJLINK ERRA\r");
-            turn(c, FAILED);
-            12
         }
-        Phase::Closed | Phase::Failed { .. } => 0,
+        Phase::Closed | Phase::Failed { .. } => (),
     }
+    reply
 }
 
 // A failed connection keeps no byte.
@@ -108,32 +91,25 @@ fn keep(c: &mut Connection, l: &Line)
 
 // Takes the bytes up to and including the first CR, or all.
 #[tactic(auto, unfolding(crate::specs::Receiving::taken_in))]
-pub fn take_in(
-    s: &Settings,
-    o: &mut Own,
-    c: &mut Connection,
-    bytes: &[u8],
-    out: &mut [u8],
-) -> Received
-    requires { IsReady s.now o.old (length out.old) }
+pub fn take_in(s: &Settings, o: &mut Own, c: &mut Connection, bytes: &[u8]) -> Taken
+    requires { IsReady s.now o.old }
     ensures taken { result.taken ≡ (taken_in s.now o.old c.old bytes.now).taken }
-    ensures value { result.length ≡ length (taken_in s.now o.old c.old bytes.now).ended.reply }
+    ensures reply { result.reply.items ≡ (taken_in s.now o.old c.old bytes.now).ended.reply }
     ensures own { o.new ≡ (taken_in s.now o.old c.old bytes.now).ended.own }
     ensures connection { c.new ≡ (taken_in s.now o.old c.old bytes.now).ended.connection }
-    ensures written { out.new ≡ over (taken_in s.now o.old c.old bytes.now).ended.reply out.old }
 {
     let mut line = c.line;
     let passed = stream::gather(c.phase, &mut line, bytes);
     if !passed.ended {
         keep(c, &line);
-        return Received {
+        return Taken {
             taken: passed.before,
-            length: 0,
+            reply: codec::Line::new(),
         };
     }
-    let length = end_line(s, o, c, &line, out);
-    Received {
+    let reply = end_line(s, o, c, &line);
+    Taken {
         taken: passed.before + 1,
-        length,
+        reply,
     }
 }

@@ -5,7 +5,7 @@ use Rattle.std.proofs.Common.{replicate, sym, refl, ap, ◌∙◌, append_assoc,
 use Rattle.std.proofs.Common.{length-drop, drop_of_length-le, take_all, drop-drop}
 use Rattle.std.proofs.lemmas.List.{take-append-le, drop-append-le}
 use Rattle.std.proofs.Math.Path.{◌≡⟨◌⟩◌, ◌∎}
-use Rattle.digest.specs.Words.{low_first}
+use Rattle.std.specs.Int.{to_le_bytes, w64}
 use Rattle.digest.specs.Padding.{zeros_after, bit_length, padding}
 use Rattle.digest.specs.Rounds.{block_of}
 use Rattle.digest.specs.Md5.{start_words, blocks_of, whole_blocks, digest_bytes, md5_of, finishing}
@@ -56,7 +56,7 @@ padding_by_rest : (m n b : ℕ) → m % 64 ≡ n % 64 → padding m b ≡ paddin
 unfolding padding zeros_after
 padding_by_rest m n b e =
     let same : zeros_after m ≡ zeros_after n = omega arith in
-    ap (λ (z : ℕ). 0x80 ∷ (replicate z 0 ++ low_first 8 b)) same
+    ap (λ (z : ℕ). 0x80 ∷ (replicate z 0 ++ to_le_bytes w64 b)) same
 
 -- the blocks of s and then the last ones are those of s with its padding
 pub finished : (s rest : List ℕ) (b : ℕ) (q : Buffer) → rest ≡ drop (length s / 64 * 64) s

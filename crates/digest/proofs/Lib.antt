@@ -3,10 +3,8 @@ mod Rotation
 mod Chosen
 mod Rows
 mod Stored
-mod Blocks
 mod Padded
-mod Parts
-mod Written
+mod Blocks
 pub mod Laws
 mod OneResult
 mod Vectors

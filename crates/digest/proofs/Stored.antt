@@ -1,26 +1,30 @@
--- Stores over a whole list, at its front, and between two parts of it.
+-- Stores over zeros from their start on, and stores up to an end.
 -- Assumes nothing.
-use Rattle.std.proofs.Common.{◌≡◌, ℕ, ◌+◌, ◌≤◌, List, ◌++◌, length, take, drop, sym, ap, ◌∙◌, append_assoc, append-nil}
-use Rattle.std.proofs.Common.{arith, length-append, drop_of_length-le, take_at, drop_at}
-use Rattle.std.proofs.Math.Seq.{sets, sets-eq}
+use Rattle.std.proofs.Common.{◌≡◌, ℕ, ◌+◌, ◌-◌, ◌≤◌, List, ◌++◌, length, take, replicate, ap, ◌∙◌, append-nil}
+use Rattle.std.proofs.Common.{arith, length-append, take_at}
+use Rattle.std.proofs.lemmas.List.{length-take-le, length-replicate, take-replicate, drop-replicate}
+use Rattle.std.proofs.Math.Seq.{sets, sets-eq, take-append-add}
 use Rattle.text.proofs.Stores.{sets_over}
 
-pub sets_whole : (r m : List ℕ) → length r ≡ length m → sets m 0 r ≡ r
-sets_whole r m e =
-    sets_over r m (omega arith)
-    ∙ ap (λ (l : List ℕ). r ++ l) (drop_of_length-le m {i = length r} (omega arith))
-    ∙ append-nil r
+pub take-sets_zeros : (n k : ℕ) (xs : List ℕ) → length xs ≤ k → k ≤ n
+    → take k (sets (replicate n 0) 0 xs) ≡ xs ++ replicate (k - length xs) 0
+take-sets_zeros n k xs h l =
+    let over_zeros = sets_over xs (replicate n 0) (simp length-replicate (omega arith)) in
+    let stored = over_zeros ∙ ap (λ (z : List ℕ). xs ++ z) (drop-replicate (length xs) n 0) in
+    let split : k ≡ length xs + (k - length xs) = omega arith in
+    let rest = take-replicate (k - length xs) (n - length xs) 0 (omega arith) in
+    (λ i. take (split i) (stored i))
+    ∙ take-append-add xs (replicate (n - length xs) 0) (k - length xs)
+    ∙ ap (λ (z : List ℕ). xs ++ z) rest
 
-pub sets_front : (r m : List ℕ) (n : ℕ) → length r ≡ n → n ≤ length m → take n (sets m 0 r) ≡ r
-sets_front r m n e h = ap (take n) (sets_over r m (omega arith)) ∙ take_at r (drop (length r) m) n e
+pub take-sets_exactly : (n k : ℕ) (xs : List ℕ) → length xs ≡ k → k ≤ n → take k (sets (replicate n 0) 0 xs) ≡ xs
+take-sets_exactly n k xs h l =
+    let none : k - length xs ≡ 0 = omega arith in
+    take-sets_zeros n k xs (omega arith) l ∙ ap (λ (z : ℕ). xs ++ replicate z 0) none ∙ append-nil xs
 
-pub sets_between : (a b c vs : List ℕ) (n : ℕ) → length a ≡ n → length b ≡ length vs
-    → sets (a ++ (b ++ c)) n vs ≡ a ++ (vs ++ c)
-sets_between a b c vs n ea eb =
-    let room : n + length vs ≤ length (a ++ (b ++ c)) = simp length-append (omega arith) in
-    let past : length (a ++ b) ≡ n + length vs = simp length-append (omega arith) in
-    let after : drop (n + length vs) (a ++ (b ++ c)) ≡ c =
-    ap (drop (n + length vs)) (sym (append_assoc a b c)) ∙ drop_at (a ++ b) c (n + length vs) past in
-    sets-eq vs (a ++ (b ++ c)) n room
-    ∙ (λ i. take_at a (b ++ c) n ea i ++ vs ++ after i)
-    ∙ append_assoc a vs c
+pub take-sets_end : (m vs : List ℕ) (i k : ℕ) → i + length vs ≡ k → k ≤ length m
+    → take k (sets m i vs) ≡ take i m ++ vs
+take-sets_end m vs i k e h =
+    let part = length-take-le i m (omega arith) in
+    let long : length (take i m ++ vs) ≡ k = simp length-append (omega arith) in
+    ap (take k) (sets-eq vs m i (omega arith)) ∙ take_at (take i m ++ vs) _ k long

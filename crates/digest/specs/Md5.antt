@@ -7,7 +7,7 @@
 --   finishing q s b     the digest of a message of b bits that ends with s, from the words q after the blocks before s
 -- Assumes nothing.
 use Rattle.std.specs.Prelude.{ℕ, zero, suc, ◌*◌, ◌/◌, List, ◌++◌, length, take, drop}
-use Rattle.digest.specs.Words.{low_first}
+use Rattle.std.specs.Int.{to_le_bytes, w32}
 use Rattle.digest.specs.Padding.{padding, padded}
 use Rattle.digest.specs.Rounds.{block_of}
 use Rattle.digest.specs.declared.Buffer.{Buffer}
@@ -23,7 +23,7 @@ abbrev pub whole_blocks : List ℕ → Buffer → Buffer
 whole_blocks xs q = blocks_of (length xs / 64) xs q
 
 abbrev pub digest_bytes : Buffer → List ℕ
-digest_bytes q = low_first 4 q.a ++ (low_first 4 q.b ++ (low_first 4 q.c ++ low_first 4 q.d))
+digest_bytes q = to_le_bytes w32 q.a ++ (to_le_bytes w32 q.b ++ (to_le_bytes w32 q.c ++ to_le_bytes w32 q.d))
 
 unfoldable pub md5_of : List ℕ → List ℕ
 md5_of s = digest_bytes (whole_blocks (padded s) start_words)

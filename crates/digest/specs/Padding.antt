@@ -5,7 +5,7 @@
 --   padded s          the message s with its padding and its length
 -- Assumes nothing.
 use Rattle.std.specs.Prelude.{ℕ, ◌+◌, ◌-◌, ◌*◌, ◌%◌, ◌^◌, List, ◌∷◌, ◌++◌, length, replicate}
-use Rattle.digest.specs.Words.{low_first}
+use Rattle.std.specs.Int.{to_le_bytes, w64}
 
 unfoldable pub zeros_after : ℕ → ℕ
 zeros_after n = (64 + 56 - (n + 1) % 64) % 64
@@ -14,7 +14,7 @@ abbrev pub bit_length : ℕ → ℕ
 bit_length n = (8 * n) % 2 ^ 64
 
 unfoldable pub padding : ℕ → ℕ → List ℕ
-padding n b = 0x80 ∷ (replicate (zeros_after n) 0 ++ low_first 8 b)
+padding n b = 0x80 ∷ (replicate (zeros_after n) 0 ++ to_le_bytes w64 b)
 
 abbrev pub padded : List ℕ → List ℕ
 padded s = s ++ padding (length s) (bit_length (length s))

@@ -1,11 +1,10 @@
--- Words of 32 bits and their bytes (RFC 1321, 2).
+-- Words of 32 bits (RFC 1321, 2).
 --   x plus y          "+": addition of words, modulo 2^32
 --   complement x      "not(X)": the bit-wise complement of a word
 --   x <<< s           "X <<< s": x circularly shifted left by s bit positions
 --   word_at xs k      the word of the four bytes of xs from k on, low-order byte first
---   low_first n x     the n bytes of the number x, low-order byte first
 -- Assumes nothing.
-use Rattle.std.specs.Prelude.{ℕ, zero, suc, ◌+◌, ◌-◌, ◌*◌, ◌/◌, ◌%◌, ◌^◌, List, [], ◌∷◌, slice_index}
+use Rattle.std.specs.Prelude.{ℕ, ◌+◌, ◌-◌, ◌*◌, ◌/◌, ◌%◌, ◌^◌, List, slice_index}
 
 infixl 60 ◌plus◌
 infixl 65 ◌<<<◌
@@ -22,7 +21,3 @@ abbrev pub word_at : List ℕ → ℕ → ℕ
 word_at xs k =
     slice_index xs k + slice_index xs (k + 1) * 2 ^ 8 + slice_index xs (k + 2) * 2 ^ 16
     + slice_index xs (k + 3) * 2 ^ 24
-
-abbrev pub low_first : ℕ → ℕ → List ℕ
-low_first zero x = []
-low_first (suc n) x = x % 256 ∷ low_first n (x / 256)

@@ -37,8 +37,7 @@ pub fn blocks(s: &[u8], q: Buffer) -> Buffer
     let mut p = q;
     for k in 0..s.len() / 64 {
         let from = k * 64;
-        let to = from + 64;
-        p = block(&s[from..to], p);
+        p = block(&s[from..from + 64], p);
     }
     p
 }

@@ -37,14 +37,12 @@ pub fn eight(x: u32) -> [u8; 8]
 }
 
 // The digits of 16 bytes.
-pub fn all(b: &[u8]) -> [u8; 32]
-    requires { length b.now ≡ 16 }
+pub fn all(b: &[u8; 16]) -> [u8; 32]
     ensures { result ≡ hex_of b.now }
 {
     let mut out = [0u8; 32];
     for (i, x) in b.iter().enumerate() {
-        let d = two(*x);
-        text::put(&mut out, 2 * i, &d);
+        text::put(&mut out, 2 * i, &two(*x));
     }
     out
 }

@@ -4,11 +4,13 @@
 mod block;
 mod digits;
 mod tail;
+#[cfg(test)]
+mod tests;
 pub mod theorems;
 mod word;
 
 ghost use Rattle.std.specs.Prelude.{◌≡◌, ◌≤◌, ◌++◌, length};
-ghost use Rattle.digest.specs.Md5.{start_words, md5_of, finishing};
+ghost use Rattle.digest.specs.Md5.{start_words, digest_bytes, md5_of, finishing};
 ghost use Rattle.digest.specs.Hex.{hex_of, hex_digits, hex_value, leading_digest};
 
 use std::num::wrapping_add_u64;
@@ -22,20 +24,39 @@ struct Buffer {
     d: u32,
 }
 
+/// The 16 bytes of a digest, as RFC 1321 has them.
 #[repr(C)]
 #[derive(Clone, Copy)]
 pub struct Digest {
     pub bytes: [u8; 16],
 }
 
-fn start() -> Buffer
-    ensures { result ≡ start_words }
-{
-    Buffer {
-        a: 0x67452301,
-        b: 0xefcdab89,
-        c: 0x98badcfe,
-        d: 0x10325476,
+impl Buffer {
+    // 3.3: the words before the first block.
+    fn start() -> Buffer
+        ensures { result ≡ start_words }
+    {
+        Buffer {
+            a: 0x67452301,
+            b: 0xefcdab89,
+            c: 0x98badcfe,
+            d: 0x10325476,
+        }
+    }
+
+    // 3.5: the words as bytes, low-order byte of A first.
+    fn digest(self) -> Digest
+        ensures { result.bytes ≡ digest_bytes self }
+    {
+        let [a0, a1, a2, a3] = self.a.to_le_bytes();
+        let [b0, b1, b2, b3] = self.b.to_le_bytes();
+        let [c0, c1, c2, c3] = self.c.to_le_bytes();
+        let [d0, d1, d2, d3] = self.d.to_le_bytes();
+        Digest {
+            bytes: [
+                a0, a1, a2, a3, b0, b1, b2, b3, c0, c1, c2, c3, d0, d1, d2, d3,
+            ],
+        }
     }
 }
 
@@ -45,13 +66,14 @@ fn finish(s: &[u8], bits: u64, q: Buffer) -> Digest
 {
     let p = block::blocks(s, q);
     let from = s.len() / 64 * 64;
-    tail::bytes(tail::last(&s[from..], bits, p))
+    tail::last(&s[from..], bits, p).digest()
 }
 
+/// The MD5 digest of a message of any length (RFC 1321).
 pub fn md5(s: &[u8]) -> Digest
     ensures { result.bytes ≡ md5_of s.now }
 {
-    finish(s, tail::bit_length(s.len()), start())
+    finish(s, tail::bit_length(s.len()), Buffer::start())
 }
 
 // The digest of `head` and s, one after the other, of any length.
@@ -63,35 +85,37 @@ fn md5_after(head: [u8; 8], s: &[u8]) -> Digest
     if s.len() < 56 {
         text::put(&mut t, 8, s);
         let n = 8 + s.len();
-        return md5(&t[0..n]);
+        return md5(&t[..n]);
     }
-    text::put(&mut t, 8, &s[0..56]);
-    let q = block::block(&t, start());
+    text::put(&mut t, 8, &s[..56]);
+    let q = block::block(&t, Buffer::start());
     finish(&s[56..], wrapping_add_u64(tail::bit_length(s.len()), 64), q)
 }
 
+/// A digest in lowercase hexadecimal digits, two a byte.
 pub fn hex(d: Digest) -> [u8; 32]
     ensures { result ≡ hex_of d.bytes }
 {
-    let b = d.bytes;
-    digits::all(&b)
+    digits::all(&d.bytes)
 }
 
+/// The eight lowercase hexadecimal digits of a number, the highest first.
 pub fn hex8(x: u32) -> [u8; 8]
     ensures { result ≡ hex_digits 8 x }
 {
     digits::eight(x)
 }
 
-// The number of at most eight hexadecimal digits.
+/// The number of at most eight hexadecimal digits; a byte that is no digit counts as 0.
 pub fn hex_value(s: &[u8]) -> u32
-    requires { length s.now ≤ 8 }
+    requires fits { length s.now ≤ 8 }
     ensures { result ≡ hex_value s.now }
 {
     digits::value(s)
 }
 
-// What a controller that knows the password leads its first line with (PJLink 1.04, 5.1).
+/// What a controller that knows the password leads its first line with (PJLink 1.04, 5.1): the digest of the random
+/// number's eight digits and the password, in hex.
 pub fn leading_digest(random: u32, password: &[u8]) -> [u8; 32]
     ensures { result ≡ leading_digest random password.now }
 {

@@ -1,14 +1,22 @@
 // What is proved beside the contracts of the functions. Nothing is done here: that these functions have their contracts
 // is that the theorems stand.
-ghost use Rattle.std.specs.Prelude.{◌≡◌, List, ℕ};
+ghost use Rattle.std.specs.Prelude.{◌≡◌, ◌+◌, ◌%◌, ◌<◌, List, ℕ};
 ghost use Rattle.digest.specs.TestSuite.{TestSuite};
 ghost use Rattle.digest.specs.declared.Digest.{Digest};
 ghost use Rattle.digest.specs.Md5.{md5_of};
+ghost use Rattle.digest.specs.Padding.{zeros_after};
 ghost use Rattle.digest.specs.Hex.{hex_of, hex_digits, hex_value, leading_digest};
 
 /// The definition gives the digests that RFC 1321 publishes, and that of PJLink's example.
 pub fn published_digests_come_out()
     ensures { TestSuite }
+{}
+
+/// RFC 1321, 3.1: the zeros bring a message's length to 448 bits modulo 512, and no more of them than that takes.
+#[tactic(auto, unfolding(crate::specs::Padding::zeros_after))]
+pub fn zeros_reach_448_bits()
+    ensures reached { (n : ℕ) → (n + 1 + zeros_after n) % 64 ≡ 56 }
+    ensures fewest { (n : ℕ) → zeros_after n < 64 }
 {}
 
 /// Two results that meet the promise of a call are equal.

@@ -3,6 +3,7 @@ ghost use Rattle.std.specs.Prelude.{◌≡◌, ◌+◌, ◌≤◌, ◌<◌, leng
 ghost use Rattle.std.proofs.lemmas.List.Edits.{sets};
 ghost use Rattle.floorlog.specs.Ending.{is_formed, end_mark, ending};
 
+use crate::digits;
 use crate::line::Says;
 
 // Whether a line has one of the four forms.
@@ -31,7 +32,7 @@ fn put_mark(out: &mut [u8], at: usize, formed: bool, number: u32, replied: usize
     }
     if number != 0 {
         text::put(out, at, b"! ");
-        return numbers::put_number(out, at + 2, number);
+        return digits::put_number(out, at + 2, number);
     }
     if replied == 0 {
         out[at] = b'-';

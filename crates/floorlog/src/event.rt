@@ -9,8 +9,8 @@ ghost use Rattle.floorlog.specs.Events.{event_of};
 ghost use Rattle.floorlog.specs.Doing.{log_place, opened_in_log, did, print_room};
 ghost use Rattle.floorlog.specs.Told.{called_of, called_by, seconds_of, Drives, PrintedAs};
 
-use crate::ending;
 use crate::line::Says;
+use crate::{digits, ending};
 use device::calls::{Opened, Received};
 use device::on_legal;
 use record::connection::SHUT;
@@ -170,7 +170,7 @@ pub fn print(t: &mut Tested, number: u64, says: Says, bytes: &[u8], out: &mut [u
     ensures { PrintedAs number t.old.device (event_of says bytes.now) out.old
         result t.new.device out.new }
 {
-    let space = numbers::put_long(out, 0, number);
+    let space = digits::put_long(out, 0, number);
     text::put(out, space, b" ");
     let at = space + 1;
     let called = call(t, says, bytes, &mut out[at..]);

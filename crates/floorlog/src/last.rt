@@ -4,6 +4,7 @@ ghost use Rattle.std.proofs.lemmas.List.Edits.{sets};
 ghost use Rattle.text.specs.Words.{over};
 ghost use Rattle.floorlog.specs.LastLine.{lamps_shown, lamps_room, last_room, last_line_of, last_device_line};
 
+use crate::digits;
 use record::types::{Device, LAMPS_MOST};
 
 // A space and the seconds of each lamp, from the place `at` on; the place after them.
@@ -15,7 +16,7 @@ fn put_lamps(out: &mut [u8], at: usize, lamps: [u32; LAMPS_MOST], count: usize) 
     let mut place = at;
     for k in 0..count.min(LAMPS_MOST) {
         text::put(out, place, b" ");
-        place = numbers::put_number(out, place + 1, lamps[k]);
+        place = digits::put_number(out, place + 1, lamps[k]);
     }
     place
 }
@@ -35,7 +36,7 @@ fn put_line(out: &mut [u8], power: u8, lamps: [u32; LAMPS_MOST], count: usize) -
     ensures written { out.new ≡ over (last_line_of power (take count lamps)) out.old }
 {
     text::put(out, 0, b"power ");
-    let after_power = numbers::put_number(out, 6, wide(power));
+    let after_power = digits::put_number(out, 6, wide(power));
     text::put(out, after_power, b" lamps");
     let after_lamps = put_lamps(out, after_power + 6, lamps, count);
     text::put(out, after_lamps, b"\n");

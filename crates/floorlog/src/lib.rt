@@ -4,6 +4,7 @@
 #![tactic(auto)]
 
 pub mod cut;
+mod digits;
 mod ending;
 pub mod event;
 mod last;

@@ -2,15 +2,14 @@
 --   Fits m      the parameter that says m has at most 128 bytes and no CR
 -- Assumes nothing.
 use Rattle.std.specs.List.{list_all}
-use Rattle.std.proofs.Common.{ℕ, ◌+◌, ◌*◌, ◌/◌, ◌<◌, ◌≤◌, ◌≡◌, refl, sym, ap, ◌∙◌, Bool, true, false, ◌||◌, arith}
+use Rattle.std.proofs.Common.{ℕ, ◌+◌, ◌*◌, ◌/◌, ◌<◌, ◌≤◌, ◌≡◌, refl, sym, ap, ◌∙◌, Bool, true, false, not, ◌||◌, arith}
 use Rattle.std.proofs.Common.{length, slice_index_or, take, leb-true, le-leb}
-use Rattle.std.proofs.lemmas.Bool.{false≢true, eqb-false, not-false}
+use Rattle.std.proofs.lemmas.Bool.{false≢true, eqb-false}
 use Rattle.std.proofs.Math.Bool.{or-true}
 use Rattle.std.specs.Prelude.{Option, unwrap_or, Ok, Err}
 use Rattle.text.proofs.Scanning.{list_all_by_place}
 use Rattle.words.specs.Bytes.{no_cr}
 use Rattle.words.specs.Inputs.{is_input}
-use Rattle.pjlink.specs.Bodies.{has_parameters}
 use Rattle.pjlink.specs.declared.body.Body.TheVariants.{Powr, Inpt, Avmt, Erst, Lamp, Inst, Name, Inf1, Inf2, Info}
 use Rattle.pjlink.specs.declared.body.Body.TheVariants.{Clss, Frez, Svol, Mvol, Snum, Sver, Innm, Inpt2, Inst2}
 use Rattle.pjlink.specs.declared.command.Command.{Command}
@@ -21,7 +20,7 @@ use Rattle.words.proofs.SourcesFollowed.{named_stands}
 use Rattle.words.specs.declared.input.Input.{Input}
 use Rattle.pjlink.specs.Requests.{Request}
 use Rattle.pjlink.specs.declared.request.Unasked.TheVariants.{Unlisted, UnknownBody}
-use Rattle.pjlink.specs.Said.{Said, said_bytes, said_most}
+use Rattle.pjlink.specs.Said.{Said, said_bytes, said_most, refused}
 use Rattle.pjlink.specs.Carried.{inputs_carried}
 use Rattle.pjlink.specs.CanSay.{has_own_parameter, is_refusal_to}
 use Rattle.pjlink.specs.CanSay.{CanSay, done, refuses, power, input, mutes, errors, lamps, inputs, name, maker, model}
@@ -43,10 +42,21 @@ use Rattle.record.proofs.FactsTold.{own_is, settings_is}
 use Rattle.meaning.specs.SetUpInputs.{no_input, pairs_of, inputs_of, place_of}
 use Rattle.meaning.specs.Rules.{is_undefined, is_unlisted}
 use Rattle.meaning.proofs.LampsSaid.{length-lamps_said, list_all-lamps_said}
-use Rattle.meaning.specs.Meaning.{chosen_of, lamp_said, lamps_of, table_answer, meant}
+use Rattle.meaning.specs.Meaning.{chosen_of, lamp_said, lamps_of, table_answer, request_answer, meant}
 use Rattle.meaning.proofs.InputsByPlace.{inputs_counted, input_in_use}
 use Rattle.meaning.proofs.ClassKnown.{class_low, class_high}
 use Rattle.meaning.proofs.Cases.{Passes, meant_by}
+
+pub record Fits (m : Said) : Type 0 where
+  pub short : length (said_bytes m) ≤ said_most
+  pub has_no_cr : no_cr (said_bytes m) ≡ true
+
+fits : {c : Command} {m : Said} → CanSay c m → Fits m
+fits w = record { short = said_within_most w; has_no_cr = (said_plain w).1 }
+
+-- a set may be refused by any number
+refusal_fits : (n : ℕ) → 1 ≤ n → n ≤ 4 → Fits (refused n)
+refusal_fits n low high = fits {c = PowerSet true} (refuses n low high refl)
 
 -- the inputs of a legal set-up
 module _ (s : Settings) (t : IsSettings s) where
@@ -150,31 +160,13 @@ module _ (s : Settings) (o : Own) (settings : is_settings s ≡ true) (own : is_
       (λ a b f u. refuses 3 (omega arith) (omega arith) (any_refused c))
       (λ p. told_can_be_said c p.defined)
 
-  -- a request that is no command is refused, and a set may be refused by any number
-  always_refused : (r : Request) → (Passes s o r → ⊥) → CanSay (PowerSet true) (meant s o r)
-  always_refused r n =
-      meant_by s o r (CanSay (PowerSet true))
-      (λ a. refuses 1 (omega arith) (omega arith) refl) (λ a b. refuses 2 (omega arith) (omega arith) refl)
-      (λ a b c. refuses 4 (omega arith) (omega arith) refl) (λ a b c d. refuses 3 (omega arith) (omega arith) refl)
-      (λ p. absurd (n p))
-
-  abbrev coded_command : Request → Command
-  coded_command (Ok c) = c
-  coded_command (Err (Unlisted b)) = PowerSet true
-  coded_command (Err UnknownBody) = PowerSet true
-
-  answer_can_be_said : (r : Request) → CanSay (coded_command r) (meant s o r)
-  answer_can_be_said (Ok c) = meant_can_be_said c
-  answer_can_be_said (Err (Unlisted b)) =
-      always_refused (Err (Unlisted b)) (λ p. false≢true (sym p.listed ∙ not-false (has_parameters b) p.defined))
-  answer_can_be_said (Err UnknownBody) = always_refused (Err UnknownBody) (λ p. false≢true (sym p.defined))
-
-pub record Fits (m : Said) : Type 0 where
-  pub short : length (said_bytes m) ≤ said_most
-  pub has_no_cr : no_cr (said_bytes m) ≡ true
-
-pub meant_fits : (s : Settings) (o : Own) → is_settings s ≡ true → is_own s o ≡ true → (r : Request) →
-    Fits (meant s o r)
-meant_fits s o settings own r =
-    let w = answer_can_be_said s o settings own r in
-    record { short = said_within_most w; has_no_cr = (said_plain w).1 }
+  pub meant_fits : (r : Request) → Fits (meant s o r)
+  meant_fits r =
+      meant_by s o r Fits (λ a. refusal_fits 1 (omega arith) (omega arith))
+      (λ a b. refusal_fits 2 (omega arith) (omega arith)) (λ a b c. refusal_fits 4 (omega arith) (omega arith))
+      (λ a b c d. refusal_fits 3 (omega arith) (omega arith)) (passed_fits r)
+    where
+      passed_fits : (r : Request) → Passes s o r → Fits (request_answer s o r)
+      passed_fits (Ok c) p = fits (told_can_be_said c p.defined)
+      passed_fits (Err (Unlisted b)) p = absurd (false≢true (sym p.defined ∙ ap not p.listed))
+      passed_fits (Err UnknownBody) p = absurd (false≢true (sym p.defined))

@@ -1,7 +1,7 @@
 -- The answer and what is done, by the rules: which rule decides, and what holds of both because it holds in every case.
 --   Passes s o r      no rule refuses the request
 -- Assumes nothing.
-use Rattle.std.proofs.Common.{◌≡◌, refl, ◌∙◌, Bool, true, false, ◌||◌}
+use Rattle.std.proofs.Common.{ℕ, ◌≡◌, refl, ◌∙◌, Bool, true, false, ◌||◌}
 use Rattle.std.specs.Prelude.{if◌then◌else◌}
 use Rattle.text.proofs.Choices.{if_yes, if_no}
 use Rattle.pjlink.specs.Requests.{Request}
@@ -54,8 +54,13 @@ module _ (s : Settings) (o : Own) (r : Request) where
   meant_by P = decided_by (λ m k. P m)
 
   -- either some rule refuses and nothing is done, or none does
+  pub refused_or_passed : (P : Said → Own → Type 0) → ((n : ℕ) → P (refused n) o)
+      → (Passes → P (request_answer s o r) (carried_out s o r)) → P (meant s o r) (done s o r)
+  refused_or_passed P refuses =
+      decided_by P (λ a. refuses 1) (λ a b. refuses 2) (λ a b c. refuses 4) (λ a b c d. refuses 3)
+
   pub done_by : (P : Own → Type 0) → P o → (Passes → P (carried_out s o r)) → P (done s o r)
-  done_by P kept n = decided_by (λ m k. P k) (λ a. kept) (λ a b. kept) (λ a b c. kept) (λ a b c d. kept) n
+  done_by P kept = refused_or_passed (λ m k. P k) (λ n. kept)
 
   -- what is meant, where the rules are known
   module _ (a : is_undefined s r ≡ true) where

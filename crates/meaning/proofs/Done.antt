@@ -2,7 +2,7 @@
 -- a legal projector legal.
 --   Keeps o k      k has the lamps and their marks, the fault mark and the errors of o
 -- Assumes nothing.
-use Rattle.std.proofs.Common.{ℕ, ◌≤◌, ◌<◌, ◌≡◌, refl, Bool, true, false, not, ◌&&◌, arith, nat_lt, ◌==◌, ltb-true}
+use Rattle.std.proofs.Common.{ℕ, ◌≤◌, ◌<◌, ◌≡◌, refl, Bool, true, false, not, ◌&&◌, arith, ◌==◌, ltb-true}
 use Rattle.std.proofs.lemmas.Bool.{not-false}
 use Rattle.std.specs.Prelude.{Ok, Err}
 use Rattle.text.proofs.Choices.{if_all, if_by}
@@ -29,7 +29,7 @@ use Rattle.meaning.specs.SetUpInputs.{place_of, is_listed}
 use Rattle.meaning.specs.Rules.{is_out_of_parameter}
 use Rattle.meaning.specs.Meaning.{level_after, after_power, after_mute, after_step, request_answer, carried_out, meant}
 use Rattle.meaning.specs.Meaning.{done}
-use Rattle.meaning.proofs.Cases.{decided_by, done_by}
+use Rattle.meaning.proofs.Cases.{refused_or_passed, done_by}
 
 pub record Keeps (o k : Own) : Type 0 where
   pub lamps : k.lamps ≡ o.lamps
@@ -86,9 +86,7 @@ module _ (s : Settings) (o : Own) where
 
   -- what is not answered OK does nothing
   pub done_or_okay : (r : Request) → (meant s o r ≡ okay → ⊥) → done s o r ≡ o
-  done_or_okay r =
-      decided_by s o r (λ m k. (m ≡ okay → ⊥) → k ≡ o) (λ a n. refl) (λ a b n. refl) (λ a b c n. refl)
-      (λ a b c d n. refl) (λ p. told_or_kept r)
+  done_or_okay r = refused_or_passed s o r (λ m k. (m ≡ okay → ⊥) → k ≡ o) (λ n e. refl) (λ p. told_or_kept r)
 
   module _ (settings : is_settings s ≡ true) (own : is_own s o ≡ true) where
     abbrev set_up : IsSettings s
@@ -123,9 +121,7 @@ module _ (s : Settings) (o : Own) where
     -- a step stays within the ends
     step_within : (up : Bool) (level : ℕ) → level ≤ volume_most → level_after up level ≤ volume_most
     unfolding level_after
-    step_within true level h =
-        if_by (λ (n : ℕ). n ≤ volume_most) (nat_lt level volume_most)
-        (λ t. let below = ltb-true level volume_most t in omega arith) (λ t. h)
+    step_within true level h = grind (arith, if_by, ltb-true)
     step_within false level h = omega arith
 
     is_own-after_step : (v : Volume) (up : Bool) → is_own s (after_step o v up) ≡ true

@@ -16,14 +16,12 @@ use Rattle.meaning.specs.SetUpInputs.{no_input, inputs_of, place_of, is_listed}
 use Rattle.meaning.specs.Meaning.{chosen_of, meant, done}
 use Rattle.meaning.proofs.InputsByPlace.{found_at_place}
 use Rattle.meaning.proofs.CanBeSaid.{length-inputs_of, is_input-slice_index_or}
-use Rattle.meaning.proofs.Cases.{decided_by, meant_passed}
+use Rattle.meaning.proofs.Cases.{refused_or_passed, meant_passed}
 use Rattle.record.proofs.FactsTold.{settings_is}
 
 module _ (s : Settings) (settings : is_settings s ≡ true) (i : Input) where
   pub chosen_is_asked : (o : Own) → is_listed s i ≡ true → chosen_of s (with_chosen o (place_of s i)) ≡ i
-  chosen_is_asked o listed =
-      let below = ltb-true (place_of s i) s.input_count listed in
-      found_at_place i no_input (inputs_of s) (omega (arith, length-inputs_of s ((settings_is s).0 settings)))
+  chosen_is_asked o listed = grind (arith, ltb-true, found_at_place, length-inputs_of, settings_is)
 
   -- an input that is listed is one that two characters can name
   pub listed_is_input : is_listed s i ≡ true → is_input i ≡ true
@@ -37,8 +35,8 @@ module _ (s : Settings) (settings : is_settings s ≡ true) (i : Input) where
   pub set_then_asked : (o : Own) → meant s o (Ok (InputSet i)) ≡ okay
       → meant s (done s o (Ok (InputSet i))) (Ok (Query Inpt)) ≡ chosen_is i
   set_then_asked o =
-      decided_by s o (Ok (InputSet i)) (λ m k. m ≡ okay → meant s k (Ok (Query Inpt)) ≡ chosen_is i)
-      (λ a e. cc) (λ a b e. cc) (λ a b c e. cc) (λ a b c d e. cc)
+      refused_or_passed s o (Ok (InputSet i)) (λ m k. m ≡ okay → meant s k (Ok (Query Inpt)) ≡ chosen_is i)
+      (λ n e. cc)
       (λ p e.
       meant_passed s (with_chosen o (place_of s i)) (Ok (Query Inpt))
       (record { defined = refl; listed = refl; sound = p.sound; timely = p.timely })

@@ -1,7 +1,7 @@
 -- LAMP: at each lamp's place, its seconds divided by 3,600, rounded down, and whether it is lit: enabled, in warm-up
 -- or power-on (RULES, Lamps).
 -- Assumes nothing.
-use Rattle.std.proofs.Common.{ℕ, ◌<◌, ◌≤◌, ◌≡◌, refl, ap, ◌∙◌, false, ◌&&◌, arith, length, slice_index_or, take}
+use Rattle.std.proofs.Common.{ℕ, ◌<◌, ◌≤◌, ◌≡◌, false, ◌&&◌, arith, length, slice_index_or}
 use Rattle.std.proofs.Common.{length-take, get_or-take, ne_eqb}
 use Rattle.std.specs.Prelude.{Ok}
 use Rattle.pjlink.specs.declared.body.Body.TheVariants.{Lamp}
@@ -18,15 +18,9 @@ use Rattle.meaning.proofs.Cases.{meant_passed}
 module _ (s : Settings) (o : Own) where
   -- neither the fault mark nor the power keeps LAMP from its answer
   pub lamps_answered : 1 ≤ s.lamp_count → meant s o (Ok (Query Lamp)) ≡ lamps_are (lamps_of s o)
-  lamps_answered h =
-      meant_passed s o (Ok (Query Lamp))
-      (record { defined = ne_eqb s.lamp_count 0 (omega arith); listed = refl; sound = refl; timely = refl })
+  lamps_answered h = grind (arith, meant_passed, ne_eqb)
 
   pub lamp_told : (k : ℕ) (d : LampHours) → k < s.lamp_count → k < length o.lamps
       → slice_index_or (lamps_of s o) k d
       ≡ lamp_said (is_lit o.power && slice_index_or o.enabled k false) (slice_index_or o.lamps k 0)
-  lamp_told k d h l =
-      let lit = is_lit o.power in
-      said_at lit o.enabled (take s.lamp_count o.lamps) k d
-      (omega (arith, length-take s.lamp_count o.lamps))
-      ∙ ap (lamp_said (lit && slice_index_or o.enabled k false)) (get_or-take s.lamp_count o.lamps k 0 h)
+  lamp_told k d h l = grind (arith, said_at, length-take, get_or-take)

@@ -3,9 +3,7 @@ pub mod Cases
 pub mod ClassKnown
 pub mod CanBeSaid
 pub mod Done
-pub mod HalvesStay
 pub mod PowerSets
 pub mod InputSets
 pub mod LampsSaid
 pub mod LampsTold
-pub mod Settled

@@ -2,8 +2,7 @@
 -- them, POWR 1 when off and POWR 0 when on, and each such set does.
 --   PowerTurn s o r m k      what the request r, answered m, leaves of them in k
 -- Assumes nothing.
-use Rattle.std.proofs.Common.{ℕ, ◌≡◌, refl, sym, ◌∙◌, Bool, true, false, ◌==◌, eqb-true, eq-eqb, ne_eqb}
-use Rattle.std.proofs.lemmas.Bool.{false≢true}
+use Rattle.std.proofs.Common.{◌≡◌, refl, ◌∙◌, Bool, true, false, ◌==◌, eqb-true, eq-eqb, ne_eqb}
 use Rattle.std.specs.Prelude.{Ok, Err}
 use Rattle.text.proofs.Choices.{if_by, if_yes, if_no}
 use Rattle.pjlink.specs.declared.command.Half.{Half}
@@ -13,13 +12,13 @@ use Rattle.pjlink.specs.declared.command.Volume.TheVariants.{Speaker, Microphone
 use Rattle.pjlink.specs.declared.command.Command.TheVariants.{PowerSet, InputSet, MuteSet, Query}
 use Rattle.pjlink.specs.declared.command.Command.TheVariants.{InputSet2, FreezeSet, VolumeStep, NameQuery}
 use Rattle.pjlink.specs.Requests.{Request}
-use Rattle.pjlink.specs.Said.{Said, okay, refused}
+use Rattle.pjlink.specs.Said.{Said, okay}
 use Rattle.record.specs.Limits.{off, on, cooling, warming, is_between}
 use Rattle.record.specs.Updates.{with_power_left}
 use Rattle.record.specs.declared.types.Settings.{Settings}
 use Rattle.record.specs.declared.types.Own.{Own}
 use Rattle.meaning.specs.Meaning.{after_power, after_mute, after_step, request_answer, carried_out, meant, done}
-use Rattle.meaning.proofs.Cases.{decided_by, meant_by, meant_passed}
+use Rattle.meaning.proofs.Cases.{refused_or_passed, meant_passed}
 
 pub data PowerTurn (s : Settings) (o : Own) (r : Request) (m : Said) (k : Own) : Type 0 where
   stays : k.power ≡ o.power → k.left ≡ o.left → PowerTurn s o r m k
@@ -27,9 +26,6 @@ pub data PowerTurn (s : Settings) (o : Own) (r : Request) (m : Said) (k : Own) :
       → PowerTurn s o r m k
   cools : r ≡ Ok (PowerSet false) → m ≡ okay → o.power ≡ on → k.power ≡ cooling → k.left ≡ s.cool
       → PowerTurn s o r m k
-
-no_refusal : (n : ℕ) → refused n ≡ okay → ⊥
-no_refusal n e = let z : true ≡ false = cc in false≢true (sym z)
 
 module _ (s : Settings) (o : Own) where
   muted : (half : Half) (wanted : Bool) {r : Request} {m : Said} → PowerTurn s o r m (after_mute o half wanted)
@@ -41,27 +37,25 @@ module _ (s : Settings) (o : Own) where
   volumed Speaker up = stays refl refl
   volumed Microphone up = stays refl refl
 
-  turned : (r : Request) → PowerTurn s o r (request_answer s o r) (carried_out s o r)
+  turns : (r : Request) → PowerTurn s o r (request_answer s o r) (carried_out s o r)
   unfolding after_power
-  turned (Ok (PowerSet true)) =
+  turns (Ok (PowerSet true)) =
       if_by (PowerTurn s o (Ok (PowerSet true)) okay) (o.power == off)
       (λ e. warms refl refl (eqb-true o.power off e) refl refl) (λ e. stays refl refl)
-  turned (Ok (PowerSet false)) =
+  turns (Ok (PowerSet false)) =
       if_by (PowerTurn s o (Ok (PowerSet false)) okay) (o.power == on)
       (λ e. cools refl refl (eqb-true o.power on e) refl refl) (λ e. stays refl refl)
-  turned (Ok (InputSet i)) = stays refl refl
-  turned (Ok (MuteSet half wanted)) = muted half wanted
-  turned (Ok (Query b)) = stays refl refl
-  turned (Ok (InputSet2 i)) = stays refl refl
-  turned (Ok (FreezeSet wanted)) = stays refl refl
-  turned (Ok (VolumeStep v up)) = volumed v up
-  turned (Ok (NameQuery i)) = stays refl refl
-  turned (Err u) = stays refl refl
+  turns (Ok (InputSet i)) = stays refl refl
+  turns (Ok (MuteSet half wanted)) = muted half wanted
+  turns (Ok (Query b)) = stays refl refl
+  turns (Ok (InputSet2 i)) = stays refl refl
+  turns (Ok (FreezeSet wanted)) = stays refl refl
+  turns (Ok (VolumeStep v up)) = volumed v up
+  turns (Ok (NameQuery i)) = stays refl refl
+  turns (Err u) = stays refl refl
 
   pub power_turns : (r : Request) → PowerTurn s o r (meant s o r) (done s o r)
-  power_turns r =
-      decided_by s o r (PowerTurn s o r) (λ a. stays refl refl) (λ a b. stays refl refl) (λ a b c. stays refl refl)
-      (λ a b c d. stays refl refl) (λ p. turned r)
+  power_turns r = refused_or_passed s o r (PowerTurn s o r) (λ n. stays refl refl) (λ p. turns r)
 
   -- a power set passes exactly when the projector is neither at fault nor between on and off
   module _ (wanted : Bool) where
@@ -70,9 +64,7 @@ module _ (s : Settings) (o : Own) where
 
     pub power_set_only : OkayOnly (meant s o (Ok (PowerSet wanted)))
     power_set_only =
-        meant_by s o (Ok (PowerSet wanted)) OkayOnly
-        (λ a e. absurd (no_refusal 1 e)) (λ a b e. absurd (no_refusal 2 e)) (λ a b c e. absurd (no_refusal 4 e))
-        (λ a b c d e. absurd (no_refusal 3 e)) (λ p e. (p.sound, p.timely))
+        refused_or_passed s o (Ok (PowerSet wanted)) (λ m k. OkayOnly m) (λ n e. cc) (λ p e. (p.sound, p.timely))
 
     pub power_set_passes : o.fault ≡ false → is_between o.power ≡ false → meant s o (Ok (PowerSet wanted)) ≡ okay
     power_set_passes f b =
@@ -81,8 +73,8 @@ module _ (s : Settings) (o : Own) where
     pub power_set_done : meant s o (Ok (PowerSet wanted)) ≡ okay
         → done s o (Ok (PowerSet wanted)) ≡ after_power s o wanted
     power_set_done =
-        decided_by s o (Ok (PowerSet wanted)) (λ m k. m ≡ okay → k ≡ after_power s o wanted)
-        (λ a e. cc) (λ a b e. cc) (λ a b c e. cc) (λ a b c d e. cc) (λ p e. refl)
+        refused_or_passed s o (Ok (PowerSet wanted)) (λ m k. m ≡ okay → k ≡ after_power s o wanted)
+        (λ n e. cc) (λ p e. refl)
 
   pub on_when_off : meant s o (Ok (PowerSet true)) ≡ okay → o.power ≡ off
       → done s o (Ok (PowerSet true)) ≡ with_power_left o warming s.warm

@@ -71,33 +71,33 @@ abbrev pub input_name_of : Settings → Input → List ℕ
 input_name_of s i = name_bytes (slice_index_or s.names (place_of s i) blank_name)
 
 -- a body without a query is never asked one (Rules, `is_no_query`)
-abbrev pub queried : Settings → Own → Body → Said
-queried s o Powr = power_is (power_said o.power)
-queried s o Inpt = chosen_is (chosen_of s o)
-queried s o Avmt = mutes_are o.video_muted o.audio_muted
-queried s o Erst = errors_are o.errors
-queried s o Lamp = lamps_are (lamps_of s o)
-queried s o Inst = inputs_are (inputs_of s)
-queried s o Name = text_said s.name
-queried s o Inf1 = text_said s.maker
-queried s o Inf2 = text_said s.model
-queried s o Info = text_said s.other
-queried s o Clss = class_is s.class_number
-queried s o Frez = freeze_is o.frozen
-queried s o Svol = nothing
-queried s o Mvol = nothing
-queried s o Snum = text_said s.serial
-queried s o Sver = text_said s.version
-queried s o Innm = nothing
-queried s o Inpt2 = chosen_is (chosen_of s o)
-queried s o Inst2 = inputs_are (inputs_of s)
+abbrev pub query_answer : Settings → Own → Body → Said
+query_answer s o Powr = power_is (power_said o.power)
+query_answer s o Inpt = chosen_is (chosen_of s o)
+query_answer s o Avmt = mutes_are o.video_muted o.audio_muted
+query_answer s o Erst = errors_are o.errors
+query_answer s o Lamp = lamps_are (lamps_of s o)
+query_answer s o Inst = inputs_are (inputs_of s)
+query_answer s o Name = text_said s.name
+query_answer s o Inf1 = text_said s.maker
+query_answer s o Inf2 = text_said s.model
+query_answer s o Info = text_said s.other
+query_answer s o Clss = class_is s.class_number
+query_answer s o Frez = freeze_is o.frozen
+query_answer s o Svol = nothing
+query_answer s o Mvol = nothing
+query_answer s o Snum = text_said s.serial
+query_answer s o Sver = text_said s.version
+query_answer s o Innm = nothing
+query_answer s o Inpt2 = chosen_is (chosen_of s o)
+query_answer s o Inst2 = inputs_are (inputs_of s)
 
 -- a set that passes answers OK
 abbrev pub table_answer : Settings → Own → Command → Said
 table_answer s o (PowerSet wanted) = okay
 table_answer s o (InputSet i) = okay
 table_answer s o (MuteSet half wanted) = okay
-table_answer s o (Query b) = queried s o b
+table_answer s o (Query b) = query_answer s o b
 table_answer s o (InputSet2 i) = okay
 table_answer s o (FreezeSet wanted) = okay
 table_answer s o (VolumeStep v up) = okay

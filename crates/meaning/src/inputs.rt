@@ -1,10 +1,10 @@
 //! The inputs of a set-up, which keeps them as pairs of characters (RULES, The legal record).
-ghost use Rattle.std.specs.Prelude.{◌≡◌, ◌*◌, take, slice_index_or};
+ghost use Rattle.std.specs.Prelude.{◌≡◌, slice_index_or};
 ghost use Rattle.words.specs.Sources.{same_input};
-ghost use Rattle.meaning.specs.SetUpInputs.{no_input, input_of_pair, inputs_of_pairs, place_in, place_of, is_listed};
+ghost use Rattle.meaning.specs.SetUpInputs.{no_input, input_of_pair, inputs_of, place_of, is_listed};
 
 use arrayvec::ArrayVec;
-use record::types::{INPUT_ROOM, INPUTS_MOST, Settings};
+use record::types::{INPUTS_MOST, Settings};
 use words::input;
 use words::input::{Input, Source};
 
@@ -14,6 +14,7 @@ const NO_INPUT: Input = Input {
 };
 
 // No legal set-up has a pair that stands for no input.
+#[tactic(auto, using(words::proofs::SourcesFollowed::reader_follows))]
 fn input_of_pair(a: u8, b: u8) -> Input
     ensures { result ≡ input_of_pair a b }
 {
@@ -23,28 +24,30 @@ fn input_of_pair(a: u8, b: u8) -> Input
 fn same_input(i: Input, j: Input) -> bool
     ensures { result ≡ same_input i j }
 {
-    let one = i.source;
-    let other = j.source;
-    (input::source_digit(one) == input::source_digit(other)) & (i.number == j.number)
+    input::source_digit(i.source) == input::source_digit(j.source) && i.number == j.number
 }
 
-// The first place of the input among the first pairs.
-fn place_in(i: Input, pairs: &[u8; INPUT_ROOM], count: usize) -> usize
-    ensures { result ≡ place_in i (inputs_of_pairs (take (2 * count) pairs.now)) }
+/// The inputs, in set-up order.
+pub fn inputs_of(s: &Settings) -> ArrayVec<Input, INPUTS_MOST>
+    ensures { result.items ≡ inputs_of s.now }
 {
-    let most = count.min(INPUTS_MOST);
-    for k in 0..most {
-        if same_input(input_of_pair(pairs[2 * k], pairs[2 * k + 1]), i) {
-            return k;
-        }
+    let mut inputs = ArrayVec::new();
+    for k in 0..s.input_count.min(INPUTS_MOST) {
+        inputs.push(input_of_pair(s.inputs[2 * k], s.inputs[2 * k + 1]));
     }
-    most
+    inputs
 }
 
+/// The first place of the input; where there is none, how many inputs there are.
 pub fn place_of(s: &Settings, i: Input) -> usize
     ensures { result ≡ place_of s.now i }
 {
-    place_in(i, &s.inputs, s.input_count)
+    let inputs = inputs_of(s);
+    inputs
+        .as_slice()
+        .iter()
+        .position(|x| same_input(*x, i))
+        .unwrap_or(inputs.len())
 }
 
 pub fn is_listed(s: &Settings, i: Input) -> bool
@@ -53,26 +56,13 @@ pub fn is_listed(s: &Settings, i: Input) -> bool
     place_of(s, i) < s.input_count
 }
 
-pub fn input_at(pairs: &[u8; INPUT_ROOM], count: usize, place: usize) -> Input
-    ensures { result ≡ slice_index_or (inputs_of_pairs (take (2 * count) pairs.now)) place no_input }
+/// The input at a place; past them none.
+pub fn input_at(s: &Settings, place: usize) -> Input
+    ensures { result ≡ slice_index_or (inputs_of s.now) place no_input }
 {
-    if INPUTS_MOST <= place {
-        return NO_INPUT;
-    }
-    if count <= place {
-        return NO_INPUT;
-    }
-    input_of_pair(pairs[2 * place], pairs[2 * place + 1])
-}
-
-/// The inputs of the pairs, in set-up order.
-pub fn inputs_of(pairs: &[u8; INPUT_ROOM], count: usize) -> ArrayVec<Input, INPUTS_MOST>
-    ensures { result.items ≡ inputs_of_pairs (take (2 * count) pairs.now) }
-{
-    let mut inputs = ArrayVec::new();
-    let most = count.min(INPUTS_MOST);
-    for k in 0..most {
-        inputs.push(input_of_pair(pairs[2 * k], pairs[2 * k + 1]));
-    }
-    inputs
+    inputs_of(s)
+        .as_slice()
+        .get(place)
+        .copied()
+        .unwrap_or(NO_INPUT)
 }

@@ -2,7 +2,7 @@
 ghost use Rattle.std.specs.Prelude.{◌≡◌, take, slice_index_or};
 ghost use Rattle.pjlink.specs.Carried.{value_said};
 ghost use Rattle.record.specs.Record.{blank_name};
-ghost use Rattle.meaning.specs.Meaning.{power_said, lamps_said, name_bytes, queried, table_answer};
+ghost use Rattle.meaning.specs.Meaning.{power_said, lamps_said, name_bytes, query_answer, table_answer};
 
 use crate::inputs;
 use arrayvec::ArrayVec;
@@ -75,24 +75,19 @@ fn name_at(names: &[InputName; INPUTS_MOST], place: usize) -> &[u8]
 }
 
 // A body without a query has no answer.
-fn queried<'a>(s: &'a Settings, o: &Own, b: Body) -> Option<Answer<'a>>
-    ensures { value_said result ≡ queried s.now o.now b }
+fn query_answer<'a>(s: &'a Settings, o: &Own, b: Body) -> Option<Answer<'a>>
+    ensures { value_said result ≡ query_answer s.now o.now b }
 {
     match b {
         Body::Powr => Some(Answer::Power(power_said(o.power))),
-        Body::Inpt | Body::Inpt2 => {
-            Some(Answer::Input(inputs::input_at(&s.inputs, s.input_count, o.chosen)))
-        }
+        Body::Inpt | Body::Inpt2 => { Some(Answer::Input(inputs::input_at(s, o.chosen))) }
         Body::Avmt => Some(Answer::Mutes(o.video_muted, o.audio_muted)),
         Body::Erst => Some(Answer::Errors(o.errors)),
         Body::Lamp => {
             let lit = own::is_lit(o.power);
             Some(Answer::Lamps(lamps_said(&o.lamps, &o.enabled, s.lamp_count, lit)))
         }
-        Body::Inst | Body::Inst2 => Some(Answer::Inputs(inputs::inputs_of(
-            &s.inputs,
-            s.input_count,
-        ))),
+        Body::Inst | Body::Inst2 => Some(Answer::Inputs(inputs::inputs_of(s))),
         Body::Name => Some(Answer::Text(text_of(&s.name))),
         Body::Inf1 => Some(Answer::Text(text_of(&s.maker))),
         Body::Inf2 => Some(Answer::Text(text_of(&s.model))),
@@ -110,7 +105,7 @@ pub fn answer<'a>(s: &'a Settings, o: &Own, c: Command) -> Option<Answer<'a>>
     ensures { value_said result ≡ table_answer s.now o.now c }
 {
     match c {
-        Command::Query(b) => queried(s, o, b),
+        Command::Query(b) => query_answer(s, o, b),
         Command::NameQuery(i) => Some(Answer::Text(name_at(&s.names, inputs::place_of(s, i)))),
         _ => Some(Answer::Done),
     }

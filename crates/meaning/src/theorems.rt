@@ -1,17 +1,68 @@
 //! What is proved beside the contracts of the functions. Nothing is done here: that these functions have their
 //! contracts is that the theorems stand.
-ghost use Rattle.std.specs.Prelude.{◌≡◌, Result};
-ghost use Rattle.pjlink.specs.declared.answer.Answer.{Answer};
+ghost use Rattle.std.specs.Prelude.{◌≡◌, Bool, true, false, Result, Ok};
+ghost use Rattle.words.specs.Inputs.{is_input};
+ghost use Rattle.words.specs.declared.input.Input.{Input};
 ghost use Rattle.words.specs.declared.refusal.Refusal.{Refusal};
+ghost use Rattle.pjlink.specs.declared.answer.Answer.{Answer};
+ghost use Rattle.pjlink.specs.declared.body.Body.TheVariants.{Inpt};
+ghost use Rattle.pjlink.specs.declared.command.Half.TheVariants.{VideoHalf, AudioHalf};
+ghost use Rattle.pjlink.specs.declared.command.Command.TheVariants.{PowerSet, InputSet, MuteSet, Query};
 ghost use Rattle.pjlink.specs.Requests.{Request};
+ghost use Rattle.pjlink.specs.Said.{okay, refused, chosen_is};
 ghost use Rattle.pjlink.specs.Carried.{said_by};
+ghost use Rattle.record.specs.Limits.{is_between};
+ghost use Rattle.record.specs.Legal.{is_settings};
 ghost use Rattle.record.specs.declared.types.Settings.{Settings};
 ghost use Rattle.record.specs.declared.types.Own.{Own};
-ghost use Rattle.meaning.specs.Meaning.{meant, done};
+ghost use Rattle.meaning.specs.SetUpInputs.{is_listed};
+ghost use Rattle.meaning.specs.Rules.{is_undefined, is_out_of_parameter, is_failure, is_unavailable};
+ghost use Rattle.meaning.specs.Meaning.{request_answer, carried_out, meant, done};
 
 /// Two results that meet the promise of a call say the same, and leave the same.
 pub fn one_result()
     ensures { (s : Settings) (o : Own) (r : Request) (m n : Result Answer Refusal) (k l : Own)
         → (said_by m ≡ meant s o r) × (k ≡ done s o r) → (said_by n ≡ meant s o r) × (l ≡ done s o r)
         → (said_by m ≡ said_by n) × (k ≡ l) }
+{}
+
+/// The first of the four rules that applies refuses, with its own refusal (RULES, Commands).
+pub fn the_first_rule_decides()
+    ensures undefined { (s : Settings) (o : Own) (r : Request) → is_undefined s r ≡ true → meant s o r ≡ refused 1 }
+    ensures out_of_parameter { (s : Settings) (o : Own) (r : Request) → is_undefined s r ≡ false
+        → is_out_of_parameter s r ≡ true → meant s o r ≡ refused 2 }
+    ensures failure { (s : Settings) (o : Own) (r : Request) → is_undefined s r ≡ false
+        → is_out_of_parameter s r ≡ false → is_failure o r ≡ true → meant s o r ≡ refused 4 }
+    ensures unavailable { (s : Settings) (o : Own) (r : Request) → is_undefined s r ≡ false
+        → is_out_of_parameter s r ≡ false → is_failure o r ≡ false → is_unavailable o r ≡ true
+        → meant s o r ≡ refused 3 }
+    ensures passed { (s : Settings) (o : Own) (r : Request) → is_undefined s r ≡ false
+        → is_out_of_parameter s r ≡ false → is_failure o r ≡ false → is_unavailable o r ≡ false
+        → (meant s o r ≡ request_answer s o r) × (done s o r ≡ carried_out s o r) }
+{}
+
+/// What is not answered OK does nothing. Of AVMT's two halves "the unnamed half stays", whatever becomes of the set
+/// (RULES, Commands).
+pub fn what_a_request_leaves()
+    ensures unless_okay { (s : Settings) (o : Own) (r : Request) → (meant s o r ≡ okay → ⊥) → done s o r ≡ o }
+    ensures audio { (s : Settings) (o : Own) (wanted : Bool)
+        → (done s o (Ok (MuteSet VideoHalf wanted))).audio_muted ≡ o.audio_muted }
+    ensures video { (s : Settings) (o : Own) (wanted : Bool)
+        → (done s o (Ok (MuteSet AudioHalf wanted))).video_muted ≡ o.video_muted }
+{}
+
+/// The input that was set is the one that is then answered, and only an input that a line can carry is listed.
+pub fn an_input_set_is_answered()
+    ensures answered { (s : Settings) (o : Own) (i : Input) → is_settings s ≡ true
+        → meant s o (Ok (InputSet i)) ≡ okay
+        → meant s (done s o (Ok (InputSet i))) (Ok (Query Inpt)) ≡ chosen_is i }
+    ensures carried { (s : Settings) (i : Input) → is_settings s ≡ true → is_listed s i ≡ true → is_input i ≡ true }
+{}
+
+/// A power set is answered OK exactly where the projector is neither at fault nor between on and off.
+pub fn when_a_power_set_passes()
+    ensures passes { (s : Settings) (o : Own) (wanted : Bool) → o.fault ≡ false → is_between o.power ≡ false
+        → meant s o (Ok (PowerSet wanted)) ≡ okay }
+    ensures only { (s : Settings) (o : Own) (wanted : Bool) → meant s o (Ok (PowerSet wanted)) ≡ okay
+        → (o.fault ≡ false) × (is_between o.power ≡ false) }
 {}

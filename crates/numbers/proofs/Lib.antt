@@ -3,6 +3,5 @@ pub mod Values
 pub mod LeadingZeros
 pub mod ReadBack
 pub mod Reading
-pub mod OneResult
 pub mod HighestFirst
 pub mod Examples

@@ -1,40 +1,55 @@
-// Numbers: decimal ones here, written into lent bytes and read from bytes; those in bytes in highest.rt.
+// Numbers: decimal ones here, written at the end of bytes and read from bytes; those in bytes in highest.rt.
 #![tactic(auto)]
 
 pub mod highest;
 pub mod theorems;
 
-ghost use Rattle.std.specs.Prelude.{◌≡◌, ◌+◌, ◌≤◌, length};
-ghost use Rattle.std.proofs.lemmas.List.Edits.{sets};
+ghost use Rattle.std.specs.Prelude.{◌≡◌, ◌+◌, ◌≤◌, ◌++◌, length};
+ghost use Rattle.arrayvec.specs.ArrayVec.{array_vec_len};
 ghost use Rattle.numbers.specs.Decimal.{digits, long_digits, is_digit};
 ghost use Rattle.numbers.specs.Decimal.{read_digits, read_number};
 
+use arrayvec::ArrayVec;
+
 const MOST_DIGITS: usize = 5;
 
-// The digits of n into out, from the place `at` on; the place after them.
-pub fn put_long(out: &mut [u8], at: usize, n: u64) -> usize
-    requires { at + length (long_digits n) ≤ length out.old }
-    ensures count { result ≡ at + length (long_digits n) }
-    ensures bytes { out.new ≡ sets out.old at (long_digits n) }
+// The digits of a u64.
+type Figures = ArrayVec<u8, 20>;
+
+#[tactic(auto, using(crate::proofs::Digits::long_low, crate::proofs::Digits::long_high))]
+fn put_figures(n: u64, out: &mut Figures)
+    requires { array_vec_len out.old + length (long_digits n) ≤ 20 }
+    ensures { out.new.items ≡ out.old.items ++ long_digits n }
 {
+    let last = b'0' + (n % 10) as u8;
     if n < 10 {
-        out[at] = b'0' + (n % 10) as u8;
-        at + 1
+        out.push(last);
     } else {
-        let p = put_long(out, at, n / 10);
-        out[p] = b'0' + (n % 10) as u8;
-        p + 1
+        put_figures(n / 10, out);
+        out.push(last);
     }
 }
 
-// The same for a u32.
-#[tactic(auto, using(crate::proofs::Digits::digits_long))]
-pub fn put_number(out: &mut [u8], at: usize, n: u32) -> usize
-    requires { at + length (digits n) ≤ length out.old }
-    ensures count { result ≡ at + length (digits n) }
-    ensures bytes { out.new ≡ sets out.old at (digits n) }
+/// The digits of n, at the end of `out` (RULES, Commands).
+#[tactic(auto, using(crate::proofs::Digits::long_at_most_20))]
+pub fn put_long<const N: usize>(n: u64, out: &mut ArrayVec<u8, N>)
+    requires { array_vec_len out.old + length (long_digits n) ≤ N }
+    ensures { out.new.items ≡ out.old.items ++ long_digits n }
 {
-    put_long(out, at, n as u64)
+    let mut figures = ArrayVec::new();
+    put_figures(n, &mut figures);
+    for &b in figures.as_slice() {
+        out.push(b);
+    }
+}
+
+/// The same of a u32.
+#[tactic(auto, using(crate::proofs::Digits::digits_long))]
+pub fn put_number<const N: usize>(n: u32, out: &mut ArrayVec<u8, N>)
+    requires { array_vec_len out.old + length (digits n) ≤ N }
+    ensures { out.new.items ≡ out.old.items ++ digits n }
+{
+    put_long(n as u64, out)
 }
 
 /// Whether b is one of `0` to `9`.

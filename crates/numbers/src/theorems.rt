@@ -2,15 +2,12 @@
 // is that the theorems stand.
 ghost use Rattle.std.specs.Prelude.{◌≡◌, ◌≢◌, ◌+◌, ◌^◌, ◌<◌, ◌≤◌, ◌++◌, List, ℕ, Option, Some, length, replicate};
 ghost use Rattle.std.specs.Prelude.{slice_index};
-ghost use Rattle.std.proofs.lemmas.List.Edits.{sets};
 ghost use Rattle.numbers.specs.Decimal.{read_number, digits, most_digits, WritesNumber};
 
-/// Two results that meet the promise of a call are equal, lent memory included.
+/// Two results that meet the promise of a call are equal.
 pub fn one_result()
     ensures number_read { (t : List ℕ) (r s : Option ℕ) → r ≡ read_number t → s ≡ read_number t → r ≡ s }
-    ensures number_written { (out : List ℕ) (at x : ℕ) (r s : ℕ) (m n : List ℕ)
-        → (r ≡ at + length (digits x)) × (m ≡ sets out at (digits x))
-        → (s ≡ at + length (digits x)) × (n ≡ sets out at (digits x)) → (r ≡ s) × (m ≡ n) }
+    ensures number_written { (out l m : List ℕ) (n : ℕ) → l ≡ out ++ digits n → m ≡ out ++ digits n → l ≡ m }
 {}
 
 /// A number that is written is read, with zeros before it or not (RULES, Controller), and it is written without one:

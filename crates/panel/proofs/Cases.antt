@@ -1,17 +1,18 @@
 -- The panel's calls, case by case: what holds of a refusal and of what is done holds of the call, and the equation of
 -- what is done.
 -- Assumes nothing.
-use Rattle.std.proofs.Common.{ℕ, ◌≤◌, ◌<◌, ◌≡◌, refl, ap, true, false, not, List, leb-false, ltb-false, le-ltb}
-use Rattle.std.proofs.lemmas.Bool.{lt-leb, not-false}
+use Rattle.std.proofs.Common.{ℕ, ◌≤◌, ◌<◌, ◌≡◌, refl, true, false, List, arith, leb-false, ltb-false}
+use Rattle.std.proofs.lemmas.Bool.{not-false}
+use Rattle.std.specs.Prelude.{is_some}
 use Rattle.text.specs.Rows.{by_rows}
-use Rattle.text.proofs.ByRows.{by_rows_lem, rows_done}
+use Rattle.text.proofs.ByRows.{by_rows_lem}
 use Rattle.words.specs.Texts.{is_password}
 use Rattle.controller.specs.Writing.{command_room}
 use Rattle.codes.specs.Commands.{coded_command}
 use Rattle.codes.specs.declared.command.Coded.{Coded}
 use Rattle.panel.specs.Entries.{fresh_entry}
 use Rattle.panel.specs.Stepping.{heard_line, lost_entry, is_unready}
-use Rattle.panel.specs.LegalPanels.{panel_most, names_command, is_panel}
+use Rattle.panel.specs.LegalPanels.{panel_most, is_panel}
 use Rattle.panel.specs.PanelCalls.{PanelAs, panel_kept, panel_made, entry_at, with_entry, grown_by, adding_rows}
 use Rattle.panel.specs.PanelCalls.{commanding_rows, projector_rows, added_to, sent_at, commanded, stepped_at, lost_at}
 use Rattle.panel.specs.declared.types.Panel.{Panel}
@@ -27,21 +28,19 @@ module _ (p : Panel) (s : List ℕ) where
   unfolding added_to
   added_by P refused done =
       by_rows_lem (panel_kept p) _ P refused (adding_rows p s) refl
-      (λ none. done (not-false (is_panel p) none.0) (not-false (is_password s) none.1.0)
-      (leb-false panel_most p.count none.1.1.0))
+      (λ none. done (not-false _ none.0) (not-false _ none.1.0) (leb-false panel_most p.count none.1.1.0))
 
   pub added_done : is_panel p ≡ true → is_password s ≡ true → p.count < panel_most
       → added_to p s ≡ panel_made (grown_by p (fresh_entry s))
   unfolding added_to
-  added_done legal word free =
-      rows_done (panel_kept p) _ (adding_rows p s) (ap not legal, (ap not word, (lt-leb panel_most p.count free, tt)))
+  added_done legal word free = grind arith
 
 module _ (p : Panel) (i : ℕ) (k : Coded) (room : ℕ) where
   pub record Commands : Type 0 where
     pub legal : is_panel p ≡ true
     pub enough : command_room ≤ room
     pub there : i < p.count
-    pub named : names_command (coded_command k) ≡ true
+    pub named : is_some (coded_command k) ≡ true
     pub ready : is_unready (entry_at p i) ≡ false
 
   pub commanded_by : (P : PanelAs → Type 0) → Refusals p P → (Commands → P (sent_at p i k room))
@@ -50,62 +49,44 @@ module _ (p : Panel) (i : ℕ) (k : Coded) (room : ℕ) where
   commanded_by P refused done =
       by_rows_lem (panel_kept p) _ P refused (commanding_rows p i k room) refl
       (λ none. done (record {
-        legal = not-false (is_panel p) none.0;
+        legal = not-false _ none.0;
         enough = ltb-false room command_room none.1.0;
         there = leb-false p.count i none.1.1.0;
-        named = not-false (names_command (coded_command k)) none.1.1.1.0;
+        named = not-false _ none.1.1.1.0;
         ready = none.1.1.1.1.0;
       }))
 
   pub commanded_done : Commands → commanded p i k room ≡ sent_at p i k room
   unfolding commanded
-  commanded_done c =
-      rows_done (panel_kept p) _ (commanding_rows p i k room) (
-        ap not c.legal,
-        (
-          le-ltb room command_room c.enough,
-          (
-            lt-leb p.count i c.there,
-            (
-              ap not c.named,
-              (c.ready, tt),
-            ),
-          ),
-        ),
-      )
+  commanded_done c = grind (arith, c.legal, c.enough, c.there, c.named, c.ready)
 
 -- the two calls that only name a projector
 module _ (p : Panel) (i : ℕ) where
-  module _ (done : PanelAs) where
-    pub projector_by : (P : PanelAs → Type 0) → Refusals p P → (is_panel p ≡ true → i < p.count → P done)
-        → P (by_rows (projector_rows p i) (panel_kept p) done)
-    projector_by P refused does =
-        by_rows_lem (panel_kept p) done P refused (projector_rows p i) refl
-        (λ none. does (not-false (is_panel p) none.0) (leb-false p.count i none.1.0))
-
-    pub projector_done : is_panel p ≡ true → i < p.count → by_rows (projector_rows p i) (panel_kept p) done ≡ done
-    projector_done legal there =
-        rows_done (panel_kept p) done (projector_rows p i) (ap not legal, (lt-leb p.count i there, tt))
+  projector_by : (done : PanelAs) (P : PanelAs → Type 0) → Refusals p P → (is_panel p ≡ true → i < p.count → P done)
+      → P (by_rows (projector_rows p i) (panel_kept p) done)
+  projector_by done P refused does =
+      by_rows_lem (panel_kept p) done P refused (projector_rows p i) refl
+      (λ none. does (not-false _ none.0) (leb-false p.count i none.1.0))
 
   module _ (l : List ℕ) where
     pub stepped_by : (P : PanelAs → Type 0) → Refusals p P
         → (is_panel p ≡ true → i < p.count → P (panel_made (with_entry p i (heard_line (entry_at p i) l))))
         → P (stepped_at p i l)
     unfolding stepped_at
-    stepped_by P refused done = projector_by _ P refused done
+    stepped_by = projector_by _
 
     pub stepped_done : is_panel p ≡ true → i < p.count
         → stepped_at p i l ≡ panel_made (with_entry p i (heard_line (entry_at p i) l))
     unfolding stepped_at
-    stepped_done legal there = projector_done _ legal there
+    stepped_done legal there = grind arith
 
   pub lost_by : (P : PanelAs → Type 0) → Refusals p P
       → (is_panel p ≡ true → i < p.count → P (panel_made (with_entry p i (lost_entry (entry_at p i)))))
       → P (lost_at p i)
   unfolding lost_at
-  lost_by P refused done = projector_by _ P refused done
+  lost_by = projector_by _
 
   pub lost_done : is_panel p ≡ true → i < p.count →
       lost_at p i ≡ panel_made (with_entry p i (lost_entry (entry_at p i)))
   unfolding lost_at
-  lost_done legal there = projector_done _ legal there
+  lost_done legal there = grind arith

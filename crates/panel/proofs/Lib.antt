@@ -4,10 +4,8 @@ pub mod Cases
 pub mod StepsByTable
 pub mod OnlyItsEntry
 pub mod Refusals
-pub mod OneResult
 pub mod ShownLegal
 pub mod PanelsLegal
-pub mod ReadingsShown
 pub mod DigestLeads
 pub mod Unused
 pub mod LinesSent

@@ -1,15 +1,16 @@
 -- A legal panel stays legal, whatever call is made and whatever line comes.
 -- Assumes nothing.
 use Rattle.std.specs.List.{list_all}
-use Rattle.std.proofs.Common.{ℕ, zero, suc, ◌<◌, ◌≡◌, refl, sym, ap, subst, ◌∙◌, Bool, true, false, ◌||◌, List, [], ◌∷◌}
-use Rattle.std.proofs.Common.{arith, add-one, length, slice_index_or, set, drop, replicate, length-set, drop-cons}
-use Rattle.std.proofs.Common.{drop-set-lt}
+use Rattle.std.proofs.Common.{ℕ, suc, ◌<◌, ◌≤◌, ◌≡◌, refl, sym, ap, subst, ◌∙◌, Bool, true, false, List, [], arith}
+use Rattle.std.proofs.Common.{add-one, length, slice_index_or, set, drop, replicate, length-set, drop-cons, drop-set-lt}
 use Rattle.std.proofs.lemmas.List.{length-replicate}
-use Rattle.text.proofs.Choices.{both, both_left, both_right}
+use Rattle.std.proofs.lemmas.List.Elements.{All-set, All-replicate}
+use Rattle.std.proofs.lemmas.List.Sums.{AllPass-from_list_all, list_all-from_AllPass}
+use Rattle.text.proofs.Choices.{both_right}
 use Rattle.words.specs.Texts.{is_password}
 use Rattle.words.proofs.TextsTold.{password_long}
 use Rattle.words.proofs.WithinLength.{password_within}
-use Rattle.std.specs.Prelude.{◌==◌}
+use Rattle.std.specs.Prelude.{is_some, ◌==◌}
 use Rattle.text.proofs.RoomsTold.{uses_told, kept_used}
 use Rattle.panel.specs.Passwords.{password_room, password_of, is_password_kept}
 use Rattle.controller.specs.Reading.{ReadAs, read_reply}
@@ -17,109 +18,89 @@ use Rattle.controller.specs.Reading.{means_it}
 use Rattle.controller.proofs.ReadsSound.{reads_sound}
 use Rattle.codes.specs.Commands.{coded_command}
 use Rattle.codes.specs.declared.command.Coded.{Coded}
-use Rattle.panel.specs.Entries.{Talk, Shown, talk_of, shown_of, entry_of, fresh_entry, blank_entry}
+use Rattle.panel.specs.Entries.{Talk, Shown, talk_of, shown_of, entry_of, ungreeted, fresh_entry, blank_entry}
 use Rattle.panel.specs.Showing.{showing}
-use Rattle.panel.specs.Stepping.{strayed, with_talk, lost_entry, sent_entry}
-use Rattle.panel.specs.Stepping.{heard_line, is_unready}
-use Rattle.panel.specs.LegalPanels.{panel_most, names_command, is_talk, is_shown, is_entry, is_unused, is_panel}
+use Rattle.panel.specs.Stepping.{strays_most, lost_entry, sent_entry, heard_line, is_unready}
+use Rattle.panel.specs.LegalPanels.{panel_most, is_talk, is_shown, is_entry, is_unused, is_panel}
 use Rattle.panel.specs.PanelCalls.{PanelAs, no_panel, entry_at, with_entry, grown_by, added_to, commanded, stepped_at}
 use Rattle.panel.specs.PanelCalls.{lost_at}
 use Rattle.panel.specs.StepTable.{StepTo, greets_open, greets_secured, strays, answers, refuses}
+use Rattle.panel.specs.declared.talk.Greeted.TheVariants.{NotYet, Open, Secured}
 use Rattle.panel.specs.declared.types.Entry.{Entry}
 use Rattle.panel.specs.declared.types.Panel.{Panel}
 use Rattle.panel.proofs.PanelsTold.{EntryTold, entry_told, entry_legal, PanelTold, panel_told, panel_legal}
 use Rattle.panel.proofs.PanelsTold.{entry_at_legal}
-use Rattle.panel.proofs.TalksTold.{is_talk-rested_on, is_talk-sent_on, no_talk_legal, open_legal, secured_legal}
+use Rattle.panel.proofs.TalksTold.{is_talk-rested_on, is_talk-sent_on, begun_legal}
 use Rattle.panel.proofs.ShownLegal.{said_shown, nothing_shown_legal}
 use Rattle.panel.proofs.StepsByTable.{steps_by_the_table}
 use Rattle.panel.proofs.Cases.{added_by, commanded_by, stepped_by, lost_by}
 
--- lists
-first_no : (a b : Bool) → (a || b) ≡ false → a ≡ false
-first_no true b h = h
-first_no false b h = refl
-
 module _ {A : Type 0} (f : A → Bool) where
   list_all-set : (l : List A) (i : ℕ) (x : A) → list_all f l ≡ true → f x ≡ true → list_all f (set l i x) ≡ true
-  list_all-set [] i x h k = refl
-  list_all-set (y ∷ l) zero x h k = both k (both_right (f y) (list_all f l) h)
-  list_all-set (y ∷ l) (suc i) x h k =
-      both (both_left (f y) (list_all f l) h) (list_all-set l i x (both_right (f y) (list_all f l) h) k)
+  list_all-set l i x h k =
+      list_all-from_AllPass f (set l i x) (All-set (λ a. f a ≡ true) l i x k (AllPass-from_list_all f l h))
 
   list_all-replicate : (n : ℕ) (x : A) → f x ≡ true → list_all f (replicate n x) ≡ true
-  list_all-replicate zero x h = refl
-  list_all-replicate (suc n) x h = both h (list_all-replicate n x h)
+  list_all-replicate n x h = list_all-from_AllPass f (replicate n x) (All-replicate (λ a. f a ≡ true) n x h)
 
--- an entry with another talk, or with other readings
+-- an entry that keeps its password
 module _ (e : Entry) (legal : is_entry e ≡ true) where
   abbrev told : EntryTold e
   told = entry_told e legal
 
-  is_entry-with_talk : (t : Talk) → is_talk t ≡ true → is_entry (with_talk e t) ≡ true
-  is_entry-with_talk t h =
-      entry_legal _ (record { password = told.password; talk = h; shown = told.shown; strays = told.strays })
-
-  is_entry-entry_of : (t : Talk) (s : Shown) → is_talk t ≡ true → is_shown s ≡ true
-      → is_entry (entry_of e.password t s e.strays) ≡ true
-  is_entry-entry_of t s h k =
-      entry_legal _ (record { password = told.password; talk = h; shown = k; strays = told.strays })
-
-  stray_legal : is_entry (strayed e) ≡ true
-  stray_legal =
-      entry_legal _
-      (record { password = told.password; talk = told.talk; shown = told.shown; strays = omega arith })
+  is_entry-entry_of : (t : Talk) (s : Shown) (n : ℕ) → is_talk t ≡ true → is_shown s ≡ true → n ≤ strays_most
+      → is_entry (entry_of e.password t s n) ≡ true
+  is_entry-entry_of t s n h k few =
+      entry_legal _ (record { password = told.password; talk = h; shown = k; strays = few })
 
   row_legal : (l : List ℕ) {f : Entry} → StepTo e l f → is_entry f ≡ true
-  row_legal l (greets_open g r) = is_entry-with_talk _ open_legal
-  row_legal l (greets_secured random g r) = is_entry-with_talk _ (secured_legal random)
-  row_legal l (strays s) = stray_legal
+  row_legal l (greets_open g r) = is_entry-entry_of _ _ _ (begun_legal Open) told.shown told.strays
+  row_legal l (greets_secured random g r) =
+      is_entry-entry_of _ _ _ (begun_legal (Secured random)) told.shown told.strays
+  row_legal l (strays s) = is_entry-entry_of _ _ _ told.talk told.shown (omega arith)
   row_legal l (answers c m u r) =
       let means : (read_reply c l).outcome ≡ means_it = ap (λ (a : ReadAs). a.outcome) r in
-      is_entry-entry_of _ _ (is_talk-rested_on (talk_of e) told.talk)
+      is_entry-entry_of _ _ _ (is_talk-rested_on (talk_of e) told.talk)
       (subst (λ (a : ReadAs). is_shown (showing (shown_of e) a.said) ≡ true) r
-      (said_shown (shown_of e) (reads_sound c l means) told.shown))
-  row_legal l (refuses c u r) = is_entry-entry_of _ _ no_talk_legal nothing_shown_legal
+      (said_shown (shown_of e) (reads_sound c l means) told.shown)) told.strays
+  row_legal l (refuses c u r) = is_entry-entry_of _ _ _ (begun_legal NotYet) nothing_shown_legal told.strays
 
-  pub is_entry-heard_line : (l : List ℕ) → is_entry (heard_line e l) ≡ true
+  is_entry-heard_line : (l : List ℕ) → is_entry (heard_line e l) ≡ true
   is_entry-heard_line l = row_legal l (steps_by_the_table e l legal)
 
-  pub is_entry-lost_entry : is_entry (lost_entry e) ≡ true
-  is_entry-lost_entry = is_entry-with_talk _ no_talk_legal
+  is_entry-lost_entry : is_entry (lost_entry e) ≡ true
+  is_entry-lost_entry = is_entry-entry_of _ _ _ (begun_legal NotYet) told.shown told.strays
 
-  pub is_entry-sent_entry : (k : Coded) → is_unready e ≡ false → names_command (coded_command k) ≡ true
+  is_entry-sent_entry : (k : Coded) → is_unready e ≡ false → is_some (coded_command k) ≡ true
       → is_entry (sent_entry e k) ≡ true
   is_entry-sent_entry k ready named =
-      is_entry-with_talk _ (is_talk-sent_on (talk_of e) told.talk k (first_no _ _ ready) named)
+      let greeted : (e.greeting == ungreeted) ≡ false = grind (arith, ready) in
+      is_entry-entry_of _ _ _ (is_talk-sent_on (talk_of e) told.talk k greeted named) told.shown told.strays
 
 kept_legal : (s : List ℕ) → is_password s ≡ true → is_password_kept (password_of s) ≡ true
 kept_legal s h =
     let short = password_long s h in
     (uses_told _ _ _ _ _).1 (kept_used (λ x. x == 0) 0 password_room is_password s (omega arith) refl h)
 
-pub is_entry-fresh_entry : (s : List ℕ) → is_password s ≡ true → is_entry (fresh_entry s) ≡ true
+is_entry-fresh_entry : (s : List ℕ) → is_password s ≡ true → is_entry (fresh_entry s) ≡ true
 is_entry-fresh_entry s h =
     entry_legal _ (record {
       password = kept_legal s h;
-      talk = no_talk_legal;
+      talk = begun_legal NotYet;
       shown = nothing_shown_legal;
       strays = omega arith;
     })
 
-pub blank_legal : is_entry blank_entry ≡ true
-blank_legal = is_entry-fresh_entry [] (password_within [] (omega arith))
-
-blank_unused : is_unused blank_entry ≡ true
-unfolding is_unused
-blank_unused = refl
-
 -- the panel of no projector
 pub none_legal : is_panel no_panel ≡ true
+unfolding is_unused
 none_legal =
     panel_legal _ (record {
       count = omega arith;
       long = length-replicate panel_most blank_entry;
-      entries = list_all-replicate is_entry panel_most blank_entry blank_legal;
-      unused = list_all-replicate is_unused panel_most blank_entry blank_unused;
+      entries = list_all-replicate is_entry panel_most blank_entry
+          (is_entry-fresh_entry [] (password_within [] (omega arith)));
+      unused = list_all-replicate is_unused panel_most blank_entry refl;
     })
 
 module _ (p : Panel) (legal : is_panel p ≡ true) where

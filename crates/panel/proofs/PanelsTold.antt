@@ -3,18 +3,18 @@
 --   PanelTold p      the parts of is_panel
 -- Assumes nothing.
 use Rattle.std.specs.List.{list_all}
-use Rattle.std.proofs.Common.{ℕ, ◌≤◌, ◌<◌, ◌≡◌, Bool, true, not, ◌&&◌, List, arith, length, slice_index_or, drop}
+use Rattle.std.proofs.Common.{ℕ, ◌≤◌, ◌<◌, ◌≡◌, ◌↔◌, refl, sym, ◌∙◌, Bool, true, List, arith, length, slice_index_or}
+use Rattle.std.proofs.Common.{drop}
+use Rattle.std.specs.Prelude.{Option, Some, None, is_some, ◌==◌}
+use Rattle.text.proofs.Choices.{both, both_left, both_right}
+use Rattle.text.specs.Rooms.{used, holds, Uses}
+use Rattle.text.proofs.RoomsTold.{uses_told}
 use Rattle.text.proofs.Scanning.{list_all_at}
 use Rattle.words.specs.Texts.{is_password}
-use Rattle.std.specs.Prelude.{is_some, ◌==◌}
-use Rattle.pjlink.specs.Carried.{lamps_carried}
-use Rattle.text.specs.Rooms.{used, Uses}
-use Rattle.text.proofs.RoomsTold.{is_some_used, uses_told}
 use Rattle.panel.specs.Passwords.{password_room, is_password_kept}
 use Rattle.panel.specs.Entries.{talk_of, shown_of, password_in, blank_entry}
 use Rattle.panel.specs.Stepping.{strays_most}
-use Rattle.panel.specs.LegalPanels.{panel_most, is_talk, is_hours_room, is_lit_room, is_shown, is_entry, is_entries}
-use Rattle.panel.specs.LegalPanels.{is_unused, is_panel}
+use Rattle.panel.specs.LegalPanels.{panel_most, is_talk, is_shown, is_entry, is_unused, is_panel}
 use Rattle.panel.specs.PanelCalls.{entry_at}
 use Rattle.panel.specs.declared.types.Entry.{Entry}
 use Rattle.panel.specs.declared.types.Panel.{Panel}
@@ -40,15 +40,24 @@ module _ (e : Entry) where
   entry_legal k = grind (arith, k.password, k.talk, k.shown, k.strays)
 
   -- its password is in its room, and one that the writer takes
-  module _ (legal : is_entry e ≡ true) where
-    password_uses : Uses (λ x. x == 0) password_room is_password e.password.bytes e.password.len
-    password_uses = (uses_told _ _ _ _ _).0 (entry_told legal).password
+  pub password_uses : is_entry e ≡ true
+      → Uses (λ x. x == 0) password_room is_password e.password.bytes e.password.len
+  password_uses legal = (uses_told _ _ _ _ _).0 (entry_told legal).password
 
-    pub password_fits : e.password.len ≤ password_room
-    password_fits = password_uses.inside
+  pub is_password-password_in : is_entry e ≡ true → is_password (password_in e) ≡ true
+  is_password-password_in legal = (password_uses legal).follows
 
-    pub is_password-password_in : is_password (password_in e) ≡ true
-    is_password-password_in = password_uses.follows
+-- a room of which something is used
+some_holds : {A : Type 0} (u : Option (List A)) → is_some u ≡ holds (λ _. true) u
+some_holds (Some s) = refl
+some_holds None = refl
+
+pub room_told : {A : Type 0} (blank : A → Bool) (room : ℕ) (s : List A) (n : ℕ)
+    → (is_some (used blank room s n) ≡ true) ↔ Uses blank room (λ _. true) s n
+room_told blank room s n =
+    let same = some_holds (used blank room s n) in
+    let told = uses_told blank room (λ _. true) s n in
+    (λ e. told.0 (sym same ∙ e), λ u. same ∙ told.1 u)
 
 pub record PanelTold (p : Panel) : Type 0 where
   pub count : p.count ≤ panel_most
@@ -58,22 +67,21 @@ pub record PanelTold (p : Panel) : Type 0 where
 
 module _ (p : Panel) where
   pub panel_told : is_panel p ≡ true → PanelTold p
-  unfolding is_panel is_entries
-  panel_told h = record {
-    count = grind (arith, h);
-    long = grind (arith, h);
-    entries = grind (arith, h);
-    unused = grind (arith, h);
-  }
+  unfolding is_panel
+  panel_told h =
+      let room = (room_told is_unused panel_most p.entries p.count).0 (both_left _ _ h) in
+      record { count = room.inside; long = room.long; entries = both_right _ _ h; unused = room.clear }
 
   pub panel_legal : PanelTold p → is_panel p ≡ true
-  unfolding is_panel is_entries
-  panel_legal k = grind (arith, k.count, k.long, k.entries, k.unused)
+  unfolding is_panel
+  panel_legal k =
+      both ((room_told is_unused panel_most p.entries p.count).1
+      (record { long = k.long; inside = k.count; clear = k.unused; follows = refl })) k.entries
+
+  pub few_projectors : is_panel p ≡ true → p.count ≤ panel_most
+  few_projectors legal = (panel_told legal).count
 
   module _ (legal : is_panel p ≡ true) (i : ℕ) (there : i < p.count) where
-    pub place_below : i < panel_most
-    place_below = let told = panel_told legal in omega (arith, told.count)
-
     -- whatever stands for what is past the end
     is_entry-slice_index_or : (d : Entry) → is_entry (slice_index_or p.entries i d) ≡ true
     is_entry-slice_index_or d =
@@ -84,18 +92,6 @@ module _ (p : Panel) where
     entry_at_legal = is_entry-slice_index_or blank_entry
 
     pub fits_there : (d : Entry) → (slice_index_or p.entries i d).password.len ≤ password_room
-    fits_there d = password_fits (slice_index_or p.entries i d) (is_entry-slice_index_or d)
+    fits_there d = (password_uses (slice_index_or p.entries i d) (is_entry-slice_index_or d)).inside
 
--- the hours and the lit marks of so many lamps, and a panel, by what is used of their room
-pub hours_inside : (hs : List ℕ) (n : ℕ) → is_hours_room hs n ≡ true → n ≤ lamps_carried
-hours_inside hs n h = ((uses_told _ _ _ hs n).0 h).inside
-
-pub lit_used : (ms : List Bool) (n : ℕ) → n ≤ lamps_carried → length ms ≡ lamps_carried → is_lit_room ms n
-    ≡ is_some (used not lamps_carried ms n)
-unfolding is_lit_room
-lit_used ms n few long = grind (arith, is_some_used not lamps_carried ms n long)
-
-pub panel_used : (p : Panel) → length p.entries ≡ panel_most → is_panel p
-    ≡ (is_some (used is_unused panel_most p.entries p.count) && is_entries p.entries)
-unfolding is_panel
-panel_used p long = grind (arith, is_some_used is_unused panel_most p.entries p.count long)
+pub ruleset projectors_there = (few_projectors, fits_there)

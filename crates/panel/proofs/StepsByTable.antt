@@ -2,15 +2,15 @@
 -- one that the step gives, so that it gives one.
 -- Assumes nothing.
 use Rattle.std.proofs.Common.{ℕ, ◌≡◌, refl, sym, ap, ◌∙◌, true, false, not, List, arith, ◌==◌, eqb-true, eq-eqb, ne_eqb}
-use Rattle.std.proofs.lemmas.Bool.{false≢true, eqb-false, not-true, not-false}
-use Rattle.std.specs.Prelude.{Option, Some, None}
+use Rattle.std.proofs.lemmas.Bool.{eqb-false, not-true, not-false}
+use Rattle.std.specs.Prelude.{Option, Some, None, is_some}
 use Rattle.text.proofs.Choices.{if_yes, if_no, if_by}
 use Rattle.pjlink.specs.declared.command.Command.{Command}
 use Rattle.pjlink.specs.Said.{Said}
 use Rattle.controller.specs.Greetings.{read_greeting}
 use Rattle.controller.specs.Reading.{ReadAs, read_reply, reading_outcome_number}
 use Rattle.controller.specs.declared.greeting.Greeting.{Greeting}
-use Rattle.controller.specs.declared.greeting.Greeting.TheVariants.{Open, Secured, Refused, NotAGreeting}
+use Rattle.controller.specs.declared.greeting.Greeting.TheVariants.{Open, Secured}
 use Rattle.controller.specs.Reading.{Outcome}
 use Rattle.controller.specs.Reading.{means_it, erra_said, not_a_line, other_command, disallowed}
 use Rattle.controller.proofs.Refusals.{erra_read}
@@ -18,11 +18,11 @@ use Rattle.controller.proofs.ReadsSound.{erra_exactly}
 use Rattle.codes.specs.Commands.{coded_command}
 use Rattle.panel.specs.Entries.{ungreeted}
 use Rattle.panel.specs.Stepping.{strayed, greeted_as, heard_as, heard_by, replied_to, heard_line}
-use Rattle.panel.specs.LegalPanels.{names_command, is_entry}
+use Rattle.panel.specs.LegalPanels.{is_entry}
 use Rattle.panel.specs.StepTable.{is_greeting, IsUnderWay, IsStray, ungreeted_malformed, late, malformed, foreign}
 use Rattle.panel.specs.StepTable.{not_allowed, StepTo, greets_open, greets_secured, strays, answers, refuses}
 use Rattle.panel.specs.declared.types.Entry.{Entry}
-use Rattle.panel.proofs.TalksTold.{names_command-coded_command}
+use Rattle.panel.proofs.TalksTold.{is_some-coded_command}
 
 -- the step, by where the talk stands
 module _ (e : Entry) (l : List ℕ) where
@@ -54,27 +54,24 @@ module _ (e : Entry) (l : List ℕ) where
 
   -- each row is the step
   not_greeting : (g : Greeting) → is_greeting g ≡ false → greeted_as e g ≡ strayed e
-  not_greeting Open n = absurd (false≢true (sym n))
-  not_greeting (Secured r) n = absurd (false≢true (sym n))
-  not_greeting Refused n = refl
-  not_greeting NotAGreeting n = refl
+  not_greeting Open n = cc
+  not_greeting (Secured r) n = cc
+  not_greeting g n = refl
 
-  numbered : (o : Outcome) (m : Said) (n : ℕ) → (n ≡ 0 → ⊥) → reading_outcome_number o ≡ n → heard_as e o m ≡ strayed e
-  numbered means_it m n z h = absurd (z (sym h))
-  numbered erra_said m n z h = absurd (z (sym h))
-  numbered not_a_line m n z h = refl
-  numbered other_command m n z h = refl
-  numbered disallowed m n z h = refl
+  numbered : (r : ReadAs) {n : ℕ} → (n ≡ 0 → ⊥) → reading_outcome_number r.outcome ≡ n → heard_by e r ≡ strayed e
+  numbered r {n} some h = by r.outcome r.said h
+    where
+      by : (o : Outcome) (m : Said) → reading_outcome_number o ≡ n → heard_as e o m ≡ strayed e
+      by means_it m h = absurd (some (sym h))
+      by erra_said m h = absurd (some (sym h))
+      by o m h = refl
 
   pub stray_steps : IsStray e l → heard_line e l ≡ strayed e
   stray_steps (ungreeted_malformed g n) = step_greets g ∙ not_greeting (read_greeting l) n
   stray_steps (late g w) = step_late g w
-  stray_steps (malformed c u n) =
-      step_replied c u ∙ numbered (read_reply c l).outcome (read_reply c l).said 10 (λ z. omega arith) n
-  stray_steps (foreign c u n) =
-      step_replied c u ∙ numbered (read_reply c l).outcome (read_reply c l).said 11 (λ z. omega arith) n
-  stray_steps (not_allowed c u n) =
-      step_replied c u ∙ numbered (read_reply c l).outcome (read_reply c l).said 12 (λ z. omega arith) n
+  stray_steps (malformed c u n) = step_replied c u ∙ numbered (read_reply c l) (λ z. omega arith) n
+  stray_steps (foreign c u n) = step_replied c u ∙ numbered (read_reply c l) (λ z. omega arith) n
+  stray_steps (not_allowed c u n) = step_replied c u ∙ numbered (read_reply c l) (λ z. omega arith) n
 
   pub row_steps : {f : Entry} → StepTo e l f → heard_line e l ≡ f
   row_steps (greets_open g r) = step_greets g ∙ ap (greeted_as e) r
@@ -90,8 +87,7 @@ module _ (e : Entry) (l : List ℕ) where
   greeting_row : e.greeting ≡ ungreeted → (g : Greeting) → read_greeting l ≡ g → StepTo e l (greeted_as e g)
   greeting_row u Open r = greets_open u r
   greeting_row u (Secured random) r = greets_secured random u r
-  greeting_row u Refused r = strays (ungreeted_malformed u (ap is_greeting r))
-  greeting_row u NotAGreeting r = strays (ungreeted_malformed u (ap is_greeting r))
+  greeting_row u g r = strays (ungreeted_malformed u (ap is_greeting r))
 
   reply_row : (c : Command) → IsUnderWay e c → (o : Outcome) (m : Said) →
       read_reply c l ≡ record { outcome = o; said = m }
@@ -112,4 +108,4 @@ module _ (e : Entry) (l : List ℕ) where
       by g w (Some c) a =
           reply_row c (record { greeted = g; waits = w; asked = a }) (read_reply c l).outcome (read_reply c l).said refl
       by g w None a =
-          absurd (false≢true (sym (ap names_command a) ∙ names_command-coded_command e legal w))
+          cc (ap is_some a, is_some-coded_command e legal w)

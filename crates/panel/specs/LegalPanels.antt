@@ -4,15 +4,12 @@
 --                     with a greeting, and one that the writer takes
 --   is_power_shown, is_input_shown, shows_lamps   what is known is in the reader's range, what is not is zero
 --   is_entry e        the entry is legal: a password of 0 to 32 letters and digits, and strays to their stop
---   is_entries es     eight entries, each legal
 --   is_unused e       nothing is kept of it: with is_entry, all zero (proofs/Unused)
 --   is_panel p        up to eight projectors, and the entries past them unused
 -- Assumes nothing.
 use Rattle.std.specs.List.{list_all}
-use Rattle.std.specs.Prelude.{ℕ, ◌==◌, Bool, true, false, not, ◌&&◌, ◌||◌, List, length, drop, if◌then◌else◌}
-use Rattle.std.specs.Prelude.{Option, Some, None, nat_le}
+use Rattle.std.specs.Prelude.{ℕ, ◌==◌, Bool, not, ◌&&◌, ◌||◌, List, if◌then◌else◌, is_some, nat_le}
 use Rattle.text.specs.Rooms.{used, holds}
-use Rattle.pjlink.specs.declared.command.Command.{Command}
 use Rattle.pjlink.specs.Carried.{lamps_carried}
 use Rattle.words.specs.Numerals.{hours_most}
 use Rattle.codes.specs.Commands.{coded_command}
@@ -26,16 +23,12 @@ use Rattle.panel.specs.declared.types.Panel.{Panel}
 abbrev pub panel_most : ℕ
 panel_most = 8
 
-abbrev pub names_command : Option Command → Bool
-names_command (Some c) = true
-names_command None = false
-
 abbrev pub is_none_coded : Coded → Bool
 is_none_coded k = k.code == 0 && k.first == 0 && k.second == 0
 
 unfoldable pub is_command_kept : Talk → Bool
 is_command_kept t =
-    if t.under_way then not (t.greeting == ungreeted) && names_command (coded_command t.command)
+    if t.under_way then not (t.greeting == ungreeted) && is_some (coded_command t.command)
     else is_none_coded t.command
 
 unfoldable pub is_talk : Talk → Bool
@@ -60,7 +53,7 @@ abbrev pub is_hours_room : List ℕ → ℕ → Bool
 is_hours_room hours count = holds is_hours (used (λ x. x == 0) lamps_carried hours count)
 
 unfoldable pub is_lit_room : List Bool → ℕ → Bool
-is_lit_room lit count = length lit == lamps_carried && list_all not (drop count lit)
+is_lit_room lit count = is_some (used not lamps_carried lit count)
 
 unfoldable pub shows_lamps : Bool → ℕ → List ℕ → List Bool → Bool
 shows_lamps known count hours lit =
@@ -80,9 +73,5 @@ is_unused e =
     e.password.len == 0 && e.greeting == ungreeted && not e.power_known && not e.input_known
     && not e.lamps_known && e.strays == 0
 
-unfoldable pub is_entries : List Entry → Bool
-is_entries es = length es == panel_most && list_all is_entry es
-
 unfoldable pub is_panel : Panel → Bool
-is_panel p =
-    nat_le p.count panel_most && is_entries p.entries && list_all is_unused (drop p.count p.entries)
+is_panel p = is_some (used is_unused panel_most p.entries p.count) && list_all is_entry p.entries

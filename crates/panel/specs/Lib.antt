@@ -5,7 +5,7 @@ pub mod Stepping
 pub mod LegalPanels
 pub mod PanelCalls
 pub mod Refusals
-pub mod Views
+pub mod Awaited
 pub mod StepTable
 pub mod Talks
 pub mod Computing

@@ -9,7 +9,7 @@
 --   stepped_at p i l       the line l from the projector i: 1, 3, or the step on its entry alone
 --   lost_at p i            its connection is gone: 1, 3
 -- Assumes nothing.
-use Rattle.std.specs.Prelude.{ℕ, ◌+◌, not, List, [], ◌∷◌, set, replicate, slice_index_or, nat_le, nat_lt}
+use Rattle.std.specs.Prelude.{ℕ, ◌+◌, not, List, [], ◌∷◌, set, replicate, slice_index_or, nat_le, nat_lt, is_some}
 use Rattle.text.specs.Rows.{Row, ◌when◌, by_rows}
 use Rattle.words.specs.Texts.{is_password}
 use Rattle.controller.specs.Writing.{command_room}
@@ -17,7 +17,7 @@ use Rattle.codes.specs.Commands.{coded_command}
 use Rattle.codes.specs.declared.command.Coded.{Coded}
 use Rattle.panel.specs.Entries.{fresh_entry, blank_entry}
 use Rattle.panel.specs.Stepping.{heard_line, lost_entry, sent_entry, is_unready, line_sent}
-use Rattle.panel.specs.LegalPanels.{panel_most, names_command, is_panel}
+use Rattle.panel.specs.LegalPanels.{panel_most, is_panel}
 use Rattle.panel.specs.declared.types.Entry.{Entry}
 use Rattle.panel.specs.declared.types.Panel.{Panel}
 
@@ -50,7 +50,7 @@ adding_rows p s = (1 when not (is_panel p)) ∷ (3 when not (is_password s)) ∷
 abbrev pub commanding_rows : Panel → ℕ → Coded → ℕ → List Row
 commanding_rows p i k room =
     (1 when not (is_panel p)) ∷ (2 when nat_lt room command_room) ∷ (3 when nat_le p.count i)
-    ∷ (3 when not (names_command (coded_command k))) ∷ (9 when is_unready (entry_at p i)) ∷ []
+    ∷ (3 when not (is_some (coded_command k))) ∷ (9 when is_unready (entry_at p i)) ∷ []
 
 abbrev pub projector_rows : Panel → ℕ → List Row
 projector_rows p i = (1 when not (is_panel p)) ∷ (3 when nat_le p.count i) ∷ []

@@ -4,8 +4,7 @@
 --   showing s m          what was said is shown: a power, an input or lamps; anything else changes nothing
 -- Assumes nothing.
 use Rattle.std.specs.Prelude.{ℕ, Bool, true, false, List, map, length}
-use Rattle.pjlink.specs.Said.{Said, okay, refused, power_is, chosen_is, mutes_are, errors_are, lamps_are, inputs_are}
-use Rattle.pjlink.specs.Said.{text_is, class_is, freeze_is, nothing}
+use Rattle.pjlink.specs.Said.{Said, power_is, chosen_is, lamps_are}
 use Rattle.pjlink.specs.Carried.{lamps_carried}
 use Rattle.codes.specs.Commands.{source_number}
 use Rattle.codes.specs.Readings.{filled_to, hours_of, lit_of, power_at_face}
@@ -56,12 +55,4 @@ module _ (s : Shown) where
   showing (chosen_is i) = with_input_shown (source_number i.source) i.number
   showing (lamps_are ls) = with_lamps_shown (length ls) (filled_to lamps_carried 0 (map hours_of ls))
       (filled_to lamps_carried false (map lit_of ls))
-  showing okay = s
-  showing (refused n) = s
-  showing (mutes_are video audio) = s
-  showing (errors_are ds) = s
-  showing (inputs_are is) = s
-  showing (text_is t) = s
-  showing (class_is k) = s
-  showing (freeze_is on) = s
-  showing nothing = s
+  showing m = s

@@ -11,7 +11,7 @@ use Rattle.pjlink.specs.Said.{Said}
 use Rattle.controller.specs.Greetings.{read_greeting}
 use Rattle.controller.specs.Reading.{meaning, read_reply, reading_outcome_number}
 use Rattle.controller.specs.declared.greeting.Greeting.{Greeting}
-use Rattle.controller.specs.declared.greeting.Greeting.TheVariants.{Open, Secured, Refused, NotAGreeting}
+use Rattle.controller.specs.declared.greeting.Greeting.TheVariants.{Open, Secured}
 use Rattle.codes.specs.Commands.{coded_command}
 use Rattle.panel.specs.Entries.{ungreeted, greeted_open, greeted_secured, greeted_by}
 use Rattle.panel.specs.Stepping.{strayed, with_talk, answered_entry, erra_entry}
@@ -20,8 +20,7 @@ use Rattle.panel.specs.declared.types.Entry.{Entry}
 abbrev pub is_greeting : Greeting → Bool
 is_greeting Open = true
 is_greeting (Secured random) = true
-is_greeting Refused = false
-is_greeting NotAGreeting = false
+is_greeting g = false
 
 pub record IsUnderWay (e : Entry) (c : Command) : Type 0 where
   pub greeted : e.greeting ≡ ungreeted → ⊥

@@ -20,9 +20,8 @@ use Rattle.controller.specs.Greetings.{read_greeting}
 use Rattle.controller.specs.Reading.{ReadAs, read_reply}
 use Rattle.controller.specs.Writing.{written_command}
 use Rattle.controller.specs.declared.greeting.Greeting.{Greeting}
-use Rattle.controller.specs.declared.greeting.Greeting.TheVariants.{Open, Secured, Refused, NotAGreeting}
-use Rattle.controller.specs.Reading.{Outcome}
-use Rattle.controller.specs.Reading.{means_it, erra_said, not_a_line, other_command, disallowed}
+use Rattle.controller.specs.declared.greeting.Greeting.TheVariants.{Open, Secured}
+use Rattle.controller.specs.Reading.{Outcome, means_it, erra_said}
 use Rattle.codes.specs.Commands.{coded_command}
 use Rattle.codes.specs.declared.command.Coded.{Coded}
 use Rattle.panel.specs.Entries.{Talk, Shown, talk_of, shown_of, password_in, entry_of, ungreeted, greeted_open}
@@ -57,15 +56,12 @@ sent_entry e k = with_talk e (sent_on (talk_of e) k)
 abbrev pub greeted_as : Entry → Greeting → Entry
 greeted_as e Open = with_talk e (greeted_by greeted_open 0)
 greeted_as e (Secured random) = with_talk e (greeted_by greeted_secured random)
-greeted_as e Refused = strayed e
-greeted_as e NotAGreeting = strayed e
+greeted_as e g = strayed e
 
 abbrev pub heard_as : Entry → Outcome → Said → Entry
 heard_as e means_it m = answered_entry e m
 heard_as e erra_said m = erra_entry e
-heard_as e not_a_line m = strayed e
-heard_as e other_command m = strayed e
-heard_as e disallowed m = strayed e
+heard_as e o m = strayed e
 
 abbrev pub heard_by : Entry → ReadAs → Entry
 heard_by e r = heard_as e r.outcome r.said

@@ -7,12 +7,11 @@
 --   is_first_led bs    it leads the first of them and no other
 -- Assumes nothing.
 use Rattle.std.specs.List.{list_all}
-use Rattle.std.specs.Prelude.{Bool, true, false, not, ◌&&◌, List, [], ◌∷◌, ◌++◌, ℕ, if◌then◌else◌, ◌==◌}
+use Rattle.std.specs.Prelude.{Bool, true, false, not, ◌&&◌, List, [], ◌∷◌, ◌++◌, ℕ, is_some, if◌then◌else◌, ◌==◌}
 use Rattle.codes.specs.Commands.{coded_command}
 use Rattle.codes.specs.declared.command.Coded.{Coded}
 use Rattle.panel.specs.Entries.{talk_of, ungreeted, leads_next}
 use Rattle.panel.specs.Stepping.{heard_line, lost_entry, sent_entry, is_unready}
-use Rattle.panel.specs.LegalPanels.{names_command}
 use Rattle.panel.specs.declared.types.Entry.{Entry}
 
 pub data Happens : Type 0 where
@@ -21,7 +20,7 @@ pub data Happens : Type 0 where
   loses : Happens
 
 abbrev pub is_sent : Entry → Happens → Bool
-is_sent e (sends k) = names_command (coded_command k) && not (is_unready e)
+is_sent e (sends k) = is_some (coded_command k) && not (is_unready e)
 is_sent e (hears l) = false
 is_sent e loses = false
 

@@ -7,8 +7,8 @@ ghost use Rattle.panel.specs.PanelCalls.{no_panel, added_to, commanded, stepped_
 ghost use Rattle.panel.specs.Refusals.{panel_outcome_number, length_sent};
 
 use crate::refusal::Refusal;
+use crate::talk::Awaits;
 use crate::types::{Entry, LAMPS_MOST, NO_COMMAND, PANEL_MOST, Panel, Password};
-use crate::views::Awaits;
 use codes::command::Coded;
 use words::texts;
 
@@ -73,7 +73,7 @@ impl Panel {
     /// A command to a projector: its line is written from the start of the lent memory, and is so long. Refused:
     /// `NotLegal`, `NoRoom` for less than 168 bytes, `OutOfRange` for no such projector and for no command, `NotReady`
     /// before the greeting or over another command, in that order.
-    #[tactic(auto, unfolding(crate::specs::PanelCalls::commanded))]
+    #[tactic(auto, using(crate::proofs::PanelsTold::projectors_there), unfolding(crate::specs::PanelCalls::commanded))]
     pub fn send(&mut self, projector: usize, coded: Coded, out: &mut [u8]) -> Result<usize, Refusal>
         ensures number { panel_outcome_number result
             ≡ (commanded self.old projector coded (length out.old)).number }
@@ -103,7 +103,7 @@ impl Panel {
 
     /// A line from a projector, with its CR: the step on its entry. Refused: `NotLegal`, then `OutOfRange` for no such
     /// projector.
-    #[tactic(auto, unfolding(crate::specs::PanelCalls::stepped_at))]
+    #[tactic(auto, using(crate::proofs::PanelsTold::few_projectors), unfolding(crate::specs::PanelCalls::stepped_at))]
     pub fn hear(&mut self, projector: usize, line: &[u8]) -> Result<(), Refusal>
         ensures number { panel_outcome_number result ≡ (stepped_at self.old projector line.now).number }
         ensures panel { self.new ≡ (stepped_at self.old projector line.now).panel }
@@ -119,7 +119,7 @@ impl Panel {
     }
 
     /// The connection to a projector is gone. Refused: `NotLegal`, then `OutOfRange` for no such projector.
-    #[tactic(auto, unfolding(crate::specs::PanelCalls::lost_at))]
+    #[tactic(auto, using(crate::proofs::PanelsTold::few_projectors), unfolding(crate::specs::PanelCalls::lost_at))]
     pub fn lose(&mut self, projector: usize) -> Result<(), Refusal>
         ensures number { panel_outcome_number result ≡ (lost_at self.old projector).number }
         ensures panel { self.new ≡ (lost_at self.old projector).panel }

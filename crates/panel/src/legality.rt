@@ -1,12 +1,35 @@
-// The legality of the panel, a function a part.
+// The legality of the panel, a function a part: what is kept of a projector is in its ranges, and what is not known,
+// not under way or past a count is zero.
+ghost use Rattle.std.specs.List.{list_all};
 ghost use Rattle.std.specs.Prelude.{◌≡◌};
-ghost use Rattle.panel.specs.Entries.{talk_of};
-ghost use Rattle.panel.specs.LegalPanels.{is_command_kept, is_talk, is_entry, is_entries, is_unused, is_panel};
+ghost use Rattle.panel.specs.Entries.{talk_of, shown_of};
+ghost use Rattle.panel.specs.LegalPanels.{is_command_kept, is_talk, is_power_shown, is_input_shown, is_lamp_count};
+ghost use Rattle.panel.specs.LegalPanels.{is_hours, is_hours_room, is_lit_room, shows_lamps, is_shown};
+ghost use Rattle.panel.specs.LegalPanels.{is_entry, is_unused, is_panel};
 
-use crate::types::{Entry, PANEL_MOST, Panel, STRAYS_MOST};
-use crate::views::{GREETED_SECURED, UNGREETED};
+use crate::talk::{GREETED_SECURED, UNGREETED};
+use crate::types::{Entry, HOURS_MOST, LAMPS_MOST, Panel, STRAYS_MOST};
 use text::rooms;
 use text::rooms::Blank;
+
+fn are_hours(hours: &[u32]) -> bool
+    ensures { result ≡ is_hours hours.now }
+{
+    hours.iter().all(|&h| h <= HOURS_MOST)
+}
+
+fn is_hours_room(hours: &[u32; LAMPS_MOST], count: usize) -> bool
+    ensures { result ≡ is_hours_room hours.now count }
+{
+    rooms::used(hours, count).is_some_and(|used| are_hours(used))
+}
+
+#[tactic(auto, unfolding(crate::specs::LegalPanels::is_lit_room))]
+fn is_lit_room(lit: &[bool; LAMPS_MOST], count: usize) -> bool
+    ensures { result ≡ is_lit_room lit.now count }
+{
+    rooms::used(lit, count).is_some()
+}
 
 impl Entry {
     // A command under way only after a greeting, and one that the writer takes; else none.
@@ -29,6 +52,57 @@ impl Entry {
         self.greeting <= GREETED_SECURED
             && (self.greeting == GREETED_SECURED || (self.random == 0 && !self.led))
             && self.is_command_kept()
+    }
+
+    #[tactic(auto, unfolding(crate::specs::LegalPanels::is_power_shown))]
+    fn is_power_shown(&self) -> bool
+        ensures { result ≡ is_power_shown self.now.power_known self.now.power }
+    {
+        if self.power_known {
+            return self.power <= 3;
+        }
+        self.power == 0
+    }
+
+    #[tactic(auto, unfolding(crate::specs::LegalPanels::is_input_shown))]
+    fn is_input_shown(&self) -> bool
+        ensures { result ≡ is_input_shown self.now.input_known self.now.input_type
+            self.now.input_number }
+    {
+        let source = self.input_type;
+        let number = self.input_number;
+        if self.input_known {
+            return 1 <= source && source <= 6 && 1 <= number && number <= 35;
+        }
+        source == 0 && number == 0
+    }
+
+    #[tactic(auto, unfolding(crate::specs::LegalPanels::is_lamp_count))]
+    fn is_lamp_count(&self) -> bool
+        ensures { result ≡ is_lamp_count self.now.lamps_known self.now.lamp_count }
+    {
+        if self.lamps_known {
+            return 1 <= self.lamp_count && self.lamp_count <= LAMPS_MOST;
+        }
+        self.lamp_count == 0
+    }
+
+    #[tactic(auto, unfolding(crate::specs::LegalPanels::shows_lamps))]
+    fn is_lamps_shown(&self) -> bool
+        ensures { result ≡ shows_lamps self.now.lamps_known self.now.lamp_count
+            self.now.hours self.now.lit }
+    {
+        self.is_lamp_count()
+            && is_hours_room(&self.hours, self.lamp_count)
+            && is_lit_room(&self.lit, self.lamp_count)
+    }
+
+    // Whether what is shown is in its ranges.
+    #[tactic(auto, unfolding(crate::specs::LegalPanels::is_shown))]
+    fn is_shown(&self) -> bool
+        ensures { result ≡ is_shown (shown_of self.now) }
+    {
+        self.is_power_shown() && self.is_input_shown() && self.is_lamps_shown()
     }
 
     /// Whether the entry is legal.
@@ -55,23 +129,18 @@ impl Blank for Entry {
     }
 }
 
-#[tactic(auto, unfolding(crate::specs::LegalPanels::is_entries))]
-fn all_legal(entries: &[Entry; PANEL_MOST]) -> bool
-    ensures { result ≡ is_entries entries.now }
+fn are_legal(entries: &[Entry]) -> bool
+    ensures { result ≡ list_all is_entry entries.now }
 {
-    let mut ok = true;
-    for e in entries.iter() {
-        ok = ok & e.is_legal();
-    }
-    ok
+    entries.iter().all(|e| e.is_legal())
 }
 
 impl Panel {
     /// Whether the panel is legal.
-    #[tactic(auto, using(crate::proofs::PanelsTold::panel_used))]
+    #[tactic(auto, unfolding(crate::specs::LegalPanels::is_panel))]
     pub fn is_legal(&self) -> bool
         ensures { result ≡ is_panel self.now }
     {
-        rooms::used(&self.entries, self.count).is_some() && all_legal(&self.entries)
+        rooms::used(&self.entries, self.count).is_some() && are_legal(&self.entries)
     }
 }

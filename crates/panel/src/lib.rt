@@ -5,11 +5,10 @@
 mod calls;
 mod legality;
 pub mod password;
-mod ranges;
 pub mod refusal;
 mod sending;
 mod shown;
 mod step;
+pub mod talk;
 pub mod theorems;
 pub mod types;
-pub mod views;

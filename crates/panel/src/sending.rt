@@ -19,7 +19,7 @@ impl Entry {
         ensures line { out.new ≡ over (command_sent self.old command (length out.old)) out.old }
         ensures entry { self.new ≡ sent_entry self.old coded }
     {
-        let secured = self.greeted().is_secured();
+        let secured = self.is_secured();
         let password = &self.password.bytes[0..self.password.len];
         let leads = secured && !self.led;
         let written = writing::write_command(command, leads, self.random, password, out);

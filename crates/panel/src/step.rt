@@ -7,8 +7,8 @@ ghost use Rattle.panel.specs.Entries.{talk_of, rested_on};
 ghost use Rattle.panel.specs.Stepping.{strays_most, strayed, with_talk, erra_entry, lost_entry, greeted_as, heard_as};
 ghost use Rattle.panel.specs.Stepping.{replied_to, heard_line};
 
+use crate::talk::{Awaits, Greeted};
 use crate::types::{Entry, NO_COMMAND, STRAYS_MOST};
-use crate::views::{Awaits, Greeted};
 use codes::command::Coded;
 use controller::greeting::Greeting;
 use controller::reading::{Misread, Reading};

@@ -1,5 +1,5 @@
 // The panel's record (RULES, Panel): numbers, bools, arrays and structs of these, so that it can cross to C. What is
-// not known, not under way or past a count is zero. `views` says what the numbers mean.
+// not known, not under way or past a count is zero. `talk` says what its numbers mean.
 use codes::command::Coded;
 
 /// The room of a password (`pj_text`).
@@ -11,6 +11,7 @@ pub const PANEL_MOST: usize = 8;
 /// Lamps that are shown of a projector at most.
 pub const LAMPS_MOST: usize = 8;
 
+/// Hours of a lamp at most.
 pub const HOURS_MOST: u32 = 99_999;
 
 /// Where the count of strays stops.

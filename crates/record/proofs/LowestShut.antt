@@ -2,9 +2,10 @@
 -- below it.
 -- Assumes nothing.
 use Rattle.std.proofs.Common.{ℕ, zero, suc, ◌+◌, ◌≤◌, ◌<◌, ◌≡◌, refl, sym, ap, ◌∙◌, Bool, true, false, List, [], ◌∷◌}
-use Rattle.std.proofs.Common.{add-one, arith, length, slice_index_or, drop, drop_of_length-le, drop-cons}
+use Rattle.std.proofs.Common.{add-one, arith, length, slice_index_or, drop, drop_of_length-le, drop-cons, ◌==◌}
 use Rattle.std.specs.Prelude.{if◌then◌else◌}
 use Rattle.text.proofs.Choices.{if_yes, if_no}
+use Rattle.record.specs.Limits.{shut}
 use Rattle.record.specs.Places.{no_connection, is_shut, lowest_shut}
 use Rattle.record.specs.declared.types.Connection.{Connection}
 
@@ -64,3 +65,15 @@ below_lowest (c ∷ cs) k h = by (is_shut c) refl k (below_lowest cs) h
     by true e k on l = absurd (omega arith)
     by false e zero on l = e
     by false e (suc k) on l = on k (omega arith)
+
+-- which place is the lowest closed one depends on the phases alone
+pub lowest_shut_same : (cs ks : List Connection) → length cs ≡ length ks
+    → ((q : ℕ) → (slice_index_or cs q no_connection).phase ≡ (slice_index_or ks q no_connection).phase)
+    → lowest_shut cs ≡ lowest_shut ks
+unfolding lowest_shut
+lowest_shut_same [] [] long phases = refl
+lowest_shut_same [] (k ∷ ks) long phases = absurd (omega (arith, long))
+lowest_shut_same (c ∷ cs) [] long phases = absurd (omega (arith, long))
+lowest_shut_same (c ∷ cs) (k ∷ ks) long phases =
+    let rest = lowest_shut_same cs ks (omega (arith, long)) (λ q. phases (suc q)) in
+    (λ i. if phases 0 i == shut then 0 else suc (rest i))

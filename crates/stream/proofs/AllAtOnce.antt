@@ -2,7 +2,7 @@
 -- after the other.
 -- Assumes nothing.
 use Rattle.std.proofs.Common.{ℕ, suc, ◌+◌, ◌≤◌, ◌<◌, ◌≡◌, refl, sym, ap, ◌∙◌, Bool, true, false, List, [], ◌∷◌, ⊎_elim}
-use Rattle.std.proofs.Common.{add-zero, add-one, arith, length, take, set, nat_le, nat_lt, ◌==◌, lt-ltb, le-leb}
+use Rattle.std.proofs.Common.{add-zero, add-one, arith, length, take, set, nat_lt, ◌==◌, lt-ltb, le-leb}
 use Rattle.std.proofs.Common.{leb-true, leb-false}
 use Rattle.std.proofs.lemmas.Bool.{lt-leb}
 use Rattle.std.proofs.Math.Dec.{leb-suc-suc}
@@ -28,9 +28,7 @@ module _ (left : List ℕ → List ℕ) (most : ℕ) (l : Line) (b : ℕ) where
       → (l.overlong ≡ false → most ≤ l.held → P past) → (l.overlong ≡ false → l.held < most → P (more l b))
       → P (collected_in left most l b)
   unfolding collected_in
-  collected_by P marked full fits =
-      if_by P l.overlong marked (λ u. if_by P (nat_le most l.held) (λ e. full u (leb-true most l.held e))
-      (λ e. fits u (leb-false most l.held e)))
+  collected_by P marked full fits = grind (arith, if_by, leb-true, leb-false)
 
   pub one_marked : l.overlong ≡ true → collected_in left most l b ≡ l
   unfolding collected_in
@@ -56,15 +54,7 @@ module _ (most : ℕ) where
       → collected_all most l bs
       ≡ record { overlong = false; held = l.held + length bs; bytes = sets l.bytes l.held bs }
   all_fit l [] e h = (λ i. record { overlong = e i; held = sym (add-zero l.held) i; bytes = l.bytes })
-  all_fit l (b ∷ bs) e h =
-      let sum : l.held + 1 + length bs ≡ l.held + suc (length bs) = omega arith in
-      ap (λ (m : Line). collected_all most m bs) (one_fits _ most l b e (omega arith))
-      ∙ all_fit (more l b) bs refl (omega arith)
-      ∙ (λ i. record {
-        overlong = false;
-        held = sum i;
-        bytes = sets (set l.bytes l.held b) (add-one l.held i) bs;
-      })
+  all_fit l (b ∷ bs) e h = grind (arith, one_fits, add-one, all_fit (more l b) bs refl (omega arith))
 
   pub all_past : (l : Line) (bs : List ℕ) → l.overlong ≡ false → 1 ≤ length bs → most < l.held + length bs
       → collected_all most l bs ≡ overlong_line
@@ -94,10 +84,7 @@ module _ {L : Type 0} (end : ℕ) (collect : L → ℕ → L) where
       at (foldl collect l (take n (b ∷ bs))) n (nat_lt n (suc (length bs))))
   unfolding index_after
   first l b bs true h = ap (at l 0) (sym (lt-ltb 0 (suc (length bs)) (omega arith)))
-  first l b bs false h =
-      let n = index_of end bs in
-      ap one_later h
-      ∙ ap (at (foldl collect (collect l b) (take n bs)) (suc n)) (sym (leb-suc-suc (suc n) (length bs)))
+  first l b bs false h = grind (arith, leb-suc-suc)
 
   pub all_at_once : (l : L) (bs : List ℕ) → up_to end collect l bs ≡ at_once l bs
   unfolding up_to index_of index_after

@@ -17,6 +17,10 @@ module _ (most : ℕ) (l : Line) (bs : List ℕ) where
   unfolding gathered
   gathered-ended = (found (code "\r") (collected most) l bs).came
 
+  pub gathered_whole : (gathered most l bs).ended ≡ false → (gathered most l bs).before ≡ length bs
+  unfolding gathered
+  gathered_whole = (found (code "\r") (collected most) l bs).all
+
   pub plain_gathered : list_all not_cr bs ≡ true
       → gathered most l bs ≡ record { line = collected_all most l bs; before = length bs; ended = false }
   unfolding gathered

@@ -23,10 +23,7 @@ empty_is_none =
 module _ (most : ℕ) where
   pub collected-line_of : (xs : List ℕ) (b : ℕ) → length xs < most → most ≤ line_room
       → collected most (line_of xs) b ≡ line_of (xs ++ (b ∷ []))
-  collected-line_of xs b h g =
-      let one : length xs + 1 ≡ length (xs ++ (b ∷ [])) = omega (arith, length-append xs (b ∷ [])) in
-      one_fits _ most (line_of xs) b refl h
-      ∙ (λ i. record { overlong = false; held = one i; bytes = room_more line_room xs b (omega arith) i })
+  collected-line_of xs b h g = grind (arith, length-append, one_fits, room_more)
 
   pub collected_all-line_of : (done xs : List ℕ) → most ≤ line_room → length done + length xs ≤ most
       → collected_all most (line_of done) xs ≡ line_of (done ++ xs)

@@ -1,4 +1,4 @@
--- However a stream is cut: once, for list_all machine, whatever byte ends its lines. The calls may leave the machine's
+-- However a stream is cut: once, for any machine, whatever byte ends its lines. The calls may leave the machine's
 -- state in a larger record, and may take several lines each.
 --   out_through g, took_through g   what is left of a state, of the record that g makes of it
 --   Taking ..                       what a call does that is handed bytes: it takes some of them and runs over these
@@ -73,10 +73,7 @@ module _ (end : ℕ) (D : Type 0) (collect : D → ℕ → D) (ends : D → Out 
           rw k.runs (reply_then-handed n d (b ∷ bs) k (handed_runs n _ (drop k.taken (b ∷ bs)) k.ready less))
 
       part_runs : (d : D) (p : List ℕ) → IsReady d p → handed_part f (g d) p ≡ out_through g (ran d p)
-      part_runs d p r =
-          let k = takes d p r in
-          let less : length (drop k.taken p) ≤ length p = simp length-drop (omega arith) in
-          rw k.runs (reply_then-handed (length p) d p k (handed_runs (length p) _ (drop k.taken p) k.ready less))
+      part_runs d p r = grind (arith, length-drop, reply_then-handed, handed_runs)
 
       -- Ahead: what is known of the parts that are still to come
       module _ (Ahead : D → List (List ℕ) → Type 0)
@@ -103,12 +100,7 @@ module _ (end : ℕ) (D : Type 0) (collect : D → ℕ → D) (ends : D → Out 
   run_line : (d : D) (xs : List ℕ) → list_all (not_end end) xs ≡ true
       → ran d (xs ++ (end ∷ [])) ≡ ends (foldl collect d xs)
   unfolding run_over
-  run_line d xs p =
-      let line = foldl collect d xs in
-      run_append d xs (end ∷ [])
-      ∙ ap (λ (o : Out D). reply_then o.reply (ran o.state (end ∷ []))) (run_plain d xs p)
-      ∙ ap (λ (o : Out D). reply_then o.reply (unanswered o.state)) (if_yes _ _ (eq-eqb end end refl))
-      ∙ ap {B = Out D} (λ (r : List ℕ). record { state = (ends line).state; reply = r }) (append-nil (ends line).reply)
+  run_line d xs p = grind (arith, run_append, run_plain, if_yes, eq-eqb, append-nil)
 
   pub call_runs : (d : D) (bs : List ℕ) → let t = called d bs in t ≡ took_bytes t.taken (ran d (take t.taken bs))
   call_runs d bs =
@@ -116,6 +108,16 @@ module _ (end : ℕ) (D : Type 0) (collect : D → ℕ → D) (ends : D → Out 
       (λ p. ap (took_bytes (length bs)) (sym (ap (ran d) (take-length bs) ∙ run_plain d bs p)))
       (λ xs more p.
       ap (took_bytes (length xs + 1)) (sym (ap (ran d) (take-append-add xs (end ∷ more) 1) ∙ run_line d xs p)))
+
+  -- what is run over: one call's bytes, and then the rest
+  pub run_called : (d : D) (bs : List ℕ) → let t = called d bs in
+      ran d bs ≡ reply_then t.reply (ran t.state (drop t.taken bs))
+  run_called d bs =
+      let n = (called d bs).taken in
+      let t = call_runs d bs in
+      ap (ran d) (sym (take-append-drop n bs))
+      ∙ run_append d (take n bs) (drop n bs)
+      ∙ (λ i. reply_then (sym t i).reply (ran (sym t i).state (drop n bs)))
 
   some_taken : (d : D) (bs : List ℕ) → 1 ≤ length bs → 1 ≤ (called d bs).taken
   some_taken d bs =

@@ -6,7 +6,7 @@
 --   kept_in keep g    what is gathered, where `keep` puts the line into a larger record
 -- Assumes nothing.
 use Rattle.std.specs.List.{list_all}
-use Rattle.std.proofs.Common.{ℕ, ◌+◌, ◌≤◌, ◌≡◌, refl, sym, ap, ◌∙◌, subst, Bool, true, false, not, List, [], ◌∷◌, ◌++◌}
+use Rattle.std.proofs.Common.{ℕ, ◌+◌, ◌≤◌, ◌≡◌, refl, sym, ap, ◌∙◌, Bool, true, false, not, List, [], ◌∷◌, ◌++◌}
 use Rattle.std.proofs.Common.{arith, length, length-append, ◌==◌, eqb-true, eq-eqb}
 use Rattle.std.proofs.lemmas.Bool.{false≢true, eqb-false, not-true}
 use mathlib.Core.List.{foldl}
@@ -63,13 +63,7 @@ module _ {L : Type 0} (end : ℕ) (collect : L → ℕ → L) where
       → ((xs more : List ℕ) → list_all (not_end end) xs ≡ true
       → P (xs ++ (end ∷ more)) (record { line = foldl collect l xs; before = length xs; ended = true }))
       → P bs (up_to end collect l bs)
-  up_to_by l bs P none found = by (cut end bs)
-    where
-      by : Cut end bs → P bs (up_to end collect l bs)
-      by (plain p) = subst (P bs) (sym (plain_up_to l bs p)) (none p)
-      by (line xs more q p) =
-          subst (λ (s : List ℕ). P s (up_to end collect l s)) (sym q)
-          (subst (P (xs ++ (end ∷ more))) (sym (up_to-append l xs more p)) (found xs more p))
+  up_to_by l bs P none found = grind (arith, cut, plain_up_to, up_to-append)
 
   pub found : (l : L) (bs : List ℕ) → Found bs (up_to end collect l bs)
   found l bs =
@@ -108,6 +102,4 @@ module _ {L M : Type 0} (end : ℕ) (collect : L → ℕ → L) (collects : M �
       → up_to end collects (keep l) bs ≡ kept_in keep (up_to end collect l bs)
   unfolding up_to
   up_to_kept_in l [] = refl
-  up_to_kept_in l (b ∷ bs) =
-      by_byte l b bs (b == end)
-      (ap (λ (m : M). up_to end collects m bs) (is-collect l b) ∙ up_to_kept_in (collect l b) bs)
+  up_to_kept_in l (b ∷ bs) = grind (arith, by_byte, up_to_kept_in (collect l b) bs)

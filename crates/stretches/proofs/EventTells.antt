@@ -6,7 +6,6 @@ use Rattle.std.specs.Prelude.{if◌then◌else◌}
 use Rattle.record.specs.Wanted.{Wanted}
 use Rattle.demands.specs.History.{Event, switched, a_second, mark_switched}
 use Rattle.demands.specs.History.{Stage, steady, towards, next, stage_is_burning, reached, marks_after}
-use Rattle.demands.proofs.HistorySpelt.{marks_none, marks_after-cons, reached_none, reached-cons}
 use Rattle.stretches.specs.Stretches.{Stretch, stretch_if, stretches_from, is_lit_then, seconds_lit_from}
 use Rattle.stretches.proofs.Joined.{joined, since_none, joined-append, ends_here, cooling_dim, stage_is_burning-reached}
 use Rattle.stretches.proofs.Joined.{lit_by}
@@ -48,6 +47,11 @@ module _ (w : Wanted) (k : ℕ) where
       by true = refl
       by false = refl
 
+  none : (g : Stage) (ms : List Bool) (f t : ℕ) (ys : List Event)
+      → turned g g ms f t (seconds_lit_from w g ms k ys)
+      ≡ joined (is_lit_then g ms k) f t (seconds_lit_from w g ms k ys)
+  none g ms f t ys = unchanged g g ms f t (seconds_lit_from w g ms k ys) refl
+
   by_power : (g : Stage) (wanted : Bool) (ms : List Bool) (f t : ℕ) (ys : List Event) → f ≤ t
       → let h = next w g (switched wanted) in
       turned g h ms f t (seconds_lit_from w h ms k ys) ≡ joined (is_lit_then g ms k) f t (seconds_lit_from w h ms k ys)
@@ -66,25 +70,23 @@ module _ (w : Wanted) (k : ℕ) where
       let m = slice_index_or ms k false in
       sym (ap (λ (b : Bool). stretches_from (b && nat_lt f t) f t ls) (one_is m)
       ∙ ends_here (m && nat_lt f t) f t ls (cooling_dim w ms k w.cool ys))
-  by_power (steady true) true ms f t ys le = unchanged (steady true) (steady true) ms f t _ refl
-  by_power (steady false) false ms f t ys le = unchanged (steady false) (steady false) ms f t _ refl
-  by_power (towards on n) wanted ms f t ys le = unchanged (towards on n) (towards on n) ms f t _ refl
+  by_power (steady true) true ms f t ys le = none (steady true) ms f t ys
+  by_power (steady false) false ms f t ys le = none (steady false) ms f t ys
+  by_power (towards on n) wanted ms f t ys le = none (towards on n) ms f t ys
 
   marks_stay : (n : ℕ) (ms : List Bool) → marks_after ms (replicate n a_second) ≡ ms
-  marks_stay zero ms = marks_none ms
-  marks_stay (suc n) ms = marks_after-cons ms a_second (replicate n a_second) ∙ marks_stay n ms
+  marks_stay zero ms = refl
+  marks_stay (suc n) ms = marks_stay n ms
 
   pub by_seen : (g : Stage) (ms : List Bool) (n f t : ℕ) (xs ys : List Event) → f ≤ t → Seen g n xs
       → let h = reached w g xs in
       let ns = marks_after ms xs in
       turned g h ns f (t + n) (seconds_lit_from w h ns k ys)
       ≡ joined (is_lit_then g ms k) f t (seconds_lit_from w g ms k (xs ++ ys))
-  unfolding seconds_lit_from
   by_seen g ms n f t xs ys le (nothing e) =
       let same : t + n ≡ t = omega arith in
-      (λ i. turned g (reached_none w g i) (marks_none ms i) f (same i)
-      (seconds_lit_from w (reached_none w g i) (marks_none ms i) k ys))
-      ∙ unchanged g g ms f t (seconds_lit_from w g ms k ys) refl
+      (λ i. turned g g ms f (same i) (seconds_lit_from w g ms k ys))
+      ∙ none g ms f t ys
   by_seen g ms n f t xs ys le time =
       let h = reached w g (replicate n a_second) in
       let burns = stage_is_burning-reached n w g in
@@ -95,9 +97,8 @@ module _ (w : Wanted) (k : ℕ) where
       ∙ ap (joined (is_lit_then g ms k) f t) (sym (seconds_lit_from-append n w g ms k ys))
   by_seen g ms n f t xs ys le (power wanted e) =
       let same : t + n ≡ t = omega arith in
-      let h = reached-cons w g (switched wanted) [] ∙ reached_none w (next w g (switched wanted)) in
-      let ns = marks_after-cons ms (switched wanted) [] ∙ marks_none ms in
-      (λ i. turned g (h i) (ns i) f (same i) (seconds_lit_from w (h i) (ns i) k ys))
+      let h = next w g (switched wanted) in
+      (λ i. turned g h ms f (same i) (seconds_lit_from w h ms k ys))
       ∙ by_power g wanted ms f t ys le
   by_seen g ms n f t xs ys le (mark lamp to off e) =
       let same : t + n ≡ t = omega arith in
@@ -105,6 +106,5 @@ module _ (w : Wanted) (k : ℕ) where
       subst (λ (x : Stage). turned x (reached w x (m ∷ [])) (marks_after ms (m ∷ [])) f (t + n)
       (seconds_lit_from w (reached w x (m ∷ [])) (marks_after ms (m ∷ [])) k ys)
       ≡ joined (is_lit_then x ms k) f t (seconds_lit_from w x ms k (m ∷ ys))) (sym off)
-      (let h = reached-cons w (steady false) m [] ∙ reached_none w (steady false) in
-      let ns = marks_after-cons ms m [] ∙ marks_none (set ms lamp to) in
-      (λ i. turned (steady false) (h i) (ns i) f (same i) (seconds_lit_from w (h i) (ns i) k ys)))
+      (λ i. turned (steady false) (steady false) (set ms lamp to) f (same i)
+      (seconds_lit_from w (steady false) (set ms lamp to) k ys))

@@ -57,7 +57,6 @@ shifted b ls i t h = let e : i - t ≡ suc (i - suc t) = omega arith in ap (λ (
 
 pub is_in-stretches_from : (ls : List Bool) (lit : Bool) (f t i : ℕ) → f ≤ t
     → is_in (stretches_from lit f t ls) i ≡ lit_at lit f t ls i
-unfolding stretches_from
 is_in-stretches_from [] lit f t i h = is_in-stretch_if lit f t i
 is_in-stretches_from (true ∷ ls) lit f t i h = is_in-stretches_from ls true (if lit then f else t) (suc t) i (early lit)
     ∙ by lit (side i t)

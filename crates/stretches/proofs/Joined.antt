@@ -11,7 +11,6 @@ use Rattle.text.proofs.Orders.{le_or_lt}
 use Rattle.record.specs.Wanted.{Wanted}
 use Rattle.demands.specs.History.{Event, switched, a_second, mark_switched, Stage, steady, towards, next, marks_next}
 use Rattle.demands.specs.History.{stage_is_burning, reached}
-use Rattle.demands.proofs.HistorySpelt.{reached_none, reached-cons}
 use Rattle.stretches.specs.Stretches.{Stretch, stretch_if, stretches_from, is_lit_then, seconds_lit_from}
 
 abbrev pub joined : Bool → ℕ → ℕ → List Bool → List Stretch
@@ -19,14 +18,12 @@ joined lit f t ls = stretches_from (lit && nat_lt f t) f t ls
 
 -- where none is under way it does not matter since when
 pub since_none : (ls : List Bool) (f g t : ℕ) → stretches_from false f t ls ≡ stretches_from false g t ls
-unfolding stretches_from
 since_none [] f g t = refl
 since_none (true ∷ ls) f g t = refl
 since_none (false ∷ ls) f g t = since_none ls f g (suc t)
 
 -- one second
 pub joined-cons : (lit : Bool) (f t : ℕ) (ls : List Bool) → f ≤ t → joined lit f t (lit ∷ ls) ≡ joined lit f (suc t) ls
-unfolding stretches_from
 joined-cons false f t ls h = refl
 joined-cons true f t ls h =
     ap (λ (g : ℕ). stretches_from true g (suc t) ls) (⊎_elim
@@ -49,7 +46,6 @@ Dim (b ∷ ls) = b ≡ false
 -- a stretch that ends here
 pub ends_here : (lit : Bool) (f t : ℕ) (ls : List Bool) → Dim ls
     → stretches_from lit f t ls ≡ stretch_if lit f t ++ stretches_from false f t ls
-unfolding stretches_from
 ends_here lit f t [] d = sym (append-nil (stretch_if lit f t))
 ends_here lit f t (true ∷ ls) d = cc
 ends_here lit f t (false ∷ ls) d = refl
@@ -59,7 +55,6 @@ ends_here lit f t (false ∷ ls) d = refl
 -- while it cools nothing is lit
 pub cooling_dim : (w : Wanted) (ms : List Bool) (k n : ℕ) (es : List Event)
     → Dim (seconds_lit_from w (towards false n) ms k es)
-unfolding seconds_lit_from
 cooling_dim w ms k n [] = tt
 cooling_dim w ms k n (a_second ∷ es) = refl
 cooling_dim w ms k n (switched wanted ∷ es) = cooling_dim w ms k n es
@@ -71,10 +66,9 @@ stage_is_burning-next w (towards on n) = if_all (λ (h : Stage). stage_is_burnin
 
 pub stage_is_burning-reached : (n : ℕ) (w : Wanted) (g : Stage) →
     stage_is_burning (reached w g (replicate n a_second)) ≡ stage_is_burning g
-stage_is_burning-reached zero w g = ap stage_is_burning (reached_none w g)
+stage_is_burning-reached zero w g = refl
 stage_is_burning-reached (suc n) w g =
-    ap stage_is_burning (reached-cons w g a_second (replicate n a_second))
-    ∙ stage_is_burning-reached n w (next w g a_second) ∙ stage_is_burning-next w g
+    stage_is_burning-reached n w (next w g a_second) ∙ stage_is_burning-next w g
 
 pub lit_by : (ms : List Bool) (k : ℕ) (g h : Stage) → stage_is_burning g ≡ stage_is_burning h →
     is_lit_then g ms k ≡ is_lit_then h ms k
@@ -83,10 +77,9 @@ lit_by ms k g h e = (λ i. (if e i && slice_index_or ms k false then 1 else 0) =
 pub seconds_lit_from-append : (n : ℕ) (w : Wanted) (g : Stage) (ms : List Bool) (k : ℕ) (es : List Event)
     → seconds_lit_from w g ms k (replicate n a_second ++ es)
     ≡ replicate n (is_lit_then g ms k) ++ seconds_lit_from w (reached w g (replicate n a_second)) ms k es
-unfolding seconds_lit_from
-seconds_lit_from-append zero w g ms k es = ap (λ (h : Stage). seconds_lit_from w h ms k es) (sym (reached_none w g))
+seconds_lit_from-append zero w g ms k es = refl
 seconds_lit_from-append (suc n) w g ms k es =
     ap (λ (ls : List Bool). is_lit_then g ms k ∷ ls)
     (seconds_lit_from-append n w (next w g a_second) ms k es
     ∙ (λ i. replicate n (lit_by ms k (next w g a_second) g (stage_is_burning-next w g) i)
-    ++ seconds_lit_from w (sym (reached-cons w g a_second (replicate n a_second)) i) ms k es))
+    ++ seconds_lit_from w (reached w (next w g a_second) (replicate n a_second)) ms k es))

@@ -7,7 +7,6 @@ use Rattle.record.specs.Wanted.{Wanted}
 use Rattle.demands.specs.History.{Event, switched, a_second, mark_switched, Stage, next, stage_is_burning}
 use Rattle.demands.specs.History.{burning_from}
 use Rattle.demands.specs.Demand3.{count_set}
-use Rattle.demands.proofs.HistorySpelt.{burning_none, burning_from-cons}
 use Rattle.stretches.specs.Stretches.{Stretch, stretches_from, stretches_of, lengths_of, seconds_lit_from}
 
 pub lengths_of-append : (xs ys : List Stretch) → lengths_of (xs ++ ys) ≡ lengths_of xs + lengths_of ys
@@ -16,7 +15,6 @@ lengths_of-append (s ∷ xs) ys = let rest = lengths_of-append xs ys in omega ar
 
 lengths_of-stretches_from : (ls : List Bool) (lit : Bool) (f t : ℕ) → f ≤ t
     → lengths_of (stretches_from lit f t ls) ≡ (if lit then t - f else 0) + count_set ls
-unfolding stretches_from
 lengths_of-stretches_from [] true f t h = omega arith
 lengths_of-stretches_from [] false f t h = omega arith
 lengths_of-stretches_from (true ∷ ls) true f t h = let rest =
@@ -38,14 +36,9 @@ one_lit false = refl
 
 pub lit_burns : (w : Wanted) (g : Stage) (ms : List Bool) (k : ℕ) (es : List Event)
     → count_set (seconds_lit_from w g ms k es) ≡ burning_from w g ms k es
-unfolding seconds_lit_from
-lit_burns w g ms k [] = sym (burning_none w g ms k)
+lit_burns w g ms k [] = refl
 lit_burns w g ms k (a_second ∷ es) =
     (λ i. one_lit (stage_is_burning g && slice_index_or ms k false) i + lit_burns w (next w g a_second) ms k es i)
-    ∙ sym (burning_from-cons w g ms k a_second es)
-lit_burns w g ms k (switched wanted ∷ es) =
-    lit_burns w (next w g (switched wanted)) ms k es
-    ∙ sym (burning_from-cons w g ms k (switched wanted) es ∙ zero-add _)
+lit_burns w g ms k (switched wanted ∷ es) = lit_burns w (next w g (switched wanted)) ms k es ∙ sym (zero-add _)
 lit_burns w g ms k (mark_switched lamp mark ∷ es) =
-    lit_burns w (next w g (mark_switched lamp mark)) (set ms lamp mark) k es
-    ∙ sym (burning_from-cons w g ms k (mark_switched lamp mark) es ∙ zero-add _)
+    lit_burns w (next w g (mark_switched lamp mark)) (set ms lamp mark) k es ∙ sym (zero-add _)

@@ -12,24 +12,22 @@ use Rattle.record.proofs.Started.{started_legal, set_up_started}
 use Rattle.stored.specs.Form.{form_of, marked_form_of, old_form_of}
 use Rattle.stored.proofs.Results.{accepted_legal}
 use Rattle.ours.specs.Board.{ours}
-use Rattle.demands.specs.History.{Event, Streams, no_streams, streams_after, seen}
+use Rattle.demands.specs.History.{Event, Streams, seen}
 use Rattle.demands.specs.History.{history}
-use Rattle.demands.specs.History.{Stage, steady, stage_is_burning, reached, marks_after}
+use Rattle.demands.specs.History.{Stage, stage_is_burning, reached, marks_after}
 use Rattle.demands.specs.Demand3.{Beginning, sets_up, loads, loads_marked, loads_old, start_marks, begun_by, IsAccepted}
 use Rattle.demands.specs.Demand3.{history_of}
-use Rattle.demands.proofs.HistorySpelt.{history_none, history_more}
 use Rattle.demands.proofs.Agrees.{Agrees, lit_shown}
-use Rattle.demands.proofs.AgreesThen.{Then, agrees_none}
-use Rattle.demands.proofs.CallsNoted.{noted}
-use Rattle.demands.proofs.HistoryTold.{agrees_started, set_up_too, marks_many, begins_so}
+use Rattle.demands.proofs.AgreesThen.{Then}
+use Rattle.demands.proofs.HistoryTold.{begun_agrees}
 use Rattle.watch.specs.Marking.{FloorEvent, done_by, seconds_by}
 use Rattle.watch.specs.Watching.{Watching, watching_from, is_burning_in, watched_on}
 use Rattle.watch.proofs.LineLeaves.{done_legal}
-use Rattle.stretches.specs.Stretches.{Stretch, stretch_if, stretches_from, stretches_of, is_lit_then, seconds_lit_from}
+use Rattle.stretches.specs.Stretches.{Stretch, stretch_if, stretches_of, is_lit_then, seconds_lit_from}
 use Rattle.stretches.specs.Stretches.{seconds_lit, StretchesTell}
-use Rattle.stretches.specs.LogTold.{calls_by, calls_of, is_marked_in, told_of}
+use Rattle.stretches.specs.LogTold.{calls_of, is_marked_in, told_of}
 use Rattle.stretches.proofs.Joined.{joined}
-use Rattle.stretches.proofs.EventsSeen.{Makes, no_call, one_call, makes, Seen, nothing, sees}
+use Rattle.stretches.proofs.EventsSeen.{Seen, event_seen}
 use Rattle.stretches.proofs.Told.{stretches_tell}
 use Rattle.stretches.proofs.ToldSpelt.{told_none, told_more}
 use Rattle.stretches.proofs.EventTells.{one_is, by_seen}
@@ -71,76 +69,26 @@ module _ (w : Wanted) (k : ℕ) (inside : k < length w.lamps) where
       by true = omega arith
       by false = omega arith
 
-  -- what is told with an event and after it, where `later` says what is told after it
-  one_event : (es : List FloorEvent) (s : Watching)
-      (e : FloorEvent) {g : Stage} {ms : List Bool} {n : ℕ → ℕ} {stream : Streams}
-      → Agrees w g ms n stream s.device → is_legal s.device ≡ true → s.from ≤ s.time
-      → let d = done_by s.device e in
-      let t = watched_on s e in
-      ((h : Stage) (ns : List Bool) (m : ℕ → ℕ) (now : Streams) → Agrees w h ns m now d
-      → told_of k t es
-      ≡ joined (is_lit_then h ns k) t.from t.time (seconds_lit_from w h ns k (history ours d now (calls_of d es))))
-      → stretch_if (is_burning_in s.device && not (is_burning_in d) && is_marked_in d k && nat_lt t.from t.time)
-      t.from t.time
-      ++ told_of k t es
-      ≡ joined (is_lit_then g ms k) s.from s.time
-      (seconds_lit_from w g ms k (history ours s.device stream (calls_by s.device e ++ calls_of d es)))
-  one_event es s e {g} {ms} {n} {stream} a legal le later = by (makes d legal e)
-    where
-      d : Device
-      d = s.device
-
-      after_it : Device
-      after_it = done_by d e
-
-      t : Watching
-      t = watched_on s e
-
-      first : List Stretch
-      first = stretch_if (is_burning_in d && not (is_burning_in after_it) && is_marked_in after_it k
-          && nat_lt t.from t.time)
-          t.from t.time
-
-      by : Makes d e → first ++ told_of k t es
-          ≡ joined (is_lit_then g ms k) s.from s.time
-          (seconds_lit_from w g ms k (history ours d stream (calls_by d e ++ calls_of after_it es)))
-      by (no_call none same still) =
-          let past : Then w g ms n [] stream after_it
-          = subst (λ (x : Device). Then w g ms n [] stream x) (sym same) (agrees_none a) in
-          let ys = history ours after_it stream (calls_of after_it es) in
-          ap (λ (l : List Stretch). first ++ l) (later _ _ _ _ past)
-          ∙ event_told s e [] ys a past (nothing still) le
-          ∙ (λ i. joined (is_lit_then g ms k) s.from s.time (seconds_lit_from w g ms k
-          (history ours (same i) stream (sym none i ++ calls_of after_it es))))
-      by (one_call c calls leaves) =
-          let now = streams_after ours d stream c in
-          let xs = seen ours d now c in
-          let past : Then w g ms n xs now after_it = subst (Then w g ms n xs now) leaves (noted a c) in
-          let ys = history ours after_it now (calls_of after_it es) in
-          ap (λ (l : List Stretch). first ++ l) (later _ _ _ _ past)
-          ∙ event_told s e xs ys a past (sees a legal e c calls now) le
-          ∙ ap (λ (zs : List Event). joined (is_lit_then g ms k) s.from s.time (seconds_lit_from w g ms k zs))
-          ((λ i. xs ++ history ours (sym leaves i) now (calls_of after_it es))
-          ∙ sym (history_more ours d stream c (calls_of after_it es))
-          ∙ (λ i. history ours d stream (sym calls i ++ calls_of after_it es)))
-
   tells : (es : List FloorEvent) (s : Watching) {g : Stage} {ms : List Bool} {n : ℕ → ℕ} {stream : Streams}
       → Agrees w g ms n stream s.device → is_legal s.device ≡ true → s.from ≤ s.time
       → told_of k s es
       ≡ joined (is_lit_then g ms k) s.from s.time
       (seconds_lit_from w g ms k (history ours s.device stream (calls_of s.device es)))
-  unfolding calls_of seconds_lit_from stretches_from
   tells [] s {g} {ms} {n} {stream} a legal le =
       told_none k s
       ∙ ap (λ (b : Bool). stretch_if (b && nat_lt s.from s.time) s.from s.time)
       ((λ i. burning_known a i && a.marks k inside i) ∙ sym (one_is (stage_is_burning g && slice_index_or ms k false)))
-      ∙ ap (λ (xs : List Event). joined (is_lit_then g ms k) s.from s.time (seconds_lit_from w g ms k xs))
-      (sym (history_none ours s.device stream))
-  tells (e ∷ es) s a legal le =
+  tells (e ∷ es) s {g} {ms} {n} {stream} a legal le =
+      let t = watched_on s e in
+      let o = event_seen w g ms n stream s.device a legal e in
+      let later = calls_of t.device es in
       told_more k s e es
-      ∙ one_event es s e a legal le
-      (λ h ns m now b.
-      tells es (watched_on s e) b (done_legal s.device legal e) (from_before s e le))
+      ∙ ap (λ (l : List Stretch). stretch_if (is_burning_in s.device && not (is_burning_in t.device)
+      && is_marked_in t.device k && nat_lt t.from t.time) t.from t.time ++ l)
+      (tells es t o.agrees (done_legal s.device legal e) (from_before s e le))
+      ∙ event_told s e o.events (history ours t.device o.now later) a o.agrees o.seen le
+      ∙ ap (λ (zs : List Event). joined (is_lit_then g ms k) s.from s.time (seconds_lit_from w g ms k zs))
+      (sym (o.history later))
 
 -- ---- a log from its beginning
 
@@ -160,9 +108,7 @@ module _ (b : Beginning) (w : Wanted) (h : IsAccepted ours b w) (k : ℕ) (insid
 
   pub log_tells : told_of k (watching_from begun) es ≡ stretches_of (seconds_lit w (start_marks b w) k log_history)
   log_tells =
-      let fresh = subst (Agrees w (steady false) (start_marks b w) (λ j. 0) no_streams) (sym (begins_so b w h))
-      (agrees_started w (start_marks b w) (set_up_too b w h) (marks_many b w h)) in
-      tells w k inside es (watching_from begun) fresh (is_legal-begun_by w b h) (omega arith)
+      tells w k inside es (watching_from begun) (begun_agrees b w h) (is_legal-begun_by w b h) (omega arith)
 
   -- exactly the seconds that demand 3 counts, in order, apart, none empty, and adding up to what the lamp burnt
   pub log_stretches_tell : StretchesTell w (start_marks b w) k log_history (told_of k (watching_from begun) es)

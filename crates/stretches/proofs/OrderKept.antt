@@ -10,7 +10,6 @@ sooner {m} h (and_then {s = s} a b c) = let first : m ≤ s.from = omega arith i
 -- where one has begun, and has a second; and where none has
 mutual_apart : (ls : List Bool) (f t : ℕ)
     → ((n : ℕ) → n ≤ f → f < t → InOrder n (stretches_from true f t ls)) × InOrder t (stretches_from false f t ls)
-unfolding stretches_from
 mutual_apart [] f t = ((λ n h k. and_then h k no_more), no_more)
 mutual_apart (true ∷ ls) f t = (
   (λ n h k. (mutual_apart ls f (suc t)).0 n h (omega arith)),

@@ -39,7 +39,7 @@ calls_by d (logged closes) = closes_at log_place ∷ []
 calls_by d (logged no_such) = []
 calls_by d (marked lamp mark) = enables lamp mark ∷ []
 
-unfoldable pub calls_of : Device → List FloorEvent → List Call
+abbrev pub calls_of : Device → List FloorEvent → List Call
 calls_of d [] = []
 calls_of d (e ∷ es) = calls_by d e ++ calls_of (done_by d e) es
 

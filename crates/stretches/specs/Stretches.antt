@@ -26,7 +26,7 @@ second_lit g ms k a_second = is_lit_then g ms k ∷ []
 second_lit g ms k (switched wanted) = []
 second_lit g ms k (mark_switched lamp mark) = []
 
-unfoldable pub seconds_lit_from : Wanted → Stage → List Bool → ℕ → List Event → List Bool
+abbrev pub seconds_lit_from : Wanted → Stage → List Bool → ℕ → List Event → List Bool
 seconds_lit_from w g ms k [] = []
 seconds_lit_from w g ms k (e ∷ es) = second_lit g ms k e ++ seconds_lit_from w (next w g e) (marks_next ms e) k es
 
@@ -40,7 +40,7 @@ pub record Stretch : Type 0 where
 abbrev pub stretch_if : Bool → ℕ → ℕ → List Stretch
 stretch_if lit f t = if lit then record { from = f; to = t } ∷ [] else []
 
-unfoldable pub stretches_from : Bool → ℕ → ℕ → List Bool → List Stretch
+abbrev pub stretches_from : Bool → ℕ → ℕ → List Bool → List Stretch
 stretches_from lit f t [] = stretch_if lit f t
 stretches_from lit f t (true ∷ ls) = stretches_from true (if lit then f else t) (suc t) ls
 stretches_from lit f t (false ∷ ls) = stretch_if lit f t ++ stretches_from false f (suc t) ls

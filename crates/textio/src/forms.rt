@@ -7,15 +7,17 @@ ghost use Rattle.textio.specs.Fronts.{WritesText};
 ghost use Rattle.textio.specs.Forms.{is_gap, form_filled};
 
 use crate::writer::{ByteSink, put};
+use arrayvec::ArrayVec;
 use std::io;
 
 /// Writes the number in decimal digits, with no leading zero.
+#[tactic(auto, using(numbers::proofs::Digits::long_at_most_20))]
 pub fn put_number<W: ByteSink>(to: &mut W, n: u64) -> io::Result<()>
     ensures { WritesText W.fails_with (W.contents to.old) (W.contents to.new) result (long_digits n) }
 {
-    let mut digits = [0u8; 20];
-    let length = numbers::put_long(&mut digits, 0, n);
-    put(to, &digits[..length])
+    let mut digits = ArrayVec::<u8, 20>::new();
+    numbers::put_long(n, &mut digits);
+    put(to, digits.as_slice())
 }
 
 /// Writes the form with the next of the numbers in the place of each `#`.

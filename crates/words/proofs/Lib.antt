@@ -9,3 +9,5 @@ pub mod SourcesFollowed
 pub mod ListSteps
 pub mod ClassOneKept
 mod Examples
+mod Utf8Table
+mod Utf8Examples

@@ -1,8 +1,8 @@
 -- What the rules of texts tell: their lengths and their bytes.
 -- Assumes nothing.
 use Rattle.std.specs.List.{list_all}
+use Rattle.std.specs.Str.{is_utf8}
 use Rattle.std.proofs.Common.{ℕ, ◌≤◌, ◌≡◌, true, not, ◌&&◌, List, length, nat_le, leb-true}
-use Rattle.utf8.specs.Utf8.{is_utf8}
 use Rattle.text.proofs.Choices.{both_left, both_right}
 use Rattle.words.specs.Bytes.{is_alnum}
 use Rattle.words.specs.Texts.{is_refusal, is_text_byte, is_text, is_name, is_info, is_input_name}

@@ -1,7 +1,8 @@
--- One name that opens this crate's definitions and, by their own name, those of `utf8`, for computing on concrete
--- records only (RULES, Commands).
+-- One name that opens this crate's definitions, and std's of UTF-8, for computing on concrete records only (RULES,
+-- Commands).
 -- Assumes nothing.
-use Rattle.utf8.specs.Computing.{computing as utf8}
+use Rattle.std.specs.Char.{encode_utf8}
+use Rattle.std.specs.Str.{chars, is_utf8}
 use Rattle.words.specs.Bytes.{no_cr}
 use Rattle.words.specs.Sources.{number_for, number_character, input_for}
 use Rattle.words.specs.Inputs.{source_named, read_input, input_of}
@@ -9,6 +10,6 @@ use Rattle.words.specs.Texts.{is_refusal, is_text, is_name, is_password}
 
 unfoldable pub computing : Unit {0}
 unfolding
-    utf8 no_cr number_for number_character input_for source_named read_input input_of is_refusal is_text is_name
-    is_password
+    chars encode_utf8 is_utf8 no_cr number_for number_character input_for source_named read_input input_of is_refusal
+    is_text is_name is_password
 computing = tt

@@ -15,3 +15,4 @@ pub mod Combinations
 pub mod Laws
 pub mod ClassOne
 pub mod Computing
+pub mod Utf8

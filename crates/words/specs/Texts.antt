@@ -1,7 +1,8 @@
 -- Texts of the set-up and of replies (RULES, The legal record and Controller; PJLink 1.04, 4.10 to 4.13 and 5.1).
 --   is_refusal s      s is exactly ERR1, ERR2, ERR3 or ERR4
 --   is_text n s       0 to n bytes, each 0x20 to 0xFF, and no refusal: a reader couldn't tell it from one
---   is_name s         the rule of the name: such a text of at most 64 bytes, in well-formed UTF-8 (RULES, Texts)
+--   is_name s         the rule of the name: such a text of at most 64 bytes, in UTF-8 (RULES, Texts), which is by
+--                     the table of specs/Utf8
 --   is_info s         the rule of maker, model, other information, serial number and version (RULES, Class 2)
 --   is_input_name s   the rule of an input's name (RULES, Class 2)
 --   is_password s     0 to 32 ASCII letters and digits
@@ -9,8 +10,8 @@
 -- Assumes nothing.
 use Rattle.std.specs.List.{list_all}
 use Rattle.std.specs.Prelude.{ℕ, Bool, not, ◌&&◌, List, length, nat_le, ◌==◌}
+use Rattle.std.specs.Str.{is_utf8}
 use Rattle.text.specs.Words.{◌is◌, ◌from◌to◌}
-use Rattle.utf8.specs.Utf8.{is_utf8}
 use Rattle.words.specs.Bytes.{is_alnum, ◌at◌}
 
 unfoldable pub is_refusal : List ℕ → Bool

@@ -13,3 +13,4 @@ pub mod number;
 pub mod power;
 pub mod refusal;
 pub mod texts;
+pub mod theorems;

@@ -4,11 +4,7 @@ ghost use Rattle.numbers.specs.Decimal.{digits, WritesNumber};
 ghost use Rattle.words.specs.Numerals.{is_numeral, figures, number_read};
 ghost use Rattle.words.specs.Laws.{number_codec};
 
-use crate::codec;
 use crate::codec::{Line, Wire};
-
-// A u32 has at most ten digits.
-const MOST_DIGITS: usize = 10;
 
 // How many digits stand at the front.
 fn figures(s: &[u8]) -> usize
@@ -33,9 +29,7 @@ impl Wire for u32 {
     ghost read = { number_read };
 
     fn put(self, out: &mut Line) {
-        let mut all = [0; MOST_DIGITS];
-        let n = numbers::put_number(&mut all, 0, self);
-        codec::put_all(&all[..n], out);
+        numbers::put_number(self, out);
     }
 
     fn take(s: &[u8]) -> Option<(u32, &[u8])> {

@@ -1,6 +1,7 @@
 // Texts and passwords (RULES, The legal record).
 ghost use Rattle.std.specs.Prelude.{◌≡◌};
 ghost use Rattle.std.specs.List.{list_all};
+ghost use Rattle.std.specs.Str.{is_utf8};
 ghost use Rattle.words.specs.Bytes.{is_alnum};
 ghost use Rattle.words.specs.Texts.{is_refusal, is_text_byte, is_text, is_name, is_info, is_input_name};
 ghost use Rattle.words.specs.Texts.{is_password};
@@ -37,12 +38,19 @@ pub fn is_text(s: &[u8], most: usize) -> bool
     (s.len() <= most) & all_text(s) & !is_refusal(s)
 }
 
+// Whether s is well-formed UTF-8, by the table of RFC 3629 (`theorems::bytes_and_numbers_agree`).
+fn is_utf8(s: &[u8]) -> bool
+    ensures { result ≡ is_utf8 s.now }
+{
+    str::from_utf8(s).is_ok()
+}
+
 // The rule of the projector's name, for set-up, legality and reader alike (RULES, Texts).
 #[tactic(auto, unfolding(crate::specs::Texts::is_name))]
 pub fn is_name(s: &[u8]) -> bool
     ensures { result ≡ is_name s.now }
 {
-    is_text(s, 64) & utf8::is_utf8(s)
+    is_text(s, 64) & is_utf8(s)
 }
 
 // The rule of maker, model, other information, serial number and version.

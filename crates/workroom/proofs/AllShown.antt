@@ -1,15 +1,18 @@
 -- Whatever happens on a joined connection that is kept up: it stays joined, and what was said is shown. Seconds pass
 -- on the device alone, and there alone others do what they do meanwhile; what another projector is sent or says touches
--- that one's entry alone.
+-- that one's entry alone. An open connection is kept up always, and one whose digest is awaited for 30 seconds.
 -- Assumes nothing.
-use Rattle.std.proofs.Common.{ℕ, ◌≡◌, refl, sym, ap, subst, ◌∙◌, true, false, List, [], ◌∷◌, arith}
+use Rattle.std.proofs.Common.{ℕ, ◌+◌, ◌<◌, ◌≡◌, refl, sym, ap, subst, ◌∙◌, true, false, List, [], ◌∷◌, ◌==◌}
 use Rattle.std.proofs.lemmas.Bool.{false≢true}
-use Rattle.record.specs.Legal.{is_legal}
+use Rattle.std.specs.Prelude.{Result}
+use Rattle.record.specs.Limits.{age_end, shut, awaiting, opened}
+use Rattle.record.specs.Legal.{is_legal, is_timed}
 use Rattle.record.specs.Places.{connection_at, is_shut}
 use Rattle.record.specs.declared.types.Settings.{Settings}
 use Rattle.record.specs.declared.types.Own.{Own}
 use Rattle.record.specs.declared.types.Connection.{Connection}
 use Rattle.record.specs.declared.types.Device.{Device}
+use Rattle.record.specs.declared.refusal.Refusal.{Refusal}
 use Rattle.record.specs.Given.{left_by}
 use Rattle.record.proofs.Spelt.{closed_spelt}
 use Rattle.stream.specs.Collecting.{empty_line}
@@ -17,31 +20,31 @@ use Rattle.clock.specs.After.{parts_after}
 use Rattle.clock.specs.Second.{times, connection_second}
 use Rattle.clock.specs.Passing.{passed}
 use Rattle.clock.proofs.Cases.{passed_accepted}
-use Rattle.clock.proofs.ConnectionsAge.{connection_then}
+use Rattle.clock.proofs.ConnectionsAge.{connection_then, grows_older}
 use Rattle.clock.proofs.InOneGo.{parts_pass, place_passes}
 use Rattle.clock.proofs.TimeLegal.{passed_legal}
-use Rattle.device.specs.Receiving.{set_up_password}
-use Rattle.panel.specs.Entries.{Talk, Shown, talk_of, shown_of, password_in}
+use Rattle.clock.proofs.Untouched.{passed_leaves}
+use Rattle.panel.specs.Entries.{Talk, Shown, talk_of, shown_of}
 use Rattle.panel.specs.Showing.{showing}
 use Rattle.panel.specs.LegalPanels.{is_panel}
-use Rattle.panel.specs.PanelCalls.{entry_at}
 use Rattle.panel.specs.declared.types.Entry.{Entry}
 use Rattle.panel.specs.declared.types.Panel.{Panel}
 use Rattle.panel.proofs.OnlyItsEntry.{OnlyAt, step_touches_its_entry, command_touches_its_entry}
 use Rattle.panel.proofs.PanelsLegal.{commanded_stays_legal, stepped_stays_legal}
 use Rattle.workroom.specs.AnyPanel.{ours_panel}
-use Rattle.workroom.specs.Workroom.{Workroom, room_of}
+use Rattle.workroom.specs.Workroom.{Workroom, room_of, happened, all_happened}
 use Rattle.workroom.specs.Workroom.{RoomMove, asks, waits, asks_another, hears_another, meanwhile}
-use Rattle.workroom.specs.Workroom.{happened, all_happened}
 use Rattle.workroom.specs.MeantThrough.{said_at, own_at, shown_through, own_through}
-use Rattle.workroom.specs.ShowsWhatWasMeant.{Fit, both_open, both_secured, our_entry, IsJoined, IsKeptUp, AllKeptUp}
-use Rattle.workroom.specs.ShowsWhatWasMeant.{Aside, ShownAs}
-use Rattle.workroom.proofs.RepliesShown.{as_it_was, command_shown}
+use Rattle.workroom.specs.ShowsWhatWasMeant.{Fit, both_open, both_secured, our_entry, our_connection, IsJoined, IsOther}
+use Rattle.workroom.specs.ShowsWhatWasMeant.{IsKeptUp, AllOther, AllKeptUp, Aside, ShownAs}
+use Rattle.workroom.proofs.EntriesStep.{still_served}
+use Rattle.workroom.proofs.Standing.{shown_as_it_stands, joined_served, device_as_it_was, panel_as_it_was}
+use Rattle.workroom.proofs.CommandsAnswered.{as_it_was, command_shown, open_asked}
 
 -- a connection that is not closed of age still fits
-pub record FitsStill (t : Talk) (c : Connection) : Type 0 where
-  pub fit : Fit t c
-  pub between : c.line ≡ empty_line
+record FitsStill (t : Talk) (c : Connection) : Type 0 where
+  fit : Fit t c
+  between : c.line ≡ empty_line
 
 abbrev UnlessShut : Talk → Connection → Type 0
 UnlessShut t c = is_shut c ≡ false → FitsStill t c
@@ -80,71 +83,39 @@ module _ (i p : ℕ) (w : Workroom) (j : IsJoined i p w) where
       (ap is_shut (sym here) ∙ sym (ap (λ (d : Device). is_shut (connection_at d p)) then) ∙ live) in
       subst (λ (d : Device). ShownAs i p w (shown_of entry) (own_at device.settings device.own (waits n))
       (room_of w.panel d)) (sym then)
+      (shown_as_it_stands j.acquainted (panel_as_it_was j) j.place
       (record {
-        shows = refl;
-        strays = refl;
+        legal = ap is_legal (sym then) ∙ passed_legal device n j.acquainted.device;
         settings = refl;
-        does = refl;
-        joined = record {
-          acquainted = record {
-            panel = j.acquainted.panel;
-            there = j.acquainted.there;
-            device = ap is_legal (sym then) ∙ passed_legal device n j.acquainted.device;
-            password = j.acquainted.password;
-          };
-          place = j.place;
-          between = ap (λ (c : Connection). c.line) here ∙ still.between;
-          rests = j.rests;
-          fit = subst (Fit (talk_of entry)) (sym here) still.fit;
-        };
+        stands = here;
+        between = still.between;
       })
+      j.rests still.fit)
 
   -- what another projector is sent or says
   elsewhere : (q : Panel) (k : ℕ) → is_panel q ≡ true → OnlyAt w.panel k q → (k ≡ i → ⊥)
       → ShownAs i p w (shown_of entry) device.own (room_of q device)
   elsewhere q k legal only other =
-      let same : entry_at q i ≡ entry = only.others i (λ e. other (sym e)) in
-      let count = only.count in
-      let here = j.acquainted.there in
-      record {
-        shows = ap (λ (e : Entry). shown_of e) same;
-        strays = ap (λ (e : Entry). e.strays) same;
-        settings = refl;
-        does = refl;
-        joined = record {
-          acquainted = record {
-            panel = legal;
-            there = omega arith;
-            device = j.acquainted.device;
-            password = ap password_in same ∙ j.acquainted.password;
-          };
-          place = j.place;
-          between = j.between;
-          rests = ap (λ (e : Entry). e.under_way) same ∙ j.rests;
-          fit = subst (λ (e : Entry). Fit (talk_of e) connection) (sym same) j.fit;
-        };
-      }
+      shown_as_it_stands j.acquainted
+      (record {
+        served = still_served w.panel i (joined_served j) q legal only.count;
+        stands = only.others i (λ e. other (sym e));
+        password = refl;
+        strays = refl;
+      })
+      j.place (device_as_it_was j) j.rests j.fit
 
   -- what others do with the device
   others_keep : (d : Device) → Aside p device d → ShownAs i p w (shown_of entry) d.own (room_of w.panel d)
-  others_keep d aside = record {
-    shows = refl;
-    strays = refl;
-    settings = aside.settings;
-    does = refl;
-    joined = record {
-      acquainted = record {
-        panel = j.acquainted.panel;
-        there = j.acquainted.there;
-        device = aside.device;
-        password = j.acquainted.password ∙ ap set_up_password (sym aside.settings);
-      };
-      place = j.place;
-      between = ap (λ (c : Connection). c.line) aside.connection ∙ j.between;
-      rests = j.rests;
-      fit = subst (Fit (talk_of entry)) (sym aside.connection) j.fit;
-    };
-  }
+  others_keep d aside =
+      shown_as_it_stands j.acquainted (panel_as_it_was j) j.place
+      (record {
+        legal = aside.device;
+        settings = aside.settings;
+        stands = aside.connection;
+        between = j.between;
+      })
+      j.rests j.fit
 
   pub shown_then : (h : RoomMove) → IsKeptUp i p w h
       → ShownAs i p w (showing (shown_of entry) (said_at device.settings device.own h))
@@ -178,3 +149,41 @@ module _ (i p : ℕ) where
         does = rest.does ∙ (λ n. own_through (one.settings n) (one.does n) hs);
         joined = rest.joined;
       }
+
+  -- an open connection never closes of age
+  abbrev phase : Workroom → ℕ
+  phase w = (our_connection p w).phase
+
+  connection_at-left_by : (w : Workroom) (n : ℕ) → phase w ≡ opened
+      → connection_at (left_by w.device (passed w.device n)) p ≡ our_connection p w
+  connection_at-left_by w n stands = (passed_leaves w.device n).connection p (ap is_timed stands)
+
+  open_kept_up : (w : Workroom) (h : RoomMove) → phase w ≡ opened → IsOther i p w h → IsKeptUp i p w h
+  open_kept_up w (waits n) stands other =
+      ap is_shut (connection_at-left_by w n stands) ∙ ap (λ (q : ℕ). q == shut) stands
+  open_kept_up w h stands other = other
+
+  still_open : (w : Workroom) (h : RoomMove) → IsJoined i p w → phase w ≡ opened → IsOther i p w h
+      → phase (happened ours_panel i p w h) ≡ opened
+  still_open w (asks k there back) j stands other = open_asked i p w j k there back stands
+  still_open w (waits n) j stands other = ap (λ (c : Connection). c.phase) (connection_at-left_by w n stands) ∙ stands
+  still_open w (meanwhile d) j stands aside = ap (λ (c : Connection). c.phase) aside.connection ∙ stands
+  still_open w h j stands other = stands
+
+  pub open_throughout : (w : Workroom) (hs : List RoomMove) → IsJoined i p w → phase w ≡ opened
+      → AllOther i p ours_panel w hs → AllKeptUp i p ours_panel w hs
+  open_throughout w [] j stands others = tt
+  open_throughout w (h ∷ hs) j stands others =
+      let kept = open_kept_up w h stands others.0 in
+      let next = (shown_then i p w j h kept).joined in
+      (kept, open_throughout (happened ours_panel i p w h) hs next (still_open w h j stands others.0) others.1)
+
+  pub young_kept_up : (w : Workroom) (n : ℕ) → IsJoined i p w → phase w ≡ awaiting
+      → (our_connection p w).age + n < age_end
+      → IsKeptUp i p w (waits n)
+  young_kept_up w n j waited young =
+      ap (λ (r : Result Device Refusal). is_shut (connection_at (left_by w.device r) p))
+      (passed_accepted w.device n j.acquainted.device)
+      ∙ ap is_shut (place_passes n w.device p)
+      ∙ ap is_shut (grows_older n (our_connection p w) (ap is_timed waited) young)
+      ∙ ap (λ (q : ℕ). q == shut) waited

@@ -1,57 +1,75 @@
 -- A command that the panel sends on a joined connection: its line is one that the device takes whole, open or behind
--- the digest. One of a class no higher than the device's is answered, and the reply is read as what the device meant;
--- a higher one is swallowed (RULES, Class 2).
+-- the digest. One of a class no higher than the device's is answered: the reply comes back, is accepted, and what the
+-- device meant is shown. A higher one is swallowed, and stays under way (RULES, Class 2). A code that stands for no
+-- command leaves all as it was.
 -- Assumes nothing.
-use Rattle.std.proofs.Common.{ℕ, ◌≤◌, ◌<◌, ◌≡◌, refl, sym, ap, subst, ◌∙◌, Bool, true, false, ◌||◌, List, ◌++◌, arith}
-use Rattle.std.proofs.Common.{length, ◌==◌, ne_eqb}
-use Rattle.std.specs.Prelude.{Option, Some, Ok}
-use Rattle.text.proofs.Choices.{if_yes}
+use Rattle.std.proofs.Common.{ℕ, ◌≤◌, ◌<◌, ◌≡◌, refl, sym, ap, subst, ◌∙◌, Bool, true, false, not, ◌&&◌, ◌||◌, List}
+use Rattle.std.proofs.Common.{◌++◌, arith, length, ⊎_elim, ◌==◌, ne_eqb}
+use Rattle.std.specs.Prelude.{Option, Some, None, Ok, is_some}
+use Rattle.text.proofs.Choices.{if_yes, if_no}
+use Rattle.text.proofs.Orders.{le_or_lt}
 use Rattle.digest.specs.Hex.{leading_digest}
 use Rattle.pjlink.specs.Commands.{command_class, is_command, command_line}
 use Rattle.pjlink.specs.declared.command.Command.{Command}
 use Rattle.pjlink.specs.Said.{Said}
 use Rattle.record.specs.Limits.{shut, awaiting, opened}
-use Rattle.record.specs.Places.{connection_at, is_shut}
+use Rattle.record.specs.Legal.{is_legal}
+use Rattle.record.specs.Places.{connection_at, is_shut, with_place}
 use Rattle.record.specs.declared.types.Line.{Line}
+use Rattle.record.specs.declared.types.Own.{Own}
 use Rattle.record.specs.declared.types.Connection.{Connection}
 use Rattle.record.specs.declared.types.Device.{Device}
-use Rattle.record.proofs.LegalTold.{legal_settings, legal_own}
+use Rattle.record.proofs.ConnectionsTold.{placed_here}
+use Rattle.record.proofs.LegalTold.{legal_settings, legal_own, legal_places}
 use Rattle.stream.specs.Machine.{Out}
 use Rattle.stream.proofs.LinesSpelt.{empty_spelt}
-use Rattle.meaning.specs.Meaning.{meant}
+use Rattle.meaning.specs.Meaning.{meant, done}
 use Rattle.meaning.proofs.CanBeSaid.{meant_fits, meant_can_be_said}
-use Rattle.device.specs.Receiving.{set_up_password}
+use Rattle.device.specs.Receiving.{set_up_password, turned}
 use Rattle.device.specs.Calls.{Result, reply_room, received}
 use Rattle.device.proofs.CommandsReceived.{reply_to, command_result, command_received, command_received_secured}
 use Rattle.device.proofs.CommandsReceived.{swallowed_at, higher_received, higher_received_secured}
+use Rattle.device.proofs.Legal.{receiving_legal}
 use Rattle.controller.specs.Writing.{command_room, led_by}
 use Rattle.controller.specs.Reading.{meaning, read_reply}
 use Rattle.controller.proofs.ReadsBack.{reply_read}
 use Rattle.codes.specs.Commands.{coded_command}
 use Rattle.codes.specs.declared.command.Coded.{Coded}
 use Rattle.codes.proofs.CodesBack.{command_writable}
-use Rattle.panel.specs.Entries.{Talk, talk_of, password_in, ungreeted, leads_next}
-use Rattle.panel.specs.Stepping.{is_unready, line_sent}
-use Rattle.panel.specs.LegalPanels.{names_command}
+use Rattle.panel.specs.Entries.{Talk, talk_of, shown_of, password_in, ungreeted, is_secured_talk, leads_next}
+use Rattle.panel.specs.Showing.{showing}
+use Rattle.panel.specs.Stepping.{answered_entry, sent_entry, heard_line, is_unready, line_sent}
+use Rattle.panel.specs.StepTable.{IsUnderWay, answers}
+use Rattle.panel.specs.PanelCalls.{PanelAs, entry_at, sent_at, commanded, stepped_at}
 use Rattle.panel.specs.declared.types.Entry.{Entry}
-use Rattle.panel.specs.PanelCalls.{PanelAs, sent_at, commanded}
-use Rattle.panel.proofs.Cases.{Commands, commanded_done}
+use Rattle.panel.specs.declared.types.Panel.{Panel}
+use Rattle.panel.proofs.Cases.{Commands, commanded_by, commanded_done}
 use Rattle.panel.proofs.LinesSent.{line_sent_whole}
+use Rattle.panel.proofs.StepsByTable.{row_steps}
 use Rattle.workroom.specs.AnyPanel.{ours_panel}
-use Rattle.workroom.specs.Workroom.{Workroom, room_of, asks, handed_there, delivered, answered_back, happened}
-use Rattle.workroom.specs.ShowsWhatWasMeant.{Fit, both_open, both_secured, our_entry, IsJoined}
+use Rattle.workroom.specs.Workroom.{Workroom, room_of, asks, handed_there, delivered, asked_as, answered_back, happened}
+use Rattle.workroom.specs.MeantThrough.{said_to, done_for, IsWithin}
+use Rattle.workroom.specs.ShowsWhatWasMeant.{Fit, both_open, both_secured, our_entry, our_connection, IsJoined, ShownAs}
+use Rattle.workroom.specs.ShowsWhatWasMeant.{UnansweredAs}
 use Rattle.workroom.specs.PanelDemand.{IsServed}
 use Rattle.workroom.proofs.Cuts.{handed_in_cuts}
-use Rattle.workroom.proofs.EntriesStep.{entry_legal_there}
+use Rattle.workroom.proofs.EntriesStep.{entry_legal_there, entry_at-commanded, sent_served, entry_at-stepped_at}
+use Rattle.workroom.proofs.EntriesStep.{heard_served, delivered-cons}
+use Rattle.workroom.proofs.Standing.{shown_as_it_stands, joined_served, device_as_it_was, panel_as_it_was}
 
 -- both sides that fit have a connection
-pub fit_greeted : {t : Talk} {c : Connection} → Fit t c → t.greeting ≡ ungreeted → ⊥
+fit_greeted : {t : Talk} {c : Connection} → Fit t c → t.greeting ≡ ungreeted → ⊥
 fit_greeted (both_open phase greeted later) = greeted
 fit_greeted (both_secured phase greeted first same) = greeted
 
-pub fit_live : {t : Talk} {c : Connection} → Fit t c → is_shut c ≡ false
+fit_live : {t : Talk} {c : Connection} → Fit t c → is_shut c ≡ false
 fit_live (both_open phase greeted later) = ap (λ (p : ℕ). p == shut) phase
 fit_live (both_secured phase greeted first same) = ap (λ (p : ℕ). p == shut) phase
+
+-- nothing leads what follows a first command
+none_leads : (s : Bool) → (s && not s) ≡ false
+none_leads true = refl
+none_leads false = refl
 
 module _ (i p : ℕ) (w : Workroom) (j : IsJoined i p w) where
   abbrev entry : Entry
@@ -63,22 +81,19 @@ module _ (i p : ℕ) (w : Workroom) (j : IsJoined i p w) where
   abbrev connection : Connection
   connection = connection_at device p
 
-  pub joined_served : IsServed w.panel i
-  joined_served = record { legal = j.acquainted.panel; there = j.acquainted.there }
-
-  pub joined_ready : is_unready entry ≡ false
+  joined_ready : is_unready entry ≡ false
   joined_ready =
       let greeted = ne_eqb entry.greeting ungreeted (fit_greeted j.fit) in
       let rests = j.rests in
       (λ n. greeted n || rests n)
 
   module _ (k : Coded) (c : Command) (is : coded_command k ≡ Some c) where
-    pub can_command : Commands w.panel i k command_room
+    can_command : Commands w.panel i k command_room
     can_command = record {
       legal = j.acquainted.panel;
       enough = omega arith;
       there = j.acquainted.there;
-      named = ap names_command is;
+      named = ap is_some is;
       ready = joined_ready;
     }
 
@@ -94,7 +109,7 @@ module _ (i p : ℕ) (w : Workroom) (j : IsJoined i p w) where
     spelt : sent ≡ led_by (leads_next (talk_of entry)) entry.random (password_in entry) ++ command_line c
     spelt =
         ap (λ (m : Option Command). line_sent entry m command_room) is
-        ∙ line_sent_whole entry c command_room (entry_legal_there w.panel i joined_served) writable (omega arith)
+        ∙ line_sent_whole entry c command_room (entry_legal_there w.panel i (joined_served j)) writable (omega arith)
 
     -- how the device takes a line
     abbrev Answers : (ℕ → Result Device) → List ℕ → Type 0
@@ -121,7 +136,7 @@ module _ (i p : ℕ) (w : Workroom) (j : IsJoined i p w) where
     taken_by_fit r plain led (both_secured phase greeted first same) =
         subst (Answers r) (sym (led_alike true first same)) (led phase)
 
-    pub command_taken : command_class c ≤ device.settings.class_number → Answers (command_result device p c) sent
+    command_taken : command_class c ≤ device.settings.class_number → Answers (command_result device p c) sent
     command_taken within =
         taken_by_fit (command_result device p c)
         (command_received device p j.place reply_room j.acquainted.device (omega arith) unmarked none_held c
@@ -130,7 +145,7 @@ module _ (i p : ℕ) (w : Workroom) (j : IsJoined i p w) where
         c writable within)
         j.fit
 
-    pub higher_taken : device.settings.class_number < command_class c → Answers (swallowed_at device p) sent
+    higher_taken : device.settings.class_number < command_class c → Answers (swallowed_at device p) sent
     higher_taken higher =
         taken_by_fit (swallowed_at device p)
         (higher_received device p j.place reply_room j.acquainted.device (omega arith) unmarked none_held c
@@ -139,33 +154,152 @@ module _ (i p : ℕ) (w : Workroom) (j : IsJoined i p w) where
         c higher)
         j.fit
 
-    abbrev pub sending : PanelAs
+    abbrev sending : PanelAs
     sending = commanded w.panel i k command_room
 
     done_sending : sending ≡ sent_at w.panel i k command_room
     done_sending = commanded_done w.panel i k command_room can_command
 
-    -- a line that is taken whole, and what comes back of it
-    module _ (r : ℕ → Result Device) (taken : Answers r sent) (whole : (r (length sent)).taken ≡ length sent)
-        (there back : List ℕ) where
-      comes_back : handed_there device p there sending.line
-          ≡ record { state = (r (length sent)).device; reply = (r (length sent)).reply }
-      comes_back =
-          ap (λ (s : PanelAs). handed_there device p there s.line) done_sending
-          ∙ handed_in_cuts device p there sent j.place j.acquainted.device (fit_live j.fit)
-          (ap (λ (t : Result Device). t.taken) taken ∙ whole)
-          ∙ ap {B = Out Device} (λ (t : Result Device). record { state = t.device; reply = t.reply }) taken
-
-      pub asked_as_lem : happened ours_panel i p w (asks k there back)
-          ≡ room_of (delivered ours_panel i sending.panel back (r (length sent)).reply) (r (length sent)).device
-      asked_as_lem =
-          if_yes _ _ (ap (λ (s : PanelAs). s.number == 0) done_sending)
-          ∙ ap (answered_back ours_panel i sending.panel back) comes_back
-
-    pub told_back : read_reply c (reply_to c told) ≡ meaning told
+    told_back : read_reply c (reply_to c told) ≡ meaning told
     told_back =
         let settings = legal_settings device j.acquainted.device in
         let own = legal_own device j.acquainted.device in
         let fits = meant_fits device.settings device.own settings own (Ok c) in
         let short = fits.short in
         reply_read c (meant_can_be_said device.settings device.own settings own c) (omega arith) fits.has_no_cr
+
+    sent_there : IsServed sending.panel i
+    sent_there = sent_served w.panel i (joined_served j) k command_room
+
+    entry_sent : entry_at sending.panel i ≡ sent_entry entry k
+    entry_sent = entry_at-commanded w.panel i (joined_served j) k command_room can_command
+
+    under_way : IsUnderWay (sent_entry entry k) c
+    under_way = record { greeted = fit_greeted j.fit; waits = refl; asked = is }
+
+    -- the device afterwards, with the own part o
+    abbrev left : Own → Device
+    left o = with_place device o p (turned connection opened)
+
+    left_open : (o : Own) → connection_at (left o) p ≡ turned connection opened
+    left_open o = placed_here device (legal_places device j.acquainted.device) p j.place o _
+
+    module _ (there back : List ℕ) where
+      abbrev asking : Workroom
+      asking = happened ours_panel i p w (asks k there back)
+
+      -- a line that is taken whole, and what comes back of it
+      asked_as_lem : (r : ℕ → Result Device) → Answers r sent → (r (length sent)).taken ≡ length sent
+          → asking
+          ≡ room_of (delivered ours_panel i sending.panel back (r (length sent)).reply) (r (length sent)).device
+      asked_as_lem r taken whole =
+          if_yes _ _ (ap (λ (s : PanelAs). s.number == 0) done_sending)
+          ∙ ap (answered_back ours_panel i sending.panel back)
+          (ap (λ (s : PanelAs). handed_there device p there s.line) done_sending
+          ∙ handed_in_cuts device p there sent j.place j.acquainted.device (fit_live j.fit)
+          (ap (λ (t : Result Device). t.taken) taken ∙ whole)
+          ∙ ap {B = Out Device} (λ (t : Result Device). record { state = t.device; reply = t.reply }) taken)
+
+      phase_then : {o : Own} {q : Panel} → asking ≡ room_of q (left o) → (our_connection p asking).phase ≡ opened
+      phase_then {o} so =
+          ap (λ (x : Workroom). (our_connection p x).phase) so ∙ ap (λ (c : Connection). c.phase) (left_open o)
+
+      -- of a class higher than the device's
+      module _ (higher : device.settings.class_number < command_class c) where
+        swallowed_so : asking ≡ room_of sending.panel (left device.own)
+        swallowed_so = asked_as_lem (swallowed_at device p) (higher_taken higher) refl
+
+        pub gets_no_reply : UnansweredAs i w c asking
+        gets_no_reply =
+            subst (UnansweredAs i w c) (sym swallowed_so)
+            (record {
+              shows = ap (λ (e : Entry). shown_of e) entry_sent;
+              strays = ap (λ (e : Entry). e.strays) entry_sent;
+              settings = refl;
+              does = refl;
+              still = subst (λ (e : Entry). IsUnderWay e c) (sym entry_sent) under_way;
+            })
+
+      -- of one no higher
+      module _ (within : command_class c ≤ device.settings.class_number) where
+        abbrev after : Panel
+        after = (stepped_at sending.panel i (reply_to c told)).panel
+
+        abbrev own : Own
+        own = done device.settings device.own (Ok c)
+
+        asked_so : asking ≡ room_of after (left own)
+        asked_so =
+            asked_as_lem (command_result device p c) (command_taken within) refl
+            ∙ ap (λ (q : Panel). room_of q (left own)) (delivered-cons i sending.panel back _ _)
+
+        entry_then : entry_at after i ≡ answered_entry (sent_entry entry k) told
+        entry_then =
+            entry_at-stepped_at sending.panel i sent_there (reply_to c told)
+            ∙ ap (λ (e : Entry). heard_line e (reply_to c told)) entry_sent
+            ∙ row_steps (sent_entry entry k) (reply_to c told) (answers c told under_way told_back)
+
+        reply_shown : ShownAs i p w (showing (shown_of entry) told) own asking
+        reply_shown =
+            subst (ShownAs i p w (showing (shown_of entry) told) own) (sym asked_so)
+            (shown_as_it_stands j.acquainted
+            (record {
+              served = heard_served sending.panel i sent_there (reply_to c told);
+              stands = entry_then;
+              password = refl;
+              strays = refl;
+            })
+            j.place
+            (record {
+              legal = ap (λ (r : Result Device). is_legal r.device) (sym (command_taken within))
+                  ∙ receiving_legal device j.acquainted.device p _ reply_room;
+              settings = refl;
+              stands = left_open own;
+              between = refl;
+            })
+            refl (both_open refl (fit_greeted j.fit) (none_leads (is_secured_talk (talk_of entry)))))
+
+  pub as_it_was : ShownAs i p w (shown_of entry) device.own w
+  as_it_was = shown_as_it_stands j.acquainted (panel_as_it_was j) j.place (device_as_it_was j) j.rests j.fit
+
+  module _ (k : Coded) (there back : List ℕ) where
+    abbrev then : Workroom
+    then = happened ours_panel i p w (asks k there back)
+
+    -- of a code that stands for nothing nothing is sent
+    refused_so : coded_command k ≡ None → then ≡ w
+    refused_so none =
+        commanded_by w.panel i k command_room (λ r. asked_as ours_panel i p r device there back ≡ w)
+        (λ n other. if_no _ _ (ne_eqb n 0 other)) (λ can. cc (ap is_some none, can.named))
+
+    -- once something was asked the connection is open, answered or not, and an open one stays so
+    pub asked_open : is_some (coded_command k) ≡ true → (our_connection p then).phase ≡ opened
+    asked_open named = by (coded_command k) refl
+      where
+        by : (m : Option Command) → coded_command k ≡ m → (our_connection p then).phase ≡ opened
+        by (Some c) is =
+            ⊎_elim
+            (λ (within : command_class c ≤ device.settings.class_number).
+            phase_then k c is there back (asked_so k c is there back within))
+            (λ (higher : device.settings.class_number < command_class c).
+            phase_then k c is there back (swallowed_so k c is there back higher))
+            (le_or_lt (command_class c) device.settings.class_number)
+        by None none = cc (ap is_some none, named)
+
+    pub open_asked : connection.phase ≡ opened → (our_connection p then).phase ≡ opened
+    open_asked stands = by (coded_command k) refl
+      where
+        by : (m : Option Command) → coded_command k ≡ m → (our_connection p then).phase ≡ opened
+        by (Some c) is = asked_open (ap is_some is)
+        by None none = ap (λ (x : Workroom). (our_connection p x).phase) (refused_so none) ∙ stands
+
+    pub command_shown : IsWithin device.settings (coded_command k)
+        → ShownAs i p w (showing (shown_of entry) (said_to device.settings device.own (coded_command k)))
+        (done_for device.settings device.own (coded_command k)) then
+    command_shown = by (coded_command k) refl
+      where
+        by : (m : Option Command) → coded_command k ≡ m → IsWithin device.settings m
+            → ShownAs i p w (showing (shown_of entry) (said_to device.settings device.own m))
+            (done_for device.settings device.own m) then
+        by (Some c) is within = reply_shown k c is there back within
+        by None none within = subst (ShownAs i p w (shown_of entry) device.own) (sym (refused_so none)) as_it_was

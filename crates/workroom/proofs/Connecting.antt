@@ -1,14 +1,17 @@
--- The greeting joins a panel and a device that were apart, with a password or without, at the place that opening takes;
--- a connection that is gone leaves them apart, however it stood.
+-- A projector just added, with the password of a device that has a free place, is apart from it, and nothing is shown
+-- of it. The greeting joins a panel and a device that were apart, with a password or without, at the place that opening
+-- takes; a connection that is gone leaves them apart, however it stood.
 -- Assumes nothing.
-use Rattle.std.proofs.Common.{ℕ, ◌^◌, ◌≤◌, ◌<◌, ◌≡◌, refl, sym, ap, subst, ◌∙◌, Bool, true, false, ⊎_elim, List, arith}
-use Rattle.std.proofs.Common.{slice_index_or}
+use Rattle.std.proofs.Common.{ℕ, ◌^◌, ◌-◌, ◌≤◌, ◌<◌, ◌≡◌, refl, sym, ap, subst, ◌∙◌, Bool, true, false, ⊎_elim, List}
+use Rattle.std.proofs.Common.{arith, length, slice_index_or, replicate, get_or-set_same}
+use Rattle.std.proofs.Math.Seq.{take-append_seam}
 use Rattle.std.proofs.lemmas.Bool.{false≢true}
 use Rattle.text.proofs.Orders.{le_or_lt}
 use Rattle.pjlink.specs.Forms.{greeting_open, greeting_secured}
 use Rattle.digest.specs.Hex.{hex_digits}
 use Rattle.record.specs.Limits.{places_count, awaiting, opened}
-use Rattle.record.specs.Legal.{is_connection}
+use Rattle.words.specs.Texts.{is_password}
+use Rattle.record.specs.Legal.{is_connection, is_legal}
 use Rattle.record.specs.Places.{no_connection, connection_at, with_place, is_shut, lowest_shut}
 use Rattle.record.specs.Record.{closed}
 use Rattle.record.specs.declared.types.Connection.{Connection}
@@ -25,19 +28,26 @@ use Rattle.device.proofs.Untouched.{closing_keeps_settings, closing_keeps_own}
 use Rattle.record.proofs.LowestShut.{below_lowest}
 use Rattle.controller.specs.Greetings.{read_greeting}
 use Rattle.controller.proofs.GreetingsHeard.{open_heard, secured_heard}
-use Rattle.panel.specs.Entries.{Talk, talk_of, shown_of, password_in, greeted_open, greeted_secured, greeted_by}
+use Rattle.panel.specs.Entries.{Talk, shown_of, password_in, greeted_open, greeted_secured, greeted_by}
+use Rattle.panel.specs.Entries.{fresh_entry, blank_entry}
+use Rattle.panel.specs.Passwords.{password_room}
+use Rattle.panel.specs.LegalPanels.{panel_most, is_panel}
 use Rattle.panel.specs.Stepping.{with_talk, greeted_as}
-use Rattle.panel.specs.PanelCalls.{entry_at, stepped_at}
+use Rattle.panel.specs.PanelCalls.{PanelAs, entry_at, grown_by, added_to, stepped_at}
 use Rattle.panel.specs.declared.types.Entry.{Entry}
 use Rattle.panel.specs.declared.types.Panel.{Panel}
+use Rattle.panel.proofs.Cases.{added_by, added_done}
+use Rattle.panel.proofs.PanelsLegal.{added_stays_legal}
+use Rattle.panel.proofs.PanelsTold.{panel_told}
 use Rattle.panel.proofs.StepsByTable.{step_greets}
 use Rattle.workroom.specs.AnyPanel.{ours_panel}
 use Rattle.workroom.specs.Workroom.{Workroom, room_of, delivered, connected_as, connected, parted}
 use Rattle.workroom.specs.ShowsWhatWasMeant.{Fit, both_open, both_secured, our_entry, IsAcquainted, Apart}
-use Rattle.workroom.specs.ShowsWhatWasMeant.{ShownAs, PartedAs}
+use Rattle.workroom.specs.ShowsWhatWasMeant.{BegunAs, ShownAs, PartedAs}
 use Rattle.workroom.specs.PanelDemand.{IsServed}
 use Rattle.workroom.proofs.EntriesStep.{entry_at-stepped_at, heard_served, entry_at-lost_at, lost_served}
 use Rattle.workroom.proofs.EntriesStep.{delivered-cons}
+use Rattle.workroom.proofs.Standing.{acquainted_then, shown_as_it_stands}
 
 -- a closed place is free
 shut_free : (cs : List Connection) (p : ℕ) → is_shut (slice_index_or cs p no_connection) ≡ true → lowest_shut cs ≤ p
@@ -76,55 +86,49 @@ module _ (i : ℕ) (w : Workroom) where
       entry_then =
           entry_at-stepped_at w.panel i (known_served known) l ∙ step_greets entry l apart.waiting ∙ heard
 
-      stands : connection_at (with_connection c) lowest ≡ c
-      stands = placed_here device (legal_places device known.device) lowest apart.free device.own c
-
       greeting_joins : ShownAs i lowest w (shown_of entry) device.own (room_of after (with_connection c))
       greeting_joins =
-          let there = heard_served w.panel i (known_served known) l in
-          record {
-            shows = ap (λ (e : Entry). shown_of e) entry_then;
-            strays = ap (λ (e : Entry). e.strays) entry_then;
+          shown_as_it_stands known
+          (record {
+            served = heard_served w.panel i (known_served known) l;
+            stands = entry_then;
+            password = refl;
+            strays = refl;
+          })
+          apart.free
+          (record {
+            legal = legal_by_parts (with_connection c) (legal_settings device known.device)
+                (legal_own device known.device)
+                (placed_legal device.connections (legal_connections device known.device) lowest c legal);
             settings = refl;
-            does = refl;
-            joined = record {
-              acquainted = record {
-                panel = there.legal;
-                there = there.there;
-                device = legal_by_parts (with_connection c) (legal_settings device known.device)
-                    (legal_own device known.device)
-                    (placed_legal device.connections (legal_connections device known.device) lowest c legal);
-                password = ap password_in entry_then ∙ known.password;
-              };
-              place = apart.free;
-              between = ap (λ (k : Connection). k.line) stands ∙ between;
-              rests = ap (λ (e : Entry). e.under_way) entry_then ∙ rests;
-              fit = subst (λ (e : Entry). Fit (talk_of e) (connection_at (with_connection c) lowest)) (sym entry_then)
-                  (subst (Fit t) (sym stands) fits);
-            };
-          }
+            stands = placed_here device (legal_places device known.device) lowest apart.free device.own c;
+            between = between;
+          })
+          rests fits
 
     -- by whether there is a password
     abbrev JoinsBy : List ℕ → Connection → Type 0
     JoinsBy g c = is_connection c ≡ true → ShownAs i lowest w (shown_of entry) device.own
         (room_of (delivered ours_panel i w.panel back g) (with_connection c))
 
-    abbrev then : Connection → Panel → Workroom
-    then c p = room_of p (with_connection c)
+    -- a greeting, which the panel hears whole, as the talk t
+    joins : (g : List ℕ) (c : Connection) (t : Talk)
+        → delivered ours_panel i w.panel back g ≡ (stepped_at w.panel i g).panel → Fit t c
+        → c.line ≡ empty_line → t.under_way ≡ false → greeted_as entry (read_greeting g) ≡ with_talk entry t
+        → JoinsBy g c
+    joins g c t whole fits between rests heard legal =
+        subst (λ (p : Panel). ShownAs i lowest w (shown_of entry) device.own (room_of p (with_connection c)))
+        (sym whole) (greeting_joins g c t legal fits between rests heard)
 
     secured_joins : (r : ℕ) → r < 2 ^ 32 → JoinsBy (greeting_secured (hex_digits 8 r)) (begun_in awaiting r)
-    secured_joins r word legal =
-        subst (λ (p : Panel). ShownAs i lowest w (shown_of entry) device.own (then (begun_in awaiting r) p))
-        (sym (delivered-cons i w.panel back _ _))
-        (greeting_joins (greeting_secured (hex_digits 8 r)) (begun_in awaiting r) (greeted_by greeted_secured r) legal
-        (both_secured refl (λ none. omega arith) refl refl) refl refl (ap (greeted_as entry) (secured_heard r word)))
+    secured_joins r word =
+        joins _ _ (greeted_by greeted_secured r) (delivered-cons i w.panel back _ _)
+        (both_secured refl (λ none. omega arith) refl refl) refl refl (ap (greeted_as entry) (secured_heard r word))
 
     open_joins : (r : ℕ) → JoinsBy greeting_open (begun_in opened r)
-    open_joins r legal =
-        subst (λ (p : Panel). ShownAs i lowest w (shown_of entry) device.own (then (begun_in opened r) p))
-        (sym (delivered-cons i w.panel back _ _))
-        (greeting_joins greeting_open (begun_in opened r) (greeted_by greeted_open 0) legal
-        (both_open refl (λ none. omega arith) refl) refl refl (ap (greeted_as entry) open_heard))
+    open_joins r =
+        joins _ _ (greeted_by greeted_open 0) (delivered-cons i w.panel back _ _)
+        (both_open refl (λ none. omega arith) refl) refl refl (ap (greeted_as entry) open_heard)
 
     pub greeted_joined : (r : ℕ) → r < 2 ^ 32
         → ShownAs i (place_taken device reply_room) w (shown_of entry) device.own (connected ours_panel i w r back)
@@ -163,7 +167,6 @@ module _ (i p : ℕ) (w : Workroom) (known : IsAcquainted i w) (place : p < plac
   parted_apart =
       let served = known_served i w known in
       let lost = entry_at-lost_at w.panel i served in
-      let there = lost_served w.panel i served in
       let free = shut_free gone.connections p closed_there in
       record {
         shows = ap (λ (e : Entry). shown_of e) lost;
@@ -171,14 +174,52 @@ module _ (i p : ℕ) (w : Workroom) (known : IsAcquainted i w) (place : p < plac
         settings = closing_keeps_settings before p;
         does = closing_keeps_own before p;
         apart = record {
-          acquainted = record {
-            panel = there.legal;
-            there = there.there;
-            device = closing_legal before known.device p;
-            password =
-                ap password_in lost ∙ known.password ∙ ap set_up_password (sym (closing_keeps_settings before p));
-          };
+          acquainted = acquainted_then known
+              (record { served = lost_served w.panel i served; stands = lost; password = refl; strays = refl })
+              (closing_legal before known.device p) (closing_keeps_settings before p);
           waiting = ap (λ (e : Entry). e.greeting) lost;
           free = omega (arith, place, free);
         };
       }
+
+-- a projector just added
+module _ (p : Panel) (s : List ℕ) (d : Device) where
+  abbrev Begun : PanelAs → Type 0
+  Begun r = r.number ≡ 0 → is_legal d ≡ true → lowest_shut d.connections < places_count → set_up_password d.settings ≡ s
+      → BegunAs p.count (room_of r.panel d)
+
+  module _ (legal : is_panel p ≡ true) (word : is_password s ≡ true) (free : p.count < panel_most) where
+    abbrev grown : Panel
+    grown = grown_by p (fresh_entry s)
+
+    placed_last : entry_at grown p.count ≡ fresh_entry s
+    placed_last =
+        let inside : p.count < length p.entries = omega (arith, free, (panel_told p legal).long) in
+        get_or-set_same p.entries p.count (fresh_entry s) blank_entry inside
+
+    grown_legal : is_panel grown ≡ true
+    grown_legal =
+        ap (λ (r : PanelAs). is_panel r.panel) (sym (added_done p s legal word free)) ∙ added_stays_legal p legal s
+
+    password_in-fresh_entry : password_in (fresh_entry s) ≡ s
+    password_in-fresh_entry = take-append_seam s (replicate (password_room - length s) 0)
+
+  pub added_apart : Begun (added_to p s)
+  added_apart =
+      added_by p s Begun (λ n other zero. absurd (other zero))
+      (λ legal word free zero known place same.
+      let last = placed_last legal word free in
+      record {
+        shows = ap (λ (e : Entry). shown_of e) last;
+        strays = ap (λ (e : Entry). e.strays) last;
+        apart = record {
+          acquainted = record {
+            panel = grown_legal legal word free;
+            there = omega arith;
+            device = known;
+            password = ap password_in last ∙ password_in-fresh_entry legal word free ∙ sym same;
+          };
+          waiting = ap (λ (e : Entry). e.greeting) last;
+          free = place;
+        };
+      })

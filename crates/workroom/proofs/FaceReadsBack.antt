@@ -19,8 +19,7 @@ use Rattle.device.specs.Calls.{Result, reply_room, received, opened_by, place_ta
 use Rattle.controller.specs.Writing.{WrittenAs, command_room}
 use Rattle.controller.specs.Greetings.{read_greeting}
 use Rattle.demands.specs.Greeted.{greeted_on}
-use Rattle.demands.proofs.TakenAndRead.{TakenAndRead}
-use Rattle.demands.proofs.WrittenReadBack.{written_reads_back, written_reads_back_secured}
+use Rattle.demands.proofs.TakenAndRead.{TakenAndRead, written_reads_back, written_reads_back_secured}
 use Rattle.demands.proofs.GreetsBack.{greets_back}
 use Rattle.codes.specs.Commands.{coded_command}
 use Rattle.codes.specs.Readings.{flat_greeting, said_flat, flat}

@@ -2,14 +2,11 @@ pub mod FaceReadsBack
 pub mod Cuts
 pub mod EntriesStep
 pub mod PanelDemand
+pub mod Standing
 pub mod CommandsAnswered
-pub mod Unanswered
-pub mod RepliesShown
-pub mod Beginning
 pub mod Connecting
 pub mod AllShown
 pub mod OthersAside
-pub mod StaysOpen
 pub mod ShowsWhatWasMeant
 pub mod Samples
 pub mod WrongPanelsFall

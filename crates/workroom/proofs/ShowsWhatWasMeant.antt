@@ -2,13 +2,10 @@
 -- Assumes nothing.
 use Rattle.workroom.specs.AnyPanel.{ours_panel}
 use Rattle.workroom.specs.ShowsWhatWasMeant.{ShowsWhatWasMeant}
-use Rattle.workroom.proofs.RepliesShown.{asked_open}
-use Rattle.workroom.proofs.Unanswered.{gets_no_reply}
-use Rattle.workroom.proofs.Beginning.{added_apart}
-use Rattle.workroom.proofs.Connecting.{greeted_joined, parted_apart}
-use Rattle.workroom.proofs.AllShown.{shown_then, all_shown}
+use Rattle.workroom.proofs.CommandsAnswered.{asked_open, gets_no_reply}
+use Rattle.workroom.proofs.Connecting.{added_apart, greeted_joined, parted_apart}
+use Rattle.workroom.proofs.AllShown.{shown_then, all_shown, open_throughout, young_kept_up}
 use Rattle.workroom.proofs.OthersAside.{others_aside}
-use Rattle.workroom.proofs.StaysOpen.{open_throughout, young_kept_up}
 
 pub the_panel_shows_what_was_meant : ShowsWhatWasMeant ours_panel
 the_panel_shows_what_was_meant = record {
@@ -16,7 +13,7 @@ the_panel_shows_what_was_meant = record {
   joins = λ i w random back apart word. greeted_joined i w apart back random word;
   shows = λ i p w h j kept. shown_then i p w j h kept;
   shows_through = all_shown;
-  unanswered = λ i p w k c there back j is higher. gets_no_reply i p w j k c is higher there back;
+  unanswered = λ i p w k c there back j is higher. gets_no_reply i p w j k c is there back higher;
   others = others_aside;
   stays_open = open_throughout;
   asking_opens = λ i p w k there back j named. asked_open i p w j k there back named;

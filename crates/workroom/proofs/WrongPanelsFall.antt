@@ -1,6 +1,7 @@
 -- The panels of specs/WrongPanels.antt fall, each to what is asked of one sample, where the two numbers shown differ.
 -- Assumes nothing.
-use Rattle.std.proofs.Common.{ℕ, ◌≡◌, refl, ap, List, [], arith, codes}
+use Rattle.std.proofs.Common.{ℕ, ◌≡◌, refl, ap, false, List, [], arith, codes, ◌==◌}
+use Rattle.std.proofs.lemmas.Bool.{eqb-false}
 use Rattle.pjlink.specs.declared.command.Command.TheVariants.{Query}
 use Rattle.pjlink.specs.declared.body.Body.TheVariants.{Powr, Lamp}
 use Rattle.codes.specs.Commands.{bit, code_of}
@@ -26,6 +27,9 @@ power_shown s = s.power
 abbrev waits_for : Talk → ℕ
 waits_for t = bit t.under_way
 
+differ : (m n : ℕ) → (m == n) ≡ false → m ≡ n → ⊥
+differ m n other = eqb-false m n other
+
 late_line : (strays : ℕ) (l : List ℕ) → IsStray (entry_at (resting strays) 0) l
 late_line strays l = late (λ none. omega arith) refl
 
@@ -41,53 +45,43 @@ broken_line = malformed (Query Lamp) lamps_asked refl
 pub takes_foreign_falls : PanelDemand takes_foreign → ⊥
 unfolding computing
 takes_foreign_falls h =
-    let e : ◌≡◌ {A = ℕ} 0 1 = ap power_shown (h.strays_counted (asked 0) 0 power_off asked_served foreign_line).shows in
-    absurd (omega arith)
+    differ 0 1 refl (ap power_shown (h.strays_counted (asked 0) 0 power_off asked_served foreign_line).shows)
 
 -- a part of the reply, as a host that joins no lines would hand it on: whether a command is under way
 pub ends_on_malformed_falls : PanelDemand ends_on_malformed → ⊥
 unfolding computing
 ends_on_malformed_falls h =
-    let e : ◌≡◌ {A = ℕ} 0 1
-    = ap waits_for (h.strays_counted (asked 0) 0 (codes "%1LAMP") asked_served broken_line).talks in
-    absurd (omega arith)
+    differ 0 1 refl (ap waits_for (h.strays_counted (asked 0) 0 (codes "%1LAMP") asked_served broken_line).talks)
 
 -- the power that is shown after ERRA
 pub keeps_after_erra_falls : PanelDemand keeps_after_erra → ⊥
 unfolding computing
 keeps_after_erra_falls h =
-    let e : ◌≡◌ {A = ℕ} 1 0
-    = ap power_shown (h.erra_forgets (asked 0) 0 (Query Lamp) asked_served lamps_asked).shows in
-    absurd (omega arith)
+    differ 1 0 refl (ap power_shown (h.erra_forgets (asked 0) 0 (Query Lamp) asked_served lamps_asked).shows)
 
 -- the 65,536th stray
 pub stray_count_wraps_falls : PanelDemand stray_count_wraps → ⊥
 unfolding computing
 stray_count_wraps_falls h =
-    let e : ◌≡◌ {A = ℕ} 0 65535
-    = (h.strays_counted (resting 65535) 0 power_off full_served (late_line 65535 power_off)).counts in
-    absurd (omega arith)
+    differ 0 65535 refl
+    (h.strays_counted (resting 65535) 0 power_off full_served (late_line 65535 power_off)).counts
 
 -- a late reply: the power that is shown
 pub shows_late_falls : PanelDemand shows_late → ⊥
 unfolding computing
 shows_late_falls h =
-    let e : ◌≡◌ {A = ℕ} 0 1
-    = ap power_shown (h.strays_counted (resting 0) 0 power_off resting_served (late_line 0 power_off)).shows in
-    absurd (omega arith)
+    differ 0 1 refl
+    (ap power_shown (h.strays_counted (resting 0) 0 power_off resting_served (late_line 0 power_off)).shows)
 
 -- the first stray
 pub counts_nothing_falls : PanelDemand counts_nothing → ⊥
 unfolding computing
 counts_nothing_falls h =
-    let e : ◌≡◌ {A = ℕ} 0 1 =
-    (h.strays_counted (resting 0) 0 power_off resting_served (late_line 0 power_off)).counts in
-    absurd (omega arith)
+    differ 0 1 refl (h.strays_counted (resting 0) 0 power_off resting_served (late_line 0 power_off)).counts
 
 -- POWR is asked of a device that is off: the power that is shown afterwards
 pub shows_no_reply_falls : ShowsWhatWasMeant shows_no_reply → ⊥
 unfolding computing
 shows_no_reply_falls h =
-    let e : ◌≡◌ {A = ℕ} 1 0
-    = ap power_shown (h.shows 0 0 workroom (asks (code_of (Query Powr)) [] []) workroom_joined powr_within).shows in
-    absurd (omega arith)
+    differ 1 0 refl
+    (ap power_shown (h.shows 0 0 workroom (asks (code_of (Query Powr)) [] []) workroom_joined powr_within).shows)

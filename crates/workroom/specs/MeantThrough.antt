@@ -19,7 +19,7 @@ use Rattle.meaning.specs.Meaning.{meant, done}
 use Rattle.codes.specs.Commands.{coded_command}
 use Rattle.panel.specs.Entries.{Shown}
 use Rattle.panel.specs.Showing.{showing}
-use Rattle.workroom.specs.Workroom.{RoomMove, asks, waits, asks_another, hears_another, meanwhile}
+use Rattle.workroom.specs.Workroom.{RoomMove, asks, waits, meanwhile}
 
 module _ (s : Settings) where
   -- a code that stands for no command is refused by the panel
@@ -37,17 +37,13 @@ module _ (s : Settings) where
 
   abbrev pub said_at : Own → RoomMove → Said
   said_at o (asks k there back) = said_to o (coded_command k)
-  said_at o (waits n) = nothing
-  said_at o (asks_another j k) = nothing
-  said_at o (hears_another j l) = nothing
-  said_at o (meanwhile d) = nothing
+  said_at o h = nothing
 
   abbrev pub own_at : Own → RoomMove → Own
   own_at o (asks k there back) = done_for o (coded_command k)
   own_at o (waits n) = times (own_second s) n o
-  own_at o (asks_another j k) = o
-  own_at o (hears_another j l) = o
   own_at o (meanwhile d) = d.own
+  own_at o h = o
 
   abbrev pub shown_through : Own → Shown → List RoomMove → Shown
   shown_through o v [] = v

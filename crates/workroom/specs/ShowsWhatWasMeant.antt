@@ -25,7 +25,7 @@
 --   BegunAs i w        nothing was heard yet
 --   PartedAs i w x     the connection is gone: what was shown stays, and they are apart
 -- Assumes nothing.
-use Rattle.std.specs.Prelude.{ℕ, ◌+◌, ◌<◌, ◌^◌, ◌≡◌, Bool, true, false, List, [], ◌∷◌, Some}
+use Rattle.std.specs.Prelude.{ℕ, ◌+◌, ◌<◌, ◌^◌, ◌≡◌, Bool, true, false, List, [], ◌∷◌, Some, is_some}
 use Rattle.pjlink.specs.Commands.{command_class}
 use Rattle.pjlink.specs.declared.command.Command.{Command}
 use Rattle.record.specs.Given.{left_by}
@@ -44,7 +44,7 @@ use Rattle.codes.specs.Commands.{coded_command}
 use Rattle.codes.specs.declared.command.Coded.{Coded}
 use Rattle.panel.specs.Entries.{Talk, Shown, talk_of, shown_of, password_in, ungreeted, leads_next, nothing_shown}
 use Rattle.panel.specs.Showing.{showing}
-use Rattle.panel.specs.LegalPanels.{names_command, is_panel}
+use Rattle.panel.specs.LegalPanels.{is_panel}
 use Rattle.panel.specs.StepTable.{IsUnderWay}
 use Rattle.panel.specs.PanelCalls.{entry_at}
 use Rattle.panel.specs.declared.types.Entry.{Entry}
@@ -119,11 +119,8 @@ module _ (i p : ℕ) where
   IsOther w (meanwhile d) = Aside p w.device d
 
   abbrev pub IsKeptUp : Workroom → RoomMove → Type 0
-  IsKeptUp w (asks k there back) = IsWithin w.device.settings (coded_command k)
   IsKeptUp w (waits n) = is_shut (connection_at (left_by w.device (passed w.device n)) p) ≡ false
-  IsKeptUp w (asks_another j k) = j ≡ i → ⊥
-  IsKeptUp w (hears_another j l) = j ≡ i → ⊥
-  IsKeptUp w (meanwhile d) = Aside p w.device d
+  IsKeptUp w h = IsOther w h
 
   -- each, where it comes
   abbrev pub Throughout : (Workroom → RoomMove → Type 0) → AnyPanel → Workroom → List RoomMove → Type 0
@@ -185,7 +182,7 @@ pub record ShowsWhatWasMeant (P : AnyPanel) : Type 0 where
       → (our_connection p w).phase ≡ opened → AllOther i p P w hs
       → AllKeptUp i p P w hs
   pub asking_opens : (i p : ℕ) (w : Workroom) (k : Coded) (there back : List ℕ) → IsJoined i p w
-      → names_command (coded_command k) ≡ true
+      → is_some (coded_command k) ≡ true
       → (our_connection p (happened P i p w (asks k there back))).phase ≡ opened
   -- and one whose digest is awaited does not close before its age is 30 seconds
   pub stays_awaited : (i p : ℕ) (w : Workroom) (n : ℕ) → IsJoined i p w → (our_connection p w).phase ≡ awaiting

@@ -7,13 +7,10 @@ use Rattle.pjlink.specs.declared.command.Command.TheVariants.{Query}
 use Rattle.pjlink.specs.declared.body.Body.TheVariants.{Powr}
 use Rattle.pjlink.specs.declared.command.Command.{Command}
 use Rattle.pjlink.specs.Said.{Said}
-use Rattle.controller.specs.Reading.{ReadAs, read_reply}
-use Rattle.controller.specs.Reading.{Outcome}
-use Rattle.controller.specs.Reading.{means_it, erra_said, not_a_line, other_command, disallowed}
+use Rattle.controller.specs.Reading.{ReadAs, Outcome, means_it, erra_said, not_a_line, other_command, read_reply}
 use Rattle.codes.specs.Commands.{coded_command}
 use Rattle.panel.specs.Entries.{talk_of, shown_of, entry_of, rested_on}
-use Rattle.panel.specs.Stepping.{strayed, with_talk, answered_entry, erra_entry, lost_entry, heard_by, heard_line}
-use Rattle.panel.specs.Stepping.{is_unready}
+use Rattle.panel.specs.Stepping.{strayed, with_talk, lost_entry, heard_as, heard_by, heard_line, is_unready}
 use Rattle.panel.specs.PanelCalls.{panel_made, entry_at, with_entry}
 use Rattle.panel.specs.declared.types.Entry.{Entry}
 use Rattle.workroom.specs.AnyPanel.{AnyPanel, ours_hearing}
@@ -31,33 +28,24 @@ hearing_as f =
 
 -- takes a foreign reply for the one under way: a power reading is shown whatever was asked
 abbrev taken_foreign : Entry → List ℕ → Outcome → Said → Entry
-taken_foreign e l means_it m = answered_entry e m
-taken_foreign e l erra_said m = erra_entry e
-taken_foreign e l not_a_line m = strayed e
 taken_foreign e l other_command m = heard_by e (read_reply (Query Powr) l)
-taken_foreign e l disallowed m = strayed e
+taken_foreign e l o m = heard_as e o m
 
 abbrev pub takes_foreign : AnyPanel
 takes_foreign = hearing_as (λ e l r. taken_foreign e l r.outcome r.said)
 
 -- ends the command on a malformed line
 abbrev ended_malformed : Entry → Outcome → Said → Entry
-ended_malformed e means_it m = answered_entry e m
-ended_malformed e erra_said m = erra_entry e
 ended_malformed e not_a_line m = strayed (with_talk e (rested_on (talk_of e)))
-ended_malformed e other_command m = strayed e
-ended_malformed e disallowed m = strayed e
+ended_malformed e o m = heard_as e o m
 
 abbrev pub ends_on_malformed : AnyPanel
 ends_on_malformed = hearing_as (λ e l r. ended_malformed e r.outcome r.said)
 
 -- keeps its readings after ERRA
 abbrev erra_kept : Entry → Outcome → Said → Entry
-erra_kept e means_it m = answered_entry e m
 erra_kept e erra_said m = lost_entry e
-erra_kept e not_a_line m = strayed e
-erra_kept e other_command m = strayed e
-erra_kept e disallowed m = strayed e
+erra_kept e o m = heard_as e o m
 
 abbrev pub keeps_after_erra : AnyPanel
 keeps_after_erra = hearing_as (λ e l r. erra_kept e r.outcome r.said)
@@ -83,10 +71,7 @@ counts_nothing = stepping_by (λ e l. if not (is_unready e) then e else heard_li
 -- accepts a reply, and shows nothing of it
 abbrev unshown : Entry → Outcome → Said → Entry
 unshown e means_it m = with_talk e (rested_on (talk_of e))
-unshown e erra_said m = erra_entry e
-unshown e not_a_line m = strayed e
-unshown e other_command m = strayed e
-unshown e disallowed m = strayed e
+unshown e o m = heard_as e o m
 
 abbrev pub shows_no_reply : AnyPanel
 shows_no_reply = hearing_as (λ e l r. unshown e r.outcome r.said)

@@ -12,7 +12,7 @@ returns c =
     let k : ℕ = length s / 64 * 64 in
     let rest : List ℕ = take (length s - k) (drop k s) in
     let left = take_all (length s - k) (drop k s) (simp length-drop (omega arith)) in
-    c.bytes.ensures
+    c.digest.ensures
     ∙ ap digest_bytes (
     c.last.ensures
     ∙ ap (whole_blocks (rest ++ padding (length rest) b)) c.blocks-p.ensures

@@ -1,9 +1,5 @@
-use Rattle.record.proofs.LegalTold.{legal_settings, legal_own}
+use Rattle.device.proofs.Legal.{parts_ready}
 use Rattle.device.proofs.on_legal.receive.Goals as goal
 
-pub take_in-received-requires : goal.take_in-received-requires
-take_in-received-requires c = record {
-  settings = legal_settings c.args.device.now c.requires;
-  own = legal_own c.args.device.now c.requires;
-  room = c.if-out-lt-REPLY_ROOM.false;
-}
+pub take_in-taken-requires : goal.take_in-taken-requires
+take_in-taken-requires c = parts_ready c.args.device.now c.requires

@@ -5,18 +5,13 @@ use Rattle.meaning.proofs.inputs.inputs_of.Goals as goal
 
 pub loop-k-init : goal.loop-k-init
 unfolding inputs_of_pairs
-loop-k-init c = record {
-  many = ap length c.new-inputs.ensures;
-  counted = omega arith;
-  told = c.new-inputs.ensures;
-}
+loop-k-init c = record { many = ap length c.new-inputs.ensures; told = c.new-inputs.ensures }
 
 pub loop-k-preserved : goal.loop-k-preserved
 loop-k-preserved c = record {
   many = omega (arith, c.push.ensures.len);
-  counted = omega arith;
   told =
       c.push.ensures.items
       ∙ (λ i. c.loop-k.invariant.told i ++ (c.input_of_pair.ensures i ∷ []))
-      ∙ sym (one_more_named c.args.pairs.now c.loop-k.k (omega (arith, c.told-pairs)));
+      ∙ sym (one_more_named c.args.s.now.inputs c.loop-k.k (omega arith));
 }

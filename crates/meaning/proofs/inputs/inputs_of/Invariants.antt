@@ -1,11 +1,10 @@
 -- The inputs of the pairs passed.
-use Rattle.std.proofs.Common.{◌≡◌, ◌≤◌, ◌*◌, length, take}
+use Rattle.std.proofs.Common.{◌≡◌, ◌*◌, length, take}
 use Rattle.meaning.specs.SetUpInputs.{inputs_of_pairs}
 use Rattle.meaning.proofs.inputs.inputs_of.Given as goal
 
 abbrev pub invariant-loop-k : goal.invariant-loop-k
 invariant-loop-k l = record {
   many : length l.inputs.items ≡ l.k;
-  counted : l.k ≤ l.count;
-  told : l.inputs.items ≡ inputs_of_pairs (take (2 * l.k) l.pairs);
+  told : l.inputs.items ≡ inputs_of_pairs (take (2 * l.k) l.s.inputs);
 }

@@ -1,15 +1,18 @@
-use Rattle.panel.proofs.Refusals.{adding_refused, commanding_refused, stepping_refused, losing_refused}
-use Rattle.panel.proofs.Refusals.{adding_number, commanding_number, stepping_number, losing_number}
+use Rattle.std.proofs.Common.{refl}
+use Rattle.panel.specs.PanelCalls.{adding_rows, commanding_rows, projector_rows, added_to, commanded, stepped_at}
+use Rattle.panel.specs.PanelCalls.{lost_at}
+use Rattle.panel.proofs.Refusals.{refused_keeps, number_by_rows}
 use Rattle.panel.proofs.theorems.a_refusal_keeps_the_panel.Goals as goal
 
 pub returns : goal.returns
+unfolding added_to commanded stepped_at lost_at
 returns c = record {
-  adding = adding_refused;
-  sending = commanding_refused;
-  hearing = stepping_refused;
-  losing = losing_refused;
-  adding_number = adding_number;
-  sending_number = commanding_number;
-  hearing_number = stepping_number;
-  losing_number = losing_number;
+  adding = λ p s. refused_keeps p (adding_rows p s) _ refl refl;
+  sending = λ p i k room. refused_keeps p (commanding_rows p i k room) _ refl refl;
+  hearing = λ p i l. refused_keeps p (projector_rows p i) _ refl refl;
+  losing = λ p i. refused_keeps p (projector_rows p i) _ refl refl;
+  adding_number = λ p s. number_by_rows p (adding_rows p s) _ refl;
+  sending_number = λ p i k room. number_by_rows p (commanding_rows p i k room) _ refl;
+  hearing_number = λ p i l. number_by_rows p (projector_rows p i) _ refl;
+  losing_number = λ p i. number_by_rows p (projector_rows p i) _ refl;
 }

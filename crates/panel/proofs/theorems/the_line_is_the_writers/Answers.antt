@@ -1,4 +1,4 @@
-use Rattle.panel.proofs.DigestLeads.{sent_written, sent_led, sent_plain}
+use Rattle.panel.proofs.LinesSent.{sent_written, sent_led, sent_plain}
 use Rattle.panel.proofs.theorems.the_line_is_the_writers.Goals as goal
 
 pub returns : goal.returns

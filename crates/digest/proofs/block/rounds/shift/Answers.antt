@@ -8,5 +8,5 @@ pub returns : goal.returns
 returns c =
     let rows = shift_by_rows_lem c.args.i c.requires in
     let fits = shift_in_word c.args.i c.requires in
-    let e : c.by_round.result ≡ shift_of c.args.i = cc in
-    (e, (rw e fits.0, rw e fits.1))
+    let same : c.by_round.result ≡ shift_of c.args.i = cc in
+    record { of_the_table = same; in_word = (rw same fits.0, rw same fits.1) }

@@ -1,0 +1,15 @@
+-- the lines that settle it hold of our calls, and those of Class 2 (RULES, Class 2): each row is computed.
+-- Assumes nothing.
+use Rattle.std.proofs.Common.{refl}
+use Rattle.ours.specs.Board.{ours}
+use Rattle.demands.specs.Settled.{Settles, SettlesClass2}
+use Rattle.demands.specs.Computing.{computing}
+
+pub settled : Settles ours
+unfolding computing
+settled =
+    (refl, (refl, (refl, (refl, (refl, (refl, (refl, (refl, (refl, (refl, (refl, (refl, tt))))))))))))
+
+pub settled_class_2 : SettlesClass2 ours
+unfolding computing
+settled_class_2 = (refl, (refl, (refl, (refl, (refl, (refl, (refl, (refl, (refl, (refl, (refl, tt)))))))))))

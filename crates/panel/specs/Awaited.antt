@@ -1,0 +1,22 @@
+-- Where the talk with a projector stands (RULES, Panel).
+--   talk_begun g                   the talk that begins with the greeting g
+--   awaits_of e                    what is awaited of the projector
+-- Assumes nothing.
+use Rattle.std.specs.Prelude.{if◌then◌else◌, ◌==◌}
+use Rattle.panel.specs.Entries.{Talk, ungreeted, greeted_open, greeted_secured, greeted_by, no_talk}
+use Rattle.panel.specs.declared.types.Entry.{Entry}
+use Rattle.panel.specs.declared.talk.Greeted.{Greeted}
+use Rattle.panel.specs.declared.talk.Greeted.TheVariants.{NotYet, Open, Secured}
+use Rattle.panel.specs.declared.talk.Awaits.{Awaits}
+use Rattle.panel.specs.declared.talk.Awaits.TheVariants.{Greeting, Nothing, Reply}
+
+abbrev pub talk_begun : Greeted → Talk
+talk_begun NotYet = no_talk
+talk_begun Open = greeted_by greeted_open 0
+talk_begun (Secured random) = greeted_by greeted_secured random
+
+abbrev pub awaits_of : Entry → Awaits
+awaits_of e =
+    if e.greeting == ungreeted then Greeting
+    else if e.under_way then Reply e.command
+    else Nothing

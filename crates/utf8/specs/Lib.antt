@@ -1,3 +1,0 @@
-pub mod Utf8
-pub mod Rest
-pub mod Computing
