@@ -124,7 +124,7 @@ module _ (s : Settings) (o : Own) (settings : is_settings s ≡ true) (own : is_
           let told = (settings_is s).0 settings in
           let none : list_all (fills_name_room 0) s.names ≡ true
           = ap (λ (n : ℕ). list_all (fills_name_room 0) (drop (only_in_2 n s.input_count) s.names)) (sym one)
-          ∙ told.names.unused in
+          ∙ told.names.clear in
           let empty = list_all_at (fills_name_room 0) s.names blank_name none k h in
           let kept = (fills_told input_name_most (is_text 0) _ _).0 empty in
           text_most _ 0 kept.follows
