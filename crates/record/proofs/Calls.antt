@@ -20,7 +20,7 @@ use Rattle.record.specs.declared.types.Connection.{Connection}
 use Rattle.record.specs.declared.types.Device.{Device}
 use Rattle.record.specs.declared.types.Setting.{Setting}
 use Rattle.record.specs.declared.refusal.Refusal.{Refusal}
-use Rattle.record.specs.declared.refusal.Refusal.TheVariants.{NotLegal, OutOfRange, NotOff}
+use Rattle.record.specs.declared.refusal.Refusal.TheVariants.{NotLegal}
 use Rattle.record.specs.declared.set_up_error.SetUpError.{SetUpError}
 use Rattle.record.specs.declared.set_up_error.SetUpError.TheVariants.{OutOfRange as SettingOut, ShortPassword}
 use Rattle.record.proofs.OutOfRange.{none_in_range, in_range_none}
@@ -110,15 +110,6 @@ module _ (d : Device) where
   fault_set_by P m refuse accept =
       if_by (λ r. P (given_by d r)) (not (is_legal d)) (λ h. refuse) (λ h. accept (grind (arith, h)))
 
-  pub errors_wrong : (ds : List ℕ) → is_legal d ≡ true → is_error_list ds ≡ false → errors_set d ds ≡ Err OutOfRange
-  unfolding errors_set
-  errors_wrong ds h k = rw (h, k)
-
-  pub errors_accepted : (ds : List ℕ) → is_legal d ≡ true → is_error_list ds ≡ true
-      → errors_set d ds ≡ Ok (with_own d (with_errors d.own ds))
-  unfolding errors_set
-  errors_accepted ds h k = rw (h, k)
-
   pub errors_set_by : (P : Given Device → Type 0) (ds : List ℕ) → P (refused 1 d) → P (refused 3 d)
       → (is_legal d ≡ true → is_error_list ds ≡ true → P (accepted (with_own d (with_errors d.own ds))))
       → P (given_by d (errors_set d ds))
@@ -142,29 +133,6 @@ module _ (d : Device) where
       (λ e. if_by Q (not (d.own.power == off)) (λ p. refuse 7 (λ z. cc))
       (λ p. accept (grind (arith, h)) (grind (arith, e)) (grind (arith, e)) (grind (arith, p)))))
 
-  -- the row that applies
-  module _ (k : ℕ) (m : Bool) where
-    pub mark_not_legal : is_legal d ≡ false → mark_set d k m ≡ Err NotLegal
-    unfolding mark_set
-    mark_not_legal h = rw h
-
-    module _ (legal : is_legal d ≡ true) where
-      pub mark_nowhere : is_no_lamp d k ≡ true → mark_set d k m ≡ Err OutOfRange
-      unfolding mark_set
-      mark_nowhere e = rw (legal, e)
-
-      module _ (there : is_no_lamp d k ≡ false) where
-        pub mark_last : is_none_left (set d.own.enabled k m) ≡ true → mark_set d k m ≡ Err OutOfRange
-        unfolding mark_set
-        mark_last e = rw (legal, there, e)
-
-        pub mark_not_off : is_none_left (set d.own.enabled k m) ≡ false → (d.own.power == off) ≡ false
-            → mark_set d k m ≡ Err NotOff
-        unfolding mark_set
-        mark_not_off e p = rw (legal, there, e, p)
-
-  pub mark_accepted : (k : ℕ) (m : Bool) → is_legal d ≡ true → k < d.settings.lamp_count
-      → is_none_left (set d.own.enabled k m) ≡ false → d.own.power ≡ off
-      → mark_set d k m ≡ Ok (with_own d (with_marks d.own (set d.own.enabled k m)))
+  pub mark_not_legal : (k : ℕ) (m : Bool) → is_legal d ≡ false → mark_set d k m ≡ Err NotLegal
   unfolding mark_set
-  mark_accepted k m legal inside left idle = grind (arith, legal, inside, left, idle)
+  mark_not_legal k m h = rw h

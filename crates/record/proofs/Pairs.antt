@@ -10,7 +10,6 @@ use Rattle.words.specs.Inputs.{is_input_text}
 use Rattle.record.specs.Rules.{each_pair, is_none, is_new_input, each_named, is_inputs}
 use Rattle.record.proofs.Places.{two_left, one_left}
 use Rattle.record.specs.Limits.{is_class_number, input_room}
-use Rattle.record.proofs.Sifted.{together}
 
 module _ (f : ℕ → ℕ → Bool) (s : List ℕ) where
   abbrev each : List ℕ → Bool
@@ -32,10 +31,7 @@ module _ (f : ℕ → ℕ → Bool) (s : List ℕ) where
         two_left s (2 * k) h ∙ ap (λ (n : ℕ). x ∷ y ∷ drop n s) next in
         record {
           inside = omega arith;
-          rest =
-              p.rest
-              ∙ ap (λ (l : List ℕ). ok && each l) here
-              ∙ sym (together ok (f x y) (each (drop (2 * (k + 1)) s)));
+          rest = grind (arith, p.rest, ap each here);
         }
 
     -- what is left is nothing, or one character without a partner

@@ -4,7 +4,6 @@ use Rattle.std.proofs.Common.{ℕ, zero, suc, ◌+◌, ◌*◌, ◌≤◌, ◌<�
 use Rattle.std.proofs.Common.{◌∷◌, eq-or-lt_of_le, add-one, arith, length, slice_index_or, drop, drop_of_length-le}
 use Rattle.std.proofs.Common.{drop-cons}
 use Rattle.std.proofs.lemmas.Bool.{false≢true}
-use Rattle.text.proofs.Choices.{both_left, both_right}
 use Rattle.record.specs.Rules.{each_pair}
 
 -- a pair that is there, and a last element that has no partner
@@ -36,16 +35,11 @@ module _ (f : ℕ → ℕ → List ℕ → Bool) (s : List ℕ) (h : each_pair f
   each_pair-drop (suc k) l =
       let next : 2 * k + 2 ≡ 2 * suc k = omega arith in
       let e = here (2 * k) (omega arith) (each_pair-drop k (omega arith)) in
-      ap (λ (i : ℕ). each_pair f (drop i s)) (sym next)
-      ∙ both_right (f (slice_index_or s (2 * k) 0) (slice_index_or s (2 * k + 1) 0) (drop (2 * k + 2) s))
-      (each_pair f (drop (2 * k + 2) s)) e
+      ap (λ (i : ℕ). each_pair f (drop i s)) (sym next) ∙ grind (arith, e)
 
   pub pair_at : (k : ℕ) → 2 * k + 1 < length s
       → f (slice_index_or s (2 * k) 0) (slice_index_or s (2 * k + 1) 0) (drop (2 * k + 2) s) ≡ true
-  pair_at k l =
-      both_left (f (slice_index_or s (2 * k) 0) (slice_index_or s (2 * k + 1) 0) (drop (2 * k + 2) s))
-      (each_pair f (drop (2 * k + 2) s))
-      (here (2 * k) l (each_pair-drop k (omega arith)))
+  pair_at k l = grind (arith, here (2 * k) l (each_pair-drop k (omega arith)))
 
   pub pairs_even : (k : ℕ) → 2 * k ≤ length s → length s ≤ 2 * k + 1 → length s ≤ 2 * k
   unfolding each_pair
