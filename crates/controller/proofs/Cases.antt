@@ -1,7 +1,7 @@
 -- The writer and the readers, case by case: the equation of each case.
 -- Assumes nothing.
 use Rattle.std.proofs.Common.{ℕ, ◌≤◌, ◌<◌, ◌≡◌, ap, ◌∙◌, Bool, true, false, not, ◌&&◌, ◌||◌, List, [], ◌++◌, length}
-use Rattle.std.proofs.Common.{nat_lt, ltb-true, ltb-false, lt-ltb, le-ltb}
+use Rattle.std.proofs.Common.{nat_lt, ltb-true, ltb-false, le-ltb}
 use Rattle.std.proofs.lemmas.Bool.{not-true, not-false}
 use Rattle.text.specs.Scans.{same_by, itself}
 use Rattle.text.proofs.Choices.{if_yes, if_no, if_by, both}
@@ -35,23 +35,11 @@ module _ (c : Command) (secured : Bool) (random : ℕ) (password : List ℕ) (ro
       let writable = is_writable c secured password in
       if_by P (not writable) (λ w. illegal enough (not-true writable w)) (λ w. line enough (not-false writable w)))
 
-  pub written_short : room < command_room → written_command c secured random password room ≡ nothing_written 2
-  unfolding written_command
-  written_short h = if_yes _ _ (lt-ltb room command_room h)
-
   module _ (enough : command_room ≤ room) where
-    pub written_refused : is_writable c secured password ≡ false
-        → written_command c secured random password room ≡ nothing_written 3
-    unfolding written_command
-    written_refused w = if_no _ _ (le-ltb room command_room enough) ∙ if_yes _ _ (ap not w)
-
     pub written_line : is_writable c secured password ≡ true → written_command c secured random password room
         ≡ record { number = 0; bytes = led_by secured random password ++ command_line c }
     unfolding written_command
     written_line w = if_no _ _ (le-ltb room command_room enough) ∙ if_no _ _ (ap not w)
-
-    pub written_no_command : is_command c ≡ false → written_command c secured random password room ≡ nothing_written 3
-    written_no_command e = written_refused (ap (λ (t : Bool). t && (not secured || is_password password)) e)
 
     module _ (writable : is_command c ≡ true) where
       led : {w : List ℕ} → led_by secured random password ≡ w → ◌≡◌ {A = WrittenAs}
@@ -64,10 +52,6 @@ module _ (c : Command) (secured : Bool) (random : ℕ) (password : List ℕ) (ro
       written_plain e =
           written_line (both writable (ap (λ (s : Bool). not s || is_password password) e))
           ∙ led (if_no (leading_digest random password) [] e)
-
-      pub written_no_password : secured ≡ true → is_password password ≡ false
-          → written_command c secured random password room ≡ nothing_written 3
-      written_no_password e f = written_refused (λ i. writable i && (not (e i) || f i))
 
       pub written_led : secured ≡ true → is_password password ≡ true → written_command c secured random password room
           ≡ record { number = 0; bytes = leading_digest random password ++ command_line c }

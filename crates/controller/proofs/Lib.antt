@@ -3,7 +3,6 @@ pub mod ReadsBack
 pub mod NamesRead
 pub mod GreetingsHeard
 pub mod Refusals
-pub mod OneResult
 pub mod ReadsSound
 pub mod ReadShort
 mod Examples

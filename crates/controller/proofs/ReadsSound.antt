@@ -2,8 +2,7 @@
 -- it, and a line that says something is read so. The ERRA line and no other is read as such. So a line's outcome is
 -- that of the first test it fails.
 -- Assumes nothing.
-use Rattle.std.proofs.Common.{ℕ, ◌≡◌, refl, sym, ap, ◌∙◌, Bool, true, false, not, List, ◌↔◌}
-use Rattle.std.proofs.lemmas.Bool.{false≢true}
+use Rattle.std.proofs.Common.{ℕ, ◌≡◌, sym, ap, ◌∙◌, Bool, not, List, ◌↔◌}
 use Rattle.std.specs.Prelude.{if◌then◌else◌}
 use Rattle.text.specs.Scans.{same_by, itself}
 use Rattle.text.proofs.Choices.{if_yes, if_no}
@@ -20,36 +19,19 @@ use Rattle.pjlink.specs.Writings.{Says, IsAllowed, says, says_nothing}
 use Rattle.pjlink.proofs.ReadSound.{CanRead, no_answer, answer, read_sound}
 use Rattle.pjlink.proofs.ReadWritings.{written_is_read, not_allowed_says_nothing}
 use Rattle.controller.specs.Reading.{ReadAs, meaning, saying, read_reply, LineSays}
-use Rattle.controller.specs.Reading.{Outcome}
-use Rattle.controller.specs.Reading.{means_it, erra_said, not_a_line, other_command}
-use Rattle.controller.specs.Reading.{disallowed}
+use Rattle.controller.specs.Reading.{Outcome, means_it, erra_said, not_a_line, other_command, disallowed}
 use Rattle.controller.proofs.Cases.{reply_by, reply_said}
 use Rattle.controller.proofs.ReadsBack.{can_mean}
 use Rattle.controller.proofs.Refusals.{erra_read}
 
-abbrev is_means : Outcome → Bool
-is_means means_it = true
-is_means erra_said = false
-is_means not_a_line = false
-is_means other_command = false
-is_means disallowed = false
-
-abbrev is_erra : Outcome → Bool
-is_erra means_it = false
-is_erra erra_said = true
-is_erra not_a_line = false
-is_erra other_command = false
-is_erra disallowed = false
-
 module _ (c : Command) where
   said_sound : {p : List ℕ} {m : Said} → CanRead c p m → (saying m).outcome ≡ means_it → Says c m p
   said_sound (answer said) e = said
-  said_sound no_answer e = absurd (false≢true (ap is_means e))
+  said_sound no_answer e = cc
 
   pub means_what_was_written : (l : List ℕ) → (read_reply c l).outcome ≡ means_it → LineSays c l (read_reply c l).said
   means_what_was_written l =
-      reply_by c l (λ r. r.outcome ≡ means_it → LineSays c l r.said) (λ e q. absurd (false≢true (ap is_means q)))
-      (λ e f q. absurd (false≢true (ap is_means q))) (λ f b q. absurd (false≢true (ap is_means q)))
+      reply_by c l (λ r. r.outcome ≡ means_it → LineSays c l r.said) (λ e q. cc) (λ e f q. cc) (λ f b q. cc)
       (λ f b q. record { form = f; body = b; says = said_sound (read_sound c _) q })
 
   pub reads_sound : (l : List ℕ) → (read_reply c l).outcome ≡ means_it → CanSay c (read_reply c l).said
@@ -62,15 +44,14 @@ module _ (c : Command) where
       ∙ (λ i. record { outcome = can_mean line.says.can i; said = m })
 
   -- the ERRA line, and no other
-  is_erra-saying : (m : Said) → is_erra (saying m).outcome ≡ false
-  is_erra-saying nothing = refl
-  is_erra-saying m = refl
+  saying_no_erra : (m : Said) → (saying m).outcome ≡ erra_said → ⊥
+  saying_no_erra nothing q = cc
+  saying_no_erra m q = cc
 
   erra_was_written : (l : List ℕ) → (read_reply c l).outcome ≡ erra_said → l ≡ erra_line
   erra_was_written l =
       reply_by c l (λ r. r.outcome ≡ erra_said → l ≡ erra_line) (λ e q. same_is l erra_line e)
-      (λ e f q. absurd (false≢true (ap is_erra q))) (λ f b q. absurd (false≢true (ap is_erra q)))
-      (λ f b q. absurd (false≢true (sym (is_erra-saying (read_parameter c (reply_parameter l))) ∙ ap is_erra q)))
+      (λ e f q. cc) (λ f b q. cc) (λ f b q. absurd (saying_no_erra (read_parameter c (reply_parameter l)) q))
 
   pub erra_exactly : (l : List ℕ) → ((read_reply c l).outcome ≡ erra_said) ↔ (l ≡ erra_line)
   erra_exactly l = (

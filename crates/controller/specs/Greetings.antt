@@ -35,7 +35,5 @@ Exactly l NotAGreeting = (l ≡ greeting_open → ⊥) × ((l ≡ erra_line → 
     × ((r : ℕ) → r < 2 ^ 32 → l ≡ greeting_secured (hex_digits 8 r) → ⊥))
 
 abbrev pub greeting_number : Greeting → ℕ
-greeting_number Open = 0
-greeting_number (Secured r) = 0
-greeting_number Refused = 0
 greeting_number NotAGreeting = 10
+greeting_number g = 0
