@@ -13,7 +13,7 @@ use Rattle.text.proofs.Scanning.{list_all-append}
 use Rattle.text.proofs.Sameness.{turned_same}
 use Rattle.digest.specs.Hex.{leading_digest}
 use Rattle.digest.proofs.Laws.{length-leading_digest, hex_are_digits, digits_have_no_cr}
-use Rattle.words.specs.Bytes.{not_cr, no_cr, command_most}
+use Rattle.words.specs.Bytes.{not_cr, command_most}
 use Rattle.pjlink.specs.Forms.{head_body}
 use Rattle.pjlink.specs.Commands.{body_text, body_of, command_class, class_digit, is_command, command_text}
 use Rattle.pjlink.specs.declared.command.Command.{Command}
