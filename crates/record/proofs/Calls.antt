@@ -56,12 +56,7 @@ module _ (w : Wanted) where
       → (is_in_range w ≡ true → long ≡ false → P (Err ShortPassword))
       → (is_in_range w ≡ true → long ≡ true → P (Ok (started w))) → P (set_up w)
   unfolding set_up
-  set_up_cases P out short accept = by (first_out_of_range w) refl
-    where
-      by : (m : Option Setting) → first_out_of_range w ≡ m
-          → P (unless_out m (if long then Ok (started w) else Err ShortPassword))
-      by (Some s) e = out s e
-      by None e = let ranged = none_in_range w e in if_by P long (accept ranged) (short ranged)
+  set_up_cases P out short accept = grind (arith, none_in_range, if_by)
 
   pub set_up_accepted : is_set_up w ≡ true → set_up w ≡ Ok (started w)
   unfolding is_set_up
@@ -114,10 +109,7 @@ module _ (d : Device) where
       → (is_legal d ≡ true → is_error_list ds ≡ true → P (accepted (with_own d (with_errors d.own ds))))
       → P (given_by d (errors_set d ds))
   unfolding errors_set
-  errors_set_by P ds illegal wrong accept =
-      let Q : Result Device Refusal → Type 0 = λ r. P (given_by d r) in
-      if_by Q (not (is_legal d)) (λ h. illegal)
-      (λ h. if_by Q (not (is_error_list ds)) (λ k. wrong) (λ k. accept (grind (arith, h)) (grind (arith, k))))
+  errors_set_by P ds illegal wrong accept = grind (arith, if_by)
 
   -- a mark: refused, or one at least is left and the power is off
   pub mark_set_by : (P : Given Device → Type 0) (k : ℕ) (m : Bool) → ((n : ℕ) → (n ≡ 0 → ⊥) → P (refused n d))
@@ -125,13 +117,7 @@ module _ (d : Device) where
       → d.own.power ≡ off → P (accepted (with_own d (with_marks d.own (set d.own.enabled k m)))))
       → P (given_by d (mark_set d k m))
   unfolding mark_set
-  mark_set_by P k m refuse accept =
-      let Q : Result Device Refusal → Type 0 = λ r. P (given_by d r) in
-      let last = is_none_left (set d.own.enabled k m) in
-      if_by Q (not (is_legal d)) (λ h. refuse 1 (λ z. cc))
-      (λ h. if_by Q (is_no_lamp d k || last) (λ e. refuse 3 (λ z. cc))
-      (λ e. if_by Q (not (d.own.power == off)) (λ p. refuse 7 (λ z. cc))
-      (λ p. accept (grind (arith, h)) (grind (arith, e)) (grind (arith, e)) (grind (arith, p)))))
+  mark_set_by P k m refuse accept = grind (arith, if_by)
 
   pub mark_not_legal : (k : ℕ) (m : Bool) → is_legal d ≡ false → mark_set d k m ≡ Err NotLegal
   unfolding mark_set

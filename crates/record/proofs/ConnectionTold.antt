@@ -74,12 +74,4 @@ marked_held phase h = grind (arith, h)
 
 pub closed_legal : is_connection closed ≡ true
 unfolding closed
-closed_legal =
-    (connection_is closed).1
-    (record {
-      line = nothing_kept line_room no_cr (no_cr_of [] refl);
-      phase = omega arith;
-      age = zero_age shut;
-      random = λ e. refl;
-      held = unmarked_held shut 0 (omega arith);
-    })
+closed_legal = grind (arith, connection_is, nothing_kept, no_cr_of, [], zero_age, unmarked_held)

@@ -35,9 +35,7 @@ module _ (cs : List Connection) where
 
 -- every place closed
 pub all_closed_legal : is_connections all_closed ≡ true
-all_closed_legal =
-    connections_shown all_closed refl
-    (both closed_legal (both closed_legal (both closed_legal (both closed_legal refl))))
+all_closed_legal = grind (arith, connections_shown, both, closed_legal)
 
 pub all_closed_at : (p : ℕ) → p < places_count → slice_index_or all_closed p no_connection ≡ closed
 all_closed_at p there = replicated places_count p there

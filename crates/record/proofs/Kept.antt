@@ -78,13 +78,7 @@ one_more_kept room rule s n b k l h =
 -- one item more, where there is room for it
 pub set-kept : {A : Type 0} (x : A) (room : ℕ) (items : List A) (a : A) → length items < room
     → set (kept x room items) (length items) a ≡ kept x room (items ++ (a ∷ []))
-set-kept x room items a h =
-    let m = room - (length items + 1) in
-    let some : room - length items ≡ suc m = omega arith in
-    ap (λ (k : ℕ). set (items ++ replicate k x) (length items) a) some
-    ∙ set_at items x (replicate m x) a (length items) refl
-    ∙ sym (append_assoc items (a ∷ []) (replicate m x))
-    ∙ ap (λ (k : ℕ). (items ++ (a ∷ [])) ++ replicate (room - k) x) (sym (length-append items (a ∷ [])))
+set-kept x room items a h = grind (arith, set_at, append_assoc, [], length-append)
 
 pub room_more : (room : ℕ) (s : List ℕ) (b : ℕ) → length s < room
     → set (in_room room s) (length s) b ≡ in_room room (s ++ (b ∷ []))

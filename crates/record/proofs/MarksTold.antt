@@ -38,9 +38,7 @@ one_set (suc n) none = refl
 -- one mark replaced, where one is left
 pub marked_legal : (n : ℕ) (ms : List Bool) (k : ℕ) (m : Bool) → is_marks n ms ≡ true → k < n
     → list_all not (set ms k m) ≡ false → is_marks n (set ms k m) ≡ true
-marked_legal n ms k m legal inside left =
-    marks_shown n (set ms k m) (length-set ms k m ∙ marks_long n ms legal)
-    (ap (list_all not) (drop-set-lt n ms k m inside) ∙ marks_past n ms legal) (λ some. left)
+marked_legal n ms k m legal inside left = grind (arith, marks_shown, length-set, marks_long, drop-set-lt, marks_past)
 
 -- ---- all set
 

@@ -24,10 +24,7 @@ no_name_fits most = (fills_told _ _ _ _).1 (nothing_kept input_name_most (is_tex
 
 -- room without a name is room for one
 none_fits : (t : InputName) → fills_name_room 0 t ≡ true → fills_name_room input_name_most t ≡ true
-none_fits t h =
-    let k = (fills_told input_name_most (is_text 0) _ _).0 h in
-    let follows = text_wider (take t.len t.bytes) 0 input_name_most (omega arith) k.follows in
-    (fills_told _ _ _ _).1 (assumption (k, follows))
+none_fits t h = grind (arith, fills_told, text_wider)
 
 -- a name stands at each place, one of the list or not: it may be empty
 pub name_kept : (n : ℕ) (ns : List InputName) → IsNames n ns → (k : ℕ)
@@ -71,9 +68,7 @@ NamesCopied ns list i = IsCopied blank_name listed_most (map name_of ns) list i
 
 module _ (ns : List (List ℕ)) (n : ℕ) (legal : are_names n ns ≡ true) where
   pub name_short : (i : ℕ) → i < n → length (slice_index_or ns i []) ≤ input_name_most
-  name_short i l =
-      text_most (slice_index_or ns i []) input_name_most
-      (list_all_at is_input_name ns [] (names_each n ns legal) i (omega (arith, names_many n ns legal)))
+  name_short i l = grind (arith, text_most, [], list_all_at, names_each, names_many)
 
   module _ (few : n ≤ listed_most) {list : List InputName} {i : ℕ} (p : NamesCopied ns list i) where
     many : length (map name_of ns) ≡ n
@@ -81,9 +76,7 @@ module _ (ns : List (List ℕ)) (n : ℕ) (legal : are_names n ns ≡ true) wher
 
     pub one_name_copied : {t : InputName} → i < n → t ≡ name_of (slice_index_or ns i [])
         → NamesCopied ns (set list i t) (i + 1)
-    one_name_copied l e =
-        one_copied blank_name listed_most (map name_of ns) (omega (arith, many)) p (omega (arith, many))
-        (e ∙ sym (get_or-map name_of ns i [] blank_name (omega (arith, names_many n ns legal))))
+    one_name_copied l e = grind (arith, one_copied, many, get_or-map, [], names_many)
 
     pub all_names_copied : n ≤ i → list ≡ names_kept ns
     unfolding names_kept

@@ -56,17 +56,11 @@ module _ (f : Setting → Bool) where
   one_holds None None p q = refl
   one_holds None (Some t) p q = absurd (cc (p t, q.out))
   one_holds (Some s) None p q = absurd (cc (q s, p.out))
-  one_holds (Some s) (Some t) p q =
-      let not_before : setting_place s < setting_place t → ⊥ = λ l. cc (q.earlier s l, p.out) in
-      let not_after : setting_place t < setting_place s → ⊥ = λ l. cc (p.earlier t l, q.out) in
-      ap Some (one_setting_place s t (omega arith))
+  one_holds (Some s) (Some t) p q = grind (arith, one_setting_place)
 
   -- what is told holds
   pub first_holds : SettingHolds f (first_failing f settings_in_order)
-  first_holds =
-      holds_from 1 settings_in_order
-      (refl, (refl, (refl, (refl, (refl, (refl, (refl, (refl, (refl, (refl, (refl, (refl, refl))))))))))))
-      (λ t below. absurd (omega (arith, setting_place_within t)))
+  first_holds = grind (arith, holds_from, setting_place_within)
 
   -- and what holds is told
   pub holding_told : (m : Option Setting) → SettingHolds f m → first_failing f settings_in_order ≡ m

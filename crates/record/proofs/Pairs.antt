@@ -37,14 +37,7 @@ module _ (f : ℕ → ℕ → Bool) (s : List ℕ) where
     -- what is left is nothing, or one character without a partner
     left : length s ≤ 2 * k + 1 → (length s == (2 * k)) ≡ each (drop (2 * k) s)
     unfolding each_pair
-    left h =
-        ⊎_elim
-        (λ (e : 2 * k ≡ length s).
-        eq-eqb (length s) (2 * k) (sym e) ∙ sym (ap each (drop_of_length-le s {i = 2 * k} (omega arith))))
-        (λ (l : 2 * k < length s).
-        by_not (length s == (2 * k)) (λ e. let z = eqb-true (length s) (2 * k) e in omega arith)
-        ∙ sym (ap each (one_left s (2 * k) l h)))
-        (eq-or-lt_of_le p.inside)
+    left h = grind (arith, ⊎_elim, eq-eqb, drop_of_length-le, by_not, eqb-true, one_left, eq-or-lt_of_le)
 
     pub all_paired : length s ≤ 2 * k + 1 → (ok && length s == (2 * k)) ≡ each s
     all_paired h = ap (λ (b : Bool). ok && b) (left h) ∙ sym p.rest

@@ -9,19 +9,10 @@ use Rattle.record.specs.Rules.{each_pair}
 -- a pair that is there, and a last element that has no partner
 pub two_left : (s : List ℕ) (i : ℕ) → i + 1 < length s →
     drop i s ≡ slice_index_or s i 0 ∷ slice_index_or s (i + 1) 0 ∷ drop (i + 2) s
-two_left s i h =
-    let g : i < length s = omega arith in
-    let one : suc i ≡ i + 1 = sym (add-one i) in
-    let two : suc (i + 1) ≡ i + 2 = omega arith in
-    drop-cons s i 0 g
-    ∙ ap (λ (k : ℕ). slice_index_or s i 0 ∷ drop k s) one
-    ∙ ap (λ (l : List ℕ). slice_index_or s i 0 ∷ l) (drop-cons s (i + 1) 0 h)
-    ∙ ap (λ (k : ℕ). slice_index_or s i 0 ∷ slice_index_or s (i + 1) 0 ∷ drop k s) two
+two_left s i h = grind (arith, add-one, drop-cons)
 
 pub one_left : (s : List ℕ) (i : ℕ) → i < length s → length s ≤ i + 1 → drop i s ≡ slice_index_or s i 0 ∷ []
-one_left s i h g =
-    let none : drop (suc i) s ≡ [] = drop_of_length-le s {i = suc i} (omega arith) in
-    drop-cons s i 0 h ∙ ap (λ (l : List ℕ). slice_index_or s i 0 ∷ l) none
+one_left s i h g = grind (arith, [], drop_of_length-le, drop-cons)
 
 -- a list of pairs: what is left after k of them, the pair at k, and the length
 module _ (f : ℕ → ℕ → List ℕ → Bool) (s : List ℕ) (h : each_pair f s ≡ true) where

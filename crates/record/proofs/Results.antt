@@ -49,19 +49,13 @@ module _ (w : Wanted) where
       set_up_by w (λ r. (r.number ≡ 0 → ⊥) → r.device ≡ blank) (λ n. refl) (λ n. refl) (λ h n. absurd (n refl))
 
   pub none_gives_0 : setting_told (set_up w) ≡ None → (set_up_given (set_up w)).number ≡ 0
-  none_gives_0 =
-      set_up_cases w (λ r. setting_told r ≡ None → (set_up_given r).number ≡ 0) (λ s e h. cc) (λ k l h. cc)
-      (λ k l h. refl)
+  none_gives_0 = grind (arith, set_up_cases)
 
   pub gives_0_none : (set_up_given (set_up w)).number ≡ 0 → setting_told (set_up w) ≡ None
-  gives_0_none =
-      set_up_cases w (λ r. (set_up_given r).number ≡ 0 → setting_told r ≡ None) (λ s e h. cc) (λ k l h. cc)
-      (λ k l h. refl)
+  gives_0_none = grind (arith, set_up_cases)
 
   pub gives_8_password : (set_up_given (set_up w)).number ≡ 8 → setting_told (set_up w) ≡ Some Password
-  gives_8_password =
-      set_up_cases w (λ r. (set_up_given r).number ≡ 8 → setting_told r ≡ Some Password) (λ s e h. cc)
-      (λ k l h. refl) (λ k l h. cc)
+  gives_8_password = grind (arith, set_up_cases)
 
   -- the first that is out of its range, a short password being in its range
   pub gives_3_first : (set_up_given (set_up w)).number ≡ 3 → setting_told (set_up w) ≡ first_out_of_range w

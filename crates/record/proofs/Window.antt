@@ -63,44 +63,17 @@ pub text_filled : (room : ℕ) (s : List ℕ) (n most : ℕ) → length s ≡ ro
     ≡ (nat_le n most && nat_le n room && (list_all is_zero (drop n s) && list_all is_text_byte (take n s))
     && not (is_refusal (take n s)))
 unfolding fills_room
-text_filled room s n most long =
-    grind (
-      arith,
-      common_steps,
-      used_blank is_zero room s n long,
-      used_not_blank is_zero room s n long,
-      used_many is_zero room s n long,
-      text_by_tests (take n s) most,
-      length-take-le n s,
-      long,
-    )
+text_filled room s n most long = grind (arith, used_blank, used_not_blank, used_many, text_by_tests, length-take-le)
 
 -- no name in its room: nothing of it is used
 module _ (room : ℕ) (s : List ℕ) (long : length s ≡ room) where
   none_named : fills_room room (is_text 0) s 0 ≡ is_some (used is_zero room s 0)
   unfolding fills_room
-  none_named =
-      grind (
-        arith,
-        common_steps,
-        empty_text 0,
-        is_some_used is_zero room s 0 long,
-        holds_used is_zero room (is_text 0) s 0 (omega arith) long,
-      )
+  none_named = grind (arith, empty_text, is_some_used, holds_used)
 
   some_named : (n : ℕ) → 0 < n → fills_room room (is_text 0) s n ≡ false
   unfolding fills_room
-  some_named n some =
-      grind (
-        arith,
-        common_steps,
-        used_blank is_zero room s n long,
-        used_not_blank is_zero room s n long,
-        used_many is_zero room s n long,
-        text_longer (take n s) 0,
-        length-take-le n s,
-        long,
-      )
+  some_named n some = grind (arith, used_blank, used_not_blank, used_many, text_longer, length-take-le)
 
   pub no_name : (n : ℕ) → fills_room room (is_text 0) s n ≡ (n == 0 && is_some (used is_zero room s 0))
   no_name zero = none_named
