@@ -1,25 +1,24 @@
 -- The calls by their cases: what each gives by the tests that decide it, and what holds of a result because it holds in
 -- every case.
 -- Assumes nothing.
-use Rattle.std.proofs.Common.{ℕ, ◌<◌, ◌≡◌, refl, sym, ◌∙◌, Bool, true, false, not, ◌||◌, List, length, set, ◌==◌, arith}
-use Rattle.std.specs.Prelude.{Option, Some, None, Result, Ok, Err, if◌then◌else◌}
+use Rattle.std.proofs.Common.{ℕ, ◌<◌, ◌≡◌, sym, ◌∙◌, Bool, true, false, not, List, length, set, arith}
+use Rattle.std.specs.Prelude.{Some, None, Result, Ok, Err}
 use Rattle.text.proofs.Choices.{if_by}
 use Rattle.record.specs.Limits.{off}
 use Rattle.record.specs.Wanted.{Wanted}
 use Rattle.record.specs.Rules.{is_long_enough, is_error_list}
 use Rattle.record.specs.Record.{all_closed, settings_of, start_own, started, blank}
 use Rattle.record.specs.Legal.{is_legal}
-use Rattle.record.specs.SetUp.{is_in_range, is_set_up, first_out_of_range, unless_out, set_up}
+use Rattle.record.specs.SetUp.{is_in_range, is_set_up, first_out_of_range, set_up}
 use Rattle.record.specs.SetUpErrors.{check_of}
 use Rattle.record.specs.Given.{Given, accepted, refused, given_by, set_up_given}
 use Rattle.record.specs.Updates.{with_own, with_fault, with_errors, with_marks}
-use Rattle.record.specs.HostCalls.{fault_set, errors_set, is_no_lamp, is_none_left, mark_set}
+use Rattle.record.specs.HostCalls.{fault_set, errors_set, is_none_left, mark_set}
 use Rattle.record.specs.declared.types.Settings.{Settings}
 use Rattle.record.specs.declared.types.Own.{Own}
 use Rattle.record.specs.declared.types.Connection.{Connection}
 use Rattle.record.specs.declared.types.Device.{Device}
 use Rattle.record.specs.declared.types.Setting.{Setting}
-use Rattle.record.specs.declared.refusal.Refusal.{Refusal}
 use Rattle.record.specs.declared.refusal.Refusal.TheVariants.{NotLegal}
 use Rattle.record.specs.declared.set_up_error.SetUpError.{SetUpError}
 use Rattle.record.specs.declared.set_up_error.SetUpError.TheVariants.{OutOfRange as SettingOut, ShortPassword}

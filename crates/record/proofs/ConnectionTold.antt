@@ -1,11 +1,10 @@
 -- What a legal connection tells, and how it is shown (the crates above never open `is_connection`, `is_age` or
 -- `is_held`).
 -- Assumes nothing.
-use Rattle.std.proofs.Common.{ℕ, ◌≤◌, ◌<◌, ◌≡◌, refl, Bool, true, false, [], arith, lt-ltb}
-use Rattle.words.specs.Bytes.{no_cr}
+use Rattle.std.proofs.Common.{ℕ, ◌≤◌, ◌<◌, ◌≡◌, refl, Bool, true, false, arith, lt-ltb}
 use Rattle.words.specs.Bytes.{command_most}
 use Rattle.words.proofs.Characters.{no_cr_of}
-use Rattle.record.specs.Limits.{line_room, age_end, shut, awaiting, opened}
+use Rattle.record.specs.Limits.{line_room, age_end, awaiting, opened}
 use Rattle.record.specs.Record.{closed}
 use Rattle.record.specs.Legal.{is_timed, is_collecting, is_age, held_most, is_held, is_connection}
 use Rattle.record.proofs.FactsTold.{connection_is}
@@ -74,4 +73,4 @@ marked_held phase h = grind (arith, h)
 
 pub closed_legal : is_connection closed ≡ true
 unfolding closed
-closed_legal = grind (arith, connection_is, nothing_kept, no_cr_of, [], zero_age, unmarked_held)
+closed_legal = grind (arith, connection_is, nothing_kept, no_cr_of, zero_age, unmarked_held)

@@ -78,7 +78,7 @@ one_more_kept room rule s n b k l h =
 -- one item more, where there is room for it
 pub set-kept : {A : Type 0} (x : A) (room : ℕ) (items : List A) (a : A) → length items < room
     → set (kept x room items) (length items) a ≡ kept x room (items ++ (a ∷ []))
-set-kept x room items a h = grind (arith, set_at, append_assoc, [], length-append)
+set-kept x room items a h = grind (arith, set_at, append_assoc, length-append)
 
 pub room_more : (room : ℕ) (s : List ℕ) (b : ℕ) → length s < room
     → set (in_room room s) (length s) b ≡ in_room room (s ++ (b ∷ []))

@@ -68,7 +68,7 @@ NamesCopied ns list i = IsCopied blank_name listed_most (map name_of ns) list i
 
 module _ (ns : List (List ℕ)) (n : ℕ) (legal : are_names n ns ≡ true) where
   pub name_short : (i : ℕ) → i < n → length (slice_index_or ns i []) ≤ input_name_most
-  name_short i l = grind (arith, text_most, [], list_all_at, names_each, names_many)
+  name_short i l = grind (arith, text_most, list_all_at, names_each, names_many)
 
   module _ (few : n ≤ listed_most) {list : List InputName} {i : ℕ} (p : NamesCopied ns list i) where
     many : length (map name_of ns) ≡ n
@@ -76,7 +76,7 @@ module _ (ns : List (List ℕ)) (n : ℕ) (legal : are_names n ns ≡ true) wher
 
     pub one_name_copied : {t : InputName} → i < n → t ≡ name_of (slice_index_or ns i [])
         → NamesCopied ns (set list i t) (i + 1)
-    one_name_copied l e = grind (arith, one_copied, many, get_or-map, [], names_many)
+    one_name_copied l e = grind (arith, one_copied, many, get_or-map, names_many)
 
     pub all_names_copied : n ≤ i → list ≡ names_kept ns
     unfolding names_kept

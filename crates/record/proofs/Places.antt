@@ -12,7 +12,7 @@ pub two_left : (s : List ℕ) (i : ℕ) → i + 1 < length s →
 two_left s i h = grind (arith, add-one, drop-cons)
 
 pub one_left : (s : List ℕ) (i : ℕ) → i < length s → length s ≤ i + 1 → drop i s ≡ slice_index_or s i 0 ∷ []
-one_left s i h g = grind (arith, [], drop_of_length-le, drop-cons)
+one_left s i h g = grind (arith, drop_of_length-le, drop-cons)
 
 -- a list of pairs: what is left after k of them, the pair at k, and the length
 module _ (f : ℕ → ℕ → List ℕ → Bool) (s : List ℕ) (h : each_pair f s ≡ true) where
