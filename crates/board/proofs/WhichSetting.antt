@@ -14,7 +14,7 @@ use Rattle.record.specs.Given.{set_up_given}
 use Rattle.record.specs.declared.types.Setting.{Setting}
 use Rattle.record.specs.declared.types.Setting.TheVariants.{Password}
 use Rattle.record.proofs.OutOfRange.{one_setting_place, setting_place_within}
-use Rattle.record.proofs.RefusedSetting.{none_gives_0, gives_0_none, gives_3_first, gives_8_password}
+use Rattle.record.proofs.Results.{none_gives_0, gives_0_none, gives_3_first, gives_8_password}
 use Rattle.board.specs.Which.{setting_number}
 
 pub setting_number_back : (m n : Option Setting) → setting_number m ≡ setting_number n → m ≡ n

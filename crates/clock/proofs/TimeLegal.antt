@@ -15,13 +15,13 @@ use Rattle.record.specs.declared.types.Settings.{Settings}
 use Rattle.record.specs.declared.types.Own.{Own}
 use Rattle.record.specs.declared.types.Connection.{Connection}
 use Rattle.record.specs.declared.types.Device.{Device}
-use Rattle.record.proofs.Kept.{Kept, kept_zero}
+use Rattle.record.proofs.Kept.{kept_zero}
 use Rattle.record.proofs.OwnTold.{lamp_at, lamps_shown}
 use Rattle.record.proofs.PowerSeen.{written}
 use Rattle.record.specs.Views.{power_seen, is_burning, IsPowerOf}
 use Rattle.clock.proofs.PowerTurns.{second_within}
 use Rattle.record.proofs.ConnectionTold.{closed_legal, timed_age}
-use Rattle.record.specs.Facts.{IsOwn, IsConnection, IsLegal}
+use Rattle.record.specs.Facts.{IsOwn, IsConnection, IsLegal, Fills}
 use Rattle.record.specs.Updates.{aged}
 use Rattle.record.proofs.FactsTold.{connection_is, legal_is}
 use Rattle.std.proofs.lemmas.List.Elements.{All-map}
@@ -51,7 +51,7 @@ module _ (s : Settings) (o : Own) (t : IsOwn s o) where
   none_past k h =
       get_or-eq_default marks false (omega (arith, length-take count o.enabled))
 
-  burnt_kept : Kept lamps_most is_lamps (changed_where one_more marks o.lamps) count
+  burnt_kept : Fills lamps_most is_lamps (changed_where one_more marks o.lamps) count
   burnt_kept =
       lamps_shown _ count (length-changed_where one_more marks o.lamps ∙ t.lamps.long) t.lamps.inside
       (λ k h.
@@ -65,8 +65,8 @@ module _ (s : Settings) (o : Own) (t : IsOwn s o) where
       (λ k h.
       where_unmarked one_more marks o.lamps 0 k (none_past k h) ∙ kept_zero lamps_most is_lamps _ _ t.lamps k h)
 
-  lamps_kept : Kept lamps_most is_lamps (lamps_second (power_seen o) marks o.lamps) count
-  lamps_kept = if_all (λ (l : List ℕ). Kept lamps_most is_lamps l count) (is_burning (power_seen o)) burnt_kept t.lamps
+  lamps_kept : Fills lamps_most is_lamps (lamps_second (power_seen o) marks o.lamps) count
+  lamps_kept = if_all (λ (l : List ℕ). Fills lamps_most is_lamps l count) (is_burning (power_seen o)) burnt_kept t.lamps
 
   power_kept : IsPowerOf s.warm s.cool (own_second s o).power (own_second s o).left
   unfolding own_second

@@ -39,7 +39,6 @@ use Rattle.record.specs.declared.types.Own.{Own}
 use Rattle.record.specs.declared.types.Line.{Line}
 use Rattle.record.specs.declared.types.Connection.{Connection}
 use Rattle.record.specs.declared.types.Device.{Device}
-use Rattle.record.proofs.Kept.{kept_told}
 use Rattle.record.proofs.Rules.{text_most}
 use Rattle.record.proofs.LegalTold.{legal_settings, legal_own}
 use Rattle.meaning.specs.Rules.{is_undefined, is_out_of_parameter}
@@ -53,7 +52,7 @@ use Rattle.device.specs.Calls.{received, reply_room}
 use Rattle.device.proofs.Cases.{received_by}
 use Rattle.device.proofs.LineCases.{answered_by, ended_by, taken_by}
 use Rattle.demands.specs.ClassOne.{longest_before, asked_as_before, line_before, answer_before, OfClass1, ClassOneKept}
-use Rattle.record.proofs.FactsTold.{settings_is}
+use Rattle.record.proofs.FactsTold.{settings_is, fills_told}
 use Rattle.text.specs.Words.{◌is◌}
 use Rattle.text.proofs.Choices.{if_yes, if_no, if_by, if_all}
 use Rattle.words.specs.Bytes.{◌at◌, no_cr, command_most}
@@ -145,9 +144,9 @@ module _ (s : Settings) (o : Own) (settings : is_settings s ≡ true) (own : is_
           let told = (settings_is s).0 settings in
           let none : list_all (fills_name_room 0) s.names ≡ true
           = ap (λ (n : ℕ). list_all (fills_name_room 0) (drop (only_in_2 n s.input_count) s.names)) (sym one)
-          ∙ told.names.unused in
+          ∙ told.names.clear in
           let empty = list_all_at (fills_name_room 0) s.names blank_name none k h in
-          let kept = kept_told input_name_most (is_text 0) _ _ empty in
+          let kept = (fills_told input_name_most (is_text 0) _ _).0 empty in
           text_most _ 0 kept.follows
 
   meant_short : (r : Request) → Short (meant s o r)

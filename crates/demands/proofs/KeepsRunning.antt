@@ -36,7 +36,8 @@ use Rattle.pjlink.specs.Writings.{IsAllowed}
 use Rattle.record.specs.Wanted.{Wanted}
 use Rattle.record.specs.Legal.{is_legal}
 use Rattle.record.proofs.Results.{set_up_number as set-up-table, fault_number, errors_number, mark_number}
-use Rattle.record.proofs.Results.{fault_refusal, errors_refusal, mark_refusal, set_up_refusal}
+use Rattle.record.specs.HostCalls.{fault_set, errors_set, mark_set}
+use Rattle.record.proofs.Results.{refusal_leaves, set_up_refusal}
 use Rattle.clock.proofs.Results.{passed-number, passed_refusal}
 use Rattle.device.proofs.Numbers.{received-number, opened_number, closed_number}
 use Rattle.controller.specs.Reading.{reading_outcome_number, means_it, erra_said, not_a_line, other_command, disallowed}
@@ -192,9 +193,9 @@ refused_keeps d (receives p bs m) n =
     (h.device, lent_untouched d (received d p bs (length m)) m h)
 refused_keeps d (closes p) n = ((closing_refused d p n).device, tt)
 refused_keeps d (passes k) n = (passed_refusal d k n, tt)
-refused_keeps d (marks fault) n = (fault_refusal d fault n, tt)
-refused_keeps d (reports errors) n = (errors_refusal d errors n, tt)
-refused_keeps d (enables lamp mark) n = (mark_refusal d lamp mark n, tt)
+refused_keeps d (marks fault) n = (refusal_leaves d (fault_set d fault) n, tt)
+refused_keeps d (reports errors) n = (refusal_leaves d (errors_set d errors) n, tt)
+refused_keeps d (enables lamp mark) n = (refusal_leaves d (mark_set d lamp mark) n, tt)
 
 pub refused_writer : (c : Command) (secured : Bool) (random : ℕ) (password m : List ℕ)
     → let w = ours.write c secured random password m in

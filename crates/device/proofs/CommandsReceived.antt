@@ -22,7 +22,8 @@ use Rattle.record.specs.Places.{connection_at, with_place}
 use Rattle.record.specs.declared.types.Connection.{Connection}
 use Rattle.record.specs.declared.types.Device.{Device}
 use Rattle.record.proofs.LegalTold.{legal_settings, legal_connection}
-use Rattle.record.proofs.ConnectionTold.{connection_told, age_untimed}
+use Rattle.record.proofs.ConnectionTold.{age_untimed}
+use Rattle.record.proofs.FactsTold.{connection_is}
 use Rattle.stream.specs.Collecting.{empty_line}
 use Rattle.meaning.specs.Meaning.{meant, done}
 use Rattle.device.specs.Answering.{Answered, line_answer}
@@ -57,7 +58,7 @@ pub open_again : (d : Device) (p : ℕ) → p < places_count → is_legal d ≡ 
 open_again d p there legal phase empty =
     let c = connection_at d p in
     let young : c.age ≡ 0 =
-    age_untimed c.phase c.age (ap is_timed phase) (connection_told c (legal_connection d legal p there)).age in
+    age_untimed c.phase c.age (ap is_timed phase) ((connection_is c).0 (legal_connection d legal p there)).age in
     (λ i. record { phase = sym phase i; age = sym young i; random = c.random; line = sym empty i })
 
 module _ (d : Device) (p : ℕ) (there : p < places_count) (room : ℕ) (legal : is_legal d ≡ true)

@@ -27,7 +27,8 @@ use Rattle.record.specs.declared.types.Connection.{Connection}
 use Rattle.record.specs.declared.types.Device.{Device}
 use Rattle.record.proofs.LegalTold.{legal_connection, legal_places}
 use Rattle.record.proofs.ConnectionsTold.{placed_here, placed_either}
-use Rattle.record.proofs.ConnectionTold.{closed_holds_none, connection_told, held_within, held_most_none}
+use Rattle.record.proofs.ConnectionTold.{closed_holds_none, held_within, held_most_none}
+use Rattle.record.proofs.FactsTold.{connection_is}
 use Rattle.stream.specs.declared.Gathered.{Gathered}
 use Rattle.stream.specs.Collecting.{line_text, empty_line, gathered}
 use Rattle.meaning.specs.Meaning.{meant, done}
@@ -84,7 +85,7 @@ unheld c legal n m =
     let p = ne_eqb c.phase awaiting m in
     let q = ne_eqb c.phase opened n in
     let none : held_most c.phase ≡ 0 = held_most_none c.phase (λ i. p i || q i) in
-    let within = held_within c.phase c.line.held c.line.overlong (connection_told c legal).held in
+    let within = held_within c.phase c.line.held c.line.overlong ((connection_is c).0 legal).held in
     omega arith
 
 module _ (s : Settings) (o : Own) (c : Connection) (bs : List ℕ) (legal : is_connection c ≡ true) where
@@ -102,7 +103,7 @@ module _ (s : Settings) (o : Own) (c : Connection) (bs : List ℕ) (legal : is_c
       (λ f. let is_failed = eqb-true c.phase failed f in
       ends_unheld _ c.line (unheld c legal (λ p. omega arith) (λ p. omega arith)))
       (λ f. gathered_ends c.phase c.line bs
-      (collecting c.phase (connection_told c legal).phase live (eqb-false c.phase failed f))
+      (collecting c.phase ((connection_is c).0 legal).phase live (eqb-false c.phase failed f))
       (line_legal c legal))
 
   module _ (cr : gathers.ended ≡ true) where

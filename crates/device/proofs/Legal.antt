@@ -14,7 +14,9 @@ use Rattle.record.specs.declared.types.Connection.{Connection}
 use Rattle.record.specs.declared.types.Device.{Device}
 use Rattle.record.proofs.LegalTold.{legal_settings, legal_own, legal_connections, legal_connection, legal_by_parts}
 use Rattle.record.proofs.ConnectionsTold.{placed_legal}
-use Rattle.record.proofs.ConnectionTold.{ConnectionTold, connection_told, connection_shown, zero_age, closed_legal}
+use Rattle.record.proofs.ConnectionTold.{zero_age, closed_legal}
+use Rattle.record.proofs.FactsTold.{connection_is}
+use Rattle.record.specs.Facts.{IsConnection}
 use Rattle.stream.proofs.LegalLines.{LegalLine, empty_legal, gathered_legal}
 use Rattle.meaning.proofs.Done.{done_legal}
 use Rattle.device.specs.Ready.{IsReady}
@@ -34,18 +36,21 @@ collecting (suc (suc (suc p))) h n m = absurd (m (omega arith))
 -- connections
 module _ (c : Connection) where
   pub is_connection-turned : (phase : ℕ) → phase ≤ failed → (phase ≡ shut → ⊥) → is_connection (turned c phase) ≡ true
-  is_connection-turned phase h n = grind (arith, empty_legal, connection_shown, zero_age)
+  is_connection-turned phase h n =
+      let e = empty_legal phase in
+      (connection_is (turned c phase)).1
+      (record { line = e.kept; phase = h; age = zero_age phase; random = λ z. absurd (n z); held = e.held })
 
   module _ (legal : is_connection c ≡ true) where
-    abbrev known : ConnectionTold c
-    known = connection_told c legal
+    abbrev known : IsConnection c
+    known = (connection_is c).0 legal
 
     pub line_legal : LegalLine c.phase c.line
     line_legal = record { kept = known.line; held = known.held }
 
     is_connection-with_line : (l : Line) → LegalLine c.phase l → is_connection (with_line c l) ≡ true
     is_connection-with_line l p =
-        connection_shown (with_line c l)
+        (connection_is (with_line c l)).1
         (record {
           line = p.kept;
           phase = known.phase;

@@ -19,7 +19,7 @@ use Rattle.record.specs.declared.types.Device.{Device}
 use Rattle.record.proofs.LegalTold.{legal_settings, legal_own, legal_connections, legal_connection, legal_places}
 use Rattle.record.proofs.LegalTold.{legal_by_parts}
 use Rattle.record.proofs.ConnectionsTold.{placed_legal, placed_here, with_place-with_place, with_place-connection_at}
-use Rattle.record.proofs.ConnectionTold.{connection_told}
+use Rattle.record.proofs.FactsTold.{connection_is}
 use Rattle.stream.specs.Machine.{Took, run_over, one_call, handed_parts, uncut}
 use Rattle.stream.proofs.LegalLines.{collected_legal}
 use Rattle.stream.proofs.SameHoweverCut.{out_through, took_through, calls_run, same_however_cut}
@@ -117,7 +117,7 @@ module _ (room : ℕ) (enough : reply_room ≤ room) (p : ℕ) (there : p < plac
         reply = t.ended.reply;
       })
       ∙ ap (took_through (device_at d p))
-      (takes_in-state_of s m.own c bs (connection_told c r.connection).phase r.live)
+      (takes_in-state_of s m.own c bs ((connection_is c).0 r.connection).phase r.live)
 
   module _ (live : is_shut (connection_at d p) ≡ false) where
     ready_parts : Live s (parts_at d p)

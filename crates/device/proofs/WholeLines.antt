@@ -13,7 +13,7 @@ use Rattle.text.proofs.Scanning.{list_all-append}
 use Rattle.text.proofs.Sameness.{turned_same}
 use Rattle.digest.specs.Hex.{leading_digest}
 use Rattle.digest.proofs.Laws.{length-leading_digest, hex_are_digits, digits_have_no_cr}
-use Rattle.words.specs.Bytes.{not_cr, no_cr, command_most}
+use Rattle.words.specs.Bytes.{not_cr, command_most}
 use Rattle.pjlink.specs.Forms.{head_body}
 use Rattle.pjlink.specs.Commands.{body_text, body_of, command_class, class_digit, is_command, command_text}
 use Rattle.pjlink.specs.declared.command.Command.{Command}
@@ -49,7 +49,7 @@ map-itself (x ∷ xs) = ap (λ (l : List ℕ). x ∷ l) (map-itself xs)
 
 -- the text of a line is what was collected
 line_text-line_of : (xs : List ℕ) → length xs ≤ line_room → line_text (line_of xs) ≡ xs
-line_text-line_of xs h = filled_take line_room no_cr xs h
+line_text-line_of xs h = filled_take line_room xs
 
 module _ (s : Settings) (o : Own) (c : Connection) (empty : c.line ≡ empty_line) (rest : List ℕ) where
   whole_line : (xs : List ℕ) → length xs ≤ held_most c.phase → held_most c.phase ≤ line_room

@@ -34,7 +34,8 @@ use Rattle.record.specs.declared.types.Settings.{Settings}
 use Rattle.record.specs.declared.types.Own.{Own}
 use Rattle.record.proofs.Kept.{kept_length}
 use Rattle.record.proofs.Rules.{errors_long, list_all-at_most, lamps_within}
-use Rattle.record.proofs.SettingsTold.{input_count_low, input_count_high, input_at, serial_told, version_told, name_at}
+use Rattle.record.proofs.SettingsTold.{input_count_low, input_count_high, input_at, serial_told, version_told}
+use Rattle.record.proofs.NamesTold.{name_kept}
 use Rattle.record.specs.Facts.{IsOwn, IsSettings}
 use Rattle.record.proofs.FactsTold.{own_is, settings_is}
 use Rattle.meaning.specs.SetUpInputs.{no_input, pairs_of, inputs_of, place_of}
@@ -147,7 +148,7 @@ module _ (s : Settings) (o : Own) (settings : is_settings s ≡ true) (own : is_
   told_can_be_said (InputSet2 i) e = done refl
   told_can_be_said (FreezeSet wanted) e = done refl
   told_can_be_said (VolumeStep v up) e = done refl
-  told_can_be_said (NameQuery i) e = input_name _ refl (name_at s set_up (place_of s i)).follows
+  told_can_be_said (NameQuery i) e = input_name _ refl (name_kept _ s.names set_up.names (place_of s i)).follows
 
   pub meant_can_be_said : (c : Command) → CanSay c (meant s o (Ok c))
   meant_can_be_said c =

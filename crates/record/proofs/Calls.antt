@@ -1,61 +1,41 @@
 -- The calls by their cases: what each gives by the tests that decide it, and what holds of a result because it holds in
 -- every case.
 -- Assumes nothing.
-use Rattle.std.proofs.Common.{ℕ, ◌<◌, ◌≡◌, refl, sym, ap, ◌∙◌, Bool, true, false, not, ◌||◌, List, length, set, ◌==◌}
-use Rattle.std.proofs.Common.{arith, leb-false, eqb-true, eq-eqb}
-use Rattle.std.proofs.lemmas.Bool.{false≢true, not-false, lt-leb}
-use Rattle.std.specs.Prelude.{Option, Some, None, Result, Ok, Err, if◌then◌else◌}
-use Rattle.text.proofs.Choices.{if_yes, if_no, if_by, both, both_left, both_right}
+use Rattle.std.proofs.Common.{ℕ, ◌<◌, ◌≡◌, sym, ◌∙◌, Bool, true, false, not, List, length, set, arith}
+use Rattle.std.specs.Prelude.{Some, None, Result, Ok, Err}
+use Rattle.text.proofs.Choices.{if_by}
 use Rattle.record.specs.Limits.{off}
 use Rattle.record.specs.Wanted.{Wanted}
 use Rattle.record.specs.Rules.{is_long_enough, is_error_list}
 use Rattle.record.specs.Record.{all_closed, settings_of, start_own, started, blank}
 use Rattle.record.specs.Legal.{is_legal}
-use Rattle.record.specs.SetUp.{is_in_range, is_set_up, first_out_of_range, unless_out, set_up}
+use Rattle.record.specs.SetUp.{is_in_range, is_set_up, first_out_of_range, set_up}
 use Rattle.record.specs.SetUpErrors.{check_of}
 use Rattle.record.specs.Given.{Given, accepted, refused, given_by, set_up_given}
 use Rattle.record.specs.Updates.{with_own, with_fault, with_errors, with_marks}
-use Rattle.record.specs.HostCalls.{fault_set, errors_set, is_no_lamp, is_none_left, mark_set}
+use Rattle.record.specs.HostCalls.{fault_set, errors_set, is_none_left, mark_set}
 use Rattle.record.specs.declared.types.Settings.{Settings}
 use Rattle.record.specs.declared.types.Own.{Own}
 use Rattle.record.specs.declared.types.Connection.{Connection}
 use Rattle.record.specs.declared.types.Device.{Device}
 use Rattle.record.specs.declared.types.Setting.{Setting}
-use Rattle.record.specs.declared.refusal.Refusal.{Refusal}
-use Rattle.record.specs.declared.refusal.Refusal.TheVariants.{NotLegal, OutOfRange, NotOff}
+use Rattle.record.specs.declared.refusal.Refusal.TheVariants.{NotLegal}
 use Rattle.record.specs.declared.set_up_error.SetUpError.{SetUpError}
 use Rattle.record.specs.declared.set_up_error.SetUpError.TheVariants.{OutOfRange as SettingOut, ShortPassword}
 use Rattle.record.proofs.OutOfRange.{none_in_range, in_range_none}
-
--- neither of two tests holds
-neither_left : (a b : Bool) → (a || b) ≡ false → a ≡ false
-neither_left false b e = refl
-neither_left true b e = e
-
-neither_right : (a b : Bool) → (a || b) ≡ false → b ≡ false
-neither_right false b e = e
-neither_right true b e = absurd (false≢true (sym e))
-
--- what is set up is not refused
-pub ok_err : {A E : Type 0} {a : A} {e : E} → Ok a ≡ Err e → ⊥
-ok_err h = let z : ◌≡◌ {A = ℕ} 0 1 = cc in omega arith
 
 module _ (w : Wanted) where
   abbrev long : Bool
   long = is_long_enough (length w.password)
 
   -- each setting in its range, and the password long enough
-  pub set_up_ranged : is_set_up w ≡ true → is_in_range w ≡ true
-  unfolding is_set_up
-  set_up_ranged h = both_left (is_in_range w) long h
-
   pub set_up_long : is_set_up w ≡ true → long ≡ true
   unfolding is_set_up
-  set_up_long h = both_right (is_in_range w) long h
+  set_up_long h = grind (arith, h)
 
   pub set_up_shown : is_in_range w ≡ true → long ≡ true → is_set_up w ≡ true
   unfolding is_set_up
-  set_up_shown h k = both h k
+  set_up_shown h k = grind (arith, h, k)
 
   -- by the first setting out of its range, and the length of the password
   pub refused_out : (s : Setting) → first_out_of_range w ≡ Some s → set_up w ≡ Err (SettingOut s)
@@ -75,32 +55,21 @@ module _ (w : Wanted) where
       → (is_in_range w ≡ true → long ≡ false → P (Err ShortPassword))
       → (is_in_range w ≡ true → long ≡ true → P (Ok (started w))) → P (set_up w)
   unfolding set_up
-  set_up_cases P out short accept = by (first_out_of_range w) refl
-    where
-      by : (m : Option Setting) → first_out_of_range w ≡ m
-          → P (unless_out m (if long then Ok (started w) else Err ShortPassword))
-      by (Some s) e = out s e
-      by None e =
-          let ranged = none_in_range w e in
-          if_by P long (λ h. accept ranged h) (λ h. short ranged h)
+  set_up_cases P out short accept = grind (arith, none_in_range, if_by)
 
   pub set_up_accepted : is_set_up w ≡ true → set_up w ≡ Ok (started w)
-  set_up_accepted h = none_refused (in_range_none w (set_up_ranged h)) (set_up_long h)
+  unfolding is_set_up
+  set_up_accepted h = none_refused (in_range_none w (grind (arith, h))) (grind (arith, h))
 
   -- what is tested, and what is then set up
   pub checked_set_up : Ok tt ≡ check_of (set_up w) → is_set_up w ≡ true
   checked_set_up =
-      set_up_cases (λ r. Ok tt ≡ check_of r → is_set_up w ≡ true) (λ s e h. absurd (ok_err h))
-      (λ k l h. absurd (ok_err h)) (λ k l h. set_up_shown k l)
+      set_up_cases (λ r. Ok tt ≡ check_of r → is_set_up w ≡ true) (λ s e h. cc) (λ k l h. cc)
+      (λ k l h. set_up_shown k l)
 
   pub checked_refused : (e : SetUpError) → Err e ≡ check_of (set_up w) → Err e ≡ set_up w
   checked_refused e =
-      set_up_cases (λ r. Err e ≡ check_of r → Err e ≡ r) (λ s f h. ap again h) (λ k l h. ap again h)
-      (λ k l h. absurd (ok_err (sym h)))
-    where
-      again : Result (Unit {0}) SetUpError → Result Device SetUpError
-      again (Ok u) = Err e
-      again (Err f) = Err f
+      set_up_cases (λ r. Err e ≡ check_of r → Err e ≡ r) (λ s f h. cc) (λ k l h. cc) (λ k l h. cc)
 
   -- the started device, from its parts
   pub set_up_made : {s : Settings} {o : Own} {cs : List Connection} → is_set_up w ≡ true
@@ -118,9 +87,7 @@ module _ (w : Wanted) where
 
   -- set-up gives 0 there only
   pub set_up_in_range : (set_up_given (set_up w)).number ≡ 0 → is_set_up w ≡ true
-  set_up_in_range =
-      set_up_by (λ r. r.number ≡ 0 → is_set_up w ≡ true) (λ e. absurd (omega arith)) (λ e. absurd (omega arith))
-      (λ h e. h)
+  set_up_in_range = set_up_by (λ r. r.number ≡ 0 → is_set_up w ≡ true) (λ e. cc) (λ e. cc) (λ h e. h)
 
 module _ (d : Device) where
   pub fault_illegal : (m : Bool) → is_legal d ≡ false → fault_set d m ≡ Err NotLegal
@@ -135,25 +102,13 @@ module _ (d : Device) where
       → (is_legal d ≡ true → P (accepted (with_own d (with_fault d.own m)))) → P (given_by d (fault_set d m))
   unfolding fault_set
   fault_set_by P m refuse accept =
-      if_by (λ r. P (given_by d r)) (not (is_legal d)) (λ h. refuse) (λ h. accept (not-false (is_legal d) h))
-
-  pub errors_wrong : (ds : List ℕ) → is_legal d ≡ true → is_error_list ds ≡ false → errors_set d ds ≡ Err OutOfRange
-  unfolding errors_set
-  errors_wrong ds h k = rw (h, k)
-
-  pub errors_accepted : (ds : List ℕ) → is_legal d ≡ true → is_error_list ds ≡ true
-      → errors_set d ds ≡ Ok (with_own d (with_errors d.own ds))
-  unfolding errors_set
-  errors_accepted ds h k = rw (h, k)
+      if_by (λ r. P (given_by d r)) (not (is_legal d)) (λ h. refuse) (λ h. accept (grind (arith, h)))
 
   pub errors_set_by : (P : Given Device → Type 0) (ds : List ℕ) → P (refused 1 d) → P (refused 3 d)
       → (is_legal d ≡ true → is_error_list ds ≡ true → P (accepted (with_own d (with_errors d.own ds))))
       → P (given_by d (errors_set d ds))
   unfolding errors_set
-  errors_set_by P ds illegal wrong accept =
-      if_by (λ r. P (given_by d r)) (not (is_legal d)) (λ h. illegal)
-      (λ h. if_by (λ r. P (given_by d r)) (not (is_error_list ds)) (λ k. wrong)
-      (λ k. accept (not-false (is_legal d) h) (not-false (is_error_list ds) k)))
+  errors_set_by P ds illegal wrong accept = grind (arith, if_by)
 
   -- a mark: refused, or one at least is left and the power is off
   pub mark_set_by : (P : Given Device → Type 0) (k : ℕ) (m : Bool) → ((n : ℕ) → (n ≡ 0 → ⊥) → P (refused n d))
@@ -161,45 +116,8 @@ module _ (d : Device) where
       → d.own.power ≡ off → P (accepted (with_own d (with_marks d.own (set d.own.enabled k m)))))
       → P (given_by d (mark_set d k m))
   unfolding mark_set
-  mark_set_by P k m refuse accept =
-      let Q : Result Device Refusal → Type 0 = λ r. P (given_by d r) in
-      let last = is_none_left (set d.own.enabled k m) in
-      if_by Q (not (is_legal d)) (λ h. refuse 1 (λ z. omega arith))
-      (λ h. if_by Q (is_no_lamp d k || last) (λ e. refuse 3 (λ z. omega arith))
-      (λ e. if_by Q (not (d.own.power == off)) (λ p. refuse 7 (λ z. omega arith))
-      (λ p. accept (not-false (is_legal d) h)
-      (leb-false d.settings.lamp_count k (neither_left (is_no_lamp d k) last e))
-      (neither_right (is_no_lamp d k) last e) (eqb-true d.own.power off (not-false (d.own.power == off) p)))))
+  mark_set_by P k m refuse accept = grind (arith, if_by)
 
-  -- the row that applies
-  module _ (k : ℕ) (m : Bool) where
-    pub mark_not_legal : is_legal d ≡ false → mark_set d k m ≡ Err NotLegal
-    unfolding mark_set
-    mark_not_legal h = if_yes _ _ (ap not h)
-
-    module _ (legal : is_legal d ≡ true) where
-      pub mark_nowhere : is_no_lamp d k ≡ true → mark_set d k m ≡ Err OutOfRange
-      unfolding mark_set
-      mark_nowhere e =
-          if_no _ _ (ap not legal)
-          ∙ if_yes _ _ (ap (λ (t : Bool). t || is_none_left (set d.own.enabled k m)) e)
-
-      module _ (there : is_no_lamp d k ≡ false) where
-        pub mark_last : is_none_left (set d.own.enabled k m) ≡ true → mark_set d k m ≡ Err OutOfRange
-        unfolding mark_set
-        mark_last e = if_no _ _ (ap not legal) ∙ if_yes _ _ ((λ i. there i || e i))
-
-        pub mark_not_off : is_none_left (set d.own.enabled k m) ≡ false → (d.own.power == off) ≡ false
-            → mark_set d k m ≡ Err NotOff
-        unfolding mark_set
-        mark_not_off e p =
-            if_no _ _ (ap not legal) ∙ if_no _ _ ((λ i. there i || e i)) ∙ if_yes _ _ (ap not p)
-
-  pub mark_accepted : (k : ℕ) (m : Bool) → is_legal d ≡ true → k < d.settings.lamp_count
-      → is_none_left (set d.own.enabled k m) ≡ false → d.own.power ≡ off
-      → mark_set d k m ≡ Ok (with_own d (with_marks d.own (set d.own.enabled k m)))
+  pub mark_not_legal : (k : ℕ) (m : Bool) → is_legal d ≡ false → mark_set d k m ≡ Err NotLegal
   unfolding mark_set
-  mark_accepted k m legal inside left idle =
-      if_no _ _ (ap not legal)
-      ∙ if_no _ _ (λ i. lt-leb d.settings.lamp_count k inside i || left i)
-      ∙ if_no _ _ (ap not (eq-eqb d.own.power off idle))
+  mark_not_legal k m h = rw h

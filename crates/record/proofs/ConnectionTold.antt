@@ -1,27 +1,14 @@
 -- What a legal connection tells, and how it is shown (the crates above never open `is_connection`, `is_age` or
 -- `is_held`).
---   ConnectionTold c      its line's room, its phase, age, random number and collected bytes
 -- Assumes nothing.
-use Rattle.std.proofs.Common.{ℕ, ◌≤◌, ◌<◌, ◌≡◌, refl, Bool, true, false, [], arith, lt-ltb}
-use Rattle.words.specs.Bytes.{no_cr}
+use Rattle.std.proofs.Common.{ℕ, ◌≤◌, ◌<◌, ◌≡◌, refl, Bool, true, false, arith, lt-ltb}
 use Rattle.words.specs.Bytes.{command_most}
 use Rattle.words.proofs.Characters.{no_cr_of}
-use Rattle.record.specs.Limits.{line_room, age_end, shut, awaiting, opened}
+use Rattle.record.specs.Limits.{line_room, age_end, awaiting, opened}
 use Rattle.record.specs.Record.{closed}
 use Rattle.record.specs.Legal.{is_timed, is_collecting, is_age, held_most, is_held, is_connection}
-use Rattle.record.specs.declared.types.Connection.{Connection}
-use Rattle.record.specs.Facts.{IsConnection}
 use Rattle.record.proofs.FactsTold.{connection_is}
 use Rattle.record.proofs.Kept.{nothing_kept}
-
-abbrev pub ConnectionTold : Connection → Type 0
-ConnectionTold = IsConnection
-
-pub connection_told : (c : Connection) → is_connection c ≡ true → ConnectionTold c
-connection_told c = (connection_is c).0
-
-pub connection_shown : (c : Connection) → ConnectionTold c → is_connection c ≡ true
-connection_shown c = (connection_is c).1
 
 pub closed_holds_none : closed.line.held ≡ 0
 unfolding closed
@@ -86,12 +73,4 @@ marked_held phase h = grind (arith, h)
 
 pub closed_legal : is_connection closed ≡ true
 unfolding closed
-closed_legal =
-    connection_shown closed
-    (record {
-      line = nothing_kept line_room no_cr (no_cr_of [] refl);
-      phase = omega arith;
-      age = zero_age shut;
-      random = λ e. refl;
-      held = unmarked_held shut 0 (omega arith);
-    })
+closed_legal = grind (arith, connection_is, nothing_kept, no_cr_of, zero_age, unmarked_held)

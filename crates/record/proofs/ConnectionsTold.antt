@@ -2,10 +2,10 @@
 -- there, and list_all other place is as it was (RULES, Places).
 -- Assumes nothing.
 use Rattle.std.specs.List.{list_all}
-use Rattle.std.proofs.Common.{ℕ, zero, suc, ◌<◌, ◌≡◌, refl, ◌∙◌, Bool, true, List, [], ◌∷◌, arith, length}
+use Rattle.std.proofs.Common.{ℕ, zero, suc, ◌<◌, ◌≡◌, refl, Bool, true, List, [], ◌∷◌, arith, length}
 use Rattle.std.proofs.Common.{slice_index_or, set, replicate, length-set, get_or-set_same, get_or-set_other, set-set}
 use Rattle.std.proofs.lemmas.List.{set-get_or}
-use Rattle.text.proofs.Choices.{both, both_left, both_right}
+use Rattle.text.proofs.Choices.{both}
 use Rattle.record.specs.Limits.{places_count}
 use Rattle.record.specs.Legal.{is_connection, is_connections}
 use Rattle.record.specs.Record.{closed, all_closed}
@@ -19,36 +19,23 @@ use Rattle.record.proofs.ConnectionTold.{closed_legal}
 set_passes : {A : Type 0} (f : A → Bool) (l : List A) (i : ℕ) (a : A) → list_all f l ≡ true → f a ≡ true
     → list_all f (set l i a) ≡ true
 set_passes f [] i a e h = refl
-set_passes f (x ∷ l) zero a e h = both h (both_right (f x) (list_all f l) e)
-set_passes f (x ∷ l) (suc i) a e h =
-    both (both_left (f x) (list_all f l) e) (set_passes f l i a (both_right (f x) (list_all f l) e) h)
+set_passes f (x ∷ l) zero a e h = grind (arith, e, h)
+set_passes f (x ∷ l) (suc i) a e h = grind (arith, e, h, set_passes f l i a)
 
 module _ (cs : List Connection) where
   pub connections_shown : length cs ≡ places_count → list_all is_connection cs ≡ true → is_connections cs ≡ true
   unfolding is_connections
   connections_shown long each = grind (arith, long, each)
 
-  module _ (legal : is_connections cs ≡ true) where
-    pub connections_long : length cs ≡ places_count
-    unfolding is_connections
-    connections_long = grind (arith, legal)
+  -- a legal connection put in any place
+  pub placed_legal : is_connections cs ≡ true → (p : ℕ) (c : Connection) → is_connection c ≡ true
+      → is_connections (set cs p c) ≡ true
+  unfolding is_connections
+  placed_legal legal p c one = grind (arith, legal, length-set cs p c, set_passes is_connection cs p c, one)
 
-    pub connections_each : list_all is_connection cs ≡ true
-    unfolding is_connections
-    connections_each = grind (arith, legal)
-
-    -- a legal connection put in any place
-    pub placed_legal : (p : ℕ) (c : Connection) → is_connection c ≡ true → is_connections (set cs p c) ≡ true
-    unfolding is_connections
-    placed_legal p c one =
-        let long : length (set cs p c) ≡ places_count = length-set cs p c ∙ connections_long in
-        grind (arith, long, set_passes is_connection cs p c connections_each one)
-
--- list_all place closed
+-- every place closed
 pub all_closed_legal : is_connections all_closed ≡ true
-all_closed_legal =
-    connections_shown all_closed refl
-    (both closed_legal (both closed_legal (both closed_legal (both closed_legal refl))))
+all_closed_legal = grind (arith, connections_shown, both, closed_legal)
 
 pub all_closed_at : (p : ℕ) → p < places_count → slice_index_or all_closed p no_connection ≡ closed
 all_closed_at p there = replicated places_count p there

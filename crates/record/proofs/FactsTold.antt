@@ -1,15 +1,15 @@
 -- The tests of legality say the facts.
 -- Assumes nothing.
-use Rattle.std.proofs.Common.{◌≡◌, ℕ, arith, ap, sym, ◌∙◌, Bool, IsTrue, List, length, take, ◌↔◌}
+use Rattle.std.proofs.Common.{◌≡◌, ℕ, arith, Bool, IsTrue, List, length, take, ◌↔◌}
 use Rattle.std.proofs.Math.Seq.{length-take-le}
 use Rattle.std.specs.Prelude.{All}
 use Rattle.std.specs.List.{list_all}
-use Rattle.record.specs.Legal.{is_zero, fills_room, is_names, is_rest_of_2, is_settings, is_own, is_connection}
-use Rattle.record.specs.Legal.{is_connections, is_legal}
+use Rattle.record.specs.Legal.{is_zero, fills_room, fills_name_room, is_names, is_rest_of_2, is_settings, is_own}
+use Rattle.record.specs.Legal.{is_connection, is_connections, is_legal}
 use Rattle.text.proofs.RoomsTold.{uses_told}
 use Rattle.record.specs.Facts.{Fills, IsStretch, IsNames, IsSettings, IsOwn, IsConnection, IsLegal}
-use Rattle.words.specs.Texts.{is_password}
-use Rattle.record.specs.Limits.{text_room}
+use Rattle.words.specs.Texts.{is_password, input_name_most}
+use Rattle.record.specs.Limits.{text_room, listed_most}
 use Rattle.record.specs.Rules.{is_long_enough, is_set_up_password, is_stretch}
 use Rattle.record.specs.declared.types.InputName.{InputName}
 use Rattle.record.specs.declared.types.Settings.{Settings}
@@ -19,7 +19,6 @@ use Rattle.record.specs.declared.types.Device.{Device}
 use Rattle.record.specs.Record.{closed}
 use Rattle.text.proofs.Scanning.{list_all_at, list_all_by_place}
 use Rattle.record.proofs.PowerSeen.{power_is, left_is}
-use Rattle.record.proofs.Rules.{set_up_password_written, set_up_password_long, set_up_password_shown}
 
 pub fills_told : (room : ℕ) (rule : List ℕ → Bool) (s : List ℕ) (n : ℕ)
     → IsTrue (fills_room room rule s n) ↔ Fills room rule s n
@@ -37,48 +36,37 @@ stretch_is n = (λ h. record { low = grind (arith, h); high = grind (arith, h) }
 
 pub names_is : (n : ℕ) (ns : List InputName) → IsTrue (is_names n ns) ↔ IsNames n ns
 unfolding is_names
-names_is n ns = (
-  λ h. record { long = grind (arith, h); used = grind (arith, h); unused = grind (arith, h) },
-  λ t. grind (arith, t.long, t.used, t.unused),
-)
+names_is n ns = uses_told (fills_name_room 0) listed_most (list_all (fills_name_room input_name_most)) ns n
 
 -- a password of set-up is one that the controller's writer takes, and long enough
-module _ (s : List ℕ) (n : ℕ) where
-  many : Fills text_room is_password s n → length (take n s) ≡ n
-  many t = length-take-le n s (omega (arith, t.long, t.inside))
-
-  password_fills : Fills text_room is_set_up_password s n → Fills text_room is_password s n
-  password_fills t = record {
-    long = t.long;
-    inside = t.inside;
-    clear = t.clear;
-    follows = set_up_password_written (take n s) t.follows;
-  }
-
-  password_long : Fills text_room is_set_up_password s n → IsTrue (is_long_enough n)
-  password_long t = ap is_long_enough (sym (many (password_fills t))) ∙ set_up_password_long (take n s) t.follows
-
-  set_up_password_fills : Fills text_room is_password s n → IsTrue (is_long_enough n) →
-      Fills text_room is_set_up_password s n
-  set_up_password_fills t h = record {
-    long = t.long;
-    inside = t.inside;
-    clear = t.clear;
-    follows = set_up_password_shown (take n s) t.follows (ap is_long_enough (many t) ∙ h);
-  }
+password_fills : (s : List ℕ) (n : ℕ) → IsTrue (fills_room text_room is_set_up_password s n)
+    ↔ (Fills text_room is_password s n × IsTrue (is_long_enough n))
+unfolding is_set_up_password
+password_fills s n = (
+  λ h.
+      let t : Fills text_room is_set_up_password s n = fills h in
+      let many : length (take n s) ≡ n = length-take-le n s (omega (arith, t.long, t.inside)) in
+      let follows : IsTrue (is_password (take n s)) = grind (arith, t.follows) in
+      (assumption (t, follows), grind (arith, t.follows, many)),
+  λ p.
+      let t = p.0 in
+      let many : length (take n s) ≡ n = length-take-le n s (omega (arith, t.long, t.inside)) in
+      let follows : IsTrue (is_set_up_password (take n s)) = grind (arith, t.follows, p.1, many) in
+      full (assumption (t, follows)),
+)
 
 pub settings_is : (s : Settings) → IsTrue (is_settings s) ↔ IsSettings s
 unfolding is_settings is_rest_of_2
 settings_is s = (
   λ h.
-      let secret : Fills text_room is_set_up_password s.password.bytes s.password.len = fills (grind (arith, h)) in
+      let secret = (password_fills s.password.bytes s.password.len).0 (grind (arith, h)) in
       record {
         name = fills (grind (arith, h));
         maker = fills (grind (arith, h));
         model = fills (grind (arith, h));
         other = fills (grind (arith, h));
-        password = password_fills _ _ secret;
-        long_enough = password_long _ _ secret;
+        password = secret.0;
+        long_enough = secret.1;
         inputs = fills (grind (arith, h));
         lamps = grind (arith, h);
         warm = (stretch_is _).0 (grind (arith, h));
@@ -94,7 +82,7 @@ settings_is s = (
         full t.maker,
         full t.model,
         full t.other,
-        full (set_up_password_fills _ _ t.password t.long_enough),
+        (password_fills _ _).1 (t.password, t.long_enough),
         full t.inputs,
         t.lamps,
         (stretch_is _).1 t.warm,

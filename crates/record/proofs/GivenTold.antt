@@ -1,12 +1,11 @@
 -- What a call in place gives, as a host is told of it: one outcome, one record.
 -- Assumes nothing.
-use Rattle.std.proofs.Common.{◌≡◌, refl, sym, ap, ◌∙◌}
+use Rattle.std.proofs.Common.{◌≡◌, refl, ap, ◌∙◌}
 use Rattle.std.specs.Prelude.{Result, Ok, Err, OnErr}
 use Rattle.record.specs.Given.{Given, gives, left_by, given_by}
 use Rattle.record.specs.Refusals.{outcome_number}
 use Rattle.record.specs.declared.refusal.Refusal.{Refusal}
 use Rattle.record.specs.declared.types.Device.{Device}
-use Rattle.record.proofs.Calls.{ok_err}
 
 pub number_given : (e : Device) (r : Result (Unit {0}) Refusal) → outcome_number r ≡ outcome_number (gives r e)
 number_given e (Ok u) = refl
@@ -15,10 +14,6 @@ number_given e (Err f) = refl
 pub device_given : (d e : Device) (r : Result (Unit {0}) Refusal) → OnErr r (e ≡ d) → e ≡ left_by d (gives r e)
 device_given d e (Ok u) kept = refl
 device_given d e (Err f) kept = kept
-
-abbrev refusal_in : Refusal → Result Device Refusal → Refusal
-refusal_in g (Ok e) = g
-refusal_in g (Err f) = f
 
 -- so of a call that keeps its promise
 pub told_given : (d e : Device) (r : Result (Unit {0}) Refusal) (given : Result Device Refusal) → gives r e ≡ given
@@ -29,8 +24,7 @@ told_given d e r given p kept =
 -- the outcome and the record that meet the promise of a call on the record d
 pub one_given : (d : Device) (given : Result Device Refusal) (r s : Result (Unit {0}) Refusal) (x y : Device)
     → (gives r x ≡ given) × OnErr r (x ≡ d) → (gives s y ≡ given) × OnErr s (y ≡ d) → (r ≡ s) × (x ≡ y)
-one_given d given (Ok u) (Ok v) x y p q = (refl, ap (left_by d) (p.0 ∙ sym q.0))
-one_given d given (Ok u) (Err f) x y p q = absurd (ok_err (p.0 ∙ sym q.0))
-one_given d given (Err f) (Ok v) x y p q = absurd (ok_err (q.0 ∙ sym p.0))
-one_given d given (Err f) (Err g) x y p q =
-    (ap (λ (e : Refusal). Err e) (ap (refusal_in f) (p.0 ∙ sym q.0)), p.1 ∙ sym q.1)
+one_given d given (Ok u) (Ok v) x y p q = (refl, cc)
+one_given d given (Ok u) (Err f) x y p q = cc
+one_given d given (Err f) (Ok v) x y p q = cc
+one_given d given (Err f) (Err g) x y p q = (cc, cc)

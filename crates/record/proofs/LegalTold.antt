@@ -6,9 +6,8 @@ use Rattle.record.specs.Limits.{places_count}
 use Rattle.record.specs.Legal.{is_settings, is_own, is_connection, is_connections, is_legal}
 use Rattle.record.specs.Places.{connection_at}
 use Rattle.record.specs.declared.types.Device.{Device}
-use Rattle.record.specs.Facts.{IsSettings, IsOwn, IsLegal}
+use Rattle.record.specs.Facts.{IsSettings, IsOwn, IsConnection, IsLegal}
 use Rattle.record.proofs.FactsTold.{settings_is, own_is, connection_is, each_is, legal_is}
-use Rattle.record.proofs.ConnectionTold.{ConnectionTold}
 use Rattle.record.proofs.ConnectionsTold.{connections_shown}
 
 module _ (d : Device) where
@@ -29,7 +28,7 @@ module _ (d : Device) where
     legal_places = legal.places
 
     module _ (p : ℕ) (there : p < places_count) where
-      pub connection_of_legal : ConnectionTold (connection_at d p)
+      pub connection_of_legal : IsConnection (connection_at d p)
       connection_of_legal = legal.connections p _ (omega (arith, legal.places))
 
       pub legal_connection : is_connection (connection_at d p) ≡ true

@@ -8,16 +8,13 @@ pub mod MarksTold
 pub mod PowerSeen
 pub mod FactsTold
 pub mod Kept
-pub mod Filled
 pub mod Rules
 pub mod Spelt
 pub mod Calls
 pub mod OutOfRange
-pub mod InRange
 pub mod InputsTold
 pub mod NamesTold
 pub mod CutNames
-pub mod NamesCopied
 pub mod CountedNames
 pub mod SettingsTold
 pub mod OwnTold
@@ -28,6 +25,5 @@ pub mod LowestShut
 pub mod Started
 pub mod HostKept
 pub mod Results
-pub mod RefusedSetting
 mod Samples
 pub mod GivenTold

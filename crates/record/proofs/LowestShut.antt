@@ -1,7 +1,7 @@
 -- The lowest closed place (RULES, Places): the loop's law, and that what opening takes is closed, with no closed place
 -- below it.
 -- Assumes nothing.
-use Rattle.std.proofs.Common.{ℕ, zero, suc, ◌+◌, ◌≤◌, ◌<◌, ◌≡◌, refl, sym, ap, ◌∙◌, Bool, true, false, List, [], ◌∷◌}
+use Rattle.std.proofs.Common.{ℕ, zero, suc, ◌+◌, ◌≤◌, ◌<◌, ◌≡◌, refl, sym, ap, ◌∙◌, true, false, List, [], ◌∷◌}
 use Rattle.std.proofs.Common.{add-one, arith, length, slice_index_or, drop, drop_of_length-le, drop-cons, ◌==◌}
 use Rattle.std.specs.Prelude.{if◌then◌else◌}
 use Rattle.text.proofs.Choices.{if_yes, if_no}
@@ -44,27 +44,14 @@ pub lowest_is_shut : (cs : List Connection) → lowest_shut cs < length cs
     → is_shut (slice_index_or cs (lowest_shut cs) no_connection) ≡ true
 unfolding lowest_shut
 lowest_is_shut [] h = absurd (omega arith)
-lowest_is_shut (c ∷ cs) h = by (is_shut c) refl (lowest_is_shut cs) h
-  where
-    by : (t : Bool) → is_shut c ≡ t
-        → (lowest_shut cs < length cs → is_shut (slice_index_or cs (lowest_shut cs) no_connection) ≡ true)
-        → (if t then 0 else suc (lowest_shut cs)) < suc (length cs)
-        → is_shut (slice_index_or (c ∷ cs) (if t then 0 else suc (lowest_shut cs)) no_connection) ≡ true
-    by true e on l = e
-    by false e on l = on (omega arith)
+lowest_is_shut (c ∷ cs) h = grind (arith, h, lowest_is_shut cs)
 
 pub below_lowest : (cs : List Connection) (k : ℕ) → k < lowest_shut cs →
     is_shut (slice_index_or cs k no_connection) ≡ false
 unfolding lowest_shut
 below_lowest [] k h = absurd (omega arith)
-below_lowest (c ∷ cs) k h = by (is_shut c) refl k (below_lowest cs) h
-  where
-    by : (t : Bool) → is_shut c ≡ t → (k : ℕ)
-        → ((j : ℕ) → j < lowest_shut cs → is_shut (slice_index_or cs j no_connection) ≡ false)
-        → k < (if t then 0 else suc (lowest_shut cs)) → is_shut (slice_index_or (c ∷ cs) k no_connection) ≡ false
-    by true e k on l = absurd (omega arith)
-    by false e zero on l = e
-    by false e (suc k) on l = on k (omega arith)
+below_lowest (c ∷ cs) zero h = grind (arith, h)
+below_lowest (c ∷ cs) (suc k) h = grind (arith, h, below_lowest cs k)
 
 -- which place is the lowest closed one depends on the phases alone
 pub lowest_shut_same : (cs ks : List Connection) → length cs ≡ length ks

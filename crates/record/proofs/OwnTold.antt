@@ -6,10 +6,10 @@ use Rattle.text.proofs.Scanning.{list_all_at, list_all_by_place}
 use Rattle.text.proofs.Choices.{both}
 use Rattle.record.specs.Limits.{lamps_most, lamp_limit, errors_count, error_most}
 use Rattle.record.specs.Rules.{at_most, is_lamp, is_lamps}
-use Rattle.record.specs.Facts.{IsOwn}
+use Rattle.record.specs.Facts.{Fills, IsOwn}
 use Rattle.record.specs.declared.types.Settings.{Settings}
 use Rattle.record.specs.declared.types.Own.{Own}
-use Rattle.record.proofs.Kept.{Kept, kept_length, clear_by_place}
+use Rattle.record.proofs.Kept.{kept_length, clear_by_place}
 use Rattle.record.proofs.Rules.{errors_long, list_all-at_most, lamps_within}
 
 module _ (s : Settings) (o : Own) (t : IsOwn s o) where
@@ -30,7 +30,7 @@ module _ (s : Settings) (o : Own) (t : IsOwn s o) where
 -- lamps are legal by their places
 pub lamps_shown : (l : List ℕ) (n : ℕ) → length l ≡ lamps_most → n ≤ lamps_most
     → ((k : ℕ) → k < n → slice_index_or l k 0 ≤ lamp_limit) → ((k : ℕ) → n ≤ k → slice_index_or l k 0 ≡ 0) →
-    Kept lamps_most is_lamps l n
+    Fills lamps_most is_lamps l n
 unfolding is_lamps
 lamps_shown l n long inside within unused =
     let many : length (take n l) ≡ n = length-take-le n l (omega arith) in

@@ -2,15 +2,14 @@
 -- inputs.
 --   IsPaired f s k ok    the loop has passed k pairs, and ok is the answer for them
 -- Assumes nothing.
-use Rattle.std.proofs.Common.{ℕ, ◌+◌, ◌*◌, ◌≤◌, ◌<◌, ◌≡◌, refl, sym, ap, ◌∙◌, Bool, true, false, ◌&&◌, List, [], ◌∷◌}
+use Rattle.std.proofs.Common.{ℕ, ◌+◌, ◌*◌, ◌≤◌, ◌<◌, ◌≡◌, refl, sym, ap, ◌∙◌, Bool, true, ◌&&◌, List, [], ◌∷◌}
 use Rattle.std.proofs.Common.{⊎_elim, eq-or-lt_of_le, arith, length, slice_index_or, drop, drop_of_length-le, ◌==◌}
-use Rattle.std.proofs.Common.{eq-eqb, eqb-true}
+use Rattle.std.proofs.Common.{eq-eqb, eqb-true, nat_le}
 use Rattle.text.proofs.Choices.{both, both_left, both_right, by_not}
 use Rattle.words.specs.Inputs.{is_input_text}
 use Rattle.record.specs.Rules.{each_pair, is_none, is_new_input, each_named, is_inputs}
 use Rattle.record.proofs.Places.{two_left, one_left}
-use Rattle.record.proofs.Rules.{each_pair-is_new_input}
-use Rattle.record.proofs.Sifted.{together}
+use Rattle.record.specs.Limits.{is_class_number, input_room}
 
 module _ (f : ℕ → ℕ → Bool) (s : List ℕ) where
   abbrev each : List ℕ → Bool
@@ -32,23 +31,13 @@ module _ (f : ℕ → ℕ → Bool) (s : List ℕ) where
         two_left s (2 * k) h ∙ ap (λ (n : ℕ). x ∷ y ∷ drop n s) next in
         record {
           inside = omega arith;
-          rest =
-              p.rest
-              ∙ ap (λ (l : List ℕ). ok && each l) here
-              ∙ sym (together ok (f x y) (each (drop (2 * (k + 1)) s)));
+          rest = grind (arith, p.rest, ap each here);
         }
 
     -- what is left is nothing, or one character without a partner
     left : length s ≤ 2 * k + 1 → (length s == (2 * k)) ≡ each (drop (2 * k) s)
     unfolding each_pair
-    left h =
-        ⊎_elim
-        (λ (e : 2 * k ≡ length s).
-        eq-eqb (length s) (2 * k) (sym e) ∙ sym (ap each (drop_of_length-le s {i = 2 * k} (omega arith))))
-        (λ (l : 2 * k < length s).
-        by_not (length s == (2 * k)) (λ e. let z = eqb-true (length s) (2 * k) e in omega arith)
-        ∙ sym (ap each (one_left s (2 * k) l h)))
-        (eq-or-lt_of_le p.inside)
+    left h = grind (arith, ⊎_elim, eq-eqb, drop_of_length-le, by_not, eqb-true, one_left, eq-or-lt_of_le)
 
     pub all_paired : length s ≤ 2 * k + 1 → (ok && length s == (2 * k)) ≡ each s
     all_paired h = ap (λ (b : Bool). ok && b) (left h) ∙ sym p.rest
@@ -65,7 +54,9 @@ module _ (k : ℕ) where
       (both_left (is_new_input k a b s) (each_pair (is_new_input k) s) h))
       (new_named s (both_right (is_new_input k a b s) (each_pair (is_new_input k) s) h))
 
-  pub inputs_unnamed : (s : List ℕ) → each_named k s ≡ false → is_inputs k s ≡ false
-  inputs_unnamed s e = by_not (is_inputs k s) (λ h.
-      let n = new_named s (each_pair-is_new_input k s h) in
-      let z : ◌≡◌ {A = ℕ} 0 1 = cc in omega arith)
+  -- and so that they name inputs may be tested first
+  pub inputs_named_first : (s : List ℕ) → is_inputs k s
+      ≡ (each_named k s && is_class_number k && nat_le 2 (length s) && nat_le (length s) input_room
+      && each_pair (is_new_input k) s)
+  unfolding is_inputs
+  inputs_named_first s = grind (arith, new_named s)

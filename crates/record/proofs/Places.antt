@@ -4,25 +4,15 @@ use Rattle.std.proofs.Common.{ℕ, zero, suc, ◌+◌, ◌*◌, ◌≤◌, ◌<�
 use Rattle.std.proofs.Common.{◌∷◌, eq-or-lt_of_le, add-one, arith, length, slice_index_or, drop, drop_of_length-le}
 use Rattle.std.proofs.Common.{drop-cons}
 use Rattle.std.proofs.lemmas.Bool.{false≢true}
-use Rattle.text.proofs.Choices.{both_left, both_right}
 use Rattle.record.specs.Rules.{each_pair}
 
 -- a pair that is there, and a last element that has no partner
 pub two_left : (s : List ℕ) (i : ℕ) → i + 1 < length s →
     drop i s ≡ slice_index_or s i 0 ∷ slice_index_or s (i + 1) 0 ∷ drop (i + 2) s
-two_left s i h =
-    let g : i < length s = omega arith in
-    let one : suc i ≡ i + 1 = sym (add-one i) in
-    let two : suc (i + 1) ≡ i + 2 = omega arith in
-    drop-cons s i 0 g
-    ∙ ap (λ (k : ℕ). slice_index_or s i 0 ∷ drop k s) one
-    ∙ ap (λ (l : List ℕ). slice_index_or s i 0 ∷ l) (drop-cons s (i + 1) 0 h)
-    ∙ ap (λ (k : ℕ). slice_index_or s i 0 ∷ slice_index_or s (i + 1) 0 ∷ drop k s) two
+two_left s i h = grind (arith, add-one, drop-cons)
 
 pub one_left : (s : List ℕ) (i : ℕ) → i < length s → length s ≤ i + 1 → drop i s ≡ slice_index_or s i 0 ∷ []
-one_left s i h g =
-    let none : drop (suc i) s ≡ [] = drop_of_length-le s {i = suc i} (omega arith) in
-    drop-cons s i 0 h ∙ ap (λ (l : List ℕ). slice_index_or s i 0 ∷ l) none
+one_left s i h g = grind (arith, drop_of_length-le, drop-cons)
 
 -- a list of pairs: what is left after k of them, the pair at k, and the length
 module _ (f : ℕ → ℕ → List ℕ → Bool) (s : List ℕ) (h : each_pair f s ≡ true) where
@@ -36,16 +26,11 @@ module _ (f : ℕ → ℕ → List ℕ → Bool) (s : List ℕ) (h : each_pair f
   each_pair-drop (suc k) l =
       let next : 2 * k + 2 ≡ 2 * suc k = omega arith in
       let e = here (2 * k) (omega arith) (each_pair-drop k (omega arith)) in
-      ap (λ (i : ℕ). each_pair f (drop i s)) (sym next)
-      ∙ both_right (f (slice_index_or s (2 * k) 0) (slice_index_or s (2 * k + 1) 0) (drop (2 * k + 2) s))
-      (each_pair f (drop (2 * k + 2) s)) e
+      ap (λ (i : ℕ). each_pair f (drop i s)) (sym next) ∙ grind (arith, e)
 
   pub pair_at : (k : ℕ) → 2 * k + 1 < length s
       → f (slice_index_or s (2 * k) 0) (slice_index_or s (2 * k + 1) 0) (drop (2 * k + 2) s) ≡ true
-  pair_at k l =
-      both_left (f (slice_index_or s (2 * k) 0) (slice_index_or s (2 * k + 1) 0) (drop (2 * k + 2) s))
-      (each_pair f (drop (2 * k + 2) s))
-      (here (2 * k) l (each_pair-drop k (omega arith)))
+  pair_at k l = grind (arith, here (2 * k) l (each_pair-drop k (omega arith)))
 
   pub pairs_even : (k : ℕ) → 2 * k ≤ length s → length s ≤ 2 * k + 1 → length s ≤ 2 * k
   unfolding each_pair

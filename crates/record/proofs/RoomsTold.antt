@@ -1,28 +1,18 @@
--- What fills a room of a record, by what is used of it.
+-- The lamps of a record fit their room, and their marks, by what is used of it.
 -- Assumes nothing.
 use Rattle.std.proofs.Common.{◌≡◌, ℕ, ◌≤◌, Bool, true, List, length, arith, ◌&&◌}
 use Rattle.std.specs.Prelude.{is_some, not, ◌==◌, ◌||◌}
 use Rattle.std.proofs.lemmas.Grind.{common_steps}
 use Rattle.std.specs.List.{list_all}
-use Rattle.text.specs.Rooms.{used, holds}
-use Rattle.text.proofs.RoomsTold.{is_some_used, holds_used, uses_told}
-use Rattle.words.specs.Texts.{input_name_most}
-use Rattle.record.specs.Limits.{listed_most, lamps_most}
+use Rattle.text.specs.Rooms.{used}
+use Rattle.text.proofs.RoomsTold.{is_some_used, uses_told}
+use Rattle.record.specs.Limits.{lamps_most}
 use Rattle.record.specs.Rules.{is_marks}
-use Rattle.record.specs.Legal.{is_zero, fills_room, fills_name_room, is_names}
-use Rattle.record.specs.declared.types.InputName.{InputName}
+use Rattle.record.specs.Legal.{is_zero, fills_room}
 
--- a room of which so much is used has that room, and the code tests what stands in it
 pub fills_inside : (room : ℕ) (rule : List ℕ → Bool) (s : List ℕ) (n : ℕ) → fills_room room rule s n ≡ true → n ≤ room
 unfolding fills_room
 fills_inside room rule s n h = ((uses_told is_zero room rule s n).0 h).inside
-
-pub names_used : (n : ℕ) (ns : List InputName) → n ≤ listed_most → length ns ≡ listed_most → is_names n ns
-    ≡ holds (list_all (fills_name_room input_name_most)) (used (fills_name_room 0) listed_most ns n)
-unfolding is_names
-names_used n ns few long =
-    let named = list_all (fills_name_room input_name_most) in
-    grind (arith, common_steps, holds_used (fills_name_room 0) listed_most named ns n few long)
 
 pub marks_used : (n : ℕ) (ms : List Bool) → n ≤ lamps_most → length ms ≡ lamps_most → is_marks n ms
     ≡ (is_some (used not lamps_most ms n) && (n == 0 || not (list_all not ms)))

@@ -1,33 +1,14 @@
 -- What the rules of set-up tell of what follows them.
 -- Assumes nothing.
 use Rattle.std.specs.List.{list_all}
-use Rattle.std.proofs.Common.{ℕ, ◌≤◌, ◌<◌, ◌≡◌, sym, ap, ◌∙◌, true, not, ◌⊎◌, inl, inr, ⊎_elim, List, [], arith, length}
-use Rattle.std.proofs.Common.{◌==◌}
-use Rattle.std.proofs.lemmas.Bool.{false≢true}
+use Rattle.std.proofs.Common.{ℕ, ◌≤◌, ◌<◌, ◌≡◌, true, ◌⊎◌, inl, inr, ⊎_elim, List, [], arith, length}
 use Rattle.text.proofs.Orders.{le_or_lt}
-use Rattle.text.proofs.Choices.{if_all, by_not}
-use Rattle.words.specs.Texts.{is_refusal, is_text, is_password, is_input_name}
+use Rattle.words.specs.Texts.{is_text, is_input_name}
 use Rattle.words.proofs.Refusals.{refusal_long}
 use Rattle.words.proofs.WithinLength.{text_within, text_longer}
 use Rattle.record.specs.Limits.{input_room, lamps_most, errors_count, error_most, is_class_number, only_in_2}
-use Rattle.record.specs.Rules.{is_long_enough, is_set_up_password}
 use Rattle.record.specs.Rules.{at_most, each_pair, is_new_input, is_inputs, is_lamp, is_lamps, is_error_list}
 use Rattle.record.specs.Rules.{are_names}
-
-module _ (s : List ℕ) where
-  module _ (h : is_set_up_password s ≡ true) where
-    -- a password of ours is one that the controller's writer takes
-    pub set_up_password_written : is_password s ≡ true
-    unfolding is_set_up_password
-    set_up_password_written = grind (arith, h)
-
-    pub set_up_password_long : is_long_enough (length s) ≡ true
-    unfolding is_set_up_password
-    set_up_password_long = grind (arith, h)
-
-  pub set_up_password_shown : is_password s ≡ true → is_long_enough (length s) ≡ true → is_set_up_password s ≡ true
-  unfolding is_set_up_password
-  set_up_password_shown h k = grind (arith, h, k)
 
 module _ (ds : List ℕ) (h : is_error_list ds ≡ true) where
   pub errors_long : length ds ≡ errors_count
@@ -67,16 +48,10 @@ module _ (k : ℕ) (s : List ℕ) (h : is_inputs k s ≡ true) where
 
 -- one of two classes
 pub class_one_of : (k : ℕ) → is_class_number k ≡ true → (k ≡ 1) ⊎ (k ≡ 2)
-class_one_of k h = ⊎_elim one two (le_or_lt k 1)
-  where
-    one : k ≤ 1 → (k ≡ 1) ⊎ (k ≡ 2)
-    one l = inl (grind (arith, h))
-
-    two : 1 < k → (k ≡ 1) ⊎ (k ≡ 2)
-    two l = inr (grind (arith, h))
+class_one_of k h = ⊎_elim (λ (l : k ≤ 1). inl (grind (arith, h))) (λ (l : 1 < k). inr (grind (arith, h))) (le_or_lt k 1)
 
 pub only_in_2_within : (k n : ℕ) → only_in_2 k n ≤ n
-only_in_2_within k n = if_all (λ (m : ℕ). m ≤ n) (k == 2) (omega arith) (omega arith)
+only_in_2_within k n = grind arith
 
 -- names of n inputs
 module _ (n : ℕ) (ns : List (List ℕ)) where
@@ -96,15 +71,10 @@ module _ (n : ℕ) (ns : List (List ℕ)) where
 -- a text stays one where more bytes are allowed, and none is one
 module _ (s : List ℕ) where
   pub text_most : (m : ℕ) → is_text m s ≡ true → length s ≤ m
-  text_most m h =
-      ⊎_elim (λ (l : length s ≤ m). l) (λ (l : m < length s). absurd (false≢true (sym (text_longer s m l) ∙ h)))
-      (le_or_lt (length s) m)
+  text_most m h = grind (arith, h, text_longer s m)
 
   pub text_wider : (m n : ℕ) → m ≤ n → is_text m s ≡ true → is_text n s ≡ true
-  text_wider m n l h =
-      text_within s n (omega (arith, text_most m h)) ∙ sym (text_within s m (text_most m h)) ∙ h
+  text_wider m n l h = grind (arith, h, text_most m h, text_within s n, text_within s m)
 
 pub empty_text : (m : ℕ) → is_text m [] ≡ true
-empty_text m =
-    text_within [] m (omega arith)
-    ∙ ap not (by_not (is_refusal []) (λ r. omega (arith, refusal_long [] r)))
+empty_text m = grind (arith, text_within [] m, refusal_long [])

@@ -1,6 +1,6 @@
 -- What legal settings tell, and how they are shown (the crates above never open `is_settings`).
 -- Assumes nothing.
-use Rattle.std.proofs.Common.{ℕ, ◌+◌, ◌*◌, ◌≤◌, ◌<◌, ◌≡◌, sym, ◌∙◌, Bool, true, List, arith, length, slice_index_or}
+use Rattle.std.proofs.Common.{ℕ, ◌+◌, ◌*◌, ◌≤◌, ◌<◌, ◌≡◌, sym, ◌∙◌, true, List, arith, length}
 use Rattle.std.proofs.Common.{take, get_or-take}
 use Rattle.words.specs.Bytes.{◌at◌}
 use Rattle.words.specs.Texts.{is_info, is_password, info_most, password_most}
@@ -8,23 +8,18 @@ use Rattle.words.specs.Inputs.{is_input_text}
 use Rattle.words.proofs.InputsReadBack.{named_widely}
 use Rattle.record.specs.Limits.{text_room, input_room, listed_most, is_class_number}
 use Rattle.record.specs.Rules.{is_inputs}
-use Rattle.record.specs.Record.{blank_name}
 use Rattle.record.specs.declared.types.Text.{Text}
 use Rattle.record.specs.declared.types.Settings.{Settings}
 use Rattle.words.proofs.TextsTold.{password_long}
 use Rattle.record.specs.Facts.{IsSettings}
-use Rattle.record.proofs.Kept.{Kept, kept_length}
+use Rattle.record.proofs.Kept.{kept_length}
 use Rattle.record.proofs.Rules.{inputs_class, inputs_some}
 use Rattle.record.proofs.Rules.{only_in_2_within, text_wider}
-use Rattle.record.proofs.NamesTold.{NameKept, name_kept}
 use Rattle.record.proofs.InputsTold.{input_named, inputs_differ}
 
 -- the bytes of a text
 abbrev pub bytes_of : Text → List ℕ
 bytes_of t = take t.len t.bytes
-
-abbrev pub TextKept : (List ℕ → Bool) → Text → Type 0
-TextKept rule t = Kept text_room rule t.bytes t.len
 
 -- from the settings: the password, the number of inputs, each input
 module _ (s : Settings) (t : IsSettings s) where
@@ -70,10 +65,6 @@ module _ (s : Settings) (t : IsSettings s) where
   pub version_told : is_info (bytes_of s.version) ≡ true
   version_told = text_wider (bytes_of s.version) _ info_most (only_in_2_within s.class_number info_most)
       t.version.follows
-
-  -- the name at any place, one of the list or not
-  pub name_at : (k : ℕ) → NameKept (slice_index_or s.names k blank_name)
-  name_at k = name_kept _ s.names t.names k
 
   pub inputs_apart : (j k : ℕ) → j < k → k < s.input_count → s.inputs at (2 * k) ≡ s.inputs at (2 * j)
       → s.inputs at (2 * k + 1) ≡ s.inputs at (2 * j + 1) → ⊥

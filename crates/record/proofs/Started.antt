@@ -1,7 +1,7 @@
 -- What set-up leaves: an accepted one a legal record, a refused one the blank record, which is not legal.
 -- Assumes nothing.
-use Rattle.std.proofs.Common.{ℕ, ◌*◌, ◌/◌, ◌<◌, ◌≡◌, refl, sym, ap, subst, ◌∙◌, true, false, List, arith, length}
-use Rattle.std.proofs.Common.{slice_index_or, drop}
+use Rattle.std.proofs.Common.{ℕ, ◌-◌, ◌*◌, ◌/◌, ◌<◌, ◌≡◌, refl, sym, subst, true, false, List, arith, length}
+use Rattle.std.proofs.Common.{slice_index_or}
 use Rattle.std.proofs.Math.ListN.{get_or-append}
 use Rattle.text.proofs.Choices.{by_not}
 use Rattle.words.specs.Texts.{is_text, is_name, is_info, is_password, info_most}
@@ -10,8 +10,8 @@ use Rattle.record.specs.Wanted.{Wanted}
 use Rattle.record.specs.Rules.{is_new_input, is_inputs, is_lamps, is_error_list}
 use Rattle.record.specs.Record.{zeros, in_room, names_kept, closed, all_closed, all_marks, settings_of}
 use Rattle.record.specs.Record.{start_own, started, blank}
-use Rattle.record.specs.Legal.{is_names, is_settings, is_own, is_legal}
-use Rattle.record.specs.Facts.{Fills}
+use Rattle.record.specs.Legal.{is_settings, is_own, is_legal}
+use Rattle.record.specs.Facts.{Fills, IsNames}
 use Rattle.record.specs.Places.{connection_at}
 use Rattle.record.specs.SetUp.{is_setting_in_range, is_set_up, set_up}
 use Rattle.record.specs.Given.{set_up_given}
@@ -27,7 +27,7 @@ use Rattle.record.proofs.Places.{pairs_even}
 use Rattle.record.proofs.Kept.{filled_kept}
 use Rattle.record.specs.declared.views.Power.TheVariants.{Off}
 use Rattle.record.proofs.PowerSeen.{written}
-use Rattle.record.proofs.FactsTold.{own_is, settings_is, stretch_is, names_is}
+use Rattle.record.proofs.FactsTold.{own_is, settings_is, stretch_is}
 use Rattle.record.proofs.MarksTold.{all_marks_legal}
 use Rattle.record.proofs.ConnectionsTold.{all_closed_legal, all_closed_at}
 use Rattle.record.proofs.LegalTold.{legal_by_parts, settings_of_legal}
@@ -63,13 +63,13 @@ module _ (w : Wanted) where
         filled_kept text_room (is_text (only_in_2 w.class info_most)) s
         (omega (arith, text_most s _ t, only_in_2_within w.class info_most)) t
 
-    named : is_names (only_in_2 w.class (length w.inputs / 2)) (names_kept w.names) ≡ true
+    named : IsNames (only_in_2 w.class (length w.inputs / 2)) (names_kept w.names)
     named =
         let many = names_many _ w.names (met Names) in
         let few = inputs_few _ w.inputs (met Inputs) in
-        ap (λ (n : ℕ). is_names n (names_kept w.names)) (sym many)
-        ∙ names_kept_lem w.names (omega (arith, only_in_2_within w.class (length w.inputs / 2)))
-        (names_each _ w.names (met Names))
+        subst (λ (n : ℕ). IsNames n (names_kept w.names)) many
+        (names_kept_lem w.names (omega (arith, only_in_2_within w.class (length w.inputs / 2)))
+        (names_each _ w.names (met Names)))
 
     is_settings-settings_of : is_settings (settings_of w) ≡ true
     is_settings-settings_of = (settings_is (settings_of w)).1 (record {
@@ -90,7 +90,7 @@ module _ (w : Wanted) where
       cool = (stretch_is w.cool).0 (met Cooling);
       serial = info_in_2_kept w.serial (met Serial);
       version = info_in_2_kept w.version (met Version);
-      names = (names_is _ _).0 named;
+      names = named;
     })
 
     own_legal : is_own (settings_of w) (start_own w.lamps) ≡ true
@@ -113,7 +113,7 @@ module _ (w : Wanted) where
   pub started_lamp : (k : ℕ) → k < length w.lamps →
       slice_index_or (started w).own.lamps k 0 ≡ slice_index_or w.lamps k 0
   unfolding started in_room
-  started_lamp k l = get_or-append w.lamps (drop (length w.lamps) (zeros lamps_most)) 0 k l
+  started_lamp k l = get_or-append w.lamps (zeros (lamps_most - length w.lamps)) 0 k l
 
   -- each lamp is enabled (RULES, Lamps)
   pub started_marks : (started w).own.enabled ≡ all_marks (length w.lamps)

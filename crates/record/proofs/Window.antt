@@ -3,13 +3,10 @@
 -- Assumes nothing.
 use Rattle.std.specs.List.{list_all}
 use Rattle.std.proofs.Common.{◌≡◌, ℕ, ◌+◌, ◌-◌, ◌<◌, ◌≤◌, min, List, ◌++◌, length, take, drop}
-use Rattle.std.proofs.Common.{replicate, ◌∙◌, arith, eq-eqb, false, not, ◌&&◌, zero, suc, slice_index_or, nat_le}
-use Rattle.std.proofs.Common.{le-leb, ⊎_elim}
+use Rattle.std.proofs.Common.{replicate, ◌∙◌, arith, false, not, ◌&&◌, zero, suc, slice_index_or, nat_le}
 use Rattle.std.specs.Prelude.{◌==◌, is_some}
-use Rattle.std.proofs.lemmas.Bool.{ne_eqb, lt-leb}
 use Rattle.std.proofs.lemmas.List.{get_or-take, get_or-drop, get_or-replicate, get_or_append_left, length-replicate}
 use Rattle.std.proofs.Math.Seq.{get_or-append_right}
-use Rattle.text.proofs.Orders.{le_or_lt}
 use Rattle.words.specs.Texts.{is_text_byte, is_text, is_refusal}
 use Rattle.words.proofs.WithinLength.{text_within, text_longer}
 use Rattle.text.specs.Rooms.{used}
@@ -51,81 +48,32 @@ module _ (n m k : ℕ) (used : n ≤ 128) (room : m ≤ 128) (h : k < m) where
 
 module _ (b w r : ℕ) (low : r ≡ min b 0x20) where
   pub low_used : b ≤ 0xFF → w ≡ 0x20 → (r == w) ≡ is_text_byte b
-  low_used small e = ⊎_elim over under (le_or_lt 0x20 b)
-    where
-      over : 0x20 ≤ b → (r == w) ≡ is_text_byte b
-      over g = rw (le-leb 0x20 b g, le-leb b 0xFF small) (eq-eqb r w (omega arith))
-
-      under : b < 0x20 → (r == w) ≡ is_text_byte b
-      under g = rw (lt-leb 0x20 b g) (ne_eqb r w (omega arith))
+  low_used small e = grind (arith, low, e)
 
   pub low_unused : w ≡ 0 → (r == w) ≡ is_zero b
-  low_unused e = ⊎_elim over under (le_or_lt 1 b)
-    where
-      over : 1 ≤ b → (r == w) ≡ is_zero b
-      over g = rw (ne_eqb b 0 (omega arith)) (ne_eqb r w (omega arith))
-
-      under : b < 1 → (r == w) ≡ is_zero b
-      under g = rw (eq-eqb b 0 (omega arith)) (eq-eqb r w (omega arith))
+  low_unused e = grind (arith, low, e)
 
 -- the rule of a text, by the tests of its length and of its bytes
 text_by_tests : (s : List ℕ) (m : ℕ) →
     is_text m s ≡ (nat_le (length s) m && list_all is_text_byte s && not (is_refusal s))
-text_by_tests s m = ⊎_elim short over (le_or_lt (length s) m)
-  where
-    short : length s ≤ m → is_text m s ≡ (nat_le (length s) m && list_all is_text_byte s && not (is_refusal s))
-    short h = grind (arith, common_steps, text_within s m h)
-
-    over : m < length s → is_text m s ≡ (nat_le (length s) m && list_all is_text_byte s && not (is_refusal s))
-    over h = grind (arith, common_steps, text_longer s m h)
+text_by_tests s m = grind (arith, common_steps, text_within s m, text_longer s m)
 
 -- a text in its room, by what one pass finds: the tests in their order
 pub text_filled : (room : ℕ) (s : List ℕ) (n most : ℕ) → length s ≡ room → fills_room room (is_text most) s n
     ≡ (nat_le n most && nat_le n room && (list_all is_zero (drop n s) && list_all is_text_byte (take n s))
     && not (is_refusal (take n s)))
 unfolding fills_room
-text_filled room s n most long = ⊎_elim inside over (le_or_lt n room)
-  where
-    inside : n ≤ room → fills_room room (is_text most) s n
-        ≡ (nat_le n most && nat_le n room && (list_all is_zero (drop n s) && list_all is_text_byte (take n s))
-        && not (is_refusal (take n s)))
-    inside h =
-        let many : length (take n s) ≡ n = length-take-le n s (omega arith) in
-        let rule = text_by_tests (take n s) most in
-        let blank = used_blank is_zero room s n long h in
-        grind (arith, common_steps, blank, used_not_blank is_zero room s n long h, rule, many)
-
-    over : room < n → fills_room room (is_text most) s n
-        ≡ (nat_le n most && nat_le n room && (list_all is_zero (drop n s) && list_all is_text_byte (take n s))
-        && not (is_refusal (take n s)))
-    over h = grind (arith, common_steps, used_many is_zero room s n long h)
+text_filled room s n most long = grind (arith, used_blank, used_not_blank, used_many, text_by_tests, length-take-le)
 
 -- no name in its room: nothing of it is used
 module _ (room : ℕ) (s : List ℕ) (long : length s ≡ room) where
   none_named : fills_room room (is_text 0) s 0 ≡ is_some (used is_zero room s 0)
   unfolding fills_room
-  none_named =
-      grind (
-        arith,
-        common_steps,
-        empty_text 0,
-        is_some_used is_zero room s 0 long,
-        holds_used is_zero room (is_text 0) s 0 (omega arith) long,
-      )
+  none_named = grind (arith, empty_text, is_some_used, holds_used)
 
   some_named : (n : ℕ) → 0 < n → fills_room room (is_text 0) s n ≡ false
   unfolding fills_room
-  some_named n some = ⊎_elim inside over (le_or_lt n room)
-    where
-      inside : n ≤ room → fills_room room (is_text 0) s n ≡ false
-      inside h =
-          let many : length (take n s) ≡ n = length-take-le n s (omega arith) in
-          let longer = text_longer (take n s) 0 (omega arith) in
-          let blank = used_blank is_zero room s n long h in
-          grind (arith, common_steps, blank, used_not_blank is_zero room s n long h, longer)
-
-      over : room < n → fills_room room (is_text 0) s n ≡ false
-      over h = grind (arith, common_steps, used_many is_zero room s n long h)
+  some_named n some = grind (arith, used_blank, used_not_blank, used_many, text_longer, length-take-le)
 
   pub no_name : (n : ℕ) → fills_room room (is_text 0) s n ≡ (n == 0 && is_some (used is_zero room s 0))
   no_name zero = none_named

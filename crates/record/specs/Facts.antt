@@ -8,7 +8,7 @@
 --   IsConnection c            the connection is legal
 --   IsLegal d                 the record is
 -- Assumes nothing.
-use Rattle.std.specs.Prelude.{ℕ, ◌*◌, ◌≤◌, ◌<◌, ◌≡◌, IsTrue, Bool, List, All, length, take, drop}
+use Rattle.std.specs.Prelude.{ℕ, ◌*◌, ◌≤◌, ◌<◌, ◌≡◌, IsTrue, Bool, List, All, length}
 use Rattle.std.specs.List.{list_all}
 use Rattle.text.specs.Rooms.{Uses}
 use Rattle.words.specs.Bytes.{no_cr}
@@ -31,10 +31,8 @@ pub record IsStretch (n : ℕ) : Type 0 where
   pub low : 1 ≤ n
   pub high : n ≤ stretch_most
 
-pub record IsNames (n : ℕ) (ns : List InputName) : Type 0 where
-  pub long : length ns ≡ listed_most
-  pub used : IsTrue (list_all (fills_name_room input_name_most) (take n ns))
-  pub unused : IsTrue (list_all (fills_name_room 0) (drop n ns))
+abbrev pub IsNames : ℕ → List InputName → Type 0
+IsNames n ns = Uses (fills_name_room 0) listed_most (list_all (fills_name_room input_name_most)) ns n
 
 pub record IsSettings (s : Settings) : Type 0 where
   pub name : Fills text_room is_name s.name.bytes s.name.len

@@ -18,7 +18,7 @@
 --   is_legal d                the record is
 -- Assumes nothing.
 use Rattle.std.specs.List.{list_all}
-use Rattle.std.specs.Prelude.{ℕ, ◌*◌, Bool, not, ◌&&◌, ◌||◌, List, length, take, drop, if◌then◌else◌, nat_le, nat_lt}
+use Rattle.std.specs.Prelude.{ℕ, ◌*◌, Bool, not, ◌&&◌, ◌||◌, List, length, if◌then◌else◌, nat_le, nat_lt}
 use Rattle.std.specs.Prelude.{◌==◌}
 use Rattle.words.specs.Bytes.{no_cr}
 use Rattle.words.specs.Texts.{is_text, is_name, is_info, info_most, input_name_most}
@@ -49,8 +49,7 @@ fills_name_room most t = fills_room input_name_most (is_text most) t.bytes t.len
 
 unfoldable pub is_names : ℕ → List InputName → Bool
 is_names n ns =
-    length ns == listed_most && list_all (fills_name_room 0) (drop n ns)
-    && list_all (fills_name_room input_name_most) (take n ns)
+    holds (list_all (fills_name_room input_name_most)) (used (fills_name_room 0) listed_most ns n)
 
 unfoldable pub is_rest_of_2 : (class inputs : ℕ) (serial version : Text) (names : List InputName) → Bool
 is_rest_of_2 class inputs serial version names =

@@ -13,8 +13,8 @@
 --   start_own lamps      the same, with the lamps' starting seconds, each lamp enabled, and both volumes half way
 --   started w            the device that an accepted set-up gives
 -- Assumes nothing.
-use Rattle.std.specs.Prelude.{ℕ, ◌-◌, ◌/◌, Bool, true, false, List, ◌++◌, map, length, replicate}
-use Rattle.text.specs.Words.{over}
+use Rattle.std.specs.Prelude.{ℕ, ◌/◌, Bool, true, false, List, map, length, replicate}
+use Rattle.text.specs.Rooms.{kept}
 use Rattle.words.specs.Texts.{input_name_most}
 use Rattle.record.specs.Limits.{text_room, input_room, listed_most, lamps_most, line_room}
 use Rattle.record.specs.Limits.{errors_count, places_count, off, shut, volume_start}
@@ -31,7 +31,7 @@ abbrev pub zeros : ℕ → List ℕ
 zeros n = replicate n 0
 
 unfoldable pub in_room : ℕ → List ℕ → List ℕ
-in_room n s = over s (zeros n)
+in_room n s = kept 0 n s
 
 abbrev pub text_of : List ℕ → Text
 text_of s = record { len = length s; bytes = in_room text_room s }
@@ -43,7 +43,7 @@ abbrev pub blank_name : InputName
 blank_name = record { len = 0; bytes = zeros input_name_most }
 
 unfoldable pub names_kept : List (List ℕ) → List InputName
-names_kept ns = map name_of ns ++ replicate (listed_most - length ns) blank_name
+names_kept ns = kept blank_name listed_most (map name_of ns)
 
 unfoldable pub closed : Connection
 closed = record {
@@ -91,7 +91,7 @@ blank_own = record {
 }
 
 unfoldable pub all_marks : ℕ → List Bool
-all_marks n = replicate n true ++ replicate (lamps_most - n) false
+all_marks n = kept false lamps_most (replicate n true)
 
 abbrev pub start_own : List ℕ → Own
 start_own lamps =

@@ -10,14 +10,14 @@ ghost use Rattle.record.specs.Rules.{are_names};
 use crate::class;
 use words::texts;
 
-// A text of at most 32 bytes, of Class 2 alone.
+/// A text of at most 32 bytes, of Class 2 alone: none in any other class.
 pub fn info_fits(class: u8, s: &[u8]) -> bool
     ensures { result ≡ is_text (only_in_2 class info_most) s.now }
 {
     texts::is_text(s, class::only_in_2(class, 32))
 }
 
-// A name for each input, of Class 2 alone.
+/// A name for each of so many inputs, of Class 2 alone: none in any other class.
 pub fn names_fit(class: u8, inputs: usize, bytes: &[u8], lengths: &[usize]) -> bool
     ensures { result ≡ are_names (only_in_2 class inputs) (names_in lengths.now bytes.now) }
 {
@@ -41,7 +41,7 @@ fn are_names(bytes: &[u8], lengths: &[usize], count: usize) -> bool
     if at != bytes.len() {
         return count == 0;
     }
-    (lengths.len() == count) & ok
+    lengths.len() == count && ok
 }
 
 /// The first name that stands in `row` after its length in one byte, and what follows it. Past the end there is no
@@ -61,11 +61,11 @@ pub fn first_counted(row: &[u8]) -> (&[u8], &[u8])
 
 /// Whether there are as many names as Class 2 wants of so many inputs, each after its length in one byte: at most 128
 /// bytes each.
-#[tactic(auto, using(crate::proofs::CountedNames::counted_fits))]
+#[tactic(auto, using(crate::proofs::CountedNames::counted_many), unfolding(crate::specs::Rules::are_names))]
 pub fn counted_fit(class: u8, inputs: usize, row: &[u8], count: usize) -> bool
     ensures { result ≡ are_names (only_in_2 class inputs) (counted_in count row.now) }
 {
-    (count == class::only_in_2(class, inputs)) & are_counted(row, count)
+    count == class::only_in_2(class, inputs) && are_counted(row, count)
 }
 
 fn are_counted(row: &[u8], count: usize) -> bool

@@ -9,37 +9,42 @@ use crate::scan;
 use crate::types::{ERRORS, LAMPS_MOST, Own, Settings};
 use text::rooms;
 
-// 99,999 hours and 3,599 seconds.
+/// The most seconds that a lamp has burnt: 99,999 hours and 3,599 seconds.
 pub const LAMP_LIMIT: u32 = 359_999_999;
 
+/// The highest error digit.
 pub const ERROR_MOST: u8 = 2;
 
-// A volume's levels, and that of set-up (RULES, Class 2).
+/// The highest level of a volume (RULES, Class 2).
 pub const VOLUME_MOST: u8 = 20;
 
+/// The level of both volumes after set-up.
 pub const VOLUME_START: u8 = 10;
 
-// The power, as POWR answers it.
+/// The power as POWR answers it: off.
 pub const OFF: u8 = 0;
 
+/// On.
 pub const ON: u8 = 1;
 
+/// Cooling.
 pub const COOLING: u8 = 2;
 
+/// Warm-up.
 pub const WARMING: u8 = 3;
 
-// A lamp burns in warm-up and power-on.
+/// Whether lamps burn in this power: in warm-up and on.
 pub fn is_lit(power: u8) -> bool
     ensures { result ≡ is_lit power }
 {
-    (power == WARMING) | (power == ON)
+    matches!(power, WARMING | ON)
 }
 
-// Seconds are left in warm-up and cooling.
+/// Whether seconds are left of this power: of warm-up and of cooling.
 pub fn is_between(power: u8) -> bool
     ensures { result ≡ is_between power }
 {
-    (power == WARMING) | (power == COOLING)
+    matches!(power, WARMING | COOLING)
 }
 
 /// 0 to 8 lamps, each within the limit.
@@ -47,7 +52,7 @@ pub fn is_between(power: u8) -> bool
 pub fn lamps_ok(s: &[u32]) -> bool
     ensures { result ≡ is_lamps s.now }
 {
-    (s.len() <= LAMPS_MOST) & scan::numbers_within(s, LAMP_LIMIT)
+    s.len() <= LAMPS_MOST && scan::numbers_within(s, LAMP_LIMIT)
 }
 
 #[tactic(auto, unfolding(crate::specs::Legal::fills_room))]
@@ -78,7 +83,7 @@ fn marks_ok(marks: &[bool; LAMPS_MOST], count: usize) -> bool
 pub fn errors_ok(s: &[u8]) -> bool
     ensures { result ≡ is_error_list s.now }
 {
-    (s.len() == ERRORS) & scan::bytes_within(s, ERROR_MOST)
+    s.len() == ERRORS && scan::bytes_within(s, ERROR_MOST)
 }
 
 // Seconds left: 1 to `warm` in warm-up, 1 to `cool` in cooling, else 0.
@@ -86,13 +91,12 @@ pub fn errors_ok(s: &[u8]) -> bool
 fn left_ok(power: u8, left: u32, warm: u32, cool: u32) -> bool
     ensures { result ≡ is_left power left warm cool }
 {
-    if power == WARMING {
-        return (1 <= left) & (left <= warm);
+    match power {
+        WARMING => 1 <= left && left <= warm,
+        COOLING => 1 <= left && left <= cool,
+        OFF | ON => left == 0,
+        _ => false,
     }
-    if power == COOLING {
-        return (1 <= left) & (left <= cool);
-    }
-    (power <= WARMING) & (left == 0)
 }
 
 impl Own {

@@ -1,27 +1,32 @@
 // The device record (RULES, The legal record): numbers, bools, arrays and structs of these, so that it can cross to C.
+/// The room of a text, in bytes.
 pub const TEXT_ROOM: usize = 64;
 
-// RULES, Inputs: as many as the standard allows.
+/// The most inputs: as many as the standard allows (RULES, Inputs).
 pub const INPUTS_MOST: usize = 32;
 
+/// The room of a list of inputs, two characters each.
 pub const INPUT_ROOM: usize = 2 * INPUTS_MOST;
 
-// A password that secures has this many characters and more (RULES, Passwords).
+/// A password that secures has this many characters and more (RULES, Passwords).
 pub const PASSWORD_LEAST: usize = 8;
 
+/// The most lamps.
 pub const LAMPS_MOST: usize = 8;
 
-// Of an input's name (RULES, Class 2).
+/// The most bytes of an input's name (RULES, Class 2).
 pub const INPUT_NAME_MOST: usize = 128;
 
+/// The most bytes of a line before its CR: a digest of 32 and a command of 135.
 pub const LINE_ROOM: usize = 167;
 
+/// The error digits: of fan, lamp, temperature, cover, filter and other.
 pub const ERRORS: usize = 6;
 
-// Controllers that are connected at once (RULES, Places).
+/// The places for controllers: so many are connected at once (RULES, Places).
 pub const PLACES: usize = 4;
 
-// A text in its room. Here and in every array: what is not used is zero.
+/// A text in its room. Here and in every array: what is not used is zero.
 #[repr(C)]
 #[derive(Clone, Copy)]
 pub struct Text {
@@ -29,7 +34,7 @@ pub struct Text {
     pub bytes: [u8; TEXT_ROOM],
 }
 
-// The name of an input in its room (RULES, Class 2).
+/// The name of an input in its room (RULES, Class 2).
 #[repr(C)]
 #[derive(Clone, Copy)]
 pub struct InputName {
@@ -37,8 +42,8 @@ pub struct InputName {
     pub bytes: [u8; INPUT_NAME_MOST],
 }
 
-// What set-up was given, but for the lamps' starting seconds. An input is two ASCII characters.
-// What Class 2 alone has, serial, version and a name for each input, is all zero in Class 1 (RULES, Class 2).
+/// What set-up was given, but for the lamps' starting seconds. An input is two ASCII characters.
+/// What Class 2 alone has, serial, version and a name for each input, is all zero in Class 1 (RULES, Class 2).
 #[repr(C)]
 #[derive(Clone, Copy)]
 pub struct Settings {
@@ -58,7 +63,7 @@ pub struct Settings {
     pub names: [InputName; INPUTS_MOST],
 }
 
-// The projector's own part, which no connection touches but by a command.
+/// The projector's own part, which no connection touches but by a command.
 #[repr(C)]
 #[derive(Clone, Copy)]
 pub struct Own {
@@ -76,7 +81,7 @@ pub struct Own {
     pub microphone: u8,
 }
 
-// What is collected of a line.
+/// What is collected of a line.
 #[repr(C)]
 #[derive(Clone, Copy)]
 pub struct Line {
@@ -85,6 +90,7 @@ pub struct Line {
     pub bytes: [u8; LINE_ROOM],
 }
 
+/// What is kept of the controller at a place.
 #[repr(C)]
 #[derive(Clone, Copy)]
 pub struct Connection {
@@ -94,6 +100,7 @@ pub struct Connection {
     pub line: Line,
 }
 
+/// The device record: what a host keeps of a projector, and lends to each call.
 #[repr(C)]
 #[derive(Clone, Copy)]
 pub struct Device {
@@ -116,8 +123,8 @@ impl InputName {
     };
 }
 
-// All zero: off, both mutes off, the first input, no fault, error status 000000, no lamp enabled, not frozen, no
-// volume.
+/// All zero: off, both mutes off, the first input, no fault, error status 000000, no lamp enabled, not frozen, no
+/// volume.
 impl Own {
     pub const BLANK: Own = Own {
         power: 0,
@@ -148,7 +155,7 @@ impl Connection {
     };
 }
 
-// All zero: what a refused set-up returns. It has no input, so it is not legal.
+/// All zero: what a refused set-up returns. It has no input, so it is not legal.
 impl Device {
     pub const BLANK: Device = Device {
         settings: Settings {

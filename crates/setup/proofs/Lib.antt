@@ -1,3 +1,2 @@
 pub mod Refusals
 pub mod Fits
-pub mod KeptInRoom

@@ -14,7 +14,7 @@ use record::types::{INPUT_ROOM, INPUTS_MOST, InputName, LAMPS_MOST, Own, Text};
 use text::rooms;
 
 /// A text in its room: at most 64 bytes.
-#[tactic(auto, using(crate::proofs::KeptInRoom::kept_in_room))]
+#[tactic(auto, using(record::proofs::Kept::kept_in_room))]
 pub fn text_of(s: &[u8]) -> Text
     requires { length s.now ≤ text_room }
     ensures { result ≡ text_of s.now }
@@ -26,7 +26,7 @@ pub fn text_of(s: &[u8]) -> Text
 }
 
 /// An input's name in its room: at most 128 bytes (RULES, Class 2).
-#[tactic(auto, using(crate::proofs::KeptInRoom::kept_in_room))]
+#[tactic(auto, using(record::proofs::Kept::kept_in_room))]
 pub fn name_of(s: &[u8]) -> InputName
     requires { length s.now ≤ input_name_most }
     ensures { result ≡ name_of s.now }
@@ -81,7 +81,7 @@ fn keep_row(list: &mut [InputName; INPUTS_MOST], bytes: &[u8], lengths: &[usize]
 }
 
 /// A list of inputs in its room: two characters each, at most 32 inputs (RULES, Inputs).
-#[tactic(auto, using(crate::proofs::KeptInRoom::kept_in_room))]
+#[tactic(auto, using(record::proofs::Kept::kept_in_room))]
 pub fn input_room(s: &[u8]) -> [u8; INPUT_ROOM]
     requires { length s.now ≤ input_room }
     ensures { result ≡ in_room input_room s.now }
@@ -90,7 +90,7 @@ pub fn input_room(s: &[u8]) -> [u8; INPUT_ROOM]
 }
 
 /// The starting seconds of at most 8 lamps, in their room (RULES, Lamps).
-#[tactic(auto, using(crate::proofs::KeptInRoom::kept_in_room))]
+#[tactic(auto, using(record::proofs::Kept::kept_in_room))]
 pub fn lamp_room(s: &[u32]) -> [u32; LAMPS_MOST]
     requires { length s.now ≤ lamps_most }
     ensures { result ≡ in_room lamps_most s.now }
@@ -99,15 +99,12 @@ pub fn lamp_room(s: &[u32]) -> [u32; LAMPS_MOST]
 }
 
 /// Each of so many lamps is enabled (RULES, Lamps).
+#[tactic(auto, using(record::proofs::MarksTold::marks_kept))]
 pub fn mark_room(count: usize) -> [bool; LAMPS_MOST]
     requires { count ≤ lamps_most }
     ensures { result ≡ all_marks count }
 {
-    let mut list = [false; LAMPS_MOST];
-    for i in 0..count {
-        list[i] = true;
-    }
-    list
+    rooms::kept(&[true; LAMPS_MOST][..count], false)
 }
 
 /// Off, both mutes off, the first input, no fault, error status 000000, and the lamps' starting seconds, each enabled,
@@ -116,13 +113,11 @@ pub fn start_own(lamps: &[u32]) -> Own
     requires { length lamps.now ≤ lamps_most }
     ensures { result ≡ start_own lamps.now }
 {
-    let seconds = lamp_room(lamps);
-    let marks = mark_room(lamps.len());
-    let blank = Own::BLANK;
-    let mut start = blank;
-    start.lamps = seconds;
-    start.enabled = marks;
-    start.speaker = VOLUME_START;
-    start.microphone = VOLUME_START;
-    start
+    Own {
+        lamps: lamp_room(lamps),
+        enabled: mark_room(lamps.len()),
+        speaker: VOLUME_START,
+        microphone: VOLUME_START,
+        ..Own::BLANK
+    }
 }

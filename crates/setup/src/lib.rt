@@ -24,7 +24,6 @@ fn keep_settings(settings: &mut Settings, wanted: &Wanted<'_>)
 {
     let class = wanted.class.number();
     let input_count = wanted.inputs.len() / 2;
-    let names = wanted.class.names();
     settings.name = fill::text_of(wanted.name);
     settings.maker = fill::text_of(wanted.maker);
     settings.model = fill::text_of(wanted.model);
@@ -40,7 +39,7 @@ fn keep_settings(settings: &mut Settings, wanted: &Wanted<'_>)
     settings.version = fill::text_of(wanted.class.version());
     fill::keep_names(
         &mut settings.names,
-        &names,
+        &wanted.class.names(),
         class::only_in_2(class, input_count),
     );
 }

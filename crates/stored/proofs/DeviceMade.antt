@@ -10,7 +10,7 @@ use Rattle.record.specs.Record.{started}
 use Rattle.record.specs.SetUp.{is_set_up, set_up}
 use Rattle.record.specs.Given.{set_up_given}
 use Rattle.record.specs.declared.types.Device.{Device}
-use Rattle.record.proofs.Calls.{ok_err, set_up_accepted, set_up_in_range}
+use Rattle.record.proofs.Calls.{set_up_accepted, set_up_in_range}
 use Rattle.record.specs.declared.set_up_error.SetUpError.{SetUpError}
 use Rattle.stored.specs.Loading.{device_of}
 
@@ -26,7 +26,7 @@ module _ (w : Wanted) where
   device_made (Ok d) e =
       let h = set_up_in_range w (ap (λ (r : Result Device SetUpError). (set_up_given r).number) (sym e)) in
       ap result_ok (e ∙ set_up_accepted w h) ∙ sym (if_yes _ _ h)
-  device_made (Err e) f = none_set_up (by_not (is_set_up w) (λ h. ok_err (sym (f ∙ set_up_accepted w h))))
+  device_made (Err e) f = none_set_up (by_not (is_set_up w) (λ h. cc (f, set_up_accepted w h)))
 
   by : (t : Bool) → {d : Device} → Some d ≡ (if t then Some (started w) else None) → (t ≡ true) × (d ≡ started w)
   by true {d} e = (refl, ap (λ (o : Option Device). value o d) e)

@@ -7,7 +7,6 @@ use Rattle.text.proofs.InTurn.{length-each_in_turn}
 use Rattle.numbers.specs.HighestFirst.{highest_first, number_in}
 use Rattle.numbers.proofs.HighestFirst.{length-highest_first, highest_back}
 use Rattle.record.specs.Limits.{lamps_most}
-use Rattle.record.specs.Rules.{is_lamps}
 use Rattle.record.specs.Record.{in_room}
 use Rattle.record.proofs.Kept.{filled_take}
 use Rattle.stored.specs.Form.{seconds_bytes}
@@ -62,4 +61,4 @@ pub room_read : (n : ℕ) (s : List ℕ) → n ≤ lamps_most → take n (in_roo
 room_read n s h =
     let many = length-seconds_in n s in
     ap (λ (k : ℕ). take k (in_room lamps_most (seconds_in n s))) (sym many)
-    ∙ filled_take lamps_most is_lamps (seconds_in n s) (omega arith)
+    ∙ filled_take lamps_most (seconds_in n s)

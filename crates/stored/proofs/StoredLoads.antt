@@ -2,14 +2,12 @@
 -- of its lamps' seconds as they are, each lamp with its mark, with the number 0. What is stored of a fresh set-up is
 -- what it was set up with.
 -- Assumes nothing.
-use Rattle.std.specs.List.{list_all}
-use Rattle.std.proofs.Common.{ℕ, ◌*◌, ◌/◌, ◌≤◌, ◌≡◌, refl, sym, ap, ◌∙◌, Bool, true, List, [], ◌∷◌, map, arith}
+use Rattle.std.proofs.Common.{ℕ, ◌*◌, ◌/◌, ◌≡◌, refl, sym, ap, ◌∙◌, Bool, true, List, [], ◌∷◌, map, arith}
 use Rattle.std.proofs.Common.{length, take, length-take-le, eq-eqb}
 use Rattle.std.proofs.lemmas.List.{length-map}
-use Rattle.text.proofs.Choices.{both, both_left, both_right}
+use Rattle.text.proofs.Choices.{both}
 use Rattle.text.proofs.Scanning.{list_all-map}
-use Rattle.words.specs.Texts.{is_text, is_info, is_password, is_input_name, info_most, input_name_most}
-use Rattle.words.proofs.TextsTold.{name_long, info_long, password_long, input_name_long}
+use Rattle.words.specs.Texts.{is_password, is_input_name, input_name_most}
 use Rattle.record.specs.Limits.{text_room, input_room, lamps_most, only_in_2}
 use Rattle.record.specs.Wanted.{Wanted, wanted_in}
 use Rattle.record.specs.Rules.{is_long_enough, is_inputs, is_lamps, is_marks, are_names}
@@ -22,21 +20,20 @@ use Rattle.record.specs.declared.types.Device.{Device}
 use Rattle.record.specs.declared.types.Setting.{Setting}
 use Rattle.record.specs.declared.types.Setting.TheVariants.{Name, Maker, Model, Other, Password, Inputs}
 use Rattle.record.specs.declared.types.Setting.TheVariants.{Lamps, WarmUp, Cooling, Serial, Version, Names}
-use Rattle.record.proofs.Kept.{kept_told, kept_length, filled_take}
-use Rattle.record.proofs.Rules.{inputs_few, lamps_few, only_in_2_within, names_many, names_each, names_shown, text_most}
+use Rattle.record.proofs.Kept.{kept_length, filled_take}
+use Rattle.record.proofs.Rules.{only_in_2_within, names_many, names_shown}
 use Rattle.record.proofs.NamesTold.{names_first}
 use Rattle.record.proofs.SettingsTold.{input_count_high}
 use Rattle.record.proofs.MarksTold.{front_many}
 use Rattle.record.proofs.LegalTold.{settings_of_legal, own_of_legal}
-use Rattle.record.proofs.OutOfRange.{each_in_range}
-use Rattle.record.proofs.InRange.{in_range_shown}
+use Rattle.record.proofs.OutOfRange.{each_in_range, in_range_shown}
 use Rattle.record.proofs.Calls.{set_up_shown}
 use Rattle.record.proofs.Started.{started_parts, inputs_halved}
 use Rattle.stored.specs.Form.{name_stored, stored_of, marks_stored, stored_form}
 use Rattle.stored.specs.Loading.{mark_room, is_marks_of, started_with, loaded}
 use Rattle.stored.proofs.MarkBytes.{mark_room-take, room_front}
 use Rattle.stored.proofs.FormsLoad.{form_loads}
-use Rattle.record.proofs.FactsTold.{stretch_is}
+use Rattle.record.proofs.FactsTold.{stretch_is, fills_told}
 
 module _ (d : Device) (h : is_legal d ≡ true) where
   -- how much is stored
@@ -73,8 +70,8 @@ module _ (d : Device) (h : is_legal d ≡ true) where
       ap (λ (m : ℕ). are_names (only_in_2 d.settings.class_number m) (stored_of d).names) count
       ∙ names_shown n (stored_of d).names (length-map (take n d.settings.names) name_stored ∙ many)
       (list_all-map (fills_name_room input_name_most) is_input_name name_stored
-      (λ t e. (kept_told input_name_most is_input_name t.bytes t.len e).follows) (take n d.settings.names)
-      told.names.used)
+      (λ t e. ((fills_told input_name_most is_input_name t.bytes t.len).0 e).follows) (take n d.settings.names)
+      told.names.follows)
 
   pub stored_in_range : is_set_up (stored_of d) ≡ true
   stored_in_range =
@@ -112,41 +109,26 @@ module _ (w : Wanted) (ok : is_set_up w ≡ true) where
   met : (s : Setting) → is_setting_in_range w s ≡ true
   met = each_in_range w ok
 
-  text_kept : (t : List ℕ) → length t ≤ text_room → take (length t) (in_room text_room t) ≡ t
-  text_kept t l = filled_take text_room is_info t l
-
-  info_kept : (t : List ℕ) → is_info t ≡ true → take (length t) (in_room text_room t) ≡ t
-  info_kept t e = text_kept t (omega (arith, info_long t e))
-
-  in_2_kept : (t : List ℕ) → is_text (only_in_2 w.class info_most) t ≡ true → take (length t) (in_room text_room t) ≡ t
-  in_2_kept t e = text_kept t (omega (arith, text_most t _ e, only_in_2_within w.class info_most))
-
-  each_name : (ns : List (List ℕ)) → list_all is_input_name ns ≡ true → map name_stored (map name_of ns) ≡ ns
-  each_name [] e = refl
-  each_name (t ∷ ts) e =
-      (λ i. filled_take input_name_most is_input_name t
-      (input_name_long t (both_left (is_input_name t) (list_all is_input_name ts) e)) i
-      ∷ each_name ts (both_right (is_input_name t) (list_all is_input_name ts) e) i)
+  each_name : (ns : List (List ℕ)) → map name_stored (map name_of ns) ≡ ns
+  each_name [] = refl
+  each_name (t ∷ ts) = (λ i. filled_take input_name_most t i ∷ each_name ts i)
 
   names_stored : map name_stored (take (only_in_2 w.class (length w.inputs / 2)) (names_kept w.names)) ≡ w.names
   names_stored =
       ap (λ (n : ℕ). map name_stored (take n (names_kept w.names))) (sym (names_many _ w.names (met Names)))
       ∙ ap (map name_stored) (names_first w.names)
-      ∙ each_name w.names (names_each _ w.names (met Names))
+      ∙ each_name w.names
 
   pub started_stored : stored_of (started w) ≡ w
   started_stored =
       ap stored_of (started_parts w)
       ∙ (λ i. wanted_in w.class
-      (text_kept w.name (name_long w.name (met Name)) i)
-      (info_kept w.maker (met Maker) i)
-      (info_kept w.model (met Model) i)
-      (info_kept w.other (met Other) i)
-      (text_kept w.password (omega (arith, password_long w.password (met Password))) i)
+      (filled_take text_room w.name i) (filled_take text_room w.maker i) (filled_take text_room w.model i)
+      (filled_take text_room w.other i) (filled_take text_room w.password i)
       ((ap (λ (n : ℕ). take n (in_room input_room w.inputs)) (inputs_halved _ w.inputs (met Inputs))
-      ∙ filled_take input_room (is_inputs w.class) w.inputs (inputs_few _ w.inputs (met Inputs))) i)
-      (filled_take lamps_most is_lamps w.lamps (lamps_few w.lamps (met Lamps)) i)
-      w.warm w.cool (in_2_kept w.serial (met Serial) i) (in_2_kept w.version (met Version) i)
+      ∙ filled_take input_room w.inputs) i)
+      (filled_take lamps_most w.lamps i)
+      w.warm w.cool (filled_take text_room w.serial i) (filled_take text_room w.version i)
       (names_stored i))
 
   -- and the marks that a load gave it

@@ -13,15 +13,16 @@ use Rattle.record.specs.Limits.{line_room}
 use Rattle.record.specs.Record.{zeros}
 use Rattle.record.specs.Legal.{is_zero, is_collecting, held_most, is_held}
 use Rattle.record.specs.declared.types.Line.{Line}
-use Rattle.record.proofs.Kept.{Kept, nothing_kept, one_more_kept}
+use Rattle.record.proofs.Kept.{nothing_kept, one_more_kept}
 use Rattle.record.proofs.ConnectionTold.{held_most_room, unmarked_held, marked_held}
+use Rattle.record.specs.Facts.{Fills}
 use Rattle.stream.specs.Collecting.{empty_line, overlong_line, collected, gathered}
 use Rattle.stream.proofs.UpToTheEnd.{up_to_keeps}
 use Rattle.stream.proofs.AllAtOnce.{collected_by}
 
 -- the line's part of a legal connection
 pub record LegalLine (phase : ℕ) (l : Line) : Type 0 where
-  pub kept : Kept line_room no_cr l.bytes l.held
+  pub kept : Fills line_room no_cr l.bytes l.held
   pub held : is_held phase l.overlong l.held ≡ true
 
 pub empty_legal : (phase : ℕ) → LegalLine phase empty_line

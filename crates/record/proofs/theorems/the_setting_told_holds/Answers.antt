@@ -1,5 +1,4 @@
-use Rattle.record.proofs.OutOfRange.{first_holds, holding_told, none_in_range, in_range_none}
-use Rattle.record.proofs.InRange.{in_range_each}
+use Rattle.record.proofs.OutOfRange.{first_holds, holding_told, none_in_range, in_range_none, in_range_each}
 use Rattle.record.proofs.theorems.the_setting_told_holds.Goals as goal
 
 pub returns : goal.returns

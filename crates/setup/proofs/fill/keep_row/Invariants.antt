@@ -1,5 +1,7 @@
-use Rattle.record.proofs.NamesCopied.{NamesCopied}
+use Rattle.record.specs.Wanted.{names_in}
+use Rattle.record.proofs.CutNames.{CutTo}
+use Rattle.record.proofs.NamesTold.{NamesCopied}
 use Rattle.setup.proofs.fill.keep_row.Given as goal
 
 abbrev pub invariant-loop-i : goal.invariant-loop-i
-invariant-loop-i l = NamesCopied l.lengths l.bytes l.count l.list l.at l.i
+invariant-loop-i l = CutTo l.lengths l.bytes l.at l.i × NamesCopied (names_in l.lengths l.bytes) l.list l.i

@@ -1,9 +1,9 @@
 -- Each lamp passed has its seconds in a cleared room.
 use Rattle.std.proofs.Common.{◌/◌, length}
 use Rattle.record.specs.Limits.{lamps_most}
-use Rattle.record.proofs.Filled.{IsCopied}
+use Rattle.record.proofs.Kept.{IsCopied}
 use Rattle.stored.specs.Reading.{seconds_in}
 use Rattle.stored.proofs.loading.seconds_of.Given as goal
 
 abbrev pub invariant-loop-i : goal.invariant-loop-i
-invariant-loop-i l = IsCopied lamps_most (seconds_in (length l.bytes / 4) l.bytes) l.list l.i
+invariant-loop-i l = IsCopied 0 lamps_most (seconds_in (length l.bytes / 4) l.bytes) l.list l.i

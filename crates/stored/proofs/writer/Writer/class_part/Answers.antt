@@ -5,7 +5,7 @@ use Rattle.text.proofs.Choices.{if_yes}
 use Rattle.text.proofs.Scanning.{list_all_at}
 use Rattle.words.specs.Texts.{input_name_most, is_input_name}
 use Rattle.record.specs.Legal.{fills_name_room}
-use Rattle.record.proofs.Kept.{kept_told}
+use Rattle.record.proofs.FactsTold.{fills_told}
 use Rattle.stored.specs.Puts.{Puts}
 use Rattle.stored.proofs.ClassPart.{part_of_other, part_with_names}
 use Rattle.stored.proofs.Writing.{puts_then}
@@ -20,8 +20,8 @@ names-requires-clause-inside c = λ k d l.
     let used : list_all (fills_name_room input_name_most) (take s.input_count s.names) ≡ true =
     ap (λ (n : ℕ). list_all (fills_name_room input_name_most) (take n s.names))
     (sym (if_yes {t = s.class_number == 2} s.input_count 0 (eq-eqb _ _ c.if-s-ne2.false)))
-    ∙ c.requires.legal.names.used in
-    (kept_told input_name_most is_input_name _ _
+    ∙ c.requires.legal.names.follows in
+    ((fills_told input_name_most is_input_name _ _).0
     (list_all_at (fills_name_room input_name_most) (take s.input_count s.names) d used k l)).inside
 
 pub returns : goal.returns
