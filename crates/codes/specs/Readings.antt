@@ -6,6 +6,7 @@
 use Rattle.std.specs.Prelude.{ℕ, Bool, false, List, [], map, length, replicate}
 use Rattle.std.proofs.lemmas.List.Edits.{sets}
 use Rattle.text.specs.InTurn.{each_in_turn}
+use Rattle.words.specs.Classes.{class_as_number}
 use Rattle.words.specs.Inputs.{input_text}
 use Rattle.words.specs.declared.input.Input.{Input}
 use Rattle.pjlink.specs.Said.{Said, okay, refused, power_is, chosen_is, mutes_are, errors_are, lamps_are, inputs_are}
@@ -116,7 +117,7 @@ said_flat (errors_are ds) = with_text 6 ds
 said_flat (lamps_are ls) = with_lamps ls
 said_flat (inputs_are is) = with_inputs is
 said_flat (text_is s) = with_text 9 s
-said_flat (class_is k) = plain 10 k 0
+said_flat (class_is k) = plain 10 (class_as_number k) 0
 said_flat (freeze_is on) = plain 12 (bit on) 0
 said_flat nothing = meaningless (reading_outcome_number disallowed)
 

@@ -132,12 +132,12 @@ impl FlatReading {
             Answer::Done => FlatReading::plain(1, 0, 0),
             Answer::Power(p) => FlatReading::plain(3, power_number(*p), 0),
             Answer::Input(i) => FlatReading::plain(4, source_number(i.source), i.number),
-            Answer::Mutes(video, audio) => FlatReading::plain(5, bit(*video), bit(*audio)),
+            Answer::Mutes(mutes) => FlatReading::plain(5, bit(mutes.video), bit(mutes.audio)),
             Answer::Errors(digits) => FlatReading::with_text(6, digits),
             Answer::Lamps(lamps) => FlatReading::with_lamps(lamps.as_slice()),
             Answer::Inputs(inputs) => FlatReading::with_inputs(inputs.as_slice()),
             Answer::Text(text) => FlatReading::with_text(9, text),
-            Answer::Class(k) => FlatReading::plain(10, *k, 0),
+            Answer::Class(class) => FlatReading::plain(10, class.number(), 0),
             Answer::Freeze(on) => FlatReading::plain(12, bit(*on), 0),
         }
     }

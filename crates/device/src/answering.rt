@@ -1,6 +1,7 @@
 //! A line on an open connection: decided over what it asks, then written.
 ghost use Rattle.std.specs.Prelude.{◌≡◌, ◌≤◌, length};
 ghost use Rattle.words.specs.Bytes.{◌at◌};
+ghost use Rattle.words.specs.Classes.{class_code};
 ghost use Rattle.pjlink.specs.Forms.{reply_line};
 ghost use Rattle.pjlink.specs.Said.{parameter_most, said_bytes};
 ghost use Rattle.pjlink.specs.Carried.{said_by};
@@ -10,18 +11,19 @@ ghost use Rattle.device.specs.Answering.{line_answer};
 use pjlink::answer::Reply;
 use pjlink::{form, request, write};
 use record::types::{Own, Settings};
+use words::class::ClassNumber;
 use words::codec;
 use words::codec::Line;
 
-// The reply to a line of this class byte and these letters.
-fn reply_line(class: u8, letters: [u8; 4], reply: &Reply<'_>) -> Line
+// The reply to a line of this class and these letters.
+fn reply_line(class: ClassNumber, letters: [u8; 4], reply: &Reply<'_>) -> Line
     requires { length (said_bytes (said_by reply.now)) ≤ parameter_most }
-    ensures { result.items ≡ reply_line class (letters at 0) (letters at 1) (letters at 2)
+    ensures { result.items ≡ reply_line (class_code class) (letters at 0) (letters at 1) (letters at 2)
         (letters at 3) (said_bytes (said_by reply.now)) }
 {
     let [a, b, c, d] = letters;
     let mut line = Line::new();
-    codec::put_all(&[b'%', class, a, b, c, d, b'='], &mut line);
+    codec::put_all(&[b'%', class.code(), a, b, c, d, b'='], &mut line);
     write::put_parameter(reply, &mut line);
     line.push(b'\r');
     line
@@ -34,10 +36,10 @@ pub fn answer_line(s: &Settings, o: &mut Own, l: &[u8]) -> Line
     ensures reply { result.items ≡ (line_answer s.now o.old l.now).reply }
     ensures own { o.new ≡ (line_answer s.now o.old l.now).own }
 {
-    let Some(line) = form::command(s.class_number, l) else {
+    let Some(line) = form::command(s.class(), l) else {
         return Line::new();
     };
-    let asked = request::request(form::class_named(line.class), line.letters, line.parameter);
+    let asked = request::request(line.class, line.letters, line.parameter);
     let reply = meaning::decide(s, o, asked);
     reply_line(line.class, line.letters, &reply)
 }

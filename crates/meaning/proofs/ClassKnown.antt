@@ -1,7 +1,10 @@
 -- The class of a legal set-up is 1 or 2 (RULES, Class 2), as bounds.
 -- Assumes nothing.
-use Rattle.std.proofs.Common.{ℕ, ◌≤◌, arith, ◌==◌, eqb-true}
+use Rattle.std.proofs.Common.{ℕ, ◌≤◌, ◌≡◌, arith, ◌==◌, eqb-true}
+use Rattle.std.proofs.lemmas.Bool.Decides.{nat_tests}
+use Rattle.words.specs.Classes.{class_as_number}
 use Rattle.words.proofs.Characters.{either_by}
+use Rattle.record.specs.Views.{class_seen}
 use Rattle.record.specs.declared.types.Settings.{Settings}
 use Rattle.record.proofs.SettingsTold.{class_told}
 use Rattle.record.specs.Facts.{IsSettings}
@@ -19,3 +22,10 @@ module _ (s : Settings) (t : IsSettings s) where
   class_high =
       either_by (k == 1) (k == 2) (class_told s t)
       (λ e. omega (arith, eqb-true k 1 e)) (λ e. omega (arith, eqb-true k 2 e))
+
+  -- and the view of it loses nothing
+  pub class_as_number-class_seen : class_as_number (class_seen s) ≡ s.class_number
+  class_as_number-class_seen =
+      let low = class_low in
+      let high = class_high in
+      grind (arith, nat_tests)

@@ -30,6 +30,7 @@ use Rattle.words.specs.declared.lamp.LampHours.{LampHours}
 use Rattle.record.specs.Limits.{off, on, cooling, warming, is_lit, volume_most}
 use Rattle.record.specs.Updates.{with_power_left, with_chosen, with_mutes, with_freeze, with_volumes}
 use Rattle.record.specs.Record.{blank_name}
+use Rattle.record.specs.Views.{class_seen}
 use Rattle.record.specs.declared.types.Text.{Text}
 use Rattle.record.specs.declared.types.InputName.{InputName}
 use Rattle.record.specs.declared.types.Settings.{Settings}
@@ -82,7 +83,7 @@ query_answer s o Name = text_said s.name
 query_answer s o Inf1 = text_said s.maker
 query_answer s o Inf2 = text_said s.model
 query_answer s o Info = text_said s.other
-query_answer s o Clss = class_is s.class_number
+query_answer s o Clss = class_is (class_seen s)
 query_answer s o Frez = freeze_is o.frozen
 query_answer s o Svol = nothing
 query_answer s o Mvol = nothing

@@ -16,6 +16,7 @@ use record::types::{
 };
 use words::input::Input;
 use words::lamp::LampHours;
+use words::mutes::Mutes;
 use words::power::Power;
 
 const HOUR: u32 = 3600;
@@ -81,7 +82,10 @@ fn query_answer<'a>(s: &'a Settings, o: &Own, b: Body) -> Option<Answer<'a>>
     match b {
         Body::Powr => Some(Answer::Power(power_said(o.power))),
         Body::Inpt | Body::Inpt2 => { Some(Answer::Input(inputs::input_at(s, o.chosen))) }
-        Body::Avmt => Some(Answer::Mutes(o.video_muted, o.audio_muted)),
+        Body::Avmt => Some(Answer::Mutes(Mutes {
+            video: o.video_muted,
+            audio: o.audio_muted,
+        })),
         Body::Erst => Some(Answer::Errors(o.errors)),
         Body::Lamp => {
             let lit = own::is_lit(o.power);
@@ -92,7 +96,7 @@ fn query_answer<'a>(s: &'a Settings, o: &Own, b: Body) -> Option<Answer<'a>>
         Body::Inf1 => Some(Answer::Text(text_of(&s.maker))),
         Body::Inf2 => Some(Answer::Text(text_of(&s.model))),
         Body::Info => Some(Answer::Text(text_of(&s.other))),
-        Body::Clss => Some(Answer::Class(s.class_number)),
+        Body::Clss => Some(Answer::Class(s.class())),
         Body::Frez => Some(Answer::Freeze(o.frozen)),
         Body::Snum => Some(Answer::Text(text_of(&s.serial))),
         Body::Sver => Some(Answer::Text(text_of(&s.version))),

@@ -8,6 +8,7 @@ use Rattle.text.specs.Scans.{same_by, itself}
 use Rattle.text.proofs.Choices.{both_left, both_right}
 use Rattle.text.proofs.Sameness.{same_turned, same_after}
 use Rattle.words.specs.Bytes.{upper_of}
+use Rattle.words.specs.Classes.{class_as_number}
 use Rattle.pjlink.specs.Bodies.{class_of, body_named, is_body}
 use Rattle.pjlink.specs.Commands.{body_text}
 use Rattle.pjlink.specs.declared.body.TheConstants.{BODIES}
@@ -17,7 +18,9 @@ use Rattle.pjlink.proofs.Bodies.{each_body, yes}
 
 -- the body of Class k whose text is exactly s
 abbrev exactly : ℕ → List ℕ → Option Body
-exactly k s = option_map (λ (r : Row). r.body) (find (λ (r : Row). k == r.class && same_by itself s r.letters) BODIES)
+exactly k s =
+    option_map (λ (r : Row). r.body)
+    (find (λ (r : Row). k == class_as_number r.class && same_by itself s r.letters) BODIES)
 
 pub record Named (b : Body) : Type 0 where
   pub own : is_body (class_of b) (body_text b) b ≡ true
@@ -33,7 +36,7 @@ body_named_lem b = record {
 in_upper_case : (k : ℕ) (s : List ℕ) → body_named k s ≡ exactly k (map upper_of s)
 in_upper_case k s =
     (λ i. option_map (λ (r : Row). r.body)
-    (find (λ (r : Row). k == r.class && same_after upper_of s r.letters i) BODIES))
+    (find (λ (r : Row). k == class_as_number r.class && same_after upper_of s r.letters i) BODIES))
 
 module _ (k : ℕ) (s : List ℕ) (b : Body) (named : is_body k s b ≡ true) where
   pub body_class : k ≡ class_of b

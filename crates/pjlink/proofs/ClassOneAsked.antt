@@ -2,12 +2,15 @@
 -- asked for; but two characters that name an input of Class 2 alone named none then.
 --   KeptAs now before     a request is what it was, or asks for such an input where it was out of parameter
 -- Assumes nothing.
-use Rattle.std.proofs.Common.{ℕ, ◌≡◌, refl, ap, ◌∙◌, Bool, true, false, ◌&&◌, List, length, ◌==◌}
+use Rattle.std.proofs.Common.{ℕ, ◌≡◌, refl, ap, ◌∙◌, Bool, true, false, ◌&&◌, List, [], ◌∷◌, length, ◌==◌, arith}
+use Rattle.std.proofs.lemmas.Bool.Decides.{nat_tests}
 use Rattle.std.specs.Prelude.{if◌then◌else◌, Option, Some, None, Ok, Err}
 use Rattle.std.specs.Option.{option_map}
 use Rattle.text.specs.Words.{◌is◌, ◌from◌to◌}
 use Rattle.text.proofs.Choices.{if_all}
 use Rattle.words.specs.Bytes.{◌at◌}
+use Rattle.words.specs.Codec.{whole}
+use Rattle.words.specs.Powers.{switch_read}
 use Rattle.words.specs.Inputs.{is_input_text, input_named, read_input, input_of}
 use Rattle.words.specs.declared.input.Input.{Input}
 use Rattle.pjlink.specs.Bodies.{row_of, has_query}
@@ -18,10 +21,10 @@ use Rattle.pjlink.specs.declared.body.Body.TheVariants.{Powr, Inpt, Avmt, Erst, 
 use Rattle.pjlink.specs.declared.body.Body.TheVariants.{Info, Clss}
 use Rattle.pjlink.specs.declared.command.Command.TheVariants.{PowerSet, InputSet, MuteSet, Query}
 use Rattle.words.proofs.ClassOneKept.{InputKept, input_as_before, input_of_class_2, inputs_kept, input_by_two}
-use Rattle.pjlink.specs.Requests.{Request, switch_of, mute_of, half_named, set_of, is_question, or_unlisted}
+use Rattle.pjlink.specs.Requests.{Request, mute_of, set_of, is_question, or_unlisted}
 use Rattle.pjlink.specs.Requests.{asked_of, asked, request_of}
 use Rattle.pjlink.specs.ClassOneAsked.{is_body_1, body_named_1, power_asked_1, input_given_1, input_asked_1}
-use Rattle.pjlink.specs.ClassOneAsked.{mute_asked_1}
+use Rattle.pjlink.specs.ClassOneAsked.{half_named_1, mute_asked_1}
 use Rattle.pjlink.specs.ClassOneAsked.{set_asked_1, asked_of_1, asked1, request_of_1}
 use Rattle.pjlink.specs.declared.request.Unasked.TheVariants.{Unlisted}
 
@@ -30,9 +33,27 @@ pub data KeptAs (now before : Request) : Type 0 where
   of_class_2 : (a b : ℕ) → is_input_text 2 a b ≡ true → is_input_text 1 a b ≡ false
       → now ≡ Ok (InputSet (input_named a b)) → before ≡ Err (Unlisted Inpt) → KeptAs now before
 
-power_kept : (p : List ℕ) → or_unlisted Powr (option_map PowerSet (switch_of p)) ≡ power_asked_1 p
-unfolding switch_of power_asked_1
-power_kept p = by (length p == 1 && p at 0 from "0" to "1")
+-- a parameter of one character, and of two, by its length and its characters
+switch_by_one : (p : List ℕ)
+    → whole switch_read p ≡ (if length p == 1 && p at 0 from "0" to "1" then Some (p at 0 is "1") else None)
+switch_by_one [] = refl
+switch_by_one (b ∷ []) = grind (arith, nat_tests)
+switch_by_one (b ∷ c ∷ s) = grind (arith, nat_tests)
+
+mute_by_two : (p : List ℕ)
+    → mute_of p
+    ≡ (if length p == 2 && (p at 0 from "1" to "3" && p at 1 from "0" to "1")
+    then Some (MuteSet (half_named_1 (p at 0)) (p at 1 is "1"))
+    else None)
+unfolding half_named_1
+mute_by_two [] = refl
+mute_by_two (a ∷ []) = grind (arith, nat_tests)
+mute_by_two (a ∷ b ∷ []) = grind (arith, nat_tests)
+mute_by_two (a ∷ b ∷ c ∷ s) = grind (arith, nat_tests)
+
+power_kept : (p : List ℕ) → or_unlisted Powr (option_map PowerSet (whole switch_read p)) ≡ power_asked_1 p
+unfolding power_asked_1
+power_kept p = rw (switch_by_one p) (by (length p == 1 && p at 0 from "0" to "1"))
   where
     by : (digit : Bool)
         → or_unlisted Powr (option_map PowerSet (if digit then Some (p at 0 is "1") else None))
@@ -41,12 +62,12 @@ power_kept p = by (length p == 1 && p at 0 from "0" to "1")
     by false = refl
 
 or_unlisted-mute_of : (p : List ℕ) → or_unlisted Avmt (mute_of p) ≡ mute_asked_1 p
-unfolding mute_of mute_asked_1
-or_unlisted-mute_of p = by (length p == 2 && (p at 0 from "1" to "3" && p at 1 from "0" to "1"))
+unfolding mute_asked_1
+or_unlisted-mute_of p = rw (mute_by_two p) (by (length p == 2 && (p at 0 from "1" to "3" && p at 1 from "0" to "1")))
   where
     by : (digits : Bool)
-        → or_unlisted Avmt (if digits then Some (MuteSet (half_named (p at 0)) (p at 1 is "1")) else None)
-        ≡ (if digits then Ok (MuteSet (half_named (p at 0)) (p at 1 is "1")) else Err (Unlisted Avmt))
+        → or_unlisted Avmt (if digits then Some (MuteSet (half_named_1 (p at 0)) (p at 1 is "1")) else None)
+        ≡ (if digits then Ok (MuteSet (half_named_1 (p at 0)) (p at 1 is "1")) else Err (Unlisted Avmt))
     by true = refl
     by false = refl
 

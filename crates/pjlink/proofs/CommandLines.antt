@@ -11,7 +11,7 @@ use Rattle.text.proofs.Choices.{both, both_left}
 use Rattle.text.proofs.Scanning.{list_all-append, list_all_implies}
 use Rattle.words.specs.Bytes.{◌at◌, is_alnum, not_cr, no_cr}
 use Rattle.words.specs.Inputs.{input_text}
-use Rattle.pjlink.specs.Commands.{body_text, body_of, command_class, class_digit, half_digit, parameter_of}
+use Rattle.pjlink.specs.Commands.{body_text, body_of, command_class, class_digit, half_code, parameter_of}
 use Rattle.words.specs.Powers.{switch_code}
 use Rattle.pjlink.specs.Commands.{command_text, command_line}
 use Rattle.pjlink.specs.Forms.{head_body, is_headed, takes_class, is_command_form, command_parameter}
@@ -50,10 +50,10 @@ not_cr-switch_code : (on : Bool) → not_cr (switch_code on) ≡ true
 not_cr-switch_code true = refl
 not_cr-switch_code false = refl
 
-not_cr-half_digit : (h : Half) → not_cr (half_digit h) ≡ true
-not_cr-half_digit VideoHalf = refl
-not_cr-half_digit AudioHalf = refl
-not_cr-half_digit BothHalves = refl
+not_cr-half_code : (h : Half) → not_cr (half_code h) ≡ true
+not_cr-half_code VideoHalf = refl
+not_cr-half_code AudioHalf = refl
+not_cr-half_code BothHalves = refl
 
 pub input_no_cr : (i : Input) → list_all not_cr (input_text i) ≡ true
 input_no_cr i = list_all_implies is_alnum not_cr alnum_not_cr (input_text i) (input_alnum i)
@@ -61,7 +61,7 @@ input_no_cr i = list_all_implies is_alnum not_cr alnum_not_cr (input_text i) (in
 list_all-parameter_of : (c : Command) → list_all not_cr (parameter_of c) ≡ true
 list_all-parameter_of (PowerSet on) = both (not_cr-switch_code on) refl
 list_all-parameter_of (InputSet i) = input_no_cr i
-list_all-parameter_of (MuteSet h on) = both (not_cr-half_digit h) (both (not_cr-switch_code on) refl)
+list_all-parameter_of (MuteSet h on) = both (not_cr-half_code h) (both (not_cr-switch_code on) refl)
 list_all-parameter_of (InputSet2 i) = input_no_cr i
 list_all-parameter_of (FreezeSet on) = both (not_cr-switch_code on) refl
 list_all-parameter_of (VolumeStep v up) = both (not_cr-switch_code up) refl

@@ -8,7 +8,7 @@ use Rattle.words.specs.declared.input.Input.{Input}
 use Rattle.words.proofs.InputsReadBack.{input_of-input_text}
 use Rattle.pjlink.specs.Commands.{body_of, command_class, parameter_of, is_command}
 use Rattle.pjlink.specs.Bodies.{is_body}
-use Rattle.pjlink.specs.Requests.{switch_of, half_named, mute_of, name_query_of, or_unlisted, asked_of, asked}
+use Rattle.pjlink.specs.Requests.{name_query_of, or_unlisted, asked_of, asked}
 use Rattle.pjlink.specs.Requests.{request_of}
 use Rattle.pjlink.specs.declared.body.Body.{Body}
 use Rattle.pjlink.specs.declared.body.Body.TheVariants.{Inpt, Inpt2, Innm}
@@ -20,7 +20,7 @@ use Rattle.pjlink.specs.declared.command.Command.TheVariants.{VolumeStep, NameQu
 use Rattle.pjlink.proofs.BodiesNamed.{body_is_named}
 
 parameter_asked_back : (c : Command) → is_command c ≡ true → asked_of (body_of c) (parameter_of c) ≡ Ok c
-unfolding asked_of switch_of name_query_of mute_of half_named
+unfolding asked_of name_query_of
 parameter_asked_back (PowerSet true) e = refl
 parameter_asked_back (PowerSet false) e = refl
 parameter_asked_back (InputSet i) e =

@@ -3,6 +3,7 @@
 use Rattle.std.proofs.Common.{◌≡◌, refl, true, false, List, [], ◌∷◌, map, ℕ, codes}
 use Rattle.std.specs.Prelude.{Ok, Err}
 use Rattle.numbers.specs.Computing.{computing as numbers}
+use Rattle.words.specs.declared.class.ClassNumber.TheVariants.{One, Two}
 use Rattle.words.specs.declared.input.Source.TheVariants.{Digital, Internal}
 use Rattle.words.specs.declared.input.Input.{Input}
 use Rattle.pjlink.specs.declared.body.Body.TheVariants.{Lamp, Inst, Clss, Frez, Snum, Svol, Innm, Inpt2}
@@ -81,7 +82,7 @@ each_as_it_is = refl
 
 -- the class is 1 or 2, and frozen 0 or 1
 classes : map (read_parameter (Query Clss)) (codes "1" ∷ codes "2" ∷ codes "3" ∷ codes "12" ∷ [])
-    ≡ class_is 1 ∷ class_is 2 ∷ nothing ∷ nothing ∷ []
+    ≡ class_is One ∷ class_is Two ∷ nothing ∷ nothing ∷ []
 unfolding computing numbers
 classes = refl
 

@@ -2,20 +2,23 @@
 --   is_power_set r    the request r sets the power
 -- Assumes nothing.
 use Rattle.std.specs.List.{list_all}
-use Rattle.std.proofs.Common.{ℕ, ◌≤◌, ◌≡◌, refl, sym, ap, ◌∙◌, Bool, true, false, ◌&&◌, List, [], ◌∷◌, arith, length}
-use Rattle.std.proofs.Common.{drop, ◌==◌, eqb-true}
-use Rattle.std.proofs.lemmas.Bool.{false≢true, eqb-false}
-use Prim.Native.Char.{code}
+use Rattle.std.proofs.Common.{ℕ, ◌≡◌, refl, sym, ap, ◌∙◌, Bool, true, false, ◌&&◌, List, [], ◌∷◌}
+use Rattle.std.proofs.Common.{drop}
+use Rattle.std.proofs.lemmas.Bool.{false≢true}
 use Rattle.std.specs.Prelude.{find, Option, Some, None, Ok, Err}
 use Rattle.std.specs.Option.{option_map}
-use Rattle.text.specs.Words.{◌is◌, ◌from◌to◌}
+use Rattle.text.specs.Words.{◌is◌}
 use Rattle.text.proofs.Choices.{if_by, if_all, both_left, both_right}
 use Rattle.words.specs.Bytes.{◌at◌}
-use Rattle.words.specs.Powers.{switch_code}
+use Rattle.words.specs.Codec.{◌>>=◌, ended, whole}
+use Rattle.words.specs.Combinations.{whole_says}
+use Rattle.words.specs.Laws.{switch_codec}
+use Rattle.words.specs.Powers.{switch_read, switch_text}
 use Rattle.pjlink.specs.Bodies.{row_of, is_named, has_query, is_body}
 use Rattle.pjlink.specs.declared.body.TheConstants.{BODIES}
 use Rattle.pjlink.specs.declared.body.Row.{Row}
-use Rattle.pjlink.specs.Requests.{switch_of, mute_of, name_query_of, set_of}
+use Rattle.pjlink.specs.Commands.{half_read}
+use Rattle.pjlink.specs.Requests.{name_query_of, set_of}
 use Rattle.pjlink.specs.Requests.{Request, or_unlisted, asked_of, asked, is_question, request_of}
 use Rattle.words.specs.Inputs.{input_of}
 use Rattle.pjlink.specs.declared.body.Body.{Body}
@@ -25,11 +28,10 @@ use Rattle.pjlink.specs.declared.body.Sets.TheVariants.{SetsPower, SetsInput, Se
 use Rattle.pjlink.specs.declared.body.Sets.TheVariants.{StepsSpeaker, StepsMicrophone, NamesInput, QueryOnly}
 use Rattle.pjlink.specs.declared.command.Volume.TheVariants.{Speaker, Microphone}
 use Rattle.pjlink.specs.declared.command.Command.{Command}
-use Rattle.pjlink.specs.declared.command.Command.TheVariants.{PowerSet, InputSet, InputSet2, FreezeSet}
+use Rattle.pjlink.specs.declared.command.Command.TheVariants.{PowerSet, InputSet, MuteSet, InputSet2, FreezeSet}
+use Rattle.pjlink.specs.declared.command.Half.{Half}
 use Rattle.pjlink.specs.declared.command.Command.TheVariants.{VolumeStep, NameQuery, Query}
 use Rattle.pjlink.specs.declared.request.Unasked.TheVariants.{Unlisted}
-use Rattle.words.proofs.ByPlaces.{by_places}
-use Rattle.words.proofs.Characters.{in_range}
 use Rattle.pjlink.proofs.BodiesNamed.{body_is_named}
 
 abbrev pub is_power_set : Request → Bool
@@ -51,19 +53,39 @@ is_other set = true
 abbrev sets_other : Body → Bool
 sets_other b = is_other (row_of b).set
 
+-- a mute, by what is read of it
+abbrev set_mute : Half → Bool × List ℕ → Option (Command × List ℕ)
+set_mute half on = Some (MuteSet half on.0, on.1)
+
+abbrev with_switch : Half × List ℕ → Option (Command × List ℕ)
+with_switch h = switch_read h.1 >>= set_mute h.0
+
+abbrev at_end : Command × List ℕ → Option Command
+at_end r = ended r.0 r.1
+
+muted : (b : Body) (m : Option (Half × List ℕ)) → No (or_unlisted b (m >>= with_switch >>= at_end))
+muted b None = refl
+muted b (Some h) = read (switch_read h.1)
+  where
+    end : (on : Bool) (s : List ℕ) → No (or_unlisted b (ended (MuteSet h.0 on) s))
+    end on [] = refl
+    end on (c ∷ s) = refl
+
+    read : (m : Option (Bool × List ℕ)) → No (or_unlisted b (m >>= set_mute h.0 >>= at_end))
+    read None = refl
+    read (Some x) = end x.0 x.1
+
 -- only POWR does
 module _ (p : List ℕ) where
   set_none : (set : Sets) (b : Body) → is_other set ≡ true → No (or_unlisted b (set_of set p))
-  unfolding name_query_of mute_of
+  unfolding name_query_of
   set_none SetsPower b n = absurd (false≢true n)
   set_none SetsInput b n = none_of InputSet b (λ i. refl) (input_of p)
-  set_none SetsMute b n =
-      if_all (λ m. No (or_unlisted b m)) (length p == 2 && (p at 0 from "1" to "3" && p at 1 from "0" to "1")) refl
-      refl
+  set_none SetsMute b n = muted b (half_read p)
   set_none SetsInput2 b n = none_of InputSet2 b (λ i. refl) (input_of p)
-  set_none SetsFreeze b n = none_of FreezeSet b (λ on. refl) (switch_of p)
-  set_none StepsSpeaker b n = none_of (VolumeStep Speaker) b (λ up. refl) (switch_of p)
-  set_none StepsMicrophone b n = none_of (VolumeStep Microphone) b (λ up. refl) (switch_of p)
+  set_none SetsFreeze b n = none_of FreezeSet b (λ on. refl) (whole switch_read p)
+  set_none StepsSpeaker b n = none_of (VolumeStep Speaker) b (λ up. refl) (whole switch_read p)
+  set_none StepsMicrophone b n = none_of (VolumeStep Microphone) b (λ up. refl) (whole switch_read p)
   set_none NamesInput b n =
       if_all (λ m. No (or_unlisted b m)) (p at 0 is "?") (none_of NameQuery b (λ i. refl) (input_of (drop 1 p))) refl
   set_none QueryOnly b n = refl
@@ -94,31 +116,25 @@ module _ (p : List ℕ) where
   powr_asked k h e = ap (λ (m : Option Body). asked m p) (body_is_named k h Powr e)
 
 -- and POWR with 0 or 1 only
-digit_of : (x : ℕ) (t : Bool) → x is "1" ≡ t → code "0" ≤ x → x ≤ code "1" → x ≡ switch_code t
-digit_of x true e l h = eqb-true x (code "1") e
-digit_of x false e l h = omega (arith, eqb-false x (code "1") e)
-
-pub power_parameter : (p : List ℕ) (wanted : Bool) → asked_of Powr p ≡ Ok (PowerSet wanted)
-    → p ≡ switch_code wanted ∷ []
-unfolding asked_of switch_of
+pub power_parameter : (p : List ℕ) (wanted : Bool) → asked_of Powr p ≡ Ok (PowerSet wanted) → p ≡ switch_text wanted
+unfolding asked_of
 power_parameter p wanted =
-    let Told : Option Command → Type 0 = λ m. or_unlisted Powr m ≡ Ok (PowerSet wanted) → p ≡ switch_code wanted ∷ [] in
-    let is_one = length p == 1 in
-    let switch = p at 0 from "0" to "1" in
-    if_by Told (is_question p) (λ t e. cc)
-    (λ t. if_by (λ m. Told (option_map PowerSet m)) (is_one && switch) (λ u e.
-    let digit = in_range (p at 0) "0" "1" (both_right is_one switch u) in
-    let same : (p at 0 is "1") ≡ wanted = cc in
-    by_places 1 p (eqb-true (length p) 1 (both_left is_one switch u))
-    ∙ ap (λ (x : ℕ). x ∷ []) (digit_of (p at 0) wanted same digit.0 digit.1))
-    (λ u e. cc))
+    let Told : Option Command → Type 0 = λ m. or_unlisted Powr m ≡ Ok (PowerSet wanted) → p ≡ switch_text wanted in
+    if_by Told (is_question p) (λ t e. cc) (λ t. read (whole switch_read p) refl)
+  where
+    read : (m : Option Bool) → whole switch_read p ≡ m → or_unlisted Powr (option_map PowerSet m) ≡ Ok (PowerSet wanted)
+        → p ≡ switch_text wanted
+    read None f e = cc
+    read (Some on) f e = let same : on ≡ wanted = cc in ((whole_says switch_codec).sound p wanted (cc)).1
 
 -- what POWR asks for, whatever its parameter
 pub powr_by : (P : Request → Type 0) (p : List ℕ) → P (Ok (Query Powr))
     → ((wanted : Bool) → P (Ok (PowerSet wanted))) → P (Err (Unlisted Powr))
     → P (asked_of Powr p)
-unfolding asked_of switch_of
+unfolding asked_of
 powr_by P p queried set unlisted =
-    if_all (λ m. P (or_unlisted Powr m)) (is_question p) queried
-    (if_all (λ m. P (or_unlisted Powr (option_map PowerSet m))) (length p == 1 && p at 0 from "0" to "1")
-    (set (p at 0 is "1")) unlisted)
+    if_all (λ m. P (or_unlisted Powr m)) (is_question p) queried (by (whole switch_read p))
+  where
+    by : (m : Option Bool) → P (or_unlisted Powr (option_map PowerSet m))
+    by None = unlisted
+    by (Some wanted) = set wanted

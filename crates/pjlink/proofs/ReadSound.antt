@@ -123,16 +123,6 @@ module _ (p : List ℕ) where
         written = w.1;
       }))
 
-  class_sound : CanRead (Query Clss) p (read_queried Clss p)
-  class_sound =
-      found (λ c. class_is c.number) (whole class_read p) (λ c e.
-      let w = (whole_says class_codec).sound p c e in
-      let k = c.number in
-      by_row
-      (class_said k (leb-true 1 k (both_left (nat_le 1 k) (nat_le k 2) w.0))
-      (leb-true k 2 (both_right (nat_le 1 k) (nat_le k 2) w.0)))
-      w.1)
-
   -- the bytes themselves are the text
   text_sound : {c : Command} (t : Bool) → (t ≡ true → CanSay c (text_is p)) → CanRead c p (text_or t p)
   text_sound t can = guarded t (λ e. by_row (can e) refl)
@@ -151,7 +141,8 @@ queried_sound Name p = text_sound p (is_name p) (name p)
 queried_sound Inf1 p = text_sound p (is_info p) (maker p)
 queried_sound Inf2 p = text_sound p (is_info p) (model p)
 queried_sound Info p = text_sound p (is_info p) (other p)
-queried_sound Clss p = class_sound p
+queried_sound Clss p =
+    found class_is (whole class_read p) (λ k e. by_row (class_said k) ((whole_says class_codec).sound p k e).1)
 queried_sound Frez p =
     found freeze_is (whole switch_read p) (λ on e. by_row (freeze on) ((whole_says switch_codec).sound p on e).1)
 queried_sound Svol p = no_answer

@@ -6,7 +6,7 @@ use Rattle.std.specs.List.{list_all}
 use Rattle.std.proofs.Common.{ℕ, zero, suc, ◌≡◌, ◌≤◌, Bool, true, false, List, [], ◌∷◌, ◌++◌, length}
 use Rattle.std.proofs.Common.{refl, sym, ap, ◌∙◌, subst, arith, slice_index_or, codes}
 use Rattle.std.specs.Prelude.{Option, None}
-use Rattle.std.proofs.lemmas.Bool.{eq-eqb, le-leb}
+use Rattle.std.proofs.lemmas.Bool.{eq-eqb}
 use Rattle.std.proofs.lemmas.List.{length-map}
 use Prim.Native.Char.{code}
 use Rattle.text.proofs.Choices.{if_yes, if_no, both, both_left}
@@ -14,7 +14,7 @@ use Rattle.numbers.specs.Decimal.{is_digit, WritesNumber}
 use Rattle.numbers.proofs.Digits.{digit_to}
 use Rattle.words.specs.Codec.{Codec, Ends, Plain, whole}
 use Rattle.words.specs.Combinations.{whole_says, list_says}
-use Rattle.words.specs.Classes.{class_told}
+use Rattle.words.specs.Classes.{class_text}
 use Rattle.words.specs.ErrorDigits.{is_error_digit, errors_text}
 use Rattle.words.specs.Inputs.{is_input, input_text, source_digit, number_digit}
 use Rattle.words.specs.Joined.{JoinedBy, list_text}
@@ -192,10 +192,9 @@ written_back (name s e) p w = by _ _ w (value _ s (text_no_refusal name_most s (
 written_back (maker s e) p w = by _ _ w (value _ s (text_no_refusal info_most s e) (if_yes _ _ e))
 written_back (model s e) p w = by _ _ w (value _ s (text_no_refusal info_most s e) (if_yes _ _ e))
 written_back (other s e) p w = by _ _ w (value _ s (text_no_refusal info_most s e) (if_yes _ _ e))
-written_back (class_said k l h) p w =
+written_back (class_said k) p w =
     by _ _ w
-    (value _ (number_digit k ∷ []) (not_four (number_digit k ∷ []) (λ e. omega arith))
-    (own_back class_codec (λ c. class_is c.number) (class_told k) (both (le-leb 1 k l) (le-leb k 2 h))))
+    (value _ (class_text k) (not_four (class_text k) (λ e. omega arith)) (own_back class_codec class_is k refl))
 written_back (freeze on) p w =
     by _ _ w
     (value _ (switch_code on ∷ []) (not_four (switch_code on ∷ []) (λ e. omega arith))

@@ -29,6 +29,9 @@ use Rattle.words.specs.Numerals.{hours_most}
 use Rattle.words.specs.Lamps.{is_lamp_hours}
 use Rattle.words.specs.declared.power.Power.{Power}
 use Rattle.words.specs.declared.power.Power.TheVariants.{Off, On, Cooling, WarmUp}
+use Rattle.words.specs.Classes.{class_text}
+use Rattle.words.specs.declared.class.ClassNumber.{ClassNumber}
+use Rattle.words.specs.declared.class.ClassNumber.TheVariants.{One, Two}
 use Rattle.words.specs.declared.lamp.LampHours.{LampHours}
 use Rattle.words.proofs.TextsTold.{text_bytes, name_is_text}
 use Rattle.pjlink.proofs.Joined.{list_all-list_text, joined_long}
@@ -62,7 +65,7 @@ said_long (name s e) = omega arith
 said_long (maker s e) = omega arith
 said_long (model s e) = omega arith
 said_long (other s e) = omega arith
-said_long (class_said k l h) = omega arith
+said_long (class_said k) = omega arith
 said_long (freeze on) = omega arith
 said_long (serial s e) = omega arith
 said_long (version s e) = omega arith
@@ -83,7 +86,7 @@ most_within (name s e) = omega (arith, name_long s e)
 most_within (maker s e) = omega (arith, info_long s e)
 most_within (model s e) = omega (arith, info_long s e)
 most_within (other s e) = omega (arith, info_long s e)
-most_within (class_said k l h) = omega arith
+most_within (class_said k) = omega arith
 most_within (freeze on) = omega arith
 most_within (serial s e) = omega (arith, info_long s e)
 most_within (version s e) = omega (arith, info_long s e)
@@ -96,6 +99,10 @@ said_within_most w = omega (arith, said_long w, most_within w)
 
 not_cr-number_digit : (d : ℕ) → not_cr (number_digit d) ≡ true
 not_cr-number_digit d = ap not (ne_eqb (number_digit d) (code "\r") (omega arith))
+
+class_plain : (k : ClassNumber) → list_all not_cr (class_text k) ≡ true
+class_plain One = refl
+class_plain Two = refl
 
 list_all-errors_text : (ds : List ℕ) → list_all not_cr (errors_text ds) ≡ true
 list_all-errors_text [] = refl
@@ -143,7 +150,7 @@ has_no_cr (name s e) = text_no_cr name_most s (name_is_text s e)
 has_no_cr (maker s e) = text_no_cr info_most s e
 has_no_cr (model s e) = text_no_cr info_most s e
 has_no_cr (other s e) = text_no_cr info_most s e
-has_no_cr (class_said k l h) = both (not_cr-number_digit k) refl
+has_no_cr (class_said k) = class_plain k
 has_no_cr (freeze true) = refl
 has_no_cr (freeze false) = refl
 has_no_cr (serial s e) = text_no_cr info_most s e

@@ -16,6 +16,8 @@ use Rattle.std.specs.Prelude.{ℕ, Bool, true, false, ◌&&◌, List, [], map, f
 use Rattle.std.specs.Option.{option_map}
 use Rattle.text.specs.Scans.{same_by}
 use Rattle.words.specs.Bytes.{upper_of}
+use Rattle.words.specs.Classes.{class_as_number}
+use Rattle.words.specs.declared.class.ClassNumber.TheVariants.{One}
 use Rattle.pjlink.specs.declared.body.TheConstants.{BODIES}
 use Rattle.pjlink.specs.declared.body.Row.{Row}
 use Rattle.pjlink.specs.declared.body.Body.{Body}
@@ -52,16 +54,16 @@ row_place Inst2 = 18
 
 -- no body lies past the table
 abbrev no_row : Body → Row
-no_row b = record { body = b; class = 0; letters = []; set = QueryOnly; asks = false; lamps = false; on = false }
+no_row b = record { body = b; class = One; letters = []; set = QueryOnly; asks = false; lamps = false; on = false }
 
 abbrev pub row_of : Body → Row
 row_of b = slice_index_or BODIES (row_place b) (no_row b)
 
 abbrev pub class_of : Body → ℕ
-class_of b = (row_of b).class
+class_of b = class_as_number (row_of b).class
 
 abbrev pub is_named : ℕ → List ℕ → Row → Bool
-is_named k s r = k == r.class && same_by upper_of s r.letters
+is_named k s r = k == class_as_number r.class && same_by upper_of s r.letters
 
 abbrev pub is_body : ℕ → List ℕ → Body → Bool
 is_body k s b = is_named k s (row_of b)

@@ -11,10 +11,10 @@ use Rattle.words.specs.Lamps.{is_lamp_hours}
 use Rattle.words.specs.ErrorDigits.{is_error_digit}
 use Rattle.words.specs.Texts.{is_name, is_info, is_input_name}
 use Rattle.pjlink.specs.Commands.{body_of}
+use Rattle.words.specs.declared.class.ClassNumber.{ClassNumber}
 use Rattle.words.specs.declared.input.Input.{Input}
 use Rattle.pjlink.specs.declared.command.Command.{Command}
-use Rattle.pjlink.specs.declared.command.Command.TheVariants.{PowerSet, InputSet, MuteSet, InputSet2, FreezeSet}
-use Rattle.pjlink.specs.declared.command.Command.TheVariants.{VolumeStep, NameQuery, Query}
+use Rattle.pjlink.specs.declared.command.Command.TheVariants.{NameQuery, Query}
 use Rattle.pjlink.specs.declared.body.Body.TheVariants.{Powr, Inpt, Avmt, Erst, Lamp, Inst, Name, Inf1, Inf2, Info}
 use Rattle.pjlink.specs.declared.body.Body.TheVariants.{Clss, Frez, Snum, Sver, Innm, Inpt2, Inst2}
 use Rattle.pjlink.specs.Said.{Said, okay, refused, power_is, chosen_is, mutes_are, errors_are, lamps_are, inputs_are}
@@ -24,24 +24,13 @@ use Rattle.words.specs.declared.power.Power.{Power}
 use Rattle.words.specs.declared.lamp.LampHours.{LampHours}
 
 abbrev pub is_set : Command → Bool
-is_set (PowerSet on) = true
-is_set (InputSet i) = true
-is_set (MuteSet half on) = true
-is_set (InputSet2 i) = true
-is_set (FreezeSet on) = true
-is_set (VolumeStep v up) = true
 is_set (NameQuery i) = false
 is_set (Query b) = false
+is_set c = true
 
 abbrev pub has_own_parameter : Command → Bool
-has_own_parameter (PowerSet on) = true
-has_own_parameter (InputSet i) = true
-has_own_parameter (MuteSet half on) = true
-has_own_parameter (InputSet2 i) = true
-has_own_parameter (FreezeSet on) = true
-has_own_parameter (VolumeStep v up) = true
-has_own_parameter (NameQuery i) = true
 has_own_parameter (Query b) = false
+has_own_parameter c = true
 
 abbrev pub is_refusal_to : Command → ℕ → Bool
 is_refusal_to c n = has_own_parameter c || not (n == 2)
@@ -62,7 +51,7 @@ pub data CanSay : Command → Said → Type 0 where
   maker : (s : List ℕ) → is_info s ≡ true → CanSay (Query Inf1) (text_is s)
   model : (s : List ℕ) → is_info s ≡ true → CanSay (Query Inf2) (text_is s)
   other : (s : List ℕ) → is_info s ≡ true → CanSay (Query Info) (text_is s)
-  class_said : (k : ℕ) → 1 ≤ k → k ≤ 2 → CanSay (Query Clss) (class_is k)
+  class_said : (k : ClassNumber) → CanSay (Query Clss) (class_is k)
   freeze : (on : Bool) → CanSay (Query Frez) (freeze_is on)
   serial : (s : List ℕ) → is_info s ≡ true → CanSay (Query Snum) (text_is s)
   version : (s : List ℕ) → is_info s ≡ true → CanSay (Query Sver) (text_is s)

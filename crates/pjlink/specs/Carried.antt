@@ -29,12 +29,12 @@ abbrev pub answer_said : Answer → Said
 answer_said an.Done = okay
 answer_said (an.Power p) = power_is p
 answer_said (an.Input i) = chosen_is i
-answer_said (an.Mutes video audio) = mutes_are video audio
+answer_said (an.Mutes mutes) = mutes_are mutes.video mutes.audio
 answer_said (an.Errors digits) = errors_are digits
 answer_said (an.Lamps lamps) = lamps_are lamps.items
 answer_said (an.Inputs inputs) = inputs_are inputs.items
 answer_said (an.Text text) = text_is text.now
-answer_said (an.Class k) = class_is k
+answer_said (an.Class class) = class_is class
 answer_said (an.Freeze on) = freeze_is on
 
 abbrev pub said_by : Result Answer Refusal → Said

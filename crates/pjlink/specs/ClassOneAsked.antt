@@ -10,6 +10,7 @@ use Rattle.std.specs.Option.{option_map}
 use Rattle.text.specs.Words.{◌is◌, ◌from◌to◌}
 use Rattle.text.specs.Scans.{same_by}
 use Rattle.words.specs.Bytes.{◌at◌, upper_of}
+use Rattle.words.specs.Classes.{class_as_number}
 use Rattle.words.specs.declared.input.Input.{Input}
 use Rattle.pjlink.specs.Bodies.{row_of}
 use Rattle.words.specs.ClassOne.{read_input_1}
@@ -17,14 +18,16 @@ use Rattle.pjlink.specs.declared.body.TheConstants.{BODIES}
 use Rattle.pjlink.specs.declared.body.Row.{Row}
 use Rattle.pjlink.specs.declared.body.Body.{Body}
 use Rattle.pjlink.specs.declared.body.Body.TheVariants.{Powr, Inpt, Avmt}
+use Rattle.pjlink.specs.declared.command.Half.{Half}
+use Rattle.pjlink.specs.declared.command.Half.TheVariants.{VideoHalf, AudioHalf, BothHalves}
 use Rattle.pjlink.specs.declared.command.Command.TheVariants.{PowerSet, InputSet, MuteSet, Query}
 use Rattle.pjlink.specs.declared.body.Sets.{Sets}
 use Rattle.pjlink.specs.declared.body.Sets.TheVariants.{SetsPower, SetsInput, SetsMute}
-use Rattle.pjlink.specs.Requests.{Request, half_named, is_question}
+use Rattle.pjlink.specs.Requests.{Request, is_question}
 use Rattle.pjlink.specs.declared.request.Unasked.TheVariants.{Unlisted, UnknownBody}
 
 abbrev pub rows1 : List Row
-rows1 = filter (λ (r : Row). r.class == 1) BODIES
+rows1 = filter (λ (r : Row). class_as_number r.class == 1) BODIES
 
 abbrev pub is_body_1 : List ℕ → Row → Bool
 is_body_1 s r = same_by upper_of s r.letters
@@ -46,10 +49,13 @@ unfoldable pub input_asked_1 : List ℕ → Request
 input_asked_1 p = if length p == 2 then input_given_1 (read_input_1 (p at 0) (p at 1)) else Err (Unlisted Inpt)
 
 -- AVMT: 10 11 20 21 30 31
+unfoldable pub half_named_1 : ℕ → Half
+half_named_1 a = if a is "1" then VideoHalf else if a is "2" then AudioHalf else BothHalves
+
 unfoldable pub mute_asked_1 : List ℕ → Request
 mute_asked_1 p =
     if length p == 2 && (p at 0 from "1" to "3" && p at 1 from "0" to "1")
-    then Ok (MuteSet (half_named (p at 0)) (p at 1 is "1"))
+    then Ok (MuteSet (half_named_1 (p at 0)) (p at 1 is "1"))
     else Err (Unlisted Avmt)
 
 -- no other body of Class 1 sets anything

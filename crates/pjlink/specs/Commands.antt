@@ -3,15 +3,16 @@
 --   body_text b          the four letters of a body
 --   body_of c            the body of a command
 --   command_class c      the class of its line, and class_digit k the character of a class
+--   half_code h          the character of what a mute is of, with half_text and half_read alike
 --   parameter_of c       its parameter: `?` asks, anything else sets (of a step, 1 is up and 0 is down); INNM's names
 --                        the input that is asked for
---   parameter_bytes p    the bytes of a parameter
 --   is_command c         a command whose line can be written: its input is one, its query is one
 --   command_text c       `%` and the class, the body, a space, the parameter
 --   command_line c       that and CR
 -- Assumes nothing.
-use Rattle.std.specs.Prelude.{Bool, true, List, [], ◌∷◌, ◌++◌, ℕ, ◌+◌, codes}
+use Rattle.std.specs.Prelude.{Bool, true, List, [], ◌∷◌, ◌++◌, ℕ, ◌+◌, Option, codes}
 use Prim.Native.Char.{code}
+use Rattle.words.specs.Codec.{named, letter}
 use Rattle.words.specs.Inputs.{is_input, input_text}
 use Rattle.words.specs.Powers.{switch_code}
 use Rattle.pjlink.specs.Bodies.{row_of, class_of, has_query}
@@ -21,8 +22,6 @@ use Rattle.pjlink.specs.declared.command.Half.{Half}
 use Rattle.pjlink.specs.declared.command.Half.TheVariants.{VideoHalf, AudioHalf, BothHalves}
 use Rattle.pjlink.specs.declared.command.Volume.{Volume}
 use Rattle.pjlink.specs.declared.command.Volume.TheVariants.{Speaker, Microphone}
-use Rattle.pjlink.specs.declared.command.Parameter.{Parameter}
-use Rattle.pjlink.specs.declared.command.Parameter.TheVariants.{One, Two, Three}
 use Rattle.pjlink.specs.declared.command.Command.{Command}
 use Rattle.pjlink.specs.declared.command.Command.TheVariants.{PowerSet, InputSet, MuteSet, InputSet2, FreezeSet}
 use Rattle.pjlink.specs.declared.command.Command.TheVariants.{VolumeStep, NameQuery, Query}
@@ -51,25 +50,32 @@ abbrev pub class_digit : ℕ → ℕ
 class_digit k = code "0" + k
 
 -- 1 video, 2 audio, 3 both
-abbrev pub half_digit : Half → ℕ
-half_digit VideoHalf = code "1"
-half_digit AudioHalf = code "2"
-half_digit BothHalves = code "3"
+abbrev pub half_code : Half → ℕ
+half_code VideoHalf = code "1"
+half_code AudioHalf = code "2"
+half_code BothHalves = code "3"
+
+abbrev pub all_halves : List Half
+all_halves = VideoHalf ∷ AudioHalf ∷ BothHalves ∷ []
+
+abbrev pub half_text : Half → List ℕ
+half_text h = half_code h ∷ []
+
+abbrev pub half_named : ℕ → Option Half
+half_named b = named half_code all_halves b
+
+abbrev pub half_read : List ℕ → Option (Half × List ℕ)
+half_read s = letter half_named s
 
 abbrev pub parameter_of : Command → List ℕ
 parameter_of (PowerSet on) = switch_code on ∷ []
 parameter_of (InputSet i) = input_text i
-parameter_of (MuteSet h on) = half_digit h ∷ switch_code on ∷ []
+parameter_of (MuteSet h on) = half_code h ∷ switch_code on ∷ []
 parameter_of (InputSet2 i) = input_text i
 parameter_of (FreezeSet on) = switch_code on ∷ []
 parameter_of (VolumeStep v up) = switch_code up ∷ []
 parameter_of (NameQuery i) = codes "?" ++ input_text i
 parameter_of (Query b) = codes "?"
-
-abbrev pub parameter_bytes : Parameter → List ℕ
-parameter_bytes (One a) = a ∷ []
-parameter_bytes (Two a b) = a ∷ b ∷ []
-parameter_bytes (Three a b c) = a ∷ b ∷ c ∷ []
 
 abbrev pub is_command : Command → Bool
 is_command (PowerSet on) = true

@@ -3,12 +3,12 @@
 -- Assumes nothing.
 use Rattle.words.specs.Computing.{computing as words}
 use Rattle.pjlink.specs.Forms.{is_command_form, is_reply_form}
-use Rattle.pjlink.specs.Requests.{switch_of, name_query_of, half_named, mute_of, asked_of, request_of}
+use Rattle.pjlink.specs.Requests.{name_query_of, asked_of, request_of}
 use Rattle.pjlink.specs.Said.{said_bytes}
 use Rattle.pjlink.specs.Reading.{read_parameter}
 
 unfoldable pub computing : Unit {0}
 unfolding
-    words is_command_form is_reply_form switch_of name_query_of half_named mute_of asked_of request_of said_bytes
+    words is_command_form is_reply_form name_query_of asked_of request_of said_bytes
     read_parameter
 computing = tt

@@ -8,7 +8,7 @@
 --                             the end
 --   head_body l               the four body bytes of either
 --   command_parameter l       what follows the mark; in a reply, up to the CR: reply_parameter l
---   IsCommandOf k l h s p     the line l of the form has the class byte h, the body s and the parameter p
+--   IsCommandOf k l j s p     the line l of the form has the class j, the body s and the parameter p
 --   IsReplyOf k l s p         the reply l of the form has the body s and the parameter p
 --   reply_line h a b c d p    the reply with the class byte h, the body a b c d and the parameter p
 --   greeting_open             the greeting of a projector without security
@@ -62,9 +62,9 @@ is_reply_form k l =
     && l at (length l - 1) is "\r" && no_cr (reply_parameter l)
 
 -- the parts of a line of the form
-pub record IsCommandOf (k : ℕ) (l : List ℕ) (h : ℕ) (s p : List ℕ) : Type 0 where
+pub record IsCommandOf (k : ℕ) (l : List ℕ) (j : ℕ) (s p : List ℕ) : Type 0 where
   pub form : is_command_form k l ≡ true
-  pub class : h ≡ l at 1
+  pub class : l at 1 ≡ class_digit j
   pub body : s ≡ head_body l
   pub parameter : p ≡ command_parameter l
 

@@ -1,5 +1,6 @@
 pub mod Bodies
 pub mod Commands
+pub mod Laws
 pub mod Forms
 pub mod ClassOne
 pub mod Requests

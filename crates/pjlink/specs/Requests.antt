@@ -1,6 +1,6 @@
 -- What a received class, body and parameter ask for (RULES, Commands: bodies without regard to case, parameters
 -- exactly; RULES, Class 2: each body under its own class).
---   switch_of p            the digit 0 or 1
+--   mute_of p              what a mute is of, and 0 or 1
 --   set_of set p           the command that the parameter p makes of a body that sets this, or none
 --   command_of b p         the command that it makes of the body b, or none
 --   Request                what a line asks for:
@@ -15,13 +15,14 @@
 use Rattle.std.specs.Prelude.{ℕ, Bool, ◌&&◌, List, length, drop, if◌then◌else◌}
 use Rattle.std.specs.Prelude.{Option, Some, None, Result, Ok, Err, ◌==◌}
 use Rattle.std.specs.Option.{option_map}
-use Rattle.text.specs.Words.{◌is◌, ◌from◌to◌}
+use Rattle.text.specs.Words.{◌is◌}
 use Rattle.words.specs.Bytes.{◌at◌}
+use Rattle.words.specs.Codec.{whole, pair_of}
 use Rattle.words.specs.Inputs.{input_of}
+use Rattle.words.specs.Powers.{switch_read}
 use Rattle.pjlink.specs.Bodies.{row_of, body_named, has_query}
+use Rattle.pjlink.specs.Commands.{half_read}
 use Rattle.pjlink.specs.declared.body.Body.{Body}
-use Rattle.pjlink.specs.declared.command.Half.{Half}
-use Rattle.pjlink.specs.declared.command.Half.TheVariants.{VideoHalf, AudioHalf, BothHalves}
 use Rattle.pjlink.specs.declared.command.Volume.TheVariants.{Speaker, Microphone}
 use Rattle.pjlink.specs.declared.command.Command.{Command}
 use Rattle.pjlink.specs.declared.command.Command.TheVariants.{PowerSet, InputSet, MuteSet, InputSet2, FreezeSet}
@@ -32,33 +33,23 @@ use Rattle.pjlink.specs.declared.body.Sets.TheVariants.{StepsSpeaker, StepsMicro
 use Rattle.pjlink.specs.declared.request.Unasked.{Unasked}
 use Rattle.pjlink.specs.declared.request.Unasked.TheVariants.{Unlisted, UnknownBody}
 
--- POWR, FREZ: off and on; SVOL, MVOL: down and up
-unfoldable pub switch_of : List ℕ → Option Bool
-switch_of p = if length p == 1 && p at 0 from "0" to "1" then Some (p at 0 is "1") else None
-
 -- AVMT: 10 11 20 21 30 31
-unfoldable pub half_named : ℕ → Half
-half_named a = if a is "1" then VideoHalf else if a is "2" then AudioHalf else BothHalves
-
-unfoldable pub mute_of : List ℕ → Option Command
-mute_of p =
-    if length p == 2 && (p at 0 from "1" to "3" && p at 1 from "0" to "1")
-    then Some (MuteSet (half_named (p at 0)) (p at 1 is "1"))
-    else None
+abbrev pub mute_of : List ℕ → Option Command
+mute_of p = whole (pair_of MuteSet half_read switch_read) p
 
 -- INNM: `?` and two characters that name an input
 unfoldable pub name_query_of : List ℕ → Option Command
 name_query_of p = if p at 0 is "?" then option_map NameQuery (input_of (drop 1 p)) else None
 
--- INPT: two characters that name an input
+-- POWR, FREZ: off and on; SVOL, MVOL: down and up; INPT: two characters that name an input
 abbrev pub set_of : Sets → List ℕ → Option Command
-set_of SetsPower p = option_map PowerSet (switch_of p)
+set_of SetsPower p = option_map PowerSet (whole switch_read p)
 set_of SetsInput p = option_map InputSet (input_of p)
 set_of SetsMute p = mute_of p
 set_of SetsInput2 p = option_map InputSet2 (input_of p)
-set_of SetsFreeze p = option_map FreezeSet (switch_of p)
-set_of StepsSpeaker p = option_map (VolumeStep Speaker) (switch_of p)
-set_of StepsMicrophone p = option_map (VolumeStep Microphone) (switch_of p)
+set_of SetsFreeze p = option_map FreezeSet (whole switch_read p)
+set_of StepsSpeaker p = option_map (VolumeStep Speaker) (whole switch_read p)
+set_of StepsMicrophone p = option_map (VolumeStep Microphone) (whole switch_read p)
 set_of NamesInput p = name_query_of p
 set_of QueryOnly p = None
 

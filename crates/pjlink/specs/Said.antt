@@ -11,12 +11,14 @@
 --   said_most          no answer has a longer one: an input's name of 128 bytes (RULES, Class 2)
 -- Assumes nothing.
 use Rattle.std.specs.Prelude.{ℕ, ◌*◌, ◌-◌, Bool, List, [], ◌∷◌, ◌++◌, length, codes}
+use Rattle.words.specs.Classes.{class_text}
 use Rattle.words.specs.Inputs.{input_text, number_digit}
 use Rattle.words.specs.Joined.{list_text}
 use Rattle.words.specs.Powers.{power_text, switch_text}
 use Rattle.words.specs.Muting.{halves_text}
 use Rattle.words.specs.ErrorDigits.{errors_text}
 use Rattle.words.specs.Lamps.{lamp_text}
+use Rattle.words.specs.declared.class.ClassNumber.{ClassNumber}
 use Rattle.words.specs.declared.input.Input.{Input}
 use Rattle.words.specs.declared.power.Power.{Power}
 use Rattle.words.specs.declared.lamp.LampHours.{LampHours}
@@ -31,7 +33,7 @@ pub data Said : Type 0 where
   lamps_are : List LampHours → Said
   inputs_are : List Input → Said
   text_is : List ℕ → Said
-  class_is : ℕ → Said
+  class_is : ClassNumber → Said
   freeze_is : Bool → Said
   nothing : Said
 
@@ -48,7 +50,7 @@ said_text (errors_are ds) = errors_text ds
 said_text (lamps_are ls) = list_text lamp_text ls
 said_text (inputs_are is) = list_text input_text is
 said_text (text_is s) = s
-said_text (class_is k) = number_digit k ∷ []
+said_text (class_is k) = class_text k
 said_text (freeze_is on) = switch_text on
 said_text nothing = []
 

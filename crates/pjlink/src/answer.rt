@@ -1,9 +1,11 @@
 //! What a projector says to a command, apart from its bytes (RULES, Commands and Class 2).
 
 use arrayvec::ArrayVec;
+use words::class::ClassNumber;
 use words::errors::Errors;
 use words::input::Input;
 use words::lamp::LampHours;
+use words::mutes::Mutes;
 use words::power::Power;
 use words::refusal::Refusal;
 
@@ -22,8 +24,8 @@ pub enum Answer<'a> {
     Power(Power),
     /// The input that is chosen.
     Input(Input),
-    /// Whether the video is muted, and whether the audio is.
-    Mutes(bool, bool),
+    /// What is muted.
+    Mutes(Mutes),
     /// Fan, lamp, temperature, cover, filter, other: 0 no error or not known, 1 a warning, 2 an error.
     Errors(Errors),
     /// The lamps, in order.
@@ -32,8 +34,8 @@ pub enum Answer<'a> {
     Inputs(ArrayVec<Input, INPUTS_MOST>),
     /// A name, or another text.
     Text(&'a [u8]),
-    /// The class, 1 or 2.
-    Class(u8),
+    /// The class.
+    Class(ClassNumber),
     /// Whether the picture is frozen.
     Freeze(bool),
 }

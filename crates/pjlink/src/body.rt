@@ -1,5 +1,6 @@
 // The bodies of both classes: THE table, a row for each (RULES, Commands; PJLink 1.04, 4.1 to 4.14; RULES, Class 2).
 ghost use Rattle.std.specs.Prelude.{◌≡◌};
+ghost use Rattle.words.specs.Classes.{class_as_number};
 ghost use Rattle.pjlink.specs.Bodies.{row_of, is_named, is_body, body_named, has_set, has_parameters, has_query};
 
 use self::Sets::{
@@ -7,6 +8,8 @@ use self::Sets::{
     StepsSpeaker,
 };
 use words::byte;
+use words::class::ClassNumber;
+use words::class::ClassNumber::{One, Two};
 
 /// The four letters that name what a command is about, each under its own class: INPT and INST are a body of either.
 #[derive(Clone, Copy)]
@@ -51,8 +54,8 @@ pub enum Sets {
 pub struct Row {
     /// The body whose row it is.
     pub body: Body,
-    /// The class of the lines that ask for it, 1 or 2.
-    pub class: u8,
+    /// The class of the lines that ask for it.
+    pub class: ClassNumber,
     /// Its letters, in upper case.
     pub letters: [u8; 4],
     /// What it sets.
@@ -68,35 +71,35 @@ pub struct Row {
 /// Every body, in the order of the enum: those of Class 1 in the order of RULES, then those of Class 2.
 #[rattlefmt::skip]
 pub const BODIES: [Row; 19] = [
-    Row { body: Body::Powr, class: 1, letters: *b"POWR", set: SetsPower, asks: true, lamps: false, on: false },
-    Row { body: Body::Inpt, class: 1, letters: *b"INPT", set: SetsInput, asks: true, lamps: false, on: true },
-    Row { body: Body::Avmt, class: 1, letters: *b"AVMT", set: SetsMute, asks: true, lamps: false, on: true },
-    Row { body: Body::Erst, class: 1, letters: *b"ERST", set: QueryOnly, asks: true, lamps: false, on: false },
-    Row { body: Body::Lamp, class: 1, letters: *b"LAMP", set: QueryOnly, asks: true, lamps: true, on: false },
-    Row { body: Body::Inst, class: 1, letters: *b"INST", set: QueryOnly, asks: true, lamps: false, on: false },
-    Row { body: Body::Name, class: 1, letters: *b"NAME", set: QueryOnly, asks: true, lamps: false, on: false },
-    Row { body: Body::Inf1, class: 1, letters: *b"INF1", set: QueryOnly, asks: true, lamps: false, on: false },
-    Row { body: Body::Inf2, class: 1, letters: *b"INF2", set: QueryOnly, asks: true, lamps: false, on: false },
-    Row { body: Body::Info, class: 1, letters: *b"INFO", set: QueryOnly, asks: true, lamps: false, on: false },
-    Row { body: Body::Clss, class: 1, letters: *b"CLSS", set: QueryOnly, asks: true, lamps: false, on: false },
-    Row { body: Body::Frez, class: 2, letters: *b"FREZ", set: SetsFreeze, asks: true, lamps: false, on: true },
-    Row { body: Body::Svol, class: 2, letters: *b"SVOL", set: StepsSpeaker, asks: false, lamps: false, on: true },
-    Row { body: Body::Mvol, class: 2, letters: *b"MVOL", set: StepsMicrophone, asks: false, lamps: false, on: true },
-    Row { body: Body::Snum, class: 2, letters: *b"SNUM", set: QueryOnly, asks: true, lamps: false, on: false },
-    Row { body: Body::Sver, class: 2, letters: *b"SVER", set: QueryOnly, asks: true, lamps: false, on: false },
-    Row { body: Body::Innm, class: 2, letters: *b"INNM", set: NamesInput, asks: false, lamps: false, on: false },
-    Row { body: Body::Inpt2, class: 2, letters: *b"INPT", set: SetsInput2, asks: true, lamps: false, on: true },
-    Row { body: Body::Inst2, class: 2, letters: *b"INST", set: QueryOnly, asks: true, lamps: false, on: false },
+    Row { body: Body::Powr, class: One, letters: *b"POWR", set: SetsPower, asks: true, lamps: false, on: false },
+    Row { body: Body::Inpt, class: One, letters: *b"INPT", set: SetsInput, asks: true, lamps: false, on: true },
+    Row { body: Body::Avmt, class: One, letters: *b"AVMT", set: SetsMute, asks: true, lamps: false, on: true },
+    Row { body: Body::Erst, class: One, letters: *b"ERST", set: QueryOnly, asks: true, lamps: false, on: false },
+    Row { body: Body::Lamp, class: One, letters: *b"LAMP", set: QueryOnly, asks: true, lamps: true, on: false },
+    Row { body: Body::Inst, class: One, letters: *b"INST", set: QueryOnly, asks: true, lamps: false, on: false },
+    Row { body: Body::Name, class: One, letters: *b"NAME", set: QueryOnly, asks: true, lamps: false, on: false },
+    Row { body: Body::Inf1, class: One, letters: *b"INF1", set: QueryOnly, asks: true, lamps: false, on: false },
+    Row { body: Body::Inf2, class: One, letters: *b"INF2", set: QueryOnly, asks: true, lamps: false, on: false },
+    Row { body: Body::Info, class: One, letters: *b"INFO", set: QueryOnly, asks: true, lamps: false, on: false },
+    Row { body: Body::Clss, class: One, letters: *b"CLSS", set: QueryOnly, asks: true, lamps: false, on: false },
+    Row { body: Body::Frez, class: Two, letters: *b"FREZ", set: SetsFreeze, asks: true, lamps: false, on: true },
+    Row { body: Body::Svol, class: Two, letters: *b"SVOL", set: StepsSpeaker, asks: false, lamps: false, on: true },
+    Row { body: Body::Mvol, class: Two, letters: *b"MVOL", set: StepsMicrophone, asks: false, lamps: false, on: true },
+    Row { body: Body::Snum, class: Two, letters: *b"SNUM", set: QueryOnly, asks: true, lamps: false, on: false },
+    Row { body: Body::Sver, class: Two, letters: *b"SVER", set: QueryOnly, asks: true, lamps: false, on: false },
+    Row { body: Body::Innm, class: Two, letters: *b"INNM", set: NamesInput, asks: false, lamps: false, on: false },
+    Row { body: Body::Inpt2, class: Two, letters: *b"INPT", set: SetsInput2, asks: true, lamps: false, on: true },
+    Row { body: Body::Inst2, class: Two, letters: *b"INST", set: QueryOnly, asks: true, lamps: false, on: false },
 ];
 
 impl Row {
     /// Whether four letters name its body in a line of the class, whatever their case.
-    fn is_named(&self, class: u8, letters: [u8; 4]) -> bool
-        ensures { result ≡ is_named class letters self.now }
+    fn is_named(&self, class: ClassNumber, letters: [u8; 4]) -> bool
+        ensures { result ≡ is_named (class_as_number class) letters self.now }
     {
         let [a, b, c, d] = letters;
         let [w, x, y, z] = self.letters;
-        class == self.class
+        class.number() == self.class.number()
             && byte::upper(a) == w
             && byte::upper(b) == x
             && byte::upper(c) == y
@@ -113,16 +116,16 @@ impl Body {
     }
 
     /// The body that four letters name in a line of the class, whatever their case.
-    pub fn named(class: u8, letters: [u8; 4]) -> Option<Body>
-        ensures { result ≡ body_named class letters }
+    pub fn named(class: ClassNumber, letters: [u8; 4]) -> Option<Body>
+        ensures { result ≡ body_named (class_as_number class) letters }
     {
         let row = BODIES.iter().find(|row| row.is_named(class, letters))?;
         Some(row.body)
     }
 
     /// Whether four letters name it in a line of the class, whatever their case.
-    pub fn is_named(self, class: u8, letters: [u8; 4]) -> bool
-        ensures { result ≡ is_body class letters self }
+    pub fn is_named(self, class: ClassNumber, letters: [u8; 4]) -> bool
+        ensures { result ≡ is_body (class_as_number class) letters self }
     {
         self.row().is_named(class, letters)
     }

@@ -1,12 +1,17 @@
 // The commands that our writer can write, and their lines (PJLink 1.04, 2.1 and 4.1 to 4.14; RULES, Class 2).
-ghost use Rattle.std.specs.Prelude.{◌≡◌, ◌++◌, ◌+◌, ◌≤◌, length, codes};
-ghost use Rattle.std.proofs.lemmas.List.Edits.{sets};
-ghost use Rattle.pjlink.specs.Commands.{volume_body, body_of, command_class, parameter_of};
-ghost use Rattle.pjlink.specs.Commands.{parameter_bytes, half_digit, is_command, command_line};
+ghost use Rattle.std.specs.Prelude.{◌≡◌, ◌++◌, ◌+◌, ◌≤◌, true};
+ghost use Rattle.arrayvec.specs.ArrayVec.{array_vec_len};
+ghost use Rattle.words.specs.Classes.{class_as_number};
+ghost use Rattle.words.specs.Codec.{Plain};
+ghost use Rattle.pjlink.specs.Commands.{volume_body, body_of, command_class, parameter_of, is_command, command_line};
+ghost use Rattle.pjlink.specs.Commands.{half_code, half_named, half_text, half_read};
+ghost use Rattle.pjlink.specs.Laws.{half_codec};
 
 use crate::body::Body;
+use words::class::ClassNumber;
+use words::codec::{LINE_MOST, Line, Wire};
 use words::input::Input;
-use words::{input, power};
+use words::{codec, input};
 
 /// What a mute is of.
 #[derive(Clone, Copy)]
@@ -37,14 +42,6 @@ pub enum Command {
     Query(Body),
 }
 
-/// A parameter of ours has one to three bytes.
-#[derive(Clone, Copy)]
-pub enum Parameter {
-    One(u8),
-    Two(u8, u8),
-    Three(u8, u8, u8),
-}
-
 impl Command {
     /// The body that it is about.
     pub fn body(self) -> Body
@@ -62,9 +59,9 @@ impl Command {
         }
     }
 
-    /// The class of its line, 1 or 2.
-    pub fn class(self) -> u8
-        ensures { result ≡ command_class self }
+    /// The class of its line.
+    pub fn class(self) -> ClassNumber
+        ensures { class_as_number result ≡ command_class self }
     {
         self.body().row().class
     }
@@ -74,44 +71,47 @@ impl Command {
         ensures { result ≡ is_command self }
     {
         match self {
-            Command::InputSet(i) | Command::InputSet2(i) | Command::NameQuery(i) => input::is_input(
-                i,
-            ),
+            Command::InputSet(i) | Command::InputSet2(i) | Command::NameQuery(i) => {
+                input::is_input(i)
+            }
             Command::Query(b) => b.has_query(),
             _ => true,
         }
     }
 
-    fn parameter(self) -> Parameter
-        ensures { parameter_bytes result ≡ parameter_of self }
+    fn put_parameter(self, out: &mut Line)
+        requires { array_vec_len out.old + 3 ≤ LINE_MOST }
+        ensures { out.new.items ≡ out.old.items ++ parameter_of self }
     {
         match self {
             Command::PowerSet(on) | Command::FreezeSet(on) | Command::VolumeStep(_, on) => {
-                Parameter::One(power::switch_code(on))
+                on.put(out)
             }
-            Command::MuteSet(h, on) => Parameter::Two(half_digit(h), power::switch_code(on)),
-            Command::InputSet(i) | Command::InputSet2(i) => {
-                let [source, number] = input::input_text(i);
-                Parameter::Two(source, number)
+            Command::InputSet(i) | Command::InputSet2(i) => i.put(out),
+            Command::MuteSet(half, on) => {
+                half.put(out);
+                on.put(out);
             }
             Command::NameQuery(i) => {
-                let [source, number] = input::input_text(i);
-                Parameter::Three(b'?', source, number)
+                out.push(b'?');
+                i.put(out);
             }
-            Command::Query(_) => Parameter::One(b'?'),
+            Command::Query(_) => out.push(b'?'),
         }
     }
 
-    /// Its line, with its CR, into `out` from the place `at` on; the place after it.
-    pub fn put(self, out: &mut [u8], at: usize) -> usize
-        requires { at + 11 ≤ length out.old }
-        ensures after { result ≡ at + length (command_line self) }
-        ensures written { out.new ≡ sets out.old at (command_line self) }
+    /// Puts its line at the end of `out`, with its CR: eleven bytes at most.
+    pub fn put(self, out: &mut Line)
+        requires { array_vec_len out.old + 11 ≤ LINE_MOST }
+        ensures { out.new.items ≡ out.old.items ++ command_line self }
     {
         let row = self.body().row();
-        let [a, b, c, d] = row.letters;
-        text::put(out, at, &[b'%', b'0' + row.class, a, b, c, d, b' ']);
-        put_parameter(out, at + 7, self.parameter())
+        out.push(b'%');
+        row.class.put(out);
+        codec::put_all(&row.letters, out);
+        out.push(b' ');
+        self.put_parameter(out);
+        out.push(b'\r');
     }
 }
 
@@ -124,8 +124,8 @@ fn volume_body(v: Volume) -> Body
     }
 }
 
-fn half_digit(h: Half) -> u8
-    ensures { result ≡ half_digit h }
+fn half_code(h: Half) -> u8
+    ensures { result ≡ half_code h }
 {
     match h {
         Half::VideoHalf => b'1',
@@ -134,24 +134,39 @@ fn half_digit(h: Half) -> u8
     }
 }
 
-// The parameter and CR into out, from the place `at` on; the place after them.
-fn put_parameter(out: &mut [u8], at: usize, p: Parameter) -> usize
-    requires { at + 4 ≤ length out.old }
-    ensures after { result ≡ at + length (parameter_bytes p ++ codes "\r") }
-    ensures written { out.new ≡ sets out.old at (parameter_bytes p ++ codes "\r") }
+fn half_named(b: u8) -> Option<Half>
+    ensures { result ≡ half_named b }
 {
-    match p {
-        Parameter::One(x) => {
-            text::put(out, at, &[x, b'\r']);
-            at + 2
-        }
-        Parameter::Two(x, y) => {
-            text::put(out, at, &[x, y, b'\r']);
-            at + 3
-        }
-        Parameter::Three(x, y, z) => {
-            text::put(out, at, &[x, y, z, b'\r']);
-            at + 4
-        }
+    match b {
+        b'1' => Some(Half::VideoHalf),
+        b'2' => Some(Half::AudioHalf),
+        b'3' => Some(Half::BothHalves),
+        _ => None,
     }
+}
+
+impl Wire for Half {
+    ghost legal = { λ _. true };
+
+    ghost text = { half_text };
+
+    ghost writes = { Plain (λ _. true) half_text };
+
+    ghost read = { half_read };
+
+    fn put(self, out: &mut Line) {
+        out.push(half_code(self));
+    }
+
+    fn take(s: &[u8]) -> Option<(Half, &[u8])> {
+        let [b, rest @ ..] = s else {
+            return None;
+        };
+        let Some(half) = half_named(*b) else {
+            return None;
+        };
+        Some((half, rest))
+    }
+
+    ghost codec = { half_codec };
 }

@@ -8,8 +8,6 @@ ghost use Rattle.pjlink.specs.Reading.{text_or, read_queried, read_value, read_p
 use crate::answer::{Answer, Reply};
 use crate::body::Body;
 use crate::command::Command;
-use words::class::ClassNumber;
-use words::mutes::Mutes;
 use words::refusal::Refusal;
 use words::{codec, list, texts};
 
@@ -25,62 +23,33 @@ fn read_queried(b: Body, p: &[u8]) -> Option<Answer<'_>>
 {
     match b {
         Body::Powr => Some(Answer::Power(codec::parse(p)?)),
-        Body::Inpt => Some(Answer::Input(codec::parse(p)?)),
-        Body::Avmt => {
-            let m: Mutes = codec::parse(p)?;
-            Some(Answer::Mutes(m.video, m.audio))
-        }
+        Body::Inpt | Body::Inpt2 => Some(Answer::Input(codec::parse(p)?)),
+        Body::Avmt => Some(Answer::Mutes(codec::parse(p)?)),
         Body::Erst => Some(Answer::Errors(codec::parse(p)?)),
         Body::Lamp => Some(Answer::Lamps(list::parse_list(p)?)),
-        Body::Inst => Some(Answer::Inputs(list::parse_list(p)?)),
+        Body::Inst | Body::Inst2 => Some(Answer::Inputs(list::parse_list(p)?)),
         Body::Name => text_if(texts::is_name(p), p),
-        Body::Inf1 => text_if(texts::is_info(p), p),
-        Body::Inf2 => text_if(texts::is_info(p), p),
-        Body::Info => text_if(texts::is_info(p), p),
-        Body::Clss => {
-            let class: ClassNumber = codec::parse(p)?;
-            Some(Answer::Class(class.number))
+        Body::Inf1 | Body::Inf2 | Body::Info | Body::Snum | Body::Sver => {
+            text_if(texts::is_info(p), p)
         }
-        Body::Frez => Some(Answer::Freeze(codec::parse(p)?)),
-        Body::Svol => None,
-        Body::Mvol => None,
-        Body::Snum => text_if(texts::is_info(p), p),
-        Body::Sver => text_if(texts::is_info(p), p),
         Body::Innm => text_if(texts::is_input_name(p), p),
-        Body::Inpt2 => Some(Answer::Input(codec::parse(p)?)),
-        Body::Inst2 => Some(Answer::Inputs(list::parse_list(p)?)),
+        Body::Clss => Some(Answer::Class(codec::parse(p)?)),
+        Body::Frez => Some(Answer::Freeze(codec::parse(p)?)),
+        Body::Svol | Body::Mvol => None,
     }
 }
 
 fn is_set(c: Command) -> bool
     ensures { result ≡ is_set c }
 {
-    match c {
-        Command::PowerSet(_) => true,
-        Command::InputSet(_) => true,
-        Command::MuteSet(_, _) => true,
-        Command::InputSet2(_) => true,
-        Command::FreezeSet(_) => true,
-        Command::VolumeStep(_, _) => true,
-        Command::NameQuery(_) => false,
-        Command::Query(_) => false,
-    }
+    !matches!(c, Command::NameQuery(_) | Command::Query(_))
 }
 
 // Whether the command has another parameter than `?`, which a projector may not know.
 fn has_own_parameter(c: Command) -> bool
     ensures { result ≡ has_own_parameter c }
 {
-    match c {
-        Command::PowerSet(_) => true,
-        Command::InputSet(_) => true,
-        Command::MuteSet(_, _) => true,
-        Command::InputSet2(_) => true,
-        Command::FreezeSet(_) => true,
-        Command::VolumeStep(_, _) => true,
-        Command::NameQuery(_) => true,
-        Command::Query(_) => false,
-    }
+    !matches!(c, Command::Query(_))
 }
 
 fn read_value(c: Command, p: &[u8]) -> Option<Answer<'_>>
@@ -111,8 +80,5 @@ pub fn read_parameter(c: Command, p: &[u8]) -> Option<Reply<'_>>
     if let Some(r) = refusal {
         return if may_refuse(c, r) { Some(Err(r)) } else { None };
     }
-    let Some(value) = read_value(c, p) else {
-        return None;
-    };
-    Some(Ok(value))
+    Some(Ok(read_value(c, p)?))
 }

@@ -1,10 +1,13 @@
 // What a received class, four letters and a parameter ask for (RULES, Commands and Class 2).
 ghost use Rattle.std.specs.Prelude.{◌≡◌};
-ghost use Rattle.pjlink.specs.Requests.{switch_of, half_named, mute_of, name_query_of, set_of, command_of, request_of};
+ghost use Rattle.words.specs.Classes.{class_as_number};
+ghost use Rattle.pjlink.specs.Requests.{mute_of, name_query_of, set_of, command_of, request_of};
 
 use crate::body::{Body, Sets};
 use crate::command::{Command, Half, Volume};
-use words::input;
+use words::class::ClassNumber;
+use words::codec::Wire;
+use words::{codec, input};
 
 /// Why a line of the form asks for no command.
 #[derive(Clone, Copy)]
@@ -16,39 +19,12 @@ pub enum Unasked {
     UnknownBody,
 }
 
-// 0 is off or down, 1 on or up.
-#[tactic(auto, unfolding(crate::specs::Requests::switch_of))]
-fn switch_of(p: &[u8]) -> Option<bool>
-    ensures { result ≡ switch_of p.now }
-{
-    match p {
-        [b'0'] => Some(false),
-        [b'1'] => Some(true),
-        _ => None,
-    }
-}
-
-#[tactic(auto, unfolding(crate::specs::Requests::half_named))]
-fn half_named(a: u8) -> Half
-    ensures { result ≡ half_named a }
-{
-    match a {
-        b'1' => Half::VideoHalf,
-        b'2' => Half::AudioHalf,
-        _ => Half::BothHalves,
-    }
-}
-
-#[tactic(auto, unfolding(crate::specs::Requests::mute_of))]
+// What is muted, and whether it is to be.
 fn mute_of(p: &[u8]) -> Option<Command>
     ensures { result ≡ mute_of p.now }
 {
-    match p {
-        [half @ b'1'..=b'3', on @ b'0'..=b'1'] => {
-            Some(Command::MuteSet(half_named(*half), *on == b'1'))
-        }
-        _ => None,
-    }
+    let (half, on) = Half::take(p)?;
+    Some(Command::MuteSet(half, codec::parse(on)?))
 }
 
 // `?` and the input that is asked for.
@@ -67,13 +43,13 @@ fn set_of(set: Sets, p: &[u8]) -> Option<Command>
     ensures { result ≡ set_of set p.now }
 {
     match set {
-        Sets::SetsPower => Some(Command::PowerSet(switch_of(p)?)),
+        Sets::SetsPower => Some(Command::PowerSet(codec::parse(p)?)),
         Sets::SetsInput => Some(Command::InputSet(input::input_of(p)?)),
         Sets::SetsMute => mute_of(p),
         Sets::SetsInput2 => Some(Command::InputSet2(input::input_of(p)?)),
-        Sets::SetsFreeze => Some(Command::FreezeSet(switch_of(p)?)),
-        Sets::StepsSpeaker => Some(Command::VolumeStep(Volume::Speaker, switch_of(p)?)),
-        Sets::StepsMicrophone => Some(Command::VolumeStep(Volume::Microphone, switch_of(p)?)),
+        Sets::SetsFreeze => Some(Command::FreezeSet(codec::parse(p)?)),
+        Sets::StepsSpeaker => Some(Command::VolumeStep(Volume::Speaker, codec::parse(p)?)),
+        Sets::StepsMicrophone => Some(Command::VolumeStep(Volume::Microphone, codec::parse(p)?)),
         Sets::NamesInput => name_query_of(p),
         Sets::QueryOnly => None,
     }
@@ -91,8 +67,8 @@ fn command_of(b: Body, p: &[u8]) -> Option<Command>
 /// What four letters with the parameter p ask for in a line of the class: the letters in any case, the parameter
 /// exactly.
 #[tactic(auto, unfolding(crate::specs::Requests::request_of, crate::specs::Requests::asked_of))]
-pub fn request(class: u8, letters: [u8; 4], p: &[u8]) -> Result<Command, Unasked>
-    ensures { result ≡ request_of class letters p.now }
+pub fn request(class: ClassNumber, letters: [u8; 4], p: &[u8]) -> Result<Command, Unasked>
+    ensures { result ≡ request_of (class_as_number class) letters p.now }
 {
     let body = Body::named(class, letters).ok_or(Unasked::UnknownBody)?;
     command_of(body, p).ok_or(Unasked::Unlisted(body))

@@ -5,9 +5,7 @@ ghost use Rattle.pjlink.specs.Said.{said_bytes};
 ghost use Rattle.pjlink.specs.Carried.{answer_said, said_by};
 
 use crate::answer::{Answer, Reply};
-use words::class::ClassNumber;
 use words::codec::{LINE_MOST, Line, Wire};
-use words::mutes::Mutes;
 use words::{codec, list};
 
 #[tactic(auto, unfolding(crate::specs::Said::said_bytes))]
@@ -19,18 +17,12 @@ fn put_answer(a: &Answer<'_>, out: &mut Line)
         Answer::Done => codec::put_all(b"OK", out),
         Answer::Power(p) => p.put(out),
         Answer::Input(i) => i.put(out),
-        Answer::Mutes(video, audio) => {
-            let m = Mutes {
-                video: *video,
-                audio: *audio,
-            };
-            m.put(out)
-        }
+        Answer::Mutes(mutes) => mutes.put(out),
         Answer::Errors(errors) => errors.put(out),
         Answer::Lamps(lamps) => list::put_list(lamps.as_slice(), out),
         Answer::Inputs(inputs) => list::put_list(inputs.as_slice(), out),
         Answer::Text(text) => codec::put_all(text, out),
-        Answer::Class(k) => ClassNumber { number: *k }.put(out),
+        Answer::Class(class) => class.put(out),
         Answer::Freeze(on) => on.put(out),
     }
 }

@@ -8,11 +8,15 @@
 --   is_burning p                          the lamps burn
 --   IsPowerOf warm cool power left   the numbers are those of such a power
 --   phase_of phase age random        the phase of a connection
+--   class_seen s                     the class of a set-up
 -- Assumes nothing.
 use Rattle.std.specs.Prelude.{ℕ, ◌≤◌, ◌≡◌, Bool, true, false, if◌then◌else◌, ◌==◌}
 use Rattle.record.specs.Limits.{off, on, cooling, warming, awaiting, opened, failed}
 use Rattle.record.specs.Updates.{with_power_left}
 use Rattle.record.specs.declared.types.Own.{Own}
+use Rattle.record.specs.declared.types.Settings.{Settings}
+use Rattle.words.specs.declared.class.ClassNumber.{ClassNumber}
+use Rattle.words.specs.declared.class.ClassNumber.TheVariants.{One, Two}
 use Rattle.record.specs.declared.views.Power.{Power}
 use Rattle.record.specs.declared.views.Power.TheVariants.{Off, WarmUp, On, Cooling}
 use Rattle.record.specs.declared.views.Phase.{Phase}
@@ -66,3 +70,6 @@ phase_of phase age random =
     else if phase == opened then Open random
     else if phase == failed then Failed age random
     else Closed
+
+abbrev pub class_seen : Settings → ClassNumber
+class_seen s = if s.class_number == 2 then Two else One

@@ -1,10 +1,11 @@
 // What the record's numbers mean: a total view of each, and how it is written back.
 ghost use Rattle.std.specs.Prelude.{◌≡◌};
-ghost use Rattle.record.specs.Views.{power_of, with_power, is_burning, phase_of};
+ghost use Rattle.record.specs.Views.{power_of, with_power, is_burning, phase_of, class_seen};
 
 use crate::connection::{AWAITING, FAILED, OPENED};
 use crate::own::{COOLING, OFF, ON, WARMING};
-use crate::types::{Connection, Own};
+use crate::types::{Connection, Own, Settings};
+use words::class::ClassNumber;
 
 /// The power, with the seconds that are left of it.
 #[derive(Clone, Copy)]
@@ -71,6 +72,18 @@ impl Connection {
             OPENED => Phase::Open { random },
             FAILED => Phase::Failed { age, random },
             _ => Phase::Closed,
+        }
+    }
+}
+
+impl Settings {
+    /// The class of the set-up.
+    pub fn class(&self) -> ClassNumber
+        ensures { result ≡ class_seen self.now }
+    {
+        match self.class_number {
+            2 => ClassNumber::Two,
+            _ => ClassNumber::One,
         }
     }
 }

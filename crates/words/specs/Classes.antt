@@ -1,21 +1,28 @@
--- The class that a projector tells: 1 or 2 (RULES, Commands and Class 2; PJLink 1.04, 4.14).
+-- The class of a projector, of a body and of a line: 1 or 2 (RULES, Commands and Class 2; PJLink 1.04, 4.14).
+--   class_as_number k   1 or 2
+--   class_code k     its character, with class_text and class_read alike
 -- Assumes nothing.
-use Rattle.std.specs.Prelude.{ℕ, Bool, ◌&&◌, List, [], ◌∷◌, Option, nat_le}
+use Rattle.std.specs.Prelude.{ℕ, ◌+◌, List, [], ◌∷◌, Option}
+use Prim.Native.Char.{code}
 use Rattle.words.specs.Codec.{named, letter}
-use Rattle.words.specs.Inputs.{number_digit}
 use Rattle.words.specs.declared.class.ClassNumber.{ClassNumber}
+use Rattle.words.specs.declared.class.ClassNumber.TheVariants.{One, Two}
 
-abbrev pub is_class : ClassNumber → Bool
-is_class c = nat_le 1 c.number && nat_le c.number 2
+abbrev pub class_as_number : ClassNumber → ℕ
+class_as_number One = 1
+class_as_number Two = 2
+
+abbrev pub class_code : ClassNumber → ℕ
+class_code k = code "0" + class_as_number k
+
+abbrev pub classes : List ClassNumber
+classes = One ∷ Two ∷ []
 
 abbrev pub class_text : ClassNumber → List ℕ
-class_text c = number_digit c.number ∷ []
-
-abbrev pub class_told : ℕ → ClassNumber
-class_told k = record { number = k }
+class_text k = class_code k ∷ []
 
 abbrev pub class_named : ℕ → Option ClassNumber
-class_named b = named (λ c. number_digit c.number) (class_told 1 ∷ class_told 2 ∷ []) b
+class_named b = named class_code classes b
 
 abbrev pub class_read : List ℕ → Option (ClassNumber × List ℕ)
 class_read s = letter class_named s

@@ -24,16 +24,16 @@ use Rattle.words.specs.Sources.{is_number_character, number_for, number_characte
 use Rattle.words.specs.Lamps.{lamp_text, lamp_hours, is_lamp_hours, WritesLampHours, lamp_read}
 use Rattle.words.specs.Muting.{halves_text, mutes_text, mutes_of, all_mutes, mutes_read}
 use Rattle.words.specs.ErrorDigits.{is_error_digit, error_named, is_errors, errors_text, errors_read}
-use Rattle.words.specs.Classes.{is_class, class_text, class_named, class_read}
+use Rattle.words.specs.Classes.{class_code, classes, class_text, class_read}
 use Rattle.words.specs.Refusing.{refusal_code, refusals, refusal_text, refusal_read}
-use Rattle.words.specs.declared.class.ClassNumber.{ClassNumber}
+use Rattle.words.specs.declared.class.ClassNumber.TheVariants.{One, Two}
 use Rattle.words.specs.declared.input.Input.{Input}
 use Rattle.words.specs.declared.input.Source.{Source}
 use Rattle.words.specs.declared.input.Source.TheVariants.{Rgb, Video, Digital, Storage, Network, Internal}
 use Rattle.words.specs.declared.lamp.LampHours.{LampHours}
 use Rattle.words.specs.declared.power.Power.TheVariants.{Off, On, Cooling, WarmUp}
 use Rattle.words.specs.declared.refusal.Refusal.TheVariants.{Undefined, OutOfParameter, Unavailable, Failure}
-use Rattle.words.specs.Combinations.{bind_some, cond_is, letter_codec, counted_codec, named_codec}
+use Rattle.words.specs.Combinations.{bind_some, cond_is, counted_codec, named_codec}
 use Rattle.words.specs.Combinations.{pair_back, pair_sound, past_codec, spelled_codec}
 
 pub power_codec : Codec Ends (λ _. true) power_text (Plain (λ _. true) power_text) power_read
@@ -41,6 +41,9 @@ power_codec = named_codec power_code powers (elim [ Off ↦ refl | On ↦ refl |
 
 pub switch_codec : Codec Ends (λ _. true) switch_text (Plain (λ _. true) switch_text) switch_read
 switch_codec = named_codec switch_code (false ∷ true ∷ []) (elim [ false ↦ refl | true ↦ refl ])
+
+pub class_codec : Codec Ends (λ _. true) class_text (Plain (λ _. true) class_text) class_read
+class_codec = named_codec class_code classes (elim [ One ↦ refl | Two ↦ refl ])
 
 pub refusal_codec : Codec Ends (λ _. true) refusal_text (Plain (λ _. true) refusal_text) refusal_read
 refusal_codec =
@@ -65,15 +68,6 @@ error_named_lem b d e = (grind (arith, nat_tests), grind (arith, nat_tests))
 
 pub errors_codec : Codec Ends is_errors errors_text (Plain is_errors errors_text) errors_read
 errors_codec = counted_codec is_error_digit number_digit error_named error_names error_named_lem 6
-
-class_names : (c : ClassNumber) → is_class c ≡ true → class_named (number_digit c.number) ≡ Some c
-class_names c h = grind (arith, nat_tests)
-
-class_named_lem : (b : ℕ) (c : ClassNumber) → class_named b ≡ Some c → (is_class c ≡ true) × (b ≡ number_digit c.number)
-class_named_lem b c e = (grind (arith, nat_tests), grind (arith, nat_tests))
-
-pub class_codec : Codec Ends is_class class_text (Plain is_class class_text) class_read
-class_codec = letter_codec is_class (λ c. number_digit c.number) class_named class_names class_named_lem
 
 -- an input's source and number, from their characters
 source_named_lem : (s : Source) → source_named (source_digit s) ≡ s

@@ -1,40 +1,60 @@
 // The class of a projector (RULES, Commands and Class 2; PJLink 1.04, 4.14).
-ghost use Rattle.std.specs.Prelude.{◌≡◌};
+ghost use Rattle.std.specs.Prelude.{◌≡◌, true};
 ghost use Rattle.words.specs.Codec.{Plain};
-ghost use Rattle.words.specs.Classes.{is_class, class_named, class_text, class_read};
+ghost use Rattle.words.specs.Classes.{class_as_number, class_code, class_named, class_text, class_read};
 ghost use Rattle.words.specs.Laws.{class_codec};
 
 use crate::codec::{Line, Wire};
-use crate::input;
 
-/// The class that a projector tells, 1 or 2.
+/// The class of a projector, of a body, and of a line.
 #[derive(Clone, Copy)]
-pub struct ClassNumber {
+pub enum ClassNumber {
+    /// Class 1.
+    One,
+    /// Class 2.
+    Two,
+}
+
+impl ClassNumber {
     /// 1 or 2.
-    pub number: u8,
+    pub fn number(self) -> u8
+        ensures { result ≡ class_as_number self }
+    {
+        match self {
+            ClassNumber::One => 1,
+            ClassNumber::Two => 2,
+        }
+    }
+
+    /// Its character in a line.
+    pub fn code(self) -> u8
+        ensures { result ≡ class_code self }
+    {
+        b'0' + self.number()
+    }
 }
 
 fn class_named(b: u8) -> Option<ClassNumber>
     ensures { result ≡ class_named b }
 {
     match b {
-        b'1' => Some(ClassNumber { number: 1 }),
-        b'2' => Some(ClassNumber { number: 2 }),
+        b'1' => Some(ClassNumber::One),
+        b'2' => Some(ClassNumber::Two),
         _ => None,
     }
 }
 
 impl Wire for ClassNumber {
-    ghost legal = { is_class };
+    ghost legal = { λ _. true };
 
     ghost text = { class_text };
 
-    ghost writes = { Plain is_class class_text };
+    ghost writes = { Plain (λ _. true) class_text };
 
     ghost read = { class_read };
 
     fn put(self, out: &mut Line) {
-        out.push(input::number_digit(self.number));
+        out.push(self.code());
     }
 
     fn take(s: &[u8]) -> Option<(ClassNumber, &[u8])> {

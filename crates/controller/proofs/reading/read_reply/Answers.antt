@@ -30,12 +30,12 @@ replied : (r : Result Answer Refusal) → meaning (said_by r) ≡ saying (said_b
 replied (Ok an.Done) = refl
 replied (Ok (an.Power p)) = refl
 replied (Ok (an.Input i)) = refl
-replied (Ok (an.Mutes video audio)) = refl
+replied (Ok (an.Mutes mutes)) = refl
 replied (Ok (an.Errors digits)) = refl
 replied (Ok (an.Lamps lamps)) = refl
 replied (Ok (an.Inputs inputs)) = refl
 replied (Ok (an.Text text)) = refl
-replied (Ok (an.Class k)) = refl
+replied (Ok (an.Class class)) = refl
 replied (Ok (an.Freeze on)) = refl
 replied (Err r) = refl
 

@@ -1,0 +1,92 @@
+-- The line is taken apart into what its answer speaks of, and its class is one that the set-up takes.
+use Rattle.std.proofs.Common.{ℕ, ◌≡◌, sym, ap, ◌∙◌, Bool, true, false, List, arith}
+use Rattle.words.specs.Bytes.{◌at◌}
+use Rattle.words.specs.Classes.{class_as_number, class_code}
+use Rattle.words.specs.declared.class.ClassNumber.{ClassNumber}
+use Rattle.words.specs.declared.refusal.Refusal.{Refusal}
+use Rattle.std.specs.Prelude.{Result}
+use Rattle.pjlink.specs.declared.answer.Answer.{Answer}
+use Rattle.pjlink.specs.Carried.{said_by}
+use Rattle.pjlink.specs.Forms.{is_command_form, line_class, reply_line, IsCommandOf}
+use Rattle.pjlink.specs.Requests.{Request, request_of}
+use Rattle.pjlink.specs.Said.{said_bytes}
+use Rattle.record.specs.Legal.{is_settings}
+use Rattle.record.specs.Views.{class_seen}
+use Rattle.record.specs.declared.types.Own.{Own}
+use Rattle.record.specs.declared.types.Settings.{Settings}
+use Rattle.record.proofs.FactsTold.{settings_is}
+use Rattle.meaning.specs.Meaning.{meant, done}
+use Rattle.meaning.proofs.ClassKnown.{class_as_number-class_seen}
+use Rattle.text.proofs.Choices.{if_yes, if_no}
+use Rattle.device.specs.Answering.{line_asks, swallowed, replied, line_answer}
+use Rattle.device.proofs.answering.answer_line.Goals as goal
+
+module _
+    (s : Settings)
+    (o : Own)
+    (l : List ℕ)
+    {k : ClassNumber}
+    (legal : is_settings s ≡ true)
+    (e : k ≡ class_seen s)
+  where
+  at_class : {t : Bool} → is_command_form (class_as_number k) l ≡ t → is_command_form s.class_number l ≡ t
+  at_class f =
+      ap (λ n. is_command_form n l)
+      (sym (ap class_as_number e ∙ class_as_number-class_seen s ((settings_is s).0 legal)))
+      ∙ f
+
+  unformed : is_command_form (class_as_number k) l ≡ false → swallowed o ≡ line_answer s o l
+  unfolding line_answer
+  unformed f = sym (if_no (replied s o l) (swallowed o) (at_class f))
+
+  module _
+      (j : ClassNumber)
+      {letters p : List ℕ}
+      (taken : IsCommandOf (class_as_number k) l (class_as_number j) letters p)
+    where
+    formed : replied s o l ≡ line_answer s o l
+    unfolding line_answer
+    formed = sym (if_yes (replied s o l) (swallowed o) (at_class taken.form))
+
+    asks : {r : Request} → r ≡ request_of (class_as_number j) letters p → r ≡ line_asks l
+    asks f =
+        let class : class_as_number j ≡ line_class l = omega (arith, taken.class) in
+        f ∙ (λ i. request_of (class i) (taken.body i) (taken.parameter i))
+
+    answers : {r : Request} (reply : Result Answer Refusal) → r ≡ request_of (class_as_number j) letters p
+        → said_by reply ≡ meant s o r
+        → reply_line (class_code j) (letters at 0) (letters at 1) (letters at 2) (letters at 3)
+        (said_bytes (said_by reply))
+        ≡ (line_answer s o l).reply
+    answers reply f g =
+        let said = g ∙ ap (meant s o) (asks f) in
+        (λ i. reply_line (sym taken.class i) (taken.body i at 0) (taken.body i at 1) (taken.body i at 2)
+        (taken.body i at 3) (said_bytes (said i)))
+        ∙ ap (λ a. a.reply) formed
+
+pub returns-in_default-clause-reply : goal.returns-in_default-clause-reply
+returns-in_default-clause-reply c =
+    c.new.ensures
+    ∙ ap (λ a. a.reply)
+    (unformed c.args.s.now c.args.o.now c.args.l.now c.requires.settings c.class.ensures c.in_default.ensures.other)
+
+pub returns-in_default-clause-own : goal.returns-in_default-clause-own
+returns-in_default-clause-own c =
+    ap (λ a. a.own)
+    (unformed c.args.s.now c.args.o.now c.args.l.now c.requires.settings c.class.ensures c.in_default.ensures.other)
+
+pub returns-clause-reply : goal.returns-clause-reply
+returns-clause-reply c =
+    c.reply_line.ensures
+    ∙ answers c.args.s.now c.args.o.now c.args.l.now c.requires.settings c.class.ensures _ c.in-Some.ensures.taken
+    c.decide-reply.result c.request-asked.ensures c.decide-reply.ensures.value
+
+pub returns-clause-own : goal.returns-clause-own
+returns-clause-own c =
+    let s = c.args.s.now in
+    let o = c.args.o.now in
+    let l = c.args.l.now in
+    c.decide-reply.ensures.own
+    ∙ ap (done s o)
+    (asks s o l c.requires.settings c.class.ensures _ c.in-Some.ensures.taken c.request-asked.ensures)
+    ∙ ap (λ a. a.own) (formed s o l c.requires.settings c.class.ensures _ c.in-Some.ensures.taken)
