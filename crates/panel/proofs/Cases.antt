@@ -13,7 +13,7 @@ use Rattle.codes.specs.declared.command.Coded.{Coded}
 use Rattle.panel.specs.Entries.{fresh_entry}
 use Rattle.panel.specs.Stepping.{heard_line, lost_entry, is_unready}
 use Rattle.panel.specs.LegalPanels.{panel_most, is_panel}
-use Rattle.panel.specs.PanelCalls.{PanelAs, panel_kept, panel_made, entry_at, with_entry, grown_by, adding_rows}
+use Rattle.panel.specs.PanelCalls.{PanelAs, panel_kept, panel_made, entry_at, with_entry, grown_by}
 use Rattle.panel.specs.PanelCalls.{commanding_rows, projector_rows, added_to, sent_at, commanded, stepped_at, lost_at}
 use Rattle.panel.specs.declared.types.Panel.{Panel}
 
@@ -26,9 +26,7 @@ module _ (p : Panel) (s : List ℕ) where
       → (is_panel p ≡ true → is_password s ≡ true → p.count < panel_most → P (panel_made (grown_by p (fresh_entry s))))
       → P (added_to p s)
   unfolding added_to
-  added_by P refused done =
-      by_rows_lem (panel_kept p) _ P refused (adding_rows p s) refl
-      (λ none. done (not-false _ none.0) (not-false _ none.1.0) (leb-false panel_most p.count none.1.1.0))
+  added_by P refused done = grind (arith, by_rows_lem, not-false, leb-false)
 
   pub added_done : is_panel p ≡ true → is_password s ≡ true → p.count < panel_most
       → added_to p s ≡ panel_made (grown_by p (fresh_entry s))
@@ -64,9 +62,7 @@ module _ (p : Panel) (i : ℕ) (k : Coded) (room : ℕ) where
 module _ (p : Panel) (i : ℕ) where
   projector_by : (done : PanelAs) (P : PanelAs → Type 0) → Refusals p P → (is_panel p ≡ true → i < p.count → P done)
       → P (by_rows (projector_rows p i) (panel_kept p) done)
-  projector_by done P refused does =
-      by_rows_lem (panel_kept p) done P refused (projector_rows p i) refl
-      (λ none. does (not-false _ none.0) (leb-false p.count i none.1.0))
+  projector_by done P refused does = grind (arith, by_rows_lem, not-false, leb-false)
 
   module _ (l : List ℕ) where
     pub stepped_by : (P : PanelAs → Type 0) → Refusals p P

@@ -1,7 +1,7 @@
 -- THE TABLE of what each kind of line does is the step's: a legal entry steps by it, and an entry that it gives is the
 -- one that the step gives, so that it gives one.
 -- Assumes nothing.
-use Rattle.std.proofs.Common.{ℕ, ◌≡◌, refl, sym, ap, ◌∙◌, true, false, not, List, arith, ◌==◌, eqb-true, eq-eqb, ne_eqb}
+use Rattle.std.proofs.Common.{ℕ, ◌≡◌, refl, sym, ap, ◌∙◌, true, false, not, List, arith, eqb-true, eq-eqb, ne_eqb}
 use Rattle.std.proofs.lemmas.Bool.{eqb-false, not-true, not-false}
 use Rattle.std.specs.Prelude.{Option, Some, None, is_some}
 use Rattle.text.proofs.Choices.{if_yes, if_no, if_by}
@@ -32,11 +32,7 @@ module _ (e : Entry) (l : List ℕ) where
       → ((e.greeting ≡ ungreeted → ⊥) → e.under_way ≡ true → P (replied_to e (coded_command e.command) l))
       → P (heard_line e l)
   unfolding heard_line
-  step_by P greets rests waits =
-      if_by P (e.greeting == ungreeted) (λ g. greets (eqb-true e.greeting ungreeted g)) (λ g.
-      let greeted = eqb-false e.greeting ungreeted g in
-      if_by P (not e.under_way) (λ w. rests greeted (not-true e.under_way w))
-      (λ w. waits greeted (not-false e.under_way w)))
+  step_by P greets rests waits = grind (arith, if_by, eqb-true, eqb-false, not-true, not-false)
 
   pub step_greets : e.greeting ≡ ungreeted → heard_line e l ≡ greeted_as e (read_greeting l)
   unfolding heard_line
@@ -48,9 +44,7 @@ module _ (e : Entry) (l : List ℕ) where
 
   pub step_replied : (c : Command) → IsUnderWay e c → heard_line e l ≡ heard_by e (read_reply c l)
   unfolding heard_line
-  step_replied c u =
-      if_no _ _ (ne_eqb e.greeting ungreeted u.greeted) ∙ if_no _ _ (ap not u.waits)
-      ∙ ap (λ (m : Option Command). replied_to e m l) u.asked
+  step_replied c u = grind (arith, if_no, ne_eqb)
 
   -- each row is the step
   not_greeting : (g : Greeting) → is_greeting g ≡ false → greeted_as e g ≡ strayed e

@@ -31,9 +31,7 @@ module _ {A : Type 0} (blank : A → Bool) (x : A) (only : (y : A) → blank y �
 
   unused_room : {room : ℕ} (s : List A) {n : ℕ} → length s ≡ room → list_all blank (drop n s) ≡ true → n ≡ 0
       → s ≡ replicate room x
-  unused_room s long clear none =
-      all_blank s (ap (λ (n : ℕ). list_all blank (drop n s)) (sym none) ∙ clear)
-      ∙ ap (λ (n : ℕ). replicate n x) long
+  unused_room s long clear none = grind (arith, all_blank)
 
 module _ (e : Entry) where
   record NoneKept : Type 0 where
