@@ -1,29 +1,49 @@
--- RULES, Connection: "Either way the random number is kept until closing": whatever call comes on a connection that is
--- not closed, at whatever place, it is closed afterwards or has the number that it had, over lines and over time.
+-- What every call keeps of a connection: one place's bytes never touch another's (RULES, Places), and no other call
+-- does but time; and "the random number is kept until closing" (RULES, Connection): whatever call comes on a connection
+-- that is not closed, it is closed afterwards or has the number that it had, over lines and over time.
 -- Assumes nothing.
-use Rattle.std.proofs.Common.{ℕ, ◌≡◌, refl, sym, ap, subst, ◌∙◌, Bool, true, false, List, inl, inr, arith}
-use Rattle.std.proofs.Common.{◌==◌, eqb-true}
-use Rattle.std.proofs.lemmas.Bool.{eqb-false}
-use Rattle.text.proofs.Choices.{if_by, if_all}
-use Rattle.record.specs.Limits.{shut, failed}
+use Rattle.std.proofs.Common.{ℕ, ◌≡◌, refl, sym, ◌∙◌, ne_eqb, ap, subst, Bool, true, false, List, inl, inr, arith, ◌==◌}
+use Rattle.std.proofs.Common.{eqb-true}
+use Rattle.text.proofs.Choices.{if_no, if_by, if_all}
 use Rattle.record.specs.Places.{connection_at, is_shut, lowest_shut}
+use Rattle.record.specs.declared.types.Device.{Device}
+use Rattle.ours.specs.Board.{ours}
+use Rattle.demands.specs.Calls.{Call, opens, closes, receives, passes, marks, reports, enables, after, Gave}
+use Rattle.demands.specs.SpeaksPjlink.{Elsewhere}
+use Rattle.demands.proofs.CallsDo.{call_by, connection_at-served, IsServed, connection_left}
+use Rattle.std.proofs.lemmas.Bool.{eqb-false}
+use Rattle.record.specs.Limits.{shut, failed}
 use Rattle.record.specs.declared.types.Settings.{Settings}
 use Rattle.record.specs.declared.types.Own.{Own}
 use Rattle.record.specs.declared.types.Line.{Line}
 use Rattle.record.specs.declared.types.Connection.{Connection}
-use Rattle.record.specs.declared.types.Device.{Device}
 use Rattle.record.proofs.Spelt.{closed_spelt}
 use Rattle.record.proofs.LegalTold.{legal_places}
 use Rattle.clock.specs.Second.{times, connection_second}
 use Rattle.clock.proofs.ConnectionsAge.{connection_then}
 use Rattle.device.specs.Receiving.{line_ended, keeping_line, taken_in}
-use Rattle.device.proofs.LineCases.{ended_by, keeping_none, keeping_line_lem}
-use Rattle.device.proofs.LineCases.{taken_by}
+use Rattle.device.proofs.LineCases.{ended_by, keeping_none, keeping_line_lem, taken_by}
 use Rattle.record.proofs.LowestShut.{lowest_is_shut}
-use Rattle.ours.specs.Board.{ours}
-use Rattle.demands.specs.Calls.{Call, opens, closes, receives, passes, marks, reports, enables, after}
 use Rattle.demands.specs.Beside.{ClosedOr}
-use Rattle.demands.proofs.CallsDo.{IsServed, connection_left, call_by, connection_at-served}
+
+module _ (d : Device) (q : ℕ) where
+  abbrev Kept : Gave → Device → Type 0
+  Kept g e = connection_at e q ≡ connection_at d q
+
+  pub others_untouched : (c : Call) → Elsewhere ours d c q → connection_at (after ours d c) q ≡ connection_at d q
+  others_untouched (opens random m) other =
+      call_by d (opens random m) (λ g e. (q ≡ g.place → ⊥) → Kept g e) (λ n some away. refl)
+      (λ h away. connection_at-served d (opens random m) q h ∙ if_no _ _ (ne_eqb _ q (λ z. away (sym z)))) other
+  others_untouched (closes p) other =
+      call_by d (closes p) Kept (λ n some. refl)
+      (λ h. connection_at-served d (closes p) q h ∙ if_no _ _ (ne_eqb p q (λ z. other (sym z))))
+  others_untouched (receives p bs m) other =
+      call_by d (receives p bs m) Kept (λ n some. refl)
+      (λ h. connection_at-served d (receives p bs m) q h ∙ if_no _ _ (ne_eqb p q (λ z. other (sym z))))
+  others_untouched (passes n) other = absurd other
+  others_untouched (marks fault) other = call_by d (marks fault) Kept (λ n some. refl) (λ h. refl)
+  others_untouched (reports errors) other = call_by d (reports errors) Kept (λ n some. refl) (λ h. refl)
+  others_untouched (enables lamp mark) other = call_by d (enables lamp mark) Kept (λ n some. refl) (λ h. refl)
 
 module _ (c : Connection) where
   keeping_keeps : (l : Line) → (keeping_line c l).random ≡ c.random

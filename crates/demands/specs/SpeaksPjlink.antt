@@ -147,7 +147,7 @@ pub record RefusalOnly (B : Board) (d : B.Record) (p : ℕ) (out : Out B.Record)
 
 -- ---- the demand
 
-pub record Demand2 (B : Board) : Type 0 where
+pub record SpeaksPjlink (B : Board) : Type 0 where
   -- "with the digest of RFC 1321"
   pub digest : (s : List ℕ) → B.md5 s ≡ md5_of s
   -- "The projector's lines .. are those of PJLink Class 1", and of Class 2 (RULES, Class 2): any line of any

@@ -118,7 +118,7 @@ module _ (B : Board) where
 
 -- ---- the demand
 
-pub record Demand1 (B : Board) : Type 0 where
+pub record KeepsRunning (B : Board) : Type 0 where
   -- "Whatever bytes arrive, in whatever cuts, every call .. stays inside its memory": of any record, legal or not
   pub stays_inside : (d : B.Record) (c : Call) → StaysInside B d c
   pub writer_stays_inside : (c : Command) (secured : Bool) (random : ℕ) (password m : List ℕ)

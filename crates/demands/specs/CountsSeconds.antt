@@ -5,7 +5,7 @@
 -- TO BELIEVE IT, believe, and nothing else: one second (clock/specs/Second), and what is legal (record/specs); what
 -- someone outside sees of a history, and his own clock (History, here); the stored form (stored/specs/Form); the line
 -- of a command and the text of lamps (pjlink/specs: Commands, Said; words/specs/Lamps; numbers/specs/Decimal);
--- ours/specs/Board; here Calls, CallsDone, and `BetweenLines` of Demand2, `meaning` of controller/specs/Reading.
+-- ours/specs/Board; here Calls, CallsDone, and `BetweenLines` of SpeaksPjlink, `meaning` of controller/specs/Reading.
 --   Beginning            a history begins with a set-up, or with the load of a stored form (RULES, Stored form:
 --                        "Loading
 --                        is a fresh set-up, so the history of demand 3 begins there with the stored seconds"), of the
@@ -39,7 +39,7 @@ use Rattle.ours.specs.Board.{Board, reply}
 use Rattle.record.specs.Given.{Given}
 use Rattle.demands.specs.Calls.{Call, run}
 use Rattle.demands.specs.CallsDone.{Leaves}
-use Rattle.demands.specs.Demand2.{BetweenLines}
+use Rattle.demands.specs.SpeaksPjlink.{BetweenLines}
 use Rattle.demands.specs.History.{Event, switched, a_second, mark_switched, no_streams, history, Stage, steady, next}
 use Rattle.demands.specs.History.{marks_after, burning, stage_after, stage_is_burning, lamp_with}
 
@@ -127,7 +127,7 @@ abbrev pub TimeAdds : Board → Type 0
 TimeAdds B = (d : B.Record) (a b : ℕ) → is_legal (B.shows d) ≡ true → a + b ≤ seconds_most
     → B.pass (B.pass d a).device b ≡ B.pass d (a + b)
 
-pub record Demand3 (B : Board) : Type 0 where
+pub record CountsSeconds (B : Board) : Type 0 where
   -- "From any legal state, letting a seconds pass and then b gives the very state that a + b gives at once, so long as
   -- a + b is at most 4,294,967,295"
   pub time_adds : TimeAdds B
