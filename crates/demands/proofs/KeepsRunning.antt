@@ -36,6 +36,7 @@ use Rattle.pjlink.specs.Writings.{IsAllowed}
 use Rattle.record.specs.Wanted.{Wanted}
 use Rattle.record.specs.Legal.{is_legal}
 use Rattle.record.proofs.Results.{set_up_number as set-up-table, fault_number, errors_number, mark_number}
+use Rattle.record.specs.HostCalls.{fault_set, errors_set, mark_set}
 use Rattle.record.proofs.Results.{refusal_leaves, set_up_refusal}
 use Rattle.clock.proofs.Results.{passed-number, passed_refusal}
 use Rattle.device.proofs.Numbers.{received-number, opened_number, closed_number}
