@@ -1,9 +1,8 @@
 -- A connection after n seconds: one that does not age stays, one that does is n older, or closed from the age 30 on.
 -- Assumes nothing.
-use Rattle.std.proofs.Common.{ℕ, zero, suc, ◌+◌, ◌≤◌, ◌<◌, ◌≡◌, refl, ap, ◌∙◌, true, false, ⊎_elim, add-zero, arith}
+use Rattle.std.proofs.Common.{ℕ, zero, suc, ◌+◌, ◌≤◌, ◌<◌, ◌≡◌, ap, true, false, ⊎_elim, add-zero, arith}
 use Rattle.std.proofs.Common.{nat_lt, lt-ltb, le-ltb}
-use Rattle.std.specs.Prelude.{if◌then◌else◌}
-use Rattle.text.proofs.Choices.{if_yes, if_no, if_all}
+use Rattle.text.proofs.Choices.{if_all}
 use Rattle.record.specs.Limits.{age_end}
 use Rattle.record.specs.Updates.{aged}
 use Rattle.record.specs.Legal.{is_timed}
@@ -12,47 +11,30 @@ use Rattle.record.specs.declared.types.Line.{Line}
 use Rattle.record.specs.declared.types.Connection.{Connection}
 use Rattle.record.proofs.Spelt.{closed_spelt}
 use Rattle.clock.specs.Second.{times, connection_second}
-use Rattle.clock.proofs.Repeated.{times_keeps}
+use Rattle.clock.proofs.Repeated.{times_keeps, times_stays}
 use Rattle.text.proofs.Orders.{le_or_lt}
 
 module _ (c : Connection) where
   second_untimed : is_timed c.phase ≡ false → connection_second c ≡ c
   unfolding connection_second
-  second_untimed e = if_no (if nat_lt (c.age + 1) age_end then aged c (c.age + 1) else closed) c e
+  second_untimed e = rw e
 
   second_older : is_timed c.phase ≡ true → c.age + 1 < age_end → connection_second c ≡ aged c (c.age + 1)
   unfolding connection_second
-  second_older e h =
-      if_yes (if nat_lt (c.age + 1) age_end then aged c (c.age + 1) else closed) c e
-      ∙ if_yes (aged c (c.age + 1)) closed (lt-ltb (c.age + 1) age_end h)
+  second_older e h = rw (e, lt-ltb (c.age + 1) age_end h)
 
   second_closes : is_timed c.phase ≡ true → age_end ≤ c.age + 1 → connection_second c ≡ closed
   unfolding connection_second
-  second_closes e h =
-      if_yes (if nat_lt (c.age + 1) age_end then aged c (c.age + 1) else closed) c e
-      ∙ if_no (aged c (c.age + 1)) closed (le-ltb (c.age + 1) age_end h)
-
-closed_stays : (n : ℕ) → times connection_second n closed ≡ closed
-unfolding times
-closed_stays zero = refl
-closed_stays (suc n) =
-    ap connection_second (closed_stays n)
-    ∙ second_untimed closed (ap (λ (c : Connection). is_timed c.phase) closed_spelt)
+  second_closes e h = rw (e, le-ltb (c.age + 1) age_end h)
 
 pub untimed_stays : (n : ℕ) (c : Connection) → is_timed c.phase ≡ false → times connection_second n c ≡ c
-unfolding times
-untimed_stays zero c e = refl
-untimed_stays (suc n) c e = ap connection_second (untimed_stays n c e) ∙ second_untimed c e
+untimed_stays n c e = times_stays connection_second c (second_untimed c e) n
 
 pub grows_older : (n : ℕ) (c : Connection) → is_timed c.phase ≡ true → c.age + n < age_end
     → times connection_second n c ≡ aged c (c.age + n)
 unfolding times
 grows_older zero c e h = rw add-zero
-grows_older (suc n) c e h =
-    let one : c.age + n + 1 ≡ c.age + suc n = omega arith in
-    ap connection_second (grows_older n c e (omega arith))
-    ∙ second_older (aged c (c.age + n)) e (omega arith)
-    ∙ ap (aged c) one
+grows_older (suc n) c e h = grind (arith, second_older, grows_older n c e (omega arith))
 
 pub closes : (n : ℕ) (c : Connection) → is_timed c.phase ≡ true → 1 ≤ n → age_end ≤ c.age + n
     → times connection_second n c ≡ closed
@@ -60,9 +42,9 @@ unfolding times
 closes zero c e g h = absurd (omega arith)
 closes (suc zero) c e g h = second_closes c e (omega arith)
 closes (suc (suc n)) c e g h =
-    ⊎_elim (λ (k : age_end ≤ c.age + suc n). ap connection_second (closes (suc n) c e (omega arith) k) ∙ closed_stays 1)
-    (λ (k : c.age + suc n < age_end).
-    ap connection_second (grows_older (suc n) c e k) ∙ second_closes (aged c (c.age + suc n)) e (omega arith))
+    ⊎_elim
+    (λ k. rw (closes (suc n) c e (omega arith) k) (second_untimed closed (ap (λ x. is_timed x.phase) closed_spelt)))
+    (λ k. rw (grows_older (suc n) c e k) (second_closes (aged c (c.age + suc n)) e (omega arith)))
     (le_or_lt age_end (c.age + suc n))
 
 -- what holds of it at every age, and of the closed connection, holds of it later

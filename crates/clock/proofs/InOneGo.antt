@@ -8,7 +8,7 @@ use Rattle.text.proofs.Choices.{if_all}
 use Rattle.record.specs.Views.{power_seen, with_power, IsPowerOf, is_burning}
 use Rattle.record.specs.declared.views.Power.{Power}
 use Rattle.record.proofs.PowerSeen.{seen_again}
-use Rattle.record.specs.Updates.{with_power_left, with_seconds}
+use Rattle.record.specs.Updates.{with_seconds}
 use Rattle.record.specs.declared.types.Settings.{Settings}
 use Rattle.record.specs.declared.types.Own.{Own}
 use Rattle.record.specs.Places.{no_connection, connection_at}
@@ -46,10 +46,7 @@ module _ (ms : List Bool) (l : List ℕ) (n : ℕ) where
 module _ (s : Settings) (o : Own) where
   one_more_lem : (n : ℕ) → times (own_second s) (suc n) o ≡ own_after s o (suc n)
   unfolding times own_second
-  one_more_lem zero =
-      (λ i.
-      with_seconds (with_power o (power_once (power_seen o) i))
-      (lamps_once (power_seen o) (marks_in s o) o.lamps i))
+  one_more_lem zero = grind (arith, power_once, lamps_once)
   one_more_lem (suc n) =
       let p = power_after (suc n) (power_seen o) in
       let burnt = lamps_after (suc n) (power_seen o) (marks_in s o) o.lamps in
@@ -69,11 +66,7 @@ module _ (s : Settings) (o : Own) where
 pub own_in_one_go : (s : Settings) (o : Own) {w c : ℕ} → IsPowerOf w c o.power o.left → (n : ℕ)
     → times (own_second s) n o ≡ own_after s o n
 unfolding times
-own_in_one_go s o t zero =
-    sym ((λ i.
-    with_seconds (with_power o (power_none _ _ (power_seen o) t.within i))
-    (lamps_none (power_seen o) (marks_in s o) o.lamps i))
-    ∙ (λ i. with_power_left o (t.number i) (t.seconds i)))
+own_in_one_go s o t zero = grind (arith, power_none, lamps_none)
 own_in_one_go s o t (suc n) = one_more_lem s o n
 
 -- the parts pass their seconds each for itself

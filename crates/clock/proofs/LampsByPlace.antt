@@ -26,13 +26,7 @@ module _ (ms : List Bool) (n : ℕ) (l : List ℕ) (k : ℕ) where
 
   used : (lit : Bool) → k < length l → slice_index_or l k 0 ≤ lamp_limit
       → slice_index_or (after lit) k 0 ≡ lamp_after n (lit && slice_index_or ms k false) (slice_index_or l k 0)
-  used true inside within = where_at (times one_more n) ms l 0 k inside ∙ by (slice_index_or ms k false)
-    where
-      by : (m : Bool)
-          → (if m then times one_more n (slice_index_or l k 0) else slice_index_or l k 0)
-          ≡ lamp_after n m (slice_index_or l k 0)
-      by true = burns n (slice_index_or l k 0) within
-      by false = refl
+  used true inside within = grind (arith, where_at, burns)
   used false inside within = refl
 
 module _ (s : Settings) (o : Own) (n : ℕ) where
@@ -52,6 +46,4 @@ module _ (n : ℕ) (d : Device) (k : ℕ) where
   pub lamp_after_seconds : is_legal d ≡ true → k < d.settings.lamp_count
       → slice_index_or (times second n d).own.lamps k 0
       ≡ lamp_after n (is_lit d.own.power && slice_index_or d.own.enabled k false) (slice_index_or d.own.lamps k 0)
-  lamp_after_seconds h l =
-      ap (λ (x : Device). slice_index_or x.own.lamps k 0) (parts_pass n d)
-      ∙ own_lamp_after d.settings d.own n (own_of_legal d h) k l
+  lamp_after_seconds h l = grind (arith, parts_pass, own_lamp_after, own_of_legal)

@@ -25,7 +25,4 @@ stops (suc n) x h g =
 
 -- in one: the sum, stopped at the limit
 pub burns : (n x : ℕ) → x ≤ lamp_limit → times one_more n x ≡ min lamp_limit (x + n)
-burns n x h =
-    ⊎_elim (λ (l : lamp_limit ≤ x + n). stops n x h l ∙ (omega arith))
-    (λ (l : x + n < lamp_limit). gains n x (omega arith) ∙ (omega arith))
-    (le_or_lt lamp_limit (x + n))
+burns n x h = grind (arith, ⊎_elim, stops, gains, le_or_lt)

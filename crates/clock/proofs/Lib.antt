@@ -1,6 +1,5 @@
 pub mod Repeated
 pub mod ChangedWhere
-pub mod FirstChanged
 pub mod LampsGain
 pub mod PowerTurns
 pub mod ConnectionsAge

@@ -20,3 +20,8 @@ pub times_commute : {A : Type 0} (f g : A → A) → ((x : A) → f (g x) ≡ g 
 unfolding times
 times_commute f g e zero x = refl
 times_commute f g e (suc n) x = ap f (times_commute f g e n x) ∙ e (times f n x)
+
+pub times_stays : {A : Type 0} (f : A → A) (x : A) → f x ≡ x → (n : ℕ) → times f n x ≡ x
+unfolding times
+times_stays f x e zero = refl
+times_stays f x e (suc n) = rw (times_stays f x e n) e

@@ -62,9 +62,7 @@ module _ (jobs : List Job) (m : ℕ) (ps : List Placement) (e : jobs_of ps ≡ t
   length_front = sym (length-map ps (λ (p : Placement). p.job)) ∙ ap length e ∙ length-take m jobs
 
   pub job_at : (i : ℕ) (d : Placement) → i < length ps → (slice_index_or ps i d).job ≡ slice_index_or jobs i d.job
-  job_at i d h =
-      sym (get_or-map (λ (p : Placement). p.job) ps i d d.job h) ∙ ap (λ (s : List Job). slice_index_or s i d.job) e
-      ∙ get_or-take m jobs i d.job (omega (arith, length_front))
+  job_at i d h = grind (arith, get_or-map, get_or-take, length_front)
 
   pub all_in_range : All IsJob jobs → All (λ p. IsJob p.job) ps
   all_in_range h i d l = subst IsJob (sym (job_at i d l)) (h i d.job (omega (arith, length_front)))

@@ -1,7 +1,7 @@
 -- At most one verdict holds of a plan: what a verdict says of the rules before its own, and of the lowest job or rig,
 -- no other one says.
 -- Assumes nothing.
-use Rattle.std.proofs.Common.{ℕ, ◌<◌, ◌≤◌, ◌≡◌, List, Ok, Err, Result, refl, ap, subst, arith, ⊎_elim}
+use Rattle.std.proofs.Common.{ℕ, ◌<◌, ◌≡◌, List, Ok, Err, Result, refl, ap, subst, arith, ⊎_elim}
 use Rattle.std.specs.Prelude.{All}
 use Rattle.text.proofs.Orders.{le_or_lt}
 use Rattle.day.specs.Rules.{HasRig, InTime, Lasts}
@@ -15,9 +15,7 @@ use Rattle.day.proofs.Greedily.{nobody}
 
 -- two numbers of which neither is below the other
 one_of : {j k : ℕ} → (j < k → ⊥) → (k < j → ⊥) → j ≡ k
-one_of {j} {k} p q =
-    ⊎_elim (λ (h : j ≤ k). ⊎_elim (λ (l : k ≤ j). omega arith) (λ l. absurd (p l)) (le_or_lt k j)) (λ h. absurd (q h))
-    (le_or_lt j k)
+one_of {j} {k} p q = grind (arith, ⊎_elim, le_or_lt)
 
 module _ (rule : Placement → Type 0) (ps : List Placement) where
   breaking_above : {j k : ℕ} → IsLowestBreaking rule ps j → IsLowestBreaking rule ps k → j < k → ⊥

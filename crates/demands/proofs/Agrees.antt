@@ -1,12 +1,15 @@
 -- The invariant of demand 3's history: the outsider's clock shows the device's power and seconds left, his counts are
 -- in the lamps and his marks theirs, and the bytes that the device holds at a place are the last of his stream there.
---   power_of g, left_of g      the power and the seconds left that the stage g shows
---   Shows g o                  the own part o has them
+--   seen_in g                    the stage g, as the power is seen
+--   power_of g, left_of g        the power and the seconds left that it shows
+--   Shows g o                    the own part o has them
 --   Agrees w g ms n stream d     the stage g, the marks ms, the counts n, one a lamp, and the streams agree with the
 --                                device d, set up with w
+--   Then w g ms n es stream d    so they do after the events es
 -- Assumes nothing.
 use Rattle.std.proofs.Common.{ℕ, ◌+◌, ◌<◌, ◌≡◌, refl, sym, ap, subst, ◌∙◌, Bool, true, false, ◌&&◌, List, arith, length}
-use Rattle.std.proofs.Common.{slice_index_or, set, length-set, get_or-set_same, get_or-set_other, ◌==◌, eqb-true}
+use Rattle.std.proofs.Common.{slice_index_or, set, length-set, get_or-set_same, get_or-set_other, ◌==◌, eqb-true, zero}
+use Rattle.std.proofs.Common.{suc, [], ◌∷◌, ◌++◌, add-zero, zero-add, add_assoc, replicate}
 use Rattle.std.proofs.lemmas.Bool.{eqb-false}
 use Rattle.std.specs.Prelude.{if◌then◌else◌}
 use Rattle.record.specs.Limits.{is_lit}
@@ -25,8 +28,7 @@ use Rattle.record.proofs.PowerSeen.{seen_again}
 use Rattle.record.specs.Views.{power_of as seen, power_number, power_left}
 use Rattle.record.specs.declared.views.Power.{Power}
 use Rattle.record.specs.declared.views.Power.TheVariants.{Off, WarmUp, On, Cooling}
-use Rattle.clock.specs.Second.{power_second}
-use Rattle.clock.specs.Second.{times, own_second, second}
+use Rattle.clock.specs.Second.{power_second, times, own_second, second}
 use Rattle.clock.specs.After.{lamp_after}
 use Rattle.clock.proofs.ConnectionsAge.{line_then}
 use Rattle.clock.proofs.InOneGo.{parts_pass, place_passes}
@@ -35,8 +37,10 @@ use Rattle.clock.proofs.PowerByTime.{power_in_a_second, left_in_a_second}
 use Rattle.clock.proofs.Untouched.{own_else_stays}
 use Rattle.stream.specs.Collecting.{line_text}
 use Rattle.stream.proofs.LastBytes.{Ends, ends_unheld}
-use Rattle.demands.specs.History.{Streams, a_second, Stage, steady, towards, next}
-use Rattle.demands.specs.History.{stage_is_burning, burns, lamp_with}
+use Rattle.demands.specs.History.{Streams, a_second, Stage, steady, towards, next, stage_is_burning, burns, lamp_with}
+use Rattle.demands.specs.History.{Event, switched, mark_switched, marks_next, marks_after, reached, burning_from}
+use Rattle.clock.proofs.TimeAdds.{no_seconds, seconds_add}
+use Rattle.clock.proofs.TimeLegal.{time_legal}
 
 pub record PowerThen (p l : ℕ) (o : Own) : Type 0 where
   pub power : o.power ≡ p
@@ -185,3 +189,51 @@ module _ {w : Wanted} {g : Stage} {ms : List Bool} {n : ℕ → ℕ} {stream : S
           get_or-set_other d.own.enabled lamp place mark false other
           ∙ a.marks place inside
           ∙ sym (get_or-set_other ms lamp place mark false other)
+
+pub reached-append : (w : Wanted) (g : Stage) (es fs : List Event)
+    → reached w g (es ++ fs) ≡ reached w (reached w g es) fs
+reached-append w g [] fs = refl
+reached-append w g (e ∷ es) fs = reached-append w (next w g e) es fs
+
+pub marks_after-append : (ms : List Bool) (es fs : List Event) →
+    marks_after ms (es ++ fs) ≡ marks_after (marks_after ms es) fs
+marks_after-append ms [] fs = refl
+marks_after-append ms (e ∷ es) fs = marks_after-append (marks_next ms e) es fs
+
+pub burning_from-append : (w : Wanted) (g : Stage) (ms : List Bool) (k : ℕ) (es fs : List Event)
+    → burning_from w g ms k (es ++ fs)
+    ≡ burning_from w g ms k es + burning_from w (reached w g es) (marks_after ms es) k fs
+burning_from-append w g ms k [] fs = rw zero-add
+burning_from-append w g ms k (e ∷ es) fs =
+    rw (burning_from-append w (next w g e) (marks_next ms e) k es fs) (omega arith)
+
+abbrev pub Then : Wanted → Stage → List Bool → (ℕ → ℕ) → List Event → Streams → Device → Type 0
+Then w g ms n es stream d =
+    Agrees w (reached w g es) (marks_after ms es) (λ k. n k + burning_from w g ms k es) stream d
+
+module _ {w : Wanted} {ms : List Bool} {n : ℕ → ℕ} {stream : Streams} {d : Device} where
+  pub agrees_none : {g : Stage} → Agrees w g ms n stream d → Then w g ms n [] stream d
+  agrees_none a = recounted a (λ k. sym (add-zero (n k)))
+
+  -- a power set is no second
+  pub agrees_switched : (wanted : Bool) (g : Stage) → Agrees w (next w g (switched wanted)) ms n stream d
+      → Then w g ms n (switched wanted ∷ []) stream d
+  agrees_switched wanted g a = recounted a (λ k. sym (add-zero (n k)))
+
+-- nor is a mark
+pub agrees_marked : {w : Wanted} (ms : List Bool) {n : ℕ → ℕ} {stream : Streams} {d : Device} (lamp : ℕ) (mark : Bool)
+    (g : Stage) → next w g (mark_switched lamp mark) ≡ g
+    → Agrees w g (set ms lamp mark) n stream d → Then w g ms n (mark_switched lamp mark ∷ []) stream d
+agrees_marked ms {n} lamp mark g still a = rw still (recounted a (λ k. sym (add-zero (n k))))
+
+pub agrees_seconds : (k : ℕ) {w : Wanted} {g : Stage} {ms : List Bool} {n : ℕ → ℕ} {stream : Streams} {d : Device}
+    → is_legal d ≡ true → Agrees w g ms n stream d
+    → Then w g ms n (replicate k a_second) stream (times second k d)
+agrees_seconds zero {w} {g} {ms} {n} {stream} {d} legal a = rw (no_seconds d) (agrees_none a)
+agrees_seconds (suc k) {w} {g} {ms} {n} {stream} {d} legal a =
+    let one : 1 + k ≡ suc k = omega arith in
+    let first : times second (suc k) d ≡ times second k (times second 1 d)
+    = ap (λ (m : ℕ). times second m d) (sym one) ∙ seconds_add 1 k d in
+    rw first
+    (recounted (agrees_seconds k (time_legal 1 d legal) (agrees_second a legal))
+    (λ j. add_assoc (n j) (burns g ms j a_second) (burning_from w (next w g a_second) ms j (replicate k a_second))))

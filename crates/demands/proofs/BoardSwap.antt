@@ -27,9 +27,9 @@ use Rattle.demands.specs.Calls.{Call, run}
 use Rattle.demands.specs.History.{Event, switched, a_second, mark_switched, Stage, steady, towards, next, marks_next}
 use Rattle.demands.specs.History.{no_streams, history, marks_after, burns, burning_from, burning, stage_after}
 use Rattle.demands.specs.History.{lamp_with}
-use Rattle.demands.specs.Demand3.{Beginning, loads, IsClass1, start_marks, IsAccepted, run_of, history_of}
+use Rattle.demands.specs.CountsSeconds.{Beginning, loads, IsClass1, start_marks, IsAccepted, run_of, history_of}
 use Rattle.demands.specs.BoardSwap.{LoadsAs, BoardSwap}
-use Rattle.demands.proofs.LentMemory.{over_front}
+use Rattle.demands.proofs.KeepsRunning.{over_front}
 use Rattle.demands.proofs.Agrees.{Agrees}
 use Rattle.demands.proofs.HistoryTold.{history_told}
 

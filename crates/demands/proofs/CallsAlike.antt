@@ -27,10 +27,10 @@ use Rattle.device.specs.Receiving.{Taken, taken_in}
 use Rattle.device.specs.Calls.{reply_room, is_no_place, greeting, greeted}
 use Rattle.device.proofs.Cases.{takes}
 use Rattle.ours.specs.Board.{ours}
-use Rattle.demands.specs.Calls.{Call, opens, closes, receives, passes, marks, reports, enables, after}
-use Rattle.demands.specs.Demand1.{rows_of}
+use Rattle.demands.specs.Calls.{Call, opens, closes, receives, passes, marks, reports, enables, after, Gave, gave_by}
+use Rattle.demands.specs.KeepsRunning.{rows_of}
 use Rattle.demands.specs.Outsider.{SameDevicePart, is_hosts}
-use Rattle.demands.specs.Unheard.{SameElsewhere, Gave, gave_by, phase_at, is_at_place, is_opening}
+use Rattle.demands.specs.Unheard.{SameElsewhere, phase_at, is_at_place, is_opening}
 use Rattle.demands.proofs.CallsDo.{gives, own_then, connection_left, calls_by, connection_at-served, settings_stay}
 
 module _ (d e : Device) (legal-d : is_legal d ≡ true) (legal-e : is_legal e ≡ true) where

@@ -31,10 +31,10 @@ use Rattle.clock.proofs.InOneGo.{parts_pass, place_passes}
 use Rattle.device.specs.Calls.{greeting, greeted}
 use Rattle.device.proofs.Cases.{takes, received_by, opened_placed_by, closed_by_lem}
 use Rattle.ours.specs.Board.{ours, lent_by, closed_as}
-use Rattle.demands.specs.Calls.{Call, opens, closes, receives, passes, marks, reports, enables, after, number_of}
-use Rattle.demands.specs.Demand1.{rows_of}
-use Rattle.demands.specs.Unheard.{Gave, gave_lent, gave_number, gave_by}
-use Rattle.demands.proofs.TableNumbers.{number_is_first}
+use Rattle.demands.specs.Calls.{Call, opens, closes, receives, passes, marks, reports, enables, after, number_of, Gave}
+use Rattle.demands.specs.Calls.{gave_lent, gave_number, gave_by}
+use Rattle.demands.specs.KeepsRunning.{rows_of}
+use Rattle.demands.proofs.KeepsRunning.{number_is_first}
 
 abbrev pub lent_to : Call → List ℕ
 lent_to (opens random m) = m
@@ -123,32 +123,19 @@ call_by d (enables lamp mark) P refused serves =
     mark_set_by d (λ r. P (gave_number r) r.device) lamp mark refused
     (λ legal there left idle. serves (record { legal = legal; there = there }))
 
--- the number is that of the table
-pub number-gave_by : (d : Device) (c : Call) → (gave_by ours d c).number ≡ number_of ours d c
-number-gave_by d (opens random m) = refl
-number-gave_by d (closes p) = refl
-number-gave_by d (receives p bs m) = refl
-number-gave_by d (passes n) = refl
-number-gave_by d (marks fault) = refl
-number-gave_by d (reports errors) = refl
-number-gave_by d (enables lamp mark) = refl
-
 -- two records from which the call finds the same rows: it is refused of both with one number, or served of both
 pub calls_by : (d e : Device) (c : Call) (P : Gave → Device → Gave → Device → Type 0) → rows_of d c ≡ rows_of e c
     → ((n : ℕ) → P (unserved n c) d (unserved n c) e)
     → (IsServed d c → IsServed e c → P (gives d c) (served d c) (gives e c) (served e c))
     → P (gave_by ours d c) (after ours d c) (gave_by ours e c) (after ours e c)
 calls_by d e c P rows refused serves =
-    let number : (gave_by ours d c).number ≡ (gave_by ours e c).number
-    = number-gave_by d c ∙ number_is_first d c ∙ ap first_of rows ∙ sym (number_is_first e c)
-    ∙ sym (number-gave_by e c) in
-    call_by d c (λ g x. g.number ≡ (gave_by ours e c).number → P g x (gave_by ours e c) (after ours e c))
+    call_by d c (λ g x. g.number ≡ number_of ours e c → P g x (gave_by ours e c) (after ours e c))
     (λ n some. call_by e c (λ h y. n ≡ h.number → P (unserved n c) d h y)
     (λ k z same. subst (λ (k : ℕ). P (unserved n c) d (unserved k c) e) same (refused n))
     (λ there same. absurd (some same)))
     (λ here. call_by e c (λ h y. 0 ≡ h.number → P (gives d c) (served d c) h y) (λ k z same. absurd (z (sym same)))
     (λ there same. serves here there))
-    number
+    (number_is_first d c ∙ ap first_of rows ∙ sym (number_is_first e c))
 
 -- ---- the connection that stands at a place then
 
@@ -186,5 +173,4 @@ settings_stay d c = call_by d c (λ g e. e.settings ≡ d.settings) (λ n z. ref
 
 pub served_after : (d : Device) (c : Call) → number_of ours d c ≡ 0 → after ours d c ≡ served d c
 served_after d c e =
-    call_by d c (λ g x. g.number ≡ 0 → x ≡ served d c) (λ n some z. absurd (some z)) (λ h z. refl)
-    (number-gave_by d c ∙ e)
+    call_by d c (λ g x. g.number ≡ 0 → x ≡ served d c) (λ n some z. absurd (some z)) (λ h z. refl) e

@@ -4,7 +4,7 @@
 --   Outside w p s d         place p of the legal device d, which has the password w, stands so with the session s
 --   GoesOn w p s d c        so it is after the call c, with the session that is noted
 -- Assumes nothing.
-use Rattle.std.proofs.Common.{ℕ, zero, suc, ◌≡◌, refl, sym, ap, subst, ◌∙◌, Bool, true, false, ◌&&◌, List, ◌++◌, take}
+use Rattle.std.proofs.Common.{ℕ, zero, suc, ◌≡◌, refl, sym, ap, subst, ◌∙◌, Bool, true, false, List, ◌++◌, take}
 use Rattle.std.proofs.Common.{length, slice_index_or, replicate, ◌==◌, eqb-true, ne_eqb}
 use Rattle.text.specs.Words.{over}
 use Rattle.std.proofs.lemmas.Bool.{false≢true, eqb-false}
@@ -25,14 +25,12 @@ use Rattle.device.specs.Calls.{has_password, greeted}
 use Rattle.device.proofs.Cases.{takes, secured_greeted}
 use Rattle.ours.specs.Board.{ours}
 use Rattle.demands.specs.Calls.{Call, opens, closes, receives, passes, marks, reports, enables, after}
-use Rattle.demands.specs.Outsider.{Session, opened_with, unopened, noted, is_matched, is_received_at, silence}
-use Rattle.demands.specs.Unheard.{Gave, gave_by}
-use Rattle.demands.proofs.LegalKept.{stays_legal}
-use Rattle.demands.proofs.LentMemory.{over_front}
+use Rattle.demands.specs.Outsider.{Session, opened_with, unopened, noted_of, noted, is_matched, is_received_at, silence}
+use Rattle.demands.proofs.KeepsRunning.{stays_legal, over_front}
 use Rattle.demands.proofs.Sessions.{Standing, is_closed, awaits, nothing_yet, answered_so, closed_stands, heard}
 use Rattle.demands.proofs.Sessions.{stands_on, stands_later}
-use Rattle.demands.proofs.CallsDo.{unserved, IsServed, gives, own_then, connection_left, call_by}
-use Rattle.demands.proofs.CallsDo.{connection_at-served, settings_stay}
+use Rattle.demands.proofs.CallsDo.{unserved, IsServed, gives, own_then, connection_left, call_by, connection_at-served}
+use Rattle.demands.proofs.CallsDo.{settings_stay}
 
 pub record Outside (password : List ℕ) (p : ℕ) (s : Session) (d : Device) : Type 0 where
   pub legal : is_legal d ≡ true
@@ -40,27 +38,7 @@ pub record Outside (password : List ℕ) (p : ℕ) (s : Session) (d : Device) : 
   pub known : set_up_password d.settings ≡ password
   pub standing : Standing s (connection_at d p)
 
--- what is noted of what a call gives
-abbrev noted_of : ℕ → Session → Call → Gave → Session
-noted_of p s (opens random m) g = if g.number == 0 && g.place == p then opened_with random else s
-noted_of p s (receives q bs m) g =
-    if g.number == 0 && q == p then record {
-      random = s.random;
-      taken = s.taken ++ take g.taken bs;
-      replied = s.replied ++ take g.length g.memory;
-    } else s
-noted_of p s c g = s
-
 module _ (p : ℕ) (s : Session) where
-  noted_of-gave_by : (d : Device) (c : Call) → noted_of p s c (gave_by ours d c) ≡ noted ours p d s c
-  noted_of-gave_by d (opens random m) = refl
-  noted_of-gave_by d (closes q) = refl
-  noted_of-gave_by d (receives q bs m) = refl
-  noted_of-gave_by d (passes n) = refl
-  noted_of-gave_by d (marks fault) = refl
-  noted_of-gave_by d (reports errors) = refl
-  noted_of-gave_by d (enables lamp mark) = refl
-
   nothing_noted : (n : ℕ) → (n ≡ 0 → ⊥) → (c : Call) → noted_of p s c (unserved n c) ≡ s
   nothing_noted n some (opens random m) = rw (ne_eqb n 0 some) refl
   nothing_noted n some (closes q) = refl
@@ -141,15 +119,14 @@ module _ (password : List ℕ) (p : ℕ) (s : Session) (d : Device) (out : Outsi
 
   goes_on : (c : Call) → NotMatched (noted ours p d s c) → GoesOn c (noted ours p d s c) (after ours d c)
   goes_on c =
-      subst (λ (k : Session). NotMatched k → GoesOn c k (after ours d c)) (noted_of-gave_by p s d c)
-      (call_by d c (λ g e. NotMatched (noted_of p s c g) → GoesOn c (noted_of p s c g) e)
+      call_by d c (λ g e. NotMatched (noted_of p s c g) → GoesOn c (noted_of p s c g) e)
       (λ n some u. record { standing = rw (nothing_noted p s n some c) out.standing; kept = λ z. refl })
       (λ h u.
       let stands = then_stands c h u in
       record {
         standing = subst (Standing (noted_of p s c (gives d c))) (sym (connection_at-served d c p h)) stands.0;
         kept = stands.1;
-      }))
+      })
 
   pub received_keeps : (c : Call) → NotMatched (noted ours p d s c) → is_received_at p c ≡ true
       → (after ours d c).own ≡ d.own

@@ -15,7 +15,7 @@ use Rattle.ours.specs.Board.{ours}
 use Rattle.demands.specs.Calls.{Call, opens, closes, receives, passes, marks, reports, enables, after, run}
 use Rattle.demands.specs.Outsider.{Session, unopened, noted, session_after, IsNeverMatched, is_hosts, host_calls}
 use Rattle.demands.specs.Outsider.{SameDevicePart, IsKeptThere, NoSay, HostsAlone}
-use Rattle.demands.proofs.LegalKept.{stays_legal}
+use Rattle.demands.proofs.KeepsRunning.{stays_legal}
 use Rattle.demands.proofs.Sessions.{answered_so}
 use Rattle.demands.proofs.CallsDo.{settings_stay, call_by}
 use Rattle.demands.proofs.CallsAlike.{host_alike}
@@ -24,20 +24,19 @@ use Rattle.demands.proofs.Outside.{Outside, outside_after, received_keeps, unope
 module _ (password : List ℕ) where
   -- ---- one place
 
-  module _ (p : ℕ) where
-    kept_there : (cs : List Call) (s : Session) (d : Device) → Outside password p s d
-        → IsNeverMatched ours p password d s cs → IsKeptThere ours p d cs
-    kept_there [] s d out never = tt
-    kept_there (c ∷ cs) s d out never = (
-      λ e. record { settings = settings_stay d c; own = received_keeps password p s d out c never.0 e },
-      kept_there cs (noted ours p d s c) (after ours d c) (outside_after password p s d out c never.0) never.1,
-    )
-
-    outside_then : (cs : List Call) (s : Session) (d : Device) → Outside password p s d
-        → IsNeverMatched ours p password d s cs → Outside password p (session_after ours p d s cs) (run ours d cs)
-    outside_then [] s d out never = out
-    outside_then (c ∷ cs) s d out never =
-        outside_then cs (noted ours p d s c) (after ours d c) (outside_after password p s d out c never.0) never.1
+  no_say : (p : ℕ) (cs : List Call) (s : Session) (d : Device) → Outside password p s d
+      → IsNeverMatched ours p password d s cs
+      → IsKeptThere ours p d cs × Outside password p (session_after ours p d s cs) (run ours d cs)
+  no_say p [] s d out never = (tt, out)
+  no_say p (c ∷ cs) s d out never =
+      let next = outside_after password p s d out c never.0 in
+      let rest = no_say p cs (noted ours p d s c) (after ours d c) next never.1 in (
+        (
+          λ e. record { settings = settings_stay d c; own = received_keeps password p s d out c never.0 e },
+          rest.0,
+        ),
+        rest.1,
+      )
 
   -- ---- every place
 
@@ -88,11 +87,8 @@ module _ (d : Device) (cs : List Call) (legal : is_legal d ≡ true) (secured : 
   pub outsider_has_no_say : (p : ℕ) → is_shut (connection_at d p) ≡ true
       → IsNeverMatched ours p (set_up_password d.settings) d unopened cs → NoSay ours p d unopened cs
   outsider_has_no_say p free never =
-      let out = unopened_outside d p legal secured free in
-      record {
-        kept = kept_there (set_up_password d.settings) p cs unopened d out never;
-        answers = answered_so (outside_then (set_up_password d.settings) p cs unopened d out never).standing;
-      }
+      let end = no_say (set_up_password d.settings) p cs unopened d (unopened_outside d p legal secured free) never in
+      record { kept = end.0; answers = answered_so end.1.standing }
 
   pub outsiders_have_no_say : ((p : ℕ) → p < places_count → is_shut (connection_at d p) ≡ true)
       → ((p : ℕ) → p < places_count → IsNeverMatched ours p (set_up_password d.settings) d unopened cs)

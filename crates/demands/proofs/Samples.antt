@@ -1,16 +1,32 @@
--- the sample device, opened at place 0, on which the wrong boards fall; and the longest replies, which 32 inputs reach
--- in Class 1 (RULES, Inputs) and an input's name in Class 2 (RULES, Class 2).
+-- The sample device, opened at place 0, on which the wrong boards fall; and the longest replies, which 32 inputs
+-- reach in Class 1 (RULES, Inputs) and an input's name in Class 2 (RULES, Class 2). A line shorter than a digest is
+-- not led by it: so are those that somebody without the password sends here.
 -- Assumes nothing.
-use Rattle.std.proofs.Common.{ℕ, ◌≡◌, refl, sym, ap, ◌∙◌, false, ◌==◌, eq-eqb, arith, codes}
+use Rattle.std.proofs.Common.{ℕ, ◌<◌, ◌≡◌, false, List, arith, length, codes, refl, sym, ap, ◌∙◌, ◌==◌, eq-eqb}
+use Rattle.text.specs.Scans.{same_by, itself}
+use Rattle.text.proofs.Scanning.{long_differs}
+use Rattle.digest.specs.Hex.{leading_digest}
+use Rattle.digest.proofs.Laws.{length-leading_digest}
+use Rattle.device.specs.Receiving.{digest_long}
 use Rattle.std.proofs.lemmas.Bool.{false≢true}
 use Rattle.record.specs.Limits.{opened}
 use Rattle.record.specs.declared.types.Device.{Device}
 use Rattle.device.specs.Calls.{longest_reply}
 use Rattle.ours.specs.Board.{ours}
-use Rattle.demands.specs.Demand2.{BetweenLines}
+use Rattle.demands.specs.SpeaksPjlink.{BetweenLines}
 use Rattle.demands.specs.ClassOne.{longest_before}
 use Rattle.demands.specs.Sample.{sample, sockets, long_named, memory, opened_after}
 use Rattle.demands.specs.Computing.{computing}
+
+pub same_by-leading_digest : (random : ℕ) (password l : List ℕ) → length l < digest_long
+    → same_by itself l (leading_digest random password) ≡ false
+same_by-leading_digest random password l short =
+    long_differs itself l (leading_digest random password)
+    (λ e. omega (arith, length-leading_digest random password))
+
+-- who sends `x`
+pub x_unled : same_by itself (codes "x") (leading_digest 7 (codes "JBMIAProjectorLink")) ≡ false
+x_unled = same_by-leading_digest 7 (codes "JBMIAProjectorLink") (codes "x") (omega arith)
 
 -- what is said equal, and differs by a number of it
 pub apart : {A : Type 0} {x y : A} (f : A → ℕ) → x ≡ y → (f x == f y) ≡ false → ⊥

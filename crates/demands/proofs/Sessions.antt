@@ -1,16 +1,24 @@
 -- Where the connection of someone without the password stands: closed, awaiting with all bytes of his session
--- collected, or failed. Time and received bytes leave it so, and his session gets the refusal line at most.
+-- collected, or failed. Time and received bytes leave it so, and his session gets the refusal line at most. Its first
+-- line, as he outside sees it, is the bytes before the first CR.
 --   Standing s c            the connection c stands so with the session s
 --   heard s bs t            the session s after a call that took t of the bytes bs
 --   Heard settings .. t     such a call left the own part, and the connection stands so
 -- Assumes nothing.
 use Rattle.std.specs.List.{list_all}
-use Rattle.std.proofs.Common.{ℕ, ◌+◌, ◌≡◌, refl, sym, ap, subst, ◌∙◌, true, false, List, [], ◌∷◌, ◌++◌, append-nil}
-use Rattle.std.proofs.Common.{arith, length, take}
-use Rattle.std.proofs.Math.Seq.{take-length}
+use Rattle.std.proofs.Common.{ℕ, ◌+◌, ◌≡◌, refl, sym, ap, ◌∙◌, true, false, not, ◌&&◌, List, [], ◌∷◌, ◌++◌}
+use Rattle.std.proofs.Common.{append_assoc, length, take, length-append, subst, append-nil, arith}
+use Rattle.std.proofs.lemmas.Bool.{false≢true, not-true}
+use Rattle.std.proofs.Math.Seq.{take-append_seam, take-length}
 use Prim.Native.Char.{code}
+use Rattle.text.specs.Words.{◌is◌}
+use Rattle.text.proofs.Choices.{if_no, both_left, both_right, alike}
+use Rattle.words.specs.Bytes.{not_cr, no_cr}
+use Rattle.words.proofs.Characters.{no_cr_each}
+use Rattle.device.specs.Receiving.{is_led_by, Ended, Taken, is_match, no_reply, line_ended, keeping_line, taken_in}
+use Rattle.device.specs.Receiving.{set_up_password}
+use Rattle.demands.specs.Outsider.{first_line, Session, is_matched, RefusalAtMost, silence, refusal}
 use Rattle.text.proofs.Scanning.{list_all-append}
-use Rattle.words.specs.Bytes.{not_cr}
 use Rattle.pjlink.specs.Forms.{erra_line}
 use Rattle.record.specs.Limits.{shut, awaiting, failed, line_room}
 use Rattle.record.specs.Updates.{aged, with_line}
@@ -30,13 +38,44 @@ use Rattle.stream.proofs.UpToTheEnd.{Cut, plain, line, cut}
 use Rattle.stream.proofs.GatheredOn.{plain_gathered}
 use Rattle.stream.proofs.CollectedOn.{collected_all-append, collected_whole}
 use Rattle.stream.proofs.LinesCollected.{empty_is_none, gathered-append}
-use Rattle.device.specs.Receiving.{Ended, Taken, is_match, no_reply, line_ended, keeping_line, taken_in}
-use Rattle.device.specs.Receiving.{set_up_password}
 use Rattle.device.proofs.LineCases.{keeping_line_lem, taken-line, taken_part}
 use Rattle.device.proofs.Outsiders.{mismatch_refused, failed_ignores}
 use Rattle.device.proofs.FirstLines.{is_match-collected_all}
-use Rattle.demands.specs.Outsider.{Session, is_matched, RefusalAtMost, silence, refusal}
-use Rattle.demands.proofs.FirstLinesSeen.{line_taken, matched_first}
+
+module _ (more : List ℕ) where
+  first_line-append : (l : List ℕ) → list_all not_cr l ≡ true → first_line (l ++ (code "\r" ∷ more)) ≡ l
+  first_line-append [] none = refl
+  first_line-append (b ∷ l) none =
+      if_no _ _ (not-true (b is "\r") (both_left (not_cr b) (list_all not_cr l) none))
+      ∙ ap (λ (k : List ℕ). b ∷ k) (first_line-append l (both_right (not_cr b) (list_all not_cr l) none))
+
+  cr_inside : (l : List ℕ) → list_all not_cr (l ++ (code "\r" ∷ more)) ≡ true → ⊥
+  cr_inside [] e = false≢true e
+  cr_inside (b ∷ l) e = cr_inside l (both_right (not_cr b) _ e)
+
+  pub cr_seen : (l : List ℕ) → no_cr (l ++ (code "\r" ∷ more)) ≡ false
+  cr_seen l = alike _ false (λ e. absurd (cr_inside l (no_cr_each _ e))) (λ e. absurd (false≢true e))
+
+-- the line with its CR, and no more
+pub line_taken : (l more : List ℕ) → take (length l + 1) (l ++ (code "\r" ∷ more)) ≡ l ++ (code "\r" ∷ [])
+line_taken l more =
+    (λ i. take (sym (length-append l (code "\r" ∷ [])) i) (sym (append_assoc l (code "\r" ∷ []) more) i))
+    ∙ take-append_seam (l ++ (code "\r" ∷ [])) more
+
+-- what a session has matched, whose bytes end with the CR of its first line
+module _ (random : ℕ) (password before l : List ℕ) (none : list_all not_cr (before ++ l) ≡ true) where
+  abbrev bytes : List ℕ
+  bytes = before ++ (l ++ (code "\r" ∷ []))
+
+  ends_first : bytes ≡ (before ++ l) ++ (code "\r" ∷ [])
+  ends_first = sym (append_assoc before l (code "\r" ∷ []))
+
+  pub matched_first : (not (no_cr bytes) && is_led_by random password (first_line bytes))
+      ≡ is_led_by random password (before ++ l)
+  matched_first =
+      (λ i. not (no_cr (ends_first i)) && is_led_by random password (first_line (ends_first i)))
+      ∙ (λ i. not (cr_seen [] (before ++ l) i)
+      && is_led_by random password (first_line-append [] (before ++ l) none i))
 
 pub data Standing (s : Session) (c : Connection) : Type 0 where
   is_closed : c.phase ≡ shut → RefusalAtMost s.replied → Standing s c

@@ -1,23 +1,26 @@
--- An outsider has no say (RULES, Places), of our board: call by call, the two runs leave records that are the same but
--- for his place, and each other call gives the same in both.
+-- An outsider has no say (RULES, Places), of our board: call by call, the two runs leave records that are the same
+-- but for his place, and each other call gives the same in both. What holds at the end of two such runs holds at
+-- every moment of them: what came before is two such runs, on any board.
 -- Assumes nothing.
-use Rattle.std.proofs.Common.{ℕ, ◌≡◌, refl, sym, ◌∙◌, Bool, true, false, not, List, ◌∷◌, ◌==◌, eqb-true, eq-eqb}
+use Rattle.std.proofs.Common.{ℕ, ◌≡◌, refl, sym, ◌∙◌, Bool, true, false, not, List, ◌∷◌, ◌==◌, eqb-true, eq-eqb, zero}
+use Rattle.std.proofs.Common.{suc, [], take}
 use Rattle.std.proofs.lemmas.Bool.{false≢true, eqb-false}
-use Rattle.text.proofs.Choices.{both_left}
+use Rattle.text.proofs.Choices.{both_left, both, both_right}
 use Rattle.std.specs.Prelude.{if◌then◌else◌}
 use Rattle.record.specs.declared.types.Device.{Device}
 use Rattle.device.specs.Receiving.{set_up_password}
-use Rattle.ours.specs.Board.{ours}
-use Rattle.demands.specs.Calls.{Call, opens, closes, receives, passes, marks, reports, enables, after}
+use Rattle.ours.specs.Board.{ours, Board}
+use Rattle.demands.specs.Calls.{Call, opens, closes, receives, passes, marks, reports, enables, after, Gave, gave_by}
 use Rattle.demands.specs.Outsider.{Session, unopened, noted, is_matched, IsNeverMatched}
 use Rattle.demands.specs.Unheard.{Alike, same_call, other_bytes, AllAlike, no_calls, one_more, opens_none, phase_at}
-use Rattle.demands.specs.Unheard.{is_opening}
-use Rattle.demands.specs.Unheard.{QuietOnceApart, Gave, gave_by, is_at_place, SameElsewhere, HeardAlike}
+use Rattle.demands.specs.Unheard.{is_opening, QuietOnceApart, is_at_place, SameElsewhere, HeardAlike}
 use Rattle.demands.specs.Unheard.{Unheard}
 use Rattle.demands.proofs.CallsDo.{settings_stay, call_by}
 use Rattle.demands.proofs.CallsAlike.{alike_elsewhere}
-use Rattle.demands.proofs.OthersUntouched.{others_untouched}
+use Rattle.demands.proofs.CallsKeep.{others_untouched}
 use Rattle.demands.proofs.Outside.{Outside, outside_after, received_keeps, fresh_outside}
+use Rattle.record.specs.Wanted.{Wanted}
+use Rattle.device.specs.Calls.{has_password}
 
 -- ---- one call of each run
 
@@ -126,3 +129,50 @@ ours_unheard = record {
       = record { device = record { settings = refl; own = refl }; others = λ q away. refl } in
       runs_alike (set_up_password d.settings) p alike unopened unopened d d itself out out never never-too quiet;
 }
+
+alike_before : {p : ℕ} {xs ys : List Call} (n : ℕ) → AllAlike p xs ys → AllAlike p (take n xs) (take n ys)
+alike_before zero all = no_calls
+alike_before (suc n) no_calls = no_calls
+alike_before (suc n) (one_more one more) = one_more one (alike_before n more)
+
+none_before : (n : ℕ) (cs : List Call) → opens_none cs ≡ true → opens_none (take n cs) ≡ true
+none_before zero cs h = refl
+none_before (suc n) [] h = refl
+none_before (suc n) (c ∷ cs) h = both (both_left _ _ h) (none_before n cs (both_right _ _ h))
+
+module _ (B : Board) (p : ℕ) where
+  never_before : (password : List ℕ) (n : ℕ) (d : B.Record) (s : Session) (cs : List Call)
+      → IsNeverMatched B p password d s cs → IsNeverMatched B p password d s (take n cs)
+  never_before password zero d s cs u = tt
+  never_before password (suc n) d s [] u = tt
+  never_before password (suc n) d s (c ∷ cs) u =
+      (u.0, never_before password n (after B d c) (noted B p d s c) cs u.1)
+
+  quiet_before : (n : ℕ) (d e : B.Record) (xs ys : List Call) → QuietOnceApart B p d e xs ys
+      → QuietOnceApart B p d e (take n xs) (take n ys)
+  quiet_before zero d e xs ys q = tt
+  quiet_before (suc n) d e [] ys q = tt
+  quiet_before (suc n) d e (a ∷ xs) [] q = tt
+  quiet_before (suc n) d e (a ∷ xs) (b ∷ ys) q =
+      ((λ apart. none_before (suc n) (a ∷ xs) (q.0 apart)), quiet_before n (after B d a) (after B e b) xs ys q.1)
+
+  -- nobody opens at all
+  pub nobody_opens : (d e : B.Record) (xs ys : List Call) → opens_none xs ≡ true → QuietOnceApart B p d e xs ys
+  nobody_opens d e [] ys h = tt
+  nobody_opens d e (a ∷ xs) [] h = tt
+  nobody_opens d e (a ∷ xs) (b ∷ ys) h =
+      ((λ apart. h), nobody_opens (after B d a) (after B e b) xs ys (both_right _ _ h))
+
+  pub unheard_throughout : Unheard B → (w : Wanted) (xs ys : List Call)
+      → let d = (B.set_up w).device in
+      let password = set_up_password (B.shows d).settings in
+      (B.set_up w).number ≡ 0 → has_password (B.shows d).settings ≡ true
+      → AllAlike p xs ys
+      → IsNeverMatched B p password d unopened xs → IsNeverMatched B p password d unopened ys
+      → QuietOnceApart B p d d xs ys
+      → (n : ℕ) → HeardAlike B p d d (take n xs) (take n ys)
+  unheard_throughout h w xs ys accepted secured all u v q n =
+      let d = (B.set_up w).device in
+      let password = set_up_password (B.shows d).settings in
+      h.outsider_unheard w p (take n xs) (take n ys) accepted secured (alike_before n all)
+      (never_before password n d unopened xs u) (never_before password n d unopened ys v) (quiet_before n d d xs ys q)

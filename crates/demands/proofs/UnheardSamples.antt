@@ -1,30 +1,74 @@
--- RULES, Places is not empty: the two runs of specs/TwoRuns.antt meet every premise of it, place 0 has failed in the
--- one and is still awaited in the other, and what place 1 did is the same in both. And its premise about openings is
--- needed.
+-- RULES, Places is not empty: the two runs of specs/TwoRuns.antt differ in what is given to place 0 only and meet every
+-- premise of it; place 0 has failed in the one and is still awaited in the other, and what place 1 did is the same in
+-- both. And its premise about openings is needed.
 -- Assumes nothing.
-use Rattle.std.proofs.Common.{ℕ, ◌≡◌, refl, ap, ◌∙◌, true, false, List, [], ◌∷◌, arith, length, slice_index_or, codes}
+use Rattle.std.proofs.Common.{ℕ, ◌≡◌, Bool, true, false, ◌&&◌, List, ◌∷◌, ◌==◌, refl, ap, ◌∙◌, [], arith, length}
+use Rattle.std.proofs.Common.{slice_index_or, codes}
+use Rattle.std.specs.Prelude.{if◌then◌else◌}
+use Rattle.record.specs.declared.types.Device.{Device}
+use Rattle.device.specs.Receiving.{set_up_password}
+use Rattle.ours.specs.Board.{ours, reply, lent_by}
+use Rattle.demands.specs.Calls.{opens, receives, passes, after, Call, run, Gave}
+use Rattle.demands.specs.Outsider.{Session, unopened, noted, is_matched, IsNeverMatched}
+use Rattle.demands.specs.Sample.{memory, with_cr}
+use Rattle.demands.specs.TwoRuns.{fresh_secured, led_on, calls_later, calls_given, asking, waiting, calls_since}
+use Rattle.demands.specs.Unheard.{AllAlike, no_calls, one_more, same_call, other_bytes, QuietOnceApart, phase_at}
+use Rattle.demands.specs.Unheard.{HeardAlike}
 use Rattle.record.specs.Limits.{awaiting, failed, cooling}
 use Rattle.record.specs.Wanted.{Wanted}
 use Rattle.record.specs.declared.types.Own.{Own}
-use Rattle.record.specs.declared.types.Device.{Device}
 use Rattle.device.specs.Answering.{line_answer}
-use Rattle.device.specs.Receiving.{set_up_password}
 use Rattle.device.specs.Calls.{Result, received, has_password}
 use Rattle.device.proofs.LinesReceived.{line_result, led_line-received}
-use Rattle.ours.specs.Board.{ours, reply, lent_by}
-use Rattle.demands.specs.Calls.{Call, opens, receives, passes, run}
-use Rattle.demands.specs.Outsider.{unopened, is_matched, IsNeverMatched}
-use Rattle.demands.specs.Sample.{memory, with_cr}
 use Rattle.demands.specs.WrongDoors.{secured_sample}
-use Rattle.demands.specs.Unheard.{AllAlike, no_calls, one_more, same_call, other_bytes, QuietOnceApart, Gave}
-use Rattle.demands.specs.Unheard.{phase_at, HeardAlike}
 use Rattle.demands.specs.Computing.{computing}
-use Rattle.demands.proofs.Unheard.{ours_unheard}
-use Rattle.demands.proofs.UnheardMoments.{nobody_opens}
-use Rattle.demands.specs.TwoRuns.{fresh_secured, led_on, calls_later, calls_since, calls_given, asking, waiting}
-use Rattle.demands.proofs.UnheardRuns.{password, alike, later_never, greeted_two, spoken_to}
-use Rattle.demands.proofs.Unled.{same_by-leading_digest}
-use Rattle.demands.proofs.UnheardRuns.{session_one, session_two, session_three}
+use Rattle.demands.proofs.Unheard.{ours_unheard, nobody_opens}
+use Rattle.demands.proofs.Samples.{same_by-leading_digest}
+
+abbrev pub password : List ℕ
+password = set_up_password fresh_secured.settings
+
+pub alike : AllAlike 0 (calls_given asking) (calls_given waiting)
+alike =
+    one_more same_call (one_more same_call (one_more other_bytes (one_more same_call (one_more same_call (one_more
+    same_call no_calls)))))
+
+-- ---- place 0 never matches
+
+is_matched-noted : (d : Device) (s : Session) (bs : List ℕ) → is_matched password s ≡ false
+    → is_matched password (noted ours 0 d s (receives 1 bs memory)) ≡ false
+is_matched-noted d s bs h = by _ ((ours.receive d 1 bs memory).number == 0)
+  where
+    by : (k : Session) (t : Bool) → is_matched password (if t && false then k else s) ≡ false
+    by k true = h
+    by k false = h
+
+pub later_never : (d : Device) (s : Session) → is_matched password s ≡ false
+    → IsNeverMatched ours 0 password d s (receives 1 led_on memory ∷ calls_later)
+later_never d s h =
+    let next = after ours (after ours d (receives 1 led_on memory)) (passes 20) in
+    let still = is_matched-noted d s led_on h in
+    let last = is_matched-noted next (noted ours 0 d s (receives 1 led_on memory)) (with_cr "%1POWR 0") still in
+    (still, (still, (last, tt)))
+
+-- the records and the sessions of the first calls
+abbrev pub greeted_one : Device
+greeted_one = after ours fresh_secured (opens 7 memory)
+
+abbrev pub greeted_two : Device
+greeted_two = after ours greeted_one (opens 8 memory)
+
+abbrev pub spoken_to : List ℕ → Device
+spoken_to bs = after ours greeted_two (receives 0 bs memory)
+
+abbrev pub session_one : Session
+session_one = noted ours 0 fresh_secured unopened (opens 7 memory)
+
+abbrev pub session_two : Session
+session_two = noted ours 0 greeted_one session_one (opens 8 memory)
+
+abbrev pub session_three : List ℕ → Session
+session_three bs = noted ours 0 greeted_two session_two (receives 0 bs memory)
 
 -- ---- place 0 never matches
 

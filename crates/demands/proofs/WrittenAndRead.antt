@@ -1,35 +1,139 @@
--- Demand 2: what the writer writes, and what the readers take from the projector's replies and greetings; a command of
--- a class higher than the set-up's is swallowed (RULES, Class 2).
+-- THE LAW, from writer to reader: for a legal projector on a connection between lines, what the writer wrote for a
+-- command of a class no higher than the set-up's is taken whole, and what the reader takes from the reply is what the
+-- projector meant (RULES, Controller and Class 2); one of a higher class is swallowed. And what the greeting reader
+-- takes from the opening reply is what opening did.
+--   TakenAndRead d p c bs r    the result r of receiving bs at place p: number 0, exactly bs taken, the record as the
+--                              command leaves it on a connection open between lines with the random number kept, the
+--                              reply read as meant
 -- Assumes nothing.
-use Rattle.std.proofs.Common.{ℕ, ◌^◌, ◌≤◌, ◌<◌, ◌≡◌, refl, sym, ap, subst, ◌∙◌, Bool, true, false, List, ◌++◌, ⊎_elim}
-use Rattle.std.proofs.Common.{arith, length}
-use Rattle.std.proofs.lemmas.Bool.{false≢true}
-use Rattle.text.proofs.Orders.{le_or_lt}
+use Rattle.std.proofs.Common.{ℕ, ◌≤◌, ◌<◌, ◌≡◌, refl, sym, ap, subst, ◌∙◌, true, false, List, ◌++◌, arith, length, ◌^◌}
+use Rattle.std.proofs.Common.{Bool, ⊎_elim}
+use Rattle.std.specs.Prelude.{Ok}
 use Rattle.digest.specs.Hex.{leading_digest}
 use Rattle.pjlink.specs.Commands.{command_class, is_command, command_line}
 use Rattle.pjlink.specs.declared.command.Command.{Command}
 use Rattle.record.specs.Limits.{places_count, awaiting, opened}
 use Rattle.record.specs.Legal.{is_legal}
-use Rattle.record.specs.Places.{connection_at, is_shut, lowest_shut}
+use Rattle.record.specs.Places.{connection_at, with_place, lowest_shut, is_shut}
+use Rattle.record.specs.declared.types.Connection.{Connection}
 use Rattle.record.specs.declared.types.Device.{Device}
-use Rattle.record.proofs.LegalTold.{legal_settings}
-use Rattle.record.proofs.LowestShut.{below_lowest}
-use Rattle.device.specs.Answering.{swallowed}
-use Rattle.device.specs.Receiving.{set_up_password}
-use Rattle.device.specs.Calls.{Result, reply_room, received, opened_by}
-use Rattle.device.proofs.CommandsReceived.{swallowed_at, higher_received, higher_received_secured}
-use Rattle.controller.specs.Writing.{WrittenAs, command_room, led_by}
-use Rattle.controller.specs.Reading.{read_reply}
+use Rattle.record.specs.declared.types.Line.{Line}
+use Rattle.record.proofs.LegalTold.{legal_settings, legal_own, legal_connection, legal_places}
+use Rattle.record.proofs.FactsTold.{settings_is}
+use Rattle.stream.specs.Collecting.{empty_line}
+use Rattle.stream.proofs.LegalLines.{between_lines}
+use Rattle.stream.proofs.LinesCollected.{empty_is_none}
+use Rattle.meaning.specs.Meaning.{meant, done}
+use Rattle.meaning.proofs.CanBeSaid.{meant_fits, meant_can_be_said}
+use Rattle.device.specs.Receiving.{turned, set_up_password}
+use Rattle.device.specs.Calls.{Result, reply_room, received, greeting, greeted, opened_by, place_taken}
+use Rattle.device.proofs.CommandsReceived.{command_result, command_received, command_received_secured, swallowed_at}
+use Rattle.device.proofs.CommandsReceived.{higher_received, higher_received_secured}
+use Rattle.device.proofs.Legal.{line_legal}
+use Rattle.controller.specs.Reading.{meaning, read_reply}
+use Rattle.controller.specs.Writing.{WrittenAs, command_room, written_command, led_by}
+use Rattle.controller.proofs.Cases.{written_plain, written_led, written_by}
+use Rattle.controller.proofs.ReadsBack.{reply_read}
+use Rattle.record.specs.declared.types.Settings.{Settings}
+use Rattle.record.proofs.ConnectionsTold.{placed_here}
+use Rattle.device.proofs.Cases.{opened_greeted, opened_lowest, greeted_by_lem}
 use Rattle.controller.specs.Greetings.{read_greeting}
 use Rattle.demands.specs.Greeted.{greeted_on}
-use Rattle.controller.proofs.Cases.{written_by, written_plain, written_led}
-use Rattle.demands.proofs.TakenAndRead.{is_between, TakenAndRead}
-use Rattle.demands.proofs.TakenAndRead.{reads_back as taken_and_read, reads_back_secured as taken_and_read_secured}
-use Rattle.demands.proofs.GreetsBack.{greets_back as greeted-back}
+use Rattle.controller.proofs.GreetingsHeard.{open_heard, secured_heard}
+use Rattle.std.proofs.lemmas.Bool.{false≢true}
+use Rattle.text.proofs.Orders.{le_or_lt}
+use Rattle.record.proofs.LowestShut.{below_lowest}
+use Rattle.device.specs.Answering.{swallowed}
 use Rattle.ours.specs.Board.{bytes_written, reply, lent_by, wrote_by, ours}
-use Rattle.demands.specs.Demand2.{BetweenLines, AnsweredAs, ByClass}
-use Rattle.demands.proofs.LentMemory.{over_front}
-use Rattle.record.proofs.FactsTold.{settings_is}
+use Rattle.demands.specs.SpeaksPjlink.{BetweenLines, AnsweredAs, ByClass}
+use Rattle.demands.proofs.KeepsRunning.{over_front}
+
+-- "between lines", no collected bytes and no overlong mark, is what the laws ask of the line
+pub is_between : (d : Device) (p : ℕ) → p < places_count → is_legal d ≡ true
+    → (connection_at d p).line.overlong ≡ false → (connection_at d p).line.held ≡ 0
+    → (connection_at d p).line ≡ empty_line
+is_between d p there legal unmarked none =
+    let k = connection_at d p in
+    between_lines k.phase k.line (line_legal k (legal_connection d legal p there)) unmarked none
+
+pub record TakenAndRead (d : Device) (p : ℕ) (c : Command) (bs : List ℕ) (r : Result Device) : Type 0 where
+  pub number : r.number ≡ 0
+  pub taken : r.taken ≡ length bs
+  pub device : r.device ≡ with_place d (done d.settings d.own (Ok c)) p (turned (connection_at d p) opened)
+  pub said : read_reply c r.reply ≡ meaning (meant d.settings d.own (Ok c))
+
+module _ (d : Device) (p : ℕ) (there : p < places_count) (legal : is_legal d ≡ true)
+    (between : (connection_at d p).line ≡ empty_line) (c : Command) (writable : is_command c ≡ true)
+    (within : command_class c ≤ d.settings.class_number) (room : ℕ) (enough : reply_room ≤ room) where
+  abbrev here : Connection
+  here = connection_at d p
+
+  unmarked : here.line.overlong ≡ false
+  unmarked = ap (λ (l : Line). l.overlong) (between ∙ empty_is_none)
+
+  none : here.line.held ≡ 0
+  none = ap (λ (l : Line). l.held) (between ∙ empty_is_none)
+
+  read_back : (bs : List ℕ) → received d p bs room ≡ command_result d p c (length bs)
+      → TakenAndRead d p c bs (received d p bs room)
+  read_back bs e =
+      let settings = legal_settings d legal in
+      let own = legal_own d legal in
+      let fits = meant_fits d.settings d.own settings own (Ok c) in
+      let short = fits.short in
+      let said = reply_read c (meant_can_be_said d.settings d.own settings own c) (omega arith) fits.has_no_cr in
+      subst (TakenAndRead d p c bs) (sym e) (record { number = refl; taken = refl; device = refl; said = said })
+
+  pub command_reads_back : here.phase ≡ opened
+      → TakenAndRead d p c (command_line c) (received d p (command_line c) room)
+  command_reads_back phase =
+      read_back (command_line c) (command_received d p there room legal enough unmarked none c writable within phase)
+
+  abbrev led_line : List ℕ
+  led_line = leading_digest here.random (set_up_password d.settings) ++ command_line c
+
+  pub command_reads_back_secured : here.phase ≡ awaiting → TakenAndRead d p c led_line (received d p led_line room)
+  command_reads_back_secured phase =
+      read_back led_line (command_received_secured d p there room legal enough unmarked none c writable within phase)
+
+  -- what is written is no refusal, and is read back
+  module _ (memory : ℕ) (lent : command_room ≤ memory) where
+    abbrev Through : WrittenAs → Type 0
+    Through w = (w.number ≡ 0) × TakenAndRead d p c w.bytes (received d p w.bytes room)
+
+    pub written_reads_back : here.phase ≡ opened → (random : ℕ) (password : List ℕ)
+        → Through (written_command c false random password memory)
+    written_reads_back phase random password =
+        subst Through (sym (written_plain c false random password memory lent writable refl))
+        (refl, command_reads_back phase)
+
+    -- the device's own random number and password
+    pub written_reads_back_secured : here.phase ≡ awaiting
+        → Through (written_command c true here.random (set_up_password d.settings) memory)
+    written_reads_back_secured phase =
+        let told = (settings_is d.settings).0 (legal_settings d legal) in
+        subst Through
+        (sym (written_led c true here.random (set_up_password d.settings) memory lent writable refl
+        told.password.follows))
+        (refl, command_reads_back_secured phase)
+
+read_greeting-greeting : (s : Settings) (r : ℕ) → r < 2 ^ 32 → read_greeting (greeting s r) ≡ greeted_on (greeted s r)
+read_greeting-greeting s r word =
+    greeted_by_lem s r (λ g c. read_greeting g ≡ greeted_on c) (secured_heard r word) open_heard
+
+pub opening_greets_back : (d : Device) (r room : ℕ) → is_legal d ≡ true → lowest_shut d.connections < places_count
+    → reply_room ≤ room → r < 2 ^ 32
+    → let o = opened_by d r room in
+    (o.number ≡ 0) × (read_greeting o.reply ≡ greeted_on (connection_at o.device (place_taken d room)))
+opening_greets_back d r room legal free enough word =
+    let p = lowest_shut d.connections in
+    let here = placed_here d (legal_places d legal) p free d.own (greeted d.settings r) in
+    subst (λ (k : ℕ). ((opened_by d r room).number ≡ 0)
+    × (read_greeting (opened_by d r room).reply ≡ greeted_on (connection_at (opened_by d r room).device k)))
+    (sym (opened_lowest d r room legal enough free))
+    (subst (λ (o : Result Device). (o.number ≡ 0)
+    × (read_greeting o.reply ≡ greeted_on (connection_at o.device p))) (sym (opened_greeted d r room legal enough free))
+    (refl, read_greeting-greeting d.settings r word ∙ sym (ap greeted_on here)))
 
 pub writes : (c : Command) (secured : Bool) (random : ℕ) (password m : List ℕ)
     → let w = ours.write c secured random password m in
@@ -76,7 +180,7 @@ module _ (d : Device) (p : ℕ) (c : Command) (paper m : List ℕ) (writable : i
       → let w = ours.write c false random password paper in ByClass ours d p c w (ours.receive d p (bytes_written w) m)
   reads_back random password between =
       on_paper (command_line c) _ (written_plain c false random password (length paper) roomy writable refl)
-      (λ within. taken_and_read d p between.there between.legal
+      (λ within. command_reads_back d p between.there between.legal
       (is_between d p between.there between.legal between.unmarked between.none_held) c writable within (length m)
       enough between.in_phase)
       (λ higher. higher_received d p between.there (length m) between.legal enough between.unmarked between.none_held
@@ -91,7 +195,7 @@ module _ (d : Device) (p : ℕ) (c : Command) (paper m : List ℕ) (writable : i
       let told = (settings_is d.settings).0 (legal_settings d between.legal) in
       on_paper (leading_digest random password ++ command_line c) _
       (written_led c true random password (length paper) roomy writable refl told.password.follows)
-      (λ within. taken_and_read_secured d p between.there between.legal
+      (λ within. command_reads_back_secured d p between.there between.legal
       (is_between d p between.there between.legal between.unmarked between.none_held) c writable within (length m)
       enough between.in_phase)
       (λ higher. higher_received_secured d p between.there (length m) between.legal enough between.unmarked
@@ -108,5 +212,5 @@ greets_back d random m legal q there closed enough word =
     = ⊎_elim (λ (h : lowest_shut cs ≤ q). h)
     (λ (h : q < lowest_shut cs). absurd (false≢true (sym (below_lowest cs q h) ∙ closed)))
     (le_or_lt (lowest_shut cs) q) in
-    let back = greeted-back d random (length m) legal (omega arith) enough word in
-    (back.number, ap read_greeting (over_front (opened_by d random (length m)).reply m) ∙ back.heard)
+    let back = opening_greets_back d random (length m) legal (omega arith) enough word in
+    (back.0, ap read_greeting (over_front (opened_by d random (length m)).reply m) ∙ back.1)

@@ -1,7 +1,7 @@
 -- SETTINGS THAT SURVIVE A BOARD SWAP (RULES, Stored form), over any board: what is stored, what loads, and that the
 -- hours go on. TO BELIEVE IT, believe, and nothing else: the stored form and what is stored of a record
--- (stored/specs/Form); what demand 3 says of a history (Demand3, History); ours/specs/Board, and here Calls. Which
--- bytes load is in demand 1, row by row.
+-- (stored/specs/Form); what demand 3 says of a history (CountsSeconds, History); ours/specs/Board, and here Calls.
+-- Which bytes load is in demand 1, row by row.
 --   LoadsAs B s w ms    the bytes s load, and give the record that the set-up of w gives, with the marks ms
 --   BoardSwap           the theorem
 -- Assumes nothing.
@@ -15,7 +15,7 @@ use Rattle.stored.specs.Loading.{started_with}
 use Rattle.ours.specs.Board.{Board, bytes_written}
 use Rattle.demands.specs.Calls.{Call, run}
 use Rattle.demands.specs.History.{no_streams, history, marks_after, burning, lamp_with}
-use Rattle.demands.specs.Demand3.{Beginning, IsClass1, start_marks, IsAccepted, run_of, history_of}
+use Rattle.demands.specs.CountsSeconds.{Beginning, IsClass1, start_marks, IsAccepted, run_of, history_of}
 
 pub record LoadsAs (B : Board) (s : List ℕ) (w : Wanted) (ms : List Bool) : Type 0 where
   pub accepted : (B.load s).number ≡ 0

@@ -2,11 +2,14 @@
 -- accepted set-up that take a device record, each lent the record the last one returned").
 --   Call            such a call, with what it is lent, at any place (RULES, Places); passing in place is passing
 --   after B d c     the record that the call c returns, lent d
---   number_of B d c the number that it gives
+--   Gave            what a call gives beside the record: the reply is as much of the memory as the length tells, the
+--                   place is what an opening tells; 0 or nothing where there is none
+--   gave_by B d c   what the call c gives so, lent d;    number_of B d c   the number of that
 --   run B d cs      the record after the calls cs
 -- Assumes nothing.
 use Rattle.std.specs.Prelude.{ℕ, Bool, List, [], ◌∷◌}
-use Rattle.ours.specs.Board.{Board}
+use Rattle.record.specs.Given.{Given}
+use Rattle.ours.specs.Board.{Board, Lent}
 
 pub data Call : Type 0 where
   opens : (random : ℕ) (memory : List ℕ) → Call
@@ -16,6 +19,25 @@ pub data Call : Type 0 where
   marks : (fault : Bool) → Call
   reports : (errors : List ℕ) → Call
   enables : (lamp : ℕ) (mark : Bool) → Call
+
+pub record Gave : Type 0 where
+  pub number : ℕ
+  pub taken : ℕ
+  pub place : ℕ
+  pub length : ℕ
+  pub memory : List ℕ
+
+abbrev pub gave_lent : {R : Type 0} → ℕ → Lent R → Gave
+gave_lent place r = record {
+  number = r.number;
+  taken = r.taken;
+  place = place;
+  length = r.length;
+  memory = r.memory;
+}
+
+abbrev pub gave_number : {R : Type 0} → Given R → Gave
+gave_number r = record { number = r.number; taken = 0; place = 0; length = 0; memory = [] }
 
 module _ (B : Board) where
   abbrev pub after : B.Record → Call → B.Record
@@ -27,14 +49,17 @@ module _ (B : Board) where
   after d (reports errors) = (B.set_errors d errors).device
   after d (enables lamp mark) = (B.set_mark d lamp mark).device
 
+  abbrev pub gave_by : B.Record → Call → Gave
+  gave_by d (opens random m) = gave_lent (B.place_opened d random m) (B.opening d random m)
+  gave_by d (closes p) = gave_number (B.closing d p)
+  gave_by d (receives p bs m) = gave_lent 0 (B.receive d p bs m)
+  gave_by d (passes n) = gave_number (B.pass d n)
+  gave_by d (marks fault) = gave_number (B.set_fault d fault)
+  gave_by d (reports errors) = gave_number (B.set_errors d errors)
+  gave_by d (enables lamp mark) = gave_number (B.set_mark d lamp mark)
+
   abbrev pub number_of : B.Record → Call → ℕ
-  number_of d (opens random m) = (B.opening d random m).number
-  number_of d (closes p) = (B.closing d p).number
-  number_of d (receives p bs m) = (B.receive d p bs m).number
-  number_of d (passes n) = (B.pass d n).number
-  number_of d (marks fault) = (B.set_fault d fault).number
-  number_of d (reports errors) = (B.set_errors d errors).number
-  number_of d (enables lamp mark) = (B.set_mark d lamp mark).number
+  number_of d c = (gave_by d c).number
 
   abbrev pub run : B.Record → List Call → B.Record
   run d [] = d

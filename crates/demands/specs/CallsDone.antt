@@ -1,5 +1,5 @@
 -- What an accepted call leaves, whole (RULES, The legal record, Connection and Time): set-up, opening, closing and the
--- host's calls. Receiving is in Demand2, passing time in Demand3.
+-- host's calls. Receiving is in SpeaksPjlink, passing time in CountsSeconds.
 --   OpenedAs B d random p r   the greeting that the password and the lent number give was replied; p is the lowest
 --                             closed place (RULES, Places), and the connection there keeps that number and awaits the
 --                             digest exactly where there is a password; nothing else changed

@@ -3,7 +3,7 @@
 -- TO BELIEVE IT, believe, and nothing else: the form of a line and what a line asks for, as they were
 -- (words/specs/ClassOne, pjlink/specs: ClassOne, ClassOneAsked); what is meant and done (meaning/specs); which bytes
 -- say it (pjlink/specs/Said); the record (record/specs); ours/specs/Board, and here `BetweenLines`, `AnsweredAs`,
--- `digest_for` of Demand2.
+-- `digest_for` of SpeaksPjlink.
 --   asked_as_before l      what a line asked for
 --   line_before s o l      how a line was answered: `%1`, the four body bytes as received, `=`, the parameter, CR; or
 --                          swallowed
@@ -29,7 +29,7 @@ use Rattle.meaning.specs.Meaning.{meant, done}
 use Rattle.device.specs.Answering.{Answered, swallowed}
 use Rattle.device.specs.Calls.{reply_room}
 use Rattle.ours.specs.Board.{Board}
-use Rattle.demands.specs.Demand2.{BetweenLines, AnsweredAs, digest_for}
+use Rattle.demands.specs.SpeaksPjlink.{BetweenLines, AnsweredAs, digest_for}
 
 abbrev pub asked_as_before : List ℕ → Request
 asked_as_before l = request_of_1 (head_body l) (command_parameter l)

@@ -4,10 +4,10 @@ pub mod CallsDone
 pub mod Outsider
 pub mod Unheard
 pub mod Greeted
-pub mod Demand1
-pub mod Demand2
+pub mod KeepsRunning
+pub mod SpeaksPjlink
 pub mod ClassOne
-pub mod Demand3
+pub mod CountsSeconds
 pub mod Interleaved
 pub mod BoardSwap
 pub mod Beside

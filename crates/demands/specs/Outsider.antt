@@ -4,8 +4,8 @@
 --   Session                   what is seen of a connection since it was opened: the random number that this opening was
 --                             lent, the bytes taken since, and the replies to received bytes
 --   unopened                  what is seen of a place that was not opened yet
---   noted B p d s c           the session at place p after the call c: an accepted opening there starts one, receiving
---                             there goes on with it
+--   noted_of p s c g          the session at place p after the call c, which gave g: an accepted opening there starts
+--                             one, receiving there goes on with it;    noted B p d s c   where it was lent d
 --   session_after B p d s cs  the session after the calls cs
 --   first_line bs             the bytes before the first CR
 --   is_matched password s     the session's first line has ended, and is led by the digest of the session's number
@@ -24,8 +24,8 @@ use Rattle.text.specs.Words.{◌is◌}
 use Rattle.words.specs.Bytes.{no_cr}
 use Rattle.pjlink.specs.Forms.{erra_line}
 use Rattle.device.specs.Receiving.{is_led_by}
-use Rattle.ours.specs.Board.{Board, Lent, reply}
-use Rattle.demands.specs.Calls.{Call, opens, closes, receives, after, run}
+use Rattle.ours.specs.Board.{Board}
+use Rattle.demands.specs.Calls.{Call, opens, closes, receives, Gave, gave_by, after, run}
 
 -- ---- what is seen of a connection
 
@@ -40,21 +40,21 @@ opened_with random = record { random = random; taken = []; replied = [] }
 abbrev pub unopened : Session
 unopened = opened_with 0
 
-abbrev pub goes_on : {R : Type 0} → Session → List ℕ → Lent R → Session
-goes_on s bs r = record {
-  random = s.random;
-  taken = s.taken ++ take r.taken bs;
-  replied = s.replied ++ reply r;
-}
+module _ (p : ℕ) where
+  -- a refused call counts as nothing, and so does one at another place
+  abbrev pub noted_of : Session → Call → Gave → Session
+  noted_of s (opens random m) g = if g.number == 0 && g.place == p then opened_with random else s
+  noted_of s (receives q bs m) g =
+      if g.number == 0 && q == p then record {
+        random = s.random;
+        taken = s.taken ++ take g.taken bs;
+        replied = s.replied ++ take g.length g.memory;
+      } else s
+  noted_of s c g = s
 
 module _ (B : Board) (p : ℕ) where
-  -- a refused call counts as nothing, and so does one at another place
   abbrev pub noted : B.Record → Session → Call → Session
-  noted d s (opens random m) =
-      if (B.opening d random m).number == 0 && B.place_opened d random m == p then opened_with random else s
-  noted d s (receives q bs m) =
-      if (B.receive d q bs m).number == 0 && q == p then goes_on s bs (B.receive d q bs m) else s
-  noted d s c = s
+  noted d s c = noted_of p s c (gave_by B d c)
 
   abbrev pub session_after : B.Record → Session → List Call → Session
   session_after d s [] = s

@@ -6,9 +6,6 @@
 --   is_opening c, opens_none cs    the call c opens; no call of cs does
 --   phase_at B p d                 the phase of place p
 --   QuietOnceApart B p d e xs ys   from any moment at which the two runs differ in the phase of place p, nobody opens
---   Gave                           what a call gives beside the record: the reply is as much of the memory as the
---                                  length tells, the place is what an opening tells; 0 or nothing where there is none
---   gave_by B d c                  what the call c gives so, lent d
 --   is_at_place p c                closing or receiving at place p: what it gives is that place's own answer
 --   others_got B p d cs            what the calls cs give, one after another, those at place p left out
 --   SameElsewhere B p d e          the device part, and every other place's connection, are the same
@@ -26,9 +23,8 @@ use Rattle.record.specs.Wanted.{Wanted}
 use Rattle.record.specs.Places.{connection_at}
 use Rattle.device.specs.Receiving.{set_up_password}
 use Rattle.device.specs.Calls.{has_password}
-use Rattle.ours.specs.Board.{Board, Lent}
-use Rattle.record.specs.Given.{Given}
-use Rattle.demands.specs.Calls.{Call, opens, closes, receives, passes, marks, reports, enables, after, run}
+use Rattle.ours.specs.Board.{Board}
+use Rattle.demands.specs.Calls.{Call, opens, closes, receives, after, run, Gave, gave_by}
 use Rattle.demands.specs.Outsider.{unopened, IsNeverMatched, SameDevicePart}
 
 -- ---- the two runs
@@ -61,35 +57,6 @@ QuietOnceApart B p d e [] ys = Unit {0}
 QuietOnceApart B p d e (a ∷ xs) [] = Unit {0}
 
 -- ---- what others get
-
-pub record Gave : Type 0 where
-  pub number : ℕ
-  pub taken : ℕ
-  pub place : ℕ
-  pub length : ℕ
-  pub memory : List ℕ
-
-abbrev pub gave_lent : {R : Type 0} → ℕ → Lent R → Gave
-gave_lent place r = record {
-  number = r.number;
-  taken = r.taken;
-  place = place;
-  length = r.length;
-  memory = r.memory;
-}
-
-abbrev pub gave_number : {R : Type 0} → Given R → Gave
-gave_number r = record { number = r.number; taken = 0; place = 0; length = 0; memory = [] }
-
-module _ (B : Board) where
-  abbrev pub gave_by : B.Record → Call → Gave
-  gave_by d (opens random m) = gave_lent (B.place_opened d random m) (B.opening d random m)
-  gave_by d (closes p) = gave_number (B.closing d p)
-  gave_by d (receives p bs m) = gave_lent 0 (B.receive d p bs m)
-  gave_by d (passes n) = gave_number (B.pass d n)
-  gave_by d (marks fault) = gave_number (B.set_fault d fault)
-  gave_by d (reports errors) = gave_number (B.set_errors d errors)
-  gave_by d (enables lamp mark) = gave_number (B.set_mark d lamp mark)
 
 abbrev pub is_at_place : ℕ → Call → Bool
 is_at_place p (closes q) = q == p

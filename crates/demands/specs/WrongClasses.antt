@@ -1,4 +1,4 @@
--- Wrong boards against demand 2, as to the class (RULES, Class 2); proofs/WrongClassesFall.antt has where each falls.
+-- Wrong boards against demand 2, as to the class (RULES, Class 2); proofs/WrongBoardsFall.antt has where each falls.
 -- Assumes nothing.
 use Rattle.std.specs.Prelude.{◌&&◌, ◌++◌, take, drop, if◌then◌else◌, ◌==◌, codes}
 use Rattle.text.specs.Words.{◌is◌}

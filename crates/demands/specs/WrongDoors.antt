@@ -1,4 +1,4 @@
--- Wrong boards against demand 2, as to who is let in and what the other calls do; proofs/WrongDoorsFall.antt has where
+-- Wrong boards against demand 2, as to who is let in and what the other calls do; proofs/WrongBoardsFall.antt has where
 -- each falls.
 --   secured_sample    the sample set-up, with the password of the specification's example
 -- Assumes nothing.

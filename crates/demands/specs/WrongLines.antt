@@ -1,5 +1,5 @@
 -- Wrong boards against demand 2, as to lines, their cuts and their reading (RULES, What the product holds and
--- "Readings that look right"); proofs/WrongLinesFall.antt has where each falls.
+-- "Readings that look right"); proofs/WrongBoardsFall.antt has where each falls.
 -- Assumes nothing.
 use Rattle.std.specs.Prelude.{ℕ, suc, not, ◌&&◌, List, [], ◌∷◌, ◌++◌, map, length, take, drop, if◌then◌else◌, codes}
 use Rattle.text.specs.Scans.{same_by, itself}

@@ -1,5 +1,5 @@
 -- Wrong boards against RULES, Places: each lets someone without the password have a say beyond his own place;
--- proofs/WrongOutsidersFall.antt has where each falls.
+-- proofs/WrongBoardsFall.antt has where each falls.
 --   fails_now d p e      the connection at place p was awaiting in d, and has failed in e
 --   on_failure change    our board, but where a log-in fails the record is changed so
 -- Assumes nothing.

@@ -6,9 +6,9 @@ pub mod theorems;
 pub mod wrong_boards;
 
 ghost use Rattle.ours.specs.Board.{ours};
-ghost use Rattle.demands.specs.Demand1.{Demand1};
-ghost use Rattle.demands.specs.Demand2.{Demand2};
-ghost use Rattle.demands.specs.Demand3.{Demand3};
+ghost use Rattle.demands.specs.KeepsRunning.{KeepsRunning};
+ghost use Rattle.demands.specs.SpeaksPjlink.{SpeaksPjlink};
+ghost use Rattle.demands.specs.CountsSeconds.{CountsSeconds};
 ghost use Rattle.demands.specs.Interleaved.{Interleaved};
 ghost use Rattle.demands.specs.Unheard.{Unheard};
 ghost use Rattle.demands.specs.BoardSwap.{BoardSwap};
@@ -17,9 +17,9 @@ ghost use Rattle.demands.specs.Beside.{RandomKept, UnheardThroughout, UnheardAny
 
 // Nothing is done: that it has this contract is that the theorems stand.
 pub fn ours_keeps_the_demands()
-    ensures stays_inside { Demand1 ours }
-    ensures speaks_pjlink { Demand2 ours }
-    ensures time_adds { Demand3 ours }
+    ensures keeps_running { KeepsRunning ours }
+    ensures speaks_pjlink { SpeaksPjlink ours }
+    ensures counts_seconds { CountsSeconds ours }
     ensures places_stand { Interleaved ours }
     ensures outsider_unheard { Unheard ours }
     ensures survives_a_swap { BoardSwap ours }

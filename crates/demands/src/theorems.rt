@@ -13,7 +13,7 @@ ghost use Rattle.controller.specs.Reading.{read_reply, without, erra_said};
 ghost use Rattle.ours.specs.Board.{ours, reply};
 ghost use Rattle.demands.specs.Calls.{run, after, opens, receives};
 ghost use Rattle.demands.specs.ClassOne.{longest_before};
-ghost use Rattle.demands.specs.Demand3.{sets_up, run_of};
+ghost use Rattle.demands.specs.CountsSeconds.{sets_up, run_of};
 ghost use Rattle.demands.specs.Interleaved.{heard};
 ghost use Rattle.demands.specs.Outsider.{unopened, IsNeverMatched};
 ghost use Rattle.demands.specs.Sample.{sockets, long_named, memory, with_cr, opened_after, two_opened, halves};

@@ -1,8 +1,8 @@
 // The wrong boards, each ours but for what the clause's name says of it: none keeps what it was made against. Nothing
 // is done here: that these functions have their contracts is that the boards fall.
-ghost use Rattle.demands.specs.Demand1.{Demand1};
-ghost use Rattle.demands.specs.Demand2.{Demand2};
-ghost use Rattle.demands.specs.Demand3.{Demand3, TimeAdds};
+ghost use Rattle.demands.specs.KeepsRunning.{KeepsRunning};
+ghost use Rattle.demands.specs.SpeaksPjlink.{SpeaksPjlink};
+ghost use Rattle.demands.specs.CountsSeconds.{CountsSeconds, TimeAdds};
 ghost use Rattle.demands.specs.Interleaved.{Interleaved};
 ghost use Rattle.demands.specs.Unheard.{Unheard};
 ghost use Rattle.demands.specs.WrongRefusals.{writes_first, changes_refused};
@@ -20,39 +20,39 @@ ghost use Rattle.demands.specs.WrongLamps.{burns_all_lamps, counts_disabled, for
 
 /// Demand 1: what a refusal leaves.
 pub fn wrong_refusals_fall()
-    ensures writes_before_it_refuses { Demand1 writes_first → ⊥ }
-    ensures changes_the_record_it_refuses { Demand1 changes_refused → ⊥ }
+    ensures writes_before_it_refuses { KeepsRunning writes_first → ⊥ }
+    ensures changes_the_record_it_refuses { KeepsRunning changes_refused → ⊥ }
 {}
 
 /// Demand 2: lines, their cuts and their reading.
 pub fn wrong_lines_fall()
-    ensures drops_every_line { Demand2 drops_all → ⊥ }
-    ensures says_ok_to_every_line { Demand2 ok_to_all → ⊥ }
-    ensures refuses_every_line { Demand2 refuses_all → ⊥ }
-    ensures makes_up_the_length { Demand2 made_up_length → ⊥ }
-    ensures makes_up_the_count_taken { Demand2 made_up_taken → ⊥ }
-    ensures echoes_in_upper_case { Demand2 upper_cases → ⊥ }
-    ensures forgets_what_it_collected { Demand2 forgets_at_nothing → ⊥ }
-    ensures reads_other_names_as_empty { Demand2 others_nameless → ⊥ }
+    ensures drops_every_line { SpeaksPjlink drops_all → ⊥ }
+    ensures says_ok_to_every_line { SpeaksPjlink ok_to_all → ⊥ }
+    ensures refuses_every_line { SpeaksPjlink refuses_all → ⊥ }
+    ensures makes_up_the_length { SpeaksPjlink made_up_length → ⊥ }
+    ensures makes_up_the_count_taken { SpeaksPjlink made_up_taken → ⊥ }
+    ensures echoes_in_upper_case { SpeaksPjlink upper_cases → ⊥ }
+    ensures forgets_what_it_collected { SpeaksPjlink forgets_at_nothing → ⊥ }
+    ensures reads_other_names_as_empty { SpeaksPjlink others_nameless → ⊥ }
 {}
 
 /// Demand 2: the class of the set-up.
 pub fn wrong_classes_fall()
-    ensures answers_class_2_in_class_1 { Demand2 answers_class_2 → ⊥ }
-    ensures refuses_an_input_with_a_letter { Demand2 refuses_letters → ⊥ }
-    ensures wraps_the_volume { Demand2 volume_wraps → ⊥ }
+    ensures answers_class_2_in_class_1 { SpeaksPjlink answers_class_2 → ⊥ }
+    ensures refuses_an_input_with_a_letter { SpeaksPjlink refuses_letters → ⊥ }
+    ensures wraps_the_volume { SpeaksPjlink volume_wraps → ⊥ }
 {}
 
 /// Demand 2: who is let in, and calls that do nothing.
 pub fn wrong_doors_fall()
-    ensures forgets_the_password { Demand2 forgets_password → ⊥ }
-    ensures ignores_the_password { Demand2 ignores_password → ⊥ }
-    ensures greets_with_zero { Demand2 greets_with_zero → ⊥ }
-    ensures lets_in_who_waits { Demand2 time_opens → ⊥ }
-    ensures lets_in_who_failed { Demand2 failed_answers → ⊥ }
-    ensures never_closes { Demand2 never_closes → ⊥ }
-    ensures hides_the_fault { Demand2 hides_faults → ⊥ }
-    ensures hides_the_errors { Demand2 hides_errors → ⊥ }
+    ensures forgets_the_password { SpeaksPjlink forgets_password → ⊥ }
+    ensures ignores_the_password { SpeaksPjlink ignores_password → ⊥ }
+    ensures greets_with_zero { SpeaksPjlink greets_with_zero → ⊥ }
+    ensures lets_in_who_waits { SpeaksPjlink time_opens → ⊥ }
+    ensures lets_in_who_failed { SpeaksPjlink failed_answers → ⊥ }
+    ensures never_closes { SpeaksPjlink never_closes → ⊥ }
+    ensures hides_the_fault { SpeaksPjlink hides_faults → ⊥ }
+    ensures hides_the_errors { SpeaksPjlink hides_errors → ⊥ }
 {}
 
 /// An outsider is unheard.
@@ -64,21 +64,21 @@ pub fn wrong_outsiders_fall()
 
 /// Demand 3: the clock. One that stands still obeys the adding law, and falls to the history.
 pub fn wrong_clocks_fall()
-    ensures stands_still { Demand3 still_clock → ⊥ }
+    ensures stands_still { CountsSeconds still_clock → ⊥ }
     ensures standing_still_adds { TimeAdds still_clock }
-    ensures counts_the_first_session_only { Demand3 first_only → ⊥ }
-    ensures drops_the_part_hour { Demand3 drops_part_hour → ⊥ }
+    ensures counts_the_first_session_only { CountsSeconds first_only → ⊥ }
+    ensures drops_the_part_hour { CountsSeconds drops_part_hour → ⊥ }
 {}
 
 /// Demand 3, and lines that are interleaved: four places.
 pub fn wrong_places_fall()
-    ensures forgets_power_set_elsewhere { Demand3 forgets_others_power → ⊥ }
+    ensures forgets_power_set_elsewhere { CountsSeconds forgets_others_power → ⊥ }
     ensures collects_all_in_one_line { Interleaved one_line_for_all → ⊥ }
 {}
 
 /// Demand 3: lamps and their marks.
 pub fn wrong_lamps_fall()
-    ensures burns_all_lamps { Demand3 burns_all_lamps → ⊥ }
-    ensures counts_a_disabled_lamp { Demand3 counts_disabled → ⊥ }
-    ensures forgets_a_mark { Demand3 forgets_marks → ⊥ }
+    ensures burns_all_lamps { CountsSeconds burns_all_lamps → ⊥ }
+    ensures counts_a_disabled_lamp { CountsSeconds counts_disabled → ⊥ }
+    ensures forgets_a_mark { CountsSeconds forgets_marks → ⊥ }
 {}

@@ -17,12 +17,10 @@ use Rattle.record.specs.Places.{connection_at, with_place, is_shut, lowest_shut}
 use Rattle.record.specs.declared.types.Settings.{Settings}
 use Rattle.record.specs.declared.types.Connection.{Connection}
 use Rattle.record.specs.declared.types.Device.{Device}
-use Rattle.device.specs.Receiving.{Taken, begun_in}
-use Rattle.device.specs.Receiving.{taken_in}
-use Rattle.device.specs.Calls.{Result, refused_by, made, reply_room, accepted_taken}
-use Rattle.device.specs.Calls.{receiving_rows, opening_rows, closing_rows}
-use Rattle.device.specs.Calls.{received, has_password, greeting, greeted, accepted_opening, opened_by, place_taken}
-use Rattle.device.specs.Calls.{closed_by}
+use Rattle.device.specs.Receiving.{Taken, begun_in, taken_in}
+use Rattle.device.specs.Calls.{Result, refused_by, made, reply_room, accepted_taken, receiving_rows, opening_rows}
+use Rattle.device.specs.Calls.{closing_rows, received, has_password, greeting, greeted, accepted_opening, opened_by}
+use Rattle.device.specs.Calls.{place_taken, closed_by}
 
 abbrev pub takes : Device → ℕ → List ℕ → Taken
 takes d p bs = taken_in d.settings d.own (connection_at d p) bs
@@ -145,3 +143,5 @@ module _ (d : Device) (p : ℕ) where
   unfolding closed_by
   closed-made legal there live =
       rows_done (λ n. refused_by n d) _ (closing_rows d p) (ap not legal, (lt-leb places_count p there, (live, tt)))
+
+pub ruleset greetings = (secured_greeting, secured_greeted, open_greeting, open_greeted)

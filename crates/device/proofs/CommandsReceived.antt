@@ -100,9 +100,7 @@ module _ (d : Device) (p : ℕ) (there : p < places_count) (room : ℕ) (legal :
 
   module _ (writable : is_command k ≡ true) (within : command_class k ≤ d.settings.class_number) where
     answers : (n : ℕ) → spoken_after n answered ≡ command_result d p k n
-    answers n =
-        ap (spoken_after n)
-        (command_answered d.settings d.own (legal_settings d legal) k writable within)
+    answers n = grind (arith, command_answered, legal_settings)
 
     pub command_received : c.phase ≡ opened
         → received d p (command_line k) room ≡ command_result d p k (length (command_line k))

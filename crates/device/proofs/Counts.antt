@@ -1,9 +1,8 @@
--- How many bytes a call takes, in list_all phase (RULES, Connection): up to and including the first CR, or all of them;
--- no
+-- How many bytes a call takes, in any phase (RULES, Connection): up to and including the first CR, or all of them; no
 -- bytes change nothing.
 -- Assumes nothing.
 use Rattle.std.specs.List.{list_all}
-use Rattle.std.proofs.Common.{ℕ, ◌+◌, ◌≤◌, ◌≡◌, refl, ap, ◌∙◌, true, List, [], ◌∷◌, ◌++◌, arith, length, ◌==◌}
+use Rattle.std.proofs.Common.{ℕ, ◌+◌, ◌≤◌, ◌≡◌, refl, true, List, [], ◌∷◌, ◌++◌, arith, length, ◌==◌}
 use Prim.Native.Char.{code}
 use Rattle.text.proofs.Choices.{if_all}
 use Rattle.words.specs.Bytes.{not_cr}
@@ -14,11 +13,10 @@ use Rattle.record.specs.declared.types.Settings.{Settings}
 use Rattle.record.specs.declared.types.Own.{Own}
 use Rattle.record.specs.declared.types.Connection.{Connection}
 use Rattle.record.specs.declared.types.Device.{Device}
-use Rattle.stream.specs.declared.Gathered.{Gathered}
 use Rattle.stream.proofs.LinesSpelt.{gathered_none}
 use Rattle.stream.proofs.GatheredOn.{gathered_within, gathered-ended, plain_gathered}
 use Rattle.stream.proofs.LinesCollected.{gathered-append}
-use Rattle.device.specs.Receiving.{Taken, no_reply, keeping_line, taken_of, taken_in}
+use Rattle.device.specs.Receiving.{no_reply, keeping_line, taken_in}
 use Rattle.device.specs.Calls.{received}
 use Rattle.device.proofs.Cases.{received_by}
 use Rattle.device.proofs.LineCases.{taken-line, taken_part, taken_by}
@@ -28,17 +26,11 @@ module _ (s : Settings) (o : Own) (c : Connection) where
   most = held_most c.phase
 
   pub all_taken : (bs : List ℕ) → list_all not_cr bs ≡ true → (taken_in s o c bs).taken ≡ length bs
-  all_taken bs e =
-      let g = plain_gathered most c.line bs e in
-      ap (λ (t : Taken). t.taken) (taken_part s o c bs (ap (λ (h : Gathered). h.ended) g))
-      ∙ ap (λ (h : Gathered). h.before) g
+  all_taken bs e = grind (arith, plain_gathered, taken_part)
 
   pub line_taken : (xs more : List ℕ) → list_all not_cr xs ≡ true
       → (taken_in s o c (xs ++ (code "\r" ∷ more))).taken ≡ length xs + 1
-  line_taken xs more e =
-      let g = gathered-append most c.line xs more e in
-      ap (λ (t : Taken). t.taken) (taken-line s o c (xs ++ (code "\r" ∷ more)) (ap (λ (h : Gathered). h.ended) g))
-      ∙ ap (λ (h : Gathered). h.before + 1) g
+  line_taken xs more e = grind (arith, gathered-append, taken-line)
 
   pub taken_within : (bs : List ℕ) → (taken_in s o c bs).taken ≤ length bs
   taken_within bs =
@@ -51,11 +43,11 @@ module _ (s : Settings) (o : Own) (c : Connection) where
 
   pub nothing_taken : taken_in s o c [] ≡ record { ended = no_reply o c; taken = 0 }
   unfolding taken_in
-  nothing_taken =
-      ap (taken_of s o c) (gathered_none most c.line)
-      ∙ ap {B = Taken} (λ (k : Connection). record { ended = no_reply o k; taken = 0 }) keeps_itself
+  nothing_taken = grind (arith, gathered_none, keeps_itself)
 
 pub received_within : (d : Device) (p : ℕ) (bs : List ℕ) (room : ℕ) → (received d p bs room).taken ≤ length bs
 received_within d p bs room =
     received_by d p bs room (λ r. r.taken ≤ length bs) (λ n z. omega arith)
     (λ h s t c. taken_within d.settings d.own (connection_at d p) bs)
+
+pub ruleset counts = (all_taken, line_taken, nothing_taken)

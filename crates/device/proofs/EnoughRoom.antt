@@ -1,12 +1,11 @@
 -- More reply memory than a call asks for changes nothing; closing has no reply.
 -- Assumes nothing.
-use Rattle.std.proofs.Common.{ℕ, ◌≤◌, ◌≡◌, refl, sym, ap, ◌∙◌, Bool, not, List, [], ◌∷◌, arith, nat_lt, le-ltb}
+use Rattle.std.proofs.Common.{ℕ, ◌≤◌, ◌≡◌, refl, not, List, [], ◌∷◌, arith, nat_lt, le-ltb}
 use Rattle.text.specs.Rows.{Row, ◌when◌, by_rows}
 use Rattle.record.specs.Legal.{is_legal}
 use Rattle.record.specs.Places.{connection_at, is_shut, lowest_shut}
 use Rattle.record.specs.declared.types.Device.{Device}
-use Rattle.device.specs.Calls.{Result, refused_by, reply_room, is_no_place, received}
-use Rattle.device.specs.Calls.{opened_by, place_taken, closed_by}
+use Rattle.device.specs.Calls.{Result, refused_by, reply_room, is_no_place, received, opened_by, place_taken, closed_by}
 use Rattle.device.proofs.Cases.{closed_by_lem}
 
 module _ (d : Device) (room : ℕ) (enough : reply_room ≤ room) where
@@ -14,9 +13,7 @@ module _ (d : Device) (room : ℕ) (enough : reply_room ≤ room) where
   by_rows-cons : {R : Type 0} (refuse : ℕ → R) (rows : List Row) (done : R)
       → by_rows ((1 when not (is_legal d)) ∷ (2 when nat_lt reply_room reply_room) ∷ rows) refuse done
       ≡ by_rows ((1 when not (is_legal d)) ∷ (2 when nat_lt room reply_room) ∷ rows) refuse done
-  by_rows-cons refuse rows done =
-      ap (λ (t : Bool). by_rows ((1 when not (is_legal d)) ∷ (2 when t) ∷ rows) refuse done)
-      (le-ltb reply_room reply_room (omega arith) ∙ sym (le-ltb room reply_room enough))
+  by_rows-cons refuse rows done = grind (arith, le-ltb)
 
   pub opened_room : (r : ℕ) → opened_by d r reply_room ≡ opened_by d r room
   unfolding opened_by
@@ -33,3 +30,5 @@ module _ (d : Device) (room : ℕ) (enough : reply_room ≤ room) where
 
 pub closing_quiet : (d : Device) (p : ℕ) → (closed_by d p).reply ≡ []
 closing_quiet d p = closed_by_lem d p (λ (x : Result Device). x.reply ≡ []) (λ n z. refl) (λ h t c. refl)
+
+pub ruleset enough_room = (opened_room, place_room, received_room)

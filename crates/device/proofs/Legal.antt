@@ -3,7 +3,6 @@
 use Rattle.std.proofs.Common.{ℕ, zero, suc, ◌≤◌, ◌≡◌, refl, true, List, arith, ◌==◌}
 use Rattle.std.proofs.lemmas.Bool.{eqb-false}
 use Rattle.text.proofs.Choices.{if_all, if_by}
-use Rattle.pjlink.specs.Forms.{is_command_form}
 use Rattle.record.specs.Limits.{shut, awaiting, opened, failed}
 use Rattle.record.specs.Updates.{with_line}
 use Rattle.record.specs.Legal.{is_collecting, is_settings, is_own, is_connection, is_legal}
@@ -13,14 +12,13 @@ use Rattle.record.specs.declared.types.Own.{Own}
 use Rattle.record.specs.declared.types.Line.{Line}
 use Rattle.record.specs.declared.types.Connection.{Connection}
 use Rattle.record.specs.declared.types.Device.{Device}
-use Rattle.record.proofs.LegalTold.{legal_settings, legal_own, legal_connections, legal_connection}
-use Rattle.record.proofs.LegalTold.{legal_by_parts}
+use Rattle.record.proofs.LegalTold.{legal_settings, legal_own, legal_connections, legal_connection, legal_by_parts}
 use Rattle.record.proofs.ConnectionsTold.{placed_legal}
 use Rattle.record.proofs.ConnectionTold.{ConnectionTold, connection_told, connection_shown, zero_age, closed_legal}
 use Rattle.stream.proofs.LegalLines.{LegalLine, empty_legal, gathered_legal}
 use Rattle.meaning.proofs.Done.{done_legal}
 use Rattle.device.specs.Ready.{IsReady}
-use Rattle.device.specs.Answering.{Answered, line_asks, line_answer}
+use Rattle.device.specs.Answering.{line_answer}
 use Rattle.device.specs.Receiving.{turned, line_ended, keeping_line, taken_in}
 use Rattle.device.specs.Calls.{Result, has_password, greeted, received, opened_by, closed_by}
 use Rattle.device.proofs.Cases.{received_by, opened_by_lem, closed_by_lem}
@@ -36,10 +34,7 @@ collecting (suc (suc (suc p))) h n m = absurd (m (omega arith))
 -- connections
 module _ (c : Connection) where
   pub is_connection-turned : (phase : ℕ) → phase ≤ failed → (phase ≡ shut → ⊥) → is_connection (turned c phase) ≡ true
-  is_connection-turned phase h n =
-      let e = empty_legal phase in
-      connection_shown (turned c phase)
-      (record { line = e.kept; phase = h; age = zero_age phase; random = λ z. absurd (n z); held = e.held })
+  is_connection-turned phase h n = grind (arith, empty_legal, connection_shown, zero_age)
 
   module _ (legal : is_connection c ≡ true) where
     abbrev known : ConnectionTold c
@@ -75,9 +70,7 @@ parts_ready d legal = record { settings = legal_settings d legal; own = legal_ow
 module _ (s : Settings) (o : Own) (settings : is_settings s ≡ true) (own : is_own s o ≡ true) where
   pub is_own-line_answer : (l : List ℕ) → is_own s (line_answer s o l).own ≡ true
   unfolding line_answer
-  is_own-line_answer l =
-      if_all (λ (a : Answered). is_own s a.own ≡ true) (is_command_form s.class_number l)
-      (done_legal s o settings own (line_asks l)) own
+  is_own-line_answer l = grind (arith, if_all, done_legal)
 
   module _ (c : Connection) where
     pub is_own-line_ended : (l : Line) → is_own s (line_ended s o c l).own ≡ true
@@ -118,9 +111,7 @@ module _ (d : Device) (legal : is_legal d ≡ true) where
   -- the device with a legal own part, and a legal connection at a place
   placed : (o : Own) (p : ℕ) (c : Connection) → is_own d.settings o ≡ true → is_connection c ≡ true
       → is_legal (with_place d o p c) ≡ true
-  placed o p c own one =
-      legal_by_parts (with_place d o p c) (legal_settings d legal) own
-      (placed_legal d.connections (legal_connections d legal) p c one)
+  placed o p c own one = grind (arith, legal_by_parts, legal_settings, placed_legal, legal_connections)
 
   pub receiving_legal : (p : ℕ) (bs : List ℕ) (room : ℕ) → is_legal (received d p bs room).device ≡ true
   receiving_legal p bs room =

@@ -4,7 +4,6 @@ pub mod EnoughRoom
 pub mod Refusals
 pub mod Numbers
 pub mod Counts
-pub mod Results
 pub mod Untouched
 pub mod Legal
 pub mod Illegal
@@ -17,6 +16,5 @@ pub mod WholeLines
 pub mod CommandsReceived
 pub mod FirstLines
 pub mod LinesReceived
-pub mod PowerRequests
 pub mod PowerLines
 pub mod Histories

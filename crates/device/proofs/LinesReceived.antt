@@ -4,12 +4,11 @@
 --   line_result d p a n    the result at place p where the line is answered a and n bytes are taken
 -- Assumes nothing.
 use Rattle.std.specs.List.{list_all}
-use Rattle.std.proofs.Common.{ℕ, ◌+◌, ◌≤◌, ◌<◌, ◌≡◌, ap, ◌∙◌, true, false, List, [], ◌∷◌, ◌++◌, arith, length, ◌==◌}
+use Rattle.std.proofs.Common.{ℕ, ◌+◌, ◌≤◌, ◌<◌, ◌≡◌, ap, true, false, List, ◌∷◌, ◌++◌, arith, length, ◌==◌}
 use Rattle.std.proofs.Common.{codes}
 use Prim.Native.Char.{code}
 use Rattle.digest.specs.Hex.{leading_digest}
-use Rattle.words.specs.Bytes.{not_cr, no_cr}
-use Rattle.words.specs.Bytes.{command_most}
+use Rattle.words.specs.Bytes.{not_cr, no_cr, command_most}
 use Rattle.words.proofs.Characters.{no_cr_each}
 use Rattle.record.specs.Limits.{places_count, shut, awaiting, opened}
 use Rattle.record.specs.Legal.{held_most, is_legal}
@@ -20,12 +19,11 @@ use Rattle.record.specs.declared.types.Connection.{Connection}
 use Rattle.record.specs.declared.types.Device.{Device}
 use Rattle.record.proofs.LegalTold.{legal_connection}
 use Rattle.record.proofs.ConnectionTold.{held_most_opened}
-use Rattle.stream.specs.declared.Gathered.{Gathered}
 use Rattle.stream.specs.Collecting.{empty_line, overlong_line, gathered}
 use Rattle.stream.proofs.LinesSpelt.{overlong_marked}
 use Rattle.stream.proofs.LinesCollected.{empty_is_none, overlong_gathered}
 use Rattle.device.specs.Answering.{Answered, line_answer, swallowed}
-use Rattle.device.specs.Receiving.{Ended, Taken, spoken, digest_long, set_up_password, line_ended, taken_in}
+use Rattle.device.specs.Receiving.{spoken, digest_long, set_up_password, taken_in}
 use Rattle.device.specs.Calls.{Result, reply_room, accepted_taken, received}
 use Rattle.device.proofs.Cases.{received_taken}
 use Rattle.device.proofs.LineCases.{ended_overlong, taken-line}
@@ -41,18 +39,11 @@ module _ (s : Settings) (o : Own) (c : Connection) (empty : c.line ≡ empty_lin
 
   gathered-held_most : gathered (held_most c.phase) c.line bytes
       ≡ record { line = overlong_line; before = length xs; ended = true }
-  gathered-held_most =
-      (λ i. gathered ((ap held_most phase ∙ held_most_opened) i) ((empty ∙ empty_is_none) i) bytes)
-      ∙ overlong_gathered command_most [] xs rest (omega arith) (omega arith) (omega arith) plain
+  gathered-held_most = grind (arith, held_most_opened, empty, empty_is_none, overlong_gathered)
 
   pub overlong_line-taken : taken_in s o c bytes
       ≡ record { ended = spoken c (swallowed o); taken = length xs + 1 }
-  overlong_line-taken =
-      taken-line s o c bytes (ap (λ (g : Gathered). g.ended) gathered-held_most)
-      ∙ ap {B = Taken} (λ (g : Gathered). record { ended = line_ended s o c g.line; taken = g.before + 1 })
-      gathered-held_most
-      ∙ ap {B = Taken} (λ (e : Ended). record { ended = e; taken = length xs + 1 })
-      (ended_overlong s o c overlong_line phase overlong_marked)
+  overlong_line-taken = grind (arith, taken-line, gathered-held_most, ended_overlong, overlong_marked)
 
 abbrev pub line_result : Device → ℕ → Answered → ℕ → Result Device
 line_result d p a n = accepted_taken d p (record { ended = spoken (connection_at d p) a; taken = n })
@@ -76,16 +67,11 @@ module _ (d : Device) (p : ℕ) (there : p < places_count) (room : ℕ) (legal :
 
     pub line-received : length l ≤ command_most
         → received d p (l ++ codes "\r") room ≡ line_result d p (line_answer d.settings d.own l) (length l + 1)
-    line-received short =
-        open_takes
-        ∙ ap (accepted_taken d p) (open_line-taken d.settings d.own c empty [] l phase short plainly)
+    line-received short = grind (arith, open_takes, open_line-taken, empty, plainly)
 
     pub overlong-line-received : command_most < length l
         → received d p (l ++ codes "\r") room ≡ line_result d p (swallowed d.own) (length l + 1)
-    overlong-line-received long =
-        open_takes
-        ∙ ap (accepted_taken d p)
-        (overlong_line-taken d.settings d.own c empty phase l [] long plainly)
+    overlong-line-received long = grind (arith, open_takes, overlong_line-taken, empty, plainly)
 
   abbrev digest : List ℕ
   digest = leading_digest c.random (set_up_password d.settings)
@@ -93,7 +79,4 @@ module _ (d : Device) (p : ℕ) (there : p < places_count) (room : ℕ) (legal :
   pub led_line-received : c.phase ≡ awaiting → length l ≤ command_most
       → received d p (digest ++ l ++ codes "\r") room
       ≡ line_result d p (line_answer d.settings d.own l) (digest_long + length l + 1)
-  led_line-received phase short =
-      received_taken d p (digest ++ l ++ codes "\r") room legal enough there (ap (λ (q : ℕ). q == shut) phase)
-      ∙ ap (accepted_taken d p)
-      (matching_line-taken d.settings d.own c empty [] l phase short plainly)
+  led_line-received phase short = grind (arith, received_taken, matching_line-taken, empty, plainly)

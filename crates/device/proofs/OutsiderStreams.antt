@@ -2,14 +2,13 @@
 -- bytes are cut: until the connection closes he gets the refusal line once his first line ends, and nothing else
 -- (demand 2: "a first line without the matching digest yields the refusal line only").
 -- Assumes nothing.
-use Rattle.std.proofs.Common.{ℕ, ◌≤◌, ◌<◌, ◌≡◌, refl, sym, ap, ◌∙◌, ◌+◌, Bool, true, false, List, [], ◌∷◌, arith}
-use Rattle.std.proofs.Common.{drop, drop_of_length-le, ◌==◌}
+use Rattle.std.proofs.Common.{ℕ, ◌≤◌, ◌<◌, ◌≡◌, refl, sym, ap, ◌∙◌, ◌+◌, Bool, true, false, List, [], ◌∷◌, arith, drop}
+use Rattle.std.proofs.Common.{drop_of_length-le}
 use Prim.Native.Char.{code}
 use Rattle.std.specs.Prelude.{if◌then◌else◌}
-use Rattle.text.specs.Words.{◌is◌}
 use Rattle.text.proofs.Choices.{if_yes}
 use Rattle.pjlink.specs.Forms.{erra_line}
-use Rattle.record.specs.Limits.{places_count, shut, awaiting, failed}
+use Rattle.record.specs.Limits.{places_count, awaiting, failed}
 use Rattle.record.specs.Updates.{with_line}
 use Rattle.record.specs.Legal.{held_most, is_legal}
 use Rattle.record.specs.Places.{connection_at}
@@ -61,10 +60,7 @@ module _ (s : Settings) where
 
   pub failed_run : (m : State) (bs : List ℕ) → m.connection.phase ≡ failed → ran m bs ≡ unanswered m
   failed_run m [] f = run_none (code "\r") State collects (ends s) m
-  failed_run m (b ∷ bs) f =
-      run_more (code "\r") State collects (ends s) m b bs
-      ∙ ap {B = Out State} (λ (o : Out State). reply_then o.reply (ran o.state bs)) (failed_step m b (b is "\r") f)
-      ∙ failed_run m bs f
+  failed_run m (b ∷ bs) f = grind (arith, run_more, failed_step, failed_run m bs f)
 
   -- his first call, and what is left then: the line ends and is refused, or nothing is left
   outsider_run : (o : Own) (c : Connection) (bs : List ℕ) → c.phase ≡ awaiting → IsUnmatched s c bs
@@ -103,9 +99,7 @@ module _ (room : ℕ) (enough : reply_room ≤ room) (p : ℕ) (there : p < plac
   after = (outsider_leaves d.own (connection_at d p) first).state.connection
 
   as_run : all ≡ out_through (device_at d p) (outsider_leaves d.own (connection_at d p) first)
-  as_run =
-      received_as_run room enough p there d legal (ap (λ (k : ℕ). k == shut) waits) ps
-      ∙ ap (out_through (device_at d p)) (outsider_run d.settings d.own (connection_at d p) (uncut ps) waits unmatched)
+  as_run = grind (arith, received_as_run, outsider_run)
 
   pub outsider_stream_keeps_own : (handed_parts (receives room p) d ps).state.own ≡ d.own
   outsider_stream_keeps_own = ap (λ (o : Out Device). o.state.own) as_run

@@ -4,32 +4,54 @@
 --   is_power_okay r        the reply r is `%1POWR=OK` and CR, in any case of letters
 --   power_line a b c d w   the line that sets the power to w, with the body bytes a b c d
 --   PowerEffect s o l r k  the line l, replied to by r, leaves the own part k of o
+--   Outcome s o r m k      the request r, a POWR answered m, leaves the own part k of o: only a set that is answered OK
+--                          is carried out
 -- Assumes nothing.
 use Rattle.std.proofs.Common.{ℕ, ◌≡◌, refl, sym, ap, ◌∙◌, Bool, true, false, not, ◌&&◌, List, [], ◌∷◌, ◌++◌, ◌==◌}
 use Rattle.std.proofs.Common.{codes}
 use Rattle.std.proofs.lemmas.Bool.{false≢true}
 use Rattle.std.proofs.Math.Bool.{and-false}
 use Prim.Native.Char.{code}
-use Rattle.std.specs.Prelude.{Ok}
+use Rattle.std.specs.Prelude.{Ok, Err}
 use Rattle.text.specs.Scans.{same_by}
 use Rattle.text.proofs.Choices.{if_by}
 use Rattle.words.specs.Bytes.{◌at◌, upper_of}
 use Rattle.words.specs.Powers.{switch_code}
 use Rattle.pjlink.specs.Forms.{head_body, class_of_byte, line_class, is_command_form, command_parameter, reply_line}
 use Rattle.pjlink.specs.declared.body.Body.TheVariants.{Powr}
-use Rattle.pjlink.specs.declared.command.Command.TheVariants.{PowerSet}
+use Rattle.pjlink.specs.declared.command.Command.TheVariants.{PowerSet, Query}
 use Rattle.pjlink.proofs.FormsSpelt.{taken_by, form_takes, form_spelt}
 use Rattle.pjlink.specs.Bodies.{is_body}
-use Rattle.pjlink.specs.Requests.{asked_of}
-use Rattle.pjlink.proofs.PowerAsked.{is_power_set, not_powr, powr_asked, power_parameter}
+use Rattle.pjlink.specs.Requests.{asked_of, Request}
+use Rattle.pjlink.proofs.PowerAsked.{is_power_set, not_powr, powr_asked, power_parameter, powr_by}
 use Rattle.pjlink.proofs.SaidRows.{said_row}
 use Rattle.pjlink.specs.Said.{Said, okay, said_bytes}
 use Rattle.record.specs.declared.types.Settings.{Settings}
 use Rattle.record.specs.declared.types.Own.{Own}
-use Rattle.meaning.specs.Meaning.{meant, done}
+use Rattle.meaning.specs.Meaning.{meant, done, power_said, request_answer, carried_out}
 use Rattle.meaning.proofs.PowerSets.{PowerTurn, stays, warms, cools, power_turns}
-use Rattle.device.proofs.PowerRequests.{unchanged, carried, Comes, powr_comes}
 use Rattle.device.specs.Answering.{Answered, line_asks, replied, line_answer}
+use Rattle.pjlink.specs.declared.request.Unasked.TheVariants.{Unlisted}
+use Rattle.pjlink.proofs.OnlyOkay.{NotOkay, refusal_not_okay, power_not_okay, nothing_not_okay}
+use Rattle.meaning.proofs.Cases.{Passes, refused_or_passed}
+
+data Outcome (s : Settings) (o : Own) (r : Request) (m : Said) (k : Own) : Type 0 where
+  unchanged : NotOkay m → k.power ≡ o.power → k.left ≡ o.left → Outcome s o r m k
+  carried : (wanted : Bool) → r ≡ Ok (PowerSet wanted) → m ≡ okay → Outcome s o r m k
+
+module _ (s : Settings) (o : Own) where
+  abbrev Comes : Request → Type 0
+  Comes r = Outcome s o r (meant s o r) (done s o r)
+
+  -- refused, it does nothing
+  comes : (r : Request) → (Passes s o r → Outcome s o r (request_answer s o r) (carried_out s o r)) → Comes r
+  comes r = refused_or_passed s o r (Outcome s o r) (λ n. unchanged (refusal_not_okay n) refl refl)
+
+  powr_comes : (p : List ℕ) → Comes (asked_of Powr p)
+  powr_comes p =
+      powr_by Comes p (comes (Ok (Query Powr)) (λ p. unchanged (power_not_okay (power_said o.power)) refl refl))
+      (λ wanted. comes (Ok (PowerSet wanted)) (λ p. carried wanted refl refl))
+      (comes (Err (Unlisted Powr)) (λ p. unchanged nothing_not_okay refl refl))
 
 -- a reply is `%1POWR=OK` exactly when its body is POWR and its parameter OK
 abbrev pub is_power_okay : List ℕ → Bool

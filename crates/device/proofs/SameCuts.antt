@@ -16,8 +16,8 @@ use Rattle.record.specs.declared.types.Own.{Own}
 use Rattle.record.specs.declared.types.Line.{Line}
 use Rattle.record.specs.declared.types.Connection.{Connection}
 use Rattle.record.specs.declared.types.Device.{Device}
-use Rattle.record.proofs.LegalTold.{legal_settings, legal_own, legal_connections, legal_connection}
-use Rattle.record.proofs.LegalTold.{legal_places, legal_by_parts}
+use Rattle.record.proofs.LegalTold.{legal_settings, legal_own, legal_connections, legal_connection, legal_places}
+use Rattle.record.proofs.LegalTold.{legal_by_parts}
 use Rattle.record.proofs.ConnectionsTold.{placed_legal, placed_here, with_place-with_place, with_place-connection_at}
 use Rattle.record.proofs.ConnectionTold.{connection_told}
 use Rattle.stream.specs.Machine.{Took, run_over, one_call, handed_parts, uncut}

@@ -1,12 +1,9 @@
 -- No reply is longer than 136 bytes (RULES, Class 2): eight around a parameter of at most 128, 12 for the refused
 -- digest, at most 18 for a greeting.
 -- Assumes nothing.
-use Rattle.std.proofs.Common.{ℕ, ◌≤◌, ◌≡◌, true, List, [], ◌∷◌, arith, length, length-append}
-use Prim.Native.Char.{code}
+use Rattle.std.proofs.Common.{ℕ, ◌≤◌, ◌≡◌, true, List, arith, length, length-append}
 use Rattle.text.proofs.Choices.{if_all}
-use Rattle.digest.specs.Hex.{hex_digits}
 use Rattle.digest.proofs.Laws.{length-hex_digits}
-use Rattle.pjlink.specs.Forms.{is_command_form}
 use Rattle.record.specs.Legal.{is_settings, is_own}
 use Rattle.record.specs.Places.{connection_at}
 use Rattle.record.specs.declared.types.Settings.{Settings}
@@ -15,12 +12,10 @@ use Rattle.record.specs.declared.types.Line.{Line}
 use Rattle.record.specs.declared.types.Connection.{Connection}
 use Rattle.record.specs.declared.types.Device.{Device}
 use Rattle.record.proofs.LegalTold.{legal_settings, legal_own}
-use Rattle.pjlink.specs.Said.{said_bytes, said_most}
-use Rattle.meaning.specs.Meaning.{meant}
 use Rattle.meaning.proofs.CanBeSaid.{meant_fits}
-use Rattle.device.specs.Answering.{Answered, line_asks, line_answer}
+use Rattle.device.specs.Answering.{line_answer}
 use Rattle.device.specs.Receiving.{line_ended, taken_in}
-use Rattle.device.specs.Calls.{longest_reply, has_password, greeting, received, opened_by}
+use Rattle.device.specs.Calls.{longest_reply, greeting, received, opened_by}
 use Rattle.device.proofs.Cases.{received_by, opened_by_lem}
 use Rattle.device.proofs.LineCases.{ended_by, taken_by}
 
@@ -30,11 +25,7 @@ longest_greeting = 18
 module _ (s : Settings) (o : Own) (settings : is_settings s ≡ true) (own : is_own s o ≡ true) where
   pub answered_short : (l : List ℕ) → length (line_answer s o l).reply ≤ longest_reply
   unfolding line_answer
-  answered_short l =
-      let p = said_bytes (meant s o (line_asks l)) in
-      let short : length p ≤ said_most = (meant_fits s o settings own (line_asks l)).short in
-      if_all (λ (a : Answered). length a.reply ≤ longest_reply) (is_command_form s.class_number l)
-      (omega (arith, length-append p (code "\r" ∷ []))) (omega arith)
+  answered_short l = grind (arith, meant_fits, if_all, length-append)
 
   module _ (c : Connection) where
     pub ended_short : (l : Line) → length (line_ended s o c l).reply ≤ longest_reply
@@ -48,9 +39,7 @@ module _ (s : Settings) (o : Own) (settings : is_settings s ≡ true) (own : is_
 
 pub greeting_short : (s : Settings) (r : ℕ) → length (greeting s r) ≤ longest_greeting
 unfolding greeting
-greeting_short s r =
-    if_all (λ (m : List ℕ). length m ≤ longest_greeting) (has_password s)
-    (omega (arith, length-append (hex_digits 8 r) (code "\r" ∷ []), length-hex_digits 8 r)) (omega arith)
+greeting_short s r = grind (arith, if_all, length-append, length-hex_digits)
 
 module _ (d : Device) where
   -- on any input, refused or not

@@ -13,15 +13,13 @@ use Rattle.text.proofs.Scanning.{list_all-append}
 use Rattle.text.proofs.Sameness.{turned_same}
 use Rattle.digest.specs.Hex.{leading_digest}
 use Rattle.digest.proofs.Laws.{length-leading_digest, hex_are_digits, digits_have_no_cr}
-use Rattle.words.specs.Bytes.{not_cr, no_cr}
+use Rattle.words.specs.Bytes.{not_cr, no_cr, command_most}
 use Rattle.pjlink.specs.Forms.{head_body}
-use Rattle.words.specs.Bytes.{command_most}
 use Rattle.pjlink.specs.Commands.{body_text, body_of, command_class, class_digit, is_command, command_text}
 use Rattle.pjlink.specs.declared.command.Command.{Command}
 use Rattle.pjlink.proofs.BodiesNamed.{body_named_lem}
 use Rattle.pjlink.proofs.CommandLines.{head_body-command_text, command_parameter-command_text, line_class-command_text}
-use Rattle.pjlink.proofs.CommandLines.{command_form}
-use Rattle.pjlink.proofs.CommandLines.{command_of_higher_class}
+use Rattle.pjlink.proofs.CommandLines.{command_form, command_of_higher_class}
 use Rattle.pjlink.specs.Bodies.{is_body}
 use Rattle.pjlink.specs.Requests.{request_of}
 use Rattle.pjlink.proofs.CommandsAskedBack.{command_asked_back}
@@ -31,17 +29,16 @@ use Rattle.record.specs.Record.{in_room}
 use Rattle.record.specs.Legal.{held_most, is_settings}
 use Rattle.record.specs.declared.types.Settings.{Settings}
 use Rattle.record.specs.declared.types.Own.{Own}
-use Rattle.record.specs.declared.types.Line.{Line}
 use Rattle.record.specs.declared.types.Connection.{Connection}
 use Rattle.record.proofs.Kept.{filled_take, room_first}
 use Rattle.record.proofs.ConnectionTold.{held_most_opened, held_most_awaiting}
-use Rattle.stream.specs.Collecting.{line_text, line_of, empty_line, gathered}
+use Rattle.stream.specs.Collecting.{line_text, line_of, empty_line}
 use Rattle.stream.proofs.LinesCollected.{empty_is_none, line_gathered}
 use Rattle.meaning.specs.Meaning.{meant, done}
 use Rattle.meaning.proofs.ClassKnown.{class_low, class_high}
 use Rattle.device.specs.Answering.{line_asks, replied, swallowed, line_answer}
-use Rattle.device.specs.Receiving.{Ended, Taken, spoken, is_match, digest_long, set_up_password}
-use Rattle.device.specs.Receiving.{line_ended, taken_of, taken_in}
+use Rattle.device.specs.Receiving.{spoken, is_match, digest_long, set_up_password, line_ended}
+use Rattle.device.specs.Receiving.{taken_in}
 use Rattle.device.proofs.LineCases.{ended_open, ended_match}
 use Rattle.record.specs.Facts.{IsSettings}
 use Rattle.record.proofs.FactsTold.{settings_is}
@@ -60,21 +57,12 @@ module _ (s : Settings) (o : Own) (c : Connection) (empty : c.line ≡ empty_lin
       → taken_in s o c (xs ++ (code "\r" ∷ rest))
       ≡ record { ended = line_ended s o c (line_of xs); taken = length xs + 1 }
   unfolding taken_in
-  whole_line xs h room plain =
-      let most = held_most c.phase in
-      ap (λ (l : Line). taken_of s o c (gathered most l (xs ++ (code "\r" ∷ rest)))) (empty ∙ empty_is_none)
-      ∙ ap (taken_of s o c) (line_gathered most [] xs rest room (omega arith) plain)
+  whole_line xs h room plain = grind (arith, empty_is_none, line_gathered)
 
   pub open_line-taken : (xs : List ℕ) → c.phase ≡ opened → length xs ≤ command_most → list_all not_cr xs ≡ true
       → taken_in s o c (xs ++ (code "\r" ∷ rest))
       ≡ record { ended = spoken c (line_answer s o xs); taken = length xs + 1 }
-  open_line-taken xs phase short plain =
-      let most : held_most c.phase ≡ command_most = ap held_most phase ∙ held_most_opened in
-      let ended : line_ended s o c (line_of xs) ≡ spoken c (line_answer s o xs)
-      = ended_open s o c (line_of xs) phase refl
-      ∙ ap (λ (l : List ℕ). spoken c (line_answer s o l)) (line_text-line_of xs (omega arith)) in
-      whole_line xs (omega arith) (omega arith) plain
-      ∙ ap {B = Taken} (λ (e : Ended). record { ended = e; taken = length xs + 1 }) ended
+  open_line-taken xs phase short plain = grind (arith, held_most_opened, ended_open, line_text-line_of, whole_line)
 
   -- awaiting: the digest of the random number and the password stands before the line
   module _ (xs : List ℕ) where

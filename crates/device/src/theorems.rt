@@ -36,6 +36,7 @@ pub fn one_result()
 {}
 
 /// The greeting and the connection that it opens, with a password and without (RULES, Passwords).
+#[tactic(auto, using(crate::proofs::Cases::greetings))]
 pub fn a_password_is_asked_for()
     ensures secured { (s : Settings) (random : ℕ) → has_password s ≡ true
         → (greeting s random ≡ greeting_secured (hex_digits 8 random)) × (greeted s random ≡ begun_in awaiting random) }
@@ -45,6 +46,7 @@ pub fn a_password_is_asked_for()
 
 /// A call takes the bytes up to and including the first CR, or all of them if there is none, in list_all phase; of no
 /// bytes it takes none and changes nothing (RULES, Connection).
+#[tactic(auto, using(crate::proofs::Counts::counts))]
 pub fn a_call_takes_one_line()
     ensures part { (s : Settings) (o : Own) (c : Connection) (bytes : List ℕ) → list_all not_cr bytes ≡ true
         → (taken_in s o c bytes).taken ≡ length bytes }
@@ -70,6 +72,7 @@ pub fn what_receiving_keeps()
 {}
 
 /// More lent memory than a call asks for changes nothing of what it does.
+#[tactic(auto, using(crate::proofs::EnoughRoom::enough_room))]
 pub fn more_memory_changes_nothing()
     ensures opening { (d : Device) (random room : ℕ) → reply_room ≤ room
         → opened_by d random reply_room ≡ opened_by d random room }

@@ -8,7 +8,7 @@ use Rattle.std.proofs.Math.Path.{◌≡⟨◌⟩◌, ◌∎}
 use Rattle.std.specs.Int.{to_le_bytes, w64}
 use Rattle.digest.specs.Padding.{zeros_after, bit_length, padding}
 use Rattle.digest.specs.Rounds.{block_of}
-use Rattle.digest.specs.Md5.{start_words, blocks_of, whole_blocks, digest_bytes, md5_of, finishing}
+use Rattle.digest.specs.Md5.{start_words, blocks_of, whole_blocks, md5_of, finishing}
 use Rattle.digest.specs.declared.Buffer.{Buffer}
 
 blocks_of-add : (k m : ℕ) (xs : List ℕ) (q : Buffer)
@@ -61,10 +61,7 @@ padding_by_rest m n b e =
 -- the blocks of s and then the last ones are those of s with its padding
 pub finished : (s rest : List ℕ) (b : ℕ) (q : Buffer) → rest ≡ drop (length s / 64 * 64) s
     → whole_blocks (rest ++ padding (length rest) b) (whole_blocks s q) ≡ whole_blocks (s ++ padding (length s) b) q
-finished s rest b q e =
-    let left : length rest % 64 ≡ length s % 64 = rw e (simp length-drop (omega arith)) in
-    (λ i. whole_blocks (e i ++ padding_by_rest (length rest) (length s) b left i) (whole_blocks s q))
-    ∙ sym (blocks_append s (padding (length s) b) q)
+finished s rest b q e = grind (arith, length-drop, padding_by_rest, blocks_append)
 
 pub md5_from_start : (s : List ℕ) {r : List ℕ} {b : ℕ} {q : Buffer} → b ≡ bit_length (length s) → q ≡ start_words
     → r ≡ finishing q s b → r ≡ md5_of s
@@ -75,16 +72,4 @@ md5_from_start s eb eq er = er ∙ (λ i. finishing (eq i) s (eb i))
 pub md5_after_block : (t s : List ℕ) → length t ≡ 64
     → md5_of (t ++ s) ≡ finishing (block_of t start_words) s (bit_length (64 + length s))
 unfolding md5_of
-md5_after_block t s h =
-    let n : ℕ = 64 + length s in
-    let b : ℕ = bit_length n in
-    let long : length (t ++ s) ≡ n = simp (length-append, h) in
-    let same : padding (length (t ++ s)) (bit_length (length (t ++ s))) ≡ padding (length s) b =
-    ap (λ (k : ℕ). padding k (bit_length k)) long ∙ padding_by_rest n (length s) b (omega arith) in
-    digest_bytes (whole_blocks (t ++ s ++ padding (length (t ++ s)) (bit_length (length (t ++ s)))) start_words)
-    ≡⟨ ap (λ (p : List ℕ). digest_bytes (whole_blocks (t ++ s ++ p) start_words)) same ⟩
-    digest_bytes (whole_blocks (t ++ s ++ padding (length s) b) start_words)
-    ≡⟨ ap (λ (xs : List ℕ). digest_bytes (whole_blocks xs start_words)) (append_assoc t s (padding (length s) b)) ⟩
-    digest_bytes (whole_blocks (t ++ (s ++ padding (length s) b)) start_words)
-    ≡⟨ ap digest_bytes (block_first t (s ++ padding (length s) b) start_words h) ⟩
-    finishing (block_of t start_words) s b ∎
+md5_after_block t s h = grind (arith, length-append, padding_by_rest, append_assoc, block_first)

@@ -3,8 +3,8 @@
 --   chosen n x y z      as the definition has it, n being the word of ones
 -- Assumes nothing.
 use Rattle.std.proofs.lemmas.Nat.{and_shr, or_shr, xor_shr, and_mod, or_mod, xor_mod}
-use Rattle.std.proofs.Common.{◌≡◌, ℕ, zero, suc, ◌+◌, ◌-◌, ◌*◌, ◌/◌, ◌%◌, ◌^◌, ◌<◌, Bool, sym, refl, ◌∙◌, pow-suc}
-use Rattle.std.proofs.Common.{arith, eqb-true, ◌==◌, bit_and, bit_or, bit_xor}
+use Rattle.std.proofs.Common.{◌≡◌, ℕ, zero, suc, ◌-◌, ◌*◌, ◌/◌, ◌%◌, ◌^◌, ◌<◌, sym, ◌∙◌, pow-suc}
+use Rattle.std.proofs.Common.{arith, eqb-true, bit_and, bit_or, bit_xor}
 use Rattle.text.proofs.EachBelow.{each_below}
 
 abbrev mixed : ℕ → ℕ → ℕ → ℕ
@@ -14,14 +14,7 @@ abbrev chosen : ℕ → ℕ → ℕ → ℕ → ℕ
 chosen n x y z = bit_or (bit_and x y) (bit_and (n - x) z)
 
 at_a_bit : (x y z : ℕ) → x < 2 → y < 2 → z < 2 → mixed x y z ≡ chosen 1 x y z
-at_a_bit x y z hx hy hz =
-    let k : ℕ = 4 * x + 2 * y + z in
-    let ex : k / 4 ≡ x = omega arith in
-    let ey : k / 2 % 2 ≡ y = omega arith in
-    let ez : k % 2 ≡ z = omega arith in
-    let alike : ℕ → Bool = λ j. mixed (j / 4) (j / 2 % 2) (j % 2) == chosen 1 (j / 4) (j / 2 % 2) (j % 2) in
-    let here = eqb-true _ _ (each_below alike 8 refl k (omega arith)) in
-    sym (λ i. mixed (ex i) (ey i) (ez i)) ∙ here ∙ (λ i. chosen 1 (ex i) (ey i) (ez i))
+at_a_bit x y z hx hy hz = grind (arith, eqb-true, each_below)
 
 same_halves : (m n : ℕ) → m / 2 ≡ n / 2 → m % 2 ≡ n % 2 → m ≡ n
 same_halves m n h o = omega arith

@@ -5,7 +5,7 @@ use Rattle.std.specs.List.{list_all}
 use Rattle.std.proofs.Common.{◌≡◌, ℕ, ◌*◌, ◌^◌, ◌<◌, ◌≤◌, true, false, not, ◌&&◌, List}
 use Rattle.std.proofs.Common.{length, refl, ap, ◌∙◌, arith, ne_eqb, leb-true, ◌==◌, nat_le, slice_index_or}
 use Prim.Native.Char.{code}
-use Rattle.text.specs.Words.{◌is◌, ◌from◌to◌}
+use Rattle.text.specs.Words.{◌is◌}
 use Rattle.text.proofs.Choices.{if_by, both_left, both_right}
 use Rattle.text.proofs.Bases.{length-low_digits, list_all-low_digits, low_digits_back, value_below}
 use Rattle.text.proofs.InTurn.{length-each_in_turn, list_all-each_in_turn}
@@ -44,10 +44,7 @@ hex_value_back = low_digits_back 16 hex_worth hex_digit (omega arith) hex_worth-
 
 pub hex_worth_small : (b : ℕ) → hex_worth b < 16
 unfolding hex_worth
-hex_worth_small b =
-    if_by (λ (n : ℕ). n < 16) (b from "0" to "9") (λ e. omega (arith, between (code "0") (code "9") b e))
-    (λ _. if_by (λ (n : ℕ). n < 16) (b from "a" to "f") (λ e. omega (arith, between (code "a") (code "f") b e))
-    (λ _. omega arith))
+hex_worth_small b = grind (arith, if_by, between)
 
 pub hex_value_below : (s : List ℕ) → hex_value s < 16 ^ length s
 hex_value_below s = value_below 16 hex_worth s (λ i h. hex_worth_small (slice_index_or s i 0))

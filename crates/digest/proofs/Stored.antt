@@ -18,13 +18,8 @@ take-sets_zeros n k xs h l =
     ∙ ap (λ (z : List ℕ). xs ++ z) rest
 
 pub take-sets_exactly : (n k : ℕ) (xs : List ℕ) → length xs ≡ k → k ≤ n → take k (sets (replicate n 0) 0 xs) ≡ xs
-take-sets_exactly n k xs h l =
-    let none : k - length xs ≡ 0 = omega arith in
-    take-sets_zeros n k xs (omega arith) l ∙ ap (λ (z : ℕ). xs ++ replicate z 0) none ∙ append-nil xs
+take-sets_exactly n k xs h l = grind (arith, take-sets_zeros, append-nil)
 
 pub take-sets_end : (m vs : List ℕ) (i k : ℕ) → i + length vs ≡ k → k ≤ length m
     → take k (sets m i vs) ≡ take i m ++ vs
-take-sets_end m vs i k e h =
-    let part = length-take-le i m (omega arith) in
-    let long : length (take i m ++ vs) ≡ k = simp length-append (omega arith) in
-    ap (take k) (sets-eq vs m i (omega arith)) ∙ take_at (take i m ++ vs) _ k long
+take-sets_end m vs i k e h = grind (arith, length-take-le, length-append, sets-eq, take_at)

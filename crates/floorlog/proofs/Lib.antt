@@ -1,7 +1,6 @@
 mod Forms
 mod SecondsSaid
-mod EndMarks
-mod LampsShown
+pub mod Outcomes
 pub mod LastLineEnds
 mod NoLogPrints
 pub mod DidSpelt
@@ -9,13 +8,8 @@ pub mod LogOpenings
 pub mod EventsLeave
 pub mod OnePlace
 pub mod Driven
-mod PartsPut
-mod Calling
-mod Endings
-mod Printing
 pub mod EventSeconds
 pub mod KeptText
 mod PlayedSpelt
-mod LinePlayed
 mod Replayed
 pub mod Samples

@@ -7,10 +7,9 @@ use Rattle.std.proofs.Common.{append_assoc, map, length, take}
 use Rattle.std.specs.declared.option.Option.{Option}
 use Rattle.std.specs.Io.KnownBytes.{Appends}
 use Rattle.textio.specs.Fronts.{WritesFront}
-use Rattle.textio.specs.Lines.{lines_of, count_most, HasEndlessLine, IsTooLong}
+use Rattle.textio.specs.Lines.{lines_of}
 use Rattle.textio.specs.NextLine.{IsNextLine}
-use Rattle.textio.proofs.Underway.{Underway, each, begun, line_is, played, broken, ended, cut, last_is, endless}
-use Rattle.textio.proofs.Underway.{too_many}
+use Rattle.textio.proofs.Underway.{Underway, begun, line_is, played, broken, ended, cut, last_is}
 use Rattle.record.specs.declared.types.Device.{Device}
 use Rattle.floorlog.specs.LastLine.{last_device_line}
 use Rattle.floorlog.specs.Events.{LogEvent, event}
@@ -94,12 +93,3 @@ module _ {d device : Device} {log : List ℕ} {old now left : Option (List ℕ)}
 
     pub log_cut : WritesFront now new (last_device_line device) → WritesFront old new (replayed d log)
     log_cut f = is_front (cut u left_then memory next last_printed new f)
-
--- why it cannot be played on
-module _ (d device : Device) (old now a left : Option (List ℕ)) (n : ℕ)
-    (u : IfSome a (λ log. Played d log old now left n device)) where
-  pub line_endless : IfSome a (λ log. IfSome left HasEndlessLine → IsTooLong log)
-  line_endless = each a (λ log. Played d log old now left n device) _ (λ log x. endless x) u
-
-  pub lines_many : count_most ≤ n → IfSome a IsTooLong
-  lines_many many = each a (λ log. Played d log old now left n device) IsTooLong (λ log x. too_many x many) u

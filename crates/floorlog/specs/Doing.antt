@@ -7,17 +7,17 @@
 --   shown e r           what is printed for an event with that result: the reply without its CR, `-` for none, `! ` and
 --                       the number of a refusal, or `?` for a line of no such form
 --   printed n e r       the line number n, a space, that, and LF
---   print_room          a printed line never needs more room
 -- Assumes nothing.
-use Rattle.std.specs.Prelude.{ℕ, ◌-◌, not, List, [], ◌∷◌, ◌++◌, length, take, if◌then◌else◌, ◌==◌, codes}
+use Rattle.std.specs.Prelude.{ℕ, not, List, [], ◌∷◌, ◌++◌, if◌then◌else◌, ◌==◌, codes}
 use Rattle.text.specs.Rows.{Row, ◌when◌, by_rows}
-use Rattle.numbers.specs.Decimal.{digits, long_digits}
+use Rattle.numbers.specs.Decimal.{long_digits}
 use Rattle.record.specs.Legal.{is_legal}
 use Rattle.record.specs.Places.{connection_at, is_shut}
 use Rattle.record.specs.declared.types.Device.{Device}
 use Rattle.record.specs.Given.{Given, given_by}
 use Rattle.clock.specs.Passing.{passed}
 use Rattle.device.specs.Calls.{Result, refused_by, made, reply_room, received, opened_by, closed_by}
+use Rattle.floorlog.specs.Outcomes.{reply_text, refusal_shown}
 use Rattle.floorlog.specs.Events.{LogEvent, opens, receives, passes, closes, no_such}
 
 abbrev pub changed_to : Given Device → Result Device
@@ -41,21 +41,11 @@ did d closes = closed_by d log_place
 did d no_such = made d
 
 abbrev pub outcome : Result Device → List ℕ
-outcome r =
-    if not (r.number == 0) then codes "! " ++ digits r.number
-    else if length r.reply == 0 then codes "-"
-    else take (length r.reply - 1) r.reply
+outcome r = if r.number == 0 then reply_text r.reply else refusal_shown r.number
 
 abbrev pub shown : LogEvent → Result Device → List ℕ
 shown no_such r = codes "?"
-shown (opens x) r = outcome r
-shown (receives bs) r = outcome r
-shown (passes n) r = outcome r
-shown closes r = outcome r
+shown e r = outcome r
 
 unfoldable pub printed : ℕ → LogEvent → Result Device → List ℕ
 printed n e r = long_digits n ++ codes " " ++ shown e r ++ codes "\n"
-
--- 20 digits, a space and a reply
-abbrev pub print_room : ℕ
-print_room = 157

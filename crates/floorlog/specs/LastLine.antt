@@ -1,6 +1,5 @@
 -- The last line that is printed for a log (RULES, Floor log: "after the last, one line with power and lamp seconds").
 --   lamp_shown x              a space and the seconds x of a lamp; lamps_shown, those of each
---   lamps_room, last_room     so much room these, and the line, never need more than
 --   last_line_of power lamps  the line
 --   last_device_line d        that of a device
 -- Assumes nothing.
@@ -14,13 +13,6 @@ lamp_shown x = codes " " ++ digits x
 
 abbrev pub lamps_shown : List ℕ → List ℕ
 lamps_shown lamps = each_in_turn lamp_shown lamps
-
--- a space and ten digits for each of eight; and 23 bytes more
-abbrev pub lamps_room : ℕ
-lamps_room = 88
-
-abbrev pub last_room : ℕ
-last_room = 111
 
 unfoldable pub last_line_of : ℕ → List ℕ → List ℕ
 last_line_of power lamps =

@@ -1,5 +1,5 @@
 pub mod Lines
-pub mod Ending
+pub mod Outcomes
 pub mod LastLine
 pub mod Events
 pub mod Doing

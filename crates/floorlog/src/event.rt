@@ -1,154 +1,113 @@
 // One event of a log: what it does, and what is printed for it. The record is lent with what its one test said, and no
 // record is tested here.
-ghost use Rattle.std.specs.Prelude.{◌≡◌, true, [], ◌+◌, ◌-◌, ◌^◌, ◌≤◌, ◌<◌, length};
+ghost use Rattle.std.specs.Prelude.{◌≡◌, true, List, [], ℕ};
 ghost use Rattle.text.specs.Words.{over};
 ghost use Rattle.record.specs.Legal.{is_legal};
 ghost use Rattle.device.specs.Calls.{reply_room, received, closed_by};
-ghost use Rattle.device.specs.Outcomes.{receiving_told, opening_told};
+ghost use Rattle.floorlog.specs.Outcomes.{outcome_text, IsReplyWithin};
 ghost use Rattle.floorlog.specs.Events.{event_of};
-ghost use Rattle.floorlog.specs.Doing.{log_place, opened_in_log, did, print_room};
-ghost use Rattle.floorlog.specs.Told.{called_of, called_by, seconds_of, Drives, PrintedAs};
+ghost use Rattle.floorlog.specs.Doing.{log_place, opened_in_log, did, outcome, shown, printed};
+ghost use Rattle.floorlog.specs.Told.{seconds_of, Drives};
 
 use crate::line::Says;
-use crate::{digits, ending};
-use device::calls::{Opened, Received};
+use crate::outcome::{Outcome, Printed};
 use device::on_legal;
+use device::on_legal::REPLY_ROOM;
 use record::connection::SHUT;
 use record::legality::Tested;
-use record::refusal;
 use record::refusal::Refusal;
 use record::types::Device;
 
 /// The place that a log drives (RULES, Floor log).
 pub const PLACE: usize = 0;
 
-/// What a call gave: its number, and the length of its reply.
-#[derive(Clone, Copy)]
-pub struct Called {
-    pub number: u32,
-    pub length: usize,
-}
-
-fn of_receiving(outcome: Result<Received, Refusal>) -> Called
-    ensures { result ≡ called_by (receiving_told outcome) }
-{
-    match outcome {
-        Ok(received) => Called {
-            number: 0,
-            length: received.length,
-        },
-        Err(refusal) => Called {
-            number: refusal.number(),
-            length: 0,
-        },
-    }
-}
-
-fn of_opening(outcome: Result<Opened, Refusal>) -> Called
-    ensures { result ≡ called_by (opening_told outcome) }
-{
-    match outcome {
-        Ok(opened) => Called {
-            number: 0,
-            length: opened.length,
-        },
-        Err(refusal) => Called {
-            number: refusal.number(),
-            length: 0,
-        },
-    }
-}
-
-// Opening at that place: 5 where it is not closed. Else it is the lowest closed place, which the device takes.
-#[tactic(auto, unfolding(crate::specs::Doing::opened_in_log))]
-fn open(device: &mut Device, random: u32, out: &mut [u8]) -> Called
-    requires room { reply_room ≤ length out.old }
-    requires legal { is_legal device.old ≡ true }
-    ensures called { result ≡ called_of (opened_in_log device.old random) }
+// Opening at that place, where it is closed: then it is the lowest closed place, which the device takes.
+#[tactic(auto, using(crate::proofs::LogOpenings::log_opened_again, crate::proofs::LogOpenings::log_opened_closed))]
+fn open(device: &mut Device, random: u32, reply: &mut [u8; REPLY_ROOM]) -> Outcome
+    requires { is_legal device.old ≡ true }
+    ensures within { IsReplyWithin result reply_room }
+    ensures text { outcome_text result reply.new ≡ outcome (opened_in_log device.old random) }
     ensures device { device.new ≡ (opened_in_log device.old random).device }
-    ensures reply { out.new ≡ over (opened_in_log device.old random).reply out.old }
+    ensures reply { reply.new ≡ over (opened_in_log device.old random).reply reply.old }
 {
     if device.connections[PLACE].phase != SHUT {
-        return Called {
-            number: 5,
-            length: 0,
-        };
+        return Outcome::AlreadyOpen;
     }
-    of_opening(on_legal::open(device, random, out))
+    match on_legal::open(device, random, reply) {
+        Ok(opened) => Outcome::Served(opened.length),
+        Err(refusal) => Outcome::Refused(refusal),
+    }
 }
 
-fn receive(device: &mut Device, bytes: &[u8], out: &mut [u8]) -> Called
-    requires room { reply_room ≤ length out.old }
-    requires legal { is_legal device.old ≡ true }
-    ensures called { result ≡ called_of (received device.old log_place bytes.now reply_room) }
-    ensures device { device.new ≡ (received device.old log_place bytes.now reply_room).device }
-    ensures reply { out.new ≡ over (received device.old log_place bytes.now reply_room).reply
-        out.old }
-{
-    of_receiving(on_legal::receive(device, PLACE, bytes, out))
-}
-
-fn close(device: &mut Device) -> Called
+fn receive(device: &mut Device, bytes: &[u8], reply: &mut [u8; REPLY_ROOM]) -> Outcome
     requires { is_legal device.old ≡ true }
-    ensures called { result ≡ called_of (closed_by device.old log_place) }
+    ensures within { IsReplyWithin result reply_room }
+    ensures text { outcome_text result reply.new ≡ outcome (received device.old log_place bytes.now reply_room) }
+    ensures device { device.new ≡ (received device.old log_place bytes.now reply_room).device }
+    ensures reply { reply.new ≡ over (received device.old log_place bytes.now reply_room).reply reply.old }
+{
+    match on_legal::receive(device, PLACE, bytes, reply) {
+        Ok(received) => Outcome::Served(received.length),
+        Err(refusal) => Outcome::Refused(refusal),
+    }
+}
+
+fn close(device: &mut Device) -> Outcome
+    requires { is_legal device.old ≡ true }
+    ensures within { IsReplyWithin result reply_room }
+    ensures text { (m : List ℕ) → outcome_text result m ≡ outcome (closed_by device.old log_place) }
     ensures device { device.new ≡ (closed_by device.old log_place).device }
 {
-    let number = refusal::number_of(on_legal::close(device, PLACE));
-    Called { number, length: 0 }
+    match on_legal::close(device, PLACE) {
+        Ok(()) => Outcome::Served(0),
+        Err(refusal) => Outcome::Refused(refusal),
+    }
 }
 
 // The event that a line says, on a legal record; a text is lent with its CR.
 #[tactic(auto, unfolding(crate::specs::Doing::did))]
-fn call_legal(device: &mut Device, says: Says, bytes: &[u8], out: &mut [u8]) -> Called
-    requires room { reply_room ≤ length out.old }
-    requires legal { is_legal device.old ≡ true }
-    ensures called { result ≡ called_of (did device.old (event_of says bytes.now)) }
+fn call_legal(
+    device: &mut Device,
+    says: Says,
+    bytes: &[u8],
+    reply: &mut [u8; REPLY_ROOM],
+) -> Outcome
+    requires { is_legal device.old ≡ true }
+    ensures within { IsReplyWithin result reply_room }
+    ensures text { outcome_text result reply.new
+        ≡ shown (event_of says bytes.now) (did device.old (event_of says bytes.now)) }
     ensures device { device.new ≡ (did device.old (event_of says bytes.now)).device }
-    ensures reply { out.new ≡ over (did device.old (event_of says bytes.now)).reply out.old }
+    ensures reply { reply.new ≡ over (did device.old (event_of says bytes.now)).reply reply.old }
 {
     match says {
-        Says::Opens(random) => open(device, random, out),
-        Says::Receives => receive(device, bytes, out),
+        Says::Opens(random) => open(device, random, reply),
+        Says::Receives => receive(device, bytes, reply),
         Says::Passes(seconds) => {
             clock::on_legal::pass(device, seconds);
-            Called {
-                number: 0,
-                length: 0,
-            }
+            Outcome::Served(0)
         }
         Says::Closes => close(device),
-        Says::NoSuch => Called {
-            number: 0,
-            length: 0,
-        },
+        Says::NoSuch => Outcome::NoSuch,
     }
 }
 
-/// The event that a line says, on any record; a text is lent with its CR. A record that is not legal gives 1 where the
-/// line has a form.
-pub fn call(t: &mut Tested, says: Says, bytes: &[u8], out: &mut [u8]) -> Called
-    requires { reply_room ≤ length out.old }
-    ensures called { result ≡ called_of (did t.old.device (event_of says bytes.now)) }
+/// The event that a line says, on any record; a text is lent with its CR, and a reply stands at the front of the
+/// memory. A record that is not legal is refused where the line has a form.
+pub fn call(t: &mut Tested, says: Says, bytes: &[u8], reply: &mut [u8; REPLY_ROOM]) -> Outcome
+    ensures within { IsReplyWithin result reply_room }
+    ensures text { outcome_text result reply.new
+        ≡ shown (event_of says bytes.now) (did t.old.device (event_of says bytes.now)) }
     ensures device { t.new.device ≡ (did t.old.device (event_of says bytes.now)).device }
-    ensures reply { out.new ≡ over (did t.old.device (event_of says bytes.now)).reply out.old }
+    ensures reply { reply.new ≡ over (did t.old.device (event_of says bytes.now)).reply reply.old }
     ensures places { Drives (seconds_of (event_of says [])) t.old.device t.new.device }
 {
     if t.legal {
-        return call_legal(&mut t.device, says, bytes, out);
+        return call_legal(&mut t.device, says, bytes, reply);
     }
-    let number = if ending::is_formed(says) { 1 } else { 0 };
-    Called { number, length: 0 }
-}
-
-// The place of a reply's last byte, its CR; of no reply, where it would have begun.
-fn last_place(at: usize, replied: usize) -> usize
-    requires { at + replied < 2 ^ 64 }
-    ensures { result ≡ at + (replied - 1) }
-{
-    if replied == 0 {
-        return at;
+    match says {
+        Says::NoSuch => Outcome::NoSuch,
+        _ => Outcome::Refused(Refusal::NotLegal),
     }
-    at + (replied - 1)
 }
 
 /// The seconds that a line lets pass.
@@ -156,30 +115,23 @@ pub fn seconds_of(says: Says) -> u32
     ensures { result ≡ seconds_of (event_of says []) }
 {
     match says {
-        Says::Opens(_) => 0,
-        Says::Receives => 0,
         Says::Passes(seconds) => seconds,
-        Says::Closes => 0,
-        Says::NoSuch => 0,
+        _ => 0,
     }
 }
 
-/// A line's event, and its printed line from the start of the lent memory; its length.
-pub fn print(t: &mut Tested, number: u64, says: Says, bytes: &[u8], out: &mut [u8]) -> usize
-    requires { print_room ≤ length out.old }
-    ensures { PrintedAs number t.old.device (event_of says bytes.now) out.old
-        result t.new.device out.new }
+/// A line's event, and its printed line.
+#[tactic(auto, using(crate::proofs::Outcomes::line_lengths), unfolding(crate::specs::Doing::printed))]
+pub fn print(t: &mut Tested, number: u64, says: Says, bytes: &[u8], out: &mut Printed)
+    requires { out.old.items ≡ [] }
+    ensures printed { out.new.items
+        ≡ printed number (event_of says bytes.now) (did t.old.device (event_of says bytes.now)) }
+    ensures device { t.new.device ≡ (did t.old.device (event_of says bytes.now)).device }
 {
-    let space = digits::put_long(out, 0, number);
-    text::put(out, space, b" ");
-    let at = space + 1;
-    let called = call(t, says, bytes, &mut out[at..]);
-    let last = last_place(at, called.length);
-    ending::put_ending(
-        out,
-        last,
-        ending::is_formed(says),
-        called.number,
-        called.length,
-    )
+    let mut reply = [0; REPLY_ROOM];
+    let outcome = call(t, says, bytes, &mut reply);
+    numbers::put_long(number, out);
+    out.push(b' ');
+    outcome.put(&reply, out);
+    out.push(b'\n');
 }

@@ -4,11 +4,10 @@
 #![tactic(auto)]
 
 pub mod cut;
-mod digits;
-mod ending;
 pub mod event;
 mod last;
 pub mod line;
+pub mod outcome;
 pub mod playing;
 #[cfg(test)]
 mod tests;

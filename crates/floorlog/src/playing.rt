@@ -1,8 +1,8 @@
 // The lines of a log, one after the other.
 ghost use Rattle.std.specs.Prelude.{[], ◌≡◌, ◌≤◌, IfOk, IfErr, IfSome, OnOk, take};
-ghost use Rattle.std.specs.Io.KnownBytes.{Appends, Keeps};
+ghost use Rattle.std.specs.Io.KnownBytes.{Keeps};
 ghost use Rattle.textio.specs.Lines.{HasEndlessLine};
-ghost use Rattle.textio.specs.Fronts.{WritesFront};
+ghost use Rattle.textio.specs.Fronts.{WritesText};
 ghost use Rattle.textio.specs.NextLine.{IsNextLine, FailureComesOf, OnFailedRead};
 ghost use Rattle.textio.specs.Ahead.{left_in};
 ghost use Rattle.floorlog.specs.LastLine.{last_device_line};
@@ -11,6 +11,7 @@ ghost use Rattle.floorlog.specs.Doing.{did, printed};
 ghost use Rattle.floorlog.specs.Replaying.{kept_most};
 
 use crate::line::LINE_MOST;
+use crate::outcome::Printed;
 use crate::{event, last, line};
 use record::legality::Tested;
 use record::types::Device;
@@ -25,10 +26,6 @@ const KEPT_MOST: usize = LINE_MOST + 1;
 
 // that, and the CR with which a text is received
 pub const KEPT_ROOM: usize = 4098;
-
-const PRINT_ROOM: usize = 157;
-
-const LAST_ROOM: usize = 111;
 
 // The next line of a log, from the start of the memory: what is kept of it, if there is one.
 pub fn read_line<R: ByteSource, W: ByteSink>(
@@ -57,28 +54,24 @@ pub fn play<W: ByteSink>(
 ) -> io::Result<()>
     requires { held ≤ kept_most }
     ensures device { t.new.device ≡ (did t.old.device (event (take held line.old))).device }
-    ensures whole { OnOk result (Appends (W.contents to.old) (W.contents to.new)
-        (printed number (event (take held line.old)) (did t.old.device (event (take held line.old))))) }
-    ensures front { WritesFront (W.contents to.old) (W.contents to.new)
+    ensures text { WritesText W.fails_with (W.contents to.old) (W.contents to.new) result
         (printed number (event (take held line.old)) (did t.old.device (event (take held line.old)))) }
-    ensures err { IfErr result W.fails_with }
 {
-    let mut out = [0; PRINT_ROOM];
+    let mut out = Printed::new();
     let says = line::line_says(&line[..held]);
     line[held] = b'\r';
-    let count = event::print(t, number, says, &line[held.min(2)..held + 1], &mut out);
-    writer::put(to, &out[..count])
+    event::print(t, number, says, &line[held.min(2)..held + 1], &mut out);
+    writer::put(to, &out)
 }
 
 // What is printed after the last line, with all that waits.
 pub fn finish<W: ByteSink>(device: &Device, to: &mut W) -> io::Result<()>
-    ensures whole { OnOk result (Appends (W.contents to.old) (W.contents to.new) (last_device_line device.now)) }
-    ensures front { WritesFront (W.contents to.old) (W.contents to.new) (last_device_line device.now) }
+    ensures text { WritesText W.fails_with (W.contents to.old) (W.contents to.new) result
+        (last_device_line device.now) }
     ensures none_waits { OnOk result (W.waiting to.new ≡ []) }
-    ensures err { IfErr result W.fails_with }
 {
-    let mut out = [0; LAST_ROOM];
-    let count = last::put_last(&mut out, device);
-    writer::put(to, &out[..count])?;
+    let mut out = Printed::new();
+    last::put_last(device, &mut out);
+    writer::put(to, &out)?;
     to.flush()
 }

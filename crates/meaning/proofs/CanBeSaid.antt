@@ -13,8 +13,8 @@ use Rattle.words.specs.Inputs.{is_input}
 use Rattle.pjlink.specs.declared.body.Body.TheVariants.{Powr, Inpt, Avmt, Erst, Lamp, Inst, Name, Inf1, Inf2, Info}
 use Rattle.pjlink.specs.declared.body.Body.TheVariants.{Clss, Frez, Svol, Mvol, Snum, Sver, Innm, Inpt2, Inst2}
 use Rattle.pjlink.specs.declared.command.Command.{Command}
-use Rattle.pjlink.specs.declared.command.Command.TheVariants.{PowerSet, InputSet, MuteSet, Query}
-use Rattle.pjlink.specs.declared.command.Command.TheVariants.{InputSet2, FreezeSet, VolumeStep, NameQuery}
+use Rattle.pjlink.specs.declared.command.Command.TheVariants.{PowerSet, InputSet, MuteSet, Query, InputSet2, FreezeSet}
+use Rattle.pjlink.specs.declared.command.Command.TheVariants.{VolumeStep, NameQuery}
 use Rattle.words.proofs.InputsReadBack.{is_input-input_named}
 use Rattle.words.proofs.SourcesFollowed.{named_stands}
 use Rattle.words.specs.declared.input.Input.{Input}
@@ -22,9 +22,9 @@ use Rattle.pjlink.specs.Requests.{Request}
 use Rattle.pjlink.specs.declared.request.Unasked.TheVariants.{Unlisted, UnknownBody}
 use Rattle.pjlink.specs.Said.{Said, said_bytes, said_most, refused}
 use Rattle.pjlink.specs.Carried.{inputs_carried}
-use Rattle.pjlink.specs.CanSay.{has_own_parameter, is_refusal_to}
-use Rattle.pjlink.specs.CanSay.{CanSay, done, refuses, power, input, mutes, errors, lamps, inputs, name, maker, model}
-use Rattle.pjlink.specs.CanSay.{other, class_said, freeze, serial, version, input_name, input_2, inputs_2}
+use Rattle.pjlink.specs.CanSay.{has_own_parameter, is_refusal_to, CanSay, done, refuses, power, input, mutes, errors}
+use Rattle.pjlink.specs.CanSay.{lamps, inputs, name, maker, model, other, class_said, freeze, serial, version}
+use Rattle.pjlink.specs.CanSay.{input_name, input_2, inputs_2}
 use Rattle.words.specs.Lamps.{is_lamp_hours}
 use Rattle.pjlink.proofs.SaidPlain.{said_within_most, said_plain}
 use Rattle.record.specs.Limits.{input_room, lamps_most, lamp_limit, is_lit}
@@ -34,8 +34,7 @@ use Rattle.record.specs.declared.types.Settings.{Settings}
 use Rattle.record.specs.declared.types.Own.{Own}
 use Rattle.record.proofs.Kept.{kept_length}
 use Rattle.record.proofs.Rules.{errors_long, list_all-at_most, lamps_within}
-use Rattle.record.proofs.SettingsTold.{input_count_low, input_count_high, input_at}
-use Rattle.record.proofs.SettingsTold.{serial_told, version_told, name_at}
+use Rattle.record.proofs.SettingsTold.{input_count_low, input_count_high, input_at, serial_told, version_told, name_at}
 use Rattle.record.specs.Facts.{IsOwn, IsSettings}
 use Rattle.record.proofs.FactsTold.{own_is, settings_is}
 use Rattle.meaning.specs.SetUpInputs.{no_input, pairs_of, inputs_of, place_of}

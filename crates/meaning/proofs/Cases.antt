@@ -92,3 +92,5 @@ module _ (s : Settings) (o : Own) (r : Request) where
     pub done_passed : done s o r ≡ carried_out s o r
     unfolding done
     done_passed = if_no o (carried_out s o r) (λ j. p.defined j || p.listed j || p.sound j || p.timely j)
+
+pub ruleset first_rule = (err1, err2, err4, err3, meant_passed, done_passed)

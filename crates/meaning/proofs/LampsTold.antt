@@ -1,8 +1,8 @@
 -- LAMP: at each lamp's place, its seconds divided by 3,600, rounded down, and whether it is lit: enabled, in warm-up
 -- or power-on (RULES, Lamps).
 -- Assumes nothing.
-use Rattle.std.proofs.Common.{ℕ, ◌<◌, ◌≤◌, ◌≡◌, false, ◌&&◌, arith, length, slice_index_or}
-use Rattle.std.proofs.Common.{length-take, get_or-take, ne_eqb}
+use Rattle.std.proofs.Common.{ℕ, ◌<◌, ◌≤◌, ◌≡◌, false, ◌&&◌, arith, length, slice_index_or, length-take, get_or-take}
+use Rattle.std.proofs.Common.{ne_eqb}
 use Rattle.std.specs.Prelude.{Ok}
 use Rattle.pjlink.specs.declared.body.Body.TheVariants.{Lamp}
 use Rattle.pjlink.specs.declared.command.Command.TheVariants.{Query}

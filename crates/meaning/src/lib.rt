@@ -20,7 +20,7 @@ use words::refusal::Refusal;
 // A command: the first rule that applies refuses it; else it is answered, and then carried out.
 #[tactic(auto, unfolding(crate::specs::Meaning::meant, crate::specs::Meaning::done))]
 fn answer<'a>(s: &'a Settings, o: &mut Own, c: Command) -> Reply<'a>
-    ensures value { said_by result ≡ meant s.now o.old (Ok c) }
+    ensures said { said_by result ≡ meant s.now o.old (Ok c) }
     ensures own { o.new ≡ done s.now o.old (Ok c) }
 {
     if rules::is_undefined(s, c) {
@@ -46,7 +46,7 @@ fn answer<'a>(s: &'a Settings, o: &mut Own, c: Command) -> Reply<'a>
 /// What a legal projector answers, and the own part that the request leaves.
 #[tactic(auto, unfolding(crate::specs::Meaning::meant, crate::specs::Meaning::done))]
 pub fn decide<'a>(s: &'a Settings, o: &mut Own, r: Result<Command, Unasked>) -> Reply<'a>
-    ensures value { said_by result ≡ meant s.now o.old r }
+    ensures said { said_by result ≡ meant s.now o.old r }
     ensures own { o.new ≡ done s.now o.old r }
 {
     match r {

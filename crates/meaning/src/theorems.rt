@@ -27,6 +27,7 @@ pub fn one_result()
 {}
 
 /// The first of the four rules that applies refuses, with its own refusal (RULES, Commands).
+#[tactic(auto, using(crate::proofs::Cases::first_rule))]
 pub fn the_first_rule_decides()
     ensures undefined { (s : Settings) (o : Own) (r : Request) → is_undefined s r ≡ true → meant s o r ≡ refused 1 }
     ensures out_of_parameter { (s : Settings) (o : Own) (r : Request) → is_undefined s r ≡ false
@@ -52,6 +53,7 @@ pub fn what_a_request_leaves()
 {}
 
 /// The input that was set is the one that is then answered, and only an input that a line can carry is listed.
+#[tactic(auto, using(crate::proofs::InputSets::set_then_asked, crate::proofs::InputSets::listed_is_input))]
 pub fn an_input_set_is_answered()
     ensures answered { (s : Settings) (o : Own) (i : Input) → is_settings s ≡ true
         → meant s o (Ok (InputSet i)) ≡ okay
@@ -60,6 +62,7 @@ pub fn an_input_set_is_answered()
 {}
 
 /// A power set is answered OK exactly where the projector is neither at fault nor between on and off.
+#[tactic(auto, using(crate::proofs::PowerSets::power_set_only, crate::proofs::PowerSets::power_set_passes))]
 pub fn when_a_power_set_passes()
     ensures passes { (s : Settings) (o : Own) (wanted : Bool) → o.fault ≡ false → is_between o.power ≡ false
         → meant s o (Ok (PowerSet wanted)) ≡ okay }

@@ -33,8 +33,8 @@ pub fn what_is_read_was_written()
     ensures allowed { (c : Command) (p : List ℕ) → IsAllowed c p true → read_parameter c p ≡ nothing → ⊥ }
 {}
 
-/// A line that a set-up takes is of its class or of a lower one, and has that class's digit; a reply of one class is none
-/// of another (RULES, Class 2).
+/// A line that a set-up takes is of its class or of a lower one, and has that class's digit; a reply of one class is
+/// none of another (RULES, Class 2).
 pub fn a_line_has_its_class()
     ensures taken { (k : ℕ) (l : List ℕ) → is_command_form k l ≡ true → 1 ≤ k → line_class l ≤ k }
     ensures digit { (k : ℕ) (l : List ℕ) → is_command_form k l ≡ true → l at 1 ≡ class_digit (line_class l) }

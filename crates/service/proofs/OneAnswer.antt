@@ -1,6 +1,6 @@
 -- At most one answer holds of readings, and it leaves one list of differences.
 -- Assumes nothing.
-use Rattle.std.proofs.Common.{ℕ, ◌≡◌, ◌<◌, ◌≤◌, List, length, Option, Some, None, Result, Ok, Err, refl, sym}
+use Rattle.std.proofs.Common.{ℕ, ◌≡◌, ◌<◌, ◌≤◌, List, Option, Some, None, Result, Ok, Err, refl, sym}
 use Rattle.std.proofs.Common.{ap, ◌∙◌, arith, ⊎_elim}
 use Rattle.std.specs.Prelude.{ℤ, All}
 use Rattle.text.proofs.Orders.{le_or_lt}
@@ -59,6 +59,4 @@ one_list rs out (Err x) (Err y) m n e p q = p.kept ∙ sym q.kept
 
 pub one_comparison : (rs : List Reading) (out : List ℤ) (b c : Result (Option ℕ) CompareError) (m n : List ℤ)
     → ComparedAs rs out b m → ComparedAs rs out c n → (b ≡ c) × (m ≡ n)
-one_comparison rs out b c m n p q =
-    let same = one_answer rs (length out) b c p.told q.told in
-    (same, one_list rs out b c m n same p q)
+one_comparison rs out b c m n p q = grind (arith, one_answer, one_list)

@@ -2,8 +2,8 @@
 -- after the other.
 -- Assumes nothing.
 use Rattle.std.proofs.Common.{ℕ, suc, ◌+◌, ◌≤◌, ◌<◌, ◌≡◌, refl, sym, ap, ◌∙◌, Bool, true, false, List, [], ◌∷◌, ⊎_elim}
-use Rattle.std.proofs.Common.{add-zero, add-one, arith, length, take, set, nat_lt, ◌==◌, lt-ltb, le-leb}
-use Rattle.std.proofs.Common.{leb-true, leb-false}
+use Rattle.std.proofs.Common.{add-zero, add-one, arith, length, take, set, nat_lt, ◌==◌, lt-ltb, le-leb, leb-true}
+use Rattle.std.proofs.Common.{leb-false}
 use Rattle.std.proofs.lemmas.Bool.{lt-leb}
 use Rattle.std.proofs.Math.Dec.{leb-suc-suc}
 use Rattle.std.proofs.Math.Seq.{sets}

@@ -10,8 +10,7 @@ use Rattle.record.specs.Limits.{line_room}
 use Rattle.record.specs.declared.types.Line.{Line}
 use Rattle.record.proofs.Kept.{room_empty, room_more}
 use Rattle.stream.specs.declared.Gathered.{Gathered}
-use Rattle.stream.specs.Collecting.{line_of, empty_line, overlong_line, collected, collected_all, gathered_of}
-use Rattle.stream.specs.Collecting.{gathered}
+use Rattle.stream.specs.Collecting.{line_of, empty_line, overlong_line, collected, collected_all, gathered_of, gathered}
 use Rattle.stream.proofs.UpToTheEnd.{up_to-append}
 use Rattle.stream.proofs.AllAtOnce.{one_fits, all_past}
 

@@ -10,8 +10,8 @@ use Rattle.std.proofs.lemmas.Bool.{eqb-false, not-true}
 use Rattle.std.proofs.Math.Seq.{take-length, take-append-add}
 use mathlib.Core.List.{foldl}
 use Rattle.text.proofs.Choices.{if_yes, if_no, if_by, both_left, both_right}
-use Rattle.stream.specs.Machine.{Out, Took, unanswered, reply_then, took_bytes, one_step, run_over}
-use Rattle.stream.specs.Machine.{one_call, handed, handed_part, handed_parts, uncut}
+use Rattle.stream.specs.Machine.{Out, Took, unanswered, reply_then, took_bytes, one_step, run_over, one_call, handed}
+use Rattle.stream.specs.Machine.{handed_part, handed_parts, uncut}
 use Rattle.stream.proofs.UpToTheEnd.{not_end}
 use Rattle.stream.proofs.OneCallGathers.{call_by}
 

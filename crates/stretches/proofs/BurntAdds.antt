@@ -12,7 +12,7 @@ use Rattle.record.specs.declared.types.Device.{Device}
 use Rattle.clock.specs.Second.{marks_in}
 use Rattle.clock.proofs.ChangedWhere.{where_at, length-changed_where}
 use Rattle.ours.specs.Board.{ours}
-use Rattle.demands.specs.Demand3.{Beginning, start_marks, begun_by, IsAccepted, history_of}
+use Rattle.demands.specs.CountsSeconds.{Beginning, start_marks, begun_by, IsAccepted, history_of}
 use Rattle.demands.specs.History.{burning}
 use Rattle.watch.specs.Marking.{FloorEvent, done_by, seconds_by}
 use Rattle.watch.specs.Watching.{Watching, watching_from, is_burning_in, gained_by, watched_on, burnt_by}

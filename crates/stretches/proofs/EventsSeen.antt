@@ -28,10 +28,8 @@ use Rattle.demands.specs.Calls.{opens as opens_at, receives as receivesAt, passe
 use Rattle.demands.specs.Calls.{enables}
 use Rattle.demands.specs.History.{Event, switched, a_second, mark_switched, Streams, seen, Stage, steady, towards}
 use Rattle.demands.specs.History.{history, streams_after}
-use Rattle.demands.proofs.AgreesThen.{Then, agrees_none}
-use Rattle.demands.proofs.CallsNoted.{noted}
-use Rattle.demands.proofs.Agrees.{power_of, Agrees}
-use Rattle.demands.proofs.PowerSetsSeen.{one_or_none}
+use Rattle.demands.proofs.Agrees.{Then, agrees_none, power_of, Agrees}
+use Rattle.demands.proofs.HistoryTold.{noted, one_or_none}
 use Rattle.watch.specs.Marking.{FloorEvent, logged, marked, done_by, seconds_by}
 use Rattle.watch.proofs.DoneSpelt.{done_opening, done_receiving, done_passing, done_closing, done_nothing}
 use Rattle.watch.proofs.DoneSpelt.{done_marking}

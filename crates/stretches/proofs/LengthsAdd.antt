@@ -6,7 +6,7 @@ use Rattle.std.specs.Prelude.{if◌then◌else◌}
 use Rattle.record.specs.Wanted.{Wanted}
 use Rattle.demands.specs.History.{Event, switched, a_second, mark_switched, Stage, next, stage_is_burning}
 use Rattle.demands.specs.History.{burning_from}
-use Rattle.demands.specs.Demand3.{count_set}
+use Rattle.demands.specs.CountsSeconds.{count_set}
 use Rattle.stretches.specs.Stretches.{Stretch, stretches_from, stretches_of, lengths_of, seconds_lit_from}
 
 pub lengths_of-append : (xs ys : List Stretch) → lengths_of (xs ++ ys) ≡ lengths_of xs + lengths_of ys

@@ -15,10 +15,10 @@ use Rattle.ours.specs.Board.{ours}
 use Rattle.demands.specs.History.{Event, Streams, seen}
 use Rattle.demands.specs.History.{history}
 use Rattle.demands.specs.History.{Stage, stage_is_burning, reached, marks_after}
-use Rattle.demands.specs.Demand3.{Beginning, sets_up, loads, loads_marked, loads_old, start_marks, begun_by, IsAccepted}
-use Rattle.demands.specs.Demand3.{history_of}
-use Rattle.demands.proofs.Agrees.{Agrees, lit_shown}
-use Rattle.demands.proofs.AgreesThen.{Then}
+use Rattle.demands.specs.CountsSeconds.{Beginning, sets_up, loads, loads_marked, loads_old, start_marks, begun_by}
+use Rattle.demands.specs.CountsSeconds.{IsAccepted}
+use Rattle.demands.specs.CountsSeconds.{history_of}
+use Rattle.demands.proofs.Agrees.{Agrees, lit_shown, Then}
 use Rattle.demands.proofs.HistoryTold.{begun_agrees}
 use Rattle.watch.specs.Marking.{FloorEvent, done_by, seconds_by}
 use Rattle.watch.specs.Watching.{Watching, watching_from, is_burning_in, watched_on}

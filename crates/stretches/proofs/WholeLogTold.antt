@@ -8,8 +8,8 @@ use Rattle.record.specs.declared.types.Device.{Device}
 use Rattle.record.proofs.LegalTold.{settings_of_legal}
 use Rattle.ours.specs.Board.{ours}
 use Rattle.demands.specs.Calls.{run}
-use Rattle.demands.specs.Demand3.{Beginning, start_marks, begun_by, IsAccepted}
-use Rattle.demands.proofs.Demand3.{ours_3}
+use Rattle.demands.specs.CountsSeconds.{Beginning, start_marks, begun_by, IsAccepted}
+use Rattle.demands.proofs.CountsSeconds.{ours_counts_seconds}
 use Rattle.demands.specs.History.{Stage, Streams, no_streams, steady}
 use Rattle.demands.proofs.Agrees.{Agrees}
 use Rattle.demands.proofs.HistoryTold.{begun_agrees}
@@ -57,5 +57,5 @@ module _ (b : Beginning) (w : Wanted) (h : IsAccepted ours b w) where
             (omega (arith, counted, (settings_of_legal begun legal).lamps));
         lamps = λ k inside.
             ap (λ (d : Device). slice_index_or d.own.lamps k 0) (calls_leave es (watching_from begun) w fresh legal)
-            ∙ ours_3.lamps_tell_the_history b w (calls_of begun es) k h inside;
+            ∙ ours_counts_seconds.lamps_tell_the_history b w (calls_of begun es) k h inside;
       }

@@ -20,7 +20,7 @@ use Rattle.floorlog.specs.Doing.{log_place}
 use Rattle.ours.specs.Board.{ours}
 use Rattle.demands.specs.Calls.{Call, opens as opens_at, receives as receivesAt, passes as passesBy}
 use Rattle.demands.specs.Calls.{closes as closes_at, enables}
-use Rattle.demands.specs.Demand3.{Beginning, IsAccepted, start_marks, begun_by, history_of}
+use Rattle.demands.specs.CountsSeconds.{Beginning, IsAccepted, start_marks, begun_by, history_of}
 use Rattle.demands.specs.History.{Event, burning, lamp_with}
 use Rattle.watch.specs.Marking.{FloorEvent, logged, marked, done_by}
 use Rattle.watch.specs.Watching.{Watching, watching_from}

@@ -19,8 +19,8 @@ use Rattle.device.specs.Calls.{Result, reply_room, received, opened_by, place_ta
 use Rattle.controller.specs.Writing.{WrittenAs, command_room}
 use Rattle.controller.specs.Greetings.{read_greeting}
 use Rattle.demands.specs.Greeted.{greeted_on}
-use Rattle.demands.proofs.TakenAndRead.{TakenAndRead, written_reads_back, written_reads_back_secured}
-use Rattle.demands.proofs.GreetsBack.{greets_back}
+use Rattle.demands.proofs.WrittenAndRead.{TakenAndRead, written_reads_back, written_reads_back_secured}
+use Rattle.demands.proofs.WrittenAndRead.{opening_greets_back}
 use Rattle.codes.specs.Commands.{coded_command}
 use Rattle.codes.specs.Readings.{flat_greeting, said_flat, flat}
 use Rattle.codes.specs.ByCode.{written_by, read_by}
@@ -70,4 +70,4 @@ pub face_greets_back : (d : Device) (r room : ℕ) → is_legal d ≡ true → l
     → let o = opened_by d r room in
     flat_greeting (read_greeting o.reply) ≡ flat_greeting (greeted_on (connection_at o.device (place_taken d room)))
 face_greets_back d r room legal free enough word =
-    ap flat_greeting (greets_back d r room legal free enough word).heard
+    ap flat_greeting (opening_greets_back d r room legal free enough word).1

@@ -1,7 +1,6 @@
 use Rattle.ours.specs.Board.{ours}
-use Rattle.demands.proofs.RandomKept.{random_kept}
-use Rattle.demands.proofs.Unheard.{ours_unheard}
-use Rattle.demands.proofs.UnheardMoments.{unheard_throughout}
+use Rattle.demands.proofs.CallsKeep.{random_kept}
+use Rattle.demands.proofs.Unheard.{ours_unheard, unheard_throughout}
 use Rattle.demands.proofs.UnheardSamples.{openings_matter}
 use Rattle.demands.proofs.ours_keeps_more.Goals as goal
 

@@ -1,6 +1,6 @@
-use Rattle.demands.proofs.Demand1.{ours_1}
-use Rattle.demands.proofs.Demand2.{ours_2}
-use Rattle.demands.proofs.Demand3.{ours_3}
+use Rattle.demands.proofs.KeepsRunning.{ours_keeps_running}
+use Rattle.demands.proofs.SpeaksPjlink.{ours_speaks_pjlink}
+use Rattle.demands.proofs.CountsSeconds.{ours_counts_seconds}
 use Rattle.demands.proofs.Interleaved.{interleaved}
 use Rattle.demands.proofs.Unheard.{ours_unheard}
 use Rattle.demands.proofs.BoardSwap.{ours_swap}
@@ -9,9 +9,9 @@ use Rattle.demands.proofs.ours_keeps_the_demands.Goals as goal
 
 pub returns : goal.returns
 returns c = record {
-  stays_inside = ours_1;
-  speaks_pjlink = ours_2;
-  time_adds = ours_3;
+  keeps_running = ours_keeps_running;
+  speaks_pjlink = ours_speaks_pjlink;
+  counts_seconds = ours_counts_seconds;
   places_stand = interleaved;
   outsider_unheard = ours_unheard;
   survives_a_swap = ours_swap;

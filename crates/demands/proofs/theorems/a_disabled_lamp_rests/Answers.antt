@@ -1,4 +1,4 @@
-use Rattle.demands.proofs.WrongLampsFall.{ours_rests}
+use Rattle.demands.proofs.WrongBoardsFall.{ours_rests}
 use Rattle.demands.proofs.theorems.a_disabled_lamp_rests.Goals as goal
 
 pub returns : goal.returns

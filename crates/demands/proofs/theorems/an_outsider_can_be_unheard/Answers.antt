@@ -1,8 +1,7 @@
 use Rattle.demands.specs.TwoRuns.{asking, waiting}
-use Rattle.demands.proofs.UnheardRuns.{alike}
-use Rattle.demands.proofs.UnheardSamples.{accepted, secured, never, unmatched_asks, unmatched_waits, quiet}
-use Rattle.demands.proofs.UnheardSamples.{asks_failed, waits_awaited, power_on_answered}
-use Rattle.demands.proofs.UnheardSamples.{asks_burnt, asks_cools, waits_cools}
+use Rattle.demands.proofs.UnheardSamples.{alike, accepted, secured, never, unmatched_asks, unmatched_waits, quiet}
+use Rattle.demands.proofs.UnheardSamples.{asks_failed, waits_awaited, power_on_answered, asks_burnt, asks_cools}
+use Rattle.demands.proofs.UnheardSamples.{waits_cools}
 use Rattle.demands.proofs.theorems.an_outsider_can_be_unheard.Goals as goal
 
 pub returns : goal.returns

@@ -1,4 +1,4 @@
-use Rattle.demands.proofs.WrongPlacesFall.{ours_answers_halves}
+use Rattle.demands.proofs.WrongBoardsFall.{ours_answers_halves}
 use Rattle.demands.proofs.theorems.halves_by_turns_are_answered.Goals as goal
 
 pub returns : goal.returns

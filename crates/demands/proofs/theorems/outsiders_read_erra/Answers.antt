@@ -1,4 +1,4 @@
-use Rattle.demands.proofs.OutsidersReadErra.{outsider_reads_erra}
+use Rattle.demands.proofs.LinesAnswered.{outsider_reads_erra}
 use Rattle.demands.proofs.theorems.outsiders_read_erra.Goals as goal
 
 pub returns : goal.returns

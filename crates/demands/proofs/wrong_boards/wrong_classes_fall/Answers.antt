@@ -1,5 +1,4 @@
-use Rattle.demands.proofs.WrongClassesFall.{answers_class_2_falls, refuses_letters_falls}
-use Rattle.demands.proofs.WrongClassesFall.{volume_wraps_falls}
+use Rattle.demands.proofs.WrongBoardsFall.{answers_class_2_falls, refuses_letters_falls, volume_wraps_falls}
 use Rattle.demands.proofs.wrong_boards.wrong_classes_fall.Goals as goal
 
 pub returns : goal.returns

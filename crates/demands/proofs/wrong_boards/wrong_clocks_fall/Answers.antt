@@ -1,5 +1,4 @@
-use Rattle.demands.proofs.WrongClocksFall.{still_clock_falls, still_clock_adds, first_only_falls}
-use Rattle.demands.proofs.WrongClocksFall.{drops_part_hour_falls}
+use Rattle.demands.proofs.WrongBoardsFall.{still_clock_falls, still_clock_adds, first_only_falls, drops_part_hour_falls}
 use Rattle.demands.proofs.wrong_boards.wrong_clocks_fall.Goals as goal
 
 pub returns : goal.returns

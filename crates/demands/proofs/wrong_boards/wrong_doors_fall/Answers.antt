@@ -1,7 +1,6 @@
-use Rattle.demands.proofs.WrongDoorsFall.{forgets_password_falls, ignores_password_falls}
-use Rattle.demands.proofs.WrongDoorsFall.{greets_with_zero_falls, time_opens_falls}
-use Rattle.demands.proofs.WrongDoorsFall.{failed_answers_falls, never_closes_falls}
-use Rattle.demands.proofs.WrongDoorsFall.{hides_faults_falls, hides_errors_falls}
+use Rattle.demands.proofs.WrongBoardsFall.{forgets_password_falls, ignores_password_falls, greets_with_zero_falls}
+use Rattle.demands.proofs.WrongBoardsFall.{time_opens_falls, failed_answers_falls, never_closes_falls}
+use Rattle.demands.proofs.WrongBoardsFall.{hides_faults_falls, hides_errors_falls}
 use Rattle.demands.proofs.wrong_boards.wrong_doors_fall.Goals as goal
 
 pub returns : goal.returns

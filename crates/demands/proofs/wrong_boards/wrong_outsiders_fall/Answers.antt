@@ -1,5 +1,4 @@
-use Rattle.demands.proofs.WrongOutsidersFall.{closes_next_falls, counts_failures_falls}
-use Rattle.demands.proofs.WrongOutsidersFall.{refuses_elsewhere_falls}
+use Rattle.demands.proofs.WrongBoardsFall.{closes_next_falls, counts_failures_falls, refuses_elsewhere_falls}
 use Rattle.demands.proofs.wrong_boards.wrong_outsiders_fall.Goals as goal
 
 pub returns : goal.returns

@@ -1,4 +1,4 @@
-use Rattle.demands.proofs.WrongRefusalsFall.{writes_first_falls, changes_refused_falls}
+use Rattle.demands.proofs.WrongBoardsFall.{writes_first_falls, changes_refused_falls}
 use Rattle.demands.proofs.wrong_boards.wrong_refusals_fall.Goals as goal
 
 pub returns : goal.returns

@@ -11,6 +11,6 @@ pub returns-in-Closes-clause-reply : goal.returns-in-Closes-clause-reply
 unfolding did
 returns-in-Closes-clause-reply c =
     let d = c.args.device.now in
-    let out = c.args.out.now in
-    ap (λ (r : List ℕ). over r out) (sym (closing_quiet d log_place))
-    ∙ ap (λ (s : Says). over (did d (event_of s c.args.bytes.now)).reply out) (sym c.in-Closes.is)
+    let m = c.args.reply.now in
+    ap (λ (r : List ℕ). over r m) (sym (closing_quiet d log_place))
+    ∙ ap (λ (s : Says). over (did d (event_of s c.args.bytes.now)).reply m) (sym c.in-Closes.is)

@@ -1,6 +1,7 @@
--- Up to k each lamp has its seconds in memory.
-use Rattle.floorlog.proofs.LampsShown.{PutTo}
+-- each lamp so far has its seconds on the line
+use Rattle.std.proofs.Common.{◌≡◌, ◌++◌, take}
+use Rattle.floorlog.specs.LastLine.{lamps_shown}
 use Rattle.floorlog.proofs.last.put_lamps.Given as goal
 
-abbrev pub invariant-loop-k : goal.invariant-loop-k
-invariant-loop-k l = PutTo l.fn.out l.at l.lamps l.count l.out l.place l.k
+abbrev pub invariant-loop-lamp : goal.invariant-loop-lamp
+invariant-loop-lamp l = l.out.items ≡ l.initial.out.items ++ lamps_shown (take l.lamp-index l.lamps)

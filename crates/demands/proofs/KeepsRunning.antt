@@ -1,0 +1,245 @@
+-- DEMAND 1 holds of our calls: every call stays inside its memory, whatever bytes arrive, on any record; it gives the
+-- number of the first row of the table that applies to it; one that gives a number returns the record that it was
+-- given, takes nothing and writes nothing; and none makes a legal record otherwise. A refusal replies nothing; a
+-- reply has at most 136 bytes, and a digest with a command's line at most 168: no more than what the calls ask for.
+-- Assumes nothing.
+use Rattle.std.proofs.Common.{ℕ, ◌≤◌, ◌≡◌, ap, List, [], arith, length, take, drop, length-append, length-drop, Bool}
+use Rattle.std.proofs.Common.{true, false, refl, sym, ◌∙◌, not, ◌∷◌}
+use Rattle.std.proofs.Math.Seq.{take-append_seam, drop-append_seam}
+use Rattle.text.specs.Words.{over}
+use Rattle.digest.proofs.Laws.{length-leading_digest}
+use Rattle.pjlink.specs.Commands.{command_line, body_of, command_class}
+use Rattle.pjlink.specs.declared.command.Command.{Command}
+use Rattle.pjlink.proofs.CommandLines.{command_length, length-command_line}
+use Rattle.record.specs.declared.types.Device.{Device}
+use Rattle.stored.specs.Form.{stored_by}
+use Rattle.stored.proofs.StoringTold.{storing_by, refused_store_writes_nothing, storing_number}
+use Rattle.device.specs.Receiving.{digest_long}
+use Rattle.device.specs.Calls.{longest_reply, Result, received, opened_by}
+use Rattle.device.proofs.Cases.{received_by, opened_by_lem}
+use Rattle.device.proofs.Counts.{received_within}
+use Rattle.device.proofs.Short.{longest_greeting, receiving_short, opening_short}
+use Rattle.controller.specs.Writing.{led_by, written_command}
+use Rattle.controller.proofs.Cases.{written_by, greeting_open_lem, greeting_refused, greeting_secured_lem}
+use Rattle.controller.proofs.Cases.{greeting_none}
+use Rattle.ours.specs.Board.{lent_by, ours}
+use Rattle.demands.specs.Calls.{Call, opens, closes, receives, passes, marks, reports, enables, number_of, after}
+use Rattle.demands.specs.KeepsRunning.{Inside, WroteInside, StaysInside, rows_of, set_up_rows, writer_rows, reader_rows}
+use Rattle.demands.specs.KeepsRunning.{greeting_rows, Untouched, WritesNothing, KeepsRunning}
+use Rattle.std.specs.Prelude.{if◌then◌else◌}
+use Rattle.text.specs.Rows.{◌when◌, first_of}
+use Rattle.text.proofs.Choices.{if_yes, if_no}
+use Rattle.text.specs.Scans.{same_by, itself}
+use Rattle.pjlink.specs.Forms.{erra_line, greeting_open, is_reply_form, head_body, reply_parameter}
+use Rattle.pjlink.specs.Bodies.{is_body}
+use Rattle.pjlink.specs.Writings.{IsAllowed}
+use Rattle.record.specs.Wanted.{Wanted}
+use Rattle.record.specs.Legal.{is_legal}
+use Rattle.record.proofs.Results.{set_up_number as set-up-table, fault_number, errors_number, mark_number}
+use Rattle.record.proofs.Results.{fault_refusal, errors_refusal, mark_refusal, set_up_refusal}
+use Rattle.clock.proofs.Results.{passed-number, passed_refusal}
+use Rattle.device.proofs.Numbers.{received-number, opened_number, closed_number}
+use Rattle.controller.specs.Reading.{reading_outcome_number, means_it, erra_said, not_a_line, other_command, disallowed}
+use Rattle.controller.specs.Greetings.{greets, random_in, read_greeting, greeting_number}
+use Rattle.controller.proofs.Refusals.{written_number, refusal_writes_nothing, number_means_nothing}
+use Rattle.controller.proofs.ReadsSound.{outcome_is_first}
+use Rattle.device.proofs.Refusals.{Refused, receiving_refused, opening_refused, closing_refused, opening_refused_place}
+use Rattle.record.proofs.HostKept.{fault_legal, errors_legal, mark_legal}
+use Rattle.clock.proofs.TimeLegal.{passed_legal}
+use Rattle.device.proofs.Legal.{receiving_legal, opening_legal, closing_legal}
+use Rattle.record.proofs.Started.{blank_illegal, set_up_legal}
+use Rattle.stored.proofs.Results.{loading_number, refused_load_blank, accepted_legal}
+
+module _ (r m : List ℕ) where
+  pub over_front : take (length r) (over r m) ≡ r
+  over_front = take-append_seam r (drop (length r) m)
+
+  pub over_later : drop (length r) (over r m) ≡ drop (length r) m
+  over_later = drop-append_seam r (drop (length r) m)
+
+  pub length-over : length r ≤ length m → length (over r m) ≡ length m
+  length-over h = omega (arith, length-append r (drop (length r) m), length-drop (length r) m)
+
+  pub over_nothing : r ≡ [] → over r m ≡ m
+  over_nothing e = ap (λ (s : List ℕ). over s m) e
+
+led_by_long : (secured : Bool) (random : ℕ) (password : List ℕ) → length (led_by secured random password) ≤ digest_long
+led_by_long true random password = omega (arith, length-leading_digest random password)
+led_by_long false random password = omega arith
+
+module _ (d : Device) (m : List ℕ) where
+  abbrev Fits : Result Device → Type 0
+  Fits r = length r.reply ≤ length m
+
+  received_fits : (p : ℕ) (bs : List ℕ) → Fits (received d p bs (length m))
+  received_fits p bs =
+      received_by d p bs (length m) (λ r. length r.reply ≤ longest_reply → Fits r) (λ n z short. omega arith)
+      (λ h s t c short. omega arith)
+      (receiving_short d p bs (length m))
+
+  opened_fits : (random : ℕ) → Fits (opened_by d random (length m))
+  opened_fits random =
+      opened_by_lem d random (length m) (λ r. length r.reply ≤ longest_greeting → Fits r) (λ n z short. omega arith)
+      (λ h s c short. omega arith)
+      (opening_short d random (length m))
+
+  lent_inside : (r : Result Device) → Fits r → Inside Device m (lent_by r m)
+  lent_inside r h = record { room = length-over r.reply m h; fits = h; later = over_later r.reply m }
+
+pub stays_inside : (d : Device) (c : Call) → StaysInside ours d c
+stays_inside d (opens random m) = lent_inside d m (opened_by d random (length m)) (opened_fits d m random)
+stays_inside d (receives p bs m) =
+    (lent_inside d m (received d p bs (length m)) (received_fits d m p bs), received_within d p bs (length m))
+stays_inside d (closes p) = tt
+stays_inside d (passes n) = tt
+stays_inside d (marks fault) = tt
+stays_inside d (reports errors) = tt
+stays_inside d (enables lamp mark) = tt
+
+module _ (c : Command) (secured : Bool) (random : ℕ) (password m : List ℕ) where
+  written_fits : length (written_command c secured random password (length m)).bytes ≤ length m
+  written_fits =
+      written_by c secured random password (length m) (λ w. length w.bytes ≤ length m) (λ h. omega arith)
+      (λ h w. omega arith)
+      (λ h w. omega (
+        arith,
+        length-append (led_by secured random password) (command_line c),
+        led_by_long secured random password,
+        length-command_line c,
+        command_length c,
+      ))
+
+  pub writer_stays_inside : WroteInside m (ours.write c secured random password m)
+  writer_stays_inside =
+      let bs = (written_command c secured random password (length m)).bytes in
+      record { room = length-over bs m written_fits; fits = written_fits; later = over_later bs m }
+
+pub store_stays_inside : (d : Device) (m : List ℕ) → WroteInside m (ours.store d m)
+store_stays_inside d m =
+    let bs = (stored_by d (length m)).bytes in
+    let fits = storing_by d (length m) (λ r. length r.bytes ≤ length m) (λ n some. omega arith) (λ h l. l) in
+    record { room = length-over bs m fits; fits = fits; later = over_later bs m }
+
+unless : (legal : Bool) → ◌≡◌ {A = ℕ} (if legal then 0 else 1) (if not legal then 1 else 0)
+unless true = refl
+unless false = refl
+
+pub number_is_first : (d : Device) (c : Call) → number_of ours d c ≡ first_of (rows_of d c)
+number_is_first d (opens random m) = opened_number d (length m) random
+number_is_first d (closes p) = closed_number d p
+number_is_first d (receives p bs m) = received-number d (length m) p bs
+number_is_first d (passes n) = passed-number d n ∙ unless (is_legal d)
+number_is_first d (marks fault) = fault_number d fault
+number_is_first d (reports errors) = errors_number d errors
+number_is_first d (enables lamp mark) = mark_number d lamp mark
+
+pub set_up_number : (w : Wanted) → (ours.set_up w).number ≡ first_of (set_up_rows w)
+set_up_number = set-up-table
+
+pub writer_number : (c : Command) (secured : Bool) (random : ℕ) (password m : List ℕ)
+    → (ours.write c secured random password m).number ≡ first_of (writer_rows c secured password m)
+writer_number c secured random password m = written_number c secured random password (length m)
+
+-- the outcomes in the order of the tests, and their numbers
+by_tests : (erra formed named allowed : Bool)
+    → reading_outcome_number
+    (if erra then erra_said else if not formed then not_a_line else if not named then other_command
+    else if not allowed then disallowed else means_it)
+    ≡ first_of ((0 when erra) ∷ (10 when not formed) ∷ (11 when not named) ∷ (12 when not allowed) ∷ [])
+by_tests true formed named allowed = refl
+by_tests false false named allowed = refl
+by_tests false true false allowed = refl
+by_tests false true true false = refl
+by_tests false true true true = refl
+
+pub reader_number : (c : Command) (l : List ℕ) (allowed : Bool) → IsAllowed c (reply_parameter l) allowed
+    → reading_outcome_number (ours.read_reply c l).outcome ≡ first_of (reader_rows c l allowed)
+reader_number c l allowed said =
+    ap reading_outcome_number (outcome_is_first c l said)
+    ∙ by_tests (same_by itself l erra_line) (is_reply_form (command_class c) l)
+    (is_body (command_class c) (head_body l) (body_of c)) allowed
+
+module _ (l : List ℕ) where
+  greeting_number-read_greeting : (plain erra secured : Bool) → same_by itself l greeting_open ≡ plain
+      → same_by itself l erra_line ≡ erra → greets l (random_in l) ≡ secured
+      → greeting_number (read_greeting l) ≡ first_of (greeting_rows l)
+  greeting_number-read_greeting true erra secured p e g =
+      ap greeting_number (greeting_open_lem l p) ∙ sym (if_yes _ _ p)
+  greeting_number-read_greeting false true secured p e g =
+      ap greeting_number (greeting_refused l p e) ∙ sym (if_no _ _ p ∙ if_yes _ _ e)
+  greeting_number-read_greeting false false true p e g =
+      ap greeting_number (greeting_secured_lem l p e g) ∙ sym (if_no _ _ p ∙ if_no _ _ e ∙ if_yes _ _ g)
+  greeting_number-read_greeting false false false p e g =
+      ap greeting_number (greeting_none l p e g) ∙ sym (if_no _ _ p ∙ if_no _ _ e ∙ if_no _ _ g)
+
+  pub greeting_reader_number : greeting_number (ours.read_greeting l) ≡ first_of (greeting_rows l)
+  greeting_reader_number = greeting_number-read_greeting _ _ _ refl refl refl
+
+lent_untouched : (d : Device) (r : Result Device) (m : List ℕ) → Refused d r → Untouched Device m (lent_by r m)
+lent_untouched d r m h = record {
+  taken = h.taken;
+  length = ap length h.reply;
+  memory = over_nothing r.reply m h.reply;
+}
+
+pub refused_keeps : (d : Device) (c : Call) → (number_of ours d c ≡ 0 → ⊥)
+    → (after ours d c ≡ d) × WritesNothing ours d c
+refused_keeps d (opens random m) n =
+    let h = opening_refused d random (length m) n in
+    (h.device, lent_untouched d (opened_by d random (length m)) m h)
+refused_keeps d (receives p bs m) n =
+    let h = receiving_refused d p bs (length m) n in
+    (h.device, lent_untouched d (received d p bs (length m)) m h)
+refused_keeps d (closes p) n = ((closing_refused d p n).device, tt)
+refused_keeps d (passes k) n = (passed_refusal d k n, tt)
+refused_keeps d (marks fault) n = (fault_refusal d fault n, tt)
+refused_keeps d (reports errors) n = (errors_refusal d errors n, tt)
+refused_keeps d (enables lamp mark) n = (mark_refusal d lamp mark n, tt)
+
+pub refused_writer : (c : Command) (secured : Bool) (random : ℕ) (password m : List ℕ)
+    → let w = ours.write c secured random password m in
+    (w.number ≡ 0 → ⊥) → (w.length ≡ 0) × (w.memory ≡ m)
+refused_writer c secured random password m n =
+    let bs = (written_command c secured random password (length m)).bytes in
+    let none = refusal_writes_nothing c secured random password (length m) n in
+    (ap length none, over_nothing bs m none)
+
+pub refused_store : (d : Device) (m : List ℕ) → ((ours.store d m).number ≡ 0 → ⊥)
+    → ((ours.store d m).length ≡ 0) × ((ours.store d m).memory ≡ m)
+refused_store d m n =
+    let none = refused_store_writes_nothing d (length m) n in
+    (ap length none, over_nothing (stored_by d (length m)).bytes m none)
+
+pub stays_legal : (d : Device) (c : Call) → is_legal d ≡ true → is_legal (after ours d c) ≡ true
+stays_legal d (opens random m) h = opening_legal d h random (length m)
+stays_legal d (closes p) h = closing_legal d h p
+stays_legal d (receives p bs m) h = receiving_legal d h p bs (length m)
+stays_legal d (passes n) h = passed_legal d n h
+stays_legal d (marks fault) h = fault_legal d h fault
+stays_legal d (reports errors) h = errors_legal d h errors
+stays_legal d (enables lamp mark) h = mark_legal d h lamp mark
+
+pub ours_keeps_running : KeepsRunning ours
+ours_keeps_running = record {
+  stays_inside = stays_inside;
+  writer_stays_inside = writer_stays_inside;
+  store_stays_inside = store_stays_inside;
+  number_is_first = number_is_first;
+  set_up_number = set_up_number;
+  writer_number = writer_number;
+  reader_number = reader_number;
+  greeting_reader_number = greeting_reader_number;
+  store_number = λ d m. storing_number d (length m);
+  load_number = loading_number;
+  refused_keeps = refused_keeps;
+  refused_opening_place = λ d random m. opening_refused_place d random (length m);
+  refused_writer_writes_nothing = refused_writer;
+  refused_store_writes_nothing = refused_store;
+  refused_reader_means_nothing = number_means_nothing;
+  refused_set_up_blank = set_up_refusal;
+  blank_illegal = blank_illegal;
+  set_up_legal = set_up_legal;
+  refused_load_blank = refused_load_blank;
+  load_legal = accepted_legal;
+  stays_legal = stays_legal;
+}

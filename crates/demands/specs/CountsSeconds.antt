@@ -1,0 +1,156 @@
+-- DEMAND 3. "Time adds up. From any legal state, letting a seconds pass and then b gives the very state that a + b
+-- gives at once, so long as a + b is at most 4,294,967,295. After any calls since set-up, refused ones counting as
+-- nothing, each lamp's stored seconds are its starting seconds plus every second the history puts in warm-up or
+-- power-on, stopped at 359,999,999; the hours answered are the whole hours in that."
+-- TO BELIEVE IT, believe, and nothing else: one second (clock/specs/Second), and what is legal (record/specs); what
+-- someone outside sees of a history, and his own clock (History, here); the stored form (stored/specs/Form); the line
+-- of a command and the text of lamps (pjlink/specs: Commands, Said; words/specs/Lamps; numbers/specs/Decimal);
+-- ours/specs/Board; here Calls, CallsDone, and `BetweenLines` of SpeaksPjlink, `meaning` of controller/specs/Reading.
+--   Beginning            a history begins with a set-up, or with the load of a stored form (RULES, Stored form:
+--                        "Loading
+--                        is a fresh set-up, so the history of demand 3 begins there with the stored seconds"), of the
+--                        newest version with its marks, or of an older one, which loads as Class 1: version 2 with its
+--                        marks (RULES, Class 2), version 1 with none (RULES, Lamps)
+--   start_marks b w      the marks that it begins with: all set, or "after a load, as the form has them"
+--   IsAccepted B b w     the board accepts the settings w there
+--   history_of B b w cs  what someone outside sees of the calls cs since then
+--   TimeAdds B           the adding law, which a clock that does nothing obeys too (WrongClocks)
+--   lamps_then w ms es   each lamp of the set-up as LAMP answers it after that history
+--   burnt_by_marks ..    the seconds of burning, each counted once for each mark that stood
+--   LampsTold B ls r     the reply r says the lamps ls, and the reader takes them from it
+-- Assumes nothing.
+use Rattle.std.specs.Prelude.{ℕ, zero, suc, ◌+◌, ◌-◌, ◌/◌, ◌≤◌, ◌<◌, ◌≡◌, Bool, true, false, ◌&&◌, if◌then◌else◌}
+use Rattle.std.specs.Prelude.{List, [], ◌∷◌, ◌++◌, length, set, replicate, slice_index_or, codes}
+use Rattle.pjlink.specs.Commands.{command_line}
+use Rattle.pjlink.specs.declared.command.Command.TheVariants.{Query}
+use Rattle.pjlink.specs.declared.body.Body.TheVariants.{Lamp}
+use Rattle.pjlink.specs.Said.{lamps_are, said_bytes}
+use Rattle.words.specs.declared.lamp.LampHours.{LampHours}
+use Rattle.record.specs.Limits.{lamp_limit, opened}
+use Rattle.record.specs.Wanted.{Wanted}
+use Rattle.record.specs.Legal.{is_legal}
+use Rattle.record.specs.SetUp.{is_set_up}
+use Rattle.stored.specs.Form.{form_of, marked_form_of, old_form_of}
+use Rattle.clock.specs.Second.{times, second}
+use Rattle.clock.specs.Passing.{seconds_most}
+use Rattle.device.specs.Calls.{reply_room}
+use Rattle.controller.specs.Reading.{meaning}
+use Rattle.ours.specs.Board.{Board, reply}
+use Rattle.record.specs.Given.{Given}
+use Rattle.demands.specs.Calls.{Call, run}
+use Rattle.demands.specs.CallsDone.{Leaves}
+use Rattle.demands.specs.SpeaksPjlink.{BetweenLines}
+use Rattle.demands.specs.History.{Event, switched, a_second, mark_switched, no_streams, history, Stage, steady, next}
+use Rattle.demands.specs.History.{marks_after, burning, stage_after, stage_is_burning, lamp_with}
+
+pub data Beginning : Type 0 where
+  sets_up : Beginning
+  loads : (marks : List Bool) → Beginning
+  loads_marked : (marks : List Bool) → Beginning
+  loads_old : Beginning
+
+abbrev pub all_enabled : Wanted → List Bool
+all_enabled w = replicate (length w.lamps) true
+
+abbrev pub start_marks : Beginning → Wanted → List Bool
+start_marks sets_up w = all_enabled w
+start_marks (loads ms) w = ms
+start_marks (loads_marked ms) w = ms
+start_marks loads_old w = all_enabled w
+
+-- the settings are those of a Class 1 set-up
+pub record IsClass1 (w : Wanted) : Type 0 where
+  pub set_up : is_set_up w ≡ true
+  pub class_1 : w.class ≡ 1
+
+module _ (B : Board) where
+  abbrev pub begun_by : Beginning → Wanted → Given B.Record
+  begun_by sets_up w = B.set_up w
+  begun_by (loads ms) w = B.load (form_of w ms)
+  begun_by (loads_marked ms) w = B.load (marked_form_of w ms)
+  begun_by loads_old w = B.load (old_form_of w)
+
+  -- what loads is the form of settings that a set-up takes, and of no others (BoardSwap)
+  abbrev pub IsAccepted : Beginning → Wanted → Type 0
+  IsAccepted sets_up w = (B.set_up w).number ≡ 0
+  IsAccepted (loads ms) w = (is_set_up w ≡ true) × ((B.load (form_of w ms)).number ≡ 0)
+  IsAccepted (loads_marked ms) w = IsClass1 w × ((B.load (marked_form_of w ms)).number ≡ 0)
+  IsAccepted loads_old w = IsClass1 w × ((B.load (old_form_of w)).number ≡ 0)
+
+  abbrev pub run_of : Beginning → Wanted → List Call → B.Record
+  run_of b w cs = run B (begun_by b w).device cs
+
+  abbrev pub history_of : Beginning → Wanted → List Call → List Event
+  history_of b w cs = history B (begun_by b w).device no_streams cs
+
+-- the lamp at place k, which started with so many seconds
+abbrev pub lamp_then : Wanted → List Bool → List Event → ℕ → ℕ → LampHours
+lamp_then w ms es k start = record {
+  hours = lamp_with (burning w ms k es) start / 3600;
+  lit = stage_is_burning (stage_after w es) && slice_index_or (marks_after ms es) k false;
+}
+
+abbrev pub each_place : {A : Type 0} → (ℕ → ℕ → A) → ℕ → List ℕ → List A
+each_place f k [] = []
+each_place f k (x ∷ xs) = f k x ∷ each_place f (suc k) xs
+
+abbrev pub lamps_then : Wanted → List Bool → List Event → List LampHours
+lamps_then w ms es = each_place (lamp_then w ms es) 0 w.lamps
+
+-- the fleet's question (RULES, Lamps): the seconds of burning, each counted once for each mark that stood
+abbrev pub count_set : List Bool → ℕ
+count_set [] = 0
+count_set (m ∷ ms) = (if m then 1 else 0) + count_set ms
+
+abbrev pub burnt_by_marks : Wanted → Stage → List Bool → List Event → ℕ
+burnt_by_marks w g ms [] = 0
+burnt_by_marks w g ms (a_second ∷ es) =
+    (if stage_is_burning g then count_set ms else 0) + burnt_by_marks w (next w g a_second) ms es
+burnt_by_marks w g ms (switched wanted ∷ es) = burnt_by_marks w (next w g (switched wanted)) ms es
+burnt_by_marks w g ms (mark_switched lamp mark ∷ es) =
+    burnt_by_marks w (next w g (mark_switched lamp mark)) (set ms lamp mark) es
+
+abbrev pub sum_of : ℕ → (ℕ → ℕ) → ℕ
+sum_of zero f = 0
+sum_of (suc n) f = sum_of n f + f n
+
+-- `%1LAMP=` and, joined by spaces, each lamp's hours in decimal digits, a space and 1 or 0
+abbrev pub lamp_line : List LampHours → List ℕ
+lamp_line ls = codes "%1LAMP=" ++ said_bytes (lamps_are ls) ++ codes "\r"
+
+pub record LampsTold (B : Board) (ls : List LampHours) (answer : List ℕ) : Type 0 where
+  pub bytes : answer ≡ lamp_line ls
+  pub read : B.read_reply (Query Lamp) answer ≡ meaning (lamps_are ls)
+
+-- the whole result, number and record
+abbrev pub TimeAdds : Board → Type 0
+TimeAdds B = (d : B.Record) (a b : ℕ) → is_legal (B.shows d) ≡ true → a + b ≤ seconds_most
+    → B.pass (B.pass d a).device b ≡ B.pass d (a + b)
+
+pub record CountsSeconds (B : Board) : Type 0 where
+  -- "From any legal state, letting a seconds pass and then b gives the very state that a + b gives at once, so long as
+  -- a + b is at most 4,294,967,295"
+  pub time_adds : TimeAdds B
+  -- RULES, Time: "The meaning is a definition of one second, applied n times"
+  pub second_by_second : (d : B.Record) (n : ℕ) → Leaves B (B.pass d n) (times second n (B.shows d))
+  -- "After any calls since set-up, refused ones counting as nothing, each lamp's stored seconds are its starting
+  -- seconds plus every second the history puts in warm-up or power-on, stopped at 359,999,999"; RULES, Places: "the
+  -- history is the accepted calls of all places in the order made"
+  pub lamps_tell_the_history : (b : Beginning) (w : Wanted) (cs : List Call) (place : ℕ) → IsAccepted B b w
+      → place < length w.lamps
+      → slice_index_or (B.shows (run_of B b w cs)).own.lamps place 0
+      ≡ lamp_with (burning w (start_marks b w) place (history_of B b w cs)) (slice_index_or w.lamps place 0)
+  -- RULES, Lamps: while no lamp reaches the limit, the sum over the lamps of the seconds gained is the seconds of
+  -- burning, each counted once for each mark that stood
+  pub fleet_adds_up : (b : Beginning) (w : Wanted) (cs : List Call) → IsAccepted B b w
+      → ((k : ℕ) → k < length w.lamps
+      → slice_index_or w.lamps k 0 + burning w (start_marks b w) k (history_of B b w cs) ≤ lamp_limit)
+      → sum_of (length w.lamps)
+      (λ k. slice_index_or (B.shows (run_of B b w cs)).own.lamps k 0 - slice_index_or w.lamps k 0)
+      ≡ burnt_by_marks w (steady false) (start_marks b w) (history_of B b w cs)
+  -- "the hours answered are the whole hours in that": LAMP, asked at any place on an open connection between lines, the
+  -- reply's bytes and what our reader takes from them
+  pub hours_told : (b : Beginning) (w : Wanted) (cs : List Call) (p : ℕ) (m : List ℕ) → IsAccepted B b w
+      → 1 ≤ length w.lamps → BetweenLines opened (B.shows (run_of B b w cs)) p → reply_room ≤ length m
+      → let r = B.receive (run_of B b w cs) p (command_line (Query Lamp)) m in
+      LampsTold B (lamps_then w (start_marks b w) (history_of B b w cs)) (reply r)

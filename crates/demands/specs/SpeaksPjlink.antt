@@ -1,0 +1,236 @@
+-- DEMAND 2. "The projector's lines and the controller's reading of them are those of PJLink Class 1, version 1.04, with
+-- the digest of RFC 1321. On an open connection between lines, for every command our writer makes without a digest and
+-- in every legal state, what our reader, told the command, takes from the reply is what the projector meant. On a
+-- secured connection a first line without the matching digest yields the refusal line only; power, input, mutes and
+-- lamps stay." What the projector meant is `meant`, the table of RULES, Commands (crate `meaning`), which knows no
+-- bytes but a set-up's inputs, two characters each, by the table of RULES, Inputs.
+-- TO BELIEVE IT, believe, and nothing else: MD5 and its digits (digest/specs); inputs, texts, UTF-8 and values
+-- (words/specs), lines, commands and requests (pjlink/specs: Bodies, Commands, Forms, Requests); what
+-- an answer is and which bytes say it (pjlink/specs: Said, CanSay, Writings); what a reading means and a greeting is
+-- (controller/specs: `meaning`, `LineSays` of Reading, `Exactly` of Greetings; here Greeted); what is meant and done
+-- (meaning/specs); how a line is answered and a connection greeted (device/specs: Answering, `is_led_by` of Receiving,
+-- and `greeting`, `greeted` of Calls); the record (record/specs); a stream in cuts (stream/specs/Machine);
+-- ours/specs/Board; here Calls, CallsDone, Outsider. RULES, Places: "Demand 2 holds place by place": what is said of a
+-- connection is said of that at any place p, whatever the other places hold. RULES, Class 2: lines, commands and
+-- set-ups are of Class 1 or Class 2, and all is said of both; that a Class 1 set-up is as it was before is in ClassOne.
+--   BetweenLines phase d p   legal, at place p in that phase, no collected bytes and no overlong mark
+--   ReadBack B d p c w r     the command c, written as w and received as r, is read as it was meant and done
+--   AnsweredAs B d p bs a r  the bytes bs were all taken, and answered a
+--   IsSwallowed B d p w r    what was written as w was all taken, with no reply, and changed nothing
+--   ByClass B d p c w r      read back where the class of the command c is no higher than the set-up's, else swallowed
+--   is_led d p l             the line l starts with the matching digest and is not overlong
+--   RefusalOnly B d p out    the refusal line was replied and nothing else; settings, own part and other places stay,
+--                            the connection has failed
+--   handed_on B m p d ps     the parts ps of a stream, each handed on until it is taken, the memory m lent each time
+--   Elsewhere B d c q        the call c is not at place q
+-- Assumes nothing.
+use Rattle.std.specs.Prelude.{ℕ, ◌≤◌, ◌<◌, ◌^◌, ◌≡◌, Bool, true, false, List, ◌++◌, ◌↔◌, length, set, Ok}
+use Rattle.std.specs.Prelude.{if◌then◌else◌, nat_le, codes}
+use Rattle.digest.specs.Md5.{md5_of}
+use Rattle.digest.specs.Hex.{leading_digest}
+use Rattle.words.specs.Bytes.{no_cr}
+use Rattle.pjlink.specs.Forms.{erra_line}
+use Rattle.words.specs.Bytes.{command_most}
+use Rattle.pjlink.specs.Commands.{is_command, command_class, command_line}
+use Rattle.pjlink.specs.declared.body.Body.TheVariants.{Name}
+use Rattle.pjlink.specs.declared.command.Command.{Command}
+use Rattle.pjlink.specs.declared.command.Command.TheVariants.{Query}
+use Rattle.pjlink.specs.Said.{Said, text_is}
+use Rattle.record.specs.Limits.{places_count, awaiting, opened, failed}
+use Rattle.record.specs.Wanted.{Wanted}
+use Rattle.record.specs.Legal.{is_legal}
+use Rattle.record.specs.Record.{closed, started}
+use Rattle.record.specs.Updates.{with_own, with_fault, with_errors, with_marks}
+use Rattle.record.specs.Places.{connection_at, with_place, is_shut}
+use Rattle.record.specs.declared.types.Device.{Device}
+use Rattle.record.specs.declared.types.Connection.{Connection}
+use Rattle.meaning.specs.Meaning.{meant, done}
+use Rattle.stream.specs.Machine.{Out, Took, handed_parts, uncut}
+use Rattle.device.specs.Answering.{Answered, line_answer, swallowed}
+use Rattle.device.specs.Receiving.{turned, set_up_password, is_led_by}
+use Rattle.device.specs.Calls.{longest_reply, reply_room, has_password}
+use Rattle.controller.specs.Writing.{command_room, led_by}
+use Rattle.controller.specs.Reading.{meaning, LineSays}
+use Rattle.controller.specs.Reading.{means_it, erra_said}
+use Rattle.controller.specs.Greetings.{Exactly}
+use Rattle.demands.specs.Greeted.{greeted_on}
+use Rattle.ours.specs.Board.{Board, Lent, Wrote, reply, bytes_written}
+use Rattle.demands.specs.Calls.{Call, opens, closes, receives, passes, marks, reports, enables, after}
+use Rattle.demands.specs.CallsDone.{OpenedAs, Leaves}
+use Rattle.demands.specs.Outsider.{unopened, IsNeverMatched, NoSay, HostsAlone}
+
+-- ---- a connection between lines
+
+pub record BetweenLines (phase : ℕ) (d : Device) (p : ℕ) : Type 0 where
+  pub legal : is_legal d ≡ true
+  pub there : p < places_count
+  pub in_phase : (connection_at d p).phase ≡ phase
+  pub unmarked : (connection_at d p).line.overlong ≡ false
+  pub none_held : (connection_at d p).line.held ≡ 0
+
+-- open and between lines, the random number kept
+abbrev pub open_again : Connection → Connection
+open_again c = turned c opened
+
+-- ---- what is read of the reply to a command
+
+module _ (B : Board) where
+  pub record ReadBack (d : B.Record) (p : ℕ) (c : Command) (w : Wrote) (r : Lent B.Record) : Type 0 where
+    pub wrote : w.number ≡ 0
+    pub number : r.number ≡ 0
+    pub taken : r.taken ≡ w.length
+    pub read : B.read_reply c (reply r) ≡ meaning (meant (B.shows d).settings (B.shows d).own (Ok c))
+    pub device : B.shows r.device
+        ≡ with_place (B.shows d) (done (B.shows d).settings (B.shows d).own (Ok c)) p
+        (open_again (connection_at (B.shows d) p))
+
+  -- ---- any line, from any controller: what it is answered by the tables of RULES, and what it leaves
+  pub record AnsweredAs (d : B.Record) (p : ℕ) (bs : List ℕ) (a : Answered) (r : Lent B.Record) : Type 0 where
+    pub number : r.number ≡ 0
+    pub taken : r.taken ≡ length bs
+    pub replied : reply r ≡ a.reply
+    pub device : B.shows r.device ≡ with_place (B.shows d) a.own p (open_again (connection_at (B.shows d) p))
+
+  -- ---- the class (RULES, Class 2)
+
+  pub record IsSwallowed (d : B.Record) (p : ℕ) (w : Wrote) (r : Lent B.Record) : Type 0 where
+    pub wrote : w.number ≡ 0
+    pub left : AnsweredAs d p (bytes_written w) (swallowed (B.shows d).own) r
+
+  -- "the reader returns what the projector meant, for every command of a class no higher than the set-up's; a higher
+  -- one gets no reply and changes nothing but what swallowing a line does"
+  pub record ByClass (d : B.Record) (p : ℕ) (c : Command) (w : Wrote) (r : Lent B.Record) : Type 0 where
+    pub no_higher : command_class c ≤ (B.shows d).settings.class_number → ReadBack d p c w r
+    pub higher : (B.shows d).settings.class_number < command_class c → IsSwallowed d p w r
+
+-- a line of more than 135 bytes is swallowed
+abbrev pub answer_to : Device → List ℕ → Answered
+answer_to d l = if nat_le (length l) command_most then line_answer d.settings d.own l else swallowed d.own
+
+-- ---- the digest
+
+abbrev pub digest_for : Device → ℕ → List ℕ
+digest_for d p = leading_digest (connection_at d p).random (set_up_password d.settings)
+
+abbrev pub is_led : Device → ℕ → List ℕ → Bool
+is_led d p l = is_led_by (connection_at d p).random (set_up_password d.settings) l
+
+-- ---- a stream in cuts
+
+abbrev pub call_on : (B : Board) → List ℕ → ℕ → B.Record → List ℕ → Took B.Record
+call_on B m p d bs =
+    let r = B.receive d p bs m in
+    record { taken = r.taken; state = r.device; reply = reply r }
+
+abbrev pub handed_on : (B : Board) → List ℕ → ℕ → B.Record → List (List ℕ) → Out B.Record
+handed_on B m p d ps = handed_parts (call_on B m p) d ps
+
+-- ---- the other places
+
+-- the call c is not at place q: closing and receiving name another place, opening takes another one, the host's calls
+-- name none; time passes for every place
+abbrev pub Elsewhere : (B : Board) → B.Record → Call → ℕ → Type 0
+Elsewhere B d (opens random m) q = q ≡ B.place_opened d random m → ⊥
+Elsewhere B d (closes p) q = q ≡ p → ⊥
+Elsewhere B d (receives p bs m) q = q ≡ p → ⊥
+Elsewhere B d (passes n) q = ⊥
+Elsewhere B d c q = Unit {0}
+
+-- what someone without the password gets, and leaves as it was
+pub record RefusalOnly (B : Board) (d : B.Record) (p : ℕ) (out : Out B.Record) : Type 0 where
+  pub refusal : out.reply ≡ erra_line
+  pub settings : (B.shows out.state).settings ≡ (B.shows d).settings
+  pub own : (B.shows out.state).own ≡ (B.shows d).own
+  pub phase : (connection_at (B.shows out.state) p).phase ≡ failed
+  pub age : (connection_at (B.shows out.state) p).age ≡ 0
+  pub others : (q : ℕ) → (q ≡ p → ⊥) → connection_at (B.shows out.state) q ≡ connection_at (B.shows d) q
+
+-- ---- the demand
+
+pub record SpeaksPjlink (B : Board) : Type 0 where
+  -- "with the digest of RFC 1321"
+  pub digest : (s : List ℕ) → B.md5 s ≡ md5_of s
+  -- "The projector's lines .. are those of PJLink Class 1", and of Class 2 (RULES, Class 2): any line of any
+  -- controller, on an open connection and behind the matching digest, is answered as the tables of RULES say
+  pub answers : (d : B.Record) (p : ℕ) (l m : List ℕ) → BetweenLines opened (B.shows d) p → no_cr l ≡ true
+      → reply_room ≤ length m
+      → let bs = l ++ codes "\r" in AnsweredAs B d p bs (answer_to (B.shows d) l) (B.receive d p bs m)
+  pub answers_led : (d : B.Record) (p : ℕ) (l m : List ℕ) → BetweenLines awaiting (B.shows d) p → no_cr l ≡ true
+      → length l ≤ command_most → reply_room ≤ length m
+      → let bs = digest_for (B.shows d) p ++ l ++ codes "\r" in
+      AnsweredAs B d p bs (answer_to (B.shows d) l) (B.receive d p bs m)
+  -- RULES, Class 2: an input's name, and eight around it; 103 holds of Class 1 (ClassOne)
+  pub reply_short : (d : B.Record) (p : ℕ) (bs m : List ℕ) → (B.receive d p bs m).length ≤ longest_reply
+  -- "and the controller's reading of them": whatever line comes, what is read was said by it, and what it says is read;
+  -- the ERRA line and no other is read as such
+  pub reads_what_is_said : (c : Command) (l : List ℕ) → (B.read_reply c l).outcome ≡ means_it
+      → LineSays c l (B.read_reply c l).said
+  pub what_is_said_is_read : (c : Command) (l : List ℕ) (m : Said) → LineSays c l m → B.read_reply c l ≡ meaning m
+  pub erra_exactly : (c : Command) (l : List ℕ) → ((B.read_reply c l).outcome ≡ erra_said) ↔ (l ≡ erra_line)
+  -- "for every command our writer makes": its line, led by the digest where one was asked for
+  pub writes : (c : Command) (secured : Bool) (random : ℕ) (password m : List ℕ)
+      → let w = B.write c secured random password m in
+      w.number ≡ 0 → bytes_written w ≡ led_by secured random password ++ command_line c
+  -- "On an open connection between lines, for every command our writer makes without a digest and in every legal state,
+  -- what our reader, told the command, takes from the reply is what the projector meant"; RULES, Class 2: by its class
+  pub reads_back : (d : B.Record) (p : ℕ) (c : Command) (random : ℕ) (password paper m : List ℕ)
+      → BetweenLines opened (B.shows d) p → is_command c ≡ true → command_room ≤ length paper → reply_room ≤ length m
+      → let w = B.write c false random password paper in ByClass B d p c w (B.receive d p (bytes_written w) m)
+  -- RULES, Connection: "its reading holds as well on an awaiting connection between lines, for a command led by the
+  -- matching digest"
+  pub reads_back_secured : (d : B.Record) (p : ℕ) (c : Command) (paper m : List ℕ)
+      → BetweenLines awaiting (B.shows d) p → is_command c ≡ true → command_room ≤ length paper → reply_room ≤ length m
+      → let w = B.write c true (connection_at (B.shows d) p).random (set_up_password (B.shows d).settings) paper in
+      ByClass B d p c w (B.receive d p (bytes_written w) m)
+  -- RULES, Texts: a name that the projector accepts is one that our reader accepts
+  pub names_read : (w : Wanted) → (B.set_up w).number ≡ 0
+      → B.read_reply (Query Name) (codes "%1NAME=" ++ w.name ++ codes "\r") ≡ meaning (text_is w.name)
+  -- "On a secured connection a first line without the matching digest yields the refusal line only; power, input, mutes
+  -- and lamps stay": whatever follows it, and however it all is cut
+  pub outsider_refused : (d : B.Record) (p : ℕ) (l more m : List ℕ) (ps : List (List ℕ))
+      → BetweenLines awaiting (B.shows d) p → no_cr l ≡ true → is_led (B.shows d) p l ≡ false → reply_room ≤ length m
+      → uncut ps ≡ l ++ codes "\r" ++ more
+      → RefusalOnly B d p (handed_on B m p d ps)
+  -- and over any calls, whoever else makes them: at a place that starts closed on a device with a password, so long as
+  -- no first line of a connection there is led by the digest of its opening's number
+  pub outsider_has_no_say : (d : B.Record) (p : ℕ) (cs : List Call) → is_legal (B.shows d) ≡ true
+      → has_password (B.shows d).settings ≡ true → is_shut (connection_at (B.shows d) p) ≡ true
+      → IsNeverMatched B p (set_up_password (B.shows d).settings) d unopened cs
+      → NoSay B p d unopened cs
+  -- and where that holds of every place, the own part is what time and the host's calls make of it
+  pub outsiders_have_no_say : (d : B.Record) (cs : List Call) → is_legal (B.shows d) ≡ true
+      → has_password (B.shows d).settings ≡ true
+      → ((p : ℕ) → p < places_count → is_shut (connection_at (B.shows d) p) ≡ true)
+      → ((p : ℕ) → p < places_count → IsNeverMatched B p (set_up_password (B.shows d).settings) d unopened cs)
+      → HostsAlone B d cs
+  -- RULES, The legal record, Connection and Time: what the other calls leave, where they are accepted
+  pub set_up_shows : (w : Wanted) → Leaves B (B.set_up w) (started w)
+  pub opens : (d : B.Record) (random : ℕ) (m : List ℕ) → (B.opening d random m).number ≡ 0
+      → OpenedAs B d random (B.place_opened d random m) (B.opening d random m)
+  pub closes : (d : B.Record) (p : ℕ)
+      → Leaves B (B.closing d p) (with_place (B.shows d) (B.shows d).own p closed)
+  pub marks : (d : B.Record) (fault : Bool)
+      → Leaves B (B.set_fault d fault) (with_own (B.shows d) (with_fault (B.shows d).own fault))
+  pub reports : (d : B.Record) (errors : List ℕ)
+      → Leaves B (B.set_errors d errors) (with_own (B.shows d) (with_errors (B.shows d).own errors))
+  -- RULES, Lamps: the lamp's mark, and nothing else
+  pub enables : (d : B.Record) (lamp : ℕ) (mark : Bool)
+      → Leaves B (B.set_mark d lamp mark)
+      (with_own (B.shows d) (with_marks (B.shows d).own (set (B.shows d).own.enabled lamp mark)))
+  -- what the greeting reader takes from the opening reply is what opening did, where some place is closed; it takes no
+  -- other line for a greeting
+  pub greets_back : (d : B.Record) (random : ℕ) (m : List ℕ) → is_legal (B.shows d) ≡ true
+      → (q : ℕ) → q < places_count → is_shut (connection_at (B.shows d) q) ≡ true → reply_room ≤ length m
+      → random < 2 ^ 32
+      → let r = B.opening d random m in
+      let p = B.place_opened d random m in
+      (r.number ≡ 0) × (B.read_greeting (reply r) ≡ greeted_on (connection_at (B.shows r.device) p))
+  pub greeting_is : (l : List ℕ) → Exactly l (B.read_greeting l)
+  -- RULES, Connection: "Handed on until all is taken, with no time between, a stream gives the same reply bytes and end
+  -- state however it is cut"
+  pub same_however_cut : (d : B.Record) (p : ℕ) (m : List ℕ) (ps qs : List (List ℕ)) → is_legal (B.shows d) ≡ true
+      → p < places_count → is_shut (connection_at (B.shows d) p) ≡ false → reply_room ≤ length m → uncut ps ≡ uncut qs
+      → handed_on B m p d ps ≡ handed_on B m p d qs
+  -- RULES, Places: "One place's bytes never touch another's connection"
+  pub others_untouched : (d : B.Record) (c : Call) (q : ℕ) → Elsewhere B d c q
+      → connection_at (B.shows (after B d c)) q ≡ connection_at (B.shows d) q

@@ -1,0 +1,63 @@
+-- What an event came to says what is printed for it, in no more bytes than there is room for.
+-- Assumes nothing.
+use Rattle.std.proofs.Common.{ℕ, ◌+◌, ◌-◌, ◌*◌, ◌≤◌, ◌≡◌, sym, ap, ◌∙◌, List, [], ◌∷◌, ◌++◌, arith, length, take}
+use Rattle.std.proofs.Common.{length-append, length-take, eq-eqb, ne_eqb, codes, ◌==◌}
+use Rattle.std.proofs.Math.Seq.{take-append_seam}
+use Rattle.text.specs.Words.{over}
+use Rattle.text.proofs.Choices.{if_yes, if_no, if_all}
+use Rattle.numbers.specs.Decimal.{digits}
+use Rattle.numbers.proofs.Digits.{digits_at_most_10, long_at_most_20}
+use Rattle.record.specs.Refusals.{refusal_number}
+use Rattle.record.specs.declared.refusal.Refusal.{Refusal}
+use Rattle.record.specs.declared.refusal.Refusal.TheVariants.{NotLegal, NoRoom, OutOfRange, Closed, NoPlace, NotOff}
+use Rattle.record.specs.declared.types.Device.{Device}
+use Rattle.device.specs.Calls.{Result, reply_room}
+use Rattle.floorlog.specs.declared.outcome.Outcome.{Outcome}
+use Rattle.floorlog.specs.declared.outcome.Outcome.TheVariants.{Served, Refused, AlreadyOpen, NoSuch}
+use Rattle.floorlog.specs.Outcomes.{reply_text, refusal_shown, outcome_text, IsReplyWithin}
+use Rattle.floorlog.specs.LastLine.{lamp_shown, lamps_shown}
+use Rattle.floorlog.specs.Doing.{outcome}
+
+refused : (r : Refusal) → refusal_number r ≡ 0 → ⊥
+refused NotLegal e = omega arith
+refused NoRoom e = omega arith
+refused OutOfRange e = omega arith
+refused Closed e = omega arith
+refused NoPlace e = omega arith
+refused NotOff e = omega arith
+
+module _ (r : Result Device) where
+  -- a call that was served, its reply over the memory
+  pub served_text : {n : ℕ} {m : List ℕ} (out : List ℕ) → 0 ≡ r.number → n ≡ length r.reply → m ≡ over r.reply out
+      → outcome_text (Served n) m ≡ outcome r
+  served_text {n} {m} out e long put =
+      ap reply_text (ap (take n) put ∙ ap (λ (k : ℕ). take k (over r.reply out)) long ∙ take-append_seam r.reply _)
+      ∙ sym (if_yes _ _ (eq-eqb r.number 0 (sym e)))
+
+  pub refused_text : (x : Refusal) (m : List ℕ) → refusal_number x ≡ r.number → outcome_text (Refused x) m ≡ outcome r
+  refused_text x m e =
+      ap refusal_shown e ∙ sym (if_no _ _ (ne_eqb r.number 0 (λ z. refused x (e ∙ z))))
+
+refusal_short : (n : ℕ) → length (refusal_shown n) ≤ 12
+refusal_short n = omega (arith, length-append (codes "! ") (digits n), digits_at_most_10 n)
+
+pub outcome_short : (o : Outcome) (m : List ℕ) → IsReplyWithin o reply_room
+    → length (outcome_text o m) ≤ reply_room
+outcome_short (Served n) m h =
+    if_all (λ (s : List ℕ). length s ≤ reply_room) (length (take n m) == 0) (omega arith)
+    (omega (arith, h, length-take n m, length-take (length (take n m) - 1) (take n m)))
+outcome_short (Refused r) m h = omega (arith, refusal_short (refusal_number r))
+outcome_short AlreadyOpen m h = omega (arith, refusal_short 5)
+outcome_short NoSuch m h = omega arith
+
+each_short : (xs : List ℕ) → length (lamps_shown xs) ≤ 11 * length xs
+each_short [] = omega arith
+each_short (x ∷ xs) =
+    omega (arith, length-append (lamp_shown x) (lamps_shown xs), digits_at_most_10 x, each_short xs)
+
+-- lamps on a line, after what stood there
+pub lamps_short : {b : List ℕ} (a xs : List ℕ) → b ≡ a ++ lamps_shown xs → length b ≤ length a + 11 * length xs
+lamps_short a xs e = omega (arith, ap length e, length-append a (lamps_shown xs), each_short xs)
+
+pub ruleset line_lengths =
+    (digits_at_most_10, long_at_most_20, outcome_short, lamps_short, length-append, length-take)

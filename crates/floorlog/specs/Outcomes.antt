@@ -1,0 +1,33 @@
+-- What an event of a log comes to, and how it is printed (RULES, Floor log).
+--   reply_text s           what is printed for the reply s: "the reply without CR, or `-` for none"
+--   refusal_shown n        "`! ` and the number of a refusal"
+--   outcome_text o m       what is printed for what an event came to, where its reply stands at the front of m
+--   IsReplyWithin o n      a reply has at most so many bytes
+--   printed_most           a printed line never needs more room, nor does the last one
+-- Assumes nothing.
+use Rattle.std.specs.Prelude.{ℕ, ◌-◌, ◌≤◌, List, ◌++◌, length, take, if◌then◌else◌, ◌==◌, codes}
+use Rattle.numbers.specs.Decimal.{digits}
+use Rattle.record.specs.Refusals.{refusal_number}
+use Rattle.floorlog.specs.declared.outcome.Outcome.{Outcome}
+use Rattle.floorlog.specs.declared.outcome.Outcome.TheVariants.{Served, Refused, AlreadyOpen, NoSuch}
+
+abbrev pub reply_text : List ℕ → List ℕ
+reply_text s = if length s == 0 then codes "-" else take (length s - 1) s
+
+abbrev pub refusal_shown : ℕ → List ℕ
+refusal_shown n = codes "! " ++ digits n
+
+abbrev pub outcome_text : Outcome → List ℕ → List ℕ
+outcome_text (Served n) m = reply_text (take n m)
+outcome_text (Refused r) m = refusal_shown (refusal_number r)
+outcome_text AlreadyOpen m = refusal_shown 5
+outcome_text NoSuch m = codes "?"
+
+abbrev pub IsReplyWithin : Outcome → ℕ → Type 0
+IsReplyWithin (Served n) most = n ≤ most
+IsReplyWithin (Refused r) most = Unit {0}
+IsReplyWithin AlreadyOpen most = Unit {0}
+IsReplyWithin NoSuch most = Unit {0}
+
+abbrev pub printed_most : ℕ
+printed_most = 158

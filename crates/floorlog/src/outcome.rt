@@ -1,0 +1,73 @@
+// What an event of a log comes to, and how it is printed (RULES, Floor log).
+ghost use Rattle.std.specs.Prelude.{◌≡◌, ◌+◌, ◌≤◌, ◌++◌, length};
+ghost use Rattle.arrayvec.specs.ArrayVec.{array_vec_len};
+ghost use Rattle.device.specs.Calls.{reply_room};
+ghost use Rattle.floorlog.specs.Outcomes.{outcome_text, IsReplyWithin, reply_text, refusal_shown, printed_most};
+
+use arrayvec::ArrayVec;
+use device::on_legal::REPLY_ROOM;
+use record::refusal::Refusal;
+
+/// The most bytes of a printed line: twenty digits, a space, a reply and LF.
+pub const PRINTED_MOST: usize = 158;
+
+/// A line that is being printed.
+pub type Printed = ArrayVec<u8, PRINTED_MOST>;
+
+/// What an event of a log comes to.
+#[derive(Clone, Copy)]
+pub enum Outcome {
+    /// It was served; its reply, CR included, has so many bytes: 0 where there is none.
+    Served(usize),
+    /// The call was refused.
+    Refused(Refusal),
+    /// The place that a log drives is not closed, and cannot be opened again.
+    AlreadyOpen,
+    /// The line has no such form, and nothing happened.
+    NoSuch,
+}
+
+// Bytes at the end of a line.
+pub(crate) fn put_text(text: &[u8], out: &mut Printed)
+    requires { array_vec_len out.old + length text.now ≤ printed_most }
+    ensures { out.new.items ≡ out.old.items ++ text.now }
+{
+    out.try_extend_from_slice(text).unwrap();
+}
+
+// The reply without its CR, or `-` for none.
+fn put_reply(reply: &[u8], out: &mut Printed)
+    requires { array_vec_len out.old + length (reply_text reply.now) ≤ printed_most }
+    ensures { out.new.items ≡ out.old.items ++ reply_text reply.now }
+{
+    if reply.is_empty() {
+        out.push(b'-');
+    } else {
+        put_text(&reply[..reply.len() - 1], out);
+    }
+}
+
+// `! ` and the number of a refusal.
+fn put_refusal(number: u32, out: &mut Printed)
+    requires { array_vec_len out.old + length (refusal_shown number) ≤ printed_most }
+    ensures { out.new.items ≡ out.old.items ++ refusal_shown number }
+{
+    put_text(b"! ", out);
+    numbers::put_number(number, out);
+}
+
+impl Outcome {
+    /// Puts what is printed for it at the end of a line; its reply stands at the front of the memory.
+    pub fn put(self, memory: &[u8; REPLY_ROOM], out: &mut Printed)
+        requires within { IsReplyWithin self reply_room }
+        requires room { array_vec_len out.old + length (outcome_text self memory.now) ≤ printed_most }
+        ensures { out.new.items ≡ out.old.items ++ outcome_text self memory.now }
+    {
+        match self {
+            Outcome::Served(length) => put_reply(&memory[..length], out),
+            Outcome::Refused(refusal) => put_refusal(refusal.number(), out),
+            Outcome::AlreadyOpen => put_refusal(5, out),
+            Outcome::NoSuch => out.push(b'?'),
+        }
+    }
+}
