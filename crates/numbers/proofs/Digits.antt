@@ -48,9 +48,6 @@ pub long_high : (n : ℕ) → 10 ≤ n → n < 2 ^ 64 → long_digits n ≡ long
 unfolding long_digits
 long_high n h f = high_in 18 n h (omega arith)
 
-pub long_length_low : (n : ℕ) → n < 10 → length (long_digits n) ≡ 1
-long_length_low n h = ap length (long_low n h)
-
 pub long_length_high : (n : ℕ) → 10 ≤ n → n < 2 ^ 64 → length (long_digits n) ≡ length (long_digits (n / 10)) + 1
 long_length_high n h f = ap length (long_high n h f) ∙ length-append (long_digits (n / 10)) (last_digit n ∷ [])
 

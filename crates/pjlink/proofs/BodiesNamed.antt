@@ -1,7 +1,7 @@
 -- The letters of a body name it in a line of its class, whatever their case, and no other body of that class.
 --   Named b          what the bodies' rows show of the letters of b
 -- Assumes nothing.
-use Rattle.std.proofs.Common.{ℕ, ◌≡◌, refl, ◌∙◌, true, ◌&&◌, List, map, ◌==◌, eqb-true, eq-eqb}
+use Rattle.std.proofs.Common.{ℕ, ◌≡◌, refl, ◌∙◌, true, ◌&&◌, List, map, ◌==◌, eqb-true}
 use Rattle.std.specs.Prelude.{find, Option, Some}
 use Rattle.std.specs.Option.{option_map}
 use Rattle.text.specs.Scans.{same_by, itself}
@@ -51,8 +51,3 @@ module _ (k : ℕ) (s : List ℕ) (b : Body) (named : is_body k s b ≡ true) wh
       in_upper_case k s
       ∙ (λ i. exactly (body_class i) (same_turned upper_of s (body_text b) same_by-body_text i))
       ∙ (body_named_lem b).alone
-
--- and so in a line of its class
-pub is_body-class_of : (s : List ℕ) (b : Body) → same_by upper_of s (body_text b) ≡ true →
-    is_body (class_of b) s b ≡ true
-is_body-class_of s b e = (λ i. eq-eqb (class_of b) (class_of b) refl i && e i)

@@ -42,12 +42,6 @@ module _ (k : ℕ) (l : List ℕ) (form : is_command_form k l ≡ true) where
   form_takes = both_right (sized && is_headed (code " ") l) (takes_class k (l at 1)) form
 
   -- the class is one that the set-up takes
-  pub line_class_low : 1 ≤ line_class l
-  line_class_low = taken_by (1 ≤ line_class l) k (l at 1) form_takes (λ b. omega arith) (λ e b. omega arith)
-
-  pub line_class_high : line_class l ≤ 2
-  line_class_high = taken_by (line_class l ≤ 2) k (l at 1) form_takes (λ b. omega arith) (λ e b. omega arith)
-
   pub line_class_taken : 1 ≤ k → line_class l ≤ k
   line_class_taken h = taken_by (line_class l ≤ k) k (l at 1) form_takes (λ b. omega arith) (λ e b. omega arith)
 

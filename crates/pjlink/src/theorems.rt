@@ -1,10 +1,14 @@
 // What is proved beside the contracts of the functions. Nothing is done here: that these functions have their contracts
 // is that the theorems stand.
-ghost use Rattle.std.specs.Prelude.{◌≡◌, ◌++◌, ℕ, List, Option, Result, false, true};
+ghost use Rattle.std.specs.Prelude.{[], ◌∷◌, ◌≡◌, ◌≤◌, ◌++◌, ℕ, List, Option, Result, false, true, length};
+ghost use Rattle.std.specs.List.{list_all};
+ghost use Rattle.words.specs.Bytes.{◌at◌, is_alnum, no_cr};
 ghost use Rattle.pjlink.specs.declared.answer.Answer.{Answer};
 ghost use Rattle.words.specs.declared.refusal.Refusal.{Refusal};
 ghost use Rattle.pjlink.specs.Carried.{parameter_said};
-ghost use Rattle.pjlink.specs.Said.{said_bytes, nothing, Said};
+ghost use Rattle.pjlink.specs.Said.{said_bytes, nothing, Said, parameter_most};
+ghost use Rattle.pjlink.specs.Commands.{class_digit};
+ghost use Rattle.pjlink.specs.Forms.{is_command_form, line_class, is_reply_form, reply_line};
 ghost use Rattle.pjlink.specs.declared.command.Command.{Command};
 ghost use Rattle.pjlink.specs.Reading.{read_parameter};
 ghost use Rattle.pjlink.specs.Writings.{Says, IsAllowed};
@@ -27,4 +31,14 @@ pub fn what_is_read_was_written()
     ensures one_meaning { (c : Command) (p : List ℕ) (m n : Said) → Says c m p → Says c n p → m ≡ n }
     ensures not_allowed { (c : Command) (p : List ℕ) → IsAllowed c p false → read_parameter c p ≡ nothing }
     ensures allowed { (c : Command) (p : List ℕ) → IsAllowed c p true → read_parameter c p ≡ nothing → ⊥ }
+{}
+
+/// A line that a set-up takes is of its class or of a lower one, and has that class's digit; a reply of one class is
+/// none of another (RULES, Class 2).
+pub fn a_line_has_its_class()
+    ensures taken { (k : ℕ) (l : List ℕ) → is_command_form k l ≡ true → 1 ≤ k → line_class l ≤ k }
+    ensures digit { (k : ℕ) (l : List ℕ) → is_command_form k l ≡ true → l at 1 ≡ class_digit (line_class l) }
+    ensures other { (a b c d j k : ℕ) (p : List ℕ) → list_all is_alnum (a ∷ b ∷ c ∷ d ∷ []) ≡ true → (j ≡ k → ⊥)
+        → length p ≤ parameter_most → no_cr p ≡ true
+        → is_reply_form k (reply_line (class_digit j) a b c d p) ≡ false }
 {}

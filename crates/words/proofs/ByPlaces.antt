@@ -1,8 +1,8 @@
 -- Bytes are those at their places, one by one, and what follows them.
 --   places_from i n s    the bytes of s at the places i to i + n - 1
 -- Assumes nothing.
-use Rattle.std.proofs.Common.{ℕ, zero, suc, ◌+◌, ◌≤◌, ◌≡◌, sym, ap, ◌∙◌, List, [], ◌∷◌, ◌++◌, append-nil, add-zero}
-use Rattle.std.proofs.Common.{arith, length, drop, drop_of_length-le, drop-cons}
+use Rattle.std.proofs.Common.{ℕ, zero, suc, ◌+◌, ◌≤◌, ◌≡◌, sym, ap, ◌∙◌, List, [], ◌∷◌, ◌++◌, add-zero}
+use Rattle.std.proofs.Common.{arith, length, drop, drop-cons}
 use Rattle.words.specs.Bytes.{◌at◌}
 
 abbrev pub places_from : ℕ → ℕ → List ℕ → List ℕ
@@ -16,9 +16,3 @@ from_place i (suc n) s h =
     drop-cons s i 0 (omega arith)
     ∙ ap (λ (l : List ℕ). (s at i) ∷ l) (from_place (suc i) n s (omega arith))
     ∙ ap (λ (k : ℕ). (s at i) ∷ (places_from (suc i) n s ++ drop k s)) later
-
-pub by_places : (n : ℕ) (s : List ℕ) → length s ≡ n → s ≡ places_from 0 n s
-by_places n s h =
-    from_place 0 n s (omega arith)
-    ∙ ap (λ (l : List ℕ). places_from 0 n s ++ l) (drop_of_length-le s {i = 0 + n} (omega arith))
-    ∙ append-nil (places_from 0 n s)

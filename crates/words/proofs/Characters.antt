@@ -7,7 +7,6 @@ use Rattle.std.proofs.lemmas.Bool.{false≢true}
 use Prim.Native.Char.{Char, code}
 use Rattle.text.specs.Words.{◌is◌, ◌from◌to◌}
 use Rattle.text.proofs.Choices.{both_left, both_right, by_not}
-use Rattle.text.proofs.Scanning.{list_all_implies}
 use Rattle.words.specs.Bytes.{is_alnum, not_cr, no_cr}
 
 pub in_range : (b : ℕ) (l h : Char) → b from l to h ≡ true → (code l ≤ b) × (b ≤ code h)
@@ -35,6 +34,3 @@ alnum_isnt x other b e =
 
 pub alnum_not_cr : (b : ℕ) → is_alnum b ≡ true → not_cr b ≡ true
 alnum_not_cr b e = ap not (alnum_isnt "\r" refl b e)
-
-pub alnum_no_cr : (s : List ℕ) → list_all is_alnum s ≡ true → no_cr s ≡ true
-alnum_no_cr s e = no_cr_of s (list_all_implies is_alnum not_cr alnum_not_cr s e)

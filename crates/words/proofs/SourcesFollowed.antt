@@ -1,12 +1,12 @@
 -- The table of types is followed: the writer's two characters of an input stand for it, and the reader reads the input
 -- for which two characters stand, and no other.
 -- Assumes nothing.
-use Rattle.std.proofs.Common.{ℕ, ◌≡◌, refl, sym, ap, ◌∙◌, true, false, [], ◌∷◌, arith, ◌==◌, eqb-true, eq-eqb}
+use Rattle.std.proofs.Common.{ℕ, ◌≡◌, refl, sym, ap, ◌∙◌, true, false, [], ◌∷◌, arith, ◌==◌, eqb-true}
 use Rattle.std.proofs.lemmas.Bool.{eqb-false}
 use Rattle.std.proofs.Math.Bool.{and-false}
 use Rattle.std.specs.Prelude.{Option, Some, None}
 use Rattle.text.specs.Words.{◌is◌, ◌from◌to◌}
-use Rattle.text.proofs.Choices.{if_yes, if_by, both_left, both_right, alike}
+use Rattle.text.proofs.Choices.{if_yes, if_by, both_left, both_right}
 use Rattle.words.specs.Sources.{type_of, same_input, character, is_number_character, number_for, number_character}
 use Rattle.words.specs.Sources.{input_for}
 use Rattle.words.specs.Inputs.{is_input_text, source_named, input_named, read_input, is_input, source_digit}
@@ -113,12 +113,3 @@ same_input_is_one i j e =
     let types = eqb-true _ _ (both_left (type_of i.source == type_of j.source) _ e) in
     let numbers = eqb-true _ _ (both_right (type_of i.source == type_of j.source) _ e) in
     (λ k. record { source = same_type i.source j.source types k; number = numbers k })
-
--- types are the same where their characters are
-pub same_characters : (s t : Source) → (source_digit s == source_digit t) ≡ (type_of s == type_of t)
-same_characters s t =
-    alike _ _
-    (λ e. eq-eqb (type_of s) (type_of t)
-    (omega (arith, source_written s, source_written t, eqb-true (source_digit s) (source_digit t) e)))
-    (λ e. eq-eqb (source_digit s) (source_digit t)
-    (omega (arith, source_written s, source_written t, eqb-true (type_of s) (type_of t) e)))

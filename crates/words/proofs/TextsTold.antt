@@ -21,10 +21,6 @@ module _ (s : List ℕ) where
   unfolding is_name
   name_is_text h = both_left (is_text name_most s) (is_utf8 s) h
 
-  pub name_is_utf8 : is_name s ≡ true → is_utf8 s ≡ true
-  unfolding is_name
-  name_is_utf8 h = both_right (is_text name_most s) (is_utf8 s) h
-
   pub name_long : is_name s ≡ true → length s ≤ name_most
   name_long h = text_long name_most (name_is_text h)
 

@@ -1,9 +1,9 @@
 -- Where the length is known, what is left of a rule is a rule of each byte; over its length no rule is met.
 -- Assumes nothing.
 use Rattle.std.specs.List.{list_all}
-use Rattle.std.proofs.Common.{ℕ, ◌<◌, ◌≤◌, ◌≡◌, refl, false, not, ◌&&◌, List, length, le-leb}
+use Rattle.std.proofs.Common.{ℕ, ◌<◌, ◌≤◌, ◌≡◌, false, not, ◌&&◌, List, length, le-leb}
 use Rattle.std.proofs.lemmas.Bool.{lt-leb}
-use Rattle.words.specs.Bytes.{is_alnum, not_cr, no_cr}
+use Rattle.words.specs.Bytes.{is_alnum}
 use Rattle.words.specs.Texts.{is_refusal, is_text_byte, is_text, is_password, password_most}
 
 module _ (s : List ℕ) where
@@ -18,7 +18,3 @@ module _ (s : List ℕ) where
   pub password_within : length s ≤ password_most → is_password s ≡ list_all is_alnum s
   unfolding is_password
   password_within h = rw (le-leb (length s) password_most h)
-
-  pub plain_bytes : no_cr s ≡ list_all not_cr s
-  unfolding no_cr
-  plain_bytes = refl
