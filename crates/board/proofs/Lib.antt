@@ -1,5 +1,4 @@
 pub mod Refusals
-pub mod OneResult
 pub mod WhichSetting
 pub mod Zipping
 mod FitsADay

@@ -1,11 +1,10 @@
--- The number of a setting: it tells one setting or none, 0 exactly where set-up gives 0, the password's where set-up
--- gives 8, and its promise leaves one result.
+-- The number of a setting: it tells one setting or none, 0 exactly where set-up gives 0, and the password's where
+-- set-up gives 8.
 -- Assumes nothing.
 use Rattle.std.proofs.Common.{ℕ, ◌≡◌, refl, ap, arith}
 use Rattle.std.specs.Prelude.{Option, Some, None, Result, Ok, Err}
 use Rattle.record.specs.declared.types.Device.{Device}
 use Rattle.record.specs.declared.set_up_error.SetUpError.{SetUpError}
-use Rattle.text.proofs.OneResult.{one_result}
 use Rattle.record.specs.Wanted.{Wanted}
 use Rattle.record.specs.SetUp.{first_out_of_range, set_up}
 use Rattle.record.specs.OutOfRange.{setting_place}
@@ -38,9 +37,6 @@ module _ (w : Wanted) where
 
   pub set_up_which_8 : (set_up_given (set_up w)).number ≡ 8 → which ≡ setting_place Password
   set_up_which_8 e = ap setting_number (gives_8_password w e)
-
-  pub one_which : {r s : ℕ} → r ≡ which → s ≡ which → r ≡ s
-  one_which = one_result
 
 -- what the check tells is what set-up tells
 pub checked : (r : Result Device SetUpError) → setting_told (check_of r) ≡ setting_told r

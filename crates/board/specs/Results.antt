@@ -1,5 +1,6 @@
 -- What the calls on a record give, as the header's records have it.
 --   receiving_of t, opening_of t p     what a call says, beside a record that changes where it lies
+--   writing_of t                       what the controller's writer says
 --   received_of r, opened_of p r       the same with the record, by value
 --   changed_of r                       of a call that gives a number and the record
 --   closing_given r                    of closing, which has no reply
@@ -10,6 +11,7 @@ use Rattle.record.specs.declared.types.Device.{Device}
 use Rattle.record.specs.Given.{Given}
 use Rattle.device.specs.Calls.{Result}
 use Rattle.device.specs.Outcomes.{Told}
+use Rattle.controller.specs.Writing.{WriteTold}
 use Rattle.panel.specs.PanelCalls.{PanelAs}
 use Rattle.board.specs.declared.results.Changed.{Changed}
 use Rattle.board.specs.declared.results.Receiving.{Receiving}
@@ -18,12 +20,16 @@ use Rattle.board.specs.declared.results.Received.{Received}
 use Rattle.board.specs.declared.results.Opened.{Opened}
 use Rattle.board.specs.declared.results.PanelChanged.{PanelChanged}
 use Rattle.board.specs.declared.results.PanelSent.{PanelSent}
+use Rattle.board.specs.declared.writer.Written.{Written}
 
 abbrev pub receiving_of : Told → Receiving
 receiving_of t = record { number = t.number; taken = t.taken; length = t.length }
 
 abbrev pub opening_of : Told → ℕ → Opening
 opening_of t p = record { number = t.number; length = t.length; place = p }
+
+abbrev pub writing_of : WriteTold → Written
+writing_of t = record { number = t.number; length = t.length }
 
 abbrev pub received_of : Result Device → Received
 received_of r = record { number = r.number; taken = r.taken; length = length r.reply; device = r.device }

@@ -112,7 +112,7 @@ pub extern "C" fn pj_legal(d: Device) -> bool
 
 #[unsafe(no_mangle)]
 pub extern "C" fn pj_open(d: Device, random: u32, out: &mut [u8]) -> Opened
-    ensures value { result ≡ opened_of (place_taken d (length out.old))
+    ensures says { result ≡ opened_of (place_taken d (length out.old))
         (opened_by d random (length out.old)) }
     ensures written { out.new ≡ over (opened_by d random (length out.old)).reply
         out.old }
@@ -142,7 +142,7 @@ pub extern "C" fn pj_close(d: Device, place: usize) -> Changed
 
 #[unsafe(no_mangle)]
 pub extern "C" fn pj_receive(d: Device, place: usize, bytes: &[u8], out: &mut [u8]) -> Received
-    ensures value { result ≡ received_of (received d place bytes.now (length out.old)) }
+    ensures says { result ≡ received_of (received d place bytes.now (length out.old)) }
     ensures written { out.new ≡ over (received d place bytes.now (length out.old)).reply
         out.old }
 {

@@ -14,7 +14,7 @@ use stored::{loading, storing};
 /// The record's form into the lent memory: 1 and 2 in that order.
 #[unsafe(no_mangle)]
 pub extern "C" fn pj_store_in_place(device: &Device, out: &mut [u8]) -> FormWritten
-    ensures value { result ≡ told_stored (stored_by device.now (length out.old)) }
+    ensures says { result ≡ told_stored (stored_by device.now (length out.old)) }
     ensures written { out.new ≡ over (stored_by device.now (length out.old)).bytes out.old }
 {
     storing::store(device, out)
@@ -23,7 +23,7 @@ pub extern "C" fn pj_store_in_place(device: &Device, out: &mut [u8]) -> FormWrit
 /// The same, of a record that is given by value.
 #[unsafe(no_mangle)]
 pub extern "C" fn pj_store(d: Device, out: &mut [u8]) -> FormWritten
-    ensures value { result ≡ told_stored (stored_by d (length out.old)) }
+    ensures says { result ≡ told_stored (stored_by d (length out.old)) }
     ensures written { out.new ≡ over (stored_by d (length out.old)).bytes out.old }
 {
     storing::store(&d, out)

@@ -16,7 +16,7 @@ ghost use Rattle.board.specs.Lists.{Lists};
 ghost use Rattle.board.specs.Days.{flat_verdict, flat_plan, ChecksInto, PlansInto};
 ghost use Rattle.board.specs.Lamps.{ComparesInto};
 ghost use Rattle.board.specs.declared.lamps.Report.{Report};
-ghost use Rattle.board.specs.Results.{panel_changed_of, panel_sent_of};
+ghost use Rattle.board.specs.Results.{writing_of, panel_changed_of, panel_sent_of};
 ghost use Rattle.board.specs.declared.results.PanelChanged.{PanelChanged};
 ghost use Rattle.board.specs.declared.results.PanelSent.{PanelSent};
 ghost use Rattle.panel.specs.PanelCalls.{panel_made, no_panel, added_to, commanded, stepped_at, lost_at};
@@ -24,7 +24,7 @@ ghost use Rattle.panel.specs.declared.types.Panel.{Panel};
 ghost use Rattle.record.specs.declared.types.Setting.{Setting};
 ghost use Rattle.board.specs.Which.{setting_number};
 ghost use Rattle.board.specs.Writable.{is_writable_by};
-ghost use Rattle.controller.specs.declared.writing.Written.{Written};
+ghost use Rattle.board.specs.declared.writer.Written.{Written};
 ghost use Rattle.text.specs.Words.{over};
 ghost use Rattle.codes.specs.declared.readings.FlatReading.{FlatReading};
 ghost use Rattle.codes.specs.declared.readings.FlatGreeting.{FlatGreeting};
@@ -82,8 +82,8 @@ pub fn one_result()
     ensures command_written { (k : Coded) (secured : Bool) (random : ℕ) (password out : List ℕ)
         (r s : Written) (m n : List ℕ)
         → let w = written_by (coded_command k) secured random password (length out) in
-        (r ≡ told_written w) × (m ≡ over w.bytes out)
-        → (s ≡ told_written w) × (n ≡ over w.bytes out) → (r ≡ s) × (m ≡ n) }
+        (r ≡ writing_of (told_written w)) × (m ≡ over w.bytes out)
+        → (s ≡ writing_of (told_written w)) × (n ≡ over w.bytes out) → (r ≡ s) × (m ≡ n) }
     ensures reply_read { (k : Coded) (l : List ℕ) (r s : FlatReading)
         → r ≡ read_by (coded_command k) l → s ≡ read_by (coded_command k) l → r ≡ s }
     ensures greeting_read { (l : List ℕ) (r s : FlatGreeting)

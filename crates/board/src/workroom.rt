@@ -39,7 +39,7 @@ pub extern "C" fn pj_panel_command(
     k: Coded,
     out: &mut [u8],
 ) -> PanelSent
-    ensures value { result ≡ panel_sent_of (commanded p projector k (length out.old)) }
+    ensures says { result ≡ panel_sent_of (commanded p projector k (length out.old)) }
     ensures written { out.new ≡ over (commanded p projector k (length out.old)).line
         out.old }
 {

@@ -2,8 +2,7 @@
 // is that the theorems stand.
 ghost use Rattle.std.specs.Prelude.{◌≡◌, Bool, ℕ, List, Result, length};
 ghost use Rattle.pjlink.specs.declared.command.Command.{Command};
-ghost use Rattle.controller.specs.declared.writing.Written.{Written};
-ghost use Rattle.controller.specs.Writing.{written_command, told_written};
+ghost use Rattle.controller.specs.Writing.{WriteTold, written_command, told_written};
 ghost use Rattle.text.specs.Words.{over};
 ghost use Rattle.controller.specs.declared.reading.Reading.{Reading};
 ghost use Rattle.controller.specs.declared.reading.Misread.{Misread};
@@ -14,7 +13,7 @@ ghost use Rattle.controller.specs.Greetings.{read_greeting};
 /// Two results that meet the promise of a call are equal, lent memory included; two replies that are read say the same.
 pub fn one_result()
     ensures command_written { (c : Command) (secured : Bool) (random : ℕ) (password out : List ℕ)
-        (r s : Written) (m n : List ℕ)
+        (r s : WriteTold) (m n : List ℕ)
         → let w = written_command c secured random password (length out) in
         (r ≡ told_written w) × (m ≡ over w.bytes out)
         → (s ≡ told_written w) × (n ≡ over w.bytes out) → (r ≡ s) × (m ≡ n) }

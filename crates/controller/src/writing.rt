@@ -1,18 +1,36 @@
-// Writing a command, led on request by the digest that opens a secured connection.
+//! Writing a command, led on request by the digest that opens a secured connection.
 ghost use Rattle.std.specs.Prelude.{◌≡◌, ◌+◌, ◌≤◌, ◌++◌, length};
 ghost use Rattle.arrayvec.specs.ArrayVec.{array_vec_len};
 ghost use Rattle.text.specs.Words.{over};
-ghost use Rattle.controller.specs.Writing.{is_writable, led_by, written_command, told_written};
+ghost use Rattle.controller.specs.Writing.{is_writable, led_by, written_command, told_written, unwritten_number};
+ghost use Rattle.controller.specs.Writing.{writing_told};
 
 use pjlink::command::Command;
 use words::codec::{LINE_MOST, Line};
 use words::{codec, texts};
 
-#[repr(C)]
+/// Room for the longest line of a command, led by a digest.
+pub const COMMAND_ROOM: usize = 168;
+
+/// Why a command is not written. The lent memory is then as it was.
 #[derive(Clone, Copy)]
-pub struct Written {
-    pub number: u32,
-    pub length: usize,
+pub enum Unwritten {
+    /// 2: the lent memory is too short for a command's line.
+    NoRoom,
+    /// 3: what is no command, and where a digest is asked for no password.
+    OutOfRange,
+}
+
+impl Unwritten {
+    /// Its number in the table of numbers.
+    pub fn number(self) -> u32
+        ensures { result ≡ unwritten_number self }
+    {
+        match self {
+            Unwritten::NoRoom => 2,
+            Unwritten::OutOfRange => 3,
+        }
+    }
 }
 
 // The command's line can be written, and a digest is asked for of a legal password.
@@ -32,7 +50,8 @@ fn put_lead(secured: bool, random: u32, password: &[u8], out: &mut Line)
     }
 }
 
-// The command's line from the start of the lent memory: 2 and 3 in that order.
+/// The command's line from the start of the lent memory, led by the digest where one is asked for: so many bytes.
+/// Refused: `NoRoom`, then `OutOfRange`.
 #[tactic(auto, unfolding(crate::specs::Writing::written_command))]
 pub fn write_command(
     c: Command,
@@ -40,30 +59,21 @@ pub fn write_command(
     random: u32,
     password: &[u8],
     out: &mut [u8],
-) -> Written
-    ensures value { result ≡ told_written (written_command c secured random password.now
+) -> Result<usize, Unwritten>
+    ensures told { writing_told result ≡ told_written (written_command c secured random password.now
         (length out.old)) }
     ensures written { out.new ≡ over (written_command c secured random password.now
         (length out.old)).bytes out.old }
 {
-    if out.len() < 168 {
-        return Written {
-            number: 2,
-            length: 0,
-        };
+    if out.len() < COMMAND_ROOM {
+        return Err(Unwritten::NoRoom);
     }
     if !is_writable(c, secured, password) {
-        return Written {
-            number: 3,
-            length: 0,
-        };
+        return Err(Unwritten::OutOfRange);
     }
     let mut line = Line::new();
     put_lead(secured, random, password, &mut line);
     c.put(&mut line);
     text::put(out, 0, line.as_slice());
-    Written {
-        number: 0,
-        length: line.len(),
-    }
+    Ok(line.len())
 }

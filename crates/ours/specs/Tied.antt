@@ -9,14 +9,14 @@ use Rattle.std.specs.Prelude.{ℕ, List}
 use Rattle.record.specs.declared.types.Device.{Device}
 use Rattle.stored.specs.declared.storing.FormWritten.{FormWritten}
 use Rattle.device.specs.Outcomes.{Told}
-use Rattle.controller.specs.declared.writing.Written.{Written}
+use Rattle.controller.specs.Writing.{WriteTold}
 use Rattle.record.specs.Given.{Given}
 use Rattle.ours.specs.Board.{Lent, Wrote}
 
 abbrev pub lent_as : Told → Device → List ℕ → Lent Device
 lent_as t d m = record { number = t.number; taken = t.taken; length = t.length; memory = m; device = d }
 
-abbrev pub wrote_as : Written → List ℕ → Wrote
+abbrev pub wrote_as : WriteTold → List ℕ → Wrote
 wrote_as r m = record { number = r.number; length = r.length; memory = m }
 
 abbrev pub wrote_form : FormWritten → List ℕ → Wrote

@@ -1,14 +1,15 @@
 // `ours`'s writing of a command.
 ghost use Rattle.std.specs.Prelude.{◌≡◌};
+ghost use Rattle.controller.specs.Writing.{writing_told};
 ghost use Rattle.ours.specs.Board.{ours};
 ghost use Rattle.ours.specs.Tied.{wrote_as};
 
 use controller::writing;
-use controller::writing::Written;
+use controller::writing::Unwritten;
 use pjlink::command::Command;
 
-pub fn write(c: Command, secured: bool, random: u32, password: &[u8], out: &mut [u8]) -> Written
-    ensures { wrote_as result out.new
+pub fn write(c: Command, secured: bool, random: u32, password: &[u8], out: &mut [u8]) -> Result<usize, Unwritten>
+    ensures { wrote_as (writing_told result) out.new
         ≡ ours.write c secured random password.now out.old }
 {
     writing::write_command(c, secured, random, password, out)

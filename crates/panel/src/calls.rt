@@ -10,10 +10,8 @@ use crate::refusal::Refusal;
 use crate::talk::Awaits;
 use crate::types::{Entry, LAMPS_MOST, NO_COMMAND, PANEL_MOST, Panel, Password};
 use codes::command::Coded;
+use controller::writing::COMMAND_ROOM;
 use words::texts;
-
-/// Room for the longest line of a command, led by a digest.
-pub const COMMAND_ROOM: usize = 168;
 
 impl Entry {
     /// A projector with that password: its greeting is awaited, nothing is known, no strays.

@@ -22,10 +22,13 @@ impl Entry {
         let secured = self.is_secured();
         let password = &self.password.bytes[0..self.password.len];
         let leads = secured && !self.led;
-        let written = writing::write_command(command, leads, self.random, password, out);
+        let length = match writing::write_command(command, leads, self.random, password, out) {
+            Ok(length) => length,
+            Err(_) => 0,
+        };
         self.led = secured;
         self.under_way = true;
         self.command = coded;
-        written.length
+        length
     }
 }

@@ -28,15 +28,7 @@ named c l taken e f g h = sym (g ∙ (λ i. is_body (e i) (taken.body i) (f i)))
 -- a reply says something
 replied : (r : Result Answer Refusal) → meaning (said_by r) ≡ saying (said_by r)
 replied (Ok an.Done) = refl
-replied (Ok (an.Power p)) = refl
-replied (Ok (an.Input i)) = refl
-replied (Ok (an.Mutes mutes)) = refl
-replied (Ok (an.Errors digits)) = refl
-replied (Ok (an.Lamps lamps)) = refl
-replied (Ok (an.Inputs inputs)) = refl
-replied (Ok (an.Text text)) = refl
-replied (Ok (an.Class class)) = refl
-replied (Ok (an.Freeze on)) = refl
+replied (Ok a) = refl
 replied (Err r) = refl
 
 pub returns-then-same : goal.returns-then-same
