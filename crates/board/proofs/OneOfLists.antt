@@ -2,7 +2,7 @@
 -- verdict, of one answer of the planner.
 -- Assumes nothing.
 use Rattle.std.proofs.Common.{[], ◌∷◌, ℕ, ◌≡◌, ◌≤◌, List, Ok, Err, Result, if◌then◌else◌, refl, sym, ap, ◌∙◌, inl}
-use Rattle.std.proofs.Common.{inr, length, arith, ◌==◌}
+use Rattle.std.proofs.Common.{inr, length, arith, ◌==◌, ◌⊎◌}
 use Rattle.std.proofs.lemmas.List.{length-map}
 use Rattle.std.proofs.lemmas.List.FromFn.{length-map-range_with_len}
 use Rattle.std.specs.Prelude.{ℤ}
@@ -12,11 +12,13 @@ use Rattle.day.specs.declared.check.CheckError.{CheckError}
 use Rattle.day.specs.declared.check.CheckError.TheVariants.{OutOfRange, NoRig, TooEarly, Clash, Spent}
 use Rattle.day.specs.declared.plan.PlanError.{PlanError}
 use Rattle.day.specs.declared.plan.PlanError.TheVariants.{OutOfRange as NoDay, NoRig as Unplaced}
+use Rattle.day.specs.Plans.{PlanHolds}
+use Rattle.day.specs.Verdicts.{VerdictHolds}
 use Rattle.day.proofs.OneVerdict.{one_verdict}
 use Rattle.day.proofs.OnePlan.{one_plan}
 use Rattle.service.proofs.OneAnswer.{one_comparison}
 use Rattle.board.specs.Lists.{Lists, job_at, jobs_in, rigs_in, plan_in, readings_in}
-use Rattle.board.specs.Days.{flat_verdict, flat_plan, without_plan, written_of, Checks, ChecksInto, Plans, PlansInto}
+use Rattle.board.specs.Days.{flat_verdict, flat_plan, without_plan, written_of, ChecksInto, Plans, PlansInto}
 use Rattle.board.specs.Lamps.{not_compared, report_of, ComparesInto}
 use Rattle.board.specs.declared.days.FlatVerdict.{FlatVerdict}
 use Rattle.board.specs.declared.days.FlatPlan.{FlatPlan}
@@ -54,26 +56,25 @@ plan_told (Err (Unplaced j)) = refl
 pub flat_plan_back : (p q : Result (Unit {0}) PlanError) → flat_plan p ≡ flat_plan q → p ≡ q
 flat_plan_back p q e = sym (plan_told p) ∙ ap plan_from e ∙ plan_told q
 
-one_check : (l : Lists) (a : List ℕ) (v w : Result (Unit {0}) CheckError) → Checks l a v → Checks l a w → v ≡ w
-one_check l a v w (inl p) (inl q) = one_verdict (rigs_in l) (plan_in l a) v w p.1 q.1
-one_check l a v w (inl p) (inr q) = absurd (q.0 p.0)
-one_check l a v w (inr p) (inl q) = absurd (p.0 q.0)
-one_check l a v w (inr p) (inr q) = p.1 ∙ sym q.1
+-- what holds where the lists have that form, and one answer where not
+one_where : {V C : Type 0} {P : V → Type 0} {e v w : V} → (P v → P w → v ≡ w) → C × P v ⊎ ¬ C × (v ≡ e)
+    → C × P w ⊎ ¬ C × (w ≡ e) → v ≡ w
+one_where one (inl x) (inl y) = one x.1 y.1
+one_where one (inl x) (inr y) = absurd (y.0 x.0)
+one_where one (inr x) (inl y) = absurd (x.0 y.0)
+one_where one (inr x) (inr y) = x.1 ∙ sym y.1
 
 pub one_flat_verdict : (l : Lists) (a : List ℕ) (r s : FlatVerdict) → ChecksInto l a r → ChecksInto l a s → r ≡ s
-one_flat_verdict l a r s (v, p, e) (w, q, f) = e ∙ ap flat_verdict (one_check l a v w p q) ∙ sym f
-
-one_planning : (l : Lists) (room : ℕ) (p q : Result (List Placement) PlanError) → Plans l room p → Plans l room q
-    → p ≡ q
-one_planning l room p q (inl x) (inl y) = one_plan (jobs_in l) (rigs_in l) p q x.1 y.1
-one_planning l room p q (inl x) (inr y) = absurd (y.0 x.0)
-one_planning l room p q (inr x) (inl y) = absurd (x.0 y.0)
-one_planning l room p q (inr x) (inr y) = x.1 ∙ sym y.1
+one_flat_verdict l a r s (v, p, e) (w, q, f) =
+    let same : v ≡ w
+    = one_where {P = VerdictHolds (rigs_in l) (plan_in l a)} (one_verdict (rigs_in l) (plan_in l a) v w) p q in
+    e ∙ ap flat_verdict same ∙ sym f
 
 pub one_flat_plan : (l : Lists) (out : List ℕ) (r s : FlatPlan) (m n : List ℕ) → PlansInto l out r m
     → PlansInto l out s n → (r ≡ s) × (m ≡ n)
 one_flat_plan l out r s m n (p, x, e, f) (q, y, g, h) =
-    let same = one_planning l (length out) p q x y in (
+    let same : p ≡ q
+    = one_where {P = PlanHolds (jobs_in l) (rigs_in l)} (one_plan (jobs_in l) (rigs_in l) p q) x y in (
       e ∙ ap (λ (p : Result (List Placement) PlanError). flat_plan (without_plan p)) same ∙ sym g,
       f ∙ ap (λ (p : Result (List Placement) PlanError). over (written_of p) out) same ∙ sym h,
     )

@@ -7,13 +7,10 @@ use Rattle.std.specs.Prelude.{if◌then◌else◌, Option, Some, None}
 use Rattle.text.proofs.Choices.{if_all, if_no}
 use Rattle.pjlink.specs.Forms.{reply_parameter}
 use Rattle.pjlink.specs.declared.command.Command.{Command}
-use Rattle.pjlink.specs.Said.{Said, okay, refused, power_is, chosen_is, mutes_are, errors_are, lamps_are, inputs_are}
-use Rattle.pjlink.specs.Said.{text_is, class_is, freeze_is, nothing}
+use Rattle.pjlink.specs.Said.{Said, okay}
 use Rattle.pjlink.specs.Reading.{read_parameter}
 use Rattle.controller.specs.Writing.{WrittenAs, nothing_written, command_room}
-use Rattle.controller.specs.Reading.{reading_outcome_number, saying, read_reply}
-use Rattle.controller.specs.Reading.{Outcome}
-use Rattle.controller.specs.Reading.{means_it, erra_said, not_a_line, other_command, disallowed}
+use Rattle.controller.specs.Reading.{Outcome, means_it, erra_said, reading_outcome_number, saying, read_reply}
 use Rattle.controller.proofs.Cases.{reply_by}
 use Rattle.controller.proofs.Refusals.{refusal_writes_nothing, written_number}
 use Rattle.codes.specs.Commands.{coded_command}
@@ -55,17 +52,7 @@ no_command_read k l e = ap (λ (m : Option Command). read_by m l) e
 -- the number of a reading is its outcome's
 saying-number : (m : Said) → (flat (saying m)).number ≡ reading_outcome_number (saying m).outcome
 saying-number okay = refl
-saying-number (refused k) = refl
-saying-number (power_is p) = refl
-saying-number (chosen_is i) = refl
-saying-number (mutes_are video audio) = refl
-saying-number (errors_are ds) = refl
-saying-number (lamps_are ls) = refl
-saying-number (inputs_are is) = refl
-saying-number (text_is s) = refl
-saying-number (class_is k) = refl
-saying-number (freeze_is on) = refl
-saying-number nothing = refl
+saying-number m = refl
 
 pub read_number : (c : Command) (l : List ℕ) →
     (read_by (Some c) l).number ≡ reading_outcome_number (read_reply c l).outcome
@@ -79,9 +66,7 @@ flat_or_none : (o : Outcome) (m : Said) → (flat_as o m).number ≡ reading_out
     → flat_as o m ≡ meaningless (flat_as o m).number
 flat_or_none means_it m e n = absurd (n e)
 flat_or_none erra_said m e n = absurd (n e)
-flat_or_none not_a_line m e n = refl
-flat_or_none other_command m e n = refl
-flat_or_none disallowed m e n = refl
+flat_or_none o m e n = refl
 
 pub refused_means_nothing : (m : Option Command) (l : List ℕ) → ((read_by m l).number ≡ 0 → ⊥)
     → read_by m l ≡ meaningless (read_by m l).number
