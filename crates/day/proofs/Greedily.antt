@@ -1,13 +1,12 @@
 -- The loop that places one job after the other.
 --   Going jobs rigs ps j      the first j jobs are placed, each on its lowest rig, and keep every rule
 -- Assumes nothing.
-use Rattle.std.proofs.Common.{ℕ, zero, suc, ◌+◌, ◌<◌, ◌≤◌, ◌≡◌, List, [], ◌∷◌, ◌++◌, length, take, min, refl}
+use Rattle.std.proofs.Common.{ℕ, zero, suc, ◌+◌, ◌<◌, ◌≤◌, ◌≡◌, List, [], ◌∷◌, ◌++◌, length, take, min}
 use Rattle.std.proofs.Common.{sym, ap, subst, ◌∙◌, arith, length-append, ⊎_elim, slice_index_or}
 use Rattle.std.specs.Prelude.{All}
 use Rattle.std.proofs.Math.ListN.{get_or-append}
 use Rattle.std.proofs.Math.Seq.{get_or-append_seam, take-suc, take-append_seam, take-append-le, take-length}
 use Rattle.std.proofs.lemmas.List.{take_more, get_or-map, get_or-take, length-take, map-append, length-map}
-use Rattle.std.proofs.lemmas.List.{length-take-le}
 use Rattle.text.proofs.Orders.{le_or_lt}
 use Rattle.day.specs.Days.{IsJob}
 use Rattle.day.specs.Rules.{Keeps}
@@ -73,13 +72,7 @@ pub record Going (jobs : List Job) (rigs : List Rig) (ps : List Placement) (j : 
   pub greedy : IsGreedy rigs ps
 
 module _ (jobs : List Job) (rigs : List Rig) where
-  pub going_none : Going jobs rigs [] 0
-  going_none = record { before = refl; inside = omega arith; greedy = λ j d h. absurd (omega arith) }
-
   module _ {ps : List Placement} {j : ℕ} (g : Going jobs rigs ps j) where
-    pub length_going : length ps ≡ j
-    length_going = sym (length-map ps (λ p. p.job)) ∙ ap length g.before ∙ length-take-le j jobs g.inside
-
     pub going_more : j < length jobs → (d : Job) {k : ℕ} → IsLowestRig rigs ps (slice_index_or jobs j d) k
         → Going jobs rigs (ps ++ on_rig (slice_index_or jobs j d) k ∷ []) (j + 1)
     going_more h d {k} l =

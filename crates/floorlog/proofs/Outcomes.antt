@@ -1,10 +1,10 @@
 -- What an event came to says what is printed for it, in no more bytes than there is room for.
 -- Assumes nothing.
 use Rattle.std.proofs.Common.{ℕ, ◌+◌, ◌-◌, ◌*◌, ◌≤◌, ◌≡◌, sym, ap, ◌∙◌, List, [], ◌∷◌, ◌++◌, arith, length, take}
-use Rattle.std.proofs.Common.{length-append, length-take, eq-eqb, ne_eqb, codes, ◌==◌}
+use Rattle.std.proofs.Common.{length-append, length-take, eq-eqb, codes, ◌==◌}
 use Rattle.std.proofs.Math.Seq.{take-append_seam}
 use Rattle.text.specs.Words.{over}
-use Rattle.text.proofs.Choices.{if_yes, if_no, if_all}
+use Rattle.text.proofs.Choices.{if_yes, if_all}
 use Rattle.numbers.specs.Decimal.{digits}
 use Rattle.numbers.proofs.Digits.{digits_at_most_10, long_at_most_20}
 use Rattle.record.specs.Refusals.{refusal_number}
@@ -33,10 +33,6 @@ module _ (r : Result Device) where
   served_text {n} {m} out e long put =
       ap reply_text (ap (take n) put ∙ ap (λ (k : ℕ). take k (over r.reply out)) long ∙ take-append_seam r.reply _)
       ∙ sym (if_yes _ _ (eq-eqb r.number 0 (sym e)))
-
-  pub refused_text : (x : Refusal) (m : List ℕ) → refusal_number x ≡ r.number → outcome_text (Refused x) m ≡ outcome r
-  refused_text x m e =
-      ap refusal_shown e ∙ sym (if_no _ _ (ne_eqb r.number 0 (λ z. refused x (e ∙ z))))
 
 refusal_short : (n : ℕ) → length (refusal_shown n) ≤ 12
 refusal_short n = omega (arith, length-append (codes "! ") (digits n), digits_at_most_10 n)

@@ -22,7 +22,7 @@ use Rattle.stored.specs.declared.form.Rest.{Rest}
 use Rattle.stored.specs.Loading.{is_other_version, ends_early, leaves_more, said, is_legal_said, contents, loaded}
 use Rattle.stored.specs.Loading.{device_of}
 use Rattle.stored.specs.Loading.{is_marked, mark_room, are_marks, started_with}
-use Rattle.stored.proofs.DeviceMade.{some_set_up, none_refused, none_set_up}
+use Rattle.stored.proofs.DeviceMade.{some_set_up, none_set_up}
 use Rattle.stored.proofs.Contents.{ones_are_marks, started_with-replicate}
 use Rattle.stored.proofs.MarkBytes.{ones_marked}
 
@@ -90,13 +90,6 @@ marked_as n d bytes =
     else refused 23 blank
 
 module _ (f : FormSaid) where
-  pub contents_refused : None ≡ device_of f.settings → refused 23 blank ≡ contents f
-  contents_refused e =
-      sym
-      (ap (λ (t : Bool). if t && are_marks (length f.settings.lamps) f.marks
-      then accepted (started_with f.settings (map is_marked f.marks)) else refused 23 blank)
-      (none_refused f.settings e))
-
   module _ {d : Device} (e : Some d ≡ device_of f.settings) where
     set_up_known : is_set_up f.settings ≡ true
     set_up_known = (some_set_up f.settings e).0

@@ -25,10 +25,6 @@ module _ (s : Watching) where
     unfolding after_log
     after_more = refl
 
-pub seconds_none : seconds_together [] ≡ 0
-unfolding seconds_together
-seconds_none = refl
-
 pub seconds_together-cons : (e : FloorEvent) (es : List FloorEvent) →
     seconds_together (e ∷ es) ≡ seconds_by e + seconds_together es
 unfolding seconds_together
