@@ -36,5 +36,5 @@ returns-clause-written c =
     let put = c.put.ensures ∙ ap (λ x. x ++ line) (c.put_lead.ensures ∙ ap (λ x. x ++ lead) c.new-line.ensures) in
     c.put-2.ensures ∙ ap (sets out 0) (c.as_slice.ensures.value ∙ put) ∙ sets_over (lead ++ line) out (omega arith)
     ∙ ap (λ (w : WrittenAs). over w.bytes out)
-    (sym (written_line c.args.c secured random password (length out) c.if-out-lt168.false
+    (sym (written_line c.args.c secured random password (length out) c.if-out-lt-COMMAND_ROOM.false
     (sym c.is_writable.ensures ∙ c.if-not-is_writable.false)))
