@@ -58,7 +58,9 @@ pub extern "C" fn pj_write(
         (length out.old)).bytes out.old }
 {
     match k.command() {
-        Some(command) => Written::of(writing::write_command(command, secured, random, password, out)),
+        Some(command) => Written::of(writing::write_command(
+            command, secured, random, password, out,
+        )),
         None => none_written(out.len()),
     }
 }

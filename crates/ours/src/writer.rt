@@ -8,7 +8,13 @@ use controller::writing;
 use controller::writing::Unwritten;
 use pjlink::command::Command;
 
-pub fn write(c: Command, secured: bool, random: u32, password: &[u8], out: &mut [u8]) -> Result<usize, Unwritten>
+pub fn write(
+    c: Command,
+    secured: bool,
+    random: u32,
+    password: &[u8],
+    out: &mut [u8],
+) -> Result<usize, Unwritten>
     ensures { wrote_as (writing_told result) out.new
         ≡ ours.write c secured random password.now out.old }
 {
