@@ -57,24 +57,24 @@ pub flat_plan_back : (p q : Result (Unit {0}) PlanError) → flat_plan p ≡ fla
 flat_plan_back p q e = sym (plan_told p) ∙ ap plan_from e ∙ plan_told q
 
 -- what holds where the lists have that form, and one answer where not
-one_where : {V C : Type 0} {P : V → Type 0} {e v w : V} → (P v → P w → v ≡ w) → C × P v ⊎ ¬ C × (v ≡ e)
+one_where : {V C : Type 0} (P : V → Type 0) {e v w : V} → (P v → P w → v ≡ w) → C × P v ⊎ ¬ C × (v ≡ e)
     → C × P w ⊎ ¬ C × (w ≡ e) → v ≡ w
-one_where one (inl x) (inl y) = one x.1 y.1
-one_where one (inl x) (inr y) = absurd (y.0 x.0)
-one_where one (inr x) (inl y) = absurd (x.0 y.0)
-one_where one (inr x) (inr y) = x.1 ∙ sym y.1
+one_where P one (inl x) (inl y) = one x.1 y.1
+one_where P one (inl x) (inr y) = absurd (y.0 x.0)
+one_where P one (inr x) (inl y) = absurd (x.0 y.0)
+one_where P one (inr x) (inr y) = x.1 ∙ sym y.1
 
 pub one_flat_verdict : (l : Lists) (a : List ℕ) (r s : FlatVerdict) → ChecksInto l a r → ChecksInto l a s → r ≡ s
 one_flat_verdict l a r s (v, p, e) (w, q, f) =
     let same : v ≡ w
-    = one_where {P = VerdictHolds (rigs_in l) (plan_in l a)} (one_verdict (rigs_in l) (plan_in l a) v w) p q in
+    = one_where (VerdictHolds (rigs_in l) (plan_in l a)) (one_verdict (rigs_in l) (plan_in l a) v w) p q in
     e ∙ ap flat_verdict same ∙ sym f
 
 pub one_flat_plan : (l : Lists) (out : List ℕ) (r s : FlatPlan) (m n : List ℕ) → PlansInto l out r m
     → PlansInto l out s n → (r ≡ s) × (m ≡ n)
 one_flat_plan l out r s m n (p, x, e, f) (q, y, g, h) =
     let same : p ≡ q
-    = one_where {P = PlanHolds (jobs_in l) (rigs_in l)} (one_plan (jobs_in l) (rigs_in l) p q) x y in (
+    = one_where (PlanHolds (jobs_in l) (rigs_in l)) (one_plan (jobs_in l) (rigs_in l) p q) x y in (
       e ∙ ap (λ (p : Result (List Placement) PlanError). flat_plan (without_plan p)) same ∙ sym g,
       f ∙ ap (λ (p : Result (List Placement) PlanError). over (written_of p) out) same ∙ sym h,
     )
