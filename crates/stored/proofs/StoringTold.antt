@@ -11,8 +11,8 @@ use Rattle.text.proofs.ByRows.{by_rows_lem, rows_number}
 use Rattle.text.proofs.OneResult.{Left, one_left}
 use Rattle.record.specs.Legal.{is_legal}
 use Rattle.record.specs.declared.types.Device.{Device}
-use Rattle.stored.specs.Form.{stored_form, StoredAs, nothing_stored, storing_rows, stored_by, told_stored}
-use Rattle.stored.specs.declared.storing.FormWritten.{FormWritten}
+use Rattle.stored.specs.Form.{stored_form, StoredAs, nothing_stored, storing_rows, stored_by}
+use Rattle.stored.specs.Told.{StoreTold, told_stored}
 
 module _ (d : Device) (room : ℕ) where
   pub storing_number : (stored_by d room).number ≡ first_of (storing_rows d room)
@@ -46,8 +46,8 @@ module _ (d : Device) (room : ℕ) where
 
 -- out is the lent memory
 module _ (d : Device) (out : List ℕ) where
-  abbrev pub Stores : FormWritten → List ℕ → Type 0
+  abbrev pub Stores : StoreTold → List ℕ → Type 0
   Stores = let w = stored_by d (length out) in Left (told_stored w) (over w.bytes out)
 
-  pub one_storing : {r s : FormWritten} {m n : List ℕ} → Stores r m → Stores s n → (r ≡ s) × (m ≡ n)
+  pub one_storing : {r s : StoreTold} {m n : List ℕ} → Stores r m → Stores s n → (r ≡ s) × (m ≡ n)
   one_storing p q = one_left p q

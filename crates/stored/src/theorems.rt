@@ -6,13 +6,11 @@ ghost use Rattle.record.specs.SetUp.{is_set_up};
 ghost use Rattle.record.specs.Given.{Given};
 ghost use Rattle.text.specs.Words.{over};
 ghost use Rattle.stored.specs.Form.{form_of, marked_form_of, old_form_of, stored_form, form_most, stored_by};
-ghost use Rattle.stored.specs.Form.{told_stored};
-ghost use Rattle.stored.specs.declared.storing.FormWritten.{FormWritten};
 ghost use Rattle.stored.specs.Loading.{loaded};
 ghost use Rattle.record.specs.declared.types.Device.{Device};
 ghost use Rattle.record.specs.Legal.{is_legal};
 ghost use Rattle.stored.specs.declared.error.LoadError.{LoadError};
-ghost use Rattle.stored.specs.Told.{loading_told};
+ghost use Rattle.stored.specs.Told.{StoreTold, told_stored, loading_told};
 
 /// A form of any version that is cut anywhere is 21, and one with more after it 22.
 pub fn a_form_is_whole()
@@ -37,7 +35,7 @@ pub fn a_form_is_short()
 
 /// Two results that meet the promise of a call are equal, lent memory included.
 pub fn one_result()
-    ensures storing { (d : Device) (out : List ℕ) (r s : FormWritten) (m n : List ℕ)
+    ensures storing { (d : Device) (out : List ℕ) (r s : StoreTold) (m n : List ℕ)
         → let w = stored_by d (length out) in
         (r ≡ told_stored w) × (m ≡ over w.bytes out)
         → (s ≡ told_stored w) × (n ≡ over w.bytes out) → (r ≡ s) × (m ≡ n) }
