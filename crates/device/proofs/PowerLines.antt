@@ -28,6 +28,7 @@ use Rattle.pjlink.proofs.SaidRows.{said_row}
 use Rattle.pjlink.specs.Said.{Said, okay, said_bytes}
 use Rattle.record.specs.declared.types.Settings.{Settings}
 use Rattle.record.specs.declared.types.Own.{Own}
+use Rattle.record.specs.Views.{power_seen}
 use Rattle.meaning.specs.Meaning.{meant, done, power_said, request_answer, carried_out}
 use Rattle.meaning.proofs.PowerSets.{PowerTurn, stays, warms, cools, power_turns}
 use Rattle.device.specs.Answering.{Answered, line_asks, replied, line_answer}
@@ -49,7 +50,7 @@ module _ (s : Settings) (o : Own) where
 
   powr_comes : (p : List ℕ) → Comes (asked_of Powr p)
   powr_comes p =
-      powr_by Comes p (comes (Ok (Query Powr)) (λ p. unchanged (power_not_okay (power_said o.power)) refl refl))
+      powr_by Comes p (comes (Ok (Query Powr)) (λ p. unchanged (power_not_okay (power_said (power_seen o))) refl refl))
       (λ wanted. comes (Ok (PowerSet wanted)) (λ p. carried wanted refl refl))
       (comes (Err (Unlisted Powr)) (λ p. unchanged nothing_not_okay refl refl))
 
