@@ -256,7 +256,7 @@ module _ (s : Settings) (o : Own) where
           let same = asks_before byte in
           (λ i. record {
             own = same.1 i;
-            reply = reply_line (byte i) (l at 2) (l at 3) (l at 4) (l at 5) (said_bytes (same.0 i));
+            reply = reply_line (byte i) (head_body l) (said_bytes (same.0 i));
           })
           ∙ sym (if_yes _ (swallowed o) before))
           (λ none. sym (if_no _ (swallowed o) (sym formed_before ∙ none)))

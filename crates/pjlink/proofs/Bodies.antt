@@ -4,11 +4,12 @@
 -- Assumes nothing.
 use Rattle.std.specs.List.{list_all}
 use Rattle.std.proofs.Common.{ℕ, ◌≤◌, ◌≡◌, refl, ap, Bool, true, ◌&&◌, List, [], ◌∷◌, map, slice_index_or, nat_le}
-use Rattle.std.proofs.Common.{leb-true}
+use Rattle.std.proofs.Common.{leb-true, length}
 use Rattle.text.proofs.Choices.{both_left, both_right}
 use Rattle.words.specs.Bytes.{◌at◌, is_alnum}
 use Rattle.pjlink.specs.Bodies.{bodies, class_of}
 use Rattle.pjlink.specs.Commands.{body_text}
+use Rattle.pjlink.specs.Forms.{IsLetters}
 use Rattle.pjlink.specs.declared.body.Body.{Body}
 use Rattle.pjlink.specs.declared.body.Body.TheVariants.{Powr, Inpt, Avmt, Erst, Lamp, Inst, Name, Inf1, Inf2}
 use Rattle.pjlink.specs.declared.body.Body.TheVariants.{Info, Clss, Frez, Svol, Mvol, Snum, Sver, Innm}
@@ -50,6 +51,12 @@ pub record Spelt (b : Body) : Type 0 where
   pub long : four (body_text b) ≡ body_text b
   pub letters : list_all is_alnum (body_text b) ≡ true
   pub classed : (nat_le 1 (class_of b) && nat_le (class_of b) 2) ≡ true
+
+pub body_letters : (b : Body) → IsLetters (body_text b)
+body_letters b = record {
+  four = each_body (λ (x : Body). length (body_text x)) (λ (x : Body). 4) refl b;
+  each = each_body (λ (x : Body). list_all is_alnum (body_text x)) yes refl b;
+}
 
 pub body_spelt : (b : Body) → Spelt b
 body_spelt b = record {
