@@ -1,12 +1,9 @@
 -- Settings survive a board swap (RULES, Stored form): it holds of our board.
 -- Assumes nothing.
-use Rattle.std.specs.List.{list_all}
 use Rattle.std.proofs.Common.{ℕ, ◌+◌, ◌<◌, ◌≡◌, refl, sym, ap, subst, ◌∙◌, Bool, true, false, List, [], ◌∷◌, arith}
-use Rattle.std.proofs.Common.{length, slice_index_or, get_or-take, length-take-le, ext_get_or, leb-true, eq-eqb, ne_eqb}
+use Rattle.std.proofs.Common.{length, slice_index_or, get_or-take, length-take-le, ext_get_or, ne_eqb}
 use Rattle.words.specs.Bytes.{◌at◌}
-use Rattle.text.proofs.Scanning.{list_all_at}
 use Rattle.record.specs.Wanted.{Wanted}
-use Rattle.record.specs.Rules.{at_most}
 use Rattle.record.specs.Legal.{is_legal}
 use Rattle.record.specs.Given.{Given, accepted}
 use Rattle.record.specs.declared.types.Settings.{Settings}
@@ -20,7 +17,7 @@ use Rattle.stored.specs.Loading.{settings_in, started_with, loaded}
 use Rattle.stored.proofs.Results.{accepted_set_up, older_is_class_1}
 use Rattle.stored.proofs.StoredLoads.{stored_in_range, stored_loads as form-again}
 use Rattle.stored.proofs.FormsLoad.{marked_form_loads, marked_form_marks, old_form_loads}
-use Rattle.stored.proofs.BytesAgain.{Bytes}
+use Rattle.stored.proofs.Fields.{bytes_all}
 use Rattle.stored.proofs.OneForm.{stored_again, forms_apart}
 use Rattle.ours.specs.Board.{ours, bytes_written}
 use Rattle.demands.specs.Calls.{Call, run}
@@ -32,9 +29,6 @@ use Rattle.demands.specs.BoardSwap.{LoadsAs, BoardSwap}
 use Rattle.demands.proofs.KeepsRunning.{over_front}
 use Rattle.demands.proofs.Agrees.{Agrees}
 use Rattle.demands.proofs.HistoryTold.{history_told}
-
-bytes_kept : (s : List ℕ) → list_all (at_most 255) s ≡ true → Bytes s
-bytes_kept s h i inside = omega (arith, leb-true (slice_index_or s i 0) 255 (list_all_at (at_most 255) s 0 h i inside))
 
 -- burnt on the one board, then on the other
 lamp_goes_on : (m n start : ℕ) → lamp_with n (lamp_with m start) ≡ lamp_with (m + n) start
@@ -170,7 +164,7 @@ ours_swap = record {
   old_form_sets_up = λ w h. old_form_loads w h.set_up h.class_1;
   marked_form_loads = marked_loads;
   older_class_1 = older_loads;
-  stored_again = λ s b new h. stored_again s (bytes_kept s b) h (eq-eqb (s at 0) form_version new);
-  one_form = λ s t a b g h v e. forms_apart s t (bytes_kept s a) (bytes_kept t b) g h v e;
+  stored_again = λ s b new h. stored_again s h (bytes_all s b) new;
+  one_form = λ s t a b g h v e. forms_apart s t (bytes_all s a) (bytes_all t b) g h v e;
   hours_go_on = hours_go_on;
 }

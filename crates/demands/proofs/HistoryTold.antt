@@ -55,8 +55,7 @@ use Rattle.record.proofs.OwnTold.{lamp_at}
 use Rattle.record.proofs.Started.{started_legal, started_parts, started_lamp, set_up_started}
 use Rattle.stored.specs.Loading.{started_with}
 use Rattle.stored.proofs.FormsLoad.{form_loads, form_marks, marked_form_loads, marked_form_marks, old_form_loads}
-use Rattle.stored.proofs.Contents.{started_with-replicate}
-use Rattle.stored.proofs.MarkBytes.{slice_index_or-mark_room}
+use Rattle.stored.proofs.Marks.{started_with-replicate, slice_index_or-mark_room}
 use Rattle.demands.specs.CountsSeconds.{Beginning, sets_up, loads, loads_marked, loads_old, start_marks, begun_by}
 use Rattle.demands.specs.CountsSeconds.{IsAccepted}
 use Rattle.demands.specs.CountsSeconds.{run_of, history_of}

@@ -1,15 +1,14 @@
 -- What loading gives (RULES, Stored form): the number is that of the first row that applies, for every byte string; a
 -- refused load gives the blank record; a load that is accepted is a set-up with the marks that the form has (RULES,
--- Lamps), and legal; and the promise leaves one result.
+-- Lamps), and legal.
 --   IsAccepted s      an accepted load: the version is known, the form is all that stands there, the contents are legal
 -- Assumes nothing.
-use Rattle.std.proofs.Common.{◌≡◌, ℕ, Bool, true, false, ◌&&◌, List, [], length, Option, Some, None}
-use Rattle.std.proofs.Common.{refl, ap, ◌∙◌, arith, ◌==◌, eqb-true}
+use Rattle.std.proofs.Common.{◌≡◌, ℕ, Bool, true, false, ◌&&◌, List, [], length, Option, Some, None, refl, ap, ◌∙◌}
+use Rattle.std.proofs.Common.{arith, ◌==◌}
 use Rattle.std.proofs.lemmas.Bool.{not-false}
 use Rattle.text.specs.Rows.{first_of}
 use Rattle.text.proofs.ByRows.{by_rows_lem, rows_number}
 use Rattle.text.proofs.Choices.{both_left, both_right}
-use Rattle.text.proofs.OneResult.{one_result}
 use Rattle.words.specs.Bytes.{◌at◌}
 use Rattle.record.specs.Wanted.{Wanted}
 use Rattle.record.specs.Rules.{is_marks}
@@ -24,10 +23,10 @@ use Rattle.record.proofs.HostKept.{is_legal-with_own}
 use Rattle.record.proofs.Started.{started_parts, started_legal}
 use Rattle.stored.specs.Form.{form_version}
 use Rattle.stored.specs.Reading.{FormSaid, form}
-use Rattle.stored.specs.Loading.{is_other_version, ends_early, leaves_more, said, said_in, settings_in}
-use Rattle.stored.specs.Loading.{mark_bytes_in, marks_read, mark_room, are_marks, started_with, load_rows, loaded}
-use Rattle.stored.proofs.MarkBytes.{marks_told}
-use Rattle.stored.proofs.Grammar.{nothing, older_said}
+use Rattle.stored.specs.Loading.{is_other_version, ends_early, leaves_more, said, said_in, settings_in, mark_bytes_in}
+use Rattle.stored.specs.Loading.{marks_read, mark_room, are_marks, started_with, load_rows, loaded}
+use Rattle.stored.proofs.Marks.{marks_are}
+use Rattle.stored.proofs.Grammar.{nothing, form_read}
 
 -- a set-up with legal marks is legal
 pub is_legal-started_with : (w : Wanted) (ms : List Bool) → is_set_up w ≡ true
@@ -40,10 +39,8 @@ is_legal-started_with w ms ok h =
 
 -- what neither ends early nor leaves more
 read_whole : (o : Option (FormSaid × List ℕ)) → ends_early o ≡ false → leaves_more o ≡ false → o ≡ Some (said o, [])
-read_whole None e l = absurd (cc)
-read_whole (Some x) e l =
-    let none = eqb-true (length x.1) 0 (not-false (length x.1 == 0) l) in
-    ap (λ (r : List ℕ). Some (x.0, r)) (nothing x.1 (omega arith))
+read_whole None e l = grind (arith, e)
+read_whole (Some x) e l = grind (arith, l, nothing x.1)
 
 module _ (s : List ℕ) where
   abbrev given : Given Device
@@ -89,11 +86,8 @@ module _ (s : List ℕ) where
       let told = accepted_told e in
       ap (λ (c : Given Device). is_legal c.device) (accepted_set_up e)
       ∙ is_legal-started_with (settings_in s) (marks_read s) told.contents
-      (marks_told _ (mark_bytes_in s) told.marks).legal
+      ((marks_are _ (mark_bytes_in s)).0 told.marks).legal
 
   -- versions 1 and 2 are of Class 1 (RULES, Class 2)
   pub older_is_class_1 : ((s at 0) == form_version) ≡ false → (loaded s).number ≡ 0 → (settings_in s).class ≡ 1
-  older_is_class_1 older e = (older_said s (said_in s) [] (accepted_told e).read).class older
-
-  pub one_loading : {r q : Given Device} → r ≡ loaded s → q ≡ loaded s → r ≡ q
-  one_loading e f = one_result e f
+  older_is_class_1 older e = (form_read s (accepted_told e).read).class older

@@ -2,8 +2,8 @@
 -- of its lamps' seconds as they are, each lamp with its mark, with the number 0. What is stored of a fresh set-up is
 -- what it was set up with.
 -- Assumes nothing.
-use Rattle.std.proofs.Common.{ℕ, ◌*◌, ◌/◌, ◌≡◌, refl, sym, ap, ◌∙◌, Bool, true, List, [], ◌∷◌, map, arith}
-use Rattle.std.proofs.Common.{length, take, length-take-le, eq-eqb}
+use Rattle.std.proofs.Common.{ℕ, ◌*◌, ◌/◌, ◌≡◌, refl, sym, ap, ◌∙◌, Bool, true, List, [], ◌∷◌, map, arith, length, take}
+use Rattle.std.proofs.Common.{length-take-le, eq-eqb}
 use Rattle.std.proofs.lemmas.List.{length-map}
 use Rattle.text.proofs.Choices.{both}
 use Rattle.text.proofs.Scanning.{list_all-map}
@@ -18,8 +18,8 @@ use Rattle.record.specs.Legal.{fills_name_room, is_legal}
 use Rattle.record.specs.SetUp.{is_setting_in_range, is_set_up}
 use Rattle.record.specs.declared.types.Device.{Device}
 use Rattle.record.specs.declared.types.Setting.{Setting}
-use Rattle.record.specs.declared.types.Setting.TheVariants.{Name, Maker, Model, Other, Password, Inputs}
-use Rattle.record.specs.declared.types.Setting.TheVariants.{Lamps, WarmUp, Cooling, Serial, Version, Names}
+use Rattle.record.specs.declared.types.Setting.TheVariants.{Name, Maker, Model, Other, Password, Inputs, Lamps, WarmUp}
+use Rattle.record.specs.declared.types.Setting.TheVariants.{Cooling, Serial, Version, Names}
 use Rattle.record.proofs.Kept.{kept_length, filled_take}
 use Rattle.record.proofs.Rules.{only_in_2_within, names_many, names_shown}
 use Rattle.record.proofs.NamesTold.{names_first}
@@ -31,7 +31,7 @@ use Rattle.record.proofs.Calls.{set_up_shown}
 use Rattle.record.proofs.Started.{started_parts, inputs_halved}
 use Rattle.stored.specs.Form.{name_stored, stored_of, marks_stored, stored_form}
 use Rattle.stored.specs.Loading.{mark_room, is_marks_of, started_with, loaded}
-use Rattle.stored.proofs.MarkBytes.{mark_room-take, room_front}
+use Rattle.stored.proofs.Marks.{mark_room-take, room_front}
 use Rattle.stored.proofs.FormsLoad.{form_loads}
 use Rattle.record.proofs.FactsTold.{stretch_is, fills_told}
 

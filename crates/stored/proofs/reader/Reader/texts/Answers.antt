@@ -2,7 +2,7 @@
 use Rattle.std.proofs.Common.{◌≡◌, ℕ, List, None, length, ◌-◌, subst, sym, ap, ◌∙◌, arith}
 use Rattle.std.proofs.lemmas.Result.{err_from_is_err_and}
 use Rattle.stored.specs.Reading.{texts}
-use Rattle.stored.proofs.Taken.{TextsRead, none_read, one_read, all_read, none_left}
+use Rattle.stored.proofs.TextsRead.{TextsRead, none_read, one_read, all_read, none_left}
 use Rattle.stored.proofs.reader.Reader.texts.Goals as goal
 
 pub loop-init : goal.loop-init
