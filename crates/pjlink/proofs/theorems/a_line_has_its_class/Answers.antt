@@ -1,10 +1,7 @@
+use Rattle.std.proofs.Common.{arith}
 use Rattle.pjlink.proofs.FormsSpelt.{line_class_taken, class_byte}
 use Rattle.pjlink.proofs.RepliesReadBack.{reply_other_class}
 use Rattle.pjlink.proofs.theorems.a_line_has_its_class.Goals as goal
 
 pub returns : goal.returns
-returns c = record {
-  taken = line_class_taken;
-  digit = class_byte;
-  other = λ a b c d j k p e. reply_other_class a b c d e j k p;
-}
+returns c = grind (arith, line_class_taken, class_byte, reply_other_class)
