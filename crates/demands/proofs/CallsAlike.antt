@@ -3,7 +3,7 @@
 -- leaves them so, an opening if they agree in that place's phase.
 --   AlikeFrom p d e c     the call c gives the same from d and from e, and leaves them the same but for place p
 -- Assumes nothing.
-use Rattle.std.proofs.Common.{ℕ, ◌≡◌, refl, sym, ap, ◌∙◌, Bool, true, false, not, ◌||◌, List, [], ◌∷◌, length, set}
+use Rattle.std.proofs.Common.{arith, ℕ, ◌≡◌, refl, sym, ap, ◌∙◌, Bool, true, false, not, ◌||◌, List, [], ◌∷◌, length, set}
 use Rattle.std.proofs.Common.{nat_le, nat_lt}
 use Rattle.std.proofs.Common.{◌==◌, eqb-true}
 use Rattle.std.proofs.lemmas.Bool.{false≢true, eqb-false}
@@ -39,26 +39,10 @@ module _ (d e : Device) (legal-d : is_legal d ≡ true) (legal-e : is_legal e �
 
   module _ (same : SameDevicePart ours d e) where
     host_rows : (c : Call) → is_hosts c ≡ true → rows_of d c ≡ rows_of e c
-    host_rows (opens random m) h = absurd (false≢true h)
-    host_rows (closes q) h = absurd (false≢true h)
-    host_rows (receives q bs m) h = absurd (false≢true h)
-    host_rows (passes n) h = (λ i. (1 when not (legal_same i)) ∷ [])
-    host_rows (marks fault) h = (λ i. (1 when not (legal_same i)) ∷ [])
-    host_rows (reports errors) h = (λ i. (1 when not (legal_same i)) ∷ (3 when not (is_error_list errors)) ∷ [])
-    host_rows (enables lamp mark) h =
-        (λ i. (1 when not (legal_same i))
-        ∷ (3 when (nat_le (sym same.settings i).lamp_count lamp
-        || is_none_left (set (sym same.own i).enabled lamp mark)))
-        ∷ (7 when not ((sym same.own i).power == off)) ∷ [])
+    host_rows c h = grind arith
 
     host_own : (c : Call) → is_hosts c ≡ true → own_then e c ≡ own_then d c
-    host_own (opens random m) h = absurd (false≢true h)
-    host_own (closes q) h = absurd (false≢true h)
-    host_own (receives q bs m) h = absurd (false≢true h)
-    host_own (passes n) h = (λ i. times (own_second (same.settings i)) n (same.own i))
-    host_own (marks fault) h = ap (λ (o : Own). with_fault o fault) same.own
-    host_own (reports errors) h = ap (λ (o : Own). with_errors o errors) same.own
-    host_own (enables lamp mark) h = ap (λ (o : Own). with_marks o (set o.enabled lamp mark)) same.own
+    host_own c h = grind arith
 
     pub host_alike : (c : Call) → is_hosts c ≡ true → SameDevicePart ours (after ours d c) (after ours e c)
     host_alike c h = record {
@@ -95,18 +79,7 @@ module _ (d e : Device) (legal-d : is_legal d ≡ true) (legal-e : is_legal e �
         (is_at_place p c ≡ false) × (is_opening c ≡ true → phase_at ours p d ≡ phase_at ours p e)
 
     rows_same : (c : Call) → IsElsewhere c → rows_of d c ≡ rows_of e c
-    rows_same (opens random m) h =
-        (λ i. (1 when not (legal_same i)) ∷ (2 when nat_lt (length m) reply_room)
-        ∷ (6 when is_no_place (lowest_same (h.1 refl) i)) ∷ [])
-    rows_same (closes q) h =
-        (λ i. (1 when not (legal_same i)) ∷ (3 when is_no_place q) ∷ (4 when is_shut (there_same q h.0 i)) ∷ [])
-    rows_same (receives q bs m) h =
-        (λ i. (1 when not (legal_same i)) ∷ (2 when nat_lt (length m) reply_room) ∷ (3 when is_no_place q)
-        ∷ (4 when is_shut (there_same q h.0 i)) ∷ [])
-    rows_same (passes n) h = host_rows same.device (passes n) refl
-    rows_same (marks fault) h = host_rows same.device (marks fault) refl
-    rows_same (reports errors) h = host_rows same.device (reports errors) refl
-    rows_same (enables lamp mark) h = host_rows same.device (enables lamp mark) refl
+    rows_same c h = grind (arith, host_rows, lowest_same, there_same)
 
     abbrev told : (place taken : ℕ) (reply m : List ℕ) → Gave
     told place taken reply m = record {
@@ -118,35 +91,13 @@ module _ (d e : Device) (legal-d : is_legal d ≡ true) (legal-e : is_legal e �
     }
 
     gives_same : (c : Call) → IsElsewhere c → gives d c ≡ gives e c
-    gives_same (opens random m) h =
-        (λ i. told (lowest_same (h.1 refl) i) 0 (greeting (sym same.device.settings i) random) m)
-    gives_same (closes q) h = refl
-    gives_same (receives q bs m) h = ap (λ (t : Taken). told 0 t.taken t.ended.reply m) (takes_same q h.0 bs)
-    gives_same (passes n) h = refl
-    gives_same (marks fault) h = refl
-    gives_same (reports errors) h = refl
-    gives_same (enables lamp mark) h = refl
+    gives_same c h = grind (arith, lowest_same, takes_same)
 
     own_same : (c : Call) → IsElsewhere c → own_then e c ≡ own_then d c
-    own_same (opens random m) h = same.device.own
-    own_same (closes q) h = same.device.own
-    own_same (receives q bs m) h = ap (λ (t : Taken). t.ended.own) (sym (takes_same q h.0 bs))
-    own_same (passes n) h = host_own same.device (passes n) refl
-    own_same (marks fault) h = host_own same.device (marks fault) refl
-    own_same (reports errors) h = host_own same.device (reports errors) refl
-    own_same (enables lamp mark) h = host_own same.device (enables lamp mark) refl
+    own_same c h = grind (arith, host_own, takes_same)
 
     others_same : (c : Call) → IsElsewhere c → (q : ℕ) → (q ≡ p → ⊥) → connection_left e c q ≡ connection_left d c q
-    others_same (opens random m) h q away =
-        (λ i. if sym (lowest_same (h.1 refl)) i == q then greeted (same.device.settings i) random
-        else same.others q away i)
-    others_same (closes k) h q away = (λ i. if k == q then closed else same.others q away i)
-    others_same (receives k bs m) h q away =
-        (λ i. if k == q then (sym (takes_same k h.0 bs) i).ended.connection else same.others q away i)
-    others_same (passes n) h q away = ap (times connection_second n) (same.others q away)
-    others_same (marks fault) h q away = same.others q away
-    others_same (reports errors) h q away = same.others q away
-    others_same (enables lamp mark) h q away = same.others q away
+    others_same c h q away = grind (arith, lowest_same, takes_same)
 
     pub alike_elsewhere : (c : Call) → is_at_place p c ≡ false
         → (is_opening c ≡ true → phase_at ours p d ≡ phase_at ours p e) → AlikeFrom p c
