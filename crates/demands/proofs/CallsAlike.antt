@@ -3,31 +3,18 @@
 -- leaves them so, an opening if they agree in that place's phase.
 --   AlikeFrom p d e c     the call c gives the same from d and from e, and leaves them the same but for place p
 -- Assumes nothing.
-use Rattle.std.proofs.Common.{arith, ℕ, ◌≡◌, refl, sym, ap, ◌∙◌, Bool, true, false, not, ◌||◌, List, [], ◌∷◌, length, set}
-use Rattle.std.proofs.Common.{nat_le, nat_lt}
-use Rattle.std.proofs.Common.{◌==◌, eqb-true}
-use Rattle.std.proofs.lemmas.Bool.{false≢true, eqb-false}
-use Rattle.std.specs.Prelude.{if◌then◌else◌}
+use Rattle.std.proofs.Common.{arith, ℕ, ◌≡◌, refl, sym, ◌∙◌, true, false, List, length}
+use Rattle.std.proofs.Common.{◌==◌}
+use Rattle.std.proofs.lemmas.Bool.{eqb-false}
 use Rattle.text.specs.Words.{over}
-use Rattle.text.specs.Rows.{◌when◌}
-use Rattle.record.specs.Limits.{off}
 use Rattle.record.specs.Legal.{is_legal}
-use Rattle.record.specs.Record.{closed}
-use Rattle.record.specs.Rules.{is_error_list}
-use Rattle.record.specs.HostCalls.{is_none_left}
-use Rattle.record.specs.Updates.{with_fault, with_errors, with_marks}
-use Rattle.record.specs.Places.{connection_at, is_shut, lowest_shut}
-use Rattle.record.specs.declared.types.Connection.{Connection}
-use Rattle.record.specs.declared.types.Own.{Own}
+use Rattle.record.specs.Places.{connection_at, lowest_shut}
 use Rattle.record.specs.declared.types.Device.{Device}
 use Rattle.record.proofs.LegalTold.{legal_places}
 use Rattle.record.proofs.LowestShut.{lowest_shut_same}
-use Rattle.clock.specs.Second.{times, own_second, connection_second}
-use Rattle.device.specs.Receiving.{Taken, taken_in}
-use Rattle.device.specs.Calls.{reply_room, is_no_place, greeting, greeted}
 use Rattle.device.proofs.Cases.{takes}
 use Rattle.ours.specs.Board.{ours}
-use Rattle.demands.specs.Calls.{Call, opens, closes, receives, passes, marks, reports, enables, after, Gave, gave_by}
+use Rattle.demands.specs.Calls.{Call, after, Gave, gave_by}
 use Rattle.demands.specs.KeepsRunning.{rows_of}
 use Rattle.demands.specs.Outsider.{SameDevicePart, is_hosts}
 use Rattle.demands.specs.Unheard.{SameElsewhere, phase_at, is_at_place, is_opening}
@@ -61,18 +48,11 @@ module _ (d e : Device) (legal-d : is_legal d ≡ true) (legal-e : is_legal e �
     there_same q other = sym (same.others q (eqb-false q p other))
 
     takes_same : (q : ℕ) → (q == p) ≡ false → (bs : List ℕ) → takes d q bs ≡ takes e q bs
-    takes_same q other bs =
-        (λ i. taken_in (sym same.device.settings i) (sym same.device.own i) (there_same q other i) bs)
+    takes_same q other bs = grind (arith, there_same)
 
     -- which place is the lowest closed one depends on the phases alone
     lowest_same : phase_at ours p d ≡ phase_at ours p e → lowest_shut d.connections ≡ lowest_shut e.connections
-    lowest_same phase =
-        lowest_shut_same d.connections e.connections (legal_places d legal-d ∙ sym (legal_places e legal-e))
-        (λ q. by q (q == p) refl)
-      where
-        by : (q : ℕ) (t : Bool) → (q == p) ≡ t → (connection_at d q).phase ≡ (connection_at e q).phase
-        by q true z = rw (eqb-true q p z) phase
-        by q false z = ap (λ (c : Connection). c.phase) (there_same q z)
+    lowest_same phase = grind (arith, lowest_shut_same, legal_places, there_same)
 
     abbrev IsElsewhere : Call → Type 0
     IsElsewhere c =

@@ -47,10 +47,7 @@ module _ (password : List ℕ) where
 
   module _ {c : Call} {cs : List Call} {ss : ℕ → Session} {d : Device} (all : AllOutside ss d (c ∷ cs)) where
     all_then : AllOutside (λ p. noted ours p d (ss p) c) (after ours d c) cs
-    all_then = record {
-      out = λ p there. outside_after password p (ss p) d (all.out p there) c (all.never p there).0;
-      never = λ p there. (all.never p there).1;
-    }
+    all_then = grind (arith, outside_after)
 
   -- the calls on a connection leave the own part: what is received, since its place was never matched
   others_keep : (c : Call) (cs : List Call) (ss : ℕ → Session) (d : Device) → AllOutside ss d (c ∷ cs)

@@ -2,7 +2,8 @@
 -- but for his place, and each other call gives the same in both. What holds at the end of two such runs holds at
 -- every moment of them: what came before is two such runs, on any board.
 -- Assumes nothing.
-use Rattle.std.proofs.Common.{ℕ, ◌≡◌, refl, sym, ◌∙◌, Bool, true, false, not, List, ◌∷◌, ◌==◌, eqb-true, eq-eqb, zero}
+use Rattle.std.proofs.Common.{arith}
+use Rattle.std.proofs.Common.{ℕ, ◌≡◌, refl, ◌∙◌, Bool, true, false, not, List, ◌∷◌, ◌==◌, eqb-true, eq-eqb, zero}
 use Rattle.std.proofs.Common.{suc, [], take}
 use Rattle.std.proofs.lemmas.Bool.{false≢true, eqb-false}
 use Rattle.text.proofs.Choices.{both_left, both, both_right}
@@ -61,20 +62,7 @@ module _ (password : List ℕ) (p : ℕ) (s t : Session) (d e : Device) (same : 
   -- each run changed nothing but place p
   his_step : (a b : Call) → is_at_place p a ≡ true → is_at_place p b ≡ true → NotMatched d s a → NotMatched e t b
       → Stepped a b
-  his_step a b at at-too u v =
-      let one = his_call password p s d out-d a at u in
-      let other = his_call password p t e out-e b at-too v in
-      record {
-        at_once = at ∙ sym at-too;
-        got = λ z. absurd (false≢true (sym z ∙ at));
-        left = record {
-          device = record {
-            settings = other.device.settings ∙ same.device.settings ∙ sym one.device.settings;
-            own = other.device.own ∙ same.device.own ∙ sym one.device.own;
-          };
-          others = λ q away. other.others q away ∙ same.others q away ∙ sym (one.others q away);
-        };
-      }
+  his_step a b at at-too u v = grind (arith, his_call)
 
   step : {a b : Call} (cs : List Call) → Alike p a b
       → ((phase_at ours p d ≡ phase_at ours p e → ⊥) → opens_none (a ∷ cs) ≡ true)
@@ -103,10 +91,7 @@ module _ (password : List ℕ) (p : ℕ) (s t : Session) (d e : Device) (same : 
 -- two lists, each led by one more unless it is left out
 listed : {g h : Gave} {xs ys : List Gave} (out away : Bool) → out ≡ away → (out ≡ false → g ≡ h) → xs ≡ ys
     → (if out then xs else g ∷ xs) ≡ (if away then ys else h ∷ ys)
-listed true true at got rest = rest
-listed true false at got rest = absurd (false≢true (sym at))
-listed false true at got rest = absurd (false≢true at)
-listed false false at got rest = (λ i. got refl i ∷ rest i)
+listed out away at got rest = grind arith
 
 module _ (password : List ℕ) (p : ℕ) where
   runs_alike : {xs ys : List Call} → AllAlike p xs ys → (s t : Session) (d e : Device) → SameElsewhere ours p d e
