@@ -204,12 +204,7 @@ module _ (q : ℕ) (d : Device) where
       HeardThere (heard_of d.own (take r.taken bs) (reply r)) (connection_at r.device q))
       (sym (eqb-true p q e)) (call_there bs m))
       (λ e. untouched (receiving_keeps_others d p bs (length m) q (λ z. eqb-false p q e (sym z))))
-  any_call (opens random m) h = untouched h
-  any_call (closes p) h = untouched h
-  any_call (passes n) h = untouched h
-  any_call (marks fault) h = untouched h
-  any_call (reports errors) h = untouched h
-  any_call (enables lamp mark) h = untouched h
+  any_call c h = untouched h
 
 module _ (q : ℕ) where
   all_calls : (d : Device) (cs : List Call) → ByBytesOnly ours q d cs

@@ -113,7 +113,9 @@ unless : (legal : Bool) → ◌≡◌ {A = ℕ} (if legal then 0 else 1) (if not
 unless legal = grind arith
 
 pub number_is_first : (d : Device) (c : Call) → number_of ours d c ≡ first_of (rows_of d c)
-number_is_first d c = grind (arith, opened_number, closed_number, received-number, passed-number, unless, fault_number, errors_number, mark_number)
+number_is_first d c =
+    grind (arith, opened_number, closed_number, received-number, passed-number, unless, fault_number, errors_number,
+    mark_number)
 
 pub set_up_number : (w : Wanted) → (ours.set_up w).number ≡ first_of (set_up_rows w)
 set_up_number = set-up-table
@@ -141,7 +143,8 @@ module _ (l : List ℕ) where
   greeting_number-read_greeting : (plain erra secured : Bool) → same_by itself l greeting_open ≡ plain
       → same_by itself l erra_line ≡ erra → greets l (random_in l) ≡ secured
       → greeting_number (read_greeting l) ≡ first_of (greeting_rows l)
-  greeting_number-read_greeting plain erra secured p e g = grind (arith, greeting_open_lem, greeting_refused, greeting_secured_lem, greeting_none)
+  greeting_number-read_greeting plain erra secured p e g =
+      grind (arith, greeting_open_lem, greeting_refused, greeting_secured_lem, greeting_none)
 
   pub greeting_reader_number : greeting_number (ours.read_greeting l) ≡ first_of (greeting_rows l)
   greeting_reader_number = greeting_number-read_greeting _ _ _ refl refl refl
@@ -151,7 +154,8 @@ lent_untouched d r m h = grind (arith, over_nothing)
 
 pub refused_keeps : (d : Device) (c : Call) → (number_of ours d c ≡ 0 → ⊥)
     → (after ours d c ≡ d) × WritesNothing ours d c
-refused_keeps d c n = grind (arith, opening_refused, lent_untouched, receiving_refused, closing_refused, passed_refusal, refusal_leaves)
+refused_keeps d c n =
+    grind (arith, opening_refused, lent_untouched, receiving_refused, closing_refused, passed_refusal, refusal_leaves)
 
 pub refused_writer : (c : Command) (secured : Bool) (random : ℕ) (password m : List ℕ)
     → let w = ours.write c secured random password m in
@@ -163,7 +167,8 @@ pub refused_store : (d : Device) (m : List ℕ) → ((ours.store d m).number ≡
 refused_store d m n = grind (arith, refused_store_writes_nothing, over_nothing)
 
 pub stays_legal : (d : Device) (c : Call) → is_legal d ≡ true → is_legal (after ours d c) ≡ true
-stays_legal d c h = grind (arith, opening_legal, closing_legal, receiving_legal, passed_legal, fault_legal, errors_legal, mark_legal)
+stays_legal d c h =
+    grind (arith, opening_legal, closing_legal, receiving_legal, passed_legal, fault_legal, errors_legal, mark_legal)
 
 pub ours_keeps_running : KeepsRunning ours
 ours_keeps_running = record {

@@ -107,7 +107,10 @@ pub outsider_refused : (d : Device) (p : ℕ) (l more m : List ℕ) (ps : List (
     → BetweenLines awaiting d p → no_cr l ≡ true → is_led d p l ≡ false → reply_room ≤ length m
     → uncut ps ≡ l ++ codes "\r" ++ more
     → RefusalOnly ours d p (handed_on ours m p d ps)
-outsider_refused d p l more m ps between plain unled enough all = grind (arith, is_between, append_assoc, IsUnmatched, unled_unmatched, first_line, first-line_ends, handed_alike, outsider_stream_refused, outsider_stream_keeps_settings, outsider_stream_keeps_own, outsider_stream_fails, outsider_stream_age, connection_at-handed_parts)
+outsider_refused d p l more m ps between plain unled enough all =
+    grind (arith, is_between, append_assoc, IsUnmatched, unled_unmatched, first_line, first-line_ends, handed_alike,
+    outsider_stream_refused, outsider_stream_keeps_settings, outsider_stream_keeps_own, outsider_stream_fails,
+    outsider_stream_age, connection_at-handed_parts)
 
 pub outsider_reads_erra : (d : Device) (p : ℕ) (bs : List ℕ) (room : ℕ) (c : Command) → is_legal d ≡ true
     → reply_room ≤ room → p < places_count
@@ -116,4 +119,5 @@ pub outsider_reads_erra : (d : Device) (p : ℕ) (bs : List ℕ) (room : ℕ) (c
     → let g = gathered (held_most k.phase) k.line bs in
     g.ended ≡ true → is_match d.settings k g.line ≡ false
     → read_reply c (received d p bs room).reply ≡ without erra_said
-outsider_reads_erra d p bs room c legal enough there phase cr unmatched = grind (arith, received_taken, unmatched_line_refused, erra_read)
+outsider_reads_erra d p bs room c legal enough there phase cr unmatched =
+    grind (arith, received_taken, unmatched_line_refused, erra_read)

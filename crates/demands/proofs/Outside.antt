@@ -105,9 +105,7 @@ module _ (password : List ℕ) (p : ℕ) (s : Session) (d : Device) (out : Outsi
       (if_all (Standing s) (q == p) (closed_stands s (answered_so out.standing)) out.standing, λ z. refl)
   then_stands (receives q bs m) h u = bytes_stand q bs m h u
   then_stands (passes n) h u = (stands_later n s (connection_at d p) out.standing, λ z. absurd (false≢true z))
-  then_stands (marks fault) h u = (out.standing, λ z. absurd (false≢true z))
-  then_stands (reports errors) h u = (out.standing, λ z. absurd (false≢true z))
-  then_stands (enables lamp mark) h u = (out.standing, λ z. absurd (false≢true z))
+  then_stands c h u = (out.standing, λ z. absurd (false≢true z))
 
   goes_on : (c : Call) → NotMatched (noted ours p d s c) → GoesOn c (noted ours p d s c) (after ours d c)
   goes_on c =

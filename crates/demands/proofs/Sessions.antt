@@ -136,12 +136,16 @@ module _ (settings : Settings) (o : Own) (c : Connection) (s : Session) where
 
     -- no CR: all is collected
     hears_plain : (bs : List ℕ) → list_all not_cr bs ≡ true → Heard o s bs (taken_in settings o c bs)
-    hears_plain bs p = grind (arith, by_room, plain_gathered, line, taken_part, keeping_line_lem, take-length, list_all-append, more_is, append-nil)
+    hears_plain bs p =
+        grind (arith, by_room, plain_gathered, line, taken_part, keeping_line_lem, take-length, list_all-append,
+        more_is, append-nil)
 
     -- CR: the first line is the session's bytes and these
     hears_line : (xs rest : List ℕ) → list_all not_cr xs ≡ true
         → let bs = xs ++ (code "\r" ∷ rest) in Hears bs (taken_in settings o c bs)
-    hears_line xs rest p = grind (arith, list_all-append, by_room, gathered-append, line, taken-line, matched_first, line_taken, more_is, is_match-collected_all, mismatch_refused)
+    hears_line xs rest p =
+        grind (arith, list_all-append, by_room, gathered-append, line, taken-line, matched_first, line_taken, more_is,
+        is_match-collected_all, mismatch_refused)
 
     hears_awaiting : (bs : List ℕ) → Cut (code "\r") bs → Hears bs (taken_in settings o c bs)
     hears_awaiting bs known1 = grind (arith, plain, hears_plain, line, hears_line)

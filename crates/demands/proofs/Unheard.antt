@@ -16,7 +16,7 @@ use Rattle.demands.specs.Outsider.{Session, unopened, noted, is_matched, IsNever
 use Rattle.demands.specs.Unheard.{Alike, same_call, other_bytes, AllAlike, no_calls, one_more, opens_none, phase_at}
 use Rattle.demands.specs.Unheard.{is_opening, QuietOnceApart, is_at_place, SameElsewhere, HeardAlike}
 use Rattle.demands.specs.Unheard.{Unheard}
-use Rattle.demands.proofs.CallsDo.{settings_stay, call_by}
+use Rattle.demands.proofs.CallsDo.{own_left, settings_stay, call_by}
 use Rattle.demands.proofs.CallsAlike.{alike_elsewhere}
 use Rattle.demands.proofs.CallsKeep.{others_untouched}
 use Rattle.demands.proofs.Outside.{Outside, outside_after, received_keeps, fresh_outside}
@@ -30,10 +30,7 @@ his_call : (password : List ℕ) (p : ℕ) (s : Session) (d : Device) → Outsid
     → is_at_place p c ≡ true → is_matched password (noted ours p d s c) ≡ false
     → SameElsewhere ours p d (after ours d c)
 his_call password p s d out (closes q) at u = record {
-  device = record {
-    settings = settings_stay d (closes q);
-    own = call_by d (closes q) (λ g e. e.own ≡ d.own) (λ n z. refl) (λ h. refl);
-  };
+  device = record { settings = settings_stay d (closes q); own = own_left d (closes q) refl };
   others = λ k away. others_untouched d k (closes q) (λ z. away (z ∙ eqb-true q p at));
 }
 his_call password p s d out (receives q bs m) at u = record {
@@ -43,11 +40,7 @@ his_call password p s d out (receives q bs m) at u = record {
   };
   others = λ k away. others_untouched d k (receives q bs m) (λ z. away (z ∙ eqb-true q p at));
 }
-his_call password p s d out (opens random m) at u = absurd (false≢true at)
-his_call password p s d out (passes n) at u = absurd (false≢true at)
-his_call password p s d out (marks fault) at u = absurd (false≢true at)
-his_call password p s d out (reports errors) at u = absurd (false≢true at)
-his_call password p s d out (enables lamp mark) at u = absurd (false≢true at)
+his_call password p s d out c at u = absurd (false≢true at)
 
 module _ (password : List ℕ) (p : ℕ) (s t : Session) (d e : Device) (same : SameElsewhere ours p d e)
     (out-d : Outside password p s d) (out-e : Outside password p t e) where

@@ -181,4 +181,5 @@ pub greets_back : (d : Device) (random : ℕ) (m : List ℕ) → is_legal d ≡ 
     → let r = ours.opening d random m in
     let p = ours.place_opened d random m in
     (r.number ≡ 0) × (ours.read_greeting (reply r) ≡ greeted_on (connection_at r.device p))
-greets_back d random m legal q there closed enough word = grind (arith, below_lowest, le_or_lt, opening_greets_back, over_front)
+greets_back d random m legal q there closed enough word =
+    grind (arith, below_lowest, le_or_lt, opening_greets_back, over_front)
