@@ -41,9 +41,7 @@ module _ (d : Device) (q : ℕ) where
       call_by d (receives p bs m) Kept (λ n some. refl)
       (λ h. connection_at-served d (receives p bs m) q h ∙ if_no _ _ (ne_eqb p q (λ z. other (sym z))))
   others_untouched (passes n) other = absurd other
-  others_untouched (marks fault) other = call_by d (marks fault) Kept (λ n some. refl) (λ h. refl)
-  others_untouched (reports errors) other = call_by d (reports errors) Kept (λ n some. refl) (λ h. refl)
-  others_untouched (enables lamp mark) other = call_by d (enables lamp mark) Kept (λ n some. refl) (λ h. refl)
+  others_untouched c other = call_by d c Kept (λ n some. refl) (λ h. refl)
 
 module _ (c : Connection) where
   keeping_keeps : (l : Line) → (keeping_line c l).random ≡ c.random
@@ -91,9 +89,7 @@ module _ (d : Device) (p : ℕ) (live : (connection_at d p).phase ≡ shut → �
       ∙ ap (λ (k : ℕ). (connection_at d k).random) (eqb-true q p e)))
       (λ e. kept)
   kept_then (passes n) h = time_keeps (connection_at d p) n
-  kept_then (marks fault) h = kept
-  kept_then (reports errors) h = kept
-  kept_then (enables lamp mark) h = kept
+  kept_then c h = kept
 
   pub random_kept : (c : Call) → KeptIn (connection_at (after ours d c) p)
   random_kept c =
