@@ -1,7 +1,7 @@
 -- Settings survive a board swap (RULES, Stored form): it holds of our board.
 -- Assumes nothing.
 use Rattle.std.proofs.Common.{ℕ, ◌+◌, ◌<◌, ◌≡◌, refl, sym, ap, subst, ◌∙◌, Bool, true, false, List, [], ◌∷◌, arith}
-use Rattle.std.proofs.Common.{length, slice_index_or, get_or-take, length-take-le, ext_get_or, ne_eqb, leb-true, eq-eqb}
+use Rattle.std.proofs.Common.{length, slice_index_or, get_or-take, length-take-le, ext_get_or}
 use Rattle.words.specs.Bytes.{◌at◌}
 use Rattle.record.specs.Wanted.{Wanted}
 use Rattle.record.specs.Legal.{is_legal}

@@ -8,7 +8,7 @@ use Rattle.text.proofs.Choices.{if_no, if_by, if_all}
 use Rattle.record.specs.Places.{connection_at, is_shut, lowest_shut}
 use Rattle.record.specs.declared.types.Device.{Device}
 use Rattle.ours.specs.Board.{ours}
-use Rattle.demands.specs.Calls.{Call, opens, closes, receives, passes, marks, reports, enables, after, Gave}
+use Rattle.demands.specs.Calls.{Call, opens, closes, receives, passes, after, Gave}
 use Rattle.demands.specs.SpeaksPjlink.{Elsewhere}
 use Rattle.demands.proofs.CallsDo.{call_by, connection_at-served, IsServed, connection_left}
 use Rattle.std.proofs.lemmas.Bool.{eqb-false}

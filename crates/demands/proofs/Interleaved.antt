@@ -36,7 +36,7 @@ use Rattle.device.specs.Calls.{reply_room, received}
 use Rattle.device.proofs.Cases.{received_by, received_taken, takes}
 use Rattle.device.proofs.Untouched.{receiving_keeps_others}
 use Rattle.ours.specs.Board.{ours, reply}
-use Rattle.demands.specs.Calls.{Call, opens, closes, receives, passes, marks, reports, enables, after, run}
+use Rattle.demands.specs.Calls.{Call, receives, after, run}
 use Rattle.demands.proofs.KeepsRunning.{over_front}
 use Rattle.demands.proofs.CallsDo.{settings_stay}
 

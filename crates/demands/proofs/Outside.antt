@@ -25,7 +25,7 @@ use Rattle.device.specs.Receiving.{Taken, set_up_password}
 use Rattle.device.specs.Calls.{has_password, greeted}
 use Rattle.device.proofs.Cases.{takes, secured_greeted}
 use Rattle.ours.specs.Board.{ours}
-use Rattle.demands.specs.Calls.{Call, opens, closes, receives, passes, marks, reports, enables, after}
+use Rattle.demands.specs.Calls.{Call, opens, closes, receives, passes, after}
 use Rattle.demands.specs.Outsider.{Session, opened_with, unopened, noted_of, noted, is_matched, is_received_at, silence}
 use Rattle.demands.proofs.KeepsRunning.{stays_legal, over_front}
 use Rattle.demands.proofs.Sessions.{Standing, is_closed, awaits, nothing_yet, answered_so, closed_stands, heard}

@@ -11,12 +11,12 @@ use Rattle.std.specs.Prelude.{if◌then◌else◌}
 use Rattle.record.specs.declared.types.Device.{Device}
 use Rattle.device.specs.Receiving.{set_up_password}
 use Rattle.ours.specs.Board.{ours, Board}
-use Rattle.demands.specs.Calls.{Call, opens, closes, receives, passes, marks, reports, enables, after, Gave, gave_by}
+use Rattle.demands.specs.Calls.{Call, closes, receives, after, Gave, gave_by}
 use Rattle.demands.specs.Outsider.{Session, unopened, noted, is_matched, IsNeverMatched}
 use Rattle.demands.specs.Unheard.{Alike, same_call, other_bytes, AllAlike, no_calls, one_more, opens_none, phase_at}
 use Rattle.demands.specs.Unheard.{is_opening, QuietOnceApart, is_at_place, SameElsewhere, HeardAlike}
 use Rattle.demands.specs.Unheard.{Unheard}
-use Rattle.demands.proofs.CallsDo.{own_left, settings_stay, call_by}
+use Rattle.demands.proofs.CallsDo.{own_left, settings_stay}
 use Rattle.demands.proofs.CallsAlike.{alike_elsewhere}
 use Rattle.demands.proofs.CallsKeep.{others_untouched}
 use Rattle.demands.proofs.Outside.{Outside, outside_after, received_keeps, fresh_outside}
