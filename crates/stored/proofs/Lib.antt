@@ -10,6 +10,7 @@ pub mod DeviceMade
 pub mod Contents
 pub mod Cases
 pub mod Grammar
+pub mod FormWithin
 pub mod Results
 pub mod FormsLoad
 pub mod StoredLoads
