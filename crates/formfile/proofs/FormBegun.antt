@@ -1,6 +1,9 @@
--- A form that loads gives a legal record, and one that does not has a number of its own.
+-- A form that loads gives a legal record, and one that does not has a number of its own; what is read of a file is what
+-- all of it comes to.
 -- Assumes nothing.
-use Rattle.std.proofs.Common.{◌≡◌, ℕ, ◌≤◌, true, List, Ok, sym, ap, ◌∙◌, arith}
+use Rattle.std.proofs.Common.{◌≡◌, ℕ, ◌≤◌, true, List, [], ◌++◌, take, Option, Some, None, Result, Ok, Err}
+use Rattle.std.proofs.Common.{sym, ap, subst, ◌∙◌, arith}
+use Rattle.std.specs.Prelude.{IfSome, option_map}
 use Rattle.record.specs.Legal.{is_legal}
 use Rattle.record.specs.Given.{Given}
 use Rattle.record.specs.declared.types.Device.{Device}
@@ -9,6 +12,11 @@ use Rattle.stored.specs.Told.{load_error_number, loading_told}
 use Rattle.stored.specs.declared.error.LoadError.{LoadError}
 use Rattle.stored.specs.declared.error.LoadError.TheVariants.{OtherVersion, CutShort, LeftOver, NotLegal}
 use Rattle.stored.proofs.Results.{accepted_legal}
+use Rattle.stored.proofs.BytesAgain.{Bytes}
+use Rattle.stored.proofs.FormWithin.{loaded-take}
+use Rattle.formfile.specs.Begun.{form_room, IsBegunBy}
+use Rattle.formfile.specs.declared.NotBegun.{NotBegun}
+use Rattle.formfile.specs.declared.NotBegun.TheVariants.{Unread, Refused}
 
 pub loaded_is_legal : (bytes : List ℕ) (d : Device) → loading_told (Ok d) ≡ loaded bytes → is_legal d ≡ true
 loaded_is_legal bytes d e =
@@ -20,3 +28,25 @@ error_number_within OtherVersion = (omega arith, omega arith)
 error_number_within CutShort = (omega arith, omega arith)
 error_number_within LeftOver = (omega arith, omega arith)
 error_number_within NotLegal = (omega arith, omega arith)
+
+begun_alike : (s t : List ℕ) (r : Result Device NotBegun) → loaded s ≡ loaded t → IsBegunBy s r → IsBegunBy t r
+begun_alike s t (Ok d) e h = sym e ∙ h
+begun_alike s t (Err Unread) e h = h
+begun_alike s t (Err (Refused n)) e h = sym e ∙ h
+
+-- as many bytes as no form has say what all of it says
+pub begun_by_front : (s form : List ℕ) (r : Result Device NotBegun) → Bytes s → IsBegunBy s r → s ≡ take form_room form
+    → IsBegunBy form r
+begun_by_front s form r b h e = begun_alike s form r (ap loaded e ∙ loaded-take form (subst Bytes e b)) h
+
+-- what was read of a form after nothing, up to the limit
+pub begun_by_known : (given known : Option (List ℕ)) (limit : ℕ) (none s : List ℕ) (r : Result Device NotBegun)
+    → given ≡ known → limit ≡ form_room → none ≡ [] → IfSome (option_map (take limit) given) (λ xs. s ≡ none ++ xs)
+    → ((form : List ℕ) → s ≡ take form_room form → IsBegunBy form r) → IfSome known (λ form. IsBegunBy form r)
+begun_by_known given known limit none s r same most empty read by =
+    all known (subst (λ (o : Option (List ℕ)). IfSome (option_map (take limit) o) (λ xs. s ≡ none ++ xs)) same read)
+  where
+    all : (o : Option (List ℕ)) → IfSome (option_map (take limit) o) (λ xs. s ≡ none ++ xs)
+        → IfSome o (λ form. IsBegunBy form r)
+    all None e = tt
+    all (Some form) e = by form (e ∙ (λ j. empty j ++ take (most j) form))

@@ -1,9 +1,14 @@
 -- What a log can begin with, whatever an argument names and whatever a file holds (RULES, Floor log and Stored form).
---   IsBegun r      a legal record; or why there is none, with the number of a form that does not load
+--   IsBegun r         a legal record; or why there is none, with the number of a form that does not load
+--   form_room         so many bytes are read at most, one more than any form has
+--   IsBegunBy form r  r is what loading gives of these bytes
 -- Assumes nothing.
-use Rattle.std.specs.Prelude.{◌≡◌, ◌≤◌, true, Result, Ok, Err}
+use Rattle.std.specs.Prelude.{ℕ, List, ◌≡◌, ◌≤◌, true, Result, Ok, Err}
+use Rattle.record.specs.Record.{blank}
+use Rattle.record.specs.Given.{accepted, refused}
 use Rattle.record.specs.Legal.{is_legal}
 use Rattle.record.specs.declared.types.Device.{Device}
+use Rattle.stored.specs.Loading.{loaded}
 use Rattle.formfile.specs.declared.NotBegun.{NotBegun}
 use Rattle.formfile.specs.declared.NotBegun.TheVariants.{Unread, Refused}
 
@@ -11,3 +16,11 @@ abbrev pub IsBegun : Result Device NotBegun → Type 0
 IsBegun (Ok d) = is_legal d ≡ true
 IsBegun (Err Unread) = Unit {0}
 IsBegun (Err (Refused number)) = (20 ≤ number) × (number ≤ 23)
+
+abbrev pub form_room : ℕ
+form_room = 68867
+
+abbrev pub IsBegunBy : List ℕ → Result Device NotBegun → Type 0
+IsBegunBy form (Ok d) = loaded form ≡ accepted d
+IsBegunBy form (Err Unread) = ⊥
+IsBegunBy form (Err (Refused number)) = loaded form ≡ refused number blank

@@ -2,10 +2,11 @@
 // an argument names.
 #![tactic(auto)]
 
-ghost use Rattle.std.specs.Prelude.{IfOk};
-ghost use Rattle.formfile.specs.Begun.{IsBegun};
+ghost use Rattle.std.specs.Prelude.{◌≡◌, ℕ, List, take, IfOk, IfSome};
+ghost use Rattle.formfile.specs.Begun.{IsBegun, form_room, IsBegunBy};
 
 use record::types::Device;
+use std::alloc::Global;
 use std::fs::File;
 use std::io::{Read, Write};
 use std::{env, io};
@@ -24,9 +25,11 @@ pub enum NotBegun {
     Refused(u32),
 }
 
+// By as many bytes of a form as are read.
 #[tactic(auto, using(crate::proofs::FormBegun::loaded_is_legal, crate::proofs::FormBegun::error_number_within))]
 fn loaded(bytes: &[u8]) -> Result<Device, NotBegun>
-    ensures { IsBegun result }
+    ensures begun { IsBegun result }
+    ensures by_form { (form : List ℕ) → bytes.now ≡ take form_room form → IsBegunBy form result }
 {
     match loading::load(bytes) {
         Ok(device) => Ok(device),
@@ -34,16 +37,23 @@ fn loaded(bytes: &[u8]) -> Result<Device, NotBegun>
     }
 }
 
+// By what a reader has left.
+fn read_from<R: Read + Drop>(mut from: R, alloc: Global) -> io::Result<Result<Device, NotBegun>>
+    ensures begun { IfOk result IsBegun }
+    ensures by_form { IfOk result (λ begun. IfSome (R.remaining from) (λ form. IsBegunBy form begun)) }
+{
+    let mut bytes = Vec::new(alloc);
+    (&mut from).take(ROOM).read_to_end(&mut bytes)?;
+    // a read that fails where these bytes end is told too
+    let mut more = [0u8; 1];
+    from.read(&mut more)?;
+    Ok(loaded(&bytes))
+}
+
 fn of_file(rt: &HostRuntime, path: &str) -> io::Result<Result<Device, NotBegun>>
     ensures { IfOk result IsBegun }
 {
-    let mut file = File::open(rt, path)?;
-    let mut bytes = Vec::new(rt.alloc());
-    (&mut file).take(ROOM).read_to_end(&mut bytes)?;
-    // a read that fails where these bytes end is told too
-    let mut more = [0u8; 1];
-    file.read(&mut more)?;
-    Ok(loaded(&bytes))
+    read_from(File::open(rt, path)?, rt.alloc())
 }
 
 fn by_argument(rt: &HostRuntime, place: usize) -> io::Result<Result<Device, NotBegun>>

@@ -4,6 +4,7 @@ pub mod TextsRead
 pub mod Marks
 pub mod Grammar
 pub mod Cases
+pub mod FormWithin
 pub mod FormsLoad
 pub mod StoredLoads
 pub mod Results

@@ -1,9 +1,10 @@
-// What no clause says of std's streams: that a call which a signal interrupts is made again, and that a write which
-// takes nothing fails.
+// What no clause says of std's streams: that a call which a signal interrupts is made again, that a write which takes
+// nothing fails, and that a flush is handed on. Which errors std's streams give, and what waits in them, is not known.
 
 use crate::reader::ByteSource;
 use crate::streams::Stream;
 use crate::writer;
+use crate::writer::ByteSink;
 use std::io;
 use std::io::{Error, ErrorKind, Read, Write};
 
@@ -54,6 +55,22 @@ impl Write for TakesNothing {
     }
 }
 
+#[derive(Drop)]
+struct Flushed {
+    times: u32,
+}
+
+impl Write for Flushed {
+    fn write(&mut self, buf: &[u8]) -> io::Result<usize> {
+        Ok(buf.len())
+    }
+
+    fn flush(&mut self) -> io::Result<()> {
+        self.times = self.times.saturating_add(1);
+        Ok(())
+    }
+}
+
 #[test]
 fn an_interrupted_call_is_made_again(rt: HostRuntime) {
     let mut byte = [0u8; 1];
@@ -67,4 +84,11 @@ fn an_interrupted_call_is_made_again(rt: HostRuntime) {
 fn a_write_that_takes_nothing_fails(rt: HostRuntime) {
     let told = writer::put(&mut Stream(TakesNothing), b"text");
     assert!(rt; matches!(told, Err(e) if e.kind() == ErrorKind::WriteZero));
+}
+
+#[test]
+fn a_flush_is_handed_on(rt: HostRuntime) {
+    let mut to = Stream(Flushed { times: 0 });
+    assert!(rt; to.flush().is_ok());
+    assert_eq!(rt; to.0.times, 1);
 }

@@ -1,12 +1,13 @@
 // For tests: a source that gives odd pieces, or fails in mid-stream, and a sink that takes odd pieces, or fails.
-ghost use Rattle.std.specs.Prelude.{◌≡◌, ◌≤◌, ⊤, None, [], take};
+ghost use Rattle.std.specs.Prelude.{◌≡◌, ◌≤◌, ⊤, Some, take, drop};
 
+use crate::memory;
 use crate::reader::ByteSource;
 use crate::writer::ByteSink;
 use std::io;
 use std::io::{Error, ErrorKind};
 
-/// At most `most` bytes a read; after `until` bytes the next read fails, if it comes to that.
+/// At most `most` bytes a read, and one at least; after `until` bytes the next read fails, if it comes to that.
 #[derive(Drop)]
 pub struct Pieces {
     pub log: &'static [u8],
@@ -15,7 +16,7 @@ pub struct Pieces {
 }
 
 impl ByteSource for Pieces {
-    ghost remaining = { λ _. None };
+    ghost remaining = { λ p. Some p.log.now };
 
     ghost fails_with = { λ _. ⊤ };
 
@@ -23,7 +24,8 @@ impl ByteSource for Pieces {
         if self.until == 0 {
             return Err(Error::from(ErrorKind::Other));
         }
-        let count = self.log.len().min(self.most).min(self.until).min(buf.len());
+        let most = self.most.max(1).min(self.until).min(buf.len());
+        let count = self.log.len().min(most);
         buf[..count].copy_from_slice(&self.log[..count]);
         self.log = &self.log[count..];
         self.until -= count;
@@ -47,7 +49,8 @@ pub struct Taken {
 impl Taken {
     /// Before anything is written.
     pub fn new(spare: usize, room: usize) -> Taken
-        ensures { result.count ≡ 0 }
+        ensures empty { (result.count ≡ 0) × (result.flushed ≡ 0) }
+        ensures limits { (result.spare ≡ spare) × (result.room ≡ room) }
     {
         Taken {
             bytes: [0; ROOM],
@@ -74,17 +77,16 @@ impl Taken {
 
     /// It has so much room from now on.
     pub fn set_room(&mut self, room: usize)
-        ensures room { self.new.room ≡ room }
-        ensures kept { (self.new.count ≡ self.old.count) × (self.new.bytes ≡ self.old.bytes) }
+        ensures { self.new ≡ record self.old { room = room } }
     {
         self.room = room;
     }
 }
 
 impl ByteSink for Taken {
-    ghost contents = { λ _. None };
+    ghost contents = { λ t. Some (take t.count t.bytes) };
 
-    ghost waiting = { λ _. [] };
+    ghost waiting = { λ t. drop t.flushed (take t.count t.bytes) };
 
     ghost fails_with = { λ _. ⊤ };
 
@@ -99,8 +101,7 @@ impl ByteSink for Taken {
         } else {
             self.spare + 1
         };
-        self.bytes[self.count..self.count + count].copy_from_slice(&buf[..count]);
-        self.count += count;
+        self.count = memory::append(&mut self.bytes, self.count, &buf[..count]);
         Ok(count)
     }
 

@@ -1,0 +1,209 @@
+-- How many bytes a form takes at most, legal or not, since each of its counts is a byte (RULES, Stored form): 68,866.
+-- So that many bytes and one say of a file what all of it says.
+--   ReadWithin k P s o   o is what was read of s: a P, of at most k bytes
+--   Within k P r         where k bytes are there, r reads a P of at most so many
+-- Assumes nothing.
+use Rattle.std.proofs.Common.{◌≡◌, ℕ, zero, suc, ◌+◌, ◌*◌, ◌/◌, ◌<◌, ◌≤◌, Bool, true, false, List, [], ◌∷◌, ◌++◌}
+use Rattle.std.proofs.Common.{length, take, drop, Option, Some, refl, ap, ◌∙◌, sym, arith, if◌then◌else◌, nat_lt, ◌==◌}
+use Rattle.std.proofs.Common.{length-drop, length-take-le, le-ltb, ltb-true, ltb-false, take-append-drop, not, map}
+use Rattle.std.proofs.lemmas.List.{take_all}
+use Rattle.std.proofs.lemmas.Bool.Decides.{nat_tests}
+use Rattle.text.proofs.Choices.{if_yes, if_no}
+use Rattle.text.specs.Rows.{◌when◌, by_rows}
+use Rattle.record.specs.Given.{Given, accepted, refused}
+use Rattle.record.specs.Record.{blank}
+use Rattle.record.specs.declared.types.Device.{Device}
+use Rattle.stored.specs.Form.{form_version, old_version}
+use Rattle.stored.specs.Reading.{Field, onward, ◌giving◌, given, byte, bytes, number, section_of, text, texts}
+use Rattle.stored.specs.Reading.{alone, texts_of_2, class_part, class_in, marks_of, FormSaid, form}
+use Rattle.stored.specs.Loading.{is_other_version, ends_early, leaves_more, said, is_marked, is_legal_said}
+use Rattle.stored.specs.Loading.{started_with, loaded}
+use Rattle.stored.proofs.BytesAgain.{Bytes, drop_bytes}
+use Rattle.stored.proofs.Grammar.{extends_form}
+
+pub record ReadWithin {A : Type 0} (k : ℕ) (P : A → Type 0) (s : List ℕ) (o : Option (A × List ℕ)) : Type 0 where
+  pub value : A
+  pub rest : List ℕ
+  pub read : o ≡ Some (value, rest)
+  pub few : length s ≤ k + length rest
+  pub bytes : Bytes rest
+  pub such : P value
+
+pub record Within {A : Type 0} (k : ℕ) (P : A → Type 0) (r : Field A) : Type 0 where
+  pub reads : (s : List ℕ) → Bytes s → k ≤ length s → ReadWithin k P s (r s)
+
+abbrev Any : {A : Type 0} → A → Type 0
+Any x = Unit {0}
+
+-- of fewer bytes, and of a stronger fact
+within_more : {A : Type 0} {P Q : A → Type 0} {r : Field A} (k l : ℕ) → k ≤ l → ((x : A) → P x → Q x)
+    → Within k P r → Within l Q r
+within_more k l h weaker w = record {
+  reads = λ s b long.
+      let x = w.reads s b (omega arith) in
+      record {
+        value = x.value;
+        rest = x.rest;
+        read = x.read;
+        few = omega (arith, x.few);
+        bytes = x.bytes;
+        such = weaker x.value x.such;
+      };
+}
+
+within_given : {A : Type 0} {P : A → Type 0} (k : ℕ) (x : A) → P x → Within k P (given x)
+within_given k x p = record {
+  reads = λ s b long. record { value = x; rest = s; read = refl; few = omega arith; bytes = b; such = p };
+}
+
+within_then : {A B : Type 0} {P : A → Type 0} {Q : B → Type 0} {r : Field A} {f : A → Field B} (k l : ℕ)
+    → Within k P r → ((x : A) → P x → Within l Q (f x)) → Within (k + l) Q (r giving f)
+within_then {f = f} k l a b = record {
+  reads = λ s bs long.
+      let x = a.reads s bs (omega arith) in
+      let y = (b x.value x.such).reads x.rest x.bytes (omega (arith, x.few)) in
+      record {
+        value = y.value;
+        rest = y.rest;
+        read = ap (onward f) x.read ∙ y.read;
+        few = omega (arith, x.few, y.few);
+        bytes = y.bytes;
+        such = y.such;
+      };
+}
+
+within_if : {A : Type 0} {P : A → Type 0} {k : ℕ} {r q : Field A} (c : Bool) → Within k P r → Within k P q
+    → Within k P (if c then r else q)
+within_if true a b = a
+within_if false a b = b
+
+within_byte : Within 1 (λ n. n < 256) byte
+unfolding byte
+within_byte = record { reads = by }
+  where
+    by : (s : List ℕ) → Bytes s → 1 ≤ length s → ReadWithin 1 (λ n. n < 256) s (byte s)
+    by [] b long = absurd (omega arith)
+    by (n ∷ s) b long = record {
+      value = n;
+      rest = s;
+      read = refl;
+      few = omega arith;
+      bytes = drop_bytes 1 (n ∷ s) b;
+      such = b 0 (omega arith);
+    }
+
+within_bytes : (n : ℕ) → Within n (λ t. length t ≡ n) (bytes n)
+unfolding bytes
+within_bytes n = record {
+  reads = λ s b long. record {
+    value = take n s;
+    rest = drop n s;
+    read = if_no _ _ (le-ltb (length s) n long);
+    few = omega (arith, length-drop n s);
+    bytes = drop_bytes n s b;
+    such = length-take-le n s long;
+  };
+}
+
+within_number : (n : ℕ) → Within n Any (number n)
+unfolding number
+within_number n =
+    within_more (n + 0) n (omega arith) (λ x p. p) (within_then n 0 (within_bytes n) (λ s p. within_given 0 _ tt))
+
+within_section : (width : ℕ) → ((n : ℕ) → n < 256 → width * n ≤ width * 255)
+    → Within (1 + width * 255) (λ t. length t ≤ width * 255) (section_of width)
+unfolding section_of
+within_section width wide =
+    within_then 1 (width * 255) within_byte
+    (λ n h. within_more (width * n) (width * 255) (wide n h) (λ t e. omega (arith, wide n h, e))
+    (within_bytes (width * n)))
+
+within_text : Within 256 (λ t. length t ≤ 255) text
+within_text = within_section 1 (λ n h. omega arith)
+
+within_texts : (n : ℕ) → Within (256 * n) Any (texts n)
+unfolding texts
+within_texts zero = within_given 0 [] tt
+within_texts (suc n) =
+    within_more (256 + (256 * n + 0)) (256 * suc n) (omega arith) (λ x p. p)
+    (within_then 256 (256 * n + 0) within_text
+    (λ t p. within_then (256 * n) 0 (within_texts n) (λ ts q. within_given 0 (t ∷ ts) tt)))
+
+within_marks : (v n : ℕ) → Within 256 Any (marks_of v n)
+unfolding marks_of
+within_marks v n =
+    within_if (v == old_version) (within_given 256 _ tt)
+    (within_more 256 256 (omega arith) (λ t p. tt) within_text)
+
+within_class : (v n : ℕ) → n ≤ 255 → Within 65793 Any (class_in v n)
+unfolding class_in class_part texts_of_2
+within_class v n few =
+    within_if (v == form_version)
+    (within_then 1 65792 within_byte
+    (λ k h. within_if (k == 2)
+    (within_then 256 65536 within_text
+    (λ a p. within_then 256 65280 within_text
+    (λ b q. within_more (256 * n + 0) 65280 (omega arith) (λ x p. p)
+    (within_then (256 * n) 0 (within_texts n) (λ c e. within_given 0 _ tt)))))
+    (within_given 65792 (alone k) tt)))
+    (within_given 65793 (alone 1) tt)
+
+pub within_form : Within 68866 Any form
+unfolding form
+within_form =
+    within_then 1 68865 within_byte
+    (λ v p. within_then 256 68609 within_text
+    (λ a p. within_then 256 68353 within_text
+    (λ b p. within_then 256 68097 within_text
+    (λ c p. within_then 256 67841 within_text
+    (λ d p. within_then 256 67585 within_text
+    (λ e p. within_then 511 67074 (within_section 2 (λ n h. omega arith))
+    (λ f few. within_then 1021 66053 (within_section 4 (λ n h. omega arith))
+    (λ g p. within_then 256 65797 (within_marks v (length g / 4))
+    (λ h p. within_then 2 65795 (within_number 2)
+    (λ i p. within_then 2 65793 (within_number 2)
+    (λ j p. within_more (65793 + 0) 65793 (omega arith) (λ x p. p)
+    (within_then 65793 0 (within_class v (length f / 2) (omega (arith, few)))
+    (λ k p. within_given 0 _ tt)))))))))))))
+
+-- what has bytes left over is told so, whatever they are
+left_over_told : (s : List ℕ) (f : FormSaid) (x : ℕ) (xs : List ℕ) → form s ≡ Some (f, x ∷ xs)
+    → loaded s ≡ (if is_other_version s then refused 20 blank else refused 22 blank)
+unfolding loaded
+left_over_told s f x xs e =
+    ap
+    (λ (o : Option (FormSaid × List ℕ)).
+    by_rows
+    ((20 when is_other_version s) ∷ (21 when ends_early o) ∷ (22 when leaves_more o)
+    ∷ (23 when not (is_legal_said (said o))) ∷ [])
+    (λ n. refused n blank) (accepted (started_with (said o).settings (map is_marked (said o).marks))))
+    e
+    ∙ ap (λ (g : Given Device). if is_other_version s then refused 20 blank else g) (if_yes _ _ (some (length xs)))
+  where
+    some : (n : ℕ) → not (suc n == 0) ≡ true
+    some n = grind (arith, nat_tests)
+
+-- as many bytes as no form takes are loaded as they are with any more after them
+pub loaded-append : (s t : List ℕ) → Bytes s → 68867 ≤ length s → loaded (s ++ t) ≡ loaded s
+loaded-append [] t b long = absurd (omega arith)
+loaded-append (v ∷ s) t b long = by r.rest r.read (omega (arith, r.few))
+  where
+    r : ReadWithin 68866 Any (v ∷ s) (form (v ∷ s))
+    r = within_form.reads (v ∷ s) b (omega arith)
+
+    by : (rest : List ℕ) → form (v ∷ s) ≡ Some (r.value, rest) → 1 ≤ length rest
+        → loaded (v ∷ (s ++ t)) ≡ loaded (v ∷ s)
+    by [] e some = absurd (omega arith)
+    by (x ∷ xs) e some =
+        left_over_told (v ∷ (s ++ t)) r.value x (xs ++ t) (extends_form.on (v ∷ s) t r.value (x ∷ xs) e)
+        ∙ sym (left_over_told (v ∷ s) r.value x xs e)
+
+pub loaded-take : (s : List ℕ) → Bytes (take 68867 s) → loaded (take 68867 s) ≡ loaded s
+loaded-take s b = by (nat_lt (length s) 68867) refl
+  where
+    by : (c : Bool) → nat_lt (length s) 68867 ≡ c → loaded (take 68867 s) ≡ loaded s
+    by true e = ap loaded (take_all 68867 s (omega (arith, ltb-true (length s) 68867 e)))
+    by false e =
+        sym (loaded-append (take 68867 s) (drop 68867 s) b
+        (omega (arith, length-take-le 68867 s (ltb-false (length s) 68867 e))))
+        ∙ ap loaded (take-append-drop 68867 s)
