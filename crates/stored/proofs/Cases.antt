@@ -1,7 +1,7 @@
 -- Loading by its cases: what it gives by the version, by what the form says and leaves, and by what set-up gave.
 -- Assumes nothing.
-use Rattle.std.proofs.Common.{◌≡◌, ℕ, ◌<◌, Bool, true, false, ◌&&◌, List, length, map, replicate, Some, None, Ok, Err}
-use Rattle.std.proofs.Common.{Result, sym, ap, ◌∙◌, arith, if◌then◌else◌, ◌==◌, eqb-true}
+use Rattle.std.proofs.Common.{ℕ, ◌<◌, ◌≡◌, Bool, true, false, ◌&&◌, ◌==◌, if◌then◌else◌, List, length, map, replicate}
+use Rattle.std.proofs.Common.{Some, None, Result, Ok, Err, sym, ap, ◌∙◌, arith, eqb-true}
 use Rattle.std.specs.Prelude.{OnOk}
 use Rattle.std.specs.Result.{is_ok}
 use Rattle.text.proofs.Choices.{if_yes, by_not}
@@ -104,3 +104,5 @@ module _ (w : Wanted) where
         ∙ ap accepted (started_with-replicate w ok)
 
 pub ruleset said_contents = (contents_unmarked, length-seconds_in)
+
+pub ruleset not_set_up = (none_of_class, too_many_lamps, said_class, length-seconds_in)

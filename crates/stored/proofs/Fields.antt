@@ -4,9 +4,9 @@
 --   Bytes s              each element of s is a byte
 --   Begins s a rest      if s are bytes, they are a, and the rest after it
 -- Assumes nothing.
-use Rattle.std.proofs.Common.{true, ◌≡◌, ℕ, zero, suc, ◌+◌, ◌-◌, ◌*◌, ◌/◌, ◌^◌, ◌<◌, List, [], ◌∷◌, ◌++◌, length, take}
-use Rattle.std.proofs.Common.{Option, Some, None, refl, sym, ap, subst, ◌∙◌, arith, append_assoc, length-append}
-use Rattle.std.proofs.Common.{length-take-le, take-append-drop}
+use Rattle.std.proofs.Common.{ℕ, zero, suc, ◌+◌, ◌-◌, ◌*◌, ◌/◌, ◌^◌, ◌<◌, ◌≡◌, Bool, true, false, if◌then◌else◌, List}
+use Rattle.std.proofs.Common.{[], ◌∷◌, ◌++◌, length, take, Option, Some, None, refl, sym, ap, subst, ◌∙◌, arith}
+use Rattle.std.proofs.Common.{append_assoc, length-append, length-take-le, take-append-drop}
 use Rattle.std.proofs.lemmas.Grind.{common_steps}
 use Rattle.std.proofs.lemmas.List.{take-append-le, get_or-append-add}
 use Rattle.std.proofs.Math.Seq.{take-append-add}
@@ -51,6 +51,12 @@ module _ {A B : Type 0} {r : Field A} {x : A} {s : List ℕ} (p : IsForm r x s) 
   -- and what is made of it
   pub form_as : (g : A → B) {y : B} → g x ≡ y → IsForm (r giving λ z. given (g z)) y s
   form_as g e = record { again = λ t. grind (arith, p.again t, e); cut = λ k l. grind (arith, p.cut k l) }
+
+-- one of two fields
+pub if_form : {A : Type 0} (t : Bool) {r q : Field A} {x : A} {s u : List ℕ} → (t ≡ true → IsForm r x s)
+    → (t ≡ false → IsForm q x u) → IsForm (if t then r else q) x (if t then s else u)
+if_form true p q = p refl
+if_form false p q = q refl
 
 pub byte_form : (b : ℕ) → IsForm byte b (b ∷ [])
 unfolding byte
@@ -103,18 +109,12 @@ reading {A} {B} r {f} {s} {y} {G} e next = by (r s) refl
     by None h = absurd (let none : None ≡ Some y = sym (ap (onward f) h) ∙ e in cc)
     by (Some x) h = next x.0 x.1 h (sym (ap (onward f) h) ∙ e)
 
--- what is there, if it is
-abbrev got : {A : Type 0} → A → Option A → A
-got d None = d
-got d (Some x) = x
-
-pub same : {A : Type 0} {x y : A} → Some x ≡ Some y → x ≡ y
-same {x = x} e = ap (got x) e
-
 -- what holds of what was given holds of what was read
 pub ended : {A : Type 0} (P : A → List ℕ → Type 0) {x y : A} {s rest : List ℕ}
     → ◌≡◌ {A = Option (A × List ℕ)} (Some (x, s)) (Some (y, rest)) → P x s → P y rest
-ended {A} P e h = subst (λ (z : A × List ℕ). P z.0 z.1) (same e) h
+ended {A} P {x} {y} {s} {rest} e h =
+    let same : (x, s) ≡ (y, rest) = cc in
+    subst (λ (z : A × List ℕ). P z.0 z.1) same h
 
 pub record Begins (s a rest : List ℕ) : Type 0 where
   pub joined : Bytes s → s ≡ a ++ rest

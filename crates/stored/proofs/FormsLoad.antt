@@ -2,12 +2,11 @@
 -- their lamps, is loaded as their set-up with these marks; version 2's too, of settings of Class 1; version 1's as
 -- their set-up, in which each lamp is enabled. Cut anywhere it is 21; what follows a form is left over, 22.
 -- Assumes nothing.
-use Rattle.std.proofs.Common.{◌≡◌, ℕ, zero, suc, ◌<◌, Bool, true, false, List, [], ◌∷◌, ◌++◌, length, take, refl, sym}
-use Rattle.std.proofs.Common.{ap, ◌∙◌, arith, append-nil, ◌==◌, ne_eqb}
+use Rattle.std.proofs.Common.{ℕ, zero, suc, ◌<◌, ◌≡◌, Bool, true, false, ◌==◌, List, [], ◌∷◌, ◌++◌, length, take, refl}
+use Rattle.std.proofs.Common.{sym, ap, ◌∙◌, arith, append-nil}
 use Rattle.text.proofs.Choices.{if_yes, if_no}
 use Rattle.record.specs.Wanted.{Wanted}
-use Rattle.record.specs.declared.types.Device.{Device}
-use Rattle.record.specs.Given.{Given, accepted, set_up_given}
+use Rattle.record.specs.Given.{accepted, set_up_given}
 use Rattle.record.specs.SetUp.{is_set_up, set_up}
 use Rattle.record.proofs.Calls.{set_up_accepted}
 use Rattle.stored.specs.Form.{form_version, marked_version, old_version, form_with, form_of, marked_form_of}
@@ -34,31 +33,17 @@ module _ (v : ℕ) (known : is_other_version (v ∷ []) ≡ false) (w : Wanted) 
   written : IsForm form (says v w ok older ms) s
   written = form_written v w ok older ms
 
-  ours : (t : List ℕ) → is_other_version (s ++ t) ≡ false
-  unfolding form_with
-  ours t = known
-
-  first : is_other_version s ≡ false
-  unfolding form_with
-  first = known
-
   pub version_over : (x : ℕ) (xs : List ℕ) → (loaded (s ++ x ∷ xs)).number ≡ 22
-  version_over x xs =
-      ap (λ (c : Given Device). c.number)
-      (loaded_over (s ++ x ∷ xs) (ours (x ∷ xs)) (written.again (x ∷ xs))
-      (ne_eqb (length (x ∷ xs)) 0 (λ e. omega (arith, e))))
+  unfolding form_with
+  version_over x xs = grind (arith, loaded_over (s ++ x ∷ xs) known (written.again (x ∷ xs)))
 
   pub version_cut : (k : ℕ) → k < length s → (loaded (take k s)).number ≡ 21
-  version_cut k l =
-      ap (λ (c : Given Device). c.number)
-      (loaded_cut (take k s) (is_other_version-take k s first) (written.cut k l))
+  unfolding form_with
+  version_cut k l = grind (arith, loaded_cut (take k s) (is_other_version-take k s known) (written.cut k l))
 
   version_loads : loaded s ≡ contents (says v w ok older ms)
-  version_loads = loaded_whole s first (ap form (sym (append-nil s)) ∙ written.again []) refl
-
-taken : (w : Wanted) (t : Bool) (ms : List Bool) → (started_if w t ms).number ≡ 0 → t ≡ true
-taken w true ms e = refl
-taken w false ms e = absurd (omega arith)
+  unfolding form_with
+  version_loads = loaded_whole s known (ap form (sym (append-nil s)) ∙ written.again []) refl
 
 -- with marks of the lamps
 module _ (v : ℕ) (known : is_other_version (v ∷ []) ≡ false) (marked : (v == old_version) ≡ false) (w : Wanted)
@@ -70,7 +55,7 @@ module _ (v : ℕ) (known : is_other_version (v ∷ []) ≡ false) (marked : (v 
       ∙ contents_of w ok ms
 
   marked_marks : (loaded (version_form v w ms)).number ≡ 0 → is_marks_of (length w.lamps) ms ≡ true
-  marked_marks e = taken w _ ms (ap (λ (c : Given Device). c.number) (sym marked_loads) ∙ e)
+  marked_marks e = grind (arith, marked_loads, e)
 
 module _ (w : Wanted) (ok : is_set_up w ≡ true) where
   -- the newest

@@ -6,15 +6,14 @@
 --   formed v f              the form of the version v that says f
 --   ReadAs s f rest         what bytes tell that were read: their form, and what the older versions lack
 -- Assumes nothing.
-use Rattle.std.proofs.Common.{◌≡◌, ℕ, ◌/◌, ◌^◌, ◌<◌, ◌≤◌, Bool, true, false, List, [], ◌∷◌, length, map, replicate}
-use Rattle.std.proofs.Common.{Some, refl, sym, ap, subst, ◌∙◌, arith, if◌then◌else◌, ◌==◌, append_assoc, eqb-true}
+use Rattle.std.proofs.Common.{ℕ, ◌/◌, ◌^◌, ◌<◌, ◌≤◌, ◌≡◌, Bool, true, false, ◌==◌, if◌then◌else◌, List, [], ◌∷◌, ◌++◌}
+use Rattle.std.proofs.Common.{length, map, replicate, Some, refl, sym, ap, subst, ◌∙◌, arith, append_assoc, eqb-true}
 use Rattle.std.proofs.Common.{leb-true}
 use Rattle.std.proofs.lemmas.List.{length-map}
 use Rattle.text.specs.InTurn.{each_in_turn}
-use Rattle.text.proofs.Choices.{if_yes, if_no, both_right}
+use Rattle.text.proofs.Choices.{if_no, both_right}
 use Rattle.words.specs.Bytes.{◌at◌}
-use Rattle.words.specs.Texts.{info_most}
-use Rattle.record.specs.Limits.{only_in_2, stretch_most}
+use Rattle.record.specs.Limits.{stretch_most}
 use Rattle.record.specs.Wanted.{Wanted}
 use Rattle.record.specs.Rules.{is_stretch}
 use Rattle.record.specs.SetUp.{is_setting_in_range, is_set_up}
@@ -27,8 +26,8 @@ use Rattle.stored.specs.Form.{form_version, old_version, text_section, seconds_b
 use Rattle.stored.specs.Form.{texts_bytes, texts_in_class_2, class_part_text, form_with, version_form}
 use Rattle.stored.specs.Reading.{given, byte, number, section_of, text, texts, seconds_in, ClassPart, alone, texts_of_2}
 use Rattle.stored.specs.Reading.{class_part, class_in, marks_of, FormSaid, form}
-use Rattle.stored.proofs.Fields.{section_counted, IsForm, given_form, form_then, form_as, byte_form, section_form}
-use Rattle.stored.proofs.Fields.{text_form, number_form, texts_form, Begins, begins_then, given_begins, byte_begins}
+use Rattle.stored.proofs.Fields.{if_form, section_counted, IsForm, given_form, form_then, form_as, byte_form}
+use Rattle.stored.proofs.Fields.{section_form, text_form, number_form, texts_form, Begins, begins_then, byte_begins}
 use Rattle.stored.proofs.Fields.{text_begins, inputs_begin, number_begins, texts_begin, reading, ended}
 use Rattle.stored.proofs.Seconds.{length-seconds_in, seconds_back, seconds_long, lamps_begin}
 
@@ -73,42 +72,40 @@ module _ (w : Wanted) (ok : is_set_up w ≡ true) where
   -- no other class has anything more
   is_alone : (w.class == 2) ≡ false → alone w.class ≡ class_said
   is_alone e =
-      let none : (k : ℕ) → only_in_2 w.class k ≡ 0 = λ k. if_no k 0 e in
-      let serial = nothing w.serial (omega (arith, text_most w.serial _ (met Serial), none info_most)) in
-      let version = nothing w.version (omega (arith, text_most w.version _ (met Version), none info_most)) in
-      let names = nothing w.names (omega (arith, names_many _ w.names (met Names), none (input_count w))) in
-      (λ j. record { class = w.class; serial = sym serial j; version = sym version j; names = sym names j })
+      grind (
+        arith,
+        e,
+        nothing w.serial,
+        nothing w.version,
+        nothing w.names,
+        text_most w.serial _ (met Serial),
+        text_most w.version _ (met Version),
+        names_many _ w.names (met Names),
+      )
 
   part_form : IsForm (class_part (input_count w)) class_said (class_text class_said)
   unfolding class_part class_part_text texts_of_2 texts_bytes
-  part_form = form_then (byte_form w.class) _ (by (w.class == 2) refl)
-    where
-      by : (two : Bool) → (w.class == 2) ≡ two
-          → IsForm (if two then texts_of_2 (input_count w) else given (alone w.class)) class_said
-          (if two then texts_bytes (texts_in_class_2 w) else [])
-      by true e =
-          let many : length w.names ≡ input_count w
-          = names_many _ w.names (met Names) ∙ if_yes {t = w.class == 2} (input_count w) 0 e in
-          let names = subst (λ (k : ℕ). IsForm (texts k) w.names (texts_bytes w.names)) many (texts_form w.names) in
-          form_then (text_form w.serial) _
-          (form_then (text_form w.version) _
-          (form_as names _ (λ j. record class_said { class = sym (eqb-true w.class 2 e) j })))
-      by false e =
-          subst (λ (c : ClassPart). IsForm (given (alone w.class)) c []) (is_alone e) (given_form (alone w.class))
+  part_form =
+      form_then (byte_form w.class) _
+      (if_form (w.class == 2)
+      (λ two.
+      let many : length w.names ≡ input_count w = grind (arith, two, names_many _ w.names (met Names)) in
+      let names = subst (λ (k : ℕ). IsForm (texts k) w.names (texts_bytes w.names)) many (texts_form w.names) in
+      form_then (text_form w.serial) _
+      (form_then (text_form w.version) _
+      (form_as names _ (λ j. record class_said { class = sym (eqb-true w.class 2 two) j }))))
+      (λ other.
+      subst (λ (c : ClassPart). IsForm (given (alone w.class)) c []) (is_alone other) (given_form (alone w.class))))
 
   class_form : (v : ℕ) → ((v == form_version) ≡ false → w.class ≡ 1)
       → IsForm (class_in v (input_count w)) class_said (rest_part v class_said)
   unfolding class_in
-  class_form v older = by (v == form_version) refl
-    where
-      by : (new : Bool) → (v == form_version) ≡ new
-          → IsForm (if new then class_part (input_count w) else given (alone 1)) class_said
-          (if new then class_text class_said else [])
-      by true e = part_form
-      by false e =
-          let one = older e in
-          subst (λ (c : ClassPart). IsForm (given (alone 1)) c [])
-          (ap alone (sym one) ∙ is_alone (ap (λ (k : ℕ). k == 2) one)) (given_form (alone 1))
+  class_form v older =
+      if_form (v == form_version) (λ new. part_form)
+      (λ old.
+      let one = older old in
+      subst (λ (c : ClassPart). IsForm (given (alone 1)) c [])
+      (ap alone (sym one) ∙ is_alone (ap (λ (k : ℕ). k == 2) one)) (given_form (alone 1)))
 
 stretch_fits : (n : ℕ) → is_stretch n ≡ true → n < 256 ^ 2
 stretch_fits n h = omega (arith, leb-true n stretch_most (both_right _ _ h))
@@ -181,12 +178,11 @@ part_begins n {s} e = reading byte e (λ k s1 r1 e1. by k s1 (byte_begins r1) (k
 class_begins : (v n : ℕ) {s : List ℕ} {c : ClassPart} {rest : List ℕ} → class_in v n s ≡ Some (c, rest)
     → Begins s (rest_part v c) rest
 unfolding class_in
-class_begins v n {s} {c} {rest} = by (v == form_version)
-  where
-    by : (new : Bool) → (if new then class_part n else given (alone 1)) s ≡ Some (c, rest)
-        → Begins s (if new then class_text c else []) rest
-    by true e = part_begins n e
-    by false e = given_begins e
+class_begins v n {s} {c} {rest} e = record {
+  joined = λ b.
+      let part : class_part n s ≡ Some (c, rest) → s ≡ class_text c ++ rest = λ h. (part_begins n h).joined b in
+      grind (arith, e, part);
+}
 
 -- no older version is of another class
 older_class : (v n : ℕ) (s : List ℕ) {c : ClassPart} {rest : List ℕ} → class_in v n s ≡ Some (c, rest)

@@ -3,12 +3,10 @@
 -- Lamps), and legal.
 --   IsAccepted s      an accepted load: the version is known, the form is all that stands there, the contents are legal
 -- Assumes nothing.
-use Rattle.std.proofs.Common.{◌≡◌, ℕ, Bool, true, false, ◌&&◌, List, [], length, Option, Some, None, refl, ap, ◌∙◌}
-use Rattle.std.proofs.Common.{arith, ◌==◌}
-use Rattle.std.proofs.lemmas.Bool.{not-false}
+use Rattle.std.proofs.Common.{ℕ, ◌≡◌, Bool, true, false, ◌==◌, List, [], length, Option, Some, None, refl, ap, ◌∙◌}
+use Rattle.std.proofs.Common.{arith}
 use Rattle.text.specs.Rows.{first_of}
-use Rattle.text.proofs.ByRows.{by_rows_lem, rows_number}
-use Rattle.text.proofs.Choices.{both_left, both_right}
+use Rattle.text.proofs.ByRows.{rows_number}
 use Rattle.words.specs.Bytes.{◌at◌}
 use Rattle.record.specs.Wanted.{Wanted}
 use Rattle.record.specs.Rules.{is_marks}
@@ -43,43 +41,35 @@ read_whole None e l = grind (arith, e)
 read_whole (Some x) e l = grind (arith, l, nothing x.1)
 
 module _ (s : List ℕ) where
-  abbrev given : Given Device
-  given = accepted (started_with (settings_in s) (marks_read s))
-
   pub record IsAccepted : Type 0 where
     pub version : is_other_version s ≡ false
     pub read : form s ≡ Some (said_in s, [])
     pub contents : is_set_up (settings_in s) ≡ true
     pub marks : are_marks (length (settings_in s).lamps) (mark_bytes_in s) ≡ true
 
-  pub loading_by : (P : Given Device → Type 0) → ((n : ℕ) → (n ≡ 0 → ⊥) → P (refused n blank)) → (IsAccepted → P given)
-      → P (loaded s)
-  unfolding loaded
-  loading_by P refuse accept =
-      let makes = is_set_up (settings_in s) in
-      let marked = are_marks (length (settings_in s).lamps) (mark_bytes_in s) in
-      by_rows_lem (λ n. refused n blank) given P refuse (load_rows s) refl
-      (λ none. accept (record {
-        version = none.0;
-        read = read_whole (form s) none.1.0 none.1.1.0;
-        contents = both_left makes marked (not-false (makes && marked) none.1.1.1.0);
-        marks = both_right makes marked (not-false (makes && marked) none.1.1.1.0);
-      }))
-
   -- 20, 21, 22, 23, in that order, or 0
   pub loading_number : (loaded s).number ≡ first_of (load_rows s)
   unfolding loaded
-  loading_number = rows_number (λ n. refused n blank) given (λ r. r.number) (λ n. refl) refl (load_rows s)
+  loading_number =
+      rows_number (λ n. refused n blank) (accepted (started_with (settings_in s) (marks_read s))) (λ r. r.number)
+      (λ n. refl) refl (load_rows s)
 
   pub refused_load_blank : ((loaded s).number ≡ 0 → ⊥) → (loaded s).device ≡ blank
-  refused_load_blank =
-      loading_by (λ r. (r.number ≡ 0 → ⊥) → r.device ≡ blank) (λ n some k. refl) (λ a k. absurd (k refl))
+  unfolding loaded
+  refused_load_blank h = grind (arith, h)
 
   pub accepted_told : (loaded s).number ≡ 0 → IsAccepted
-  accepted_told = loading_by (λ r. r.number ≡ 0 → IsAccepted) (λ n some e. absurd (some e)) (λ a e. a)
+  unfolding loaded
+  accepted_told e = record {
+    version = grind (arith, e);
+    read = read_whole (form s) (grind (arith, e)) (grind (arith, e));
+    contents = grind (arith, e);
+    marks = grind (arith, e);
+  }
 
   pub accepted_set_up : (loaded s).number ≡ 0 → loaded s ≡ accepted (started_with (settings_in s) (marks_read s))
-  accepted_set_up = loading_by (λ r. r.number ≡ 0 → r ≡ given) (λ n some e. absurd (some e)) (λ a e. refl)
+  unfolding loaded
+  accepted_set_up e = grind (arith, e)
 
   pub accepted_legal : (loaded s).number ≡ 0 → is_legal (loaded s).device ≡ true
   accepted_legal e =

@@ -2,7 +2,7 @@
 -- refused store writes no byte.
 --   StoredTold r      an accepted store: the record is legal, the memory has room, the bytes are the form's
 -- Assumes nothing.
-use Rattle.std.proofs.Common.{ℕ, ◌≤◌, ◌≡◌, refl, true, [], length, ltb-false}
+use Rattle.std.proofs.Common.{ℕ, ◌≤◌, ◌≡◌, true, [], length, refl, arith, ltb-false}
 use Rattle.std.proofs.lemmas.Bool.{not-false}
 use Rattle.text.specs.Rows.{first_of}
 use Rattle.text.proofs.ByRows.{by_rows_lem, rows_number}
@@ -32,10 +32,9 @@ module _ (d : Device) (room : ℕ) where
       (λ none. accept (not-false (is_legal d) none.0) (ltb-false room (length (stored_form d)) none.1.0))
 
   pub refused_store_writes_nothing : ((stored_by d room).number ≡ 0 → ⊥) → (stored_by d room).bytes ≡ []
-  refused_store_writes_nothing =
-      storing_by (λ r. (r.number ≡ 0 → ⊥) → r.bytes ≡ []) (λ n some k. refl) (λ h l k. absurd (k refl))
+  unfolding stored_by
+  refused_store_writes_nothing h = grind (arith, h)
 
   pub stored_told : (stored_by d room).number ≡ 0 → StoredTold (stored_by d room)
-  stored_told =
-      storing_by (λ r. r.number ≡ 0 → StoredTold r) (λ n some e. absurd (some e))
-      (λ h l e. record { legal = h; fits = l; form = refl })
+  unfolding stored_by
+  stored_told e = record { legal = grind (arith, e); fits = grind (arith, e); form = grind (arith, e) }

@@ -1,7 +1,7 @@
 -- Texts one after the other, each after its count (RULES, Class 2), as the code reads them in a row.
 --   TextsRead s i rest    i texts have been read from s
 -- Assumes nothing.
-use Rattle.std.proofs.Common.{◌≡◌, ℕ, zero, suc, ◌+◌, ◌-◌, ◌<◌, List, [], ◌∷◌, ◌++◌, length, take, Some, None, sym, ap}
+use Rattle.std.proofs.Common.{ℕ, zero, suc, ◌+◌, ◌-◌, ◌<◌, ◌≡◌, List, [], ◌∷◌, ◌++◌, length, take, Some, None, sym, ap}
 use Rattle.std.proofs.Common.{◌∙◌, arith, append_assoc, append-nil, length-append}
 use Rattle.std.proofs.Math.Seq.{take-append_seam}
 use Rattle.text.proofs.InTurn.{turns_snoc}
@@ -75,3 +75,5 @@ module _ {s : List ℕ} {i : ℕ} {rest : List ℕ} (r : TextsRead s i rest) whe
 
   pub none_left : {n : ℕ} → i < n → text rest ≡ None → texts n s ≡ None
   none_left {n} l e = ap (texts n) r.passed ∙ texts_cut n ts rest (omega (arith, counted_many i s)) e
+
+pub ruleset texts_read = (one_read, none_left)

@@ -1,7 +1,7 @@
 -- The law of the writer (RULES, Stored form): field after field, each in turn, and what is past the end of the memory.
 -- Assumes nothing.
-use Rattle.std.proofs.Common.{ℕ, zero, suc, ◌+◌, ◌≤◌, ◌<◌, ◌≡◌, refl, sym, ap, ◌∙◌, Bool, false, List, [], ◌∷◌, ◌++◌}
-use Rattle.std.proofs.Common.{map, arith, length, length-append, length-set, set, slice_index_or, take}
+use Rattle.std.proofs.Common.{ℕ, zero, suc, ◌+◌, ◌<◌, ◌≤◌, ◌≡◌, Bool, false, List, [], ◌∷◌, ◌++◌, length, map, take}
+use Rattle.std.proofs.Common.{set, slice_index_or, refl, sym, ap, ◌∙◌, arith, length-append, length-set}
 use Rattle.std.proofs.lemmas.Grind.{common_steps}
 use Rattle.std.proofs.lemmas.List.{take-map}
 use Rattle.std.proofs.lemmas.List.Edits.{sets}
@@ -63,9 +63,9 @@ pub seconds_bytes-take : (xs : List ℕ) (i : ℕ) → i < length xs
 unfolding seconds_bytes
 seconds_bytes-take xs i h = each_in_turn-take (highest_first 4) xs i 0 h
 
-pub marks-take : (ms : List Bool) (i : ℕ) → i < length ms
+pub map-take : (ms : List Bool) (i : ℕ) → i < length ms
     → map mark_byte (take (i + 1) ms) ≡ map mark_byte (take i ms) ++ (mark_byte (slice_index_or ms i false) ∷ [])
-marks-take ms i h = grind (arith, common_steps)
+map-take ms i h = grind (arith, common_steps)
 
 pub no_texts : texts_bytes [] ≡ []
 unfolding texts_bytes

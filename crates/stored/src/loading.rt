@@ -80,6 +80,7 @@ fn enable(device: &mut Device, bytes: &[u8]) -> bool
 
 impl<'a> Form<'a> {
     // Set up with what the form says. Lamps that are too many are not copied.
+    #[tactic(auto, using(crate::proofs::Cases::not_set_up))]
     fn set_up_in(&self, device: &mut Device) -> Result<(), SetUpError>
         ensures taken { is_ok result ≡ is_set_up (said_of self.now).settings }
         ensures made { OnOk result (device.new ≡ started (said_of self.now).settings) }

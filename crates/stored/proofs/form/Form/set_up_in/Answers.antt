@@ -1,27 +1,12 @@
 -- What the form says is lent as it is.
-use Rattle.std.proofs.Common.{◌∙◌, ◌/◌, length, take, refl, sym, ap, arith}
-use Rattle.record.specs.Limits.{is_class_number}
+use Rattle.std.proofs.Common.{◌/◌, length, take, ap, ◌∙◌}
 use Rattle.record.specs.Wanted.{wanted_in}
 use Rattle.record.specs.SetUp.{set_up}
 use Rattle.text.proofs.Parts.{first_part}
 use Rattle.stored.specs.Views.{said_of}
-use Rattle.stored.proofs.Seconds.{length-seconds_in, room_read}
-use Rattle.stored.proofs.Cases.{said_class, none_of_class, too_many_lamps, set_up_sets}
+use Rattle.stored.proofs.Seconds.{room_read}
+use Rattle.stored.proofs.Cases.{set_up_sets}
 use Rattle.stored.proofs.form.Form.set_up_in.Goals as goal
-
-pub returns-in_default-clause-taken : goal.returns-in_default-clause-taken
-returns-in_default-clause-taken c =
-    let f = c.args.self.now in
-    sym
-    (none_of_class (said_of f).settings
-    (ap is_class_number (said_class (length f.inputs.now / 2) f.rest) ∙ c.in_default.ensures.none refl))
-
-pub returns-then-n-gt-LAMPS_MOST-clause-taken : goal.returns-then-n-gt-LAMPS_MOST-clause-taken
-returns-then-n-gt-LAMPS_MOST-clause-taken c =
-    let f = c.args.self.now in
-    sym
-    (too_many_lamps (said_of f).settings
-    (omega (arith, length-seconds_in (length f.lamps.now / 4) f.lamps.now)))
 
 pub returns : goal.returns
 returns c =

@@ -6,6 +6,7 @@ pub loop-x-init : goal.loop-x-init
 loop-x-init c = (rw no_seconds (puts_none _), omega arith)
 
 pub loop-x-preserved : goal.loop-x-preserved
-loop-x-preserved c =
-    (puts_as (grind (arith, seconds_bytes-take, c.four_bytes.ensures)) c.loop-x.invariant.0 c.bytes.ensures,
-    omega arith)
+loop-x-preserved c = (
+  puts_as (grind (arith, seconds_bytes-take, c.four_bytes.ensures)) c.loop-x.invariant.0 c.bytes.ensures,
+  omega arith,
+)
