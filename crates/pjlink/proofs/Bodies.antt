@@ -2,8 +2,7 @@
 --   each_body        what is so of the list of bodies is so of each: a law over bodies is one computed line
 --   Spelt b          what the row of b shows
 -- Assumes nothing.
-use Rattle.std.proofs.Common.{arith, ℕ, ◌≤◌, ◌≡◌, ap, Bool, true, ◌&&◌, List, [], ◌∷◌, map, slice_index_or}
-use Rattle.std.proofs.Common.{nat_le}
+use Rattle.std.proofs.Common.{arith, ℕ, ◌≤◌, ◌≡◌, ap, Bool, true, ◌&&◌, List, [], ◌∷◌, map, slice_index_or, nat_le}
 use Rattle.std.specs.List.{list_all}
 use Rattle.words.specs.Bytes.{◌at◌, is_alnum}
 use Rattle.pjlink.specs.Bodies.{bodies, class_of}
