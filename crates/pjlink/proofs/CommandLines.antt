@@ -6,8 +6,7 @@ use Rattle.std.specs.List.{list_all}
 use Rattle.std.proofs.Common.{ℕ, ◌+◌, ◌≤◌, ◌<◌, ◌≡◌, sym, ap, ◌∙◌, Bool, true, false, List}
 use Rattle.std.proofs.Common.{◌∷◌, ◌++◌, arith, length, length-append, nat_le, le-leb, ne_eqb, codes}
 use Rattle.std.proofs.lemmas.Bool.{lt-leb}
-use Rattle.text.proofs.Choices.{both}
-use Rattle.text.proofs.Scanning.{list_all-append, list_all_implies}
+use Rattle.text.proofs.Scanning.{list_all_implies}
 use Rattle.words.specs.Bytes.{is_alnum, not_cr, no_cr}
 use Rattle.words.specs.Inputs.{input_text}
 use Rattle.pjlink.specs.Commands.{body_text, body_of, command_class, class_digit, parameter_of}
@@ -18,7 +17,7 @@ use Rattle.words.specs.declared.input.Input.{Input}
 use Rattle.pjlink.specs.declared.command.Command.{Command}
 use Rattle.words.proofs.Characters.{no_cr_of, alnum_not_cr}
 use Rattle.words.proofs.InputsReadBack.{input_alnum}
-use Rattle.pjlink.proofs.Bodies.{four, body_spelt, class_said}
+use Rattle.pjlink.proofs.Bodies.{four, body_spelt}
 
 pub spelt : (c : Command) {h : ℕ} {s p : List ℕ} → h ≡ class_digit (command_class c) → s ≡ body_text (body_of c)
     → p ≡ parameter_of c
@@ -85,19 +84,7 @@ module _ (c : Command) where
     command_of_higher_class h = form_by_class ∙ lt-leb (command_class c) k h
 
   pub command_no_cr : no_cr (command_text c) ≡ true
-  command_no_cr =
-      grind (
-        arith,
-        class_said,
-        ne_eqb,
-        no_cr_of,
-        text,
-        list_all-append,
-        both,
-        alnum_not_cr,
-        letters,
-        list_all-parameter_of,
-      )
+  command_no_cr = grind (arith, ne_eqb, no_cr_of, list_all-parameter_of)
 
 -- a line of the form has its head
 pub form_long : (k : ℕ) (l : List ℕ) → is_command_form k l ≡ true → 7 ≤ length l

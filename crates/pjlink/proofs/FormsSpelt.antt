@@ -1,8 +1,7 @@
 -- A line of the form is spelt by its parts: `%`, its class byte, the four bytes of its body, a space, its parameter.
 -- Its class is 1, or for a set-up of Class 2 also 2.
 -- Assumes nothing.
-use Rattle.std.proofs.Common.{ℕ, ◌≤◌, ◌≡◌, Bool, true, ◌&&◌, List, ◌∷◌, ◌++◌, arith, length, nat_le}
-use Rattle.std.proofs.Common.{eqb-true, codes}
+use Rattle.std.proofs.Common.{ℕ, ◌≤◌, ◌≡◌, Bool, true, ◌&&◌, List, ◌∷◌, ◌++◌, arith, length, nat_le, codes}
 use Prim.Native.Char.{code}
 use Rattle.text.specs.Words.{◌is◌}
 use Rattle.text.proofs.Choices.{both_left, both_right}
@@ -43,4 +42,4 @@ module _ (k : ℕ) (l : List ℕ) (form : is_command_form k l ≡ true) where
   marks = grind (arith, headed)
 
   pub form_spelt : l ≡ codes "%" ++ ((l at 1) ∷ head_body l) ++ codes " " ++ command_parameter l
-  form_spelt = grind (arith, eqb-true, marks, both_right, headed)
+  form_spelt = grind (arith, both_right, headed)

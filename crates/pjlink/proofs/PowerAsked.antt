@@ -17,9 +17,8 @@ use Rattle.pjlink.specs.declared.body.Body.TheVariants.{Powr}
 use Rattle.pjlink.specs.declared.body.Sets.{Sets}
 use Rattle.pjlink.specs.declared.body.Sets.TheVariants.{SetsPower}
 use Rattle.pjlink.specs.declared.command.Command.{Command}
-use Rattle.pjlink.specs.declared.command.Command.TheVariants.{PowerSet, MuteSet}
+use Rattle.pjlink.specs.declared.command.Command.TheVariants.{PowerSet, MuteSet, Query}
 use Rattle.pjlink.specs.declared.command.Half.{Half}
-use Rattle.pjlink.specs.declared.command.Command.TheVariants.{Query}
 use Rattle.pjlink.specs.declared.request.Unasked.TheVariants.{Unlisted}
 use Rattle.pjlink.proofs.BodiesNamed.{body_is_named}
 

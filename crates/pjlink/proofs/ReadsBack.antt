@@ -9,8 +9,7 @@ use Rattle.std.proofs.Common.{◌∙◌, arith, slice_index_or, codes, Option, N
 use Rattle.std.proofs.lemmas.Bool.{eq-eqb}
 use Rattle.std.proofs.lemmas.List.{length-map}
 use Prim.Native.Char.{code}
-use Rattle.text.proofs.Choices.{if_yes, if_no, both, both_left}
-use Rattle.numbers.proofs.Digits.{digit_to}
+use Rattle.text.proofs.Choices.{if_yes, both}
 use Rattle.words.specs.Codec.{Codec, Ends, Plain, whole}
 use Rattle.words.specs.Combinations.{whole_says, list_says}
 use Rattle.words.specs.Classes.{class_text}
@@ -39,7 +38,7 @@ use Rattle.pjlink.specs.CanSay.{CanSay, done, refuses, power, input, mutes, erro
 use Rattle.pjlink.specs.CanSay.{model, other, class_said, freeze, serial, version, input_name, input_2, inputs_2}
 use Rattle.pjlink.specs.Reading.{said_or, read_queried, read_value, refusal_or, read_parameter}
 use Rattle.pjlink.specs.Writings.{Writes}
-use Rattle.words.proofs.Refusals.{not_four, digit_first, text_no_refusal, whole-refusal_text}
+use Rattle.words.proofs.Refusals.{not_four, digit_first, text_no_refusal}
 use Rattle.pjlink.proofs.SaidRows.{said_row}
 use Rattle.pjlink.proofs.Written.{list_legal, said_is_written}
 
@@ -82,32 +81,7 @@ length-halves_text v a = grind arith
 
 -- a list begins as its first thing does, and that with a digit
 lamp_first : (l : LampHours) (t : List ℕ) → WritesLampHours l t → (b : ℕ) × (u : List ℕ) × (t ≡ b ∷ u) × (b ≤ code "9")
-lamp_first l t w =
-    grind (
-      arith,
-      digit_to,
-      both_left,
-      both,
-      digit_first,
-      eq-eqb,
-      if_no,
-      if_yes,
-      length-halves_text,
-      length-map,
-      list_legal,
-      name_back,
-      name_is_text,
-      name_no_set,
-      not_four,
-      ok_back,
-      read_parameter-said_text,
-      refusal_numbered,
-      said_is_written,
-      said_row,
-      text_no_refusal,
-      value,
-      whole-refusal_text,
-    )
+lamp_first l t w = grind (arith, not_four)
 
 lamps_first : (ls : List LampHours) (p : List ℕ) → JoinedBy WritesLampHours ls p → slice_index_or p 0 0 ≤ code "9"
 lamps_first [] p w = absurd w
