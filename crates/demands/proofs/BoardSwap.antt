@@ -25,7 +25,7 @@ use Rattle.stored.proofs.OneForm.{stored_again, forms_apart}
 use Rattle.ours.specs.Board.{ours, bytes_written}
 use Rattle.demands.specs.Calls.{Call, run}
 use Rattle.demands.specs.History.{Event, Stage, steady, next, marks_next}
-use Rattle.demands.specs.History.{no_streams, history, marks_after, burns, burning_from, burning, stage_after}
+use Rattle.demands.specs.History.{no_streams, history, marks_after, burning_from, burning, stage_after}
 use Rattle.demands.specs.History.{lamp_with}
 use Rattle.demands.specs.CountsSeconds.{Beginning, loads, IsClass1, start_marks, IsAccepted, run_of, history_of}
 use Rattle.demands.specs.BoardSwap.{LoadsAs, BoardSwap}
@@ -48,9 +48,7 @@ module _ (v w : Wanted) (warm : v.warm ≡ w.warm) (cool : v.cool ≡ w.cool) wh
   burning_alike : (g : Stage) (ms : List Bool) (k : ℕ) (es : List Event) → burning_from v g ms k es
       ≡ burning_from w g ms k es
   burning_alike g ms k [] = refl
-  burning_alike g ms k (e ∷ es) =
-      ap (λ (h : Stage). burns g ms k e + burning_from v h (marks_next ms e) k es) (next_alike g e)
-      ∙ ap (λ (n : ℕ). burns g ms k e + n) (burning_alike (next w g e) (marks_next ms e) k es)
+  burning_alike g ms k (e ∷ es) = grind (arith, burning_alike (next w g e) (marks_next ms e) k es)
 
 module _ (d : Device) (m : List ℕ) (h : (stored_by d (length m)).number ≡ 0) where
   form_stored : bytes_written (ours.store d m) ≡ stored_form d
@@ -148,13 +146,17 @@ older_loads : (s : List ℕ) → (ours.load s).number ≡ 0 → (s at 0 ≡ form
 older_loads s e other = grind (arith, accepted_set_up, started_parts, older_is_class_1)
 
 pub ours_swap : BoardSwap ours
-ours_swap = record {
-  form_stored = form_stored;
-  stored_loads = stored_loads;
-  old_form_sets_up = λ w h. old_form_loads w h.set_up h.class_1;
-  marked_form_loads = marked_loads;
-  older_class_1 = older_loads;
-  stored_again = λ s b new h. stored_again s (bytes_kept s b) h (eq-eqb (s at 0) form_version new);
-  one_form = λ s t a b g h v e. forms_apart s t (bytes_kept s a) (bytes_kept t b) g h v e;
-  hours_go_on = hours_go_on;
-}
+ours_swap =
+    grind (
+      arith,
+      form_stored,
+      stored_loads,
+      old_form_loads,
+      marked_loads,
+      older_loads,
+      stored_again,
+      bytes_kept,
+      eq-eqb,
+      forms_apart,
+      hours_go_on,
+    )

@@ -114,8 +114,17 @@ unless legal = grind arith
 
 pub number_is_first : (d : Device) (c : Call) → number_of ours d c ≡ first_of (rows_of d c)
 number_is_first d c =
-    grind (arith, opened_number, closed_number, received-number, passed-number, unless, fault_number, errors_number,
-    mark_number)
+    grind (
+      arith,
+      opened_number,
+      closed_number,
+      received-number,
+      passed-number,
+      unless,
+      fault_number,
+      errors_number,
+      mark_number,
+    )
 
 pub set_up_number : (w : Wanted) → (ours.set_up w).number ≡ first_of (set_up_rows w)
 set_up_number = set-up-table

@@ -108,9 +108,22 @@ pub outsider_refused : (d : Device) (p : ℕ) (l more m : List ℕ) (ps : List (
     → uncut ps ≡ l ++ codes "\r" ++ more
     → RefusalOnly ours d p (handed_on ours m p d ps)
 outsider_refused d p l more m ps between plain unled enough all =
-    grind (arith, is_between, append_assoc, IsUnmatched, unled_unmatched, first_line, first-line_ends, handed_alike,
-    outsider_stream_refused, outsider_stream_keeps_settings, outsider_stream_keeps_own, outsider_stream_fails,
-    outsider_stream_age, connection_at-handed_parts)
+    grind (
+      arith,
+      is_between,
+      append_assoc,
+      IsUnmatched,
+      unled_unmatched,
+      first_line,
+      first-line_ends,
+      handed_alike,
+      outsider_stream_refused,
+      outsider_stream_keeps_settings,
+      outsider_stream_keeps_own,
+      outsider_stream_fails,
+      outsider_stream_age,
+      connection_at-handed_parts,
+    )
 
 pub outsider_reads_erra : (d : Device) (p : ℕ) (bs : List ℕ) (room : ℕ) (c : Command) → is_legal d ≡ true
     → reply_room ≤ room → p < places_count

@@ -12,7 +12,7 @@ use Rattle.record.specs.declared.types.Device.{Device}
 use Rattle.device.specs.Receiving.{set_up_password}
 use Rattle.device.specs.Calls.{has_password}
 use Rattle.ours.specs.Board.{ours}
-use Rattle.demands.specs.Calls.{Call, opens, closes, receives, passes, marks, reports, enables, after, run}
+use Rattle.demands.specs.Calls.{Call, opens, closes, receives, after, run}
 use Rattle.demands.specs.Outsider.{Session, unopened, noted, session_after, IsNeverMatched, is_hosts, host_calls}
 use Rattle.demands.specs.Outsider.{SameDevicePart, IsKeptThere, NoSay, HostsAlone}
 use Rattle.demands.proofs.KeepsRunning.{stays_legal}

@@ -8,11 +8,10 @@
 use Rattle.std.specs.List.{list_all}
 use Rattle.std.proofs.Common.{ℕ, ◌+◌, ◌≡◌, refl, sym, ap, ◌∙◌, true, false, not, ◌&&◌, List, [], ◌∷◌, ◌++◌}
 use Rattle.std.proofs.Common.{append_assoc, length, take, length-append, subst, append-nil, arith}
-use Rattle.std.proofs.lemmas.Bool.{false≢true, not-true}
+use Rattle.std.proofs.lemmas.Bool.{false≢true}
 use Rattle.std.proofs.Math.Seq.{take-append_seam, take-length}
 use Prim.Native.Char.{code}
-use Rattle.text.specs.Words.{◌is◌}
-use Rattle.text.proofs.Choices.{if_no, both_left, both_right, alike}
+use Rattle.text.proofs.Choices.{both_right, alike}
 use Rattle.words.specs.Bytes.{not_cr, no_cr}
 use Rattle.words.proofs.Characters.{no_cr_each}
 use Rattle.device.specs.Receiving.{is_led_by, Taken, taken_in}
@@ -45,9 +44,7 @@ use Rattle.device.proofs.FirstLines.{is_match-collected_all}
 module _ (more : List ℕ) where
   first_line-append : (l : List ℕ) → list_all not_cr l ≡ true → first_line (l ++ (code "\r" ∷ more)) ≡ l
   first_line-append [] none = refl
-  first_line-append (b ∷ l) none =
-      if_no _ _ (not-true (b is "\r") (both_left (not_cr b) (list_all not_cr l) none))
-      ∙ ap (λ (k : List ℕ). b ∷ k) (first_line-append l (both_right (not_cr b) (list_all not_cr l) none))
+  first_line-append (b ∷ l) none = grind (arith, first_line-append l (both_right (not_cr b) (list_all not_cr l) none))
 
   cr_inside : (l : List ℕ) → list_all not_cr (l ++ (code "\r" ∷ more)) ≡ true → ⊥
   cr_inside [] e = false≢true e
@@ -137,15 +134,36 @@ module _ (settings : Settings) (o : Own) (c : Connection) (s : Session) where
     -- no CR: all is collected
     hears_plain : (bs : List ℕ) → list_all not_cr bs ≡ true → Heard o s bs (taken_in settings o c bs)
     hears_plain bs p =
-        grind (arith, by_room, plain_gathered, line, taken_part, keeping_line_lem, take-length, list_all-append,
-        more_is, append-nil)
+        grind (
+          arith,
+          by_room,
+          plain_gathered,
+          line,
+          taken_part,
+          keeping_line_lem,
+          take-length,
+          list_all-append,
+          more_is,
+          append-nil,
+        )
 
     -- CR: the first line is the session's bytes and these
     hears_line : (xs rest : List ℕ) → list_all not_cr xs ≡ true
         → let bs = xs ++ (code "\r" ∷ rest) in Hears bs (taken_in settings o c bs)
     hears_line xs rest p =
-        grind (arith, list_all-append, by_room, gathered-append, line, taken-line, matched_first, line_taken, more_is,
-        is_match-collected_all, mismatch_refused)
+        grind (
+          arith,
+          list_all-append,
+          by_room,
+          gathered-append,
+          line,
+          taken-line,
+          matched_first,
+          line_taken,
+          more_is,
+          is_match-collected_all,
+          mismatch_refused,
+        )
 
     hears_awaiting : (bs : List ℕ) → Cut (code "\r") bs → Hears bs (taken_in settings o c bs)
     hears_awaiting bs known1 = grind (arith, plain, hears_plain, line, hears_line)
