@@ -146,17 +146,13 @@ older_loads : (s : List ℕ) → (ours.load s).number ≡ 0 → (s at 0 ≡ form
 older_loads s e other = grind (arith, accepted_set_up, started_parts, older_is_class_1)
 
 pub ours_swap : BoardSwap ours
-ours_swap =
-    grind (
-      arith,
-      form_stored,
-      stored_loads,
-      old_form_loads,
-      marked_loads,
-      older_loads,
-      stored_again,
-      bytes_kept,
-      eq-eqb,
-      forms_apart,
-      hours_go_on,
-    )
+ours_swap = record {
+  form_stored = form_stored;
+  stored_loads = stored_loads;
+  old_form_sets_up = λ w h. old_form_loads w h.set_up h.class_1;
+  marked_form_loads = marked_loads;
+  older_class_1 = older_loads;
+  stored_again = λ s b new h. stored_again s (bytes_kept s b) h (eq-eqb (s at 0) form_version new);
+  one_form = λ s t a b g h v e. forms_apart s t (bytes_kept s a) (bytes_kept t b) g h v e;
+  hours_go_on = hours_go_on;
+}

@@ -25,8 +25,8 @@ use Rattle.demands.proofs.KeepsRunning.{over_front}
 use Rattle.record.specs.Legal.{is_legal, held_most}
 use Rattle.stream.specs.Machine.{Took, handed_parts, uncut}
 use Rattle.device.proofs.SameCuts.{receives, received_however_cut}
-use Rattle.device.proofs.Outsiders.{IsUnmatched, unmatched_line_refused}
-use Rattle.device.proofs.OutsiderStreams.{first_line, outsider_stream_keeps_own, outsider_stream_keeps_settings}
+use Rattle.device.proofs.Outsiders.{unmatched_line_refused}
+use Rattle.device.proofs.OutsiderStreams.{outsider_stream_keeps_own, outsider_stream_keeps_settings}
 use Rattle.device.proofs.OutsiderStreams.{outsider_stream_refused, connection_at-handed_parts, outsider_stream_fails}
 use Rattle.device.proofs.OutsiderStreams.{outsider_stream_age}
 use Rattle.device.proofs.FirstLines.{first-line_ends, unled_unmatched}
@@ -112,9 +112,7 @@ outsider_refused d p l more m ps between plain unled enough all =
       arith,
       is_between,
       append_assoc,
-      IsUnmatched,
       unled_unmatched,
-      first_line,
       first-line_ends,
       handed_alike,
       outsider_stream_refused,

@@ -33,7 +33,7 @@ use Rattle.clock.specs.Second.{times, connection_second}
 use Rattle.clock.proofs.ConnectionsAge.{connection_then}
 use Rattle.stream.specs.declared.Gathered.{Gathered}
 use Rattle.stream.specs.Collecting.{empty_line, collected_all, gathered}
-use Rattle.stream.proofs.UpToTheEnd.{Cut, plain, line, cut}
+use Rattle.stream.proofs.UpToTheEnd.{Cut, cut}
 use Rattle.stream.proofs.GatheredOn.{plain_gathered}
 use Rattle.stream.proofs.CollectedOn.{collected_all-append, collected_whole}
 use Rattle.stream.proofs.LinesCollected.{empty_is_none, gathered-append}
@@ -91,7 +91,7 @@ pub closed_stands : (s : Session) → RefusalAtMost s.replied → Standing s clo
 closed_stands s a = is_closed (ap (λ (k : Connection). k.phase) closed_spelt) a
 
 older_stands : (s : Session) (c : Connection) (age : ℕ) → Standing s c → Standing s (aged c age)
-older_stands s c age known3 = grind arith
+older_stands s c age stands = grind arith
 
 pub stands_later : (n : ℕ) (s : Session) (c : Connection) → Standing s c → Standing s (times connection_second n c)
 stands_later n s c k = connection_then (Standing s) (closed_stands s (answered_so k)) (older_stands s) n c k
@@ -138,7 +138,6 @@ module _ (settings : Settings) (o : Own) (c : Connection) (s : Session) where
           arith,
           by_room,
           plain_gathered,
-          line,
           taken_part,
           keeping_line_lem,
           take-length,
@@ -156,7 +155,6 @@ module _ (settings : Settings) (o : Own) (c : Connection) (s : Session) where
           list_all-append,
           by_room,
           gathered-append,
-          line,
           taken-line,
           matched_first,
           line_taken,
@@ -166,7 +164,7 @@ module _ (settings : Settings) (o : Own) (c : Connection) (s : Session) where
         )
 
     hears_awaiting : (bs : List ℕ) → Cut (code "\r") bs → Hears bs (taken_in settings o c bs)
-    hears_awaiting bs known1 = grind (arith, plain, hears_plain, line, hears_line)
+    hears_awaiting bs parts = grind (arith, hears_plain, hears_line)
 
   pub stands_on : (bs : List ℕ) → (c.phase ≡ shut → ⊥) → Standing s c → Hears bs (taken_in settings o c bs)
   stands_on bs live (is_closed p a) = absurd (live p)

@@ -1,4 +1,3 @@
-use Rattle.std.proofs.Common.{arith}
 use Rattle.demands.proofs.KeepsRunning.{ours_keeps_running}
 use Rattle.demands.proofs.SpeaksPjlink.{ours_speaks_pjlink}
 use Rattle.demands.proofs.CountsSeconds.{ours_counts_seconds}
@@ -9,14 +8,12 @@ use Rattle.demands.proofs.ClassOne.{ours_class_1}
 use Rattle.demands.proofs.ours_keeps_the_demands.Goals as goal
 
 pub returns : goal.returns
-returns c =
-    grind (
-      arith,
-      ours_keeps_running,
-      ours_speaks_pjlink,
-      ours_counts_seconds,
-      interleaved,
-      ours_unheard,
-      ours_swap,
-      ours_class_1,
-    )
+returns c = record {
+  keeps_running = ours_keeps_running;
+  speaks_pjlink = ours_speaks_pjlink;
+  counts_seconds = ours_counts_seconds;
+  places_stand = interleaved;
+  outsider_unheard = ours_unheard;
+  survives_a_swap = ours_swap;
+  class_1_kept = ours_class_1;
+}
