@@ -8,7 +8,7 @@
 --   Then w g ms n es stream d    so they do after the events es
 -- Assumes nothing.
 use Rattle.std.proofs.Common.{ℕ, ◌+◌, ◌<◌, ◌≡◌, refl, sym, ap, subst, ◌∙◌, Bool, true, false, ◌&&◌, List, arith, length}
-use Rattle.std.proofs.Common.{slice_index_or, set, length-set, get_or-set_same, get_or-set_other, ◌==◌, eqb-true, zero}
+use Rattle.std.proofs.Common.{slice_index_or, set, length-set, get_or-set_same, get_or-set_other, eqb-true, zero}
 use Rattle.std.proofs.Common.{suc, [], ◌∷◌, ◌++◌, add-zero, zero-add, add_assoc, replicate}
 use Rattle.std.proofs.lemmas.Bool.{eqb-false}
 use Rattle.std.specs.Prelude.{if◌then◌else◌}
@@ -133,28 +133,7 @@ module _ {w : Wanted} {g : Stage} {ms : List Bool} {n : ℕ → ℕ} {stream : S
   -- a mark replaced, here and there
   pub remarked : (lamp : ℕ) (mark : Bool) → lamp < length w.lamps → lamp < length d.own.enabled
       → Agrees w g (set ms lamp mark) n stream (with_own d (with_marks d.own (set d.own.enabled lamp mark)))
-  remarked lamp mark there room = record {
-    settings = a.settings;
-    power = a.power;
-    left = a.left;
-    lamps = a.lamps;
-    marks_long = length-set ms lamp mark ∙ a.marks_long;
-    marks = λ place inside. by_place place inside (place == lamp) refl;
-    last = a.last;
-  }
-    where
-      by_place : (place : ℕ) → place < length w.lamps → (t : Bool) → (place == lamp) ≡ t
-          → slice_index_or (set d.own.enabled lamp mark) place false ≡ slice_index_or (set ms lamp mark) place false
-      by_place place inside true e =
-          let same = eqb-true place lamp e in
-          rw same
-          (get_or-set_same d.own.enabled lamp mark false room
-          ∙ sym (get_or-set_same ms lamp mark false (omega (arith, a.marks_long))))
-      by_place place inside false e =
-          let other = eqb-false place lamp e in
-          get_or-set_other d.own.enabled lamp place mark false other
-          ∙ a.marks place inside
-          ∙ sym (get_or-set_other ms lamp place mark false other)
+  remarked lamp mark there room = grind (arith, length-set, eqb-true, get_or-set_same, eqb-false, get_or-set_other)
 
 pub reached-append : (w : Wanted) (g : Stage) (es fs : List Event)
     → reached w g (es ++ fs) ≡ reached w (reached w g es) fs
@@ -170,8 +149,7 @@ pub burning_from-append : (w : Wanted) (g : Stage) (ms : List Bool) (k : ℕ) (e
     → burning_from w g ms k (es ++ fs)
     ≡ burning_from w g ms k es + burning_from w (reached w g es) (marks_after ms es) k fs
 burning_from-append w g ms k [] fs = rw zero-add
-burning_from-append w g ms k (e ∷ es) fs =
-    rw (burning_from-append w (next w g e) (marks_next ms e) k es fs) (omega arith)
+burning_from-append w g ms k (e ∷ es) fs = grind (arith, burning_from-append w (next w g e) (marks_next ms e) k es fs)
 
 abbrev pub Then : Wanted → Stage → List Bool → (ℕ → ℕ) → List Event → Streams → Device → Type 0
 Then w g ms n es stream d =

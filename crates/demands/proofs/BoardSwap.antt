@@ -22,7 +22,7 @@ use Rattle.stored.proofs.OneForm.{stored_again, forms_apart}
 use Rattle.ours.specs.Board.{ours, bytes_written}
 use Rattle.demands.specs.Calls.{Call, run}
 use Rattle.demands.specs.History.{Event, Stage, steady, next, marks_next}
-use Rattle.demands.specs.History.{no_streams, history, marks_after, burns, burning_from, burning, stage_after}
+use Rattle.demands.specs.History.{no_streams, history, marks_after, burning_from, burning, stage_after}
 use Rattle.demands.specs.History.{lamp_with}
 use Rattle.demands.specs.CountsSeconds.{Beginning, loads, IsClass1, start_marks, IsAccepted, run_of, history_of}
 use Rattle.demands.specs.BoardSwap.{LoadsAs, BoardSwap}
@@ -42,9 +42,7 @@ module _ (v w : Wanted) (warm : v.warm ≡ w.warm) (cool : v.cool ≡ w.cool) wh
   burning_alike : (g : Stage) (ms : List Bool) (k : ℕ) (es : List Event) → burning_from v g ms k es
       ≡ burning_from w g ms k es
   burning_alike g ms k [] = refl
-  burning_alike g ms k (e ∷ es) =
-      ap (λ (h : Stage). burns g ms k e + burning_from v h (marks_next ms e) k es) (next_alike g e)
-      ∙ ap (λ (n : ℕ). burns g ms k e + n) (burning_alike (next w g e) (marks_next ms e) k es)
+  burning_alike g ms k (e ∷ es) = grind (arith, burning_alike (next w g e) (marks_next ms e) k es)
 
 module _ (d : Device) (m : List ℕ) (h : (stored_by d (length m)).number ≡ 0) where
   form_stored : bytes_written (ours.store d m) ≡ stored_form d

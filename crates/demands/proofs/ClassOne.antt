@@ -3,35 +3,31 @@
 -- way. No reply is longer than 103 bytes (RULES, Inputs), eight around a parameter of at most 95: only an input's
 -- name is longer, and a Class 1 set-up has none.
 -- Assumes nothing.
-use Rattle.std.specs.List.{list_all}
-use Rattle.std.proofs.Common.{ℕ, ◌≤◌, ◌<◌, ◌≡◌, refl, sym, ap, subst, ◌∙◌, Bool, true, false, not, ◌||◌, List, []}
-use Rattle.std.proofs.Common.{◌∷◌, ⊎_elim, arith, length, slice_index_or, drop, length-append, ◌*◌, ◌+◌, ◌++◌}
-use Rattle.std.proofs.Common.{nat_le, ltb-true, eqb-true, codes}
+use Rattle.std.proofs.Common.{ℕ, ◌≤◌, ◌<◌, ◌≡◌, refl, sym, ap, subst, ◌∙◌, Bool, true, false, ◌||◌, List, []}
+use Rattle.std.proofs.Common.{◌∷◌, ⊎_elim, arith, length, slice_index_or, length-append, ◌*◌, ◌+◌, ◌++◌}
+use Rattle.std.proofs.Common.{ltb-true, eqb-true, codes}
 use Rattle.std.proofs.lemmas.Bool.{false≢true, not-false}
 use Rattle.std.proofs.Math.Bool.{or-true}
 use Rattle.std.proofs.Math.ListN.{get_or-eq_default}
 use Prim.Native.Char.{code}
-use Rattle.std.specs.Prelude.{Ok, Err, Option, unwrap_or}
+use Rattle.std.specs.Prelude.{Ok, Option, unwrap_or}
 use Rattle.text.proofs.Orders.{le_or_lt}
 use Rattle.text.proofs.Scanning.{list_all_at}
 use Rattle.pjlink.specs.Bodies.{has_set, has_query}
 use Rattle.pjlink.specs.Commands.{body_of}
-use Rattle.words.specs.Texts.{is_text, input_name_most}
 use Rattle.pjlink.specs.declared.body.Body.{Body}
 use Rattle.pjlink.specs.declared.command.Command.{Command}
-use Rattle.pjlink.specs.declared.command.Command.TheVariants.{PowerSet, InputSet}
+use Rattle.pjlink.specs.declared.command.Command.TheVariants.{PowerSet}
 use Rattle.pjlink.specs.declared.command.Command.TheVariants.{Query}
 use Rattle.words.proofs.TextsTold.{name_long, info_long}
 use Rattle.pjlink.specs.Requests.{Request, request_of}
-use Rattle.pjlink.specs.declared.request.Unasked.TheVariants.{Unlisted}
 use Rattle.pjlink.specs.Said.{Said, said_bytes, bytes_most, refused}
 use Rattle.pjlink.specs.CanSay.{CanSay, refuses}
 use Rattle.pjlink.proofs.SaidPlain.{said_long, text_said}
-use Rattle.record.specs.Limits.{only_in_2, awaiting, opened}
+use Rattle.record.specs.Limits.{awaiting, opened}
 use Rattle.record.specs.Record.{blank_name}
-use Rattle.record.specs.Legal.{fills_name_room, is_settings, is_own, is_legal}
+use Rattle.record.specs.Legal.{is_settings, is_own, is_legal}
 use Rattle.record.specs.Places.{connection_at}
-use Rattle.record.specs.declared.types.InputName.{InputName}
 use Rattle.record.specs.declared.types.Settings.{Settings}
 use Rattle.record.specs.declared.types.Own.{Own}
 use Rattle.record.specs.declared.types.Line.{Line}
@@ -44,7 +40,7 @@ use Rattle.meaning.specs.SetUpInputs.{place_of, no_input, inputs_of, is_listed}
 use Rattle.meaning.specs.Meaning.{name_bytes, request_answer, meant, done}
 use Rattle.meaning.proofs.CanBeSaid.{meant_can_be_said, length-inputs_of}
 use Rattle.meaning.proofs.Cases.{Passes, meant_by, err1, err2, done_by}
-use Rattle.device.specs.Answering.{line_asks, line_answer, Answered, swallowed}
+use Rattle.device.specs.Answering.{line_asks, line_answer, swallowed}
 use Rattle.device.specs.Receiving.{line_ended, taken_in}
 use Rattle.device.specs.Calls.{received, reply_room}
 use Rattle.device.proofs.Cases.{received_by}
@@ -52,17 +48,16 @@ use Rattle.device.proofs.LineCases.{answered_by, ended_by, taken_by}
 use Rattle.demands.specs.ClassOne.{longest_before, asked_as_before, line_before, answer_before, OfClass1, ClassOneKept}
 use Rattle.record.proofs.FactsTold.{settings_is, fills_told}
 use Rattle.text.specs.Words.{◌is◌}
-use Rattle.text.proofs.Choices.{if_yes, if_no, if_by, if_all}
+use Rattle.text.proofs.Choices.{if_yes, if_no, if_all}
 use Rattle.words.specs.Bytes.{◌at◌, no_cr, command_most}
 use Rattle.words.specs.Inputs.{is_input_text, input_named, input_text}
 use Rattle.words.specs.declared.input.Input.{Input}
 use Rattle.pjlink.specs.Forms.{head_body, command_parameter, is_command_form, class_of_byte, reply_line}
 use Rattle.pjlink.specs.ClassOne.{is_command_form_1}
-use Rattle.pjlink.specs.declared.body.Body.TheVariants.{Inpt}
 use Rattle.words.proofs.InputsReadBack.{named_text}
 use Rattle.words.proofs.SourcesFollowed.{named_stands}
 use Rattle.pjlink.proofs.ClassOneKept.{form_kept, class_byte_1}
-use Rattle.pjlink.proofs.ClassOneAsked.{KeptAs, as_before, of_class_2, asked_kept}
+use Rattle.pjlink.proofs.ClassOneAsked.{KeptAs, asked_kept}
 use Rattle.record.proofs.SettingsTold.{input_of_class}
 use Rattle.meaning.proofs.InputsByPlace.{found_at_place, input_in_use}
 use Rattle.ours.specs.Board.{ours}
@@ -107,23 +102,7 @@ module _ (s : Settings) (o : Own) (settings : is_settings s ≡ true) (own : is_
 
   -- a set-up of Class 1 names no input
   nameless : (k : ℕ) → length (name_bytes (slice_index_or s.names k blank_name)) ≤ 0
-  nameless k = ⊎_elim past named (le_or_lt (length s.names) k)
-    where
-      past : length s.names ≤ k → length (name_bytes (slice_index_or s.names k blank_name)) ≤ 0
-      past h =
-          let none : length (name_bytes (slice_index_or s.names k blank_name)) ≡ 0
-          = ap (λ (t : InputName). length (name_bytes t)) (get_or-eq_default s.names blank_name h) in
-          omega arith
-
-      named : k < length s.names → length (name_bytes (slice_index_or s.names k blank_name)) ≤ 0
-      named h =
-          let told = (settings_is s).0 settings in
-          let none : list_all (fills_name_room 0) s.names ≡ true
-          = ap (λ (n : ℕ). list_all (fills_name_room 0) (drop (only_in_2 n s.input_count) s.names)) (sym one)
-          ∙ told.names.clear in
-          let empty = list_all_at (fills_name_room 0) s.names blank_name none k h in
-          let kept = (fills_told input_name_most (is_text 0) _ _).0 empty in
-          text_most _ 0 kept.follows
+  nameless k = grind (arith, ⊎_elim, le_or_lt, get_or-eq_default, settings_is, list_all_at, fills_told, text_most)
 
   meant_short : (r : Request) → Short (meant s o r)
   meant_short r = grind (arith, plain_short, query_short, by_rules, nameless, text_said, not-false)
@@ -188,14 +167,7 @@ module _ (s : Settings) (o : Own) where
   module _ (settings : is_settings s ≡ true) (one : s.class_number ≡ 1) where
     -- ERR2 either way
     same_asked : {r q : Request} → KeptAs r q → Same r q
-    same_asked (as_before e) = (ap (meant s o) e, ap (done s o) e)
-    same_asked (of_class_2 a b named unnamed now before) =
-        let r = Ok (InputSet (input_named a b)) in
-        let q = Err (Unlisted Inpt) in
-        let out = ap not (unlisted s settings a b named (ap (λ (k : ℕ). is_input_text k a b) one ∙ unnamed)) in (
-          ap (meant s o) now ∙ err2 s o r refl out ∙ sym (err2 s o q refl refl) ∙ ap (meant s o) (sym before),
-          ap (done s o) now ∙ nothing_done r refl out ∙ sym (nothing_done q refl refl) ∙ ap (done s o) (sym before),
-        )
+    same_asked h = grind (arith, unlisted, err2, nothing_done)
 
     module _ (l : List ℕ) where
       formed_before : is_command_form s.class_number l ≡ is_command_form_1 l
@@ -227,12 +199,7 @@ module _ (d : Device) (one : d.settings.class_number ≡ 1) (l : List ℕ) where
   answer_as_before legal = grind (arith, line_as_before, legal_settings)
 
   class_2_no_form : (l at 1 is "2") ≡ true → answer_before d l ≡ swallowed d.own
-  class_2_no_form two = if_all (λ (a : Answered). a ≡ swallowed d.own) (nat_le (length l) command_most) unnamed refl
-    where
-      unnamed : line_before d.settings d.own l ≡ swallowed d.own
-      unnamed =
-          if_by (λ (a : Answered). a ≡ swallowed d.own) (is_command_form_1 l)
-          (λ form. absurd (omega (arith, class_byte_1 l form, eqb-true (l at 1) (code "2") two))) (λ none. refl)
+  class_2_no_form two = grind (arith, if_all, class_byte_1, eqb-true)
 
 module _ (d : Device) (p : ℕ) (l m : List ℕ) (one : OfClass1 ours d) (plain : no_cr l ≡ true)
     (enough : reply_room ≤ length m) where
@@ -250,9 +217,4 @@ module _ (d : Device) (p : ℕ) (l m : List ℕ) (one : OfClass1 ours d) (plain 
   drops_class_2 between two = grind (arith, class_2_no_form, answers)
 
 pub ours_class_1 : ClassOneKept ours
-ours_class_1 = record {
-  answers = λ d p l m one between plain enough. answers d p l m one plain enough between;
-  answers_led = λ d p l m one between plain short enough. answers_led d p l m one plain enough between short;
-  drops_class_2 = λ d p l m one between plain two enough. drops_class_2 d p l m one plain enough between two;
-  reply_short = λ d p bs m one. short_before d one p bs (length m);
-}
+ours_class_1 = grind (arith, answers, answers_led, drops_class_2, short_before)

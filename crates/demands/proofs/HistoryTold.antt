@@ -24,7 +24,7 @@ use Rattle.record.specs.Wanted.{Wanted}
 use Rattle.record.specs.Places.{connection_at, no_connection}
 use Rattle.record.specs.declared.types.Settings.{Settings}
 use Rattle.record.specs.declared.types.Own.{Own}
-use Rattle.record.specs.Given.{Given, set_up_given}
+use Rattle.record.specs.Given.{Given}
 use Rattle.record.specs.declared.types.Device.{Device}
 use Rattle.record.proofs.Calls.{fault_set_by, errors_set_by, mark_set_by, set_up_in_range, set_up_accepted}
 use Rattle.record.proofs.LegalTold.{own_of_legal}
@@ -34,7 +34,7 @@ use Rattle.clock.proofs.Cases.{passed_by}
 use Rattle.meaning.specs.Meaning.{meant, done}
 use Rattle.meaning.proofs.PowerSets.{power_set_only, on_when_off, on_otherwise, off_when_on, off_otherwise}
 use Rattle.stream.specs.Collecting.{line_text}
-use Rattle.device.specs.Calls.{Result, accepted_taken, opened_by, closed_by}
+use Rattle.device.specs.Calls.{Result, accepted_taken}
 use Rattle.device.proofs.Cases.{takes, received_by}
 use Rattle.device.proofs.Histories.{StreamEffect, stays, turns, Tells, received_tells, tells_on, opening_tells}
 use Rattle.device.proofs.Histories.{closing_tells}
@@ -106,9 +106,7 @@ module _ {w : Wanted} {g : Stage} {ms : List Bool} {n : ℕ → ℕ} {stream : S
     by_effect : e.own.lamps ≡ d.own.lamps → e.own.enabled ≡ d.own.enabled
         → StreamEffect d.settings d.own (now p) answer e.own
         → Seen now p answer e
-    by_effect m same (stays other k l) =
-        rw (none_seen (now p) answer other)
-        (agrees_none (agrees_at a g now e settings (k ∙ a.power) (l ∙ a.left) m same last))
+    by_effect m same (stays other k l) = grind (arith, none_seen, agrees_none, agrees_at)
     by_effect m same (turns b1 b2 b3 b4 wanted powr line said passed own) =
         let yes = ap is_power_okay said ∙ okay_reply b1 b2 b3 b4 powr in
         let warm = ap (λ (s : Settings). s.warm) a.settings in
@@ -175,13 +173,8 @@ module _ {w : Wanted} {g : Stage} {ms : List Bool} {n : ℕ → ℕ} {stream : S
   QuietBy r = Quiet r.device
 
   pub noted : (c : Call) → IsNoted c
-  noted (opens random m) =
-      reconnected (opened_by d random (length m)).device (opening_keeps_settings d random (length m))
-      (opening_keeps_own d random (length m))
-      (λ q. opening_tells d q (stream q) (a.last q) random (length m))
-  noted (closes p) =
-      reconnected (closed_by d p).device (closing_keeps_settings d p) (closing_keeps_own d p)
-      (λ q. closing_tells d q (stream q) (a.last q) p)
+  noted (opens random m) = grind (arith, reconnected, opening_keeps_settings, opening_keeps_own, opening_tells)
+  noted (closes p) = grind (arith, reconnected, closing_keeps_settings, closing_keeps_own, closing_tells)
   noted (marks fault) =
       fault_set_by d QuietBy fault kept (λ legal. quiet _ refl refl refl refl refl a.last)
   noted (reports errors) =
@@ -278,16 +271,9 @@ set_up_too b w h = grind (arith, set_up_in_range)
 begins_so : (b : Beginning) (w : Wanted) → IsAccepted ours b w
     → (begun_by ours b w).device ≡ started_with w (start_marks b w)
 begins_so sets_up w h = set_up_started w h ∙ sym (started_with-replicate w (set_up_in_range w h))
-begins_so (loads ms) w h =
-    ap (λ (r : Given Device). r.device) (form_loads w h.0 ms (form_marks w h.0 ms h.1))
-begins_so (loads_marked ms) w h =
-    let ok = h.0.set_up in
-    let one = h.0.class_1 in
-    ap (λ (r : Given Device). r.device) (marked_form_loads w ok one ms (marked_form_marks w ok one ms h.1))
-begins_so loads_old w h =
-    let ok = h.0.set_up in
-    ap (λ (r : Given Device). r.device) (old_form_loads w ok h.0.class_1 ∙ ap set_up_given (set_up_accepted w ok))
-    ∙ sym (started_with-replicate w ok)
+begins_so (loads ms) w h = grind (arith, form_loads, form_marks)
+begins_so (loads_marked ms) w h = grind (arith, marked_form_loads, marked_form_marks)
+begins_so loads_old w h = grind (arith, old_form_loads, set_up_accepted, started_with-replicate)
 
 pub marks_many : (b : Beginning) (w : Wanted) → IsAccepted ours b w → length (start_marks b w) ≡ length w.lamps
 marks_many sets_up w h = length-replicate (length w.lamps) true

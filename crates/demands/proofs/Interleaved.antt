@@ -5,15 +5,14 @@
 --   Hears s c h k      of what is seen, h, the connection c alone makes the connection k, whatever follows
 -- Assumes nothing.
 use Rattle.std.specs.List.{list_all}
-use Rattle.std.proofs.Common.{ℕ, suc, ◌+◌, ◌≡◌, refl, ap, ◌∙◌, Bool, true, false, List, [], ◌∷◌, ◌++◌, arith, ◌==◌, ◌≤◌}
+use Rattle.std.proofs.Common.{ℕ, ◌+◌, ◌≡◌, refl, ap, ◌∙◌, true, false, List, [], ◌∷◌, ◌++◌, arith, ◌==◌, ◌≤◌}
 use Rattle.std.proofs.Common.{sym, subst, append_assoc, length, take, length-append, take_at, ◌<◌, append-nil, eqb-true}
 use Rattle.std.proofs.lemmas.Bool.{not-true, eqb-false}
 use Prim.Native.Char.{code}
-use Rattle.std.specs.Prelude.{if◌then◌else◌}
 use Rattle.text.proofs.Choices.{if_no, both_left, both_right, if_by}
 use Rattle.words.specs.Bytes.{not_cr}
 use Rattle.demands.specs.Interleaved.{line_ends, to_first_cr, Heard, heard_nothing, heard_then, heard_of}
-use Rattle.demands.specs.Interleaved.{answered_first, alone_at, heard_in, heard, ByBytes, ByBytesOnly, Alone, alone_of}
+use Rattle.demands.specs.Interleaved.{answered_first, alone_at, heard_in, heard, ByBytes, ByBytesOnly, alone_of}
 use Rattle.demands.specs.Interleaved.{SeenAlone, Interleaved}
 use Rattle.std.proofs.Math.Seq.{take-length}
 use mathlib.Core.List.{foldl}
@@ -63,17 +62,11 @@ all_taken (x ∷ xs) p = if_no _ _ (first_plain x xs p) ∙ ap (λ (l : List ℕ
 
 pub line_taken : (xs more : List ℕ) → list_all not_cr xs ≡ true → to_first_cr (xs ++ (code "\r" ∷ more)) ≡ xs ++ cr
 line_taken [] more p = refl
-line_taken (x ∷ xs) more p =
-    if_no _ _ (first_plain x xs p) ∙ ap (λ (l : List ℕ). x ∷ l) (line_taken xs more (rest_plain x xs p))
+line_taken (x ∷ xs) more p = grind (arith, line_taken xs more (rest_plain x xs p))
 
 pub ends_add : (xs ys : List ℕ) → line_ends (xs ++ ys) ≡ line_ends xs + line_ends ys
 ends_add [] ys = omega arith
-ends_add (x ∷ xs) ys = by (x == code "\r") (ends_add xs ys)
-  where
-    by : (t : Bool) → line_ends (xs ++ ys) ≡ line_ends xs + line_ends ys
-        → (if t then suc (line_ends (xs ++ ys)) else line_ends (xs ++ ys))
-        ≡ (if t then suc (line_ends xs) else line_ends xs) + line_ends ys
-    by t e = grind arith
+ends_add (x ∷ xs) ys = grind (arith, ends_add xs ys)
 
 -- collecting leaves the own part as it was
 own_stays : (o : Own) (c : Connection) (xs : List ℕ) → (foldl collects (state_of o c) xs).own ≡ o
@@ -232,15 +225,4 @@ module _ (q : ℕ) where
     as_alone = grind (arith, alone_is, all_calls)
 
 pub interleaved : Interleaved ours
-interleaved = record {
-  takes_a_line = λ d q bs m. takes_a_line q d bs m;
-  as_alone = λ d q cs h. as_alone q d cs h;
-  same_however_interleaved = λ d e q cs es h g settings connection taken owns.
-      let same : alone_of ours q d cs ≡ alone_of ours q e es =
-      (λ i. alone_at (settings i) (connection i) (owns i) (taken i)) in
-      let a = as_alone q d cs h in
-      let b = as_alone q e es g in (
-        a.replies ∙ ap (λ (k : Alone). k.reply) same ∙ sym b.replies,
-        a.connection ∙ ap (λ (k : Alone). k.connection) same ∙ sym b.connection,
-      );
-}
+interleaved = grind (arith, takes_a_line, as_alone)

@@ -109,13 +109,18 @@ store_stays_inside d m =
     let fits = storing_by d (length m) (λ r. length r.bytes ≤ length m) (λ n some. omega arith) (λ h l. l) in
     record { room = length-over bs m fits; fits = fits; later = over_later bs m }
 
-unless : (legal : Bool) → ◌≡◌ {A = ℕ} (if legal then 0 else 1) (if not legal then 1 else 0)
-unless legal = grind arith
-
 pub number_is_first : (d : Device) (c : Call) → number_of ours d c ≡ first_of (rows_of d c)
 number_is_first d c =
-    grind (arith, opened_number, closed_number, received-number, passed-number, unless, fault_number, errors_number,
-    mark_number)
+    grind (
+      arith,
+      opened_number,
+      closed_number,
+      received-number,
+      passed-number,
+      fault_number,
+      errors_number,
+      mark_number,
+    )
 
 pub set_up_number : (w : Wanted) → (ours.set_up w).number ≡ first_of (set_up_rows w)
 set_up_number = set-up-table

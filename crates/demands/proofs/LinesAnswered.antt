@@ -25,8 +25,8 @@ use Rattle.demands.proofs.KeepsRunning.{over_front}
 use Rattle.record.specs.Legal.{is_legal, held_most}
 use Rattle.stream.specs.Machine.{Took, handed_parts, uncut}
 use Rattle.device.proofs.SameCuts.{receives, received_however_cut}
-use Rattle.device.proofs.Outsiders.{IsUnmatched, unmatched_line_refused}
-use Rattle.device.proofs.OutsiderStreams.{first_line, outsider_stream_keeps_own, outsider_stream_keeps_settings}
+use Rattle.device.proofs.Outsiders.{unmatched_line_refused}
+use Rattle.device.proofs.OutsiderStreams.{outsider_stream_keeps_own, outsider_stream_keeps_settings}
 use Rattle.device.proofs.OutsiderStreams.{outsider_stream_refused, connection_at-handed_parts, outsider_stream_fails}
 use Rattle.device.proofs.OutsiderStreams.{outsider_stream_age}
 use Rattle.device.proofs.FirstLines.{first-line_ends, unled_unmatched}
@@ -108,9 +108,20 @@ pub outsider_refused : (d : Device) (p : ℕ) (l more m : List ℕ) (ps : List (
     → uncut ps ≡ l ++ codes "\r" ++ more
     → RefusalOnly ours d p (handed_on ours m p d ps)
 outsider_refused d p l more m ps between plain unled enough all =
-    grind (arith, is_between, append_assoc, IsUnmatched, unled_unmatched, first_line, first-line_ends, handed_alike,
-    outsider_stream_refused, outsider_stream_keeps_settings, outsider_stream_keeps_own, outsider_stream_fails,
-    outsider_stream_age, connection_at-handed_parts)
+    grind (
+      arith,
+      is_between,
+      append_assoc,
+      unled_unmatched,
+      first-line_ends,
+      handed_alike,
+      outsider_stream_refused,
+      outsider_stream_keeps_settings,
+      outsider_stream_keeps_own,
+      outsider_stream_fails,
+      outsider_stream_age,
+      connection_at-handed_parts,
+    )
 
 pub outsider_reads_erra : (d : Device) (p : ℕ) (bs : List ℕ) (room : ℕ) (c : Command) → is_legal d ≡ true
     → reply_room ≤ room → p < places_count

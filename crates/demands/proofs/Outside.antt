@@ -14,7 +14,7 @@ use Rattle.text.proofs.Choices.{if_all}
 use Rattle.record.specs.Limits.{shut, places_count}
 use Rattle.record.specs.Legal.{is_legal}
 use Rattle.record.specs.Record.{closed}
-use Rattle.record.specs.Places.{no_connection, connection_at, is_shut, lowest_shut}
+use Rattle.record.specs.Places.{no_connection, connection_at, is_shut}
 use Rattle.record.specs.Wanted.{Wanted}
 use Rattle.record.specs.declared.types.Connection.{Connection}
 use Rattle.record.specs.declared.types.Own.{Own}
@@ -99,8 +99,7 @@ module _ (password : List ℕ) (p : ℕ) (s : Session) (d : Device) (out : Outsi
 
   then_stands : (c : Call) → IsServed d c → NotMatched (noted_of p s c (gives d c))
       → Standing (noted_of p s c (gives d c)) (connection_left d c p) × KeptIf (is_received_at p c) (own_then d c)
-  then_stands (opens random m) h u =
-      (either_stands (lowest_shut d.connections == p) (greeted_stands random) out.standing, λ z. refl)
+  then_stands (opens random m) h u = grind (arith, either_stands, greeted_stands)
   then_stands (closes q) h u =
       (if_all (Standing s) (q == p) (closed_stands s (answered_so out.standing)) out.standing, λ z. refl)
   then_stands (receives q bs m) h u = bytes_stand q bs m h u

@@ -8,11 +8,10 @@
 use Rattle.std.specs.List.{list_all}
 use Rattle.std.proofs.Common.{ℕ, ◌+◌, ◌≡◌, refl, sym, ap, ◌∙◌, true, false, not, ◌&&◌, List, [], ◌∷◌, ◌++◌}
 use Rattle.std.proofs.Common.{append_assoc, length, take, length-append, subst, append-nil, arith}
-use Rattle.std.proofs.lemmas.Bool.{false≢true, not-true}
+use Rattle.std.proofs.lemmas.Bool.{false≢true}
 use Rattle.std.proofs.Math.Seq.{take-append_seam, take-length}
 use Prim.Native.Char.{code}
-use Rattle.text.specs.Words.{◌is◌}
-use Rattle.text.proofs.Choices.{if_no, both_left, both_right, alike}
+use Rattle.text.proofs.Choices.{both_right, alike}
 use Rattle.words.specs.Bytes.{not_cr, no_cr}
 use Rattle.words.proofs.Characters.{no_cr_each}
 use Rattle.device.specs.Receiving.{is_led_by, Taken, taken_in}
@@ -34,7 +33,7 @@ use Rattle.clock.specs.Second.{times, connection_second}
 use Rattle.clock.proofs.ConnectionsAge.{connection_then}
 use Rattle.stream.specs.declared.Gathered.{Gathered}
 use Rattle.stream.specs.Collecting.{empty_line, collected_all, gathered}
-use Rattle.stream.proofs.UpToTheEnd.{Cut, plain, line, cut}
+use Rattle.stream.proofs.UpToTheEnd.{Cut, cut}
 use Rattle.stream.proofs.GatheredOn.{plain_gathered}
 use Rattle.stream.proofs.CollectedOn.{collected_all-append, collected_whole}
 use Rattle.stream.proofs.LinesCollected.{empty_is_none, gathered-append}
@@ -45,9 +44,7 @@ use Rattle.device.proofs.FirstLines.{is_match-collected_all}
 module _ (more : List ℕ) where
   first_line-append : (l : List ℕ) → list_all not_cr l ≡ true → first_line (l ++ (code "\r" ∷ more)) ≡ l
   first_line-append [] none = refl
-  first_line-append (b ∷ l) none =
-      if_no _ _ (not-true (b is "\r") (both_left (not_cr b) (list_all not_cr l) none))
-      ∙ ap (λ (k : List ℕ). b ∷ k) (first_line-append l (both_right (not_cr b) (list_all not_cr l) none))
+  first_line-append (b ∷ l) none = grind (arith, first_line-append l (both_right (not_cr b) (list_all not_cr l) none))
 
   cr_inside : (l : List ℕ) → list_all not_cr (l ++ (code "\r" ∷ more)) ≡ true → ⊥
   cr_inside [] e = false≢true e
@@ -94,7 +91,7 @@ pub closed_stands : (s : Session) → RefusalAtMost s.replied → Standing s clo
 closed_stands s a = is_closed (ap (λ (k : Connection). k.phase) closed_spelt) a
 
 older_stands : (s : Session) (c : Connection) (age : ℕ) → Standing s c → Standing s (aged c age)
-older_stands s c age known3 = grind arith
+older_stands s c age stands = grind arith
 
 pub stands_later : (n : ℕ) (s : Session) (c : Connection) → Standing s c → Standing s (times connection_second n c)
 stands_later n s c k = connection_then (Standing s) (closed_stands s (answered_so k)) (older_stands s) n c k
@@ -137,18 +134,37 @@ module _ (settings : Settings) (o : Own) (c : Connection) (s : Session) where
     -- no CR: all is collected
     hears_plain : (bs : List ℕ) → list_all not_cr bs ≡ true → Heard o s bs (taken_in settings o c bs)
     hears_plain bs p =
-        grind (arith, by_room, plain_gathered, line, taken_part, keeping_line_lem, take-length, list_all-append,
-        more_is, append-nil)
+        grind (
+          arith,
+          by_room,
+          plain_gathered,
+          taken_part,
+          keeping_line_lem,
+          take-length,
+          list_all-append,
+          more_is,
+          append-nil,
+        )
 
     -- CR: the first line is the session's bytes and these
     hears_line : (xs rest : List ℕ) → list_all not_cr xs ≡ true
         → let bs = xs ++ (code "\r" ∷ rest) in Hears bs (taken_in settings o c bs)
     hears_line xs rest p =
-        grind (arith, list_all-append, by_room, gathered-append, line, taken-line, matched_first, line_taken, more_is,
-        is_match-collected_all, mismatch_refused)
+        grind (
+          arith,
+          list_all-append,
+          by_room,
+          gathered-append,
+          taken-line,
+          matched_first,
+          line_taken,
+          more_is,
+          is_match-collected_all,
+          mismatch_refused,
+        )
 
     hears_awaiting : (bs : List ℕ) → Cut (code "\r") bs → Hears bs (taken_in settings o c bs)
-    hears_awaiting bs known1 = grind (arith, plain, hears_plain, line, hears_line)
+    hears_awaiting bs parts = grind (arith, hears_plain, hears_line)
 
   pub stands_on : (bs : List ℕ) → (c.phase ≡ shut → ⊥) → Standing s c → Hears bs (taken_in settings o c bs)
   stands_on bs live (is_closed p a) = absurd (live p)

@@ -3,7 +3,7 @@
 -- every moment of them: what came before is two such runs, on any board.
 -- Assumes nothing.
 use Rattle.std.proofs.Common.{arith}
-use Rattle.std.proofs.Common.{ℕ, ◌≡◌, refl, ◌∙◌, Bool, true, false, not, List, ◌∷◌, ◌==◌, eqb-true, eq-eqb, zero}
+use Rattle.std.proofs.Common.{ℕ, ◌≡◌, refl, Bool, true, false, not, List, ◌∷◌, ◌==◌, eqb-true, eq-eqb, zero}
 use Rattle.std.proofs.Common.{suc, [], take}
 use Rattle.std.proofs.lemmas.Bool.{false≢true, eqb-false}
 use Rattle.text.proofs.Choices.{both_left, both, both_right}
@@ -11,7 +11,7 @@ use Rattle.std.specs.Prelude.{if◌then◌else◌}
 use Rattle.record.specs.declared.types.Device.{Device}
 use Rattle.device.specs.Receiving.{set_up_password}
 use Rattle.ours.specs.Board.{ours, Board}
-use Rattle.demands.specs.Calls.{Call, closes, receives, after, Gave, gave_by}
+use Rattle.demands.specs.Calls.{Call, receives, after, Gave, gave_by}
 use Rattle.demands.specs.Outsider.{Session, unopened, noted, is_matched, IsNeverMatched}
 use Rattle.demands.specs.Unheard.{Alike, same_call, other_bytes, AllAlike, no_calls, one_more, opens_none, phase_at}
 use Rattle.demands.specs.Unheard.{is_opening, QuietOnceApart, is_at_place, SameElsewhere, HeardAlike}
@@ -29,18 +29,7 @@ use Rattle.device.specs.Calls.{has_password}
 his_call : (password : List ℕ) (p : ℕ) (s : Session) (d : Device) → Outside password p s d → (c : Call)
     → is_at_place p c ≡ true → is_matched password (noted ours p d s c) ≡ false
     → SameElsewhere ours p d (after ours d c)
-his_call password p s d out (closes q) at u = record {
-  device = record { settings = settings_stay d (closes q); own = own_left d (closes q) refl };
-  others = λ k away. others_untouched d k (closes q) (λ z. away (z ∙ eqb-true q p at));
-}
-his_call password p s d out (receives q bs m) at u = record {
-  device = record {
-    settings = settings_stay d (receives q bs m);
-    own = received_keeps password p s d out (receives q bs m) u at;
-  };
-  others = λ k away. others_untouched d k (receives q bs m) (λ z. away (z ∙ eqb-true q p at));
-}
-his_call password p s d out c at u = absurd (false≢true at)
+his_call password p s d h c g e = grind (arith, settings_stay, own_left, others_untouched, eqb-true, received_keeps)
 
 module _ (password : List ℕ) (p : ℕ) (s t : Session) (d e : Device) (same : SameElsewhere ours p d e)
     (out-d : Outside password p s d) (out-e : Outside password p t e) where
@@ -99,14 +88,7 @@ module _ (password : List ℕ) (p : ℕ) where
       record { got = listed (is_at_place p a) (is_at_place p b) one.at_once one.got rest.got; left = rest.left }
 
 pub ours_unheard : Unheard ours
-ours_unheard = record {
-  outsider_unheard = λ w p xs ys accepted secured alike never never-too quiet.
-      let d = (ours.set_up w).device in
-      let out = fresh_outside w p accepted secured in
-      let itself : SameElsewhere ours p d d
-      = record { device = record { settings = refl; own = refl }; others = λ q away. refl } in
-      runs_alike (set_up_password d.settings) p alike unopened unopened d d itself out out never never-too quiet;
-}
+ours_unheard = grind (arith, fresh_outside, runs_alike)
 
 alike_before : {p : ℕ} {xs ys : List Call} (n : ℕ) → AllAlike p xs ys → AllAlike p (take n xs) (take n ys)
 alike_before zero all = no_calls
