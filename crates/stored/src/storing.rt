@@ -84,8 +84,8 @@ fn put_form(d: &Device, out: &mut [u8]) -> usize
     writer.count()
 }
 
-/// The form of a record, from the start of lent memory; its length. Refused, in that order: `NotLegal`, and `NoRoom` for
-/// memory shorter than the form; then nothing is written.
+/// The form of a record, from the start of lent memory; its length. Refused, in that order: `NotLegal`, and `NoRoom`
+/// for memory shorter than the form; then nothing is written.
 #[tactic(auto, using(crate::proofs::FormMost::stored_fits), unfolding(crate::specs::Form::stored_by))]
 pub fn store(d: &Device, out: &mut [u8]) -> Result<usize, Refusal>
     ensures told { storing_told result ≡ told_stored (stored_by d.now (length out.old)) }
