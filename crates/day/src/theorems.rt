@@ -11,7 +11,7 @@ ghost use Rattle.day.specs.declared.plan.PlanError.{PlanError};
 
 use crate::check::{CheckError, check_day};
 use crate::plan::{Plan, PlanError, plan_day};
-use crate::{Job, Placement, Rig};
+use crate::{DAY_END, JOBS_MOST, Job, Placement, RIGS_MOST, Rig, WARM_OR_COOL_MOST};
 
 /// What the checker tells holds of the plan, and what holds it tells: so exactly one verdict holds.
 pub fn the_verdict_told_holds(plan: &[Placement], rigs: &[Rig]) -> Result<(), CheckError>
@@ -37,4 +37,12 @@ pub fn the_plan_answered_holds(jobs: &[Job], rigs: &[Rig]) -> Result<Plan, PlanE
 pub fn a_plan_is_accepted()
     ensures { (jobs : List Job) (rigs : List Rig) (plan : List Placement)
         → PlanHolds jobs rigs (Ok plan) → VerdictHolds rigs plan (Ok tt) }
+{}
+
+/// The limits of a day in numbers (RULES, Cutting day).
+pub fn a_day_has_these_limits()
+    ensures jobs { JOBS_MOST ≡ 64 }
+    ensures rigs { RIGS_MOST ≡ 8 }
+    ensures seconds { DAY_END ≡ 86400 }
+    ensures warm_or_cool { WARM_OR_COOL_MOST ≡ 600 }
 {}

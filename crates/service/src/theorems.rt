@@ -6,7 +6,7 @@ ghost use Rattle.service.specs.Differences.{difference_of, IsBackwards};
 ghost use Rattle.service.specs.declared.Reading.{Reading};
 ghost use Rattle.service.specs.declared.CompareError.{CompareError};
 
-use crate::{CompareError, Reading, compare};
+use crate::{CompareError, Reading, TABLE_MOST, compare};
 
 /// What is told of readings holds, and what holds is told: the place is the lowest one where the lamp went backwards,
 /// and none is told exactly where it went backwards nowhere.
@@ -32,4 +32,9 @@ pub fn one_result()
 pub fn a_difference_is_exact()
     ensures sum { (r : Reading) → pos r.earlier +ℤ difference_of r ≡ pos r.later }
     ensures sign { (r : Reading) → (difference_of r <ℤ pos 0) ↔ IsBackwards r }
+{}
+
+/// The limit of a table in numbers (RULES, Service).
+pub fn a_table_has_this_limit()
+    ensures { TABLE_MOST ≡ 64 }
 {}
