@@ -89,11 +89,12 @@ module _ (w : Wanted) where
     contents_of ms = contents_marked (map mark_byte ms) ∙ (λ j. started_if (are_marks-map n ms j) (marks_back ms j))
 
     -- as the code tests them on the device that was set up
-    pub contents_tested : {d : Device} → d ≡ started w → (s : List ℕ) {t : Bool} → t ≡ are_marks d.settings.lamp_count s
-        → contents (saying s) ≡ started_if t (map is_marked s)
-    contents_tested made s e =
+    pub contents_tested : {d : Device} → d ≡ started w → {m s : List ℕ} → m ≡ s → {t : Bool}
+        → t ≡ are_marks d.settings.lamp_count s → contents (saying m) ≡ started_if t (map is_marked s)
+    contents_tested made {m} {s} same e =
         let count = ap (λ (x : Device). are_marks x.settings.lamp_count s) (made ∙ started_parts w) in
-        contents_marked s ∙ ap (λ (t : Bool). started_if t (map is_marked s)) (sym (e ∙ count))
+        ap (λ (l : List ℕ). contents (saying l)) same ∙ contents_marked s
+        ∙ ap (λ (t : Bool). started_if t (map is_marked s)) (sym (e ∙ count))
 
     -- in the version that has none, each of its lamps is enabled
     pub contents_unmarked : contents (saying (replicate n 1)) ≡ accepted (started w)

@@ -9,7 +9,6 @@ pub mod FormsLoad
 pub mod StoredLoads
 pub mod Results
 pub mod OneForm
-pub mod OneOutcome
 pub mod Writing
 pub mod StoringTold
 pub mod FormMost

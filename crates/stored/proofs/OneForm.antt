@@ -39,12 +39,11 @@ module _ (s : List ℕ) (e : (loaded s).number ≡ 0) where
   settings_stored : stored_of d ≡ settings_in s
   settings_stored = ap stored_of gave ∙ started_stored (settings_in s) told.contents
 
-  marks_many : length (marks_read s) ≡ length (settings_in s).lamps
-  marks_many = length-map (mark_bytes_in s) is_marked ∙ marks.many
-
   marks_stored_lem : marks_stored d ≡ marks_read s
   marks_stored_lem =
-      ap marks_stored gave ∙ marks_stored-started_with (settings_in s) told.contents (marks_read s) marks_many
+      ap marks_stored gave
+      ∙ marks_stored-started_with (settings_in s) told.contents (marks_read s)
+      (length-map (mark_bytes_in s) is_marked ∙ marks.many)
 
   -- the bytes are their version's form of what stands in them
   version_again : Bytes s → version_form (s at 0) (settings_in s) (marks_read s) ≡ s

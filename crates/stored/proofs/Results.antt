@@ -1,10 +1,10 @@
 -- What loading gives (RULES, Stored form): the number is that of the first row that applies, for every byte string; a
 -- refused load gives the blank record; a load that is accepted is a set-up with the marks that the form has (RULES,
--- Lamps), and legal.
+-- Lamps), and legal; and what is told of its result is all of it.
 --   IsAccepted s      an accepted load: the version is known, the form is all that stands there, the contents are legal
 -- Assumes nothing.
-use Rattle.std.proofs.Common.{ℕ, ◌≡◌, Bool, true, false, ◌==◌, List, [], length, Option, Some, None, refl, ap, ◌∙◌}
-use Rattle.std.proofs.Common.{arith}
+use Rattle.std.proofs.Common.{ℕ, ◌≡◌, Bool, true, false, ◌==◌, List, [], length, Option, Some, None, Result, Ok, Err}
+use Rattle.std.proofs.Common.{refl, sym, ap, ◌∙◌, arith}
 use Rattle.text.specs.Rows.{first_of}
 use Rattle.text.proofs.ByRows.{rows_number}
 use Rattle.words.specs.Bytes.{◌at◌}
@@ -21,6 +21,8 @@ use Rattle.record.proofs.HostKept.{is_legal-with_own}
 use Rattle.record.proofs.Started.{started_parts, started_legal}
 use Rattle.stored.specs.Form.{form_version}
 use Rattle.stored.specs.Reading.{FormSaid, form}
+use Rattle.stored.specs.Told.{loading_told}
+use Rattle.stored.specs.declared.error.LoadError.{LoadError}
 use Rattle.stored.specs.Loading.{is_other_version, ends_early, leaves_more, said, said_in, settings_in, mark_bytes_in}
 use Rattle.stored.specs.Loading.{marks_read, mark_room, are_marks, started_with, load_rows, loaded}
 use Rattle.stored.proofs.Marks.{marks_are}
@@ -81,3 +83,14 @@ module _ (s : List ℕ) where
   -- versions 1 and 2 are of Class 1 (RULES, Class 2)
   pub older_is_class_1 : ((s at 0) == form_version) ≡ false → (loaded s).number ≡ 0 → (settings_in s).class ≡ 1
   older_is_class_1 older e = (form_read s (accepted_told e).read).class older
+
+-- what loading tells of its result is all of it
+told_apart : (r s : Result Device LoadError) → loading_told r ≡ loading_told s → r ≡ s
+told_apart (Ok d) (Ok e) h = grind (arith, h)
+told_apart (Ok d) (Err e) h = grind (arith, h)
+told_apart (Err d) (Ok e) h = grind (arith, h)
+told_apart (Err d) (Err e) h = grind (arith, h)
+
+pub one_outcome : (bs : List ℕ) (r s : Result Device LoadError) → loading_told r ≡ loaded bs
+    → loading_told s ≡ loaded bs → r ≡ s
+one_outcome bs r s e f = told_apart r s (e ∙ sym f)

@@ -60,7 +60,7 @@ pub fn a_form_is_short()
 {}
 
 /// Two results that meet the promise of a call are equal, lent memory included.
-#[tactic(auto, using(crate::proofs::OneOutcome::one_outcome))]
+#[tactic(auto, using(crate::proofs::Results::one_outcome))]
 pub fn one_result()
     ensures storing { (d : Device) (out : List ℕ) (r s : StoreTold) (m n : List ℕ)
         → let w = stored_by d (length out) in

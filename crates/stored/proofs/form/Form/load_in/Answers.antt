@@ -1,5 +1,5 @@
 -- What set-up gave, with the marks, is what the contents give.
-use Rattle.std.proofs.Common.{ℕ, ◌/◌, List, length, map, sym, ap, ◌∙◌}
+use Rattle.std.proofs.Common.{◌/◌, length, map, sym, ap, ◌∙◌}
 use Rattle.text.proofs.Choices.{if_yes, if_no}
 use Rattle.record.specs.Updates.{with_own, with_marks}
 use Rattle.record.specs.Given.{accepted}
@@ -7,9 +7,9 @@ use Rattle.record.specs.declared.types.Device.{Device}
 use Rattle.record.proofs.FactsTold.{legal_is}
 use Rattle.record.proofs.Started.{started_legal}
 use Rattle.record.specs.Legal.{is_legal}
-use Rattle.stored.specs.Loading.{is_marked, mark_room, contents}
+use Rattle.stored.specs.Loading.{is_marked, mark_room}
 use Rattle.stored.specs.Views.{marks_said, said_of}
-use Rattle.stored.proofs.Cases.{saying, contents_tested}
+use Rattle.stored.proofs.Cases.{contents_tested}
 use Rattle.stored.proofs.form.Form.load_in.Goals as goal
 
 pub enable-requires : goal.enable-requires
@@ -20,22 +20,18 @@ enable-requires c =
 pub returns-then-not-enable : goal.returns-then-not-enable
 returns-then-not-enable c =
     let f = c.args.self.now in
-    let w = (said_of f).settings in
     let said = ap (marks_said (length f.lamps.now / 4)) c.in-Some.is in
-    sym
-    (ap (λ (s : List ℕ). contents (saying w s)) said
-    ∙ contents_tested w (sym c.in-Ok.ensures.taken) c.in-Ok.ensures.made c.in-Some.marks.now c.enable.ensures.value
-    ∙ if_no _ _ c.if-not-enable.true)
+    let set = c.in-Ok.ensures in
+    let tested = contents_tested (said_of f).settings (sym set.taken) set.made said c.enable.ensures.value in
+    sym (tested ∙ if_no _ _ c.if-not-enable.true)
 
 pub returns : goal.returns
 returns c =
     let f = c.args.self.now in
-    let w = (said_of f).settings in
     let said = ap (marks_said (length f.lamps.now / 4)) c.in-Some.is in
+    let set = c.in-Ok.ensures in
+    let tested = contents_tested (said_of f).settings (sym set.taken) set.made said c.enable.ensures.value in
     ap accepted (c.enable.ensures.device c.if-not-enable.false)
     ∙ ap (λ (d : Device). accepted (with_own d (with_marks d.own (mark_room (map is_marked c.in-Some.marks.now)))))
-    c.in-Ok.ensures.made
-    ∙ sym
-    (ap (λ (s : List ℕ). contents (saying w s)) said
-    ∙ contents_tested w (sym c.in-Ok.ensures.taken) c.in-Ok.ensures.made c.in-Some.marks.now c.enable.ensures.value
-    ∙ if_yes _ _ c.if-not-enable.false)
+    set.made
+    ∙ sym (tested ∙ if_yes _ _ c.if-not-enable.false)

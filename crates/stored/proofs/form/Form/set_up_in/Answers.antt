@@ -17,9 +17,9 @@ returns c =
     ∙ ap (take n) c.seconds_of-seconds.ensures
     ∙ room_read n f.lamps.now in
     let e = c.in-Some.ensures.lent in
-    let set = set_up_sets (said_of f).settings c.set_up_in.result c.set_up_in.new.device
+    assumption
+    (set_up_sets (said_of f).settings c.set_up_in.result c.set_up_in.new.device
     (c.set_up_in.ensures.made
     ∙ ap set_up
     (λ j. wanted_in (e j).class f.name.now f.maker.now f.model.now f.other.now f.password.now f.inputs.now (lamps j)
-    f.warm f.cool (e j).serial (e j).version (e j).names)) in
-    record { taken = set.taken; made = set.made }
+    f.warm f.cool (e j).serial (e j).version (e j).names)))
