@@ -1,7 +1,7 @@
 -- The calls by their cases: what each gives by the tests that decide it, and what holds of a result because it holds in
 -- every case.
 -- Assumes nothing.
-use Rattle.std.proofs.Common.{ℕ, ◌<◌, ◌≡◌, sym, ◌∙◌, Bool, true, false, not, List, length, set, arith}
+use Rattle.std.proofs.Common.{ℕ, ◌<◌, ◌≡◌, Bool, true, false, List, length, set, arith}
 use Rattle.std.specs.Prelude.{Some, None, Result, Ok, Err}
 use Rattle.text.proofs.Choices.{if_by}
 use Rattle.record.specs.Limits.{off}
@@ -68,16 +68,14 @@ module _ (w : Wanted) where
       (λ k l h. set_up_shown k l)
 
   pub checked_refused : (e : SetUpError) → Err e ≡ check_of (set_up w) → Err e ≡ set_up w
-  checked_refused e =
-      set_up_cases (λ r. Err e ≡ check_of r → Err e ≡ r) (λ s f h. cc) (λ k l h. cc) (λ k l h. cc)
+  checked_refused e = grind arith
 
   -- the started device, from its parts
   pub set_up_made : {s : Settings} {o : Own} {cs : List Connection} → is_set_up w ≡ true
       → s ≡ settings_of w → o ≡ start_own w.lamps → cs ≡ all_closed
       → Ok (record { settings = s; own = o; connections = cs }) ≡ set_up w
   unfolding started
-  set_up_made h e f g =
-      (λ j. Ok (record { settings = e j; own = f j; connections = g j })) ∙ sym (set_up_accepted h)
+  set_up_made h e f g = grind (arith, set_up_accepted)
 
   -- what a host is told of it
   pub set_up_by : (P : Given Device → Type 0) → P (refused 3 blank) → P (refused 8 blank)
@@ -101,8 +99,7 @@ module _ (d : Device) where
   pub fault_set_by : (P : Given Device → Type 0) (m : Bool) → P (refused 1 d)
       → (is_legal d ≡ true → P (accepted (with_own d (with_fault d.own m)))) → P (given_by d (fault_set d m))
   unfolding fault_set
-  fault_set_by P m refuse accept =
-      if_by (λ r. P (given_by d r)) (not (is_legal d)) (λ h. refuse) (λ h. accept (grind (arith, h)))
+  fault_set_by P m refuse accept = grind arith
 
   pub errors_set_by : (P : Given Device → Type 0) (ds : List ℕ) → P (refused 1 d) → P (refused 3 d)
       → (is_legal d ≡ true → is_error_list ds ≡ true → P (accepted (with_own d (with_errors d.own ds))))

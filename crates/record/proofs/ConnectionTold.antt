@@ -52,8 +52,7 @@ held_most_room phase = grind arith
 module _ (phase n : ℕ) where
   pub held_within : (mark : Bool) → is_held phase mark n ≡ true → n ≤ held_most phase
   unfolding is_held
-  held_within true h = grind (arith, h)
-  held_within false h = grind (arith, h)
+  held_within mark h = grind arith
 
   pub marked_none : is_held phase true n ≡ true → n ≡ 0
   unfolding is_held

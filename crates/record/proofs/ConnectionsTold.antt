@@ -1,9 +1,10 @@
 -- The connections of a legal record: as many as there are places, each legal by itself; what is put in a place stands
 -- there, and list_all other place is as it was (RULES, Places).
 -- Assumes nothing.
+use Rattle.std.proofs.lemmas.Grind.{common_steps}
 use Rattle.std.specs.List.{list_all}
 use Rattle.std.proofs.Common.{ℕ, zero, suc, ◌<◌, ◌≡◌, refl, Bool, true, List, [], ◌∷◌, arith, length}
-use Rattle.std.proofs.Common.{slice_index_or, set, replicate, length-set, get_or-set_same, get_or-set_other, set-set}
+use Rattle.std.proofs.Common.{slice_index_or, set, length-set, get_or-set_same, get_or-set_other, set-set}
 use Rattle.std.proofs.lemmas.List.{set-get_or}
 use Rattle.text.proofs.Choices.{both}
 use Rattle.record.specs.Limits.{places_count}
@@ -38,12 +39,7 @@ pub all_closed_legal : is_connections all_closed ≡ true
 all_closed_legal = grind (arith, connections_shown, both, closed_legal)
 
 pub all_closed_at : (p : ℕ) → p < places_count → slice_index_or all_closed p no_connection ≡ closed
-all_closed_at p there = replicated places_count p there
-  where
-    replicated : (n k : ℕ) → k < n → slice_index_or (replicate n closed) k no_connection ≡ closed
-    replicated zero k h = absurd (omega arith)
-    replicated (suc n) zero h = refl
-    replicated (suc n) (suc k) h = replicated n k (omega arith)
+all_closed_at p there = grind arith
 
 -- a device with one place changed
 module _ (d : Device) (long : length d.connections ≡ places_count) (p : ℕ) (there : p < places_count) where
@@ -57,21 +53,11 @@ placed_elsewhere d o p c q other = get_or-set_other d.connections p q c no_conne
 -- what holds of the connection that was put in, and of what stood at a place, holds of what stands there now
 pub placed_either : (P : Connection → Type 0) (d : Device) (o : Own) (p : ℕ) (c : Connection) (q : ℕ) → P c
     → P (connection_at d q) → P (connection_at (with_place d o p c) q)
-placed_either P d o p c q new old = either d.connections p q old
-  where
-    either : (cs : List Connection) (i k : ℕ) → P (slice_index_or cs k no_connection) →
-        P (slice_index_or (set cs i c) k no_connection)
-    either [] i k h = h
-    either (x ∷ cs) zero zero h = new
-    either (x ∷ cs) zero (suc k) h = h
-    either (x ∷ cs) (suc i) zero h = h
-    either (x ∷ cs) (suc i) (suc k) h = either cs i k h
+placed_either P d o p c q new old = grind (arith, common_steps)
 
 pub with_place-with_place : (d : Device) (o : Own) (p : ℕ) (c : Connection) (u : Own) (k : Connection)
     → with_place (with_place d o p c) u p k ≡ with_place d u p k
-with_place-with_place d o p c u k =
-    (λ i. record { settings = d.settings; own = u; connections = set-set d.connections p c k i })
+with_place-with_place d o p c u k = grind (arith, set-set)
 
 pub with_place-connection_at : (d : Device) (p : ℕ) → with_place d d.own p (connection_at d p) ≡ d
-with_place-connection_at d p =
-    (λ i. record { settings = d.settings; own = d.own; connections = set-get_or d.connections p no_connection i })
+with_place-connection_at d p = grind (arith, set-get_or)

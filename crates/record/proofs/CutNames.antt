@@ -1,7 +1,7 @@
 -- Names that are lent one after the other, each of its length (RULES, Class 2).
 --   CutTo ns s at i      a loop has passed i names, to the place `at`
 -- Assumes nothing.
-use Rattle.std.proofs.Common.{ℕ, suc, ◌+◌, ◌≤◌, ◌<◌, ◌≡◌, refl, ap, ◌∙◌, Bool, true, ◌&&◌, List, [], ◌∷◌}
+use Rattle.std.proofs.Common.{ℕ, suc, ◌+◌, ◌≤◌, ◌<◌, ◌≡◌, refl, ap, Bool, true, ◌&&◌, List, [], ◌∷◌}
 use Rattle.std.proofs.Common.{arith, add-one, length, slice_index_or, take, drop, drop_of_length-le}
 use Rattle.std.proofs.Common.{drop-cons, drop-drop, ◌==◌}
 use Rattle.std.specs.List.{list_all}
@@ -15,10 +15,7 @@ use Rattle.record.proofs.Rules.{names_many}
 module _ (ns : List (List ℕ)) {i : ℕ} {ok : Bool} (p : Gathered is_input_name ns i ok) where
   pub one_gathered : {x : Bool} → i < length ns → x ≡ is_input_name (slice_index_or ns i [])
       → Gathered is_input_name ns (i + 1) (ok && x)
-  one_gathered l e = record {
-    inside = omega arith;
-    rest = rw add-one (grind (arith, p.rest, ap (list_all is_input_name) (drop-cons ns i [] l), e));
-  }
+  one_gathered l e = grind (arith, drop-cons)
 
   pub all_gathered : length ns ≤ i → ok ≡ list_all is_input_name ns
   all_gathered l = grind (arith, p.rest, ap (list_all is_input_name) (drop_of_length-le ns {i = i} l))
@@ -63,8 +60,7 @@ module _ (ns s : List ℕ) where
       total_next = omega (arith, p.sum, ap total_of next)
 
       cut : drop i (cut_by ns s) ≡ take n (drop at s) ∷ cut_by (drop (i + 1) ns) (drop (at + n) s)
-      cut = p.rest ∙ ap (λ (l : List ℕ). cut_by l (drop at s)) next
-          ∙ ap (λ (r : List ℕ). take n (drop at s) ∷ cut_by (drop (i + 1) ns) r) (drop-drop n at s)
+      cut = grind (arith, next, drop-drop)
 
       pub name_here : slice_index_or (cut_by ns s) i [] ≡ take n (drop at s)
       name_here = cc (here, cut)
@@ -78,9 +74,7 @@ module _ (ns s : List ℕ) where
     pub all_named : {ok : Bool} (count : ℕ) → Gathered is_input_name (cut_by ns s) i ok → length ns ≤ i → at ≡ length s
         → (length ns == count && ok) ≡ are_names count (names_in ns s)
     unfolding are_names
-    all_named count g end e =
-        let all = all_gathered (cut_by ns s) g (omega (arith, length-cut_by ns s)) in
-        grind (arith, names_matched (all_cut end ∙ e), length-cut_by ns s, all)
+    all_named count g end e = grind (arith, all_gathered, length-cut_by, all_cut)
 
 -- where they are the names of so many inputs, each stands in the bytes
 module _ (ns s : List ℕ) {n i : ℕ} (legal : are_names n (names_in ns s) ≡ true) (more : i < n) where

@@ -1,6 +1,6 @@
 -- The tests of legality say the facts.
 -- Assumes nothing.
-use Rattle.std.proofs.Common.{◌≡◌, ℕ, arith, Bool, IsTrue, List, length, take, ◌↔◌}
+use Rattle.std.proofs.Common.{ℕ, arith, Bool, IsTrue, List, ◌↔◌}
 use Rattle.std.proofs.Math.Seq.{length-take-le}
 use Rattle.std.specs.Prelude.{All}
 use Rattle.std.specs.List.{list_all}
@@ -42,18 +42,7 @@ names_is n ns = uses_told (fills_name_room 0) listed_most (list_all (fills_name_
 password_fills : (s : List ℕ) (n : ℕ) → IsTrue (fills_room text_room is_set_up_password s n)
     ↔ (Fills text_room is_password s n × IsTrue (is_long_enough n))
 unfolding is_set_up_password
-password_fills s n = (
-  λ h.
-      let t : Fills text_room is_set_up_password s n = fills h in
-      let many : length (take n s) ≡ n = length-take-le n s (omega (arith, t.long, t.inside)) in
-      let follows : IsTrue (is_password (take n s)) = grind (arith, t.follows) in
-      (assumption (t, follows), grind (arith, t.follows, many)),
-  λ p.
-      let t = p.0 in
-      let many : length (take n s) ≡ n = length-take-le n s (omega (arith, t.long, t.inside)) in
-      let follows : IsTrue (is_set_up_password (take n s)) = grind (arith, t.follows, p.1, many) in
-      full (assumption (t, follows)),
-)
+password_fills s n = grind (arith, fills, length-take-le, full)
 
 pub settings_is : (s : Settings) → IsTrue (is_settings s) ↔ IsSettings s
 unfolding is_settings is_rest_of_2
@@ -95,41 +84,11 @@ settings_is s = (
 
 pub own_is : (s : Settings) (o : Own) → IsTrue (is_own s o) ↔ IsOwn s o
 unfolding is_own
-own_is s o = (
-  λ h. record {
-    errors = grind (arith, h);
-    lamps = fills (grind (arith, h));
-    marks = grind (arith, h);
-    power = power_is _ _ _ _ (grind (arith, h));
-    chosen = grind (arith, h);
-    speaker = grind (arith, h);
-    microphone = grind (arith, h);
-  },
-  λ t.
-      grind (
-        arith,
-        t.errors,
-        full t.lamps,
-        t.marks,
-        left_is _ _ _ _ t.power,
-        t.chosen,
-        t.speaker,
-        t.microphone,
-      ),
-)
+own_is s o = grind (arith, fills, power_is, full, left_is)
 
 pub connection_is : (c : Connection) → IsTrue (is_connection c) ↔ IsConnection c
 unfolding is_connection
-connection_is c = (
-  λ h. record {
-    line = fills (grind (arith, h));
-    phase = grind (arith, h);
-    age = grind (arith, h);
-    random = λ e. grind (arith, h, e);
-    held = grind (arith, h);
-  },
-  λ t. grind (arith, full t.line, t.phase, t.age, t.random, t.held),
-)
+connection_is c = grind (arith, fills, full)
 
 pub each_is : (cs : List Connection) → IsTrue (list_all is_connection cs) ↔ All IsConnection cs
 each_is cs = (

@@ -1,7 +1,7 @@
 -- What a room tells of the list in it, and how it is filled.
 -- Assumes nothing.
 use Rattle.std.specs.List.{list_all}
-use Rattle.std.proofs.Common.{ℕ, suc, ◌+◌, ◌-◌, ◌≤◌, ◌<◌, ◌≡◌, refl, sym, ap, subst, ◌∙◌, Bool, true, List, [], ◌∷◌}
+use Rattle.std.proofs.Common.{ℕ, suc, ◌+◌, ◌-◌, ◌≤◌, ◌<◌, ◌≡◌, refl, sym, ap, ◌∙◌, Bool, true, List, [], ◌∷◌}
 use Rattle.std.proofs.Common.{◌++◌, arith, add-one, set, length-set, length, slice_index_or, take, drop, length-append}
 use Rattle.std.proofs.Common.{drop-cons, drop-set-lt, take-suc-set, get_or-drop, length-take-le, eq-eqb, append_assoc}
 use Rattle.std.proofs.Common.{replicate, take_all}
@@ -60,8 +60,7 @@ room_empty room = simp unary_clauses refl
 
 -- nothing is kept in a cleared room, and one element more where there is room for it
 pub nothing_kept : (room : ℕ) (rule : List ℕ → Bool) → rule [] ≡ true → Fills room rule (zeros room) 0
-nothing_kept room rule h =
-    subst (λ (l : List ℕ). Fills room rule l 0) (room_empty room) (filled_kept room rule [] (omega arith) h)
+nothing_kept room rule h = grind (arith, room_empty room, filled_kept room rule [] (omega arith) h)
 
 pub one_more_kept : (room : ℕ) (rule : List ℕ → Bool) (s : List ℕ) (n b : ℕ) → Fills room rule s n → n < room
     → rule (take n s ++ (b ∷ [])) ≡ true → Fills room rule (set s n b) (n + 1)
@@ -100,14 +99,7 @@ module _ {A : Type 0} (x : A) (room : ℕ) (s : List A) where
 
   module _ (fits : length s ≤ room) {l : List A} {i : ℕ} (p : IsCopied l i) where
     pub one_copied : {a : A} → i < length s → a ≡ slice_index_or s i x → IsCopied (set l i a) (i + 1)
-    one_copied {a} h e =
-        let many : length (take i s) ≡ i = length-take-le i s p.inside in
-        let more : take (i + 1) s ≡ take i s ++ (a ∷ []) = rw (add-one, take-suc s i x h, e) refl in
-        record {
-          inside = omega arith;
-          stored = (λ j. set (p.stored j) (sym many j) a) ∙ set-kept x room (take i s) a (omega (arith, many))
-              ∙ ap (kept x room) (sym more);
-        }
+    one_copied {a} h e = grind (arith, length-take-le, take-suc, set-kept)
 
     pub all_copied : length s ≤ i → l ≡ kept x room s
     all_copied h = p.stored ∙ ap (kept x room) (take_all i s h)

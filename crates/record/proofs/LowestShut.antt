@@ -1,10 +1,10 @@
 -- The lowest closed place (RULES, Places): the loop's law, and that what opening takes is closed, with no closed place
 -- below it.
 -- Assumes nothing.
-use Rattle.std.proofs.Common.{ℕ, zero, suc, ◌+◌, ◌≤◌, ◌<◌, ◌≡◌, refl, sym, ap, ◌∙◌, true, false, List, [], ◌∷◌}
-use Rattle.std.proofs.Common.{add-one, arith, length, slice_index_or, drop, drop_of_length-le, drop-cons, ◌==◌}
+use Rattle.std.proofs.Common.{ℕ, zero, suc, ◌+◌, ◌≤◌, ◌<◌, ◌≡◌, refl, ap, ◌∙◌, true, false, List, [], ◌∷◌}
+use Rattle.std.proofs.Common.{arith, length, slice_index_or, drop, drop_of_length-le, drop-cons, ◌==◌}
 use Rattle.std.specs.Prelude.{if◌then◌else◌}
-use Rattle.text.proofs.Choices.{if_yes, if_no}
+use Rattle.text.proofs.Choices.{if_yes}
 use Rattle.record.specs.Limits.{shut}
 use Rattle.record.specs.Places.{no_connection, is_shut, lowest_shut}
 use Rattle.record.specs.declared.types.Connection.{Connection}
@@ -27,17 +27,11 @@ module _ (cs : List Connection) where
     lowest_here e = let last = lowest_shut-drop ∙ if_yes _ _ e in omega (arith, p.rest, last)
 
     pub one_unshut : is_shut c ≡ false → Unshut (i + 1)
-    one_unshut e =
-        let more : lowest_shut (drop i cs) ≡ suc (lowest_shut (drop (suc i) cs)) = lowest_shut-drop ∙ if_no _ _ e in
-        let next : lowest_shut (drop (suc i) cs) ≡ lowest_shut (drop (i + 1) cs)
-        = ap (λ (k : ℕ). lowest_shut (drop k cs)) (sym (add-one i)) in
-        record { inside = omega arith; rest = omega (arith, p.rest, more, next) }
+    one_unshut e = grind (arith, lowest_shut-drop)
 
   pub all_unshut : {i : ℕ} → Unshut i → length cs ≤ i → i ≡ lowest_shut cs
   unfolding lowest_shut
-  all_unshut p end =
-      let none = ap lowest_shut (drop_of_length-le cs end) in
-      omega (arith, p.rest, none)
+  all_unshut p end = grind (arith, drop_of_length-le)
 
 -- what is taken is closed, and no lower place is
 pub lowest_is_shut : (cs : List Connection) → lowest_shut cs < length cs

@@ -1,8 +1,9 @@
 -- What the enabled marks of a legal record tell, and how they are shown (RULES, Lamps): all set at a set-up, and one
 -- replaced.
 -- Assumes nothing.
+use Rattle.std.proofs.lemmas.Grind.{common_steps}
 use Rattle.std.specs.List.{list_all}
-use Rattle.std.proofs.Common.{ℕ, zero, suc, ◌+◌, ◌≤◌, ◌<◌, ◌≡◌, refl, sym, ap, subst, ◌∙◌, Bool, true, false, not, List}
+use Rattle.std.proofs.Common.{ℕ, ◌+◌, ◌≤◌, ◌<◌, ◌≡◌, refl, ap, subst, Bool, true, false, not, List}
 use Rattle.std.proofs.Common.{arith, length, take, drop, set, replicate, length-set, drop-set-lt, length-take-le}
 use Rattle.std.proofs.lemmas.List.{length-replicate, take-replicate, replicate-append-replicate}
 use Rattle.text.specs.Rooms.{kept}
@@ -32,8 +33,7 @@ module _ (n : ℕ) (ms : List Bool) where
 
 one_set : (n : ℕ) → (n ≡ 0 → ⊥) → list_all not (all_marks n) ≡ false
 unfolding all_marks
-one_set zero none = absurd (none refl)
-one_set (suc n) none = refl
+one_set n h = grind arith
 
 -- one mark replaced, where one is left
 pub marked_legal : (n : ℕ) (ms : List Bool) (k : ℕ) (m : Bool) → is_marks n ms ≡ true → k < n
@@ -58,8 +58,4 @@ module _ (n : ℕ) (few : n ≤ lamps_most) where
 
 pub set-all_marks : (k : ℕ) → k < lamps_most → set (all_marks k) k true ≡ all_marks (k + 1)
 unfolding all_marks
-set-all_marks k inside =
-    let many : length (replicate k true) ≡ k = length-replicate k true in
-    ap (λ (j : ℕ). set (kept false lamps_most (replicate k true)) j true) (sym many)
-    ∙ set-kept false lamps_most (replicate k true) true (omega (arith, many))
-    ∙ ap (kept false lamps_most) (replicate-append-replicate k 1 true)
+set-all_marks k inside = grind (arith, common_steps, length-replicate, set-kept, replicate-append-replicate)

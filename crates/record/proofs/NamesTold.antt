@@ -80,5 +80,4 @@ module _ (ns : List (List ℕ)) (n : ℕ) (legal : are_names n ns ≡ true) wher
 
     pub all_names_copied : n ≤ i → list ≡ names_kept ns
     unfolding names_kept
-    all_names_copied l =
-        all_copied blank_name listed_most (map name_of ns) (omega (arith, many)) p (omega (arith, many))
+    all_names_copied l = grind (arith, all_copied, many)

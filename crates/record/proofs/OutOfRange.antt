@@ -3,7 +3,7 @@
 --   Stepped k l      the settings l stand at the places from k on, to the last
 -- Assumes nothing.
 use Rattle.std.specs.List.{list_all}
-use Rattle.std.proofs.Common.{ℕ, suc, ◌-◌, ◌≤◌, ◌<◌, ◌≡◌, refl, sym, ap, subst, ◌∙◌, Bool, true, false, List, [], ◌∷◌}
+use Rattle.std.proofs.Common.{ℕ, suc, ◌-◌, ◌≤◌, ◌<◌, ◌≡◌, refl, sym, ap, ◌∙◌, Bool, true, false, List, [], ◌∷◌}
 use Rattle.std.proofs.Common.{arith, slice_index_or}
 use Rattle.std.specs.Prelude.{not, Option, Some, None}
 use Rattle.text.proofs.Choices.{if_by}
@@ -21,15 +21,13 @@ setting_at n = slice_index_or settings_in_order (n - 1) Name
 
 setting_at-setting_place : (s : Setting) → setting_at (setting_place s) ≡ s
 unfolding setting_at
-setting_at-setting_place Name = refl
-setting_at-setting_place s = refl
+setting_at-setting_place s = grind arith
 
 pub one_setting_place : (s t : Setting) → setting_place s ≡ setting_place t → s ≡ t
 one_setting_place s t e = sym (setting_at-setting_place s) ∙ ap setting_at e ∙ setting_at-setting_place t
 
 pub setting_place_within : (s : Setting) → (1 ≤ setting_place s) × (setting_place s ≤ 12)
-setting_place_within Name = (omega arith, omega arith)
-setting_place_within s = (omega arith, omega arith)
+setting_place_within s = grind arith
 
 abbrev Stepped : ℕ → List Setting → Type 0
 Stepped k [] = k ≡ 13
@@ -53,10 +51,7 @@ module _ (f : Setting → Bool) where
       (λ h. holds_from (suc k) l steps.1 (one_more k s steps.0 (grind (arith, h)) known))
 
   one_holds : (m n : Option Setting) → SettingHolds f m → SettingHolds f n → m ≡ n
-  one_holds None None p q = refl
-  one_holds None (Some t) p q = absurd (cc (p t, q.out))
-  one_holds (Some s) None p q = absurd (cc (q s, p.out))
-  one_holds (Some s) (Some t) p q = grind (arith, one_setting_place)
+  one_holds m n h g = grind arith
 
   -- what is told holds
   pub first_holds : SettingHolds f (first_failing f settings_in_order)
@@ -87,8 +82,7 @@ module _ (w : Wanted) where
   in_range_none = none_failing (is_setting_in_range w) settings_in_order
 
   pub in_range_each : is_in_range w ≡ true → (s : Setting) → is_setting_in_range w s ≡ true
-  in_range_each h =
-      subst (SettingHolds (is_setting_in_range w)) (in_range_none h) (first_holds (is_setting_in_range w))
+  in_range_each h = grind (arith, in_range_none)
 
   pub in_range_shown : ((s : Setting) → is_setting_in_range w s ≡ true) → is_in_range w ≡ true
   in_range_shown each = none_in_range (holding_told (is_setting_in_range w) None each)

@@ -1,6 +1,7 @@
 -- What a legal own part says of its error digits and its lamps, by their places.
 -- Assumes nothing.
-use Rattle.std.proofs.Common.{ℕ, ◌≤◌, ◌<◌, ◌≡◌, sym, ap, ◌∙◌, true, List, arith, length, slice_index_or, take}
+use Rattle.std.proofs.lemmas.Grind.{common_steps}
+use Rattle.std.proofs.Common.{ℕ, ◌≤◌, ◌<◌, ◌≡◌, ap, ◌∙◌, true, List, arith, length, slice_index_or, take}
 use Rattle.std.proofs.Common.{get_or-take, length-take-le, leb-true, le-leb}
 use Rattle.text.proofs.Scanning.{list_all_at, list_all_by_place}
 use Rattle.text.proofs.Choices.{both}
@@ -20,12 +21,8 @@ module _ (s : Settings) (o : Own) (t : IsOwn s o) where
       (omega (arith, errors_long _ t.errors)))
 
   pub lamp_at : (k : ℕ) → k < s.lamp_count → slice_index_or o.lamps k 0 ≤ lamp_limit
-  lamp_at k l =
-      let used = take s.lamp_count o.lamps in
-      let n = kept_length lamps_most is_lamps _ _ t.lamps in
-      let within = list_all_at is_lamp used 0 (lamps_within used t.lamps.follows) k (omega (arith, n)) in
-      leb-true (slice_index_or o.lamps k 0) lamp_limit
-      (ap is_lamp (sym (get_or-take s.lamp_count o.lamps k 0 l)) ∙ within)
+  unfolding is_lamps
+  lamp_at k l = grind (arith, common_steps, kept_length, list_all_at, lamps_within, leb-true, get_or-take)
 
 -- lamps are legal by their places
 pub lamps_shown : (l : List ℕ) (n : ℕ) → length l ≡ lamps_most → n ≤ lamps_most

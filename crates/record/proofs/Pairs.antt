@@ -5,9 +5,8 @@
 use Rattle.std.proofs.Common.{ℕ, ◌+◌, ◌*◌, ◌≤◌, ◌<◌, ◌≡◌, refl, sym, ap, ◌∙◌, Bool, true, ◌&&◌, List, [], ◌∷◌}
 use Rattle.std.proofs.Common.{⊎_elim, eq-or-lt_of_le, arith, length, slice_index_or, drop, drop_of_length-le, ◌==◌}
 use Rattle.std.proofs.Common.{eq-eqb, eqb-true, nat_le}
-use Rattle.text.proofs.Choices.{both, both_left, both_right, by_not}
-use Rattle.words.specs.Inputs.{is_input_text}
-use Rattle.record.specs.Rules.{each_pair, is_none, is_new_input, each_named, is_inputs}
+use Rattle.text.proofs.Choices.{both_right, by_not}
+use Rattle.record.specs.Rules.{each_pair, is_new_input, each_named, is_inputs}
 use Rattle.record.proofs.Places.{two_left, one_left}
 use Rattle.record.specs.Limits.{is_class_number, input_room}
 
@@ -49,10 +48,7 @@ module _ (k : ℕ) where
   new_named [] h = refl
   new_named (a ∷ []) h = h
   new_named (a ∷ b ∷ s) h =
-      both
-      (both_left (is_input_text k a b) (is_none a b s)
-      (both_left (is_new_input k a b s) (each_pair (is_new_input k) s) h))
-      (new_named s (both_right (is_new_input k a b s) (each_pair (is_new_input k) s) h))
+      grind (arith, new_named s (both_right (is_new_input k a b s) (each_pair (is_new_input k) s) h))
 
   -- and so that they name inputs may be tested first
   pub inputs_named_first : (s : List ℕ) → is_inputs k s

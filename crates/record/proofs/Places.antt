@@ -23,10 +23,7 @@ module _ (f : ℕ → ℕ → List ℕ → Bool) (s : List ℕ) (h : each_pair f
 
   pub each_pair-drop : (k : ℕ) → 2 * k ≤ length s → each_pair f (drop (2 * k) s) ≡ true
   each_pair-drop zero l = h
-  each_pair-drop (suc k) l =
-      let next : 2 * k + 2 ≡ 2 * suc k = omega arith in
-      let e = here (2 * k) (omega arith) (each_pair-drop k (omega arith)) in
-      ap (λ (i : ℕ). each_pair f (drop i s)) (sym next) ∙ grind (arith, e)
+  each_pair-drop (suc k) l = search (arith, here, here (2 * k) (omega arith) (each_pair-drop k (omega arith)))
 
   pub pair_at : (k : ℕ) → 2 * k + 1 < length s
       → f (slice_index_or s (2 * k) 0) (slice_index_or s (2 * k + 1) 0) (drop (2 * k + 2) s) ≡ true

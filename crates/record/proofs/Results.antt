@@ -3,8 +3,8 @@
 -- where it gives 3 the first that is out of its range, where it gives 8 the password (RULES, Passwords), and none
 -- exactly where it gives 0.
 -- Assumes nothing.
-use Rattle.std.proofs.Common.{ℕ, ◌≡◌, refl, sym, Bool, true, false, not, ◌||◌, List, [], ◌∷◌, arith, length, set, ◌==◌}
-use Rattle.std.specs.Prelude.{Result, Ok, Err, Some, None, if◌then◌else◌}
+use Rattle.std.proofs.Common.{ℕ, ◌≡◌, sym, Bool, true, false, not, ◌||◌, List, [], ◌∷◌, arith, length, set, ◌==◌}
+use Rattle.std.specs.Prelude.{Result, Some, None, if◌then◌else◌}
 use Rattle.text.specs.Rows.{first_of, ◌when◌}
 use Rattle.record.specs.Wanted.{Wanted}
 use Rattle.record.specs.Rules.{is_long_enough, is_error_list}
@@ -20,7 +20,7 @@ use Rattle.record.specs.declared.types.Device.{Device}
 use Rattle.record.specs.declared.types.Setting.TheVariants.{Password}
 use Rattle.record.specs.declared.refusal.Refusal.{Refusal}
 use Rattle.record.proofs.OutOfRange.{some_out}
-use Rattle.record.proofs.Calls.{set_up_cases, set_up_by}
+use Rattle.record.proofs.Calls.{set_up_cases}
 
 module _ (w : Wanted) where
   abbrev out : Bool
@@ -45,8 +45,7 @@ module _ (w : Wanted) where
   set_up_8 e = grind (arith, set_up_number, e)
 
   pub set_up_refusal : ((set_up_given (set_up w)).number ≡ 0 → ⊥) → (set_up_given (set_up w)).device ≡ blank
-  set_up_refusal =
-      set_up_by w (λ r. (r.number ≡ 0 → ⊥) → r.device ≡ blank) (λ n. refl) (λ n. refl) (λ h n. absurd (n refl))
+  set_up_refusal = grind arith
 
   pub none_gives_0 : setting_told (set_up w) ≡ None → (set_up_given (set_up w)).number ≡ 0
   none_gives_0 = grind (arith, set_up_cases)
@@ -84,5 +83,4 @@ module _ (d : Device) where
 
   -- a refused call leaves the record that it was given
   pub refusal_leaves : (r : Result Device Refusal) → (outcome_number r ≡ 0 → ⊥) → left_by d r ≡ d
-  refusal_leaves (Ok e) n = absurd (n refl)
-  refusal_leaves (Err f) n = refl
+  refusal_leaves r h = grind arith

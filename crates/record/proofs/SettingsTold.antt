@@ -3,10 +3,10 @@
 use Rattle.std.proofs.Common.{ℕ, ◌+◌, ◌*◌, ◌≤◌, ◌<◌, ◌≡◌, sym, ◌∙◌, true, List, arith, length}
 use Rattle.std.proofs.Common.{take, get_or-take}
 use Rattle.words.specs.Bytes.{◌at◌}
-use Rattle.words.specs.Texts.{is_info, is_password, info_most, password_most}
+use Rattle.words.specs.Texts.{is_info, password_most}
 use Rattle.words.specs.Inputs.{is_input_text}
 use Rattle.words.proofs.InputsReadBack.{named_widely}
-use Rattle.record.specs.Limits.{text_room, input_room, listed_most, is_class_number}
+use Rattle.record.specs.Limits.{input_room, listed_most, is_class_number}
 use Rattle.record.specs.Rules.{is_inputs}
 use Rattle.record.specs.declared.types.Text.{Text}
 use Rattle.record.specs.declared.types.Settings.{Settings}
@@ -14,7 +14,7 @@ use Rattle.words.proofs.TextsTold.{password_long}
 use Rattle.record.specs.Facts.{IsSettings}
 use Rattle.record.proofs.Kept.{kept_length}
 use Rattle.record.proofs.Rules.{inputs_class, inputs_some}
-use Rattle.record.proofs.Rules.{only_in_2_within, text_wider}
+use Rattle.record.proofs.Rules.{text_wider}
 use Rattle.record.proofs.InputsTold.{input_named, inputs_differ}
 
 -- the bytes of a text
@@ -24,9 +24,7 @@ bytes_of t = take t.len t.bytes
 -- from the settings: the password, the number of inputs, each input
 module _ (s : Settings) (t : IsSettings s) where
   pub password_within : s.password.len ≤ password_most
-  password_within =
-      let long = kept_length text_room is_password _ _ t.password in
-      omega (arith, password_long (bytes_of s.password) t.password.follows)
+  password_within = search (arith, kept_length, password_long)
 
   listed : length (take (2 * s.input_count) s.inputs) ≡ 2 * s.input_count
   listed = kept_length input_room (is_inputs s.class_number) _ _ t.inputs
@@ -54,17 +52,14 @@ module _ (s : Settings) (t : IsSettings s) where
       (omega (arith, listed))
 
   pub input_at : (k : ℕ) → k < s.input_count → is_input_text 2 (s.inputs at (2 * k)) (s.inputs at (2 * k + 1)) ≡ true
-  input_at k l =
-      named_widely s.class_number (s.inputs at (2 * k)) (s.inputs at (2 * k + 1)) (input_of_class k l)
+  input_at k l = search (arith, named_widely, input_of_class)
 
   -- what Class 2 alone has follows its rule in either class, since nothing does
   pub serial_told : is_info (bytes_of s.serial) ≡ true
-  serial_told = text_wider (bytes_of s.serial) _ info_most (only_in_2_within s.class_number info_most)
-      t.serial.follows
+  serial_told = grind (arith, text_wider)
 
   pub version_told : is_info (bytes_of s.version) ≡ true
-  version_told = text_wider (bytes_of s.version) _ info_most (only_in_2_within s.class_number info_most)
-      t.version.follows
+  version_told = grind (arith, text_wider)
 
   pub inputs_apart : (j k : ℕ) → j < k → k < s.input_count → s.inputs at (2 * k) ≡ s.inputs at (2 * j)
       → s.inputs at (2 * k + 1) ≡ s.inputs at (2 * j + 1) → ⊥

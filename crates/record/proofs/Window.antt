@@ -3,7 +3,7 @@
 -- Assumes nothing.
 use Rattle.std.specs.List.{list_all}
 use Rattle.std.proofs.Common.{◌≡◌, ℕ, ◌+◌, ◌-◌, ◌<◌, ◌≤◌, min, List, ◌++◌, length, take, drop}
-use Rattle.std.proofs.Common.{replicate, ◌∙◌, arith, false, not, ◌&&◌, zero, suc, slice_index_or, nat_le}
+use Rattle.std.proofs.Common.{replicate, ◌∙◌, arith, false, not, ◌&&◌, slice_index_or, nat_le}
 use Rattle.std.specs.Prelude.{◌==◌, is_some}
 use Rattle.std.proofs.lemmas.List.{get_or-take, get_or-drop, get_or-replicate, get_or_append_left, length-replicate}
 use Rattle.std.proofs.Math.Seq.{get_or-append_right}
@@ -30,8 +30,7 @@ module _ (n m k : ℕ) (used : n ≤ 128) (room : m ≤ 128) (h : k < m) where
   cut = take ((128 - n + m) - (128 - n)) (drop (128 - n) window)
 
   at : slice_index_or cut k 0 ≡ slice_index_or window (128 - n + k) 0
-  at = get_or-take ((128 - n + m) - (128 - n)) (drop (128 - n) window) k 0 (omega arith)
-      ∙ get_or-drop (128 - n) window k 0
+  at = grind (arith, get_or-take, get_or-drop)
 
   half : length spaces ≡ 128
   half = length-replicate {A = ℕ} 128 0x20
@@ -76,5 +75,4 @@ module _ (room : ℕ) (s : List ℕ) (long : length s ≡ room) where
   some_named n some = grind (arith, used_blank, used_not_blank, used_many, text_longer, length-take-le)
 
   pub no_name : (n : ℕ) → fills_room room (is_text 0) s n ≡ (n == 0 && is_some (used is_zero room s 0))
-  no_name zero = none_named
-  no_name (suc n) = grind (arith, some_named (suc n) (omega arith))
+  no_name n = grind (arith, none_named, some_named)

@@ -1,4 +1,4 @@
-use Rattle.std.proofs.Common.{◌≡◌, ◌+◌, ◌*◌, ◌/◌, ◌<◌, length, arith}
+use Rattle.std.proofs.Common.{◌+◌, ◌*◌, ◌<◌, length, arith}
 use Rattle.words.specs.Inputs.{is_input_text}
 use Rattle.record.specs.Rules.{each_named}
 use Rattle.record.proofs.Pairs.{one_paired, all_paired}
@@ -11,6 +11,4 @@ loop-k-preserved c =
 
 pub returns : goal.returns
 unfolding each_named
-returns c =
-    let end : length c.args.s.now / 2 ≡ c.loop-k.k = omega arith in
-    rw end (all_paired (is_input_text c.args.class) _ c.loop-k.invariant (omega arith))
+returns c = grind (arith, all_paired)

@@ -19,6 +19,4 @@ bounds-seen-k-in-loop-j c =
     (turn_named _ _ c.loop-j.invariant c.requires (omega arith)))
 
 pub loop-j-preserved : goal.loop-j-preserved
-loop-j-preserved c =
-    let names = turn_named _ _ c.loop-j.invariant c.requires (omega arith) in
-    one_backed _ _ c.loop-j.invariant (omega arith) names c.place_of-k.result c.place_of-k.ensures
+loop-j-preserved c = search (arith, turn_named, one_backed)
