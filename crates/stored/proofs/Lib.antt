@@ -1,5 +1,4 @@
 pub mod Fields
-pub mod Seconds
 pub mod TextsRead
 pub mod Marks
 pub mod Grammar
@@ -9,6 +8,5 @@ pub mod StoredLoads
 pub mod Results
 pub mod OneForm
 pub mod Writing
-pub mod StoringTold
 pub mod FormMost
 mod Samples

@@ -2,8 +2,8 @@
 -- they load. So those of the newest, stored again, are the same bytes; those of the old one become the newest form of
 -- the same, each lamp enabled; and no two byte strings of one version load as one record.
 -- Assumes nothing.
-use Rattle.std.proofs.Common.{arith, ℕ, ◌≡◌, sym, ap, ◌∙◌, true, List, [], ◌∷◌, map, append-nil, ◌==◌, length}
-use Rattle.std.proofs.Common.{replicate}
+use Rattle.std.proofs.Common.{ℕ, ◌≡◌, true, ◌==◌, List, [], ◌∷◌, length, map, replicate, sym, ap, ◌∙◌, arith}
+use Rattle.std.proofs.Common.{append-nil}
 use Rattle.std.proofs.lemmas.List.{length-map}
 use Rattle.std.specs.Prelude.{if◌then◌else◌}
 use Rattle.words.specs.Bytes.{◌at◌}
