@@ -22,7 +22,7 @@ use Rattle.stored.specs.Form.{form_version, mark_byte, marks_section, form_of, f
 use Rattle.stored.specs.Form.{texts_bytes, texts_in_class_2, class_part_text, form_with, stored_form}
 use Rattle.stored.proofs.Fields.{seconds_long}
 use Rattle.stored.specs.Loading.{is_marks_of}
-use Rattle.stored.proofs.StoredLoads.{stored_in_range, stored_marks}
+use Rattle.stored.proofs.FormsLoad.{stored_in_range, stored_marks}
 
 pub form_long : (v : ℕ) (marks rest : List ℕ) (w : Wanted)
     → length (form_with v marks rest w)

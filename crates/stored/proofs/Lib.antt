@@ -4,7 +4,6 @@ pub mod Marks
 pub mod Grammar
 pub mod Cases
 pub mod FormsLoad
-pub mod StoredLoads
 pub mod Results
 pub mod OneForm
 pub mod Writing

@@ -1,6 +1,6 @@
 -- What loading and storing give (RULES, Stored form): the number is that of the first row that applies, for every byte
--- string and every record; a refused load gives the blank record, a refused store writes no byte; a load that is accepted
--- is a set-up with the marks that the form has (RULES, Lamps), and legal; and what is told of its result is all of it.
+-- string and every record; a refused load gives the blank record, a refused store writes no byte; an accepted load is a
+-- set-up with the marks that the form has (RULES, Lamps), and legal; and what is told of its result is all of it.
 --   IsAccepted s      an accepted load: the version is known, the form is all that stands there, the contents are legal
 --   StoredTold r      an accepted store: the record is legal, the memory has room, the bytes are the form's
 -- Assumes nothing.
