@@ -13,7 +13,8 @@ use Rattle.pjlink.specs.declared.command.Command.{Command}
 use Rattle.pjlink.proofs.CommandLines.{command_length, length-command_line}
 use Rattle.record.specs.declared.types.Device.{Device}
 use Rattle.stored.specs.Form.{stored_by}
-use Rattle.stored.proofs.StoringTold.{storing_by, refused_store_writes_nothing, storing_number}
+use Rattle.stored.proofs.Results.{storing_by, refused_store_writes_nothing, storing_number, loading_number}
+use Rattle.stored.proofs.Results.{refused_load_blank, accepted_legal}
 use Rattle.device.specs.Receiving.{digest_long}
 use Rattle.device.specs.Calls.{longest_reply, Result, received, opened_by}
 use Rattle.device.proofs.Cases.{received_by, opened_by_lem}
@@ -47,7 +48,6 @@ use Rattle.record.proofs.HostKept.{fault_legal, errors_legal, mark_legal}
 use Rattle.clock.proofs.TimeLegal.{passed_legal}
 use Rattle.device.proofs.Legal.{receiving_legal, opening_legal, closing_legal}
 use Rattle.record.proofs.Started.{blank_illegal, set_up_legal}
-use Rattle.stored.proofs.Results.{loading_number, refused_load_blank, accepted_legal}
 
 module _ (r m : List ℕ) where
   pub over_front : take (length r) (over r m) ≡ r

@@ -17,7 +17,7 @@ use Rattle.record.proofs.Calls.{set_up_accepted, set_up_in_range}
 use Rattle.record.proofs.OutOfRange.{each_in_range}
 use Rattle.record.proofs.Rules.{lamps_few, inputs_class}
 use Rattle.record.proofs.Started.{started_parts}
-use Rattle.stored.proofs.Seconds.{length-seconds_in}
+use Rattle.stored.proofs.Fields.{length-seconds_in}
 use Rattle.stored.specs.Form.{mark_byte}
 use Rattle.stored.specs.Reading.{FormSaid, form}
 use Rattle.stored.specs.Views.{class_said}

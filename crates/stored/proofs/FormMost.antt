@@ -2,7 +2,7 @@
 -- than `form_most`; proofs/Samples has one that is as long.
 -- Assumes nothing.
 use Rattle.std.specs.List.{list_all}
-use Rattle.std.proofs.Common.{ℕ, ◌+◌, ◌*◌, ◌≤◌, ◌≡◌, Bool, true, List, [], ◌∷◌, arith, length, length-append, ◌==◌}
+use Rattle.std.proofs.Common.{ℕ, ◌+◌, ◌*◌, ◌≤◌, ◌≡◌, Bool, true, ◌==◌, List, [], ◌∷◌, length, arith, length-append}
 use Rattle.std.proofs.Common.{eqb-true}
 use Rattle.std.proofs.lemmas.List.{length-map}
 use Rattle.text.proofs.Choices.{both_left}
@@ -20,9 +20,9 @@ use Rattle.record.proofs.FactsTold.{legal_is}
 use Rattle.record.proofs.OutOfRange.{each_in_range}
 use Rattle.stored.specs.Form.{form_version, mark_byte, marks_section, form_of, form_most, stored_of, marks_stored}
 use Rattle.stored.specs.Form.{texts_bytes, texts_in_class_2, class_part_text, form_with, stored_form}
-use Rattle.stored.proofs.Seconds.{seconds_long}
+use Rattle.stored.proofs.Fields.{seconds_long}
 use Rattle.stored.specs.Loading.{is_marks_of}
-use Rattle.stored.proofs.StoredLoads.{stored_in_range, stored_marks}
+use Rattle.stored.proofs.FormsLoad.{stored_in_range, stored_marks}
 
 pub form_long : (v : ℕ) (marks rest : List ℕ) (w : Wanted)
     → length (form_with v marks rest w)

@@ -29,7 +29,7 @@ use Rattle.stored.specs.Reading.{class_part, class_in, marks_of, FormSaid, form}
 use Rattle.stored.proofs.Fields.{if_form, section_counted, IsForm, given_form, form_then, form_as, byte_form}
 use Rattle.stored.proofs.Fields.{section_form, text_form, number_form, texts_form, Begins, begins_then, byte_begins}
 use Rattle.stored.proofs.Fields.{text_begins, inputs_begin, number_begins, texts_begin, reading, ended}
-use Rattle.stored.proofs.Seconds.{length-seconds_in, seconds_back, seconds_long, lamps_begin}
+use Rattle.stored.proofs.Fields.{length-seconds_in, seconds_back, seconds_long, lamps_begin}
 
 abbrev pub marks_part : ℕ → List ℕ → List ℕ
 marks_part v m = if v == old_version then [] else text_section m
@@ -48,12 +48,9 @@ bytes_of v n ms = if v == old_version then replicate n 1 else map mark_byte ms
 marks_form : (v n : ℕ) (ms : List Bool)
     → IsForm (marks_of v n) (bytes_of v n ms) (if v == old_version then [] else marks_section ms)
 unfolding marks_of
-marks_form v n ms = by (v == old_version)
-  where
-    by : (old : Bool) → IsForm (if old then given (replicate n 1) else text)
-        (if old then replicate n 1 else map mark_byte ms) (if old then [] else marks_section ms)
-    by true = given_form (replicate n 1)
-    by false = section_form 1 (length ms) (map mark_byte ms) (omega (arith, length-map ms mark_byte))
+marks_form v n ms =
+    let marks = section_form 1 (length ms) (map mark_byte ms) (omega (arith, length-map ms mark_byte)) in
+    record { again = λ t. grind (arith, marks.again t); cut = λ k l. grind (arith, marks.cut k) }
 
 pub nothing : {A : Type 0} (s : List A) → length s ≤ 0 → s ≡ []
 nothing [] l = refl

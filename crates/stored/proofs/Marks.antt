@@ -2,9 +2,9 @@
 --   AreMarks n bytes      what bytes that are marks of n lamps tell
 -- Assumes nothing.
 use Rattle.std.specs.List.{list_all}
-use Rattle.std.proofs.Common.{ℕ, zero, suc, ◌-◌, ◌≤◌, ◌≡◌, ◌↔◌, IsTrue, refl, sym, ap, ◌∙◌, Bool, true, false, not}
-use Rattle.std.proofs.Common.{List, [], ◌∷◌, ◌++◌, map, arith, length, slice_index_or, take, drop, replicate}
-use Rattle.std.proofs.Common.{length-drop, take-append-drop}
+use Rattle.std.proofs.Common.{ℕ, zero, suc, ◌-◌, ◌≤◌, ◌≡◌, ◌↔◌, IsTrue, Bool, true, false, not, List, [], ◌∷◌, length}
+use Rattle.std.proofs.Common.{map, take, drop, replicate, slice_index_or, refl, sym, ap, ◌∙◌, arith, length-drop}
+use Rattle.std.proofs.Common.{take-append-drop}
 use Rattle.std.proofs.lemmas.Grind.{common_steps}
 use Rattle.std.proofs.lemmas.List.{length-map, length-replicate, take-replicate}
 use Rattle.std.proofs.Math.Seq.{take-append_seam}
@@ -46,11 +46,14 @@ slice_index_or-mark_room ms k = grind (arith, common_steps)
 pub mark_room-take : (n : ℕ) (ms : List Bool) → is_marks n ms ≡ true → n ≤ lamps_most → mark_room (take n ms) ≡ ms
 unfolding mark_room
 mark_room-take n ms legal few =
-    let left : length (drop n ms) ≡ lamps_most - length (take n ms)
-    = omega (arith, length-drop n ms, marks_long n ms legal, front_many n ms legal few) in
-    ap (λ (l : List Bool). take n ms ++ l)
-    (ap (λ (k : ℕ). replicate k false) (sym left) ∙ sym (none_are (drop n ms) (marks_past n ms legal)))
-    ∙ take-append-drop n ms
+    grind (
+      arith,
+      none_are (drop n ms) (marks_past n ms legal),
+      take-append-drop n ms,
+      length-drop n ms,
+      marks_long n ms legal,
+      front_many n ms legal few,
+    )
 
 -- all set
 module _ (n : ℕ) (few : n ≤ lamps_most) where

@@ -2,8 +2,8 @@
 -- they load. So those of the newest, stored again, are the same bytes; those of the old one become the newest form of
 -- the same, each lamp enabled; and no two byte strings of one version load as one record.
 -- Assumes nothing.
-use Rattle.std.proofs.Common.{arith, ℕ, ◌≡◌, sym, ap, ◌∙◌, true, List, [], ◌∷◌, map, append-nil, ◌==◌, length}
-use Rattle.std.proofs.Common.{replicate}
+use Rattle.std.proofs.Common.{ℕ, ◌≡◌, true, ◌==◌, List, [], ◌∷◌, length, map, replicate, sym, ap, ◌∙◌, arith}
+use Rattle.std.proofs.Common.{append-nil}
 use Rattle.std.proofs.lemmas.List.{length-map}
 use Rattle.std.specs.Prelude.{if◌then◌else◌}
 use Rattle.words.specs.Bytes.{◌at◌}
@@ -15,7 +15,7 @@ use Rattle.stored.specs.Form.{old_version, version_form, stored_of, marks_stored
 use Rattle.stored.specs.Loading.{said_in, settings_in, mark_bytes_in, is_marked, marks_read, started_with, loaded}
 use Rattle.stored.proofs.Marks.{AreMarks, marks_are, marks_again, marks_back, map-replicate}
 use Rattle.stored.proofs.Results.{IsAccepted, accepted_told, accepted_set_up}
-use Rattle.stored.proofs.StoredLoads.{started_stored, marks_stored-started_with}
+use Rattle.stored.proofs.FormsLoad.{started_stored, marks_stored-started_with}
 use Rattle.stored.proofs.Fields.{Bytes}
 use Rattle.stored.proofs.Grammar.{ReadAs, formed, form_read}
 

@@ -1,25 +1,26 @@
--- What loading gives (RULES, Stored form): the number is that of the first row that applies, for every byte string; a
--- refused load gives the blank record; a load that is accepted is a set-up with the marks that the form has (RULES,
--- Lamps), and legal; and what is told of its result is all of it.
+-- What loading and storing give (RULES, Stored form): the number is that of the first row that applies, for every byte
+-- string and every record; a refused load gives the blank record, a refused store writes no byte; an accepted load is a
+-- set-up with the marks that the form has (RULES, Lamps), and legal; and what is told of its result is all of it.
 --   IsAccepted s      an accepted load: the version is known, the form is all that stands there, the contents are legal
+--   StoredTold r      an accepted store: the record is legal, the memory has room, the bytes are the form's
 -- Assumes nothing.
-use Rattle.std.proofs.Common.{ℕ, ◌≡◌, Bool, true, false, ◌==◌, List, [], length, Option, Some, None, Result, Ok, Err}
-use Rattle.std.proofs.Common.{refl, sym, ap, ◌∙◌, arith}
+use Rattle.std.proofs.Common.{ℕ, ◌≤◌, ◌≡◌, Bool, true, false, ◌==◌, List, [], length, Option, Some, None, Result, Ok}
+use Rattle.std.proofs.Common.{Err, refl, sym, ap, ◌∙◌, arith, ltb-false}
 use Rattle.text.specs.Rows.{first_of}
-use Rattle.text.proofs.ByRows.{rows_number}
+use Rattle.text.proofs.ByRows.{rows_number, by_rows_lem}
 use Rattle.words.specs.Bytes.{◌at◌}
 use Rattle.record.specs.Wanted.{Wanted}
 use Rattle.record.specs.Rules.{is_marks}
 use Rattle.record.specs.Updates.{with_marks}
 use Rattle.record.specs.Record.{started, blank}
-use Rattle.record.specs.Given.{Given, accepted, refused}
+use Rattle.record.specs.Given.{accepted, refused}
 use Rattle.record.specs.Legal.{is_legal}
 use Rattle.record.specs.SetUp.{is_set_up}
 use Rattle.record.specs.declared.types.Device.{Device}
 use Rattle.record.proofs.LegalTold.{own_of_legal}
 use Rattle.record.proofs.HostKept.{is_legal-with_own}
 use Rattle.record.proofs.Started.{started_parts, started_legal}
-use Rattle.stored.specs.Form.{form_version}
+use Rattle.stored.specs.Form.{form_version, stored_form, StoredAs, nothing_stored, storing_rows, stored_by}
 use Rattle.stored.specs.Reading.{FormSaid, form}
 use Rattle.stored.specs.Told.{loading_told}
 use Rattle.stored.specs.declared.error.LoadError.{LoadError}
@@ -27,6 +28,7 @@ use Rattle.stored.specs.Loading.{is_other_version, ends_early, leaves_more, said
 use Rattle.stored.specs.Loading.{marks_read, mark_room, are_marks, started_with, load_rows, loaded}
 use Rattle.stored.proofs.Marks.{marks_are}
 use Rattle.stored.proofs.Grammar.{nothing, form_read}
+use Rattle.std.proofs.lemmas.Bool.{not-false}
 
 -- a set-up with legal marks is legal
 pub is_legal-started_with : (w : Wanted) (ms : List Bool) → is_set_up w ≡ true
@@ -76,9 +78,8 @@ module _ (s : List ℕ) where
   pub accepted_legal : (loaded s).number ≡ 0 → is_legal (loaded s).device ≡ true
   accepted_legal e =
       let told = accepted_told e in
-      ap (λ (c : Given Device). is_legal c.device) (accepted_set_up e)
-      ∙ is_legal-started_with (settings_in s) (marks_read s) told.contents
-      ((marks_are _ (mark_bytes_in s)).0 told.marks).legal
+      let marks = ((marks_are _ (mark_bytes_in s)).0 told.marks).legal in
+      grind (arith, accepted_set_up e, is_legal-started_with (settings_in s) (marks_read s) told.contents marks)
 
   -- versions 1 and 2 are of Class 1 (RULES, Class 2)
   pub older_is_class_1 : ((s at 0) == form_version) ≡ false → (loaded s).number ≡ 0 → (settings_in s).class ≡ 1
@@ -94,3 +95,34 @@ told_apart (Err d) (Err e) h = grind (arith, h)
 pub one_outcome : (bs : List ℕ) (r s : Result Device LoadError) → loading_told r ≡ loaded bs
     → loading_told s ≡ loaded bs → r ≡ s
 one_outcome bs r s e f = told_apart r s (e ∙ sym f)
+
+-- ---- what storing gives
+
+module _ (d : Device) (room : ℕ) where
+  pub storing_number : (stored_by d room).number ≡ first_of (storing_rows d room)
+  unfolding stored_by
+  storing_number =
+      rows_number nothing_stored (record { number = 0; bytes = stored_form d }) (λ r. r.number) (λ n. refl) refl
+      (storing_rows d room)
+
+  pub record StoredTold (r : StoredAs) : Type 0 where
+    pub legal : is_legal d ≡ true
+    pub fits : length (stored_form d) ≤ room
+    pub form : r.bytes ≡ stored_form d
+
+  pub storing_by : (P : StoredAs → Type 0) → ((n : ℕ) → (n ≡ 0 → ⊥) → P (nothing_stored n))
+      → (is_legal d ≡ true → length (stored_form d) ≤ room
+      → P (record { number = 0; bytes = stored_form d }))
+      → P (stored_by d room)
+  unfolding stored_by
+  storing_by P refuse accept =
+      by_rows_lem nothing_stored (record { number = 0; bytes = stored_form d }) P refuse (storing_rows d room) refl
+      (λ none. accept (not-false (is_legal d) none.0) (ltb-false room (length (stored_form d)) none.1.0))
+
+  pub refused_store_writes_nothing : ((stored_by d room).number ≡ 0 → ⊥) → (stored_by d room).bytes ≡ []
+  unfolding stored_by
+  refused_store_writes_nothing h = grind (arith, h)
+
+  pub stored_told : (stored_by d room).number ≡ 0 → StoredTold (stored_by d room)
+  unfolding stored_by
+  stored_told e = record { legal = grind (arith, e); fits = grind (arith, e); form = grind (arith, e) }

@@ -1,8 +1,8 @@
 -- A stored form of each version, printed by hand from RULES, Stored form, Lamps and Class 2: two lamps, three inputs, a
 -- name in Japanese; stored and loaded by computing, and refused with each number of the reader.
 -- Assumes nothing.
-use Rattle.std.proofs.Common.{ℕ, ◌+◌, ◌-◌, ◌*◌, ◌≡◌, refl, Bool, true, false, List, [], ◌∷◌, ◌++◌, map, length, take}
-use Rattle.std.proofs.Common.{drop, replicate, codes}
+use Rattle.std.proofs.Common.{ℕ, ◌+◌, ◌-◌, ◌*◌, ◌≡◌, Bool, true, false, List, [], ◌∷◌, ◌++◌, length, map, take, drop}
+use Rattle.std.proofs.Common.{replicate, refl, codes}
 use Prim.Native.String.{String}
 use Prim.Native.Char.{code}
 use Rattle.std.specs.Prelude.{if◌then◌else◌}

@@ -52,26 +52,26 @@ module _ {s : List ℕ} {i : ℕ} {rest : List ℕ} (r : TextsRead s i rest) whe
   pub one_read : {t left : List ℕ} → text rest ≡ Some (t, left) → TextsRead s (i + 1) left
   unfolding texts_bytes
   one_read {t} {left} e =
-      let all : s ≡ texts_bytes (ts ++ (t ∷ [])) ++ left
-      = r.passed ∙ ap (λ (l : List ℕ). texts_bytes ts ++ l) (text_spelled e)
-      ∙ sym (append_assoc (texts_bytes ts) (text_section t) left)
-      ∙ ap (λ (l : List ℕ). l ++ left) (sym (turns_snoc text_section ts t)) in
-      let many : length (ts ++ (t ∷ [])) ≡ i + 1 = omega (arith, length-append ts (t ∷ []), counted_many i s) in
-      let back : counted_in (i + 1) s ≡ ts ++ (t ∷ [])
-      = (λ j. counted_in (sym many j) (all j)) ∙ counted_back (ts ++ (t ∷ [])) left in
-      record { passed = all ∙ ap (λ (l : List (List ℕ)). texts_bytes l ++ left) (sym back) }
+      let us = ts ++ (t ∷ []) in
+      let all : s ≡ texts_bytes us ++ left = grind (
+        arith,
+        r.passed,
+        text_spelled e,
+        append_assoc (texts_bytes ts) (text_section t) left,
+        turns_snoc text_section ts t,
+      ) in
+      let many : length us ≡ i + 1 = omega (arith, length-append ts (t ∷ []), counted_many i s) in
+      record { passed = grind (arith, all, many, counted_back us left) }
 
   pub all_read : {n k : ℕ} → i ≡ n → k ≡ length s - length rest
       → texts n s ≡ Some (counted_in n (take k s), rest)
   all_read {n} {k} e f =
       let long : k ≡ length (texts_bytes ts)
       = omega (arith, ap length r.passed, length-append (texts_bytes ts) rest) in
-      let front : take k s ≡ texts_bytes ts
-      = (λ j. take (long j) (r.passed j)) ∙ take-append_seam (texts_bytes ts) rest in
-      let many : n ≡ length ts = omega (arith, counted_many i s) in
+      let front : take k s ≡ texts_bytes ts = grind (arith, long, r.passed, take-append_seam (texts_bytes ts) rest) in
       let back : counted_in n (take k s) ≡ ts
-      = (λ j. counted_in (many j) ((front ∙ sym (append-nil (texts_bytes ts))) j)) ∙ counted_back ts [] in
-      (λ j. texts (many j) (r.passed j)) ∙ (texts_form ts).again rest ∙ (λ j. Some (sym back j, rest))
+      = grind (arith, front, counted_many i s, append-nil (texts_bytes ts), counted_back ts []) in
+      grind (arith, back, counted_many i s, r.passed, (texts_form ts).again rest)
 
   pub none_left : {n : ℕ} → i < n → text rest ≡ None → texts n s ≡ None
   none_left {n} l e = ap (texts n) r.passed ∙ texts_cut n ts rest (omega (arith, counted_many i s)) e

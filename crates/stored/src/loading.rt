@@ -35,7 +35,7 @@ fn is_other_version(bytes: &[u8]) -> bool
 }
 
 // The seconds of lamps, four bytes each, in their room.
-#[tactic(auto, using(crate::proofs::Seconds::seconds_copied))]
+#[tactic(auto, using(crate::proofs::Fields::seconds_copied))]
 fn seconds_of(bytes: &[u8]) -> [u32; LAMPS_MOST]
     requires { length bytes.now / 4 ≤ lamps_most }
     ensures { result ≡ in_room lamps_most (seconds_in (length bytes.now / 4) bytes.now) }

@@ -35,7 +35,7 @@ pub fn a_form_is_whole()
 {}
 
 /// What a legal record stores loads as a fresh set-up of its settings, each lamp with its seconds and its mark.
-#[tactic(auto, using(crate::proofs::StoredLoads::stored_loads_as))]
+#[tactic(auto, using(crate::proofs::FormsLoad::stored_loads_as))]
 pub fn what_is_stored_loads()
     ensures { (d : Device) → is_legal d ≡ true → loaded (stored_form d)
         ≡ accepted (with_own (started (stored_of d)) (with_marks (started (stored_of d)).own d.own.enabled)) }

@@ -4,7 +4,7 @@ use Rattle.record.specs.Wanted.{wanted_in}
 use Rattle.record.specs.SetUp.{set_up}
 use Rattle.text.proofs.Parts.{first_part}
 use Rattle.stored.specs.Views.{said_of}
-use Rattle.stored.proofs.Seconds.{room_read}
+use Rattle.stored.proofs.Fields.{room_read}
 use Rattle.stored.proofs.Cases.{set_up_sets}
 use Rattle.stored.proofs.form.Form.set_up_in.Goals as goal
 
