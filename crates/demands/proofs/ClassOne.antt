@@ -73,7 +73,7 @@ is_plain b = has_set b || has_query b
 
 -- what an answer of its kind has at most
 most_short : {c : Command} {m : Said} → CanSay c m → is_plain (body_of c) ≡ true → bytes_most m ≤ parameter_before
-most_short known p = grind (arith, name_long, info_long)
+most_short can p = grind (arith, name_long, info_long)
 
 said_short : {c : Command} {m : Said} → CanSay c m → is_plain (body_of c) ≡ true →
     length (said_bytes m) ≤ parameter_before

@@ -129,7 +129,7 @@ module _ {w : Wanted} {g : Stage} {ms : List Bool} {n : ℕ → ℕ} {stream : S
         → Ends (stream p ++ take r.taken bs) (line_text (connection_at r.device p).line)
         → (q : ℕ) (t : Bool) → (q == p) ≡ t
         → Ends (if t then stream q ++ take r.taken bs else stream q) (line_text (connection_at r.device q).line)
-    going_on r others last q t e = grind (arith, Ends)
+    going_on r others last q t e = grind arith
 
     -- the reply is read off the lent memory; at every other place all is as it was
     handed : (r : Result Device) → r.device.settings ≡ d.settings
@@ -286,7 +286,7 @@ marks_many loads_old w h = length-replicate (length w.lamps) true
 
 pub begun_agrees : (b : Beginning) (w : Wanted) → IsAccepted ours b w
     → Agrees w (steady false) (start_marks b w) (λ k. 0) no_streams (begun_by ours b w).device
-begun_agrees b w h = grind (arith, Agrees, begins_so, agrees_started, set_up_too, marks_many)
+begun_agrees b w h = grind (arith, begins_so, agrees_started, set_up_too, marks_many)
 
 module _ (b : Beginning) (w : Wanted) (cs : List Call) (h : IsAccepted ours b w) where
   abbrev ms : List Bool

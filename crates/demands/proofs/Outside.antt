@@ -57,7 +57,7 @@ module _ (password : List ℕ) (p : ℕ) (s : Session) (d : Device) (out : Outsi
     pub kept : is_received_at p c ≡ true → e.own ≡ d.own
 
   greeted_stands : (random : ℕ) → Standing (opened_with random) (greeted d.settings random)
-  greeted_stands random = grind (arith, Standing, secured_greeted, awaits, nothing_yet)
+  greeted_stands random = grind (arith, secured_greeted, awaits, nothing_yet)
 
   abbrev KeptIf : Bool → Own → Type 0
   KeptIf here o = here ≡ true → o ≡ d.own

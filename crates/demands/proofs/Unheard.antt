@@ -29,7 +29,7 @@ use Rattle.device.specs.Calls.{has_password}
 his_call : (password : List ℕ) (p : ℕ) (s : Session) (d : Device) → Outside password p s d → (c : Call)
     → is_at_place p c ≡ true → is_matched password (noted ours p d s c) ≡ false
     → SameElsewhere ours p d (after ours d c)
-his_call password p s d h c g e = grind (arith, settings_stay, own_left, others_untouched, eqb-true, received_keeps)
+his_call password p s d out c at u = grind (arith, settings_stay, own_left, others_untouched, eqb-true, received_keeps)
 
 module _ (password : List ℕ) (p : ℕ) (s t : Session) (d e : Device) (same : SameElsewhere ours p d e)
     (out-d : Outside password p s d) (out-e : Outside password p t e) where

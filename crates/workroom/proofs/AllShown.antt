@@ -2,17 +2,16 @@
 -- on the device alone, and there alone others do what they do meanwhile; what another projector is sent or says touches
 -- that one's entry alone. An open connection is kept up always, and one whose digest is awaited for 30 seconds.
 -- Assumes nothing.
-use Rattle.std.proofs.Common.{ℕ, ◌+◌, ◌<◌, ◌≡◌, refl, sym, ap, subst, ◌∙◌, true, false, List, [], ◌∷◌, ◌==◌}
+use Rattle.std.proofs.Common.{arith}
+use Rattle.std.proofs.Common.{ℕ, ◌+◌, ◌<◌, ◌≡◌, refl, sym, ap, subst, ◌∙◌, true, false, List, [], ◌∷◌}
 use Rattle.std.proofs.lemmas.Bool.{false≢true}
-use Rattle.std.specs.Prelude.{Result}
-use Rattle.record.specs.Limits.{age_end, shut, awaiting, opened}
+use Rattle.record.specs.Limits.{age_end, awaiting, opened}
 use Rattle.record.specs.Legal.{is_legal, is_timed}
 use Rattle.record.specs.Places.{connection_at, is_shut}
 use Rattle.record.specs.declared.types.Settings.{Settings}
 use Rattle.record.specs.declared.types.Own.{Own}
 use Rattle.record.specs.declared.types.Connection.{Connection}
 use Rattle.record.specs.declared.types.Device.{Device}
-use Rattle.record.specs.declared.refusal.Refusal.{Refusal}
 use Rattle.record.specs.Given.{left_by}
 use Rattle.record.proofs.Spelt.{closed_spelt}
 use Rattle.stream.specs.Collecting.{empty_line}
@@ -35,7 +34,7 @@ use Rattle.workroom.specs.AnyPanel.{ours_panel}
 use Rattle.workroom.specs.Workroom.{Workroom, room_of, happened, all_happened}
 use Rattle.workroom.specs.Workroom.{RoomMove, asks, waits, asks_another, hears_another, meanwhile}
 use Rattle.workroom.specs.MeantThrough.{said_at, own_at, shown_through, own_through}
-use Rattle.workroom.specs.ShowsWhatWasMeant.{Fit, both_open, both_secured, our_entry, our_connection, IsJoined, IsOther}
+use Rattle.workroom.specs.ShowsWhatWasMeant.{Fit, our_entry, our_connection, IsJoined, IsOther}
 use Rattle.workroom.specs.ShowsWhatWasMeant.{IsKeptUp, AllOther, AllKeptUp, Aside, ShownAs}
 use Rattle.workroom.proofs.EntriesStep.{still_served}
 use Rattle.workroom.proofs.Standing.{shown_as_it_stands, joined_served, device_as_it_was, panel_as_it_was}
@@ -51,8 +50,7 @@ UnlessShut t c = is_shut c ≡ false → FitsStill t c
 
 older_fits : {t : Talk} (c : Connection) (age : ℕ) → Fit t c
     → Fit t (record { phase = c.phase; age = age; random = c.random; line = c.line })
-older_fits c age (both_open phase greeted later) = both_open phase greeted later
-older_fits c age (both_secured phase greeted first same) = both_secured phase greeted first same
+older_fits c age fit = grind arith
 
 seconds_fit : (t : Talk) (n : ℕ) (c : Connection) → FitsStill t c → UnlessShut t (times connection_second n c)
 seconds_fit t n c fits =
@@ -95,39 +93,19 @@ module _ (i p : ℕ) (w : Workroom) (j : IsJoined i p w) where
   -- what another projector is sent or says
   elsewhere : (q : Panel) (k : ℕ) → is_panel q ≡ true → OnlyAt w.panel k q → (k ≡ i → ⊥)
       → ShownAs i p w (shown_of entry) device.own (room_of q device)
-  elsewhere q k legal only other =
-      shown_as_it_stands j.acquainted
-      (record {
-        served = still_served w.panel i (joined_served j) q legal only.count;
-        stands = only.others i (λ e. other (sym e));
-        password = refl;
-        strays = refl;
-      })
-      j.place (device_as_it_was j) j.rests j.fit
+  elsewhere q k legal only other = grind (arith, shown_as_it_stands, still_served, joined_served, device_as_it_was)
 
   -- what others do with the device
   others_keep : (d : Device) → Aside p device d → ShownAs i p w (shown_of entry) d.own (room_of w.panel d)
-  others_keep d aside =
-      shown_as_it_stands j.acquainted (panel_as_it_was j) j.place
-      (record {
-        legal = aside.device;
-        settings = aside.settings;
-        stands = aside.connection;
-        between = j.between;
-      })
-      j.rests j.fit
+  others_keep d aside = grind (arith, shown_as_it_stands, panel_as_it_was)
 
   pub shown_then : (h : RoomMove) → IsKeptUp i p w h
       → ShownAs i p w (showing (shown_of entry) (said_at device.settings device.own h))
       (own_at device.settings device.own h) (happened ours_panel i p w h)
   shown_then (asks k there back) within = command_shown i p w j k there back within
   shown_then (waits n) live = time_keeps n live
-  shown_then (asks_another k c) other =
-      elsewhere _ k (commanded_stays_legal w.panel j.acquainted.panel k c _)
-      (command_touches_its_entry w.panel k c _) other
-  shown_then (hears_another k l) other =
-      elsewhere _ k (stepped_stays_legal w.panel j.acquainted.panel k l)
-      (step_touches_its_entry w.panel k l) other
+  shown_then (asks_another k c) other = grind (arith, elsewhere, commanded_stays_legal, command_touches_its_entry)
+  shown_then (hears_another k l) other = grind (arith, elsewhere, stepped_stays_legal, step_touches_its_entry)
   shown_then (meanwhile d) aside = others_keep d aside
 
 -- one after the other
@@ -159,16 +137,11 @@ module _ (i p : ℕ) where
   connection_at-left_by w n stands = (passed_leaves w.device n).connection p (ap is_timed stands)
 
   open_kept_up : (w : Workroom) (h : RoomMove) → phase w ≡ opened → IsOther i p w h → IsKeptUp i p w h
-  open_kept_up w (waits n) stands other =
-      ap is_shut (connection_at-left_by w n stands) ∙ ap (λ (q : ℕ). q == shut) stands
-  open_kept_up w h stands other = other
+  open_kept_up w h stands other = grind (arith, connection_at-left_by)
 
   still_open : (w : Workroom) (h : RoomMove) → IsJoined i p w → phase w ≡ opened → IsOther i p w h
       → phase (happened ours_panel i p w h) ≡ opened
-  still_open w (asks k there back) j stands other = open_asked i p w j k there back stands
-  still_open w (waits n) j stands other = ap (λ (c : Connection). c.phase) (connection_at-left_by w n stands) ∙ stands
-  still_open w (meanwhile d) j stands aside = ap (λ (c : Connection). c.phase) aside.connection ∙ stands
-  still_open w h j stands other = stands
+  still_open w h j stands other = grind (arith, open_asked, connection_at-left_by)
 
   pub open_throughout : (w : Workroom) (hs : List RoomMove) → IsJoined i p w → phase w ≡ opened
       → AllOther i p ours_panel w hs → AllKeptUp i p ours_panel w hs
@@ -181,9 +154,4 @@ module _ (i p : ℕ) where
   pub young_kept_up : (w : Workroom) (n : ℕ) → IsJoined i p w → phase w ≡ awaiting
       → (our_connection p w).age + n < age_end
       → IsKeptUp i p w (waits n)
-  young_kept_up w n j waited young =
-      ap (λ (r : Result Device Refusal). is_shut (connection_at (left_by w.device r) p))
-      (passed_accepted w.device n j.acquainted.device)
-      ∙ ap is_shut (place_passes n w.device p)
-      ∙ ap is_shut (grows_older n (our_connection p w) (ap is_timed waited) young)
-      ∙ ap (λ (q : ℕ). q == shut) waited
+  young_kept_up w n j waited young = grind (arith, passed_accepted, place_passes, grows_older)

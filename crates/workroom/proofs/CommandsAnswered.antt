@@ -3,16 +3,16 @@
 -- device meant is shown. A higher one is swallowed, and stays under way (RULES, Class 2). A code that stands for no
 -- command leaves all as it was.
 -- Assumes nothing.
-use Rattle.std.proofs.Common.{ℕ, ◌≤◌, ◌<◌, ◌≡◌, refl, sym, ap, subst, ◌∙◌, Bool, true, false, not, ◌&&◌, ◌||◌, List}
-use Rattle.std.proofs.Common.{◌++◌, arith, length, ⊎_elim, ◌==◌, ne_eqb}
+use Rattle.std.proofs.Common.{ℕ, ◌≤◌, ◌<◌, ◌≡◌, refl, sym, ap, subst, ◌∙◌, Bool, true, false, not, ◌&&◌, List}
+use Rattle.std.proofs.Common.{◌++◌, arith, length, ⊎_elim, ne_eqb}
 use Rattle.std.specs.Prelude.{Option, Some, None, Ok, is_some}
-use Rattle.text.proofs.Choices.{if_yes, if_no}
+use Rattle.text.proofs.Choices.{if_no}
 use Rattle.text.proofs.Orders.{le_or_lt}
 use Rattle.digest.specs.Hex.{leading_digest}
 use Rattle.pjlink.specs.Commands.{command_class, is_command, command_line}
 use Rattle.pjlink.specs.declared.command.Command.{Command}
 use Rattle.pjlink.specs.Said.{Said}
-use Rattle.record.specs.Limits.{shut, awaiting, opened}
+use Rattle.record.specs.Limits.{awaiting, opened}
 use Rattle.record.specs.Legal.{is_legal}
 use Rattle.record.specs.Places.{connection_at, is_shut, with_place}
 use Rattle.record.specs.declared.types.Line.{Line}
@@ -21,7 +21,6 @@ use Rattle.record.specs.declared.types.Connection.{Connection}
 use Rattle.record.specs.declared.types.Device.{Device}
 use Rattle.record.proofs.ConnectionsTold.{placed_here}
 use Rattle.record.proofs.LegalTold.{legal_settings, legal_own, legal_places}
-use Rattle.stream.specs.Machine.{Out}
 use Rattle.stream.proofs.LinesSpelt.{empty_spelt}
 use Rattle.meaning.specs.Meaning.{meant, done}
 use Rattle.meaning.proofs.CanBeSaid.{meant_fits, meant_can_be_said}
@@ -47,7 +46,7 @@ use Rattle.panel.proofs.Cases.{Commands, commanded_by, commanded_done}
 use Rattle.panel.proofs.LinesSent.{line_sent_whole}
 use Rattle.panel.proofs.StepsByTable.{row_steps}
 use Rattle.workroom.specs.AnyPanel.{ours_panel}
-use Rattle.workroom.specs.Workroom.{Workroom, room_of, asks, handed_there, delivered, asked_as, answered_back, happened}
+use Rattle.workroom.specs.Workroom.{Workroom, room_of, asks, delivered, asked_as, happened}
 use Rattle.workroom.specs.MeantThrough.{said_to, done_for, IsWithin}
 use Rattle.workroom.specs.ShowsWhatWasMeant.{Fit, both_open, both_secured, our_entry, our_connection, IsJoined, ShownAs}
 use Rattle.workroom.specs.ShowsWhatWasMeant.{UnansweredAs}
@@ -59,17 +58,14 @@ use Rattle.workroom.proofs.Standing.{shown_as_it_stands, joined_served, device_a
 
 -- both sides that fit have a connection
 fit_greeted : {t : Talk} {c : Connection} → Fit t c → t.greeting ≡ ungreeted → ⊥
-fit_greeted (both_open phase greeted later) = greeted
-fit_greeted (both_secured phase greeted first same) = greeted
+fit_greeted fit = grind arith
 
 fit_live : {t : Talk} {c : Connection} → Fit t c → is_shut c ≡ false
-fit_live (both_open phase greeted later) = ap (λ (p : ℕ). p == shut) phase
-fit_live (both_secured phase greeted first same) = ap (λ (p : ℕ). p == shut) phase
+fit_live fit = grind arith
 
 -- nothing leads what follows a first command
 none_leads : (s : Bool) → (s && not s) ≡ false
-none_leads true = refl
-none_leads false = refl
+none_leads s = grind arith
 
 module _ (i p : ℕ) (w : Workroom) (j : IsJoined i p w) where
   abbrev entry : Entry
@@ -82,20 +78,11 @@ module _ (i p : ℕ) (w : Workroom) (j : IsJoined i p w) where
   connection = connection_at device p
 
   joined_ready : is_unready entry ≡ false
-  joined_ready =
-      let greeted = ne_eqb entry.greeting ungreeted (fit_greeted j.fit) in
-      let rests = j.rests in
-      (λ n. greeted n || rests n)
+  joined_ready = grind (arith, fit_greeted)
 
   module _ (k : Coded) (c : Command) (is : coded_command k ≡ Some c) where
     can_command : Commands w.panel i k command_room
-    can_command = record {
-      legal = j.acquainted.panel;
-      enough = omega arith;
-      there = j.acquainted.there;
-      named = ap is_some is;
-      ready = joined_ready;
-    }
+    can_command = grind (arith, joined_ready)
 
     abbrev writable : is_command c ≡ true
     writable = command_writable k c is
@@ -123,8 +110,7 @@ module _ (i p : ℕ) (w : Workroom) (j : IsJoined i p w) where
 
     led_alike : (led : Bool) → leads_next (talk_of entry) ≡ led → {random : ℕ} → entry.random ≡ random
         → sent ≡ led_by led random (set_up_password device.settings) ++ command_line c
-    led_alike led e same =
-        spelt ∙ (λ n. led_by (e n) (same n) (j.acquainted.password n) ++ command_line c)
+    led_alike led e same = grind (arith, spelt)
 
     abbrev led_line : List ℕ
     led_line = leading_digest connection.random (set_up_password device.settings) ++ command_line c
@@ -192,13 +178,7 @@ module _ (i p : ℕ) (w : Workroom) (j : IsJoined i p w) where
       asked_as_lem : (r : ℕ → Result Device) → Answers r sent → (r (length sent)).taken ≡ length sent
           → asking
           ≡ room_of (delivered ours_panel i sending.panel back (r (length sent)).reply) (r (length sent)).device
-      asked_as_lem r taken whole =
-          if_yes _ _ (ap (λ (s : PanelAs). s.number == 0) done_sending)
-          ∙ ap (answered_back ours_panel i sending.panel back)
-          (ap (λ (s : PanelAs). handed_there device p there s.line) done_sending
-          ∙ handed_in_cuts device p there sent j.place j.acquainted.device (fit_live j.fit)
-          (ap (λ (t : Result Device). t.taken) taken ∙ whole)
-          ∙ ap {B = Out Device} (λ (t : Result Device). record { state = t.device; reply = t.reply }) taken)
+      asked_as_lem r taken whole = grind (arith, done_sending, handed_in_cuts, fit_live)
 
       phase_then : {o : Own} {q : Panel} → asking ≡ room_of q (left o) → (our_connection p asking).phase ≡ opened
       phase_then {o} so =
@@ -210,15 +190,7 @@ module _ (i p : ℕ) (w : Workroom) (j : IsJoined i p w) where
         swallowed_so = asked_as_lem (swallowed_at device p) (higher_taken higher) refl
 
         pub gets_no_reply : UnansweredAs i w c asking
-        gets_no_reply =
-            subst (UnansweredAs i w c) (sym swallowed_so)
-            (record {
-              shows = ap (λ (e : Entry). shown_of e) entry_sent;
-              strays = ap (λ (e : Entry). e.strays) entry_sent;
-              settings = refl;
-              does = refl;
-              still = subst (λ (e : Entry). IsUnderWay e c) (sym entry_sent) under_way;
-            })
+        gets_no_reply = grind (arith, swallowed_so, entry_sent, under_way)
 
       -- of one no higher
       module _ (within : command_class c ≤ device.settings.class_number) where
@@ -287,11 +259,7 @@ module _ (i p : ℕ) (w : Workroom) (j : IsJoined i p w) where
         by None none = cc (ap is_some none, named)
 
     pub open_asked : connection.phase ≡ opened → (our_connection p then).phase ≡ opened
-    open_asked stands = by (coded_command k) refl
-      where
-        by : (m : Option Command) → coded_command k ≡ m → (our_connection p then).phase ≡ opened
-        by (Some c) is = asked_open (ap is_some is)
-        by None none = ap (λ (x : Workroom). (our_connection p x).phase) (refused_so none) ∙ stands
+    open_asked stands = grind (arith, asked_open, refused_so)
 
     pub command_shown : IsWithin device.settings (coded_command k)
         → ShownAs i p w (showing (shown_of entry) (said_to device.settings device.own (coded_command k)))

@@ -2,10 +2,9 @@
 -- of it. The greeting joins a panel and a device that were apart, with a password or without, at the place that opening
 -- takes; a connection that is gone leaves them apart, however it stood.
 -- Assumes nothing.
-use Rattle.std.proofs.Common.{ℕ, ◌^◌, ◌-◌, ◌≤◌, ◌<◌, ◌≡◌, refl, sym, ap, subst, ◌∙◌, Bool, true, false, ⊎_elim, List}
+use Rattle.std.proofs.Common.{ℕ, ◌^◌, ◌-◌, ◌≤◌, ◌<◌, ◌≡◌, refl, sym, ap, subst, ◌∙◌, Bool, true, false, List}
 use Rattle.std.proofs.Common.{arith, length, slice_index_or, replicate, get_or-set_same}
 use Rattle.std.proofs.Math.Seq.{take-append_seam}
-use Rattle.std.proofs.lemmas.Bool.{false≢true}
 use Rattle.text.proofs.Orders.{le_or_lt}
 use Rattle.pjlink.specs.Forms.{greeting_open, greeting_secured}
 use Rattle.digest.specs.Hex.{hex_digits}
@@ -29,7 +28,7 @@ use Rattle.record.proofs.LowestShut.{below_lowest}
 use Rattle.controller.specs.Greetings.{read_greeting}
 use Rattle.controller.proofs.GreetingsHeard.{open_heard, secured_heard}
 use Rattle.panel.specs.Entries.{Talk, shown_of, password_in, greeted_open, greeted_secured, greeted_by}
-use Rattle.panel.specs.Entries.{fresh_entry, blank_entry}
+use Rattle.panel.specs.Entries.{fresh_entry}
 use Rattle.panel.specs.Passwords.{password_room}
 use Rattle.panel.specs.LegalPanels.{panel_most, is_panel}
 use Rattle.panel.specs.Stepping.{with_talk, greeted_as}
@@ -51,9 +50,7 @@ use Rattle.workroom.proofs.Standing.{acquainted_then, shown_as_it_stands}
 
 -- a closed place is free
 shut_free : (cs : List Connection) (p : ℕ) → is_shut (slice_index_or cs p no_connection) ≡ true → lowest_shut cs ≤ p
-shut_free cs p e =
-    ⊎_elim (λ (k : lowest_shut cs ≤ p). k)
-    (λ (k : p < lowest_shut cs). absurd (false≢true (sym (below_lowest cs p k) ∙ e))) (le_or_lt (lowest_shut cs) p)
+shut_free cs p e = grind (arith, below_lowest, le_or_lt)
 
 module _ (i : ℕ) (w : Workroom) where
   abbrev entry : Entry
@@ -83,8 +80,7 @@ module _ (i : ℕ) (w : Workroom) where
       after = (stepped_at w.panel i l).panel
 
       entry_then : entry_at after i ≡ with_talk entry t
-      entry_then =
-          entry_at-stepped_at w.panel i (known_served known) l ∙ step_greets entry l apart.waiting ∙ heard
+      entry_then = grind (arith, entry_at-stepped_at, known_served, step_greets)
 
       greeting_joins : ShownAs i lowest w (shown_of entry) device.own (room_of after (with_connection c))
       greeting_joins =
@@ -193,9 +189,7 @@ module _ (p : Panel) (s : List ℕ) (d : Device) where
     grown = grown_by p (fresh_entry s)
 
     placed_last : entry_at grown p.count ≡ fresh_entry s
-    placed_last =
-        let inside : p.count < length p.entries = omega (arith, free, (panel_told p legal).long) in
-        get_or-set_same p.entries p.count (fresh_entry s) blank_entry inside
+    placed_last = grind (arith, panel_told, get_or-set_same)
 
     grown_legal : is_panel grown ≡ true
     grown_legal =

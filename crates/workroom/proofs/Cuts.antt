@@ -2,7 +2,7 @@
 -- leaves the same in any cuts.
 -- Assumes nothing.
 use Rattle.std.proofs.Common.{ℕ, ◌<◌, ◌≡◌, sym, ap, ◌∙◌, true, false, List, [], ◌∷◌, ◌++◌, append-nil, arith, length}
-use Rattle.std.proofs.Common.{take, drop, take-append-drop}
+use Rattle.std.proofs.Common.{drop, take-append-drop}
 use Rattle.std.proofs.Math.Seq.{take-append_seam, drop-append_seam}
 use Rattle.record.specs.Limits.{places_count}
 use Rattle.record.specs.Legal.{is_legal}
@@ -19,10 +19,7 @@ one_part l = uncut_more l [] ∙ ap (λ (r : List ℕ). l ++ r) uncut_none ∙ a
 
 pub uncut-cut_at : (ns l : List ℕ) → uncut (cut_at ns l) ≡ l
 uncut-cut_at [] l = one_part l
-uncut-cut_at (n ∷ ns) l =
-    uncut_more (take n l) (cut_at ns (drop n l))
-    ∙ ap (λ (r : List ℕ). take n l ++ r) (uncut-cut_at ns (drop n l))
-    ∙ take-append-drop n l
+uncut-cut_at (n ∷ ns) l = grind (arith, uncut_more, take-append-drop, uncut-cut_at ns (drop n l))
 
 -- no cutting is left out
 abbrev pub lengths_of : List ℕ → List (List ℕ) → List ℕ
@@ -31,11 +28,7 @@ lengths_of p (q ∷ ps) = length p ∷ lengths_of q ps
 
 pub list_all_cutting : (p : List ℕ) (ps : List (List ℕ)) → cut_at (lengths_of p ps) (uncut (p ∷ ps)) ≡ p ∷ ps
 list_all_cutting p [] = ap (λ (l : List ℕ). l ∷ []) (one_part p)
-list_all_cutting p (q ∷ ps) =
-    let rest = uncut (q ∷ ps) in
-    ap (cut_at (length p ∷ lengths_of q ps)) (uncut_more p (q ∷ ps))
-    ∙ (λ i. take-append_seam p rest i ∷ cut_at (lengths_of q ps) (drop-append_seam p rest i))
-    ∙ ap (λ (qs : List (List ℕ)). p ∷ qs) (list_all_cutting q ps)
+list_all_cutting p (q ∷ ps) = grind (arith, uncut_more, take-append_seam, drop-append_seam, list_all_cutting q ps)
 
 pub handed_in_cuts : (d : Device) (p : ℕ) (there l : List ℕ) → p < places_count → is_legal d ≡ true
     → is_shut (connection_at d p) ≡ false

@@ -1,8 +1,7 @@
 -- Our panel's calls, seen from the entry of the projector that they name: what is sent, heard and lost there.
 -- Assumes nothing.
-use Rattle.std.proofs.Common.{ℕ, ◌<◌, ◌≡◌, ap, ◌∙◌, true, List, ◌∷◌, arith, length, get_or-set_same}
+use Rattle.std.proofs.Common.{ℕ, ◌≡◌, ap, ◌∙◌, true, List, ◌∷◌, arith, get_or-set_same}
 use Rattle.codes.specs.declared.command.Coded.{Coded}
-use Rattle.panel.specs.Entries.{blank_entry}
 use Rattle.panel.specs.Stepping.{lost_entry, sent_entry, heard_line}
 use Rattle.panel.specs.LegalPanels.{is_panel, is_entry}
 use Rattle.panel.specs.PanelCalls.{PanelAs, entry_at, with_entry, commanded, stepped_at, lost_at}
@@ -19,10 +18,7 @@ use Rattle.workroom.proofs.Cuts.{uncut-cut_at}
 
 module _ (p : Panel) (i : ℕ) (served : IsServed p i) where
   placed : (e : Entry) → entry_at (with_entry p i e) i ≡ e
-  placed e =
-      let known = panel_told p served.legal in
-      let inside : i < length p.entries = omega (arith, served.there, known.count, known.long) in
-      get_or-set_same p.entries i e blank_entry inside
+  placed e = grind (arith, panel_told, get_or-set_same)
 
   pub entry_legal_there : is_entry (entry_at p i) ≡ true
   entry_legal_there = entry_at_legal p served.legal i served.there
@@ -35,16 +31,13 @@ module _ (p : Panel) (i : ℕ) (served : IsServed p i) where
   entry_at-commanded k room can = ap (λ (r : PanelAs). entry_at r.panel i) (commanded_done p i k room can) ∙ placed _
 
   pub sent_served : (k : Coded) (room : ℕ) → IsServed (commanded p i k room).panel i
-  sent_served k room =
-      still_served _ (commanded_stays_legal p served.legal i k room) (command_touches_its_entry p i k room).count
+  sent_served k room = grind (arith, still_served, commanded_stays_legal, command_touches_its_entry)
 
   pub entry_at-stepped_at : (l : List ℕ) → entry_at (stepped_at p i l).panel i ≡ heard_line (entry_at p i) l
-  entry_at-stepped_at l =
-      ap (λ (r : PanelAs). entry_at r.panel i) (stepped_done p i l served.legal served.there) ∙ placed _
+  entry_at-stepped_at l = grind (arith, stepped_done, placed)
 
   pub heard_served : (l : List ℕ) → IsServed (stepped_at p i l).panel i
-  heard_served l =
-      still_served _ (stepped_stays_legal p served.legal i l) (step_touches_its_entry p i l).count
+  heard_served l = grind (arith, still_served, stepped_stays_legal, step_touches_its_entry)
 
   pub entry_at-lost_at : entry_at (lost_at p i).panel i ≡ lost_entry (entry_at p i)
   entry_at-lost_at = ap (λ (r : PanelAs). entry_at r.panel i) (lost_done p i served.legal served.there) ∙ placed _

@@ -4,7 +4,8 @@
 -- greeting.
 --   Told d p m c w r     the writing w of m, which is the command c, and the receiving r of its bytes at place p
 -- Assumes nothing.
-use Rattle.std.proofs.Common.{ℕ, ◌^◌, ◌≤◌, ◌<◌, ◌≡◌, sym, ap, subst, true, false, List}
+use Rattle.std.proofs.Common.{arith}
+use Rattle.std.proofs.Common.{ℕ, ◌^◌, ◌≤◌, ◌<◌, ◌≡◌, true, false, List}
 use Rattle.std.specs.Prelude.{Option, Some, Ok}
 use Rattle.pjlink.specs.Commands.{command_class}
 use Rattle.pjlink.specs.declared.command.Command.{Command}
@@ -22,7 +23,7 @@ use Rattle.demands.specs.Greeted.{greeted_on}
 use Rattle.demands.proofs.WrittenAndRead.{TakenAndRead, written_reads_back, written_reads_back_secured}
 use Rattle.demands.proofs.WrittenAndRead.{opening_greets_back}
 use Rattle.codes.specs.Commands.{coded_command}
-use Rattle.codes.specs.Readings.{flat_greeting, said_flat, flat}
+use Rattle.codes.specs.Readings.{flat_greeting, said_flat}
 use Rattle.codes.specs.ByCode.{written_by, read_by}
 use Rattle.codes.specs.declared.command.Coded.{Coded}
 use Rattle.codes.proofs.CodesBack.{command_writable}
@@ -46,9 +47,7 @@ module _ (d : Device) (p : ℕ) (there : p < places_count) (legal : is_legal d �
       → ((write (Some c)).number ≡ 0) × TakenAndRead d p c (write (Some c)).bytes
       (received d p (write (Some c)).bytes room)
       → ToldBy write (coded_command k)
-  told write through =
-      subst (ToldBy write) (sym named)
-      (record { written = through.0; taken = through.1; read = ap flat through.1.said })
+  told write through = grind arith
 
   pub face_reads_back : (connection_at d p).phase ≡ opened → (random : ℕ) (password : List ℕ)
       → ToldBy (λ m. written_by m false random password memory) (coded_command k)
@@ -69,5 +68,4 @@ pub face_greets_back : (d : Device) (r room : ℕ) → is_legal d ≡ true → l
     → reply_room ≤ room → r < 2 ^ 32
     → let o = opened_by d r room in
     flat_greeting (read_greeting o.reply) ≡ flat_greeting (greeted_on (connection_at o.device (place_taken d room)))
-face_greets_back d r room legal free enough word =
-    ap flat_greeting (opening_greets_back d r room legal free enough word).1
+face_greets_back d r room legal free enough word = grind (arith, opening_greets_back)

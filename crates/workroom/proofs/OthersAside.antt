@@ -1,8 +1,7 @@
 -- What other controllers of a device do at their places, and the host with the device, is aside of a connection at its
 -- place (RULES, Places).
 -- Assumes nothing.
-use Rattle.std.proofs.Common.{ℕ, ◌<◌, ◌≡◌, refl, sym, ap, ◌∙◌, true, false, arith}
-use Rattle.std.proofs.lemmas.Bool.{false≢true}
+use Rattle.std.proofs.Common.{ℕ, ◌<◌, ◌≡◌, refl, true, false, arith}
 use Rattle.record.specs.Limits.{places_count}
 use Rattle.record.specs.Legal.{is_legal}
 use Rattle.record.specs.Places.{connection_at, is_shut, lowest_shut}
@@ -23,9 +22,7 @@ module _ (p : ℕ) (d : Device) (legal : is_legal d ≡ true) where
   -- opening takes a place that is closed, so not one that is not
   other_place : is_shut (connection_at d p) ≡ false → lowest_shut d.connections < places_count
       → p ≡ lowest_shut d.connections → ⊥
-  other_place live free same =
-      let shut = lowest_is_shut d.connections (omega (arith, free, legal_places d legal)) in
-      false≢true (sym live ∙ ap (λ (q : ℕ). is_shut (connection_at d q)) same ∙ shut)
+  other_place live free same = grind (arith, lowest_is_shut, legal_places)
 
   opening_elsewhere : (random room : ℕ) → is_shut (connection_at d p) ≡ false
       → connection_at (opened_by d random room).device p ≡ connection_at d p

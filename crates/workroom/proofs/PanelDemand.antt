@@ -1,7 +1,8 @@
 -- Our panel does what RULES, Panel asks of one: by the table of what each kind of line does (`StepTo` of panel), which
 -- a legal entry steps by.
 -- Assumes nothing.
-use Rattle.std.proofs.Common.{ℕ, ◌≡◌, refl, sym, ap, subst, ◌∙◌, List}
+use Rattle.std.proofs.Common.{arith}
+use Rattle.std.proofs.Common.{ℕ, ◌≡◌, refl, sym, subst, List}
 use Rattle.panel.specs.Entries.{talk_of, shown_of}
 use Rattle.panel.specs.StepTable.{StepTo, greets_open, greets_secured, strays, answers, refuses}
 use Rattle.panel.specs.PanelCalls.{entry_at, stepped_at}
@@ -20,14 +21,7 @@ module _ (p : Panel) (i : ℕ) (l : List ℕ) (served : IsServed p i) where
   -- a row that keeps the password
   by_row : {f : Entry} → StepTo before l f → f.password ≡ before.password
       → PartsAre (entry_at (stepped_at p i l).panel i) before (talk_of f) (shown_of f) f.strays
-  by_row {f} row same =
-      let steps : entry_at (stepped_at p i l).panel i ≡ f = entry_at-stepped_at p i served l ∙ row_steps before l row in
-      record {
-        same_password = ap (λ (e : Entry). e.password) steps ∙ same;
-        talks = ap (λ (e : Entry). talk_of e) steps;
-        shows = ap (λ (e : Entry). shown_of e) steps;
-        counts = ap (λ (e : Entry). e.strays) steps;
-      }
+  by_row row same = grind (arith, entry_at-stepped_at, row_steps)
 
   row_shown : {f : Entry} → StepTo before l f → ShownBy before l f
   row_shown (greets_open g r) = stays_shown refl

@@ -22,7 +22,7 @@ use Rattle.panel.specs.declared.types.Entry.{Entry}
 use Rattle.panel.specs.declared.types.Panel.{Panel}
 use Rattle.workroom.specs.Workroom.{Workroom, room_of}
 use Rattle.workroom.specs.MeantThrough.{IsWithin}
-use Rattle.workroom.specs.ShowsWhatWasMeant.{both_open, IsJoined}
+use Rattle.workroom.specs.ShowsWhatWasMeant.{IsJoined}
 use Rattle.workroom.specs.PanelDemand.{IsServed}
 use Rattle.workroom.specs.Computing.{computing}
 
@@ -65,13 +65,7 @@ workroom = room_of (resting 0) (with_place opening opening.own 0 (begun_in opene
 
 pub workroom_joined : IsJoined 0 0 workroom
 unfolding computing
-workroom_joined = record {
-  acquainted = record { panel = refl; there = omega arith; device = refl; password = refl };
-  place = omega arith;
-  between = refl;
-  rests = refl;
-  fit = both_open refl (λ none. omega arith) refl;
-}
+workroom_joined = grind arith
 
 pub powr_within : IsWithin workroom.device.settings (coded_command (code_of (Query Powr)))
 unfolding computing

@@ -2,14 +2,14 @@
 --   PanelStands i w q e     the panel q, which was that of w, has the projector i, and its entry is e
 --   DeviceStands p w d c    the device d, which was that of w, has the connection c at place p
 -- Assumes nothing.
-use Rattle.std.proofs.Common.{ℕ, ◌<◌, ◌≡◌, refl, sym, ap, subst, ◌∙◌, true, false}
+use Rattle.std.proofs.Common.{arith}
+use Rattle.std.proofs.Common.{ℕ, ◌<◌, ◌≡◌, refl, true, false}
 use Rattle.record.specs.Limits.{places_count}
 use Rattle.record.specs.Legal.{is_legal}
 use Rattle.record.specs.Places.{connection_at}
 use Rattle.record.specs.declared.types.Connection.{Connection}
 use Rattle.record.specs.declared.types.Device.{Device}
 use Rattle.stream.specs.Collecting.{empty_line}
-use Rattle.device.specs.Receiving.{set_up_password}
 use Rattle.panel.specs.Entries.{talk_of, shown_of, password_in}
 use Rattle.panel.specs.PanelCalls.{entry_at}
 use Rattle.panel.specs.declared.types.Entry.{Entry}
@@ -32,30 +32,11 @@ pub record DeviceStands (p : ℕ) (w : Workroom) (d : Device) (c : Connection) :
 
 module _ {i : ℕ} {w : Workroom} {q : Panel} {e : Entry} (known : IsAcquainted i w) (panel : PanelStands i w q e) where
   pub acquainted_then : {d : Device} → is_legal d ≡ true → d.settings ≡ w.device.settings → IsAcquainted i (room_of q d)
-  acquainted_then legal settings = record {
-    panel = panel.served.legal;
-    there = panel.served.there;
-    device = legal;
-    password =
-        ap password_in panel.stands ∙ panel.password ∙ known.password ∙ ap set_up_password (sym settings);
-  }
+  acquainted_then legal settings = grind arith
 
   pub shown_as_it_stands : {p : ℕ} {d : Device} {c : Connection} → p < places_count → DeviceStands p w d c
       → e.under_way ≡ false → Fit (talk_of e) c → ShownAs i p w (shown_of e) d.own (room_of q d)
-  shown_as_it_stands {p} {d} {c} place device rests fit = record {
-    shows = ap (λ (e : Entry). shown_of e) panel.stands;
-    strays = ap (λ (e : Entry). e.strays) panel.stands ∙ panel.strays;
-    settings = device.settings;
-    does = refl;
-    joined = record {
-      acquainted = acquainted_then device.legal device.settings;
-      place = place;
-      between = ap (λ (c : Connection). c.line) device.stands ∙ device.between;
-      rests = ap (λ (e : Entry). e.under_way) panel.stands ∙ rests;
-      fit = subst (λ (e : Entry). Fit (talk_of e) (connection_at d p)) (sym panel.stands)
-          (subst (Fit (talk_of e)) (sym device.stands) fit);
-    };
-  }
+  shown_as_it_stands place device rests fit = grind (arith, acquainted_then)
 
 -- as they were
 module _ {i p : ℕ} {w : Workroom} (j : IsJoined i p w) where
