@@ -8,10 +8,9 @@ use Rattle.pjlink.specs.Said.{okay, power_is}
 use Rattle.words.specs.declared.power.Power.TheVariants.{WarmUp}
 use Rattle.digest.specs.Computing.{computing as digest}
 use Rattle.controller.specs.Writing.{nothing_written, written_command}
-use Rattle.controller.specs.Reading.{meaning, without, read_reply}
+use Rattle.controller.specs.Reading.{meaning, without, read_reply, not_a_line, other_command, disallowed}
 use Rattle.controller.specs.Greetings.{read_greeting}
 use Rattle.controller.specs.Computing.{computing}
-use Rattle.controller.specs.Reading.{not_a_line, other_command, disallowed}
 use Rattle.controller.specs.declared.greeting.Greeting.TheVariants.{Secured, NotAGreeting}
 
 power_on_written : written_command (PowerSet true) false 0 [] 168 ≡ record { number = 0; bytes = codes "%1POWR 1\r" }

@@ -1,9 +1,7 @@
 -- The greeting reader takes each greeting and the ERRA line for what it is, and no other line for one of them (RULES,
 -- Controller: "nothing more").
 -- Assumes nothing.
-use Rattle.std.proofs.Common.{ℕ, ◌^◌, ◌≤◌, ◌<◌, ◌≡◌, refl, sym, ap, ◌∙◌, true, List, map-id, arith, length, take, drop}
-use Rattle.std.proofs.Common.{length-take}
-use Rattle.std.proofs.Math.Nat.{pow-le-pow_right}
+use Rattle.std.proofs.Common.{ℕ, ◌^◌, ◌<◌, ◌≡◌, refl, ap, ◌∙◌, true, List, map-id, arith}
 use Rattle.text.specs.Scans.{same_by, itself}
 use Rattle.text.proofs.Sameness.{same_is, turned_same}
 use Rattle.digest.specs.Hex.{hex_digits}
@@ -38,16 +36,10 @@ module _ (r : ℕ) (word : r < 2 ^ 32) where
 -- and nothing else is
 pub random_below : (l : List ℕ) → random_in l < 2 ^ 32
 unfolding random_in
-random_below l =
-    let digits = take 8 (drop 9 l) in
-    let few : length digits ≤ 8 = omega (arith, length-take 8 (drop 9 l)) in
-    omega (arith, hex_value_below digits, pow-le-pow_right {n = 16} (omega arith) {i = length digits} {j = 8} few)
+random_below l = grind (arith, hex_value_below)
 
 other_line : (l t : List ℕ) → read_greeting l ≡ NotAGreeting → greeting_number (read_greeting t) ≡ 0 → l ≡ t → ⊥
-other_line l t none some e =
-    let same : ◌≡◌ {A = ℕ} 10 0
-    = sym (ap greeting_number none) ∙ ap (λ (k : List ℕ). greeting_number (read_greeting k)) e ∙ some in
-    omega arith
+other_line l t none some e = grind arith
 
 pub heard_exactly : (l : List ℕ) → Exactly l (read_greeting l)
 heard_exactly l =

@@ -1,21 +1,20 @@
 -- What the reader takes from the reply to a command is what it says (RULES, Controller).
 -- Assumes nothing.
+use Rattle.std.proofs.Common.{arith, ℕ, ◌≤◌, ◌≡◌, refl, ap, ◌∙◌, true, List, ◌∷◌, ◌++◌, length, codes}
+use Rattle.std.proofs.lemmas.Grind.{common_steps}
 use Rattle.std.specs.List.{list_all}
-use Rattle.std.proofs.Common.{ℕ, ◌≤◌, ◌≡◌, refl, sym, ap, ◌∙◌, true, List, ◌∷◌, ◌++◌, length, codes}
 use Rattle.words.specs.Bytes.{◌at◌, is_alnum, no_cr}
 use Rattle.pjlink.specs.Forms.{reply_line}
 use Rattle.pjlink.specs.Commands.{body_text, body_of, command_class, class_digit}
 use Rattle.pjlink.specs.declared.command.Command.{Command}
 use Rattle.pjlink.proofs.Bodies.{four, body_spelt}
 use Rattle.pjlink.proofs.RepliesReadBack.{reply_not_erra, reply_form, reply_parameter_of_line}
-use Rattle.pjlink.specs.Bodies.{is_body}
 use Rattle.pjlink.proofs.BodiesNamed.{body_named_lem}
 use Rattle.pjlink.specs.Said.{Said, nothing, said_bytes}
-use Rattle.pjlink.specs.Reading.{read_parameter}
 use Rattle.pjlink.specs.CanSay.{CanSay}
 use Rattle.pjlink.proofs.Nothing.{cannot_say_nothing}
 use Rattle.pjlink.proofs.ReadsBack.{reads_back as parameter-reads-back}
-use Rattle.controller.specs.Reading.{ReadAs, Outcome, means_it, meaning, saying, read_reply}
+use Rattle.controller.specs.Reading.{means_it, meaning, saying, read_reply}
 use Rattle.controller.proofs.Cases.{reply_said}
 
 -- list_all answer that a command can have means something
@@ -37,22 +36,20 @@ module _ (c : Command) {m : Said} (can : CanSay c m) (short : length (said_bytes
 
   spelled_read : read_reply c spelled ≡ meaning m
   spelled_read =
-      reply_said c spelled
-      (reply_not_erra (text at 0) (text at 1) (text at 2) (text at 3) letters (class_digit (command_class c))
-      (said_bytes m))
-      (reply_form (text at 0) (text at 1) (text at 2) (text at 3) letters (command_class c) (said_bytes m) short plain)
-      (ap (λ (s : List ℕ). is_body (command_class c) s (body_of c)) (body_spelt (body_of c)).long
-      ∙ (body_named_lem (body_of c)).own)
-      ∙ ap (λ (p : List ℕ). saying (read_parameter c p))
-      (reply_parameter_of_line (text at 0) (text at 1) (text at 2) (text at 3) letters (class_digit (command_class c))
-      (said_bytes m))
-      ∙ ap saying (parameter-reads-back can)
-      ∙ ap {B = ReadAs} (λ (o : Outcome). record { outcome = o; said = m }) (can_mean can)
+      grind (
+        arith,
+        common_steps,
+        reply_said,
+        reply_not_erra,
+        letters,
+        reply_form,
+        body_spelt,
+        body_named_lem,
+        reply_parameter_of_line,
+        parameter-reads-back,
+        can_mean,
+      )
 
   pub reply_read : read_reply c (codes "%" ++ (class_digit (command_class c) ∷ text) ++ codes "=" ++ said_bytes m
       ++ codes "\r") ≡ meaning m
-  reply_read =
-      ap (λ (s : List ℕ). read_reply c (codes "%" ++ (class_digit (command_class c) ∷ s) ++ codes "=" ++ said_bytes m
-      ++ codes "\r"))
-      (sym (body_spelt (body_of c)).long)
-      ∙ spelled_read
+  reply_read = grind (arith, spelled_read)
