@@ -3,11 +3,9 @@
 --   Right n b      what the code n stands for has that code
 --   Stands u m     where m is a command, it can be written and has the code u
 -- Assumes nothing.
-use Rattle.std.proofs.Common.{ℕ, ◌≡◌, refl, sym, ap, subst, ◌∙◌, Bool, true, ◌&&◌, List, [], ◌∷◌, arith, nat_le}
-use Rattle.std.proofs.Common.{◌==◌, eqb-true}
+use Rattle.std.proofs.Common.{ℕ, ◌≡◌, sym, ap, subst, ◌∙◌, Bool, true, List, [], ◌∷◌, arith}
 use Rattle.std.specs.Prelude.{Option, Some, None, IfSome, option_map, option_and_then}
 use Rattle.std.specs.Option.{option_map_or}
-use Rattle.text.proofs.Choices.{if_by}
 use Rattle.words.specs.Inputs.{is_input}
 use Rattle.pjlink.specs.Commands.{is_command}
 use Rattle.words.specs.declared.input.Source.{Source}
@@ -48,14 +46,8 @@ module _ (k type number : ℕ) where
   InputIs o = IfSome o (λ i. (is_input i ≡ true) × (input_code k i ≡ coded k type number))
 
   input_there : InputIs (input_at type number)
-  unfolding input_at
-  input_there =
-      if_by InputIs (nat_le 1 number && nat_le number 35) (λ e. by e (source_at type) (source_there type)) (λ e. tt)
-    where
-      by : (nat_le 1 number && nat_le number 35) ≡ true → (o : Option Source) → SourceIs type o
-          → InputIs (option_map (λ s. record { source = s; number = number }) o)
-      by e (Some s) there = (e, ap (λ (n : ℕ). coded k n number) there)
-      by e None there = tt
+  unfolding input_at coded_command half_at source_at switch_at used_of
+  input_there = grind (arith, source_there)
 
 abbrev Right : ℕ → CodedBy → Type 0
 Right n (alone c) = (is_command c ≡ true) × (code_of c ≡ coded n 0 0)
@@ -72,12 +64,7 @@ abbrev ◌also◌ : {A B : Type 0} → A → B → A × B
 a also b = (a, b)
 
 codes_right : AllRight code_rows
-codes_right =
-    (refl, refl) also (λ on. (refl, refl)) also (refl, refl) also (λ i. (refl, refl)) also (refl, refl)
-    also (λ h on. (refl, refl)) also (refl, refl) also (refl, refl) also (refl, refl) also (refl, refl)
-    also (refl, refl) also (refl, refl) also (refl, refl) also (refl, refl) also (refl, refl)
-    also (λ on. (refl, refl)) also (λ on. (refl, refl)) also (λ on. (refl, refl)) also (refl, refl) also (refl, refl)
-    also (λ i. (refl, refl)) also (refl, refl) also (λ i. (refl, refl)) also (refl, refl) also tt
+codes_right = grind arith
 
 abbrev Stands : Coded → Option Command → Type 0
 Stands u m = IfSome m (λ c. (is_command c ≡ true) × (code_of c ≡ u))
@@ -85,39 +72,28 @@ Stands u m = IfSome m (λ c. (is_command c ≡ true) × (code_of c ≡ u))
 module _ (n first second : ℕ) where
   switch_stands : (f : Bool → Command) → Right n (switch f) → (o : Option Bool) → SwitchIs first o
       → Stands (coded n first 0) (option_map f o)
-  switch_stands f right (Some on) there =
-      ((right on).0, (right on).1 ∙ ap (λ (j : ℕ). coded n j 0) there)
-  switch_stands f right None there = tt
+  switch_stands f h o g = grind arith
 
   input_stands : (f : Input → Command) → Right n (of_input f) → (o : Option Input) → InputIs n first second o
       → Stands (coded n first second) (option_map f o)
-  input_stands f right (Some i) there = ((right i).0 ∙ there.0, (right i).1 ∙ there.1)
-  input_stands f right None there = tt
+  input_stands f h o g = grind arith
 
   module _ (f : Half → Bool → Command) (right : Right n (of_half f)) where
     mute_stands : (h : Half) → half_number h ≡ first → (o : Option Bool) → SwitchIs second o
         → Stands (coded n first second) (option_map (f h) o)
-    mute_stands h here (Some on) there =
-        ((right h on).0, (right h on).1 ∙ (λ i. coded n (here i) (there i)))
-    mute_stands h here None there = tt
+    mute_stands h g o e = grind arith
 
     half_stands : (o : Option Half) → HalfIs first o
         → Stands (coded n first second) (option_and_then (λ h. option_map (f h) (switch_at second)) o)
-    half_stands (Some h) here = mute_stands h here (switch_at second) (switch_there second)
-    half_stands None here = tt
+    half_stands o h = grind (arith, mute_stands, switch_there)
 
   row_stands : (b : CodedBy) → Right n b → Stands (used_by b (coded n first second)) (stands_for b first second)
-  row_stands (alone c) right = right
-  row_stands (switch f) right = switch_stands f right (switch_at first) (switch_there first)
-  row_stands (of_input f) right = input_stands f right (input_at first second) (input_there n first second)
-  row_stands (of_half f) right = half_stands f right (half_at first) (half_there first)
+  row_stands b h = grind (arith, switch_stands, switch_there, input_stands, input_there, half_stands, half_there)
 
 -- what stands in a row is right
 right_row : (n : ℕ) (rs : List CodeRow) → AllRight rs → IfSome (coded_by n rs) (Right n)
 right_row n [] right = tt
-right_row n (r ∷ rs) right =
-    if_by (λ (b : Option CodedBy). IfSome b (Right n)) (n == r.code)
-    (λ e. subst (λ (m : ℕ). Right m r.by) (sym (eqb-true n r.code e)) right.0) (λ e. right_row n rs right.1)
+right_row n (r ∷ rs) right = grind (arith, right_row n rs right.1)
 
 command_stands : (k : Coded) → Stands (used_of k) (coded_command k)
 unfolding coded_command used_of
@@ -147,16 +123,7 @@ one_code j k c e f = sym (command_back j c e) ∙ command_back k c f
 -- what a code does not use is passed over
 command_used : (k : Coded) → coded_command (used_of k) ≡ coded_command k
 unfolding coded_command used_of
-command_used k = by (coded_by k.code code_rows) refl
-  where
-    by : (o : Option CodedBy) → coded_by k.code code_rows ≡ o
-        → let u = option_map_or (λ b. used_by b k) o (coded k.code 0 0) in
-        option_and_then (λ b. stands_for b u.first u.second) (coded_by u.code code_rows)
-        ≡ option_and_then (λ b. stands_for b k.first k.second) o
-    by (Some (alone c)) e = ap (option_and_then (λ b. stands_for b 0 0)) e
-    by (Some (switch f)) e = ap (option_and_then (λ b. stands_for b k.first 0)) e
-    by (Some b) e = ap (option_and_then (λ b. stands_for b k.first k.second)) e
-    by None e = ap (option_and_then (λ b. stands_for b 0 0)) e
+command_used k = grind arith
 
 pub stands_for_its_command : (k : Coded) (c : Command) → is_command c ≡ true → code_of c ≡ used_of k
     → coded_command k ≡ Some c

@@ -1,7 +1,7 @@
 -- The loop that fills an array from its start on, once over the kind of thing: `g k` are the first k things.
 --   Filled arr k      the array arr, blank before, has k things of at most `count`
 -- Assumes nothing.
-use Rattle.std.proofs.Common.{ℕ, ◌+◌, ◌<◌, ◌≤◌, ◌≡◌, sym, ap, ◌∙◌, List, [], ◌∷◌, ◌++◌, map, add-one, arith, length}
+use Rattle.std.proofs.Common.{ℕ, ◌+◌, ◌<◌, ◌≤◌, ◌≡◌, ap, ◌∙◌, List, [], ◌∷◌, ◌++◌, map, add-one, arith, length}
 use Rattle.std.proofs.Common.{slice_index_or, set, take, length-append, take-suc}
 use Rattle.std.proofs.lemmas.List.{map-append}
 use Rattle.std.proofs.Math.Seq.{sets}
@@ -15,11 +15,7 @@ module _ {B : Type 0} (g : ℕ → List B) (blank : List B) (count : ℕ) where
 
   pub one_filled : {arr : List B} {k : ℕ} (b : B) → IsFilled arr k → k < count → g (k + 1) ≡ g k ++ (b ∷ [])
       → IsFilled (set arr k b) (k + 1)
-  one_filled {arr} {k} b f h e = record {
-    counted = omega arith;
-    stored = sets_snoc blank 0 (g k) b f.stored (omega (arith, f.long)) ∙ ap (sets blank 0) (sym e);
-    long = omega (arith, f.long, ap length e, length-append (g k) (b ∷ []));
-  }
+  one_filled {arr} {k} b f h e = grind (arith, sets_snoc, length-append)
 
 -- the first k elements of a list, each turned
 module _ {A B : Type 0} (f : A → B) (l : List A) where

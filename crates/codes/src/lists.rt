@@ -66,6 +66,7 @@ impl FlatReading {
     }
 
     /// Of at most 32 inputs, two characters each.
+    #[tactic(auto, using(crate::proofs::Flattening::one_more_input))]
     pub(crate) fn with_inputs(inputs: &[Input]) -> FlatReading
         requires { length inputs.now ≤ inputs_carried }
         ensures { result ≡ with_inputs inputs.now }

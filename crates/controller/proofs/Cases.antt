@@ -1,11 +1,10 @@
 -- The writer and the readers, case by case: the equation of each case.
 -- Assumes nothing.
-use Rattle.std.proofs.Common.{ℕ, ◌≤◌, ◌<◌, ◌≡◌, ap, ◌∙◌, Bool, true, false, not, ◌&&◌, ◌||◌, List, [], ◌++◌, length}
+use Rattle.std.proofs.Common.{arith, ℕ, ◌≤◌, ◌<◌, ◌≡◌, ap, ◌∙◌, Bool, true, false, not, List, ◌++◌, length, le-ltb}
 use Rattle.std.specs.Prelude.{Option, None, Some}
-use Rattle.std.proofs.Common.{nat_lt, ltb-true, ltb-false, le-ltb}
 use Rattle.std.proofs.lemmas.Bool.{not-true, not-false}
 use Rattle.text.specs.Scans.{same_by, itself}
-use Rattle.text.proofs.Choices.{if_yes, if_no, if_by, both}
+use Rattle.text.proofs.Choices.{if_yes, if_no, if_by}
 use Rattle.text.proofs.Scanning.{long_differs}
 use Rattle.digest.specs.Hex.{leading_digest, hex_digits}
 use Rattle.words.specs.Texts.{is_password}
@@ -15,9 +14,8 @@ use Rattle.pjlink.specs.declared.command.Command.{Command}
 use Rattle.pjlink.specs.Bodies.{is_body}
 use Rattle.pjlink.specs.Reading.{read_parameter}
 use Rattle.controller.specs.Writing.{WrittenAs, nothing_written, command_room, is_writable, led_by, written_command}
-use Rattle.controller.specs.Reading.{ReadAs, without, saying, read_reply}
+use Rattle.controller.specs.Reading.{ReadAs, without, saying, read_reply, erra_said, not_a_line, other_command}
 use Rattle.controller.specs.Greetings.{greets, random_in, read_greeting}
-use Rattle.controller.specs.Reading.{erra_said, not_a_line, other_command}
 use Rattle.controller.specs.declared.greeting.Greeting.{Greeting}
 use Rattle.controller.specs.declared.greeting.Greeting.TheVariants.{Open, Secured, Refused}
 
@@ -30,11 +28,7 @@ module _ (c : Command) (secured : Bool) (random : ℕ) (password : List ℕ) (ro
       → P (record { number = 0; bytes = led_by secured random password ++ command_line c }))
       → P (written_command c secured random password room)
   unfolding written_command
-  written_by P short illegal line =
-      if_by P (nat_lt room command_room) (λ h. short (ltb-true room command_room h)) (λ h.
-      let enough = ltb-false room command_room h in
-      let writable = is_writable c secured password in
-      if_by P (not writable) (λ w. illegal enough (not-true writable w)) (λ w. line enough (not-false writable w)))
+  written_by P short illegal line = grind arith
 
   module _ (enough : command_room ≤ room) where
     pub written_line : is_writable c secured password ≡ true → written_command c secured random password room
@@ -50,14 +44,11 @@ module _ (c : Command) (secured : Bool) (random : ℕ) (password : List ℕ) (ro
 
       pub written_plain : secured ≡ false
           → written_command c secured random password room ≡ record { number = 0; bytes = command_line c }
-      written_plain e =
-          written_line (both writable (ap (λ (s : Bool). not s || is_password password) e))
-          ∙ led (if_no (leading_digest random password) [] e)
+      written_plain e = grind (arith, written_line)
 
       pub written_led : secured ≡ true → is_password password ≡ true → written_command c secured random password room
           ≡ record { number = 0; bytes = leading_digest random password ++ command_line c }
-      written_led e f =
-          written_line (λ i. writable i && (not (e i) || f i)) ∙ led (if_yes (leading_digest random password) [] e)
+      written_led e f = grind (arith, written_line)
 
 -- reading a reply: the ERRA line, the form, the body, the parameter
 module _ (c : Command) (l : List ℕ) where
@@ -108,9 +99,7 @@ module _ (l : List ℕ) where
       → P None
       → P (read_greeting l)
   unfolding read_greeting
-  greeting_by P opens erra secured none =
-      if_by P (same_by itself l greeting_open) opens (λ n.
-      if_by P (same_by itself l erra_line) erra (λ m. if_by P (greets l (random_in l)) secured (λ k. none)))
+  greeting_by P opens erra secured none = grind arith
 
   pub greeting_open_lem : same_by itself l greeting_open ≡ true → read_greeting l ≡ Some Open
   unfolding read_greeting

@@ -2,8 +2,7 @@
 -- it, and a line that says something is read so. The ERRA line and no other is read as such. So a line's outcome is
 -- that of the first test it fails.
 -- Assumes nothing.
-use Rattle.std.proofs.Common.{ℕ, ◌≡◌, sym, ap, ◌∙◌, Bool, not, List, ◌↔◌}
-use Rattle.std.specs.Prelude.{if◌then◌else◌}
+use Rattle.std.proofs.Common.{arith, ℕ, ◌≡◌, sym, ap, ◌∙◌, Bool, not, List, ◌↔◌, if◌then◌else◌}
 use Rattle.text.specs.Scans.{same_by, itself}
 use Rattle.text.proofs.Choices.{if_yes, if_no}
 use Rattle.text.proofs.Sameness.{same_is}
@@ -12,13 +11,13 @@ use Rattle.pjlink.specs.Commands.{body_of, command_class}
 use Rattle.pjlink.specs.declared.command.Command.{Command}
 use Rattle.pjlink.proofs.RepliesReadBack.{form_not_erra}
 use Rattle.pjlink.specs.Bodies.{is_body}
-use Rattle.pjlink.specs.Said.{Said, nothing}
+use Rattle.pjlink.specs.Said.{Said}
 use Rattle.pjlink.specs.CanSay.{CanSay}
 use Rattle.pjlink.specs.Reading.{read_parameter}
-use Rattle.pjlink.specs.Writings.{Says, IsAllowed, says, says_nothing}
-use Rattle.pjlink.proofs.ReadSound.{CanRead, no_answer, answer, read_sound}
+use Rattle.pjlink.specs.Writings.{Says, IsAllowed, says}
+use Rattle.pjlink.proofs.ReadSound.{CanRead, read_sound}
 use Rattle.pjlink.proofs.ReadWritings.{written_is_read, not_allowed_says_nothing}
-use Rattle.controller.specs.Reading.{ReadAs, meaning, saying, read_reply, LineSays}
+use Rattle.controller.specs.Reading.{meaning, saying, read_reply, LineSays}
 use Rattle.controller.specs.Reading.{Outcome, means_it, erra_said, not_a_line, other_command, disallowed}
 use Rattle.controller.proofs.Cases.{reply_by, reply_said}
 use Rattle.controller.proofs.ReadsBack.{can_mean}
@@ -26,8 +25,7 @@ use Rattle.controller.proofs.Refusals.{erra_read}
 
 module _ (c : Command) where
   said_sound : {p : List ℕ} {m : Said} → CanRead c p m → (saying m).outcome ≡ means_it → Says c m p
-  said_sound (answer said) e = said
-  said_sound no_answer e = cc
+  said_sound h g = grind arith
 
   pub means_what_was_written : (l : List ℕ) → (read_reply c l).outcome ≡ means_it → LineSays c l (read_reply c l).said
   means_what_was_written l =
@@ -38,15 +36,11 @@ module _ (c : Command) where
   reads_sound l e = (means_what_was_written l e).says.can
 
   pub what_was_written_is_meant : (l : List ℕ) (m : Said) → LineSays c l m → read_reply c l ≡ meaning m
-  what_was_written_is_meant l m line =
-      reply_said c l (form_not_erra (command_class c) l line.form) line.form line.body
-      ∙ ap saying (written_is_read c (reply_parameter l) m line.says)
-      ∙ (λ i. record { outcome = can_mean line.says.can i; said = m })
+  what_was_written_is_meant l m line = grind (arith, reply_said, form_not_erra, written_is_read, can_mean)
 
   -- the ERRA line, and no other
   saying_no_erra : (m : Said) → (saying m).outcome ≡ erra_said → ⊥
-  saying_no_erra nothing q = cc
-  saying_no_erra m q = cc
+  saying_no_erra m h = grind arith
 
   erra_was_written : (l : List ℕ) → (read_reply c l).outcome ≡ erra_said → l ≡ erra_line
   erra_was_written l =
@@ -54,10 +48,7 @@ module _ (c : Command) where
       (λ e f q. cc) (λ f b q. cc) (λ f b q. absurd (saying_no_erra (read_parameter c (reply_parameter l)) q))
 
   pub erra_exactly : (l : List ℕ) → ((read_reply c l).outcome ≡ erra_said) ↔ (l ≡ erra_line)
-  erra_exactly l = (
-    erra_was_written l,
-    λ e. ap (λ (k : List ℕ). (read_reply c k).outcome) e ∙ ap (λ (r : ReadAs). r.outcome) (erra_read c),
-  )
+  erra_exactly l = grind (arith, erra_was_written, erra_read)
 
   -- the first test that a line fails
   abbrev first_outcome : List ℕ → Bool → Outcome
@@ -70,10 +61,7 @@ module _ (c : Command) where
 
   allowed_outcome : (p : List ℕ) {t : Bool} → IsAllowed c p t
       → (saying (read_parameter c p)).outcome ≡ (if not t then disallowed else means_it)
-  allowed_outcome p (says m said) =
-      ap (λ (m : Said). (saying m).outcome) (written_is_read c p m said) ∙ can_mean said.can
-  allowed_outcome p (says_nothing none) =
-      ap (λ (m : Said). (saying m).outcome) (not_allowed_says_nothing c p (says_nothing none))
+  allowed_outcome p h = grind (arith, written_is_read, can_mean, not_allowed_says_nothing)
 
   pub outcome_is_first : (l : List ℕ) {t : Bool} → IsAllowed c (reply_parameter l) t
       → (read_reply c l).outcome ≡ first_outcome l t

@@ -1,26 +1,20 @@
 -- A refusal writes nothing and means nothing; and the numbers, each the first row of the table that applies (RULES, The
 -- numbers a call gives).
 -- Assumes nothing.
-use Rattle.std.proofs.Common.{ℕ, ◌≡◌, refl, sym, ap, ◌∙◌, Bool, not, List, [], nat_lt, lt-ltb, le-ltb}
-use Rattle.std.specs.Prelude.{if◌then◌else◌}
+use Rattle.std.proofs.Common.{arith, ℕ, ◌≡◌, refl, ap, Bool, not, List, [], nat_lt, lt-ltb, le-ltb, if◌then◌else◌}
 use Rattle.text.proofs.Choices.{if_yes, if_no}
 use Rattle.pjlink.specs.Forms.{erra_line}
 use Rattle.pjlink.specs.declared.command.Command.{Command}
 use Rattle.pjlink.specs.Said.{Said, nothing}
 use Rattle.controller.specs.Writing.{command_room, is_writable, written_command}
-use Rattle.controller.specs.Reading.{reading_outcome_number, without, saying, read_reply}
-use Rattle.controller.specs.Reading.{means_it, erra_said}
+use Rattle.controller.specs.Reading.{reading_outcome_number, without, saying, read_reply, means_it, erra_said}
 use Rattle.controller.proofs.Cases.{written_by, reply_by, reply_erra}
 
 module _ (c : Command) (secured : Bool) (random : ℕ) (password : List ℕ) (room : ℕ) where
   pub written_number : (written_command c secured random password room).number
       ≡ (if nat_lt room command_room then 2 else if not (is_writable c secured password) then 3 else 0)
-  written_number =
-      written_by c secured random password room
-      (λ w. w.number ≡ (if nat_lt room command_room then 2 else if not (is_writable c secured password) then 3 else 0))
-      (λ h. sym (if_yes _ _ (lt-ltb room command_room h)))
-      (λ h w. sym (if_no _ _ (le-ltb room command_room h) ∙ if_yes _ _ (ap not w)))
-      (λ h w. sym (if_no _ _ (le-ltb room command_room h) ∙ if_no _ _ (ap not w)))
+  unfolding written_command
+  written_number = grind (arith, if_yes, lt-ltb, if_no, le-ltb)
 
   pub refusal_writes_nothing : ((written_command c secured random password room).number ≡ 0 → ⊥)
       → (written_command c secured random password room).bytes ≡ []
@@ -30,8 +24,7 @@ module _ (c : Command) (secured : Bool) (random : ℕ) (password : List ℕ) (ro
 
 module _ (c : Command) where
   unsaid : (m : Said) → ((saying m).outcome ≡ means_it → ⊥) → m ≡ nothing
-  unsaid nothing n = refl
-  unsaid m n = absurd (n refl)
+  unsaid m h = grind arith
 
   pub refusal_means_nothing : (l : List ℕ) → ((read_reply c l).outcome ≡ means_it → ⊥) → (read_reply c l).said ≡ nothing
   refusal_means_nothing l =

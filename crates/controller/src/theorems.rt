@@ -11,6 +11,7 @@ ghost use Rattle.controller.specs.declared.greeting.Greeting.{Greeting};
 ghost use Rattle.controller.specs.Greetings.{read_greeting};
 
 /// Two results that meet the promise of a call are equal, lent memory included; two replies that are read say the same.
+#[tactic(auto, using(text::proofs::OneResult::one_result))]
 pub fn one_result()
     ensures command_written { (c : Command) (secured : Bool) (random : ℕ) (password out : List ℕ)
         (r s : WriteTold) (m n : List ℕ)

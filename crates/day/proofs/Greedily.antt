@@ -1,9 +1,8 @@
 -- The loop that places one job after the other.
 --   Going jobs rigs ps j      the first j jobs are placed, each on its lowest rig, and keep every rule
 -- Assumes nothing.
-use Rattle.std.proofs.Common.{ℕ, zero, suc, ◌+◌, ◌<◌, ◌≤◌, ◌≡◌, List, [], ◌∷◌, ◌++◌, length, take, min}
-use Rattle.std.proofs.Common.{sym, ap, subst, ◌∙◌, arith, length-append, ⊎_elim, slice_index_or}
-use Rattle.std.specs.Prelude.{All}
+use Rattle.std.proofs.Common.{ℕ, zero, suc, ◌+◌, ◌<◌, ◌≤◌, ◌≡◌, List, [], ◌∷◌, ◌++◌, length, take, min, sym, ap, subst}
+use Rattle.std.proofs.Common.{◌∙◌, arith, length-append, ⊎_elim, slice_index_or, All}
 use Rattle.std.proofs.Math.ListN.{get_or-append}
 use Rattle.std.proofs.Math.Seq.{get_or-append_seam, take-suc, take-append_seam, take-append-le, take-length}
 use Rattle.std.proofs.lemmas.List.{take_more, get_or-map, get_or-take, length-take, map-append, length-map}
@@ -21,12 +20,7 @@ nobody = record { job = record { start = 0; length = 0; allowed = 0 }; rig = 0 }
 
 module _ (rigs : List Rig) where
   pub keeps_none : Keeps rigs []
-  keeps_none = record {
-    rigged = λ k d h. absurd (omega arith);
-    timely = λ k d h. absurd (omega arith);
-    apart = λ i j d l h. absurd (omega arith);
-    lasting = λ k r on. omega arith;
-  }
+  keeps_none = grind arith
 
   pub greedy_push : (ps : List Placement) (job : Job) (k : ℕ) → IsGreedy rigs ps → IsLowestRig rigs ps job k
       → IsGreedy rigs (ps ++ on_rig job k ∷ [])

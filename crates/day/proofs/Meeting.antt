@@ -1,7 +1,6 @@
 -- Two stretches on a rig share a second exactly if each begins before the other one ends.
 -- Assumes nothing.
-use Rattle.std.proofs.Common.{◌+◌, ◌-◌, ◌≤◌, ◌<◌, arith}
-use Rattle.std.specs.Prelude.{max}
+use Rattle.std.proofs.Common.{◌+◌, ◌-◌, ◌≤◌, ◌<◌, arith, max}
 use Rattle.day.specs.Rules.{Meet}
 use Rattle.day.specs.declared.Job.{Job}
 use Rattle.day.specs.declared.Rig.{Rig}

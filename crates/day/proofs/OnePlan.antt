@@ -1,5 +1,6 @@
 -- At most one answer of the planner holds of jobs and rigs: there is one greedy assignment, as far as it goes.
 -- Assumes nothing.
+use Rattle.std.proofs.lemmas.Grind.{common_steps}
 use Rattle.std.proofs.Common.{ℕ, zero, suc, ◌<◌, ◌≤◌, ◌≡◌, List, [], ◌∷◌, ◌++◌, length, take, Ok, Err, Result}
 use Rattle.std.proofs.Common.{refl, sym, ap, subst, ◌∙◌, arith, ⊎_elim, slice_index_or}
 use Rattle.std.proofs.Math.Seq.{take-suc, take-length}
@@ -7,7 +8,7 @@ use Rattle.std.proofs.lemmas.List.{take_all}
 use Rattle.std.proofs.lemmas.Option.{get_or_from_slice_get, slice_get_within}
 use Rattle.text.proofs.Orders.{le_or_lt}
 use Rattle.day.specs.Rules.{Keeps}
-use Rattle.day.specs.Verdicts.{InRange, VerdictHolds}
+use Rattle.day.specs.Verdicts.{VerdictHolds}
 use Rattle.day.specs.Plans.{jobs_of, on_rig, IsLowestRig, IsGreedy, FindsNoneAt, PlanHolds}
 use Rattle.day.specs.declared.Job.{Job}
 use Rattle.day.specs.declared.Rig.{Rig}
@@ -99,13 +100,4 @@ module _ (jobs : List Job) (rigs : List Rig) where
 
   -- what is planned keeps every rule
   pub planned_accepted : (ps : List Placement) → Holds (Ok ps) → VerdictHolds rigs ps (Ok tt)
-  planned_accepted ps a =
-      let n = length jobs in
-      let front = whole ps a.2 in
-      let within : InRange rigs ps = record {
-        few_jobs = omega (arith, length_front jobs n ps front, a.0.few_jobs);
-        few_rigs = a.0.few_rigs;
-        all_jobs = all_in_range jobs n ps front a.0.all_jobs;
-        all_rigs = a.0.all_rigs;
-      } in
-      (within, greedy_kept rigs ps a.1)
+  planned_accepted ps a = grind (arith, common_steps, whole, length_front, all_in_range, greedy_kept)

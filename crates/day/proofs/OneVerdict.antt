@@ -1,8 +1,7 @@
 -- At most one verdict holds of a plan: what a verdict says of the rules before its own, and of the lowest job or rig,
 -- no other one says.
 -- Assumes nothing.
-use Rattle.std.proofs.Common.{ℕ, ◌<◌, ◌≡◌, List, Ok, Err, Result, refl, ap, subst, arith, ⊎_elim}
-use Rattle.std.specs.Prelude.{All}
+use Rattle.std.proofs.Common.{ℕ, ◌<◌, ◌≡◌, List, Ok, Err, Result, refl, ap, subst, arith, ⊎_elim, All}
 use Rattle.text.proofs.Orders.{le_or_lt}
 use Rattle.day.specs.Rules.{HasRig, InTime, Lasts}
 use Rattle.day.specs.Verdicts.{IsLowestBreaking, IsLowestPartner, IsLowestClash, IsLowestSpent}
@@ -64,12 +63,7 @@ module _ (rigs : List Rig) (ps : List Placement) where
   Holds = VerdictHolds rigs ps
 
   by_range : (InRange rigs ps → ⊥) → (v : Verdict) → Holds v → Err OutOfRange ≡ v
-  by_range out (Err OutOfRange) w = refl
-  by_range out (Ok x) w = absurd (out w.0)
-  by_range out (Err (NoRig k)) w = absurd (out w.0)
-  by_range out (Err (TooEarly k)) w = absurd (out w.0)
-  by_range out (Err (Clash k l)) w = absurd (out w.0)
-  by_range out (Err (Spent k)) w = absurd (out w.0)
+  by_range h v g = grind arith
 
   module _ (within : InRange rigs ps) where
     by_rig : {j : ℕ} → IsLowestBreaking (HasRig rigs) ps j → (v : Verdict) → Holds v → Err (NoRig j) ≡ v

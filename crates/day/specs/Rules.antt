@@ -12,9 +12,8 @@
 --   Lasts rigs ps k       rig k burns no more than it has left
 --   Keeps rigs ps         all four rules
 -- Assumes nothing.
-use Rattle.std.specs.Prelude.{ℕ, ◌+◌, ◌/◌, ◌%◌, ◌^◌, ◌<◌, ◌≤◌, ◌≡◌, ◌==◌, List, length, Some, slice_get, All}
-use Rattle.std.specs.Prelude.{AllPairs, sum_by}
-use Rattle.std.specs.Prelude.{if◌then◌else◌}
+use Rattle.std.specs.Prelude.{ℕ, ◌+◌, ◌/◌, ◌%◌, ◌^◌, ◌<◌, ◌≤◌, ◌≡◌, ◌==◌, List, length, Some, slice_get, All, AllPairs}
+use Rattle.std.specs.Prelude.{sum_by, if◌then◌else◌}
 use Rattle.day.specs.declared.Job.{Job}
 use Rattle.day.specs.declared.Rig.{Rig}
 use Rattle.day.specs.declared.Placement.{Placement}

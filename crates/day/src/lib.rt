@@ -79,6 +79,7 @@ impl Rig {
     }
 
     // The stretches of the two jobs on the rig share a second: each begins before the other one ends.
+    #[tactic(auto, using(crate::proofs::Meeting::meet_from_starts, crate::proofs::Meeting::starts_from_meet))]
     fn meets(self, job: Job, other: Job) -> bool
         requires job_lasts { 1 ≤ job.length }
         requires other_lasts { 1 ≤ other.length }

@@ -14,6 +14,7 @@ use crate::plan::{Plan, PlanError, plan_day};
 use crate::{DAY_END, JOBS_MOST, Job, Placement, RIGS_MOST, Rig, WARM_OR_COOL_MOST};
 
 /// What the checker tells holds of the plan, and what holds it tells: so exactly one verdict holds.
+#[tactic(auto, using(crate::proofs::OneVerdict::one_verdict))]
 pub fn the_verdict_told_holds(plan: &[Placement], rigs: &[Rig]) -> Result<(), CheckError>
     ensures told_holds { VerdictHolds rigs.now plan.now result }
     ensures holds_told { (v : Result (Unit {0}) CheckError) → VerdictHolds rigs.now plan.now v → result ≡ v }
@@ -24,6 +25,7 @@ pub fn the_verdict_told_holds(plan: &[Placement], rigs: &[Rig]) -> Result<(), Ch
 }
 
 /// What the planner answers holds of the jobs and rigs, and what holds it answers: so exactly one answer holds.
+#[tactic(auto, using(crate::proofs::OnePlan::one_plan))]
 pub fn the_plan_answered_holds(jobs: &[Job], rigs: &[Rig]) -> Result<Plan, PlanError>
     ensures told_holds { PlanHolds jobs.now rigs.now result }
     ensures holds_told { (p : Result (List Placement) PlanError) → PlanHolds jobs.now rigs.now p → result ≡ p }
@@ -34,6 +36,7 @@ pub fn the_plan_answered_holds(jobs: &[Job], rigs: &[Rig]) -> Result<Plan, PlanE
 }
 
 /// What the planner plans the checker accepts.
+#[tactic(auto, using(crate::proofs::OnePlan::planned_accepted))]
 pub fn a_plan_is_accepted()
     ensures { (jobs : List Job) (rigs : List Rig) (plan : List Placement)
         → PlanHolds jobs rigs (Ok plan) → VerdictHolds rigs plan (Ok tt) }

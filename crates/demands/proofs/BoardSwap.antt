@@ -13,7 +13,7 @@ use Rattle.record.proofs.MarksTold.{marks_long}
 use Rattle.record.proofs.Started.{started_parts}
 use Rattle.stored.specs.Form.{form_version, marked_form_of, stored_of, marks_stored, stored_form, stored_by}
 use Rattle.stored.proofs.Results.{stored_told, accepted_set_up, older_is_class_1}
-use Rattle.stored.specs.Loading.{settings_in, started_with, loaded}
+use Rattle.stored.specs.Loading.{started_with, loaded}
 use Rattle.stored.proofs.FormsLoad.{stored_in_range, stored_loads as form-again, marked_form_loads, marked_form_marks}
 use Rattle.stored.proofs.FormsLoad.{old_form_loads}
 use Rattle.stored.proofs.Fields.{bytes_all}

@@ -1,11 +1,10 @@
 -- Laws of `blocks_of` and `whole_blocks`: blocks in two goes, and the digest of a message in two parts.
 -- Assumes nothing.
-use Rattle.std.proofs.Common.{◌≡◌, ℕ, zero, suc, ◌+◌, ◌*◌, ◌/◌, ◌%◌, ◌≤◌, List, [], ◌∷◌, ◌++◌, length, take, drop}
-use Rattle.std.proofs.Common.{replicate, sym, refl, ap, ◌∙◌, append_assoc, add-zero, add-suc, arith, length-append}
+use Rattle.std.proofs.Common.{◌≡◌, ℕ, zero, suc, ◌+◌, ◌*◌, ◌/◌, ◌%◌, ◌≤◌, List, [], ◌++◌, length, take, drop}
+use Rattle.std.proofs.Common.{sym, refl, ap, ◌∙◌, append_assoc, add-zero, add-suc, arith, length-append}
 use Rattle.std.proofs.Common.{length-drop, drop_of_length-le, take_all, drop-drop}
 use Rattle.std.proofs.lemmas.List.{take-append-le, drop-append-le}
 use Rattle.std.proofs.Math.Path.{◌≡⟨◌⟩◌, ◌∎}
-use Rattle.std.specs.Int.{to_le_bytes, w64}
 use Rattle.digest.specs.Padding.{zeros_after, bit_length, padding}
 use Rattle.digest.specs.Rounds.{block_of}
 use Rattle.digest.specs.Md5.{start_words, blocks_of, whole_blocks, md5_of, finishing}
@@ -54,9 +53,7 @@ block_first t p q h =
 
 padding_by_rest : (m n b : ℕ) → m % 64 ≡ n % 64 → padding m b ≡ padding n b
 unfolding padding zeros_after
-padding_by_rest m n b e =
-    let same : zeros_after m ≡ zeros_after n = omega arith in
-    ap (λ (z : ℕ). 0x80 ∷ (replicate z 0 ++ to_le_bytes w64 b)) same
+padding_by_rest m n b e = grind arith
 
 -- the blocks of s and then the last ones are those of s with its padding
 pub finished : (s rest : List ℕ) (b : ℕ) (q : Buffer) → rest ≡ drop (length s / 64 * 64) s

@@ -3,7 +3,7 @@
 --   chosen n x y z      as the definition has it, n being the word of ones
 -- Assumes nothing.
 use Rattle.std.proofs.lemmas.Nat.{and_shr, or_shr, xor_shr, and_mod, or_mod, xor_mod}
-use Rattle.std.proofs.Common.{◌≡◌, ℕ, zero, suc, ◌-◌, ◌*◌, ◌/◌, ◌%◌, ◌^◌, ◌<◌, sym, ◌∙◌, pow-suc}
+use Rattle.std.proofs.Common.{◌≡◌, ℕ, zero, suc, ◌-◌, ◌*◌, ◌/◌, ◌%◌, ◌^◌, ◌<◌, pow-suc}
 use Rattle.std.proofs.Common.{arith, eqb-true, bit_and, bit_or, bit_xor}
 use Rattle.text.proofs.EachBelow.{each_below}
 
@@ -20,10 +20,7 @@ same_halves : (m n : ℕ) → m / 2 ≡ n / 2 → m % 2 ≡ n % 2 → m ≡ n
 same_halves m n h o = omega arith
 
 pub mixed_is_chosen : (k x y z : ℕ) → x < 2 ^ k → z < 2 ^ k → mixed x y z ≡ chosen (2 ^ k - 1) x y z
-mixed_is_chosen zero x y z hx hz =
-    let ex : x ≡ 0 = omega arith in
-    let ez : z ≡ 0 = omega arith in
-    (λ i. mixed (ex i) y (ez i)) ∙ sym (λ i. chosen 0 (ex i) y (ez i))
+mixed_is_chosen zero x y z hx hz = grind arith
 mixed_is_chosen (suc k) x y z hx hz =
     let twice : 2 ^ suc k ≡ 2 ^ k * 2 = pow-suc 2 k in
     let half : (2 ^ suc k - 1 - x) / 2 ≡ 2 ^ k - 1 - x / 2 = omega arith in

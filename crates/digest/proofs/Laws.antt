@@ -3,10 +3,10 @@
 -- Assumes nothing.
 use Rattle.std.specs.List.{list_all}
 use Rattle.std.proofs.Common.{◌≡◌, ℕ, ◌*◌, ◌^◌, ◌<◌, ◌≤◌, true, false, not, ◌&&◌, List}
-use Rattle.std.proofs.Common.{length, refl, ap, ◌∙◌, arith, ne_eqb, leb-true, ◌==◌, nat_le, slice_index_or}
+use Rattle.std.proofs.Common.{length, refl, ap, ◌∙◌, arith, ne_eqb, ◌==◌, nat_le, slice_index_or}
 use Prim.Native.Char.{code}
 use Rattle.text.specs.Words.{◌is◌}
-use Rattle.text.proofs.Choices.{if_by, both_left, both_right}
+use Rattle.text.proofs.Choices.{if_by}
 use Rattle.text.proofs.Bases.{length-low_digits, list_all-low_digits, low_digits_back, value_below}
 use Rattle.text.proofs.InTurn.{length-each_in_turn, list_all-each_in_turn}
 use Rattle.text.proofs.Scanning.{list_all_implies}
@@ -32,8 +32,7 @@ pub length-leading_digest : (random : ℕ) (password : List ℕ) → length (lea
 length-leading_digest random password = hex_of_md5_length _
 
 pub between : (l h b : ℕ) → (nat_le l b && nat_le b h) ≡ true → (l ≤ b) × (b ≤ h)
-between l h b e =
-    (leb-true l b (both_left (nat_le l b) (nat_le b h) e), leb-true b h (both_right (nat_le l b) (nat_le b h) e))
+between l h b e = grind arith
 
 pub hex_digits_are_digits : (n x : ℕ) → list_all is_hex_digit (hex_digits n x) ≡ true
 hex_digits_are_digits = list_all-low_digits 16 hex_digit is_hex_digit (omega arith) is_hex_digit-hex_digit

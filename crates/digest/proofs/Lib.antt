@@ -6,5 +6,4 @@ mod Stored
 mod Padded
 mod Blocks
 pub mod Laws
-mod OneResult
 mod Vectors

@@ -1,6 +1,6 @@
 -- What holds at each entry of a table, by one test of the whole table that antt computes.
 -- Assumes nothing.
-use Rattle.std.proofs.Common.{◌≡◌, ℕ, ◌+◌, ◌*◌, ◌%◌, ◌<◌, true, refl, ltb-true, eqb-true, ◌==◌, nat_lt}
+use Rattle.std.proofs.Common.{arith, ◌≡◌, ℕ, ◌+◌, ◌*◌, ◌%◌, ◌<◌, true, refl, eqb-true, ◌==◌}
 use Rattle.text.proofs.EachBelow.{each_below}
 use Rattle.digest.specs.Rounds.{by_round, shifts, shift_of, word_numbers, word_number}
 use Rattle.digest.specs.Hex.{hex_digit, is_hex_digit, hex_worth}
@@ -24,10 +24,7 @@ shift_by_rows_lem i h = eqb-true _ _ (each_below (λ k. shift_of k == shift_by_r
 
 pub shift_in_word : (i : ℕ) → i < 64 → (0 < shift_of i) × (shift_of i < 32)
 unfolding shift_of shifts
-shift_in_word i h = (
-  ltb-true _ _ (each_below (λ k. nat_lt 0 (shift_of k)) 64 refl i h),
-  ltb-true _ _ (each_below (λ k. nat_lt (shift_of k) 32) 64 refl i h),
-)
+shift_in_word i h = grind arith
 
 pub is_hex_digit-hex_digit : (n : ℕ) → n < 16 → is_hex_digit (hex_digit n) ≡ true
 unfolding hex_digit

@@ -12,8 +12,7 @@
 --   block_of xs q         the four words after the block xs, from the four words q
 -- Assumes nothing.
 use Rattle.std.specs.Prelude.{ℕ, zero, suc, ◌+◌, ◌*◌, ◌/◌, ◌%◌, List, [], ◌∷◌, bit_and, bit_or, bit_xor, nat_lt}
-use Rattle.std.specs.Prelude.{slice_index}
-use Rattle.std.specs.Prelude.{if◌then◌else◌}
+use Rattle.std.specs.Prelude.{slice_index, if◌then◌else◌}
 use Rattle.digest.specs.Words.{◌plus◌, ◌<<<◌, complement, word_at}
 use Rattle.digest.specs.declared.Buffer.{Buffer}
 

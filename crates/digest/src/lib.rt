@@ -70,6 +70,7 @@ fn finish(s: &[u8], bits: u64, q: Buffer) -> Digest
 }
 
 /// The MD5 digest of a message of any length (RFC 1321).
+#[tactic(auto, using(crate::proofs::Blocks::md5_from_start))]
 pub fn md5(s: &[u8]) -> Digest
     ensures { result.bytes ≡ md5_of s.now }
 {

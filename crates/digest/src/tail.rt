@@ -13,6 +13,7 @@ pub fn bit_length(n: usize) -> u64
 }
 
 // The block or two that hold what is left of a message, and its padding, whose last eight bytes are the length.
+#[tactic(auto, using(crate::proofs::Padded::padded_out))]
 pub fn last(rest: &[u8], bits: u64, q: Buffer) -> Buffer
     requires { length rest.now < 64 }
     ensures { result ≡ whole_blocks (rest.now ++ padding (length rest.now) bits) q }

@@ -8,6 +8,7 @@ ghost use Rattle.digest.specs.Padding.{zeros_after};
 ghost use Rattle.digest.specs.Hex.{hex_of, hex_digits, hex_value, leading_digest};
 
 /// The definition gives the digests that RFC 1321 publishes, and that of PJLink's example.
+#[tactic(auto, using(crate::proofs::Vectors::suite))]
 pub fn published_digests_come_out()
     ensures { TestSuite }
 {}

@@ -2,6 +2,7 @@
 ghost use Rattle.std.specs.Prelude.{◌≡◌, ◌+◌, ◌<◌, ◌≤◌, length};
 ghost use Rattle.digest.specs.Words.{◌<<<◌, word_at};
 
+#[tactic(auto, using(crate::proofs::Rotation::or_is_rotation))]
 pub fn rotate_left(x: u32, s: u32) -> u32
     requires { (0 < s) × (s < 32) }
     ensures { result ≡ x <<< s }

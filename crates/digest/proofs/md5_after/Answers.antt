@@ -19,10 +19,7 @@ put_both h s eight et eu fits =
     ∙ take-sets_exactly 64 (8 + length s) (h ++ s) (simp length-append (omega arith)) (omega arith)
 
 pub returns-then-s-lt56 : goal.returns-then-s-lt56
-returns-then-s-lt56 c =
-    let eight : length c.args.head ≡ 8 = search rules in
-    c.md5.ensures
-    ∙ ap md5_of (put_both _ _ eight c.put.ensures c.put-then-s-lt56.ensures (omega arith))
+returns-then-s-lt56 c = grind (arith, put_both)
 
 pub put-requires-2 : goal.put-requires-2
 put-requires-2 c = omega (arith, length-take-le 56 c.args.s.now c.if-s-lt56.false)

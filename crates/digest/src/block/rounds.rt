@@ -36,6 +36,7 @@ fn function(i: u32, b: u32, c: u32, d: u32) -> u32
     )
 }
 
+#[tactic(auto, using(crate::proofs::Tables::word_number_by_formula))]
 fn word_number(i: u32) -> u32
     requires { i < 64 }
     ensures of_the_table { result ≡ word_number i }
@@ -77,6 +78,7 @@ fn operate(m: &[u8], i: u32, t: u32, q: Buffer) -> Buffer
 }
 
 // Four operations, a row of the RFC's, with their constants.
+#[tactic(auto, using(crate::proofs::Rows::four_operations))]
 fn row(m: &[u8], i: u32, t: [u32; 4], q: Buffer) -> Buffer
     requires whole_block { length m.now ≡ 64 }
     requires in_table { i < 61 }

@@ -1,6 +1,5 @@
 -- Each `return` is one case of `read_reply`: the line is taken apart into what the cases speak of.
-use Rattle.std.proofs.Common.{◌≡◌, refl, sym, ap, ◌∙◌, ℕ, Bool, List}
-use Rattle.std.specs.Prelude.{Result, Ok, Err}
+use Rattle.std.proofs.Common.{arith, ◌≡◌, sym, ap, ◌∙◌, ℕ, Bool, List, Result}
 use Rattle.pjlink.specs.Forms.{is_reply_form, head_body, IsReplyOf}
 use Rattle.pjlink.specs.Commands.{body_of, command_class}
 use Rattle.pjlink.specs.declared.body.Body.{Body}
@@ -27,9 +26,7 @@ named c l taken e f g h = sym (g ∙ (λ i. is_body (e i) (taken.body i) (f i)))
 
 -- a reply says something
 replied : (r : Result Answer Refusal) → meaning (said_by r) ≡ saying (said_by r)
-replied (Ok an.Done) = refl
-replied (Ok a) = refl
-replied (Err r) = refl
+replied r = grind arith
 
 pub returns-then-same : goal.returns-then-same
 returns-then-same c = sym (reply_erra c.args.c c.args.line.now (sym c.same.ensures ∙ c.if-same.true))

@@ -1,5 +1,4 @@
-use Rattle.std.proofs.Common.{◌+◌, List, refl, sym, subst, slice_index_or}
-use Rattle.std.specs.Prelude.{All}
+use Rattle.std.proofs.Common.{◌+◌, List, refl, sym, subst, slice_index_or, All}
 use Rattle.std.proofs.lemmas.Option.{slice_get-get_or}
 use Rattle.day.specs.Days.{IsJob}
 use Rattle.day.specs.Rules.{Keeps}
