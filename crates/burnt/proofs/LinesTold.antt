@@ -1,7 +1,7 @@
 -- A log told line by line: what a line gives, and what the log gives that follows it, are what the log with it gives.
 -- Assumes nothing.
-use Rattle.std.proofs.Common.{None, Some, IfSome, ℕ, ◌+◌, ◌^◌, ◌≤◌, ◌≡◌, refl, sym, subst, ap, ◌∙◌, Bool, ◌&&◌, List, []}
-use Rattle.std.proofs.Common.{◌∷◌, ◌++◌, map, ◌⊎◌, ⊎_elim, arith, length, inl, inr}
+use Rattle.std.proofs.Common.{None, Some, IfSome, ℕ, ◌+◌, ◌^◌, ◌≤◌, ◌≡◌, refl, sym, subst, ap, ◌∙◌, Bool, ◌&&◌}
+use Rattle.std.proofs.Common.{List, [], ◌∷◌, ◌++◌, map, ◌⊎◌, ⊎_elim, arith, length, inl, inr}
 use Rattle.std.proofs.lemmas.Option.{IfSome_then}
 use Rattle.std.specs.declared.option.Option.{Option}
 use Rattle.std.specs.Io.KnownBytes.{Appends}
@@ -13,7 +13,7 @@ use Rattle.textio.proofs.LinesCounted.{lines_fit, too_long_bytes}
 use Rattle.textio.proofs.Fronts.{front_then, front_more}
 use Rattle.floorlog.specs.Kept.{kept_lines}
 use Rattle.watch.specs.Marking.{FloorEvent, floor_event, seconds_by}
-use Rattle.watch.specs.Watching.{Watching, watching_from, watched_on, dark_with, is_long}
+use Rattle.watch.specs.Watching.{Watching, watching_from, dark_with, is_long}
 use Rattle.watch.specs.Telling.{floor_events, told_on, telling_if, seconds_together}
 use Rattle.watch.specs.States.{IsWatched}
 use Rattle.watch.proofs.LinesKept.{floor_events_kept}

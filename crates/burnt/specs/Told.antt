@@ -7,13 +7,13 @@
 --   log_told d drawn log     what is written of a whole log that begins with the device d, on a page or as lines
 --   IsUntold log             a log has more lines, or more bytes in one, or lets more seconds pass, than 64 bits count
 -- Assumes nothing.
-use Rattle.std.specs.Prelude.{ℕ, ◌+◌, ◌^◌, ◌≤◌, ◌≡◌, ◌⊎◌, min, Bool, List, [], ◌∷◌, ◌++◌}
+use Rattle.std.specs.Prelude.{ℕ, ◌⊎◌, min, Bool, List, [], ◌∷◌, ◌++◌}
 use Rattle.record.specs.declared.types.Device.{Device}
 use Rattle.clock.specs.Second.{marks_in}
 use Rattle.textio.specs.Lines.{IsTooLong}
-use Rattle.watch.specs.Marking.{FloorEvent, seconds_by}
-use Rattle.watch.specs.Watching.{Watching, watching_from, watched_on, burnt_by}
-use Rattle.watch.specs.Telling.{floor_events, Telling, told_on, tellings, after_log, IsUncounted}
+use Rattle.watch.specs.Marking.{FloorEvent}
+use Rattle.watch.specs.Watching.{Watching, watching_from, burnt_by}
+use Rattle.watch.specs.Telling.{floor_events, Telling, tellings, after_log, IsUncounted}
 use Rattle.report.specs.Reports.{report_new, begun_text, report_told, told_text, ended_text}
 use Rattle.report.specs.declared.Report.{Report}
 

@@ -5,7 +5,6 @@ ghost use Rattle.std.specs.Io.KnownBytes.{Appends};
 ghost use Rattle.textio.specs.Fronts.{WritesFront, WritesText};
 ghost use Rattle.textio.specs.Ahead.{left_in};
 ghost use Rattle.textio.specs.NextLine.{FailureComesOf, OnFailedRead};
-ghost use Rattle.floorlog.specs.KeptText.{text_of};
 ghost use Rattle.watch.specs.Marking.{floor_event};
 ghost use Rattle.watch.specs.Telling.{seconds_together, telling_if};
 ghost use Rattle.watch.specs.States.{state_of};
@@ -131,7 +130,11 @@ pub fn tell_log<R: ByteSource, W: ByteSink>(
     let starts = begun.own.lamps;
     let report = Report::new(drawn);
     let watch = Watch::new(begun);
-    let mut teller = Teller { watch, report, starts };
+    let mut teller = Teller {
+        watch,
+        report,
+        starts,
+    };
     match report.begin(to) {
         Ok(()) => observer::follow(&mut teller, from, to),
         Err(e) => Err(Failure::Write(e)),

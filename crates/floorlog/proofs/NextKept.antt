@@ -1,6 +1,7 @@
 -- What is kept of the next line, in front of a memory that has room for a byte more.
 -- Assumes nothing.
-use Rattle.std.proofs.Common.{None, Some, Ok, Err, Result, IfOk, IfSome, ℕ, ◌≤◌, ◌≡◌, List, [], arith, length, take, take-take}
+use Rattle.std.proofs.Common.{None, Some, Ok, Err, Result, IfOk, IfSome, ℕ, ◌≤◌, ◌≡◌, List, [], arith, length, take}
+use Rattle.std.proofs.Common.{take-take}
 use Rattle.std.proofs.lemmas.Option.{IfSome_then}
 use Rattle.std.specs.declared.option.Option.{Option}
 use Rattle.textio.specs.NextLine.{IsLine, IsNextLine}

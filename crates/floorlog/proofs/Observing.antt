@@ -1,6 +1,6 @@
 -- A log observed line by line: what is written so far, and what the lines left give, are what all of its lines give.
---   Underway .. s log old now left n at     n lines of the log are observed from s on: `at` is the observer, and `now` is
---                                           in the sink
+--   Underway .. s log old now left n at     n lines of the log are observed from s on: `at` is the observer, and the
+--                                           sink has `now`
 -- Assumes nothing.
 use Rattle.std.proofs.Common.{None, Some, IfSome, Result, Any, inl, inr, ℕ, suc}
 use Rattle.std.proofs.Common.{◌+◌, ◌≤◌, ◌≡◌, refl, sym, ap, subst, ◌∙◌, List, [], ◌∷◌, ◌++◌, append_assoc, map, take}

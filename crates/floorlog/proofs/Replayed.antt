@@ -32,7 +32,8 @@ module _ (d : Device) where
     unfolding state_after
     state_more = ap (λ (x : Device). state_after x es) is
 
-    pub printed_more : (n : ℕ) → printed_from n d (e ∷ es) ≡ printed (n + 1) e (did d e) ++ printed_from (n + 1) after es
+    pub printed_more : (n : ℕ)
+        → printed_from n d (e ∷ es) ≡ printed (n + 1) e (did d e) ++ printed_from (n + 1) after es
     unfolding lines_printed state_after
     printed_more n =
         append_assoc (printed (n + 1) e (did d e)) _ _

@@ -1,6 +1,6 @@
 -- A log observed line by line, by someone of whom `output`, `Leaves` and `Overflows` are known.
---   Observes .. before after line old new    a line leaves `after` of `before`: a text is written, and what then comes is
---                                            what would have come with the line
+--   Observes .. before after line old new    a line leaves `after` of `before`: a text is written, and with it what
+--                                            comes then is what would have come with the line
 --   FailsOn fails over f                     the failure f of a line is an error of the sink, or what comes overflows
 --   CannotFollow Overflows s log             the log is too long, or has more in it than can be counted
 -- Assumes nothing.

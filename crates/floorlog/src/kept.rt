@@ -45,11 +45,11 @@ pub struct KeptLine {
 }
 
 impl KeptLine {
-    ghost use Rattle.floorlog.specs.KeptText.{text_of};
+    ghost use Rattle.floorlog.specs.KeptText.{kept_text};
 
     /// Before a line is read.
     pub fn new() -> KeptLine
-        ensures { text_of result ≡ [] }
+        ensures { kept_text result ≡ [] }
     {
         KeptLine {
             bytes: [0; ROOM],
@@ -59,14 +59,14 @@ impl KeptLine {
 
     /// What is kept of it.
     pub fn text(&self) -> &[u8]
-        ensures { result.now ≡ text_of self.now }
+        ensures { result.now ≡ kept_text self.now }
     {
         &self.bytes[..self.held]
     }
 
     /// The text that it would have received: what stands after two bytes, and CR.
     pub fn received(&mut self) -> &[u8]
-        ensures { result.now ≡ drop 2 (text_of self.old) ++ codes "\r" }
+        ensures { result.now ≡ drop 2 (kept_text self.old) ++ codes "\r" }
     {
         self.bytes[self.held] = b'\r';
         &self.bytes[self.held.min(2)..self.held + 1]
@@ -79,7 +79,7 @@ impl KeptLine {
         to: &mut W,
     ) -> Result<bool, Failure>
         ensures next { IfOk result (λ more. more ≡ true → IfSome (left_in R.remaining from.old) (λ log.
-            IsLine log (left_in R.remaining from.new) kept_most (text_of self.new))) }
+            IsLine log (left_in R.remaining from.new) kept_most (kept_text self.new))) }
         ensures end { IfOk result (λ more. more ≡ false → IfSome (left_in R.remaining from.old) (λ log. log ≡ [])) }
         ensures keeps { Keeps (W.contents to.old) (W.contents to.new) }
         ensures err { IfErr result

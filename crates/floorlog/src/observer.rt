@@ -1,12 +1,12 @@
-// A log observed: its lines handed on one after the other, from any source of bytes, and what is made of them written to
-// any sink.
+// A log observed: its lines handed on one after the other, from any source of bytes, and what is made of them written
+// to any sink.
 ghost use Rattle.std.specs.Prelude.{[], ◌∷◌, ◌≡◌, ℕ, List, OnOk, OnErr, IfErr, IfSome};
 ghost use Rattle.std.specs.Io.KnownBytes.{Appends};
 ghost use Rattle.textio.specs.Fronts.{WritesFront, WritesText};
 ghost use Rattle.textio.specs.Ahead.{left_in};
 ghost use Rattle.textio.specs.NextLine.{FailureComesOf, OnFailedRead};
 ghost use Rattle.floorlog.specs.Kept.{kept_lines};
-ghost use Rattle.floorlog.specs.KeptText.{text_of};
+ghost use Rattle.floorlog.specs.KeptText.{kept_text};
 ghost use Rattle.floorlog.specs.Observing.{Observes, FailsOn, CannotFollow};
 
 use crate::kept::KeptLine;
@@ -28,12 +28,12 @@ pub trait Observer {
 
     /// A line comes.
     fn line<W: ByteSink>(&mut self, line: &mut KeptLine, to: &mut W) -> Result<(), Failure>
-        ensures ok { OnOk result (Observes output Leaves Overflows self.old self.new (text_of line.old)
+        ensures ok { OnOk result (Observes output Leaves Overflows self.old self.new (kept_text line.old)
             (W.contents to.old) (W.contents to.new)) }
         ensures front { OnErr result ((ls : List (List ℕ)) → WritesFront (W.contents to.old) (W.contents to.new)
-            (output self.old (text_of line.old ∷ ls))) }
+            (output self.old (kept_text line.old ∷ ls))) }
         ensures err { IfErr result
-            (FailsOn W.fails_with ((ls : List (List ℕ)) → Overflows self.old (text_of line.old ∷ ls))) };
+            (FailsOn W.fails_with ((ls : List (List ℕ)) → Overflows self.old (kept_text line.old ∷ ls))) };
 
     /// No line comes any more.
     fn end<W: ByteSink>(&mut self, to: &mut W) -> io::Result<()>
@@ -51,7 +51,8 @@ fn end<W: ByteSink, O: Observer>(observer: &mut O, to: &mut W) -> io::Result<()>
     to.flush()
 }
 
-/// The log that a reader has left is observed to its end. What is written is handed on before each read, which may wait.
+/// The log that a reader has left is observed to its end. What is written is handed on before each read, which may
+/// wait.
 pub fn follow<R: ByteSource, W: ByteSink, O: Observer>(
     observer: &mut O,
     from: &mut Reader<R>,

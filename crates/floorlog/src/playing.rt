@@ -1,7 +1,7 @@
 // A log played back: what its lines are answered, and in the end the line of power and lamps.
 ghost use Rattle.std.specs.Prelude.{◌≡◌, ◌+◌, ◌^◌, ◌≤◌, ◌++◌, map, length};
 ghost use Rattle.textio.specs.Fronts.{WritesText};
-ghost use Rattle.floorlog.specs.KeptText.{text_of};
+ghost use Rattle.floorlog.specs.KeptText.{kept_text};
 ghost use Rattle.floorlog.specs.LastLine.{last_device_line};
 ghost use Rattle.floorlog.specs.Events.{event};
 ghost use Rattle.floorlog.specs.Doing.{did, printed};
@@ -39,15 +39,10 @@ impl Player {
 }
 
 // The line with that number, played and printed.
-fn play<W: ByteSink>(
-    t: &mut Tested,
-    number: u64,
-    line: &mut KeptLine,
-    to: &mut W,
-) -> io::Result<()>
-    ensures device { t.new.device ≡ (did t.old.device (event (text_of line.old))).device }
+fn play<W: ByteSink>(t: &mut Tested, number: u64, line: &mut KeptLine, to: &mut W) -> io::Result<()>
+    ensures device { t.new.device ≡ (did t.old.device (event (kept_text line.old))).device }
     ensures text { WritesText W.fails_with (W.contents to.old) (W.contents to.new) result
-        (printed number (event (text_of line.old)) (did t.old.device (event (text_of line.old)))) }
+        (printed number (event (kept_text line.old)) (did t.old.device (event (kept_text line.old)))) }
 {
     let mut out = Printed::new();
     let says = line::line_says(line.text());

@@ -1,6 +1,6 @@
 -- Why a log is not read to its end.
 -- Assumes nothing.
-use Rattle.std.proofs.Common.{None, Some, IfSome, IfErr, Result, Err, ◌≢◌, ◌<◌, ℕ, ◌≤◌, ◌≡◌, subst, List, arith, length}
+use Rattle.std.proofs.Common.{None, Some, IfSome, IfErr, Result, Err, ◌≢◌, ◌<◌, ℕ, ◌≤◌, subst, List, arith, length}
 use Rattle.std.specs.declared.option.Option.{Option}
 use Rattle.std.specs.declared.io.Error.{Error}
 use Rattle.textio.specs.NextLine.{FailureComesOf}

@@ -27,7 +27,7 @@ pub struct Watch {
 
 impl Watch {
     ghost use Rattle.std.specs.Prelude.{◌+◌, ◌&&◌, ◌^◌, ◌≤◌, IfSome, None};
-    ghost use Rattle.floorlog.specs.KeptText.{text_of};
+    ghost use Rattle.floorlog.specs.KeptText.{kept_text};
     ghost use Rattle.floorlog.specs.Told.{Drives};
     ghost use Rattle.watch.specs.Marking.{floor_event, seconds_by};
     ghost use Rattle.watch.specs.Watching.{watching_from, is_burning_in, is_long, burnt_by};
@@ -45,14 +45,14 @@ impl Watch {
         }
     }
 
-    /// A line of the log. It tells whether the line ended stretches: those of the lamps whose marks are set, from `from`
-    /// to `time`. None where 64 bits cannot count the seconds that are then gone: nothing is done.
+    /// A line of the log. It tells whether the line ended stretches: those of the lamps whose marks are set, from
+    /// `from` to `time`. None where 64 bits cannot count the seconds that are then gone: nothing is done.
     pub fn play(&mut self, line: &mut KeptLine) -> Option<bool>
         ensures watched { IfSome result
-            (IsWatched (state_of self.old) (floor_event (text_of line.old)) (state_of self.new)) }
+            (IsWatched (state_of self.old) (floor_event (kept_text line.old)) (state_of self.new)) }
         ensures kept { result ≡ None → state_of self.new ≡ state_of self.old }
-        ensures uncounted { result ≡ None → 2 ^ 64 ≤ self.old.time + seconds_by (floor_event (text_of line.old)) }
-        ensures places { IfSome result (λ _. Drives (seconds_by (floor_event (text_of line.old)))
+        ensures uncounted { result ≡ None → 2 ^ 64 ≤ self.old.time + seconds_by (floor_event (kept_text line.old)) }
+        ensures places { IfSome result (λ _. Drives (seconds_by (floor_event (kept_text line.old)))
             self.old.tested.device self.new.tested.device) }
     {
         let mark = marking::mark_says(line.text());

@@ -2,7 +2,7 @@
 ghost use Rattle.std.specs.Prelude.{◌≡◌, []};
 ghost use Rattle.floorlog.specs.Lines.{line_said};
 ghost use Rattle.floorlog.specs.Events.{event_of, event};
-ghost use Rattle.floorlog.specs.KeptText.{text_of};
+ghost use Rattle.floorlog.specs.KeptText.{kept_text};
 ghost use Rattle.watch.specs.Marking.{logged, marked, mark_said, event_by, done_by, seconds_by};
 
 use device::on_legal::REPLY_ROOM;
@@ -61,8 +61,8 @@ fn set_mark(t: &mut Tested, lamp: u8, mark: bool)
 
 // The event of a line that is no mark call; a text is received with its CR.
 fn call(t: &mut Tested, says: Says, line: &mut KeptLine)
-    requires { says ≡ line_said (text_of line.old) }
-    ensures { t.new.device ≡ done_by t.old.device (logged (event (text_of line.old))) }
+    requires { says ≡ line_said (kept_text line.old) }
+    ensures { t.new.device ≡ done_by t.old.device (logged (event (kept_text line.old))) }
 {
     let mut reply = [0; REPLY_ROOM];
     event::call(t, says, line.received(), &mut reply);
@@ -70,8 +70,8 @@ fn call(t: &mut Tested, says: Says, line: &mut KeptLine)
 
 // The line, which says so, is played.
 pub fn end_line(t: &mut Tested, mark: MarkSaid, says: Says, line: &mut KeptLine)
-    requires { says ≡ line_said (text_of line.old) }
-    ensures { t.new.device ≡ done_by t.old.device (event_by mark (event (text_of line.old))) }
+    requires { says ≡ line_said (kept_text line.old) }
+    ensures { t.new.device ≡ done_by t.old.device (event_by mark (event (kept_text line.old))) }
 {
     match mark {
         MarkSaid::Sets(lamp, to) => set_mark(t, lamp, to),

@@ -8,7 +8,6 @@ use Rattle.textio.specs.NextLine.{FailureComesOf}
 use Rattle.textio.proofs.Failures.{comes_of, short_enough}
 use Rattle.textio.proofs.Fronts.{same_error}
 use Rattle.textio.proofs.LinesCounted.{too_long_bytes}
-use Rattle.floorlog.specs.Kept.{kept_lines}
 use Rattle.floorlog.proofs.Replayed.{all_printed, all_played, too_long}
 use Rattle.floorlog.proofs.replay.Goals as goal
 

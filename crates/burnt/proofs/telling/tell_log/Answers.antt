@@ -11,14 +11,14 @@ use Rattle.burnt.proofs.telling.tell_log.Goals as goal
 pub returns-in-Ok-clause-whole : goal.returns-in-Ok-clause-whole
 returns-in-Ok-clause-whole g c =
     on_ok_weaker c.follow.result
-    (log_whole c.args.drawn c.new-report.ensures c.new-watch.ensures (left_in g.R.ByteSource.remaining c.args.from.now) _ _ _
-    c.in-Ok.ensures.whole)
+    (log_whole c.args.drawn c.new-report.ensures c.new-watch.ensures
+    (left_in g.R.ByteSource.remaining c.args.from.now) _ _ _ c.in-Ok.ensures.whole)
     c.follow.ensures.whole
 
 pub returns-in-Ok-clause-front : goal.returns-in-Ok-clause-front
 returns-in-Ok-clause-front g c =
-    log_front c.args.drawn c.new-report.ensures c.new-watch.ensures (left_in g.R.ByteSource.remaining c.args.from.now) _ _ _
-    c.in-Ok.ensures.whole c.follow.ensures.front
+    log_front c.args.drawn c.new-report.ensures c.new-watch.ensures (left_in g.R.ByteSource.remaining c.args.from.now)
+    _ _ _ c.in-Ok.ensures.whole c.follow.ensures.front
 
 pub returns-in-Ok-clause-err : goal.returns-in-Ok-clause-err
 returns-in-Ok-clause-err g c =

@@ -4,19 +4,19 @@ use Rattle.textio.specs.Fronts.{WritesText}
 use Rattle.floorlog.specs.Lines.{line_said}
 use Rattle.floorlog.specs.Events.{LogEvent}
 use Rattle.floorlog.specs.Doing.{did, printed}
-use Rattle.floorlog.specs.KeptText.{text_of}
+use Rattle.floorlog.specs.KeptText.{kept_text}
 use Rattle.floorlog.proofs.KeptText.{event_by_text}
 use Rattle.floorlog.proofs.playing.play.Goals as goal
 
 pub returns-clause-device : goal.returns-clause-device
 returns-clause-device g c =
-    let same = event_by_text (text_of c.args.line.now) (c.line_says-says.ensures ∙ ap line_said c.text.ensures)
+    let same = event_by_text (kept_text c.args.line.now) (c.line_says-says.ensures ∙ ap line_said c.text.ensures)
     c.received.ensures in
     c.print.ensures.device ∙ ap (λ (e : LogEvent). (did c.args.t.now.device e).device) same
 
 pub returns-clause-text : goal.returns-clause-text
 returns-clause-text g c =
-    let same = event_by_text (text_of c.args.line.now) (c.line_says-says.ensures ∙ ap line_said c.text.ensures)
+    let same = event_by_text (kept_text c.args.line.now) (c.line_says-says.ensures ∙ ap line_said c.text.ensures)
     c.received.ensures in
     let text = c.print.ensures.printed
     ∙ ap (λ (e : LogEvent). printed c.args.number e (did c.args.t.now.device e)) same in

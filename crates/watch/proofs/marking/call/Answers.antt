@@ -2,7 +2,7 @@
 use Rattle.std.proofs.Common.{ap, ◌∙◌}
 use Rattle.floorlog.specs.Events.{LogEvent}
 use Rattle.floorlog.specs.Doing.{did}
-use Rattle.floorlog.specs.KeptText.{text_of}
+use Rattle.floorlog.specs.KeptText.{kept_text}
 use Rattle.floorlog.proofs.KeptText.{event_by_text}
 use Rattle.watch.specs.Marking.{done_by}
 use Rattle.watch.proofs.marking.call.Goals as goal
@@ -12,4 +12,4 @@ unfolding done_by
 returns c =
     c.call.ensures.device
     ∙ ap (λ (e : LogEvent). (did c.args.t.now.device e).device)
-    (event_by_text (text_of c.args.line.now) c.requires c.received.ensures)
+    (event_by_text (kept_text c.args.line.now) c.requires c.received.ensures)
