@@ -6,18 +6,14 @@
 --   told_from starts r s es  what is written of the events es, from the state s on, and at their end
 --   log_told d drawn log     what is written of a whole log that begins with the device d, on a page or as lines
 --   IsUntold log             a log has more lines, or more bytes in one, or lets more seconds pass, than 64 bits count
---   IsTold .. and LineFails .. are what is promised of one line: what it leaves, and why it can fail
 -- Assumes nothing.
-use Rattle.std.specs.Prelude.{ℕ, ◌+◌, ◌^◌, ◌≤◌, ◌≡◌, ◌⊎◌, min, Bool, List, [], ◌∷◌, ◌++◌}
-use Rattle.std.specs.declared.io.Error.{Error}
+use Rattle.std.specs.Prelude.{ℕ, ◌⊎◌, min, Bool, List, [], ◌∷◌, ◌++◌}
 use Rattle.record.specs.declared.types.Device.{Device}
 use Rattle.clock.specs.Second.{marks_in}
 use Rattle.textio.specs.Lines.{IsTooLong}
-use Rattle.textio.specs.declared.lines.Failure.{Failure}
-use Rattle.textio.specs.declared.lines.Failure.TheVariants.{Read, Write, TooLong}
-use Rattle.watch.specs.Marking.{FloorEvent, seconds_by}
-use Rattle.watch.specs.Watching.{Watching, watching_from, watched_on, burnt_by}
-use Rattle.watch.specs.Telling.{floor_events, Telling, told_on, tellings, after_log, IsUncounted}
+use Rattle.watch.specs.Marking.{FloorEvent}
+use Rattle.watch.specs.Watching.{Watching, watching_from, burnt_by}
+use Rattle.watch.specs.Telling.{floor_events, Telling, tellings, after_log, IsUncounted}
 use Rattle.report.specs.Reports.{report_new, begun_text, report_told, told_text, ended_text}
 use Rattle.report.specs.declared.Report.{Report}
 
@@ -44,12 +40,3 @@ log_told d drawn log =
 
 abbrev pub IsUntold : List ℕ → Type 0
 IsUntold log = IsTooLong log ⊎ IsUncounted log
-
-pub record IsTold (s : Watching) (r : Report) (e : FloorEvent) (after : Watching) (then : Report) : Type 0 where
-  pub state : after ≡ watched_on s e
-  pub report : then ≡ report_after r (told_on s e)
-
-abbrev pub LineFails : (Error → Type 0) → Watching → FloorEvent → Failure → Type 0
-LineFails writes s e (Read x) = ⊥
-LineFails writes s e (Write x) = writes x
-LineFails writes s e TooLong = 2 ^ 64 ≤ s.time + seconds_by e

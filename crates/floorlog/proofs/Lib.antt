@@ -10,6 +10,7 @@ pub mod OnePlace
 pub mod Driven
 pub mod EventSeconds
 pub mod KeptText
-mod PlayedSpelt
+mod NextKept
+mod Observing
 mod Replayed
 pub mod Samples

@@ -1,4 +1,7 @@
 pub mod Lines
+pub mod Kept
+pub mod KeptText
+pub mod Observing
 pub mod Outcomes
 pub mod LastLine
 pub mod Events

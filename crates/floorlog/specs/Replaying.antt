@@ -1,5 +1,4 @@
 -- A whole log played back (RULES, Floor log).
---   kept_most             so many bytes are kept of a line, which are all of one that has a form
 --   IsReplayed d log ..   the sink got all that is printed for the log from the device d, and so the device is after it
 -- Assumes nothing.
 use Rattle.std.specs.Prelude.{ℕ, List, ◌≡◌}
@@ -8,9 +7,6 @@ use Rattle.std.specs.Io.KnownBytes.{Appends}
 use Rattle.record.specs.declared.types.Device.{Device}
 use Rattle.floorlog.specs.Events.{events}
 use Rattle.floorlog.specs.Playing.{state_after, replayed}
-
-abbrev pub kept_most : ℕ
-kept_most = 4097
 
 pub record IsReplayed (d : Device) (log : List ℕ) (old new : Option (List ℕ)) (after : Device) : Type 0 where
   pub printed : Appends old new (replayed d log)

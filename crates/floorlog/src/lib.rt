@@ -5,8 +5,10 @@
 
 pub mod cut;
 pub mod event;
+pub mod kept;
 mod last;
 pub mod line;
+pub mod observer;
 pub mod outcome;
 pub mod playing;
 #[cfg(test)]
@@ -22,7 +24,7 @@ ghost use Rattle.textio.specs.NextLine.{FailureComesOf, OnFailedRead};
 ghost use Rattle.floorlog.specs.Playing.{sample_device, replayed};
 ghost use Rattle.floorlog.specs.Replaying.{IsReplayed};
 
-use record::legality::Tested;
+use crate::playing::Player;
 use record::types::Device;
 use setup::wanted::{Class, Wanted};
 use textio::lines::Failure;
@@ -74,25 +76,7 @@ pub fn replay<R: ByteSource, W: ByteSink>(
     ensures short { IfSome (left_in R.remaining from.old) (λ log. length log < count_most
         → result ≢ Err Failure.TooLong) }
 {
-    let mut line = [0; playing::KEPT_ROOM];
-    let mut tested = Tested::of(begun);
-    for played in 0..u64::MAX {
-        match playing::read_line(from, to, &mut line) {
-            Ok(Some(held)) => {
-                match playing::play(&mut tested, played + 1, &mut line, held, to) {
-                    Ok(()) => {}
-                    Err(e) => return Err(Failure::Write(e)),
-                }
-            }
-            Ok(None) => match playing::finish(&tested.device, to) {
-                Ok(()) => return Ok(tested.device),
-                Err(e) => return Err(Failure::Write(e)),
-            },
-            Err(failure) => return Err(failure),
-        }
-    }
-    match to.flush() {
-        Ok(()) => Err(Failure::TooLong),
-        Err(e) => Err(Failure::Write(e)),
-    }
+    let mut player = Player::new(begun);
+    observer::follow(&mut player, from, to)?;
+    Ok(player.tested.device)
 }

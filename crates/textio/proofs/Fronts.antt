@@ -4,10 +4,14 @@ use Rattle.std.specs.declared.option.Option.{Option}
 use Rattle.std.specs.declared.result.Result.{Result}
 use Rattle.std.specs.Result.{OnOk, IsErr, IfErr, IsErrAnd}
 use Rattle.std.specs.Io.KnownBytes.{Appends, Keeps}
-use Rattle.std.proofs.KnownBytes.{Appends-trans, Appends-kept}
+use Rattle.std.proofs.KnownBytes.{Appends-nil, Appends-trans, Appends-kept}
 use Rattle.std.proofs.Math.Seq.{take-append-add, take-length}
 use Rattle.std.proofs.lemmas.List.{take-append-le, take_min}
 use Rattle.textio.specs.Fronts.{WritesFront, WritesText}
+
+-- nothing is a front of any text
+pub front_none : (a : Option (List ℕ)) (xs : List ℕ) → WritesFront a a xs
+front_none a xs = record { count = 0; written = Appends-nil a }
 
 pub front_then : (a b c : Option (List ℕ)) (xs ys : List ℕ) → Appends a b xs → WritesFront b c ys
     → WritesFront a c (xs ++ ys)
@@ -55,7 +59,8 @@ none_owed : {U F : Type 0} (s : Result U F) (P : Type 0) → IsErr s → OnOk s 
 none_owed (Ok v) P e = cc
 none_owed (Err x) P e = tt
 
-same_error : {U E : Type 0} (fails : E → Type 0) (s : Result U E) (e : E) → fails e → IsErrAnd s (λ x. x ≡ e)
+-- of what a call that failed hands on, what holds of its error
+pub same_error : {U E : Type 0} (fails : E → Type 0) (s : Result U E) (e : E) → fails e → IsErrAnd s (λ x. x ≡ e)
     → IfErr s fails
 same_error fails (Ok v) e p q = tt
 same_error fails (Err x) e p q = subst fails (sym q) p

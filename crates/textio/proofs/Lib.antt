@@ -5,4 +5,4 @@ pub mod LinesCounted
 pub mod Fronts
 pub mod Each
 pub mod FormsFilled
-pub mod Underway
+pub mod Failures

@@ -1,13 +1,13 @@
--- What is kept of a line that is read has the line's event.
+-- What is kept of a line has the line's event.
 -- Assumes nothing.
-use Rattle.std.proofs.Common.{take_all, ℕ, ◌<◌, ◌≤◌, ◌≡◌, sym, ap, ◌∙◌, List, ⊎_elim, arith, length, take}
-use Rattle.std.proofs.Common.{length-take-le, take-take}
-use Rattle.std.specs.declared.option.Option.{Option}
+use Rattle.std.proofs.Common.{take_all, ℕ, ◌<◌, ◌≤◌, ◌≡◌, sym, ap, ◌∙◌, List, map, ⊎_elim, arith, length, take}
+use Rattle.std.proofs.Common.{length-take-le}
 use Rattle.text.proofs.Orders.{le_or_lt}
-use Rattle.textio.specs.NextLine.{IsLine}
-use Rattle.floorlog.specs.Replaying.{kept_most}
-use Rattle.floorlog.proofs.KeptText.{event_of_front}
+use Rattle.textio.specs.Lines.{lines_of}
+use Rattle.floorlog.specs.Kept.{kept_most, kept_lines}
+use Rattle.floorlog.proofs.KeptText.{event_of_front, map_kept}
 use Rattle.watch.specs.Marking.{mark_said, event_by, floor_event}
+use Rattle.watch.specs.Telling.{floor_events}
 use Rattle.watch.proofs.MarksSaid.{mark_length}
 
 mark_of_front : (l : List ℕ) → mark_said (take kept_most l) ≡ mark_said l
@@ -20,13 +20,8 @@ mark_of_front l =
 
 floor_event_of_front : (l : List ℕ) → floor_event (take kept_most l) ≡ floor_event l
 unfolding floor_event
-floor_event_of_front l = (λ i. event_by (mark_of_front l i) (event_of_front kept_most l (omega arith) i))
+floor_event_of_front l = (λ i. event_by (mark_of_front l i) (event_of_front l i))
 
-pub floor_event_of_line : (memory : List ℕ) (held : ℕ) {log : List ℕ} {left : Option (List ℕ)}
-    → kept_most ≤ length memory → held ≤ kept_most
-    → (l : IsLine log left (length (take kept_most memory)) (take held (take kept_most memory)))
-    → floor_event (take held memory) ≡ floor_event l.first
-floor_event_of_line memory held room inside l =
-    ap floor_event (sym (take-take held kept_most memory inside) ∙ l.kept
-    ∙ ap (λ (k : ℕ). take k l.first) (length-take-le kept_most memory room))
-    ∙ floor_event_of_front l.first
+-- so what is kept of each line has the events of the log
+pub floor_events_kept : (log : List ℕ) → map floor_event (kept_lines log) ≡ floor_events log
+floor_events_kept log = map_kept floor_event floor_event_of_front (lines_of log)

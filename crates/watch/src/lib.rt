@@ -8,8 +8,8 @@ mod marking;
 ghost use Rattle.std.specs.Prelude.{◌≡◌, true};
 ghost use Rattle.watch.specs.Watching.{is_burning_in, is_sound};
 
+use floorlog::kept::KeptLine;
 use floorlog::line;
-use floorlog::playing::KEPT_ROOM;
 use record::legality::Tested;
 use record::types::{Device, LAMPS_MOST};
 
@@ -32,8 +32,8 @@ fn is_burning_in(device: &Device) -> bool
 }
 
 impl Watch {
-    ghost use Rattle.std.specs.Prelude.{◌+◌, ◌&&◌, ◌^◌, ◌≤◌, take, IfSome, None};
-    ghost use Rattle.floorlog.specs.Replaying.{kept_most};
+    ghost use Rattle.std.specs.Prelude.{◌+◌, ◌&&◌, ◌^◌, ◌≤◌, IfSome, None};
+    ghost use Rattle.floorlog.specs.KeptText.{kept_text};
     ghost use Rattle.floorlog.specs.Told.{Drives};
     ghost use Rattle.watch.specs.Marking.{floor_event, seconds_by};
     ghost use Rattle.watch.specs.Watching.{watching_from, is_burning_in, is_long, burnt_by};
@@ -51,26 +51,24 @@ impl Watch {
         }
     }
 
-    /// The line of which so many bytes are kept in front of the memory, without its LF. It tells whether the line ended
-    /// stretches: those of the lamps whose marks are set, from `from` to `time`. None where 64 bits cannot count the
-    /// seconds that are then gone: nothing is done.
-    pub fn play(&mut self, line: &mut [u8; KEPT_ROOM], held: usize) -> Option<bool>
-        requires { held ≤ kept_most }
+    /// A line of the log. It tells whether the line ended stretches: those of the lamps whose marks are set, from
+    /// `from` to `time`. None where 64 bits cannot count the seconds that are then gone: nothing is done.
+    pub fn play(&mut self, line: &mut KeptLine) -> Option<bool>
         ensures watched { IfSome result
-            (IsWatched (state_of self.old) (floor_event (take held line.old)) (state_of self.new)) }
+            (IsWatched (state_of self.old) (floor_event (kept_text line.old)) (state_of self.new)) }
         ensures kept { result ≡ None → state_of self.new ≡ state_of self.old }
-        ensures uncounted { result ≡ None → 2 ^ 64 ≤ self.old.time + seconds_by (floor_event (take held line.old)) }
-        ensures places { IfSome result (λ _. Drives (seconds_by (floor_event (take held line.old)))
+        ensures uncounted { result ≡ None → 2 ^ 64 ≤ self.old.time + seconds_by (floor_event (kept_text line.old)) }
+        ensures places { IfSome result (λ _. Drives (seconds_by (floor_event (kept_text line.old)))
             self.old.tested.device self.new.tested.device) }
     {
-        let mark = marking::mark_says(&line[..held]);
-        let says = line::line_says(&line[..held]);
+        let mark = marking::mark_says(line.text());
+        let says = line::line_says(line.text());
         let seconds = marking::seconds_of(mark, says);
         let Some(time) = self.time.checked_add(seconds as u64) else {
             return None;
         };
         let was = is_burning_in(&self.tested.device);
-        marking::end_line(&mut self.tested, mark, says, line, held);
+        marking::end_line(&mut self.tested, mark, says, line);
         let is = is_burning_in(&self.tested.device);
         let next = light::light_after(was, is, time, self.from);
         let burnt = light::gained_if(

@@ -1,14 +1,14 @@
 // One line of a log that is watched for its lamps: what it does to the device, where it lies.
-ghost use Rattle.std.specs.Prelude.{◌≡◌, ◌≤◌, [], take};
+ghost use Rattle.std.specs.Prelude.{◌≡◌, []};
 ghost use Rattle.floorlog.specs.Lines.{line_said};
 ghost use Rattle.floorlog.specs.Events.{event_of, event};
-ghost use Rattle.floorlog.specs.Replaying.{kept_most};
+ghost use Rattle.floorlog.specs.KeptText.{kept_text};
 ghost use Rattle.watch.specs.Marking.{logged, marked, mark_said, event_by, done_by, seconds_by};
 
 use device::on_legal::REPLY_ROOM;
 use floorlog::event;
+use floorlog::kept::KeptLine;
 use floorlog::line::Says;
-use floorlog::playing::KEPT_ROOM;
 use record::legality::Tested;
 
 // The mark that a line asks for: of the lamp at a place from 0.
@@ -59,25 +59,22 @@ fn set_mark(t: &mut Tested, lamp: u8, mark: bool)
     let _told = t.device.set_mark(lamp as usize, mark);
 }
 
-// The event of a line that is no mark call; CR is put behind the line, as a text is received.
-fn call(t: &mut Tested, says: Says, line: &mut [u8; KEPT_ROOM], held: usize)
-    requires says { says ≡ line_said (take held line.old) }
-    requires inside { held ≤ kept_most }
-    ensures { t.new.device ≡ done_by t.old.device (logged (event (take held line.old))) }
+// The event of a line that is no mark call; a text is received with its CR.
+fn call(t: &mut Tested, says: Says, line: &mut KeptLine)
+    requires { says ≡ line_said (kept_text line.old) }
+    ensures { t.new.device ≡ done_by t.old.device (logged (event (kept_text line.old))) }
 {
-    line[held] = b'\r';
     let mut reply = [0; REPLY_ROOM];
-    event::call(t, says, &line[held.min(2)..held + 1], &mut reply);
+    event::call(t, says, line.received(), &mut reply);
 }
 
 // The line, which says so, is played.
-pub fn end_line(t: &mut Tested, mark: MarkSaid, says: Says, line: &mut [u8; KEPT_ROOM], held: usize)
-    requires says { says ≡ line_said (take held line.old) }
-    requires inside { held ≤ kept_most }
-    ensures { t.new.device ≡ done_by t.old.device (event_by mark (event (take held line.old))) }
+pub fn end_line(t: &mut Tested, mark: MarkSaid, says: Says, line: &mut KeptLine)
+    requires { says ≡ line_said (kept_text line.old) }
+    ensures { t.new.device ≡ done_by t.old.device (event_by mark (event (kept_text line.old))) }
 {
     match mark {
         MarkSaid::Sets(lamp, to) => set_mark(t, lamp, to),
-        MarkSaid::NoMark => call(t, says, line, held),
+        MarkSaid::NoMark => call(t, says, line),
     }
 }

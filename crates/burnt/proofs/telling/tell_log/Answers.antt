@@ -1,27 +1,38 @@
 -- what stands before the first stretch, and then what is told of the log
-use Rattle.std.proofs.Common.{ℕ, List}
+use Rattle.std.proofs.Common.{ap, ◌^◌}
+use Rattle.std.proofs.lemmas.Result.{on_ok_weaker, IfErr-weaker}
 use Rattle.textio.specs.Ahead.{left_in}
-use Rattle.watch.specs.Watching.{watching_from}
-use Rattle.watch.specs.Telling.{floor_events}
-use Rattle.report.specs.Reports.{report_new, begun_text}
-use Rattle.burnt.specs.Told.{told_from}
-use Rattle.burnt.proofs.LinesTold.{told_where_short, begun_then, begun_cut}
+use Rattle.textio.proofs.Failures.{comes_of, short_enough}
+use Rattle.watch.specs.Watching.{Watching}
+use Rattle.burnt.specs.Told.{IsUntold}
+use Rattle.burnt.proofs.LinesTold.{log_whole, log_front, log_cut, untold, untold_bytes}
 use Rattle.burnt.proofs.telling.tell_log.Goals as goal
+
+pub returns-in-Ok-clause-whole : goal.returns-in-Ok-clause-whole
+returns-in-Ok-clause-whole g c =
+    on_ok_weaker c.follow.result
+    (log_whole c.args.drawn c.new-report.ensures c.new-watch.ensures
+    (left_in g.R.ByteSource.remaining c.args.from.now) _ _ _ c.in-Ok.ensures.whole)
+    c.follow.ensures.whole
 
 pub returns-in-Ok-clause-front : goal.returns-in-Ok-clause-front
 returns-in-Ok-clause-front g c =
-    let text : List ℕ → List ℕ =
-    λ log. told_from c.args.begun.own.lamps (report_new c.args.drawn) (watching_from c.args.begun) (floor_events log) in
-    begun_then (left_in g.R.ByteSource.remaining c.args.from.now) _ _ _ (begun_text (report_new c.args.drawn)) text
-    (rw c.new-report.ensures at c.in-Ok.ensures.whole) (rw c.new-report.ensures at c.tell_lines.ensures.front)
+    log_front c.args.drawn c.new-report.ensures c.new-watch.ensures (left_in g.R.ByteSource.remaining c.args.from.now)
+    _ _ _ c.in-Ok.ensures.whole c.follow.ensures.front
+
+pub returns-in-Ok-clause-err : goal.returns-in-Ok-clause-err
+returns-in-Ok-clause-err g c =
+    let a = left_in g.R.ByteSource.remaining c.args.from.now in
+    let first = ap (λ (s : Watching). s.time) c.new-watch.ensures in
+    IfErr-weaker c.follow.result _ _
+    (λ f h. comes_of g.R.ByteSource.fails_with g.W.ByteSink.fails_with _ a f (untold first) h) c.follow.ensures.err
 
 pub returns-in-Ok-clause-short : goal.returns-in-Ok-clause-short
 returns-in-Ok-clause-short g c =
-    told_where_short _ _ g.R.ByteSource.fails_with g.W.ByteSink.fails_with c.tell_lines.ensures.err
+    short_enough g.R.ByteSource.fails_with g.W.ByteSink.fails_with IsUntold (2 ^ 32) untold_bytes
+    (left_in g.R.ByteSource.remaining c.args.from.now) c.follow.result (returns-in-Ok-clause-err g c)
 
 pub returns-in-Err-clause-front : goal.returns-in-Err-clause-front
 returns-in-Err-clause-front g c =
-    let text : List ℕ → List ℕ =
-    λ log. told_from c.args.begun.own.lamps (report_new c.args.drawn) (watching_from c.args.begun) (floor_events log) in
-    begun_cut (left_in g.R.ByteSource.remaining c.args.from.now) _ _ (begun_text (report_new c.args.drawn)) text
-    (rw c.new-report.ensures at c.in-Err.ensures.front)
+    log_cut c.args.drawn c.new-report.ensures c.new-watch.ensures (left_in g.R.ByteSource.remaining c.args.from.now) _ _
+    c.in-Err.ensures.front

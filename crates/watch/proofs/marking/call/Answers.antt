@@ -1,14 +1,15 @@
 -- the text is lent with its CR
-use Rattle.std.proofs.Common.{ap, ◌∙◌, arith}
+use Rattle.std.proofs.Common.{ap, ◌∙◌}
 use Rattle.floorlog.specs.Events.{LogEvent}
 use Rattle.floorlog.specs.Doing.{did}
-use Rattle.floorlog.proofs.KeptText.{event_of_memory}
+use Rattle.floorlog.specs.KeptText.{kept_text}
+use Rattle.floorlog.proofs.KeptText.{event_by_text}
 use Rattle.watch.specs.Marking.{done_by}
 use Rattle.watch.proofs.marking.call.Goals as goal
 
 pub returns : goal.returns
 unfolding done_by
 returns c =
-    let same =
-    event_of_memory c.args.line.now c.args.held c.min.result c.args.says (omega arith) (omega arith) c.requires.says in
-    c.call.ensures.device ∙ ap (λ (e : LogEvent). (did c.args.t.now.device e).device) same
+    c.call.ensures.device
+    ∙ ap (λ (e : LogEvent). (did c.args.t.now.device e).device)
+    (event_by_text (kept_text c.args.line.now) c.requires c.received.ensures)

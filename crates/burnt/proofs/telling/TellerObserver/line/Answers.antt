@@ -1,0 +1,33 @@
+-- the line is played, and what ended with it told
+use Rattle.std.proofs.Common.{map}
+use Rattle.floorlog.specs.KeptText.{kept_text}
+use Rattle.watch.specs.Marking.{floor_event}
+use Rattle.watch.specs.States.{state_of}
+use Rattle.burnt.proofs.LinesTold.{line_uncounted, line_counted, line_told, line_cut}
+use Rattle.burnt.proofs.telling.TellerObserver.line.Goals as goal
+
+pub returns-in_default-clause-err : goal.returns-in_default-clause-err
+returns-in_default-clause-err g c =
+    let s = state_of c.args.self.now.watch in
+    λ ls. line_uncounted s (floor_event (kept_text c.args.line.now)) (map floor_event ls)
+    (c.play.ensures.uncounted c.in_default.is)
+
+pub returns-in-Ok-clause-ok : goal.returns-in-Ok-clause-ok
+returns-in-Ok-clause-ok g c =
+    let t = c.args.self.now in
+    let s = state_of t.watch in
+    let e = floor_event (kept_text c.args.line.now) in
+    let watched = c.in-Some.ensures.watched in
+    record {
+      text = _;
+      written = c.in-Ok.ensures.text.whole;
+      then = λ ls. line_told s e (map floor_event ls) watched t.starts t.report c.in-Ok.ensures.report;
+      leaves = λ ls last h. tt;
+      overflows = λ ls h. line_counted s e (map floor_event ls) watched h;
+    }
+
+pub returns-in-Err-clause-front : goal.returns-in-Err-clause-front
+returns-in-Err-clause-front g c =
+    let t = c.args.self.now in
+    λ ls. line_cut (state_of t.watch) (floor_event (kept_text c.args.line.now)) (map floor_event ls)
+    c.in-Some.ensures.watched t.starts t.report c.in-Err.ensures.text.front

@@ -1,0 +1,31 @@
+-- A log observed line by line, by someone of whom `output`, `Leaves` and `Overflows` are known.
+--   Observes .. before after line old new    a line leaves `after` of `before`: a text is written, and with it what
+--                                            comes then is what would have come with the line
+--   FailsOn fails over f                     the failure f of a line is an error of the sink, or what comes overflows
+--   CannotFollow Overflows s log             the log is too long, or has more in it than can be counted
+-- Assumes nothing.
+use Rattle.std.specs.Prelude.{ℕ, ◌≡◌, ◌⊎◌, List, ◌∷◌, ◌++◌}
+use Rattle.std.specs.declared.option.Option.{Option}
+use Rattle.std.specs.declared.io.Error.{Error}
+use Rattle.std.specs.Io.KnownBytes.{Appends}
+use Rattle.textio.specs.Lines.{IsTooLong}
+use Rattle.textio.specs.declared.lines.Failure.{Failure}
+use Rattle.textio.specs.declared.lines.Failure.TheVariants.{Read, Write, TooLong}
+use Rattle.floorlog.specs.Kept.{kept_lines}
+
+pub record Observes {S : Type 0} (output : S → List (List ℕ) → List ℕ) (Leaves : S → List (List ℕ) → S → Type 0)
+    (Overflows : S → List (List ℕ) → Type 0) (before after : S) (line : List ℕ) (old new : Option (List ℕ))
+    : Type 0 where
+  pub text : List ℕ
+  pub written : Appends old new text
+  pub then : (ls : List (List ℕ)) → output before (line ∷ ls) ≡ text ++ output after ls
+  pub leaves : (ls : List (List ℕ)) (last : S) → Leaves after ls last → Leaves before (line ∷ ls) last
+  pub overflows : (ls : List (List ℕ)) → Overflows after ls → Overflows before (line ∷ ls)
+
+abbrev pub FailsOn : (Error → Type 0) → Type 0 → Failure → Type 0
+FailsOn fails over (Read e) = ⊥
+FailsOn fails over (Write e) = fails e
+FailsOn fails over TooLong = over
+
+abbrev pub CannotFollow : {S : Type 0} → (S → List (List ℕ) → Type 0) → S → List ℕ → Type 0
+CannotFollow Overflows s log = IsTooLong log ⊎ Overflows s (kept_lines log)
